@@ -1,0 +1,11 @@
+#![tactic(auto)]
+//! What a trace means: plans, breaches, the one-worker machine and the laws about them.
+
+mod breach;
+pub mod laws;
+mod plan;
+mod reads;
+
+pub use breach::Breach;
+pub use plan::Plan;
+pub use reads::Reads;

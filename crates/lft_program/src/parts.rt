@@ -1,0 +1,76 @@
+//! The parts of a flat program. Each port, action, timer and reaction is known by its number among
+//! its kind, and each instance by its number in pre-order.
+
+ghost use Rattle.std.specs.Prelude.{◌≡◌, ◌<◌, length, slice_get, Some};
+
+use crate::lists::{Names, Triggers};
+use lft_tag::Shift;
+use std::marker::Model;
+
+/// What a port or an action carries: nothing beside its presence, or a number.
+#[derive(Clone, Copy, PartialEq, Eq, Debug, Drop)]
+pub enum Value {
+    Bare,
+    Int(i64),
+}
+
+/// What a reaction reads, writes or schedules.
+#[derive(Clone, Copy, PartialEq, Eq, Debug, Drop)]
+pub enum Name {
+    Port(u32),
+    Action(u32),
+}
+
+/// What makes a reaction run.
+#[derive(Clone, Copy, PartialEq, Eq, Debug, Drop)]
+pub enum Trigger {
+    Startup,
+    Shutdown,
+    Timer(u32),
+    On(Name),
+}
+
+/// The port before, and the delay of the connection from it in nanoseconds, if it has one.
+#[derive(Clone, Copy, PartialEq, Eq, Debug, Drop)]
+pub struct Source {
+    pub port: u32,
+    pub delay: Option<u64>,
+}
+
+/// A port, with the end of its chain of connections walked backwards and the delays of that chain.
+#[derive(Clone, Copy, PartialEq, Eq, Debug, Drop)]
+pub struct Port {
+    pub instance: u32,
+    pub is_input: bool,
+    pub source: Option<Source>,
+    pub origin: u32,
+    pub shift: Shift,
+}
+
+/// An action; its minimum delay is in nanoseconds, 0 where none is written.
+#[derive(Clone, Copy, PartialEq, Eq, Debug, Drop)]
+pub struct Action {
+    pub instance: u32,
+    pub physical: bool,
+    pub min_delay: u64,
+}
+
+/// A timer; offset and period are in nanoseconds, 0 where none is written. It fires once where the
+/// period is 0.
+#[derive(Clone, Copy, PartialEq, Eq, Debug, Drop)]
+pub struct Timer {
+    pub instance: u32,
+    pub offset: u64,
+    pub period: u64,
+}
+
+/// A reaction: its place among those of its instance, counted from 0, and what it names, each list
+/// in order of declaration. A timer as a use isn't kept.
+#[derive(Debug, Drop)]
+pub struct Reaction {
+    pub instance: u32,
+    pub place: u32,
+    pub triggers: Triggers,
+    pub uses: Names,
+    pub effects: Names,
+}

@@ -1,0 +1,62 @@
+//! External inputs.
+
+ghost use Rattle.std.specs.Prelude.{◌≡◌, length};
+
+use lft_program::Value;
+use lft_tag::Tag;
+use std::marker::Model;
+
+/// An event of a physical action.
+#[derive(Clone, Copy, PartialEq, Eq, Debug, Drop)]
+pub struct Event {
+    pub tag: Tag,
+    pub action: u32,
+    pub value: Value,
+}
+
+/// The stop tag, and the events in ascending order of tag and action, each pair once: a map from
+/// (tag, action) to value.
+#[derive(Debug, Drop)]
+pub struct Externals {
+    stop: Tag,
+    events: Vec<Event>,
+}
+
+impl Model for Externals {
+    ghost use Rattle.lft_trace.specs.Inputs.{ExternalInputs};
+
+    ghost Value = { ExternalInputs };
+
+    ghost view = { λ a. record { stop = a.stop; events = a.events.items } };
+
+    ghost use Rattle.lft_trace.specs.Inputs.{InOrder};
+
+    ghost invariant = { λ a. InOrder a.events.items };
+}
+
+impl Externals {
+    ghost use Rattle.lft_trace.specs.Inputs.{InOrder};
+
+    /// The external inputs of a stop tag and of events in their order. It takes no memory.
+    pub(crate) fn from_parts(stop: Tag, events: Vec<Event>) -> Externals
+        requires { InOrder events.items }
+        ensures { result ≡ record { stop = stop; events = events.items } }
+    {
+        Externals { stop, events }
+    }
+
+    /// The greatest tag of the execution.
+    pub fn stop(&self) -> Tag
+        ensures { result ≡ self.now.stop }
+    {
+        self.stop
+    }
+
+    /// The events, ascending by tag and then by action.
+    pub fn events(&self) -> &[Event]
+        ensures value { result.now ≡ self.now.events }
+        ensures order { InOrder self.now.events }
+    {
+        self.events.as_slice()
+    }
+}

@@ -1,0 +1,58 @@
+//! The rows of a trace.
+
+ghost use Rattle.std.specs.Prelude.{◌≡◌, length};
+
+use lft_program::{Name, Value};
+use lft_tag::Tag;
+use std::marker::Model;
+
+/// What a row tells of a run. A schedule has the extra delay in nanoseconds.
+#[derive(Clone, Copy, PartialEq, Eq, Debug, Drop)]
+pub enum Step {
+    Start,
+    Read(Name, Value),
+    Write(Name, Value),
+    Schedule(Name, Value, u64),
+    Stop,
+    End,
+}
+
+/// A row of a trace: a step of the run of a reaction at a tag by a worker.
+#[derive(Clone, Copy, PartialEq, Eq, Debug, Drop)]
+pub struct Row {
+    pub worker: u32,
+    pub tag: Tag,
+    pub reaction: u32,
+    pub step: Step,
+}
+
+/// The rows of a trace in order.
+#[derive(Debug, Drop)]
+pub struct Rows {
+    items: Vec<Row>,
+}
+
+impl Model for Rows {
+    ghost use Rattle.std.specs.Prelude.{List};
+    ghost use Rattle.lft_trace.specs.declared.row.Row.{Row};
+
+    ghost Value = { List Row };
+
+    ghost view = { λ a. a.items.items };
+}
+
+impl Rows {
+    /// The rows of the list. It takes no memory.
+    pub fn from_vec(items: Vec<Row>) -> Rows
+        ensures { result ≡ items.items }
+    {
+        Rows { items }
+    }
+
+    /// The rows in order.
+    pub fn as_slice(&self) -> &[Row]
+        ensures { result.now ≡ self.now }
+    {
+        self.items.as_slice()
+    }
+}
