@@ -1,0 +1,15 @@
+#![tactic(auto)]
+//! Program texts: tokens, and the tree that they spell.
+
+mod fault;
+mod form;
+mod piece;
+mod token;
+mod tree;
+
+pub use fault::{LexFault, SyntaxFault};
+pub use token::{Token, TokenKind, Tokens};
+pub use tree::{
+    Action, Assignment, Ast, Connection, Instance, Item, Member, Parameter, Port, Reaction,
+    Reactor, Reference, Time, TimeExpression, TimeUnit, Timer, TokenRange, Trigger,
+};

@@ -1,0 +1,148 @@
+//! The tree of a program text.
+
+/// A unit of time.
+#[derive(Clone, Copy, Debug, PartialEq, Eq)]
+pub enum TimeUnit {
+    Nanosecond,
+    Microsecond,
+    Millisecond,
+    Second,
+    Minute,
+    Hour,
+    Day,
+    Week,
+}
+
+/// A time as written: a count of units. Only 0 may stand without a unit.
+#[derive(Clone, Copy, Debug, PartialEq, Eq)]
+pub struct Time {
+    pub count: u64,
+    pub unit: Option<TimeUnit>,
+}
+
+/// A time, or the parameter of the reactor that has it.
+#[derive(Debug, Drop)]
+pub enum TimeExpression {
+    Written(Time),
+    Parameter(String),
+}
+
+/// The tokens from the number `start` up to, without, the number `end`, counted from 0. They are
+/// read and mean nothing.
+#[derive(Clone, Copy, Debug, PartialEq, Eq)]
+pub struct TokenRange {
+    pub start: usize,
+    pub end: usize,
+}
+
+/// A name, or a port of a contained instance: `name` or `instance.port`.
+#[derive(Debug, Drop)]
+pub struct Reference {
+    pub head: String,
+    pub port: Option<String>,
+}
+
+/// A parameter of a reactor with its default.
+#[derive(Debug, Drop)]
+pub struct Parameter {
+    pub name: String,
+    pub default: Time,
+}
+
+/// A port.
+#[derive(Debug, Drop)]
+pub struct Port {
+    pub name: String,
+    pub is_input: bool,
+}
+
+/// A timer.
+#[derive(Debug, Drop)]
+pub struct Timer {
+    pub name: String,
+    pub offset: Option<TimeExpression>,
+    pub period: Option<TimeExpression>,
+}
+
+/// An action.
+#[derive(Debug, Drop)]
+pub struct Action {
+    pub name: String,
+    pub is_physical: bool,
+    pub min_delay: Option<TimeExpression>,
+}
+
+/// What a reaction is triggered by.
+#[derive(Debug, Drop)]
+pub enum Trigger {
+    Startup,
+    Shutdown,
+    Reference(Reference),
+}
+
+/// A reaction; its code and its own name mean nothing and aren't kept.
+#[derive(Debug, Drop)]
+pub struct Reaction {
+    pub triggers: Vec<Trigger>,
+    pub uses: Vec<Reference>,
+    pub effects: Vec<Reference>,
+}
+
+/// A value that `new` gives to a parameter.
+#[derive(Debug, Drop)]
+pub struct Assignment {
+    pub name: String,
+    pub value: TimeExpression,
+}
+
+/// A contained instance of a reactor.
+#[derive(Debug, Drop)]
+pub struct Instance {
+    pub name: String,
+    pub reactor: String,
+    pub given: Vec<Assignment>,
+}
+
+/// Connections of sources to destinations, joined in order.
+#[derive(Debug, Drop)]
+pub struct Connection {
+    pub sources: Vec<Reference>,
+    pub destinations: Vec<Reference>,
+    pub delay: Option<TimeExpression>,
+}
+
+/// What a reactor declares. State variables and preambles mean nothing.
+#[derive(Debug, Drop)]
+pub enum Member {
+    Port(Port),
+    Timer(Timer),
+    Action(Action),
+    State(TokenRange),
+    Preamble(TokenRange),
+    Reaction(Reaction),
+    Instance(Instance),
+    Connection(Connection),
+}
+
+/// A reactor. Only the main one may be without a name.
+#[derive(Debug, Drop)]
+pub struct Reactor {
+    pub is_main: bool,
+    pub name: Option<String>,
+    pub parameters: Vec<Parameter>,
+    pub members: Vec<Member>,
+}
+
+/// What stands at the top of a file.
+#[derive(Debug, Drop)]
+pub enum Item {
+    Preamble(TokenRange),
+    Reactor(Reactor),
+}
+
+/// The tree of a program text. The target is a range of tokens.
+#[derive(Debug, Drop)]
+pub struct Ast {
+    pub target: Option<TokenRange>,
+    pub items: Vec<Item>,
+}
