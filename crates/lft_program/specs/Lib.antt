@@ -1,5 +1,8 @@
 pub mod Names
+pub mod Places
 pub mod Parts
 pub mod Origins
 pub mod Sound
 pub mod Plain
+pub mod Flat
+pub mod References

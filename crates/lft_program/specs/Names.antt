@@ -1,5 +1,6 @@
 -- The names of a program's things, and what a text names.
 use Rattle.std.specs.Prelude.{◌≡◌, ℕ, List, Some, slice_get}
+use Rattle.std.specs.Str.{IsUtf8}
 use Rattle.lft_program.specs.declared.found.Found.{Found}
 use Rattle.lft_program.specs.declared.found.Found.TheVariants as found
 
@@ -18,3 +19,15 @@ IsNamed names (found.Port n) text = slice_get names.ports n ≡ Some text
 IsNamed names (found.Action n) text = slice_get names.actions n ≡ Some text
 IsNamed names (found.Timer n) text = slice_get names.timers n ≡ Some text
 IsNamed names (found.Reaction n) text = slice_get names.reactions n ≡ Some text
+
+-- no text stands in the list twice
+abbrev pub HasNoTwice : List (List ℕ) → Type 0
+HasNoTwice texts = (i j : ℕ) (text : List ℕ) → slice_get texts i ≡ Some text → slice_get texts j ≡ Some text → i ≡ j
+
+-- no text names two things
+abbrev pub AreDistinct : ThingNames → Type 0
+AreDistinct names = (f g : Found) (text : List ℕ) → IsNamed names f text → IsNamed names g text → f ≡ g
+
+-- each name is a text in UTF-8
+abbrev pub AreTexts : ThingNames → Type 0
+AreTexts names = (f : Found) (text : List ℕ) → IsNamed names f text → IsUtf8 text

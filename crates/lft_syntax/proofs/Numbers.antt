@@ -1,8 +1,11 @@
 -- The number that digits write.
-use Rattle.std.proofs.Common.{◌≡◌, ℕ, suc, ◌+◌, ◌-◌, ◌*◌, ◌^◌, ◌<◌, ◌≤◌, List, [], ◌∷◌, length, get_or, take, drop, refl, sym, ap, ◌∙◌, arith, add-one}
-use Rattle.std.specs.List.{slice_range}
+use Rattle.std.proofs.Common.{◌≡◌, ℕ, suc, ◌+◌, ◌-◌, ◌*◌, ◌^◌, ◌<◌, ◌≤◌, List, [], ◌∷◌, length, get_or, take, drop, sym, ap, ◌∙◌, arith, add-one}
+use Rattle.std.specs.List.{fold, slice_range}
 use Rattle.std.proofs.Math.Seq.{drop-cons}
-use Rattle.lft_syntax.specs.Lexes.{value, value_from}
+
+-- the number that these digits write after the number n
+abbrev pub value_from : ℕ → List ℕ → ℕ
+value_from n ds = fold (λ m digit. m * 10 + (digit - 48)) n ds
 
 pub value_grows : (ds : List ℕ) (n : ℕ) → n ≤ value_from n ds
 value_grows [] n = omega arith

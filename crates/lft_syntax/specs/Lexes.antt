@@ -1,26 +1,28 @@
--- The cutting of a text into white space, comments and tokens.
-use Rattle.std.specs.Prelude.{◌≡◌, ℕ, ◌+◌, ◌-◌, ◌*◌, ◌<◌, ◌≤◌, ◌^◌, List, [], ◌∷◌, map, length, slice_get, slice_index, slice_range, Option, Some, None, Bool, if◌then◌else◌, true, false, ◌⊎◌, nat_le, nat_eq, ◌||◌, ◌&&◌, ◌≢◌}
-use Rattle.lft_syntax.specs.Bytes.{within, is_digit, is_letter, is_word, is_space, is_byte}
+-- The cutting of a text into white space, comments and tokens. Here t is the text, a list of bytes,
+-- and i, j and k are places in it, counted from 0.
+use Rattle.std.specs.Prelude.{◌≡◌, ◌≢◌, ℕ, ◌+◌, ◌-◌, ◌*◌, ◌<◌, ◌≤◌, ◌^◌, List, [], ◌∷◌, length, slice_get, slice_index, slice_range, Option, Some, None, Bool, if◌then◌else◌, true, false, ◌==◌, ◌&&◌}
+use Rattle.std.specs.List.{fold}
+use Rattle.lft_syntax.specs.Bytes.{within, is_space, is_in_line, is_digit, is_letter, is_word, is_byte}
 use Rattle.lft_syntax.specs.declared.token.Token.{Token}
 use Rattle.lft_syntax.specs.declared.token.TokenKind.{TokenKind}
 use Rattle.lft_syntax.specs.declared.token.TokenKind.TheVariants as kinds
 use Rattle.lft_syntax.specs.declared.form.Form.{Form}
-use Rattle.lft_syntax.specs.declared.form.Form.TheVariants.{Space, Line, Stars, CodeForm, Quote, Word, Digits, ArrowForm, Single, Bad}
+use Rattle.lft_syntax.specs.declared.form.Form.TheVariants.{Space, LineComment, StarComment, Code, Text, Name, Digits, Arrow, Symbol, Unknown}
 use Rattle.lft_syntax.specs.declared.fault.LexFault.{LexFault}
 use Rattle.lft_syntax.specs.declared.fault.LexFault.TheVariants as faults
 
--- bytes of the class from i up to j, and none at j
-pub record Run (p : ℕ → Bool) (t : List ℕ) (i j : ℕ) : Type 0 where
+-- The bytes from i up to j are of the class, and the byte at j, if there is one, isn't.
+pub record Run (class : ℕ → Bool) (t : List ℕ) (i j : ℕ) : Type 0 where
   pub order : i ≤ j
   pub within : j ≤ length t
-  pub each : (k : ℕ) → i ≤ k → k < j → p (slice_index t k) ≡ true
-  pub stops : j < length t → p (slice_index t j) ≡ false
+  pub each : (k : ℕ) → i ≤ k → k < j → class (slice_index t k) ≡ true
+  pub stops : j < length t → class (slice_index t j) ≡ false
 
--- these two bytes stand at i
+-- The bytes a and b stand at i.
 abbrev pub Pair : ℕ → ℕ → List ℕ → ℕ → Type 0
 Pair a b t i = (slice_get t i ≡ Some a) × (slice_get t (i + 1) ≡ Some b)
 
--- j is past the first such two bytes at or after i
+-- The bytes a and b stand just before j, and nowhere before that from i on.
 pub record PastPair (a b : ℕ) (t : List ℕ) (i j : ℕ) : Type 0 where
   pub place : ℕ
   pub order : i ≤ place
@@ -28,100 +30,86 @@ pub record PastPair (a b : ℕ) (t : List ℕ) (i j : ℕ) : Type 0 where
   pub first : (k : ℕ) → i ≤ k → k < place → Pair a b t k → ⊥
   pub past : j ≡ place + 2
 
--- no such two bytes stand at or after i
-abbrev pub NoPair : ℕ → ℕ → List ℕ → ℕ → Type 0
-NoPair a b t i = (k : ℕ) → i ≤ k → Pair a b t k → ⊥
-
--- j is the first LF at or after i, or the end of the text
-pub record LineEnd (t : List ℕ) (i j : ℕ) : Type 0 where
-  pub order : i ≤ j
-  pub first : (k : ℕ) → i ≤ k → k < j → slice_get t k ≢ Some 10
-  pub ends : (slice_get t j ≡ Some 10) ⊎ (j ≡ length t)
-
--- a string's bytes after its quote, up to past the quote that ends it: a backslash escapes the byte after it
+-- What follows a string's quote, from i on, ends just before j, with a quote (34); a backslash (92) escapes the byte after it.
 pub data Quoted (t : List ℕ) : ℕ → ℕ → Type 0 where
   ends : {i j : ℕ} → slice_get t i ≡ Some 34 → j ≡ i + 1 → Quoted t i j
   escaped : {i j : ℕ} → slice_get t i ≡ Some 92 → Quoted t (i + 2) j → Quoted t i j
   plain : {i j b : ℕ} → slice_get t i ≡ Some b → b ≢ 34 → b ≢ 92 → Quoted t (i + 1) j → Quoted t i j
 
--- the number that digits write
-abbrev pub value_from : ℕ → List ℕ → ℕ
-value_from n [] = n
-value_from n (d ∷ ds) = value_from (n * 10 + (d - 48)) ds
-
+-- The number that the digits from i up to j write.
 abbrev pub value : List ℕ → ℕ → ℕ → ℕ
-value t i j = value_from 0 (slice_range t i j)
+value t i j = fold (λ n digit. n * 10 + (digit - 48)) 0 (slice_range t i j)
 
--- what a piece of the text is, by its first two bytes: the first form that fits
+-- What begins with the byte b and the byte after it, if there is one: the first line that fits.
 abbrev pub form_of : ℕ → Option ℕ → Form
 form_of b next =
     if is_space b then Space
-    else if nat_eq b 35 then Line 1
-    else if nat_eq b 47 && is_byte 47 next then Line 2
-    else if nat_eq b 47 && is_byte 42 next then Stars
-    else if nat_eq b 123 && is_byte 61 next then CodeForm
-    else if nat_eq b 34 then Quote
-    else if is_letter b then Word
+    else if (b == 35) then LineComment  -- #
+    else if (b == 47) && is_byte 47 next then LineComment  -- //
+    else if (b == 47) && is_byte 42 next then StarComment  -- /*
+    else if (b == 123) && is_byte 61 next then Code  -- {=
+    else if (b == 34) then Text  -- "
+    else if is_letter b then Name
     else if is_digit b then Digits
-    else if nat_eq b 45 && is_byte 62 next then ArrowForm
-    else if within 33 126 b then Single
-    else Bad
+    else if (b == 45) && is_byte 62 next then Arrow  -- ->
+    else if within 33 126 b then Symbol
+    else Unknown
 
--- a piece of the form that begins at i ends at j
-abbrev pub Ends : List ℕ → Form → ℕ → ℕ → Type 0
-Ends t Space i j = j ≡ i + 1
-Ends t (Line n) i j = LineEnd t (i + n) j
-Ends t Stars i j = PastPair 42 47 t (i + 2) j
-Ends t CodeForm i j = PastPair 61 125 t (i + 2) j
-Ends t Quote i j = Quoted t (i + 1) j
-Ends t Word i j = Run is_word t i j
-Ends t Digits i j = Run is_digit t i j × (value t i j < 2 ^ 64)
-Ends t ArrowForm i j = j ≡ i + 2
-Ends t Single i j = j ≡ i + 1
-Ends t Bad i j = ⊥
+-- What begins at i with the byte b ends just before j, and is a token of this kind; white space and comments are none.
+-- A comment is closed by */ (42 47), code by =} (61 125); both are sought after the two bytes that open it.
+abbrev pub Reads : List ℕ → ℕ → ℕ → Form → ℕ → Option TokenKind → Type 0
+Reads t i b Space j kind = (j ≡ i + 1) × (kind ≡ None)
+Reads t i b LineComment j kind = Run is_in_line t i j × (kind ≡ None)
+Reads t i b StarComment j kind = PastPair 42 47 t (i + 2) j × (kind ≡ None)
+Reads t i b Code j kind = PastPair 61 125 t (i + 2) j × (kind ≡ Some kinds.Code)
+Reads t i b Text j kind = Quoted t (i + 1) j × (kind ≡ Some kinds.Text)
+Reads t i b Name j kind = Run is_word t i j × (kind ≡ Some kinds.Name)
+Reads t i b Digits j kind = Run is_digit t i j × (value t i j < 2 ^ 64) × (kind ≡ Some (kinds.Number (value t i j)))
+Reads t i b Arrow j kind = (j ≡ i + 2) × (kind ≡ Some kinds.Arrow)
+Reads t i b Symbol j kind = (j ≡ i + 1) × (kind ≡ Some (kinds.Symbol b))
+Reads t i b Unknown j kind = ⊥
 
--- the token that a piece is: white space and comments are none
-abbrev pub kind_of : List ℕ → Form → ℕ → ℕ → ℕ → Option TokenKind
-kind_of t Space b i j = None
-kind_of t (Line n) b i j = None
-kind_of t Stars b i j = None
-kind_of t CodeForm b i j = Some kinds.Code
-kind_of t Quote b i j = Some kinds.Text
-kind_of t Word b i j = Some kinds.Name
-kind_of t Digits b i j = Some (kinds.Number (value t i j))
-kind_of t ArrowForm b i j = Some kinds.Arrow
-kind_of t Single b i j = Some (kinds.Symbol b)
-kind_of t Bad b i j = None
+-- What begins at i in this form has this fault: it isn't closed, its number is too large, or nothing begins so.
+abbrev pub IsFault : List ℕ → ℕ → Form → LexFault → Type 0
+IsFault t i StarComment faults.OpenComment = (j : ℕ) → PastPair 42 47 t (i + 2) j → ⊥
+IsFault t i Code faults.OpenCode = (j : ℕ) → PastPair 61 125 t (i + 2) j → ⊥
+IsFault t i Text faults.OpenString = (j : ℕ) → Quoted t (i + 1) j → ⊥
+IsFault t i Digits (faults.NumberTooLarge k) = (k ≡ i) × ((j : ℕ) × Run is_digit t i j × (2 ^ 64 ≤ value t i j))
+IsFault t i Unknown (faults.BadChar k) = k ≡ i
+IsFault t _ _ _ = ⊥
 
+-- A piece of the text from i up to j: white space, a comment or a token of this kind.
+pub record Piece (t : List ℕ) (i : ℕ) (kind : Option TokenKind) (j : ℕ) : Type 0 where
+  pub byte : ℕ
+  pub there : slice_get t i ≡ Some byte
+  pub reads : Reads t i byte (form_of byte (slice_get t (i + 1))) j kind
+
+-- What begins at i has this fault.
+pub record FaultAt (t : List ℕ) (i : ℕ) (fault : LexFault) : Type 0 where
+  pub byte : ℕ
+  pub there : slice_get t i ≡ Some byte
+  pub refused : IsFault t i (form_of byte (slice_get t (i + 1))) fault
+
+-- The tokens with the piece from i up to j in front, if it is one.
 abbrev pub with_token : Option TokenKind → ℕ → ℕ → List Token → List Token
 with_token None i j tokens = tokens
-with_token (Some k) i j tokens = record { kind = k; start = i; end = j } ∷ tokens
+with_token (Some kind) i j tokens = record { kind = kind; start = i; end = j } ∷ tokens
 
--- the piece that begins at i ends at j, and is a token of the kind, or none
-abbrev pub Piece : List ℕ → ℕ → Option TokenKind → ℕ → Type 0
-Piece t i kind j = (b : ℕ) × (slice_get t i ≡ Some b) × Ends t (form_of b (slice_get t (i + 1))) i j × (kind ≡ kind_of t (form_of b (slice_get t (i + 1))) b i j)
-
--- the text from i up to j is cut into pieces, of which these are tokens
+-- The text from i up to j is cut into pieces, and these of them are tokens.
 pub data Cut (t : List ℕ) : ℕ → List Token → ℕ → Type 0 where
   done : {i : ℕ} → Cut t i [] i
   piece : {i m j : ℕ} {kind : Option TokenKind} {tokens : List Token} → Piece t i kind m → Cut t m tokens j → Cut t i (with_token kind i m tokens) j
 
--- the whole text
+-- The whole text is cut, and these are its tokens.
 abbrev pub Lexes : List ℕ → List Token → Type 0
 Lexes t tokens = Cut t 0 tokens (length t)
 
--- the fault that begins at i
-abbrev pub IsFault : List ℕ → Form → ℕ → LexFault → Type 0
-IsFault t Bad i (faults.BadChar k) = k ≡ i
-IsFault t Stars i faults.OpenComment = NoPair 42 47 t (i + 2)
-IsFault t CodeForm i faults.OpenCode = NoPair 61 125 t (i + 2)
-IsFault t Quote i faults.OpenString = (j : ℕ) → Quoted t (i + 1) j → ⊥
-IsFault t Digits i (faults.NumberTooLarge k) = (k ≡ i) × ((j : ℕ) × Run is_digit t i j × (2 ^ 64 ≤ value t i j))
-IsFault t _ i _ = ⊥
-
-abbrev pub FaultAt : List ℕ → ℕ → LexFault → Type 0
-FaultAt t i fault = (b : ℕ) × (slice_get t i ≡ Some b) × IsFault t (form_of b (slice_get t (i + 1))) i fault
-
--- the fault that begins at the least byte: the text before it is cut
+-- The fault that begins at the least byte: the text before it is cut.
 abbrev pub Faults : List ℕ → LexFault → Type 0
 Faults t fault = (i : ℕ) × (tokens : List Token) × Cut t 0 tokens i × FaultAt t i fault
+
+-- Why a text is refused: its length, or its one first fault, and then it has no tokens. Want of memory says nothing of it.
+abbrev pub LexFails : List ℕ → LexFault → Type 0
+LexFails t faults.TooLong = 1048576 < length t
+LexFails t faults.NoMemory = Unit {0}
+LexFails t fault = Faults t fault × ((other : LexFault) → Faults t other → other ≡ fault) × ((tokens : List Token) → Lexes t tokens → ⊥)

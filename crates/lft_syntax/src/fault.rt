@@ -1,5 +1,7 @@
 //! Why a text has no tokens, or no tree.
 
+use std::alloc::AllocFailed;
+
 /// Why a text has no tokens. Places count bytes from 0.
 #[derive(Clone, Copy, Debug, PartialEq, Eq)]
 pub enum LexFault {
@@ -17,6 +19,17 @@ pub enum LexFault {
     TooLong,
     /// A growth of memory was refused.
     NoMemory,
+}
+
+impl<T: Drop> From<AllocFailed<T>> for LexFault {
+    ghost use Rattle.std.specs.Prelude.{◌≡◌};
+    ghost use Rattle.lft_syntax.specs.declared.fault.LexFault.TheVariants.{NoMemory};
+
+    ghost from_gives = { λ _ e. e ≡ NoMemory };
+
+    fn from(_refused: AllocFailed<T>) -> LexFault {
+        LexFault::NoMemory
+    }
 }
 
 /// Why tokens have no tree.

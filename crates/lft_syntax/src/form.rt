@@ -1,54 +1,110 @@
-//! What a piece of the text is, by its first two bytes.
+//! What begins at a byte of the text.
 
-ghost use Rattle.std.specs.Prelude.{◌≡◌, ◌↔◌, IsTrue};
-ghost use Rattle.lft_syntax.specs.Bytes.{is_space, is_letter, is_digit, is_word, within, is_byte};
+ghost use Rattle.std.specs.Prelude.{◌≡◌};
+ghost use Rattle.lft_syntax.specs.Bytes.{is_space, is_in_line, is_letter, is_digit, is_word, is_byte};
 
-/// What a piece of the text is.
+/// What begins with a byte, by that byte and the one after it.
 #[derive(Clone, Copy, Debug, PartialEq, Eq)]
 pub enum Form {
+    /// One byte of white space.
     Space,
-    /// A comment to the end of the line, by the length of its mark.
-    Line(usize),
-    /// A comment between stars.
-    Stars,
-    CodeForm,
-    Quote,
-    Word,
+    /// A comment to the end of the line.
+    LineComment,
+    /// A comment between `/*` and `*/`.
+    StarComment,
+    Code,
+    Text,
+    Name,
     Digits,
-    ArrowForm,
-    Single,
-    Bad,
+    Arrow,
+    Symbol,
+    /// A byte that begins nothing.
+    Unknown,
 }
 
-pub fn space_byte(byte: u8) -> bool
+impl Form {
+    ghost use Rattle.lft_syntax.specs.Lexes.{form_of};
+
+    /// What begins with a byte and the byte after it, if there is one.
+    pub fn of(byte: u8, next: Option<u8>) -> Form
+        ensures { result ≡ form_of byte next }
+    {
+        if is_space(byte) {
+            return Form::Space;
+        }
+        if byte == b'#' {
+            return Form::LineComment;
+        }
+        if byte == b'/' && is_byte(b'/', next) {
+            return Form::LineComment;
+        }
+        if byte == b'/' && is_byte(b'*', next) {
+            return Form::StarComment;
+        }
+        if byte == b'{' && is_byte(b'=', next) {
+            return Form::Code;
+        }
+        if byte == b'"' {
+            return Form::Text;
+        }
+        if is_letter(byte) {
+            return Form::Name;
+        }
+        if is_digit(byte) {
+            return Form::Digits;
+        }
+        if byte == b'-' && is_byte(b'>', next) {
+            return Form::Arrow;
+        }
+        if b'!' <= byte && byte <= b'~' {
+            Form::Symbol
+        } else {
+            Form::Unknown
+        }
+    }
+}
+
+/// White space: space, tab, CR, LF and the semicolon.
+pub fn is_space(byte: u8) -> bool
     ensures { result ≡ is_space byte }
 {
     byte == b' ' || byte == b'\t' || byte == b'\r' || byte == b'\n' || byte == b';'
 }
 
-pub fn letter(byte: u8) -> bool
+/// Any byte but LF.
+pub fn is_in_line(byte: u8) -> bool
+    ensures { result ≡ is_in_line byte }
+{
+    byte != b'\n'
+}
+
+/// An ASCII letter or an underscore.
+pub fn is_letter(byte: u8) -> bool
     ensures { result ≡ is_letter byte }
 {
     b'A' <= byte && byte <= b'Z' || b'a' <= byte && byte <= b'z' || byte == b'_'
 }
 
-pub fn digit(byte: u8) -> bool
+/// An ASCII digit.
+pub fn is_digit(byte: u8) -> bool
     ensures { result ≡ is_digit byte }
 {
     b'0' <= byte && byte <= b'9'
 }
 
-pub fn word_byte(byte: u8) -> bool
+/// What a name goes on with: a letter, an underscore or a digit.
+pub fn is_word(byte: u8) -> bool
     ensures { result ≡ is_word byte }
 {
-    letter(byte) || digit(byte)
+    is_letter(byte) || is_digit(byte)
 }
 
-pub fn is(byte: u8, next: Option<u8>) -> bool
-    ensures { result ≡ is_byte byte next }
+/// Tells whether the byte that stands there, if one does, is this byte.
+pub fn is_byte(byte: u8, there: Option<u8>) -> bool
+    ensures { result ≡ is_byte byte there }
 {
-    match next {
-        Some(b) => b == byte,
+    match there {
+        Some(found) => found == byte,
         None => false,
     }
 }

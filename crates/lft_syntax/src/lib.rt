@@ -3,11 +3,17 @@
 
 mod fault;
 mod form;
+mod input;
+mod lexer;
+mod parse_error;
+mod parser;
 mod piece;
 mod token;
 mod tree;
 
 pub use fault::{LexFault, SyntaxFault};
+pub use lexer::{MAX_LENGTH, lex};
+pub use parser::parse;
 pub use token::{Token, TokenKind, Tokens};
 pub use tree::{
     Action, Assignment, Ast, Connection, Instance, Item, Member, Parameter, Port, Reaction,

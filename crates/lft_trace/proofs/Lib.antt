@@ -1,0 +1,14 @@
+pub mod Ascending
+pub mod Digits
+pub mod EntriesDiffer
+pub mod EventFacts
+pub mod ExternalFacts
+pub mod ExternalTableFacts
+pub mod Fuel
+pub mod Members
+pub mod RowFacts
+pub mod RowsDiffer
+pub mod Sized
+pub mod TableFacts
+pub mod TraceFacts
+pub mod Zips

@@ -1,2 +1,10 @@
 pub mod Inputs
 pub mod Fits
+pub mod Records
+pub mod Numbers
+pub mod Traces
+pub mod Seen
+pub mod Faults
+pub mod ExternalTables
+pub mod SeenExternals
+pub mod Keys

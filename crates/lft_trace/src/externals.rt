@@ -1,8 +1,9 @@
 //! External inputs.
 
-ghost use Rattle.std.specs.Prelude.{◌≡◌, length};
+ghost use Rattle.std.specs.Prelude.{◌≡◌, ◌↔◌, IsTrue, length};
 
-use lft_program::Value;
+use crate::fits::{MAX_ROWS, event_fits, is_recorded};
+use lft_program::{Program, Value};
 use lft_tag::Tag;
 use std::marker::Model;
 
@@ -35,6 +36,7 @@ impl Model for Externals {
 }
 
 impl Externals {
+    ghost use Rattle.lft_trace.specs.Fits.{ExternalsFit};
     ghost use Rattle.lft_trace.specs.Inputs.{InOrder};
 
     /// The external inputs of a stop tag and of events in their order. It takes no memory.
@@ -58,5 +60,21 @@ impl Externals {
         ensures order { InOrder self.now.events }
     {
         self.events.as_slice()
+    }
+
+    /// Whether all actions are of the program and all tags recorded, in at most 4,000,000 events.
+    /// It takes no memory.
+    pub fn fits(&self, program: &Program) -> bool
+        ensures { IsTrue result ↔ ExternalsFit program.now self.now }
+    {
+        if self.events.len() > MAX_ROWS || !is_recorded(self.stop) {
+            return false;
+        }
+        for at in 0..self.events.len() {
+            if !event_fits(self.events[at], program) {
+                return false;
+            }
+        }
+        true
     }
 }

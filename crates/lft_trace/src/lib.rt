@@ -1,10 +1,24 @@
 #![tactic(auto)]
 //! Rows of a trace and external inputs, and the tables that hold them.
 
+mod event_map;
+mod external_table;
 mod externals;
 mod fault;
+mod fields;
+mod fits;
+mod kind;
+mod names;
+mod number;
+mod records;
 mod row;
+mod trace_table;
 
+pub use external_table::read_externals;
 pub use externals::{Event, Externals};
 pub use fault::TraceFault;
 pub use row::{Row, Rows, Step};
+pub use trace_table::read_trace;
+
+#[cfg(test)]
+mod tests;

@@ -1,8 +1,9 @@
 //! The rows of a trace.
 
-ghost use Rattle.std.specs.Prelude.{◌≡◌, length};
+ghost use Rattle.std.specs.Prelude.{◌≡◌, ◌↔◌, IsTrue, length};
 
-use lft_program::{Name, Value};
+use crate::fits::{MAX_ROWS, row_fits};
+use lft_program::{Name, Program, Value};
 use lft_tag::Tag;
 use std::marker::Model;
 
@@ -42,6 +43,8 @@ impl Model for Rows {
 }
 
 impl Rows {
+    ghost use Rattle.lft_trace.specs.Fits.{RowsFit};
+
     /// The rows of the list. It takes no memory.
     pub fn from_vec(items: Vec<Row>) -> Rows
         ensures { result ≡ items.items }
@@ -54,5 +57,21 @@ impl Rows {
         ensures { result.now ≡ self.now }
     {
         self.items.as_slice()
+    }
+
+    /// Whether all numbers are of the program, all tags recorded and all delays at most 10^18, in
+    /// at most 4,000,000 rows. It takes no memory.
+    pub fn fits(&self, program: &Program) -> bool
+        ensures { IsTrue result ↔ RowsFit program.now self.now }
+    {
+        if self.items.len() > MAX_ROWS {
+            return false;
+        }
+        for at in 0..self.items.len() {
+            if !row_fits(self.items[at], program) {
+                return false;
+            }
+        }
+        true
     }
 }

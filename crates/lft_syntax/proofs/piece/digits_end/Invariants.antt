@@ -1,4 +1,4 @@
-use Rattle.std.proofs.Common.{◌≡◌, ℕ, ◌-◌, ◌<◌, ◌≤◌, ◌≢◌, length, true}
+use Rattle.std.proofs.Common.{◌≡◌, ℕ, ◌-◌, ◌<◌, ◌≤◌, length, true}
 use Rattle.std.specs.Prelude.{slice_index}
 use Rattle.lft_syntax.specs.Bytes.{is_digit}
 use Rattle.lft_syntax.proofs.piece.digits_end.Given as goal

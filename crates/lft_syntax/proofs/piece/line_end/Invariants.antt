@@ -1,9 +1,10 @@
-use Rattle.std.proofs.Common.{◌≡◌, ℕ, ◌-◌, ◌<◌, ◌≤◌, ◌≢◌, length, Some}
-use Rattle.std.specs.Prelude.{slice_get}
+use Rattle.std.proofs.Common.{◌≡◌, ℕ, ◌-◌, ◌<◌, ◌≤◌, length, true}
+use Rattle.std.specs.Prelude.{slice_index}
+use Rattle.lft_syntax.specs.Bytes.{is_in_line}
 use Rattle.lft_syntax.proofs.piece.line_end.Given as goal
 
 abbrev pub invariant-line : goal.invariant-line
-invariant-line l = record { order : l.fn.from ≤ l.at; within : l.at ≤ length l.text; passed : (k : ℕ) → l.fn.from ≤ k → k < l.at → slice_get l.text k ≢ Some 10 }
+invariant-line l = record { order : l.fn.from ≤ l.at; within : l.at ≤ length l.text; passed : (k : ℕ) → l.fn.from ≤ k → k < l.at → is_in_line (slice_index l.text k) ≡ true }
 
 abbrev pub decreases-line : goal.decreases-line
 decreases-line l = length l.text - l.at

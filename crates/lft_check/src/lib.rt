@@ -1,0 +1,14 @@
+#![tactic(auto)]
+//! The verdict on a trace.
+
+mod count;
+mod examine;
+mod judge;
+#[cfg(test)]
+mod tests;
+mod verdict;
+mod watch;
+
+pub use judge::judge_alone;
+pub use verdict::Verdict;
+pub use watch::{NoWatch, Watch};

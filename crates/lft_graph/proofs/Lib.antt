@@ -1,0 +1,9 @@
+pub mod Places
+pub mod Turning
+pub mod Writing
+pub mod Feeding
+pub mod Walking
+pub mod Settling
+pub mod Levelling
+pub mod Chains
+pub mod Arranging

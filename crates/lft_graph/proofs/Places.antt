@@ -1,0 +1,81 @@
+-- What stands at the places of lists.
+use Rattle.std.proofs.Common.{◌≡◌, ◌≢◌, ℕ, zero, suc, ◌+◌, ◌<◌, ◌≤◌, ◌⊎◌, inl, inr, List, [], ◌∷◌, ◌++◌, length, refl, sym, ap, ◌∙◌, subst, arith, Option, Some, None, slice_get, slice_set, Contains, replicate, take}
+use Rattle.std.proofs.lemmas.Option.{slice_get_within, slice_get-get_or}
+use Rattle.std.proofs.lemmas.Bool.{cases_eq}
+
+pub contains_at : {X : Type 0} (xs : List X) (i : ℕ) (x : X) → slice_get xs i ≡ Some x → Contains xs x
+contains_at [] i x e = absurd (cc)
+contains_at (y ∷ ys) zero x e = let q : y ≡ x = cc in (0, omega arith, q)
+contains_at (y ∷ ys) (suc i) x e = let c = contains_at ys i x e in let l : c.0 < length ys = c.1 in (suc c.0, omega arith, c.2)
+
+pub at_contains : {X : Type 0} (xs : List X) (x : X) → Contains xs x → (i : ℕ) × (slice_get xs i ≡ Some x)
+at_contains xs x c = (c.0, slice_get-get_or xs c.0 x c.1 ∙ ap Some c.2)
+
+pub get_there : {X : Type 0} (xs : List X) (k : ℕ) → k < length xs → (x : X) × (slice_get xs k ≡ Some x)
+get_there [] k l = absurd (omega arith)
+get_there (y ∷ ys) zero l = (y, refl)
+get_there (y ∷ ys) (suc k) l = get_there ys k (omega arith)
+
+pub same_at : {X : Type 0} (xs : List X) (i j : ℕ) (x y : X) → slice_get xs i ≡ Some x → slice_get xs j ≡ Some y → i ≡ j → x ≡ y
+same_at xs i j x y e f g = let a : slice_get xs i ≡ slice_get xs j = ap (slice_get xs) g in let b : Some x ≡ Some y = sym e ∙ a ∙ f in cc
+
+-- a write at a place
+pub get_written : {X : Type 0} (xs : List X) (i : ℕ) (y : X) → i < length xs → slice_get (slice_set xs i y) i ≡ Some y
+get_written [] i y l = absurd (omega arith)
+get_written (x ∷ xs) zero y l = refl
+get_written (x ∷ xs) (suc i) y l = get_written xs i y (omega arith)
+
+pub get_unwritten : {X : Type 0} (xs : List X) (i j : ℕ) (y : X) → j ≢ i → slice_get (slice_set xs i y) j ≡ slice_get xs j
+get_unwritten [] i j y n = refl
+get_unwritten (x ∷ xs) zero zero y n = absurd (n refl)
+get_unwritten (x ∷ xs) zero (suc j) y n = refl
+get_unwritten (x ∷ xs) (suc i) zero y n = refl
+get_unwritten (x ∷ xs) (suc i) (suc j) y n = get_unwritten xs i j y (λ e. n (ap suc e))
+
+pub get_write_cases : {X : Type 0} (xs : List X) (i j : ℕ) (y z : X) → i < length xs → slice_get (slice_set xs i y) j ≡ Some z → ((j ≡ i) × (y ≡ z)) ⊎ ((j ≢ i) × (slice_get xs j ≡ Some z))
+get_write_cases {X} xs i j y z l e = go (cases_eq j i)
+  where
+    go : (j ≡ i) ⊎ (j ≡ i → ⊥) → ((j ≡ i) × (y ≡ z)) ⊎ ((j ≢ i) × (slice_get xs j ≡ Some z))
+    go (inl s) = let a : slice_get (slice_set xs i y) i ≡ Some z = subst (λ k. slice_get (slice_set xs i y) k ≡ Some z) s e in let b = get_written xs i y l in let q : y ≡ z = cc in inl (s, q)
+    go (inr n) = inr (n, sym (get_unwritten xs i j y n) ∙ e)
+
+pub length_written : {X : Type 0} (xs : List X) (i : ℕ) (y : X) → length (slice_set xs i y) ≡ length xs
+length_written [] i y = refl
+length_written (x ∷ xs) zero y = refl
+length_written (x ∷ xs) (suc i) y = ap suc (length_written xs i y)
+
+-- one more at the end
+pub get_push : {X : Type 0} (xs : List X) (y : X) (i : ℕ) (x : X) → slice_get xs i ≡ Some x → slice_get (xs ++ y ∷ []) i ≡ Some x
+get_push [] y i x e = absurd (cc)
+get_push (z ∷ xs) y zero x e = e
+get_push (z ∷ xs) y (suc i) x e = get_push xs y i x e
+
+pub get_last : {X : Type 0} (xs : List X) (y : X) → slice_get (xs ++ y ∷ []) (length xs) ≡ Some y
+get_last [] y = refl
+get_last (z ∷ xs) y = get_last xs y
+
+pub get_push_cases : {X : Type 0} (xs : List X) (y : X) (i : ℕ) (x : X) → slice_get (xs ++ y ∷ []) i ≡ Some x → (slice_get xs i ≡ Some x) ⊎ ((i ≡ length xs) × (y ≡ x))
+get_push_cases [] y zero x e = let q : y ≡ x = cc in inr (refl, q)
+get_push_cases [] y (suc i) x e = absurd (cc)
+get_push_cases (z ∷ xs) y zero x e = inl e
+get_push_cases {X} (z ∷ xs) y (suc i) x e = up (get_push_cases xs y i x e)
+  where
+    up : (slice_get xs i ≡ Some x) ⊎ ((i ≡ length xs) × (y ≡ x)) → (slice_get xs i ≡ Some x) ⊎ ((suc i ≡ suc (length xs)) × (y ≡ x))
+    up (inl a) = inl a
+    up (inr b) = inr (ap suc b.0, b.1)
+
+pub get_same : {X : Type 0} (n i : ℕ) (y x : X) → slice_get (replicate n y) i ≡ Some x → x ≡ y
+get_same zero i y x e = absurd (cc)
+get_same (suc n) zero y x e = let q : y ≡ x = cc in sym q
+get_same (suc n) (suc i) y x e = get_same n i y x e
+
+pub length_same : {X : Type 0} (n : ℕ) (y : X) → length (replicate n y) ≡ n
+length_same zero y = refl
+length_same (suc n) y = ap suc (length_same n y)
+
+pub written_back : {X : Type 0} (xs ys : List X) (n : ℕ) → n ≡ length xs → take n (xs ++ ys) ≡ xs
+written_back {X} xs ys n e = ap (λ k. take k (xs ++ ys)) e ∙ go xs
+  where
+    go : (xs : List X) → take (length xs) (xs ++ ys) ≡ xs
+    go [] = refl
+    go (x ∷ xs) = ap (λ l. x ∷ l) (go xs)

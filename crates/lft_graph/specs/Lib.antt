@@ -1,0 +1,4 @@
+pub mod Before
+pub mod Graph
+pub mod Loops
+pub mod Walks

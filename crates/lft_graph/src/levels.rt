@@ -1,0 +1,168 @@
+//! Levels by a walk along the short lists, or a loop.
+
+ghost use Rattle.std.specs.Prelude.{◌≡◌, ◌≢◌, ℕ, List, ◌+◌, ◌<◌, ◌≤◌, length, slice_get, Some, Err, IfOk, OnOk};
+ghost use Rattle.lft_graph.specs.Graph.{AreLevels};
+ghost use Rattle.lft_graph.specs.Loops.{IsLoopOf};
+ghost use Rattle.lft_graph.specs.Walks.{AreInside, IsStep, AreDone, IsLevelOf, AreSmall, IsSettled, NoneOpen, IsNext, KeepsLooked, tally, done_weight};
+ghost use Rattle.lft_graph.specs.declared.levels.Mark.TheVariants.{New, Open, Done};
+
+use crate::fault::GraphFault;
+use crate::loops::{cut_loop, number_at};
+use crate::members::Members;
+use std::alloc::Global;
+
+/// How far a reaction is looked at: not yet, on the way with the first members of its list
+/// levelled, or to the end, with its level.
+#[derive(Clone, Copy, Debug, Drop)]
+pub(crate) enum Mark {
+    New,
+    Open(usize),
+    Done(u32),
+}
+
+/// What comes next at a reaction: its level, a member of its list that is on the way, or the
+/// first member that isn't looked at, with its place.
+#[derive(Clone, Copy, Debug, Drop)]
+pub(crate) enum Next {
+    Level(u32),
+    Looped(u32),
+    First(usize, u32),
+}
+
+// the mark of a reaction
+fn mark_at(marks: &[Mark], reaction: u32) -> Mark
+    requires { reaction < length marks.now }
+    ensures { slice_get marks.now reaction ≡ Some result }
+{
+    marks[reaction as usize]
+}
+
+// the list of a reaction
+fn list_at(before: &[Members], reaction: u32) -> &[u32]
+    requires { reaction < length before.now }
+    ensures { slice_get before.now reaction ≡ Some result.now }
+{
+    before[reaction as usize].as_slice()
+}
+
+// how many members of its list are levelled
+fn place_in(mark: Mark) -> usize
+    ensures { (k : ℕ) → mark ≡ Open k → result ≡ k }
+{
+    match mark {
+        Mark::Open(place) => place,
+        _ => 0,
+    }
+}
+
+// 0, or one more than the greatest level of the members
+fn level_of(list: &[u32], marks: &[Mark]) -> u32
+    requires done { (i a : ℕ) → slice_get list.now i ≡ Some a → (k : ℕ) × (slice_get marks.now a ≡ Some (Done k)) }
+    requires small { AreSmall marks.now }
+    requires few { tally done_weight marks.now < 100000 }
+    ensures level { IsLevelOf marks.now list.now (length list.now) result }
+    ensures small { result ≤ tally done_weight marks.now }
+{
+    let mut level = 0;
+    'members: for place in 0..list.len() {
+        if let Mark::Done(below) = mark_at(marks, number_at(list, place)) {
+            if below >= level {
+                level = below + 1;
+            }
+        }
+    }
+    level
+}
+
+// what comes next at a reaction
+fn look(before: &[Members], marks: &[Mark], reaction: u32, from: usize) -> Next
+    requires inside { AreInside before.now }
+    requires known { reaction < length before.now }
+    requires as_long { length marks.now ≡ length before.now }
+    requires done { AreDone before.now marks.now reaction from }
+    requires small { AreSmall marks.now }
+    requires few { tally done_weight marks.now < 100000 }
+    ensures { IsNext before.now marks.now reaction result }
+{
+    let list = list_at(before, reaction);
+    'members: for place in from..list.len() {
+        let member = number_at(list, place);
+        match mark_at(marks, member) {
+            Mark::New => return Next::First(place, member),
+            Mark::Open(_) => return Next::Looped(member),
+            Mark::Done(_) => {}
+        }
+    }
+    Next::Level(level_of(list, marks))
+}
+
+// levels a reaction and all that precede it
+fn settle(
+    alloc: Global,
+    before: &[Members],
+    marks: &mut [Mark],
+    reaction: u32,
+) -> Result<(), GraphFault>
+    requires inside { AreInside before.now }
+    requires known { reaction < length before.now }
+    requires as_long { length marks.old ≡ length before.now }
+    requires few { length before.now ≤ 10000 }
+    requires settled { IsSettled before.now marks.old }
+    requires none_open { NoneOpen marks.old }
+    ensures settled { OnOk result (IsSettled before.now marks.new) }
+    ensures none_open { OnOk result (NoneOpen marks.new) }
+    ensures kept { OnOk result (KeepsLooked marks.old marks.new) }
+    ensures looked { OnOk result (slice_get marks.new reaction ≢ Some New) }
+    ensures cycle { (l : List ℕ) → result ≡ Err (GraphFault.CausalityLoop l) → IsLoopOf (IsStep before.now) l }
+{
+    match mark_at(marks, reaction) {
+        Mark::New => {}
+        _ => return Ok(()),
+    }
+    let mut stack = Vec::new(alloc);
+    marks[reaction as usize] = Mark::Open(0);
+    stack.push(reaction)?;
+    'walk: while let Some(top) = stack.pop() {
+        let from = place_in(mark_at(marks, top));
+        match look(before, marks, top, from) {
+            Next::Level(level) => {
+                marks[top as usize] = Mark::Done(level);
+            }
+            Next::Looped(member) => {
+                stack.push(top)?;
+                let found = cut_loop(alloc, &stack, member)?;
+                return Err(GraphFault::CausalityLoop(found));
+            }
+            Next::First(place, member) => {
+                marks[top as usize] = Mark::Open(place);
+                marks[member as usize] = Mark::Open(0);
+                stack.push(top)?;
+                stack.push(member)?;
+            }
+        }
+    }
+    Ok(())
+}
+
+/// The level of each reaction, or a loop.
+pub(crate) fn levels(alloc: Global, before: &[Members]) -> Result<Vec<u32>, GraphFault>
+    requires inside { AreInside before.now }
+    requires few { length before.now ≤ 10000 }
+    ensures levels { IfOk result (λ v. AreLevels before.now v.items) }
+    ensures cycle { (l : List ℕ) → result ≡ Err (GraphFault.CausalityLoop l) → IsLoopOf (IsStep before.now) l }
+{
+    let mut marks = vec![in alloc; Mark::New; before.len()]?;
+    'reactions: for reaction in 0..before.len() {
+        match settle(alloc, before, &mut marks, reaction as u32) {
+            Ok(()) => {}
+            Err(fault) => return Err(fault),
+        }
+    }
+    let mut all = Vec::new(alloc);
+    'marks: for reaction in 0..before.len() {
+        if let Mark::Done(level) = mark_at(&marks, reaction as u32) {
+            all.push(level)?;
+        }
+    }
+    Ok(all)
+}

@@ -1,0 +1,16 @@
+#![tactic(auto)]
+//! Which reactions precede which at a tag: short lists and levels, or a causality loop.
+
+mod before;
+mod fault;
+mod graph;
+mod levels;
+mod lists;
+mod loops;
+mod members;
+mod order;
+mod writers;
+
+pub use fault::GraphFault;
+pub use graph::Graph;
+pub use lists::Loop;

@@ -1,0 +1,9 @@
+pub mod Members
+pub mod Orders
+pub mod Walks
+pub mod Settling
+pub mod Folding
+pub mod Settled
+pub mod Limits
+pub mod Simulation
+pub mod Unique

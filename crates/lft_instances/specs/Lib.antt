@@ -1,0 +1,4 @@
+pub mod Paths
+pub mod Contents
+pub mod Sources
+pub mod Marks

@@ -1,0 +1,151 @@
+ghost use Rattle.std.specs.Prelude.{◌≡◌, true};
+ghost use Rattle.lft_instances.specs.Sources.{AreInside};
+
+use super::*;
+use std::alloc::Global;
+use std::process::Abort;
+use std::test::Fail;
+
+/// Reactors of which each contains the next one twice, but for the last.
+fn doubling(alloc: Global, reactors: u32) -> Result<Vec<Contents>, Fail> {
+    let mut table = Vec::new(alloc);
+    for number in 1..reactors {
+        let instances = vec![in alloc; number, number]?;
+        table.push(Contents { instances })?;
+    }
+    table.push(Contents {
+        instances: Vec::new(alloc),
+    })?;
+    Ok(table)
+}
+
+#[test]
+fn numbers_instances_in_pre_order(rt: HostRuntime) -> Result<(), Fail> {
+    let alloc = rt.alloc();
+    // 0 contains 2 and 1, 1 contains nothing, 2 contains 1 twice
+    let mut table = Vec::new(alloc);
+    table.push(Contents {
+        instances: vec![in alloc; 2, 1]?,
+    })?;
+    table.push(Contents {
+        instances: Vec::new(alloc),
+    })?;
+    table.push(Contents {
+        instances: vec![in alloc; 1, 1]?,
+    })?;
+    let made = all_instances(alloc, &table, 0)?;
+    let want = [(0, 0, 0), (2, 0, 0), (1, 1, 0), (1, 1, 1), (1, 0, 1)];
+    assert_eq!(rt; made.len(), want.len());
+    for (instance, expected) in made.iter().zip(&want) {
+        assert_eq!(rt;
+            (instance.reactor, instance.parent, instance.place),
+            *expected
+        );
+    }
+    Ok(())
+}
+
+#[test]
+fn refuses_too_many_instances(rt: HostRuntime) -> Result<(), Fail> {
+    let alloc = rt.alloc();
+    assert_eq!(rt; all_instances(alloc, &doubling(alloc, 13)?, 0)?.len(), 8191);
+    for reactors in [14, 41, 301] {
+        let fault = all_instances(alloc, &doubling(alloc, reactors)?, 0).err();
+        assert_eq!(rt; fault, Some(WalkFault::TooMany));
+    }
+    // a reactor that contains itself
+    let mut table = Vec::new(alloc);
+    table.push(Contents {
+        instances: vec![in alloc; 0]?,
+    })?;
+    assert_eq!(rt;
+        all_instances(alloc, &table, 0).err(),
+        Some(WalkFault::TooMany)
+    );
+    Ok(())
+}
+
+/// Whether each source is a port of the list.
+fn are_inside(sources: &[Option<Source>]) -> bool
+    ensures { result ≡ true → AreInside sources.now }
+{
+    for source in sources {
+        if let Some(source) = *source {
+            if source.port as usize >= sources.len() {
+                return false;
+            }
+        }
+    }
+    true
+}
+
+/// The origins of the ports; none where a source isn't a port of the list.
+fn origins_of(
+    alloc: Global,
+    sources: &[Option<Source>],
+) -> Option<Result<Vec<Reached>, OriginFault>> {
+    if sources.len() <= 100_000 && are_inside(sources) {
+        Some(find_origins(alloc, sources))
+    } else {
+        None
+    }
+}
+
+/// A port after this one.
+fn after(port: u32, delay: Option<u64>) -> Option<Source> {
+    Some(Source { port, delay })
+}
+
+#[test]
+fn folds_delays_along_chains(rt: HostRuntime) -> Result<(), Fail> {
+    let long = 600_000_000_000_000_000;
+    let sources = [
+        None,
+        after(0, Some(5)),
+        after(1, Some(0)),
+        after(0, Some(0)),
+        after(3, Some(5)),
+        after(3, Some(0)),
+        after(5, None),
+        after(8, Some(long)),
+        after(0, Some(long)),
+    ];
+    let want = [
+        Some((0, 0)),
+        Some((5, 0)),
+        Some((5, 1)),
+        Some((0, 1)),
+        Some((5, 0)),
+        Some((0, 2)),
+        Some((0, 2)),
+        None,
+        Some((long, 0)),
+    ];
+    let all = match origins_of(rt.alloc(), &sources) {
+        Some(answer) => answer?,
+        None => panic!(&rt; "a source isn't a port"),
+    };
+    assert_eq!(rt; all.len(), want.len());
+    for (reached, expected) in all.iter().zip(&want) {
+        assert_eq!(rt; reached.origin, 0);
+        let shift = reached.shift.map(|shift| (shift.time, shift.steps));
+        assert_eq!(rt; shift, *expected);
+    }
+    Ok(())
+}
+
+#[test]
+fn finds_cycles(rt: HostRuntime) {
+    let alloc = rt.alloc();
+    let itself = [None, after(1, Some(3))];
+    let three = [
+        after(2, None),
+        after(0, None),
+        after(1, None),
+        after(0, None),
+    ];
+    for sources in [&itself[..], &three[..]] {
+        let fault = origins_of(alloc, sources).and_then(|answer| answer.err());
+        assert_eq!(rt; fault, Some(OriginFault::Cycle));
+    }
+}

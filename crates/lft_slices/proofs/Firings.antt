@@ -1,0 +1,122 @@
+-- Timers: whether one fires at a tag, and its firings one after another.
+use Rattle.std.proofs.Common.{◌≡◌, ℕ, ◌+◌, ◌-◌, ◌*◌, ◌/◌, ◌%◌, ◌<◌, ◌≤◌, inl, inr, refl, sym, ap, ◌∙◌, subst, arith, Some, None}
+use Rattle.std.proofs.lemmas.Nat.{div-add-mod', mod-mul-add, mul-le}
+use native.Mathlib.Decide.{ℕ_discrete, dec_lt}
+use Rattle.lft_tag.specs.declared.Tag.{Tag}
+use Rattle.lft_tag.specs.Tags.{UpTo}
+use Rattle.lft_tag.proofs.Chains.{tag_of}
+use Rattle.lft_program.specs.declared.parts.Timer.{Timer as TimerOf}
+use Rattle.lft_model.specs.Presence.{stop, Fires}
+use Rattle.lft_model.specs.Runs.{Ran}
+use Rattle.lft_slices.specs.Slices.{CutParts, LeastTag}
+use Rattle.lft_slices.specs.Least.{MissesFiring}
+
+time_of : (g : Tag) (time : ℕ) → g ≡ record { time = time; micro = 0 } → (g.time ≡ time) × (g.micro ≡ 0)
+time_of g time e = (ap (λ (z : Tag). z.time) e, ap (λ (z : Tag). z.micro) e)
+
+-- the time of the k-th firing
+abbrev pub firing : TimerOf → ℕ → ℕ
+firing timer k = timer.offset + k * timer.period
+
+pub fires_early : (timer : TimerOf) (g : Tag) → g.time < timer.offset → ¬ Fires timer g
+fires_early timer g l f = let e : g.time ≡ timer.offset + f.0 * timer.period = (time_of g (firing timer f.0) f.1).0 in omega arith
+
+pub fires_late : (timer : TimerOf) (g : Tag) → ¬ (g.micro ≡ 0) → ¬ Fires timer g
+fires_late timer g n f = n (time_of g (firing timer f.0) f.1).1
+
+pub fires_once : (timer : TimerOf) (g : Tag) → g.micro ≡ 0 → timer.period ≡ 0 → g.time ≡ timer.offset → Fires timer g
+fires_once timer g m p e = (0, tag_of (e ∙ omega arith) m, λ q. refl)
+
+pub once_fires : (timer : TimerOf) (g : Tag) → timer.period ≡ 0 → Fires timer g → g.time ≡ timer.offset
+once_fires timer g p f = (time_of g (firing timer f.0) f.1).0 ∙ ap (λ k. timer.offset + k * timer.period) (f.2 p) ∙ omega arith
+
+pub fires_again : (timer : TimerOf) (g : Tag) → g.micro ≡ 0 → timer.offset ≤ g.time → ¬ (timer.period ≡ 0) → (g.time - timer.offset) % timer.period ≡ 0 → Fires timer g
+fires_again timer g m l n e = (k, tag_of time m, λ q. absurd (n q))
+  where
+    k : ℕ
+    k = (g.time - timer.offset) / timer.period
+
+    split : k * timer.period + (g.time - timer.offset) % timer.period ≡ g.time - timer.offset
+    split = div-add-mod' (g.time - timer.offset) timer.period
+
+    time : g.time ≡ timer.offset + k * timer.period
+    time = by k refl
+      where
+        by : (j : ℕ) → k ≡ j → g.time ≡ timer.offset + j * timer.period
+        by j q = let s : j * timer.period + (g.time - timer.offset) % timer.period ≡ g.time - timer.offset = subst (λ i. i * timer.period + (g.time - timer.offset) % timer.period ≡ g.time - timer.offset) q split in omega arith
+
+pub again_fires : (timer : TimerOf) (g : Tag) → ¬ (timer.period ≡ 0) → Fires timer g → (g.time - timer.offset) % timer.period ≡ 0
+again_fires timer g n f =
+    let e : g.time ≡ timer.offset + f.0 * timer.period = (time_of g (firing timer f.0) f.1).0 in
+    let d : g.time - timer.offset ≡ f.0 * timer.period + 0 = omega arith in
+    let p : 0 < timer.period = omega arith in
+    ap (λ i. i % timer.period) d ∙ mod-mul-add f.0 timer.period 0 p
+
+-- the firings before this time each have a run of r
+pub record WalkedTo (cut : CutParts) (timer : TimerOf) (r time : ℕ) : Type 0 where
+  pub count : ℕ
+  pub is_at : time ≡ timer.offset + count * timer.period
+  pub once : timer.period ≡ 0 → count ≡ 0
+  pub ran : (j : ℕ) → j < count → Ran cut.rows (record { time = timer.offset + j * timer.period; micro = 0 }) r
+
+pub walk_begins : (cut : CutParts) (timer : TimerOf) (r : ℕ) → WalkedTo cut timer r timer.offset
+walk_begins cut timer r = record { count = 0; is_at = omega arith; once = λ e. refl; ran = λ j l. absurd (omega arith) }
+
+module _ (cut : CutParts) (timer : TimerOf) (r time : ℕ) (so_far : WalkedTo cut timer r time) where
+  -- a later firing than those before is at this time or after it
+  beyond : (g : Tag) (f : Fires timer g) → ¬ (f.0 < so_far.count) → (time ≤ g.time) × (g.micro ≡ 0)
+  beyond g f n =
+      let e : g.time ≡ timer.offset + f.0 * timer.period = (time_of g (firing timer f.0) f.1).0 in
+      let m : so_far.count * timer.period ≤ f.0 * timer.period = mul-le so_far.count timer.period f.0 timer.period (omega arith) (omega arith) in
+      let a : time ≡ timer.offset + so_far.count * timer.period = so_far.is_at in
+      (omega arith, (time_of g (firing timer f.0) f.1).1)
+
+  ran_before : (g : Tag) (f : Fires timer g) → f.0 < so_far.count → Ran cut.rows g r
+  ran_before g f l = subst (λ (z : Tag). Ran cut.rows z r) (sym f.1) (so_far.ran f.0 l)
+
+  missed_beyond : (g : Tag) → MissesFiring cut timer r g → (time ≤ g.time) × (g.micro ≡ 0)
+  missed_beyond g x = go (dec_lt x.fires.0 so_far.count)
+    where
+      go : Dec (x.fires.0 < so_far.count) → (time ≤ g.time) × (g.micro ≡ 0)
+      go (yes l) = absurd (x.no_run (ran_before g x.fires l))
+      go (no n) = beyond g x.fires n
+
+  -- the firing at this time has no run
+  pub walk_finds : time ≤ (stop cut.plan cut.rows).time → ¬ Ran cut.rows (record { time = time; micro = 0 }) r → LeastTag (MissesFiring cut timer r) (Some (record { time = time; micro = 0 }))
+  walk_finds l n = (record { fires = (so_far.count, tag_of so_far.is_at refl, so_far.once); in_time = up (stop cut.plan cut.rows) l; no_run = n }, λ h x. later h (missed_beyond h x))
+    where
+      up : (g : Tag) → time ≤ g.time → UpTo (record { time = time; micro = 0 }) g
+      up g u = go (dec_lt time g.time)
+        where
+          go : Dec (time < g.time) → UpTo (record { time = time; micro = 0 }) g
+          go (yes k) = inl k
+          go (no k) = inr (omega arith, omega arith)
+
+      later : (h : Tag) → (time ≤ h.time) × (h.micro ≡ 0) → UpTo (record { time = time; micro = 0 }) h
+      later h u = up h u.0
+
+  -- the next firing is past the stop
+  pub walk_ends : (stop cut.plan cut.rows).time < time → LeastTag (MissesFiring cut timer r) None
+  walk_ends l g x = past g (stop cut.plan cut.rows) (missed_beyond g x).0 x.in_time l
+    where
+      past : (g last : Tag) → time ≤ g.time → UpTo g last → last.time < time → ⊥
+      past g last a (inl b) c = omega arith
+      past g last a (inr b) c = let e : g.time ≡ last.time = b.0 in omega arith
+
+  -- the timer fires once, and there is a run there
+  pub walk_once : timer.period ≡ 0 → Ran cut.rows (record { time = time; micro = 0 }) r → LeastTag (MissesFiring cut timer r) None
+  walk_once p ran g x = x.no_run (subst (λ (z : Tag). Ran cut.rows z r) (tag_of same (sym (time_of g (firing timer x.fires.0) x.fires.1).1)) ran)
+    where
+      same : time ≡ g.time
+      same = so_far.is_at ∙ ap (λ k. timer.offset + k * timer.period) (so_far.once p ∙ sym (x.fires.2 p)) ∙ sym (time_of g (firing timer x.fires.0) x.fires.1).0
+
+  -- one firing more
+  pub walk_goes_on : ¬ (timer.period ≡ 0) → Ran cut.rows (record { time = time; micro = 0 }) r → WalkedTo cut timer r (time + timer.period)
+  walk_goes_on n ran = record { count = so_far.count + 1; is_at = at so_far.count so_far.is_at; once = λ e. absurd (n e); ran = λ j l. each j l (ℕ_discrete j so_far.count) }
+    where
+      at : (k : ℕ) → time ≡ timer.offset + k * timer.period → time + timer.period ≡ timer.offset + (k + 1) * timer.period
+      at k e = let d : (k + 1) * timer.period ≡ k * timer.period + timer.period = grind arith in omega arith
+
+      each : (j : ℕ) → j < so_far.count + 1 → Dec (j ≡ so_far.count) → Ran cut.rows (record { time = timer.offset + j * timer.period; micro = 0 }) r
+      each j l (yes e) = subst (λ (k : ℕ). Ran cut.rows (record { time = k; micro = 0 }) r) (so_far.is_at ∙ ap (λ k. timer.offset + k * timer.period) (sym e)) ran
+      each j l (no m) = so_far.ran j (omega arith)

@@ -1,0 +1,11 @@
+pub mod Opens
+pub mod Early
+pub mod Steps
+pub mod Whole
+pub mod Declares
+pub mod StopTags
+pub mod Sliced
+pub mod Ran
+pub mod Firings
+pub mod Missed
+pub mod Indexed

@@ -1,0 +1,83 @@
+-- What a cut of a trace tells: the rows at each tag, and the first missing run.
+use Rattle.std.specs.Prelude.{◌≡◌, ℕ, ◌<◌, ◌≤◌, ◌⊎◌, List, length, Option, Some, MatchOption, slice_get}
+use Rattle.lft_tag.specs.declared.Tag.{Tag}
+use Rattle.lft_tag.specs.Tags.{Before, UpTo}
+use Rattle.lft_model.specs.Plans.{PlanParts, IsSoundPlan}
+use Rattle.lft_program.specs.Plain.{IsPlain}
+use Rattle.lft_program.specs.declared.parts.Trigger.{Trigger}
+use Rattle.lft_trace.specs.declared.row.Row.{Row}
+use Rattle.lft_trace.specs.Fits.{RowsFit}
+use Rattle.lft_model.specs.declared.breach.Breach.{Breach}
+use Rattle.lft_model.specs.Presence.{stop, Occurs, Triggered}
+use Rattle.lft_model.specs.Runs.{Ran}
+use Rattle.lft_model.specs.Breaches.{RowBreach, RowOrder}
+use Rattle.lft_slices.specs.declared.slices.Slice.{Slice}
+use Rattle.lft_slices.specs.declared.cuts.CutFault.{CutFault}
+use Rattle.lft_slices.specs.declared.cuts.CutFault.TheVariants.{Broken, NoMemory}
+
+-- a cut is seen as what was cut
+pub record CutParts : Type 0 where
+  pub plan : PlanParts
+  pub rows : List Row
+
+-- of the row breaches b is the first
+pub record IsFirstOfRows (plan : PlanParts) (t : List Row) (b : Breach) : Type 0 where
+  pub breaks : RowBreach plan t b
+  pub least : (c : Breach) → RowBreach plan t c → RowOrder b c
+
+-- the first row that breaks one of the rules 1 to 5, with the least of these rules, if any
+abbrev pub FirstRow : PlanParts → List Row → Option Breach → Type 0
+FirstRow plan t o = MatchOption o ((c : Breach) → ¬ RowBreach plan t c) (IsFirstOfRows plan t)
+
+-- rows can't be cut where one of them breaks a rule, or where a growth was refused
+abbrev pub IsCutFault : PlanParts → List Row → CutFault → Type 0
+IsCutFault plan t (Broken b) = IsFirstOfRows plan t b
+IsCutFault plan t NoMemory = Unit {0}
+
+-- no row breaks one of the rules 1 to 5
+abbrev pub KeepsRows : CutParts → Type 0
+KeepsRows cut = (b : Breach) → ¬ RowBreach cut.plan cut.rows b
+
+-- the rows that a cut is made of are of a plain program, and none breaks one of the rules 1 to 5
+pub record IsCuttable (cut : CutParts) : Type 0 where
+  pub sound : IsSoundPlan cut.plan
+  pub plain : IsPlain cut.plan.program
+  pub fit : RowsFit cut.plan.program cut.rows
+  pub kept : KeepsRows cut
+
+-- tags never fall from row to row
+abbrev pub Rises : List Row → Type 0
+Rises t = (i j : ℕ) (x y : Row) → i < j → slice_get t i ≡ Some x → slice_get t j ≡ Some y → UpTo x.tag y.tag
+
+-- the rows from the first place up to the end are just those at the tag
+pub record IsSlice (t : List Row) (s : Slice) : Type 0 where
+  pub some : s.first < s.end
+  pub within : s.end ≤ length t
+  pub at_tag : (i : ℕ) (row : Row) → slice_get t i ≡ Some row → s.first ≤ i → i < s.end → row.tag ≡ s.tag
+  pub all : (i : ℕ) (row : Row) → slice_get t i ≡ Some row → row.tag ≡ s.tag → (s.first ≤ i) × (i < s.end)
+
+-- the slices of the rows by tag, ascending; each row is in one
+pub record AreSlices (t : List Row) (slices : List Slice) : Type 0 where
+  pub ascending : (j k : ℕ) (x y : Slice) → j < k → slice_get slices j ≡ Some x → slice_get slices k ≡ Some y → Before x.tag y.tag
+  pub is_slice : (k : ℕ) (x : Slice) → slice_get slices k ≡ Some x → IsSlice t x
+  pub each : (i : ℕ) (row : Row) → slice_get t i ≡ Some row → (k : ℕ) × (x : Slice) × (slice_get slices k ≡ Some x) × (row.tag ≡ x.tag)
+
+-- of the tags of a kind the least, if any
+abbrev pub LeastTag : (Tag → Type 0) → Option Tag → Type 0
+LeastTag P o = MatchOption o ((g : Tag) → ¬ P g) (λ g. P g × ((h : Tag) → P h → UpTo g h))
+
+-- the trigger is present at g, which is up to the stop, and r has no run there
+pub record Misses (cut : CutParts) (x : Trigger) (r : ℕ) (g : Tag) : Type 0 where
+  pub occurs : Occurs cut.plan cut.rows g x
+  pub in_time : UpTo g (stop cut.plan cut.rows)
+  pub no_run : ¬ Ran cut.rows g r
+
+-- r is triggered at g, which is up to the stop, and has no run there
+pub record IsMissing (cut : CutParts) (r : ℕ) (g : Tag) : Type 0 where
+  pub triggered : Triggered cut.plan cut.rows g r
+  pub in_time : UpTo g (stop cut.plan cut.rows)
+  pub no_run : ¬ Ran cut.rows g r
+
+-- the least tag up to the stop at which a reaction is triggered and has no run, and the least such reaction
+abbrev pub IsFirstMissing : CutParts → Option (Tag × ℕ) → Type 0
+IsFirstMissing cut o = MatchOption o ((g : Tag) (r : ℕ) → ¬ IsMissing cut r g) (λ x. IsMissing cut x.1 x.0 × ((h : Tag) (a : ℕ) → IsMissing cut a h → Before x.0 h ⊎ ((x.0 ≡ h) × (x.1 ≤ a))))

@@ -1,0 +1,107 @@
+//! A trace whose rows break no rule, cut by tag.
+
+ghost use Rattle.std.specs.Prelude.{◌≡◌, ◌≤◌, IsTrue, ◌↔◌};
+ghost use Rattle.lft_model.specs.Presence.{stop as the_stop};
+ghost use Rattle.lft_model.specs.Runs.{Ran};
+ghost use Rattle.lft_slices.specs.Slices.{AreSlices, IsCuttable};
+
+use crate::slices::Slice;
+use crate::started::Started;
+use lft_model::{Breach, Plan};
+use lft_program::Program;
+use lft_tag::Tag;
+use lft_trace::Row;
+use std::marker::Model;
+
+/// Why rows can't be cut.
+#[derive(Clone, Copy, PartialEq, Eq, Debug, Drop)]
+pub enum CutFault {
+    /// The first row that breaks one of the rules 1 to 5, and the least of these that it breaks.
+    Broken(Breach),
+    /// A growth of memory was refused.
+    NoMemory,
+}
+
+/// The rows of a plan's trace, cut by tag. None of them breaks one of the rules 1 to 5.
+#[derive(Drop)]
+pub struct Cut<'a> {
+    plan: &'a Plan,
+    rows: &'a [Row],
+    stop: Tag,
+    slices: Vec<Slice>,
+    started: Started,
+}
+
+impl<'a> Model for Cut<'a> {
+    ghost use Rattle.lft_slices.specs.Slices.{CutParts};
+
+    ghost Value = { CutParts };
+
+    ghost view = { λ a. record { plan = a.plan.now; rows = a.rows.now } };
+
+    ghost use Rattle.lft_slices.specs.Indexes.{IsIndexed};
+
+    ghost invariant = { λ a. IsIndexed (record { plan = a.plan.now; rows = a.rows.now }) a.stop a.slices.items a.started };
+}
+
+impl<'a> Cut<'a> {
+    ghost use Rattle.lft_slices.specs.Indexes.{IsIndexed};
+
+    /// The cut of rows with what is kept beside them. It takes no memory.
+    pub(crate) fn from_parts(
+        plan: &'a Plan,
+        rows: &'a [Row],
+        stop: Tag,
+        slices: Vec<Slice>,
+        started: Started,
+    ) -> Cut<'a>
+        requires { IsIndexed (record { plan = plan.now; rows = rows.now }) stop slices.items started }
+        ensures { result ≡ record { plan = plan.now; rows = rows.now } }
+    {
+        Cut {
+            plan,
+            rows,
+            stop,
+            slices,
+            started,
+        }
+    }
+
+    /// The rows that were cut.
+    pub fn rows(&self) -> &[Row]
+        ensures value { result.now ≡ self.now.rows }
+        ensures rules { IsCuttable self.now }
+    {
+        self.rows
+    }
+
+    /// The rows at each tag that has some, ascending by tag.
+    pub fn slices(&self) -> &[Slice]
+        ensures { AreSlices self.now.rows result.now }
+    {
+        self.slices.as_slice()
+    }
+
+    /// The flat program.
+    pub(crate) fn program(&self) -> &Program
+        ensures value { result.now ≡ self.now.plan.program }
+        ensures rules { IsCuttable self.now }
+    {
+        self.plan.program()
+    }
+
+    /// The last tag of the execution. Its time is at most that of a recorded tag.
+    pub(crate) fn stop(&self) -> Tag
+        ensures value { result ≡ the_stop self.now.plan self.now.rows }
+        ensures limit { result.time ≤ 1000000000000000000 }
+    {
+        self.stop
+    }
+
+    /// Whether the reaction has a run at the tag.
+    pub(crate) fn has_run(&self, tag: Tag, reaction: u32) -> bool
+        ensures { IsTrue result ↔ Ran self.now.rows tag reaction }
+    {
+        self.started.has(reaction, tag)
+    }
+}

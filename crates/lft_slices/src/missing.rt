@@ -1,0 +1,117 @@
+//! The first missing run, found from what makes reactions run and not from the tags.
+
+ghost use Rattle.std.specs.Prelude.{◌≡◌, ◌<◌, ◌≤◌, length, Some, None};
+ghost use Rattle.lft_program.specs.Sound.{IsTriggerOf};
+ghost use Rattle.lft_slices.specs.Slices.{LeastTag, Misses, IsMissing, IsFirstMissing};
+ghost use Rattle.lft_slices.specs.Least.{IsSooner, IsFirstOf, MissesAt, MissesFiring};
+
+use crate::cuts::Cut;
+use crate::row::is_before;
+use crate::triggered::trigger_at;
+use lft_program::{Timer, Trigger};
+use lft_tag::Tag;
+
+/// The earlier of two tags, of those that are.
+pub(crate) fn sooner(first: Option<Tag>, second: Option<Tag>) -> Option<Tag>
+    ensures { IsSooner first second result }
+{
+    match (first, second) {
+        (Some(a), Some(b)) => { if is_before(b, a) { Some(b) } else { Some(a) } }
+        (Some(a), None) => Some(a),
+        (None, b) => b,
+    }
+}
+
+/// The pair of the earlier tag, where they are at one tag the first pair.
+fn first_of(first: Option<(Tag, u32)>, tag: Option<Tag>, reaction: u32) -> Option<(Tag, u32)>
+    ensures { IsFirstOf first tag reaction result }
+{
+    match (first, tag) {
+        (Some((a, number)), Some(b)) => {
+            if is_before(b, a) {
+                Some((b, reaction))
+            } else {
+                Some((a, number))
+            }
+        }
+        (Some(pair), None) => Some(pair),
+        (None, Some(b)) => Some((b, reaction)),
+        (None, None) => None,
+    }
+}
+
+impl<'a> Cut<'a> {
+    /// The tag, where it is up to the stop and the reaction has no run there.
+    fn missed_at(&self, tag: Tag, reaction: u32) -> Option<Tag>
+        ensures { LeastTag (MissesAt self.now reaction tag) result }
+    {
+        if is_before(self.stop(), tag) || self.has_run(tag, reaction) {
+            None
+        } else {
+            Some(tag)
+        }
+    }
+
+    /// The first tag up to the stop at which the timer fires and the reaction has no run. Each
+    /// firing that is looked at but the last one has a run.
+    fn missed_firing(&self, timer: &Timer, reaction: u32) -> Option<Tag>
+        requires { timer.now.period ≤ 1000000000000000000 }
+        ensures { LeastTag (MissesFiring self.now timer.now reaction) result }
+    {
+        let last = self.stop().time;
+        let mut time = timer.offset;
+        while time <= last {
+            let tag = Tag { time, micro: 0 };
+            if !self.has_run(tag, reaction) {
+                return Some(tag);
+            }
+            if timer.period == 0 {
+                return None;
+            }
+            time += timer.period;
+        }
+        None
+    }
+
+    /// The first tag up to the stop at which the trigger is present and the reaction has no run.
+    fn missed_trigger(&self, trigger: Trigger, reaction: u32) -> Option<Tag>
+        requires { IsTriggerOf self.now.plan.program trigger }
+        ensures { LeastTag (Misses self.now trigger reaction) result }
+    {
+        let program = self.program();
+        match trigger {
+            Trigger::Startup => self.missed_at(Tag { time: 0, micro: 0 }, reaction),
+            Trigger::Shutdown => self.missed_at(self.stop(), reaction),
+            Trigger::Timer(number) => self.missed_firing(program.timer(number), reaction),
+            Trigger::On(_) => None,
+        }
+    }
+
+    /// The first tag up to the stop at which the reaction is triggered and has no run.
+    fn missed(&self, reaction: u32) -> Option<Tag>
+        requires { reaction < length self.now.plan.program.reactions }
+        ensures { LeastTag (IsMissing self.now reaction) result }
+    {
+        let program = self.program();
+        let triggers = program.reaction(reaction).triggers.as_slice();
+        let mut least = None;
+        for place in 0..triggers.len() {
+            let missed = self.missed_trigger(trigger_at(triggers, place), reaction);
+            least = sooner(least, missed);
+        }
+        least
+    }
+
+    /// The least tag up to the stop at which a reaction is triggered and has no run, and the least
+    /// such reaction. A timer is gone through only up to its first tag without a run, and one that
+    /// triggers nothing is passed over.
+    pub fn missing(&self) -> Option<(Tag, u32)>
+        ensures { IsFirstMissing self.now result }
+    {
+        let mut first = None;
+        for reaction in 0..self.program().reactions() as u32 {
+            first = first_of(first, self.missed(reaction), reaction);
+        }
+        first
+    }
+}

@@ -1,0 +1,43 @@
+//! The rows cut where the tag changes.
+
+ghost use Rattle.std.specs.Prelude.{◌≡◌, ◌+◌, ◌≤◌, length, Some, IsTrue, ◌↔◌, IfOk, slice_get};
+ghost use Rattle.lft_trace.specs.declared.row.Row.{Row as TheRow};
+ghost use Rattle.lft_slices.specs.Slices.{Rises, AreSlices};
+
+use crate::row::{is_same, row_at};
+use lft_tag::{NoMemory, Tag};
+use lft_trace::Row;
+use std::alloc::Global;
+
+/// The rows at one tag: those from the first place up to, without, the end, counted from 0.
+#[derive(Clone, Copy, PartialEq, Eq, Debug, Drop)]
+pub struct Slice {
+    pub tag: Tag,
+    pub first: usize,
+    pub end: usize,
+}
+
+/// Whether there is no row at the place, or one of another tag.
+fn is_other(rows: &[Row], place: usize, tag: Tag) -> bool
+    ensures { IsTrue result ↔ ((row : TheRow) → slice_get rows.now place ≡ Some row → ¬ (row.tag ≡ tag)) }
+{
+    place >= rows.len() || !is_same(row_at(rows, place).tag, tag)
+}
+
+/// The slices of rows whose tags never fall, by tag.
+pub(crate) fn slices_of(alloc: Global, rows: &[Row]) -> Result<Vec<Slice>, NoMemory>
+    requires { Rises rows.now }
+    ensures { IfOk result (λ slices. AreSlices rows.now slices.items) }
+{
+    let mut slices = Vec::new(alloc);
+    let mut first = 0;
+    for place in 0..rows.len() {
+        let tag = row_at(rows, place).tag;
+        let end = place + 1;
+        if is_other(rows, end, tag) {
+            slices.push(Slice { tag, first, end })?;
+            first = end;
+        }
+    }
+    Ok(slices)
+}

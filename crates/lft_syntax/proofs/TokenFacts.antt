@@ -1,0 +1,79 @@
+-- What is known of the tokens of a text.
+use Rattle.std.proofs.Common.{◌≡◌, ℕ, ◌+◌, ◌-◌, ◌<◌, ◌≤◌, true, List, length, get_or, drop, Some, None, IsUtf8, IsAscii, sym, subst, ◌∙◌, arith, length-take, length-drop}
+use Rattle.std.specs.Prelude.{slice_get, slice_index, slice_range}
+use Rattle.std.specs.List.{All}
+use Rattle.std.proofs.lemmas.List.{get_or-take, get_or-drop}
+use Rattle.std.proofs.lemmas.List.Elements.{All-nil, All-cons, All-get_or}
+use Rattle.std.proofs.lemmas.Option.{slice_get_within, get_or_from_slice_get}
+use Rattle.std.proofs.lemmas.Str.{IsUtf8-from_ascii}
+use Rattle.std.proofs.lemmas.Str.Ascii.{IsAscii-from_reads}
+use Rattle.std.proofs.lemmas.Bool.Decides.{nat_tests}
+use Rattle.lft_syntax.specs.declared.token.Token.{Token}
+use Rattle.lft_syntax.specs.declared.token.TokenKind.{TokenKind}
+use Rattle.lft_syntax.specs.declared.token.TokenKind.TheVariants as kinds
+use Rattle.lft_syntax.specs.declared.form.Form.{Form}
+use Rattle.lft_syntax.specs.declared.form.Form.TheVariants.{Space, LineComment, StarComment, Code, Text, Name, Digits, Arrow, Symbol, Unknown}
+use Rattle.lft_syntax.specs.Bytes.{is_word}
+use Rattle.lft_syntax.specs.Lexes.{Run, form_of, Reads, Piece, Cut, done, piece, Lexes}
+use Rattle.lft_syntax.proofs.Pieces.{piece_further, piece_within}
+
+-- a token lies in the text and isn't empty, and a name has letters, digits and underscores alone
+pub record InText (t : List ℕ) (k : Token) : Type 0 where
+  pub order : k.start < k.end
+  pub within : k.end ≤ length t
+  pub letters : k.kind ≡ kinds.Name → (j : ℕ) → k.start ≤ j → j < k.end → is_word (slice_index t j) ≡ true
+
+named : (t : List ℕ) (i b : ℕ) (f : Form) (j : ℕ) (kind : TokenKind) → Reads t i b f j (Some kind) → kind ≡ kinds.Name → Run is_word t i j
+named t i b Space j kind r e = let n = r.1 in cc
+named t i b LineComment j kind r e = let n = r.1 in cc
+named t i b StarComment j kind r e = let n = r.1 in cc
+named t i b Code j kind r e = let n = r.1 in cc
+named t i b Text j kind r e = let n = r.1 in cc
+named t i b Name j kind r e = r.0
+named t i b Digits j kind r e = let n = r.2 in cc
+named t i b Arrow j kind r e = let n = r.1 in cc
+named t i b Symbol j kind r e = let n = r.1 in cc
+named t i b Unknown j kind r e = absurd r
+
+piece_token : (t : List ℕ) (i m : ℕ) (kind : TokenKind) → Piece t i (Some kind) m → InText t (record { kind = kind; start = i; end = m })
+piece_token t i m kind p = record {
+  order = piece_further t i (Some kind) m p;
+  within = piece_within t i (Some kind) m p;
+  letters = λ e j. let run = named t i p.byte (form_of p.byte (slice_get t (i + 1))) m kind p.reads e in run.each j;
+}
+
+cut_tokens : (t : List ℕ) {i j : ℕ} {tokens : List Token} → Cut t i tokens j → All (InText t) tokens
+cut_tokens t done = All-nil (InText t)
+cut_tokens t (piece {kind = None} p rest) = cut_tokens t rest
+cut_tokens t (piece {i = i} {m = m} {kind = Some kind} {tokens = tokens} p rest) = All-cons (InText t) (record { kind = kind; start = i; end = m }) tokens (piece_token t i m kind p) (cut_tokens t rest)
+
+cut_few : (t : List ℕ) {i j : ℕ} {tokens : List Token} → Cut t i tokens j → i + length tokens ≤ j
+cut_few t done = omega arith
+cut_few t (piece {i = i} {m = m} {kind = None} p rest) = let h = cut_few t rest in let lt = piece_further t i None m p in omega arith
+cut_few t (piece {i = i} {m = m} {kind = Some kind} p rest) = let h = cut_few t rest in let lt = piece_further t i (Some kind) m p in omega arith
+
+-- each token of a text lies in it
+pub token_at : (t : List ℕ) (tokens : List Token) (n : ℕ) (k : Token) → Lexes t tokens → slice_get tokens n ≡ Some k → InText t k
+token_at t tokens n k whole there =
+    subst (λ (x : Token). InText t x) (get_or_from_slice_get tokens n k k there) (All-get_or (InText t) tokens n k (slice_get_within tokens n k there) (cut_tokens t whole))
+
+-- a text has no more tokens than bytes
+pub tokens_few : (t : List ℕ) (tokens : List Token) → Lexes t tokens → length tokens ≤ length t
+tokens_few t tokens whole = let h = cut_few t whole in omega arith
+
+pub word_ascii : (b : ℕ) → is_word b ≡ true → b < 128
+word_ascii b h = grind (arith, nat_tests)
+
+range_ascii : (t : List ℕ) (i j : ℕ) → i ≤ j → j ≤ length t → ((k : ℕ) → i ≤ k → k < j → is_word (slice_index t k) ≡ true) → IsAscii (slice_range t i j)
+range_ascii t i j order within letters = IsAscii-from_reads (slice_range t i j) (j - i) (omega (arith, length-take (j - i) (drop i t), length-drop i t))
+    (λ k lt. subst (λ (n : ℕ). n < 128) (sym (get_or-take (j - i) (drop i t) k 0 lt ∙ get_or-drop i t k 0)) (word_ascii (get_or t (i + k) 0) (letters (i + k) (omega arith) (omega arith))))
+
+-- the bytes of a name are ASCII, and so UTF-8
+pub name_ascii : (t : List ℕ) (tokens : List Token) (n : ℕ) (k : Token) → Lexes t tokens → slice_get tokens n ≡ Some k → k.kind ≡ kinds.Name → IsAscii (slice_range t k.start k.end)
+name_ascii t tokens n k whole there e =
+    let h = token_at t tokens n k whole there in
+    let order = h.order in
+    range_ascii t k.start k.end (omega arith) h.within (h.letters e)
+
+pub name_utf8 : (t : List ℕ) (tokens : List Token) (n : ℕ) (k : Token) → Lexes t tokens → slice_get tokens n ≡ Some k → k.kind ≡ kinds.Name → IsUtf8 (slice_range t k.start k.end)
+name_utf8 t tokens n k whole there e = IsUtf8-from_ascii (slice_range t k.start k.end) (name_ascii t tokens n k whole there e)

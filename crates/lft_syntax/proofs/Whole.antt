@@ -1,0 +1,114 @@
+-- What reading a whole text says of all other texts.
+use Rattle.std.proofs.Common.{◌≡◌, ℕ, zero, suc, ◌+◌, ◌≤◌, ◌<◌, Bool, true, false, List, [], ◌∷◌, length, take, Option, Result, Ok, Err, refl, sym, ap, subst, ◌∙◌, arith, cond, inl, inr}
+use Rattle.std.specs.Prelude.{slice_get, codes, IfOk}
+use Rattle.std.proofs.lemmas.Option.{slice_get_cases, slice_get_past}
+use Rattle.lft_syntax.specs.declared.fault.SyntaxFault.{SyntaxFault}
+use Rattle.lft_syntax.specs.declared.fault.SyntaxFault.TheVariants as faults
+use Rattle.lft_syntax.specs.declared.tree.Ast.{Ast}
+use Rattle.lft_syntax.specs.Lexeme.{Lexeme, Letters, is, is_there}
+use Rattle.lft_syntax.specs.Tree.{FileTree, ItemTree, Range}
+use Rattle.lft_syntax.specs.Grammar.{file, file_of, Spells}
+use Rattle.lft_syntax.specs.View.{tree_view}
+use Rattle.lft_syntax.specs.Reading.{Reading, ◌>>=◌, maybe, many_at, target_at, item_at, items_at, file_at, whole_at}
+use Rattle.lft_syntax.proofs.Algebra.{near, Outcome, Agree, Test}
+use Rattle.lft_syntax.proofs.Files.{AtEnd, right_file}
+
+-- ---- the items end where the text ends
+
+abbrev Stops : {A : Type 0} → Test → List Lexeme → Result (A × ℕ) ℕ → Type 0
+Stops go ws (Ok r) = go (slice_get ws r.1) ≡ false
+Stops go ws (Err k) = Unit {0}
+
+stops_with : {A B : Type 0} (go : Test) (ws : List Lexeme) (f : A → B) (r : Result (A × ℕ) ℕ) → Stops go ws r → Stops go ws (r >>= λ a. Ok (f a.0, a.1))
+stops_with go ws f (Ok a) s = s
+stops_with go ws f (Err k) s = tt
+
+module _ {A : Type 0} (go : Test) (p : Reading A) (ws : List Lexeme) where
+  stops_more : (n : ℕ) (r : Result (A × ℕ) ℕ) → ((j : ℕ) → Stops go ws (many_at go p n ws j)) → Stops go ws (r >>= λ a. many_at go p n ws a.1 >>= λ b. Ok (a.0 ∷ b.0, b.1))
+  stops_more n (Ok a) rest = stops_with go ws (λ xs. a.0 ∷ xs) (many_at go p n ws a.1) (rest a.1)
+  stops_more n (Err k) rest = tt
+
+  stops_case : (n i : ℕ) (b : Bool) → go (slice_get ws i) ≡ b → ((j : ℕ) → Stops go ws (many_at go p n ws j))
+      → Stops go ws (cond b (p ws i >>= λ a. many_at go p n ws a.1 >>= λ b. Ok (a.0 ∷ b.0, b.1)) (Ok ([], i)))
+  stops_case n i true e rest = stops_more n (p ws i) rest
+  stops_case n i false e rest = e
+
+  many_stops : (n i : ℕ) → Stops go ws (many_at go p n ws i)
+  unfolding many_at
+  many_stops zero i = tt
+  many_stops (suc n) i = stops_case n i (go (slice_get ws i)) refl (many_stops n)
+
+items_stop : (ws : List Lexeme) (i : ℕ) → Stops is_there ws (items_at ws i)
+unfolding items_at
+items_stop ws i = many_stops is_there item_at ws (suc (length ws)) i
+
+file_stops_at : (ws : List Lexeme) (r : Result (Option Range × ℕ) ℕ) → Stops is_there ws (◌>>=◌ {A = (Option Range × List ItemTree) × ℕ} (r >>= λ a. items_at ws a.1 >>= λ b. Ok ((a.0, b.0), b.1)) (λ a. Ok (file_of a.0, a.1)))
+file_stops_at ws (Ok a) = stops_with is_there ws file_of (items_at ws a.1 >>= λ b. Ok ((a.0, b.0), b.1)) (stops_with is_there ws (λ xs. (a.0, xs)) (items_at ws a.1) (items_stop ws a.1))
+file_stops_at ws (Err k) = tt
+
+file_stops : (ws : List Lexeme) → Stops is_there ws (file_at ws 0)
+unfolding file_at
+file_stops ws = file_stops_at ws (maybe (is (Letters (codes "target"))) target_at ws 0)
+
+there_within : (ws : List Lexeme) (j : ℕ) → j ≤ length ws → is_there (slice_get ws j) ≡ false → j ≡ length ws
+there_within ws j le e =
+    elim (slice_get_cases ws j).1 [
+      | inl a ↦ absurd (cc (ap is_there a.2, e))
+      | inr b ↦ omega (arith, le, b.0)
+    ]
+
+-- ---- the whole text
+
+-- what a reading of the whole text says
+abbrev pub Whole : List Lexeme → Result FileTree ℕ → Type 0
+Whole ws (Ok tree) = Spells tree ws × ((other : FileTree) → Spells other ws → other ≡ tree)
+Whole ws (Err k) = (k ≤ length ws) × ((vs : List Lexeme) (other : FileTree) → Agree (suc k) ws vs → Spells other vs → ⊥)
+
+outcome_whole : (ws : List Lexeme) (r : Result (FileTree × ℕ) ℕ) → Outcome file AtEnd near near 0 ws 0 r → Stops is_there ws r → Whole ws (r >>= λ a. Ok a.0)
+outcome_whole ws (Ok a) k stops =
+    let whole : a.1 ≡ length ws = there_within ws a.1 k.within stops in
+    (subst (λ (n : ℕ). file ws 0 n a.0) whole k.found, λ other s. (k.forced ws (length ws) other (λ i lt. refl) s (slice_get_past ws (length ws) (omega arith))).0)
+outcome_whole ws (Err t) k stops = (k.within, λ vs other agree s. k.none vs (length vs) other agree s (slice_get_past vs (length vs) (omega arith)))
+
+pub whole_right : (ws : List Lexeme) → Whole ws (whole_at ws)
+unfolding whole_at
+whole_right ws = outcome_whole ws (file_at ws 0) (right_file.at ws 0 (omega arith)) (file_stops ws)
+
+-- ---- the clauses of the parser
+
+take_keeps : {A : Type 0} (k : ℕ) (xs : List A) (i : ℕ) → i < k → slice_get (take k xs) i ≡ slice_get xs i
+take_keeps zero xs i lt = absurd (omega arith)
+take_keeps (suc k) [] i lt = refl
+take_keeps (suc k) (x ∷ xs) zero lt = refl
+take_keeps (suc k) (x ∷ xs) (suc i) lt = take_keeps k xs i (omega arith)
+
+agree_take : (k : ℕ) (ws vs : List Lexeme) → take k vs ≡ take k ws → Agree k ws vs
+agree_take k ws vs e i lt = sym (take_keeps k ws i lt) ∙ ap (λ (l : List Lexeme). slice_get l i) (sym e) ∙ take_keeps k vs i lt
+
+-- a tree that is read is the only one
+pub read_tree : (ws : List Lexeme) (tree : FileTree) → whole_at ws ≡ Ok tree → Spells tree ws × ((other : FileTree) → Spells other ws → other ≡ tree)
+read_tree ws tree e = subst (Whole ws) e (whole_right ws)
+
+-- where a reading stops, no tree's tokens begin so
+pub read_fault : (ws : List Lexeme) (k : ℕ) → whole_at ws ≡ Err k
+    → (0 < k + 1) × (k + 1 ≤ length ws + 1) × ((others : List Lexeme) (tree : FileTree) → take (k + 1) others ≡ take (k + 1) ws → Spells tree others → ⊥)
+read_fault ws k e =
+    let w : Whole ws (Err k) = subst (Whole ws) e (whole_right ws) in
+    (omega arith, omega (arith, w.0), λ others tree same s. w.1 others tree (λ i lt. agree_take (k + 1) ws others same i (omega arith)) s)
+
+-- the two clauses, for what the parser returns
+abbrev pub TreeClause : List Lexeme → Result Ast SyntaxFault → Type 0
+TreeClause words result = IfOk result (λ t. Spells (tree_view t) words × ((other : FileTree) → Spells other words → other ≡ tree_view t))
+
+abbrev pub UnexpectedClause : List Lexeme → Result Ast SyntaxFault → Type 0
+UnexpectedClause words result = (k : ℕ) → result ≡ Err (faults.Unexpected k)
+    → (0 < k) × (k ≤ length words + 1) × ((others : List Lexeme) (tree : FileTree) → take k others ≡ take k words → Spells tree others → ⊥)
+
+pub tree_given : (words : List Lexeme) (tree : Ast) → whole_at words ≡ Ok (tree_view tree) → TreeClause words (Ok tree) × UnexpectedClause words (Ok tree)
+tree_given words tree e = (read_tree words (tree_view tree) e, λ k same. absurd cc)
+
+pub fault_given : (words : List Lexeme) (at : ℕ) → whole_at words ≡ Err at → TreeClause words (Err (faults.Unexpected (at + 1))) × UnexpectedClause words (Err (faults.Unexpected (at + 1)))
+fault_given words at e = (tt, λ k same. let k-is : at + 1 ≡ k = cc in rw (← k-is) (read_fault words at e))
+
+pub memory_refused : (words : List Lexeme) → TreeClause words (Err faults.NoMemory) × UnexpectedClause words (Err faults.NoMemory)
+memory_refused words = (tt, λ k same. absurd cc)

@@ -1,0 +1,13 @@
+use Rattle.std.proofs.Common.{◌-◌, length}
+use Rattle.lft_syntax.specs.Lexeme.{is_there}
+use Rattle.lft_syntax.specs.View.{item_views}
+use Rattle.lft_syntax.specs.Reading.{item_at, items_at}
+use Rattle.lft_syntax.specs.Parsing.{words}
+use Rattle.lft_syntax.proofs.Loop.{SoFar}
+use Rattle.lft_syntax.proofs.parser.file.items.Given as goal
+
+abbrev pub invariant-list : goal.invariant-list
+invariant-list l = SoFar is_there item_at (words l.input) (item_views l.items.items) l.next (items_at (words l.input) l.fn.at)
+
+abbrev pub decreases-list : goal.decreases-list
+decreases-list l = length (words l.input) - l.next

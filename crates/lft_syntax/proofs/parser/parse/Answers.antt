@@ -1,0 +1,38 @@
+use Rattle.std.proofs.Common.{◌≡◌, ℕ, List, length, sym, ◌∙◌, ap, arith, Ok, Err}
+use Rattle.std.proofs.lemmas.List.{length-map}
+use Rattle.lft_syntax.specs.declared.token.Token.{Token}
+use Rattle.lft_syntax.specs.View.{lexemes, lexeme_of, tree_view}
+use Rattle.lft_syntax.specs.Reading.{whole_at}
+use Rattle.lft_syntax.proofs.TokenFacts.{InText, token_at, name_ascii}
+use Rattle.lft_syntax.proofs.Whole.{tree_given, fault_given, read_fault}
+use Rattle.lft_syntax.proofs.parser.parse.Goals as goal
+
+lexemes_length : (text : List ℕ) (tokens : List Token) → length (lexemes text tokens) ≡ length tokens
+unfolding lexemes
+lexemes_length text tokens = length-map tokens (lexeme_of text)
+
+pub invariant_of-input : goal.invariant_of-input
+invariant_of-input c =
+    rw c.as_slice.ensures (record {
+      in_text = λ i t e. let k : InText c.args.text.now t = token_at c.args.text.now c.args.tokens.now i t c.requires.lexed e in let order = k.order in (omega arith, k.within);
+      names = λ i t e name. name_ascii c.args.text.now c.args.tokens.now i t c.requires.lexed e name;
+    })
+
+pub overflow_add-result : goal.overflow_add-result
+overflow_add-result c =
+    let e : whole_at (lexemes c.args.text.now c.as_slice.result.now) ≡ Err c.in-Err-Unexpected.at = rw c.in-Err-Unexpected.field-0-is at c.in-Err-Unexpected.ensures in
+    let far = (read_fault (lexemes c.args.text.now c.as_slice.result.now) c.in-Err-Unexpected.at e).1 in
+    let same = lexemes_length c.args.text.now c.as_slice.result.now in
+    omega (arith, c.as_slice.type_inv.0, c.as_slice.type_inv.1)
+
+pub returns-in-Ok-clause-tree : goal.returns-in-Ok-clause-tree
+returns-in-Ok-clause-tree c =
+    let e : whole_at (lexemes c.args.text.now c.as_slice.result.now) ≡ Ok (tree_view c.in-Ok.tree) = c.in-Ok.ensures in
+    (tree_given (lexemes c.args.text.now c.args.tokens.now) c.in-Ok.tree (ap (λ (l : List Token). whole_at (lexemes c.args.text.now l)) (sym c.as_slice.ensures) ∙ e)).0
+
+pub returns-in-Err-Unexpected-clause-unexpected : goal.returns-in-Err-Unexpected-clause-unexpected
+returns-in-Err-Unexpected-clause-unexpected c =
+    let e : whole_at (lexemes c.args.text.now c.as_slice.result.now) ≡ Err c.in-Err-Unexpected.at = rw c.in-Err-Unexpected.field-0-is at c.in-Err-Unexpected.ensures in
+    let f : whole_at (lexemes c.args.text.now c.args.tokens.now) ≡ Err c.in-Err-Unexpected.at = ap (λ (l : List Token). whole_at (lexemes c.args.text.now l)) (sym c.as_slice.ensures) ∙ e in
+    let same = lexemes_length c.args.text.now c.args.tokens.now in
+    rw (← same) (fault_given (lexemes c.args.text.now c.args.tokens.now) c.in-Err-Unexpected.at f).1

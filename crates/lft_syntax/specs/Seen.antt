@@ -1,0 +1,17 @@
+-- What the parser sees of a token.
+use Rattle.std.specs.Prelude.{Option, Some, None}
+use Rattle.lft_syntax.specs.declared.input.Seen.{Seen}
+use Rattle.lft_syntax.specs.declared.input.Seen.TheVariants as seen
+use Rattle.lft_syntax.specs.Lexeme.{Lexeme, Code, Text, Letters, Number, Arrow, Symbol}
+
+abbrev pub seen_as : Seen → Lexeme
+seen_as seen.Code = Code
+seen_as seen.Text = Text
+seen_as (seen.Letters bytes) = Letters bytes.now
+seen_as (seen.Number n) = Number n
+seen_as seen.Arrow = Arrow
+seen_as (seen.Symbol b) = Symbol b
+
+abbrev pub seen_there : Option Seen → Option Lexeme
+seen_there None = None
+seen_there (Some s) = Some (seen_as s)

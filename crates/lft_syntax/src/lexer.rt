@@ -1,0 +1,44 @@
+//! The tokens of a text.
+
+ghost use Rattle.std.specs.Prelude.{◌≡◌, ◌<◌, ◌≤◌, List, length, IfOk, IfErr, OnOk, Err};
+ghost use Rattle.lft_syntax.specs.declared.token.Token.{Token};
+ghost use Rattle.lft_syntax.specs.declared.fault.LexFault.TheVariants.{TooLong};
+ghost use Rattle.lft_syntax.specs.Lexes.{Lexes, LexFails};
+
+use crate::fault::LexFault;
+use crate::piece::piece;
+use crate::token::{Token, Tokens};
+use std::alloc::Global;
+
+/// The greatest length of a program text, in bytes.
+pub const MAX_LENGTH: usize = 1_048_576;
+
+/// The tokens of a program text. A text that is too long is refused as such, whatever stands in
+/// it; any other by the fault that begins at its least byte.
+pub fn lex(alloc: Global, text: &[u8]) -> Result<Tokens, LexFault>
+    ensures tokens { IfOk result (λ v. Lexes text.now v × ((other : List Token) → Lexes text.now other → other ≡ v)) }
+    ensures short { OnOk result (length text.now ≤ 1048576) }
+    ensures too_long { 1048576 < length text.now → result ≡ Err TooLong }
+    ensures fault { IfErr result (λ e. LexFails text.now e) }
+{
+    if text.len() > MAX_LENGTH {
+        return Err(LexFault::TooLong);
+    }
+    let mut tokens = Vec::new(alloc);
+    let mut at = 0;
+    'pieces: while at < text.len() {
+        let (kind, end) = piece(text, at)?;
+        if let Some(kind) = kind {
+            tokens.push(Token {
+                kind,
+                start: at,
+                end,
+            })?;
+        }
+        at = end;
+    }
+    Ok(Tokens::from_vec(tokens))
+}
+
+#[cfg(test)]
+mod tests;

@@ -1,0 +1,238 @@
+//! Ports, timers, actions, state variables and preambles.
+
+ghost use Rattle.std.specs.Prelude.{◌≡◌, ℕ, codes, option_map};
+ghost use Rattle.lft_syntax.specs.Lexeme.{Letters, Symbol, is, is_word_of, scope_keys};
+ghost use Rattle.lft_syntax.specs.Grammar.{flat};
+ghost use Rattle.lft_syntax.specs.View.{Gives, at_next, time_view, port_view, timer_view, action_view, range_view};
+ghost use Rattle.lft_syntax.specs.Reading.{key_at, ignoring_at, apply, maybe, input_at, output_at, port_at, period_at, times_at, timer_at, min_delay_at, origin_at, action_at, state_at, scope_at, preamble_at};
+ghost use Rattle.lft_syntax.specs.Parsing.{words};
+
+use crate::input::Input;
+use crate::parse_error::ParseError;
+use crate::parser::names::{is_input_key, is_scope_key, name, skip_name};
+use crate::parser::times::time_expression;
+use crate::parser::tokens::{code, is_key, is_symbol, key, symbol};
+use crate::parser::types::typed;
+use crate::parser::values::initial;
+use crate::tree::{Action, Port, TimeExpression, Timer, TokenRange};
+
+/// The word `mutable`, which may be left out.
+fn mutable(input: &Input, at: usize) -> Result<usize, ParseError>
+    ensures { Gives at_next result (ignoring_at (maybe (is (Letters (codes "mutable"))) (key_at (codes "mutable"))) (words input.now) at) }
+{
+    if !is_key(input, at, b"mutable") {
+        return Ok(at);
+    }
+    key(input, at, b"mutable")
+}
+
+#[tactic(auto, unfolding(crate::specs::Reading::input_at))]
+fn input_port(input: &Input, at: usize) -> Result<(Port, usize), ParseError>
+    ensures { Gives (λ x. (port_view x.0, x.1)) result (input_at (words input.now) at) }
+{
+    let at = mutable(input, at)?;
+    let at = key(input, at, b"input")?;
+    let (name, at) = name(input, at)?;
+    let at = typed(input, at)?;
+    Ok((
+        Port {
+            name,
+            is_input: true,
+        },
+        at,
+    ))
+}
+
+#[tactic(auto, unfolding(crate::specs::Reading::output_at))]
+fn output_port(input: &Input, at: usize) -> Result<(Port, usize), ParseError>
+    ensures { Gives (λ x. (port_view x.0, x.1)) result (output_at (words input.now) at) }
+{
+    let at = key(input, at, b"output")?;
+    let (name, at) = name(input, at)?;
+    let at = typed(input, at)?;
+    Ok((
+        Port {
+            name,
+            is_input: false,
+        },
+        at,
+    ))
+}
+
+#[tactic(auto, unfolding(crate::specs::Reading::port_at))]
+pub fn port(input: &Input, at: usize) -> Result<(Port, usize), ParseError>
+    ensures { Gives (λ x. (port_view x.0, x.1)) result (port_at (words input.now) at) }
+{
+    if is_input_key(input, at) {
+        input_port(input, at)
+    } else {
+        output_port(input, at)
+    }
+}
+
+/// `,` and a timer's period, which may be left out.
+#[tactic(auto, unfolding(crate::specs::Reading::period_at))]
+fn period(input: &Input, at: usize) -> Result<(Option<TimeExpression>, usize), ParseError>
+    ensures { Gives (λ x. (option_map time_view x.0, x.1)) result (period_at (words input.now) at) }
+{
+    if !is_symbol(input, at, b',') {
+        return Ok((None, at));
+    }
+    let at = symbol(input, at, b',')?;
+    let (period, at) = time_expression(input, at)?;
+    Ok((Some(period), at))
+}
+
+/// A timer's offset and period in their parentheses.
+#[tactic(auto, unfolding(crate::specs::Reading::times_at))]
+fn times(
+    input: &Input,
+    at: usize,
+) -> Result<(Option<(TimeExpression, Option<TimeExpression>)>, usize), ParseError>
+    ensures { Gives (λ x. (option_map (λ t. (time_view t.0, option_map time_view t.1)) x.0, x.1)) result (times_at (words input.now) at) }
+{
+    let at = symbol(input, at, b'(')?;
+    if is_symbol(input, at, b')') {
+        let at = symbol(input, at, b')')?;
+        return Ok((None, at));
+    }
+    let (offset, at) = time_expression(input, at)?;
+    let (period, at) = period(input, at)?;
+    let at = symbol(input, at, b')')?;
+    Ok((Some((offset, period)), at))
+}
+
+#[tactic(auto, unfolding(crate::specs::Reading::timer_at))]
+pub fn timer(input: &Input, at: usize) -> Result<(Timer, usize), ParseError>
+    ensures { Gives (λ x. (timer_view x.0, x.1)) result (timer_at (words input.now) at) }
+{
+    let at = key(input, at, b"timer")?;
+    let (name, at) = name(input, at)?;
+    if !is_symbol(input, at, b'(') {
+        return Ok((
+            Timer {
+                name,
+                offset: None,
+                period: None,
+            },
+            at,
+        ));
+    }
+    let (times, at) = times(input, at)?;
+    match times {
+        None => Ok((
+            Timer {
+                name,
+                offset: None,
+                period: None,
+            },
+            at,
+        )),
+        Some((offset, period)) => Ok((
+            Timer {
+                name,
+                offset: Some(offset),
+                period,
+            },
+            at,
+        )),
+    }
+}
+
+/// Whether an action is physical.
+#[tactic(auto, unfolding(crate::specs::Reading::origin_at))]
+fn origin(input: &Input, at: usize) -> Result<(bool, usize), ParseError>
+    ensures { Gives (λ x. (x.0, x.1)) result (origin_at (words input.now) at) }
+{
+    if is_key(input, at, b"logical") {
+        let at = key(input, at, b"logical")?;
+        return Ok((false, at));
+    }
+    let at = key(input, at, b"physical")?;
+    Ok((true, at))
+}
+
+/// An action's minimum delay in its parentheses.
+#[tactic(auto, unfolding(crate::specs::Reading::min_delay_at))]
+fn min_delay(input: &Input, at: usize) -> Result<(Option<TimeExpression>, usize), ParseError>
+    ensures { Gives (λ x. (option_map time_view x.0, x.1)) result (min_delay_at (words input.now) at) }
+{
+    let at = symbol(input, at, b'(')?;
+    if is_symbol(input, at, b')') {
+        let at = symbol(input, at, b')')?;
+        return Ok((None, at));
+    }
+    let (delay, at) = time_expression(input, at)?;
+    let at = symbol(input, at, b')')?;
+    Ok((Some(delay), at))
+}
+
+/// An action's minimum delay, which may be left out with its parentheses.
+fn left_out_min_delay(
+    input: &Input,
+    at: usize,
+) -> Result<(Option<TimeExpression>, usize), ParseError>
+    ensures { Gives (λ x. (option_map time_view x.0, x.1)) result (apply flat (maybe (is (Symbol 40)) min_delay_at) (words input.now) at) }
+{
+    if !is_symbol(input, at, b'(') {
+        return Ok((None, at));
+    }
+    min_delay(input, at)
+}
+
+#[tactic(auto, unfolding(crate::specs::Reading::action_at))]
+pub fn action(input: &Input, at: usize) -> Result<(Action, usize), ParseError>
+    ensures { Gives (λ x. (action_view x.0, x.1)) result (action_at (words input.now) at) }
+{
+    let (is_physical, at) = origin(input, at)?;
+    let at = key(input, at, b"action")?;
+    let (name, at) = name(input, at)?;
+    let (min_delay, at) = left_out_min_delay(input, at)?;
+    let at = typed(input, at)?;
+    Ok((
+        Action {
+            name,
+            is_physical,
+            min_delay,
+        },
+        at,
+    ))
+}
+
+/// A state variable.
+#[tactic(auto, unfolding(crate::specs::Reading::state_at))]
+pub fn state(input: &Input, at: usize) -> Result<(TokenRange, usize), ParseError>
+    ensures { Gives (λ x. (range_view x.0, x.1)) result (state_at (words input.now) at) }
+{
+    let start = at;
+    let at = key(input, at, b"state")?;
+    let at = skip_name(input, at)?;
+    let at = typed(input, at)?;
+    let end = initial(input, at)?;
+    Ok((TokenRange { start, end }, end))
+}
+
+/// `private` or `public`, which may be left out.
+#[tactic(auto, unfolding(crate::specs::Reading::scope_at))]
+fn scope(input: &Input, at: usize) -> Result<usize, ParseError>
+    ensures { Gives at_next result (ignoring_at (maybe (is_word_of scope_keys) scope_at) (words input.now) at) }
+{
+    if !is_scope_key(input, at) {
+        return Ok(at);
+    }
+    if is_key(input, at, b"private") {
+        return key(input, at, b"private");
+    }
+    key(input, at, b"public")
+}
+
+#[tactic(auto, unfolding(crate::specs::Reading::preamble_at))]
+pub fn preamble(input: &Input, at: usize) -> Result<(TokenRange, usize), ParseError>
+    ensures { Gives (λ x. (range_view x.0, x.1)) result (preamble_at (words input.now) at) }
+{
+    let start = at;
+    let at = scope(input, at)?;
+    let at = key(input, at, b"preamble")?;
+    let end = code(input, at)?;
+    Ok((TokenRange { start, end }, end))
+}

@@ -1,0 +1,91 @@
+//! The file.
+
+ghost use Rattle.std.specs.Prelude.{◌≡◌, ℕ, codes, option_map};
+ghost use Rattle.lft_syntax.specs.Lexeme.{Symbol, Letters, is};
+ghost use Rattle.lft_syntax.specs.View.{Gives, at_next, range_view, item_view, item_views, tree_view};
+ghost use Rattle.lft_syntax.specs.Reading.{maybe, ignoring_at, braces_at, target_at, item_at, items_at, file_at, whole_at};
+ghost use Rattle.lft_syntax.specs.Parsing.{words};
+
+use crate::input::Input;
+use crate::parse_error::ParseError;
+use crate::parser::declarations::preamble;
+use crate::parser::groups::braces;
+use crate::parser::names::{is_preamble_key, skip_name};
+use crate::parser::reactors::reactor;
+use crate::parser::tokens::{is_key, is_symbol, is_there, key};
+use crate::tree::{Ast, Item, TokenRange};
+
+/// The target's properties, which may be left out.
+fn properties(input: &Input, at: usize) -> Result<usize, ParseError>
+    ensures { Gives at_next result (ignoring_at (maybe (is (Symbol 123)) braces_at) (words input.now) at) }
+{
+    if !is_symbol(input, at, b'{') {
+        return Ok(at);
+    }
+    braces(input, at)
+}
+
+#[tactic(auto, unfolding(crate::specs::Reading::target_at))]
+fn target(input: &Input, at: usize) -> Result<(TokenRange, usize), ParseError>
+    ensures { Gives (λ x. (range_view x.0, x.1)) result (target_at (words input.now) at) }
+{
+    let start = at;
+    let at = key(input, at, b"target")?;
+    let at = skip_name(input, at)?;
+    let end = properties(input, at)?;
+    Ok((TokenRange { start, end }, end))
+}
+
+/// The target, which may be left out.
+fn left_out_target(input: &Input, at: usize) -> Result<(Option<TokenRange>, usize), ParseError>
+    ensures { Gives (λ x. (option_map range_view x.0, x.1)) result (maybe (is (Letters (codes "target"))) target_at (words input.now) at) }
+{
+    if !is_key(input, at, b"target") {
+        return Ok((None, at));
+    }
+    let (tokens, at) = target(input, at)?;
+    Ok((Some(tokens), at))
+}
+
+#[tactic(auto, unfolding(crate::specs::Reading::item_at))]
+fn item(input: &Input, at: usize) -> Result<(Item, usize), ParseError>
+    ensures { Gives (λ x. (item_view x.0, x.1)) result (item_at (words input.now) at) }
+{
+    if is_preamble_key(input, at) {
+        let (tokens, at) = preamble(input, at)?;
+        return Ok((Item::Preamble(tokens), at));
+    }
+    let (reactor, at) = reactor(input, at)?;
+    Ok((Item::Reactor(reactor), at))
+}
+
+fn items(input: &Input, at: usize) -> Result<(Vec<Item>, usize), ParseError>
+    ensures { Gives (λ x. (item_views x.0.items, x.1)) result (items_at (words input.now) at) }
+{
+    let mut items = Vec::new(input.alloc);
+    let mut next = at;
+    'list: while is_there(input, next) {
+        let (item, after) = item(input, next)?;
+        items.push(item)?;
+        next = after;
+    }
+    Ok((items, next))
+}
+
+#[tactic(auto, unfolding(crate::specs::Reading::file_at))]
+fn file(input: &Input, at: usize) -> Result<(Ast, usize), ParseError>
+    ensures { Gives (λ x. (tree_view x.0, x.1)) result (file_at (words input.now) at) }
+{
+    let (target, at) = left_out_target(input, at)?;
+    let (items, at) = items(input, at)?;
+    Ok((Ast { target, items }, at))
+}
+
+/// The tree of the whole text.
+#[tactic(auto, unfolding(crate::specs::Reading::whole_at))]
+pub fn whole(input: &Input) -> Result<Ast, ParseError>
+    ensures { Gives tree_view result (whole_at (words input.now)) }
+{
+    let (tree, _) = file(input, 0)?;
+    Ok(tree)
+}

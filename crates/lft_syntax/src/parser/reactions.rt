@@ -1,0 +1,108 @@
+//! Reactions.
+
+ghost use Rattle.std.specs.Prelude.{◌≡◌, ℕ, [], ◌∷◌, map};
+ghost use Rattle.lft_syntax.specs.Lexeme as Lexeme;
+ghost use Rattle.lft_syntax.specs.Lexeme.{Symbol, is};
+ghost use Rattle.lft_syntax.specs.View.{Gives, at_next, trigger_view, reaction_view};
+ghost use Rattle.lft_syntax.specs.Reading.{after_comma, repeated, with_front, listed_at, maybe, ignoring_at, name_at, trigger_at, triggers_at, reaction_at};
+ghost use Rattle.lft_syntax.specs.Parsing.{words};
+
+use crate::input::Input;
+use crate::parse_error::ParseError;
+use crate::parser::names::{is_name, skip_name};
+use crate::parser::references::{effects, reference, uses};
+use crate::parser::tokens::{code, is_key, is_symbol, key, symbol};
+use crate::tree::{Reaction, Trigger};
+
+#[tactic(auto, unfolding(crate::specs::Reading::trigger_at))]
+fn trigger(input: &Input, at: usize) -> Result<(Trigger, usize), ParseError>
+    ensures { Gives (λ x. (trigger_view x.0, x.1)) result (trigger_at (words input.now) at) }
+{
+    if is_key(input, at, b"startup") {
+        let at = key(input, at, b"startup")?;
+        return Ok((Trigger::Startup, at));
+    }
+    if is_key(input, at, b"shutdown") {
+        let at = key(input, at, b"shutdown")?;
+        return Ok((Trigger::Shutdown, at));
+    }
+    let (reference, at) = reference(input, at)?;
+    Ok((Trigger::Reference(reference), at))
+}
+
+fn next_trigger(input: &Input, at: usize) -> Result<(Trigger, usize), ParseError>
+    ensures { Gives (λ x. (trigger_view x.0, x.1)) result (after_comma trigger_at (words input.now) at) }
+{
+    let at = symbol(input, at, b',')?;
+    trigger(input, at)
+}
+
+fn more_triggers(
+    input: &Input,
+    at: usize,
+    first: Trigger,
+) -> Result<(Vec<Trigger>, usize), ParseError>
+    ensures { Gives (λ x. (map trigger_view x.0.items, x.1)) result (with_front (trigger_view first ∷ []) (repeated (is (Symbol 44)) (after_comma trigger_at) (words input.now) at)) }
+{
+    let mut triggers = Vec::new(input.alloc);
+    triggers.push(first)?;
+    let mut next = at;
+    'list: while is_symbol(input, next, b',') {
+        let (trigger, after) = next_trigger(input, next)?;
+        triggers.push(trigger)?;
+        next = after;
+    }
+    Ok((triggers, next))
+}
+
+fn some_triggers(input: &Input, at: usize) -> Result<(Vec<Trigger>, usize), ParseError>
+    ensures { Gives (λ x. (map trigger_view x.0.items, x.1)) result (listed_at trigger_at (words input.now) at) }
+{
+    let (first, at) = trigger(input, at)?;
+    more_triggers(input, at, first)
+}
+
+/// The triggers in their parentheses.
+#[tactic(auto, unfolding(crate::specs::Reading::triggers_at))]
+fn triggers(input: &Input, at: usize) -> Result<(Vec<Trigger>, usize), ParseError>
+    ensures { Gives (λ x. (map trigger_view x.0.items, x.1)) result (triggers_at (words input.now) at) }
+{
+    let at = symbol(input, at, b'(')?;
+    if is_symbol(input, at, b')') {
+        let at = symbol(input, at, b')')?;
+        return Ok((Vec::new(input.alloc), at));
+    }
+    let (triggers, at) = some_triggers(input, at)?;
+    let at = symbol(input, at, b')')?;
+    Ok((triggers, at))
+}
+
+/// A reaction's own name, which may be left out.
+fn own_name(input: &Input, at: usize) -> Result<usize, ParseError>
+    ensures { Gives at_next result (ignoring_at (maybe Lexeme.is_name name_at) (words input.now) at) }
+{
+    if !is_name(input, at) {
+        return Ok(at);
+    }
+    skip_name(input, at)
+}
+
+#[tactic(auto, unfolding(crate::specs::Reading::reaction_at))]
+pub fn reaction(input: &Input, at: usize) -> Result<(Reaction, usize), ParseError>
+    ensures { Gives (λ x. (reaction_view x.0, x.1)) result (reaction_at (words input.now) at) }
+{
+    let at = key(input, at, b"reaction")?;
+    let at = own_name(input, at)?;
+    let (triggers, at) = triggers(input, at)?;
+    let (uses, at) = uses(input, at)?;
+    let (effects, at) = effects(input, at)?;
+    let at = code(input, at)?;
+    Ok((
+        Reaction {
+            triggers,
+            uses,
+            effects,
+        },
+        at,
+    ))
+}

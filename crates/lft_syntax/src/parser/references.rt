@@ -1,0 +1,89 @@
+//! References: a name, or a port of a contained instance.
+
+ghost use Rattle.std.specs.Prelude.{◌≡◌, ℕ, [], ◌∷◌};
+ghost use Rattle.lft_syntax.specs.Lexeme.{Symbol, is};
+ghost use Rattle.lft_syntax.specs.Grammar.{or_empty};
+ghost use Rattle.lft_syntax.specs.View.{Gives, ref_view, ref_views};
+ghost use Rattle.lft_syntax.specs.Reading.{apply, after_comma, repeated, with_front, ref_at, refs_at, uses_at, effects_at};
+ghost use Rattle.lft_syntax.specs.Parsing.{words};
+
+use crate::input::Input;
+use crate::parse_error::ParseError;
+use crate::parser::names::{is_name, name};
+use crate::parser::tokens::{arrow, is_arrow, is_symbol, symbol};
+use crate::tree::Reference;
+
+#[tactic(auto, unfolding(crate::specs::Reading::ref_at))]
+pub fn reference(input: &Input, at: usize) -> Result<(Reference, usize), ParseError>
+    ensures { Gives (λ x. (ref_view x.0, x.1)) result (ref_at (words input.now) at) }
+{
+    let (head, at) = name(input, at)?;
+    if !is_symbol(input, at, b'.') {
+        return Ok((Reference { head, port: None }, at));
+    }
+    let at = symbol(input, at, b'.')?;
+    let (port, at) = name(input, at)?;
+    Ok((
+        Reference {
+            head,
+            port: Some(port),
+        },
+        at,
+    ))
+}
+
+fn next_reference(input: &Input, at: usize) -> Result<(Reference, usize), ParseError>
+    ensures { Gives (λ x. (ref_view x.0, x.1)) result (after_comma ref_at (words input.now) at) }
+{
+    let at = symbol(input, at, b',')?;
+    reference(input, at)
+}
+
+fn more_references(
+    input: &Input,
+    at: usize,
+    first: Reference,
+) -> Result<(Vec<Reference>, usize), ParseError>
+    ensures { Gives (λ x. (ref_views x.0.items, x.1)) result (with_front (ref_view first ∷ []) (repeated (is (Symbol 44)) (after_comma ref_at) (words input.now) at)) }
+{
+    let mut references = Vec::new(input.alloc);
+    references.push(first)?;
+    let mut next = at;
+    'list: while is_symbol(input, next, b',') {
+        let (reference, after) = next_reference(input, next)?;
+        references.push(reference)?;
+        next = after;
+    }
+    Ok((references, next))
+}
+
+#[tactic(auto, unfolding(crate::specs::Reading::refs_at))]
+pub fn references(input: &Input, at: usize) -> Result<(Vec<Reference>, usize), ParseError>
+    ensures { Gives (λ x. (ref_views x.0.items, x.1)) result (refs_at (words input.now) at) }
+{
+    let (first, at) = reference(input, at)?;
+    more_references(input, at, first)
+}
+
+/// A reaction's uses, which may be left out.
+#[tactic(auto, unfolding(crate::specs::Reading::uses_at))]
+pub fn uses(input: &Input, at: usize) -> Result<(Vec<Reference>, usize), ParseError>
+    ensures { Gives (λ x. (ref_views x.0.items, x.1)) result (apply or_empty uses_at (words input.now) at) }
+{
+    if !is_name(input, at) {
+        return Ok((Vec::new(input.alloc), at));
+    }
+    references(input, at)
+}
+
+/// A reaction's effects, which may be left out.
+#[tactic(auto, unfolding(crate::specs::Reading::effects_at))]
+pub fn effects(input: &Input, at: usize) -> Result<(Vec<Reference>, usize), ParseError>
+    ensures { Gives (λ x. (ref_views x.0.items, x.1)) result (apply or_empty effects_at (words input.now) at) }
+{
+    if !is_arrow(input, at) {
+        return Ok((Vec::new(input.alloc), at));
+    }
+    let at = arrow(input, at)?;
+    references(input, at)
+}

@@ -1,0 +1,161 @@
+-- Records have one table of external inputs, or a fault, and what a table holds fits its program.
+use Rattle.std.proofs.Common.{◌≡◌, ◌≢◌, ◌∙◌, inl, inr, ◌+◌, ◌<◌, ◌≤◌, ◌++◌, ℕ, zero, suc, List, [], ◌∷◌, length, filter_map, Some, slice_get, refl, sym, ap, subst, arith, append-nil, length-append}
+use Rattle.std.specs.List.{AllZip}
+use Rattle.std.specs.List.Sorted.{IsPermutation}
+use Rattle.std.proofs.lemmas.List.Elements.{filter_map-append}
+use Rattle.std.proofs.lemmas.List.Sorted.{length_permutation}
+use Rattle.std.proofs.lemmas.Option.{slice_get_within}
+use Rattle.lft_program.specs.Parts.{Parts}
+use Rattle.lft_program.specs.Sound.{IsSound}
+use Rattle.lft_tag.specs.declared.Tag.{Tag}
+use Rattle.lft_tag.specs.Tags.{IsRecorded}
+use Rattle.lft_trace.specs.ExternalTables.{ExternalFails, ExternalFields, ExternalTable, FailsAt, FaultAt, Has, HasNoStop, HasTooMany, IsEntry, IsOfKind, IsTag, event_of, header, stop_of}
+use Rattle.lft_trace.specs.Fits.{EventFits, ExternalsFit}
+use Rattle.lft_trace.specs.Inputs.{ExternalInputs}
+use Rattle.lft_trace.specs.declared.external_table.Entry.{Entry}
+use Rattle.lft_trace.specs.declared.external_table.Entry.TheVariants.{Happens, Stops}
+use Rattle.lft_trace.specs.declared.externals.Event.{Event}
+use Rattle.lft_trace.specs.declared.fault.TraceFault.{TraceFault}
+use Rattle.lft_trace.specs.declared.fault.TraceFault.TheVariants as fault
+use Rattle.lft_trace.specs.declared.kind.EntryKind.{EntryKind}
+use Rattle.lft_trace.specs.declared.kind.EntryKind.TheVariants as kind
+use Rattle.lft_trace.proofs.Ascending.{same_events}
+use Rattle.lft_trace.proofs.EntriesDiffer.{count_there, empty_there, kind_there, name_there, number_there, one_entry}
+use Rattle.lft_trace.proofs.Members.{at_front, at_middle, has_permuted, has_permuted_back}
+use Rattle.lft_trace.proofs.TableFacts.{within}
+use Rattle.lft_trace.proofs.Zips.{Parted, behind, long, parted, same}
+
+abbrev Texts : Type 0
+Texts = List (List (List ℕ))
+
+same_rest : (records a b : Texts) → records ≡ header ∷ a → records ≡ header ∷ b → a ≡ b
+same_rest records a b h k = let e : ◌≡◌ {A = Texts} (header ∷ a) (header ∷ b) = sym h ∙ k in cc (e)
+
+same_entries : (program : Parts) (rest : Texts) (a b : List Entry) → IsSound program → AllZip (IsEntry program) rest a → AllZip (IsEntry program) rest b → a ≡ b
+same_entries program rest a b sound h k = same (IsEntry program) (λ f x y p q. one_entry program f x y sound.well_named.distinct p q) rest a b h k
+
+same_inputs : (a b : ExternalInputs) → a.stop ≡ b.stop → a.events ≡ b.events → a ≡ b
+same_inputs a b s e = λ i. record { stop = s i; events = e i }
+
+pub one_table : (program : Parts) (records : Texts) (inputs other : ExternalInputs) → IsSound program → ExternalTable program records inputs → ExternalTable program records other → other ≡ inputs
+one_table program records inputs other sound t u =
+    let r : t.rest ≡ u.rest = same_rest records t.rest u.rest t.under u.under in
+    let e : t.entries ≡ u.entries = same_entries program u.rest t.entries u.entries sound (rw r at t.each) u.each in
+    let one : filter_map stop_of u.entries ≡ inputs.stop ∷ [] = rw e at t.one_stop in
+    let all : IsPermutation (filter_map event_of u.entries) inputs.events = rw e at t.same in
+    let stops : ◌≡◌ {A = List Tag} (other.stop ∷ []) (inputs.stop ∷ []) = sym u.one_stop ∙ one in
+    let there = λ (x : Event) (h : Has other.events x). has_permuted (filter_map event_of u.entries) inputs.events x all (has_permuted_back (filter_map event_of u.entries) other.events x u.same h) in
+    let back = λ (x : Event) (h : Has inputs.events x). has_permuted (filter_map event_of u.entries) other.events x u.same (has_permuted_back (filter_map event_of u.entries) inputs.events x all h) in
+    same_inputs other inputs (cc (stops)) (same_events other.events inputs.events u.order t.order there back)
+
+no_clash : (program : Parts) (records : Texts) (inputs : ExternalInputs) (t : ExternalTable program records inputs) (front back : List Entry) (e d : Event) → t.entries ≡ front ++ (Happens e ∷ back) → Has (filter_map event_of front) d → (d.tag ≡ e.tag) × (d.action ≡ e.action) → ⊥
+no_clash program records inputs t front back e d whole h clash =
+    let split : filter_map event_of t.entries ≡ filter_map event_of front ++ (e ∷ filter_map event_of back) = ap (filter_map event_of) whole ∙ filter_map-append event_of front (Happens e ∷ back) in
+    let at_d : slice_get (filter_map event_of t.entries) h.0 ≡ Some d = rw split (at_front (filter_map event_of front) (e ∷ filter_map event_of back) d h.0 h.1) in
+    let at_e : slice_get (filter_map event_of t.entries) (length (filter_map event_of front)) ≡ Some e = rw split (at_middle (filter_map event_of front) (filter_map event_of back) e) in
+    let same_place : h.0 ≡ length (filter_map event_of front) = t.apart h.0 (length (filter_map event_of front)) d e at_d at_e clash in
+    let w : h.0 < length (filter_map event_of front) = slice_get_within (filter_map event_of front) h.0 d h.1 in
+    omega arith
+
+two : (A B : List Tag) (g s : Tag) → A ≢ [] → A ++ (g ∷ B) ≡ s ∷ [] → ⊥
+two [] B g s some h = some refl
+two (a ∷ []) B g s some h = cc (h)
+two (a ∷ (b ∷ A)) B g s some h = cc (h)
+
+no_second : (program : Parts) (records : Texts) (inputs : ExternalInputs) (t : ExternalTable program records inputs) (front back : List Entry) (g : Tag) → t.entries ≡ front ++ (Stops g ∷ back) → filter_map stop_of front ≢ [] → ⊥
+no_second program records inputs t front back g whole some =
+    let split : filter_map stop_of t.entries ≡ filter_map stop_of front ++ (g ∷ filter_map stop_of back) = ap (filter_map stop_of) whole ∙ filter_map-append stop_of front (Stops g ∷ back) in
+    two (filter_map stop_of front) (filter_map stop_of back) g inputs.stop some (sym split ∙ t.one_stop)
+
+faulty : (program : Parts) (records : Texts) (inputs : ExternalInputs) (line : ℕ) (bad : List (List ℕ)) (e : TraceFault) (front back : List Entry) (here : Entry) → IsSound program
+    → (t : ExternalTable program records inputs) → t.entries ≡ front ++ (here ∷ back) → IsEntry program bad here → FaultAt program front line bad e → ⊥
+faulty program records inputs line bad (fault.BadFieldCount n) front back here sound t whole is f = count_there program bad here is f.1
+faulty program records inputs line bad (fault.BadEvent n) front back here sound t whole is f = kind_there program bad here is f.1 f.2 f.3
+faulty program records inputs line bad (fault.BadNumber n) front back here sound t whole is f = number_there program bad here is f.1 f.2 f.3 f.4
+faulty program records inputs line bad (fault.UnknownName n) front back here sound t whole is f = name_there program bad here is f.1 f.2 f.3 f.5
+faulty program records inputs line bad (fault.FieldInPlace n) front back here sound t whole is f = empty_there program bad here is f.1 f.2 f.3 f.6
+faulty program records inputs line bad (fault.DuplicateExternal n) front back here sound t whole is f =
+    let e : here ≡ Happens f.1 = one_entry program bad here (Happens f.1) sound.well_named.distinct is f.2 in
+    no_clash program records inputs t front back f.1 f.3 (whole ∙ ap (λ (y : Entry). front ++ (y ∷ back)) e) f.4 f.5
+faulty program records inputs line bad (fault.TwoStops n) front back here sound t whole is f =
+    let e : here ≡ Stops f.1 = one_entry program bad here (Stops f.1) sound.well_named.distinct is f.2 in
+    no_second program records inputs t front back f.1 (whole ∙ ap (λ (y : Entry). front ++ (y ∷ back)) e) f.3
+faulty program records inputs line bad fault.BadHeader front back here sound t whole is f = absurd f
+faulty program records inputs line bad fault.NoStop front back here sound t whole is f = absurd f
+faulty program records inputs line bad fault.TooManyRows front back here sound t whole is f = absurd f
+faulty program records inputs line bad fault.NotCsv front back here sound t whole is f = absurd f
+faulty program records inputs line bad fault.NoMemory front back here sound t whole is f = absurd f
+
+two_faults : (program : Parts) (records : Texts) (e : TraceFault) (inputs : ExternalInputs) → IsSound program → FailsAt program records e → ExternalTable program records inputs → ⊥
+two_faults program records e inputs sound f t =
+    let s : t.rest ≡ f.first ++ (f.bad ∷ f.more) = same_rest records t.rest (f.first ++ (f.bad ∷ f.more)) t.under f.begins.under in
+    let each : AllZip (IsEntry program) (f.first ++ (f.bad ∷ f.more)) t.entries = rw s at t.each in
+    let p : Parted (IsEntry program) f.first f.bad t.entries = parted (IsEntry program) f.first f.bad f.more t.entries each in
+    let front : f.entries ≡ p.front = same_entries program f.first f.entries p.front sound f.begins.each p.each in
+    faulty program records inputs (length f.first + 2) f.bad e p.front p.back p.here sound t p.whole p.is (rw front at f.is)
+
+not_more : (program : Parts) (records : Texts) (inputs : ExternalInputs) → HasTooMany program records → ExternalTable program records inputs → ⊥
+not_more program records inputs f t =
+    let s : t.rest ≡ f.first ++ (f.next ∷ f.more) = same_rest records t.rest (f.first ++ (f.next ∷ f.more)) t.under f.begins.under in
+    let l = ap length s in
+    let a = length-append f.first (f.next ∷ f.more) in
+    let z = long (IsEntry program) t.rest t.entries t.each in
+    let few = t.few in
+    let full = f.full in
+    omega (arith, l, a, z, few, full)
+
+not_stopless : (program : Parts) (records : Texts) (inputs : ExternalInputs) → IsSound program → HasNoStop program records → ExternalTable program records inputs → ⊥
+not_stopless program records inputs sound f t =
+    let s : t.rest ≡ f.rest = cc (same_rest records t.rest (f.rest ++ []) t.under f.begins.under, append-nil f.rest) in
+    let e : f.entries ≡ t.entries = same_entries program t.rest f.entries t.entries sound (rw (← s) at f.begins.each) t.each in
+    let n : filter_map stop_of t.entries ≡ [] = rw e at f.none in
+    let q : ◌≡◌ {A = List Tag} [] (inputs.stop ∷ []) = sym n ∙ t.one_stop in
+    cc (q)
+
+pub no_table : (program : Parts) (records : Texts) (e : TraceFault) (inputs : ExternalInputs) → IsSound program → ExternalFails program records e → ExternalTable program records inputs → ⊥
+no_table program records e inputs sound (inl h) t = h.1 t.rest t.under
+no_table program records e inputs sound (inr (inl h)) t = two_faults program records e inputs sound h t
+no_table program records e inputs sound (inr (inr (inl h))) t = not_more program records inputs h.1 t
+no_table program records e inputs sound (inr (inr (inr h))) t = not_stopless program records inputs sound h.1 t
+
+-- ---- fits
+
+recorded : (c : ExternalFields) (g : Tag) → IsTag c g → IsRecorded g
+recorded c g h = (within 1000000000000000000 c.time g.time h.0, within 1000000000 c.microstep g.micro h.1)
+
+few_kept : (entries : List Entry) → length (filter_map event_of entries) ≤ length entries
+few_kept [] = omega arith
+few_kept (Happens e ∷ entries) = let h = few_kept entries in omega arith
+few_kept (Stops g ∷ entries) = let h = few_kept entries in omega arith
+
+event_behind : (entries : List Entry) (i : ℕ) (e : Event) → slice_get (filter_map event_of entries) i ≡ Some e → (j : ℕ) × (slice_get entries j ≡ Some (Happens e))
+event_behind [] i e h = cc (h)
+event_behind (Happens x ∷ entries) zero e h = let s : x ≡ e = cc (h) in (0, ap (λ (y : Event). Some (Happens y)) s)
+event_behind (Happens x ∷ entries) (suc i) e h = let r = event_behind entries i e h in (suc r.0, r.1)
+event_behind (Stops g ∷ entries) i e h = let r = event_behind entries i e h in (suc r.0, r.1)
+
+stop_behind : (entries : List Entry) (s : Tag) → filter_map stop_of entries ≡ s ∷ [] → (j : ℕ) × (slice_get entries j ≡ Some (Stops s))
+stop_behind [] s h = cc (h)
+stop_behind (Happens x ∷ entries) s h = let r = stop_behind entries s h in (suc r.0, r.1)
+stop_behind (Stops g ∷ entries) s h = let e : g ≡ s = cc (h) in (0, ap (λ (y : Tag). Some (Stops y)) e)
+
+event_fits : (program : Parts) (k : EntryKind) (c : ExternalFields) (e : Event) → IsOfKind program k c (Happens e) → EventFits program e
+event_fits program kind.Event c e h =
+    let s : h.0 ≡ e = cc (h.4) in
+    subst (λ (x : Event). EventFits program x) s (record { recorded = recorded c h.0.tag h.1; action = slice_get_within program.actions h.0.action h.2.1.0 h.2.1.1 })
+event_fits program kind.Stop c e h = let q = h.4 in cc (q)
+
+stop_fits : (program : Parts) (k : EntryKind) (c : ExternalFields) (g : Tag) → IsOfKind program k c (Stops g) → IsRecorded g
+stop_fits program kind.Event c g h = let q = h.4 in absurd (cc (q))
+stop_fits program kind.Stop c g h = let s : h.0 ≡ g = cc (h.4) in subst IsRecorded s (recorded c h.0 h.1)
+
+pub table_fits : (program : Parts) (records : Texts) (inputs : ExternalInputs) → ExternalTable program records inputs → ExternalsFit program inputs
+table_fits program records inputs t = record {
+  stop = let j = stop_behind t.entries inputs.stop t.one_stop in let b = behind (IsEntry program) t.rest t.entries j.0 (Stops inputs.stop) t.each j.1 in stop_fits program b.1.1 b.1.0 inputs.stop b.1.4;
+  few = let a = few_kept t.entries in let l = length_permutation (filter_map event_of t.entries) inputs.events t.same in let few = t.few in omega (arith, a, l, few);
+  each = λ i e at.
+      let h = has_permuted_back (filter_map event_of t.entries) inputs.events e t.same (i, at) in
+      let j = event_behind t.entries h.0 e h.1 in
+      let b = behind (IsEntry program) t.rest t.entries j.0 (Happens e) t.each j.1 in
+      event_fits program b.1.1 b.1.0 e b.1.4;
+}

@@ -1,0 +1,96 @@
+-- Records have one trace table, or a fault, and what a table holds fits its program.
+use Rattle.std.proofs.Common.{◌≡◌, ◌∙◌, inl, inr, ◌+◌, ◌≤◌, ◌++◌, ℕ, List, [], ◌∷◌, length, Some, None, refl, sym, ap, arith, length-append, Bool, true, false, nat_le}
+use Rattle.std.specs.Prelude.{if◌then◌else◌, ◌&&◌}
+use Rattle.std.specs.Char.{is_ascii_digit}
+use Rattle.std.specs.List.{AllZip, list_all}
+use Rattle.std.proofs.lemmas.Bool.{leb-true}
+use Rattle.std.proofs.lemmas.Option.{slice_get_within}
+use Rattle.lft_program.specs.Parts.{Parts}
+use Rattle.lft_program.specs.Sound.{IsNameOf, IsSound}
+use Rattle.lft_program.specs.declared.parts.Name.{Name}
+use Rattle.lft_program.specs.declared.parts.Name.TheVariants.{Port, Action}
+use Rattle.lft_trace.specs.Fits.{RowFits, RowsFit, StepFits}
+use Rattle.lft_trace.specs.Numbers.{digits_after, number, number_or_zero}
+use Rattle.lft_trace.specs.Traces.{FailsAt, HasTooMany, IsRow, IsStep, IsThing, RowOf, Table, TraceFails, TraceFields, header}
+use Rattle.lft_trace.specs.declared.fault.TraceFault.{TraceFault}
+use Rattle.lft_trace.specs.declared.kind.RowKind.{RowKind}
+use Rattle.lft_trace.specs.declared.kind.RowKind.TheVariants.{Start, Read, Write, Schedule, Stop, End}
+use Rattle.lft_trace.specs.declared.row.Row.{Row}
+use Rattle.lft_trace.specs.declared.row.Step.{Step}
+use Rattle.lft_trace.proofs.RowsDiffer.{not_both, one_row}
+use Rattle.lft_trace.proofs.Zips.{behind, long, middle, same}
+
+abbrev Texts : Type 0
+Texts = List (List (List ℕ))
+
+same_rest : (records a b : Texts) → records ≡ header ∷ a → records ≡ header ∷ b → a ≡ b
+same_rest records a b h k = let e : ◌≡◌ {A = Texts} (header ∷ a) (header ∷ b) = sym h ∙ k in cc (e)
+
+pub one_table : (program : Parts) (records : Texts) (rows other : List Row) → IsSound program → Table program records rows → Table program records other → other ≡ rows
+one_table program records rows other sound t u =
+    let e : t.rest ≡ u.rest = same_rest records t.rest u.rest t.under u.under in
+    let each : AllZip (IsRow program) u.rest rows = rw e at t.each in
+    same (IsRow program) (λ f a b x y. one_row program f a b sound.well_named.distinct x y) u.rest other rows u.each each
+
+two_faults : (program : Parts) (records : Texts) (e : TraceFault) (rows : List Row) → FailsAt program records e → Table program records rows → ⊥
+two_faults program records e rows f t =
+    let s : t.rest ≡ f.first ++ (f.bad ∷ f.more) = same_rest records t.rest (f.first ++ (f.bad ∷ f.more)) t.under f.begins.under in
+    let each : AllZip (IsRow program) (f.first ++ (f.bad ∷ f.more)) rows = rw s at t.each in
+    let m = middle (IsRow program) f.first f.bad f.more rows each in
+    not_both program (length f.first + 2) f.bad e m.0 f.is m.1
+
+not_more : (program : Parts) (records : Texts) (rows : List Row) → HasTooMany program records → Table program records rows → ⊥
+not_more program records rows f t =
+    let s : t.rest ≡ f.first ++ (f.next ∷ f.more) = same_rest records t.rest (f.first ++ (f.next ∷ f.more)) t.under f.begins.under in
+    let l = ap length s in
+    let a = length-append f.first (f.next ∷ f.more) in
+    let z = long (IsRow program) t.rest rows t.each in
+    let few = t.few in
+    let full = f.full in
+    omega (arith, l, a, z, few, full)
+
+pub no_table : (program : Parts) (records : Texts) (e : TraceFault) (rows : List Row) → TraceFails program records e → Table program records rows → ⊥
+no_table program records e rows (inl h) t = h.1 t.rest t.under
+no_table program records e rows (inr (inl h)) t = two_faults program records e rows h t
+no_table program records e rows (inr (inr h)) t = not_more program records rows h.1 t
+
+chosen : (b : Bool) (limit v n : ℕ) → (if b && nat_le v limit then Some v else None) ≡ Some n → n ≤ limit
+chosen true limit v n h = within_test (nat_le v limit) limit v n refl h
+  where
+    within_test : (t : Bool) (limit v n : ℕ) → nat_le v limit ≡ t → (if t then Some v else None) ≡ Some n → n ≤ limit
+    within_test true limit v n e h = let s : v ≡ n = cc (h) in rw s at (leb-true v limit e)
+    within_test false limit v n e h = absurd (cc (h))
+chosen false limit v n h = absurd (cc (h))
+
+pub within : (limit : ℕ) (field : List ℕ) (n : ℕ) → number limit field ≡ Some n → n ≤ limit
+within limit [] n h = absurd (cc (h))
+within limit (d ∷ ds) n h = chosen (list_all is_ascii_digit (d ∷ ds)) limit (digits_after 0 (d ∷ ds)) n h
+
+within_or_zero : (limit : ℕ) (field : List ℕ) (n : ℕ) → number_or_zero limit field ≡ Some n → n ≤ limit
+within_or_zero limit [] n h = let e : 0 ≡ n = cc (h) in omega arith
+within_or_zero limit (d ∷ ds) n h = within limit (d ∷ ds) n h
+
+thing_there : (program : Parts) (text : List ℕ) (n : Name) → IsSound program → IsThing program text n → IsNameOf program n
+thing_there program text (Port p) sound h = rw (← sound.well_named.ports) (slice_get_within program.names.ports p text h)
+thing_there program text (Action a) sound h = rw (← sound.well_named.actions) (slice_get_within program.names.actions a text h)
+
+step_fits : (program : Parts) (kind : RowKind) (c : TraceFields) (s : Step) → IsSound program → IsStep program kind c s → StepFits program s
+step_fits program Start c s sound h = rw h.3 tt
+step_fits program Read c s sound h = rw h.5 (thing_there program c.name h.0 sound h.2)
+step_fits program Write c s sound h = rw h.5 (thing_there program c.name h.0 sound h.2)
+step_fits program Schedule c s sound h = rw h.6 (thing_there program c.name h.0 sound h.3, within_or_zero 1000000000000000000 c.delay h.2 h.5)
+step_fits program Stop c s sound h = rw h.3 tt
+step_fits program End c s sound h = rw h.3 tt
+
+row_fits : (program : Parts) (kind : RowKind) (c : TraceFields) (row : Row) → IsSound program → RowOf program kind c row → RowFits program row
+row_fits program kind c row sound h = record {
+  recorded = (within 1000000000000000000 c.time row.tag.time h.time, within 1000000000 c.microstep row.tag.micro h.microstep);
+  reaction = rw (← sound.well_named.reactions) (slice_get_within program.names.reactions row.reaction c.reaction h.reaction);
+  step = step_fits program kind c row.step sound h.step;
+}
+
+pub table_fits : (program : Parts) (records : Texts) (rows : List Row) → IsSound program → Table program records rows → RowsFit program rows
+table_fits program records rows sound t = record {
+  few = t.few;
+  each = λ i row e. let b = behind (IsRow program) t.rest rows i row t.each e in row_fits program b.1.1 b.1.0 row sound b.1.3;
+}

@@ -1,0 +1,8 @@
+-- External events as entries of a map.
+use Rattle.std.specs.Prelude.{ℕ}
+use Rattle.lft_program.specs.declared.parts.Value.{Value}
+use Rattle.lft_trace.specs.declared.externals.Event.{Event}
+
+-- the event of an entry: time, microstep and action, and the value
+abbrev pub event_at : (ℕ × ℕ × ℕ) × Value → Event
+event_at entry = record { tag = record { time = entry.0.0; micro = entry.0.1 }; action = entry.0.2; value = entry.1 }

@@ -1,0 +1,42 @@
+-- What the clauses of single steps see: the fields of a record by their names, and its numbers.
+use Rattle.std.specs.Prelude.{◌≡◌, ℕ, List, Some, true, false}
+use Rattle.lft_trace.specs.Numbers.{number, number_or_zero, value}
+use Rattle.lft_program.specs.Parts.{Parts}
+use Rattle.lft_program.specs.declared.parts.Name.{Name}
+use Rattle.lft_program.specs.declared.parts.Value.{Value}
+use Rattle.lft_trace.specs.Traces.{TraceFields, IsThing, IsUnknown, has_name, has_delay, has_numbers, is_filled}
+use Rattle.lft_trace.specs.declared.fault.TraceFault.{TraceFault}
+use Rattle.lft_trace.specs.declared.fault.TraceFault.TheVariants as fault
+use Rattle.lft_trace.specs.declared.fields.TraceFields.{TraceFields as FieldsHeld}
+use Rattle.lft_trace.specs.declared.kind.RowKind.{RowKind}
+use Rattle.lft_trace.specs.declared.kind.RowKind.TheVariants.{Start, Read, Write, Schedule, Stop, End}
+use Rattle.lft_trace.specs.declared.row.Step.{Step}
+use Rattle.lft_trace.specs.declared.row.Step.TheVariants as step
+use Rattle.lft_trace.specs.declared.trace_table.Numbers.{Numbers}
+
+abbrev pub trace_fields : FieldsHeld → TraceFields
+trace_fields c = record { event = c.event.now; worker = c.worker.now; time = c.time.now; microstep = c.microstep.now; reaction = c.reaction.now; name = c.name.now; value = c.value.now; delay = c.delay.now }
+
+-- the numbers of a record with this event
+pub record NumbersOf (kind : RowKind) (c : TraceFields) (n : Numbers) : Type 0 where
+  pub worker : number 4294967295 c.worker ≡ Some n.worker
+  pub time : number 1000000000000000000 c.time ≡ Some n.tag.time
+  pub microstep : number 1000000000 c.microstep ≡ Some n.tag.micro
+  pub value : has_name kind ≡ true → value c.value ≡ Some n.value
+  pub delay : has_delay kind ≡ true → number_or_zero 1000000000000000000 c.delay ≡ Some n.delay
+
+-- the step of an event with this name, value and delay, where it has them
+abbrev pub StepOf : Parts → RowKind → List ℕ → Value → ℕ → Step → Type 0
+StepOf program Start name v d s = s ≡ step.Start
+StepOf program Read name v d s = (n : Name) × IsThing program name n × (s ≡ step.Read n v)
+StepOf program Write name v d s = (n : Name) × IsThing program name n × (s ≡ step.Write n v)
+StepOf program Schedule name v d s = (n : Name) × IsThing program name n × (s ≡ step.Schedule n v d)
+StepOf program Stop name v d s = s ≡ step.Stop
+StepOf program End name v d s = s ≡ step.End
+
+-- the first fault of a record of this event
+abbrev pub FieldFault : Parts → RowKind → ℕ → TraceFields → TraceFault → Type 0
+FieldFault program kind line c (fault.BadNumber n) = (n ≡ line) × (has_numbers kind c ≡ false)
+FieldFault program kind line c (fault.UnknownName n) = (n ≡ line) × (has_numbers kind c ≡ true) × IsUnknown program kind c
+FieldFault program kind line c (fault.FieldInPlace n) = (n ≡ line) × (has_numbers kind c ≡ true) × (IsUnknown program kind c → ⊥) × (is_filled kind c ≡ true)
+FieldFault program kind line c e = ⊥

@@ -1,0 +1,33 @@
+-- What the clauses of single steps see of a record of external inputs: its fields by their names, and its numbers.
+use Rattle.std.specs.Prelude.{◌≡◌, ◌≢◌, ◌∷◌, ℕ, List, Option, Some, None, true, false}
+use Rattle.std.specs.List.Sorted.{IsPermutation}
+use Rattle.lft_tag.specs.declared.Tag.{Tag}
+use Rattle.lft_program.specs.Parts.{Parts}
+use Rattle.lft_trace.specs.ExternalTables.{Clash, ExternalFields, Has, IsUnknown, has_numbers, is_filled}
+use Rattle.lft_trace.specs.declared.external_table.Entry.{Entry}
+use Rattle.lft_trace.specs.declared.external_table.Entry.TheVariants.{Happens, Stops}
+use Rattle.lft_trace.specs.declared.externals.Event.{Event}
+use Rattle.lft_trace.specs.declared.fault.TraceFault.{TraceFault}
+use Rattle.lft_trace.specs.declared.fault.TraceFault.TheVariants as fault
+use Rattle.lft_trace.specs.declared.fields.ExternalFields.{ExternalFields as FieldsHeld}
+use Rattle.lft_trace.specs.declared.kind.EntryKind.{EntryKind}
+
+abbrev pub external_fields : FieldsHeld → ExternalFields
+external_fields c = record { kind = c.kind.now; time = c.time.now; microstep = c.microstep.now; name = c.name.now; value = c.value.now }
+
+-- the first fault of a record of this kind
+abbrev pub FieldFault : Parts → EntryKind → ℕ → ExternalFields → TraceFault → Type 0
+FieldFault program k line c (fault.BadNumber n) = (n ≡ line) × (has_numbers k c ≡ false)
+FieldFault program k line c (fault.UnknownName n) = (n ≡ line) × (has_numbers k c ≡ true) × IsUnknown program k c
+FieldFault program k line c (fault.FieldInPlace n) = (n ≡ line) × (has_numbers k c ≡ true) × (IsUnknown program k c → ⊥) × (is_filled k c ≡ true)
+FieldFault program k line c e = ⊥
+
+-- the entry is kept: the stop so far and the events from what they were
+abbrev pub Keeps : Entry → Option Tag → List Event → Option Tag → List Event → Type 0
+Keeps (Happens x) stop events stop_now events_now = (stop_now ≡ stop) × ((d : Event) → Has events d → Clash d x → ⊥) × IsPermutation (x ∷ events) events_now
+Keeps (Stops g) stop events stop_now events_now = (stop ≡ None) × (stop_now ≡ Some g) × (events_now ≡ events)
+
+-- the entry clashes with what was before
+abbrev pub Refuses : Entry → Option Tag → List Event → ℕ → TraceFault → Type 0
+Refuses (Happens x) stop events line e = (e ≡ fault.DuplicateExternal line) × ((d : Event) × Has events d × Clash d x)
+Refuses (Stops g) stop events line e = (e ≡ fault.TwoStops line) × (stop ≢ None)

@@ -1,0 +1,200 @@
+//! External inputs as tables.
+
+ghost use Rattle.std.specs.Prelude.{◌≡◌, ◌≢◌, ◌+◌, ℕ, List, length, IfSome, IfNone, IfOk, IfErr, IsTrue, ◌↔◌, true, false, is_some, not, ◌&&◌, ◌||◌, Some, None};
+ghost use Rattle.csv.specs.Records.{fields_of};
+ghost use Rattle.lft_trace.specs.ExternalTables.{ExternalTable, ExternalFails, FaultAt, IsEntry, IsOfKind, header, has_numbers, word};
+ghost use Rattle.lft_trace.specs.Faults.{is_told};
+ghost use Rattle.lft_trace.specs.Fits.{ExternalsFit};
+ghost use Rattle.lft_trace.specs.Inputs.{ExternalInputs, InOrder};
+ghost use Rattle.lft_trace.specs.Numbers.{value};
+ghost use Rattle.lft_trace.specs.Records.{records_of};
+ghost use Rattle.lft_trace.specs.SeenExternals.{FieldFault, Keeps, Refuses, external_fields};
+
+use crate::event_map::EventMap;
+use crate::externals::{Event, Externals};
+use crate::fault::TraceFault;
+use crate::fields::ExternalFields;
+use crate::kind::{EntryKind, read_entry_kind};
+use crate::names::read_physical;
+use crate::number::{read_tag, read_value};
+use crate::records::{LAST_LINE, open, read_next, stopped};
+use csv::ByteRecord;
+use lft_program::{Program, Value};
+use lft_tag::Tag;
+use std::alloc::Global;
+
+/// What a record tells: an event of a physical action, or the stop.
+#[derive(Clone, Copy, PartialEq, Eq, Debug, Drop)]
+pub(crate) enum Entry {
+    Happens(Event),
+    Stops(Tag),
+}
+
+/// The external inputs of a table. Line n of a fault is the n-th record.
+///
+/// `BadHeader` comes before the fault of the least line; at one line the order is field count,
+/// kind, number, name, field in place, then an event given before or a second stop; `TooManyRows`
+/// comes only where no row within the limit has a fault, and `NoStop` last. `NotCsv` and
+/// `NoMemory` may come before any other.
+pub fn read_externals(
+    alloc: Global,
+    program: &Program,
+    text: &[u8],
+) -> Result<Externals, TraceFault>
+    ensures table { IfOk result (λ inputs. ExternalTable program.now (records_of text.now) inputs) }
+    ensures one { IfOk result (λ inputs. (other : ExternalInputs) → ExternalTable program.now (records_of text.now) other → other ≡ inputs) }
+    ensures fits { IfOk result (λ inputs. ExternalsFit program.now inputs) }
+    ensures fault { IfErr result (λ e. is_told e ≡ true → ExternalFails program.now (records_of text.now) e × ((inputs : ExternalInputs) → ExternalTable program.now (records_of text.now) inputs → ⊥)) }
+{
+    // Asked for what every program keeps: no two of its things have one name.
+    let _ = program.actions();
+    read_inputs(alloc, program, text)
+}
+
+fn read_inputs(alloc: Global, program: &Program, text: &[u8]) -> Result<Externals, TraceFault>
+    ensures table { IfOk result (λ inputs. ExternalTable program.now (records_of text.now) inputs) }
+    ensures fault { IfErr result (λ e. is_told e ≡ true → ExternalFails program.now (records_of text.now) e) }
+{
+    let mut reader = open(alloc, text);
+    let mut fields = ByteRecord::new(alloc);
+    match read_next(&mut reader, &mut fields) {
+        Ok(true) => {}
+        Ok(false) => return Err(TraceFault::BadHeader),
+        Err(stop) => return Err(stopped(stop)),
+    }
+    if !is_header(&fields) {
+        return Err(TraceFault::BadHeader);
+    }
+    let mut stop = None;
+    let mut events = EventMap::new(alloc);
+    for line in 2..=LAST_LINE {
+        match read_next(&mut reader, &mut fields) {
+            Ok(true) => {}
+            Ok(false) => return finish(alloc, stop, events),
+            Err(stop) => return Err(stopped(stop)),
+        }
+        let entry = match read_entry(program, &fields, line) {
+            Ok(entry) => entry,
+            Err(fault) => return Err(fault),
+        };
+        stop = match keep(entry, stop, &mut events, line) {
+            Ok(stop) => stop,
+            Err(fault) => return Err(fault),
+        };
+    }
+    match read_next(&mut reader, &mut fields) {
+        Ok(true) => Err(TraceFault::TooManyRows),
+        Ok(false) => finish(alloc, stop, events),
+        Err(stop) => Err(stopped(stop)),
+    }
+}
+
+// Keeps an entry beside those before it, and gives the stop so far.
+fn keep(
+    entry: Entry,
+    stop: Option<Tag>,
+    events: &mut EventMap,
+    line: u32,
+) -> Result<Option<Tag>, TraceFault>
+    ensures kept { IfOk result (λ now. Keeps entry stop events.old now events.new) }
+    ensures fault { IfErr result (λ e. is_told e ≡ true → Refuses entry stop events.old line e) }
+{
+    match entry {
+        Entry::Happens(event) => match events.insert(event) {
+            Ok(true) => Ok(stop),
+            Ok(false) => Err(TraceFault::DuplicateExternal(line)),
+            Err(_) => Err(TraceFault::NoMemory),
+        },
+        Entry::Stops(tag) => match stop {
+            None => Ok(Some(tag)),
+            Some(_) => Err(TraceFault::TwoStops(line)),
+        },
+    }
+}
+
+// The external inputs, once all records are read.
+fn finish(alloc: Global, stop: Option<Tag>, events: EventMap) -> Result<Externals, TraceFault>
+    ensures made { IfOk result (λ inputs. (stop ≡ Some inputs.stop) × (inputs.events ≡ events) × InOrder inputs.events) }
+    ensures fault { IfErr result (λ e. is_told e ≡ true → (e ≡ TraceFault.NoStop) × (stop ≡ None)) }
+{
+    let stop = match stop {
+        Some(stop) => stop,
+        None => return Err(TraceFault::NoStop),
+    };
+    match events.into_vec(alloc) {
+        Ok(events) => Ok(Externals::from_parts(stop, events)),
+        Err(_) => Err(TraceFault::NoMemory),
+    }
+}
+
+// Whether the record is the header.
+fn is_header(fields: &ByteRecord) -> bool
+    ensures { IsTrue result ↔ (fields_of fields.now ≡ header) }
+{
+    match ExternalFields::of(fields) {
+        Some(fields) => fields.is_header(),
+        None => false,
+    }
+}
+
+// The event or the stop of a record, or the first fault that it has.
+fn read_entry(program: &Program, fields: &ByteRecord, line: u32) -> Result<Entry, TraceFault>
+    ensures entry { IfOk result (λ entry. IsEntry program.now (fields_of fields.now) entry) }
+    ensures fault { (before : List Entry) → IfErr result (λ e. FaultAt program.now before line (fields_of fields.now) e) }
+{
+    match ExternalFields::of(fields) {
+        Some(fields) => match read_entry_kind(fields.kind) {
+            Some(kind) => read_fields(program, kind, &fields, line),
+            None => Err(TraceFault::BadEvent(line)),
+        },
+        None => Err(TraceFault::BadFieldCount(line)),
+    }
+}
+
+// The event or the stop of a record of this kind, or the first fault that it has beside its kind.
+fn read_fields(
+    program: &Program,
+    kind: EntryKind,
+    fields: &ExternalFields,
+    line: u32,
+) -> Result<Entry, TraceFault>
+    ensures entry { IfOk result (λ entry. IsOfKind program.now kind (external_fields fields.now) entry) }
+    ensures fault { IfErr result (λ e. FieldFault program.now kind line (external_fields fields.now) e) }
+{
+    match kind {
+        EntryKind::Event => read_happens(program, fields, line),
+        EntryKind::Stop => read_stops(program, fields, line),
+    }
+}
+
+fn read_happens(program: &Program, fields: &ExternalFields, line: u32) -> Result<Entry, TraceFault>
+    ensures entry { IfOk result (λ entry. IsOfKind program.now EntryKind.Event (external_fields fields.now) entry) }
+    ensures fault { IfErr result (λ e. FieldFault program.now EntryKind.Event line (external_fields fields.now) e) }
+{
+    let tag = match read_tag(fields.time, fields.microstep) {
+        Some(tag) => tag,
+        None => return Err(TraceFault::BadNumber(line)),
+    };
+    let value = match read_value(fields.value) {
+        Some(value) => value,
+        None => return Err(TraceFault::BadNumber(line)),
+    };
+    match read_physical(program, fields.name) {
+        Some(action) => Ok(Entry::Happens(Event { tag, action, value })),
+        None => Err(TraceFault::UnknownName(line)),
+    }
+}
+
+fn read_stops(program: &Program, fields: &ExternalFields, line: u32) -> Result<Entry, TraceFault>
+    ensures entry { IfOk result (λ entry. IsOfKind program.now EntryKind.Stop (external_fields fields.now) entry) }
+    ensures fault { IfErr result (λ e. FieldFault program.now EntryKind.Stop line (external_fields fields.now) e) }
+{
+    let tag = match read_tag(fields.time, fields.microstep) {
+        Some(tag) => tag,
+        None => return Err(TraceFault::BadNumber(line)),
+    };
+    if fields.is_filled(EntryKind::Stop) {
+        return Err(TraceFault::FieldInPlace(line));
+    }
+    Ok(Entry::Stops(tag))
+}

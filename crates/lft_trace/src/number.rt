@@ -1,0 +1,92 @@
+//! The numbers that fields write.
+
+ghost use Rattle.std.specs.Prelude.{◌≡◌, ◌≤◌, neg_ℤ, pos, IfSome, IfNone, Some, is_some, ◌&&◌, false};
+ghost use Rattle.lft_trace.specs.Numbers.{number, number_or_zero, value};
+
+use lft_program::Value;
+use lft_tag::{MAX_MICRO, MAX_TIME, Tag};
+
+/// The magnitude of the least `i64`.
+const LEAST: u64 = 9_223_372_036_854_775_808;
+
+/// An unsigned number.
+pub(crate) fn read_number(field: &[u8], limit: u64) -> Option<u64>
+    requires { 9 ≤ limit }
+    ensures value { result ≡ number limit field.now }
+    ensures within { IfSome result (λ n. n ≤ limit) }
+{
+    if field.is_empty() {
+        return None;
+    }
+    let mut number: u64 = 0;
+    for at in 0..field.len() {
+        if !field[at].is_ascii_digit() {
+            return None;
+        }
+        let digit = (field[at] - b'0') as u64;
+        if number > (limit - digit) / 10 {
+            return None;
+        }
+        number = number * 10 + digit;
+    }
+    Some(number)
+}
+
+/// An unsigned number, or 0 where the field is empty.
+pub(crate) fn read_number_or_zero(field: &[u8], limit: u64) -> Option<u64>
+    requires { 9 ≤ limit }
+    ensures value { result ≡ number_or_zero limit field.now }
+    ensures within { IfSome result (λ n. n ≤ limit) }
+{
+    if field.is_empty() {
+        Some(0)
+    } else {
+        read_number(field, limit)
+    }
+}
+
+/// A recorded tag.
+pub(crate) fn read_tag(time: &[u8], microstep: &[u8]) -> Option<Tag>
+    ensures some { IfSome result (λ g. (number 1000000000000000000 time.now ≡ Some g.time) × (number 1000000000 microstep.now ≡ Some g.micro)) }
+    ensures none { IfNone result ((is_some (number 1000000000000000000 time.now) && is_some (number 1000000000 microstep.now)) ≡ false) }
+{
+    let time = match read_number(time, MAX_TIME) {
+        Some(time) => time,
+        None => return None,
+    };
+    match read_number(microstep, MAX_MICRO as u64) {
+        Some(micro) => Some(Tag {
+            time,
+            micro: micro as u32,
+        }),
+        None => None,
+    }
+}
+
+/// The value of a port or an action.
+pub(crate) fn read_value(field: &[u8]) -> Option<Value>
+    ensures { result ≡ value field.now }
+{
+    if field.is_empty() {
+        return Some(Value::Bare);
+    }
+    if field[0] == b'-' {
+        let size = read_number(&field[1..], LEAST)?;
+        Some(Value::Int(negative(size)))
+    } else {
+        let size = read_number(field, LEAST - 1)?;
+        Some(Value::Int(size as i64))
+    }
+}
+
+// The number below zero of this magnitude.
+fn negative(size: u64) -> i64
+    requires { size ≤ 9223372036854775808 }
+    ensures { result ≡ neg_ℤ (pos size) }
+{
+    if size == LEAST {
+        i64::MIN
+    } else {
+        -(size as i64)
+    }
+}

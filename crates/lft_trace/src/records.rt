@@ -1,0 +1,57 @@
+//! The records of a text, one at a time.
+
+ghost use Rattle.std.specs.Prelude.{◌≡◌, ◌∷◌, [], true, false, IfOk};
+ghost use Rattle.csv.specs.Records.{fields_of};
+ghost use Rattle.lft_trace.specs.Faults.{is_told};
+ghost use Rattle.lft_trace.specs.Records.{records_of, reader_left, IsPlain};
+
+use crate::fault::TraceFault;
+use csv::{ByteRecord, ErrorKind, Reader, ReaderBuilder};
+use std::alloc::Global;
+
+/// The line of the last row that a table may have.
+pub(crate) const LAST_LINE: u32 = 4_000_001;
+
+/// Why the records stop before their end.
+#[derive(Clone, Copy, Debug, PartialEq, Eq)]
+pub(crate) enum Stop {
+    NotCsv,
+    NoMemory,
+}
+
+/// The fault of a table whose records stop. It tells nothing of the text.
+pub(crate) fn stopped(stop: Stop) -> TraceFault
+    ensures { is_told result ≡ false }
+{
+    match stop {
+        Stop::NotCsv => TraceFault::NotCsv,
+        Stop::NoMemory => TraceFault::NoMemory,
+    }
+}
+
+/// A reader of the records of a text, the first one included. It takes no memory.
+pub(crate) fn open(alloc: Global, text: &[u8]) -> Reader<&[u8]>
+    ensures plain { IsPlain result }
+    ensures left { reader_left result ≡ records_of text.now }
+{
+    ReaderBuilder::new()
+        .has_headers(false)
+        .flexible(true)
+        .from_reader(alloc, text)
+}
+
+/// Reads the next record, if there is one.
+pub(crate) fn read_next(reader: &mut Reader<&[u8]>, fields: &mut ByteRecord) -> Result<bool, Stop>
+    requires { IsPlain reader.old }
+    ensures plain { IfOk result (λ found. found ≡ true → IsPlain reader.new) }
+    ensures found { IfOk result (λ found. found ≡ true → reader_left reader.old ≡ fields_of fields.new ∷ reader_left reader.new) }
+    ensures none { IfOk result (λ found. found ≡ false → reader_left reader.old ≡ []) }
+{
+    match reader.read_byte_record(fields) {
+        Ok(found) => Ok(found),
+        Err(e) => match e.kind() {
+            ErrorKind::OutOfMemory => Err(Stop::NoMemory),
+            _ => Err(Stop::NotCsv),
+        },
+    }
+}

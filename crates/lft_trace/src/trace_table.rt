@@ -1,0 +1,225 @@
+//! Traces as tables.
+
+ghost use Rattle.std.specs.Prelude.{◌≡◌, ◌≢◌, ◌+◌, ℕ, List, length, IfSome, IfNone, IfOk, IfErr, IsTrue, ◌↔◌, true, false, is_some, not, ◌||◌, Some};
+ghost use Rattle.csv.specs.Records.{fields_of};
+ghost use Rattle.lft_trace.specs.Numbers.{number_or_zero, value};
+ghost use Rattle.lft_trace.specs.Faults.{is_told};
+ghost use Rattle.lft_trace.specs.Fits.{RowsFit};
+ghost use Rattle.lft_trace.specs.Records.{records_of};
+ghost use Rattle.lft_trace.specs.Traces.{Table, TraceFails, header, FaultAt, IsRow, IsThing, RowOf, has_delay, has_name, has_numbers, word};
+ghost use Rattle.lft_trace.specs.Seen.{FieldFault, NumbersOf, StepOf, trace_fields};
+
+use crate::fault::TraceFault;
+use crate::fields::TraceFields;
+use crate::kind::{RowKind, read_kind};
+use crate::names::{read_reaction, read_thing};
+use crate::number::{read_number, read_number_or_zero, read_tag, read_value};
+use crate::records::{LAST_LINE, open, read_next, stopped};
+use crate::row::{Row, Rows, Step};
+use csv::ByteRecord;
+use lft_program::{Name, Program, Value};
+use lft_tag::{MAX_TIME, Tag};
+use std::alloc::Global;
+
+/// The rows of a trace table. Line n of a fault is the n-th record.
+///
+/// `BadHeader` comes before the fault of the least line; at one line the order is field count,
+/// event, number, name, field in place; `TooManyRows` comes only where no row within the limit has
+/// a fault. `NotCsv` and `NoMemory` may come before any other.
+pub fn read_trace(alloc: Global, program: &Program, text: &[u8]) -> Result<Rows, TraceFault>
+    ensures table { IfOk result (λ rows. Table program.now (records_of text.now) rows) }
+    ensures one { IfOk result (λ rows. (other : List Row) → Table program.now (records_of text.now) other → other ≡ rows) }
+    ensures fits { IfOk result (λ rows. RowsFit program.now rows) }
+    ensures fault { IfErr result (λ e. is_told e ≡ true → TraceFails program.now (records_of text.now) e × ((rows : List Row) → Table program.now (records_of text.now) rows → ⊥)) }
+{
+    // Asked for what every program keeps: no two of its things have one name.
+    let _ = program.reactions();
+    match read_rows(alloc, program, text) {
+        Ok(rows) => Ok(Rows::from_vec(rows)),
+        Err(fault) => Err(fault),
+    }
+}
+
+fn read_rows(alloc: Global, program: &Program, text: &[u8]) -> Result<Vec<Row>, TraceFault>
+    ensures table { IfOk result (λ rows. Table program.now (records_of text.now) rows.items) }
+    ensures fault { IfErr result (λ e. is_told e ≡ true → TraceFails program.now (records_of text.now) e) }
+{
+    let mut reader = open(alloc, text);
+    let mut fields = ByteRecord::new(alloc);
+    match read_next(&mut reader, &mut fields) {
+        Ok(true) => {}
+        Ok(false) => return Err(TraceFault::BadHeader),
+        Err(stop) => return Err(stopped(stop)),
+    }
+    if !is_header(&fields) {
+        return Err(TraceFault::BadHeader);
+    }
+    let mut rows = Vec::new(alloc);
+    for line in 2..=LAST_LINE {
+        match read_next(&mut reader, &mut fields) {
+            Ok(true) => {}
+            Ok(false) => return Ok(rows),
+            Err(stop) => return Err(stopped(stop)),
+        }
+        let row = match read_row(program, &fields, line) {
+            Ok(row) => row,
+            Err(fault) => return Err(fault),
+        };
+        if rows.push(row).is_err() {
+            return Err(TraceFault::NoMemory);
+        }
+    }
+    match read_next(&mut reader, &mut fields) {
+        Ok(true) => Err(TraceFault::TooManyRows),
+        Ok(false) => Ok(rows),
+        Err(stop) => Err(stopped(stop)),
+    }
+}
+
+// Whether the record is the header.
+fn is_header(fields: &ByteRecord) -> bool
+    ensures { IsTrue result ↔ (fields_of fields.now ≡ header) }
+{
+    match TraceFields::of(fields) {
+        Some(fields) => fields.is_header(),
+        None => false,
+    }
+}
+
+/// The numbers of a record: bare and 0 where its event has no value and no delay.
+#[derive(Clone, Copy)]
+struct Numbers {
+    worker: u32,
+    tag: Tag,
+    value: Value,
+    delay: u64,
+}
+
+// The numbers of a record, if all that its event has are numbers within their limits.
+fn read_numbers(kind: RowKind, fields: &TraceFields) -> Option<Numbers>
+    ensures some { IfSome result (λ n. NumbersOf kind (trace_fields fields.now) n × (has_numbers kind (trace_fields fields.now) ≡ true)) }
+    ensures none { IfNone result (has_numbers kind (trace_fields fields.now) ≡ false) }
+{
+    let worker = match read_number(fields.worker, u32::MAX as u64) {
+        Some(worker) => worker as u32,
+        None => return None,
+    };
+    let tag = match read_tag(fields.time, fields.microstep) {
+        Some(tag) => tag,
+        None => return None,
+    };
+    let value = match value_of(kind, fields.value) {
+        Some(value) => value,
+        None => return None,
+    };
+    match delay_of(kind, fields.delay) {
+        Some(delay) => Some(Numbers {
+            worker,
+            tag,
+            value,
+            delay,
+        }),
+        None => None,
+    }
+}
+
+// The value that records of this event have.
+fn value_of(kind: RowKind, field: &[u8]) -> Option<Value>
+    ensures some { IfSome result (λ v. has_name kind ≡ true → value field.now ≡ Some v) }
+    ensures variant { is_some result ≡ (not (has_name kind) || is_some (value field.now)) }
+{
+    if kind.has_name() {
+        read_value(field)
+    } else {
+        Some(Value::Bare)
+    }
+}
+
+// The delay that records of this event have.
+fn delay_of(kind: RowKind, field: &[u8]) -> Option<u64>
+    ensures some { IfSome result (λ d. has_delay kind ≡ true → number_or_zero 1000000000000000000 field.now ≡ Some d) }
+    ensures variant { is_some result ≡ (not (has_delay kind) || is_some (number_or_zero 1000000000000000000 field.now)) }
+{
+    if kind.has_delay() {
+        read_number_or_zero(field, MAX_TIME)
+    } else {
+        Some(0)
+    }
+}
+
+// The step of a record: what its name field names, with the value and the delay that were read.
+fn read_step(
+    program: &Program,
+    kind: RowKind,
+    name: &[u8],
+    value: Value,
+    delay: u64,
+) -> Option<Step>
+    ensures some { IfSome result (λ s. StepOf program.now kind name.now value delay s) }
+    ensures none { IfNone result ((has_name kind ≡ true) × ((n : Name) → IsThing program.now name.now n → ⊥)) }
+{
+    match kind {
+        RowKind::Start => Some(Step::Start),
+        RowKind::Stop => Some(Step::Stop),
+        RowKind::End => Some(Step::End),
+        RowKind::Read => match read_thing(program, name) {
+            Some(name) => Some(Step::Read(name, value)),
+            None => None,
+        },
+        RowKind::Write => match read_thing(program, name) {
+            Some(name) => Some(Step::Write(name, value)),
+            None => None,
+        },
+        RowKind::Schedule => match read_thing(program, name) {
+            Some(name) => Some(Step::Schedule(name, value, delay)),
+            None => None,
+        },
+    }
+}
+
+// The row of a record, or the first fault that it has.
+fn read_row(program: &Program, fields: &ByteRecord, line: u32) -> Result<Row, TraceFault>
+    ensures row { IfOk result (λ row. IsRow program.now (fields_of fields.now) row) }
+    ensures fault { IfErr result (λ e. FaultAt program.now line (fields_of fields.now) e) }
+{
+    match TraceFields::of(fields) {
+        Some(fields) => match read_kind(fields.event) {
+            Some(kind) => read_fields(program, kind, &fields, line),
+            None => Err(TraceFault::BadEvent(line)),
+        },
+        None => Err(TraceFault::BadFieldCount(line)),
+    }
+}
+
+// The row of a record of this event, or the first fault that it has beside its event.
+fn read_fields(
+    program: &Program,
+    kind: RowKind,
+    fields: &TraceFields,
+    line: u32,
+) -> Result<Row, TraceFault>
+    ensures row { (trace_fields fields.now).event ≡ word kind → IfOk result (λ row. RowOf program.now kind (trace_fields fields.now) row) }
+    ensures fault { IfErr result (λ e. FieldFault program.now kind line (trace_fields fields.now) e) }
+{
+    let numbers = match read_numbers(kind, fields) {
+        Some(numbers) => numbers,
+        None => return Err(TraceFault::BadNumber(line)),
+    };
+    let reaction = match read_reaction(program, fields.reaction) {
+        Some(reaction) => reaction,
+        None => return Err(TraceFault::UnknownName(line)),
+    };
+    let step = match read_step(program, kind, fields.name, numbers.value, numbers.delay) {
+        Some(step) => step,
+        None => return Err(TraceFault::UnknownName(line)),
+    };
+    if fields.is_filled(kind) {
+        return Err(TraceFault::FieldInPlace(line));
+    }
+    Ok(Row {
+        worker: numbers.worker,
+        tag: numbers.tag,
+        reaction,
+        step,
+    })
+}

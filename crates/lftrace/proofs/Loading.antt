@@ -1,0 +1,105 @@
+-- What a refusal of one layer says of the texts.
+use Rattle.std.proofs.Common.{◌≡◌, ◌≢◌, ℕ, ◌≤◌, ◌<◌, List, length, take, Option, Some, None, Result, Ok, Err, true, false, refl, sym, ap, ◌∙◌, subst, arith}
+use Rattle.lft_syntax.specs.declared.token.Token.{Token}
+use Rattle.lft_syntax.specs.declared.fault.LexFault.{LexFault}
+use Rattle.lft_syntax.specs.declared.fault.LexFault.TheVariants as lex
+use Rattle.lft_syntax.specs.declared.fault.SyntaxFault.{SyntaxFault}
+use Rattle.lft_syntax.specs.declared.fault.SyntaxFault.TheVariants as syntax
+use Rattle.lft_syntax.specs.Lexes.{Lexes, LexFails}
+use Rattle.lft_syntax.specs.Lexeme.{Lexeme}
+use Rattle.lft_syntax.specs.View.{lexemes}
+use Rattle.lft_syntax.specs.Tree.{FileTree}
+use Rattle.lft_syntax.specs.Grammar.{Spells}
+use Rattle.lft_program.specs.declared.fault.ProgramFault.{ProgramFault}
+use Rattle.lft_program.specs.declared.fault.ProgramFault.TheVariants as program
+use Rattle.lft_program.specs.Parts.{Parts}
+use Rattle.lft_program.specs.Flat.{IsPlainFlat}
+use Rattle.lft_trace.specs.declared.fault.TraceFault.{TraceFault}
+use Rattle.lft_trace.specs.declared.fault.TraceFault.TheVariants as table
+use Rattle.lft_trace.specs.Faults.{is_told}
+use Rattle.lft_trace.specs.Inputs.{ExternalInputs}
+use Rattle.lft_trace.specs.Records.{records_of}
+use Rattle.lft_trace.specs.ExternalTables.{ExternalTable}
+use Rattle.lft_model.specs.Plans.{PlanParts}
+use Rattle.lftrace.specs.Faults.{lex_number, syntax_number, program_number, table_number}
+use Rattle.lftrace.specs.Meaning.{IsTreeOf, IsPlanOf, IsOnly}
+use Rattle.lftrace.specs.Refusals.{SyntaxFails, ProgramFails, is_of_text}
+use Rattle.lftrace.specs.declared.fault.Part.{Part}
+use Rattle.lftrace.specs.declared.fault.Part.TheVariants as part
+
+-- a fault of this part and number tells something of the texts
+pub told_at : (p q : Part) (m n : ℕ) → p ≡ q → m ≡ n → is_of_text p m ≡ true → is_of_text q n ≡ true
+told_at p q m n e f t = subst (λ k. is_of_text q k ≡ true) f (subst (λ k. is_of_text k m ≡ true) e t)
+
+-- a text without tokens has no tree
+pub lex_none : (text : List ℕ) (e : LexFault) → LexFails text e → is_of_text part.Lex (lex_number e) ≡ true → (tree : FileTree) → IsTreeOf text tree → ⊥
+lex_none text (lex.BadChar at) h t tree x = h.2 x.tokens x.lexed
+lex_none text lex.OpenComment h t tree x = h.2 x.tokens x.lexed
+lex_none text lex.OpenCode h t tree x = h.2 x.tokens x.lexed
+lex_none text lex.OpenString h t tree x = h.2 x.tokens x.lexed
+lex_none text (lex.NumberTooLarge at) h t tree x = h.2 x.tokens x.lexed
+lex_none text lex.TooLong h t tree x = let l : length text ≤ 1048576 = x.short in absurd (omega arith)
+lex_none text lex.NoMemory h t tree x = absurd (cc t)
+
+-- the tokens of a text are one list
+pub one_tree : (text : List ℕ) (tokens : List Token) → ((other : List Token) → Lexes text other → other ≡ tokens) → (tree : FileTree) → IsTreeOf text tree → Spells tree (lexemes text tokens)
+one_tree text tokens one tree x = subst (λ k. Spells tree (lexemes text k)) (one x.tokens x.lexed) x.spelled
+
+pub syntax_fails : {X : Type 0} (text : List ℕ) (tokens : List Token) (result : Result X SyntaxFault) (e : SyntaxFault) → result ≡ Err e → ((k : ℕ) → result ≡ Err (syntax.Unexpected k) → SyntaxFails text tokens (syntax.Unexpected k)) → SyntaxFails text tokens e
+syntax_fails text tokens result (syntax.Unexpected k) q h = h k q
+syntax_fails text tokens result syntax.NoMemory q h = tt
+
+-- tokens that no tree has
+pub syntax_none : (text : List ℕ) (tokens : List Token) (e : SyntaxFault) → SyntaxFails text tokens e → is_of_text part.Syntax (syntax_number e) ≡ true → (tree : FileTree) → Spells tree (lexemes text tokens) → ⊥
+syntax_none text tokens (syntax.Unexpected k) h t tree x = h.2 (lexemes text tokens) tree refl x
+syntax_none text tokens syntax.NoMemory h t tree x = absurd (cc t)
+
+-- a tree without a flat program
+pub program_none : (tree : FileTree) (e : ProgramFault) → ProgramFails tree e → is_of_text part.Program (program_number e) ≡ true → (parts : Parts) → IsPlainFlat tree parts → ⊥
+program_none tree e h t = h (λ q. absurd (untold (subst (λ k. is_of_text part.Program (program_number k) ≡ true) q t)))
+  where
+    untold : is_of_text part.Program (program_number program.NoMemory) ≡ true → ⊥
+    untold s = cc s
+
+-- a table's fault that tells something of the texts is told of them
+told : (e : TraceFault) → is_of_text part.Trace (table_number e) ≡ true → is_told e ≡ true
+told table.BadHeader t = refl
+told (table.BadFieldCount line) t = refl
+told (table.BadEvent line) t = refl
+told (table.BadNumber line) t = refl
+told (table.UnknownName line) t = refl
+told (table.FieldInPlace line) t = refl
+told (table.DuplicateExternal line) t = refl
+told table.NoStop t = refl
+told (table.TwoStops line) t = refl
+told table.TooManyRows t = refl
+told table.NotCsv t = absurd (cc t)
+told table.NoMemory t = absurd (cc t)
+
+pub trace_told : (e : TraceFault) → is_of_text part.Trace (table_number e) ≡ true → is_told e ≡ true
+trace_told e t = told e t
+
+pub externals_told : (e : TraceFault) → is_of_text part.Externals (table_number e) ≡ true → is_told e ≡ true
+externals_told e t = told e t
+
+plan_of : (p q : Parts) (x y : ExternalInputs) → p ≡ q → x ≡ y → (let a : PlanParts = record { program = p; externals = x } in let b : PlanParts = record { program = q; externals = y } in a ≡ b)
+plan_of p q x y e f = cc
+
+-- the plan of two texts is one
+module _ (text externals : List ℕ) (tree : FileTree) (only_tree : IsOnly (IsTreeOf text) tree) where
+  pub flat_of : (plan : PlanParts) → (x : IsPlanOf text externals plan) → IsPlainFlat tree plan.program
+  flat_of plan x = subst (λ t. IsPlainFlat t plan.program) (only_tree.only x.tree x.is_tree) x.is_program
+
+  pub table_of : (parts : Parts) → ((other : Parts) → IsPlainFlat tree other → other ≡ parts) → (plan : PlanParts) → (x : IsPlanOf text externals plan) → ExternalTable parts (records_of externals) plan.externals
+  table_of parts one plan x = subst (λ p. ExternalTable p (records_of externals) plan.externals) (one plan.program (flat_of plan x)) x.is_externals
+
+  pub only_plan : (parts : Parts) (given : ExternalInputs) (plan : PlanParts) → IsPlainFlat tree parts → ((other : Parts) → IsPlainFlat tree other → other ≡ parts) → ExternalTable parts (records_of externals) given → ((other : ExternalInputs) → ExternalTable parts (records_of externals) other → other ≡ given) → plan.program ≡ parts → plan.externals ≡ given → IsOnly (IsPlanOf text externals) plan
+  only_plan parts given plan flat one_flat table one_table p e = record {
+    is = record {
+      tree = tree;
+      is_tree = only_tree.is;
+      is_program = subst (λ k. IsPlainFlat tree k) (sym p) flat;
+      is_externals = subst (λ k. ExternalTable k (records_of externals) plan.externals) (sym p) (subst (λ k. ExternalTable parts (records_of externals) k) (sym e) table);
+    };
+    only = λ other x. plan_of other.program plan.program other.externals plan.externals (one_flat other.program (flat_of other x) ∙ sym p) (one_table other.externals (table_of parts one_flat other x) ∙ sym e);
+  }

@@ -1,0 +1,13 @@
+use Rattle.std.proofs.Common.{◌≡◌, ◌⊎◌, inl, inr, refl, subst}
+use Rattle.lftrace.specs.Lines.{line_of}
+use Rattle.lftrace.specs.Written.{AppendsFront}
+use Rattle.lftrace.specs.Refusals.{JudgingRefusal}
+use Rattle.lftrace.specs.Refusals.JudgingRefusal.{by_growth, by_writer}
+use Rattle.lftrace.proofs.judge.judge_rows.Goals as goal
+
+pub returns-in-Err-report-clause-refused : goal.returns-in-Err-report-clause-refused
+returns-in-Err-report-clause-refused g c =
+    elim c.in-Err-report.ensures.front [
+      | inl x ↦ by_growth x (c.if-not-is_workers.ensures.0 refl)
+      | inr x ↦ by_writer c.in-Ok.verdict x.0 x.1 c.in-Ok.ensures.verdict (subst (λ p. AppendsFront (g.W.Write.contents c.args.out.now) (g.W.Write.contents c.report.new.out) (line_of p c.in-Ok.verdict)) c.program.ensures.value x.2)
+    ]

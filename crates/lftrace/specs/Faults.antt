@@ -1,0 +1,56 @@
+-- The number of a fault in its part.
+use Rattle.std.specs.Prelude.{ℕ}
+use Rattle.lft_syntax.specs.declared.fault.LexFault.{LexFault}
+use Rattle.lft_syntax.specs.declared.fault.LexFault.TheVariants as lex
+use Rattle.lft_syntax.specs.declared.fault.SyntaxFault.{SyntaxFault}
+use Rattle.lft_syntax.specs.declared.fault.SyntaxFault.TheVariants as syntax
+use Rattle.lft_program.specs.declared.fault.ProgramFault.{ProgramFault}
+use Rattle.lft_program.specs.declared.fault.ProgramFault.TheVariants as program
+use Rattle.lft_trace.specs.declared.fault.TraceFault.{TraceFault}
+use Rattle.lft_trace.specs.declared.fault.TraceFault.TheVariants as table
+
+abbrev pub lex_number : LexFault → ℕ
+lex_number (lex.BadChar at) = 1
+lex_number lex.OpenComment = 2
+lex_number lex.OpenCode = 3
+lex_number lex.OpenString = 4
+lex_number (lex.NumberTooLarge at) = 5
+lex_number lex.TooLong = 6
+lex_number lex.NoMemory = 7
+
+abbrev pub syntax_number : SyntaxFault → ℕ
+syntax_number (syntax.Unexpected token) = 1
+syntax_number syntax.NoMemory = 2
+
+abbrev pub program_number : ProgramFault → ℕ
+program_number program.NoMain = 1
+program_number program.TwoMains = 2
+program_number program.DuplicateName = 3
+program_number program.UnknownReactor = 4
+program_number program.RecursiveReactor = 5
+program_number program.UnknownName = 6
+program_number program.WrongPlace = 7
+program_number program.MainHasPorts = 8
+program_number program.TwoSources = 9
+program_number program.ConnectionCycle = 10
+program_number program.WidthMismatch = 11
+program_number program.NoTrigger = 12
+program_number program.DuplicateInput = 13
+program_number program.DelayTooLong = 14
+program_number program.TooMany = 15
+program_number program.NoMemory = 16
+
+-- of a trace table and of a table of external inputs
+abbrev pub table_number : TraceFault → ℕ
+table_number table.BadHeader = 1
+table_number (table.BadFieldCount line) = 2
+table_number (table.BadEvent line) = 3
+table_number (table.BadNumber line) = 4
+table_number (table.UnknownName line) = 5
+table_number (table.FieldInPlace line) = 6
+table_number (table.DuplicateExternal line) = 7
+table_number table.NoStop = 8
+table_number (table.TwoStops line) = 9
+table_number table.TooManyRows = 10
+table_number table.NotCsv = 11
+table_number table.NoMemory = 12

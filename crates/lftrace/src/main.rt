@@ -1,0 +1,121 @@
+//! Judges recorded traces of Lingua Franca programs.
+#![tactic(auto)]
+
+mod bundle;
+mod fault;
+mod input;
+mod judge;
+mod line;
+mod load;
+mod output;
+mod status;
+mod words;
+
+ghost use Rattle.std.specs.Prelude.{IsTrue, ◌↔◌};
+ghost use Rattle.lftrace.specs.Status.{Accepts};
+
+use crate::bundle::split_bundle;
+use crate::fault::{Fault, Part};
+use crate::input::read_input;
+use crate::judge::{judge_texts, judge_texts_alone};
+use crate::status::finish;
+use crate::words::{Job, JudgeWords, read_words};
+use lft_check::Verdict;
+use std::alloc::Global;
+use std::fs::File;
+use std::io::{Read, Write};
+use std::process::ExitCode;
+use std::rt::Files;
+use std::{env, io};
+
+/// The bytes of the file at a path.
+fn read_file<F: Files>(rt: &F, alloc: Global, path: &str) -> Result<Vec<u8>, Fault> {
+    match File::open(rt, path) {
+        Ok(mut file) => read_input(alloc, path, &mut file),
+        Err(_) => Err(Fault::of_path(alloc, Part::Read, 1, "Failed", path)),
+    }
+}
+
+/// Whether a verdict is that the trace is accepted.
+fn is_accepted(verdict: Verdict) -> bool
+    ensures { IsTrue result ↔ Accepts verdict }
+{
+    matches!(verdict, Verdict::Accepted { .. })
+}
+
+/// Judges the trace of three files, all of which are read first.
+fn judge_files<F: Files, W: Write>(
+    rt: &F,
+    alloc: Global,
+    words: JudgeWords<'_>,
+    out: &mut W,
+) -> Result<bool, Fault> {
+    let program = read_file(rt, alloc, words.program)?;
+    let externals = read_file(rt, alloc, words.externals)?;
+    let trace = read_file(rt, alloc, words.trace)?;
+    let verdict = judge_texts(
+        alloc,
+        program.as_slice(),
+        externals.as_slice(),
+        trace.as_slice(),
+        words.workers,
+        out,
+    )?;
+    Ok(is_accepted(verdict))
+}
+
+/// Judges the bundle that a reader gives.
+fn judge_bundle<R: Read, W: Write>(
+    alloc: Global,
+    reader: &mut R,
+    out: &mut W,
+) -> Result<bool, Fault> {
+    let text = read_input(alloc, "-", reader)?;
+    match split_bundle(text.as_slice()) {
+        Some(bundle) => {
+            let verdict = judge_texts_alone(
+                alloc,
+                bundle.program,
+                bundle.externals,
+                bundle.trace,
+                out,
+            )?;
+            Ok(is_accepted(verdict))
+        }
+        None => Err(Fault::plain(Part::Bundle, 1, "BadBundle")),
+    }
+}
+
+fn main(rt: HostRuntime) -> ExitCode {
+    let alloc = rt.alloc();
+    let words: Vec<String> = match env::args(&rt) {
+        Ok(words) => match words.collect(alloc) {
+            Ok(words) => words,
+            Err(_) => {
+                let _ = eprintln!(rt; "error: out of memory");
+                return ExitCode::from(2);
+            }
+        },
+        Err(error) => {
+            let _ = eprintln!(rt; "error: {error}");
+            return ExitCode::from(2);
+        }
+    };
+    let job = match read_words(alloc, words.as_slice()) {
+        Ok(job) => job,
+        Err(error) => {
+            let printed = error.print(&rt);
+            let refused = error.use_stderr() || printed.is_err();
+            return ExitCode::from(if refused { 2 } else { 0 });
+        }
+    };
+    let mut out = io::writer(&rt);
+    let answer = match job {
+        Job::Bundle => judge_bundle(alloc, &mut rt.stdin(), &mut out),
+        Job::Judge(words) => judge_files(&rt, alloc, words, &mut out),
+    };
+    ExitCode::from(finish(answer, &mut rt.stderr()))
+}
+
+#[cfg(test)]
+mod tests;

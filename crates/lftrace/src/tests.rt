@@ -1,0 +1,6 @@
+//! What no clause says: the worked examples, the words of fault lines, readers and writers that fail.
+
+mod bundles;
+mod examples;
+mod inputs;
+mod outputs;

@@ -1,0 +1,81 @@
+//! The command line.
+
+use clap::{Arg, ArgAction, ArgMatches, Command, Error};
+use std::alloc::Global;
+
+/// The words of `judge`: three paths, and how many workers, 1 to 64.
+#[derive(Clone, Copy, Debug, PartialEq, Eq)]
+pub struct JudgeWords<'a> {
+    pub program: &'a str,
+    pub externals: &'a str,
+    pub trace: &'a str,
+    pub workers: u32,
+}
+
+/// What the command line asks for.
+#[derive(Clone, Copy, Debug, PartialEq, Eq)]
+pub enum Job<'a> {
+    /// To judge a bundle from standard input.
+    Bundle,
+    Judge(JudgeWords<'a>),
+}
+
+fn path<'a>(alloc: Global, id: &'a str, help: &'a str) -> Arg<'a> {
+    Arg::new(alloc, id)
+        .required(true)
+        .action(ArgAction::Set)
+        .help(help)
+}
+
+fn workers<'a>(alloc: Global) -> Arg<'a> {
+    Arg::new(alloc, "workers")
+        .long("workers")
+        .value_name("N")
+        .help("how many threads, 1 to 64")
+        .default_value("1")
+        .value_parser(clap::value_parser!(u32).range(1..65))
+}
+
+fn judge_command<'a>(alloc: Global) -> Result<Command<'a>, Error> {
+    let command = Command::new(alloc, "judge")
+        .about("Judges a recorded trace, and names the first rule that it breaks")
+        .arg(path(alloc, "PROGRAM", "the program's text"))?
+        .arg(path(alloc, "EXTERNALS", "the table of external inputs"))?
+        .arg(path(alloc, "TRACE", "the trace table"))?
+        .arg(workers(alloc))?;
+    Ok(command)
+}
+
+fn root_command<'a>(alloc: Global) -> Result<Command<'a>, Error> {
+    let command = Command::new(alloc, "lftrace")
+        .about(
+            "Checks recorded executions of reactor programs. Without a command it judges a bundle from standard input.",
+        )
+        .subcommand(judge_command(alloc)?)?;
+    Ok(command)
+}
+
+/// The text of a word that the command line must have.
+fn text<'a>(matches: &ArgMatches<'a>, id: &str) -> &'a str {
+    matches.get_str(id).unwrap_or("")
+}
+
+fn number(matches: &ArgMatches<'_>, id: &str, otherwise: u32) -> u32 {
+    matches.get_one::<u32>(id).unwrap_or(otherwise)
+}
+
+/// What the words ask for, the first being the program's own name. The error is the command line's:
+/// a refusal, or the help that was asked for.
+pub fn read_words<'a>(alloc: Global, words: &'a [String]) -> Result<Job<'a>, Error> {
+    let command = root_command(alloc)?;
+    let matches = command.try_get_matches_from(words)?;
+    match matches.subcommand() {
+        Some(("judge", judge)) => Ok(Job::Judge(JudgeWords {
+            program: text(judge, "PROGRAM"),
+            externals: text(judge, "EXTERNALS"),
+            trace: text(judge, "TRACE"),
+            workers: number(judge, "workers", 1),
+        })),
+        _ => Ok(Job::Bundle),
+    }
+}
