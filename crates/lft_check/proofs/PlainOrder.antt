@@ -8,8 +8,8 @@ use Rattle.lft_program.specs.Origins.{Origin}
 use Rattle.lft_program.specs.Origins.Origin.{itself, over}
 use Rattle.lft_program.specs.declared.parts.Reaction.{Reaction}
 use Rattle.lft_program.specs.declared.parts.Port.{Port as PortOf}
-use Rattle.lft_model.specs.Precedence.{Direct, IsDeclaredFirst, Precedes}
-use Rattle.lft_model.specs.Precedence.Precedes.{one, more}
+use Rattle.lft_graph.specs.Precedence.{Direct, IsDeclaredFirst, Precedes}
+use Rattle.lft_graph.specs.Precedence.Precedes.{one, more}
 
 no_port : (program : Parts) → program.ports ≡ [] → (p : ℕ) (port : PortOf) → slice_get program.ports p ≡ Some port → ⊥
 no_port program e p port h = let q : slice_get [] p ≡ Some port = ap (λ xs. slice_get xs p) (sym e) ∙ h in cc

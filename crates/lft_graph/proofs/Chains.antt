@@ -5,15 +5,15 @@ use Rattle.std.proofs.lemmas.Bool.{cases_lt}
 use Rattle.lft_program.specs.Parts.{Parts}
 use Rattle.lft_program.specs.Sound.{IsSound}
 use Rattle.lft_program.specs.declared.parts.Reaction.{Reaction}
-use Rattle.lft_model.specs.Precedence.{Direct, IsDeclaredFirst, Feeds, Precedes, IsLevelled}
-use Rattle.lft_model.specs.Precedence.Precedes.{one, more}
+use Rattle.lft_graph.specs.Precedence.{Direct, IsDeclaredFirst, Feeds, Precedes, IsLevelled}
+use Rattle.lft_graph.specs.Precedence.Precedes.{one, more}
 use Rattle.lft_graph.specs.Before.{IsDeclaredJustBefore, FeedsLast, IsBefore, Writes, IsLastWriter, Reaches}
 use Rattle.lft_graph.specs.Graph.{AreLevels, AreByLevel, GraphParts, HasChains, IsGraphOf}
 use Rattle.lft_graph.specs.Loops.{IsLoopOf, IsLoop}
 use Rattle.lft_graph.specs.Walks.{HasLists, AreInside, IsStep}
 use Rattle.lft_graph.proofs.Places.{contains_at, get_there}
 
-snoc : (program : Parts) (a b c : ℕ) → Precedes program a b → Direct program b c → Precedes program a c
+pub snoc : (program : Parts) (a b c : ℕ) → Precedes program a b → Direct program b c → Precedes program a c
 snoc program a b c (one d) e = more d (one e)
 snoc program a b c (more d p) e = more d (snoc program _ b c p e)
 

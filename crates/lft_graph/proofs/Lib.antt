@@ -6,4 +6,5 @@ pub mod Walking
 pub mod Settling
 pub mod Levelling
 pub mod Chains
+pub mod Cycles
 pub mod Arranging

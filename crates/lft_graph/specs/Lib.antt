@@ -1,3 +1,4 @@
+pub mod Precedence
 pub mod Before
 pub mod Graph
 pub mod Loops

@@ -1,7 +1,7 @@
 //! The graph of a program.
 
 ghost use Rattle.std.specs.Prelude.{◌≡◌, ℕ, List, ◌<◌, length, slice_get, Some, Err, IfOk, OnOk};
-ghost use Rattle.lft_model.specs.Precedence.{IsLevelled};
+ghost use Rattle.lft_graph.specs.Precedence.{HasNoLoop, IsLevelled};
 ghost use Rattle.lft_graph.specs.Graph.{IsGraphOf};
 ghost use Rattle.lft_graph.specs.Loops.{IsLoop};
 
@@ -38,6 +38,7 @@ impl Graph {
     pub fn build(alloc: Global, program: &Program) -> Result<Graph, GraphFault>
         ensures graph { IfOk result (λ g. IsGraphOf program.now g) }
         ensures levelled { OnOk result (IsLevelled program.now) }
+        ensures no_loop { OnOk result (HasNoLoop program.now) }
         ensures cycle { (l : List ℕ) → result ≡ Err (GraphFault.CausalityLoop l) → IsLoop program.now l }
     {
         let before = all_before(alloc, program)?;

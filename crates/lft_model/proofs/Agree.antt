@@ -17,8 +17,8 @@ use Rattle.lft_trace.specs.declared.row.Row.{Row}
 use Rattle.lft_trace.specs.declared.row.Step.{Step}
 use Rattle.lft_trace.specs.declared.row.Step.TheVariants.{Start, Read, Write, Schedule, Stop, End}
 use Rattle.lft_model.specs.Plans.{PlanParts, IsSoundPlan}
-use Rattle.lft_model.specs.Precedence.{Precedes}
-use Rattle.lft_model.specs.Precedence.Precedes.{one, more}
+use Rattle.lft_graph.specs.Precedence.{Precedes}
+use Rattle.lft_graph.specs.Precedence.Precedes.{one, more}
 use Rattle.lft_model.specs.Presence.{written, value_written, scheduled, value_scheduled, given, min_delay, events_of, Last, IsWrittenFrom, At, Triggered, Occurs, Shows, Inputs, requests, stop, Collision}
 use Rattle.lft_model.specs.Runs.{Answer, answer_at, request_of, read_of, Ran, start_row, steps_of, outcome_of, inputs_of, effects_of, reads_at}
 use Rattle.lft_model.specs.Recorded.{SameHistory, SameRuns, AnswerAlike}

@@ -16,8 +16,8 @@ use Rattle.lft_program.specs.declared.parts.Trigger.TheVariants.{Startup, Shutdo
 use Rattle.lft_trace.specs.declared.row.Row.{Row}
 use Rattle.lft_trace.specs.declared.row.Step.TheVariants.{Start, Read, Write, Schedule, Stop, End}
 use Rattle.lft_model.specs.Plans.{PlanParts, IsSoundPlan}
-use Rattle.lft_model.specs.Precedence.{Precedes}
-use Rattle.lft_model.specs.Precedence.Precedes.{one, more}
+use Rattle.lft_graph.specs.Precedence.{Precedes}
+use Rattle.lft_graph.specs.Precedence.Precedes.{one, more}
 use Rattle.lft_model.specs.Presence.{written, scheduled, given, min_delay, events_of, At, Triggered, Occurs, Shows, Inputs, requests, stop}
 use Rattle.lft_model.specs.Runs.{Run, effects_of, rows_of_run, rows_of}
 use Rattle.lft_model.specs.Runs.Outcome.{Written}

@@ -13,8 +13,8 @@ use Rattle.lft_trace.specs.declared.row.Row.{Row}
 use Rattle.lft_trace.specs.declared.row.Step.{Step}
 use Rattle.lft_trace.specs.declared.row.Step.TheVariants.{Start, Read, Write, Schedule, Stop, End}
 use Rattle.lft_model.specs.Plans.{PlanParts}
-use Rattle.lft_model.specs.Precedence.{Direct}
-use Rattle.lft_model.specs.Precedence.Precedes.{one}
+use Rattle.lft_graph.specs.Precedence.{Direct}
+use Rattle.lft_graph.specs.Precedence.Precedes.{one}
 use Rattle.lft_model.specs.Presence.{written, value_written, Last}
 use Rattle.lft_model.specs.Runs.{Run, Ran, end_row, step_of, steps_of, effects_of, reads_at, run_at, ended_by, steps_of_run, rows_of_run, rows_of}
 use Rattle.lft_model.specs.Breaches.{EndsBefore, IsUndeclared}

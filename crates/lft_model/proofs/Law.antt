@@ -13,7 +13,7 @@ use Rattle.lft_trace.specs.declared.row.Row.{Row}
 use Rattle.lft_trace.specs.declared.row.Step.{Step}
 use Rattle.lft_trace.specs.declared.row.Step.TheVariants.{Start, Read, Write, Schedule, Stop, End}
 use Rattle.lft_model.specs.Plans.{PlanParts, IsSoundPlan}
-use Rattle.lft_model.specs.Precedence.{Precedes}
+use Rattle.lft_graph.specs.Precedence.{Precedes}
 use Rattle.lft_model.specs.Presence.{stop, scheduled, value_scheduled, given, min_delay, Triggered, Inputs, Collision, ClashesAt}
 use Rattle.lft_model.specs.Runs.{Run, Ran, end_row, steps_of, outcome_of, effects_of, reads_at, run_at, ended_by, by_ends, rows_of}
 use Rattle.lft_model.specs.Breaches.{Legal, IsUndeclared, MaySchedule}

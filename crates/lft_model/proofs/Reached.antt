@@ -17,8 +17,8 @@ use Rattle.lft_trace.specs.declared.row.Row.{Row}
 use Rattle.lft_trace.specs.declared.row.Step.{Step}
 use Rattle.lft_trace.specs.declared.row.Step.TheVariants.{Schedule, Stop, End}
 use Rattle.lft_model.specs.Plans.{PlanParts, IsSoundPlan}
-use Rattle.lft_model.specs.Precedence.{Precedes}
-use Rattle.lft_model.specs.Precedence.Precedes.{one}
+use Rattle.lft_graph.specs.Precedence.{Precedes}
+use Rattle.lft_graph.specs.Precedence.Precedes.{one}
 use Rattle.lft_model.specs.Presence.{written, scheduled, value_scheduled, given, min_delay, events_of, IsWrittenFrom, At, Triggered, Occurs, Shows, Inputs, asked, requests, stop}
 use Rattle.lft_model.specs.Runs.{Ran, start_row, end_row, steps_of, effects_of, reads_at, rows_of}
 use Rattle.lft_model.specs.Breaches.{EndsBefore, IsUndeclared, MaySchedule}

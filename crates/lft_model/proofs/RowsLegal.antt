@@ -15,7 +15,7 @@ use Rattle.lft_trace.specs.declared.row.Step.{Step}
 use Rattle.lft_trace.specs.declared.row.Step.TheVariants.{Start, Read, Write, Schedule, Stop, End}
 use Rattle.lft_model.specs.declared.breach.Breach.{Breach}
 use Rattle.lft_model.specs.Plans.{PlanParts, IsSoundPlan}
-use Rattle.lft_model.specs.Precedence.{Precedes}
+use Rattle.lft_graph.specs.Precedence.{Precedes}
 use Rattle.lft_model.specs.Presence.{stop, Triggered, Inputs, Shows}
 use Rattle.lft_model.specs.Runs.{Run, Outcome, Ran, start_row, end_row, value_read, read_of, steps_of, inputs_of, effects_of, reads_at, steps_of_run, rows_of}
 use Rattle.lft_model.specs.Runs.Outcome.{Written, Scheduled}

@@ -15,8 +15,8 @@ use Rattle.lft_trace.specs.declared.row.Row.{Row}
 use Rattle.lft_trace.specs.declared.row.Step.{Step}
 use Rattle.lft_trace.specs.declared.row.Step.TheVariants.{Start, Read, Write, Schedule, Stop, End}
 use Rattle.lft_model.specs.Plans.{PlanParts}
-use Rattle.lft_model.specs.Precedence.{Precedes}
-use Rattle.lft_model.specs.Precedence.Precedes.{one}
+use Rattle.lft_graph.specs.Precedence.{Precedes}
+use Rattle.lft_graph.specs.Precedence.Precedes.{one}
 use Rattle.lft_model.specs.Presence.{stop, Last, Triggered, Inputs, Collision, events_of}
 use Rattle.lft_model.specs.Runs.{by_ends, reads_at}
 use Rattle.lft_model.specs.Runs.Outcome.{Written}

@@ -12,7 +12,7 @@ use Rattle.lft_trace.specs.declared.row.Step.{Step}
 use Rattle.lft_trace.specs.declared.row.Step.TheVariants.{Start, Read, Write, Schedule, Stop, End}
 use Rattle.lft_model.specs.declared.breach.Breach.{Breach}
 use Rattle.lft_model.specs.Plans.{PlanParts}
-use Rattle.lft_model.specs.Precedence.{Precedes}
+use Rattle.lft_graph.specs.Precedence.{Precedes}
 use Rattle.lft_model.specs.Presence.{stop, TriggeredUntil, Inputs, Collision}
 use Rattle.lft_model.specs.Runs.{start_row, end_row, Ran, inputs_of, effects_of, reads_at}
 

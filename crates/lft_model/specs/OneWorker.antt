@@ -6,7 +6,7 @@ use Rattle.lft_tag.specs.Tags.{UpTo}
 use Rattle.lft_program.specs.declared.parts.Name.{Name}
 use Rattle.lft_trace.specs.declared.row.Row.{Row}
 use Rattle.lft_model.specs.Plans.{PlanParts}
-use Rattle.lft_model.specs.Precedence.{Precedes}
+use Rattle.lft_graph.specs.Precedence.{Precedes}
 use Rattle.lft_model.specs.Presence.{stop, Triggered, Inputs, Collision}
 use Rattle.lft_model.specs.Runs.{Run, Outcome, Ran, rows_of, effects_of, by_ends}
 use Rattle.lft_model.specs.Runs.Outcome.{Written, Scheduled}

@@ -3,7 +3,7 @@ use Rattle.lft_program.specs.Parts.{Parts}
 use Rattle.lft_program.specs.Sound.{IsSound}
 use Rattle.lft_trace.specs.Inputs.{ExternalInputs, InOrder}
 use Rattle.lft_trace.specs.Fits.{ExternalsFit}
-use Rattle.lft_model.specs.Precedence.{IsLevelled}
+use Rattle.lft_graph.specs.Precedence.{IsLevelled}
 
 -- a program with the external inputs that it is given
 pub record PlanParts : Type 0 where

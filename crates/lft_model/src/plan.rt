@@ -1,16 +1,19 @@
-//! A program with its external inputs.
+//! A program with its precedence and its external inputs.
 
-ghost use Rattle.std.specs.Prelude.{◌≡◌};
+ghost use Rattle.std.specs.Prelude.{◌≡◌, ◌↔◌, ℕ, List, Err, IfOk, OnOk, IsTrue};
 
+use lft_graph::{Graph, GraphFault};
 use lft_program::Program;
 use lft_trace::Externals;
+use std::alloc::Global;
 use std::marker::Model;
 
-/// What an execution is judged by: a program and the external inputs that it is given.
+/// What an execution is judged by: a program, its graph, and the external inputs that it is given.
 #[derive(Debug, Drop)]
 pub struct Plan {
     program: Program,
     externals: Externals,
+    graph: Graph,
 }
 
 impl Model for Plan {
@@ -20,28 +23,48 @@ impl Model for Plan {
 
     ghost view = { λ a. record { program = a.program; externals = a.externals } };
 
-    ghost use Rattle.lft_program.specs.Sound.{IsSound};
-    ghost use Rattle.lft_trace.specs.Inputs.{InOrder};
+    ghost use Rattle.lft_graph.specs.Graph.{IsGraphOf};
     ghost use Rattle.lft_model.specs.Plans.{IsSoundPlan};
 
-    ghost invariant = { λ a. IsSoundPlan (record { program = a.program; externals = a.externals }) };
+    ghost invariant = { λ a. IsSoundPlan (record { program = a.program; externals = a.externals }) × IsGraphOf a.program a.graph };
 }
 
 impl Plan {
-    ghost use Rattle.lft_program.specs.Plain.{IsPlain};
     ghost use Rattle.lft_trace.specs.Fits.{ExternalsFit};
+    ghost use Rattle.lft_graph.specs.Graph.{IsGraphOf};
+    ghost use Rattle.lft_graph.specs.Loops.{IsLoop};
+    ghost use Rattle.lft_graph.specs.Precedence.{HasNoLoop, IsLevelled};
     ghost use Rattle.lft_model.specs.Plans.{IsSoundPlan};
 
-    /// The plan of a plain program and of external inputs that fit it. It takes no memory.
-    pub fn new(program: Program, externals: Externals) -> Plan
-        requires plain { IsPlain program }
+    /// The plan of a program and of external inputs that fit it. Both are dropped on a refusal.
+    pub fn new(alloc: Global, program: Program, externals: Externals) -> Result<Plan, GraphFault>
         requires fit { ExternalsFit program externals }
+        ensures program { IfOk result (λ plan. plan.program ≡ program) }
+        ensures externals { IfOk result (λ plan. plan.externals ≡ externals) }
+        ensures no_loop { OnOk result (HasNoLoop program) }
+        ensures cycle { (loop : List ℕ) → result ≡ Err (GraphFault.CausalityLoop loop) → IsLoop program loop }
+    {
+        match Graph::build(alloc, &program) {
+            Ok(graph) => Ok(Plan::with_graph(program, externals, graph)),
+            Err(fault) => Err(fault),
+        }
+    }
+
+    /// The plan of a program, its graph, and external inputs that fit it. It takes no memory.
+    pub fn with_graph(program: Program, externals: Externals, graph: Graph) -> Plan
+        requires fit { ExternalsFit program externals }
+        requires levels { IsLevelled program }
+        requires graph { IsGraphOf program graph }
         ensures program { result.program ≡ program }
         ensures externals { result.externals ≡ externals }
     {
         let _reactions = program.reactions();
         let _events = externals.events();
-        Plan { program, externals }
+        Plan {
+            program,
+            externals,
+            graph,
+        }
     }
 
     /// The flat program.
@@ -52,11 +75,26 @@ impl Plan {
         &self.program
     }
 
+    /// Which reactions precede which at a tag.
+    pub fn graph(&self) -> &Graph
+        ensures graph { IsGraphOf self.now.program result.now }
+        ensures sound { IsSoundPlan self.now }
+    {
+        &self.graph
+    }
+
     /// The external inputs.
     pub fn externals(&self) -> &Externals
         ensures value { result.now ≡ self.now.externals }
         ensures sound { IsSoundPlan self.now }
     {
         &self.externals
+    }
+
+    /// Whether the two plans have the same program and external inputs. It takes no memory.
+    pub fn same(&self, other: &Plan) -> bool
+        ensures { IsTrue result ↔ (self.now ≡ other.now) }
+    {
+        self.program.same(&other.program) && self.externals.same(&other.externals)
     }
 }

@@ -3,6 +3,7 @@
 ghost use Rattle.std.specs.Prelude.{◌≡◌, ◌↔◌, IsTrue, length};
 
 use crate::fits::{MAX_ROWS, event_fits, is_recorded};
+use crate::same::{same_events, same_tag};
 use lft_program::{Program, Value};
 use lft_tag::Tag;
 use std::marker::Model;
@@ -76,5 +77,13 @@ impl Externals {
             }
         }
         true
+    }
+
+    /// Whether the two have the same stop tag and the same events. It takes no memory.
+    pub fn same(&self, other: &Externals) -> bool
+        ensures { IsTrue result ↔ (self.now ≡ other.now) }
+    {
+        same_tag(self.stop, other.stop)
+            && same_events(self.events.as_slice(), other.events.as_slice())
     }
 }

@@ -12,6 +12,7 @@ mod names;
 mod number;
 mod records;
 mod row;
+mod same;
 mod trace_table;
 
 pub use external_table::read_externals;

@@ -1,5 +1,5 @@
 -- What a refusal of one layer says of the texts.
-use Rattle.std.proofs.Common.{◌≡◌, ◌≢◌, ℕ, ◌≤◌, ◌<◌, List, length, take, Option, Some, None, Result, Ok, Err, true, false, refl, sym, ap, ◌∙◌, subst, arith}
+use Rattle.std.proofs.Common.{◌≡◌, ◌≢◌, ℕ, ◌≤◌, ◌<◌, List, length, take, Option, Some, None, Result, Ok, Err, true, false, refl, sym, ap, ◌∙◌, subst, arith, inl, inr}
 use Rattle.lft_syntax.specs.declared.token.Token.{Token}
 use Rattle.lft_syntax.specs.declared.fault.LexFault.{LexFault}
 use Rattle.lft_syntax.specs.declared.fault.LexFault.TheVariants as lex
@@ -21,9 +21,14 @@ use Rattle.lft_trace.specs.Inputs.{ExternalInputs}
 use Rattle.lft_trace.specs.Records.{records_of}
 use Rattle.lft_trace.specs.ExternalTables.{ExternalTable}
 use Rattle.lft_model.specs.Plans.{PlanParts}
-use Rattle.lftrace.specs.Faults.{lex_number, syntax_number, program_number, table_number}
-use Rattle.lftrace.specs.Meaning.{IsTreeOf, IsPlanOf, IsOnly}
-use Rattle.lftrace.specs.Refusals.{SyntaxFails, ProgramFails, is_of_text}
+use Rattle.lftrace.specs.Faults.{lex_number, syntax_number, program_number, graph_number, table_number, IsFault}
+use Rattle.lft_graph.specs.Precedence.{HasNoLoop}
+use Rattle.lft_graph.specs.declared.fault.GraphFault.{GraphFault}
+use Rattle.lft_graph.specs.declared.fault.GraphFault.TheVariants as graph
+use Rattle.lft_graph.proofs.Cycles.{is_cycle}
+use Rattle.lftrace.specs.Meaning.{IsTreeOf, IsProgramOf, IsPlanOf, IsOnly}
+use Rattle.lftrace.specs.Refusals.{SyntaxFails, ProgramFails, GraphFails, GraphRefusal, is_of_text}
+use Rattle.lftrace.specs.declared.fault.Fault.{Fault}
 use Rattle.lftrace.specs.declared.fault.Part.{Part}
 use Rattle.lftrace.specs.declared.fault.Part.TheVariants as part
 
@@ -85,21 +90,46 @@ externals_told e t = told e t
 plan_of : (p q : Parts) (x y : ExternalInputs) → p ≡ q → x ≡ y → (let a : PlanParts = record { program = p; externals = x } in let b : PlanParts = record { program = q; externals = y } in a ≡ b)
 plan_of p q x y e f = cc
 
+-- the flat program of a text is one
+module _ (text : List ℕ) (tree : FileTree) (only_tree : IsOnly (IsTreeOf text) tree) where
+  pub flat_of : (parts : Parts) → (x : IsProgramOf text parts) → IsPlainFlat tree parts
+  flat_of parts x = subst (λ t. IsPlainFlat t parts) (only_tree.only x.tree x.is_tree) x.is_flat
+
+  pub only_program : (parts : Parts) → IsPlainFlat tree parts → ((other : Parts) → IsPlainFlat tree other → other ≡ parts) → IsOnly (IsProgramOf text) parts
+  only_program parts flat one = record {
+    is = record { tree = tree; is_tree = only_tree.is; is_flat = flat };
+    only = λ other x. one other (flat_of other x);
+  }
+
 -- the plan of two texts is one
-module _ (text externals : List ℕ) (tree : FileTree) (only_tree : IsOnly (IsTreeOf text) tree) where
-  pub flat_of : (plan : PlanParts) → (x : IsPlanOf text externals plan) → IsPlainFlat tree plan.program
-  flat_of plan x = subst (λ t. IsPlainFlat t plan.program) (only_tree.only x.tree x.is_tree) x.is_program
+module _ (text externals : List ℕ) (parts : Parts) (only : IsOnly (IsProgramOf text) parts) where
+  pub table_of : (plan : PlanParts) → (x : IsPlanOf text externals plan) → ExternalTable parts (records_of externals) plan.externals
+  table_of plan x = subst (λ p. ExternalTable p (records_of externals) plan.externals) (only.only plan.program x.is_program) x.is_externals
 
-  pub table_of : (parts : Parts) → ((other : Parts) → IsPlainFlat tree other → other ≡ parts) → (plan : PlanParts) → (x : IsPlanOf text externals plan) → ExternalTable parts (records_of externals) plan.externals
-  table_of parts one plan x = subst (λ p. ExternalTable p (records_of externals) plan.externals) (one plan.program (flat_of plan x)) x.is_externals
+  pub no_loop_of : (plan : PlanParts) → (x : IsPlanOf text externals plan) → HasNoLoop parts
+  no_loop_of plan x = subst HasNoLoop (only.only plan.program x.is_program) x.no_loop
 
-  pub only_plan : (parts : Parts) (given : ExternalInputs) (plan : PlanParts) → IsPlainFlat tree parts → ((other : Parts) → IsPlainFlat tree other → other ≡ parts) → ExternalTable parts (records_of externals) given → ((other : ExternalInputs) → ExternalTable parts (records_of externals) other → other ≡ given) → plan.program ≡ parts → plan.externals ≡ given → IsOnly (IsPlanOf text externals) plan
-  only_plan parts given plan flat one_flat table one_table p e = record {
+  pub only_plan : (given : ExternalInputs) (plan : PlanParts) → HasNoLoop parts → ExternalTable parts (records_of externals) given → ((other : ExternalInputs) → ExternalTable parts (records_of externals) other → other ≡ given) → plan.program ≡ parts → plan.externals ≡ given → IsOnly (IsPlanOf text externals) plan
+  only_plan given plan no_loop table one_table p e = record {
     is = record {
-      tree = tree;
-      is_tree = only_tree.is;
-      is_program = subst (λ k. IsPlainFlat tree k) (sym p) flat;
+      is_program = subst (λ k. IsProgramOf text k) (sym p) only.is;
+      no_loop = subst HasNoLoop (sym p) no_loop;
       is_externals = subst (λ k. ExternalTable k (records_of externals) plan.externals) (sym p) (subst (λ k. ExternalTable parts (records_of externals) k) (sym e) table);
     };
-    only = λ other x. plan_of other.program plan.program other.externals plan.externals (one_flat other.program (flat_of other x) ∙ sym p) (one_table other.externals (table_of parts one_flat other x) ∙ sym e);
+    only = λ other x. plan_of other.program plan.program other.externals plan.externals (only.only other.program x.is_program ∙ sym p) (one_table other.externals (table_of other x) ∙ sym e);
   }
+
+graph_untold : (p : Part) (n : ℕ) → p ≡ part.Graph → n ≡ 2 → is_of_text p n ≡ true → ⊥
+graph_untold p n e f t = let q : is_of_text part.Graph 2 ≡ true = told_at p part.Graph n 2 e f t in cc q
+
+memory_untold : (p : Part) (n : ℕ) → p ≡ part.Memory → is_of_text p n ≡ true → ⊥
+memory_untold p n e t = let q : is_of_text part.Memory n ≡ true = subst (λ k. is_of_text k n ≡ true) e t in cc q
+
+-- a program with a loop has no graph, and want of memory tells nothing of it
+pub graph_none : (program : Parts) (f : Fault) → GraphRefusal program f → is_of_text f.part f.number ≡ true → HasNoLoop program → ⊥
+graph_none program f x t n = go x.0 x.1 x.2
+  where
+    go : (e : GraphFault) → IsFault f part.Graph (graph_number e) → GraphFails program e → ⊥
+    go (graph.CausalityLoop loop) i h = let c = is_cycle program loop h in n c.0 c.1
+    go graph.NoMemory (inl i) h = graph_untold f.part f.number i.0 i.1 t
+    go graph.NoMemory (inr i) h = memory_untold f.part f.number i.0 t

@@ -1,13 +1,18 @@
 -- The number of a fault in its part.
-use Rattle.std.specs.Prelude.{ℕ}
+use Rattle.std.specs.Prelude.{◌≡◌, ◌⊎◌, ℕ}
 use Rattle.lft_syntax.specs.declared.fault.LexFault.{LexFault}
 use Rattle.lft_syntax.specs.declared.fault.LexFault.TheVariants as lex
 use Rattle.lft_syntax.specs.declared.fault.SyntaxFault.{SyntaxFault}
 use Rattle.lft_syntax.specs.declared.fault.SyntaxFault.TheVariants as syntax
 use Rattle.lft_program.specs.declared.fault.ProgramFault.{ProgramFault}
 use Rattle.lft_program.specs.declared.fault.ProgramFault.TheVariants as program
+use Rattle.lft_graph.specs.declared.fault.GraphFault.{GraphFault}
+use Rattle.lft_graph.specs.declared.fault.GraphFault.TheVariants as graph
 use Rattle.lft_trace.specs.declared.fault.TraceFault.{TraceFault}
 use Rattle.lft_trace.specs.declared.fault.TraceFault.TheVariants as table
+use Rattle.lftrace.specs.declared.fault.Fault.{Fault}
+use Rattle.lftrace.specs.declared.fault.Part.{Part}
+use Rattle.lftrace.specs.declared.fault.Part.TheVariants as part
 
 abbrev pub lex_number : LexFault → ℕ
 lex_number (lex.BadChar at) = 1
@@ -40,6 +45,10 @@ program_number program.DelayTooLong = 14
 program_number program.TooMany = 15
 program_number program.NoMemory = 16
 
+abbrev pub graph_number : GraphFault → ℕ
+graph_number (graph.CausalityLoop loop) = 1
+graph_number graph.NoMemory = 2
+
 -- of a trace table and of a table of external inputs
 abbrev pub table_number : TraceFault → ℕ
 table_number table.BadHeader = 1
@@ -54,3 +63,7 @@ table_number (table.TwoStops line) = 9
 table_number table.TooManyRows = 10
 table_number table.NotCsv = 11
 table_number table.NoMemory = 12
+
+-- a fault of this part and number, or of want of memory for its words
+abbrev pub IsFault : Fault → Part → ℕ → Type 0
+IsFault f p n = (f.part ≡ p) × (f.number ≡ n) ⊎ (f.part ≡ part.Memory) × (f.number ≡ 1)

@@ -6,3 +6,4 @@ pub mod Lines
 pub mod Meaning
 pub mod Refusals
 pub mod Judged
+pub mod Shown

@@ -1,5 +1,5 @@
 -- The lines that are printed.
-use Rattle.std.specs.Prelude.{◌≡◌, ℕ, ◌<◌, List, [], ◌++◌, Option, Some, None, length, slice_get, unwrap_or, codes, decimal, nat_eq, if◌then◌else◌}
+use Rattle.std.specs.Prelude.{◌≡◌, ℕ, ◌<◌, List, [], ◌∷◌, ◌++◌, Option, Some, None, length, slice_get, unwrap_or, codes, decimal, flat_map, nat_eq, if◌then◌else◌}
 use Rattle.lft_program.specs.Parts.{Parts}
 use Rattle.lft_model.specs.declared.breach.Breach.{Breach}
 use Rattle.lft_check.specs.declared.verdict.Verdict.{Verdict}
@@ -28,10 +28,23 @@ rule_name rule =
 abbrev pub row_words : ℕ → List ℕ
 row_words row = if nat_eq row 0 then [] else field (codes " line=") row
 
+-- the name of a reaction
+abbrev pub reaction_name : Parts → ℕ → List ℕ
+reaction_name program r = unwrap_or (slice_get program.names.reactions r) []
+
+-- the name of a reaction after a space
+abbrev pub spaced_name : Parts → ℕ → List ℕ
+spaced_name program r = codes " " ++ reaction_name program r
+
+-- the names of reactions, with a space between two
+abbrev pub names_words : Parts → List ℕ → List ℕ
+names_words program [] = []
+names_words program (r ∷ rs) = reaction_name program r ++ flat_map (spaced_name program) rs
+
 -- the reaction that breaks a rule, by its name; a collision is of none
 abbrev pub reaction_words : Parts → Option ℕ → List ℕ
 reaction_words program None = codes " (outside the profile)"
-reaction_words program (Some r) = codes " reaction=" ++ unwrap_or (slice_get program.names.reactions r) []
+reaction_words program (Some r) = codes " reaction=" ++ reaction_name program r
 
 -- a broken rule: its number and name, the line or none, the tag, and the reaction
 abbrev pub breach_words : Parts → Breach → List ℕ

@@ -5,7 +5,9 @@ use Rattle.lft_syntax.specs.Lexes.{Lexes}
 use Rattle.lft_syntax.specs.View.{lexemes}
 use Rattle.lft_syntax.specs.Tree.{FileTree}
 use Rattle.lft_syntax.specs.Grammar.{Spells}
+use Rattle.lft_program.specs.Parts.{Parts}
 use Rattle.lft_program.specs.Flat.{IsPlainFlat}
+use Rattle.lft_graph.specs.Precedence.{HasNoLoop}
 use Rattle.lft_trace.specs.declared.row.Row.{Row}
 use Rattle.lft_trace.specs.Records.{records_of}
 use Rattle.lft_trace.specs.Traces.{Table}
@@ -24,11 +26,16 @@ pub record IsTreeOf (text : List ℕ) (tree : FileTree) : Type 0 where
   pub lexed : Lexes text tokens
   pub spelled : Spells tree (lexemes text tokens)
 
--- the plan of a program's text and a table of external inputs
-pub record IsPlanOf (program externals : List ℕ) (plan : PlanParts) : Type 0 where
+-- the flat program of a text
+pub record IsProgramOf (text : List ℕ) (program : Parts) : Type 0 where
   pub tree : FileTree
-  pub is_tree : IsTreeOf program tree
-  pub is_program : IsPlainFlat tree plan.program
+  pub is_tree : IsTreeOf text tree
+  pub is_flat : IsPlainFlat tree program
+
+-- the plan of a program's text and a table of external inputs: no reaction precedes itself
+pub record IsPlanOf (program externals : List ℕ) (plan : PlanParts) : Type 0 where
+  pub is_program : IsProgramOf program plan.program
+  pub no_loop : HasNoLoop plan.program
   pub is_externals : ExternalTable plan.program (records_of externals) plan.externals
 
 -- the plan and the rows of the three texts

@@ -18,13 +18,19 @@ use Rattle.lft_trace.specs.declared.row.Row.{Row}
 use Rattle.lft_trace.specs.Faults.{is_told}
 use Rattle.lft_trace.specs.Records.{records_of}
 use Rattle.lft_trace.specs.Traces.{TraceFails}
-use Rattle.lft_trace.specs.ExternalTables.{ExternalFails}
+use Rattle.lft_trace.specs.ExternalTables.{ExternalTable, ExternalFails}
+use Rattle.lft_trace.specs.Inputs.{ExternalInputs}
+use Rattle.lft_graph.specs.Loops.{IsLoop}
+use Rattle.lft_graph.specs.declared.fault.GraphFault.{GraphFault}
+use Rattle.lft_graph.specs.declared.fault.GraphFault.TheVariants as graph
 use Rattle.lft_model.specs.Plans.{PlanParts}
-use Rattle.lftrace.specs.Faults.{lex_number, syntax_number, program_number, table_number}
+use Rattle.lftrace.specs.Faults.{lex_number, syntax_number, program_number, graph_number, table_number, IsFault}
 use Rattle.lft_check.specs.declared.verdict.Verdict.{Verdict}
 use Rattle.lft_check.specs.Verdicts.{IsVerdict}
 use Rattle.lftrace.specs.Lines.{line_of}
-use Rattle.lftrace.specs.Meaning.{IsTreeOf, IsPlanOf, IsMeaning}
+use Rattle.lftrace.specs.Meaning.{IsTreeOf, IsProgramOf, IsPlanOf, IsMeaning}
+use Rattle.lft_graph.specs.Graph.{GraphParts, IsGraphOf}
+use Rattle.lftrace.specs.Shown.{show_words}
 use Rattle.lftrace.specs.Written.{AppendsFront}
 use Rattle.lftrace.specs.declared.fault.Fault.{Fault}
 use Rattle.lftrace.specs.declared.fault.Part.{Part}
@@ -35,7 +41,7 @@ abbrev pub is_of_text : Part → ℕ → Bool
 is_of_text part.Lex n = not (nat_eq n 7)
 is_of_text part.Syntax n = not (nat_eq n 2)
 is_of_text part.Program n = not (nat_eq n 16)
-is_of_text part.Graph n = false
+is_of_text part.Graph n = not (nat_eq n 2)
 is_of_text part.Externals n = not (nat_eq n 11) && not (nat_eq n 12)
 is_of_text part.Trace n = not (nat_eq n 11) && not (nat_eq n 12)
 is_of_text part.Check n = false
@@ -63,16 +69,30 @@ SyntaxFails text tokens syntax.NoMemory = Unit {0}
 abbrev pub ProgramFails : FileTree → ProgramFault → Type 0
 ProgramFails tree e = e ≢ program.NoMemory → (parts : Parts) → IsPlainFlat tree parts → ⊥
 
+-- the program has a causality loop
+abbrev pub GraphFails : Parts → GraphFault → Type 0
+GraphFails program (graph.CausalityLoop loop) = IsLoop program loop
+GraphFails program graph.NoMemory = Unit {0}
+
 -- the text has no tree: it has no tokens, or its tokens have none
 pub data TreeRefusal (text : List ℕ) (f : Fault) : Type 0 where
   by_lex : (e : LexFault) → f.part ≡ part.Lex → f.number ≡ lex_number e → LexFails text e → TreeRefusal text f
   by_syntax : (e : SyntaxFault) (tokens : List Token) → f.part ≡ part.Syntax → f.number ≡ syntax_number e → length text ≤ 1048576 → Lexes text tokens → SyntaxFails text tokens e → TreeRefusal text f
 
--- the two texts have no plan: the program's text has no tree, the tree no flat program, or the external inputs no table
+-- the text has no flat program: it has no tree, or the tree has none
+pub data ProgramRefusal (text : List ℕ) (f : Fault) : Type 0 where
+  by_tree : TreeRefusal text f → ProgramRefusal text f
+  by_flat : (e : ProgramFault) (tree : FileTree) → f.part ≡ part.Program → f.number ≡ program_number e → IsTreeOf text tree → ProgramFails tree e → ProgramRefusal text f
+
+-- the flat program has no graph: it has a loop, whose reactions the fault names if there is memory for their names, or a growth was refused
+abbrev pub GraphRefusal : Parts → Fault → Type 0
+GraphRefusal program f = (e : GraphFault) × IsFault f part.Graph (graph_number e) × GraphFails program e
+
+-- the two texts have no plan: the program's text has no flat program, the external inputs are no table, or the program has no graph
 pub data LoadRefusal (program externals : List ℕ) (f : Fault) : Type 0 where
-  by_tree : TreeRefusal program f → LoadRefusal program externals f
-  by_program : (e : ProgramFault) (tree : FileTree) → f.part ≡ part.Program → f.number ≡ program_number e → IsTreeOf program tree → ProgramFails tree e → LoadRefusal program externals f
-  by_externals : (e : TraceFault) (tree : FileTree) (parts : Parts) → f.part ≡ part.Externals → f.number ≡ table_number e → IsTreeOf program tree → IsPlainFlat tree parts → (is_told e ≡ true → ExternalFails parts (records_of externals) e) → LoadRefusal program externals f
+  by_program : ProgramRefusal program f → LoadRefusal program externals f
+  by_externals : (e : TraceFault) (parts : Parts) → f.part ≡ part.Externals → f.number ≡ table_number e → IsProgramOf program parts → (is_told e ≡ true → ExternalFails parts (records_of externals) e) → LoadRefusal program externals f
+  by_graph : (parts : Parts) (given : ExternalInputs) → IsProgramOf program parts → ExternalTable parts (records_of externals) given → GraphRefusal parts f → LoadRefusal program externals f
 
 -- the three texts have no meaning: the first two have no plan, or the third is no trace table
 pub data TextsRefusal (program externals trace : List ℕ) (f : Fault) : Type 0 where
@@ -89,3 +109,10 @@ pub data JudgingRefusal (plan : PlanParts) (rows : List Row) (workers : ℕ) (ol
 pub data JudgeRefusal (program externals trace : List ℕ) (workers : ℕ) (old new : Option (List ℕ)) (f : Fault) : Type 0 where
   by_texts : TextsRefusal program externals trace f → JudgeRefusal program externals trace workers old new f
   by_judging : (plan : PlanParts) (rows : List Row) → IsMeaning program externals trace plan rows → JudgingRefusal plan rows workers old new f → JudgeRefusal program externals trace workers old new f
+
+-- nothing is shown: the text has no flat program, the program no graph, a growth was refused, or the writer failed on the lines
+pub data ShowRefusal (text : List ℕ) (old new : Option (List ℕ)) (f : Fault) : Type 0 where
+  by_program : ProgramRefusal text f → ShowRefusal text old new f
+  by_graph : (parts : Parts) → IsProgramOf text parts → GraphRefusal parts f → ShowRefusal text old new f
+  by_growth : f.part ≡ part.Memory → f.number ≡ 1 → ShowRefusal text old new f
+  by_writer : (parts : Parts) (g : GraphParts) → f.part ≡ part.Write → f.number ≡ 1 → IsProgramOf text parts → IsGraphOf parts g → AppendsFront old new (show_words parts g) → ShowRefusal text old new f

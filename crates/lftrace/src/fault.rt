@@ -1,13 +1,18 @@
 //! Faults, and the line that each prints.
 
-ghost use Rattle.std.specs.Prelude.{◌≡◌};
-ghost use Rattle.lftrace.specs.Faults.{lex_number, syntax_number, program_number, table_number};
+ghost use Rattle.std.specs.Prelude.{◌≡◌, ◌<◌, ℕ, List, Some, IfOk, length, slice_get, string_bytes};
+ghost use Rattle.lft_graph.specs.Loops.{IsLoop};
+ghost use Rattle.lft_graph.specs.declared.fault.GraphFault.TheVariants.{CausalityLoop};
+ghost use Rattle.lftrace.specs.Faults.{lex_number, syntax_number, program_number, graph_number, table_number, IsFault};
+ghost use Rattle.lftrace.specs.Lines.{names_words};
 ghost use Rattle.lftrace.specs.declared.fault.Part.TheVariants as part;
 
-use lft_program::ProgramFault;
+use crate::line::push_names;
+use lft_graph::GraphFault;
+use lft_program::{Program, ProgramFault};
 use lft_syntax::{LexFault, SyntaxFault};
 use lft_trace::TraceFault;
-use std::alloc::Global;
+use std::alloc::{AllocError, Global};
 use std::fmt;
 use thiserror::Error;
 
@@ -78,6 +83,16 @@ impl fmt::Display for Detail {
     }
 }
 
+/// The names of a loop's reactions, with a space between two.
+fn loop_words(alloc: Global, program: &Program, reactions: &[u32]) -> Result<String, AllocError>
+    requires { (i r : ℕ) → slice_get reactions.now i ≡ Some r → r < length program.now.reactions }
+    ensures { IfOk result (λ words. string_bytes words ≡ names_words program.now reactions.now) }
+{
+    let mut words = String::new(alloc);
+    push_names(&mut words, program, reactions)?;
+    Ok(words)
+}
+
 /// A refusal, by its part and its number there, with the words of its line.
 #[derive(Debug, Drop, Error)]
 #[error("fault {part} {number} {name}{detail}")]
@@ -124,13 +139,9 @@ impl Fault {
     }
 
     /// A fault that tells a path, or want of memory where the path can't be kept.
-    pub fn of_path(
-        alloc: Global,
-        part: Part,
-        number: u32,
-        name: &'static str,
-        path: &str,
-    ) -> Fault {
+    pub fn of_path(alloc: Global, part: Part, number: u32, name: &'static str, path: &str) -> Fault
+        ensures { IsFault result part number }
+    {
         match String::from_str(alloc, path) {
             Ok(words) => Fault {
                 part,
@@ -202,6 +213,26 @@ impl Fault {
             ProgramFault::NoMemory => (16, "NoMemory"),
         };
         Fault::plain(Part::Program, number, name)
+    }
+
+    /// The fault of a program without a graph. It names a loop's reactions; where their names
+    /// can't be kept, it is want of memory.
+    pub fn graph(alloc: Global, program: &Program, fault: &GraphFault) -> Fault
+        requires { (loop : List ℕ) → fault.now ≡ CausalityLoop loop → IsLoop program.now loop }
+        ensures { IsFault result part.Graph (graph_number fault.now) }
+    {
+        match fault {
+            GraphFault::CausalityLoop(reactions) => {
+                match loop_words(alloc, program, reactions.as_slice()) {
+                    Ok(words) => Fault {
+                        detail: Detail::Words(words),
+                        ..Fault::plain(Part::Graph, 1, "CausalityLoop")
+                    },
+                    Err(_) => Fault::no_memory(),
+                }
+            }
+            GraphFault::NoMemory => Fault::plain(Part::Graph, 2, "NoMemory"),
+        }
     }
 
     /// The fault of a text that is no table of external inputs.

@@ -1,7 +1,9 @@
 //! Reading a file or standard input.
 
-ghost use Rattle.std.specs.Prelude.{◌≡◌, ◌≤◌, ◌^◌, IfOk, OnOk, IfSome, length};
+ghost use Rattle.std.specs.Prelude.{◌≡◌, ◌≤◌, ◌^◌, ◌⊎◌, IfOk, IfErr, OnOk, IfSome, length};
 ghost use Rattle.std.specs.Io.KnownBytes.{IsAtEnd};
+ghost use Rattle.lftrace.specs.Faults.{IsFault};
+ghost use Rattle.lftrace.specs.declared.fault.Part.TheVariants as part;
 
 use crate::fault::{Fault, Part};
 use std::alloc::Global;
@@ -18,6 +20,7 @@ pub fn read_input<R: Read>(alloc: Global, path: &str, reader: &mut R) -> Result<
     ensures bytes { IfOk result (λ v. IfSome (R.remaining reader.old) (λ xs. v.items ≡ xs)) }
     ensures limit { IfOk result (λ v. length v.items ≤ 2 ^ 30) }
     ensures end { OnOk result (IsAtEnd (R.remaining reader.new)) }
+    ensures refused { IfErr result (λ f. IsFault f part.Read 1 ⊎ IsFault f part.Read 2) }
 {
     let mut bytes = Vec::new(alloc);
     let mut chunk = [0u8; 65536];

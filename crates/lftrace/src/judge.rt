@@ -88,7 +88,7 @@ fn report<W: Write>(
     ensures kept { IfErr result (λ f. f.part ≢ part.Write → Keeps (W.contents out.old) (W.contents out.new)) }
 {
     match verdict_line(alloc, program, verdict) {
-        Ok(line) => write_text(line.as_slice(), out),
+        Ok(line) => write_text(line.as_bytes(), out),
         Err(_) => Err(Fault::no_memory()),
     }
 }
@@ -125,7 +125,7 @@ fn judge_rows<W: Write>(
 
 /// Judges the trace of a program under external inputs, from their texts, and writes the verdict's
 /// line. The fault is that of the first layer that refuses, in the order lex, syntax, program,
-/// externals, trace, check, write.
+/// externals, graph, trace, check, write.
 pub fn judge_texts<W: Write>(
     alloc: Global,
     program: &[u8],

@@ -1,7 +1,7 @@
-//! The line that a verdict prints.
+//! The lines that are printed.
 
-ghost use Rattle.std.specs.Prelude.{◌≡◌, ◌++◌, ◌<◌, IfOk, OnOk, length, decimal};
-ghost use Rattle.lftrace.specs.Lines.{accepted_words, breach_words, field, line_of, reaction_words, row_words, rule_name, HasReaction};
+ghost use Rattle.std.specs.Prelude.{◌≡◌, ◌++◌, ◌<◌, ℕ, IfOk, OnOk, Some, length, slice_get, string_bytes};
+ghost use Rattle.lftrace.specs.Lines.{accepted_words, breach_words, field, line_of, names_words, reaction_name, reaction_words, row_words, rule_name, spaced_name, HasReaction};
 ghost use Rattle.lft_model.specs.declared.breach.Breach.{Breach as TheBreach};
 ghost use Rattle.lft_check.specs.declared.verdict.Verdict.TheVariants.{Broken};
 
@@ -12,12 +12,46 @@ use lft_program::Program;
 use std::alloc::{AllocError, Global};
 
 /// Puts a word and a number at the end of a line.
-fn push_field(line: &mut Vec<u8>, word: &[u8], number: u64) -> Result<(), AllocError>
-    ensures { OnOk result (line.new.items ≡ line.old.items ++ field word.now number) }
+pub fn push_field(line: &mut String, word: &str, number: u64) -> Result<(), AllocError>
+    ensures { OnOk result (string_bytes line.new ≡ string_bytes line.old ++ field word.now number) }
 {
     let mut buffer = Buffer::new();
-    line.extend_from_slice(word)?;
-    line.extend_from_slice(buffer.format(number).as_bytes())?;
+    line.push_str(word)?;
+    line.push_str(buffer.format(number))?;
+    Ok(())
+}
+
+/// Puts the name of a reaction at the end of a line.
+pub fn push_name(line: &mut String, program: &Program, reaction: u32) -> Result<(), AllocError>
+    requires { reaction < length program.now.reactions }
+    ensures { OnOk result (string_bytes line.new ≡ string_bytes line.old ++ reaction_name program.now reaction) }
+{
+    line.push_str(program.name_of_reaction(reaction))?;
+    Ok(())
+}
+
+/// Puts a space and the name of a reaction at the end of a line.
+fn push_spaced(line: &mut String, program: &Program, reaction: u32) -> Result<(), AllocError>
+    requires { reaction < length program.now.reactions }
+    ensures { OnOk result (string_bytes line.new ≡ string_bytes line.old ++ spaced_name program.now reaction) }
+{
+    line.push_str(" ")?;
+    push_name(line, program, reaction)?;
+    Ok(())
+}
+
+/// Puts the names of reactions at the end of a line, with a space between two.
+pub fn push_names(line: &mut String, program: &Program, reactions: &[u32]) -> Result<(), AllocError>
+    requires { (i r : ℕ) → slice_get reactions.now i ≡ Some r → r < length program.now.reactions }
+    ensures { OnOk result (string_bytes line.new ≡ string_bytes line.old ++ names_words program.now reactions.now) }
+{
+    if reactions.is_empty() {
+        return Ok(());
+    }
+    push_name(line, program, reactions[0])?;
+    for at in 1..reactions.len() {
+        push_spaced(line, program, reactions[at])?;
+    }
     Ok(())
 }
 
@@ -41,59 +75,59 @@ fn name_of_rule(rule: u8) -> &'static str
 }
 
 /// Puts the line of the table at the end of a line, where a rule is broken at a row.
-fn push_row(line: &mut Vec<u8>, row: u32) -> Result<(), AllocError>
-    ensures { OnOk result (line.new.items ≡ line.old.items ++ row_words row) }
+fn push_row(line: &mut String, row: u32) -> Result<(), AllocError>
+    ensures { OnOk result (string_bytes line.new ≡ string_bytes line.old ++ row_words row) }
 {
     if row != 0 {
-        push_field(line, b" line=", u64::from(row))?;
+        push_field(line, " line=", u64::from(row))?;
     }
     Ok(())
 }
 
 /// Puts the reaction that breaks a rule at the end of a line.
 fn push_reaction(
-    line: &mut Vec<u8>,
+    line: &mut String,
     program: &Program,
     reaction: Option<u32>,
 ) -> Result<(), AllocError>
     requires { HasReaction program.now reaction }
-    ensures { OnOk result (line.new.items ≡ line.old.items ++ reaction_words program.now reaction) }
+    ensures { OnOk result (string_bytes line.new ≡ string_bytes line.old ++ reaction_words program.now reaction) }
 {
     match reaction {
         Some(number) => {
-            line.extend_from_slice(b" reaction=")?;
-            line.extend_from_slice(program.name_of_reaction(number).as_bytes())?;
+            line.push_str(" reaction=")?;
+            push_name(line, program, number)?;
         }
-        None => line.extend_from_slice(b" (outside the profile)")?,
+        None => line.push_str(" (outside the profile)")?,
     }
     Ok(())
 }
 
 /// The line of a broken rule, with its line feed.
-fn breach_line(alloc: Global, program: &Program, breach: Breach) -> Result<Vec<u8>, AllocError>
+fn breach_line(alloc: Global, program: &Program, breach: Breach) -> Result<String, AllocError>
     requires { HasReaction program.now breach.reaction }
-    ensures { IfOk result (λ line. line.items ≡ breach_words program.now breach) }
+    ensures { IfOk result (λ line. string_bytes line ≡ breach_words program.now breach) }
 {
-    let mut line = Vec::new(alloc);
-    push_field(&mut line, b"broken rule=", u64::from(breach.rule))?;
-    line.extend_from_slice(b" ")?;
-    line.extend_from_slice(name_of_rule(breach.rule).as_bytes())?;
+    let mut line = String::new(alloc);
+    push_field(&mut line, "broken rule=", u64::from(breach.rule))?;
+    line.push_str(" ")?;
+    line.push_str(name_of_rule(breach.rule))?;
     push_row(&mut line, breach.row)?;
-    push_field(&mut line, b" time=", breach.tag.time)?;
-    push_field(&mut line, b" microstep=", u64::from(breach.tag.micro))?;
+    push_field(&mut line, " time=", breach.tag.time)?;
+    push_field(&mut line, " microstep=", u64::from(breach.tag.micro))?;
     push_reaction(&mut line, program, breach.reaction)?;
-    line.push(b'\n')?;
+    line.push_str("\n")?;
     Ok(line)
 }
 
 /// The line of an accepted trace, with its line feed.
-fn accepted_line(alloc: Global, runs: u32, tags: u32) -> Result<Vec<u8>, AllocError>
-    ensures { IfOk result (λ line. line.items ≡ accepted_words runs tags) }
+fn accepted_line(alloc: Global, runs: u32, tags: u32) -> Result<String, AllocError>
+    ensures { IfOk result (λ line. string_bytes line ≡ accepted_words runs tags) }
 {
-    let mut line = Vec::new(alloc);
-    push_field(&mut line, b"accepted runs=", u64::from(runs))?;
-    push_field(&mut line, b" tags=", u64::from(tags))?;
-    line.push(b'\n')?;
+    let mut line = String::new(alloc);
+    push_field(&mut line, "accepted runs=", u64::from(runs))?;
+    push_field(&mut line, " tags=", u64::from(tags))?;
+    line.push_str("\n")?;
     Ok(line)
 }
 
@@ -102,9 +136,9 @@ pub fn verdict_line(
     alloc: Global,
     program: &Program,
     verdict: Verdict,
-) -> Result<Vec<u8>, AllocError>
+) -> Result<String, AllocError>
     requires { (b : TheBreach) → verdict ≡ Broken b → HasReaction program.now b.reaction }
-    ensures { IfOk result (λ line. line.items ≡ line_of program.now verdict) }
+    ensures { IfOk result (λ line. string_bytes line ≡ line_of program.now verdict) }
 {
     match verdict {
         Verdict::Accepted { runs, tags } => accepted_line(alloc, runs, tags),

@@ -8,6 +8,7 @@ mod judge;
 mod line;
 mod load;
 mod output;
+mod show;
 mod status;
 mod words;
 
@@ -18,6 +19,7 @@ use crate::bundle::split_bundle;
 use crate::fault::{Fault, Part};
 use crate::input::read_input;
 use crate::judge::{judge_texts, judge_texts_alone};
+use crate::show::show_text;
 use crate::status::finish;
 use crate::words::{Job, JudgeWords, read_words};
 use lft_check::Verdict;
@@ -62,6 +64,18 @@ fn judge_files<F: Files, W: Write>(
         out,
     )?;
     Ok(is_accepted(verdict))
+}
+
+/// Shows the program of a file.
+fn show_file<F: Files, W: Write>(
+    rt: &F,
+    alloc: Global,
+    path: &str,
+    out: &mut W,
+) -> Result<bool, Fault> {
+    let program = read_file(rt, alloc, path)?;
+    show_text(alloc, program.as_slice(), out)?;
+    Ok(true)
 }
 
 /// Judges the bundle that a reader gives.
@@ -113,6 +127,7 @@ fn main(rt: HostRuntime) -> ExitCode {
     let answer = match job {
         Job::Bundle => judge_bundle(alloc, &mut rt.stdin(), &mut out),
         Job::Judge(words) => judge_files(&rt, alloc, words, &mut out),
+        Job::Show(path) => show_file(&rt, alloc, path, &mut out),
     };
     ExitCode::from(finish(answer, &mut rt.stderr()))
 }

@@ -18,6 +18,8 @@ pub enum Job<'a> {
     /// To judge a bundle from standard input.
     Bundle,
     Judge(JudgeWords<'a>),
+    /// To show the ports and the precedence of the program at a path.
+    Show(&'a str),
 }
 
 fn path<'a>(alloc: Global, id: &'a str, help: &'a str) -> Arg<'a> {
@@ -46,12 +48,20 @@ fn judge_command<'a>(alloc: Global) -> Result<Command<'a>, Error> {
     Ok(command)
 }
 
+fn show_command<'a>(alloc: Global) -> Result<Command<'a>, Error> {
+    let command = Command::new(alloc, "show")
+        .about("Shows the ports of a program and which of its reactions precede which")
+        .arg(path(alloc, "PROGRAM", "the program's text"))?;
+    Ok(command)
+}
+
 fn root_command<'a>(alloc: Global) -> Result<Command<'a>, Error> {
     let command = Command::new(alloc, "lftrace")
         .about(
             "Checks recorded executions of reactor programs. Without a command it judges a bundle from standard input.",
         )
-        .subcommand(judge_command(alloc)?)?;
+        .subcommand(judge_command(alloc)?)?
+        .subcommand(show_command(alloc)?)?;
     Ok(command)
 }
 
@@ -76,6 +86,7 @@ pub fn read_words<'a>(alloc: Global, words: &'a [String]) -> Result<Job<'a>, Err
             trace: text(judge, "TRACE"),
             workers: number(judge, "workers", 1),
         })),
+        Some(("show", show)) => Ok(Job::Show(text(show, "PROGRAM"))),
         _ => Ok(Job::Bundle),
     }
 }

@@ -4,6 +4,7 @@ use Rattle.lft_graph.specs.Graph.{AreLevels, AreByLevel}
 use Rattle.lft_graph.specs.Walks.{AreInside, IsStep}
 use Rattle.lft_graph.specs.declared.fault.GraphFault.TheVariants.{CausalityLoop}
 use Rattle.lft_graph.proofs.Chains.{inside, is_loop, is_levelled, is_graph}
+use Rattle.lft_graph.proofs.Cycles.{no_loop}
 use Rattle.lft_graph.proofs.graph.Graph.build.Goals as goal
 
 pub levels-requires-clause-inside : goal.levels-requires-clause-inside
@@ -24,3 +25,6 @@ returns-clause-graph c =
 
 pub returns-clause-levelled : goal.returns-clause-levelled
 returns-clause-levelled c = is_levelled c.args.program.now c.in_ok-before.ensures.sound c.in_ok-before.before.items c.in_ok-before.ensures.lists c.in-Ok.levels.items (are_levels c)
+
+pub returns-clause-no_loop : goal.returns-clause-no_loop
+returns-clause-no_loop c = no_loop c.args.program.now (is_levelled c.args.program.now c.in_ok-before.ensures.sound c.in_ok-before.before.items c.in_ok-before.ensures.lists c.in-Ok.levels.items (are_levels c))
