@@ -8,9 +8,10 @@ ghost use Rattle.lft_graph.specs.Loops.{IsLoop};
 use crate::before::all_before;
 use crate::fault::GraphFault;
 use crate::levels::levels;
-use crate::members::Members;
+use crate::members::{Members, copy_members};
 use crate::order::by_level;
 use lft_program::Program;
+use lft_tag::NoMemory;
 use std::alloc::Global;
 use std::marker::Model;
 
@@ -78,5 +79,19 @@ impl Graph {
         ensures { result.now ≡ self.now.by_level }
     {
         self.by_level.as_slice()
+    }
+
+    /// The same graph.
+    pub fn copy(&self, alloc: Global) -> Result<Graph, NoMemory>
+        ensures { IfOk result (λ copy. copy ≡ self.now) }
+    {
+        let before = copy_members(alloc, self.before.as_slice())?;
+        let levels = Vec::from_slice(alloc, self.levels.as_slice())?;
+        let by_level = Vec::from_slice(alloc, self.by_level())?;
+        Ok(Graph {
+            before,
+            levels,
+            by_level,
+        })
     }
 }

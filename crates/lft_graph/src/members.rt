@@ -1,7 +1,9 @@
 //! The short list of a reaction, seen as a list.
 
-ghost use Rattle.std.specs.Prelude.{◌≡◌};
+ghost use Rattle.std.specs.Prelude.{◌≡◌, IfOk};
 
+use lft_tag::NoMemory;
+use std::alloc::Global;
 use std::marker::Model;
 
 /// Some reactions in order.
@@ -32,4 +34,23 @@ impl Members {
     {
         self.items.as_slice()
     }
+
+    // the same list
+    pub(crate) fn copy(&self, alloc: Global) -> Result<Members, NoMemory>
+        ensures { IfOk result (λ copy. copy ≡ self.now) }
+    {
+        let items = Vec::from_slice(alloc, self.items.as_slice())?;
+        Ok(Members { items })
+    }
+}
+
+/// The same lists.
+pub(crate) fn copy_members(alloc: Global, lists: &[Members]) -> Result<Vec<Members>, NoMemory>
+    ensures { IfOk result (λ copies. copies.items ≡ lists.now) }
+{
+    let mut copies = Vec::new(alloc);
+    for number in 0..lists.len() {
+        copies.push(lists[number].copy(alloc)?)?;
+    }
+    Ok(copies)
 }

@@ -4,6 +4,7 @@ ghost use Rattle.std.specs.Prelude.{◌≡◌, ◌↔◌, ℕ, List, Err, IfOk, 
 
 use lft_graph::{Graph, GraphFault};
 use lft_program::Program;
+use lft_tag::NoMemory;
 use lft_trace::Externals;
 use std::alloc::Global;
 use std::marker::Model;
@@ -96,5 +97,15 @@ impl Plan {
         ensures { IsTrue result ↔ (self.now ≡ other.now) }
     {
         self.program.same(&other.program) && self.externals.same(&other.externals)
+    }
+
+    /// The same plan.
+    pub fn copy(&self, alloc: Global) -> Result<Plan, NoMemory>
+        ensures { IfOk result (λ copy. copy ≡ self.now) }
+    {
+        let program = self.program.copy(alloc)?;
+        let externals = self.externals.copy(alloc)?;
+        let graph = self.graph.copy(alloc)?;
+        Ok(Plan::with_graph(program, externals, graph))
     }
 }

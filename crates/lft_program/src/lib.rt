@@ -2,6 +2,7 @@
 //! The flat program: numbered instances, ports, actions, timers and reactions, and their names.
 
 mod checks;
+mod copies;
 mod fault;
 mod found;
 mod lists;

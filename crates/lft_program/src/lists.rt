@@ -1,8 +1,10 @@
 //! The lists that a reaction holds, seen as lists.
 
-ghost use Rattle.std.specs.Prelude.{◌≡◌, ◌<◌, length, slice_get, Some};
+ghost use Rattle.std.specs.Prelude.{◌≡◌, ◌<◌, length, slice_get, Some, IfOk};
 
 use crate::parts::{Name, Trigger};
+use lft_tag::NoMemory;
+use std::alloc::Global;
 use std::marker::Model;
 
 /// Some ports and actions in order.
@@ -34,6 +36,14 @@ impl Names {
     {
         self.items.as_slice()
     }
+
+    /// The same list.
+    pub(crate) fn copy(&self, alloc: Global) -> Result<Names, NoMemory>
+        ensures { IfOk result (λ copy. copy ≡ self.now) }
+    {
+        let items = Vec::from_slice(alloc, self.items.as_slice())?;
+        Ok(Names { items })
+    }
 }
 
 /// Some triggers in order.
@@ -64,5 +74,13 @@ impl Triggers {
         ensures { result.now ≡ self.now }
     {
         self.items.as_slice()
+    }
+
+    /// The same list.
+    pub(crate) fn copy(&self, alloc: Global) -> Result<Triggers, NoMemory>
+        ensures { IfOk result (λ copy. copy ≡ self.now) }
+    {
+        let items = Vec::from_slice(alloc, self.items.as_slice())?;
+        Ok(Triggers { items })
     }
 }

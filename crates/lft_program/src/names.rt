@@ -1,10 +1,12 @@
 //! The names of a program's things.
 
-ghost use Rattle.std.specs.Prelude.{◌≡◌, ◌≤◌, ◌<◌, length, slice_get, Some, IfSome, IfNone};
+ghost use Rattle.std.specs.Prelude.{◌≡◌, ◌≤◌, ◌<◌, length, slice_get, Some, IfSome, IfNone, IfOk};
 ghost use Rattle.std.specs.Bool.{Decides};
 
 use crate::found::Found;
 use crate::texts::Texts;
+use lft_tag::NoMemory;
+use std::alloc::Global;
 use std::marker::Model;
 
 /// Where the names of each kind but the first begin.
@@ -159,5 +161,14 @@ impl NameTable {
             return false;
         }
         self.texts.same(&other.texts)
+    }
+
+    /// The same names.
+    pub fn copy(&self, alloc: Global) -> Result<NameTable, NoMemory>
+        ensures { IfOk result (λ copy. copy ≡ self.now) }
+    {
+        let starts = self.starts;
+        let texts = self.texts.copy(alloc)?;
+        Ok(NameTable { texts, starts })
     }
 }

@@ -1,11 +1,14 @@
 //! A flat program.
 
-ghost use Rattle.std.specs.Prelude.{◌≡◌, ◌<◌, length, slice_get, Some, IfSome, IfNone, IsTrue, ◌↔◌};
+ghost use Rattle.std.specs.Prelude.{◌≡◌, ◌<◌, length, slice_get, Some, IfSome, IfNone, IfOk, IsTrue, ◌↔◌};
 
+use crate::copies::copy_reactions;
 use crate::found::Found;
 use crate::names::NameTable;
 use crate::parts::{Action, Port, Reaction, Timer};
 use crate::same::{same_actions, same_ports, same_reactions, same_timers};
+use lft_tag::NoMemory;
+use std::alloc::Global;
 use std::marker::Model;
 
 /// A flat program: numbered instances, ports, actions, timers and reactions with their names.
@@ -204,5 +207,17 @@ impl Program {
             && same_timers(self.timers.as_slice(), other.timers.as_slice())
             && same_reactions(self.reactions.as_slice(), other.reactions.as_slice())
             && self.names.same(&other.names)
+    }
+
+    /// The same program.
+    pub fn copy(&self, alloc: Global) -> Result<Program, NoMemory>
+        ensures { IfOk result (λ copy. copy ≡ self.now) }
+    {
+        let ports = Vec::from_slice(alloc, self.ports.as_slice())?;
+        let actions = Vec::from_slice(alloc, self.actions.as_slice())?;
+        let timers = Vec::from_slice(alloc, self.timers.as_slice())?;
+        let reactions = copy_reactions(alloc, self.reactions.as_slice())?;
+        let names = self.names.copy(alloc)?;
+        Ok(Program::from_parts(ports, actions, timers, reactions, names))
     }
 }

@@ -101,4 +101,16 @@ impl Texts {
         }
         true
     }
+
+    /// The same texts.
+    pub fn copy(&self, alloc: Global) -> Result<Texts, NoMemory>
+        ensures { IfOk result (λ copy. copy ≡ self.now) }
+    {
+        let mut copy = Texts::new(alloc);
+        for number in 0..self.len() {
+            let text = String::from_str(alloc, self.get(number))?;
+            copy.push_new(text)?;
+        }
+        Ok(copy)
+    }
 }

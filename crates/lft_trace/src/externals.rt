@@ -1,11 +1,12 @@
 //! External inputs.
 
-ghost use Rattle.std.specs.Prelude.{◌≡◌, ◌↔◌, IsTrue, length};
+ghost use Rattle.std.specs.Prelude.{◌≡◌, ◌↔◌, IfOk, IsTrue, length};
 
 use crate::fits::{MAX_ROWS, event_fits, is_recorded};
 use crate::same::{same_events, same_tag};
 use lft_program::{Program, Value};
-use lft_tag::Tag;
+use lft_tag::{NoMemory, Tag};
+use std::alloc::Global;
 use std::marker::Model;
 
 /// An event of a physical action.
@@ -85,5 +86,14 @@ impl Externals {
     {
         same_tag(self.stop, other.stop)
             && same_events(self.events.as_slice(), other.events.as_slice())
+    }
+
+    /// The same external inputs.
+    pub fn copy(&self, alloc: Global) -> Result<Externals, NoMemory>
+        ensures { IfOk result (λ copy. copy ≡ self.now) }
+    {
+        let stop = self.stop;
+        let events = Vec::from_slice(alloc, self.events())?;
+        Ok(Externals::from_parts(stop, events))
     }
 }
