@@ -113,14 +113,14 @@ settling_start sources marks port same s none e = record {
     within : port < length marks
     within = get_within marks port New e
 
-mem_last : {X : Type 0} (xs : List X) (x : X) → Mem x (xs ++ x ∷ [])
+pub mem_last : {X : Type 0} (xs : List X) (x : X) → Mem x (xs ++ x ∷ [])
 mem_last xs x = mem_right x xs (x ∷ []) (inl refl)
 
-pairs_front : {X : Type 0} (R : X → X → Type 0) (xs ys : List X) → Pairs R (xs ++ ys) → Pairs R xs
+pub pairs_front : {X : Type 0} (R : X → X → Type 0) (xs ys : List X) → Pairs R (xs ++ ys) → Pairs R xs
 pairs_front R [] ys p = tt
 pairs_front R (x ∷ xs) ys p = ((λ y m. p.0 y (mem_left y xs ys m)), pairs_front R xs ys p.1)
 
-pairs_last : {X : Type 0} (R : X → X → Type 0) (xs : List X) (y : X) → Pairs R (xs ++ y ∷ []) → (x : X) → Mem x xs → R x y
+pub pairs_last : {X : Type 0} (R : X → X → Type 0) (xs : List X) (y : X) → Pairs R (xs ++ y ∷ []) → (x : X) → Mem x xs → R x y
 pairs_last R [] y p x m = absurd m
 pairs_last R (z ∷ xs) y p x (inl e) = subst (λ w. R w y) e (p.0 y (mem_last xs y))
 pairs_last R (z ∷ xs) y p x (inr m) = pairs_last R xs y p.1 x m

@@ -5,7 +5,7 @@ use Rattle.lft_instances.proofs.Members.{Mem, Pairs, mem_get, get_mem}
 use Rattle.lft_instances.proofs.Orders.{before_itself}
 use Rattle.lft_tag.specs.Shifts.{join, join_all, none, Folded}
 
-before_both : (p q : List ℕ) → Before p q → Before q p → ⊥
+pub before_both : (p q : List ℕ) → Before p q → Before q p → ⊥
 before_both p [] a b = a
 before_both [] (k ∷ q) a b = b
 before_both (j ∷ p) (k ∷ q) (inl l) (inl m) = absurd (omega arith)
@@ -13,7 +13,7 @@ before_both (j ∷ p) (k ∷ q) (inl l) (inr m) = let e : k ≡ j = m.0 in absur
 before_both (j ∷ p) (k ∷ q) (inr l) (inl m) = let e : j ≡ k = l.0 in absurd (omega arith)
 before_both (j ∷ p) (k ∷ q) (inr l) (inr m) = before_both p q l.1 m.1
 
-pairs_from : {X : Type 0} (R : X → X → Type 0) (xs : List X) → ((i j : ℕ) (x y : X) → slice_get xs i ≡ Some x → slice_get xs j ≡ Some y → i < j → R x y) → Pairs R xs
+pub pairs_from : {X : Type 0} (R : X → X → Type 0) (xs : List X) → ((i j : ℕ) (x y : X) → slice_get xs i ≡ Some x → slice_get xs j ≡ Some y → i < j → R x y) → Pairs R xs
 pairs_from R [] h = tt
 pairs_from R (x ∷ xs) h = ((λ y m. let g = get_mem y xs m in h 0 (suc g.0) x y refl g.1 (omega arith)), pairs_from R xs (λ i j u v a b l. h (suc i) (suc j) u v a b (omega arith)))
 

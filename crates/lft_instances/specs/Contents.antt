@@ -21,3 +21,7 @@ pub record IsWalk (table : List Contents) (main : ℕ) (made : List Instance) : 
   pub in_order : IsPreOrder (contained table) main paths
   pub as_long : length made ≡ length paths
   pub each : (n : ℕ) (m : Instance) (p : List ℕ) → slice_get made n ≡ Some m → slice_get paths n ≡ Some p → IsAt table main paths n m p
+
+-- the instances are those of some main reactor, as a walk makes them
+abbrev pub AreWalked : List Instance → Type 0
+AreWalked made = (table : List Contents) × (main : ℕ) × IsWalk table main made

@@ -2,3 +2,8 @@ pub mod Paths
 pub mod Contents
 pub mod Sources
 pub mod Marks
+pub mod Containment
+pub mod Stages
+pub mod Numbers
+pub mod Children
+pub mod Values

@@ -1,6 +1,6 @@
 //! The instances, in pre-order, by an explicit stack.
 
-ghost use Rattle.std.specs.Prelude.{◌≡◌, ℕ, ◌+◌, ◌<◌, ◌≤◌, ◌^◌, length, IfOk, IfSome, OnOk, Err};
+ghost use Rattle.std.specs.Prelude.{◌≡◌, ℕ, ◌+◌, ◌<◌, ◌≤◌, ◌^◌, length, slice_get, Some, IfOk, IfSome, OnOk, Err};
 ghost use Rattle.lft_instances.specs.Contents.{IsWalk, contained};
 ghost use Rattle.lft_instances.specs.Paths.{Exists, IsMoreThan};
 
@@ -65,12 +65,12 @@ pub struct Frame {
 }
 
 // the reactor of the instance at this place of a reactor
-fn child(reactors: &[Contents], reactor: u32, place: usize) -> Option<u32>
+pub(crate) fn child(reactors: &[Contents], reactor: usize, place: usize) -> Option<u32>
     ensures value { result ≡ contained reactors.now reactor place }
     ensures room { IfSome result (λ _. place + 1 < 2 ^ 64) }
 {
-    if (reactor as usize) < reactors.len() {
-        let contents = &reactors[reactor as usize];
+    if reactor < reactors.len() {
+        let contents = &reactors[reactor];
         if place < contents.instances.len() {
             Some(contents.instances[place])
         } else {
@@ -79,6 +79,14 @@ fn child(reactors: &[Contents], reactor: u32, place: usize) -> Option<u32>
     } else {
         None
     }
+}
+
+// the instance of this number
+pub(crate) fn instance_at(instances: &[Instance], number: usize) -> Instance
+    requires { number < length instances.now }
+    ensures { slice_get instances.now number ≡ Some result }
+{
+    instances[number]
 }
 
 /// All instances of the main reactor in pre-order, of which the main one is the first. The table
@@ -106,7 +114,7 @@ pub fn all_instances(
         next: 0,
     })?;
     'walk: while let Some(top) = open.pop() {
-        if let Some(reactor) = child(reactors, top.reactor, top.next) {
+        if let Some(reactor) = child(reactors, top.reactor as usize, top.next) {
             if made.len() >= MAX_INSTANCES {
                 return Err(WalkFault::TooMany);
             }
