@@ -6,8 +6,9 @@ ghost use Rattle.lft_check.specs.Verdicts.{LeastOf, LeastSuch, NotTriggered, Too
 ghost use Rattle.lft_check.specs.Least.{IsLeastWith, IsBelow};
 
 use lft_model::Breach;
-use lft_slices::{Cut, Slice, is_end, is_start, row_at};
+use lft_slices::{Cut, Slice};
 use lft_tag::Tag;
+use lft_trace::{is_end, is_start, row_at};
 
 /// The lesser of a number, if there is one, and another.
 fn least_with(least: Option<u32>, number: u32) -> Option<u32>

@@ -13,7 +13,7 @@ use crate::examine::{examine, of_reaction};
 use crate::verdict::Verdict;
 use crate::watch::Watch;
 use lft_model::{Breach, Plan};
-use lft_slices::{Cut, CutFault, Slice, cut as cut_rows, is_before};
+use lft_slices::{Cut, CutFault, Slice, cut as cut_rows};
 use lft_tag::{NoMemory, Tag};
 use lft_trace::Rows;
 use std::alloc::Global;
@@ -22,7 +22,7 @@ use std::alloc::Global;
 fn is_lesser(a: Breach, b: Breach) -> bool
     ensures { IsTrue result ↔ TagOrder a b }
 {
-    is_before(a.tag, b.tag)
+    a.tag.is_before(b.tag)
         || (a.tag.time == b.tag.time
             && a.tag.micro == b.tag.micro
             && (a.rule < b.rule

@@ -5,7 +5,11 @@ mod breach;
 pub mod laws;
 mod plan;
 mod reads;
+mod stop;
+mod timers;
 
 pub use breach::Breach;
 pub use plan::Plan;
 pub use reads::Reads;
+pub use stop::trace_stop;
+pub use timers::fires;

@@ -3,7 +3,6 @@ pub mod Early
 pub mod Steps
 pub mod Whole
 pub mod Declares
-pub mod StopTags
 pub mod Sliced
 pub mod Ran
 pub mod Firings

@@ -9,8 +9,7 @@ use crate::cuts::{Cut, CutFault};
 use crate::pass::first_breach;
 use crate::slices::slices_of;
 use crate::started::started_of;
-use crate::stop::trace_stop;
-use lft_model::Plan;
+use lft_model::{Plan, trace_stop};
 use lft_trace::Rows;
 use std::alloc::Global;
 

@@ -10,10 +10,9 @@ ghost use Rattle.lft_trace.specs.Fits.{RowFits};
 ghost use Rattle.lft_model.specs.Breaches.{IsUndeclared, WasRead, MayWrite, MaySchedule};
 ghost use Rattle.lft_model.specs.Runs.{effects_of};
 
-use crate::row::{is_same, row_at};
 use crate::triggered::trigger_at;
 use lft_program::{Name, Program, Reaction, Trigger};
-use lft_trace::{Row, Step};
+use lft_trace::{Row, Step, row_at};
 
 /// Whether the row's step names what its reaction didn't declare for it, or reads a name again.
 pub(crate) fn is_undeclared(program: &Program, rows: &[Row], place: usize, row: Row) -> bool
@@ -131,7 +130,7 @@ fn was_read(rows: &[Row], place: usize, row: Row, name: Name) -> bool
 {
     for before in 0..place {
         let other = row_at(rows, before);
-        if is_same(other.tag, row.tag)
+        if other.tag.is_same(row.tag)
             && other.reaction == row.reaction
             && reads(&other.step, name)
         {

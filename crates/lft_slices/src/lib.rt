@@ -7,15 +7,12 @@ mod declared;
 mod missing;
 mod open;
 mod pass;
-mod row;
 mod slices;
 mod started;
-mod stop;
 #[cfg(test)]
 mod tests;
 mod triggered;
 
 pub use cuts::{Cut, CutFault};
 pub use cutting::cut;
-pub use row::{is_before, is_end, is_same, is_start, row_at};
 pub use slices::Slice;

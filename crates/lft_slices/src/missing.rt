@@ -6,7 +6,6 @@ ghost use Rattle.lft_slices.specs.Slices.{LeastTag, Misses, IsMissing, IsFirstMi
 ghost use Rattle.lft_slices.specs.Least.{IsSooner, IsFirstOf, MissesAt, MissesFiring};
 
 use crate::cuts::Cut;
-use crate::row::is_before;
 use crate::triggered::trigger_at;
 use lft_program::{Timer, Trigger};
 use lft_tag::Tag;
@@ -16,7 +15,7 @@ pub(crate) fn sooner(first: Option<Tag>, second: Option<Tag>) -> Option<Tag>
     ensures { IsSooner first second result }
 {
     match (first, second) {
-        (Some(a), Some(b)) => { if is_before(b, a) { Some(b) } else { Some(a) } }
+        (Some(a), Some(b)) => { if b.is_before(a) { Some(b) } else { Some(a) } }
         (Some(a), None) => Some(a),
         (None, b) => b,
     }
@@ -28,7 +27,7 @@ fn first_of(first: Option<(Tag, u32)>, tag: Option<Tag>, reaction: u32) -> Optio
 {
     match (first, tag) {
         (Some((a, number)), Some(b)) => {
-            if is_before(b, a) {
+            if b.is_before(a) {
                 Some((b, reaction))
             } else {
                 Some((a, number))
@@ -45,7 +44,7 @@ impl<'a> Cut<'a> {
     fn missed_at(&self, tag: Tag, reaction: u32) -> Option<Tag>
         ensures { LeastTag (MissesAt self.now reaction tag) result }
     {
-        if is_before(self.stop(), tag) || self.has_run(tag, reaction) {
+        if self.stop().is_before(tag) || self.has_run(tag, reaction) {
             None
         } else {
             Some(tag)

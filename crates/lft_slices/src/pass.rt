@@ -11,10 +11,9 @@ ghost use Rattle.lft_slices.specs.Passes.{Holds, HasOpen, IsKnown, FirstUnended,
 
 use crate::declared::is_undeclared;
 use crate::open::{LastStarts, OpenRuns};
-use crate::row::{is_before, is_end, is_same, is_start, row_at};
 use lft_model::{Breach, Plan};
 use lft_tag::{NoMemory, Tag};
-use lft_trace::Row;
+use lft_trace::{Row, is_end, is_start, row_at};
 use std::alloc::Global;
 
 /// What a pass over the rows keeps.
@@ -41,7 +40,7 @@ fn has_open(rows: &[Row], row: Row, runs: &OpenRuns) -> bool
     match runs.of(row.worker) {
         Some(start) => {
             let first = row_at(rows, start);
-            is_same(first.tag, row.tag) && first.reaction == row.reaction
+            first.tag.is_same(row.tag) && first.reaction == row.reaction
         }
         None => false,
     }
@@ -82,7 +81,7 @@ fn is_out_of_order(rows: &[Row], place: usize, row: Row, known: &Known) -> bool
             return true;
         }
         match known.starts.of(row.reaction) {
-            Some(tag) => is_same(tag, row.tag),
+            Some(tag) => tag.is_same(row.tag),
             None => false,
         }
     } else {
@@ -126,9 +125,9 @@ impl Known {
         ensures { (row : _) → slice_get rows.now place ≡ Some row → EarlyRule plan.now rows.now place row result }
     {
         let row = row_at(rows, place);
-        if is_before(row.tag, self.last) {
+        if row.tag.is_before(self.last) {
             Some(1)
-        } else if is_before(stop, row.tag) {
+        } else if stop.is_before(row.tag) {
             Some(2)
         } else if is_out_of_order(rows, place, row, self) {
             Some(3)

@@ -2,29 +2,12 @@
 
 ghost use Rattle.std.specs.Prelude.{◌≡◌, ◌<◌, length, Some, IsTrue, ◌↔◌, slice_get};
 ghost use Rattle.lft_program.specs.Sound.{IsTriggerOf};
-ghost use Rattle.lft_model.specs.Presence.{Fires, Occurs, Triggered};
+ghost use Rattle.lft_model.specs.Presence.{Occurs, Triggered};
 
 use crate::cuts::Cut;
-use crate::row::is_same;
-use lft_program::{Timer, Trigger};
+use lft_model::fires;
+use lft_program::Trigger;
 use lft_tag::Tag;
-
-/// Whether the timer fires at the tag.
-pub(crate) fn fires(timer: &Timer, tag: Tag) -> bool
-    ensures { IsTrue result ↔ Fires timer.now tag }
-{
-    if tag.micro != 0 {
-        return false;
-    }
-    if tag.time < timer.offset {
-        return false;
-    }
-    if timer.period == 0 {
-        tag.time == timer.offset
-    } else {
-        (tag.time - timer.offset) % timer.period == 0
-    }
-}
 
 /// The trigger at the place, counted from 0.
 pub(crate) fn trigger_at(triggers: &[Trigger], place: usize) -> Trigger
@@ -42,8 +25,8 @@ impl<'a> Cut<'a> {
     {
         let program = self.program();
         match trigger {
-            Trigger::Startup => is_same(tag, Tag { time: 0, micro: 0 }),
-            Trigger::Shutdown => is_same(tag, self.stop()),
+            Trigger::Startup => tag.is_same(Tag { time: 0, micro: 0 }),
+            Trigger::Shutdown => tag.is_same(self.stop()),
             Trigger::Timer(number) => fires(program.timer(number), tag),
             Trigger::On(_) => false,
         }

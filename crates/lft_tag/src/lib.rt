@@ -2,7 +2,7 @@
 //! Tags, their order, where a delay takes them, and the delays of a chain of connections folded
 //! into one shift. Nothing here takes memory.
 
-ghost use Rattle.std.specs.Prelude.{◌≡◌, ℕ, List, ◌+◌, ◌≤◌, MatchOption};
+ghost use Rattle.std.specs.Prelude.{◌≡◌, ◌↔◌, ℕ, List, ◌+◌, ◌≤◌, IsTrue, MatchOption};
 
 use std::alloc::{AllocError, AllocFailed};
 
@@ -83,7 +83,7 @@ impl Shift {
 
 impl Tag {
     ghost use Rattle.std.specs.Prelude.{SomeIff};
-    ghost use Rattle.lft_tag.specs.Tags.{IsRecorded, after, after_all};
+    ghost use Rattle.lft_tag.specs.Tags.{Before, IsRecorded, after, after_all};
     ghost use Rattle.lft_tag.specs.Shifts.{join_all, none, shifted};
 
     /// The recorded tag of this time and microstep; None exactly past a limit of recorded tags.
@@ -95,6 +95,20 @@ impl Tag {
         } else {
             Some(Tag { time, micro })
         }
+    }
+
+    /// Whether the two are one tag.
+    pub fn is_same(self, other: Tag) -> bool
+        ensures { IsTrue result ↔ (self ≡ other) }
+    {
+        self.time == other.time && self.micro == other.micro
+    }
+
+    /// Whether this tag is earlier.
+    pub fn is_before(self, other: Tag) -> bool
+        ensures { IsTrue result ↔ Before self other }
+    {
+        self.time < other.time || (self.time == other.time && self.micro < other.micro)
     }
 
     /// Where the delays that the shift folds take this tag, one after another.

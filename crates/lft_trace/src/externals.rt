@@ -3,7 +3,7 @@
 ghost use Rattle.std.specs.Prelude.{◌≡◌, ◌↔◌, IfOk, IsTrue, length};
 
 use crate::fits::{MAX_ROWS, event_fits, is_recorded};
-use crate::same::{same_events, same_tag};
+use crate::same::same_events;
 use lft_program::{Program, Value};
 use lft_tag::{NoMemory, Tag};
 use std::alloc::Global;
@@ -84,7 +84,7 @@ impl Externals {
     pub fn same(&self, other: &Externals) -> bool
         ensures { IsTrue result ↔ (self.now ≡ other.now) }
     {
-        same_tag(self.stop, other.stop)
+        other.stop.is_same(self.stop)
             && same_events(self.events.as_slice(), other.events.as_slice())
     }
 
@@ -92,7 +92,7 @@ impl Externals {
     pub fn copy(&self, alloc: Global) -> Result<Externals, NoMemory>
         ensures { IfOk result (λ copy. copy ≡ self.now) }
     {
-        let stop = self.stop;
+        let stop = self.stop();
         let events = Vec::from_slice(alloc, self.events())?;
         Ok(Externals::from_parts(stop, events))
     }

@@ -13,12 +13,14 @@ mod number;
 mod records;
 mod row;
 mod same;
+mod steps;
 mod trace_table;
 
 pub use external_table::read_externals;
 pub use externals::{Event, Externals};
 pub use fault::TraceFault;
 pub use row::{Row, Rows, Step};
+pub use steps::{is_end, is_start, is_stop, row_at};
 pub use trace_table::read_trace;
 
 #[cfg(test)]

@@ -5,13 +5,6 @@ ghost use Rattle.std.specs.Bool.{Decides};
 
 use crate::externals::Event;
 use lft_program::Value;
-use lft_tag::Tag;
-
-pub fn same_tag(a: Tag, b: Tag) -> bool
-    ensures { Decides result (a ≡ b) }
-{
-    a.time == b.time && a.micro == b.micro
-}
 
 fn same_value(a: Value, b: Value) -> bool
     ensures { Decides result (a ≡ b) }
@@ -26,7 +19,7 @@ fn same_value(a: Value, b: Value) -> bool
 fn same_event(a: &Event, b: &Event) -> bool
     ensures { Decides result (a.now ≡ b.now) }
 {
-    same_tag(a.tag, b.tag) && a.action == b.action && same_value(a.value, b.value)
+    a.tag.is_same(b.tag) && a.action == b.action && same_value(a.value, b.value)
 }
 
 pub fn same_events(a: &[Event], b: &[Event]) -> bool

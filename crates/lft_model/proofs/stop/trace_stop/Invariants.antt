@@ -1,5 +1,5 @@
-use Rattle.lft_slices.proofs.StopTags.{IsStopBefore}
-use Rattle.lft_slices.proofs.stop.trace_stop.Given as goal
+use Rattle.lft_model.proofs.StopTags.{IsStopBefore}
+use Rattle.lft_model.proofs.stop.trace_stop.Given as goal
 
 abbrev pub invariant-loop-place : goal.invariant-loop-place
 invariant-loop-place l = IsStopBefore l.plan l.rows l.place l.stop

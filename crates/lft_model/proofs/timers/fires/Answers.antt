@@ -1,7 +1,7 @@
 use Rattle.std.proofs.Common.{◌≡◌, arith}
 use Rattle.std.proofs.lemmas.Bool.{eqb-true, eq-eqb}
-use Rattle.lft_slices.proofs.Firings.{fires_again, again_fires}
-use Rattle.lft_slices.proofs.triggered.fires.Goals as goal
+use Rattle.lft_model.proofs.Firings.{fires_again, again_fires}
+use Rattle.lft_model.proofs.timers.fires.Goals as goal
 
 pub returns-else-timer-eq0 : goal.returns-else-timer-eq0
 returns-else-timer-eq0 c =

@@ -4,10 +4,9 @@ ghost use Rattle.std.specs.Prelude.{◌≡◌};
 ghost use Rattle.lft_trace.specs.Fits.{RowsFit};
 ghost use Rattle.lft_model.specs.Presence.{stop as the_stop};
 
-use crate::row::{is_before, is_stop, row_at};
-use lft_model::Plan;
+use crate::plan::Plan;
 use lft_tag::Tag;
-use lft_trace::Row;
+use lft_trace::{Row, is_stop, row_at};
 
 /// The last tag of the execution: the external stop, or the least that a stop row asks for where
 /// that is lesser. Every stop row counts, also one that breaks a rule itself.
@@ -20,7 +19,7 @@ pub fn trace_stop(plan: &Plan, rows: &[Row]) -> Tag
         let row = row_at(rows, place);
         if is_stop(&row.step) {
             let asked = row.tag.after(0, 0);
-            if is_before(asked, stop) {
+            if asked.is_before(stop) {
                 stop = asked;
             }
         }
