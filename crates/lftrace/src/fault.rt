@@ -144,10 +144,8 @@ impl Fault {
     {
         match String::from_str(alloc, path) {
             Ok(words) => Fault {
-                part,
-                number,
-                name,
                 detail: Detail::Words(words),
+                ..Fault::plain(part, number, name)
             },
             Err(_) => Fault::no_memory(),
         }

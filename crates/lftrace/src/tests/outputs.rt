@@ -2,6 +2,7 @@
 
 use crate::fault::Fault;
 use crate::judge::judge_texts_alone;
+use crate::show::show_text;
 use crate::status::finish;
 use std::io;
 use std::io::Write;
@@ -66,6 +67,65 @@ fn tells_a_failed_write(rt: HostRuntime) -> Result<(), Fail> {
         }
         assert!(rt; out.taken.as_slice() == &line[..at]);
     }
+    Ok(())
+}
+
+const SHOWN: &[u8] = b"main reactor {
+    timer t(0, 1 s)
+    reaction(startup) {= =}
+    reaction(t) {= =}
+    reaction(shutdown) {= =}
+}
+";
+
+const LINES: &str = "reaction main#1 level=0 before=-
+reaction main#2 level=1 before=main#1
+reaction main#3 level=2 before=main#2
+";
+
+#[test]
+fn shows_levels_and_what_is_before(rt: HostRuntime) -> Result<(), Fail> {
+    let mut out = Vec::new(rt.alloc());
+    assert!(rt; show_text(rt.alloc(), SHOWN, &mut out).is_ok());
+    assert!(rt; out.as_slice() == LINES.as_bytes());
+    let mut nothing = Vec::new(rt.alloc());
+    assert!(rt; show_text(rt.alloc(), b"main reactor { }", &mut nothing).is_ok());
+    assert!(rt; nothing.is_empty());
+    Ok(())
+}
+
+#[test]
+fn tells_a_failed_write_of_what_is_shown(rt: HostRuntime) -> Result<(), Fail> {
+    for at in 0..LINES.len() {
+        let mut out = Failing {
+            taken: Vec::new(rt.alloc()),
+            at,
+        };
+        match show_text(rt.alloc(), SHOWN, &mut out) {
+            Ok(()) => assert!(rt; false, "written to the end"),
+            Err(fault) => {
+                let mut errors = Vec::new(rt.alloc());
+                assert_eq!(rt; finish(Err(fault), &mut errors), 2);
+                assert!(rt; errors.as_slice() == b"fault write 1 Failed\n".as_slice());
+            }
+        }
+        assert!(rt; out.taken.as_slice() == &LINES.as_bytes()[..at]);
+    }
+    Ok(())
+}
+
+#[test]
+fn shows_nothing_of_a_text_without_a_program(rt: HostRuntime) -> Result<(), Fail> {
+    let mut out = Vec::new(rt.alloc());
+    match show_text(rt.alloc(), b"reactor A { }", &mut out) {
+        Ok(()) => assert!(rt; false, "shown"),
+        Err(fault) => {
+            let mut errors = Vec::new(rt.alloc());
+            assert_eq!(rt; finish(Err(fault), &mut errors), 2);
+            assert!(rt; errors.as_slice() == b"fault program 1 NoMain\n".as_slice());
+        }
+    }
+    assert!(rt; out.is_empty());
     Ok(())
 }
 
