@@ -6,3 +6,9 @@ pub mod Eachs
 pub mod PlainNames
 pub mod PlainParts
 pub mod PlainMembers
+pub mod Extending
+pub mod Separators
+pub mod Distinct
+pub mod FullNames
+pub mod NamedParts
+pub mod OneNaming

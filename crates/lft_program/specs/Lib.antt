@@ -6,3 +6,5 @@ pub mod Sound
 pub mod Plain
 pub mod Flat
 pub mod References
+pub mod FullNames
+pub mod Extended

@@ -8,6 +8,7 @@ mod found;
 mod lists;
 mod members;
 mod names;
+mod naming;
 mod parts;
 mod plain;
 mod program;
