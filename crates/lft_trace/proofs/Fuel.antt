@@ -33,7 +33,7 @@ next-shorter cfg s fields field (c ∷ rest) = elim (cases_Bool (is_end (step cf
 ]
 
 -- nothing is left at the end of a text
-at-end : (cfg : Config) (n : ℕ) → records_from cfg n st.StartRecord [] ≡ []
+pub at-end : (cfg : Config) (n : ℕ) → records_from cfg n st.StartRecord [] ≡ []
 unfolding records_from next_record
 at-end cfg zero = refl
 at-end cfg (suc n) = refl

@@ -8,3 +8,5 @@ pub mod Faults
 pub mod ExternalTables
 pub mod SeenExternals
 pub mod Keys
+pub mod Written
+pub mod SeenWriting

@@ -15,6 +15,7 @@ mod row;
 mod same;
 mod steps;
 mod trace_table;
+mod trace_writer;
 
 pub use external_table::read_externals;
 pub use externals::{Event, Externals};
@@ -22,6 +23,7 @@ pub use fault::TraceFault;
 pub use row::{Row, Rows, Step};
 pub use steps::{is_end, is_start, is_stop, row_at};
 pub use trace_table::read_trace;
+pub use trace_writer::write_trace;
 
 #[cfg(test)]
 mod tests;

@@ -4,3 +4,4 @@ mod bundles;
 mod examples;
 mod inputs;
 mod outputs;
+mod tables;

@@ -424,3 +424,43 @@ fn reads_deep_and_long_texts(rt: HostRuntime) -> Result<(), Fail> {
     assert_eq!(&rt; stop_of(alloc, many.as_bytes())?, 0);
     Ok(())
 }
+
+#[test]
+fn reads_an_example_of_each(rt: HostRuntime) -> Result<(), Fail> {
+    stop(
+        &rt,
+        rt.alloc(),
+        &[
+            ("target C { timeout: 10 s }", 0),
+            ("preamble {= #include <math.h> =}", 0),
+            ("private preamble {= =}", 0),
+            ("main reactor Blink { }", 0),
+            (
+                "reactor Filter(period: time = 10 ms, offset: time(0)) { timer t(0, period) }",
+                0,
+            ),
+            ("reactor Filter(period: time) { }", 7),
+        ],
+    )?;
+    stop_in_body(
+        &rt,
+        rt.alloc(),
+        &[
+            ("input x input z: int mutable input xs: double[8]", 0),
+            ("output y: std::string", 0),
+            ("timer t timer u(10 ms) timer v(0, 2 weeks)", 0),
+            ("logical action retry(1 ms): int physical action key", 0),
+            (
+                "state count: int = 0 state gains = {1, 2} state queue(16)",
+                0,
+            ),
+            ("reaction(startup, x) y -> z, retry {= code(); =}", 0),
+            ("reaction named(t) {= =}", 0),
+            ("f = new Filter(period = 20 ms, offset(0))", 0),
+            (
+                "f.y, g.y -> h.x, z f.y -> g.x after 5 ms f.y -> g.x after 0",
+                0,
+            ),
+        ],
+    )
+}

@@ -1,5 +1,4 @@
-use Rattle.std.proofs.Common.{rules, arith, ◌≡◌, ◌∙◌, ◌≤◌, ◌<◌, ℕ, List, length, Some, slice_get, true, refl, sym, ap, subst}
-use Rattle.std.specs.Prelude.{IsTrue}
+use Rattle.std.proofs.Common.{rules, arith, ◌≡◌, ◌∙◌, ◌≤◌, ℕ, length, Some, slice_get, true, refl, sym, ap, subst}
 use Rattle.std.proofs.lemmas.Option.{slice_get_read, slice_get_within}
 use borrow.Author.Count.{below_more}
 use Rattle.lft_tag.specs.Tags.{IsRecorded}
