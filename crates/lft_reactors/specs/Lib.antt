@@ -1,0 +1,10 @@
+pub mod Instances
+pub mod Kinds
+pub mod Causes
+pub mod References
+pub mod Seen
+pub mod Tests
+pub mod Faults
+pub mod Places
+pub mod Tables
+pub mod Uses

@@ -1,0 +1,175 @@
+//! Program texts and the first cause for which each is refused.
+
+use crate::{ReactorFault, check_first, check_later};
+use lft_syntax::{Ast, lex, parse};
+use std::alloc::Global;
+use std::process::Abort;
+use std::test::Fail;
+
+fn tree_of(alloc: Global, text: &str) -> Result<Ast, Fail> {
+    let tokens = lex(alloc, text.as_bytes())?;
+    Ok(parse(alloc, text.as_bytes(), &tokens)?)
+}
+
+#[test]
+fn names_the_first_cause_of_declarations(rt: HostRuntime) -> Result<(), Fail> {
+    let alloc = rt.alloc();
+    let cases = [
+        ("main reactor { timer t reaction(t) {= =} }", None),
+        (
+            "reactor A { } main reactor M { a = new A() b = new A() }",
+            None,
+        ),
+        ("reactor A { }", Some(ReactorFault::NoMain)),
+        (
+            "main reactor { } main reactor { }",
+            Some(ReactorFault::TwoMains),
+        ),
+        (
+            "main reactor { timer t logical action t }",
+            Some(ReactorFault::DuplicateName),
+        ),
+        (
+            "reactor A { } reactor A { } main reactor { b = new B() }",
+            Some(ReactorFault::DuplicateName),
+        ),
+        (
+            "reactor A(p: time = 0) { } main reactor { a = new A(p = 0, p = 0) }",
+            Some(ReactorFault::DuplicateName),
+        ),
+        (
+            "reactor A { b = new B() } main reactor { }",
+            Some(ReactorFault::UnknownReactor),
+        ),
+    ];
+    for (text, fault) in &cases {
+        assert_eq!(rt;
+            check_first(alloc, &tree_of(alloc, text)?).err(),
+            *fault,
+            "in {text}"
+        );
+    }
+    Ok(())
+}
+
+#[test]
+fn names_the_first_cause_of_names(rt: HostRuntime) -> Result<(), Fail> {
+    let alloc = rt.alloc();
+    let good = "reactor A(p: time = 1 s) { input x output y timer t(0, p) x -> y }
+        main reactor(q: time = 0) {
+            a = new A(p = q) b = new A()
+            logical action d(q)
+            a.y -> b.x after q
+            reaction(startup, d, b.y) -> a.x, d {= =}
+        }";
+    let cases = [
+        (good, None),
+        (
+            "main reactor { reaction(t) {= =} }",
+            Some(ReactorFault::UnknownName),
+        ),
+        (
+            "main reactor { reaction(startup) -> a.x {= =} }",
+            Some(ReactorFault::UnknownName),
+        ),
+        (
+            "reactor A { timer t } main reactor { a = new A() reaction(a.t) {= =} }",
+            Some(ReactorFault::UnknownName),
+        ),
+        (
+            "reactor A { } main reactor { a = new A(p = 0) }",
+            Some(ReactorFault::UnknownName),
+        ),
+        (
+            "main reactor { timer t(0, p) }",
+            Some(ReactorFault::UnknownName),
+        ),
+        (
+            "main reactor { timer t(0, t) }",
+            Some(ReactorFault::WrongPlace),
+        ),
+        (
+            "main reactor { timer t reaction(startup) -> t {= =} }",
+            Some(ReactorFault::WrongPlace),
+        ),
+        (
+            "reactor A { output y } main reactor { a = new A() reaction(startup) -> a.y {= =} }",
+            Some(ReactorFault::WrongPlace),
+        ),
+        (
+            "reactor A { input x y -> x } main reactor { }",
+            Some(ReactorFault::UnknownName),
+        ),
+        (
+            "reactor A { input x input y y -> x } main reactor { }",
+            Some(ReactorFault::WrongPlace),
+        ),
+        (
+            "main reactor(p: time = 0) { reaction(p) {= =} }",
+            Some(ReactorFault::WrongPlace),
+        ),
+        (
+            "reactor A { } main reactor { a = new A() reaction(a) {= =} }",
+            Some(ReactorFault::WrongPlace),
+        ),
+    ];
+    for (text, fault) in &cases {
+        assert_eq!(rt;
+            check_later(alloc, &tree_of(alloc, text)?).err(),
+            *fault,
+            "in {text}"
+        );
+    }
+    Ok(())
+}
+
+#[test]
+fn names_the_first_cause_of_writing(rt: HostRuntime) -> Result<(), Fail> {
+    let alloc = rt.alloc();
+    let ports = "reactor A { input x input z output y }";
+    let cases = [
+        ("main reactor { a = new A() b = new A() a.y -> b.x }", None),
+        (
+            "main reactor { input x reaction() {= =} }",
+            Some(ReactorFault::MainHasPorts),
+        ),
+        (
+            "main reactor { a = new A() b = new A() b.y, b.y -> a.x, a.z a.y -> a.x }",
+            Some(ReactorFault::TwoSources),
+        ),
+        (
+            "main reactor { a = new A() a.y -> a.x reaction(startup) -> a.x {= =} }",
+            Some(ReactorFault::TwoSources),
+        ),
+        (
+            "main reactor { a = new A() reaction() {= =} a.y, a.y -> a.x }",
+            Some(ReactorFault::WidthMismatch),
+        ),
+        (
+            "main reactor { timer x reaction() x, x {= =} }",
+            Some(ReactorFault::NoTrigger),
+        ),
+        (
+            "main reactor { a = new A() timer t reaction(startup, a.y) t, a.y {= =} }",
+            Some(ReactorFault::DuplicateInput),
+        ),
+        (
+            "main reactor { logical action x reaction(startup, startup) x -> x, x {= =} }",
+            Some(ReactorFault::DuplicateInput),
+        ),
+        (
+            "main reactor { logical action x x_x = new A() reaction(startup, startup) x -> x, x_x.x {= =} }",
+            None,
+        ),
+    ];
+    for (body, fault) in &cases {
+        let mut text = String::from_str(alloc, ports)?;
+        text.push_str(body)?;
+        assert_eq!(rt;
+            check_later(alloc, &tree_of(alloc, text.as_str())?).err(),
+            *fault,
+            "in {text}"
+        );
+    }
+    Ok(())
+}
