@@ -7,3 +7,4 @@ pub mod Placing
 pub mod Reactors
 pub mod Somes
 pub mod Twice
+pub mod Numbered

@@ -8,3 +8,4 @@ pub mod Faults
 pub mod Places
 pub mod Tables
 pub mod Uses
+pub mod Numbers

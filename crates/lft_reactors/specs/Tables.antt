@@ -9,6 +9,8 @@ use Rattle.lft_reactors.specs.declared.kinds.Kind.{Kind}
 use Rattle.lft_reactors.specs.declared.kinds.Kind.TheVariants.{OwnTimer, OwnAction, OwnInstance}
 use Rattle.lft_reactors.specs.declared.names.Declared.{Declared}
 use Rattle.lft_reactors.specs.declared.names.Declared.TheVariants.{Port, Timer, Action, Instance}
+use Rattle.lft_reactors.specs.Numbers.{numbers_of}
+use Rattle.lft_reactors.specs.declared.numbers.Numbers.{Numbers}
 use Rattle.lft_reactors.specs.declared.own.Own.{Own}
 use Rattle.lft_reactors.specs.declared.file.Outside.{Outside}
 use Rattle.lft_reactors.specs.declared.file.File.{File}
@@ -41,3 +43,8 @@ with_name rs = filter (λ r. is_some r.name) rs
 pub record IsFile (rs : List ReactorTree) (file : File) : Type 0 where
   pub names : IsIndexOf file.names (filter_map (λ r. r.name) rs)
   pub each : AllZip IsOutside (with_name rs) file.reactors.items
+
+-- the names of the reactors that have one, and their numbers
+pub record IsNumbers (rs : List ReactorTree) (n : Numbers) : Type 0 where
+  pub names : IsIndexOf n.names (filter_map (λ r. r.name) rs)
+  pub numbers : n.numbers.items ≡ numbers_of 0 rs

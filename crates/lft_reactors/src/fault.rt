@@ -3,6 +3,8 @@
 ghost use Rattle.std.specs.Prelude.{◌≡◌};
 ghost use Rattle.lft_reactors.specs.declared.fault.ReactorFault.TheVariants as faults;
 
+use std::alloc::AllocFailed;
+
 /// Why a tree is refused for what stands in one of its reactors, in the order in which the causes
 /// are answered.
 #[derive(Clone, Copy, PartialEq, Eq, Debug, Drop)]
@@ -38,6 +40,14 @@ impl From<lft_tag::NoMemory> for ReactorFault {
     ghost from_gives = { λ _ e. e ≡ faults.NoMemory };
 
     fn from(_error: lft_tag::NoMemory) -> ReactorFault {
+        ReactorFault::NoMemory
+    }
+}
+
+impl<T: Drop> From<AllocFailed<T>> for ReactorFault {
+    ghost from_gives = { λ _ e. e ≡ faults.NoMemory };
+
+    fn from(_error: AllocFailed<T>) -> ReactorFault {
         ReactorFault::NoMemory
     }
 }

@@ -12,6 +12,7 @@ mod members;
 mod misplaced;
 mod names;
 mod nothing;
+mod numbers;
 mod own;
 mod references;
 mod repeats;
@@ -25,3 +26,4 @@ mod writers;
 
 pub use checks::{check_first, check_later};
 pub use fault::ReactorFault;
+pub use numbers::contents;

@@ -1,6 +1,6 @@
 //! Program texts and the first cause for which each is refused.
 
-use crate::{ReactorFault, check_first, check_later};
+use crate::{ReactorFault, check_first, check_later, contents};
 use lft_syntax::{Ast, lex, parse};
 use std::alloc::Global;
 use std::process::Abort;
@@ -171,5 +171,27 @@ fn names_the_first_cause_of_writing(rt: HostRuntime) -> Result<(), Fail> {
             "in {text}"
         );
     }
+    Ok(())
+}
+
+#[test]
+fn numbers_what_reactors_contain(rt: HostRuntime) -> Result<(), Fail> {
+    let alloc = rt.alloc();
+    let text = "reactor A { b = new B() c = new C() } reactor B { }
+        main reactor { x = new A() y = new B() } reactor C { b = new B() }";
+    let table = match contents(alloc, &tree_of(alloc, text)?) {
+        Ok(table) => table,
+        Err(_) => Vec::new(alloc),
+    };
+    assert_eq!(rt; table.len(), 4);
+    assert!(rt; table[0].instances.as_slice() == [1, 3].as_slice());
+    assert!(rt; table[1].instances.is_empty());
+    assert!(rt; table[2].instances.as_slice() == [0, 1].as_slice());
+    assert!(rt; table[3].instances.as_slice() == [1].as_slice());
+    let unknown = "reactor A { d = new D() } main reactor { }";
+    assert_eq!(rt;
+        contents(alloc, &tree_of(alloc, unknown)?).err(),
+        Some(ReactorFault::UnknownReactor)
+    );
     Ok(())
 }
