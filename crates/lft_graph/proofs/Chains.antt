@@ -1,5 +1,5 @@
 -- Chains along the short lists are chains of direct steps.
-use Rattle.std.proofs.Common.{◌≡◌, ℕ, zero, suc, ◌+◌, ◌<◌, ◌≤◌, ◌⊎◌, ◌↔◌, inl, inr, List, length, refl, sym, ap, ◌∙◌, subst, arith, Some, slice_get, Contains, get_or}
+use Rattle.std.proofs.Common.{◌≡◌, ℕ, zero, suc, ◌+◌, ◌<◌, ◌≤◌, ◌⊎◌, inl, inr, List, length, sym, ◌∙◌, subst, arith, Some, slice_get, Contains, get_or}
 use Rattle.std.proofs.lemmas.Option.{slice_get_within, slice_get-get_or}
 use Rattle.std.proofs.lemmas.Bool.{cases_lt}
 use Rattle.lft_program.specs.Parts.{Parts}
@@ -7,7 +7,7 @@ use Rattle.lft_program.specs.Sound.{IsSound}
 use Rattle.lft_program.specs.declared.parts.Reaction.{Reaction}
 use Rattle.lft_graph.specs.Precedence.{Direct, IsDeclaredFirst, Feeds, Precedes, IsLevelled}
 use Rattle.lft_graph.specs.Precedence.Precedes.{one, more}
-use Rattle.lft_graph.specs.Before.{IsDeclaredJustBefore, FeedsLast, IsBefore, Writes, IsLastWriter, Reaches}
+use Rattle.lft_graph.specs.Before.{IsDeclaredJustBefore, FeedsLast, Writes}
 use Rattle.lft_graph.specs.Graph.{AreLevels, AreByLevel, GraphParts, HasChains, IsGraphOf}
 use Rattle.lft_graph.specs.Loops.{IsLoopOf, IsLoop}
 use Rattle.lft_graph.specs.Walks.{HasLists, AreInside, IsStep}

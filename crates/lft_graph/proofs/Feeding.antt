@@ -17,7 +17,7 @@ use Rattle.lft_program.specs.declared.parts.Trigger.{Trigger}
 use Rattle.lft_program.specs.declared.parts.Trigger.TheVariants.{Startup, Shutdown, Timer, On}
 use Rattle.lft_graph.specs.Before.{Writes, IsLastWriter, Reaches, FeedsLast, IsDeclaredJustBefore, IsBefore}
 use Rattle.lft_graph.specs.Walks.{KnowsWriters, IsUndelayed, IsFeeder, NotesBelow, Covers, HasLists}
-use Rattle.lft_graph.proofs.Places.{contains_at, at_contains, get_push_cases, get_there}
+use Rattle.lft_graph.proofs.Places.{contains_at, at_contains, get_push_cases}
 
 -- a chain is undelayed exactly where its shift is nothing
 still_moves : (s : Folded) (d : ℕ) → 0 < (join s d).0 + (join s d).1

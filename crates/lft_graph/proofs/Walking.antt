@@ -1,11 +1,10 @@
 -- Marks: their weights, and levels from them.
-use Rattle.std.proofs.Common.{◌≡◌, ◌≢◌, ℕ, zero, suc, ◌+◌, ◌<◌, ◌≤◌, ◌⊎◌, inl, inr, List, [], ◌∷◌, length, refl, sym, ap, ◌∙◌, subst, arith, Option, Some, slice_get, slice_set}
-use Rattle.std.proofs.lemmas.Option.{slice_get_within}
-use Rattle.std.proofs.lemmas.Bool.{cases_lt, cases_eq}
+use Rattle.std.proofs.Common.{◌≡◌, ℕ, zero, suc, ◌+◌, ◌<◌, ◌≤◌, inl, inr, List, [], ◌∷◌, length, refl, ap, ◌∙◌, subst, arith, Some, slice_get, slice_set}
+use Rattle.std.proofs.lemmas.Bool.{cases_eq}
 use Rattle.lft_graph.specs.declared.levels.Mark.{Mark}
 use Rattle.lft_graph.specs.declared.levels.Mark.TheVariants.{New, Open, Done}
-use Rattle.lft_graph.specs.Walks.{IsDone, IsLevelOf, tally, done_weight, new_weight}
-use Rattle.lft_graph.proofs.Places.{get_write_cases, get_unwritten}
+use Rattle.lft_graph.specs.Walks.{IsDone, IsLevelOf, tally, done_weight}
+use Rattle.lft_graph.proofs.Places.{get_unwritten}
 
 pub tally_written : (f : Mark → ℕ) (xs : List Mark) (i : ℕ) (x y : Mark) → slice_get xs i ≡ Some x → tally f (slice_set xs i y) + f x ≡ tally f xs + f y
 tally_written f [] i x y e = absurd (cc)

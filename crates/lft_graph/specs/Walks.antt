@@ -1,5 +1,5 @@
 -- How far lists are walked. The contracts of private functions alone need this file.
-use Rattle.std.specs.Prelude.{◌≡◌, ◌≢◌, ◌↔◌, ℕ, ◌+◌, ◌-◌, ◌<◌, ◌≤◌, ◌⊎◌, List, [], ◌∷◌, Option, Some, None, slice_get, length, Contains, nat_le, if◌then◌else◌}
+use Rattle.std.specs.Prelude.{◌≡◌, ◌≢◌, ℕ, ◌+◌, ◌-◌, ◌<◌, ◌≤◌, ◌⊎◌, List, [], ◌∷◌, Option, Some, slice_get, length, Contains, nat_le, if◌then◌else◌}
 use Rattle.lft_program.specs.Parts.{Parts}
 use Rattle.lft_program.specs.Origins.{Origin}
 use Rattle.lft_program.specs.declared.parts.Name.{Name}

@@ -1,12 +1,10 @@
 -- Whether a timer fires at a tag.
-use Rattle.std.proofs.Common.{◌≡◌, ℕ, ◌+◌, ◌-◌, ◌*◌, ◌/◌, ◌%◌, ◌<◌, ◌≤◌, inl, inr, refl, sym, ap, ◌∙◌, subst, arith, Some, None}
-use Rattle.std.proofs.lemmas.Nat.{div-add-mod', mod-mul-add, mul-le}
-use native.Mathlib.Decide.{ℕ_discrete, dec_lt}
+use Rattle.std.proofs.Common.{◌≡◌, ℕ, ◌+◌, ◌-◌, ◌*◌, ◌/◌, ◌%◌, ◌<◌, ◌≤◌, refl, ap, ◌∙◌, subst, arith}
+use Rattle.std.proofs.lemmas.Nat.{div-add-mod', mod-mul-add}
 use Rattle.lft_tag.specs.declared.Tag.{Tag}
-use Rattle.lft_tag.specs.Tags.{UpTo}
 use Rattle.lft_tag.proofs.Chains.{tag_of}
 use Rattle.lft_program.specs.declared.parts.Timer.{Timer as TimerOf}
-use Rattle.lft_model.specs.Presence.{stop, Fires}
+use Rattle.lft_model.specs.Presence.{Fires}
 
 pub time_of : (g : Tag) (time : ℕ) → g ≡ record { time = time; micro = 0 } → (g.time ≡ time) × (g.micro ≡ 0)
 time_of g time e = (ap (λ (z : Tag). z.time) e, ap (λ (z : Tag). z.micro) e)

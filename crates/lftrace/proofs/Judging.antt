@@ -1,22 +1,20 @@
 -- The verdict's reaction, and faults that tell nothing of the texts.
-use Rattle.std.proofs.Common.{◌≡◌, ◌≢◌, ℕ, ◌<◌, ◌≤◌, ◌⊎◌, inl, inr, List, length, Option, Some, None, true, false, refl, sym, ap, ◌∙◌, subst, arith, slice_get}
-use Rattle.lft_program.specs.declared.parts.Reaction.{Reaction}
+use Rattle.std.proofs.Common.{◌≡◌, ℕ, ◌<◌, inl, inr, List, length, Option, Some, None, true, sym, subst}
 use Rattle.lft_trace.specs.declared.row.Row.{Row}
-use Rattle.lft_trace.specs.declared.fault.TraceFault.{TraceFault}
 use Rattle.lft_trace.specs.Fits.{RowsFit}
 use Rattle.lft_trace.specs.Records.{records_of}
 use Rattle.lft_trace.specs.Traces.{Table}
 use Rattle.lft_model.specs.declared.breach.Breach.{Breach}
 use Rattle.lft_model.specs.Plans.{PlanParts}
-use Rattle.lft_model.specs.Presence.{stop, Triggered}
+use Rattle.lft_model.specs.Presence.{Triggered}
 use Rattle.lft_model.specs.Runs.{Ran}
-use Rattle.lft_model.specs.Breaches.{First, RowBreach, TagBreach, BreaksAt, BreaksTag}
+use Rattle.lft_model.specs.Breaches.{First, RowBreach, BreaksAt, BreaksTag}
 use Rattle.lft_model.proofs.Places.{slice_get_within}
 use Rattle.lft_check.specs.declared.verdict.Verdict.{Verdict}
-use Rattle.lft_check.specs.declared.verdict.Verdict.TheVariants.{Accepted, Broken}
+use Rattle.lft_check.specs.declared.verdict.Verdict.TheVariants.{Broken}
 use Rattle.lft_check.specs.Verdicts.{IsVerdict}
 use Rattle.lftrace.specs.Lines.{HasReaction}
-use Rattle.lftrace.specs.Meaning.{IsPlanOf, IsOnly, IsMeaning, Mean}
+use Rattle.lftrace.specs.Meaning.{IsPlanOf, IsOnly, Mean}
 use Rattle.lftrace.specs.Refusals.{JudgingRefusal, is_of_text}
 use Rattle.lftrace.specs.Refusals.JudgingRefusal.{by_workers, by_growth, by_writer}
 use Rattle.lftrace.specs.declared.fault.Fault.{Fault}

@@ -1,12 +1,11 @@
 -- What a refusal of one layer says of the texts.
-use Rattle.std.proofs.Common.{◌≡◌, ◌≢◌, ℕ, ◌≤◌, ◌<◌, List, length, take, Option, Some, None, Result, Ok, Err, true, false, refl, sym, ap, ◌∙◌, subst, arith, inl, inr}
+use Rattle.std.proofs.Common.{◌≡◌, ℕ, ◌≤◌, List, length, Result, Err, true, refl, sym, ◌∙◌, subst, arith, inl, inr}
 use Rattle.lft_syntax.specs.declared.token.Token.{Token}
 use Rattle.lft_syntax.specs.declared.fault.LexFault.{LexFault}
 use Rattle.lft_syntax.specs.declared.fault.LexFault.TheVariants as lex
 use Rattle.lft_syntax.specs.declared.fault.SyntaxFault.{SyntaxFault}
 use Rattle.lft_syntax.specs.declared.fault.SyntaxFault.TheVariants as syntax
 use Rattle.lft_syntax.specs.Lexes.{Lexes, LexFails}
-use Rattle.lft_syntax.specs.Lexeme.{Lexeme}
 use Rattle.lft_syntax.specs.View.{lexemes}
 use Rattle.lft_syntax.specs.Tree.{FileTree}
 use Rattle.lft_syntax.specs.Grammar.{Spells}

@@ -1,7 +1,5 @@
-use Rattle.std.proofs.Common.{◌≡◌, ℕ, ◌<◌, ◌∙◌, ap, sym, subst, length, Some, None, slice_get, slice_index_or, arith, []}
+use Rattle.std.proofs.Common.{◌≡◌, ◌<◌, ◌∙◌, ap, sym, subst, length, Some, None, slice_get, arith, []}
 use Rattle.std.proofs.lemmas.Option.{slice_get-get_or, get_or_from_slice_get}
-use Rattle.lft_program.specs.declared.parts.Name.{Name}
-use Rattle.lft_program.specs.declared.parts.Name.TheVariants.{Port}
 use Rattle.lft_program.specs.Origins.{Origin}
 use Rattle.lft_graph.specs.Walks.{IsUndelayed}
 use Rattle.lft_graph.proofs.Feeding.{origin_there, no_delay, kept_origin, last_at, last_there}

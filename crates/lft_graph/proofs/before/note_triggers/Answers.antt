@@ -1,4 +1,4 @@
-use Rattle.std.proofs.Common.{◌≡◌, ℕ, ◌+◌, ◌<◌, ◌∙◌, ◌∷◌, [], ◌++◌, ap, sym, subst, length, Some, slice_get, arith, List}
+use Rattle.std.proofs.Common.{◌≡◌, ℕ, ◌+◌, ◌∙◌, ◌∷◌, [], ◌++◌, ap, subst, length, Some, slice_get, arith}
 use Rattle.lft_program.specs.declared.parts.Name.{Name}
 use Rattle.lft_program.specs.declared.parts.Trigger.TheVariants.{On}
 use Rattle.lft_graph.specs.Before.{Writes, IsLastWriter}

@@ -1,12 +1,10 @@
-use Rattle.std.proofs.Common.{◌≡◌, ℕ, List, ◌+◌, ◌*◌, ◌<◌, ◌≤◌, length, slice_get, Some, Err, [], ◌∷◌, ◌++◌, slice_set, ap, ◌∙◌, sym, subst, arith, length-append}
+use Rattle.std.proofs.Common.{◌≡◌, ℕ, ◌+◌, ◌<◌, length, slice_get, Some, [], ◌∷◌, ◌++◌, slice_set, ap, ◌∙◌, subst, arith, length-append}
 use Rattle.std.proofs.lemmas.Option.{slice_get_within}
 use Rattle.lft_graph.specs.Loops.{IsLoopOf}
-use Rattle.lft_graph.specs.Walks.{IsStep, IsNext, IsCut, AreDone, tally, done_weight, new_weight}
+use Rattle.lft_graph.specs.Walks.{IsStep, IsNext, IsCut, tally, new_weight}
 use Rattle.lft_graph.specs.declared.levels.Mark.TheVariants.{New, Open, Done}
-use Rattle.lft_graph.specs.declared.levels.Next.TheVariants.{Level, Looped, First}
-use Rattle.lft_graph.specs.declared.fault.GraphFault.TheVariants.{CausalityLoop}
+use Rattle.lft_graph.specs.declared.levels.Next.TheVariants.{Looped, First}
 use Rattle.lft_graph.proofs.Walking.{tally_written, tally_all}
-use Rattle.lft_graph.proofs.Places.{get_unwritten}
 use Rattle.lft_graph.proofs.Settling.{Settling, settling_start, settling_level, settling_first, settling_looped, top_open, first_new}
 use Rattle.lft_graph.proofs.levels.settle.Goals as goal
 use Rattle.lft_graph.proofs.levels.settle.Goals.{In-Some, In-First, In-Level}

@@ -1,4 +1,4 @@
-use Rattle.std.proofs.Common.{◌≡◌, ◌≢◌, ℕ, ◌-◌, ◌<◌, length, Some, slice_get}
+use Rattle.std.proofs.Common.{◌≢◌, ℕ, ◌-◌, ◌<◌, length, Some, slice_get}
 use Rattle.lft_graph.proofs.loops.place_of.Given as goal
 
 abbrev pub invariant-places : goal.invariant-places

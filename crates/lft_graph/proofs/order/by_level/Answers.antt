@@ -1,4 +1,4 @@
-use Rattle.std.proofs.Common.{◌≡◌, ◌≤◌, length, arith, subst}
+use Rattle.std.proofs.Common.{◌≡◌, length, arith, subst}
 use Rattle.lft_graph.proofs.Arranging.{Paired, Arranged, are_by_level}
 use Rattle.lft_graph.proofs.order.by_level.Goals as goal
 

@@ -1,4 +1,4 @@
-use Rattle.std.proofs.Common.{◌≡◌, ℕ, ◌+◌, ◌<◌, ◌≤◌, ◌∙◌, ap, sym, subst, length, Some, slice_get, arith, List, Option, slice_set}
+use Rattle.std.proofs.Common.{◌≡◌, ℕ, ◌+◌, ◌∙◌, ap, Some, slice_get, arith, slice_set}
 use Rattle.std.proofs.lemmas.Option.{slice_get_within}
 use Rattle.lft_program.specs.declared.parts.Name.TheVariants.{Port}
 use Rattle.lft_graph.proofs.Places.{contains_at, at_contains}

@@ -1,4 +1,3 @@
-use Rattle.std.proofs.Common.{length}
 use Rattle.lft_graph.proofs.Writing.{Noted}
 use Rattle.lft_graph.proofs.writers.note_effects.Given as goal
 

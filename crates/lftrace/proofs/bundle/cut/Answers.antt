@@ -1,4 +1,4 @@
-use Rattle.std.proofs.Common.{◌+◌, length, sym, subst, take, drop, refl}
+use Rattle.std.proofs.Common.{◌+◌, length, sym, subst, take, refl}
 use Rattle.lftrace.specs.Bundles.{IsCut}
 use Rattle.lftrace.proofs.Texts.{cut_at, rest_from}
 use Rattle.lftrace.proofs.bundle.cut.Goals as goal

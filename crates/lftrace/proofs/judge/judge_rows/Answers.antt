@@ -1,7 +1,6 @@
-use Rattle.std.proofs.Common.{◌≡◌, ◌⊎◌, inl, inr, refl, subst}
+use Rattle.std.proofs.Common.{inl, inr, refl, subst}
 use Rattle.lftrace.specs.Lines.{line_of}
 use Rattle.lftrace.specs.Written.{AppendsFront}
-use Rattle.lftrace.specs.Refusals.{JudgingRefusal}
 use Rattle.lftrace.specs.Refusals.JudgingRefusal.{by_growth, by_writer}
 use Rattle.lftrace.proofs.judge.judge_rows.Goals as goal
 

@@ -1,4 +1,4 @@
-use Rattle.std.proofs.Common.{◌≡◌, IfErr, Result, Ok, Err, refl, Option, List, ℕ}
+use Rattle.std.proofs.Common.{IfErr, Result, Ok, Err, Option, List, ℕ}
 use Rattle.lft_model.specs.Plans.{PlanParts}
 use Rattle.lft_trace.specs.declared.row.Row.{Row}
 use Rattle.lft_check.specs.declared.verdict.Verdict.{Verdict}

@@ -1,4 +1,3 @@
-use Rattle.std.proofs.Common.{◌≡◌, true}
 use Rattle.lftrace.specs.Refusals.LoadRefusal.{by_program, by_externals, by_graph}
 use Rattle.lftrace.specs.declared.fault.Part.TheVariants as part
 use Rattle.lftrace.specs.Faults.{table_number}

@@ -1,4 +1,3 @@
-use Rattle.std.proofs.Common.{◌≡◌, true}
 use Rattle.lft_syntax.specs.View.{tree_view}
 use Rattle.lftrace.specs.Refusals.ProgramRefusal.{by_tree, by_flat}
 use Rattle.lftrace.specs.declared.fault.Part.TheVariants as part

@@ -1,5 +1,3 @@
-use Rattle.std.proofs.Common.{◌≡◌, true, sym}
-use Rattle.lft_syntax.specs.View.{tree_view}
 use Rattle.lftrace.specs.Refusals.TreeRefusal.{by_lex, by_syntax}
 use Rattle.lftrace.specs.declared.fault.Part.TheVariants as part
 use Rattle.lftrace.specs.Faults.{syntax_number}

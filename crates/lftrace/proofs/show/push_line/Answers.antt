@@ -1,4 +1,4 @@
-use Rattle.std.proofs.Common.{◌≡◌, ℕ, [], ◌++◌, OnOk, Result, Ok, Err, get_or, string_bytes, sym, ap, ◌∙◌}
+use Rattle.std.proofs.Common.{[], ◌++◌, OnOk, Result, Ok, Err, get_or, string_bytes, sym, ap, ◌∙◌}
 use Rattle.lftrace.specs.Shown.{reaction_words}
 use Rattle.lftrace.proofs.Listed.{before_within, get_or_at}
 use Rattle.lftrace.proofs.show.push_line.Goals as goal

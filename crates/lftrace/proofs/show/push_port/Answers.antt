@@ -1,4 +1,3 @@
-use Rattle.std.proofs.Common.{◌≡◌}
 use Rattle.lftrace.proofs.Listed.{origin_within}
 use Rattle.lftrace.proofs.show.push_port.Goals as goal
 

@@ -1,4 +1,4 @@
-use Rattle.std.proofs.Common.{◌≡◌, ℕ, true, OnErr, IfErr, Result, Ok, Err, Option, List, subst, sym, ◌∙◌}
+use Rattle.std.proofs.Common.{◌≡◌, ℕ, OnErr, IfErr, Result, Ok, Err, Option, List, subst, ◌∙◌}
 use Rattle.lft_program.specs.Parts.{Parts}
 use Rattle.lft_graph.specs.Graph.{GraphParts, IsGraphOf}
 use Rattle.lft_graph.specs.Precedence.{HasNoLoop}

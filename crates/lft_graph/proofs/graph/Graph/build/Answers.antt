@@ -1,5 +1,5 @@
-use Rattle.std.proofs.Common.{◌≡◌, ℕ, List, Err, sym, subst}
-use Rattle.lft_graph.specs.Loops.{IsLoop, IsLoopOf}
+use Rattle.std.proofs.Common.{◌≡◌, sym, subst}
+use Rattle.lft_graph.specs.Loops.{IsLoopOf}
 use Rattle.lft_graph.specs.Graph.{AreLevels, AreByLevel}
 use Rattle.lft_graph.specs.Walks.{AreInside, IsStep}
 use Rattle.lft_graph.specs.declared.fault.GraphFault.TheVariants.{CausalityLoop}

@@ -1,4 +1,4 @@
-use Rattle.std.proofs.Common.{◌≡◌, true, false, sym, ap, ◌∙◌}
+use Rattle.std.proofs.Common.{◌≡◌, sym, ◌∙◌}
 use Rattle.lft_program.specs.Places.{names_from}
 use Rattle.lft_program.proofs.Ranges.{same_texts, same_starts}
 use Rattle.lft_program.proofs.names.NameTable.same.Goals as goal

@@ -1,4 +1,4 @@
-use Rattle.std.proofs.Common.{◌≡◌, ℕ, subst, Some, slice_get}
+use Rattle.std.proofs.Common.{◌≡◌, subst, Some, slice_get}
 use Rattle.lft_graph.proofs.Cycles.{member_within}
 use Rattle.lftrace.proofs.fault.Fault.graph.Goals as goal
 
