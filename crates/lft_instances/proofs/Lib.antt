@@ -11,4 +11,7 @@ pub mod Exploring
 pub mod Things
 pub mod Siblings
 pub mod Entering
+pub mod Joining
+pub mod Lawful
+pub mod Listing
 mod Samples

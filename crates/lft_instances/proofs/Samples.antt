@@ -6,6 +6,8 @@ use Rattle.lft_instances.specs.declared.settings.Given.{Given}
 use Rattle.lft_instances.specs.Numbers.{count_of, things}
 use Rattle.lft_instances.specs.Children.{child_of}
 use Rattle.lft_instances.specs.Values.{clock_in, values_in}
+use Rattle.lft_instances.specs.declared.joins.End.TheVariants.{Own, Inner}
+use Rattle.lft_instances.specs.Joins.{port_of, joins_of}
 
 abbrev of_reactor : ℕ → Instance
 of_reactor r = record { reactor = r; parent = 0; place = 0 }
@@ -38,3 +40,22 @@ with_given = refl
 
 past_the_end : clock_in (7 ∷ 8 ∷ []) (Parameter 2) ≡ 0
 past_the_end = refl
+
+-- instance 0 has ports 0 to 3, instance 1 those from 4 on and instance 4 those from 24 on
+abbrev first_ports : List ℕ
+first_ports = 0 ∷ 4 ∷ 4 ∷ 14 ∷ 24 ∷ []
+
+own_of_second : port_of first_ports rows 1 (Own 3) ≡ Some 7
+own_of_second = refl
+
+inner_of_second : port_of first_ports rows 1 (Inner 1 2) ≡ Some 16
+inner_of_second = refl
+
+inner_of_first : port_of first_ports rows 0 (Inner 1 0) ≡ Some 24
+inner_of_first = refl
+
+no_such_inner : port_of first_ports rows 4 (Inner 0 0) ≡ None
+no_such_inner = refl
+
+no_joins : joins_of [] 3 ≡ []
+no_joins = refl

@@ -7,3 +7,5 @@ pub mod Stages
 pub mod Numbers
 pub mod Children
 pub mod Values
+pub mod Joins
+pub mod Listing

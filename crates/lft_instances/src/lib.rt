@@ -1,8 +1,9 @@
 #![tactic(auto)]
 //! What flattening computes over numbers alone: whether a reactor contains itself, all instances of
-//! a main reactor in pre-order, the numbers of what they declare, and where the chain of connections
-//! into each port begins.
+//! a main reactor in pre-order, the numbers of what they declare, which connection leads into each
+//! port, and where the chain of connections into it begins.
 
+mod joins;
 mod nesting;
 mod numbering;
 mod origins;
@@ -12,8 +13,9 @@ mod settings;
 mod tests;
 mod walk;
 
+pub use joins::{Connections, End, Join, find_sources};
 pub use nesting::Children;
-pub use numbering::first_numbers;
+pub use numbering::{Thing, first_numbers, list_things};
 pub use origins::{OriginFault, Reached, Source, find_origins};
 pub use recursion::is_recursive;
 pub use settings::{Clock, Given, Parameters, Values};

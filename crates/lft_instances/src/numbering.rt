@@ -1,7 +1,8 @@
 //! The numbers of what instances declare.
 
-ghost use Rattle.std.specs.Prelude.{◌≡◌, ℕ, ◌<◌, ◌≤◌, List, IfOk, IfSome, IfNone, MatchOption};
+ghost use Rattle.std.specs.Prelude.{◌≡◌, ℕ, ◌<◌, ◌≤◌, List, length, IfOk, IfSome, IfNone, MatchOption};
 ghost use Rattle.lft_instances.specs.Contents.{IsWalk};
+ghost use Rattle.lft_instances.specs.Listing.{AreListed};
 ghost use Rattle.lft_instances.specs.Numbers.{AreFirst, HasMoreThings, count_of, things};
 ghost use Rattle.lft_instances.specs.declared.walk.Contents.{Contents};
 
@@ -9,11 +10,31 @@ use crate::walk::{Instance, instance_at};
 use lft_tag::NoMemory;
 use std::alloc::Global;
 
+/// What an instance declares, as a port, a timer, an action or a reaction: the number of the
+/// instance, and the place among those of its reactor, counted from 0.
+#[derive(Clone, Copy, PartialEq, Eq, Debug, Drop)]
+pub struct Thing {
+    pub instance: u32,
+    pub place: u32,
+}
+
 // how many things a reactor declares
 fn count_at(counts: &[u32], reactor: u32) -> u32
     ensures { result ≡ count_of counts.now reactor }
 {
     counts.get(reactor as usize).copied().unwrap_or(0)
+}
+
+// how many things the instances have
+pub(crate) fn count_things(counts: &[u32], instances: &[Instance]) -> usize
+    requires { things counts.now instances.now ≤ 100000 }
+    ensures { result ≡ things counts.now instances.now }
+{
+    let mut total = 0;
+    'instances: for number in 0..instances.len() {
+        total += count_at(counts, instance_at(instances, number).reactor) as usize;
+    }
+    total
 }
 
 /// The number of each instance's first thing of one kind, or None where the instances have more
@@ -46,4 +67,27 @@ pub fn first_numbers(
         total += count;
     }
     Ok(Some(firsts))
+}
+
+/// The instance that declares each thing of one kind, and its place there, by the thing's number.
+/// The counts are those of `first_numbers`.
+pub fn list_things(
+    alloc: Global,
+    instances: &[Instance],
+    counts: &[u32],
+) -> Result<Vec<Thing>, NoMemory>
+    requires { length instances.now ≤ 10000 }
+    ensures { IfOk result (λ v. AreListed counts.now instances.now v.items) }
+{
+    let mut all = Vec::new(alloc);
+    'instances: for number in 0..instances.len() {
+        let reactor = instance_at(instances, number).reactor;
+        'things: for place in 0..count_at(counts, reactor) {
+            all.push(Thing {
+                instance: number as u32,
+                place,
+            })?;
+        }
+    }
+    Ok(all)
 }

@@ -6,6 +6,8 @@ use std::alloc::Global;
 use std::process::Abort;
 use std::test::Fail;
 
+mod sources;
+
 /// Reactors of which each contains the next one twice, but for the last.
 fn doubling(alloc: Global, reactors: u32) -> Result<Vec<Contents>, Fail> {
     let mut table = Vec::new(alloc);
@@ -185,6 +187,21 @@ fn numbers_things_by_instance(rt: HostRuntime) -> Result<(), Fail> {
     let firsts = first_numbers(alloc, &made, &counts, 34)?;
     assert_eq!(rt; firsts, Some(listed(alloc, &[0, 4, 4, 14, 24, 34])?));
     assert_eq!(rt; first_numbers(alloc, &made, &counts, 33)?, None);
+    Ok(())
+}
+
+#[test]
+fn lists_things_by_number(rt: HostRuntime) -> Result<(), Fail> {
+    let alloc = rt.alloc();
+    let table = table_of(alloc, &[&[2, 1, 3], &[], &[1, 1]])?;
+    let made = all_instances(alloc, &table, 0)?;
+    // instances of 0, 2, 1, 1, 1 and 3, which declares nothing
+    let all = list_things(alloc, &made, &[3, 1, 0])?;
+    let want = [(0, 0), (0, 1), (0, 2), (2, 0), (3, 0), (4, 0)];
+    assert_eq!(rt; all.len(), want.len());
+    for (thing, expected) in all.iter().zip(&want) {
+        assert_eq!(rt; (thing.instance, thing.place), *expected);
+    }
     Ok(())
 }
 
