@@ -11,9 +11,9 @@ use Rattle.lft_syntax.proofs.Once.{three_ways}
 use Rattle.lft_syntax.specs.Lexes.{Run, Quoted, ends, escaped, plain, form_of, Reads, Piece}
 
 -- what is known of the first two bytes of a form
-abbrev Begins : ℕ → Option ℕ → Form → Type 0
+abbrev pub Begins : ℕ → Option ℕ → Form → Type 0
 Begins b next LineComment = is_in_line b ≡ true
-Begins b next Name = is_word b ≡ true
+Begins b next Name = is_letter b ≡ true
 Begins b next Digits = is_digit b ≡ true
 Begins b next Arrow = is_byte 62 next ≡ true
 Begins b next _ = Unit {0}
@@ -39,7 +39,7 @@ second : (x y : Bool) → (x && y) ≡ true → y ≡ true
 second true y e = e
 second false y e = cc
 
-begins : (b : ℕ) (next : Option ℕ) → Begins b next (form_of b next)
+pub begins : (b : ℕ) (next : Option ℕ) → Begins b next (form_of b next)
 begins b next =
     let P = λ (f : Form). Begins b next f in
     either P (is_space b) Space _ (λ e. tt)
@@ -48,7 +48,7 @@ begins b next =
     (either P (nat_eq b 47 && is_byte 42 next) StarComment _ (λ e. tt)
     (either P (nat_eq b 123 && is_byte 61 next) Code _ (λ e. tt)
     (either P (nat_eq b 34) Text _ (λ e. tt)
-    (either P (is_letter b) Name _ (letter_in_word b)
+    (either P (is_letter b) Name _ (λ e. e)
     (either P (is_digit b) Digits _ (λ e. e)
     (either P (nat_eq b 45 && is_byte 62 next) Arrow _ (second (nat_eq b 45) (is_byte 62 next))
     (either P (within 33 126 b) Symbol Unknown (λ e. tt) tt)))))))))
@@ -57,7 +57,7 @@ true_is_false : true ≡ false → ⊥
 true_is_false e = cc
 
 -- the byte that a piece begins with, as it is read
-read_there : (t : List ℕ) (i b : ℕ) → slice_get t i ≡ Some b → slice_index t i ≡ b
+pub read_there : (t : List ℕ) (i b : ℕ) → slice_get t i ≡ Some b → slice_index t i ≡ b
 read_there t i b e = let h = slice_get-get_or t i 0 (slice_get_within t i b e) in cc
 
 -- a run over a byte of its class goes past it
@@ -91,7 +91,7 @@ reads_further t i b LineComment j kind e h r = run_further is_in_line t i j b e 
 reads_further t i b StarComment j kind e h r = omega (arith, r.0.order, r.0.past)
 reads_further t i b Code j kind e h r = omega (arith, r.0.order, r.0.past)
 reads_further t i b Text j kind e h r = let lt = quoted_further t r.0 in omega arith
-reads_further t i b Name j kind e h r = run_further is_word t i j b e h r.0
+reads_further t i b Name j kind e h r = run_further is_word t i j b e (letter_in_word b h) r.0
 reads_further t i b Digits j kind e h r = run_further is_digit t i j b e h r.0
 reads_further t i b Arrow j kind e h r = omega (arith, r.0)
 reads_further t i b Symbol j kind e h r = omega (arith, r.0)

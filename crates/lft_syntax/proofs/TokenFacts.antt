@@ -1,5 +1,5 @@
 -- What is known of the tokens of a text.
-use Rattle.std.proofs.Common.{◌≡◌, ℕ, ◌+◌, ◌-◌, ◌<◌, ◌≤◌, true, List, length, get_or, drop, Some, None, IsUtf8, IsAscii, sym, subst, ◌∙◌, arith, length-take, length-drop}
+use Rattle.std.proofs.Common.{◌≡◌, ℕ, ◌+◌, ◌-◌, ◌<◌, ◌≤◌, true, List, length, get_or, drop, Some, None, IsUtf8, IsAscii, sym, ap, subst, ◌∙◌, arith, length-take, length-drop}
 use Rattle.std.specs.Prelude.{slice_get, slice_index, slice_range}
 use Rattle.std.specs.List.{All}
 use Rattle.std.proofs.lemmas.List.{get_or-take, get_or-drop}
@@ -13,14 +13,15 @@ use Rattle.lft_syntax.specs.declared.token.TokenKind.{TokenKind}
 use Rattle.lft_syntax.specs.declared.token.TokenKind.TheVariants as kinds
 use Rattle.lft_syntax.specs.declared.form.Form.{Form}
 use Rattle.lft_syntax.specs.declared.form.Form.TheVariants.{Space, LineComment, StarComment, Code, Text, Name, Digits, Arrow, Symbol, Unknown}
-use Rattle.lft_syntax.specs.Bytes.{is_word}
+use Rattle.lft_syntax.specs.Bytes.{is_letter, is_word}
 use Rattle.lft_syntax.specs.Lexes.{Run, form_of, Reads, Piece, Cut, done, piece, Lexes}
-use Rattle.lft_syntax.proofs.Pieces.{piece_further, piece_within}
+use Rattle.lft_syntax.proofs.Pieces.{Begins, begins, read_there, piece_further, piece_within}
 
--- a token lies in the text and isn't empty, and a name has letters, digits and underscores alone
+-- a token lies in the text and isn't empty, and a name begins with a letter or underscore and has letters, digits and underscores alone
 pub record InText (t : List ℕ) (k : Token) : Type 0 where
   pub order : k.start < k.end
   pub within : k.end ≤ length t
+  pub first : k.kind ≡ kinds.Name → is_letter (slice_index t k.start) ≡ true
   pub letters : k.kind ≡ kinds.Name → (j : ℕ) → k.start ≤ j → j < k.end → is_word (slice_index t j) ≡ true
 
 named : (t : List ℕ) (i b : ℕ) (f : Form) (j : ℕ) (kind : TokenKind) → Reads t i b f j (Some kind) → kind ≡ kinds.Name → Run is_word t i j
@@ -35,14 +36,27 @@ named t i b Arrow j kind r e = let n = r.1 in cc
 named t i b Symbol j kind r e = let n = r.1 in cc
 named t i b Unknown j kind r e = absurd r
 
+lettered : (t : List ℕ) (i b : ℕ) (f : Form) (j : ℕ) (kind : TokenKind) → Begins b (slice_get t (i + 1)) f → Reads t i b f j (Some kind) → kind ≡ kinds.Name → is_letter b ≡ true
+lettered t i b Space j kind h r e = let n = r.1 in cc
+lettered t i b LineComment j kind h r e = let n = r.1 in cc
+lettered t i b StarComment j kind h r e = let n = r.1 in cc
+lettered t i b Code j kind h r e = let n = r.1 in cc
+lettered t i b Text j kind h r e = let n = r.1 in cc
+lettered t i b Name j kind h r e = h
+lettered t i b Digits j kind h r e = let n = r.2 in cc
+lettered t i b Arrow j kind h r e = let n = r.1 in cc
+lettered t i b Symbol j kind h r e = let n = r.1 in cc
+lettered t i b Unknown j kind h r e = absurd r
+
 piece_token : (t : List ℕ) (i m : ℕ) (kind : TokenKind) → Piece t i (Some kind) m → InText t (record { kind = kind; start = i; end = m })
 piece_token t i m kind p = record {
   order = piece_further t i (Some kind) m p;
   within = piece_within t i (Some kind) m p;
+  first = λ e. ap is_letter (read_there t i p.byte p.there) ∙ lettered t i p.byte (form_of p.byte (slice_get t (i + 1))) m kind (begins p.byte (slice_get t (i + 1))) p.reads e;
   letters = λ e j. let run = named t i p.byte (form_of p.byte (slice_get t (i + 1))) m kind p.reads e in run.each j;
 }
 
-cut_tokens : (t : List ℕ) {i j : ℕ} {tokens : List Token} → Cut t i tokens j → All (InText t) tokens
+pub cut_tokens : (t : List ℕ) {i j : ℕ} {tokens : List Token} → Cut t i tokens j → All (InText t) tokens
 cut_tokens t done = All-nil (InText t)
 cut_tokens t (piece {kind = None} p rest) = cut_tokens t rest
 cut_tokens t (piece {i = i} {m = m} {kind = Some kind} {tokens = tokens} p rest) = All-cons (InText t) (record { kind = kind; start = i; end = m }) tokens (piece_token t i m kind p) (cut_tokens t rest)

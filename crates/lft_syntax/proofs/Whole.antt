@@ -1,14 +1,13 @@
 -- What reading a whole text says of all other texts.
 use Rattle.std.proofs.Common.{◌≡◌, ℕ, zero, suc, ◌+◌, ◌≤◌, ◌<◌, Bool, true, false, List, [], ◌∷◌, length, take, Option, Result, Ok, Err, refl, sym, ap, subst, ◌∙◌, arith, cond, inl, inr}
-use Rattle.std.specs.Prelude.{slice_get, codes, IfOk}
+use Rattle.std.specs.Prelude.{slice_get, codes}
 use Rattle.std.proofs.lemmas.Option.{slice_get_cases, slice_get_past}
 use Rattle.lft_syntax.specs.declared.fault.SyntaxFault.{SyntaxFault}
 use Rattle.lft_syntax.specs.declared.fault.SyntaxFault.TheVariants as faults
-use Rattle.lft_syntax.specs.declared.tree.Ast.{Ast}
+use Rattle.lft_syntax.specs.declared.ast.Ast.{Ast}
 use Rattle.lft_syntax.specs.Lexeme.{Lexeme, Letters, is, is_there}
 use Rattle.lft_syntax.specs.Tree.{FileTree, ItemTree, Range}
 use Rattle.lft_syntax.specs.Grammar.{file, file_of, Spells}
-use Rattle.lft_syntax.specs.View.{tree_view}
 use Rattle.lft_syntax.specs.Reading.{Reading, ◌>>=◌, maybe, many_at, target_at, item_at, items_at, file_at, whole_at}
 use Rattle.lft_syntax.proofs.Algebra.{near, Outcome, Agree, Test}
 use Rattle.lft_syntax.proofs.Files.{AtEnd, right_file}
@@ -96,19 +95,10 @@ read_fault ws k e =
     let w : Whole ws (Err k) = subst (Whole ws) e (whole_right ws) in
     (omega arith, omega (arith, w.0), λ others tree same s. w.1 others tree (λ i lt. agree_take (k + 1) ws others same i (omega arith)) s)
 
--- the two clauses, for what the parser returns
-abbrev pub TreeClause : List Lexeme → Result Ast SyntaxFault → Type 0
-TreeClause words result = IfOk result (λ t. Spells (tree_view t) words × ((other : FileTree) → Spells other words → other ≡ tree_view t))
-
-abbrev pub UnexpectedClause : List Lexeme → Result Ast SyntaxFault → Type 0
+-- what the parser ensures of a text that no tree spells
+abbrev UnexpectedClause : List Lexeme → Result Ast SyntaxFault → Type 0
 UnexpectedClause words result = (k : ℕ) → result ≡ Err (faults.Unexpected k)
     → (0 < k) × (k ≤ length words + 1) × ((others : List Lexeme) (tree : FileTree) → take k others ≡ take k words → Spells tree others → ⊥)
 
-pub tree_given : (words : List Lexeme) (tree : Ast) → whole_at words ≡ Ok (tree_view tree) → TreeClause words (Ok tree) × UnexpectedClause words (Ok tree)
-tree_given words tree e = (read_tree words (tree_view tree) e, λ k same. absurd cc)
-
-pub fault_given : (words : List Lexeme) (at : ℕ) → whole_at words ≡ Err at → TreeClause words (Err (faults.Unexpected (at + 1))) × UnexpectedClause words (Err (faults.Unexpected (at + 1)))
-fault_given words at e = (tt, λ k same. let k-is : at + 1 ≡ k = cc in rw (← k-is) (read_fault words at e))
-
-pub memory_refused : (words : List Lexeme) → TreeClause words (Err faults.NoMemory) × UnexpectedClause words (Err faults.NoMemory)
-memory_refused words = (tt, λ k same. absurd cc)
+pub fault_given : (words : List Lexeme) (at : ℕ) → whole_at words ≡ Err at → UnexpectedClause words (Err (faults.Unexpected (at + 1)))
+fault_given words at e k same = let k-is : at + 1 ≡ k = cc in rw (← k-is) (read_fault words at e)

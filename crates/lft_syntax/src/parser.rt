@@ -2,6 +2,7 @@
 
 ghost use Rattle.std.specs.Prelude.{◌≡◌, ℕ, ◌<◌, ◌≤◌, ◌+◌, List, length, take, IfOk, Err};
 ghost use Rattle.lft_syntax.specs.declared.fault.SyntaxFault as SyntaxFault;
+ghost use Rattle.lft_syntax.specs.Identifiers.{HasIdentifiers};
 ghost use Rattle.lft_syntax.specs.Lexes.{Lexes};
 ghost use Rattle.lft_syntax.specs.Lexeme.{Lexeme};
 ghost use Rattle.lft_syntax.specs.Tree.{FileTree};
@@ -22,11 +23,11 @@ mod tokens;
 mod types;
 mod values;
 
+use crate::ast::Ast;
 use crate::fault::SyntaxFault;
 use crate::input::Input;
 use crate::parse_error::ParseError;
 use crate::token::Tokens;
-use crate::tree::Ast;
 use std::alloc::Global;
 
 /// The tree of a program text, from the text and its tokens. Where they spell none, the fault has
@@ -34,6 +35,7 @@ use std::alloc::Global;
 pub fn parse(alloc: Global, text: &[u8], tokens: &Tokens) -> Result<Ast, SyntaxFault>
     requires lexed { Lexes text.now tokens.now }
     ensures tree { IfOk result (λ t. Spells (tree_view t) (lexemes text.now tokens.now) × ((other : FileTree) → Spells other (lexemes text.now tokens.now) → other ≡ tree_view t)) }
+    ensures identifiers { IfOk result (λ t. HasIdentifiers (tree_view t)) }
     ensures unexpected { (k : ℕ) → result ≡ Err (SyntaxFault.Unexpected k) → (0 < k) × (k ≤ length tokens.now + 1) × ((others : List Lexeme) (tree : FileTree) → take k others ≡ take k (lexemes text.now tokens.now) → Spells tree others → ⊥) }
 {
     let input = Input {
@@ -42,7 +44,10 @@ pub fn parse(alloc: Global, text: &[u8], tokens: &Tokens) -> Result<Ast, SyntaxF
         tokens: tokens.as_slice(),
     };
     match file::whole(&input) {
-        Ok(tree) => Ok(tree),
+        Ok(content) => Ok(Ast {
+            target: content.target,
+            items: content.items,
+        }),
         Err(ParseError::Memory) => Err(SyntaxFault::NoMemory),
         Err(ParseError::Unexpected(at)) => Err(SyntaxFault::Unexpected(at + 1)),
     }

@@ -1,4 +1,4 @@
-//! The tree of a program text.
+//! The parts of the tree of a program text.
 
 /// A unit of time.
 #[derive(Clone, Copy, Debug, PartialEq, Eq)]
@@ -138,11 +138,4 @@ pub struct Reactor {
 pub enum Item {
     Preamble(TokenRange),
     Reactor(Reactor),
-}
-
-/// The tree of a program text. The target is a range of tokens.
-#[derive(Debug, Drop)]
-pub struct Ast {
-    pub target: Option<TokenRange>,
-    pub items: Vec<Item>,
 }

@@ -2,7 +2,7 @@
 
 ghost use Rattle.std.specs.Prelude.{◌≡◌, ℕ, codes, option_map};
 ghost use Rattle.lft_syntax.specs.Lexeme.{Symbol, Letters, is};
-ghost use Rattle.lft_syntax.specs.View.{Gives, at_next, range_view, item_view, item_views, tree_view};
+ghost use Rattle.lft_syntax.specs.View.{Gives, at_next, range_view, item_view, item_views, file_view};
 ghost use Rattle.lft_syntax.specs.Reading.{maybe, ignoring_at, braces_at, target_at, item_at, items_at, file_at, whole_at};
 ghost use Rattle.lft_syntax.specs.Parsing.{words};
 
@@ -13,7 +13,7 @@ use crate::parser::groups::braces;
 use crate::parser::names::{is_preamble_key, skip_name};
 use crate::parser::reactors::reactor;
 use crate::parser::tokens::{is_key, is_symbol, is_there, key};
-use crate::tree::{Ast, Item, TokenRange};
+use crate::tree::{Item, TokenRange};
 
 /// The target's properties, which may be left out.
 fn properties(input: &Input, at: usize) -> Result<usize, ParseError>
@@ -72,20 +72,27 @@ fn items(input: &Input, at: usize) -> Result<(Vec<Item>, usize), ParseError>
     Ok((items, next))
 }
 
+/// What stands in a file, of which an `Ast` is made once its names are known to be identifiers.
+#[derive(Drop)]
+pub struct Content {
+    pub target: Option<TokenRange>,
+    pub items: Vec<Item>,
+}
+
 #[tactic(auto, unfolding(crate::specs::Reading::file_at))]
-fn file(input: &Input, at: usize) -> Result<(Ast, usize), ParseError>
-    ensures { Gives (λ x. (tree_view x.0, x.1)) result (file_at (words input.now) at) }
+fn file(input: &Input, at: usize) -> Result<(Content, usize), ParseError>
+    ensures { Gives (λ x. (file_view x.0.target x.0.items.items, x.1)) result (file_at (words input.now) at) }
 {
     let (target, at) = left_out_target(input, at)?;
     let (items, at) = items(input, at)?;
-    Ok((Ast { target, items }, at))
+    Ok((Content { target, items }, at))
 }
 
-/// The tree of the whole text.
+/// What stands in the whole text.
 #[tactic(auto, unfolding(crate::specs::Reading::whole_at))]
-pub fn whole(input: &Input) -> Result<Ast, ParseError>
-    ensures { Gives tree_view result (whole_at (words input.now)) }
+pub fn whole(input: &Input) -> Result<Content, ParseError>
+    ensures { Gives (λ x. file_view x.target x.items.items) result (whole_at (words input.now)) }
 {
-    let (tree, _) = file(input, 0)?;
-    Ok(tree)
+    let (content, _) = file(input, 0)?;
+    Ok(content)
 }

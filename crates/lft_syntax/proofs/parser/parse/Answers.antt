@@ -1,15 +1,21 @@
 use Rattle.std.proofs.Common.{◌≡◌, ℕ, List, length, sym, ◌∙◌, ap, arith, Ok, Err}
 use Rattle.std.proofs.lemmas.List.{length-map}
 use Rattle.lft_syntax.specs.declared.token.Token.{Token}
-use Rattle.lft_syntax.specs.View.{lexemes, lexeme_of, tree_view}
+use Rattle.lft_syntax.specs.Tree.{FileTree}
+use Rattle.lft_syntax.specs.Grammar.{Spells}
+use Rattle.lft_syntax.specs.View.{lexemes, lexeme_of, file_view}
 use Rattle.lft_syntax.specs.Reading.{whole_at}
 use Rattle.lft_syntax.proofs.TokenFacts.{InText, token_at, name_ascii}
-use Rattle.lft_syntax.proofs.Whole.{tree_given, fault_given, read_fault}
+use Rattle.lft_syntax.proofs.Whole.{read_tree, fault_given, read_fault}
+use Rattle.lft_syntax.proofs.DeclaredNames.{has_identifiers}
 use Rattle.lft_syntax.proofs.parser.parse.Goals as goal
 
 lexemes_length : (text : List ℕ) (tokens : List Token) → length (lexemes text tokens) ≡ length tokens
 unfolding lexemes
 lexemes_length text tokens = length-map tokens (lexeme_of text)
+
+only_tree : (text : List ℕ) {slice tokens : List Token} {tree : FileTree} → slice ≡ tokens → whole_at (lexemes text slice) ≡ Ok tree → Spells tree (lexemes text tokens) × ((other : FileTree) → Spells other (lexemes text tokens) → other ≡ tree)
+only_tree text {tokens = tokens} {tree = tree} same e = read_tree (lexemes text tokens) tree (ap (λ (l : List Token). whole_at (lexemes text l)) (sym same) ∙ e)
 
 pub invariant_of-input : goal.invariant_of-input
 invariant_of-input c =
@@ -25,14 +31,17 @@ overflow_add-result c =
     let same = lexemes_length c.args.text.now c.as_slice.result.now in
     omega (arith, c.as_slice.type_inv.0, c.as_slice.type_inv.1)
 
+pub invariant_of-result : goal.invariant_of-result
+invariant_of-result c =
+    let tree = file_view c.in-Ok.content.target c.in-Ok.content.items.items in
+    record { identifiers = has_identifiers c.args.text.now c.args.tokens.now tree c.requires.lexed (only_tree c.args.text.now c.as_slice.ensures c.in-Ok.ensures).0 }
+
 pub returns-in-Ok-clause-tree : goal.returns-in-Ok-clause-tree
-returns-in-Ok-clause-tree c =
-    let e : whole_at (lexemes c.args.text.now c.as_slice.result.now) ≡ Ok (tree_view c.in-Ok.tree) = c.in-Ok.ensures in
-    (tree_given (lexemes c.args.text.now c.args.tokens.now) c.in-Ok.tree (ap (λ (l : List Token). whole_at (lexemes c.args.text.now l)) (sym c.as_slice.ensures) ∙ e)).0
+returns-in-Ok-clause-tree c = only_tree c.args.text.now c.as_slice.ensures c.in-Ok.ensures
 
 pub returns-in-Err-Unexpected-clause-unexpected : goal.returns-in-Err-Unexpected-clause-unexpected
 returns-in-Err-Unexpected-clause-unexpected c =
     let e : whole_at (lexemes c.args.text.now c.as_slice.result.now) ≡ Err c.in-Err-Unexpected.at = rw c.in-Err-Unexpected.field-0-is at c.in-Err-Unexpected.ensures in
     let f : whole_at (lexemes c.args.text.now c.args.tokens.now) ≡ Err c.in-Err-Unexpected.at = ap (λ (l : List Token). whole_at (lexemes c.args.text.now l)) (sym c.as_slice.ensures) ∙ e in
     let same = lexemes_length c.args.text.now c.args.tokens.now in
-    rw (← same) (fault_given (lexemes c.args.text.now c.args.tokens.now) c.in-Err-Unexpected.at f).1
+    rw (← same) (fault_given (lexemes c.args.text.now c.args.tokens.now) c.in-Err-Unexpected.at f)
