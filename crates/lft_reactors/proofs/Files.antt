@@ -10,7 +10,7 @@ use Rattle.lft_reactors.specs.Places.{place}
 use Rattle.lft_reactors.specs.Tables.{IsOutside, with_name}
 use Rattle.lft_reactors.specs.declared.file.Outside.{Outside}
 use Rattle.lft_reactors.specs.declared.kinds.Kind.{Kind}
-use Rattle.lft_reactors.proofs.Reactors.{named}
+use Rattle.lft_reactors.proofs.NamedReactors.{named}
 use Rattle.lft_reactors.proofs.Twice.{map_last}
 
 -- the reactor of a name is the one at the name's place

@@ -8,7 +8,7 @@ use Rattle.lft_reactors.specs.Numbers.{numbers_of}
 use Rattle.lft_reactors.specs.Places.{place}
 use Rattle.lft_reactors.specs.Tables.{with_name}
 use Rattle.lft_reactors.proofs.Files.{named-place}
-use Rattle.lft_reactors.proofs.Reactors.{named}
+use Rattle.lft_reactors.proofs.NamedReactors.{named}
 use Rattle.lft_reactors.proofs.Twice.{map_last}
 
 pub numbers_of-push : (n m : ℕ) (rs : List ReactorTree) (r : ReactorTree) → m ≡ n + length rs → numbers_of n (rs ++ r ∷ []) ≡ numbers_of n rs ++ cond (is_some r.name) (m ∷ []) []

@@ -9,3 +9,6 @@ pub mod Places
 pub mod Tables
 pub mod Uses
 pub mod Numbers
+pub mod Sheets
+pub mod Lacking
+pub mod Directories

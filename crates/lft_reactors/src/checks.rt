@@ -10,7 +10,7 @@ ghost use Rattle.lft_reactors.specs.declared.fault.ReactorFault.TheVariants as f
 
 use crate::fault::ReactorFault;
 use crate::{
-    connections, mains, members, misplaced, names, nothing, repeats, triggers, unknown, writers,
+    mains, members, misplaced, names, nothing, repeats, triggers, unknown, widths, writers,
 };
 use lft_syntax::{Ast, Reactor};
 use std::alloc::Global;
@@ -61,7 +61,7 @@ fn later_of(alloc: Global, reactors: &[&Reactor]) -> Result<(), ReactorFault>
     if writers::has_two_sources(alloc, reactors)? {
         return Err(ReactorFault::TwoSources);
     }
-    if connections::has_width_mismatch(reactors) {
+    if widths::has_width_mismatch(reactors) {
         return Err(ReactorFault::WidthMismatch);
     }
     if triggers::has_no_trigger(reactors) {

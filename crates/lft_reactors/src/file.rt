@@ -83,6 +83,13 @@ impl<'a> Outside<'a> {
     {
         self.parameters.get(name).is_some()
     }
+
+    /// The places of the parameters.
+    pub(crate) fn parameters(&self) -> &Index<'a>
+        ensures { result.now ≡ self.now.parameters }
+    {
+        &self.parameters
+    }
 }
 
 fn outside_at<'b, 'a>(reactors: &'b [Outside<'a>], place: usize) -> Option<&'b Outside<'a>>

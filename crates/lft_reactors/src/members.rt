@@ -19,7 +19,7 @@ fn as_reactor(item: &Item) -> Option<&Reactor>
 }
 
 /// The reactors among the items.
-pub(crate) fn reactors(alloc: Global, items: &[Item]) -> Result<Vec<&Reactor>, NoMemory>
+pub fn reactors(alloc: Global, items: &[Item]) -> Result<Vec<&Reactor>, NoMemory>
     ensures { IfOk result (λ v. reactor_trees v.items ≡ filter_map reactor_in (item_views items.now)) }
 {
     let mut found = Vec::new(alloc);

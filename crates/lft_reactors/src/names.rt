@@ -60,7 +60,7 @@ fn name_of(member: &Member, kind: Declared) -> Option<&str>
 }
 
 /// Puts the names of the members of this kind at the end.
-fn push_names<'a>(
+pub(crate) fn push_names<'a>(
     names: &mut Vec<&'a str>,
     members: &'a [Member],
     kind: Declared,

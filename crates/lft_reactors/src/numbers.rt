@@ -26,7 +26,7 @@ pub(crate) struct Numbers<'a> {
     numbers: Vec<u32>,
 }
 
-fn number_at(numbers: &[u32], place: usize) -> Option<u32>
+pub(crate) fn number_at(numbers: &[u32], place: usize) -> Option<u32>
     ensures { result ≡ slice_get numbers.now place }
 {
     if place < numbers.len() {
@@ -86,7 +86,10 @@ fn contents_of(
     Ok(Contents { instances })
 }
 
-fn contents_among(alloc: Global, reactors: &[&Reactor]) -> Result<Vec<Contents>, ReactorFault>
+pub(crate) fn contents_among(
+    alloc: Global,
+    reactors: &[&Reactor],
+) -> Result<Vec<Contents>, ReactorFault>
     ensures ok { IfOk result (λ v. AreContents (reactor_trees reactors.now) v.items) }
     ensures unknown { IfErr result (λ f. f ≢ faults.NoMemory → (f ≡ faults.UnknownReactor) × UnknownReactor (reactor_trees reactors.now)) }
 {

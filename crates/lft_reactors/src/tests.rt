@@ -1,10 +1,13 @@
 //! Program texts and the first cause for which each is refused.
 
-use crate::{ReactorFault, check_first, check_later, contents};
+use crate::{Cue, ReactorFault, Spot, check_first, check_later, connections, contents, reactions};
+use lft_instances::{Clock, End, Join};
 use lft_syntax::{Ast, lex, parse};
 use std::alloc::Global;
 use std::process::Abort;
 use std::test::Fail;
+
+mod tables;
 
 fn tree_of(alloc: Global, text: &str) -> Result<Ast, Fail> {
     let tokens = lex(alloc, text.as_bytes())?;
@@ -193,5 +196,106 @@ fn numbers_what_reactors_contain(rt: HostRuntime) -> Result<(), Fail> {
         contents(alloc, &tree_of(alloc, unknown)?).err(),
         Some(ReactorFault::UnknownReactor)
     );
+    Ok(())
+}
+
+#[test]
+fn places_what_connections_join(rt: HostRuntime) -> Result<(), Fail> {
+    let alloc = rt.alloc();
+    let text = "reactor A(o: time = 0, p: time = 1 s) {
+            input x output y input z output w
+            x, z -> y, w after p
+        }
+        main reactor { a = new A() b = new A() a.y -> b.x after 5 ms b.w -> a.z }";
+    let tree = tree_of(alloc, text)?;
+    check_first(alloc, &tree)?;
+    check_later(alloc, &tree)?;
+    let table = connections(alloc, &tree)?;
+    assert_eq!(rt; table.len(), 2);
+    let own = [
+        Join {
+            from: End::Own(0),
+            to: End::Own(1),
+            delay: Some(Clock::Parameter(1)),
+        },
+        Join {
+            from: End::Own(2),
+            to: End::Own(3),
+            delay: Some(Clock::Parameter(1)),
+        },
+    ];
+    assert!(rt; table[0].joins.as_slice() == own.as_slice());
+    let inner = [
+        Join {
+            from: End::Inner {
+                instance: 0,
+                port: 1,
+            },
+            to: End::Inner {
+                instance: 1,
+                port: 0,
+            },
+            delay: Some(Clock::Fixed(5_000_000)),
+        },
+        Join {
+            from: End::Inner {
+                instance: 1,
+                port: 3,
+            },
+            to: End::Inner {
+                instance: 0,
+                port: 2,
+            },
+            delay: None,
+        },
+    ];
+    assert!(rt; table[1].joins.as_slice() == inner.as_slice());
+    Ok(())
+}
+
+#[test]
+fn places_what_reactions_name(rt: HostRuntime) -> Result<(), Fail> {
+    let alloc = rt.alloc();
+    let text = "main reactor {
+            a = new A() b = new A() timer t(0, 1 s) logical action c logical action d
+            reaction(startup, d) a.y, t -> b.x, d {= =}
+            reaction(shutdown, t, b.y) d {= =}
+        }
+        reactor A { input x output y reaction(x) -> y {= =} }";
+    let tree = tree_of(alloc, text)?;
+    check_first(alloc, &tree)?;
+    check_later(alloc, &tree)?;
+    let table = reactions(alloc, &tree)?;
+    assert_eq!(rt; table.len(), 2);
+    let outer = &table[0].reactions;
+    assert_eq!(rt; outer.len(), 2);
+    let first = &outer[0];
+    let from = Spot::Port(End::Inner {
+        instance: 0,
+        port: 1,
+    });
+    let to = Spot::Port(End::Inner {
+        instance: 1,
+        port: 0,
+    });
+    let action = Spot::Action(1);
+    assert!(rt; first.triggers.as_slice() == [Cue::Startup, Cue::On(action)].as_slice());
+    assert!(rt; first.uses.as_slice() == [from].as_slice());
+    assert!(rt; first.effects.as_slice() == [to, action].as_slice());
+    let second = &outer[1];
+    let last = Spot::Port(End::Inner {
+        instance: 1,
+        port: 1,
+    });
+    let triggers = [Cue::Shutdown, Cue::Timer(0), Cue::On(last)];
+    assert!(rt; second.triggers.as_slice() == triggers.as_slice());
+    assert!(rt; second.uses.as_slice() == [action].as_slice());
+    assert!(rt; second.effects.is_empty());
+    let inner = &table[1].reactions;
+    assert_eq!(rt; inner.len(), 1);
+    let (input, output) = (Spot::Port(End::Own(0)), Spot::Port(End::Own(1)));
+    assert!(rt; inner[0].triggers.as_slice() == [Cue::On(input)].as_slice());
+    assert!(rt; inner[0].uses.is_empty());
+    assert!(rt; inner[0].effects.as_slice() == [output].as_slice());
     Ok(())
 }

@@ -2,7 +2,7 @@ use Rattle.std.proofs.Common.{◌≡◌, Some, IsTrue, ◌↔◌, Any, map, stri
 use Rattle.lft_syntax.specs.View.{assignment_view, instance_view}
 use Rattle.lft_reactors.specs.Causes.{LacksParameter}
 use Rattle.lft_reactors.specs.Instances.{reactor_named}
-use Rattle.lft_reactors.proofs.Reactors.{gives_one, gives_none}
+use Rattle.lft_reactors.proofs.NamedReactors.{gives_one, gives_none}
 use Rattle.lft_reactors.proofs.nothing.gives_unknown.Goals as goal
 
 pub returns-in-Some : goal.returns-in-Some

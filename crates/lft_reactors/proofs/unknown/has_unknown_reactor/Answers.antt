@@ -2,7 +2,7 @@ use Rattle.std.proofs.Common.{◌≡◌, ap, subst, ◌∙◌}
 use Rattle.lft_reactors.specs.Causes.{UnknownReactor}
 use Rattle.lft_reactors.specs.References.{reactor_trees}
 use Rattle.lft_reactors.specs.Tests.{IsTestOf, has_text, texts}
-use Rattle.lft_reactors.proofs.Reactors.{named, lacks, lacked}
+use Rattle.lft_reactors.proofs.NamedReactors.{named, lacks, lacked}
 use Rattle.lft_reactors.proofs.Somes.{answers}
 use Rattle.lft_reactors.proofs.unknown.has_unknown_reactor.Goals as goal
 

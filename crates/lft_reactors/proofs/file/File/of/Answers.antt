@@ -7,7 +7,7 @@ use Rattle.lft_reactors.specs.References.{reactor_trees}
 use Rattle.lft_reactors.specs.Tables.{IsOutside, with_name}
 use Rattle.lft_reactors.specs.Tests.{texts}
 use Rattle.lft_reactors.proofs.Files.{table_more, table_kept, named_some}
-use Rattle.lft_reactors.proofs.Reactors.{named}
+use Rattle.lft_reactors.proofs.NamedReactors.{named}
 use Rattle.lft_reactors.proofs.file.File.of.Goals as goal
 use Rattle.lft_reactors.proofs.file.File.of.Goals.{then-is_some+in_ok-of+in_ok-push, else-is_some}
 

@@ -3,7 +3,7 @@ use Rattle.std.specs.Option.{option_and_then}
 use Rattle.lft_reactors.specs.Places.{place}
 use Rattle.lft_reactors.specs.Tables.{with_name}
 use Rattle.lft_reactors.proofs.Files.{named-place, table_at}
-use Rattle.lft_reactors.proofs.Reactors.{named}
+use Rattle.lft_reactors.proofs.NamedReactors.{named}
 use Rattle.lft_reactors.proofs.file.File.reactor.Goals as goal
 
 pub returns-in-Some : goal.returns-in-Some

@@ -4,7 +4,7 @@ use Rattle.lft_reactors.specs.Places.{place}
 use Rattle.lft_reactors.specs.Tables.{with_name}
 use Rattle.lft_reactors.proofs.Files.{named-place}
 use Rattle.lft_reactors.proofs.Numbered.{number_named}
-use Rattle.lft_reactors.proofs.Reactors.{named}
+use Rattle.lft_reactors.proofs.NamedReactors.{named}
 use Rattle.lft_reactors.proofs.numbers.Numbers.get.Goals as goal
 
 pub returns-in-Some : goal.returns-in-Some

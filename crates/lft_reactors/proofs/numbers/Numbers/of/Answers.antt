@@ -7,7 +7,7 @@ use Rattle.lft_reactors.specs.References.{reactor_trees}
 use Rattle.lft_reactors.specs.Tests.{texts}
 use Rattle.lft_reactors.proofs.Files.{named_some}
 use Rattle.lft_reactors.proofs.Numbered.{number_more, number_kept}
-use Rattle.lft_reactors.proofs.Reactors.{named}
+use Rattle.lft_reactors.proofs.NamedReactors.{named}
 use Rattle.lft_reactors.proofs.numbers.Numbers.of.Goals as goal
 use Rattle.lft_reactors.proofs.numbers.Numbers.of.Goals.{then-is_some+in_ok-push, else-is_some}
 

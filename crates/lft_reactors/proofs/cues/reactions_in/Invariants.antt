@@ -1,0 +1,10 @@
+use Rattle.std.proofs.Common.{List, take}
+use Rattle.std.specs.List.{AllZip}
+use Rattle.lft_syntax.specs.Tree.{ReactorTree}
+use Rattle.lft_reactors.specs.References.{reaction_trees}
+use Rattle.lft_reactors.specs.Directories.{IsAt}
+use Rattle.lft_reactors.specs.Sheets.{AreCues}
+use Rattle.lft_reactors.proofs.cues.reactions_in.Given as goal
+
+abbrev pub invariant-loop-reaction : goal.invariant-loop-reaction
+invariant-loop-reaction l = (rs : List ReactorTree) (r : ReactorTree) → IsAt rs l.directory l.number r → AllZip (AreCues rs r) (reaction_trees (take l.reaction-index l.reaction-items)) l.reactions.items

@@ -1,0 +1,10 @@
+use Rattle.std.proofs.Common.{List, map, take}
+use Rattle.std.specs.List.{AllZip}
+use Rattle.lft_syntax.specs.Tree.{ReactorTree}
+use Rattle.lft_syntax.specs.View.{trigger_view}
+use Rattle.lft_reactors.specs.Directories.{IsAt}
+use Rattle.lft_reactors.specs.Sheets.{IsCue}
+use Rattle.lft_reactors.proofs.cues.triggers.Given as goal
+
+abbrev pub invariant-loop-trigger : goal.invariant-loop-trigger
+invariant-loop-trigger l = (rs : List ReactorTree) (r : ReactorTree) → IsAt rs l.directory l.number r → AllZip (IsCue rs r) (map trigger_view (take l.trigger-index l.triggers)) l.cues.items

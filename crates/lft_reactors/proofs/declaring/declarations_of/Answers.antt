@@ -1,0 +1,27 @@
+use Rattle.std.proofs.Common.{◌≡◌, Any, map, filter_map, flat_map, option_to_list, ap, subst, ◌∙◌}
+use Rattle.lft_syntax.specs.Tree.{timer_in, action_in, timers_of, actions_of}
+use Rattle.lft_syntax.specs.View.{member_view, parameter_view, reactor_view}
+use Rattle.lft_reactors.specs.Kinds.{timer_times}
+use Rattle.lft_reactors.specs.Lacking.{LacksPlace}
+use Rattle.lft_reactors.specs.Places.{IsIndexOf, place_in}
+use Rattle.lft_reactors.specs.References.{action_trees, timer_trees}
+use Rattle.lft_reactors.specs.Tests.{texts}
+use Rattle.lft_reactors.proofs.Lacking.{timer_lacks, action_lacks}
+use Rattle.lft_reactors.proofs.declaring.declarations_of.Goals as goal
+use Rattle.lft_reactors.proofs.declaring.declarations_of.Goals.{In_ok-parameters}
+
+-- the index is that of the reactor's parameters
+indexed : (c : In_ok-parameters) → IsIndexOf c.in_ok-parameters.parameters (map (λ p. p.name) (reactor_view c.args.reactor.now).parameters)
+indexed c =
+    let names : texts c.deref-2.result.now ≡ map (λ p. p.name) (reactor_view c.args.reactor.now).parameters = ap texts c.deref-2.ensures.value ∙ c.in_ok-names.ensures ∙ ap (λ ps. map (λ p. p.name) (map parameter_view ps)) c.deref.ensures.value in
+    subst (IsIndexOf c.in_ok-parameters.parameters) names c.in_ok-parameters.ensures
+
+pub timer_sheets-requires : goal.timer_sheets-requires
+timer_sheets-requires c a =
+    let timers : timer_trees c.deref-7.result.now ≡ timers_of (reactor_view c.args.reactor.now) = ap timer_trees c.deref-7.ensures.value ∙ c.in_ok-own_timers.ensures ∙ ap (λ ms. filter_map timer_in (map member_view ms)) c.deref-4.ensures.value in
+    c.requires (timer_lacks c.in_ok-parameters.parameters (reactor_view c.args.reactor.now) (indexed ((goal.at.timer_sheets-requires c).In_ok-parameters)) (subst (λ l. Any (LacksPlace (place_in c.in_ok-parameters.parameters)) (flat_map timer_times l)) timers a))
+
+pub action_sheets-requires : goal.action_sheets-requires
+action_sheets-requires c a =
+    let actions : action_trees c.deref-8.result.now ≡ actions_of (reactor_view c.args.reactor.now) = ap action_trees c.deref-8.ensures.value ∙ c.in_ok-own_actions.ensures ∙ ap (λ ms. filter_map action_in (map member_view ms)) c.deref-5.ensures.value in
+    c.requires (action_lacks c.in_ok-parameters.parameters (reactor_view c.args.reactor.now) (indexed ((goal.at.action_sheets-requires c).In_ok-parameters)) (subst (λ l. Any (LacksPlace (place_in c.in_ok-parameters.parameters)) (flat_map (λ a. option_to_list a.min_delay) l)) actions a))

@@ -1,0 +1,206 @@
+//! Where the names of each reactor stand, by number.
+
+ghost use Rattle.std.specs.Prelude.{◌≡◌, ℕ, List, Some, None, IfOk, IsSomeAnd, MatchOption, filter_map, option_map, slice_get};
+ghost use Rattle.lft_syntax.specs.Tree.{InstanceTree, ReactorTree, instances_of};
+ghost use Rattle.lft_syntax.specs.View.{member_views, reactor_view};
+ghost use Rattle.lft_reactors.specs.Causes.{UnknownReactor};
+ghost use Rattle.lft_reactors.specs.Directories.{IsAt, IsDirectory, IsNames, inner_ref};
+ghost use Rattle.lft_reactors.specs.Kinds.{inner_kind};
+ghost use Rattle.lft_reactors.specs.Numbers.{AreContents, IsContents, IsNumberOf};
+ghost use Rattle.lft_reactors.specs.Places.{IsIndexOf};
+ghost use Rattle.lft_reactors.specs.References.{reactor_trees};
+ghost use Rattle.lft_reactors.specs.Sheets.{IsInner, action_place, instance_place, parameter_place, port_place, timer_place};
+ghost use Rattle.lft_reactors.specs.Tests.{name_in};
+
+use crate::fault::ReactorFault;
+use crate::index::Index;
+use crate::names::{Declared, parameter_names, push_names};
+use crate::numbers::{contents_among, number_at};
+use lft_instances::Contents;
+use lft_syntax::{Member, Reactor};
+use lft_tag::NoMemory;
+use std::alloc::Global;
+
+/// Where the names of the members of this kind stand.
+fn index_of<'a>(alloc: Global, members: &'a [Member], kind: Declared) -> Result<Index<'a>, NoMemory>
+    ensures { IfOk result (λ index. IsIndexOf index (filter_map (name_in kind) (member_views members.now))) }
+{
+    let mut names = Vec::new(alloc);
+    push_names(&mut names, members, kind)?;
+    Index::of(alloc, &names)
+}
+
+/// Where the names of what a reactor declares stand, by kind.
+#[derive(Drop)]
+pub(crate) struct Names<'a> {
+    parameters: Index<'a>,
+    ports: Index<'a>,
+    timers: Index<'a>,
+    actions: Index<'a>,
+    instances: Index<'a>,
+}
+
+impl<'a> Names<'a> {
+    /// Those of a reactor.
+    fn of(alloc: Global, reactor: &'a Reactor) -> Result<Names<'a>, NoMemory>
+        ensures { IfOk result (IsNames (reactor_view reactor.now)) }
+    {
+        let parameters = parameter_names(alloc, &reactor.parameters)?;
+        let members = reactor.members.as_slice();
+        Ok(Names {
+            parameters: Index::of(alloc, &parameters)?,
+            ports: index_of(alloc, members, Declared::Port)?,
+            timers: index_of(alloc, members, Declared::Timer)?,
+            actions: index_of(alloc, members, Declared::Action)?,
+            instances: index_of(alloc, members, Declared::Instance)?,
+        })
+    }
+}
+
+/// What each reactor contains, by number, where no name of a reactor is unknown.
+fn known_contents(alloc: Global, reactors: &[&Reactor]) -> Result<Vec<Contents>, NoMemory>
+    requires { ¬ UnknownReactor (reactor_trees reactors.now) }
+    ensures { IfOk result (λ v. AreContents (reactor_trees reactors.now) v.items) }
+{
+    match contents_among(alloc, reactors) {
+        Ok(table) => Ok(table),
+        Err(ReactorFault::NoMemory) => Err(NoMemory),
+        Err(_) => unreachable!(),
+    }
+}
+
+fn names_at<'b, 'a>(names: &'b [Names<'a>], number: usize) -> Option<&'b Names<'a>>
+    ensures { option_map (λ n. n.now) result ≡ slice_get names.now number }
+{
+    if number < names.len() {
+        Some(&names[number])
+    } else {
+        None
+    }
+}
+
+fn contents_at(contents: &[Contents], number: usize) -> Option<&Contents>
+    ensures { option_map (λ c. c.now) result ≡ slice_get contents.now number }
+{
+    if number < contents.len() {
+        Some(&contents[number])
+    } else {
+        None
+    }
+}
+
+/// Where the names of each reactor stand, and what each contains, by number.
+#[derive(Drop)]
+pub(crate) struct Directory<'a> {
+    names: Vec<Names<'a>>,
+    contents: Vec<Contents>,
+}
+
+impl<'a> Directory<'a> {
+    /// The directory of the reactors of a file.
+    pub(crate) fn of(alloc: Global, reactors: &[&'a Reactor]) -> Result<Directory<'a>, NoMemory>
+        requires { ¬ UnknownReactor (reactor_trees reactors.now) }
+        ensures { IfOk result (IsDirectory (reactor_trees reactors.now)) }
+    {
+        let contents = known_contents(alloc, reactors)?;
+        let mut names = Vec::new(alloc);
+        for reactor in reactors {
+            names.push(Names::of(alloc, reactor)?)?;
+        }
+        Ok(Directory { names, contents })
+    }
+
+    /// The names of the reactor of this number.
+    fn names(&self, number: usize) -> Option<&Names<'a>>
+        ensures { (rs : List ReactorTree) (r : ReactorTree) → IsAt rs self.now number r → IsSomeAnd result (λ n. IsNames r n.now) }
+    {
+        names_at(&self.names, number)
+    }
+
+    /// What the reactor of this number contains.
+    fn contents(&self, number: usize) -> Option<&Contents>
+        ensures { (rs : List ReactorTree) (r : ReactorTree) → IsAt rs self.now number r → IsSomeAnd result (λ c. IsContents rs r c.now) }
+    {
+        contents_at(&self.contents, number)
+    }
+
+    /// The place of the parameter of this name in the reactor of this number.
+    pub(crate) fn parameter(&self, number: usize, name: &str) -> Option<usize>
+        ensures { (rs : List ReactorTree) (r : ReactorTree) → IsAt rs self.now number r → result ≡ parameter_place r name.now }
+    {
+        match self.names(number) {
+            Some(names) => names.parameters.get(name),
+            None => None,
+        }
+    }
+
+    /// The place of the port of this name.
+    pub(crate) fn port(&self, number: usize, name: &str) -> Option<usize>
+        ensures { (rs : List ReactorTree) (r : ReactorTree) → IsAt rs self.now number r → result ≡ port_place r name.now }
+    {
+        match self.names(number) {
+            Some(names) => names.ports.get(name),
+            None => None,
+        }
+    }
+
+    /// The place of the timer of this name.
+    pub(crate) fn timer(&self, number: usize, name: &str) -> Option<usize>
+        ensures { (rs : List ReactorTree) (r : ReactorTree) → IsAt rs self.now number r → result ≡ timer_place r name.now }
+    {
+        match self.names(number) {
+            Some(names) => names.timers.get(name),
+            None => None,
+        }
+    }
+
+    /// The place of the action of this name.
+    pub(crate) fn action(&self, number: usize, name: &str) -> Option<usize>
+        ensures { (rs : List ReactorTree) (r : ReactorTree) → IsAt rs self.now number r → result ≡ action_place r name.now }
+    {
+        match self.names(number) {
+            Some(names) => names.actions.get(name),
+            None => None,
+        }
+    }
+
+    /// The place of the instance of this name.
+    fn instance(&self, number: usize, name: &str) -> Option<usize>
+        ensures { (rs : List ReactorTree) (r : ReactorTree) → IsAt rs self.now number r → result ≡ instance_place r name.now }
+    {
+        match self.names(number) {
+            Some(names) => names.instances.get(name),
+            None => None,
+        }
+    }
+
+    /// The number of the reactor of the instance at this place.
+    fn child(&self, number: usize, place: usize) -> Option<usize>
+        ensures { (rs : List ReactorTree) (r : ReactorTree) → IsAt rs self.now number r → MatchOption result (slice_get (instances_of r) place ≡ None) (λ n. (i : InstanceTree) × (slice_get (instances_of r) place ≡ Some i) × IsNumberOf rs i n) }
+    {
+        match self.contents(number) {
+            Some(contents) => match number_at(&contents.instances, place) {
+                Some(inner) => Some(inner as usize),
+                None => None,
+            },
+            None => None,
+        }
+    }
+
+    /// The place of the instance of the name before the point, and of the port of the name behind
+    /// it.
+    pub(crate) fn inner(&self, number: usize, head: &str, name: &str) -> Option<(usize, usize)>
+        ensures { (rs : List ReactorTree) (r : ReactorTree) → IsAt rs self.now number r → MatchOption result (inner_kind rs r head.now name.now ≡ None) (λ p. IsInner rs r (inner_ref head.now name.now) p.0 p.1) }
+    {
+        match self.instance(number, head) {
+            Some(place) => match self.child(number, place) {
+                Some(inner) => match self.port(inner, name) {
+                    Some(port) => Some((place, port)),
+                    None => None,
+                },
+                None => None,
+            },
+            None => None,
+        }
+    }
+}
