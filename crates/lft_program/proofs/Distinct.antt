@@ -3,7 +3,7 @@ use Rattle.std.proofs.Common.{◌≡◌, ℕ, ◌+◌, ◌<◌, zero, suc, List,
 use Rattle.std.proofs.lemmas.Option.{slice_get_within, slice_get-get_or}
 use Rattle.lft_program.specs.Names.{HasNoTwice}
 use Rattle.lft_program.specs.Extended.{Ending, name_after, extended, AreAfter}
-use Rattle.lft_program.proofs.Eachs.{slice_get-front, slice_get-middle}
+use Rattle.lft_reactors.proofs.Twice.{slice_get-front, slice_get-middle}
 use Rattle.lft_program.proofs.Extending.{extended-append, length-extended, extended-keeps, extended-at}
 use Rattle.lft_program.proofs.Positions.{HasNoTwice-push}
 use Rattle.lft_program.proofs.Separators.{HasNoSeparator, IsEnding, HasNoSeparator-main, separator_inside, same_ending}

@@ -4,7 +4,7 @@ use Rattle.std.proofs.lemmas.Grind.{common_steps}
 use Rattle.std.proofs.lemmas.Option.{slice_get_within, get_or_from_slice_get, slice_get-get_or}
 use Rattle.lft_program.specs.Names.{HasNoTwice}
 use Rattle.lft_program.specs.Extended.{Ending, name_after, extended, AreAfter}
-use Rattle.lft_program.proofs.Eachs.{slice_get-front, slice_get-middle}
+use Rattle.lft_reactors.proofs.Twice.{slice_get-front, slice_get-middle}
 use Rattle.lft_program.proofs.Positions.{mapped}
 use Rattle.lft_program.proofs.Zips.{map_around, map_last}
 

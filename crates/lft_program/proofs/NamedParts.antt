@@ -10,7 +10,7 @@ use Rattle.lft_program.specs.declared.naming.Declared.{Declared}
 use Rattle.lft_program.specs.declared.naming.Placed.{Placed}
 use Rattle.lft_program.specs.declared.names.Starts.{Starts}
 use Rattle.lft_program.proofs.Distinct.{main, ArePaths, Some_same}
-use Rattle.lft_program.proofs.Eachs.{slice_get-front}
+use Rattle.lft_reactors.proofs.Twice.{slice_get-front}
 use Rattle.lft_program.proofs.Extending.{StandsAt, length-extended, extended-keeps, extended-at}
 use Rattle.lft_program.proofs.FullNames.{later_at, all_at, are_paths, before_member, parts, parts2, parts3, parts4}
 use Rattle.lft_program.proofs.Positions.{mapped}

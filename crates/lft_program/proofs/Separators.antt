@@ -3,7 +3,7 @@ use Rattle.std.proofs.Common.{◌≡◌, ℕ, ◌+◌, ◌%◌, ◌<◌, ◌^◌
 use Rattle.std.specs.Fmt.{decimal}
 use Rattle.std.proofs.lemmas.Fmt.{decimal_by_steps}
 use Rattle.lft_syntax.specs.Bytes.{is_letter, is_word}
-use Rattle.lft_program.specs.FullNames.{IsIdentifier}
+use Rattle.lft_syntax.specs.Identifiers.{IsIdentifier}
 
 -- a dot or `#`
 abbrev pub IsSeparator : ℕ → Type 0

@@ -1,16 +1,11 @@
 -- The names of all things of a flat program, from what its instances declare.
-use Rattle.std.specs.Prelude.{◌≡◌, ◌≢◌, ℕ, ◌+◌, ◌<◌, ◌≤◌, List, [], ◌∷◌, ◌++◌, drop, length, slice_get, Some, codes, All, AllPairs, true}
+use Rattle.std.specs.Prelude.{◌≡◌, ◌≢◌, ℕ, ◌+◌, ◌<◌, ◌≤◌, List, ◌++◌, drop, length, slice_get, Some, codes, All, AllPairs}
 use Rattle.std.specs.Fmt.{decimal}
 use Rattle.std.specs.List.{AllZip}
-use Rattle.lft_syntax.specs.Bytes.{is_letter, is_word}
+use Rattle.lft_syntax.specs.Identifiers.{IsIdentifier}
 use Rattle.lft_program.specs.Names.{ThingNames}
 use Rattle.lft_program.specs.declared.naming.Declared.{Declared}
 use Rattle.lft_program.specs.declared.naming.Placed.{Placed}
-
--- a letter or `_`, then letters, digits and `_`
-abbrev pub IsIdentifier : List ℕ → Type 0
-IsIdentifier [] = ⊥
-IsIdentifier (c ∷ cs) = (is_letter c ≡ true) × All (λ d. is_word d ≡ true) cs
 
 -- the name of the instance that declares the thing, a dot and the thing's own name
 abbrev pub IsDotted : List (List ℕ) → Declared → List ℕ → Type 0

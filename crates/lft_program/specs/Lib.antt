@@ -4,7 +4,11 @@ pub mod Parts
 pub mod Origins
 pub mod Sound
 pub mod Plain
-pub mod Flat
-pub mod References
 pub mod FullNames
 pub mod Extended
+pub mod Flattening
+pub mod OfTree
+pub mod Faults
+pub mod Laying
+pub mod OwnNames
+pub mod TreeLists

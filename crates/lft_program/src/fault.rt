@@ -3,6 +3,8 @@
 ghost use Rattle.std.specs.Prelude.{◌≡◌};
 ghost use Rattle.lft_program.specs.declared.fault.ProgramFault.TheVariants as faults;
 
+use lft_nesting::{LinkFault, NestFault};
+use lft_reactors::ReactorFault;
 use std::alloc::{AllocError, AllocFailed};
 
 /// Why a tree has no flat program.
@@ -63,5 +65,55 @@ impl<T: Drop> From<AllocFailed<T>> for ProgramFault {
 
     fn from(_error: AllocFailed<T>) -> ProgramFault {
         ProgramFault::NoMemory
+    }
+}
+
+impl From<ReactorFault> for ProgramFault {
+    ghost use Rattle.lft_program.specs.Faults.{of_reactor};
+
+    ghost from_gives = { λ f e. e ≡ of_reactor f };
+
+    fn from(fault: ReactorFault) -> ProgramFault {
+        match fault {
+            ReactorFault::NoMain => ProgramFault::NoMain,
+            ReactorFault::TwoMains => ProgramFault::TwoMains,
+            ReactorFault::DuplicateName => ProgramFault::DuplicateName,
+            ReactorFault::UnknownReactor => ProgramFault::UnknownReactor,
+            ReactorFault::UnknownName => ProgramFault::UnknownName,
+            ReactorFault::WrongPlace => ProgramFault::WrongPlace,
+            ReactorFault::MainHasPorts => ProgramFault::MainHasPorts,
+            ReactorFault::TwoSources => ProgramFault::TwoSources,
+            ReactorFault::WidthMismatch => ProgramFault::WidthMismatch,
+            ReactorFault::NoTrigger => ProgramFault::NoTrigger,
+            ReactorFault::DuplicateInput => ProgramFault::DuplicateInput,
+            ReactorFault::NoMemory => ProgramFault::NoMemory,
+        }
+    }
+}
+
+impl From<NestFault> for ProgramFault {
+    ghost use Rattle.lft_program.specs.Faults.{of_nest};
+
+    ghost from_gives = { λ f e. e ≡ of_nest f };
+
+    fn from(fault: NestFault) -> ProgramFault {
+        match fault {
+            NestFault::TooMany => ProgramFault::TooMany,
+            NestFault::NoMemory => ProgramFault::NoMemory,
+        }
+    }
+}
+
+impl From<LinkFault> for ProgramFault {
+    ghost use Rattle.lft_program.specs.Faults.{of_links};
+
+    ghost from_gives = { λ f e. e ≡ of_links f };
+
+    fn from(fault: LinkFault) -> ProgramFault {
+        match fault {
+            LinkFault::ConnectionCycle => ProgramFault::ConnectionCycle,
+            LinkFault::DelayTooLong => ProgramFault::DelayTooLong,
+            LinkFault::NoMemory => ProgramFault::NoMemory,
+        }
     }
 }

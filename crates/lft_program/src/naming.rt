@@ -106,8 +106,6 @@ fn all_names(
 /// The names of these things: `main` for the first instance, whatever its name and container say,
 /// `main.a` for its instance a, `main.a.out` for that one's port, action or timer, `main.a#1` for
 /// that one's first reaction. The things are numbered as they stand in the lists.
-///
-/// It is for the flattening of programs with further reactors, which isn't there yet.
 pub(crate) fn full_names(
     alloc: Global,
     instances: &[Declared<'_>],

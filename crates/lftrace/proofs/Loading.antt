@@ -12,7 +12,11 @@ use Rattle.lft_syntax.specs.Grammar.{Spells}
 use Rattle.lft_program.specs.declared.fault.ProgramFault.{ProgramFault}
 use Rattle.lft_program.specs.declared.fault.ProgramFault.TheVariants as program
 use Rattle.lft_program.specs.Parts.{Parts}
-use Rattle.lft_program.specs.Flat.{IsPlainFlat}
+use Rattle.lft_program.specs.Faults.{number_of as program_number}
+use Rattle.lft_program.specs.Flattening.{IsFlatOf}
+use Rattle.lft_program.specs.Plain.{IsPlain}
+use Rattle.lft_reactors.specs.Causes.{causes}
+use Rattle.lft_program.proofs.Firsts.{first_holds}
 use Rattle.lft_trace.specs.declared.fault.TraceFault.{TraceFault}
 use Rattle.lft_trace.specs.declared.fault.TraceFault.TheVariants as table
 use Rattle.lft_trace.specs.Faults.{is_told}
@@ -20,7 +24,7 @@ use Rattle.lft_trace.specs.Inputs.{ExternalInputs}
 use Rattle.lft_trace.specs.Records.{records_of}
 use Rattle.lft_trace.specs.ExternalTables.{ExternalTable}
 use Rattle.lft_model.specs.Plans.{PlanParts}
-use Rattle.lftrace.specs.Faults.{lex_number, syntax_number, program_number, graph_number, table_number, IsFault}
+use Rattle.lftrace.specs.Faults.{lex_number, syntax_number, graph_number, table_number, IsFault}
 use Rattle.lft_graph.specs.Precedence.{HasNoLoop}
 use Rattle.lft_graph.specs.declared.fault.GraphFault.{GraphFault}
 use Rattle.lft_graph.specs.declared.fault.GraphFault.TheVariants as graph
@@ -59,8 +63,8 @@ syntax_none text tokens (syntax.Unexpected k) h t tree x = h.2 (lexemes text tok
 syntax_none text tokens syntax.NoMemory h t tree x = absurd (cc t)
 
 -- a tree without a flat program
-pub program_none : (tree : FileTree) (e : ProgramFault) → ProgramFails tree e → is_of_text part.Program (program_number e) ≡ true → (parts : Parts) → IsPlainFlat tree parts → ⊥
-program_none tree e h t = h (λ q. absurd (untold (subst (λ k. is_of_text part.Program (program_number k) ≡ true) q t)))
+pub program_none : (tree : FileTree) (e : ProgramFault) → ProgramFails tree e → is_of_text part.Program (program_number e) ≡ true → (parts : Parts) → IsFlatOf tree parts → ⊥
+program_none tree e h t parts x = first_holds (causes tree) (program_number e) (h (λ q. absurd (untold (subst (λ k. is_of_text part.Program (program_number k) ≡ true) q t)))) x.none
   where
     untold : is_of_text part.Program (program_number program.NoMemory) ≡ true → ⊥
     untold s = cc s
@@ -91,10 +95,10 @@ plan_of p q x y e f = cc
 
 -- the flat program of a text is one
 module _ (text : List ℕ) (tree : FileTree) (only_tree : IsOnly (IsTreeOf text) tree) where
-  pub flat_of : (parts : Parts) → (x : IsProgramOf text parts) → IsPlainFlat tree parts
-  flat_of parts x = subst (λ t. IsPlainFlat t parts) (only_tree.only x.tree x.is_tree) x.is_flat
+  pub flat_of : (parts : Parts) → (x : IsProgramOf text parts) → IsFlatOf tree parts
+  flat_of parts x = subst (λ t. IsFlatOf t parts) (only_tree.only x.tree x.is_tree) x.is_flat
 
-  pub only_program : (parts : Parts) → IsPlainFlat tree parts → ((other : Parts) → IsPlainFlat tree other → other ≡ parts) → IsOnly (IsProgramOf text) parts
+  pub only_program : (parts : Parts) → IsFlatOf tree parts → ((other : Parts) → IsFlatOf tree other → other ≡ parts) → IsOnly (IsProgramOf text) parts
   only_program parts flat one = record {
     is = record { tree = tree; is_tree = only_tree.is; is_flat = flat };
     only = λ other x. one other (flat_of other x);
@@ -105,13 +109,17 @@ module _ (text externals : List ℕ) (parts : Parts) (only : IsOnly (IsProgramOf
   pub table_of : (plan : PlanParts) → (x : IsPlanOf text externals plan) → ExternalTable parts (records_of externals) plan.externals
   table_of plan x = subst (λ p. ExternalTable p (records_of externals) plan.externals) (only.only plan.program x.is_program) x.is_externals
 
+  pub plain_of : (plan : PlanParts) → (x : IsPlanOf text externals plan) → IsPlain parts
+  plain_of plan x = subst IsPlain (only.only plan.program x.is_program) x.is_plain
+
   pub no_loop_of : (plan : PlanParts) → (x : IsPlanOf text externals plan) → HasNoLoop parts
   no_loop_of plan x = subst HasNoLoop (only.only plan.program x.is_program) x.no_loop
 
-  pub only_plan : (given : ExternalInputs) (plan : PlanParts) → HasNoLoop parts → ExternalTable parts (records_of externals) given → ((other : ExternalInputs) → ExternalTable parts (records_of externals) other → other ≡ given) → plan.program ≡ parts → plan.externals ≡ given → IsOnly (IsPlanOf text externals) plan
-  only_plan given plan no_loop table one_table p e = record {
+  pub only_plan : (given : ExternalInputs) (plan : PlanParts) → IsPlain parts → HasNoLoop parts → ExternalTable parts (records_of externals) given → ((other : ExternalInputs) → ExternalTable parts (records_of externals) other → other ≡ given) → plan.program ≡ parts → plan.externals ≡ given → IsOnly (IsPlanOf text externals) plan
+  only_plan given plan plain no_loop table one_table p e = record {
     is = record {
       is_program = subst (λ k. IsProgramOf text k) (sym p) only.is;
+      is_plain = subst IsPlain (sym p) plain;
       no_loop = subst HasNoLoop (sym p) no_loop;
       is_externals = subst (λ k. ExternalTable k (records_of externals) plan.externals) (sym p) (subst (λ k. ExternalTable parts (records_of externals) k) (sym e) table);
     };

@@ -4,8 +4,6 @@ use Rattle.lft_syntax.specs.declared.fault.LexFault.{LexFault}
 use Rattle.lft_syntax.specs.declared.fault.LexFault.TheVariants as lex
 use Rattle.lft_syntax.specs.declared.fault.SyntaxFault.{SyntaxFault}
 use Rattle.lft_syntax.specs.declared.fault.SyntaxFault.TheVariants as syntax
-use Rattle.lft_program.specs.declared.fault.ProgramFault.{ProgramFault}
-use Rattle.lft_program.specs.declared.fault.ProgramFault.TheVariants as program
 use Rattle.lft_graph.specs.declared.fault.GraphFault.{GraphFault}
 use Rattle.lft_graph.specs.declared.fault.GraphFault.TheVariants as graph
 use Rattle.lft_trace.specs.declared.fault.TraceFault.{TraceFault}
@@ -26,24 +24,6 @@ lex_number lex.NoMemory = 7
 abbrev pub syntax_number : SyntaxFault → ℕ
 syntax_number (syntax.Unexpected token) = 1
 syntax_number syntax.NoMemory = 2
-
-abbrev pub program_number : ProgramFault → ℕ
-program_number program.NoMain = 1
-program_number program.TwoMains = 2
-program_number program.DuplicateName = 3
-program_number program.UnknownReactor = 4
-program_number program.RecursiveReactor = 5
-program_number program.UnknownName = 6
-program_number program.WrongPlace = 7
-program_number program.MainHasPorts = 8
-program_number program.TwoSources = 9
-program_number program.ConnectionCycle = 10
-program_number program.WidthMismatch = 11
-program_number program.NoTrigger = 12
-program_number program.DuplicateInput = 13
-program_number program.DelayTooLong = 14
-program_number program.TooMany = 15
-program_number program.NoMemory = 16
 
 abbrev pub graph_number : GraphFault → ℕ
 graph_number (graph.CausalityLoop loop) = 1

@@ -6,7 +6,8 @@ use Rattle.lft_syntax.specs.View.{lexemes}
 use Rattle.lft_syntax.specs.Tree.{FileTree}
 use Rattle.lft_syntax.specs.Grammar.{Spells}
 use Rattle.lft_program.specs.Parts.{Parts}
-use Rattle.lft_program.specs.Flat.{IsPlainFlat}
+use Rattle.lft_program.specs.Flattening.{IsFlatOf}
+use Rattle.lft_program.specs.Plain.{IsPlain}
 use Rattle.lft_graph.specs.Precedence.{HasNoLoop}
 use Rattle.lft_trace.specs.declared.row.Row.{Row}
 use Rattle.lft_trace.specs.Records.{records_of}
@@ -30,11 +31,12 @@ pub record IsTreeOf (text : List ℕ) (tree : FileTree) : Type 0 where
 pub record IsProgramOf (text : List ℕ) (program : Parts) : Type 0 where
   pub tree : FileTree
   pub is_tree : IsTreeOf text tree
-  pub is_flat : IsPlainFlat tree program
+  pub is_flat : IsFlatOf tree program
 
--- the plan of a program's text and a table of external inputs: no reaction precedes itself
+-- the plan of a program's text and a table of external inputs: no reaction precedes itself, and the program is plain, since no other is judged yet
 pub record IsPlanOf (program externals : List ℕ) (plan : PlanParts) : Type 0 where
   pub is_program : IsProgramOf program plan.program
+  pub is_plain : IsPlain plan.program
   pub no_loop : HasNoLoop plan.program
   pub is_externals : ExternalTable plan.program (records_of externals) plan.externals
 

@@ -12,7 +12,9 @@ use Rattle.lft_syntax.specs.Grammar.{Spells}
 use Rattle.lft_program.specs.declared.fault.ProgramFault.{ProgramFault}
 use Rattle.lft_program.specs.declared.fault.ProgramFault.TheVariants as program
 use Rattle.lft_program.specs.Parts.{Parts}
-use Rattle.lft_program.specs.Flat.{IsPlainFlat}
+use Rattle.lft_program.specs.Faults.{number_of as program_number}
+use Rattle.lft_program.specs.Plain.{IsPlain}
+use Rattle.lft_reactors.specs.Causes.{IsFirst, causes}
 use Rattle.lft_trace.specs.declared.fault.TraceFault.{TraceFault}
 use Rattle.lft_trace.specs.declared.row.Row.{Row}
 use Rattle.lft_trace.specs.Faults.{is_told}
@@ -24,7 +26,7 @@ use Rattle.lft_graph.specs.Loops.{IsLoop}
 use Rattle.lft_graph.specs.declared.fault.GraphFault.{GraphFault}
 use Rattle.lft_graph.specs.declared.fault.GraphFault.TheVariants as graph
 use Rattle.lft_model.specs.Plans.{PlanParts}
-use Rattle.lftrace.specs.Faults.{lex_number, syntax_number, program_number, graph_number, table_number, IsFault}
+use Rattle.lftrace.specs.Faults.{lex_number, syntax_number, graph_number, table_number, IsFault}
 use Rattle.lft_check.specs.declared.verdict.Verdict.{Verdict}
 use Rattle.lft_check.specs.Verdicts.{IsVerdict}
 use Rattle.lftrace.specs.Lines.{line_of}
@@ -65,9 +67,9 @@ abbrev pub SyntaxFails : List ℕ → List Token → SyntaxFault → Type 0
 SyntaxFails text tokens (syntax.Unexpected k) = (0 < k) × (k ≤ length tokens + 1) × ((others : List Lexeme) (tree : FileTree) → take k others ≡ take k (lexemes text tokens) → Spells tree others → ⊥)
 SyntaxFails text tokens syntax.NoMemory = Unit {0}
 
--- the tree has no flat program
+-- the first cause of refusal of the tree
 abbrev pub ProgramFails : FileTree → ProgramFault → Type 0
-ProgramFails tree e = e ≢ program.NoMemory → (parts : Parts) → IsPlainFlat tree parts → ⊥
+ProgramFails tree e = e ≢ program.NoMemory → IsFirst (causes tree) (program_number e)
 
 -- the program has a causality loop
 abbrev pub GraphFails : Parts → GraphFault → Type 0
@@ -88,9 +90,10 @@ pub data ProgramRefusal (text : List ℕ) (f : Fault) : Type 0 where
 abbrev pub GraphRefusal : Parts → Fault → Type 0
 GraphRefusal program f = (e : GraphFault) × IsFault f part.Graph (graph_number e) × GraphFails program e
 
--- the two texts have no plan: the program's text has no flat program, the external inputs are no table, or the program has no graph
+-- the two texts have no plan: the program's text has no flat program, that isn't plain, the external inputs are no table, or the program has no graph
 pub data LoadRefusal (program externals : List ℕ) (f : Fault) : Type 0 where
   by_program : ProgramRefusal program f → LoadRefusal program externals f
+  by_other : (parts : Parts) → f.part ≡ part.Program → f.number ≡ 7 → IsProgramOf program parts → (IsPlain parts → ⊥) → LoadRefusal program externals f
   by_externals : (e : TraceFault) (parts : Parts) → f.part ≡ part.Externals → f.number ≡ table_number e → IsProgramOf program parts → (is_told e ≡ true → ExternalFails parts (records_of externals) e) → LoadRefusal program externals f
   by_graph : (parts : Parts) (given : ExternalInputs) → IsProgramOf program parts → ExternalTable parts (records_of externals) given → GraphRefusal parts f → LoadRefusal program externals f
 

@@ -3,7 +3,8 @@
 ghost use Rattle.std.specs.Prelude.{◌≡◌, ◌<◌, ℕ, List, Some, IfOk, length, slice_get, string_bytes};
 ghost use Rattle.lft_graph.specs.Loops.{IsLoop};
 ghost use Rattle.lft_graph.specs.declared.fault.GraphFault.TheVariants.{CausalityLoop};
-ghost use Rattle.lftrace.specs.Faults.{lex_number, syntax_number, program_number, graph_number, table_number, IsFault};
+ghost use Rattle.lft_program.specs.Faults.{number_of as program_number};
+ghost use Rattle.lftrace.specs.Faults.{lex_number, syntax_number, graph_number, table_number, IsFault};
 ghost use Rattle.lftrace.specs.Lines.{names_words};
 ghost use Rattle.lftrace.specs.declared.fault.Part.TheVariants as part;
 

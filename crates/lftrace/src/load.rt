@@ -14,7 +14,7 @@ ghost use Rattle.lftrace.specs.Refusals.{TreeRefusal, ProgramRefusal, GraphRefus
 use crate::fault::Fault;
 use lft_graph::Graph;
 use lft_model::Plan;
-use lft_program::{Program, flatten};
+use lft_program::{Program, ProgramFault, flatten};
 use lft_syntax::{Ast, lex, parse};
 use lft_trace::read_externals;
 use std::alloc::Global;
@@ -39,7 +39,6 @@ fn read_tree(alloc: Global, text: &[u8]) -> Result<Ast, Fault>
 /// syntax, program.
 pub fn read_program(alloc: Global, text: &[u8]) -> Result<Program, Fault>
     ensures program { IfOk result (IsOnly (IsProgramOf text.now)) }
-    ensures plain { IfOk result IsPlain }
     ensures refused { IfErr result (ProgramRefusal text.now) }
     ensures none { IfErr result (λ f. is_of_text f.part f.number ≡ true → (program : Parts) → IsProgramOf text.now program → ⊥) }
 {
@@ -67,7 +66,9 @@ pub fn graph_of(alloc: Global, program: &Program) -> Result<Graph, Fault>
 }
 
 /// The plan of a program's text and a table of external inputs, else the fault of the first layer
-/// that refuses, in the order lex, syntax, program, externals, graph.
+/// that refuses, in the order lex, syntax, program, externals, graph. A program with further
+/// instances that have reactions, with ports or with actions isn't judged yet: it is refused as
+/// `program 7 WrongPlace`.
 pub fn load(alloc: Global, program: &[u8], externals: &[u8]) -> Result<Plan, Fault>
     ensures plan { IfOk result (IsOnly (IsPlanOf program.now externals.now)) }
     ensures plain { IfOk result (λ plan. IsPlain plan.program) }
@@ -78,6 +79,9 @@ pub fn load(alloc: Global, program: &[u8], externals: &[u8]) -> Result<Plan, Fau
         Ok(flat) => flat,
         Err(fault) => return Err(fault),
     };
+    if !flat.is_plain() {
+        return Err(Fault::program(ProgramFault::WrongPlace));
+    }
     let given = match read_externals(alloc, &flat, externals) {
         Ok(given) => given,
         Err(fault) => return Err(Fault::externals(fault)),

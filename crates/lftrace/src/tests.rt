@@ -4,4 +4,5 @@ mod bundles;
 mod examples;
 mod inputs;
 mod outputs;
+mod show_whole;
 mod tables;

@@ -1,5 +1,6 @@
 //! Writers that fail, and statuses.
 
+use super::show_whole::{DEEP, DEEP_LINES};
 use crate::fault::Fault;
 use crate::judge::judge_texts_alone;
 use crate::show::show_text;
@@ -96,20 +97,25 @@ fn shows_levels_and_what_is_before(rt: HostRuntime) -> Result<(), Fail> {
 
 #[test]
 fn tells_a_failed_write_of_what_is_shown(rt: HostRuntime) -> Result<(), Fail> {
-    for at in 0..LINES.len() {
-        let mut out = Failing {
-            taken: Vec::new(rt.alloc()),
-            at,
-        };
-        match show_text(rt.alloc(), SHOWN, &mut out) {
-            Ok(()) => assert!(rt; false, "written to the end"),
-            Err(fault) => {
-                let mut errors = Vec::new(rt.alloc());
-                assert_eq!(rt; finish(Err(fault), &mut errors), 2);
-                assert!(rt; errors.as_slice() == b"fault write 1 Failed\n".as_slice());
+    for (program, lines) in [
+        (SHOWN, LINES.as_bytes()),
+        (DEEP.as_bytes(), DEEP_LINES.as_bytes()),
+    ] {
+        for at in 0..lines.len() {
+            let mut out = Failing {
+                taken: Vec::new(rt.alloc()),
+                at,
+            };
+            match show_text(rt.alloc(), program, &mut out) {
+                Ok(()) => assert!(rt; false, "written to the end"),
+                Err(fault) => {
+                    let mut errors = Vec::new(rt.alloc());
+                    assert_eq!(rt; finish(Err(fault), &mut errors), 2);
+                    assert!(rt; errors.as_slice() == b"fault write 1 Failed\n".as_slice());
+                }
             }
+            assert!(rt; out.taken.as_slice() == &lines[..at]);
         }
-        assert!(rt; out.taken.as_slice() == &LINES.as_bytes()[..at]);
     }
     Ok(())
 }

@@ -1,0 +1,47 @@
+-- What stands at a number: the declaration, with the number of its instance and its place there.
+use Rattle.std.proofs.Common.{◌≡◌, ℕ, zero, suc, ◌+◌, ◌⊎◌, inl, inr, ⊎_elim, List, [], ◌∷◌, ◌++◌, length, refl, sym, ap, ◌∙◌, subst, arith, Some, slice_get, map, flat_map}
+use Rattle.std.specs.List.{enumerate_from}
+use Rattle.std.proofs.lemmas.Bool.{cases_lt}
+use Rattle.lft_syntax.specs.Tree.{FileTree, ReactorTree}
+use Rattle.lft_instances.specs.Paths.{along, Before}
+use Rattle.lft_instances.proofs.Orders.{before_itself}
+use Rattle.lft_reactors.specs.Instances.{Thing, thing_at, entered, main_instance}
+use Rattle.lft_nesting.specs.Located.{Located, AreLocated, Declared, declared, declared_in, things}
+use Rattle.lft_nesting.proofs.Counting.{base, map_at}
+use Rattle.lft_nesting.proofs.Listing.{declared_from as stands}
+use Rattle.lft_nesting.proofs.Zipping.{map_from}
+
+pub Some_same : {X : Type 0} (x y : X) → Some x ≡ Some y → x ≡ y
+Some_same x y same = cc
+
+-- the declaration at a number is one of the instance, at its place
+pub record IsAt {X : Type 0} (kind : ReactorTree → List X) (instances : List Located) (n : ℕ) (d : Declared X) : Type 0 where
+  pub located : slice_get instances d.instance ≡ Some d.located
+  pub item : slice_get (kind d.located.inside.reactor) d.place ≡ Some d.item
+  pub number : n ≡ base kind instances d.instance + d.place
+
+pub declared_from : {X : Type 0} (kind : ReactorTree → List X) (instances : List Located) (n : ℕ) (d : Declared X) → slice_get (declared kind instances) n ≡ Some d → IsAt kind instances n d
+declared_from kind instances n d at =
+    let s = stands kind instances n d at in
+    record { located = s.instance; item = s.place; number = s.number }
+
+-- the declaration of a thing at a number
+pub thing_from : {X : Type 0} (name : X → List ℕ) (all : List (Declared X)) (n : ℕ) (t : Thing) → slice_get (things name all) n ≡ Some t → (d : Declared X) × (slice_get all n ≡ Some d) × (thing_at d.located.path (name d.item) ≡ t)
+thing_from name all n t e = map_from (λ d. thing_at d.located.path (name d.item)) all n t e
+
+-- two instances with one path are one
+pub path_once : (tree : FileTree) (instances : List Located) → AreLocated tree instances → (i j : ℕ) (a b : Located) → slice_get instances i ≡ Some a → slice_get instances j ≡ Some b → a.path ≡ b.path → i ≡ j
+path_once tree instances are i j a b at_i at_j same = ⊎_elim
+    (λ low. absurd (before_itself b.path (subst (λ p. Before p b.path) same (are.in_order.in_order i j a.path b.path (path_at i a at_i) (path_at j b at_j) low))))
+    (λ high. ⊎_elim
+    (λ low. absurd (before_itself b.path (subst (λ p. Before b.path p) same (are.in_order.in_order j i b.path a.path (path_at j b at_j) (path_at i a at_i) low))))
+    (λ more. omega arith)
+    (cases_lt j i))
+    (cases_lt i j)
+  where
+    path_at : (n : ℕ) (l : Located) → slice_get instances n ≡ Some l → slice_get (map (λ i. i.path) instances) n ≡ Some l.path
+    path_at n l at = map_at (λ i. i.path) instances n l at
+
+-- and have the same parameters
+pub inside_once : (tree : FileTree) (instances : List Located) → AreLocated tree instances → (i j : ℕ) (a b : Located) → slice_get instances i ≡ Some a → slice_get instances j ≡ Some b → a.path ≡ b.path → a.inside ≡ b.inside
+inside_once tree instances are i j a b at_i at_j same = Some_same _ _ (sym (are.inside i a at_i) ∙ ap (along (entered tree) (main_instance are.main)) same ∙ are.inside j b at_j)

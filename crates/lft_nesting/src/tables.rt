@@ -1,0 +1,16 @@
+//! The reactors of a file as tables.
+
+use lft_instances::{Connections, Contents, Parameters};
+use lft_reactors::{Declarations, Reactions};
+
+/// The reactors of a file as tables, by number, and the number of the main reactor. Reactors are
+/// numbered from 0 in the order of the file.
+#[derive(Debug, Drop)]
+pub struct Tables {
+    pub main: u32,
+    pub contents: Vec<Contents>,
+    pub parameters: Vec<Parameters>,
+    pub connections: Vec<Connections>,
+    pub declarations: Vec<Declarations>,
+    pub reactions: Vec<Reactions>,
+}

@@ -1,0 +1,91 @@
+-- The instances of a tree are one list, and the reactor of each is one of the file.
+use Rattle.std.proofs.Common.{◌≡◌, ℕ, suc, ⊎_elim, Bool, true, false, cond, List, [], ◌∷◌, map, find, slice_get, Some, refl, sym, ap, subst, ◌∙◌, arith}
+use Rattle.std.specs.Option.{option_map}
+use Rattle.std.proofs.lemmas.Bool.{cases_lt}
+use Rattle.lft_syntax.specs.Tree.{FileTree, ReactorTree, InstanceTree, reactors_of, instances_of}
+use Rattle.lft_instances.specs.Paths.{along, Before, IsPreOrder}
+use Rattle.lft_instances.proofs.Orders.{before_itself}
+use Rattle.lft_instances.proofs.Unique.{pre_order_unique}
+use Rattle.lft_reactors.specs.Instances.{Inside, IsInside, is_called, reactor_named, given_in, entered, main_of, main_instance}
+use Rattle.lft_nesting.specs.Located.{Located, AreLocated}
+use Rattle.lft_nesting.proofs.Counting.{map_at}
+use Rattle.lft_nesting.proofs.Zipping.{then_some, map_some}
+use Rattle.lft_program.proofs.Distinct.{Some_same}
+
+-- what is found stands in the list
+found_in : {X : Type 0} (p : X → Bool) (xs : List X) (x : X) → find p xs ≡ Some x → (k : ℕ) × (slice_get xs k ≡ Some x)
+found_in p [] x e = absurd (cc)
+found_in {X} p (y ∷ xs) x e = by (p y) (λ f. found_in p xs x f) e
+  where
+    by : (b : Bool) → (find p xs ≡ Some x → (k : ℕ) × (slice_get xs k ≡ Some x)) → cond b (Some y) (find p xs) ≡ Some x → (k : ℕ) × (slice_get (y ∷ xs) k ≡ Some x)
+    by true go e = (0, e)
+    by false go e = let r = go e in (suc r.0, r.1)
+
+-- the `new` by which an instance is entered
+pub record Enters (tree : FileTree) (x : Inside) (k : ℕ) (y : Inside) : Type 0 where
+  pub instance : InstanceTree
+  pub there : slice_get (instances_of x.reactor) k ≡ Some instance
+  pub named : reactor_named (reactors_of tree) instance.reactor ≡ Some y.reactor
+
+pub enters : (tree : FileTree) (x : Inside) (k : ℕ) (y : Inside) → entered tree x k ≡ Some y → Enters tree x k y
+enters tree x k y e =
+    let made : InstanceTree → ReactorTree → Inside = λ i r. record { reactor = r; values = map (given_in x i.given) r.parameters } in
+    let i = then_some (λ i. option_map (made i) (reactor_named (reactors_of tree) i.reactor)) (slice_get (instances_of x.reactor) k) y e in
+    let r = map_some (made i.0) (reactor_named (reactors_of tree) i.0.reactor) y i.2 in
+    record { instance = i.0; there = i.1; named = r.1 ∙ ap (λ (z : Inside). Some z.reactor) r.2 }
+
+-- the reactor is one of the file
+abbrev pub InFile : FileTree → Inside → Type 0
+InFile tree x = (n : ℕ) × (slice_get (reactors_of tree) n ≡ Some x.reactor)
+
+below_in : (tree : FileTree) (x : Inside) (path : List ℕ) (y : Inside) → InFile tree x → along (entered tree) x path ≡ Some y → InFile tree y
+below_in tree x [] y known e = subst (InFile tree) (Some_same x y e) known
+below_in tree x (k ∷ path) y known e =
+    let s = then_some (λ z. along (entered tree) z path) (entered tree x k) y e in
+    let n = enters tree x k s.0 s.1 in
+    below_in tree s.0 path y (found_in (λ r. is_called n.instance.reactor r.name) (reactors_of tree) s.0.reactor n.named) s.2
+
+pub in_file : (tree : FileTree) (path : List ℕ) (x : Inside) → IsInside tree path x → InFile tree x
+in_file tree path x (main, is, leads) = below_in tree (main_instance main) path x (found_in (λ r. r.is_main) (reactors_of tree) main is) leads
+
+one_main : (tree : FileTree) (a b : ReactorTree) → main_of tree ≡ Some a → main_of tree ≡ Some b → a ≡ b
+one_main tree a b e f = Some_same a b (sym e ∙ f)
+
+-- a path leads to one instance
+pub one_inside : (tree : FileTree) (path : List ℕ) (x y : Inside) → IsInside tree path x → IsInside tree path y → x ≡ y
+one_inside tree path x y (a, is_a, e) (b, is_b, f) = Some_same x y (sym e ∙ ap (λ m. along (entered tree) (main_instance m) path) (one_main tree a b is_a is_b) ∙ f)
+
+pub inside_at : (tree : FileTree) (all : List Located) → AreLocated tree all → (n : ℕ) (l : Located) → slice_get all n ≡ Some l → IsInside tree l.path l.inside
+inside_at tree all are n l at = (are.main, are.is_main, are.inside n l at)
+
+same_instances : (tree : FileTree) (xs ys : List Located) → map (λ l. l.path) xs ≡ map (λ l. l.path) ys → ((n : ℕ) (l : Located) → slice_get xs n ≡ Some l → IsInside tree l.path l.inside) → ((n : ℕ) (l : Located) → slice_get ys n ≡ Some l → IsInside tree l.path l.inside) → xs ≡ ys
+same_instances tree [] [] paths f g = refl
+same_instances tree [] (y ∷ ys) paths f g = absurd (cc)
+same_instances tree (x ∷ xs) [] paths f g = absurd (cc)
+same_instances tree (x ∷ xs) (y ∷ ys) paths f g =
+    let path : x.path ≡ y.path = cc in
+    let rest : map (λ (l : Located). l.path) xs ≡ map (λ (l : Located). l.path) ys = cc in
+    let inside : x.inside ≡ y.inside = one_inside tree y.path x.inside y.inside (subst (λ p. IsInside tree p x.inside) path (f 0 x refl)) (g 0 y refl) in
+    let head : x ≡ y = λ j. record { path = path j; inside = inside j } in
+    let tail = same_instances tree xs ys rest (λ n. f (suc n)) (λ n. g (suc n)) in
+    λ j. head j ∷ tail j
+
+pub one_located : (tree : FileTree) (xs ys : List Located) → AreLocated tree xs → AreLocated tree ys → xs ≡ ys
+one_located tree xs ys a b =
+    let paths : List Located → List (List ℕ) = map (λ l. l.path) in
+    let main : b.main ≡ a.main = one_main tree b.main a.main b.is_main a.is_main in
+    let in_order : IsPreOrder (entered tree) (main_instance a.main) (paths ys) = subst (λ m. IsPreOrder (entered tree) (main_instance m) (paths ys)) main b.in_order in
+    same_instances tree xs ys (pre_order_unique (entered tree) (main_instance a.main) (paths xs) (paths ys) a.in_order in_order) (inside_at tree xs a) (inside_at tree ys b)
+
+-- no path has two numbers
+pub path_once : (tree : FileTree) (all : List Located) → AreLocated tree all → (i j : ℕ) (a b : Located) → slice_get all i ≡ Some a → slice_get all j ≡ Some b → a.path ≡ b.path → i ≡ j
+path_once tree all are i j a b at_i at_j same = ⊎_elim
+    (λ low. absurd (before_itself b.path (subst (λ p. Before p b.path) same (are.in_order.in_order i j a.path b.path (path_at i a at_i) (path_at j b at_j) low))))
+    (λ high. ⊎_elim
+    (λ low. absurd (before_itself b.path (subst (λ p. Before b.path p) same (are.in_order.in_order j i b.path a.path (path_at j b at_j) (path_at i a at_i) low))))
+    (λ more. omega arith)
+    (cases_lt j i))
+    (cases_lt i j)
+  where
+    path_at : (n : ℕ) (l : Located) → slice_get all n ≡ Some l → slice_get (map (λ i. i.path) all) n ≡ Some l.path
+    path_at n l at = map_at (λ i. i.path) all n l at

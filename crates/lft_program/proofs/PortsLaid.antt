@@ -1,0 +1,67 @@
+-- What the tables and the links of a tree have for a port of it.
+use Rattle.std.proofs.Common.{◌≡◌, ◌<◌, ℕ, Bool, List, Option, Some, None, length, slice_get, sym, subst, ap, ◌∙◌}
+use Rattle.std.specs.Option.{option_and_then}
+use Rattle.std.specs.List.{AllZip}
+use Rattle.lft_syntax.specs.Tree.{FileTree, PortTree, ports_of}
+use Rattle.lft_instances.specs.declared.numbering.Thing.{Thing}
+use Rattle.lft_instances.specs.declared.origins.Source.{Source as Before}
+use Rattle.lft_instances.proofs.Siblings.{map_get, length_map}
+use Rattle.lft_reactors.specs.Instances.{Thing as Spoken, thing_at}
+use Rattle.lft_reactors.specs.Sheets.{IsDeclarations}
+use Rattle.lft_nesting.specs.Links.{IsSource as IsSourceBefore}
+use Rattle.lft_nesting.specs.Located.{Located, Declared, declared, ports_in}
+use Rattle.lft_nesting.specs.Nests.{IsThingOf}
+use Rattle.lft_nesting.specs.declared.linking.Linked.{Linked}
+use Rattle.lft_nesting.specs.declared.nest.Nest.{Nest}
+use Rattle.lft_nesting.specs.declared.tables.Tables.{Tables}
+use Rattle.lft_nesting.proofs.Declared.{declared_from}
+use Rattle.lft_program.specs.Flattening.{IsPort, IsSource}
+use Rattle.lft_program.specs.Laying.{IsPortAt, input_at, source_of}
+use Rattle.lft_program.specs.OfTree.{AreOfTree}
+use Rattle.lft_program.specs.declared.parts.Port.{Port as PortOf}
+use Rattle.lft_program.proofs.LaidOut.{row_there}
+use Rattle.lft_program.proofs.Making.{Made, made_zip}
+use Rattle.lft_program.proofs.Zips.{AllZip-from, AllZip-length}
+
+source_is : (tree : FileTree) (all : List Located) (t : Spoken) (s : Option Before) → IsSourceBefore tree (ports_in all) t s → IsSource tree all t (source_of s)
+source_is tree all t None is = is
+source_is tree all t (Some s) is = is
+
+-- the port is the one of its number's link
+abbrev pub IsLinkedPort : Tables → Nest → List Linked → ℕ → Thing → PortOf → Type 0
+IsLinkedPort tables nest links k thing port = (link : Linked) × (slice_get links k ≡ Some link) × IsPortAt tables nest link thing port
+
+module _ (tree : FileTree) (tables : Tables) (nest : Nest) (links : List Linked) (of : AreOfTree tree tables nest links) where
+  module _ (k : ℕ) (d : Declared PortTree) (thing : Thing) (is : slice_get (declared ports_of of.is_nest.located) k ≡ Some d) (same : IsThingOf d thing) where
+    pub port_there : input_at tables nest thing ≡ Some d.item.is_input
+    port_there =
+        let at = declared_from ports_of of.is_nest.located k d is in
+        let row = row_there tree tables nest links of IsDeclarations tables.declarations.items of.are_tables.declarations thing.instance d.located (ap (slice_get of.is_nest.located) same.0 ∙ at.0) in
+        let item : slice_get (ports_of d.located.inside.reactor) thing.place ≡ Some d.item = ap (slice_get (ports_of d.located.inside.reactor)) same.1 ∙ at.1 in
+        ap (option_and_then (λ x. slice_get x.inputs.items thing.place)) row.1
+        ∙ ap (λ inputs. slice_get inputs thing.place) row.2.inputs
+        ∙ map_get (λ x. x.is_input) (ports_of d.located.inside.reactor) thing.place d.item item
+
+    pub port_is : (port : PortOf) → IsLinkedPort tables nest links k thing port → IsPort tree of.is_nest.located d port
+    port_is port made =
+        let name : Declared PortTree → Spoken = λ x. thing_at x.located.path x.item.name in
+        let source = of.are_links.sources k (name d) made.0 (map_get name (declared ports_of of.is_nest.located) k d is) made.1 in
+        let input : Some port.is_input ≡ Some d.item.is_input = sym made.2.direction ∙ port_there in
+        record {
+          instance = made.2.instance ∙ same.0;
+          direction = (cc);
+          source = subst (IsSource tree of.is_nest.located (name d)) (sym made.2.source) (source_is tree of.is_nest.located (name d) made.0.source source);
+        }
+
+  module _ (things : List Thing) (all : AllZip IsThingOf (declared ports_of of.is_nest.located) things) where
+    pub links_long : length links ≡ length things
+    links_long = of.are_links.as_long ∙ length_map (λ x. thing_at x.located.path x.item.name) (declared ports_of of.is_nest.located) ∙ sym (AllZip-length IsThingOf (declared ports_of of.is_nest.located) things all)
+
+    pub link_within : (k : ℕ) → k < length things → k < length links
+    link_within k within = subst (λ n. k < n) (sym links_long) within
+
+    pub port_for : (k : ℕ) (thing : Thing) → slice_get things k ≡ Some thing → (is_input : Bool) × (input_at tables nest thing ≡ Some is_input)
+    port_for k thing at = let d = AllZip-from IsThingOf (declared ports_of of.is_nest.located) things all k thing at in (d.0.item.is_input, port_there k d.0 thing d.1 d.2)
+
+    pub ports_are : (ports : List PortOf) → length ports ≡ length things → Made (IsLinkedPort tables nest links) things ports → AllZip (IsPort tree of.is_nest.located) (declared ports_of of.is_nest.located) ports
+    ports_are ports long made = made_zip IsThingOf (IsLinkedPort tables nest links) (IsPort tree of.is_nest.located) (declared ports_of of.is_nest.located) things ports all long made (λ k d thing port is same at. port_is k d thing is same port at)

@@ -1,0 +1,17 @@
+use Rattle.std.proofs.Common.{Some, refl, ap, ◌∙◌, arith}
+use Rattle.std.proofs.lemmas.Grind.{common_steps}
+use Rattle.lft_nesting.proofs.Zipping.{then_some}
+use Rattle.lft_program.proofs.ByNumber.{item_same, row_within, then_at}
+use Rattle.lft_program.proofs.laying.port.Goals as goal
+
+pub declarations_of-declarations-requires : goal.declarations_of-declarations-requires
+declarations_of-declarations-requires c = let d = then_some _ _ _ c.requires.1 in (d.0, d.1)
+
+pub index-requires : goal.index-requires
+index-requires c = let within = row_within (λ d. d.inputs.items) _ _ _ _ c.requires.1 c.declarations_of-declarations.ensures in grind (arith, common_steps)
+
+pub returns : goal.returns
+returns c =
+    let at = then_at _ _ _ _ c.requires.1 c.declarations_of-declarations.ensures in
+    let same = item_same c.declarations_of-declarations.result.now.inputs.items c.args.thing.place c.requires.0 c.index.result.now at c.index.ensures in
+    record { instance = refl; direction = c.requires.1 ∙ ap Some same; source = c.source.ensures; origin = refl; shift = refl }

@@ -1,0 +1,7 @@
+use Rattle.std.proofs.Common.{◌≡◌, length}
+use Rattle.lft_program.specs.Laying.{IsTimerAt}
+use Rattle.lft_program.proofs.Making.{Made}
+use Rattle.lft_program.proofs.laying.timers.Given as goal
+
+abbrev pub invariant-loop-number : goal.invariant-loop-number
+invariant-loop-number l = (length l.timers.items ≡ l.number) × Made (λ _. IsTimerAt l.tables l.nest) l.things.items l.timers.items

@@ -1,0 +1,7 @@
+use Rattle.std.proofs.Common.{◌≡◌, map, take}
+use Rattle.lft_program.specs.OwnNames.{name_lists, own_names}
+use Rattle.lft_reactors.specs.References.{reactor_trees}
+use Rattle.lft_program.proofs.own_names.own_names.Given as goal
+
+abbrev pub invariant-loop-reactor : goal.invariant-loop-reactor
+invariant-loop-reactor l = name_lists l.lists.items ≡ map (own_names l.kind) (reactor_trees (take l.reactor-index l.reactors))

@@ -1,0 +1,7 @@
+use Rattle.std.proofs.Common.{◌≡◌, map, take}
+use Rattle.lft_program.specs.OwnNames.{name_lists}
+use Rattle.lft_program.specs.TreeLists.{name_at, seen}
+use Rattle.lft_program.proofs.tree_lists.contained.Given as goal
+
+abbrev pub invariant-loop-inner : goal.invariant-loop-inner
+invariant-loop-inner l = map seen l.declared.items ≡ map (λ i. (i.parent, name_at (name_lists l.names) l.instances i.parent i.place)) (take l.inner-index l.instances)

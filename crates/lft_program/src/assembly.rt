@@ -1,0 +1,30 @@
+//! The program of the parts of a tree.
+
+ghost use Rattle.std.specs.Prelude.{◌≡◌, Any};
+ghost use Rattle.lft_syntax.specs.Tree.{FileTree, reactors_of};
+ghost use Rattle.lft_reactors.specs.Causes.{HasLongTime};
+ghost use Rattle.lft_nesting.specs.Tables.{IsLawful};
+ghost use Rattle.lft_program.specs.Flattening.{Flat};
+ghost use Rattle.lft_program.specs.Names.{AreDistinct, AreTexts};
+ghost use Rattle.lft_program.specs.Sound.{IsWithinLimits};
+
+use crate::names::NameTable;
+use crate::parts::{Action, Port, Reaction, Timer};
+use crate::program::Program;
+
+/// The program of the parts of a tree of which no cause of refusal holds.
+pub(crate) fn assembled(
+    ports: Vec<Port>,
+    actions: Vec<Action>,
+    timers: Vec<Timer>,
+    reactions: Vec<Reaction>,
+    names: NameTable,
+) -> Program
+    requires flat { (tree : FileTree) × IsLawful tree × (Any HasLongTime (reactors_of tree) → ⊥) × Flat tree (record { ports = ports.items; actions = actions.items; timers = timers.items; reactions = reactions.items; names = names }) }
+    requires limits { IsWithinLimits (record { ports = ports.items; actions = actions.items; timers = timers.items; reactions = reactions.items; names = names }) }
+    requires distinct { AreDistinct names }
+    requires utf8 { AreTexts names }
+    ensures { result ≡ record { ports = ports.items; actions = actions.items; timers = timers.items; reactions = reactions.items; names = names } }
+{
+    Program::from_parts(ports, actions, timers, reactions, names)
+}

@@ -1,0 +1,62 @@
+//! The names that the reactors of a file declare, by kind.
+
+ghost use Rattle.std.specs.Prelude.{◌≡◌, IfOk, map, filter_map, option_map};
+ghost use Rattle.lft_syntax.specs.View.{member_view, member_views};
+ghost use Rattle.lft_reactors.specs.Tests.{texts};
+ghost use Rattle.lft_program.specs.OwnNames.{name_in, name_lists, own_names};
+ghost use Rattle.lft_reactors.specs.References.{reactor_trees};
+
+use lft_syntax::{Member, Reactor};
+use lft_tag::NoMemory;
+use std::alloc::Global;
+
+/// The kinds of members whose full names have a dot.
+#[derive(Clone, Copy, Debug, PartialEq, Eq, Drop)]
+pub(crate) enum Kind {
+    Instance,
+    Port,
+    Action,
+    Timer,
+}
+
+/// The name of a member of this kind.
+fn name_of(member: &Member, kind: Kind) -> Option<&str>
+    ensures { option_map (λ t. t.now) result ≡ name_in kind (member_view member.now) }
+{
+    match (kind, member) {
+        (Kind::Instance, Member::Instance(instance)) => Some(instance.name.as_str()),
+        (Kind::Port, Member::Port(port)) => Some(port.name.as_str()),
+        (Kind::Action, Member::Action(action)) => Some(action.name.as_str()),
+        (Kind::Timer, Member::Timer(timer)) => Some(timer.name.as_str()),
+        _ => None,
+    }
+}
+
+/// The names of the members of this kind, in order.
+fn names_among(alloc: Global, members: &[Member], kind: Kind) -> Result<Vec<&str>, NoMemory>
+    ensures { IfOk result (λ v. texts v.items ≡ filter_map (name_in kind) (member_views members.now)) }
+{
+    let mut names = Vec::new(alloc);
+    for member in members {
+        match name_of(member, kind) {
+            Some(name) => names.push(name)?,
+            None => {}
+        }
+    }
+    Ok(names)
+}
+
+/// The names that each of the reactors declares for its members of this kind.
+pub(crate) fn own_names<'a>(
+    alloc: Global,
+    reactors: &[&'a Reactor],
+    kind: Kind,
+) -> Result<Vec<Vec<&'a str>>, NoMemory>
+    ensures { IfOk result (λ v. name_lists v.items ≡ map (own_names kind) (reactor_trees reactors.now)) }
+{
+    let mut lists = Vec::new(alloc);
+    for reactor in reactors {
+        lists.push(names_among(alloc, &reactor.members, kind)?)?;
+    }
+    Ok(lists)
+}

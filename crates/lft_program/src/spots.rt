@@ -1,0 +1,96 @@
+//! What the names in a reaction stand for, by number.
+
+ghost use Rattle.std.specs.Prelude.{◌≡◌, Some, IfOk};
+ghost use Rattle.lft_instances.specs.Joins.{port_at, port_of};
+ghost use Rattle.lft_program.specs.Laying.{AreNames, AreTriggers, Each, HasName, HasTrigger, IsFew, name_at, trigger_at};
+
+use crate::lists::{Names, Triggers};
+use crate::parts::{Name, Trigger};
+use lft_instances::End;
+use lft_nesting::{Nest, Numbering};
+use lft_reactors::{Cue, Spot};
+use lft_tag::NoMemory;
+use std::alloc::Global;
+
+// the number of the thing at a place of an instance
+fn number_of(numbering: &Numbering, instance: u32, place: u32) -> u32
+    requires { IsFew (port_at numbering.now.firsts.items instance place) }
+    ensures { port_at numbering.now.firsts.items instance place ≡ Some result }
+{
+    numbering.firsts[instance as usize] + place
+}
+
+// the number of the port that an end is in an instance
+fn port_number(nest: &Nest, instance: u32, end: End) -> u32
+    requires { IsFew (port_of nest.now.ports.firsts.items nest.now.children instance end) }
+    ensures { port_of nest.now.ports.firsts.items nest.now.children instance end ≡ Some result }
+{
+    match end {
+        End::Own(port) => number_of(&nest.ports, instance, port),
+        End::Inner {
+            instance: place,
+            port,
+        } => match nest.children.child(instance, place) {
+            Some(inner) => number_of(&nest.ports, inner, port),
+            None => unreachable!(),
+        },
+    }
+}
+
+// the port or action that a spot is in an instance
+fn name(nest: &Nest, instance: u32, spot: Spot) -> Name
+    requires { HasName nest.now instance spot }
+    ensures { name_at nest.now instance spot ≡ Some result }
+{
+    match spot {
+        Spot::Port(end) => Name::Port(port_number(nest, instance, end)),
+        Spot::Action(place) => Name::Action(number_of(&nest.actions, instance, place)),
+    }
+}
+
+// what a cue is in an instance
+fn trigger(nest: &Nest, instance: u32, cue: Cue) -> Trigger
+    requires { HasTrigger nest.now instance cue }
+    ensures { trigger_at nest.now instance cue ≡ Some result }
+{
+    match cue {
+        Cue::Startup => Trigger::Startup,
+        Cue::Shutdown => Trigger::Shutdown,
+        Cue::Timer(place) => Trigger::Timer(number_of(&nest.timers, instance, place)),
+        Cue::On(spot) => Trigger::On(name(nest, instance, spot)),
+    }
+}
+
+/// The ports and actions that the spots are in an instance, in order.
+pub(crate) fn names(
+    alloc: Global,
+    nest: &Nest,
+    instance: u32,
+    spots: &[Spot],
+) -> Result<Names, NoMemory>
+    requires { Each (HasName nest.now instance) spots.now }
+    ensures { IfOk result (AreNames nest.now instance spots.now) }
+{
+    let mut names = Vec::new(alloc);
+    for spot in spots {
+        names.push(name(nest, instance, *spot))?;
+    }
+    Ok(Names::from_vec(names))
+}
+
+/// The triggers that the cues are in an instance, in order.
+pub(crate) fn triggers(
+    alloc: Global,
+    nest: &Nest,
+    instance: u32,
+    cues: &[Cue],
+) -> Result<Triggers, NoMemory>
+    requires { Each (HasTrigger nest.now instance) cues.now }
+    ensures { IfOk result (AreTriggers nest.now instance cues.now) }
+{
+    let mut triggers = Vec::new(alloc);
+    for cue in cues {
+        triggers.push(trigger(nest, instance, *cue))?;
+    }
+    Ok(Triggers::from_vec(triggers))
+}
