@@ -1,4 +1,4 @@
--- Places of names in lists. The contracts of the crate's own functions alone need this file.
+-- Places of names in lists: the first place at which a name stands. `Sheets.antt` tells by it what a name stands for.
 use Rattle.std.specs.Prelude.{◌≡◌, ℕ, suc, List, [], ◌∷◌, Option, Some, None, if◌then◌else◌, option_map, bytes_eq}
 use Rattle.std.specs.HashMap.{get_by}
 use Rattle.lft_reactors.specs.declared.index.Index.{Index}

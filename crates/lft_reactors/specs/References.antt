@@ -1,4 +1,4 @@
--- Lists of references to parts of a tree, as trees. The contracts of the crate's own functions alone need this file.
+-- Lists of references to parts of a tree, as trees. Contracts of functions that are handed such lists need this file, here and in the crates above.
 use Rattle.std.specs.Prelude.{List, map}
 use Rattle.std.specs.Borrow.{Bor}
 use Rattle.lft_syntax.specs.Tree.{ReactorTree, RefTree, ConnectionTree, ReactionTree, InstanceTree, TimerTree, ActionTree, PortTree}

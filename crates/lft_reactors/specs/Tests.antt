@@ -1,4 +1,4 @@
--- Tests of being in a list, and names by kind. The contracts of the crate's own functions alone need this file.
+-- Tests of being in a list, and names by kind.
 use Rattle.std.specs.Prelude.{◌≡◌, ℕ, Bool, true, List, Option, map, option_map, Any, bytes_eq}
 use Rattle.std.specs.Borrow.{Bor}
 use Rattle.std.specs.HashSet.{HashSet, contains_by}
