@@ -13,7 +13,7 @@ use Rattle.lft_nesting.specs.Located.{Located, Declared, declared, ports_in, act
 use Rattle.lft_nesting.specs.Tables.{IsLawful}
 use Rattle.lft_nesting.proofs.Placed.{Some_same, declared_from, thing_from, path_once}
 use Rattle.lft_program.specs.Flattening.{Flat, IsPort, IsAction, IsTimer, IsReaction, IsName, IsTrigger, name_of_thing, name_of_reaction}
-use Rattle.lft_program.specs.Names.{AreDistinct, AreTexts}
+use Rattle.lft_program.specs.Names.{AreDistinct, AreWords}
 use Rattle.lft_program.specs.Parts.{Parts, named, inputs}
 use Rattle.lft_program.specs.Sound.{IsSound, HasOneWriter, HasDistinct, IsNameOf, IsTriggerOf, NamesParts, IsWithinLimits, HasTimes, IsWellNamed}
 use Rattle.lft_program.specs.declared.parts.Name.{Name}
@@ -67,14 +67,14 @@ module _ (tree : FileTree) (program : Parts) (flat : Flat tree program) where
         effects = λ n has. (let k = at_contains x.effects n has in let z = AllZip-from (IsName flat.instances d.located) d.item.effects x.effects o.is.effects k.0 n k.1 in name_there d.located z.0 n z.2);
       }
 
-  well_named : AreDistinct program.names → AreTexts program.names → IsWellNamed program
-  well_named distinct utf8 = record {
+  well_named : AreDistinct program.names → AreWords program.names → IsWellNamed program
+  well_named distinct words = record {
     ports = ap (λ n. length n.ports) flat.names ∙ length-map (ports_in flat.instances) (name_of_thing tree flat.are_located.main) ∙ many_ports;
     actions = ap (λ n. length n.actions) flat.names ∙ length-map (actions_in flat.instances) (name_of_thing tree flat.are_located.main) ∙ many_actions;
     timers = ap (λ n. length n.timers) flat.names ∙ length-map (timers_in flat.instances) (name_of_thing tree flat.are_located.main) ∙ many_timers;
     reactions = ap (λ n. length n.reactions) flat.names ∙ length-map (declared reactions_of flat.instances) (name_of_reaction tree flat.are_located.main) ∙ many_reactions;
     distinct = distinct;
-    utf8 = utf8;
+    words = words;
   }
 
   module _ (lawful : IsLawful tree) (in_time : Any HasLongTime (reactors_of tree) → ⊥) where
@@ -148,8 +148,8 @@ module _ (tree : FileTree) (program : Parts) (flat : Flat tree program) where
           subst (λ m. m ≤ 1000000000000000000) (sym z.2.period) short);
     }
 
-    pub IsSound-from_flat : IsWithinLimits program → AreDistinct program.names → AreTexts program.names → IsSound program
-    IsSound-from_flat limits distinct utf8 = record {
+    pub IsSound-from_flat : IsWithinLimits program → AreDistinct program.names → AreWords program.names → IsSound program
+    IsSound-from_flat limits distinct words = record {
       origins = flat.origins;
       one_writer = has_one_writer;
       numbered = is_numbered tree program flat;
@@ -158,5 +158,5 @@ module _ (tree : FileTree) (program : Parts) (flat : Flat tree program) where
       exist = parts_of;
       limits = limits;
       times = has_times;
-      well_named = well_named distinct utf8;
+      well_named = well_named distinct words;
     }

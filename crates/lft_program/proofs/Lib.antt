@@ -33,3 +33,4 @@ pub mod NamesOnce
 pub mod KindNames
 pub mod InnerNames
 pub mod TreeNames
+pub mod Words

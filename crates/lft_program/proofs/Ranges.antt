@@ -4,8 +4,8 @@ use Rattle.std.proofs.lemmas.Bool.Decides.{nat_tests, Decides-ltb}
 use Rattle.std.proofs.lemmas.Grind.{common_steps}
 use Rattle.std.proofs.lemmas.List.Folds.{drop_split}
 use Rattle.std.proofs.lemmas.Option.{slice_get_within}
-use Rattle.lft_program.specs.Names.{ThingNames, IsNamed, HasNoTwice, AreDistinct, AreTexts}
-use Rattle.lft_program.specs.Places.{AreUtf8, AreStarts, names_from, thing_at}
+use Rattle.lft_program.specs.Names.{ThingNames, IsNamed, HasNoTwice, AreDistinct}
+use Rattle.lft_program.specs.Places.{AreStarts, names_from, thing_at}
 use Rattle.lft_program.specs.declared.found.Found.{Found}
 use Rattle.lft_program.specs.declared.found.Found.TheVariants.{Instance, Port, Action, Timer, Reaction}
 use Rattle.lft_program.specs.declared.names.Starts.{Starts}
@@ -77,8 +77,9 @@ module _ (texts : List (List ℕ)) (s : Starts) (starts : AreStarts s (length te
       let q = place_named g text b in
       p.2 ∙ ap (thing_at s) (once p.0 q.0 text p.1 q.1) ∙ sym q.2
 
-  pub AreTexts-names_from : AreUtf8 texts → AreTexts (names_from texts s)
-  AreTexts-names_from all f text a = let p = place_named f text a in all p.0 text p.1
+  -- what holds of each text of the list holds of each name
+  pub each_named : (P : List ℕ → Type 0) → ((i : ℕ) (text : List ℕ) → slice_get texts i ≡ Some text → P text) → (f : Found) (text : List ℕ) → IsNamed (names_from texts s) f text → P text
+  each_named P all f text a = let p = place_named f text a in all p.0 text p.1
 
 -- the names of the kinds one after another
 abbrev together : ThingNames → List (List ℕ)

@@ -1,6 +1,6 @@
 -- The names of a program's things, and what a text names.
-use Rattle.std.specs.Prelude.{◌≡◌, ℕ, List, Some, slice_get}
-use Rattle.std.specs.Str.{IsUtf8}
+use Rattle.std.specs.Prelude.{◌≡◌, ℕ, ◌==◌, ◌||◌, true, List, Some, slice_get, All}
+use Rattle.lft_syntax.specs.Bytes.{is_word}
 use Rattle.lft_program.specs.declared.found.Found.{Found}
 use Rattle.lft_program.specs.declared.found.Found.TheVariants as found
 
@@ -28,6 +28,10 @@ HasNoTwice texts = (i j : ℕ) (text : List ℕ) → slice_get texts i ≡ Some 
 abbrev pub AreDistinct : ThingNames → Type 0
 AreDistinct names = (f g : Found) (text : List ℕ) → IsNamed names f text → IsNamed names g text → f ≡ g
 
--- each name is a text in UTF-8
-abbrev pub AreTexts : ThingNames → Type 0
-AreTexts names = (f : Found) (text : List ℕ) → IsNamed names f text → IsUtf8 text
+-- a letter, a digit, `_`, a dot (byte 46) or `#` (byte 35)
+abbrev pub IsNameByte : ℕ → Type 0
+IsNameByte b = (is_word b || (b == 46) || (b == 35)) ≡ true
+
+-- each byte of each name is one of these
+abbrev pub AreWords : ThingNames → Type 0
+AreWords names = (f : Found) (text : List ℕ) → IsNamed names f text → All IsNameByte text

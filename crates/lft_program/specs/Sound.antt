@@ -1,7 +1,7 @@
 -- What holds of the parts of every program.
 use Rattle.std.specs.Prelude.{◌≡◌, ℕ, ◌+◌, ◌<◌, ◌≤◌, List, slice_get, length, Some, Contains, AllPairs, ◌≢◌}
 use Rattle.lft_program.specs.Parts.{Parts, inputs}
-use Rattle.lft_program.specs.Names.{AreDistinct, AreTexts}
+use Rattle.lft_program.specs.Names.{AreDistinct, AreWords}
 use Rattle.lft_program.specs.Origins.{Origin}
 use Rattle.lft_program.specs.declared.parts.Port.{Port as PortOf}
 use Rattle.lft_program.specs.declared.parts.Action.{Action as ActionOf}
@@ -65,14 +65,14 @@ pub record HasTimes (program : Parts) : Type 0 where
   pub offsets : (t : ℕ) (timer : TimerOf) → slice_get program.timers t ≡ Some timer → timer.offset ≤ 1000000000000000000
   pub periods : (t : ℕ) (timer : TimerOf) → slice_get program.timers t ≡ Some timer → timer.period ≤ 1000000000000000000
 
--- each thing has a name in UTF-8, and no two things have the same
+-- each thing has a name of letters, digits, `_`, dots and `#`, and no two things have the same
 pub record IsWellNamed (program : Parts) : Type 0 where
   pub ports : length program.names.ports ≡ length program.ports
   pub actions : length program.names.actions ≡ length program.actions
   pub timers : length program.names.timers ≡ length program.timers
   pub reactions : length program.names.reactions ≡ length program.reactions
   pub distinct : AreDistinct program.names
-  pub utf8 : AreTexts program.names
+  pub words : AreWords program.names
 
 -- a sound program
 pub record IsSound (program : Parts) : Type 0 where

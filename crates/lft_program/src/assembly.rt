@@ -5,7 +5,7 @@ ghost use Rattle.lft_syntax.specs.Tree.{FileTree, reactors_of};
 ghost use Rattle.lft_reactors.specs.Causes.{HasLongTime};
 ghost use Rattle.lft_nesting.specs.Tables.{IsLawful};
 ghost use Rattle.lft_program.specs.Flattening.{Flat};
-ghost use Rattle.lft_program.specs.Names.{AreDistinct, AreTexts};
+ghost use Rattle.lft_program.specs.Names.{AreDistinct, AreWords};
 ghost use Rattle.lft_program.specs.Sound.{IsWithinLimits};
 
 use crate::names::NameTable;
@@ -23,7 +23,7 @@ pub(crate) fn assembled(
     requires flat { (tree : FileTree) × IsLawful tree × (Any HasLongTime (reactors_of tree) → ⊥) × Flat tree (record { ports = ports.items; actions = actions.items; timers = timers.items; reactions = reactions.items; names = names }) }
     requires limits { IsWithinLimits (record { ports = ports.items; actions = actions.items; timers = timers.items; reactions = reactions.items; names = names }) }
     requires distinct { AreDistinct names }
-    requires utf8 { AreTexts names }
+    requires words { AreWords names }
     ensures { result ≡ record { ports = ports.items; actions = actions.items; timers = timers.items; reactions = reactions.items; names = names } }
 {
     Program::from_parts(ports, actions, timers, reactions, names)

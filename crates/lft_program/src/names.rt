@@ -70,7 +70,7 @@ impl Model for NameTable {
 }
 
 impl NameTable {
-    ghost use Rattle.lft_program.specs.Names.{IsNamed, AreDistinct, AreTexts};
+    ghost use Rattle.lft_program.specs.Names.{IsNamed, AreDistinct};
     ghost use Rattle.lft_program.specs.Places.{names_from, AreStarts};
     ghost use Rattle.lft_program.specs.declared.found.Found.{Found};
 
@@ -79,7 +79,6 @@ impl NameTable {
         requires { AreStarts starts (length texts) }
         ensures value { result ≡ names_from texts starts }
         ensures distinct { AreDistinct result }
-        ensures utf8 { AreTexts result }
     {
         let _ = texts.len();
         NameTable { texts, starts }

@@ -3,7 +3,7 @@
 ghost use Rattle.std.specs.Prelude.{◌≡◌, ◌<◌, ◌∷◌, [], codes, map, length, string_bytes, IfOk, OnOk};
 ghost use Rattle.lft_program.specs.Extended.{dotted, hashed, endings, name_after, extended, AreAfter};
 ghost use Rattle.lft_program.specs.FullNames.{AreFullNames, AreOfProgram, AreFew};
-ghost use Rattle.lft_program.specs.Names.{ThingNames, HasNoTwice, AreDistinct, AreTexts};
+ghost use Rattle.lft_program.specs.Names.{ThingNames, HasNoTwice, AreDistinct, AreWords};
 
 use crate::names::{NameTable, Starts};
 use crate::texts::Texts;
@@ -119,7 +119,7 @@ pub(crate) fn full_names(
     ensures names { IfOk result (AreFullNames instances.now ports.now actions.now timers.now reactions.now) }
     ensures one { IfOk result (λ r. (other : ThingNames) → AreFullNames instances.now ports.now actions.now timers.now reactions.now other → other ≡ r) }
     ensures distinct { IfOk result AreDistinct }
-    ensures utf8 { IfOk result AreTexts }
+    ensures words { IfOk result AreWords }
 {
     let texts = all_names(alloc, instances, ports, actions, timers, reactions)?;
     let first_action = instances.len() + ports.len();

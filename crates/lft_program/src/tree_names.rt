@@ -6,7 +6,7 @@ ghost use Rattle.lft_syntax.specs.View.{tree_view};
 ghost use Rattle.lft_nesting.specs.Nests.{IsNest};
 ghost use Rattle.lft_nesting.specs.Tables.{AreTables, IsLawful};
 ghost use Rattle.lft_program.specs.Flattening.{names_of};
-ghost use Rattle.lft_program.specs.Names.{AreDistinct, AreTexts};
+ghost use Rattle.lft_program.specs.Names.{AreDistinct, AreWords};
 
 use crate::names::NameTable;
 use crate::naming::full_names;
@@ -31,7 +31,7 @@ pub(crate) fn tree_names(
     requires nest { IsNest (tree_view ast.now) tables.now nest.now }
     ensures names { IfOk result (λ t. (n : IsNest (tree_view ast.now) tables.now nest.now) → t ≡ names_of (tree_view ast.now) n.are_located.main n.located) }
     ensures distinct { IfOk result AreDistinct }
-    ensures utf8 { IfOk result AreTexts }
+    ensures words { IfOk result AreWords }
 {
     let all = reactors(alloc, &ast.items)?;
     let lists = Lists::of(alloc, &all, nest)?;

@@ -1,17 +1,16 @@
--- Where no name has a byte that csv quotes, each record is written as its fields with commas between them.
-use Rattle.std.proofs.Common.{◌≡◌, ◌∙◌, ℕ, zero, suc, ◌^◌, ◌<◌, ◌≤◌, ◌++◌, List, [], ◌∷◌, map, Some, refl, ap, arith, slice_get, slice_index_or, decimal, false, pos, negsuc, Contains, codes, Vec, Result, Ok, Err, IfOk, OnOk}
+-- No name has a byte that csv quotes, so each record is written as its fields with commas between them.
+use Rattle.std.proofs.Common.{◌≡◌, ◌≢◌, ◌∙◌, subst, ℕ, zero, suc, ◌^◌, ◌<◌, ◌≤◌, ◌++◌, List, [], ◌∷◌, map, Some, refl, ap, arith, slice_get, slice_index_or, decimal, false, pos, negsuc, All, codes, Vec, Result, Ok, Err, IfOk, OnOk}
 use Rattle.std.specs.Prelude.{⊤}
 use Rattle.std.specs.List.{concat, join_with_byte, list_any}
-use Rattle.std.specs.Str.Parse.{AllDigits}
 use Rattle.std.specs.declared.alloc.Global.{Global}
 use Rattle.std.proofs.lemmas.Bool.{ne_eqb}
-use Rattle.std.proofs.lemmas.Fmt.{decimal_is_IsNumeral}
 use Rattle.std.proofs.lemmas.List.{append-nil}
+use Rattle.std.proofs.lemmas.List.Elements.{All-weaker}
+use Rattle.std.proofs.lemmas.List.Folds.{list_any_none}
 use Rattle.std.proofs.lemmas.Option.{slice_get-get_or}
-use Rattle.std.proofs.lemmas.Str.Parse.{digit_from_value}
 use Rattle.csv.specs.Writing.{default_writer, field_text, fields_text, is_blank, needs_byte, row_text}
 use Rattle.lft_tag.specs.declared.NoMemory.{NoMemory}
-use Rattle.lft_program.specs.Names.{IsNamed}
+use Rattle.lft_program.specs.Names.{IsNamed, IsNameByte}
 use Rattle.lft_program.specs.Parts.{Parts}
 use Rattle.lft_program.specs.Sound.{IsNameOf, IsSound}
 use Rattle.lft_program.specs.declared.found.Found.TheVariants as found
@@ -19,10 +18,11 @@ use Rattle.lft_program.specs.declared.parts.Name.{Name}
 use Rattle.lft_program.specs.declared.parts.Name.TheVariants.{Port, Action}
 use Rattle.lft_program.specs.declared.parts.Value.{Value}
 use Rattle.lft_program.specs.declared.parts.Value.TheVariants.{Bare, Int}
+use Rattle.lft_program.proofs.Words.{All-decimal}
 use Rattle.lft_trace.specs.Fits.{RowFits, RowsFit, StepFits}
 use Rattle.lft_trace.specs.Traces.{header, word}
 use Rattle.lft_trace.specs.SeenWriting.{AllHaveWords, HasWord, HasWords, IsWord}
-use Rattle.lft_trace.specs.Written.{HasPlainNames, IsPlainByte, csv_text, delay_text, event_of, line, name_text, row_fields, step_fields, table_text, value_text, written_records}
+use Rattle.lft_trace.specs.Written.{csv_text, delay_text, event_of, line, name_text, row_fields, step_fields, table_text, value_text, written_records}
 use Rattle.lft_trace.specs.declared.row.Row.{Row}
 use Rattle.lft_trace.specs.declared.row.Step.{Step}
 use Rattle.lft_trace.specs.declared.row.Step.TheVariants.{Start, Read, Write, Schedule, Stop, End}
@@ -35,22 +35,21 @@ abbrev ArePlain : List (List ℕ) → Type 0
 ArePlain [] = ⊤
 ArePlain (field ∷ fields) = IsPlain field × ArePlain fields
 
-plain_byte : (b : ℕ) → IsPlainByte b → needs_byte default_writer b ≡ false
-plain_byte b p = rw (ne_eqb b 44 p.0, ne_eqb b 34 p.1, ne_eqb b 13 p.2, ne_eqb b 10 p.3) refl
+-- a byte of a name isn't one that no name has
+other_byte : (b c : ℕ) → IsNameByte b → (IsNameByte c → ⊥) → b ≢ c
+other_byte b c is never same = never (subst IsNameByte same is)
 
-plain_text : (text : List ℕ) → ((b : ℕ) → Contains text b → IsPlainByte b) → IsPlain text
-plain_text [] h = refl
-plain_text (b ∷ bs) h = let e = plain_byte b (h b (0, omega arith, refl)) in rw e (plain_text bs (λ c there. h c (suc there.0, omega (arith, there.1), there.2)))
+-- csv writes no byte of a name between quotes
+plain_byte : (b : ℕ) → IsNameByte b → needs_byte default_writer b ≡ false
+plain_byte b is = rw (ne_eqb b 44 (other_byte b 44 is (λ e. cc e)), ne_eqb b 34 (other_byte b 34 is (λ e. cc e)), ne_eqb b 13 (other_byte b 13 is (λ e. cc e)), ne_eqb b 10 (other_byte b 10 is (λ e. cc e))) refl
 
-plain_digits : (ds : List ℕ) → AllDigits 10 ds → IsPlain ds
-plain_digits [] h = refl
-plain_digits (c ∷ cs) h =
-    let d = digit_from_value c h.0 in
-    let e = plain_byte c (λ z. omega (arith, d, z), λ z. omega (arith, d, z), λ z. omega (arith, d, z), λ z. omega (arith, d, z)) in
-    rw e (plain_digits cs h.1)
+-- a text of such bytes is written as it is
+plain_text : (text : List ℕ) → All IsNameByte text → IsPlain text
+plain_text text all = list_any_none (needs_byte default_writer) text (All-weaker IsNameByte (λ b. needs_byte default_writer b ≡ false) plain_byte text all)
 
+-- so are numbers
 plain_decimal : (n : ℕ) → n < 2 ^ 64 → IsPlain (decimal n)
-plain_decimal n small = plain_digits (decimal n) (decimal_is_IsNumeral n small).0.1
+plain_decimal n small = plain_text (decimal n) (All-decimal n small)
 
 plain_value : (v : Value) → IsWord v → IsPlain (value_text v)
 plain_value Bare w = refl
@@ -61,21 +60,22 @@ plain_delay : (delay : ℕ) → delay ≤ 1000000000000000000 → IsPlain (delay
 plain_delay zero le = refl
 plain_delay (suc n) le = let e = ne_eqb (suc n) 0 (λ z. cc z) in rw e (plain_decimal (suc n) (omega arith))
 
-plain_name : (program : Parts) (n : Name) → HasPlainNames program.names → IsSound program → IsNameOf program n → IsPlain (name_text program n)
-plain_name program (Port p) plain sound h =
+-- so are names
+plain_name : (program : Parts) (n : Name) → IsSound program → IsNameOf program n → IsPlain (name_text program n)
+plain_name program (Port p) sound h =
     let named : IsNamed program.names (found.Port p) (name_text program (Port p)) = slice_get-get_or program.names.ports p [] (rw sound.well_named.ports h) in
-    plain_text (name_text program (Port p)) (λ b there. plain (found.Port p) (name_text program (Port p)) b named there)
-plain_name program (Action a) plain sound h =
+    plain_text (name_text program (Port p)) (sound.well_named.words (found.Port p) (name_text program (Port p)) named)
+plain_name program (Action a) sound h =
     let named : IsNamed program.names (found.Action a) (name_text program (Action a)) = slice_get-get_or program.names.actions a [] (rw sound.well_named.actions h) in
-    plain_text (name_text program (Action a)) (λ b there. plain (found.Action a) (name_text program (Action a)) b named there)
+    plain_text (name_text program (Action a)) (sound.well_named.words (found.Action a) (name_text program (Action a)) named)
 
-plain_step : (program : Parts) (s : Step) → HasPlainNames program.names → IsSound program → StepFits program s → HasWord s → ArePlain (step_fields program s)
-plain_step program Start plain sound fits wide = (refl, (refl, (refl, tt)))
-plain_step program (Read n v) plain sound fits wide = (plain_name program n plain sound fits, (plain_value v wide, (refl, tt)))
-plain_step program (Write n v) plain sound fits wide = (plain_name program n plain sound fits, (plain_value v wide, (refl, tt)))
-plain_step program (Schedule n v delay) plain sound fits wide = (plain_name program n plain sound fits.0, (plain_value v wide, (plain_delay delay fits.1, tt)))
-plain_step program Stop plain sound fits wide = (refl, (refl, (refl, tt)))
-plain_step program End plain sound fits wide = (refl, (refl, (refl, tt)))
+plain_step : (program : Parts) (s : Step) → IsSound program → StepFits program s → HasWord s → ArePlain (step_fields program s)
+plain_step program Start sound fits wide = (refl, (refl, (refl, tt)))
+plain_step program (Read n v) sound fits wide = (plain_name program n sound fits, (plain_value v wide, (refl, tt)))
+plain_step program (Write n v) sound fits wide = (plain_name program n sound fits, (plain_value v wide, (refl, tt)))
+plain_step program (Schedule n v delay) sound fits wide = (plain_name program n sound fits.0, (plain_value v wide, (plain_delay delay fits.1, tt)))
+plain_step program Stop sound fits wide = (refl, (refl, (refl, tt)))
+plain_step program End sound fits wide = (refl, (refl, (refl, tt)))
 
 plain_event : (s : Step) → IsPlain (word (event_of s))
 plain_event Start = refl
@@ -85,15 +85,15 @@ plain_event (Schedule n v delay) = refl
 plain_event Stop = refl
 plain_event End = refl
 
-plain_row : (program : Parts) (row : Row) → HasPlainNames program.names → IsSound program → RowFits program row → HasWords row → ArePlain (row_fields program row)
-plain_row program row plain sound fits words =
+plain_row : (program : Parts) (row : Row) → IsSound program → RowFits program row → HasWords row → ArePlain (row_fields program row)
+plain_row program row sound fits words =
     let recorded = fits.recorded in
     let reaction = slice_index_or program.names.reactions row.reaction [] in
     let named : IsNamed program.names (found.Reaction row.reaction) reaction = slice_get-get_or program.names.reactions row.reaction [] (rw sound.well_named.reactions fits.reaction) in
     let time = plain_decimal row.tag.time (omega (arith, recorded)) in
     let microstep = plain_decimal row.tag.micro (omega (arith, recorded)) in
-    let name = plain_text reaction (λ b there. plain (found.Reaction row.reaction) reaction b named there) in
-    (plain_event row.step, (plain_decimal row.worker (omega (arith, words)), (time, (microstep, (name, plain_step program row.step plain sound fits.step words.1)))))
+    let name = plain_text reaction (sound.well_named.words (found.Reaction row.reaction) reaction named) in
+    (plain_event row.step, (plain_decimal row.worker (omega (arith, words)), (time, (microstep, (name, plain_step program row.step sound fits.step words.1)))))
 
 plain_field : (x : List ℕ) → IsPlain x → field_text default_writer x ≡ x
 plain_field x p = rw p refl
@@ -121,11 +121,11 @@ lines_of program (r ∷ rs) h =
     let more = lines_of program rs (λ k row e. h (suc k) row e) in
     rw (one, more) refl
 
--- the text of rows that have plain names
+-- the text of the rows
 pub plain_lines : (program : Parts) (rows : List Row) (r : Result (Vec ℕ Global) NoMemory) → IsSound program → RowsFit program rows
-    → IfOk r (λ text. text.items ≡ csv_text (written_records program rows)) → OnOk r (AllHaveWords rows) → HasPlainNames program.names → IfOk r (λ text. text.items ≡ table_text program rows)
-plain_lines program rows (Err e) sound fit bytes words plain = tt
-plain_lines program rows (Ok text) sound fit bytes words plain =
-    let rest = lines_of program rows (λ k row e. plain_row program row plain sound (fit.each k row e) (words k row e)) in
+    → IfOk r (λ text. text.items ≡ csv_text (written_records program rows)) → OnOk r (AllHaveWords rows) → IfOk r (λ text. text.items ≡ table_text program rows)
+plain_lines program rows (Err e) sound fit bytes words = tt
+plain_lines program rows (Ok text) sound fit bytes words =
+    let rest = lines_of program rows (λ k row e. plain_row program row sound (fit.each k row e) (words k row e)) in
     let first : row_text default_writer header ≡ line header = line_of (codes "event") (codes "worker") (codes "time" ∷ codes "microstep" ∷ codes "reaction" ∷ codes "name" ∷ codes "value" ∷ codes "delay" ∷ []) (refl, (refl, (refl, (refl, (refl, (refl, (refl, (refl, tt)))))))) in
     bytes ∙ ap (λ (t : List ℕ). t ++ concat (map (row_text default_writer) (map (row_fields program) rows))) first ∙ ap (λ (t : List ℕ). line header ++ t) rest

@@ -1,11 +1,9 @@
 -- The text of a trace table as it is written.
-use Rattle.std.specs.Prelude.{◌≢◌, ℕ, List, [], ◌∷◌, ◌++◌, map, decimal, slice_index_or, Contains, if◌then◌else◌, ◌==◌}
+use Rattle.std.specs.Prelude.{ℕ, List, [], ◌∷◌, ◌++◌, map, decimal, slice_index_or, if◌then◌else◌, ◌==◌}
 use Rattle.std.specs.Fmt.{signed_decimal}
 use Rattle.std.specs.List.{concat, join_with_byte}
 use Rattle.csv.specs.Writing.{default_writer, row_text}
-use Rattle.lft_program.specs.Names.{IsNamed, ThingNames}
 use Rattle.lft_program.specs.Parts.{Parts}
-use Rattle.lft_program.specs.declared.found.Found.{Found}
 use Rattle.lft_program.specs.declared.parts.Name.{Name}
 use Rattle.lft_program.specs.declared.parts.Name.TheVariants.{Port, Action}
 use Rattle.lft_program.specs.declared.parts.Value.{Value}
@@ -68,11 +66,3 @@ line fields = join_with_byte 44 fields ++ (10 ∷ [])
 -- the text of the rows: a line for the header, and then one for each row
 abbrev pub table_text : Parts → List Row → List ℕ
 table_text program rows = concat (map line (written_records program rows))
-
--- no byte that csv writes between quotes: comma, quote, CR, LF
-abbrev pub IsPlainByte : ℕ → Type 0
-IsPlainByte b = (b ≢ 44) × (b ≢ 34) × (b ≢ 13) × (b ≢ 10)
-
--- no name has such a byte
-abbrev pub HasPlainNames : ThingNames → Type 0
-HasPlainNames names = (f : Found) (text : List ℕ) (b : ℕ) → IsNamed names f text → Contains text b → IsPlainByte b

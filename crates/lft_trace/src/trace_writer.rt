@@ -8,7 +8,7 @@ ghost use Rattle.lft_trace.specs.Records.{records_of};
 ghost use Rattle.lft_trace.specs.Traces.{Table, header, in_order, word};
 ghost use Rattle.lft_trace.specs.Seen.{trace_fields};
 ghost use Rattle.lft_trace.specs.SeenWriting.{AllHaveWords, HasWord, HasWords, HasWritten, IsWord};
-ghost use Rattle.lft_trace.specs.Written.{HasPlainNames, csv_text, delay_text, event_of, name_text, row_fields, step_fields, table_text, value_text, written_records};
+ghost use Rattle.lft_trace.specs.Written.{csv_text, delay_text, event_of, name_text, row_fields, step_fields, table_text, value_text, written_records};
 
 use crate::fields::TraceFields;
 use crate::row::{Row, Rows, Step};
@@ -20,14 +20,14 @@ use lft_tag::NoMemory;
 use std::alloc::Global;
 
 /// The trace table of the rows, which `read_trace` reads as these rows. Each line ends with a line
-/// feed; a bare value and no delay are written as nothing, and numbers without leading zeros.
+/// feed; a bare value and no delay are written as nothing, and numbers without leading zeros. No
+/// quotes are written.
 pub fn write_trace(alloc: Global, program: &Program, rows: &Rows) -> Result<Vec<u8>, NoMemory>
     requires { RowsFit program.now rows.now }
-    ensures bytes { IfOk result (λ text. text.items ≡ csv_text (written_records program.now rows.now)) }
-    ensures plain { HasPlainNames program.now.names → IfOk result (λ text. text.items ≡ table_text program.now rows.now) }
+    ensures plain { IfOk result (λ text. text.items ≡ table_text program.now rows.now) }
     ensures table { IfOk result (λ text. Table program.now (records_of text.items) rows.now) }
 {
-    // Asked for what every program keeps: each of its things has a name.
+    // Asked for what every program keeps: each of its things has a name, whose bytes need no quotes.
     let _ = program.reactions();
     write_rows(alloc, program, rows.as_slice())
 }

@@ -1,7 +1,9 @@
 use Rattle.std.proofs.Common.{sym, subst}
 use Rattle.lft_program.specs.FullNames.{AreFullNames}
+use Rattle.lft_program.specs.Names.{AreWords}
 use Rattle.lft_program.proofs.NamedParts.{are_starts, full}
 use Rattle.lft_program.proofs.OneNaming.{one_naming}
+use Rattle.lft_program.proofs.Words.{AreWords-names_from}
 use Rattle.lft_program.proofs.naming.full_names.Goals as goal
 
 pub new-requires : goal.new-requires
@@ -21,3 +23,9 @@ returns-clause-one c =
     let all = full a.instances.now a.ports.now a.actions.now a.timers.now a.reactions.now c.requires.things c.requires.few c.in_ok-texts.texts c.in_ok-texts.ensures in
     let these = subst (AreFullNames a.instances.now a.ports.now a.actions.now a.timers.now a.reactions.now) (sym c.new.ensures.value) all in
     λ other those. one_naming a.instances.now a.ports.now a.actions.now a.timers.now a.reactions.now c.requires.things.nested c.new.result other these those
+
+pub returns-clause-words : goal.returns-clause-words
+returns-clause-words c =
+    let a = c.args in
+    let starts = are_starts a.instances.now a.ports.now a.actions.now a.timers.now a.reactions.now c.requires.things c.requires.few c.in_ok-texts.texts c.in_ok-texts.ensures in
+    subst AreWords (sym c.new.ensures.value) (AreWords-names_from a.instances.now a.ports.now a.actions.now a.timers.now a.reactions.now c.requires.things c.requires.few c.in_ok-texts.texts c.in_ok-texts.ensures _ starts)

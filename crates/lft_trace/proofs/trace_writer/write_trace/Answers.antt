@@ -8,6 +8,6 @@ returns-clause-table c =
     table_back c.args.program.now c.args.rows.now c.write_rows.result c.reactions.ensures.sound c.requires w.bytes w.words
 
 pub returns-clause-plain : goal.returns-clause-plain
-returns-clause-plain c = λ plain.
+returns-clause-plain c =
     let w = rw c.as_slice.ensures at c.write_rows.ensures in
-    plain_lines c.args.program.now c.args.rows.now c.write_rows.result c.reactions.ensures.sound c.requires w.bytes w.words plain
+    plain_lines c.args.program.now c.args.rows.now c.write_rows.result c.reactions.ensures.sound c.requires w.bytes w.words

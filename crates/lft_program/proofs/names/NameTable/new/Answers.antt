@@ -1,8 +1,5 @@
-use Rattle.lft_program.proofs.Ranges.{AreDistinct-names_from, AreTexts-names_from}
+use Rattle.lft_program.proofs.Ranges.{AreDistinct-names_from}
 use Rattle.lft_program.proofs.names.NameTable.new.Goals as goal
 
 pub returns-clause-distinct : goal.returns-clause-distinct
 returns-clause-distinct c = AreDistinct-names_from c.args.texts c.args.starts c.requires c.len.ensures.distinct
-
-pub returns-clause-utf8 : goal.returns-clause-utf8
-returns-clause-utf8 c = AreTexts-names_from c.args.texts c.args.starts c.requires c.len.ensures.utf8
