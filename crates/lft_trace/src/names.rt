@@ -1,16 +1,45 @@
 //! What fields name in a program.
 
-ghost use Rattle.std.specs.Prelude.{◌≡◌, ◌≢◌, ℕ, IfSome, IfNone};
+ghost use Rattle.std.specs.Prelude.{◌≡◌, ◌≢◌, ◌<◌, ◌↔◌, ℕ, IfSome, IfNone, IsTrue, length};
 ghost use Rattle.lft_program.specs.Names.{IsNamed};
 ghost use Rattle.lft_trace.specs.ExternalTables.{IsPhysical};
 ghost use Rattle.lft_trace.specs.Traces.{IsThing, thing};
 
 use lft_program::{Found, Name, Program};
 
-/// The reaction of this name.
-pub(crate) fn read_reaction(program: &Program, field: &[u8]) -> Option<u32>
+/// The reaction of this name. The rows of one run stand together, so the name of the last row's
+/// reaction is tried before all others.
+pub(crate) fn read_reaction(program: &Program, last: Option<u32>, field: &[u8]) -> Option<u32>
+    requires { IfSome last (λ r. r < length program.now.reactions) }
     ensures some { IfSome result (λ r. IsNamed program.now.names (Found.Reaction r) field.now) }
     ensures none { IfNone result ((r : ℕ) → IsNamed program.now.names (Found.Reaction r) field.now → ⊥) }
+    ensures within { IfSome result (λ r. r < length program.now.reactions) }
+{
+    match last {
+        Some(number) => {
+            if names_reaction(program, number, field) {
+                Some(number)
+            } else {
+                find_reaction(program, field)
+            }
+        }
+        None => find_reaction(program, field),
+    }
+}
+
+// Whether the field names the reaction.
+fn names_reaction(program: &Program, number: u32, field: &[u8]) -> bool
+    requires { number < length program.now.reactions }
+    ensures { IsTrue result ↔ IsNamed program.now.names (Found.Reaction number) field.now }
+{
+    field == program.name_of_reaction(number).as_bytes()
+}
+
+// The reaction of this name, looked up among all names.
+fn find_reaction(program: &Program, field: &[u8]) -> Option<u32>
+    ensures some { IfSome result (λ r. IsNamed program.now.names (Found.Reaction r) field.now) }
+    ensures none { IfNone result ((r : ℕ) → IsNamed program.now.names (Found.Reaction r) field.now → ⊥) }
+    ensures within { IfSome result (λ r. r < length program.now.reactions) }
 {
     match program.find_bytes(field) {
         Some(found) => reaction(found),

@@ -11,20 +11,20 @@ const LEAST: u64 = 9_223_372_036_854_775_808;
 
 /// An unsigned number.
 pub(crate) fn read_number(field: &[u8], limit: u64) -> Option<u64>
-    requires { 9 ≤ limit }
     ensures value { result ≡ number limit field.now }
     ensures within { IfSome result (λ n. n ≤ limit) }
 {
     if field.is_empty() {
         return None;
     }
+    let most = limit / 10;
     let mut number: u64 = 0;
     for at in 0..field.len() {
         if !field[at].is_ascii_digit() {
             return None;
         }
         let digit = (field[at] - b'0') as u64;
-        if number > (limit - digit) / 10 {
+        if number > most || digit > limit - number * 10 {
             return None;
         }
         number = number * 10 + digit;
@@ -34,7 +34,6 @@ pub(crate) fn read_number(field: &[u8], limit: u64) -> Option<u64>
 
 /// An unsigned number, or 0 where the field is empty.
 pub(crate) fn read_number_or_zero(field: &[u8], limit: u64) -> Option<u64>
-    requires { 9 ≤ limit }
     ensures value { result ≡ number_or_zero limit field.now }
     ensures within { IfSome result (λ n. n ≤ limit) }
 {

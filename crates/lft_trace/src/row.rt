@@ -19,13 +19,17 @@ pub enum Step {
 }
 
 /// A row of a trace: a step of the run of a reaction at a tag by a worker.
+// Fields lie in memory in this order. The two short numbers fill eight bytes together, so there is
+// no gap before `step`; apart from one another they would make a row of 72 bytes.
 #[derive(Clone, Copy, PartialEq, Eq, Debug, Drop)]
 pub struct Row {
-    pub worker: u32,
     pub tag: Tag,
+    pub worker: u32,
     pub reaction: u32,
     pub step: Step,
 }
+
+const _: () = prove!(size_of::<Row>() == 64);
 
 /// The rows of a trace in order.
 #[derive(Debug, Drop)]

@@ -1,6 +1,6 @@
 //! Traces as tables.
 
-ghost use Rattle.std.specs.Prelude.{◌≡◌, ◌≢◌, ◌+◌, ℕ, List, length, IfSome, IfNone, IfOk, IfErr, IsTrue, ◌↔◌, true, false, is_some, not, ◌||◌, Some};
+ghost use Rattle.std.specs.Prelude.{◌≡◌, ◌≢◌, ◌+◌, ◌<◌, ℕ, List, length, IfSome, IfNone, IfOk, IfErr, IsTrue, ◌↔◌, true, false, is_some, not, ◌||◌, Some};
 ghost use Rattle.csv.specs.Records.{fields_of};
 ghost use Rattle.lft_trace.specs.Numbers.{number_or_zero, value};
 ghost use Rattle.lft_trace.specs.Faults.{is_told};
@@ -55,19 +55,21 @@ fn read_rows(alloc: Global, program: &Program, text: &[u8]) -> Result<Vec<Row>, 
         return Err(TraceFault::BadHeader);
     }
     let mut rows = Vec::new(alloc);
+    let mut last = None;
     for line in 2..=LAST_LINE {
         match read_next(&mut reader, &mut fields) {
             Ok(true) => {}
             Ok(false) => return Ok(rows),
             Err(stop) => return Err(stopped(stop)),
         }
-        let row = match read_row(program, &fields, line) {
+        let row = match read_row(program, last, &fields, line) {
             Ok(row) => row,
             Err(fault) => return Err(fault),
         };
         if rows.push(row).is_err() {
             return Err(TraceFault::NoMemory);
         }
+        last = Some(row.reaction);
     }
     match read_next(&mut reader, &mut fields) {
         Ok(true) => Err(TraceFault::TooManyRows),
@@ -177,14 +179,21 @@ fn read_step(
     }
 }
 
-// The row of a record, or the first fault that it has.
-fn read_row(program: &Program, fields: &ByteRecord, line: u32) -> Result<Row, TraceFault>
+// The row of a record, or the first fault that it has. `last` is the reaction of the row before.
+fn read_row(
+    program: &Program,
+    last: Option<u32>,
+    fields: &ByteRecord,
+    line: u32,
+) -> Result<Row, TraceFault>
+    requires { IfSome last (λ r. r < length program.now.reactions) }
     ensures row { IfOk result (λ row. IsRow program.now (fields_of fields.now) row) }
     ensures fault { IfErr result (λ e. FaultAt program.now line (fields_of fields.now) e) }
+    ensures within { IfOk result (λ row. row.reaction < length program.now.reactions) }
 {
     match TraceFields::of(fields) {
         Some(fields) => match read_kind(fields.event) {
-            Some(kind) => read_fields(program, kind, &fields, line),
+            Some(kind) => read_fields(program, kind, last, &fields, line),
             None => Err(TraceFault::BadEvent(line)),
         },
         None => Err(TraceFault::BadFieldCount(line)),
@@ -195,17 +204,20 @@ fn read_row(program: &Program, fields: &ByteRecord, line: u32) -> Result<Row, Tr
 fn read_fields(
     program: &Program,
     kind: RowKind,
+    last: Option<u32>,
     fields: &TraceFields,
     line: u32,
 ) -> Result<Row, TraceFault>
+    requires { IfSome last (λ r. r < length program.now.reactions) }
     ensures row { (trace_fields fields.now).event ≡ word kind → IfOk result (λ row. RowOf program.now kind (trace_fields fields.now) row) }
     ensures fault { IfErr result (λ e. FieldFault program.now kind line (trace_fields fields.now) e) }
+    ensures within { IfOk result (λ row. row.reaction < length program.now.reactions) }
 {
     let numbers = match read_numbers(kind, fields) {
         Some(numbers) => numbers,
         None => return Err(TraceFault::BadNumber(line)),
     };
-    let reaction = match read_reaction(program, fields.reaction) {
+    let reaction = match read_reaction(program, last, fields.reaction) {
         Some(reaction) => reaction,
         None => return Err(TraceFault::UnknownName(line)),
     };
@@ -217,8 +229,8 @@ fn read_fields(
         return Err(TraceFault::FieldInPlace(line));
     }
     Ok(Row {
-        worker: numbers.worker,
         tag: numbers.tag,
+        worker: numbers.worker,
         reaction,
         step,
     })
