@@ -15,20 +15,20 @@ use Rattle.lft_program.specs.declared.parts.Trigger.{Trigger}
 use Rattle.lft_program.specs.declared.parts.Trigger.TheVariants.{Startup, Shutdown, Timer, On}
 use Rattle.lft_trace.specs.declared.row.Row.{Row}
 use Rattle.lft_trace.specs.declared.row.Step.{Step}
-use Rattle.lft_trace.specs.declared.row.Step.TheVariants.{Start, Read, Write, Schedule, Stop, End}
+use Rattle.lft_trace.specs.declared.row.Step.TheVariants.{Schedule, Stop}
 use Rattle.lft_model.specs.Plans.{PlanParts, IsSoundPlan}
 use Rattle.lft_graph.specs.Precedence.{Precedes}
 use Rattle.lft_graph.specs.Precedence.Precedes.{one, more}
 use Rattle.lft_model.specs.Presence.{written, value_written, scheduled, value_scheduled, given, min_delay, events_of, Last, IsWrittenFrom, At, Triggered, Occurs, Shows, Inputs, requests, stop, Collision}
-use Rattle.lft_model.specs.Runs.{Answer, answer_at, request_of, read_of, Ran, start_row, steps_of, outcome_of, inputs_of, effects_of, reads_at}
+use Rattle.lft_model.specs.Runs.{Answer, answer_at, request_of, read_of, Ran, steps_of, outcome_of, inputs_of, effects_of, reads_at}
 use Rattle.lft_model.specs.Recorded.{SameHistory, SameRuns, AnswerAlike}
 use Rattle.lft_model.specs.Breaches.{Legal, EndsBefore}
 use Rattle.lft_model.proofs.Places.{tag_discrete}
 use Rattle.lft_model.proofs.Members.{Mem, mem_get, get_mem, mem_left, mem_right, mem_cases, mem_filter, mem_from_filter, last_of_mem, LastAt, last_at, nil_of_none, mem_contains, contains_mem}
 use Rattle.lft_model.proofs.Stops.{ask, asker, stop_external, stop_asked, stop_cases}
 use Rattle.lft_model.proofs.Steps.{RowOf, step_mem, request_mem, mem_request, mem_step, scheduled_some}
-use Rattle.lft_model.proofs.Ended.{row_is, scheduled_by, by_scheduled, Schedules}
-use Rattle.lft_model.proofs.Legality.{four, ordered, IsInner, opened, Inside, one_start, one_end, in_order_of_precedence, ran_in_time, no_collision}
+use Rattle.lft_model.proofs.Ended.{scheduled_by, by_scheduled, Schedules}
+use Rattle.lft_model.proofs.Legality.{KeepsFour, four, ordered, ran_at, Inside, one_start, one_end, in_order_of_precedence, ran_in_time, no_collision}
 use Rattle.lft_model.proofs.Kept.{effect_of, before_direct, write_row, WriteRow, writer_effect, writer_inside, own_last, others_before}
 use Rattle.lft_model.proofs.Reached.{declared_schedule, input_of_trigger}
 use Rattle.lft_model.proofs.Decided.{origin_unique, dec_ran}
@@ -318,37 +318,14 @@ pub acyclic : (plan : PlanParts) (good : IsSoundPlan plan) (r : ℕ) → ¬ Prec
 acyclic plan good r p = let x : good.levels.level r < good.levels.level r = precedes_rises plan good p in omega arith
 
 -- a reaction that has no run at a tag has no step there
-no_steps : (plan : PlanParts) (t : List Row) → Legal plan t → (g : Tag) (r : ℕ) → ¬ Ran t g r → steps_of t g r ≡ []
-no_steps plan t legal g r n = nil_of_none (steps_of t g r) refute
-  where
-    refute : (x : Step) → ¬ Mem x (steps_of t g r)
-    refute x m = go (step_mem t g r x m)
-      where
-        go : RowOf t g r x → ⊥
-        go o = by_step o.row.step refl
-          where
-            y : Row
-            y = o.row
-
-            started : o.row.step ≡ Start → ⊥
-            started e = n (record { place = o.place; worker = o.row.worker; starts = o.is_row ∙ ap Some (row_is o.row o.row.worker g r Start refl o.tag_is o.reaction_is e) })
-
-            open_run : IsInner o.row.step → ⊥
-            open_run k = let b = opened plan t (four plan t legal.rows) o.place o.row o.is_row k in n (record { place = b.start; worker = o.row.worker; starts = b.starts ∙ ap (λ (h : Tag). Some (start_row o.row.worker h o.row.reaction)) o.tag_is ∙ ap (λ (c : ℕ). Some (start_row o.row.worker g c)) o.reaction_is })
-
-            by_step : (z : Step) → o.row.step ≡ z → ⊥
-            by_step Start e = started e
-            by_step (Read a b) e = open_run (subst (λ (u : Step). IsInner u) (sym e) tt)
-            by_step (Write a b) e = open_run (subst (λ (u : Step). IsInner u) (sym e) tt)
-            by_step (Schedule a b c) e = open_run (subst (λ (u : Step). IsInner u) (sym e) tt)
-            by_step Stop e = open_run (subst (λ (u : Step). IsInner u) (sym e) tt)
-            by_step End e = open_run (subst (λ (u : Step). IsInner u) (sym e) tt)
+pub no_steps : (plan : PlanParts) (t : List Row) → KeepsFour plan t → (g : Tag) (r : ℕ) → ¬ Ran t g r → steps_of t g r ≡ []
+no_steps plan t well g r n = nil_of_none (steps_of t g r) (λ s m. let o : RowOf t g r s = step_mem t g r s m in n (ran_at plan t well o.place o.row g r o.is_row o.tag_is o.reaction_is))
 
 -- a run that neither trace has is the same
 absent_same : (plan : PlanParts) (t s : List Row) → Legal plan t → Legal plan s → (g : Tag) (r : ℕ) → ¬ Ran t g r → ¬ Ran s g r → SameRun plan t s g r
 absent_same plan t s first second g r n m =
-    let x : steps_of t g r ≡ [] = no_steps plan t first g r n in
-    let y : steps_of s g r ≡ [] = no_steps plan s second g r m in
+    let x : steps_of t g r ≡ [] = no_steps plan t (four plan t first.rows) g r n in
+    let y : steps_of s g r ≡ [] = no_steps plan s (four plan s second.rows) g r m in
     let e : steps_of t g r ≡ steps_of s g r = x ∙ sym y in
     record { there = λ q. absurd (n q); back = λ q. absurd (m q); answers = ap (λ (zs : List Step). let y : Answer = record { outcomes = map (outcome_of zs) (effects_of plan.program r); stops = request_of zs } in y) e; reads = ap (λ (zs : List Step). map (read_of zs) (inputs_of plan.program r)) e }
 

@@ -1,6 +1,7 @@
 -- The rows of the runs that ended before a place of a trace, beside the trace itself.
-use Rattle.std.proofs.Common.{◌≡◌, ℕ, ◌+◌, ◌<◌, ◌⊎◌, inl, inr, List, take, refl, sym, ap, ◌∙◌, subst, Option, Some, None, Bool, true, false, cond, slice_get, filter_map, option_and_then}
+use Rattle.std.proofs.Common.{◌≡◌, ℕ, ◌+◌, ◌<◌, ◌⊎◌, inl, inr, List, length, take, refl, sym, ap, ◌∙◌, subst, arith, Option, Some, None, Bool, true, false, cond, slice_get, filter_map, option_and_then}
 use Rattle.std.specs.List.{last_or}
+use Rattle.std.proofs.lemmas.List.{take_all}
 use Rattle.lft_tag.specs.declared.Tag.{Tag}
 use Rattle.lft_tag.specs.Tags.{UpTo, same_tag, after}
 use Rattle.lft_program.specs.declared.parts.Value.{Value}
@@ -11,7 +12,7 @@ use Rattle.lft_trace.specs.declared.row.Step.{Step}
 use Rattle.lft_trace.specs.declared.row.Step.TheVariants.{Start, Read, Write, Schedule, Stop, End}
 use Rattle.lft_model.specs.Plans.{PlanParts}
 use Rattle.lft_model.specs.Presence.{written, value_written, scheduled, value_scheduled, given, min_delay, events_of, Last, IsWrittenFrom, IsPresent, asked, requests, stop}
-use Rattle.lft_model.specs.Runs.{Run, end_row, steps_of, effects_of, reads_at, run_at, ended_by, steps_of_run, rows_of_run, rows_of}
+use Rattle.lft_model.specs.Runs.{Run, end_row, steps_of, effects_of, reads_at, run_at, ended_by, by_ends, steps_of_run, rows_of_run, rows_of}
 use Rattle.lft_model.proofs.Places.{slice_get_take, slice_get_taken}
 use Rattle.lft_model.proofs.Members.{Mem, mem_get, get_mem, mem_left, mem_right, mem_cases, mem_map, mem_from_map, mem_filter, mem_from_filter, mem_flat, mem_from_flat, last_mem, last_of_mem, mem_contains, contains_mem}
 use Rattle.lft_model.proofs.Stops.{ask, asked_some, stop_more}
@@ -21,6 +22,10 @@ use Rattle.lft_model.proofs.Steps.OwnStep.{starts, reads, writes, schedules, sto
 -- the runs of t that ended before place i
 abbrev pub ended_before : PlanParts → List Row → ℕ → List Run
 ended_before plan t i = filter_map (λ row. ended_by plan t row row.step) (take i t)
+
+-- all runs that have ended are those that ended before the end of the rows
+pub all_ended : (plan : PlanParts) (t : List Row) → by_ends plan t ≡ ended_before plan t (length t)
+all_ended plan t = ap (λ rs. filter_map (λ row. ended_by plan t row row.step) rs) (sym (take_all (length t) t (omega arith)))
 
 pub record OwnRow {Y : Type 0} (plan : PlanParts) (t : List Row) (f : Row → Option Y) (i : ℕ) (y : Y) : Type 0 where
   pub place : ℕ

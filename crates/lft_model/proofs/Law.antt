@@ -1,12 +1,10 @@
 -- A legal trace is an execution by one worker in order of its ends.
-use Rattle.std.proofs.Common.{◌≡◌, ℕ, zero, suc, ◌+◌, ◌<◌, ◌≤◌, ◌⊎◌, inl, inr, List, [], ◌∷◌, ◌++◌, length, length-append, take, map, refl, sym, ap, ◌∙◌, subst, arith, Bool, true, false, Option, Some, None, slice_get, filter_map, option_map, unwrap_or}
-use Rattle.std.specs.List.{cons_option, AllZip}
-use Rattle.std.proofs.lemmas.List.{take_all}
+use Rattle.std.proofs.Common.{◌≡◌, ℕ, zero, suc, ◌+◌, ◌<◌, ◌≤◌, ◌⊎◌, inl, inr, List, [], ◌∷◌, ◌++◌, length, length-append, take, refl, sym, ap, ◌∙◌, subst, arith, Option, Some, None, slice_get, filter_map, option_map, unwrap_or}
+use Rattle.std.specs.List.{cons_option}
 use Rattle.lft_tag.specs.declared.Tag.{Tag}
 use Rattle.lft_tag.specs.Tags.{Before, UpTo}
 use Rattle.lft_tag.proofs.Order.{order_cases, UpTo-trans, UpTo-refl, Before-weaken}
 use Rattle.lft_program.specs.declared.parts.Reaction.{Reaction}
-use Rattle.lft_program.specs.declared.parts.Value.{Value}
 use Rattle.lft_program.specs.declared.parts.Name.{Name}
 use Rattle.lft_program.specs.declared.parts.Name.TheVariants.{Port, Action}
 use Rattle.lft_trace.specs.declared.row.Row.{Row}
@@ -14,19 +12,18 @@ use Rattle.lft_trace.specs.declared.row.Step.{Step}
 use Rattle.lft_trace.specs.declared.row.Step.TheVariants.{Start, Read, Write, Schedule, Stop, End}
 use Rattle.lft_model.specs.Plans.{PlanParts, IsSoundPlan}
 use Rattle.lft_graph.specs.Precedence.{Precedes}
-use Rattle.lft_model.specs.Presence.{stop, scheduled, value_scheduled, given, min_delay, Triggered, Inputs, Collision, ClashesAt}
-use Rattle.lft_model.specs.Runs.{Run, Ran, end_row, steps_of, outcome_of, effects_of, reads_at, run_at, ended_by, by_ends, rows_of}
-use Rattle.lft_model.specs.Breaches.{Legal, IsUndeclared, MaySchedule}
-use Rattle.lft_model.specs.OneWorker.{HasRun, IsPending, Ready, MayHave, Next, Path, NoClash, OneWorker, rows}
-use Rattle.lft_model.proofs.Places.{slice_get_within, stable, dec_map, dec_both, slice_get_take, slice_get_taken, From, filter_map_get}
-use Rattle.lft_model.proofs.Members.{Mem, mem_get, get_mem, mem_filter, mem_from_filter, mem_contains, contains_mem}
-use Rattle.lft_model.proofs.Steps.{RowOf, step_mem, scheduled_some}
-use Rattle.lft_model.proofs.Ended.{ended_before, ended_some, row_is, written_down, stop_down}
-use Rattle.lft_model.proofs.Legality.{four, ordered, opened, ended, one_end, keeps_row, keeps_at, ran_in_time, no_collision}
-use Rattle.lft_model.proofs.Kept.{dec_mem}
-use Rattle.lft_model.proofs.Reached.{triggered_down, triggered_up, stop_up, inputs_up, preceding_ended, earlier_ended}
+use Rattle.lft_model.specs.Presence.{stop, scheduled, given, min_delay, Triggered, Inputs, Collision, ClashesAt}
+use Rattle.lft_model.specs.Runs.{Run, Ran, end_row, effects_of, reads_at, run_at, ended_by, by_ends, rows_of}
+use Rattle.lft_model.specs.Breaches.{Legal}
+use Rattle.lft_model.specs.OneWorker.{HasRun, IsPending, Ready, Next, Path, NoClash, OneWorker, rows}
+use Rattle.lft_model.proofs.Places.{slice_get_within, stable, slice_get_take, slice_get_taken, From, filter_map_get}
+use Rattle.lft_model.proofs.Members.{Mem, mem_get, get_mem, mem_filter, mem_from_filter}
+use Rattle.lft_model.proofs.Ended.{ended_before, all_ended, ended_some, row_is, written_down, stop_down}
+use Rattle.lft_model.proofs.Legality.{four, ordered, opened, ended, one_end, keeps_at, ran_in_time, no_collision}
+use Rattle.lft_model.proofs.Reached.{triggered_down, triggered_up, all_stop, inputs_up, preceding_ended, earlier_ended}
 use Rattle.lft_model.proofs.Counted.{Key, NamesApart, names_apart, end_key, OneKey, rows_bound}
-use Rattle.lft_model.proofs.Decided.{dec_item, dec_ran, dec_triggered, dec_inputs}
+use Rattle.lft_model.proofs.Answered.{answers_well}
+use Rattle.lft_model.proofs.Decided.{dec_ran, dec_triggered, dec_inputs}
 
 take_more : {X Y : Type 0} (h : X → Option Y) (xs : List X) (i : ℕ) (x : X) (y : Y) → slice_get xs i ≡ Some x → h x ≡ Some y → filter_map h (take (suc i) xs) ≡ filter_map h (take i xs) ++ y ∷ []
 take_more h [] i x y e p = absurd (cc)
@@ -75,33 +72,6 @@ module _ (plan : PlanParts) (good : IsSoundPlan plan) (t : List Row) (legal : Le
 
   end_of : (g : Tag) (r : ℕ) → (o : Ran t g r) → (k : ℕ) × (o.place < k) × (slice_get t k ≡ Some (end_row o.worker g r))
   end_of g r o = ended plan t legal.rows o.place o.worker g r o.starts
-
-  dec_may : (r a : ℕ) → Dec (MaySchedule plan.program r (Action a))
-  dec_may r a = dec_map (λ q. (mem_contains (Action a) (effects_of plan.program r) q.0, q.1)) (λ q. (contains_mem (Action a) (effects_of plan.program r) q.0, q.1)) (dec_both (dec_mem (Action a) (effects_of plan.program r)) (dec_item plan.program.actions (λ x. x.physical ≡ false) (λ x. dec_false x.physical) a))
-    where
-      dec_false : (b : Bool) → Dec (b ≡ false)
-      dec_false true = no (λ e. cc)
-      dec_false false = yes refl
-
-  may_have : (g : Tag) (r : ℕ) (n : Name) → MayHave plan r n (outcome_of (steps_of t g r) n)
-  may_have g r (Port p) = tt
-  may_have g r (Action a) = go (filter_map (value_scheduled a) (steps_of t g r)) (λ x m. found x m)
-    where
-      found : (x : ℕ × Value) → Mem x (filter_map (value_scheduled a) (steps_of t g r)) → MaySchedule plan.program r (Action a)
-      found x m =
-          let s = mem_from_filter (value_scheduled a) (steps_of t g r) x m in
-          let o : RowOf t g r s.0 = step_mem t g r s.0 s.1 in
-          let e : o.row.step ≡ Schedule (Action a) x.1 x.0 = o.step_is ∙ scheduled_some a s.0 x s.2 in
-          let k : MaySchedule plan.program o.row.reaction (Action a) = stable (dec_may o.row.reaction a) (λ n. keeps_row plan t legal.rows o.place o.row 4 o.is_row (inr (inr (inr (inl (refl, subst (λ (z : Step). IsUndeclared plan.program t o.place o.row z) (sym e) n)))))) in
-          subst (λ (c : ℕ). MaySchedule plan.program c (Action a)) o.reaction_is k
-
-      go : (xs : List (ℕ × Value)) → ((x : ℕ × Value) → Mem x xs → MaySchedule plan.program r (Action a)) → (xs ≡ []) ⊎ MaySchedule plan.program r (Action a)
-      go [] f = inl refl
-      go (x ∷ xs) f = inr (f x (inl refl))
-
-  answers_well : (g : Tag) (r : ℕ) (ns : List Name) → AllZip (MayHave plan r) ns (map (outcome_of (steps_of t g r)) ns)
-  answers_well g r [] = tt
-  answers_well g r (n ∷ ns) = (may_have g r n, answers_well g r ns)
 
   module _ (i w : ℕ) (g : Tag) (r : ℕ) (is_end : slice_get t i ≡ Some (end_row w g r)) (run : Ran t g r) where
     pub is_ready : Ready plan (ended_before plan t i) g r
@@ -186,7 +156,7 @@ module _ (plan : PlanParts) (good : IsSoundPlan plan) (t : List Row) (legal : Le
       record {
         ready = is_ready i w g r e o;
         reads = inputs_up plan good t (ordered plan t legal) g r o i w e (reads_at plan t g r) (reads_inputs g r o);
-        answers = answers_well g r (effects_of plan.program r);
+        answers = answers_well plan t (four plan t legal.rows) g r;
         no_clash = λ c. no_collision plan t legal g (ran_in_time plan t (four plan t legal.rows) g r o) (collision_down (suc i) g (subst (λ (l : List Run). Collision plan (rows plan l) g) (sym more) c));
       }
 
@@ -201,22 +171,15 @@ module _ (plan : PlanParts) (good : IsSoundPlan plan) (t : List Row) (legal : Le
           let m : Next plan (ended_before plan t f.place) u = subst (λ (v : Run). Next plan (ended_before plan t f.place) v) q.1 n in
           subst (λ (l : List Run). Next plan l u) (sym f.before) m
 
-  all_ended : by_ends plan t ≡ ended_before plan t (length t)
-  all_ended = ap (λ rs. filter_map (λ row. ended_by plan t row row.step) rs) (sym (take_all (length t) t (omega arith)))
-
-  -- all runs have ended, so they have the stop of the trace
-  all_stop : stop plan (rows_of plan.program (ended_before plan t (length t))) ≡ stop plan t
-  all_stop = stop_up plan good t (ordered plan t legal) (length t) (λ k x q z n. slice_get_within t n.end (end_row n.worker x.tag x.reaction) n.ends)
-
   no_clash : NoClash plan (by_ends plan t)
-  no_clash = subst (λ (l : List Run). NoClash plan l) (sym all_ended) (λ g u c. no_collision plan t legal g (subst (λ (k : Tag). UpTo g k) all_stop u) (collision_down (length t) g c))
+  no_clash = subst (λ (l : List Run). NoClash plan l) (sym (all_ended plan t)) (λ g u c. no_collision plan t legal g (subst (λ (k : Tag). UpTo g k) (all_stop plan good t (ordered plan t legal)) u) (collision_down (length t) g c))
 
   finished : (g : Tag) (r : ℕ) → ¬ IsPending plan (by_ends plan t) g r
-  finished g r p = refute (subst (λ (l : List Run). IsPending plan l g r) all_ended p)
+  finished g r p = refute (subst (λ (l : List Run). IsPending plan l g r) (all_ended plan t) p)
     where
       refute : IsPending plan (ended_before plan t (length t)) g r → ⊥
       refute p =
-          let v : UpTo g (stop plan t) = subst (λ (k : Tag). UpTo g k) all_stop p.in_time in
+          let v : UpTo g (stop plan t) = subst (λ (k : Tag). UpTo g k) (all_stop plan good t (ordered plan t legal)) p.in_time in
           let o = runs_if_triggered g r v (triggered_down plan t (length t) g r v p.triggered) in
           let e = end_of g r o in
           p.no_run (run_of_end plan t (length t) g r (record { place = e.0; worker = o.worker; before = slice_get_within t e.0 (end_row o.worker g r) e.2; ends = e.2 }))

@@ -1,5 +1,5 @@
 -- What a legal trace is, said positively.
-use Rattle.std.proofs.Common.{◌≡◌, ℕ, ◌+◌, ◌<◌, ◌⊎◌, inl, inr, List, length, refl, sym, ap, ◌∙◌, arith, Some, None, slice_get, lit<}
+use Rattle.std.proofs.Common.{◌≡◌, ℕ, ◌+◌, ◌<◌, ◌≤◌, ◌⊎◌, inl, inr, List, length, refl, sym, ap, ◌∙◌, arith, Some, None, slice_get, lit<}
 use native.Mathlib.Decide.{ℕ_discrete, dec_lt}
 use Rattle.lft_tag.specs.declared.Tag.{Tag}
 use Rattle.lft_tag.specs.Tags.{Before, UpTo}
@@ -23,6 +23,15 @@ IsInner (Write n v) = Unit {0}
 IsInner (Schedule n v d) = Unit {0}
 IsInner Stop = Unit {0}
 IsInner End = Unit {0}
+
+-- a step starts a run, or stands in an open one
+pub start_or_inner : (s : Step) → (s ≡ Start) ⊎ IsInner s
+start_or_inner Start = inl refl
+start_or_inner (Read n v) = inr tt
+start_or_inner (Write n v) = inr tt
+start_or_inner (Schedule n v d) = inr tt
+start_or_inner Stop = inr tt
+start_or_inner End = inr tt
 
 -- where a row of a run stands: after its start and before its end
 pub record Inside (t : List Row) (i : ℕ) (g : Tag) (r : ℕ) : Type 0 where
@@ -102,6 +111,18 @@ module _ (plan : PlanParts) (t : List Row) (well : KeepsFour plan t) where
       out (Schedule m v d) h n = n
       out Stop h n = n
       out End h n = n
+
+  -- the run of each row has a start row, there or before
+  pub start_of : (i : ℕ) (x : Row) → slice_get t i ≡ Some x → (j : ℕ) × (j ≤ i) × (slice_get t j ≡ Some (start_row x.worker x.tag x.reaction))
+  start_of i x e = go (start_or_inner x.step)
+    where
+      go : (x.step ≡ Start) ⊎ IsInner x.step → (j : ℕ) × (j ≤ i) × (slice_get t j ≡ Some (start_row x.worker x.tag x.reaction))
+      go (inl s) = (i, omega arith, e ∙ ap (λ (z : Step). let y : Row = record { worker = x.worker; tag = x.tag; reaction = x.reaction; step = z } in Some y) s)
+      go (inr n) = let o : IsOpen t i x.worker x.tag x.reaction = opened i x e n in let l : o.start < i = o.before in (o.start, omega arith, o.starts)
+
+  -- so a reaction has a run at a tag where it has a row
+  pub ran_at : (i : ℕ) (x : Row) (g : Tag) (r : ℕ) → slice_get t i ≡ Some x → x.tag ≡ g → x.reaction ≡ r → Ran t g r
+  ran_at i x g r e p q = let s = start_of i x e in record { place = s.0; worker = x.worker; starts = s.2 ∙ ap (λ (h : Tag). Some (start_row x.worker h x.reaction)) p ∙ ap (λ (c : ℕ). Some (start_row x.worker g c)) q }
 
   no_second_start : (i j w v : ℕ) (g : Tag) (r : ℕ) → i < j → slice_get t i ≡ Some (start_row w g r) → slice_get t j ≡ Some (start_row v g r) → ⊥
   no_second_start i j w v g r l p q = keeps_four j (start_row v g r) 3 (lit< tt) q (inr (inr (inl (refl, inl (i, w, l, p)))))

@@ -1,5 +1,5 @@
 -- In a ordered trace each run reads and is triggered by what had ended before it.
-use Rattle.std.proofs.Common.{◌≡◌, ℕ, ◌+◌, ◌<◌, ◌⊎◌, inl, inr, List, [], ◌∷◌, refl, sym, ap, ◌∙◌, subst, arith, Option, Some, None, slice_get, filter_map, Contains}
+use Rattle.std.proofs.Common.{◌≡◌, ℕ, ◌+◌, ◌<◌, ◌⊎◌, inl, inr, List, [], ◌∷◌, length, refl, sym, ap, ◌∙◌, subst, arith, Option, Some, None, slice_get, filter_map, Contains}
 use Rattle.std.specs.List.{AllZip}
 use native.Mathlib.Decide.{ℕ_discrete, dec_lt}
 use Rattle.lft_tag.specs.declared.Tag.{Tag}
@@ -22,7 +22,7 @@ use Rattle.lft_graph.specs.Precedence.Precedes.{one}
 use Rattle.lft_model.specs.Presence.{written, scheduled, value_scheduled, given, min_delay, events_of, IsWrittenFrom, At, Triggered, Occurs, Shows, Inputs, asked, requests, stop}
 use Rattle.lft_model.specs.Runs.{Ran, start_row, end_row, steps_of, effects_of, reads_at, rows_of}
 use Rattle.lft_model.specs.Breaches.{EndsBefore, IsUndeclared, MaySchedule}
-use Rattle.lft_model.proofs.Places.{stable}
+use Rattle.lft_model.proofs.Places.{stable, slice_get_within}
 use Rattle.lft_model.proofs.Members.{Mem, get_mem, mem_left, mem_right, mem_cases, mem_filter, mem_from_filter, LastAt, last_at, mem_contains, contains_mem}
 use Rattle.lft_model.proofs.Stops.{asker, stop_external, stop_asked, stop_cases}
 use Rattle.lft_model.proofs.Steps.{own_schedule, own_stop, mem_step, scheduled_some, some_scheduled}
@@ -72,6 +72,10 @@ module _ (plan : PlanParts) (good : IsSoundPlan plan) (t : List Row) (ordered : 
       go : (stop plan t ≡ plan.externals.stop) ⊎ Mem (stop plan t) (requests t) → UpTo (stop plan (rows_of plan.program (ended_before plan t i))) (stop plan t)
       go (inl e) = subst (λ (k : Tag). UpTo (stop plan (rows_of plan.program (ended_before plan t i))) k) (sym e) (stop_external plan (rows_of plan.program (ended_before plan t i)))
       go (inr m) = stop_asked plan (rows_of plan.program (ended_before plan t i)) (stop plan t) (asked_up (stop plan t) i m soon)
+
+  -- so all runs together have the stop of the trace
+  pub all_stop : stop plan (rows_of plan.program (ended_before plan t (length t))) ≡ stop plan t
+  all_stop = stop_up (length t) (λ k x q z n. slice_get_within t n.end (end_row n.worker x.tag x.reaction) n.ends)
 
   module _ (g : Tag) (r : ℕ) (run : Ran t g r) (i w : ℕ) (is_end : slice_get t i ≡ Some (end_row w g r)) where
     -- an end at an earlier tag stands before this run's end

@@ -5,11 +5,15 @@ mod breach;
 pub mod laws;
 mod plan;
 mod reads;
+mod slow;
 mod stop;
+#[cfg(test)]
+mod tests;
 mod timers;
 
 pub use breach::Breach;
 pub use plan::Plan;
 pub use reads::Reads;
+pub use slow::{clash_slow, inputs_slow, present_slow, triggered_slow};
 pub use stop::trace_stop;
 pub use timers::fires;

@@ -17,3 +17,21 @@ impl Model for Reads {
 
     ghost view = { λ a. a.items.items };
 }
+
+impl Reads {
+    ghost use Rattle.std.specs.Prelude.{◌≡◌};
+
+    /// The reads of the list, one for each input. It takes no memory.
+    pub fn from_vec(items: Vec<Option<Value>>) -> Reads
+        ensures { result ≡ items.items }
+    {
+        Reads { items }
+    }
+
+    /// For each input in order, its value, or that it is absent.
+    pub fn as_slice(&self) -> &[Option<Value>]
+        ensures { result.now ≡ self.now }
+    {
+        self.items.as_slice()
+    }
+}
