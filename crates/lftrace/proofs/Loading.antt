@@ -14,7 +14,6 @@ use Rattle.lft_program.specs.declared.fault.ProgramFault.TheVariants as program
 use Rattle.lft_program.specs.Parts.{Parts}
 use Rattle.lft_program.specs.Faults.{number_of as program_number}
 use Rattle.lft_program.specs.Flattening.{IsFlatOf}
-use Rattle.lft_program.specs.Plain.{IsPlain}
 use Rattle.lft_reactors.specs.Causes.{causes}
 use Rattle.lft_program.proofs.Firsts.{first_holds}
 use Rattle.lft_trace.specs.declared.fault.TraceFault.{TraceFault}
@@ -109,17 +108,13 @@ module _ (text externals : List ℕ) (parts : Parts) (only : IsOnly (IsProgramOf
   pub table_of : (plan : PlanParts) → (x : IsPlanOf text externals plan) → ExternalTable parts (records_of externals) plan.externals
   table_of plan x = subst (λ p. ExternalTable p (records_of externals) plan.externals) (only.only plan.program x.is_program) x.is_externals
 
-  pub plain_of : (plan : PlanParts) → (x : IsPlanOf text externals plan) → IsPlain parts
-  plain_of plan x = subst IsPlain (only.only plan.program x.is_program) x.is_plain
-
   pub no_loop_of : (plan : PlanParts) → (x : IsPlanOf text externals plan) → HasNoLoop parts
   no_loop_of plan x = subst HasNoLoop (only.only plan.program x.is_program) x.no_loop
 
-  pub only_plan : (given : ExternalInputs) (plan : PlanParts) → IsPlain parts → HasNoLoop parts → ExternalTable parts (records_of externals) given → ((other : ExternalInputs) → ExternalTable parts (records_of externals) other → other ≡ given) → plan.program ≡ parts → plan.externals ≡ given → IsOnly (IsPlanOf text externals) plan
-  only_plan given plan plain no_loop table one_table p e = record {
+  pub only_plan : (given : ExternalInputs) (plan : PlanParts) → HasNoLoop parts → ExternalTable parts (records_of externals) given → ((other : ExternalInputs) → ExternalTable parts (records_of externals) other → other ≡ given) → plan.program ≡ parts → plan.externals ≡ given → IsOnly (IsPlanOf text externals) plan
+  only_plan given plan no_loop table one_table p e = record {
     is = record {
       is_program = subst (λ k. IsProgramOf text k) (sym p) only.is;
-      is_plain = subst IsPlain (sym p) plain;
       no_loop = subst HasNoLoop (sym p) no_loop;
       is_externals = subst (λ k. ExternalTable k (records_of externals) plan.externals) (sym p) (subst (λ k. ExternalTable parts (records_of externals) k) (sym e) table);
     };

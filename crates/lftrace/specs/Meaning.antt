@@ -7,7 +7,6 @@ use Rattle.lft_syntax.specs.Tree.{FileTree}
 use Rattle.lft_syntax.specs.Grammar.{Spells}
 use Rattle.lft_program.specs.Parts.{Parts}
 use Rattle.lft_program.specs.Flattening.{IsFlatOf}
-use Rattle.lft_program.specs.Plain.{IsPlain}
 use Rattle.lft_graph.specs.Precedence.{HasNoLoop}
 use Rattle.lft_trace.specs.declared.row.Row.{Row}
 use Rattle.lft_trace.specs.Records.{records_of}
@@ -33,10 +32,9 @@ pub record IsProgramOf (text : List ℕ) (program : Parts) : Type 0 where
   pub is_tree : IsTreeOf text tree
   pub is_flat : IsFlatOf tree program
 
--- the plan of a program's text and a table of external inputs: no reaction precedes itself, and the program is plain, since no other is judged yet
+-- the plan of a program's text and a table of external inputs: no reaction precedes itself
 pub record IsPlanOf (program externals : List ℕ) (plan : PlanParts) : Type 0 where
   pub is_program : IsProgramOf program plan.program
-  pub is_plain : IsPlain plan.program
   pub no_loop : HasNoLoop plan.program
   pub is_externals : ExternalTable plan.program (records_of externals) plan.externals
 

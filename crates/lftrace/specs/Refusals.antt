@@ -90,10 +90,9 @@ pub data ProgramRefusal (text : List ℕ) (f : Fault) : Type 0 where
 abbrev pub GraphRefusal : Parts → Fault → Type 0
 GraphRefusal program f = (e : GraphFault) × IsFault f part.Graph (graph_number e) × GraphFails program e
 
--- the two texts have no plan: the program's text has no flat program, that isn't plain, the external inputs are no table, or the program has no graph
+-- the two texts have no plan: the program's text has no flat program, the external inputs are no table, or the program has no graph
 pub data LoadRefusal (program externals : List ℕ) (f : Fault) : Type 0 where
   by_program : ProgramRefusal program f → LoadRefusal program externals f
-  by_other : (parts : Parts) → f.part ≡ part.Program → f.number ≡ 7 → IsProgramOf program parts → (IsPlain parts → ⊥) → LoadRefusal program externals f
   by_externals : (e : TraceFault) (parts : Parts) → f.part ≡ part.Externals → f.number ≡ table_number e → IsProgramOf program parts → (is_told e ≡ true → ExternalFails parts (records_of externals) e) → LoadRefusal program externals f
   by_graph : (parts : Parts) (given : ExternalInputs) → IsProgramOf program parts → ExternalTable parts (records_of externals) given → GraphRefusal parts f → LoadRefusal program externals f
 
@@ -102,11 +101,16 @@ pub data TextsRefusal (program externals trace : List ℕ) (f : Fault) : Type 0 
   by_load : LoadRefusal program externals f → TextsRefusal program externals trace f
   by_trace : (e : TraceFault) (plan : PlanParts) → f.part ≡ part.Trace → f.number ≡ table_number e → IsPlanOf program externals plan → (is_told e ≡ true → TraceFails plan.program (records_of trace) e) → TextsRefusal program externals trace f
 
--- a plan and rows get no verdict: the number of workers isn't lawful, a growth was refused, or the writer failed on the verdict's line
+-- the fault of a program that isn't plain, since none but plain ones are judged yet
+abbrev pub IsUnjudged : PlanParts → Fault → Type 0
+IsUnjudged plan f = (f.part ≡ part.Program) × (f.number ≡ 7) × (IsPlain plan.program → ⊥)
+
+-- a plan and rows get no verdict: the number of workers isn't lawful, the program isn't judged yet, a growth was refused, or the writer failed on the verdict's line
 pub data JudgingRefusal (plan : PlanParts) (rows : List Row) (workers : ℕ) (old new : Option (List ℕ)) (f : Fault) : Type 0 where
   by_workers : f.part ≡ part.Check → f.number ≡ 1 → (IsWorkers workers → ⊥) → JudgingRefusal plan rows workers old new f
-  by_growth : IsRefusedGrowth f → IsWorkers workers → JudgingRefusal plan rows workers old new f
-  by_writer : (verdict : Verdict) → f.part ≡ part.Write → f.number ≡ 1 → IsVerdict plan rows verdict → AppendsFront old new (line_of plan.program verdict) → JudgingRefusal plan rows workers old new f
+  by_other : IsUnjudged plan f → IsWorkers workers → JudgingRefusal plan rows workers old new f
+  by_growth : IsRefusedGrowth f → IsWorkers workers → IsPlain plan.program → JudgingRefusal plan rows workers old new f
+  by_writer : (verdict : Verdict) → f.part ≡ part.Write → f.number ≡ 1 → IsPlain plan.program → IsVerdict plan rows verdict → AppendsFront old new (line_of plan.program verdict) → JudgingRefusal plan rows workers old new f
 
 -- the three texts get no verdict: they have no meaning, or their meaning gets none
 pub data JudgeRefusal (program externals trace : List ℕ) (workers : ℕ) (old new : Option (List ℕ)) (f : Fault) : Type 0 where

@@ -12,7 +12,7 @@ ghost use Rattle.lft_check.specs.Verdicts.{IsVerdict};
 ghost use Rattle.lftrace.specs.Lines.{line_of, HasReaction};
 ghost use Rattle.lftrace.specs.Meaning.{IsMeaning, Mean};
 ghost use Rattle.lftrace.specs.Judged.{AcceptedRuns, IsJudged};
-ghost use Rattle.lftrace.specs.Refusals.{JudgeRefusal, JudgingRefusal, TextsRefusal, IsRefusedGrowth, IsWorkers, is_of_text};
+ghost use Rattle.lftrace.specs.Refusals.{JudgeRefusal, JudgingRefusal, TextsRefusal, IsRefusedGrowth, IsUnjudged, IsWorkers, is_of_text};
 ghost use Rattle.lftrace.specs.Written.{AppendsFront};
 ghost use Rattle.lftrace.specs.declared.fault.Part.TheVariants as part;
 
@@ -23,7 +23,7 @@ use crate::output::write_text;
 use lft_check::{NoWatch, Verdict, judge_alone};
 use lft_model::Plan;
 use lft_model::laws::law_one_worker;
-use lft_program::Program;
+use lft_program::{Program, ProgramFault};
 use lft_trace::{Rows, read_trace};
 use std::alloc::Global;
 use std::io::Write;
@@ -38,7 +38,6 @@ struct Given {
 /// The plan and the rows of three texts, else the fault of the first layer that refuses.
 fn read_texts(alloc: Global, program: &[u8], externals: &[u8], trace: &[u8]) -> Result<Given, Fault>
     ensures meaning { IfOk result (λ given. IsMeaning program.now externals.now trace.now given.plan given.rows) }
-    ensures plain { IfOk result (λ given. IsPlain given.plan.program) }
     ensures fit { IfOk result (λ given. RowsFit given.plan.program given.rows) }
     ensures refused { IfErr result (TextsRefusal program.now externals.now trace.now) }
     ensures none { IfErr result (λ f. is_of_text f.part f.number ≡ true → (plan : PlanParts) (rows : List Row) → Mean program.now externals.now trace.now plan rows → ⊥) }
@@ -93,7 +92,8 @@ fn report<W: Write>(
     }
 }
 
-/// Judges rows and writes the verdict's line.
+/// Judges rows and writes the verdict's line. The number of workers is tested first, and then
+/// whether the program is plain.
 fn judge_rows<W: Write>(
     alloc: Global,
     plan: &Plan,
@@ -101,17 +101,20 @@ fn judge_rows<W: Write>(
     workers: u32,
     out: &mut W,
 ) -> Result<Verdict, Fault>
-    requires plain { IsPlain plan.now.program }
     requires fit { RowsFit plan.now.program rows.now }
     ensures verdict { IfOk result (IsVerdict plan.now rows.now) }
     ensures one_worker { IfOk result (AcceptedRuns plan.now rows.now) }
     ensures workers { OnOk result (IsWorkers workers) }
+    ensures plain { OnOk result (IsPlain plan.now.program) }
     ensures written { IfOk result (λ v. Appends (W.contents out.old) (W.contents out.new) (line_of plan.now.program v)) }
     ensures refused { IfErr result (JudgingRefusal plan.now rows.now workers (W.contents out.old) (W.contents out.new)) }
     ensures kept { IfErr result (λ f. f.part ≢ part.Write → Keeps (W.contents out.old) (W.contents out.new)) }
 {
     if !is_workers(workers) {
         return Err(Fault::plain(Part::Check, 1, "BadWorkers"));
+    }
+    if !plan.program().is_plain() {
+        return Err(Fault::program(ProgramFault::WrongPlace));
     }
     let verdict = match verdict_of(alloc, plan, rows) {
         Ok(verdict) => verdict,
@@ -125,7 +128,9 @@ fn judge_rows<W: Write>(
 
 /// Judges the trace of a program under external inputs, from their texts, and writes the verdict's
 /// line. The fault is that of the first layer that refuses, in the order lex, syntax, program,
-/// externals, graph, trace, check, write.
+/// externals, graph, trace, check, write. A program with further instances that have reactions,
+/// with ports or with actions isn't judged yet: after the test of the number of workers, it is
+/// refused as `program 7 WrongPlace`.
 pub fn judge_texts<W: Write>(
     alloc: Global,
     program: &[u8],
@@ -137,7 +142,7 @@ pub fn judge_texts<W: Write>(
     ensures judged { IfOk result (IsJudged program.now externals.now trace.now (W.contents out.old) (W.contents out.new)) }
     ensures workers { OnOk result (IsWorkers workers) }
     ensures refused { IfErr result (JudgeRefusal program.now externals.now trace.now workers (W.contents out.old) (W.contents out.new)) }
-    ensures none { IfErr result (λ f. is_of_text f.part f.number ≡ true → (plan : PlanParts) (rows : List Row) → Mean program.now externals.now trace.now plan rows → ⊥) }
+    ensures none { IfErr result (λ f. is_of_text f.part f.number ≡ true → (plan : PlanParts) (rows : List Row) → Mean program.now externals.now trace.now plan rows → IsUnjudged plan f) }
     ensures kept { IfErr result (λ f. f.part ≢ part.Write → Keeps (W.contents out.old) (W.contents out.new)) }
 {
     match read_texts(alloc, program, externals, trace) {
@@ -156,7 +161,7 @@ pub fn judge_texts_alone<W: Write>(
 ) -> Result<Verdict, Fault>
     ensures judged { IfOk result (IsJudged program.now externals.now trace.now (W.contents out.old) (W.contents out.new)) }
     ensures refused { IfErr result (JudgeRefusal program.now externals.now trace.now 1 (W.contents out.old) (W.contents out.new)) }
-    ensures none { IfErr result (λ f. is_of_text f.part f.number ≡ true → (plan : PlanParts) (rows : List Row) → Mean program.now externals.now trace.now plan rows → ⊥) }
+    ensures none { IfErr result (λ f. is_of_text f.part f.number ≡ true → (plan : PlanParts) (rows : List Row) → Mean program.now externals.now trace.now plan rows → IsUnjudged plan f) }
     ensures kept { IfErr result (λ f. f.part ≢ part.Write → Keeps (W.contents out.old) (W.contents out.new)) }
 {
     judge_texts(alloc, program, externals, trace, 1, out)

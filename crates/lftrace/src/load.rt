@@ -4,7 +4,6 @@ ghost use Rattle.std.specs.Prelude.{◌≡◌, true, IfOk, OnOk, IfErr};
 ghost use Rattle.lft_syntax.specs.Tree.{FileTree};
 ghost use Rattle.lft_syntax.specs.View.{tree_view};
 ghost use Rattle.lft_program.specs.Parts.{Parts};
-ghost use Rattle.lft_program.specs.Plain.{IsPlain};
 ghost use Rattle.lft_graph.specs.Graph.{IsGraphOf};
 ghost use Rattle.lft_graph.specs.Precedence.{HasNoLoop, IsLevelled};
 ghost use Rattle.lft_model.specs.Plans.{PlanParts};
@@ -14,7 +13,7 @@ ghost use Rattle.lftrace.specs.Refusals.{TreeRefusal, ProgramRefusal, GraphRefus
 use crate::fault::Fault;
 use lft_graph::Graph;
 use lft_model::Plan;
-use lft_program::{Program, ProgramFault, flatten};
+use lft_program::{Program, flatten};
 use lft_syntax::{Ast, lex, parse};
 use lft_trace::read_externals;
 use std::alloc::Global;
@@ -66,12 +65,9 @@ pub fn graph_of(alloc: Global, program: &Program) -> Result<Graph, Fault>
 }
 
 /// The plan of a program's text and a table of external inputs, else the fault of the first layer
-/// that refuses, in the order lex, syntax, program, externals, graph. A program with further
-/// instances that have reactions, with ports or with actions isn't judged yet: it is refused as
-/// `program 7 WrongPlace`.
+/// that refuses, in the order lex, syntax, program, externals, graph.
 pub fn load(alloc: Global, program: &[u8], externals: &[u8]) -> Result<Plan, Fault>
     ensures plan { IfOk result (IsOnly (IsPlanOf program.now externals.now)) }
-    ensures plain { IfOk result (λ plan. IsPlain plan.program) }
     ensures refused { IfErr result (LoadRefusal program.now externals.now) }
     ensures none { IfErr result (λ f. is_of_text f.part f.number ≡ true → (plan : PlanParts) → IsPlanOf program.now externals.now plan → ⊥) }
 {
@@ -79,9 +75,6 @@ pub fn load(alloc: Global, program: &[u8], externals: &[u8]) -> Result<Plan, Fau
         Ok(flat) => flat,
         Err(fault) => return Err(fault),
     };
-    if !flat.is_plain() {
-        return Err(Fault::program(ProgramFault::WrongPlace));
-    }
     let given = match read_externals(alloc, &flat, externals) {
         Ok(given) => given,
         Err(fault) => return Err(Fault::externals(fault)),

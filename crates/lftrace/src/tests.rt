@@ -5,4 +5,5 @@ mod examples;
 mod inputs;
 mod outputs;
 mod show_whole;
+mod table_faults;
 mod tables;

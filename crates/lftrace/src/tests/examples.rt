@@ -7,9 +7,9 @@ use lft_check::Verdict;
 use std::alloc::Global;
 use std::test::Fail;
 
-const EXTERNALS: &str = "kind,time,microstep,name,value\n";
+pub(super) const EXTERNALS: &str = "kind,time,microstep,name,value\n";
 
-const TRACE: &str = "event,worker,time,microstep,reaction,name,value,delay\n";
+pub(super) const TRACE: &str = "event,worker,time,microstep,reaction,name,value,delay\n";
 
 const ONE: &str = "main reactor { reaction(startup, shutdown) {= =} }";
 
@@ -18,7 +18,7 @@ const TWO: &str = "main reactor { reaction(startup) {= =} reaction(startup) {= =
 const TICK: &str = "main reactor { timer t(0, 1 ns)  reaction(t) {= =} }";
 
 /// What is printed for an answer: the line that was written, or the fault's line.
-fn printed(alloc: Global, answer: Result<Verdict, Fault>, out: Vec<u8>) -> Vec<u8> {
+pub(super) fn printed(alloc: Global, answer: Result<Verdict, Fault>, out: Vec<u8>) -> Vec<u8> {
     match answer {
         Ok(_) => out,
         Err(fault) => {

@@ -1,6 +1,5 @@
 //! Ports, levels and loops of programs with nested reactors.
 
-use crate::load::load;
 use crate::show::show_text;
 use crate::status::finish;
 use std::alloc::Global;
@@ -39,19 +38,8 @@ fn shows_nested_reactors(rt: HostRuntime) {
     assert!(rt; text.as_slice() == DEEP_LINES.as_bytes());
 }
 
-#[test]
-fn judges_no_nested_reactors_yet(rt: HostRuntime) {
-    let externals = b"kind,time,microstep,name,value\nstop,0,0,,\n";
-    let mut errors = Vec::new(rt.alloc());
-    match load(rt.alloc(), DEEP.as_bytes(), externals) {
-        Ok(_) => assert!(rt; false, "loaded"),
-        Err(fault) => assert_eq!(rt; finish(Err(fault), &mut errors), 2),
-    }
-    assert!(rt; errors.as_slice() == b"fault program 7 WrongPlace\n".as_slice());
-}
-
 /// Two reactors, each of which feeds the other.
-fn mutual(alloc: Global, delay: &str) -> Result<String, Fail> {
+pub(super) fn mutual(alloc: Global, delay: &str) -> Result<String, Fail> {
     Ok(format!(in alloc;
         "reactor A {{ input z: int  output out: int  reaction(z) -> out {{= =}} }}
         reactor B {{ input x: int  output y: int  reaction(x) -> y {{= =}} }}

@@ -1,20 +1,21 @@
 //! Tables, written and read back.
 
+use super::table_faults::{PIPE, pipe_rows};
 use crate::load::load;
 use lft_trace::{read_trace, write_trace};
 use std::alloc::Global;
 use std::test::Fail;
 
-const PROGRAM: &[u8] =
-    b"main reactor { timer t(0, 1 s) reaction(startup, t) {= =} reaction(t) {= =} }";
+const PROGRAM: &str =
+    "main reactor { timer t(0, 1 s) reaction(startup, t) {= =} reaction(t) {= =} }";
 
 const HEADER: &str = "event,worker,time,microstep,reaction,name,value,delay\n";
 
 /// What is written for the rows of a table under its header.
-fn written(alloc: Global, rows: &str) -> Result<Vec<u8>, Fail> {
+fn written(alloc: Global, program: &str, rows: &str) -> Result<Vec<u8>, Fail> {
     let plan = load(
         alloc,
-        PROGRAM,
+        program.as_bytes(),
         b"kind,time,microstep,name,value\nstop,0,0,,\n",
     )?;
     let text = format!(in alloc; "{HEADER}{rows}")?;
@@ -42,9 +43,19 @@ fn writes_a_trace(rt: HostRuntime) -> Result<(), Fail> {
     ] {
         let want = format!(in alloc; "{HEADER}{lines}")?;
         assert!(rt;
-            written(alloc, rows)?.as_slice() == want.as_bytes(),
+            written(alloc, PROGRAM, rows)?.as_slice() == want.as_bytes(),
             "{rows}"
         );
     }
+    Ok(())
+}
+
+#[test]
+fn writes_a_trace_of_nested_reactors(rt: HostRuntime) -> Result<(), Fail> {
+    let alloc = rt.alloc();
+    let rows = pipe_rows(alloc)?;
+    let want = format!(in alloc; "{HEADER}{rows}")?;
+    let text = written(alloc, PIPE, rows.as_str())?;
+    assert!(rt; text.as_slice() == want.as_bytes());
     Ok(())
 }

@@ -1,4 +1,5 @@
 use Rattle.std.proofs.Common.{inl, inr, refl, subst}
+use Rattle.lft_program.specs.Plain.{IsPlain}
 use Rattle.lftrace.specs.Lines.{line_of}
 use Rattle.lftrace.specs.Written.{AppendsFront}
 use Rattle.lftrace.specs.Refusals.JudgingRefusal.{by_growth, by_writer}
@@ -6,7 +7,9 @@ use Rattle.lftrace.proofs.judge.judge_rows.Goals as goal
 
 pub returns-in-Err-report-clause-refused : goal.returns-in-Err-report-clause-refused
 returns-in-Err-report-clause-refused g c =
+    let workers = c.if-not-is_workers.ensures.0 refl in
+    let plain : IsPlain c.args.plan.now.program = subst IsPlain c.program.ensures.value (c.if-not-is_plain.ensures.0 refl) in
     elim c.in-Err-report.ensures.front [
-      | inl x ↦ by_growth x (c.if-not-is_workers.ensures.0 refl)
-      | inr x ↦ by_writer c.in-Ok.verdict x.0 x.1 c.in-Ok.ensures.verdict (subst (λ p. AppendsFront (g.W.Write.contents c.args.out.now) (g.W.Write.contents c.report.new.out) (line_of p c.in-Ok.verdict)) c.program.ensures.value x.2)
+      | inl x ↦ by_growth x workers plain
+      | inr x ↦ by_writer c.in-Ok.verdict x.0 x.1 plain c.in-Ok.ensures.verdict (subst (λ p. AppendsFront (g.W.Write.contents c.args.out.now) (g.W.Write.contents c.report.new.out) (line_of p c.in-Ok.verdict)) c.program-2.ensures.value x.2)
     ]

@@ -1,8 +1,7 @@
-use Rattle.lftrace.specs.Refusals.LoadRefusal.{by_program, by_other, by_externals, by_graph}
+use Rattle.lftrace.specs.Refusals.LoadRefusal.{by_program, by_externals, by_graph}
 use Rattle.lftrace.specs.declared.fault.Part.TheVariants as part
 use Rattle.lftrace.specs.Faults.{table_number}
-use Rattle.lft_reactors.proofs.Somes.{holds, fails}
-use Rattle.lftrace.proofs.Loading.{table_of, plain_of, no_loop_of, only_plan, graph_none, externals_told, told_at}
+use Rattle.lftrace.proofs.Loading.{table_of, no_loop_of, only_plan, graph_none, externals_told, told_at}
 use Rattle.lftrace.proofs.load.load.Goals as goal
 
 pub returns-in-Err-clause-refused : goal.returns-in-Err-clause-refused
@@ -10,13 +9,6 @@ returns-in-Err-clause-refused c = by_program c.in-Err.ensures.refused
 
 pub returns-in-Err-clause-none : goal.returns-in-Err-clause-none
 returns-in-Err-clause-none c = λ t plan x. c.in-Err.ensures.none t plan.program x.is_program
-
-pub returns-then-not-is_plain-clause-refused : goal.returns-then-not-is_plain-clause-refused
-returns-then-not-is_plain-clause-refused c = by_other c.in-Ok.flat c.program.ensures.part c.program.ensures.number c.in-Ok.ensures.program.is (fails c.is_plain.result c.is_plain.ensures (let t = c.if-not-is_plain.true in cc))
-
-pub returns-then-not-is_plain-clause-none : goal.returns-then-not-is_plain-clause-none
-returns-then-not-is_plain-clause-none c = λ t plan x.
-    fails c.is_plain.result c.is_plain.ensures (let t = c.if-not-is_plain.true in cc) (plain_of c.args.program.now c.args.externals.now c.in-Ok.flat c.in-Ok.ensures.program plan x)
 
 pub returns-in-Err-read_externals-clause-refused : goal.returns-in-Err-read_externals-clause-refused
 returns-in-Err-read_externals-clause-refused c =
@@ -32,7 +24,7 @@ returns-in-Err-read_externals-clause-none c = λ t plan x.
 pub returns-in-Ok-graph_of-clause-plan : goal.returns-in-Ok-graph_of-clause-plan
 returns-in-Ok-graph_of-clause-plan c =
     only_plan c.args.program.now c.args.externals.now c.in-Ok.flat c.in-Ok.ensures.program c.in-Ok-read_externals.given c.with_graph.result
-    (holds c.is_plain.result c.is_plain.ensures (let f = c.if-not-is_plain.false in cc)) c.in-Ok-graph_of.ensures.no_loop c.in-Ok-read_externals.ensures.table c.in-Ok-read_externals.ensures.one c.with_graph.ensures.program c.with_graph.ensures.externals
+    c.in-Ok-graph_of.ensures.no_loop c.in-Ok-read_externals.ensures.table c.in-Ok-read_externals.ensures.one c.with_graph.ensures.program c.with_graph.ensures.externals
 
 pub returns-in-Err-graph_of-clause-refused : goal.returns-in-Err-graph_of-clause-refused
 returns-in-Err-graph_of-clause-refused c =
