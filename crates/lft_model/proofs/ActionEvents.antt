@@ -22,7 +22,7 @@ length-filter_map {X} {Y} h (x ∷ xs) = over (h x) (length-filter_map h xs)
     over (Some y) l = omega arith
 
 -- what a filter keeps of one more item
-kept_more : {X Y : Type 0} (h : X → Option Y) (xs : List X) (i : ℕ) (x : X) (o : Option Y) → slice_get xs i ≡ Some x → o ≡ h x → filter_map h (take (i + 1) xs) ≡ filter_map h (take i xs) ++ cons_option o []
+pub kept_more : {X Y : Type 0} (h : X → Option Y) (xs : List X) (i : ℕ) (x : X) (o : Option Y) → slice_get xs i ≡ Some x → o ≡ h x → filter_map h (take (i + 1) xs) ≡ filter_map h (take i xs) ++ cons_option o []
 kept_more h xs i x o e r = rw (add-one, take_next xs i x e, r) (filter_map-append h (take i xs) (x ∷ []))
 
 -- one more item of which a filter keeps nothing, where it kept none before

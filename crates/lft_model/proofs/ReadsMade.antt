@@ -1,7 +1,6 @@
 -- What a reaction reads, made one input after another.
 use Rattle.std.proofs.Common.{◌≡◌, ℕ, ◌+◌, List, [], ◌∷◌, ◌++◌, length, take, take_all, filter_map, append_assoc, append-nil, add-one, refl, sym, ap, ◌∙◌, subst, Option, Some, None, IfSome, IfNone, ◌≤◌, slice_get}
-use Rattle.std.specs.List.{AllZip, cons_option}
-use Rattle.std.proofs.lemmas.List.Elements.{filter_map-append}
+use Rattle.std.specs.List.{AllZip}
 use Rattle.lft_tag.specs.declared.Tag.{Tag}
 use Rattle.lft_program.specs.Parts.{Parts, named}
 use Rattle.lft_program.specs.declared.parts.Reaction.{Reaction}
@@ -13,15 +12,12 @@ use Rattle.lft_trace.specs.declared.row.Row.{Row}
 use Rattle.lft_trace.proofs.Zips.{pushed}
 use Rattle.lft_model.specs.Plans.{PlanParts}
 use Rattle.lft_model.specs.Presence.{At, IsPresent, Shows, Inputs}
+use Rattle.lft_model.proofs.ActionEvents.{kept_more}
 use Rattle.lft_model.proofs.Paths.{take_next}
 
 -- one more element of a list
 taken : {X : Type 0} (xs : List X) (i : ℕ) (x : X) → slice_get xs i ≡ Some x → take (i + 1) xs ≡ take i xs ++ x ∷ []
 taken xs i x e = ap (λ n. take n xs) (add-one i) ∙ take_next xs i x e
-
--- what one more trigger names
-named_more : (xs : List Trigger) (i : ℕ) (x : Trigger) (o : Option Name) → slice_get xs i ≡ Some x → named x ≡ o → filter_map named (take (i + 1) xs) ≡ filter_map named (take i xs) ++ cons_option o []
-named_more xs i x o e q = ap (λ ys. filter_map named ys) (taken xs i x e) ∙ filter_map-append named (take i xs) (x ∷ []) ∙ ap (λ z. filter_map named (take i xs) ++ cons_option z []) q
 
 -- a trigger that is no port and no action names none
 named_none : (x : Trigger) → ((n : Name) → ¬ (x ≡ On n)) → named x ≡ None
@@ -38,11 +34,11 @@ module _ (plan : PlanParts) (t : List Row) (g : Tag) where
 
   -- a trigger that names a port or an action
   pub read_trigger : (xs : List Trigger) (i : ℕ) (n : Name) (os : List (Option Value)) (o : Option Value) → slice_get xs i ≡ Some (On n) → Shows plan t g n o → AllZip (Shows plan t g) (filter_map named (take i xs)) os → AllZip (Shows plan t g) (filter_map named (take (i + 1) xs)) (os ++ o ∷ [])
-  read_trigger xs i n os o e s h = subst (λ (ns : List Name). AllZip (Shows plan t g) ns (os ++ o ∷ [])) (sym (named_more xs i (On n) (Some n) e refl)) (pushed (Shows plan t g) (filter_map named (take i xs)) os n o h s)
+  read_trigger xs i n os o e s h = subst (λ (ns : List Name). AllZip (Shows plan t g) ns (os ++ o ∷ [])) (sym (kept_more named xs i (On n) (Some n) e refl)) (pushed (Shows plan t g) (filter_map named (take i xs)) os n o h s)
 
   -- a trigger that names none
   pub read_nothing : (xs : List Trigger) (i : ℕ) (x : Trigger) (os : List (Option Value)) → slice_get xs i ≡ Some x → ((n : Name) → ¬ (x ≡ On n)) → AllZip (Shows plan t g) (filter_map named (take i xs)) os → AllZip (Shows plan t g) (filter_map named (take (i + 1) xs)) os
-  read_nothing xs i x os e other h = subst (λ (ns : List Name). AllZip (Shows plan t g) ns os) (sym (named_more xs i x None e (named_none x other) ∙ append-nil (filter_map named (take i xs)))) h
+  read_nothing xs i x os e other h = subst (λ (ns : List Name). AllZip (Shows plan t g) ns os) (sym (kept_more named xs i x None e (sym (named_none x other)) ∙ append-nil (filter_map named (take i xs)))) h
 
   -- a use
   pub read_use : (front ns : List Name) (i : ℕ) (n : Name) (os : List (Option Value)) (o : Option Value) → slice_get ns i ≡ Some n → Shows plan t g n o → AllZip (Shows plan t g) (front ++ take i ns) os → AllZip (Shows plan t g) (front ++ take (i + 1) ns) (os ++ o ∷ [])
