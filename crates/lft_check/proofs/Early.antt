@@ -2,7 +2,7 @@
 use Rattle.std.proofs.Common.{◌≡◌, ℕ, ◌+◌, ◌<◌, ◌≤◌, List, refl, sym, ap, ◌∙◌, subst, arith, Some, slice_get}
 use native.Mathlib.Decide.{ℕ_discrete, dec_lt}
 use Rattle.lft_tag.specs.declared.Tag.{Tag}
-use Rattle.lft_program.specs.declared.parts.Reaction.{Reaction}
+use Rattle.lft_flat.specs.declared.parts.Reaction.{Reaction}
 use Rattle.lft_trace.specs.declared.row.Row.{Row}
 use Rattle.lft_trace.specs.declared.row.Step.{Step}
 use Rattle.lft_trace.specs.declared.row.Step.TheVariants.{Start, End}

@@ -1,13 +1,13 @@
 -- In a plain program just the reactions of lesser numbers precede one.
 use Rattle.std.proofs.Common.{◌≡◌, ℕ, ◌<◌, [], inl, inr, List, Some, sym, ◌∙◌, ap, arith, slice_get}
 use native.Mathlib.Decide.{ℕ_discrete, dec_lt}
-use Rattle.lft_program.specs.Parts.{Parts}
-use Rattle.lft_program.specs.Sound.{IsSound}
-use Rattle.lft_program.specs.Plain.{IsPlain}
-use Rattle.lft_program.specs.Origins.{Origin}
-use Rattle.lft_program.specs.Origins.Origin.{itself, over}
-use Rattle.lft_program.specs.declared.parts.Reaction.{Reaction}
-use Rattle.lft_program.specs.declared.parts.Port.{Port as PortOf}
+use Rattle.lft_flat.specs.Parts.{Parts}
+use Rattle.lft_flat.specs.Sound.{IsSound}
+use Rattle.lft_flat.specs.Plain.{IsPlain}
+use Rattle.lft_flat.specs.Origins.{Origin}
+use Rattle.lft_flat.specs.Origins.Origin.{itself, over}
+use Rattle.lft_flat.specs.declared.parts.Reaction.{Reaction}
+use Rattle.lft_flat.specs.declared.parts.Port.{Port as PortOf}
 use Rattle.lft_graph.specs.Precedence.{Direct, IsDeclaredFirst, Precedes}
 use Rattle.lft_graph.specs.Precedence.Precedes.{one, more}
 

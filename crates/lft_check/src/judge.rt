@@ -1,7 +1,7 @@
 //! The verdict on a trace.
 
 ghost use Rattle.std.specs.Prelude.{◌≡◌, ◌<◌, ◌≤◌, length, Some, None, IsTrue, ◌↔◌, IfOk, MatchOption, slice_get};
-ghost use Rattle.lft_program.specs.Plain.{IsPlain};
+ghost use Rattle.lft_flat.specs.Plain.{IsPlain};
 ghost use Rattle.lft_trace.specs.Fits.{RowsFit};
 ghost use Rattle.lft_model.specs.Breaches.{TagOrder};
 ghost use Rattle.lft_slices.specs.Slices.{AreSlices};

@@ -4,8 +4,6 @@
 mod count;
 mod examine;
 mod judge;
-#[cfg(test)]
-mod tests;
 mod verdict;
 mod watch;
 

@@ -4,17 +4,17 @@ use Rattle.std.proofs.lemmas.Option.{slice_get_within}
 use Rattle.std.proofs.lemmas.List.Elements.{Contains-push, Contains-push_cases, Contains-append_left, Contains-append_right, Contains-append_cases}
 use Rattle.std.proofs.lemmas.Bool.{cases_lt, cases_eq}
 use Rattle.lft_tag.specs.Shifts.{join, join_all, none, Folded}
-use Rattle.lft_program.specs.Parts.{Parts, named, inputs}
-use Rattle.lft_program.specs.Sound.{IsSound}
-use Rattle.lft_program.specs.Origins.{Origin}
-use Rattle.lft_program.specs.Origins.Origin.{itself, over}
-use Rattle.lft_program.specs.declared.parts.Port.{Port as PortOf}
-use Rattle.lft_program.specs.declared.parts.Source.{Source}
-use Rattle.lft_program.specs.declared.parts.Reaction.{Reaction}
-use Rattle.lft_program.specs.declared.parts.Name.{Name}
-use Rattle.lft_program.specs.declared.parts.Name.TheVariants.{Port, Action}
-use Rattle.lft_program.specs.declared.parts.Trigger.{Trigger}
-use Rattle.lft_program.specs.declared.parts.Trigger.TheVariants.{Startup, Shutdown, Timer, On}
+use Rattle.lft_flat.specs.Parts.{Parts, named, inputs}
+use Rattle.lft_flat.specs.Sound.{IsSound}
+use Rattle.lft_flat.specs.Origins.{Origin}
+use Rattle.lft_flat.specs.Origins.Origin.{itself, over}
+use Rattle.lft_flat.specs.declared.parts.Port.{Port as PortOf}
+use Rattle.lft_flat.specs.declared.parts.Source.{Source}
+use Rattle.lft_flat.specs.declared.parts.Reaction.{Reaction}
+use Rattle.lft_flat.specs.declared.parts.Name.{Name}
+use Rattle.lft_flat.specs.declared.parts.Name.TheVariants.{Port, Action}
+use Rattle.lft_flat.specs.declared.parts.Trigger.{Trigger}
+use Rattle.lft_flat.specs.declared.parts.Trigger.TheVariants.{Startup, Shutdown, Timer, On}
 use Rattle.lft_graph.specs.Before.{Writes, IsLastWriter, Reaches, FeedsLast, IsDeclaredJustBefore, IsBefore}
 use Rattle.lft_graph.specs.Walks.{KnowsWriters, IsUndelayed, IsFeeder, NotesBelow, Covers, HasLists}
 use Rattle.lft_graph.proofs.Places.{contains_at, at_contains, get_push_cases}

@@ -1,9 +1,9 @@
 -- How far lists are walked. The contracts of private functions alone need this file.
 use Rattle.std.specs.Prelude.{◌≡◌, ◌≢◌, ℕ, ◌+◌, ◌-◌, ◌<◌, ◌≤◌, ◌⊎◌, List, [], ◌∷◌, Option, Some, slice_get, length, Contains, nat_le, if◌then◌else◌}
-use Rattle.lft_program.specs.Parts.{Parts}
-use Rattle.lft_program.specs.Origins.{Origin}
-use Rattle.lft_program.specs.declared.parts.Name.{Name}
-use Rattle.lft_program.specs.declared.parts.Name.TheVariants.{Port, Action}
+use Rattle.lft_flat.specs.Parts.{Parts}
+use Rattle.lft_flat.specs.Origins.{Origin}
+use Rattle.lft_flat.specs.declared.parts.Name.{Name}
+use Rattle.lft_flat.specs.declared.parts.Name.TheVariants.{Port, Action}
 use Rattle.lft_graph.specs.Before.{Writes, IsLastWriter, Reaches, IsBefore}
 use Rattle.lft_graph.specs.declared.levels.Mark.{Mark}
 use Rattle.lft_graph.specs.declared.levels.Mark.TheVariants.{New, Open, Done}

@@ -9,8 +9,6 @@ mod numbering;
 mod origins;
 mod recursion;
 mod settings;
-#[cfg(test)]
-mod tests;
 mod walk;
 
 pub use joins::{Connections, End, Join, find_sources};

@@ -2,9 +2,9 @@
 use Rattle.std.proofs.Common.{◌≡◌, ℕ, ◌⊎◌, inl, inr, List, [], ◌∷◌, map, refl, sym, ◌∙◌, subst, Bool, true, false, filter_map, lit<}
 use Rattle.std.specs.List.{AllZip}
 use Rattle.lft_tag.specs.declared.Tag.{Tag}
-use Rattle.lft_program.specs.declared.parts.Value.{Value}
-use Rattle.lft_program.specs.declared.parts.Name.{Name}
-use Rattle.lft_program.specs.declared.parts.Name.TheVariants.{Port, Action}
+use Rattle.lft_flat.specs.declared.parts.Value.{Value}
+use Rattle.lft_flat.specs.declared.parts.Name.{Name}
+use Rattle.lft_flat.specs.declared.parts.Name.TheVariants.{Port, Action}
 use Rattle.lft_trace.specs.declared.row.Row.{Row}
 use Rattle.lft_trace.specs.declared.row.Step.{Step}
 use Rattle.lft_trace.specs.declared.row.Step.TheVariants.{Schedule}

@@ -3,12 +3,12 @@ use Rattle.std.proofs.Common.{◌≡◌, ℕ, ◌<◌, ◌≤◌, ◌⊎◌, inl
 use Rattle.std.proofs.lemmas.Bool.{false≢true}
 use Rattle.lft_tag.specs.declared.Tag.{Tag}
 use Rattle.lft_tag.specs.Tags.{same_tag}
-use Rattle.lft_program.specs.Parts.{Parts}
-use Rattle.lft_program.specs.Origins.{Origin}
-use Rattle.lft_program.specs.Origins.Origin.{itself, over}
-use Rattle.lft_program.specs.declared.parts.Value.{Value}
-use Rattle.lft_program.specs.declared.parts.Name.{Name}
-use Rattle.lft_program.specs.declared.parts.Name.TheVariants.{Port, Action}
+use Rattle.lft_flat.specs.Parts.{Parts}
+use Rattle.lft_flat.specs.Origins.{Origin}
+use Rattle.lft_flat.specs.Origins.Origin.{itself, over}
+use Rattle.lft_flat.specs.declared.parts.Value.{Value}
+use Rattle.lft_flat.specs.declared.parts.Name.{Name}
+use Rattle.lft_flat.specs.declared.parts.Name.TheVariants.{Port, Action}
 use Rattle.lft_trace.specs.declared.row.Row.{Row}
 use Rattle.lft_trace.specs.declared.row.Step.{Step}
 use Rattle.lft_trace.specs.declared.row.Step.TheVariants.{Schedule}

@@ -5,14 +5,14 @@ use Rattle.std.proofs.lemmas.Grind.{flat_map-append}
 use Rattle.lft_tag.specs.declared.Tag.{Tag}
 use Rattle.lft_tag.specs.Tags.{Before, UpTo, after, after_all}
 use Rattle.lft_tag.proofs.Order.{order_cases, UpTo-refl, UpTo-trans, UpTo-Before, UpTo_antisym, Before-weaken, UpTo-not, Before-irrefl, after_past, after_some_past}
-use Rattle.lft_program.specs.Parts.{Parts, inputs}
-use Rattle.lft_program.specs.Origins.{Origin}
-use Rattle.lft_program.specs.declared.parts.Reaction.{Reaction}
-use Rattle.lft_program.specs.declared.parts.Value.{Value}
-use Rattle.lft_program.specs.declared.parts.Name.{Name}
-use Rattle.lft_program.specs.declared.parts.Name.TheVariants.{Port, Action}
-use Rattle.lft_program.specs.declared.parts.Trigger.{Trigger}
-use Rattle.lft_program.specs.declared.parts.Trigger.TheVariants.{Startup, Shutdown, Timer, On}
+use Rattle.lft_flat.specs.Parts.{Parts, inputs}
+use Rattle.lft_flat.specs.Origins.{Origin}
+use Rattle.lft_flat.specs.declared.parts.Reaction.{Reaction}
+use Rattle.lft_flat.specs.declared.parts.Value.{Value}
+use Rattle.lft_flat.specs.declared.parts.Name.{Name}
+use Rattle.lft_flat.specs.declared.parts.Name.TheVariants.{Port, Action}
+use Rattle.lft_flat.specs.declared.parts.Trigger.{Trigger}
+use Rattle.lft_flat.specs.declared.parts.Trigger.TheVariants.{Startup, Shutdown, Timer, On}
 use Rattle.lft_trace.specs.declared.row.Row.{Row}
 use Rattle.lft_trace.specs.declared.row.Step.TheVariants.{Start, Read, Write, Schedule, Stop, End}
 use Rattle.lft_model.specs.Plans.{PlanParts, IsSoundPlan}

@@ -7,11 +7,11 @@ use Rattle.lft_tag.specs.declared.Tag.{Tag}
 use Rattle.lft_tag.specs.Tags.{after_all, same_tag}
 use Rattle.lft_tag.specs.Shifts.{shifted}
 use Rattle.lft_tag.proofs.Chains.{shifted_chain}
-use Rattle.lft_program.specs.Parts.{Parts}
-use Rattle.lft_program.specs.Origins.{Origin}
-use Rattle.lft_program.specs.declared.parts.Port.{Port as PortOf}
-use Rattle.lft_program.specs.declared.parts.Value.{Value}
-use Rattle.lft_program.specs.declared.parts.Name.TheVariants.{Port}
+use Rattle.lft_flat.specs.Parts.{Parts}
+use Rattle.lft_flat.specs.Origins.{Origin}
+use Rattle.lft_flat.specs.declared.parts.Port.{Port as PortOf}
+use Rattle.lft_flat.specs.declared.parts.Value.{Value}
+use Rattle.lft_flat.specs.declared.parts.Name.TheVariants.{Port}
 use Rattle.lft_trace.specs.declared.row.Row.{Row}
 use Rattle.lft_model.specs.Plans.{PlanParts, IsSoundPlan}
 use Rattle.lft_model.specs.Presence.{value_written, written, IsWrittenFrom, At, IsPresent, PortClash}

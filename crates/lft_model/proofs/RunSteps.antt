@@ -1,8 +1,8 @@
 -- The steps of the rows of any run.
 use Rattle.std.proofs.Common.{◌≡◌, ℕ, ◌⊎◌, inl, inr, List, [], ◌∷◌, ◌++◌, sym, ap, subst, Option, Some, None, Bool, true, false, filter_map, flat_map, option_map, zip}
-use Rattle.lft_program.specs.Parts.{Parts}
-use Rattle.lft_program.specs.declared.parts.Value.{Value}
-use Rattle.lft_program.specs.declared.parts.Name.{Name}
+use Rattle.lft_flat.specs.Parts.{Parts}
+use Rattle.lft_flat.specs.declared.parts.Value.{Value}
+use Rattle.lft_flat.specs.declared.parts.Name.{Name}
 use Rattle.lft_trace.specs.declared.row.Row.{Row}
 use Rattle.lft_trace.specs.declared.row.Step.{Step}
 use Rattle.lft_trace.specs.declared.row.Step.TheVariants.{Start, Read, Write, Schedule, Stop, End}

@@ -1,6 +1,6 @@
 -- What contracts see of a plan: the flat program and the external inputs.
-use Rattle.lft_program.specs.Parts.{Parts}
-use Rattle.lft_program.specs.Sound.{IsSound}
+use Rattle.lft_flat.specs.Parts.{Parts}
+use Rattle.lft_flat.specs.Sound.{IsSound}
 use Rattle.lft_trace.specs.Inputs.{ExternalInputs, InOrder}
 use Rattle.lft_trace.specs.Fits.{ExternalsFit}
 use Rattle.lft_graph.specs.Precedence.{IsLevelled}

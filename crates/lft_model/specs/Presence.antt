@@ -3,15 +3,15 @@ use Rattle.std.specs.Prelude.{◌≡◌, ◌≢◌, ℕ, ◌+◌, ◌*◌, ◌�
 use Rattle.std.specs.List.{last_or, AllZip}
 use Rattle.lft_tag.specs.declared.Tag.{Tag}
 use Rattle.lft_tag.specs.Tags.{after, after_all, same_tag, earliest}
-use Rattle.lft_program.specs.Parts.{Parts, inputs}
-use Rattle.lft_program.specs.Origins.{Origin}
-use Rattle.lft_program.specs.declared.parts.Value.{Value}
-use Rattle.lft_program.specs.declared.parts.Name.{Name}
-use Rattle.lft_program.specs.declared.parts.Name.TheVariants.{Port, Action}
-use Rattle.lft_program.specs.declared.parts.Trigger.{Trigger}
-use Rattle.lft_program.specs.declared.parts.Trigger.TheVariants.{Startup, Shutdown, Timer, On}
-use Rattle.lft_program.specs.declared.parts.Timer.{Timer as TimerOf}
-use Rattle.lft_program.specs.declared.parts.Reaction.{Reaction}
+use Rattle.lft_flat.specs.Parts.{Parts, inputs}
+use Rattle.lft_flat.specs.Origins.{Origin}
+use Rattle.lft_flat.specs.declared.parts.Value.{Value}
+use Rattle.lft_flat.specs.declared.parts.Name.{Name}
+use Rattle.lft_flat.specs.declared.parts.Name.TheVariants.{Port, Action}
+use Rattle.lft_flat.specs.declared.parts.Trigger.{Trigger}
+use Rattle.lft_flat.specs.declared.parts.Trigger.TheVariants.{Startup, Shutdown, Timer, On}
+use Rattle.lft_flat.specs.declared.parts.Timer.{Timer as TimerOf}
+use Rattle.lft_flat.specs.declared.parts.Reaction.{Reaction}
 use Rattle.lft_trace.specs.declared.row.Row.{Row}
 use Rattle.lft_trace.specs.declared.externals.Event.{Event}
 use Rattle.lft_trace.specs.declared.row.Step.{Step}

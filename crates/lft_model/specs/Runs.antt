@@ -3,10 +3,10 @@ use Rattle.std.specs.Prelude.{◌≡◌, ℕ, ◌==◌, ◌&&◌, ◌||◌, Bool
 use Rattle.std.specs.List.{last_or}
 use Rattle.lft_tag.specs.declared.Tag.{Tag}
 use Rattle.lft_tag.specs.Tags.{same_tag}
-use Rattle.lft_program.specs.Parts.{Parts, inputs}
-use Rattle.lft_program.specs.declared.parts.Value.{Value}
-use Rattle.lft_program.specs.declared.parts.Name.{Name}
-use Rattle.lft_program.specs.declared.parts.Name.TheVariants.{Port, Action}
+use Rattle.lft_flat.specs.Parts.{Parts, inputs}
+use Rattle.lft_flat.specs.declared.parts.Value.{Value}
+use Rattle.lft_flat.specs.declared.parts.Name.{Name}
+use Rattle.lft_flat.specs.declared.parts.Name.TheVariants.{Port, Action}
 use Rattle.lft_trace.specs.declared.row.Row.{Row}
 use Rattle.lft_trace.specs.declared.row.Step.{Step}
 use Rattle.lft_trace.specs.declared.row.Step.TheVariants.{Start, Read, Write, Schedule, Stop, End}

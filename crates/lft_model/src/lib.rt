@@ -7,8 +7,6 @@ mod plan;
 mod reads;
 mod slow;
 mod stop;
-#[cfg(test)]
-mod tests;
 mod timers;
 
 pub use breach::Breach;

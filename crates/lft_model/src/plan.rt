@@ -2,8 +2,8 @@
 
 ghost use Rattle.std.specs.Prelude.{◌≡◌, ◌↔◌, ℕ, List, Err, IfOk, OnOk, IsTrue};
 
+use lft_flat::Program;
 use lft_graph::{Graph, GraphFault};
-use lft_program::Program;
 use lft_tag::NoMemory;
 use lft_trace::Externals;
 use std::alloc::Global;

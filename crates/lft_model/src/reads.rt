@@ -1,6 +1,6 @@
 //! What a run reads.
 
-use lft_program::Value;
+use lft_flat::Value;
 use std::marker::Model;
 
 /// For each input of a reaction in order, its value, or that it is absent.
@@ -11,7 +11,7 @@ pub struct Reads {
 
 impl Model for Reads {
     ghost use Rattle.std.specs.Prelude.{List, Option};
-    ghost use Rattle.lft_program.specs.declared.parts.Value.{Value as Carried};
+    ghost use Rattle.lft_flat.specs.declared.parts.Value.{Value as Carried};
 
     ghost Value = { List (Option Carried) };
 

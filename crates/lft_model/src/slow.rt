@@ -1,8 +1,8 @@
 //! Presence, triggering, collisions and inputs, plainly over all rows: for tests and for readers.
 
 ghost use Rattle.std.specs.Prelude.{◌≡◌, ◌<◌, ◌↔◌, List, Option, length, IsTrue, IfSome, IfNone, IfOk};
-ghost use Rattle.lft_program.specs.Sound.{IsNameOf, IsTriggerOf};
-ghost use Rattle.lft_program.specs.declared.parts.Value.{Value as Carried};
+ghost use Rattle.lft_flat.specs.Sound.{IsNameOf, IsTriggerOf};
+ghost use Rattle.lft_flat.specs.declared.parts.Value.{Value as Carried};
 ghost use Rattle.lft_trace.specs.Fits.{RowsFit};
 ghost use Rattle.lft_model.specs.Presence.{At, IsPresent, OccursUntil, Triggered, Collision, Inputs};
 
@@ -14,7 +14,7 @@ use crate::reads::Reads;
 use crate::stop::trace_stop;
 use crate::timers::fires;
 use actions::{action_clashes, action_value};
-use lft_program::{Name, Trigger, Value};
+use lft_flat::{Name, Trigger, Value};
 use lft_tag::{NoMemory, Tag};
 use lft_trace::{Row, Rows};
 use ports::{port_clashes, port_value};

@@ -1,10 +1,10 @@
 -- What holds of each reactor of a tree of which no cause holds that is looked for in each alone.
 use Rattle.std.proofs.Common.{◌≡◌, ◌≢◌, ℕ, ◌+◌, ◌<◌, ◌≤◌, ◌⊎◌, inl, inr, List, ◌++◌, length, sym, ap, ◌∙◌, arith, Some, slice_get, map}
 use Rattle.std.proofs.lemmas.Bool.{cases_lt, cases_eq}
-use Rattle.lft_syntax.specs.Tree.{FileTree, ReactorTree, PortTree, TimerTree, ActionTree, ConnectionTree, reactors_of, connections_of, ports_of, timers_of, actions_of, instances_of}
-use Rattle.lft_reactors.specs.Causes.{IsTwice, NoneHolds, DuplicateName, DeclaresTwice, UnknownName, WrongPlace, TwoSources, WritesTwice, WidthMismatch, DiffersInWidth, first_causes, later_causes}
-use Rattle.lft_reactors.specs.Kinds.{names_in, destinations_in}
-use Rattle.lft_reactors.proofs.Twice.{Any-at}
+use Rattle.lft_tree.specs.Tree.{FileTree, ReactorTree, PortTree, TimerTree, ActionTree, ConnectionTree, reactors_of, connections_of, ports_of, timers_of, actions_of, instances_of}
+use Rattle.lft_scope.specs.Causes.{IsTwice, NoneHolds, DuplicateName, DeclaresTwice, UnknownName, WrongPlace, TwoSources, WritesTwice, WidthMismatch, DiffersInWidth, first_causes, later_causes}
+use Rattle.lft_scope.specs.Kinds.{names_in, destinations_in}
+use Rattle.lft_scope.proofs.Twice.{Any-at}
 use Rattle.lft_nesting.specs.Tables.{IsLawful}
 use Rattle.lft_nesting.proofs.Counting.{get_right, get_left, map_at}
 

@@ -1,14 +1,14 @@
 -- The sources by number are the connections of the tree.
 use Rattle.std.proofs.Common.{◌≡◌, ℕ, ◌+◌, List, [], refl, sym, ap, ◌∙◌, subst, Option, Some, option_map, slice_get, length, unwrap_or, Any}
-use Rattle.lft_syntax.specs.Tree.{FileTree, TimeTree, ConnectionTree, RefTree, reactors_of, ports_of, connections_of}
+use Rattle.lft_tree.specs.Tree.{FileTree, TimeTree, ConnectionTree, RefTree, reactors_of, ports_of, connections_of}
 use Rattle.lft_instances.specs.declared.origins.Source.{Source}
 use Rattle.lft_instances.specs.declared.joins.Join.{Join}
 use Rattle.lft_instances.specs.declared.joins.Connections.{Connections}
 use Rattle.lft_instances.specs.declared.walk.Instance.{Instance}
 use Rattle.lft_instances.specs.Joins.{AreSources, Joins, JoinPorts, LeadApart, HasJoin}
 use Rattle.lft_instances.specs.Values.{clock_in}
-use Rattle.lft_reactors.specs.Causes.{HasLongTime, IsLongTime}
-use Rattle.lft_reactors.specs.Instances.{Inside, Thing, thing_at, Connects, stands_for, time_in}
+use Rattle.lft_scope.specs.Causes.{HasLongTime, IsLongTime}
+use Rattle.lft_scope.specs.Instances.{Inside, Thing, thing_at, Connects, stands_for, time_in}
 use Rattle.lft_reactors.specs.Sheets.{IsJoin, Single, singles_of}
 use Rattle.lft_nesting.specs.Located.{Located, declared, ports_in}
 use Rattle.lft_nesting.specs.Nests.{IsNest}

@@ -3,16 +3,16 @@ use Rattle.std.proofs.Common.{◌≡◌, ℕ, zero, suc, ◌<◌, ◌≤◌, ◌
 use Rattle.std.specs.List.{cons_option}
 use Rattle.std.specs.Option.{option_and_then}
 use Rattle.std.proofs.lemmas.Bool.{cases_lt}
-use Rattle.lft_syntax.specs.Tree.{ReactorTree, InstanceTree, instances_of}
+use Rattle.lft_tree.specs.Tree.{ReactorTree, InstanceTree, instances_of}
 use Rattle.lft_instances.specs.Contents.{contained}
 use Rattle.lft_instances.specs.Containment.{Holds, HoldsDeep, one, more, IsRecursive}
 use Rattle.lft_instances.specs.declared.walk.Contents.{Contents}
-use Rattle.lft_reactors.specs.Causes.{Holds as Has, HoldsDeep as HasDeep, directly, through, IsTwice, DuplicateName, NoneHolds, RecursiveReactor, first_causes}
-use Rattle.lft_reactors.specs.Instances.{is_called, reactor_named}
+use Rattle.lft_scope.specs.Causes.{Holds as Has, HoldsDeep as HasDeep, directly, through, IsTwice, DuplicateName, NoneHolds, RecursiveReactor, first_causes}
+use Rattle.lft_scope.specs.Instances.{is_called, reactor_named}
 use Rattle.lft_reactors.specs.Numbers.{AreContents, IsContents, IsNumberOf}
-use Rattle.lft_reactors.proofs.Files.{AllZip-from}
-use Rattle.lft_reactors.proofs.NamedReactors.{named}
-use Rattle.lft_reactors.proofs.Twice.{Any-at, at-Any}
+use Rattle.lft_scope.proofs.Files.{AllZip-from}
+use Rattle.lft_scope.proofs.NamedReactors.{named}
+use Rattle.lft_scope.proofs.Twice.{Any-at, at-Any}
 use Rattle.lft_nesting.proofs.Zipping.{then_some, zip_at}
 
 -- ---- a name leads to one number

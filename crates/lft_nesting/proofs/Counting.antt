@@ -1,7 +1,7 @@
 -- The number of a declaration: those of the instances before it, and its place.
 use Rattle.std.proofs.Common.{◌≡◌, ℕ, zero, suc, ◌+◌, List, [], ◌∷◌, ◌++◌, length, refl, sym, ap, ◌∙◌, subst, arith, Some, slice_get, map, flat_map}
 use Rattle.std.specs.List.{enumerate_from}
-use Rattle.lft_syntax.specs.Tree.{ReactorTree}
+use Rattle.lft_tree.specs.Tree.{ReactorTree}
 use Rattle.lft_nesting.specs.Located.{Located, Declared, declared, declared_in}
 
 pub get_right : {X : Type 0} (xs ys : List X) (k : ℕ) → slice_get (xs ++ ys) (length xs + k) ≡ slice_get ys k

@@ -1,12 +1,12 @@
 -- A cycle of sources is a cycle of connections, and the other way round.
 use Rattle.std.proofs.Common.{◌≡◌, ℕ, List, ◌++◌, refl, sym, ◌∙◌, subst, Option, Some, slice_get, option_to_list, arith}
-use Rattle.lft_syntax.specs.Tree.{FileTree}
+use Rattle.lft_tree.specs.Tree.{FileTree}
 use Rattle.lft_instances.specs.Sources.{Leads, one, more}
 use Rattle.lft_instances.specs.declared.origins.Source.{Source}
 use Rattle.lft_instances.proofs.Members.{get_within}
 use Rattle.lft_instances.proofs.Walks.{get_there}
-use Rattle.lft_reactors.specs.Causes.{ConnectionCycle}
-use Rattle.lft_reactors.specs.Instances.{Thing, Chain, one as one_step, more as more_steps}
+use Rattle.lft_scope.specs.Causes.{ConnectionCycle}
+use Rattle.lft_scope.specs.Instances.{Thing, Chain, one as one_step, more as more_steps}
 use Rattle.lft_nesting.proofs.Connected.{TreeSources}
 
 module _ (tree : FileTree) (ports : List Thing) (sources : List (Option Source)) (w : TreeSources tree ports sources) where

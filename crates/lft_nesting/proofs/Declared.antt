@@ -1,6 +1,6 @@
 -- What stands among the declarations of instances.
 use Rattle.std.proofs.Common.{◌≡◌, ℕ, List, Some, slice_get}
-use Rattle.lft_syntax.specs.Tree.{ReactorTree}
+use Rattle.lft_tree.specs.Tree.{ReactorTree}
 use Rattle.lft_nesting.specs.Located.{Located, Declared, declared}
 use Rattle.lft_nesting.proofs.Listing.{declared_from as stands}
 

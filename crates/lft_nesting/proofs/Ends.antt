@@ -1,7 +1,7 @@
 -- The ends of the connections of an instance: the ports that they are, by number and in the tree.
 use Rattle.std.proofs.Common.{◌≡◌, ℕ, ◌+◌, List, [], ◌∷◌, ◌++◌, refl, sym, ap, ◌∙◌, subst, arith, Some, option_map, slice_get, map, position, bytes_eq}
 use Rattle.std.specs.Option.{option_and_then}
-use Rattle.lft_syntax.specs.Tree.{FileTree, ReactorTree, PortTree, InstanceTree, RefTree, reactors_of, ports_of, instances_of}
+use Rattle.lft_tree.specs.Tree.{FileTree, ReactorTree, PortTree, InstanceTree, RefTree, reactors_of, ports_of, instances_of}
 use Rattle.lft_instances.specs.declared.joins.End.{End}
 use Rattle.lft_instances.specs.declared.joins.End.TheVariants.{Own, Inner}
 use Rattle.lft_instances.specs.Paths.{along}
@@ -9,7 +9,7 @@ use Rattle.lft_instances.specs.Children.{child_of}
 use Rattle.lft_instances.specs.Joins.{port_at, port_of, Declares, IsPort}
 use Rattle.lft_instances.proofs.Members.{get_within}
 use Rattle.lft_instances.proofs.Orders.{along_kid}
-use Rattle.lft_reactors.specs.Instances.{Inside, thing_at, stands_for, stands_inside, entered, main_instance, reactor_named, given_in}
+use Rattle.lft_scope.specs.Instances.{Inside, thing_at, stands_for, stands_inside, entered, main_instance, reactor_named, given_in}
 use Rattle.lft_reactors.specs.Sheets.{IsEnd, IsInner}
 use Rattle.lft_nesting.specs.Located.{Located, ports_in}
 use Rattle.lft_nesting.specs.Nests.{IsNest}

@@ -1,11 +1,11 @@
 -- A step to a contained instance, in the tree and by number.
 use Rattle.std.proofs.Common.{◌≡◌, ℕ, List, sym, ap, ◌∙◌, Some, slice_get, map}
 use Rattle.std.specs.Option.{option_and_then, option_map}
-use Rattle.lft_syntax.specs.Tree.{FileTree, ReactorTree, InstanceTree, reactors_of, instances_of}
+use Rattle.lft_tree.specs.Tree.{FileTree, ReactorTree, InstanceTree, reactors_of, instances_of}
 use Rattle.lft_instances.specs.Contents.{contained}
 use Rattle.lft_instances.specs.declared.walk.Contents.{Contents}
 use Rattle.lft_instances.proofs.Simulation.{Simulates}
-use Rattle.lft_reactors.specs.Instances.{Inside, entered, given_in, reactor_named}
+use Rattle.lft_scope.specs.Instances.{Inside, entered, given_in, reactor_named}
 use Rattle.lft_reactors.specs.Numbers.{AreContents}
 use Rattle.lft_nesting.proofs.Containing.{inner_at, number_at}
 use Rattle.lft_nesting.proofs.Zipping.{map_some, then_some}

@@ -5,18 +5,18 @@ use Rattle.std.specs.Option.{option_map_or}
 use Rattle.std.proofs.lemmas.Bool.{cases_lt, ltb-true}
 use Rattle.std.proofs.lemmas.Bool.Decides.{eqb_tells}
 use Rattle.std.proofs.lemmas.Slice.Eq.{bytes_eq-Decides}
-use Rattle.lft_syntax.specs.Tree.{ReactorTree, ParameterTree, AssignmentTree, InstanceTree, TimeTree, Written, Named, nanoseconds, instances_of, ports_of, timers_of, actions_of, connections_of}
+use Rattle.lft_tree.specs.Tree.{ReactorTree, ParameterTree, AssignmentTree, InstanceTree, TimeTree, Written, Named, nanoseconds, instances_of, ports_of, timers_of, actions_of, connections_of}
 use Rattle.lft_instances.specs.Values.{clock_in, value_in, values_in}
 use Rattle.lft_instances.specs.declared.settings.Clock.{Clock}
 use Rattle.lft_instances.specs.declared.settings.Clock.TheVariants.{Fixed, Parameter}
 use Rattle.lft_instances.specs.declared.settings.Given.{Given}
-use Rattle.lft_reactors.specs.Causes.{DeclaresTwice, DuplicateName, HasLongTime, IsLongTime, IsTwice, NoneHolds, first_causes, longest}
-use Rattle.lft_reactors.specs.Instances.{Inside, given_in, given_or_default, time_in, value_of}
-use Rattle.lft_reactors.specs.Kinds.{timer_times}
-use Rattle.lft_reactors.specs.Places.{place}
+use Rattle.lft_scope.specs.Causes.{DeclaresTwice, DuplicateName, HasLongTime, IsLongTime, IsTwice, NoneHolds, first_causes, longest}
+use Rattle.lft_scope.specs.Instances.{Inside, given_in, given_or_default, time_in, value_of}
+use Rattle.lft_scope.specs.Kinds.{timer_times}
+use Rattle.lft_scope.specs.Places.{place}
 use Rattle.lft_reactors.specs.Sheets.{IsClock, IsGiven, kept}
-use Rattle.lft_reactors.proofs.Somes.{Any-head, Any-left, Any-right, Any-tail}
-use Rattle.lft_reactors.proofs.Twice.{Any-at, twice_left}
+use Rattle.lft_scope.proofs.Somes.{Any-head, Any-left, Any-right, Any-tail}
+use Rattle.lft_scope.proofs.Twice.{Any-at, twice_left}
 use Rattle.lft_nesting.proofs.Counting.{flat_at, map_at}
 use Rattle.lft_nesting.proofs.Zipping.{map_some}
 

@@ -2,16 +2,16 @@
 use Rattle.std.proofs.Common.{◌≡◌, ℕ, ◌+◌, ◌<◌, ◌≤◌, ◌⊎◌, inl, inr, Bool, true, false, List, [], ◌∷◌, ◌++◌, refl, sym, ap, ◌∙◌, subst, arith, Some, slice_get}
 use Rattle.std.specs.Option.{option_map_or}
 use Rattle.std.proofs.lemmas.Bool.{cases_lt}
-use Rattle.lft_syntax.specs.Tree.{FileTree, ReactorTree, PortTree, InstanceTree, RefTree, reactors_of, ports_of, instances_of}
+use Rattle.lft_tree.specs.Tree.{FileTree, ReactorTree, PortTree, InstanceTree, RefTree, reactors_of, ports_of, instances_of}
 use Rattle.lft_instances.specs.declared.walk.Instance.{Instance}
 use Rattle.lft_instances.specs.declared.joins.End.{End}
 use Rattle.lft_instances.specs.declared.joins.End.TheVariants.{Own, Inner}
 use Rattle.lft_instances.specs.declared.joins.Join.{Join}
 use Rattle.lft_instances.specs.declared.joins.Connections.{Connections}
 use Rattle.lft_instances.specs.Joins.{HasJoin, JoinPorts, LeadApart}
-use Rattle.lft_reactors.specs.Causes.{IsTwice}
-use Rattle.lft_reactors.specs.Instances.{thing_at, reactor_named}
-use Rattle.lft_reactors.specs.Kinds.{destinations_in}
+use Rattle.lft_scope.specs.Causes.{IsTwice}
+use Rattle.lft_scope.specs.Instances.{thing_at, reactor_named}
+use Rattle.lft_scope.specs.Kinds.{destinations_in}
 use Rattle.lft_reactors.specs.Sheets.{IsConnections, IsEnd, IsJoin, Single, singles_of}
 use Rattle.lft_reactors.proofs.Written.{own_written, inner_written}
 use Rattle.lft_nesting.specs.Located.{Located, ports_in}

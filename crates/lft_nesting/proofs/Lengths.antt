@@ -1,7 +1,7 @@
 -- The delays of a chain of connections against those of its port's sources.
 use Rattle.std.proofs.Common.{◌≡◌, ℕ, ◌+◌, ◌<◌, ◌≤◌, ◌⊎◌, inl, inr, List, [], ◌∷◌, ◌++◌, refl, sym, ap, ◌∙◌, subst, arith, Option, Some, slice_get, option_to_list, sum, append_assoc, Any}
 use Rattle.std.proofs.lemmas.List.Sums.{sum_by-cons}
-use Rattle.lft_syntax.specs.Tree.{FileTree, reactors_of}
+use Rattle.lft_tree.specs.Tree.{FileTree, reactors_of}
 use Rattle.lft_tag.specs.Shifts.{join_all, none}
 use Rattle.lft_tag.specs.declared.Shift.{Shift}
 use Rattle.lft_instances.specs.Sources.{Origin, itself, over, IsFolded, IsReached, AreReached}
@@ -10,8 +10,8 @@ use Rattle.lft_instances.specs.declared.origins.Reached.{Reached}
 use Rattle.lft_instances.proofs.Folding.{time_sum}
 use Rattle.lft_instances.proofs.Members.{get_within}
 use Rattle.lft_instances.proofs.Walks.{get_there}
-use Rattle.lft_reactors.specs.Causes.{DelayTooLong, HasLongChain, HasLongTime}
-use Rattle.lft_reactors.specs.Instances.{Thing, Chain, Connects, one as one_step, more as more_steps}
+use Rattle.lft_scope.specs.Causes.{DelayTooLong, HasLongChain, HasLongTime}
+use Rattle.lft_scope.specs.Instances.{Thing, Chain, Connects, one as one_step, more as more_steps}
 use Rattle.lft_nesting.specs.Linking.{IsTooLong}
 use Rattle.lft_nesting.proofs.Connected.{NoLongTime, TreeSources}
 

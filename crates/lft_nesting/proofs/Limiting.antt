@@ -1,6 +1,6 @@
 -- Limits by number and limits of the tree.
 use Rattle.std.proofs.Common.{◌≡◌, ℕ, List, length, sym, ◌∙◌, subst, arith, Some, slice_get, map}
-use Rattle.lft_syntax.specs.Tree.{FileTree, ReactorTree, reactors_of}
+use Rattle.lft_tree.specs.Tree.{FileTree, ReactorTree, reactors_of}
 use Rattle.lft_instances.specs.Contents.{contained}
 use Rattle.lft_instances.specs.Numbers.{HasMoreThings, IsThing}
 use Rattle.lft_instances.specs.Paths.{Exists, IsMoreThan, along}
@@ -8,8 +8,8 @@ use Rattle.lft_instances.specs.declared.walk.Contents.{Contents}
 use Rattle.lft_instances.proofs.Members.{get_within}
 use Rattle.lft_instances.proofs.Simulation.{along_back, along_forth}
 use Rattle.lft_instances.proofs.Walks.{get_there}
-use Rattle.lft_reactors.specs.Causes.{IsDeclaredAt}
-use Rattle.lft_reactors.specs.Instances.{Inside, IsInside, entered, main_instance, main_of}
+use Rattle.lft_scope.specs.Causes.{IsDeclaredAt}
+use Rattle.lft_scope.specs.Instances.{Inside, IsInside, entered, main_instance, main_of}
 use Rattle.lft_reactors.specs.Numbers.{AreContents}
 use Rattle.lft_nesting.proofs.Entering.{HasNumber, numbers_go_along}
 use Rattle.lft_nesting.proofs.Listing.{count_is}

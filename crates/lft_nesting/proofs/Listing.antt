@@ -1,7 +1,7 @@
 -- The list of the things of one kind has the declarations of the instances in order.
 use Rattle.std.proofs.Common.{◌≡◌, ℕ, zero, suc, ◌+◌, ◌<◌, ◌⊎◌, inl, inr, List, [], ◌∷◌, ◌++◌, length, length-append, refl, sym, ap, ◌∙◌, subst, arith, Some, Result, Ok, Err, IfOk, slice_get, take, map, flat_map, unwrap_or}
 use Rattle.std.specs.List.{AllZip, enumerate_from}
-use Rattle.lft_syntax.specs.Tree.{FileTree, ReactorTree, reactors_of}
+use Rattle.lft_tree.specs.Tree.{FileTree, ReactorTree, reactors_of}
 use Rattle.lft_instances.specs.Listing.{AreListed}
 use Rattle.lft_instances.specs.Numbers.{count_of, things}
 use Rattle.lft_instances.specs.declared.numbering.Thing.{Thing}

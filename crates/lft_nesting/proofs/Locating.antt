@@ -1,7 +1,7 @@
 -- The instances of a tree with their paths, from a walk.
 use Rattle.std.proofs.Common.{◌≡◌, ℕ, List, [], ◌∷◌, Any, length, refl, sym, ap, ◌∙◌, subst, arith, Some, slice_get, map, unwrap_or}
 use Rattle.std.specs.List.{AllZip}
-use Rattle.lft_syntax.specs.Tree.{FileTree, ReactorTree, reactors_of}
+use Rattle.lft_tree.specs.Tree.{FileTree, ReactorTree, reactors_of}
 use Rattle.lft_instances.specs.Contents.{IsWalk, contained}
 use Rattle.lft_instances.specs.Paths.{IsPreOrder, along}
 use Rattle.lft_instances.specs.Values.{HaveValues, LeadToValues, defaults_of, entered as entered_by_number}
@@ -12,8 +12,8 @@ use Rattle.lft_instances.proofs.Members.{get_within}
 use Rattle.lft_instances.proofs.Siblings.{length_map}
 use Rattle.lft_instances.proofs.Simulation.{along_back, pre_order_back}
 use Rattle.lft_instances.proofs.Walks.{get_there}
-use Rattle.lft_reactors.specs.Causes.{HasLongTime, NoneHolds, first_causes}
-use Rattle.lft_reactors.specs.Instances.{entered, main_instance, main_of}
+use Rattle.lft_scope.specs.Causes.{HasLongTime, NoneHolds, first_causes}
+use Rattle.lft_scope.specs.Instances.{entered, main_instance, main_of}
 use Rattle.lft_reactors.specs.Numbers.{AreContents}
 use Rattle.lft_reactors.specs.Sheets.{AreParameters}
 use Rattle.lft_nesting.specs.Located.{AreLocated, Located}

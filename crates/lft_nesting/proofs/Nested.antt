@@ -1,13 +1,13 @@
 -- The instances of a nest: what each is in the tree, and the number of each path.
 use Rattle.std.proofs.Common.{◌≡◌, ℕ, ◌<◌, ◌≤◌, ◌⊎◌, inl, inr, List, [], ◌∷◌, ◌++◌, sym, ap, ◌∙◌, subst, arith, Some, slice_get, map}
 use Rattle.std.proofs.lemmas.Bool.{cases_lt}
-use Rattle.lft_syntax.specs.Tree.{FileTree, reactors_of}
+use Rattle.lft_tree.specs.Tree.{FileTree, reactors_of}
 use Rattle.lft_instances.specs.declared.walk.Instance.{Instance}
 use Rattle.lft_instances.specs.Paths.{along}
 use Rattle.lft_instances.specs.Children.{child_of, IsChild}
 use Rattle.lft_instances.specs.Contents.{IsAt}
 use Rattle.lft_instances.proofs.Orders.{before_itself}
-use Rattle.lft_reactors.specs.Instances.{Inside, IsInside, entered, main_instance}
+use Rattle.lft_scope.specs.Instances.{Inside, IsInside, entered, main_instance}
 use Rattle.lft_nesting.specs.Located.{Located}
 use Rattle.lft_nesting.specs.Nests.{IsNest, IsInstanceOf}
 use Rattle.lft_nesting.specs.declared.nest.Nest.{Nest}

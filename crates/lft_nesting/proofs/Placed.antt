@@ -2,10 +2,10 @@
 use Rattle.std.proofs.Common.{◌≡◌, ℕ, zero, suc, ◌+◌, ◌⊎◌, inl, inr, ⊎_elim, List, [], ◌∷◌, ◌++◌, length, refl, sym, ap, ◌∙◌, subst, arith, Some, slice_get, map, flat_map}
 use Rattle.std.specs.List.{enumerate_from}
 use Rattle.std.proofs.lemmas.Bool.{cases_lt}
-use Rattle.lft_syntax.specs.Tree.{FileTree, ReactorTree}
+use Rattle.lft_tree.specs.Tree.{FileTree, ReactorTree}
 use Rattle.lft_instances.specs.Paths.{along, Before}
 use Rattle.lft_instances.proofs.Orders.{before_itself}
-use Rattle.lft_reactors.specs.Instances.{Thing, thing_at, entered, main_instance}
+use Rattle.lft_scope.specs.Instances.{Thing, thing_at, entered, main_instance}
 use Rattle.lft_nesting.specs.Located.{Located, AreLocated, Declared, declared, declared_in, things}
 use Rattle.lft_nesting.proofs.Counting.{base, map_at}
 use Rattle.lft_nesting.proofs.Listing.{declared_from as stands}

@@ -2,13 +2,13 @@
 use Rattle.std.proofs.Common.{◌≡◌, ℕ, zero, suc, ◌+◌, List, [], ◌∷◌, length, length-append, refl, sym, ap, ◌∙◌, subst, arith, Some, slice_get, map, flat_map, take, unwrap_or}
 use Rattle.std.specs.List.{AllZip, enumerate_from}
 use Rattle.std.specs.Option.{option_map}
-use Rattle.lft_syntax.specs.Tree.{FileTree, ReactorTree, reactors_of}
+use Rattle.lft_tree.specs.Tree.{FileTree, ReactorTree, reactors_of}
 use Rattle.lft_instances.specs.declared.walk.Instance.{Instance}
 use Rattle.lft_instances.specs.Joins.{port_at}
 use Rattle.lft_instances.specs.Numbers.{count_of, things as how_many}
 use Rattle.lft_instances.proofs.Members.{get_within}
 use Rattle.lft_instances.proofs.Walks.{get_there}
-use Rattle.lft_reactors.specs.Instances.{Thing, thing_at}
+use Rattle.lft_scope.specs.Instances.{Thing, thing_at}
 use Rattle.lft_nesting.specs.Located.{Located, Declared, declared, declared_in, things}
 use Rattle.lft_nesting.specs.Nests.{IsNest, IsNumbering, IsInstanceOf}
 use Rattle.lft_nesting.specs.declared.nest.Nest.{Nest}

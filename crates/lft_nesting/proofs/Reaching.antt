@@ -1,14 +1,14 @@
 -- How ports are linked, against the tree.
 use Rattle.std.proofs.Common.{◌≡◌, ◌≢◌, Result, Ok, Err, IfOk, IfErr, OnOk, ℕ, suc, ◌+◌, ◌<◌, ◌≤◌, inl, inr, List, [], ◌∷◌, ◌++◌, length, length-append, refl, sym, ap, ◌∙◌, subst, arith, Option, Some, None, slice_get, map}
-use Rattle.lft_syntax.specs.Tree.{FileTree}
+use Rattle.lft_tree.specs.Tree.{FileTree}
 use Rattle.lft_tag.specs.declared.Shift.{Shift}
 use Rattle.lft_instances.specs.Sources.{AreReached, Leads, Origin}
 use Rattle.lft_instances.specs.declared.origins.Source.{Source}
 use Rattle.lft_instances.specs.declared.origins.Reached.{Reached}
 use Rattle.lft_instances.proofs.Members.{get_push_cases, get_within}
 use Rattle.lft_instances.proofs.Walks.{get_there}
-use Rattle.lft_reactors.specs.Causes.{DelayTooLong as HasLongDelay, IsFirst, NoneHolds}
-use Rattle.lft_reactors.specs.Instances.{Thing, Connects}
+use Rattle.lft_scope.specs.Causes.{DelayTooLong as HasLongDelay, IsFirst, NoneHolds}
+use Rattle.lft_scope.specs.Instances.{Thing, Connects}
 use Rattle.lft_nesting.specs.Linking.{IsLinked, IsTooLong, AreLinked}
 use Rattle.lft_nesting.specs.Links.{AreLinks, IsSource, last_causes, number_of}
 use Rattle.lft_nesting.specs.Located.{Located, ports_in}

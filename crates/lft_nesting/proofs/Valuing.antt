@@ -2,17 +2,17 @@
 use Rattle.std.proofs.Common.{◌≡◌, ℕ, List, [], Any, inl, sym, ap, ◌∙◌, subst, Some, slice_get, map, option_map, option_and_then}
 use Rattle.std.specs.List.{AllZip}
 use Rattle.std.specs.Option.{option_map_or}
-use Rattle.lft_syntax.specs.Tree.{FileTree, ReactorTree, InstanceTree, nanoseconds, reactors_of, instances_of}
+use Rattle.lft_tree.specs.Tree.{FileTree, ReactorTree, InstanceTree, nanoseconds, reactors_of, instances_of}
 use Rattle.lft_instances.specs.Contents.{contained}
 use Rattle.lft_instances.specs.Values.{defaults_of, entered as entered_by_number, given_by, values_in}
 use Rattle.lft_instances.specs.declared.settings.Parameters.{Parameters}
 use Rattle.lft_instances.specs.declared.walk.Contents.{Contents}
 use Rattle.lft_instances.proofs.Simulation.{Simulates}
-use Rattle.lft_reactors.specs.Causes.{HasLongTime, NoneHolds, first_causes}
-use Rattle.lft_reactors.specs.Instances.{Inside, entered, given_in, main_instance, reactor_named}
+use Rattle.lft_scope.specs.Causes.{HasLongTime, NoneHolds, first_causes}
+use Rattle.lft_scope.specs.Instances.{Inside, entered, given_in, main_instance, reactor_named}
 use Rattle.lft_reactors.specs.Numbers.{AreContents}
 use Rattle.lft_reactors.specs.Sheets.{AreGiven, AreParameters, IsGiven, IsParameters}
-use Rattle.lft_reactors.proofs.Twice.{Any-at}
+use Rattle.lft_scope.proofs.Twice.{Any-at}
 use Rattle.lft_nesting.proofs.Containing.{inner_at}
 use Rattle.lft_nesting.proofs.Entering.{entered_by, enters, made_in, step_forth}
 use Rattle.lft_nesting.proofs.Giving.{defaults_short, given_short, parameters_once, values_given}

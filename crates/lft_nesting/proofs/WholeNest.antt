@@ -1,6 +1,6 @@
 -- The nest of a tree, and the limits that it keeps.
 use Rattle.std.proofs.Common.{◌≡◌, ℕ, ◌≤◌, inl, inr, List, length, refl, sym, ◌∙◌, subst, Result, Err, IsErrAnd, map}
-use Rattle.lft_syntax.specs.Tree.{FileTree, ReactorTree, actions_of, ports_of, reactions_of, reactors_of, timers_of}
+use Rattle.lft_tree.specs.Tree.{FileTree, ReactorTree, actions_of, ports_of, reactions_of, reactors_of, timers_of}
 use Rattle.lft_instances.specs.Children.{AreChildren}
 use Rattle.lft_instances.specs.Contents.{IsWalk, contained}
 use Rattle.lft_instances.specs.Numbers.{AreFirst, HasMoreThings, things}
@@ -10,7 +10,7 @@ use Rattle.lft_instances.specs.declared.walk.Contents.{Contents}
 use Rattle.lft_instances.specs.declared.walk.Instance.{Instance}
 use Rattle.lft_instances.specs.declared.walk.WalkFault.{WalkFault}
 use Rattle.lft_instances.specs.declared.walk.WalkFault.TheVariants as walk
-use Rattle.lft_reactors.specs.Causes.{IsDeclaredAt, TooMany, joins_of}
+use Rattle.lft_scope.specs.Causes.{IsDeclaredAt, TooMany, joins_of}
 use Rattle.lft_nesting.specs.Nests.{IsNest, IsNumbering}
 use Rattle.lft_nesting.specs.Numbered.{of_walk}
 use Rattle.lft_nesting.specs.Tables.{AreTables, IsLawful}

@@ -1,11 +1,11 @@
 -- How ports are reached.
 use Rattle.std.specs.Prelude.{◌≡◌, ℕ, List, [], ◌∷◌, Option, Some, None, map, length, slice_get}
-use Rattle.lft_syntax.specs.Tree.{FileTree}
+use Rattle.lft_tree.specs.Tree.{FileTree}
 use Rattle.lft_tag.specs.Shifts.{join_all, none}
 use Rattle.lft_instances.specs.Sources.{Origin}
 use Rattle.lft_instances.specs.declared.origins.Source.{Source}
-use Rattle.lft_reactors.specs.Causes.{ConnectionCycle as HasCycle, DelayTooLong as HasLongDelay}
-use Rattle.lft_reactors.specs.Instances.{Thing, Connects}
+use Rattle.lft_scope.specs.Causes.{ConnectionCycle as HasCycle, DelayTooLong as HasLongDelay}
+use Rattle.lft_scope.specs.Instances.{Thing, Connects}
 use Rattle.lft_nesting.specs.Located.{Located, ports_in}
 use Rattle.lft_nesting.specs.declared.linking.Linked.{Linked}
 use Rattle.lft_nesting.specs.declared.linking.LinkFault.{LinkFault}

@@ -1,8 +1,8 @@
 -- The tables of a tree.
 use Rattle.std.specs.Prelude.{◌≡◌, slice_get, Some}
-use Rattle.lft_syntax.specs.Tree.{FileTree, ReactorTree, reactors_of}
-use Rattle.lft_reactors.specs.Causes.{NoneHolds, first_causes, later_causes}
-use Rattle.lft_reactors.specs.Instances.{main_of}
+use Rattle.lft_tree.specs.Tree.{FileTree, ReactorTree, reactors_of}
+use Rattle.lft_scope.specs.Causes.{NoneHolds, first_causes, later_causes}
+use Rattle.lft_scope.specs.Instances.{main_of}
 use Rattle.lft_reactors.specs.Numbers.{AreContents}
 use Rattle.lft_reactors.specs.Sheets.{AreParameters, AreConnections, AreDeclarations, AreReactions}
 use Rattle.lft_nesting.specs.declared.tables.Tables.{Tables}

@@ -1,8 +1,8 @@
 //! The source and the origin of each port.
 
 ghost use Rattle.std.specs.Prelude.{◌≡◌, ◌≢◌, ℕ, ◌<◌, None, Err, IfSome, IfOk, IfErr, OnOk, length};
-ghost use Rattle.lft_syntax.specs.View.{tree_view};
-ghost use Rattle.lft_reactors.specs.Causes.{IsFirst, NoneHolds};
+ghost use Rattle.lft_tree.specs.View.{tree_view};
+ghost use Rattle.lft_scope.specs.Causes.{IsFirst, NoneHolds};
 ghost use Rattle.lft_nesting.specs.Linking.{AreLinked, IsLinked, IsTooLong};
 ghost use Rattle.lft_nesting.specs.Links.{AreLinks, last_causes, number_of};
 ghost use Rattle.lft_nesting.specs.Nests.{IsNest};
@@ -11,10 +11,10 @@ ghost use Rattle.lft_nesting.specs.declared.linking.LinkFault.TheVariants as fau
 
 use crate::nest::Nest;
 use crate::tables::Tables;
+use lft_causes::has_long_time;
 use lft_instances::{OriginFault, Reached, Source, find_origins, find_sources};
-use lft_reactors::has_long_time;
-use lft_syntax::Ast;
 use lft_tag::{NoMemory, Shift};
+use lft_tree::Ast;
 use std::alloc::{AllocFailed, Global};
 
 /// How a port is reached: the port before it with the delay of the connection from it in

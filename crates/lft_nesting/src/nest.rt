@@ -1,11 +1,11 @@
 //! The instances of a tree by number, with what is kept of each.
 
 ghost use Rattle.std.specs.Prelude.{◌≡◌, ◌≤◌, ℕ, List, Err, IfOk, OnOk};
-ghost use Rattle.lft_syntax.specs.Tree.{FileTree};
+ghost use Rattle.lft_tree.specs.Tree.{FileTree};
 ghost use Rattle.lft_instances.specs.Contents.{IsWalk};
 ghost use Rattle.lft_instances.specs.Numbers.{AreFirst, HasMoreThings, things};
 ghost use Rattle.lft_instances.specs.declared.walk.Contents.{Contents};
-ghost use Rattle.lft_reactors.specs.Causes.{TooMany};
+ghost use Rattle.lft_scope.specs.Causes.{TooMany};
 ghost use Rattle.lft_nesting.specs.Nests.{IsNest};
 ghost use Rattle.lft_nesting.specs.Tables.{AreTables, IsLawful};
 ghost use Rattle.lft_nesting.specs.declared.nest.NestFault;

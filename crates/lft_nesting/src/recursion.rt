@@ -1,8 +1,8 @@
 //! Reactors that contain themselves.
 
 ghost use Rattle.std.specs.Prelude.{◌↔◌, IsTrue, IfOk, List};
-ghost use Rattle.lft_syntax.specs.Tree.{ReactorTree};
-ghost use Rattle.lft_reactors.specs.Causes.{NoneHolds, RecursiveReactor, first_causes};
+ghost use Rattle.lft_tree.specs.Tree.{ReactorTree};
+ghost use Rattle.lft_scope.specs.Causes.{NoneHolds, RecursiveReactor, first_causes};
 ghost use Rattle.lft_reactors.specs.Numbers.{AreContents};
 
 use lft_instances::{Contents, is_recursive};

@@ -2,7 +2,7 @@
 
 ghost use Rattle.std.specs.Prelude.{◌≤◌, length, IfOk};
 ghost use Rattle.std.specs.List.{AllZip};
-ghost use Rattle.lft_syntax.specs.Tree.{FileTree, actions_of, ports_of, reactions_of, timers_of};
+ghost use Rattle.lft_tree.specs.Tree.{FileTree, actions_of, ports_of, reactions_of, timers_of};
 ghost use Rattle.lft_nesting.specs.Located.{declared};
 ghost use Rattle.lft_nesting.specs.Nests.{IsNest, IsThingOf};
 ghost use Rattle.lft_nesting.specs.declared.tables.Tables.{Tables};

@@ -2,14 +2,14 @@
 use Rattle.std.proofs.Common.{◌≡◌, ℕ, suc, ◌<◌, ◌+◌, Bool, true, false, cond, nat_lt, List, [], ◌∷◌, Option, Some, None, map, slice_get, option_map, option_to_list, Any, bytes_eq, refl, sym, ap, ◌∙◌}
 use Rattle.std.specs.Option.{unwrap_or}
 use Rattle.std.proofs.lemmas.Bool.{ltb-true}
-use Rattle.lft_syntax.specs.Tree.{ParameterTree, TimeTree, Written, Named, nanoseconds}
+use Rattle.lft_tree.specs.Tree.{ParameterTree, TimeTree, Written, Named, nanoseconds}
 use Rattle.lft_instances.specs.Values.{clock_in}
 use Rattle.lft_instances.specs.declared.settings.Clock.{Clock}
 use Rattle.lft_instances.specs.declared.settings.Clock.TheVariants.{Fixed, Parameter}
-use Rattle.lft_reactors.proofs.Somes.{Any-head}
-use Rattle.lft_reactors.specs.Causes.{longest, IsLongTime}
-use Rattle.lft_reactors.specs.Instances.{Inside, time_in, value_of}
-use Rattle.lft_reactors.specs.Places.{place}
+use Rattle.lft_scope.proofs.Somes.{Any-head}
+use Rattle.lft_scope.specs.Causes.{longest, IsLongTime}
+use Rattle.lft_scope.specs.Instances.{Inside, time_in, value_of}
+use Rattle.lft_scope.specs.Places.{place}
 use Rattle.lft_reactors.specs.Sheets.{kept, IsClock, IsClockOrZero}
 use Rattle.lft_program.specs.Flattening.{time_or_zero}
 

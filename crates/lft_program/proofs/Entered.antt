@@ -3,14 +3,14 @@ use Rattle.std.proofs.Common.{◌≡◌, ℕ, suc, ◌<◌, ◌≤◌, inl, inr,
 use Rattle.std.specs.Option.{option_map, option_and_then}
 use Rattle.std.specs.Str.{bytes_eq}
 use Rattle.std.proofs.lemmas.Bool.{cases_lt}
-use Rattle.lft_syntax.specs.Tree.{FileTree, ReactorTree, ParameterTree, AssignmentTree, InstanceTree, TimeTree, Written, Named, nanoseconds, reactors_of, instances_of, timers_of, actions_of, connections_of}
+use Rattle.lft_tree.specs.Tree.{FileTree, ReactorTree, ParameterTree, AssignmentTree, InstanceTree, TimeTree, Written, Named, nanoseconds, reactors_of, instances_of, timers_of, actions_of, connections_of}
 use Rattle.lft_instances.specs.Paths.{along}
-use Rattle.lft_reactors.specs.Causes.{HasLongTime, IsLongTime, longest}
-use Rattle.lft_reactors.specs.Instances.{Inside, is_called, reactor_named, value_of, time_in, given_or_default, given_in, entered, main_of, main_instance}
-use Rattle.lft_reactors.specs.Kinds.{times_in, timer_times}
-use Rattle.lft_reactors.proofs.Effects.{Any-flat}
-use Rattle.lft_reactors.proofs.Somes.{Any-left, Any-right, Any-head}
-use Rattle.lft_reactors.proofs.Twice.{Any-at}
+use Rattle.lft_scope.specs.Causes.{HasLongTime, IsLongTime, longest}
+use Rattle.lft_scope.specs.Instances.{Inside, is_called, reactor_named, value_of, time_in, given_or_default, given_in, entered, main_of, main_instance}
+use Rattle.lft_scope.specs.Kinds.{times_in, timer_times}
+use Rattle.lft_scope.proofs.Effects.{Any-flat}
+use Rattle.lft_scope.proofs.Somes.{Any-left, Any-right, Any-head}
+use Rattle.lft_scope.proofs.Twice.{Any-at}
 use Rattle.lft_nesting.specs.Located.{Located, AreLocated}
 use Rattle.lft_nesting.proofs.Counting.{map_at}
 use Rattle.lft_nesting.proofs.Placed.{Some_same}

@@ -1,8 +1,8 @@
 -- The first cause of refusal among lists of causes one after another.
 use Rattle.std.proofs.Common.{◌≡◌, ◌≢◌, ℕ, List, [], ◌∷◌, ◌++◌, Any, inl, inr, Result, Ok, Err, IfErr, refl, sym, subst}
 use Rattle.std.specs.Result.{IsErrAnd}
-use Rattle.lft_syntax.specs.Tree.{FileTree, reactors_of}
-use Rattle.lft_reactors.specs.Causes.{IsFirst, NoneHolds, TooMany, HasLongTime, DelayTooLong, causes}
+use Rattle.lft_tree.specs.Tree.{FileTree, reactors_of}
+use Rattle.lft_scope.specs.Causes.{IsFirst, NoneHolds, TooMany, HasLongTime, DelayTooLong, causes}
 use Rattle.lft_nesting.specs.Links.{last_causes, number_of as link_number}
 use Rattle.lft_nesting.specs.declared.linking.LinkFault.{LinkFault}
 use Rattle.lft_nesting.specs.declared.linking.LinkFault.TheVariants as links

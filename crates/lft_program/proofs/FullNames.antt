@@ -6,17 +6,17 @@ use Rattle.std.proofs.lemmas.Fmt.{decimal_injective}
 use Rattle.std.proofs.lemmas.Grind.{common_steps}
 use Rattle.std.proofs.lemmas.List.{map-append, length-map}
 use Rattle.std.proofs.lemmas.Option.{slice_get_within, get_or_from_slice_get}
-use Rattle.lft_program.specs.Names.{HasNoTwice}
+use Rattle.lft_flat.specs.Names.{HasNoTwice}
 use Rattle.lft_program.specs.Extended.{Ending, dotted, hashed, endings, extended, AreAfter}
-use Rattle.lft_syntax.specs.Identifiers.{IsIdentifier}
+use Rattle.lft_tree.specs.Identifiers.{IsIdentifier}
 use Rattle.lft_program.specs.FullNames.{members, AreOfProgram, AreFew}
 use Rattle.lft_program.specs.declared.naming.Declared.{Declared}
 use Rattle.lft_program.specs.declared.naming.Placed.{Placed}
 use Rattle.lft_program.proofs.Distinct.{main, ArePaths, HasNoTwice-extended}
-use Rattle.lft_reactors.proofs.Twice.{slice_get-front}
+use Rattle.lft_scope.proofs.Twice.{slice_get-front}
 use Rattle.lft_program.proofs.Extending.{extended-append, length-extended, extended-keeps}
-use Rattle.lft_program.proofs.Positions.{mapped_from}
-use Rattle.lft_program.proofs.Ranges.{slice_get-drop}
+use Rattle.lft_flat.proofs.Positions.{mapped_from}
+use Rattle.lft_flat.proofs.Ranges.{slice_get-drop}
 use Rattle.lft_program.proofs.Separators.{IsEnding, HasNoSeparator-identifier, HasNoSeparator-decimal}
 
 module _ {X : Type 0} where

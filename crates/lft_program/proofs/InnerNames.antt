@@ -2,12 +2,12 @@
 use Rattle.std.proofs.Common.{◌≡◌, ℕ, ◌+◌, ◌<◌, List, [], ◌∷◌, ◌++◌, map, flat_map, drop, length, slice_get, Some, None, Option, option_map, option_to_list, codes, ⊎_elim, refl, sym, ap, subst, ◌∙◌, arith, append_assoc, append-nil}
 use Rattle.std.proofs.lemmas.Bool.{cases_order}
 use Rattle.std.proofs.lemmas.List.{length-map}
-use Rattle.lft_syntax.specs.Tree.{FileTree, ReactorTree, InstanceTree, reactors_of, instances_of}
+use Rattle.lft_tree.specs.Tree.{FileTree, ReactorTree, InstanceTree, reactors_of, instances_of}
 use Rattle.lft_instances.specs.Paths.{along}
 use Rattle.lft_instances.specs.declared.walk.Instance.{Instance}
 use Rattle.lft_instances.proofs.Members.{get_within}
 use Rattle.lft_instances.proofs.Orders.{before_itself}
-use Rattle.lft_reactors.specs.Instances.{Inside, entered, given_in, main_instance, reactor_named}
+use Rattle.lft_scope.specs.Instances.{Inside, entered, given_in, main_instance, reactor_named}
 use Rattle.lft_nesting.specs.Located.{Located}
 use Rattle.lft_nesting.specs.Nests.{IsInstanceOf, IsNest}
 use Rattle.lft_nesting.specs.declared.nest.Nest.{Nest}
@@ -22,8 +22,8 @@ use Rattle.lft_program.specs.declared.own_names.Kind.TheVariants as kinds
 use Rattle.lft_program.proofs.Distinct.{Some_same}
 use Rattle.lft_program.proofs.KindNames.{instance_name_there}
 use Rattle.lft_program.proofs.NamesOnce.{instance_names}
-use Rattle.lft_program.proofs.Positions.{mapped_from}
-use Rattle.lft_program.proofs.Ranges.{slice_get-drop}
+use Rattle.lft_flat.proofs.Positions.{mapped_from}
+use Rattle.lft_flat.proofs.Ranges.{slice_get-drop}
 use Rattle.lft_program.proofs.Sites.{AreSites}
 
 -- ---- a path with one more step

@@ -4,7 +4,7 @@ use Rattle.std.specs.List.{AllZip}
 use Rattle.std.specs.Option.{option_and_then, unwrap_or}
 use Rattle.std.proofs.lemmas.List.{length-map}
 use Rattle.std.proofs.lemmas.Option.{slice_get_within}
-use Rattle.lft_syntax.specs.Tree.{ReactorTree, InstanceTree, instances_of, ports_of, actions_of, timers_of, instance_in, port_in, action_in, timer_in}
+use Rattle.lft_tree.specs.Tree.{ReactorTree, InstanceTree, instances_of, ports_of, actions_of, timers_of, instance_in, port_in, action_in, timer_in}
 use Rattle.lft_instances.specs.declared.numbering.Thing.{Thing}
 use Rattle.lft_instances.specs.declared.walk.Instance.{Instance}
 use Rattle.lft_nesting.specs.Located.{Located, declared, Declared as DeclaredItem}
@@ -18,7 +18,7 @@ use Rattle.lft_program.specs.TreeLists.{name_at, placed_at, seen, Says, IsPlaced
 use Rattle.lft_program.specs.declared.naming.Declared.{Declared}
 use Rattle.lft_program.specs.declared.naming.Placed.{Placed}
 use Rattle.lft_program.specs.declared.own_names.Kind.TheVariants as kinds
-use Rattle.lft_reactors.proofs.Picked.{map-filter_map}
+use Rattle.lft_lists.proofs.Picked.{map-filter_map}
 use Rattle.lft_program.proofs.Distinct.{Some_same}
 use Rattle.lft_program.proofs.Sites.{AreSites}
 

@@ -2,7 +2,7 @@
 use Rattle.std.proofs.Common.{◌≡◌, ◌≤◌, ℕ, List, length, ap, ◌∙◌, arith}
 use Rattle.std.specs.List.{AllZip}
 use Rattle.std.proofs.lemmas.List.{length-map}
-use Rattle.lft_syntax.specs.Tree.{FileTree, ReactorTree, reactors_of, ports_of, timers_of, actions_of, reactions_of}
+use Rattle.lft_tree.specs.Tree.{FileTree, ReactorTree, reactors_of, ports_of, timers_of, actions_of, reactions_of}
 use Rattle.lft_nesting.specs.Located.{declared}
 use Rattle.lft_nesting.specs.Nests.{IsInstanceOf, IsNumbering}
 use Rattle.lft_nesting.specs.declared.linking.Linked.{Linked}
@@ -12,8 +12,8 @@ use Rattle.lft_nesting.specs.declared.tables.Tables.{Tables}
 use Rattle.lft_nesting.proofs.Listing.{declared-length}
 use Rattle.lft_program.specs.Flattening.{Flat, IsPort, IsTimer, IsAction, IsReaction, names_of, name_of_path}
 use Rattle.lft_program.specs.OfTree.{AreOfTree}
-use Rattle.lft_program.specs.Parts.{Parts}
-use Rattle.lft_program.specs.Sound.{IsWithinLimits, KeepsOrigins}
+use Rattle.lft_flat.specs.Parts.{Parts}
+use Rattle.lft_flat.specs.Sound.{IsWithinLimits, KeepsOrigins}
 use Rattle.lft_program.proofs.Zips.{AllZip-length}
 
 module _ (tree : FileTree) (tables : Tables) (nest : Nest) (links : List Linked) (n : AreOfTree tree tables nest links) (program : Parts)

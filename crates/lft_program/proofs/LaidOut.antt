@@ -2,19 +2,19 @@
 use Rattle.std.proofs.Common.{◌≡◌, ℕ, zero, suc, List, [], ◌∷◌, ◌++◌, Option, Some, map, flat_map, length, slice_get, option_to_list, Any, inr, subst, sym, ap, ◌∙◌}
 use Rattle.std.specs.Option.{option_and_then, unwrap_or}
 use Rattle.std.specs.List.{AllZip}
-use Rattle.lft_syntax.specs.Tree.{FileTree, ReactorTree, TimerTree, ActionTree, TimeTree, reactors_of, timers_of, actions_of, instances_of, connections_of}
+use Rattle.lft_tree.specs.Tree.{FileTree, ReactorTree, TimerTree, ActionTree, TimeTree, reactors_of, timers_of, actions_of, instances_of, connections_of}
 use Rattle.lft_instances.specs.Values.{clock_in}
 use Rattle.lft_instances.specs.declared.numbering.Thing.{Thing}
 use Rattle.lft_instances.specs.declared.settings.Clock.{Clock}
 use Rattle.lft_instances.specs.declared.walk.Instance.{Instance}
 use Rattle.lft_instances.proofs.Siblings.{map_get}
-use Rattle.lft_reactors.specs.Causes.{IsLongTime, HasLongTime}
-use Rattle.lft_reactors.specs.Kinds.{times_in, timer_times}
+use Rattle.lft_scope.specs.Causes.{IsLongTime, HasLongTime}
+use Rattle.lft_scope.specs.Kinds.{times_in, timer_times}
 use Rattle.lft_reactors.specs.Sheets.{IsDeclarations, IsTimerSheet, IsActionSheet, IsClockOrZero}
 use Rattle.lft_reactors.specs.declared.sheets.ActionSheet.{ActionSheet}
 use Rattle.lft_reactors.specs.declared.sheets.Declarations.{Declarations}
 use Rattle.lft_reactors.specs.declared.sheets.TimerSheet.{TimerSheet}
-use Rattle.lft_reactors.proofs.Somes.{Any-head, Any-tail, Any-left, Any-right}
+use Rattle.lft_scope.proofs.Somes.{Any-head, Any-tail, Any-left, Any-right}
 use Rattle.lft_nesting.specs.Located.{Located, Declared, declared}
 use Rattle.lft_nesting.specs.Nests.{IsInstanceOf, IsThingOf}
 use Rattle.lft_nesting.specs.declared.linking.Linked.{Linked}
@@ -25,8 +25,8 @@ use Rattle.lft_nesting.proofs.Zipping.{zip_at}
 use Rattle.lft_program.specs.Flattening.{IsTimer, IsAction, time_or_zero}
 use Rattle.lft_program.specs.Laying.{IsActionAt, IsTimerAt, action_at, clock_at, declarations_at, timer_at}
 use Rattle.lft_program.specs.OfTree.{AreOfTree}
-use Rattle.lft_program.specs.declared.parts.Action.{Action as ActionOf}
-use Rattle.lft_program.specs.declared.parts.Timer.{Timer as TimerOf}
+use Rattle.lft_flat.specs.declared.parts.Action.{Action as ActionOf}
+use Rattle.lft_flat.specs.declared.parts.Timer.{Timer as TimerOf}
 use Rattle.lft_program.proofs.Clocks.{clock_or_zero_is}
 use Rattle.lft_program.proofs.Making.{Made, made_zip}
 use Rattle.lft_program.proofs.Zips.{AllZip-from}

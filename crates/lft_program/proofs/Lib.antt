@@ -1,6 +1,3 @@
-pub mod Positions
-pub mod Ranges
-pub mod Picked
 pub mod Zips
 pub mod Extending
 pub mod Separators

@@ -1,13 +1,13 @@
 -- The names that a reactor declares, kind by kind.
 use Rattle.std.proofs.Common.{◌≡◌, ℕ, ◌+◌, List, ◌++◌, map, length, slice_get, Some, All, inr, inl, ◌∙◌, arith}
 use Rattle.std.proofs.lemmas.Option.{slice_get_within}
-use Rattle.lft_syntax.specs.Identifiers.{IsIdentifier, HasIdentifiers, declared_names}
-use Rattle.lft_syntax.specs.Tree.{FileTree, ReactorTree, reactors_of, ports_of, timers_of, actions_of, instances_of}
-use Rattle.lft_reactors.specs.Causes.{IsTwice, DeclaresTwice, DuplicateName}
-use Rattle.lft_reactors.specs.Kinds.{names_in}
-use Rattle.lft_reactors.proofs.Twice.{twice_left, Any-at}
+use Rattle.lft_tree.specs.Identifiers.{IsIdentifier, HasIdentifiers, declared_names}
+use Rattle.lft_tree.specs.Tree.{FileTree, ReactorTree, reactors_of, ports_of, timers_of, actions_of, instances_of}
+use Rattle.lft_scope.specs.Causes.{IsTwice, DeclaresTwice, DuplicateName}
+use Rattle.lft_scope.specs.Kinds.{names_in}
+use Rattle.lft_scope.proofs.Twice.{twice_left, Any-at}
 use Rattle.lft_nesting.specs.Tables.{IsLawful}
-use Rattle.lft_reactors.proofs.Twice.{slice_get-front}
+use Rattle.lft_scope.proofs.Twice.{slice_get-front}
 use Rattle.lft_program.proofs.FullNames.{later_at, all_at}
 use Rattle.lft_program.proofs.Sites.{AreApart}
 

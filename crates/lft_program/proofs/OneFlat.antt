@@ -1,14 +1,14 @@
 -- A tree has one flat program.
 use Rattle.std.proofs.Common.{◌≡◌, ℕ, suc, List, [], ◌∷◌, map, slice_get, Some, refl, sym, ap, subst, ◌∙◌}
 use Rattle.std.specs.List.{AllZip}
-use Rattle.lft_syntax.specs.Tree.{FileTree, PortTree, ports_of, actions_of, timers_of, reactions_of}
+use Rattle.lft_tree.specs.Tree.{FileTree, PortTree, ports_of, actions_of, timers_of, reactions_of}
 use Rattle.lft_nesting.specs.Located.{Located, AreLocated, Declared, declared}
 use Rattle.lft_nesting.specs.Tables.{IsLawful}
 use Rattle.lft_nesting.proofs.Listing.{declared_from}
 use Rattle.lft_program.specs.Flattening.{Flat, IsPort, IsAction, IsTimer, IsReaction, names_of}
-use Rattle.lft_program.specs.Parts.{Parts}
-use Rattle.lft_program.specs.Sound.{KeepsOrigins}
-use Rattle.lft_program.specs.declared.parts.Port.{Port as PortOf}
+use Rattle.lft_flat.specs.Parts.{Parts}
+use Rattle.lft_flat.specs.Sound.{KeepsOrigins}
+use Rattle.lft_flat.specs.declared.parts.Port.{Port as PortOf}
 use Rattle.lft_program.proofs.Distinct.{Some_same}
 use Rattle.lft_program.proofs.OneInstances.{one_located}
 use Rattle.lft_program.proofs.OneName.{one_of_action, one_of_timer, one_of_reaction}

@@ -2,11 +2,11 @@
 use Rattle.std.proofs.Common.{◌≡◌, ℕ, suc, ⊎_elim, Bool, true, false, cond, List, [], ◌∷◌, map, find, slice_get, Some, refl, sym, ap, subst, ◌∙◌, arith}
 use Rattle.std.specs.Option.{option_map}
 use Rattle.std.proofs.lemmas.Bool.{cases_lt}
-use Rattle.lft_syntax.specs.Tree.{FileTree, ReactorTree, InstanceTree, reactors_of, instances_of}
+use Rattle.lft_tree.specs.Tree.{FileTree, ReactorTree, InstanceTree, reactors_of, instances_of}
 use Rattle.lft_instances.specs.Paths.{along, Before, IsPreOrder}
 use Rattle.lft_instances.proofs.Orders.{before_itself}
 use Rattle.lft_instances.proofs.Unique.{pre_order_unique}
-use Rattle.lft_reactors.specs.Instances.{Inside, IsInside, is_called, reactor_named, given_in, entered, main_of, main_instance}
+use Rattle.lft_scope.specs.Instances.{Inside, IsInside, is_called, reactor_named, given_in, entered, main_of, main_instance}
 use Rattle.lft_nesting.specs.Located.{Located, AreLocated}
 use Rattle.lft_nesting.proofs.Counting.{map_at}
 use Rattle.lft_nesting.proofs.Zipping.{then_some, map_some}

@@ -4,13 +4,13 @@ use Rattle.std.proofs.Math.Bridge.{le_prop}
 use Rattle.std.proofs.Math.Path.{to_path_p}
 use Rattle.lft_tag.specs.Shifts.{join_all, none}
 use Rattle.lft_tag.specs.declared.Shift.{Shift}
-use Rattle.lft_program.specs.Origins.{Origin, itself, over}
-use Rattle.lft_program.specs.Parts.{Parts}
-use Rattle.lft_program.specs.Sound.{KeepsOrigins}
-use Rattle.lft_program.specs.declared.parts.Port.{Port as PortOf}
-use Rattle.lft_program.specs.declared.parts.Source.{Source}
+use Rattle.lft_flat.specs.Origins.{Origin, itself, over}
+use Rattle.lft_flat.specs.Parts.{Parts}
+use Rattle.lft_flat.specs.Sound.{KeepsOrigins}
+use Rattle.lft_flat.specs.declared.parts.Port.{Port as PortOf}
+use Rattle.lft_flat.specs.declared.parts.Source.{Source}
 use Rattle.lft_program.proofs.Distinct.{Some_same}
-use Rattle.lft_program.proofs.Positions.{mapped}
+use Rattle.lft_flat.proofs.Positions.{mapped}
 
 -- a shift is known by its time and steps
 same_shift : (s t : Shift) → s.time ≡ t.time → s.steps ≡ t.steps → s ≡ t

@@ -3,18 +3,18 @@ use Rattle.std.proofs.Common.{◌≡◌, ℕ, zero, suc, ◌+◌, ◌⊎◌, inl
 use Rattle.std.specs.List.{position_or_len}
 use Rattle.std.proofs.lemmas.Grind.{common_steps}
 use Rattle.std.proofs.lemmas.List.Folds.{find_at}
-use Rattle.lft_syntax.specs.Tree.{FileTree, PortTree, InstanceTree, ConnectionTree, RefTree, reactors_of, ports_of, instances_of, connections_of}
+use Rattle.lft_tree.specs.Tree.{FileTree, PortTree, InstanceTree, ConnectionTree, RefTree, reactors_of, ports_of, instances_of, connections_of}
 use Rattle.lft_instances.specs.Paths.{along}
 use Rattle.lft_instances.proofs.Members.{get_within}
 use Rattle.lft_instances.proofs.Orders.{along_at}
-use Rattle.lft_reactors.specs.Causes.{IsTwice, TwoSources, WritesTwice}
-use Rattle.lft_reactors.specs.Instances.{Inside, IsInside, Thing, thing_at, stands_for, stands_inside, time_in, Connects, entered, main_instance, reactor_named}
-use Rattle.lft_reactors.specs.Kinds.{destinations_in}
-use Rattle.lft_reactors.specs.Places.{place}
+use Rattle.lft_scope.specs.Causes.{IsTwice, TwoSources, WritesTwice}
+use Rattle.lft_scope.specs.Instances.{Inside, IsInside, Thing, thing_at, stands_for, stands_inside, time_in, Connects, entered, main_instance, reactor_named}
+use Rattle.lft_scope.specs.Kinds.{destinations_in}
+use Rattle.lft_scope.specs.Places.{place}
 use Rattle.lft_reactors.specs.Sheets.{IsInner, port_place}
-use Rattle.lft_reactors.proofs.Effects.{port_found}
-use Rattle.lft_reactors.proofs.Placing.{find-place}
-use Rattle.lft_reactors.proofs.Twice.{Any-at}
+use Rattle.lft_scope.proofs.Effects.{port_found}
+use Rattle.lft_scope.proofs.Placing.{find-place}
+use Rattle.lft_scope.proofs.Twice.{Any-at}
 use Rattle.lft_reactors.proofs.Written.{own_written, inner_written}
 use Rattle.lft_nesting.specs.Located.{Located, AreLocated, Declared}
 use Rattle.lft_nesting.specs.Tables.{IsLawful}
@@ -22,7 +22,7 @@ use Rattle.lft_nesting.proofs.Counting.{total, flat_at}
 use Rattle.lft_nesting.proofs.Listing.{Stands}
 use Rattle.lft_nesting.proofs.Zipping.{then_some}
 use Rattle.lft_program.specs.Flattening.{IsSource}
-use Rattle.lft_program.specs.declared.parts.Source.{Source}
+use Rattle.lft_flat.specs.declared.parts.Source.{Source}
 use Rattle.lft_program.proofs.Distinct.{Some_same}
 use Rattle.lft_program.proofs.OneInstances.{enters, InFile, in_file, one_inside, inside_at}
 use Rattle.lft_program.proofs.OneThing.{once_at, left_at, right_at, one_port}

@@ -2,19 +2,19 @@
 use Rattle.std.proofs.Common.{◌≡◌, ℕ, zero, suc, ◌+◌, ⊎_elim, List, [], ◌∷◌, ◌++◌, map, length, slice_get, Some, sym, ap, subst, ◌∙◌, arith, length-append}
 use Rattle.std.proofs.lemmas.Bool.{cases_lt}
 use Rattle.std.proofs.lemmas.List.{length-map}
-use Rattle.lft_syntax.specs.Tree.{FileTree, ReactorTree, PortTree, TimerTree, ActionTree, reactors_of, ports_of, timers_of, actions_of, instances_of}
+use Rattle.lft_tree.specs.Tree.{FileTree, ReactorTree, PortTree, TimerTree, ActionTree, reactors_of, ports_of, timers_of, actions_of, instances_of}
 use Rattle.lft_instances.proofs.Members.{get_within}
-use Rattle.lft_reactors.specs.Causes.{IsTwice}
-use Rattle.lft_reactors.specs.Instances.{Thing, thing_at}
-use Rattle.lft_reactors.specs.Kinds.{names_in}
-use Rattle.lft_reactors.proofs.Effects.{names_once}
+use Rattle.lft_scope.specs.Causes.{IsTwice}
+use Rattle.lft_scope.specs.Instances.{Thing, thing_at}
+use Rattle.lft_scope.specs.Kinds.{names_in}
+use Rattle.lft_scope.proofs.Effects.{names_once}
 use Rattle.lft_nesting.specs.Located.{Located, AreLocated, Declared, declared, things, ports_in, actions_in, timers_in}
 use Rattle.lft_nesting.specs.Tables.{IsLawful}
 use Rattle.lft_nesting.proofs.Counting.{base, map_at}
 use Rattle.lft_nesting.proofs.Listing.{Stands, declared_from}
 use Rattle.lft_program.proofs.Distinct.{Some_same}
 use Rattle.lft_program.proofs.OneInstances.{in_file, inside_at, path_once}
-use Rattle.lft_program.proofs.Positions.{mapped_from}
+use Rattle.lft_flat.proofs.Positions.{mapped_from}
 
 pub once_at : {X : Type 0} (xs : List X) (x : X) (i j : ℕ) → (IsTwice xs → ⊥) → slice_get xs i ≡ Some x → slice_get xs j ≡ Some x → i ≡ j
 once_at xs x i j once a b = ⊎_elim

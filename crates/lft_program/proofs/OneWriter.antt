@@ -5,12 +5,12 @@ use Rattle.std.specs.List.{position_or_len}
 use Rattle.std.specs.Str.{bytes_eq}
 use Rattle.std.proofs.lemmas.Grind.{common_steps}
 use Rattle.std.proofs.lemmas.List.Folds.{find_at}
-use Rattle.lft_syntax.specs.Tree.{FileTree, ReactionTree, PortTree, RefTree, reactors_of, reactions_of, ports_of, instances_of}
+use Rattle.lft_tree.specs.Tree.{FileTree, ReactionTree, PortTree, RefTree, reactors_of, reactions_of, ports_of, instances_of}
 use Rattle.lft_instances.specs.Paths.{along}
 use Rattle.lft_instances.proofs.Orders.{along_at}
-use Rattle.lft_reactors.proofs.Effects.{port_found, own_effect, inner_effect}
-use Rattle.lft_reactors.specs.Causes.{HasLongTime}
-use Rattle.lft_reactors.specs.Instances.{Inside, thing_at, stands_for, stands_inside, entered, main_instance, reactor_named}
+use Rattle.lft_scope.proofs.Effects.{port_found, own_effect, inner_effect}
+use Rattle.lft_scope.specs.Causes.{HasLongTime}
+use Rattle.lft_scope.specs.Instances.{Inside, thing_at, stands_for, stands_inside, entered, main_instance, reactor_named}
 use Rattle.lft_nesting.specs.Located.{Located, AreLocated, Declared}
 use Rattle.lft_nesting.specs.Tables.{IsLawful}
 use Rattle.lft_nesting.proofs.Placed.{Some_same, IsAt, inside_once}

@@ -2,14 +2,14 @@
 use Rattle.std.proofs.Common.{◌≡◌, ℕ, zero, suc, ◌+◌, ◌-◌, ◌<◌, List, [], ◌∷◌, length, get_or, slice_get, Some, refl, sym, ap, subst, ◌∙◌, arith}
 use Rattle.std.specs.List.{AllZip}
 use Rattle.std.proofs.lemmas.Option.{slice_get_within, slice_get-get_or}
-use Rattle.lft_syntax.specs.Tree.{FileTree, ReactionTree, reactions_of}
+use Rattle.lft_tree.specs.Tree.{FileTree, ReactionTree, reactions_of}
 use Rattle.lft_nesting.specs.Located.{Declared, declared}
 use Rattle.lft_nesting.proofs.Counting.{base, declared_at}
 use Rattle.lft_nesting.proofs.Placed.{IsAt, declared_from}
 use Rattle.lft_program.specs.Flattening.{IsReaction, Flat}
-use Rattle.lft_program.specs.Parts.{Parts}
-use Rattle.lft_program.specs.Sound.{IsNumbered, IsConsecutive}
-use Rattle.lft_program.specs.declared.parts.Reaction.{Reaction}
+use Rattle.lft_flat.specs.Parts.{Parts}
+use Rattle.lft_flat.specs.Sound.{IsNumbered, IsConsecutive}
+use Rattle.lft_flat.specs.declared.parts.Reaction.{Reaction}
 use Rattle.lft_program.proofs.Zips.{AllZip-from}
 
 -- the item that goes with an element

@@ -1,6 +1,6 @@
 -- The chains of connections of a tree's links are those of the ports made of them.
 use Rattle.std.proofs.Common.{◌≡◌, ◌<◌, ℕ, List, Some, None, map, length, slice_get, sym, subst, ap, ◌∙◌}
-use Rattle.lft_syntax.specs.Tree.{FileTree}
+use Rattle.lft_tree.specs.Tree.{FileTree}
 use Rattle.lft_instances.specs.Sources.{Origin as OriginBefore, itself as itself_before, over as over_before}
 use Rattle.lft_instances.specs.declared.numbering.Thing.{Thing}
 use Rattle.lft_instances.proofs.Members.{get_within}
@@ -11,10 +11,10 @@ use Rattle.lft_nesting.specs.declared.tables.Tables.{Tables}
 use Rattle.lft_nesting.proofs.Zipping.{map_from}
 use Rattle.lft_program.specs.Laying.{source_of}
 use Rattle.lft_program.specs.OfTree.{AreOfTree}
-use Rattle.lft_program.specs.Origins.{Origin, itself, over}
-use Rattle.lft_program.specs.Parts.{Parts}
-use Rattle.lft_program.specs.Sound.{KeepsOrigins}
-use Rattle.lft_program.specs.declared.parts.Port.{Port as PortOf}
+use Rattle.lft_flat.specs.Origins.{Origin, itself, over}
+use Rattle.lft_flat.specs.Parts.{Parts}
+use Rattle.lft_flat.specs.Sound.{KeepsOrigins}
+use Rattle.lft_flat.specs.declared.parts.Port.{Port as PortOf}
 use Rattle.lft_program.proofs.Making.{Made}
 use Rattle.lft_program.proofs.PortsLaid.{IsLinkedPort}
 

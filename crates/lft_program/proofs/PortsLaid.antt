@@ -2,11 +2,11 @@
 use Rattle.std.proofs.Common.{◌≡◌, ◌<◌, ℕ, Bool, List, Option, Some, None, length, slice_get, sym, subst, ap, ◌∙◌}
 use Rattle.std.specs.Option.{option_and_then}
 use Rattle.std.specs.List.{AllZip}
-use Rattle.lft_syntax.specs.Tree.{FileTree, PortTree, ports_of}
+use Rattle.lft_tree.specs.Tree.{FileTree, PortTree, ports_of}
 use Rattle.lft_instances.specs.declared.numbering.Thing.{Thing}
 use Rattle.lft_instances.specs.declared.origins.Source.{Source as Before}
 use Rattle.lft_instances.proofs.Siblings.{map_get, length_map}
-use Rattle.lft_reactors.specs.Instances.{Thing as Spoken, thing_at}
+use Rattle.lft_scope.specs.Instances.{Thing as Spoken, thing_at}
 use Rattle.lft_reactors.specs.Sheets.{IsDeclarations}
 use Rattle.lft_nesting.specs.Links.{IsSource as IsSourceBefore}
 use Rattle.lft_nesting.specs.Located.{Located, Declared, declared, ports_in}
@@ -18,7 +18,7 @@ use Rattle.lft_nesting.proofs.Declared.{declared_from}
 use Rattle.lft_program.specs.Flattening.{IsPort, IsSource}
 use Rattle.lft_program.specs.Laying.{IsPortAt, input_at, source_of}
 use Rattle.lft_program.specs.OfTree.{AreOfTree}
-use Rattle.lft_program.specs.declared.parts.Port.{Port as PortOf}
+use Rattle.lft_flat.specs.declared.parts.Port.{Port as PortOf}
 use Rattle.lft_program.proofs.LaidOut.{row_there}
 use Rattle.lft_program.proofs.Making.{Made, made_zip}
 use Rattle.lft_program.proofs.Zips.{AllZip-from, AllZip-length}

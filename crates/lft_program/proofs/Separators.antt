@@ -2,8 +2,8 @@
 use Rattle.std.proofs.Common.{◌≡◌, ℕ, ◌+◌, ◌%◌, ◌<◌, ◌^◌, suc, true, List, [], ◌∷◌, ◌++◌, All, codes, refl, sym, ap, subst, ◌∙◌, true≢false, arith, ◌⊎◌, inl, inr}
 use Rattle.std.specs.Fmt.{decimal}
 use Rattle.std.proofs.lemmas.Fmt.{decimal_by_steps}
-use Rattle.lft_syntax.specs.Bytes.{is_letter, is_word}
-use Rattle.lft_syntax.specs.Identifiers.{IsIdentifier}
+use Rattle.lft_tree.specs.Bytes.{is_letter, is_word}
+use Rattle.lft_tree.specs.Identifiers.{IsIdentifier}
 
 -- a dot or `#`
 abbrev pub IsSeparator : ℕ → Type 0

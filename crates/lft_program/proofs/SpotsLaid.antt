@@ -2,13 +2,13 @@
 use Rattle.std.proofs.Common.{◌≡◌, ℕ, ◌≤◌, List, [], ◌∷◌, ◌+◌, Some, None, map, length, slice_get, sym, ap, subst, ◌∙◌, arith}
 use Rattle.std.specs.Option.{option_map, option_and_then}
 use Rattle.std.specs.List.{AllZip}
-use Rattle.lft_syntax.specs.Tree.{FileTree, ReactorTree, ReactionTree, RefTree, TriggerTree, AtStartup, AtShutdown, OnRef, reactors_of, ports_of, timers_of, actions_of, reactions_of}
+use Rattle.lft_tree.specs.Tree.{FileTree, ReactorTree, ReactionTree, RefTree, TriggerTree, AtStartup, AtShutdown, OnRef, reactors_of, ports_of, timers_of, actions_of, reactions_of}
 use Rattle.lft_instances.specs.Joins.{port_at}
 use Rattle.lft_instances.specs.declared.numbering.Thing.{Thing}
 use Rattle.lft_instances.proofs.Members.{get_within}
 use Rattle.lft_instances.proofs.Siblings.{length_map}
-use Rattle.lft_reactors.specs.Instances.{Thing as Spoken, thing_at, stands_inside, stands_for}
-use Rattle.lft_reactors.specs.Places.{place}
+use Rattle.lft_scope.specs.Instances.{Thing as Spoken, thing_at, stands_inside, stands_for}
+use Rattle.lft_scope.specs.Places.{place}
 use Rattle.lft_reactors.specs.Sheets.{AreCues, IsCue, IsReactions, IsSpot, without_timers}
 use Rattle.lft_reactors.specs.declared.sheets.Cue.{Cue}
 use Rattle.lft_reactors.specs.declared.sheets.Cue.TheVariants as cues
@@ -30,11 +30,11 @@ use Rattle.lft_nesting.proofs.Zipping.{map_some, zip_at}
 use Rattle.lft_program.specs.Flattening.{IsName, IsReaction, IsTrigger}
 use Rattle.lft_program.specs.Laying.{Each, HasCues, HasName, HasTrigger, IsReactionAt, cues_at, name_at, trigger_at}
 use Rattle.lft_program.specs.OfTree.{AreOfTree}
-use Rattle.lft_program.specs.declared.parts.Name.{Name}
-use Rattle.lft_program.specs.declared.parts.Name.TheVariants.{Port, Action}
-use Rattle.lft_program.specs.declared.parts.Reaction.{Reaction}
-use Rattle.lft_program.specs.declared.parts.Trigger.{Trigger}
-use Rattle.lft_program.specs.declared.parts.Trigger.TheVariants.{Startup, Shutdown, Timer, On}
+use Rattle.lft_flat.specs.declared.parts.Name.{Name}
+use Rattle.lft_flat.specs.declared.parts.Name.TheVariants.{Port, Action}
+use Rattle.lft_flat.specs.declared.parts.Reaction.{Reaction}
+use Rattle.lft_flat.specs.declared.parts.Trigger.{Trigger}
+use Rattle.lft_flat.specs.declared.parts.Trigger.TheVariants.{Startup, Shutdown, Timer, On}
 use Rattle.lft_program.proofs.LaidOut.{row_there}
 use Rattle.lft_program.proofs.Making.{Made, made_zip}
 use Rattle.lft_program.proofs.Zips.{AllZip-from}

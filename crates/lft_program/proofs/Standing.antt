@@ -4,21 +4,21 @@ use Rattle.std.specs.List.{AllZip}
 use Rattle.std.specs.Str.{bytes_eq}
 use Rattle.std.proofs.lemmas.Option.{slice_get-get_or}
 use Rattle.std.proofs.lemmas.Slice.Eq.{bytes_eq-Decides}
-use Rattle.lft_syntax.specs.Tree.{ReactorTree, InstanceTree, RefTree, TriggerTree, AtStartup, AtShutdown, OnRef, instances_of}
+use Rattle.lft_tree.specs.Tree.{ReactorTree, InstanceTree, RefTree, TriggerTree, AtStartup, AtShutdown, OnRef, instances_of}
 use Rattle.lft_instances.proofs.Members.{Mem, Pairs, pairs_at}
 use Rattle.lft_instances.proofs.Unique.{pairs_from}
-use Rattle.lft_reactors.specs.Causes.{IsTwice}
-use Rattle.lft_reactors.specs.Instances.{Thing, thing_at, stands_for, stands_inside}
-use Rattle.lft_reactors.specs.Kinds.{ref_in}
+use Rattle.lft_scope.specs.Causes.{IsTwice}
+use Rattle.lft_scope.specs.Instances.{Thing, thing_at, stands_for, stands_inside}
+use Rattle.lft_scope.specs.Kinds.{ref_in}
 use Rattle.lft_nesting.specs.Located.{Located}
 use Rattle.lft_nesting.proofs.Placed.{Some_same}
 use Rattle.lft_program.specs.Flattening.{IsName, IsTrigger, Means}
-use Rattle.lft_program.specs.Parts.{named}
-use Rattle.lft_program.specs.declared.parts.Name.{Name}
-use Rattle.lft_program.specs.declared.parts.Name.TheVariants.{Port, Action}
-use Rattle.lft_program.specs.declared.parts.Trigger.{Trigger}
-use Rattle.lft_program.specs.declared.parts.Trigger.TheVariants.{Startup, Shutdown, Timer, On}
-use Rattle.lft_program.proofs.Positions.{somewhere}
+use Rattle.lft_flat.specs.Parts.{named}
+use Rattle.lft_flat.specs.declared.parts.Name.{Name}
+use Rattle.lft_flat.specs.declared.parts.Name.TheVariants.{Port, Action}
+use Rattle.lft_flat.specs.declared.parts.Trigger.{Trigger}
+use Rattle.lft_flat.specs.declared.parts.Trigger.TheVariants.{Startup, Shutdown, Timer, On}
+use Rattle.lft_flat.proofs.Positions.{somewhere}
 
 -- ---- lists of which one goes with some elements of the other, in order
 

@@ -4,10 +4,10 @@ use Rattle.std.specs.Fmt.{decimal}
 use Rattle.std.specs.List.{AllZip}
 use Rattle.std.proofs.lemmas.List.{length-map}
 use Rattle.std.proofs.lemmas.Option.{slice_get_within}
-use Rattle.lft_syntax.specs.Identifiers.{IsIdentifier, HasIdentifiers}
-use Rattle.lft_syntax.specs.Tree.{FileTree, ReactorTree, reactors_of, ports_of, actions_of, timers_of, reactions_of}
-use Rattle.lft_reactors.specs.Kinds.{names_in}
-use Rattle.lft_reactors.specs.Causes.{IsTwice}
+use Rattle.lft_tree.specs.Identifiers.{IsIdentifier, HasIdentifiers}
+use Rattle.lft_tree.specs.Tree.{FileTree, ReactorTree, reactors_of, ports_of, actions_of, timers_of, reactions_of}
+use Rattle.lft_scope.specs.Kinds.{names_in}
+use Rattle.lft_scope.specs.Causes.{IsTwice}
 use Rattle.lft_nesting.specs.Located.{Located, declared, things}
 use Rattle.lft_nesting.specs.Nests.{IsNest}
 use Rattle.lft_nesting.specs.Tables.{IsLawful}
@@ -18,7 +18,7 @@ use Rattle.lft_nesting.proofs.Listing.{declared_from}
 use Rattle.lft_nesting.proofs.Zipping.{zip_at, zip_long, zip_of}
 use Rattle.lft_program.specs.Flattening.{name_of_path, name_of_thing, name_of_reaction, names_of}
 use Rattle.lft_program.specs.FullNames.{IsDotted, IsHashed, AreFullNames, AreNested, AreOfProgram, AreFew, members}
-use Rattle.lft_program.specs.Names.{ThingNames}
+use Rattle.lft_flat.specs.Names.{ThingNames}
 use Rattle.lft_program.specs.TreeLists.{AreLists, IsPlacedAt, Says}
 use Rattle.lft_program.specs.declared.naming.Declared.{Declared}
 use Rattle.lft_program.specs.declared.naming.Placed.{Placed}
@@ -27,8 +27,8 @@ use Rattle.lft_program.proofs.Distinct.{Some_same}
 use Rattle.lft_program.proofs.InnerNames.{first, inner_at, inner_sites, long, long_inner, path_last}
 use Rattle.lft_program.proofs.KindNames.{reactor_at, sites, few_told, placed_within, placed_once, few_placed}
 use Rattle.lft_program.proofs.NamesOnce.{port_names, timer_names, action_names, instance_names, never_twice, ports_once, timers_once, actions_once, instances_once, ports_timers, ports_actions, ports_instances, timers_actions, timers_instances, actions_instances, ports_named, timers_named, actions_named, instances_named}
-use Rattle.lft_program.proofs.Positions.{mapped_from}
-use Rattle.lft_program.proofs.Ranges.{slice_get-drop}
+use Rattle.lft_flat.proofs.Positions.{mapped_from}
+use Rattle.lft_flat.proofs.Ranges.{slice_get-drop}
 use Rattle.lft_program.proofs.Sites.{Once, AreApart, AreSites, Each, all_of, pairs_of, each_append, once_append, apart_append, append_apart, once_of, apart_of, names_of_sites, within_sites}
 
 module _ (tree : FileTree) (tables : Tables) (nest : Nest) (is : IsNest tree tables nest)

@@ -1,41 +1,29 @@
 -- The names of a program's things are of letters, digits, `_`, dots and `#` alone.
-use Rattle.std.proofs.Common.{◌≡◌, ℕ, ◌+◌, ◌%◌, ◌<◌, ◌^◌, zero, suc, true, List, [], ◌∷◌, ◌++◌, map, length, slice_index_or, All, codes, refl, sym, subst, arith}
+use Rattle.std.proofs.Common.{◌≡◌, ℕ, ◌+◌, ◌<◌, zero, suc, true, List, [], ◌∷◌, ◌++◌, map, length, slice_index_or, All, codes, refl, sym, subst, arith}
 use Rattle.std.specs.Fmt.{decimal}
-use Rattle.std.proofs.lemmas.Bool.Decides.{nat_tests}
-use Rattle.std.proofs.lemmas.Fmt.{decimal_by_steps}
 use Rattle.std.proofs.lemmas.List.Elements.{All-nil, All-cons, All-head, All-tail, All-append, All-push, All-map, All-weaker, All-from_recursion}
-use Rattle.lft_syntax.specs.Bytes.{is_word}
-use Rattle.lft_syntax.specs.Identifiers.{IsIdentifier}
+use Rattle.lft_tree.specs.Bytes.{is_word}
+use Rattle.lft_tree.specs.Identifiers.{IsIdentifier}
 use Rattle.lft_program.specs.Extended.{Ending, dotted, hashed, endings, name_after, extended}
 use Rattle.lft_program.specs.FullNames.{members, AreOfProgram, AreFew}
-use Rattle.lft_program.specs.Names.{IsNameByte, AreWords}
-use Rattle.lft_program.specs.Places.{AreStarts, names_from}
+use Rattle.lft_flat.specs.Names.{IsNameByte, AreWords}
+use Rattle.lft_flat.specs.Places.{AreStarts, names_from}
 use Rattle.lft_program.specs.declared.naming.Declared.{Declared}
 use Rattle.lft_program.specs.declared.naming.Placed.{Placed}
-use Rattle.lft_program.specs.declared.names.Starts.{Starts}
+use Rattle.lft_flat.specs.declared.names.Starts.{Starts}
 use Rattle.lft_program.proofs.Distinct.{main}
 use Rattle.lft_program.proofs.FullNames.{all_at}
-use Rattle.lft_program.proofs.Ranges.{each_named}
+use Rattle.lft_flat.proofs.Ranges.{each_named}
+use Rattle.lft_flat.proofs.Decimals.{All-decimal}
 
 -- a letter, a digit and `_` may stand in a name
 word_fits : (b : ℕ) → is_word b ≡ true → IsNameByte b
 word_fits b e = rw e refl
 
--- so may a digit by its value
-digit_fits : (n : ℕ) → n < 10 → IsNameByte (48 + n)
-digit_fits n low = grind (arith, nat_tests)
-
 -- an identifier is of such bytes
 All-identifier : (name : List ℕ) → IsIdentifier name → All IsNameByte name
 All-identifier [] is = absurd is
 All-identifier (c ∷ cs) is = All-cons IsNameByte c cs (rw is.0 refl) (All-weaker (λ b. is_word b ≡ true) IsNameByte word_fits cs is.1)
-
--- so is a number, as it is written
-pub All-decimal : (n : ℕ) → n < 2 ^ 64 → All IsNameByte (decimal n)
-All-decimal =
-    decimal_by_steps (λ n ds. All IsNameByte ds)
-    (λ n low. All-cons IsNameByte (48 + n) [] (digit_fits n low) (All-nil IsNameByte))
-    (λ n ds big fits. All-push IsNameByte ds (48 + n % 10) fits (digit_fits (n % 10) (omega arith)))
 
 -- the text of the list at a place, or an empty one
 fits_or_empty : (texts : List (List ℕ)) (i : ℕ) → All (All IsNameByte) texts → All IsNameByte (slice_index_or texts i [])

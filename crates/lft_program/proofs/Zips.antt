@@ -4,7 +4,7 @@ use Rattle.std.specs.List.{AllZip, enumerate_from}
 use Rattle.std.proofs.lemmas.Grind.{common_steps}
 use Rattle.std.proofs.lemmas.List.{map-append}
 use Rattle.std.proofs.lemmas.Option.{slice_get-get_or}
-use Rattle.lft_program.proofs.Picked.{take_one_more}
+use Rattle.lft_lists.proofs.Picked.{take_one_more}
 
 module _ {A B : Type 0} (R : A → B → Type 0) where
   pub AllZip-last : (xs : List A) (ys : List B) (x : A) (y : B) → AllZip R xs ys → R x y → AllZip R (xs ++ x ∷ []) (ys ++ y ∷ [])

@@ -1,9 +1,9 @@
 -- The numbers of faults, and the faults of the crates below.
 use Rattle.std.specs.Prelude.{ℕ, List, ◌∷◌, ◌++◌}
-use Rattle.lft_syntax.specs.Tree.{FileTree, reactors_of}
-use Rattle.lft_reactors.specs.Causes.{RecursiveReactor, first_causes, later_causes}
-use Rattle.lft_reactors.specs.declared.fault.ReactorFault.{ReactorFault}
-use Rattle.lft_reactors.specs.declared.fault.ReactorFault.TheVariants as reactors
+use Rattle.lft_tree.specs.Tree.{FileTree, reactors_of}
+use Rattle.lft_scope.specs.Causes.{RecursiveReactor, first_causes, later_causes}
+use Rattle.lft_scope.specs.declared.fault.ReactorFault.{ReactorFault}
+use Rattle.lft_scope.specs.declared.fault.ReactorFault.TheVariants as reactors
 use Rattle.lft_nesting.specs.declared.nest.NestFault.{NestFault}
 use Rattle.lft_nesting.specs.declared.nest.NestFault.TheVariants as nests
 use Rattle.lft_nesting.specs.declared.linking.LinkFault.{LinkFault}

@@ -2,23 +2,23 @@
 use Rattle.std.specs.Prelude.{◌≡◌, ℕ, ◌+◌, List, [], ◌∷◌, ◌++◌, Option, Some, None, map, slice_get, option_to_list, flat_map, codes}
 use Rattle.std.specs.List.{AllZip}
 use Rattle.std.specs.Fmt.{decimal}
-use Rattle.lft_syntax.specs.Tree.{FileTree, ReactorTree, PortTree, ActionTree, TimerTree, ReactionTree, TimeTree, RefTree, TriggerTree, AtStartup, AtShutdown, OnRef, instances_of, ports_of, actions_of, timers_of, reactions_of}
-use Rattle.lft_reactors.specs.Causes.{NoneHolds, causes}
-use Rattle.lft_reactors.specs.Instances.{Inside, time_in, entered, main_instance, Thing, thing_at, stands_for, Connects}
+use Rattle.lft_tree.specs.Tree.{FileTree, ReactorTree, PortTree, ActionTree, TimerTree, ReactionTree, TimeTree, RefTree, TriggerTree, AtStartup, AtShutdown, OnRef, instances_of, ports_of, actions_of, timers_of, reactions_of}
+use Rattle.lft_scope.specs.Causes.{NoneHolds, causes}
+use Rattle.lft_scope.specs.Instances.{Inside, time_in, entered, main_instance, Thing, thing_at, stands_for, Connects}
 use Rattle.lft_reactors.specs.Sheets.{without_timers}
 use Rattle.lft_nesting.specs.Located.{Located, AreLocated, Declared, declared, ports_in, actions_in, timers_in}
-use Rattle.lft_program.specs.Names.{ThingNames}
-use Rattle.lft_program.specs.Parts.{Parts}
-use Rattle.lft_program.specs.Sound.{KeepsOrigins}
-use Rattle.lft_program.specs.declared.parts.Source.{Source}
-use Rattle.lft_program.specs.declared.parts.Port.{Port as PortOf}
-use Rattle.lft_program.specs.declared.parts.Action.{Action as ActionOf}
-use Rattle.lft_program.specs.declared.parts.Timer.{Timer as TimerOf}
-use Rattle.lft_program.specs.declared.parts.Reaction.{Reaction}
-use Rattle.lft_program.specs.declared.parts.Name.{Name}
-use Rattle.lft_program.specs.declared.parts.Name.TheVariants.{Port, Action}
-use Rattle.lft_program.specs.declared.parts.Trigger.{Trigger}
-use Rattle.lft_program.specs.declared.parts.Trigger.TheVariants.{Startup, Shutdown, Timer, On}
+use Rattle.lft_flat.specs.Names.{ThingNames}
+use Rattle.lft_flat.specs.Parts.{Parts}
+use Rattle.lft_flat.specs.Sound.{KeepsOrigins}
+use Rattle.lft_flat.specs.declared.parts.Source.{Source}
+use Rattle.lft_flat.specs.declared.parts.Port.{Port as PortOf}
+use Rattle.lft_flat.specs.declared.parts.Action.{Action as ActionOf}
+use Rattle.lft_flat.specs.declared.parts.Timer.{Timer as TimerOf}
+use Rattle.lft_flat.specs.declared.parts.Reaction.{Reaction}
+use Rattle.lft_flat.specs.declared.parts.Name.{Name}
+use Rattle.lft_flat.specs.declared.parts.Name.TheVariants.{Port, Action}
+use Rattle.lft_flat.specs.declared.parts.Trigger.{Trigger}
+use Rattle.lft_flat.specs.declared.parts.Trigger.TheVariants.{Startup, Shutdown, Timer, On}
 
 -- ---- times and names in an instance
 

@@ -2,8 +2,8 @@
 use Rattle.std.specs.Prelude.{◌≡◌, ◌≢◌, ℕ, ◌+◌, ◌<◌, ◌≤◌, List, ◌++◌, drop, length, slice_get, Some, codes, All, AllPairs}
 use Rattle.std.specs.Fmt.{decimal}
 use Rattle.std.specs.List.{AllZip}
-use Rattle.lft_syntax.specs.Identifiers.{IsIdentifier}
-use Rattle.lft_program.specs.Names.{ThingNames}
+use Rattle.lft_tree.specs.Identifiers.{IsIdentifier}
+use Rattle.lft_flat.specs.Names.{ThingNames}
 use Rattle.lft_program.specs.declared.naming.Declared.{Declared}
 use Rattle.lft_program.specs.declared.naming.Placed.{Placed}
 

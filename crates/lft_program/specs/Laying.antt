@@ -17,15 +17,15 @@ use Rattle.lft_reactors.specs.declared.sheets.TimerSheet.{TimerSheet}
 use Rattle.lft_nesting.specs.declared.linking.Linked.{Linked}
 use Rattle.lft_nesting.specs.declared.nest.Nest.{Nest}
 use Rattle.lft_nesting.specs.declared.tables.Tables.{Tables}
-use Rattle.lft_program.specs.declared.parts.Action.{Action as ActionOf}
-use Rattle.lft_program.specs.declared.parts.Name.{Name}
-use Rattle.lft_program.specs.declared.parts.Name.TheVariants.{Port, Action}
-use Rattle.lft_program.specs.declared.parts.Port.{Port as PortOf}
-use Rattle.lft_program.specs.declared.parts.Reaction.{Reaction}
-use Rattle.lft_program.specs.declared.parts.Source.{Source}
-use Rattle.lft_program.specs.declared.parts.Timer.{Timer as TimerOf}
-use Rattle.lft_program.specs.declared.parts.Trigger.{Trigger}
-use Rattle.lft_program.specs.declared.parts.Trigger.TheVariants.{Startup, Shutdown, Timer, On}
+use Rattle.lft_flat.specs.declared.parts.Action.{Action as ActionOf}
+use Rattle.lft_flat.specs.declared.parts.Name.{Name}
+use Rattle.lft_flat.specs.declared.parts.Name.TheVariants.{Port, Action}
+use Rattle.lft_flat.specs.declared.parts.Port.{Port as PortOf}
+use Rattle.lft_flat.specs.declared.parts.Reaction.{Reaction}
+use Rattle.lft_flat.specs.declared.parts.Source.{Source}
+use Rattle.lft_flat.specs.declared.parts.Timer.{Timer as TimerOf}
+use Rattle.lft_flat.specs.declared.parts.Trigger.{Trigger}
+use Rattle.lft_flat.specs.declared.parts.Trigger.TheVariants.{Startup, Shutdown, Timer, On}
 
 -- ---- what each instance declares
 

@@ -1,9 +1,3 @@
-pub mod Names
-pub mod Places
-pub mod Parts
-pub mod Origins
-pub mod Sound
-pub mod Plain
 pub mod FullNames
 pub mod Extended
 pub mod Flattening

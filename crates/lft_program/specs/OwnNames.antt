@@ -1,8 +1,8 @@
 -- The names that reactors declare for their members, by kind. The contracts of the crate's own functions alone need this file.
 use Rattle.std.specs.Prelude.{ℕ, List, Option, map, filter_map, option_map, Vec}
 use Rattle.std.specs.Borrow.{Bor}
-use Rattle.lft_syntax.specs.Tree.{MemberTree, ReactorTree, action_in, instance_in, port_in, timer_in}
-use Rattle.lft_reactors.specs.Tests.{texts}
+use Rattle.lft_tree.specs.Tree.{MemberTree, ReactorTree, action_in, instance_in, port_in, timer_in}
+use Rattle.lft_scope.specs.Tests.{texts}
 use Rattle.lft_program.specs.declared.own_names.Kind.{Kind}
 use Rattle.lft_program.specs.declared.own_names.Kind.TheVariants as kinds
 

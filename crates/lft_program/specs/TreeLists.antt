@@ -2,7 +2,7 @@
 use Rattle.std.specs.Prelude.{◌≡◌, ℕ, List, [], map, slice_get, unwrap_or}
 use Rattle.std.specs.List.{AllZip}
 use Rattle.std.specs.Option.{option_and_then}
-use Rattle.lft_syntax.specs.Tree.{FileTree, reactors_of, ports_of, actions_of, timers_of, reactions_of}
+use Rattle.lft_tree.specs.Tree.{FileTree, reactors_of, ports_of, actions_of, timers_of, reactions_of}
 use Rattle.lft_instances.specs.declared.numbering.Thing.{Thing}
 use Rattle.lft_instances.specs.declared.walk.Instance.{Instance}
 use Rattle.lft_nesting.specs.Located.{Declared as DeclaredItem, declared}

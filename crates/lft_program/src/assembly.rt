@@ -1,16 +1,14 @@
 //! The program of the parts of a tree.
 
 ghost use Rattle.std.specs.Prelude.{◌≡◌, Any};
-ghost use Rattle.lft_syntax.specs.Tree.{FileTree, reactors_of};
-ghost use Rattle.lft_reactors.specs.Causes.{HasLongTime};
+ghost use Rattle.lft_tree.specs.Tree.{FileTree, reactors_of};
+ghost use Rattle.lft_scope.specs.Causes.{HasLongTime};
 ghost use Rattle.lft_nesting.specs.Tables.{IsLawful};
 ghost use Rattle.lft_program.specs.Flattening.{Flat};
-ghost use Rattle.lft_program.specs.Names.{AreDistinct, AreWords};
-ghost use Rattle.lft_program.specs.Sound.{IsWithinLimits};
+ghost use Rattle.lft_flat.specs.Names.{AreDistinct, AreWords};
+ghost use Rattle.lft_flat.specs.Sound.{IsWithinLimits};
 
-use crate::names::NameTable;
-use crate::parts::{Action, Port, Reaction, Timer};
-use crate::program::Program;
+use lft_flat::{Action, NameTable, Port, Program, Reaction, Timer};
 
 /// The program of the parts of a tree of which no cause of refusal holds.
 pub(crate) fn assembled(

@@ -4,7 +4,7 @@ ghost use Rattle.std.specs.Prelude.{◌≡◌};
 ghost use Rattle.lft_program.specs.declared.fault.ProgramFault.TheVariants as faults;
 
 use lft_nesting::{LinkFault, NestFault};
-use lft_reactors::ReactorFault;
+use lft_scope::ReactorFault;
 use std::alloc::{AllocError, AllocFailed};
 
 /// Why a tree has no flat program.

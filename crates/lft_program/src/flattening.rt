@@ -1,28 +1,26 @@
 //! From the tree of a program text to the flat program.
 
 ghost use Rattle.std.specs.Prelude.{◌≡◌, ◌≢◌, IfOk, IfErr, OnOk};
-ghost use Rattle.lft_syntax.specs.View.{tree_view};
-ghost use Rattle.lft_reactors.specs.Causes.{IsFirst, NoneHolds, causes};
+ghost use Rattle.lft_tree.specs.View.{tree_view};
+ghost use Rattle.lft_scope.specs.Causes.{IsFirst, NoneHolds, causes};
 ghost use Rattle.lft_nesting.specs.Nests.{IsNest};
 ghost use Rattle.lft_nesting.specs.Tables.{AreTables, IsLawful};
 ghost use Rattle.lft_program.specs.Faults.{number_of, reactor_causes};
 ghost use Rattle.lft_program.specs.Flattening.{Flat, IsFlatOf};
-ghost use Rattle.lft_program.specs.Parts.{Parts};
+ghost use Rattle.lft_flat.specs.Parts.{Parts};
 ghost use Rattle.lft_program.specs.OfTree.{AreOfTree};
 ghost use Rattle.lft_program.specs.declared.fault.ProgramFault.TheVariants as faults;
 
 use crate::assembly::assembled;
 use crate::fault::ProgramFault;
 use crate::laying;
-use crate::program::Program;
 use crate::tree_names::tree_names;
+use lft_causes::{check_first, check_later};
+use lft_flat::Program;
 use lft_nesting::{Linked, Nest, Tables, contains_itself, links};
-use lft_reactors::{
-    check_first, check_later, connections, contents, declarations, main_number, parameters,
-    reactions,
-};
-use lft_syntax::Ast;
+use lft_reactors::{connections, contents, declarations, main_number, parameters, reactions};
 use lft_tag::NoMemory;
+use lft_tree::Ast;
 use std::alloc::Global;
 
 /// The tables of the tree's reactors, if none of the causes that are looked for in each reactor

@@ -1,13 +1,13 @@
 //! The names that the reactors of a file declare, by kind.
 
 ghost use Rattle.std.specs.Prelude.{◌≡◌, IfOk, map, filter_map, option_map};
-ghost use Rattle.lft_syntax.specs.View.{member_view, member_views};
-ghost use Rattle.lft_reactors.specs.Tests.{texts};
+ghost use Rattle.lft_tree.specs.View.{member_view, member_views};
+ghost use Rattle.lft_scope.specs.Tests.{texts};
 ghost use Rattle.lft_program.specs.OwnNames.{name_in, name_lists, own_names};
-ghost use Rattle.lft_reactors.specs.References.{reactor_trees};
+ghost use Rattle.lft_scope.specs.References.{reactor_trees};
 
-use lft_syntax::{Member, Reactor};
 use lft_tag::NoMemory;
+use lft_tree::{Member, Reactor};
 use std::alloc::Global;
 
 /// The kinds of members whose full names have a dot.

@@ -4,8 +4,7 @@ ghost use Rattle.std.specs.Prelude.{◌≡◌, Some, IfOk};
 ghost use Rattle.lft_instances.specs.Joins.{port_at, port_of};
 ghost use Rattle.lft_program.specs.Laying.{AreNames, AreTriggers, Each, HasName, HasTrigger, IsFew, name_at, trigger_at};
 
-use crate::lists::{Names, Triggers};
-use crate::parts::{Name, Trigger};
+use lft_flat::{Name, Names, Trigger, Triggers};
 use lft_instances::End;
 use lft_nesting::{Nest, Numbering};
 use lft_reactors::{Cue, Spot};

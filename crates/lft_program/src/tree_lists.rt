@@ -1,19 +1,19 @@
 //! What the instances of a nest declare, as the naming takes it.
 
 ghost use Rattle.std.specs.Prelude.{◌≡◌, ◌≤◌, IfOk, length, map};
-ghost use Rattle.lft_syntax.specs.Tree.{FileTree, reactors_of};
+ghost use Rattle.lft_tree.specs.Tree.{FileTree, reactors_of};
 ghost use Rattle.lft_nesting.specs.Nests.{IsNest};
 ghost use Rattle.lft_nesting.specs.declared.tables.Tables.{Tables};
 ghost use Rattle.lft_program.specs.OwnNames.{name_lists, own_names};
-ghost use Rattle.lft_reactors.specs.References.{reactor_trees};
+ghost use Rattle.lft_scope.specs.References.{reactor_trees};
 ghost use Rattle.lft_program.specs.TreeLists.{AreLists, name_at, placed_at, seen};
 
 use crate::naming::{Declared, Placed};
 use crate::own_names::{Kind, own_names};
 use lft_instances::{Instance, Thing};
 use lft_nesting::Nest;
-use lft_syntax::Reactor;
 use lft_tag::NoMemory;
+use lft_tree::Reactor;
 use std::alloc::Global;
 
 /// What the instances of a nest declare, by kind and in the order of the numbers.

@@ -1,20 +1,20 @@
 //! The full names of what a tree's instances declare.
 
 ghost use Rattle.std.specs.Prelude.{◌≡◌, IfOk};
-ghost use Rattle.lft_syntax.specs.Identifiers.{HasIdentifiers};
-ghost use Rattle.lft_syntax.specs.View.{tree_view};
+ghost use Rattle.lft_tree.specs.Identifiers.{HasIdentifiers};
+ghost use Rattle.lft_tree.specs.View.{tree_view};
 ghost use Rattle.lft_nesting.specs.Nests.{IsNest};
 ghost use Rattle.lft_nesting.specs.Tables.{AreTables, IsLawful};
 ghost use Rattle.lft_program.specs.Flattening.{names_of};
-ghost use Rattle.lft_program.specs.Names.{AreDistinct, AreWords};
+ghost use Rattle.lft_flat.specs.Names.{AreDistinct, AreWords};
 
-use crate::names::NameTable;
 use crate::naming::full_names;
 use crate::tree_lists::Lists;
+use lft_flat::NameTable;
 use lft_nesting::{Nest, Tables};
-use lft_reactors::reactors;
-use lft_syntax::Ast;
+use lft_scope::members::reactors;
 use lft_tag::NoMemory;
+use lft_tree::Ast;
 use std::alloc::Global;
 
 /// The names of all things of the tree: `main` for the main instance, and for all else the name of

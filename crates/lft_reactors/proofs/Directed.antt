@@ -2,15 +2,15 @@
 use Rattle.std.proofs.Common.{◌≡◌, ◌<◌, ℕ, zero, suc, Bool, true, false, cond, List, [], ◌∷◌, map, length, get_or, slice_get, find, Option, Some, None, option_map, IsSomeAnd, MatchOption, Bor, bytes_eq, refl, sym, ap, subst, ◌∙◌, arith}
 use Rattle.std.specs.List.{AllZip}
 use Rattle.std.specs.Option.{option_and_then}
-use Rattle.lft_syntax.specs.Tree.{ReactorTree, InstanceTree, instances_of, ports_of}
+use Rattle.lft_tree.specs.Tree.{ReactorTree, InstanceTree, instances_of, ports_of}
 use Rattle.lft_reactors.specs.Directories.{inner_ref}
-use Rattle.lft_reactors.specs.Instances.{reactor_named}
-use Rattle.lft_reactors.specs.Kinds.{inner_kind}
+use Rattle.lft_scope.specs.Instances.{reactor_named}
+use Rattle.lft_scope.specs.Kinds.{inner_kind}
 use Rattle.lft_reactors.specs.Numbers.{IsNumberOf}
-use Rattle.lft_reactors.specs.Places.{place}
+use Rattle.lft_scope.specs.Places.{place}
 use Rattle.lft_reactors.specs.Sheets.{IsInner, instance_place, port_place}
-use Rattle.lft_reactors.proofs.Files.{AllZip-past, inner_nowhere}
-use Rattle.lft_reactors.proofs.Placing.{find-place}
+use Rattle.lft_scope.proofs.Files.{AllZip-past, inner_nowhere}
+use Rattle.lft_scope.proofs.Placing.{find-place}
 
 module _ {A B : Type 0} (R : A → B → Type 0) where
   -- the item that an element goes with

@@ -1,6 +1,6 @@
 -- The first element of a list that passes a test.
 use Rattle.std.proofs.Common.{◌≡◌, ℕ, ◌<◌, zero, suc, Bool, true, false, cond, List, [], ◌∷◌, map, filter, find, take, length, get_or, slice_get, Some, Any, refl, ap, ◌∙◌, arith}
-use Rattle.lft_reactors.proofs.Somes.{Any-head, Any-tail}
+use Rattle.lft_scope.proofs.Somes.{Any-head, Any-tail}
 
 module _ {A C : Type 0} (v : C → A) (test : A → Bool) where
   -- what passes, where nothing before it does, is found

@@ -1,14 +1,14 @@
 -- What connections join, as lists of joins grow, and where names are lost among them.
 use Rattle.std.proofs.Common.{◌≡◌, ℕ, ◌+◌, ◌<◌, zero, suc, min, List, [], ◌∷◌, ◌++◌, map, flat_map, take, length, get_or, Option, None, Any, ◌⊎◌, inl, inr, ⊎_elim, append_assoc, option_to_list, refl, sym, ap, subst, ◌∙◌, arith}
 use Rattle.std.specs.List.{AllZip, zip}
-use Rattle.lft_syntax.specs.Tree.{ReactorTree, ConnectionTree, RefTree, TimeTree, actions_of, connections_of, instances_of, reactions_of, timers_of}
-use Rattle.lft_reactors.specs.Causes.{IsMisplaced, IsMisplacedTime, IsUnknownTime, UnknownName, WrongPlace}
+use Rattle.lft_tree.specs.Tree.{ReactorTree, ConnectionTree, RefTree, TimeTree, actions_of, connections_of, instances_of, reactions_of, timers_of}
+use Rattle.lft_scope.specs.Causes.{IsMisplaced, IsMisplacedTime, IsUnknownTime, UnknownName, WrongPlace}
 use Rattle.lft_reactors.specs.Directories.{HasLost, IsLost, IsLostTime, LosesIn}
-use Rattle.lft_reactors.specs.Kinds.{connection_refs, in_role, kind_of, reaction_refs, refs_in, timer_times, times_in}
+use Rattle.lft_scope.specs.Kinds.{connection_refs, in_role, kind_of, reaction_refs, refs_in, timer_times, times_in}
 use Rattle.lft_reactors.specs.Sheets.{Single}
-use Rattle.lft_reactors.specs.declared.kinds.Role.{Role}
-use Rattle.lft_reactors.proofs.Files.{AllZip-last}
-use Rattle.lft_reactors.proofs.Somes.{Any-nil, Any-head, Any-tail, Any-cases, Any-left, Any-right, some_here}
+use Rattle.lft_scope.specs.declared.kinds.Role.{Role}
+use Rattle.lft_scope.proofs.Files.{AllZip-last}
+use Rattle.lft_scope.proofs.Somes.{Any-nil, Any-head, Any-tail, Any-cases, Any-left, Any-right, some_here}
 
 -- the single connections of two lists of names, seen by view
 module _ {A : Type 0} (view : A → RefTree) (delay : Option TimeTree) where

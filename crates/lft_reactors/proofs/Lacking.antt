@@ -1,16 +1,16 @@
 -- Times that name no parameter, and values for what isn't a parameter, follow from the causes of refusal.
 use Rattle.std.proofs.Common.{◌≡◌, ◌≢◌, ℕ, ◌<◌, Bool, true, false, List, [], ◌∷◌, ◌++◌, map, flat_map, length, get_or, find, is_some, Option, Some, None, option_map, option_to_list, Any, ◌⊎◌, inl, inr, ⊎_elim, bytes_eq, refl, sym, ap, ◌∙◌}
-use Rattle.lft_syntax.specs.Tree.{ReactorTree, ParameterTree, PortTree, TimerTree, ActionTree, InstanceTree, AssignmentTree, TimeTree, Written, Named, ports_of, timers_of, actions_of, instances_of, connections_of}
-use Rattle.lft_reactors.specs.Causes.{IsUnknownTime, IsMisplacedTime, LacksParameter, LacksReactor, Misplaces, NamesNothing, NoneHolds, SomeGivesUnknown, UnknownName, UnknownReactor, WrongPlace, first_causes, later_causes}
-use Rattle.lft_reactors.specs.Kinds.{or_else, own_kind, own_port, timer_times, times_in}
+use Rattle.lft_tree.specs.Tree.{ReactorTree, ParameterTree, PortTree, TimerTree, ActionTree, InstanceTree, AssignmentTree, TimeTree, Written, Named, ports_of, timers_of, actions_of, instances_of, connections_of}
+use Rattle.lft_scope.specs.Causes.{IsUnknownTime, IsMisplacedTime, LacksParameter, LacksReactor, Misplaces, NamesNothing, NoneHolds, SomeGivesUnknown, UnknownName, UnknownReactor, WrongPlace, first_causes, later_causes}
+use Rattle.lft_scope.specs.Kinds.{or_else, own_kind, own_port, timer_times, times_in}
 use Rattle.lft_reactors.specs.Lacking.{LacksName, LacksPlace, TimeLacksPlace}
-use Rattle.lft_reactors.specs.Places.{IsIndexOf, place_in}
+use Rattle.lft_scope.specs.Places.{IsIndexOf, place_in}
 use Rattle.lft_reactors.specs.Sheets.{parameter_place}
-use Rattle.lft_reactors.specs.declared.index.Index.{Index}
-use Rattle.lft_reactors.specs.declared.kinds.Kind.{Kind}
-use Rattle.lft_reactors.specs.declared.kinds.Kind.TheVariants.{OwnParameter, OwnTimer, OwnAction, OwnInstance}
-use Rattle.lft_reactors.proofs.Placing.{find-some, not_some}
-use Rattle.lft_reactors.proofs.Somes.{Any-nil, Any-head, Any-tail, Any-cases, Any-left, Any-right, Any-weaker, some_here}
+use Rattle.lft_scope.specs.declared.index.Index.{Index}
+use Rattle.lft_scope.specs.declared.kinds.Kind.{Kind}
+use Rattle.lft_scope.specs.declared.kinds.Kind.TheVariants.{OwnParameter, OwnTimer, OwnAction, OwnInstance}
+use Rattle.lft_scope.proofs.Placing.{find-some, not_some}
+use Rattle.lft_scope.proofs.Somes.{Any-nil, Any-head, Any-tail, Any-cases, Any-left, Any-right, Any-weaker, some_here}
 
 -- ---- lists
 

@@ -2,14 +2,14 @@
 use Rattle.std.proofs.Common.{◌≡◌, ℕ, ◌+◌, ◌<◌, zero, suc, Bool, true, false, cond, List, [], ◌∷◌, ◌++◌, map, take, length, get_or, slice_get, is_some, Option, Some, None, MatchOption, append-nil, refl, sym, ap, subst, ◌∙◌, arith}
 use Rattle.std.specs.Option.{option_and_then}
 use Rattle.std.proofs.lemmas.Grind.{common_steps}
-use Rattle.lft_syntax.specs.Tree.{ReactorTree}
-use Rattle.lft_reactors.specs.Instances.{reactor_named}
+use Rattle.lft_tree.specs.Tree.{ReactorTree}
+use Rattle.lft_scope.specs.Instances.{reactor_named}
 use Rattle.lft_reactors.specs.Numbers.{numbers_of}
-use Rattle.lft_reactors.specs.Places.{place}
-use Rattle.lft_reactors.specs.Tables.{with_name}
-use Rattle.lft_reactors.proofs.Files.{named-place}
-use Rattle.lft_reactors.proofs.NamedReactors.{named}
-use Rattle.lft_reactors.proofs.Twice.{map_last}
+use Rattle.lft_scope.specs.Places.{place}
+use Rattle.lft_scope.specs.Tables.{with_name}
+use Rattle.lft_scope.proofs.Files.{named-place}
+use Rattle.lft_scope.proofs.NamedReactors.{named}
+use Rattle.lft_scope.proofs.Twice.{map_last}
 
 pub numbers_of-push : (n m : ℕ) (rs : List ReactorTree) (r : ReactorTree) → m ≡ n + length rs → numbers_of n (rs ++ r ∷ []) ≡ numbers_of n rs ++ cond (is_some r.name) (m ∷ []) []
 numbers_of-push n m [] r is = by (is_some r.name)

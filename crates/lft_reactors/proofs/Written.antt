@@ -1,19 +1,19 @@
 -- What a destination of a connection is, where no name is nothing and none stands in a wrong place.
 use Rattle.std.proofs.Common.{◌≡◌, ℕ, zero, suc, Bool, true, false, List, [], ◌∷◌, refl, sym, ap, ◌∙◌, subst, Option, Some, None, slice_get, map, flat_map, find, bytes_eq, Any, inl}
 use Rattle.std.specs.Option.{option_map, option_and_then}
-use Rattle.lft_syntax.specs.Tree.{ReactorTree, ParameterTree, PortTree, InstanceTree, ConnectionTree, RefTree, connections_of, reactions_of, ports_of, timers_of, actions_of, instances_of}
-use Rattle.lft_reactors.specs.Causes.{UnknownName, NamesNothing, WrongPlace, Misplaces, IsMisplaced}
-use Rattle.lft_reactors.specs.Instances.{reactor_named}
-use Rattle.lft_reactors.specs.Kinds.{inner_kind, own_port, inner_port, or_else, kind_of, kind_inside, refs_in, in_role, may_stand, reaction_refs, connection_refs}
-use Rattle.lft_reactors.specs.Places.{place}
+use Rattle.lft_tree.specs.Tree.{ReactorTree, ParameterTree, PortTree, InstanceTree, ConnectionTree, RefTree, connections_of, reactions_of, ports_of, timers_of, actions_of, instances_of}
+use Rattle.lft_scope.specs.Causes.{UnknownName, NamesNothing, WrongPlace, Misplaces, IsMisplaced}
+use Rattle.lft_scope.specs.Instances.{reactor_named}
+use Rattle.lft_scope.specs.Kinds.{inner_kind, own_port, inner_port, or_else, kind_of, kind_inside, refs_in, in_role, may_stand, reaction_refs, connection_refs}
+use Rattle.lft_scope.specs.Places.{place}
 use Rattle.lft_reactors.specs.Sheets.{IsInner, port_place}
-use Rattle.lft_reactors.specs.declared.kinds.Kind.{Kind}
-use Rattle.lft_reactors.specs.declared.kinds.Kind.TheVariants.{OwnParameter, OwnTimer, OwnAction, OwnInstance}
-use Rattle.lft_reactors.specs.declared.kinds.Role.{Role}
-use Rattle.lft_reactors.specs.declared.kinds.Role.TheVariants.{Source, Destination}
-use Rattle.lft_reactors.proofs.Placing.{find-place}
-use Rattle.lft_reactors.proofs.Somes.{Any-left, Any-right}
-use Rattle.lft_reactors.proofs.Twice.{Any-at}
+use Rattle.lft_scope.specs.declared.kinds.Kind.{Kind}
+use Rattle.lft_scope.specs.declared.kinds.Kind.TheVariants.{OwnParameter, OwnTimer, OwnAction, OwnInstance}
+use Rattle.lft_scope.specs.declared.kinds.Role.{Role}
+use Rattle.lft_scope.specs.declared.kinds.Role.TheVariants.{Source, Destination}
+use Rattle.lft_scope.proofs.Placing.{find-place}
+use Rattle.lft_scope.proofs.Somes.{Any-left, Any-right}
+use Rattle.lft_scope.proofs.Twice.{Any-at}
 
 -- something that holds of a piece of some element
 pub any_piece : {X Y : Type 0} (P : Y → Type 0) (f : X → List Y) (xs : List X) (k : ℕ) (x : X) → slice_get xs k ≡ Some x → Any P (f x) → Any P (flat_map f xs)

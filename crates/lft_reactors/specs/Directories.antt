@@ -1,17 +1,17 @@
 -- Names of each reactor by number, and names that stand for nothing that may stand in their place. The contracts of the crate's own functions alone need this file.
 use Rattle.std.specs.Prelude.{◌≡◌, ℕ, Bool, true, false, List, Some, None, Any, ◌⊎◌, map, option_to_list, slice_get}
 use Rattle.std.specs.List.{AllZip}
-use Rattle.lft_syntax.specs.Tree.{ReactorTree, RefTree, ConnectionTree, TimeTree, ports_of, timers_of, actions_of, instances_of}
-use Rattle.lft_reactors.specs.Causes.{IsMisplaced, IsMisplacedTime, IsUnknownTime}
-use Rattle.lft_reactors.specs.Kinds.{connection_refs, kind_of, refs_in, times_in}
+use Rattle.lft_tree.specs.Tree.{ReactorTree, RefTree, ConnectionTree, TimeTree, ports_of, timers_of, actions_of, instances_of}
+use Rattle.lft_scope.specs.Causes.{IsMisplaced, IsMisplacedTime, IsUnknownTime}
+use Rattle.lft_scope.specs.Kinds.{connection_refs, kind_of, refs_in, times_in}
 use Rattle.lft_reactors.specs.Numbers.{AreContents}
-use Rattle.lft_reactors.specs.Places.{IsIndexOf}
+use Rattle.lft_scope.specs.Places.{IsIndexOf}
 use Rattle.lft_reactors.specs.Sheets.{is_timer, timer_place}
 use Rattle.lft_reactors.specs.declared.directory.Directory.{Directory}
 use Rattle.lft_reactors.specs.declared.directory.Names.{Names}
-use Rattle.lft_reactors.specs.declared.kinds.Kind.{Kind}
-use Rattle.lft_reactors.specs.declared.kinds.Kind.TheVariants.{OwnParameter, OwnInput, OwnOutput, OwnTimer, OwnAction, OwnInstance, InnerInput, InnerOutput}
-use Rattle.lft_reactors.specs.declared.kinds.Role.{Role}
+use Rattle.lft_scope.specs.declared.kinds.Kind.{Kind}
+use Rattle.lft_scope.specs.declared.kinds.Kind.TheVariants.{OwnParameter, OwnInput, OwnOutput, OwnTimer, OwnAction, OwnInstance, InnerInput, InnerOutput}
+use Rattle.lft_scope.specs.declared.kinds.Role.{Role}
 
 -- ---- indexes
 

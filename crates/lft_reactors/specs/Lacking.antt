@@ -1,14 +1,14 @@
 -- Names that have no place. The contracts of the crate's own functions alone need this file.
 use Rattle.std.specs.Prelude.{◌≡◌, ℕ, List, Option, None, Any}
-use Rattle.lft_syntax.specs.Tree.{ReactorTree, InstanceTree, AssignmentTree, TimeTree, Written, Named}
-use Rattle.lft_reactors.specs.Causes.{GivesUnknown}
-use Rattle.lft_reactors.specs.Instances.{reactor_named}
-use Rattle.lft_reactors.specs.Kinds.{times_in}
-use Rattle.lft_reactors.specs.Places.{place_in}
+use Rattle.lft_tree.specs.Tree.{ReactorTree, InstanceTree, AssignmentTree, TimeTree, Written, Named}
+use Rattle.lft_scope.specs.Causes.{GivesUnknown}
+use Rattle.lft_scope.specs.Instances.{reactor_named}
+use Rattle.lft_scope.specs.Kinds.{times_in}
+use Rattle.lft_scope.specs.Places.{place_in}
 use Rattle.lft_reactors.specs.Sheets.{parameter_place}
-use Rattle.lft_reactors.specs.Tables.{IsFile}
-use Rattle.lft_reactors.specs.declared.file.File.{File}
-use Rattle.lft_reactors.specs.declared.index.Index.{Index}
+use Rattle.lft_scope.specs.Tables.{IsFile}
+use Rattle.lft_scope.specs.declared.file.File.{File}
+use Rattle.lft_scope.specs.declared.index.Index.{Index}
 
 -- the name of the time has none of these places
 abbrev pub LacksPlace : (List ℕ → Option ℕ) → TimeTree → Type 0

@@ -1,13 +1,3 @@
-pub mod Instances
-pub mod Kinds
-pub mod Causes
-pub mod References
-pub mod Seen
-pub mod Tests
-pub mod Faults
-pub mod Places
-pub mod Tables
-pub mod Uses
 pub mod Numbers
 pub mod Sheets
 pub mod Lacking

@@ -1,7 +1,7 @@
 -- What each reactor of a file declares, with a place for each name and a number for each time.
 use Rattle.std.specs.Prelude.{◌≡◌, ℕ, ◌+◌, not, Bool, false, List, Option, Some, None, map, filter, flat_map, find, is_some, slice_get, bytes_eq, nat_lt, if◌then◌else◌}
 use Rattle.std.specs.List.{AllZip, zip}
-use Rattle.lft_syntax.specs.Tree.{ReactorTree, ActionTree, TimerTree, ReactionTree, ConnectionTree, InstanceTree, AssignmentTree, TimeTree, Written, Named, RefTree, TriggerTree, AtStartup, AtShutdown, OnRef, nanoseconds, instances_of, connections_of, ports_of, actions_of, timers_of, reactions_of}
+use Rattle.lft_tree.specs.Tree.{ReactorTree, ActionTree, TimerTree, ReactionTree, ConnectionTree, InstanceTree, AssignmentTree, TimeTree, Written, Named, RefTree, TriggerTree, AtStartup, AtShutdown, OnRef, nanoseconds, instances_of, connections_of, ports_of, actions_of, timers_of, reactions_of}
 use Rattle.lft_instances.specs.declared.settings.Clock.{Clock}
 use Rattle.lft_instances.specs.declared.settings.Clock.TheVariants.{Fixed, Parameter}
 use Rattle.lft_instances.specs.declared.settings.Given.{Given}
@@ -10,9 +10,9 @@ use Rattle.lft_instances.specs.declared.joins.End.{End}
 use Rattle.lft_instances.specs.declared.joins.End.TheVariants.{Own, Inner}
 use Rattle.lft_instances.specs.declared.joins.Join.{Join}
 use Rattle.lft_instances.specs.declared.joins.Connections.{Connections}
-use Rattle.lft_reactors.specs.Causes.{longest}
-use Rattle.lft_reactors.specs.Instances.{reactor_named}
-use Rattle.lft_reactors.specs.Places.{place}
+use Rattle.lft_scope.specs.Causes.{longest}
+use Rattle.lft_scope.specs.Instances.{reactor_named}
+use Rattle.lft_scope.specs.Places.{place}
 use Rattle.lft_reactors.specs.declared.sheets.Spot.{Spot}
 use Rattle.lft_reactors.specs.declared.sheets.Spot.TheVariants as spots
 use Rattle.lft_reactors.specs.declared.sheets.Cue.{Cue}

@@ -2,23 +2,22 @@
 
 ghost use Rattle.std.specs.Prelude.{◌≡◌, ◌≢◌, List, Any, IfOk, IfErr, IsSomeAnd, map};
 ghost use Rattle.std.specs.List.{AllZip};
-ghost use Rattle.lft_syntax.specs.Tree.{OnRef, ReactorTree, reactors_of};
-ghost use Rattle.lft_syntax.specs.View.{reaction_view, reactor_view, ref_view, ref_views, tree_view, trigger_view};
-ghost use Rattle.lft_reactors.specs.Causes.{NoneHolds, UnknownReactor, first_causes, later_causes};
+ghost use Rattle.lft_tree.specs.Tree.{OnRef, ReactorTree, reactors_of};
+ghost use Rattle.lft_tree.specs.View.{reaction_view, reactor_view, ref_view, ref_views, tree_view, trigger_view};
+ghost use Rattle.lft_scope.specs.Causes.{NoneHolds, UnknownReactor, first_causes, later_causes};
 ghost use Rattle.lft_reactors.specs.Directories.{HasLost, IsAt, IsLost};
-ghost use Rattle.lft_reactors.specs.Kinds.{reaction_refs, ref_in};
-ghost use Rattle.lft_reactors.specs.References.{reactor_trees};
+ghost use Rattle.lft_scope.specs.Kinds.{reaction_refs, ref_in};
+ghost use Rattle.lft_scope.specs.References.{reactor_trees};
 ghost use Rattle.lft_reactors.specs.Sheets.{AreCues, AreReactions, IsCue, IsReactions, IsSpot, without_timers};
-ghost use Rattle.lft_reactors.specs.declared.fault.ReactorFault.TheVariants as faults;
-ghost use Rattle.lft_reactors.specs.declared.kinds.Role.TheVariants.{Effect, Read};
+ghost use Rattle.lft_scope.specs.declared.fault.ReactorFault.TheVariants as faults;
+ghost use Rattle.lft_scope.specs.declared.kinds.Role.TheVariants.{Effect, Read};
 
 use crate::directory::Directory;
 use crate::ends::{narrow, spot, timer};
-use crate::fault::ReactorFault;
-use crate::members;
 use crate::sheets::{Cue, Cues, Reactions, Spot};
-use lft_syntax::{Ast, Reaction, Reactor, Reference, Trigger};
+use lft_scope::{ReactorFault, members};
 use lft_tag::NoMemory;
+use lft_tree::{Ast, Reaction, Reactor, Reference, Trigger};
 use std::alloc::Global;
 
 /// What a name among the triggers stands for.

@@ -2,22 +2,22 @@
 
 ghost use Rattle.std.specs.Prelude.{◌≡◌, List, map, flat_map, option_to_list, Any, IfOk};
 ghost use Rattle.std.specs.List.{AllZip};
-ghost use Rattle.lft_syntax.specs.Tree.{ReactorTree, reactors_of};
-ghost use Rattle.lft_syntax.specs.View.{action_view, reactor_view, timer_view, tree_view};
-ghost use Rattle.lft_reactors.specs.Causes.{NoneHolds, first_causes, later_causes};
-ghost use Rattle.lft_reactors.specs.Kinds.{timer_times};
+ghost use Rattle.lft_tree.specs.Tree.{ReactorTree, reactors_of};
+ghost use Rattle.lft_tree.specs.View.{action_view, reactor_view, timer_view, tree_view};
+ghost use Rattle.lft_scope.specs.Causes.{NoneHolds, first_causes, later_causes};
+ghost use Rattle.lft_scope.specs.Kinds.{timer_times};
 ghost use Rattle.lft_reactors.specs.Lacking.{LacksPlace, TimeLacksPlace};
-ghost use Rattle.lft_reactors.specs.Places.{IsIndexOf, place_in};
-ghost use Rattle.lft_reactors.specs.References.{action_trees, port_trees, reactor_trees, timer_trees};
+ghost use Rattle.lft_scope.specs.Places.{IsIndexOf, place_in};
+ghost use Rattle.lft_scope.specs.References.{action_trees, port_trees, reactor_trees, timer_trees};
 ghost use Rattle.lft_reactors.specs.Sheets.{AreDeclarations, IsActionSheet, IsDeclarations, IsTimerSheet};
 
 use crate::clocks::clock_or_zero;
-use crate::index::Index;
-use crate::members;
-use crate::names::parameter_names;
 use crate::sheets::{ActionSheet, Declarations, TimerSheet};
-use lft_syntax::{Action, Ast, Port, Reactor, Timer};
+use lft_scope::index::Index;
+use lft_scope::members;
+use lft_scope::names::parameter_names;
 use lft_tag::NoMemory;
+use lft_tree::{Action, Ast, Port, Reactor, Timer};
 use std::alloc::Global;
 
 /// Whether each of the ports is an input.

@@ -1,24 +1,24 @@
 //! Where the names of each reactor stand, by number.
 
 ghost use Rattle.std.specs.Prelude.{◌≡◌, ℕ, List, Some, None, IfOk, IsSomeAnd, MatchOption, filter_map, option_map, slice_get};
-ghost use Rattle.lft_syntax.specs.Tree.{InstanceTree, ReactorTree, instances_of};
-ghost use Rattle.lft_syntax.specs.View.{member_views, reactor_view};
-ghost use Rattle.lft_reactors.specs.Causes.{UnknownReactor};
+ghost use Rattle.lft_tree.specs.Tree.{InstanceTree, ReactorTree, instances_of};
+ghost use Rattle.lft_tree.specs.View.{member_views, reactor_view};
+ghost use Rattle.lft_scope.specs.Causes.{UnknownReactor};
 ghost use Rattle.lft_reactors.specs.Directories.{IsAt, IsDirectory, IsNames, inner_ref};
-ghost use Rattle.lft_reactors.specs.Kinds.{inner_kind};
+ghost use Rattle.lft_scope.specs.Kinds.{inner_kind};
 ghost use Rattle.lft_reactors.specs.Numbers.{AreContents, IsContents, IsNumberOf};
-ghost use Rattle.lft_reactors.specs.Places.{IsIndexOf};
-ghost use Rattle.lft_reactors.specs.References.{reactor_trees};
+ghost use Rattle.lft_scope.specs.Places.{IsIndexOf};
+ghost use Rattle.lft_scope.specs.References.{reactor_trees};
 ghost use Rattle.lft_reactors.specs.Sheets.{IsInner, action_place, instance_place, parameter_place, port_place, timer_place};
-ghost use Rattle.lft_reactors.specs.Tests.{name_in};
+ghost use Rattle.lft_scope.specs.Tests.{name_in};
 
-use crate::fault::ReactorFault;
-use crate::index::Index;
-use crate::names::{Declared, parameter_names, push_names};
 use crate::numbers::{contents_among, number_at};
 use lft_instances::Contents;
-use lft_syntax::{Member, Reactor};
+use lft_scope::ReactorFault;
+use lft_scope::index::Index;
+use lft_scope::names::{Declared, parameter_names, push_names};
 use lft_tag::NoMemory;
+use lft_tree::{Member, Reactor};
 use std::alloc::Global;
 
 /// Where the names of the members of this kind stand.

@@ -1,19 +1,19 @@
 //! What the names in a reactor stand for, by place.
 
 ghost use Rattle.std.specs.Prelude.{◌≡◌, ◌≢◌, List, None, false, IfOk, IfErr, MatchOption};
-ghost use Rattle.lft_syntax.specs.Tree.{ReactorTree};
-ghost use Rattle.lft_syntax.specs.View.{ref_view};
+ghost use Rattle.lft_tree.specs.Tree.{ReactorTree};
+ghost use Rattle.lft_tree.specs.View.{ref_view};
 ghost use Rattle.lft_reactors.specs.Directories.{IsAt, IsTimerAt, Lacks, inner_ref, is_port, is_spot};
-ghost use Rattle.lft_reactors.specs.Kinds.{inner_kind};
+ghost use Rattle.lft_scope.specs.Kinds.{inner_kind};
 ghost use Rattle.lft_reactors.specs.Sheets.{IsEnd, IsSpot, is_timer};
-ghost use Rattle.lft_reactors.specs.declared.fault.ReactorFault.TheVariants as faults;
+ghost use Rattle.lft_scope.specs.declared.fault.ReactorFault.TheVariants as faults;
 
 use crate::directory::Directory;
-use crate::fault::ReactorFault;
 use crate::sheets::Spot;
 use lft_instances::End;
-use lft_syntax::Reference;
+use lft_scope::ReactorFault;
 use lft_tag::NoMemory;
+use lft_tree::Reference;
 
 /// A place in 32 bits. No list that can be held is longer.
 pub(crate) fn narrow(place: usize) -> Result<u32, NoMemory>

@@ -2,22 +2,21 @@
 
 ghost use Rattle.std.specs.Prelude.{◌≡◌, ◌≢◌, ◌++◌, ℕ, List, None, Some, Any, IfOk, IfErr, OnOk, option_map, option_to_list};
 ghost use Rattle.std.specs.List.{AllZip};
-ghost use Rattle.lft_syntax.specs.Tree.{ReactorTree, reactors_of};
-ghost use Rattle.lft_syntax.specs.View.{connection_view, reactor_view, time_view, tree_view};
-ghost use Rattle.lft_reactors.specs.Causes.{NoneHolds, UnknownReactor, first_causes, later_causes};
+ghost use Rattle.lft_tree.specs.Tree.{ReactorTree, reactors_of};
+ghost use Rattle.lft_tree.specs.View.{connection_view, reactor_view, time_view, tree_view};
+ghost use Rattle.lft_scope.specs.Causes.{NoneHolds, UnknownReactor, first_causes, later_causes};
 ghost use Rattle.lft_reactors.specs.Directories.{HasLost, IsAt, IsLostTime, LosesIn};
-ghost use Rattle.lft_reactors.specs.References.{reactor_trees};
+ghost use Rattle.lft_scope.specs.References.{reactor_trees};
 ghost use Rattle.lft_reactors.specs.Sheets.{AreConnections, IsClock, IsConnections, IsDelay, IsJoin, Single, singles_in};
-ghost use Rattle.lft_reactors.specs.declared.fault.ReactorFault.TheVariants as faults;
+ghost use Rattle.lft_scope.specs.declared.fault.ReactorFault.TheVariants as faults;
 
 use crate::clocks::kept;
 use crate::directory::Directory;
 use crate::ends::end;
-use crate::fault::ReactorFault;
-use crate::members;
 use lft_instances::{Clock, Connections, Join};
-use lft_syntax::{Ast, Connection, Reactor, TimeExpression};
+use lft_scope::{ReactorFault, members};
 use lft_tag::NoMemory;
+use lft_tree::{Ast, Connection, Reactor, TimeExpression};
 use std::alloc::Global;
 
 /// What a time in the reactor of this number is.

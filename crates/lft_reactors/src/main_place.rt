@@ -1,15 +1,15 @@
 //! Where the main reactor stands.
 
 ghost use Rattle.std.specs.Prelude.{◌≡◌, ◌<◌, ◌^◌, ℕ, Some, find, length, slice_get, IfOk, MatchOption};
-ghost use Rattle.lft_syntax.specs.Tree.{ReactorTree, reactors_of};
-ghost use Rattle.lft_syntax.specs.View.{tree_view};
-ghost use Rattle.lft_reactors.specs.Causes.{NoMain, NoneHolds, first_causes};
-ghost use Rattle.lft_reactors.specs.Instances.{main_of};
-ghost use Rattle.lft_reactors.specs.References.{reactor_trees};
+ghost use Rattle.lft_tree.specs.Tree.{ReactorTree, reactors_of};
+ghost use Rattle.lft_tree.specs.View.{tree_view};
+ghost use Rattle.lft_scope.specs.Causes.{NoMain, NoneHolds, first_causes};
+ghost use Rattle.lft_scope.specs.Instances.{main_of};
+ghost use Rattle.lft_scope.specs.References.{reactor_trees};
 
-use crate::members;
-use lft_syntax::{Ast, Reactor};
+use lft_scope::members;
 use lft_tag::NoMemory;
+use lft_tree::{Ast, Reactor};
 use std::alloc::Global;
 
 /// The number of the first main reactor.

@@ -1,22 +1,21 @@
 //! What reactors contain, by number.
 
 ghost use Rattle.std.specs.Prelude.{◌≡◌, ◌≢◌, ◌<◌, ◌^◌, List, Some, None, IfOk, IfErr, MatchOption, length, slice_get};
-ghost use Rattle.lft_syntax.specs.Tree.{ReactorTree, reactors_of};
-ghost use Rattle.lft_syntax.specs.View.{reactor_view, tree_view};
-ghost use Rattle.lft_reactors.specs.Causes.{LacksReactor, UnknownReactor};
-ghost use Rattle.lft_reactors.specs.Instances.{reactor_named};
+ghost use Rattle.lft_tree.specs.Tree.{ReactorTree, reactors_of};
+ghost use Rattle.lft_tree.specs.View.{reactor_view, tree_view};
+ghost use Rattle.lft_scope.specs.Causes.{LacksReactor, UnknownReactor};
+ghost use Rattle.lft_scope.specs.Instances.{reactor_named};
 ghost use Rattle.lft_reactors.specs.Numbers.{AreContents, IsContents};
-ghost use Rattle.lft_reactors.specs.References.{reactor_trees};
-ghost use Rattle.lft_reactors.specs.Tables.{IsNumbers};
-ghost use Rattle.lft_reactors.specs.declared.fault.ReactorFault.TheVariants as faults;
+ghost use Rattle.lft_scope.specs.References.{reactor_trees};
+ghost use Rattle.lft_reactors.specs.Numbers.{IsNumbers};
+ghost use Rattle.lft_scope.specs.declared.fault.ReactorFault.TheVariants as faults;
 
-use crate::fault::ReactorFault;
-use crate::index::Index;
-use crate::members;
-use crate::names::reactor_names;
 use lft_instances::Contents;
-use lft_syntax::{Ast, Reactor};
+use lft_scope::index::Index;
+use lft_scope::names::reactor_names;
+use lft_scope::{ReactorFault, members};
 use lft_tag::NoMemory;
+use lft_tree::{Ast, Reactor};
 use std::alloc::Global;
 
 /// The numbers of the reactors that have a name, by name.

@@ -2,23 +2,23 @@
 
 ghost use Rattle.std.specs.Prelude.{◌≡◌, List, None, map, flat_map, Any, IfOk};
 ghost use Rattle.std.specs.List.{AllZip};
-ghost use Rattle.lft_syntax.specs.Tree.{ReactorTree, instances_of, nanoseconds, reactors_of};
-ghost use Rattle.lft_syntax.specs.View.{assignment_view, parameter_view, reactor_view, tree_view};
-ghost use Rattle.lft_reactors.specs.Causes.{LacksReactor, NoneHolds, SomeGivesUnknown, first_causes, later_causes};
+ghost use Rattle.lft_tree.specs.Tree.{ReactorTree, instances_of, nanoseconds, reactors_of};
+ghost use Rattle.lft_tree.specs.View.{assignment_view, parameter_view, reactor_view, tree_view};
+ghost use Rattle.lft_scope.specs.Causes.{LacksReactor, NoneHolds, SomeGivesUnknown, first_causes, later_causes};
 ghost use Rattle.lft_reactors.specs.Lacking.{AreOf, LacksName, LacksPlace, TimeLacksPlace};
-ghost use Rattle.lft_reactors.specs.Places.{IsIndexOf, place_in};
-ghost use Rattle.lft_reactors.specs.References.{instance_trees, reactor_trees};
+ghost use Rattle.lft_scope.specs.Places.{IsIndexOf, place_in};
+ghost use Rattle.lft_scope.specs.References.{instance_trees, reactor_trees};
 ghost use Rattle.lft_reactors.specs.Sheets.{AreGiven, AreParameters, IsGiven, IsParameters, kept};
-ghost use Rattle.lft_reactors.specs.Tables.{IsFile};
+ghost use Rattle.lft_scope.specs.Tables.{IsFile};
 
 use crate::clocks::{clock, kept};
-use crate::file::File;
-use crate::index::Index;
-use crate::members;
-use crate::names::parameter_names;
 use lft_instances::{Given, Parameters};
-use lft_syntax::{Assignment, Ast, Instance, Parameter, Reactor};
+use lft_scope::file::File;
+use lft_scope::index::Index;
+use lft_scope::members;
+use lft_scope::names::parameter_names;
 use lft_tag::NoMemory;
+use lft_tree::{Assignment, Ast, Instance, Parameter, Reactor};
 use std::alloc::Global;
 
 /// The defaults of the parameters.

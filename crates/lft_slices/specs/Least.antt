@@ -2,7 +2,7 @@
 use Rattle.std.specs.Prelude.{◌≡◌, ℕ, ◌⊎◌, Option, Some, None}
 use Rattle.lft_tag.specs.declared.Tag.{Tag}
 use Rattle.lft_tag.specs.Tags.{Before, UpTo}
-use Rattle.lft_program.specs.declared.parts.Timer.{Timer as TimerOf}
+use Rattle.lft_flat.specs.declared.parts.Timer.{Timer as TimerOf}
 use Rattle.lft_model.specs.Presence.{stop, Fires}
 use Rattle.lft_model.specs.Runs.{Ran}
 use Rattle.lft_slices.specs.Slices.{CutParts}

@@ -3,8 +3,8 @@ use Rattle.std.specs.Prelude.{◌≡◌, ℕ, ◌<◌, ◌≤◌, ◌⊎◌, Lis
 use Rattle.lft_tag.specs.declared.Tag.{Tag}
 use Rattle.lft_tag.specs.Tags.{Before, UpTo}
 use Rattle.lft_model.specs.Plans.{PlanParts, IsSoundPlan}
-use Rattle.lft_program.specs.Plain.{IsPlain}
-use Rattle.lft_program.specs.declared.parts.Trigger.{Trigger}
+use Rattle.lft_flat.specs.Plain.{IsPlain}
+use Rattle.lft_flat.specs.declared.parts.Trigger.{Trigger}
 use Rattle.lft_trace.specs.declared.row.Row.{Row}
 use Rattle.lft_trace.specs.Fits.{RowsFit}
 use Rattle.lft_model.specs.declared.breach.Breach.{Breach}

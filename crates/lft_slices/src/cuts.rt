@@ -7,8 +7,8 @@ ghost use Rattle.lft_slices.specs.Slices.{AreSlices, IsCuttable};
 
 use crate::slices::Slice;
 use crate::started::Started;
+use lft_flat::Program;
 use lft_model::{Breach, Plan};
-use lft_program::Program;
 use lft_tag::Tag;
 use lft_trace::Row;
 use std::marker::Model;

@@ -1,7 +1,7 @@
 //! From rows to a cut.
 
 ghost use Rattle.std.specs.Prelude.{◌≡◌, IfOk, IfErr};
-ghost use Rattle.lft_program.specs.Plain.{IsPlain};
+ghost use Rattle.lft_flat.specs.Plain.{IsPlain};
 ghost use Rattle.lft_trace.specs.Fits.{RowsFit};
 ghost use Rattle.lft_slices.specs.Slices.{IsCutFault};
 

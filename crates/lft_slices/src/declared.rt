@@ -1,17 +1,17 @@
 //! Rule 4: what a reaction declares, and what was read before.
 
 ghost use Rattle.std.specs.Prelude.{◌≡◌, ℕ, ◌<◌, length, Some, IsTrue, ◌↔◌, slice_get, Contains};
-ghost use Rattle.lft_program.specs.Parts.{inputs};
-ghost use Rattle.lft_program.specs.Sound.{IsNameOf};
-ghost use Rattle.lft_program.specs.declared.parts.Value.{Value};
-ghost use Rattle.lft_program.specs.declared.parts.Trigger.TheVariants.{On};
+ghost use Rattle.lft_flat.specs.Parts.{inputs};
+ghost use Rattle.lft_flat.specs.Sound.{IsNameOf};
+ghost use Rattle.lft_flat.specs.declared.parts.Value.{Value};
+ghost use Rattle.lft_flat.specs.declared.parts.Trigger.TheVariants.{On};
 ghost use Rattle.lft_trace.specs.declared.row.Step.TheVariants.{Read};
 ghost use Rattle.lft_trace.specs.Fits.{RowFits};
 ghost use Rattle.lft_model.specs.Breaches.{IsUndeclared, WasRead, MayWrite, MaySchedule};
 ghost use Rattle.lft_model.specs.Runs.{effects_of};
 
 use crate::triggered::trigger_at;
-use lft_program::{Name, Program, Reaction, Trigger};
+use lft_flat::{Name, Program, Reaction, Trigger};
 use lft_trace::{Row, Step, row_at};
 
 /// Whether the row's step names what its reaction didn't declare for it, or reads a name again.

@@ -9,8 +9,6 @@ mod open;
 mod pass;
 mod slices;
 mod started;
-#[cfg(test)]
-mod tests;
 mod triggered;
 
 pub use cuts::{Cut, CutFault};

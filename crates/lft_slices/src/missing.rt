@@ -1,13 +1,13 @@
 //! The first missing run, found from what makes reactions run and not from the tags.
 
 ghost use Rattle.std.specs.Prelude.{◌≡◌, ◌<◌, ◌≤◌, length, Some, None};
-ghost use Rattle.lft_program.specs.Sound.{IsTriggerOf};
+ghost use Rattle.lft_flat.specs.Sound.{IsTriggerOf};
 ghost use Rattle.lft_slices.specs.Slices.{LeastTag, Misses, IsMissing, IsFirstMissing};
 ghost use Rattle.lft_slices.specs.Least.{IsSooner, IsFirstOf, MissesAt, MissesFiring};
 
 use crate::cuts::Cut;
 use crate::triggered::trigger_at;
-use lft_program::{Timer, Trigger};
+use lft_flat::{Timer, Trigger};
 use lft_tag::Tag;
 
 /// The earlier of two tags, of those that are.

@@ -1,12 +1,12 @@
 //! Which triggers are present at a tag, and which reactions are triggered there.
 
 ghost use Rattle.std.specs.Prelude.{◌≡◌, ◌<◌, length, Some, IsTrue, ◌↔◌, slice_get};
-ghost use Rattle.lft_program.specs.Sound.{IsTriggerOf};
+ghost use Rattle.lft_flat.specs.Sound.{IsTriggerOf};
 ghost use Rattle.lft_model.specs.Presence.{Occurs, Triggered};
 
 use crate::cuts::Cut;
+use lft_flat::Trigger;
 use lft_model::fires;
-use lft_program::Trigger;
 use lft_tag::Tag;
 
 /// The trigger at the place, counted from 0.

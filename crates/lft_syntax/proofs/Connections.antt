@@ -3,7 +3,7 @@ use Rattle.std.proofs.Common.{◌≡◌, ℕ, ◌+◌, true, false, List, Option
 use Rattle.std.specs.Prelude.{slice_get, codes}
 use Rattle.lft_syntax.specs.Lexeme.{Lexeme, Letters, Arrow, Symbol, is, is_name, is_reserved, closes_at}
 use Rattle.lft_syntax.specs.Language.{one, ◌>>◌, optional}
-use Rattle.lft_syntax.specs.Tree.{TimeTree}
+use Rattle.lft_tree.specs.Tree.{TimeTree}
 use Rattle.lft_syntax.specs.Grammar.{key, ptime, refs, connection, connection_of}
 use Rattle.lft_syntax.specs.Reading.{after_at, connection_at}
 use Rattle.lft_syntax.proofs.Algebra.{near, Right, Any, Starts, starts_one}

@@ -1,5 +1,5 @@
 -- A cutting that grows by pieces at its end.
-use Rattle.std.proofs.Common.{◌≡◌, ℕ, List, [], ◌∷◌, ◌++◌, length, Option, Some, None, refl, subst, append_assoc}
+use Rattle.std.proofs.Common.{◌≡◌, ℕ, List, [], ◌∷◌, ◌++◌, ◌≤◌, length, Option, Some, None, refl, subst, append_assoc}
 use Rattle.std.proofs.lemmas.List.{append-nil}
 use Rattle.lft_syntax.specs.declared.token.Token.{Token}
 use Rattle.lft_syntax.specs.declared.token.TokenKind.{TokenKind}
@@ -42,10 +42,10 @@ first_fault t i tokens fault front at =
     let found : Faults t fault = (i, tokens ++ [], front.onto [] i done, at) in
     (found, λ other there. fault_once t other fault there found, λ other whole. fault_or_cut t fault other found whole)
 
-pub front_fault : (t : List ℕ) (i : ℕ) (tokens : List Token) (fault : LexFault) → Front t i tokens → FaultAt t i fault → LexFails t fault
-front_fault t i tokens faults.TooLong front at = absurd (not_too_long t i _ at.refused)
-front_fault t i tokens faults.NoMemory front at = tt
-front_fault t i tokens fault front at = first_fault t i tokens fault front at
+pub front_fault : (t : List ℕ) (i : ℕ) (tokens : List Token) (fault : LexFault) → length t ≤ 1048576 → Front t i tokens → FaultAt t i fault → LexFails t fault
+front_fault t i tokens faults.TooLong short front at = absurd (not_too_long t i _ at.refused)
+front_fault t i tokens faults.NoMemory short front at = tt
+front_fault t i tokens fault short front at = let first = first_fault t i tokens fault front at in (first.0, first.1, first.2, short)
 
 pub not_some : {A : Type 0} (o : Option A) → ((x : A) → o ≡ Some x → ⊥) → o ≡ None
 not_some None none = refl

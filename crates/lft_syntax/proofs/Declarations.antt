@@ -3,7 +3,7 @@ use Rattle.std.proofs.Common.{◌≡◌, ℕ, Bool, true, false, List, Some, ref
 use Rattle.std.specs.Prelude.{slice_get, codes, ◌||◌}
 use Rattle.lft_syntax.specs.Lexeme.{Lexeme, Code, Letters, Symbol, is, is_word_of, input_keys, scope_keys, name_in}
 use Rattle.lft_syntax.specs.Language.{Spelling, one, ◌&◌, ◌>>◌, ◌<<◌, ◌or◌, optional, made, ignored, range}
-use Rattle.lft_syntax.specs.Tree.{TimeTree}
+use Rattle.lft_tree.specs.Tree.{TimeTree}
 use Rattle.lft_syntax.specs.Grammar.{key, symbol, name, ptime, enclosed, typed, value, parentheses, braces, port, timer, action, state, preamble, input_of, output_of, timer_of, logical_is, physical_is, action_of}
 use Rattle.lft_syntax.specs.Reading.{Reading, input_at, output_at, port_at, period_at, times_at, timer_at, min_delay_at, origin_at, action_at, is_initial, initial_at, state_at, scope_at, preamble_at, range_at}
 use Rattle.lft_syntax.proofs.Algebra.{Follow, Horizon, near, Right, Leads, Any, Test, Starts, Not, right_token, right_range, starts_one}

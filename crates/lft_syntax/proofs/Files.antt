@@ -3,7 +3,7 @@ use Rattle.std.proofs.Common.{◌≡◌, ℕ, suc, Bool, true, false, List, Some
 use Rattle.std.specs.Prelude.{slice_get, codes}
 use Rattle.lft_syntax.specs.Lexeme.{Lexeme, Letters, Symbol, is, is_there, is_word_of, preamble_keys, name_in}
 use Rattle.lft_syntax.specs.Language.{Spelling, ◌or◌, optional, many, made, ignored}
-use Rattle.lft_syntax.specs.Tree.{ItemTree, PreambleItem, ReactorItem}
+use Rattle.lft_tree.specs.Tree.{ItemTree, PreambleItem, ReactorItem}
 use Rattle.lft_syntax.specs.Grammar.{name, braces, preamble, reactor, target, file, file_of}
 use Rattle.lft_syntax.specs.Reading.{target_at, item_at, items_at, file_at}
 use Rattle.lft_syntax.proofs.Algebra.{Follow, near, Right, Any, Test, Starts, Not, right_token, starts_one}

@@ -4,7 +4,7 @@ use Rattle.std.specs.Prelude.{slice_get, ◌||◌}
 use Rattle.std.specs.Str.{bytes_eq}
 use Rattle.std.proofs.lemmas.Slice.Eq.{bytes_eq-Decides}
 use Rattle.std.proofs.lemmas.Bool.{eqb-true}
-use Rattle.lft_syntax.specs.declared.tree.TimeUnit.{TimeUnit}
+use Rattle.lft_tree.specs.declared.tree.TimeUnit.{TimeUnit}
 use Rattle.lft_syntax.specs.Lexeme.{Lexeme, Code, Text, Letters, Number, Arrow, Symbol, is, is_name, is_word_of, is_follower, is_reserved, is_one_of, member_keys, closes_at, negated, name_in, unit_in, unit_of}
 use Rattle.lft_syntax.specs.Language.{Spelling, look}
 use Rattle.lft_syntax.specs.Grammar.{name}

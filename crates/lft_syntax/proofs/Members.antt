@@ -3,7 +3,7 @@ use Rattle.std.proofs.Common.{◌≡◌, ℕ, ◌+◌, ◌≤◌, Bool, true, fa
 use Rattle.std.specs.Prelude.{slice_get, codes}
 use Rattle.lft_syntax.specs.Lexeme.{Lexeme, Code, Text, Letters, Number, Arrow, Symbol, is, is_name, is_word_of, is_follower, is_reserved, is_one_of, port_keys, action_keys, preamble_keys, member_keys, closes_at, negated}
 use Rattle.lft_syntax.specs.Language.{Spelling, one, ◌&◌, ◌>>◌, ◌<<◌, ◌or◌, optional, many, made}
-use Rattle.lft_syntax.specs.Tree.{RefTree, MemberTree, PortMember, TimerMember, ActionMember, StateMember, PreambleMember, ReactionMember, InstanceMember, ConnectionMember}
+use Rattle.lft_tree.specs.Tree.{RefTree, MemberTree, PortMember, TimerMember, ActionMember, StateMember, PreambleMember, ReactionMember, InstanceMember, ConnectionMember}
 use Rattle.lft_syntax.specs.Grammar.{key, symbol, name, ptime, ref, refs, listed, enclosed, assign, port, timer, action, state, preamble, reaction, instance, connection, member, or_empty, instance_of, connection_of}
 use Rattle.lft_syntax.specs.Reading.{Reading, apply, choice, choice_next, instance_at, connection_at, member_at, is_inside, members_at}
 use Rattle.lft_syntax.proofs.Algebra.{Follow, near, Right, Test, Starts, StartsNext, right_choice, right_choice_next, starts_one, loosen}

@@ -3,7 +3,7 @@ use Rattle.std.proofs.Common.{◌≡◌, ℕ, Bool, true, false, List, Some, ref
 use Rattle.std.specs.Prelude.{slice_get, codes}
 use Rattle.lft_syntax.specs.Lexeme.{Lexeme, Code, Letters, Arrow, Symbol, is, is_name, name_in, is_reserved}
 use Rattle.lft_syntax.specs.Language.{one, ◌>>◌, optional, made, ignored}
-use Rattle.lft_syntax.specs.Tree.{RefTree, OnRef}
+use Rattle.lft_tree.specs.Tree.{RefTree, OnRef}
 use Rattle.lft_syntax.specs.Grammar.{name, refs, listed, enclosed, trigger, reaction, or_empty, startup_of, shutdown_of, reaction_of}
 use Rattle.lft_syntax.specs.Reading.{is_open, trigger_at, triggers_at, uses_at, effects_at, reaction_at}
 use Rattle.lft_syntax.proofs.Algebra.{Follow, near, Right, Any, Test, Starts, Not, right_token, starts_one}

@@ -3,7 +3,7 @@ use Rattle.std.proofs.Common.{◌≡◌, Bool, true, false, Some, refl, arith}
 use Rattle.std.specs.Prelude.{slice_get, codes}
 use Rattle.lft_syntax.specs.Lexeme.{Letters, Symbol, is, is_name, name_in}
 use Rattle.lft_syntax.specs.Language.{Spelling, ◌&◌, ◌>>◌, optional, made}
-use Rattle.lft_syntax.specs.Tree.{ReactorTree}
+use Rattle.lft_tree.specs.Tree.{ReactorTree}
 use Rattle.lft_syntax.specs.Grammar.{key, name, params, body, reactor, reactor_of, main_of}
 use Rattle.lft_syntax.specs.Reading.{maybe, params_at, body_at, reactor_at}
 use Rattle.lft_syntax.proofs.Algebra.{near, Right, Leads, Any, Test, Starts, right_token, starts_one, loosen}

@@ -3,10 +3,10 @@ use Rattle.std.proofs.Common.{◌≡◌, ℕ, ◌+◌, ◌≤◌, Bool, true, fa
 use Rattle.std.specs.Prelude.{slice_get}
 use Rattle.std.proofs.lemmas.Bool.{eqb-true, eq-eqb}
 use Rattle.std.proofs.lemmas.Option.{slice_get_within}
-use Rattle.lft_syntax.specs.declared.tree.TimeUnit.{TimeUnit}
+use Rattle.lft_tree.specs.declared.tree.TimeUnit.{TimeUnit}
 use Rattle.lft_syntax.specs.Lexeme.{Lexeme, Code, Text, Letters, Number, Arrow, Symbol, is_number, is_name, is_follower, same, name_in, number_in, unit_in}
 use Rattle.lft_syntax.specs.Language.{look, this, made}
-use Rattle.lft_syntax.specs.Tree.{Written, Named}
+use Rattle.lft_tree.specs.Tree.{Written, Named}
 use Rattle.lft_syntax.specs.Grammar.{name, unit, time, ptime, counted, zero_time}
 use Rattle.lft_syntax.specs.Reading.{◌>>=◌, seen_at, time_from, time_at, delay_at, ptime_at, pdelay_at, is_open}
 use Rattle.lft_syntax.proofs.Algebra.{Follow, Horizon, near, Known, Refused, Outcome, Agree, Right, Starts, right_token, starts_token, starts_one, same-true, pair}

@@ -4,9 +4,9 @@ use Rattle.std.specs.Prelude.{slice_get, codes}
 use Rattle.std.proofs.lemmas.Option.{slice_get_cases, slice_get_past}
 use Rattle.lft_syntax.specs.declared.fault.SyntaxFault.{SyntaxFault}
 use Rattle.lft_syntax.specs.declared.fault.SyntaxFault.TheVariants as faults
-use Rattle.lft_syntax.specs.declared.ast.Ast.{Ast}
+use Rattle.lft_tree.specs.declared.ast.Ast.{Ast}
 use Rattle.lft_syntax.specs.Lexeme.{Lexeme, Letters, is, is_there}
-use Rattle.lft_syntax.specs.Tree.{FileTree, ItemTree, Range}
+use Rattle.lft_tree.specs.Tree.{FileTree, ItemTree, Range}
 use Rattle.lft_syntax.specs.Grammar.{file, file_of, Spells}
 use Rattle.lft_syntax.specs.Reading.{Reading, ◌>>=◌, maybe, many_at, target_at, item_at, items_at, file_at, whole_at}
 use Rattle.lft_syntax.proofs.Algebra.{near, Outcome, Agree, Test}

@@ -1,8 +1,8 @@
 -- What a token is to the grammar.
 use Rattle.std.specs.Prelude.{ℕ, List, [], ◌∷◌, codes, Bool, true, false, Option, Some, None, nat_eq, ◌||◌, if◌then◌else◌}
 use Rattle.std.specs.Str.{bytes_eq}
-use Rattle.lft_syntax.specs.declared.tree.TimeUnit.{TimeUnit}
-use Rattle.lft_syntax.specs.declared.tree.TimeUnit.TheVariants as units
+use Rattle.lft_tree.specs.declared.tree.TimeUnit.{TimeUnit}
+use Rattle.lft_tree.specs.declared.tree.TimeUnit.TheVariants as units
 
 -- a name or a reserved word is seen as its letters
 pub data Lexeme : Type 0 where

@@ -2,7 +2,7 @@
 -- and i, j and k are places in it, counted from 0.
 use Rattle.std.specs.Prelude.{◌≡◌, ◌≢◌, ℕ, ◌+◌, ◌-◌, ◌*◌, ◌<◌, ◌≤◌, ◌^◌, List, [], ◌∷◌, length, slice_get, slice_index, slice_range, Option, Some, None, Bool, if◌then◌else◌, true, false, ◌==◌, ◌&&◌}
 use Rattle.std.specs.List.{fold}
-use Rattle.lft_syntax.specs.Bytes.{within, is_space, is_in_line, is_digit, is_letter, is_word, is_byte}
+use Rattle.lft_tree.specs.Bytes.{within, is_space, is_in_line, is_digit, is_letter, is_word, is_byte}
 use Rattle.lft_syntax.specs.declared.token.Token.{Token}
 use Rattle.lft_syntax.specs.declared.token.TokenKind.{TokenKind}
 use Rattle.lft_syntax.specs.declared.token.TokenKind.TheVariants as kinds
@@ -108,8 +108,8 @@ Lexes t tokens = Cut t 0 tokens (length t)
 abbrev pub Faults : List ℕ → LexFault → Type 0
 Faults t fault = (i : ℕ) × (tokens : List Token) × Cut t 0 tokens i × FaultAt t i fault
 
--- Why a text is refused: its length, or its one first fault, and then it has no tokens. Want of memory says nothing of it.
+-- Why a text is refused: its length, or, where that is within the limit, its one first fault, and then it has no tokens. Want of memory says nothing of it.
 abbrev pub LexFails : List ℕ → LexFault → Type 0
 LexFails t faults.TooLong = 1048576 < length t
 LexFails t faults.NoMemory = Unit {0}
-LexFails t fault = Faults t fault × ((other : LexFault) → Faults t other → other ≡ fault) × ((tokens : List Token) → Lexes t tokens → ⊥)
+LexFails t fault = Faults t fault × ((other : LexFault) → Faults t other → other ≡ fault) × ((tokens : List Token) → Lexes t tokens → ⊥) × (length t ≤ 1048576)

@@ -1,16 +1,11 @@
--- What contracts see of a tree and of the tokens of a text.
+-- What contracts see of the tokens of a text.
 use Rattle.std.specs.Prelude.{◌≡◌, ℕ, List, map, slice_range, Result, Ok, Err}
 use Rattle.lft_syntax.specs.declared.parse_error.ParseError.{ParseError}
 use Rattle.lft_syntax.specs.declared.parse_error.ParseError.TheVariants as errors
 use Rattle.lft_syntax.specs.declared.token.Token.{Token}
 use Rattle.lft_syntax.specs.declared.token.TokenKind.{TokenKind}
 use Rattle.lft_syntax.specs.declared.token.TokenKind.TheVariants as kinds
-use Rattle.lft_syntax.specs.declared.ast.Ast.{Ast}
 use Rattle.lft_syntax.specs.Lexeme.{Lexeme, Code, Text, Letters, Number, Arrow, Symbol}
-use Rattle.lft_syntax.specs.Tree.{FileTree}
-pub use Rattle.lft_syntax.specs.ItemView.{range_view, time_view, ref_view, ref_views, parameter_view, port_view, timer_view, action_view, trigger_view, reaction_view, assignment_view, instance_view, connection_view, member_view, member_views, reactor_view, item_view, item_views, file_view}
-
--- ---- tokens
 
 abbrev pub lexeme_from : TokenKind → List ℕ → Lexeme
 lexeme_from kinds.Code bytes = Code
@@ -27,12 +22,6 @@ lexeme_of text token = lexeme_from token.kind (slice_range text token.start toke
 -- the tokens of a text, as the grammar sees them
 unfoldable pub lexemes : List ℕ → List Token → List Lexeme
 lexemes text tokens = map (lexeme_of text) tokens
-
--- ---- trees
-
--- the tree that the parser gives
-abbrev pub tree_view : Ast → FileTree
-tree_view t = file_view t.target t.items.items
 
 -- ---- for the parser's own contracts
 

@@ -39,6 +39,3 @@ pub fn lex(alloc: Global, text: &[u8]) -> Result<Tokens, LexFault>
     }
     Ok(Tokens::from_vec(tokens))
 }
-
-#[cfg(test)]
-mod tests;

@@ -1,7 +1,6 @@
 #![tactic(auto)]
 //! Program texts: tokens, and the tree that they spell.
 
-mod ast;
 mod fault;
 mod form;
 mod input;
@@ -10,14 +9,12 @@ mod parse_error;
 mod parser;
 mod piece;
 mod token;
-mod tree;
 
-pub use ast::Ast;
 pub use fault::{LexFault, SyntaxFault};
 pub use lexer::{MAX_LENGTH, lex};
+pub use lft_tree::{
+    Action, Assignment, Ast, Connection, Instance, Item, Member, Parameter, Port, Reaction,
+    Reactor, Reference, Time, TimeExpression, TimeUnit, Timer, TokenRange, Trigger,
+};
 pub use parser::parse;
 pub use token::{Token, TokenKind, Tokens};
-pub use tree::{
-    Action, Assignment, Connection, Instance, Item, Member, Parameter, Port, Reaction, Reactor,
-    Reference, Time, TimeExpression, TimeUnit, Timer, TokenRange, Trigger,
-};

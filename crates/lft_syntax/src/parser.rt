@@ -2,12 +2,13 @@
 
 ghost use Rattle.std.specs.Prelude.{◌≡◌, ℕ, ◌<◌, ◌≤◌, ◌+◌, List, length, take, IfOk, Err};
 ghost use Rattle.lft_syntax.specs.declared.fault.SyntaxFault as SyntaxFault;
-ghost use Rattle.lft_syntax.specs.Identifiers.{HasIdentifiers};
+ghost use Rattle.lft_tree.specs.Identifiers.{HasIdentifiers};
 ghost use Rattle.lft_syntax.specs.Lexes.{Lexes};
 ghost use Rattle.lft_syntax.specs.Lexeme.{Lexeme};
-ghost use Rattle.lft_syntax.specs.Tree.{FileTree};
+ghost use Rattle.lft_tree.specs.Tree.{FileTree};
 ghost use Rattle.lft_syntax.specs.Grammar.{Spells};
-ghost use Rattle.lft_syntax.specs.View.{lexemes, tree_view};
+ghost use Rattle.lft_syntax.specs.View.{lexemes};
+ghost use Rattle.lft_tree.specs.View.{tree_view};
 
 mod declarations;
 mod file;
@@ -23,11 +24,11 @@ mod tokens;
 mod types;
 mod values;
 
-use crate::ast::Ast;
 use crate::fault::SyntaxFault;
 use crate::input::Input;
 use crate::parse_error::ParseError;
 use crate::token::Tokens;
+use lft_tree::Ast;
 use std::alloc::Global;
 
 /// The tree of a program text, from the text and its tokens. Where they spell none, the fault has
@@ -52,6 +53,3 @@ pub fn parse(alloc: Global, text: &[u8], tokens: &Tokens) -> Result<Ast, SyntaxF
         Err(ParseError::Unexpected(at)) => Err(SyntaxFault::Unexpected(at + 1)),
     }
 }
-
-#[cfg(test)]
-mod tests;

@@ -2,9 +2,9 @@
 use Rattle.std.proofs.Common.{◌≡◌, ◌≢◌, ◌∙◌, ℕ, List, [], length, get_or, true, false, Some, refl, sym, ap}
 use Rattle.std.specs.Prelude.{codes, if◌then◌else◌}
 use Rattle.std.specs.Str.{bytes_eq}
-use Rattle.lft_program.specs.Names.{AreDistinct}
-use Rattle.lft_program.specs.Parts.{Parts}
-use Rattle.lft_program.specs.declared.found.Found.TheVariants as found
+use Rattle.lft_flat.specs.Names.{AreDistinct}
+use Rattle.lft_flat.specs.Parts.{Parts}
+use Rattle.lft_flat.specs.declared.found.Found.TheVariants as found
 use Rattle.lft_tag.specs.declared.Tag.{Tag}
 use Rattle.lft_trace.specs.ExternalTables.{ExternalFields, IsEntry, IsOf, IsOfKind, IsPhysical, IsTag, IsUnknown, has_numbers, in_order, is_filled, word}
 use Rattle.lft_trace.specs.declared.external_table.Entry.{Entry}

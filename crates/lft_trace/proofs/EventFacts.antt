@@ -10,7 +10,7 @@ use Rattle.std.specs.declared.cmp.Ordering.TheVariants.{Less, Equal, Greater}
 use Rattle.std.specs.Ordering.{is_eq, match_ordering, nat_cmp, ordering_then}
 use Rattle.std.proofs.lemmas.Bool.Decides.{nat_tests}
 use Rattle.std.proofs.lemmas.Map.Entries.{place_from_lookup}
-use Rattle.lft_program.specs.declared.parts.Value.{Value}
+use Rattle.lft_flat.specs.declared.parts.Value.{Value}
 use Rattle.lft_trace.specs.ExternalTables.{Clash, Has}
 use Rattle.lft_tag.specs.declared.Tag.{Tag}
 use Rattle.lft_tag.specs.Tags.{Before}

@@ -5,7 +5,7 @@ use Rattle.std.specs.List.{AllZip}
 use Rattle.std.specs.List.Sorted.{IsPermutation}
 use Rattle.std.proofs.lemmas.List.Elements.{filter_map-append}
 use Rattle.std.proofs.lemmas.List.Sorted.{IsPermutation-push_more, IsPermutation-refl}
-use Rattle.lft_program.specs.Parts.{Parts}
+use Rattle.lft_flat.specs.Parts.{Parts}
 use Rattle.lft_tag.specs.declared.Tag.{Tag}
 use Rattle.lft_trace.specs.ExternalTables.{AreApart, Begins, ExternalFails, ExternalTable, FaultAt, IsEntry, event_of, header, stop_of}
 use Rattle.lft_trace.specs.Inputs.{ExternalInputs, InOrder}

@@ -10,15 +10,15 @@ use Rattle.std.proofs.lemmas.List.Folds.{list_any_none}
 use Rattle.std.proofs.lemmas.Option.{slice_get-get_or}
 use Rattle.csv.specs.Writing.{default_writer, field_text, fields_text, is_blank, needs_byte, row_text}
 use Rattle.lft_tag.specs.declared.NoMemory.{NoMemory}
-use Rattle.lft_program.specs.Names.{IsNamed, IsNameByte}
-use Rattle.lft_program.specs.Parts.{Parts}
-use Rattle.lft_program.specs.Sound.{IsNameOf, IsSound}
-use Rattle.lft_program.specs.declared.found.Found.TheVariants as found
-use Rattle.lft_program.specs.declared.parts.Name.{Name}
-use Rattle.lft_program.specs.declared.parts.Name.TheVariants.{Port, Action}
-use Rattle.lft_program.specs.declared.parts.Value.{Value}
-use Rattle.lft_program.specs.declared.parts.Value.TheVariants.{Bare, Int}
-use Rattle.lft_program.proofs.Words.{All-decimal}
+use Rattle.lft_flat.specs.Names.{IsNamed, IsNameByte}
+use Rattle.lft_flat.specs.Parts.{Parts}
+use Rattle.lft_flat.specs.Sound.{IsNameOf, IsSound}
+use Rattle.lft_flat.specs.declared.found.Found.TheVariants as found
+use Rattle.lft_flat.specs.declared.parts.Name.{Name}
+use Rattle.lft_flat.specs.declared.parts.Name.TheVariants.{Port, Action}
+use Rattle.lft_flat.specs.declared.parts.Value.{Value}
+use Rattle.lft_flat.specs.declared.parts.Value.TheVariants.{Bare, Int}
+use Rattle.lft_flat.proofs.Decimals.{All-decimal}
 use Rattle.lft_trace.specs.Fits.{RowFits, RowsFit, StepFits}
 use Rattle.lft_trace.specs.Traces.{header, word}
 use Rattle.lft_trace.specs.SeenWriting.{AllHaveWords, HasWord, HasWords, IsWord}

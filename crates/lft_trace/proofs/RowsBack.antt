@@ -15,10 +15,10 @@ use Rattle.std.specs.declared.alloc.Global.{Global}
 use Rattle.csv.specs.declared.parser.State.TheVariants as st
 use Rattle.csv.proofs.RoundTrip.{read-write}
 use Rattle.lft_tag.specs.declared.NoMemory.{NoMemory}
-use Rattle.lft_program.specs.Parts.{Parts}
-use Rattle.lft_program.specs.Sound.{IsNameOf, IsSound}
-use Rattle.lft_program.specs.declared.parts.Name.{Name}
-use Rattle.lft_program.specs.declared.parts.Name.TheVariants.{Port, Action}
+use Rattle.lft_flat.specs.Parts.{Parts}
+use Rattle.lft_flat.specs.Sound.{IsNameOf, IsSound}
+use Rattle.lft_flat.specs.declared.parts.Name.{Name}
+use Rattle.lft_flat.specs.declared.parts.Name.TheVariants.{Port, Action}
 use Rattle.lft_trace.specs.Fits.{RowFits, RowsFit, StepFits}
 use Rattle.lft_trace.specs.Records.{records_of}
 use Rattle.lft_trace.specs.Traces.{IsRow, IsStep, IsThing, Table, TraceFields, header, in_order, word}

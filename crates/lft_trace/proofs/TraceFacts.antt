@@ -1,7 +1,7 @@
 -- What one more record does to a trace table, and what a table promises.
 use Rattle.std.proofs.Common.{◌≡◌, ◌∙◌, inl, inr, ◌+◌, ◌<◌, ◌≤◌, ◌++◌, ℕ, List, [], ◌∷◌, length, refl, sym, ap, arith, append_assoc, append-nil, length-append}
 use Rattle.std.specs.List.{AllZip}
-use Rattle.lft_program.specs.Parts.{Parts}
+use Rattle.lft_flat.specs.Parts.{Parts}
 use Rattle.lft_trace.specs.Traces.{Begins, FaultAt, IsRow, Table, TraceFails, header}
 use Rattle.lft_trace.specs.declared.fault.TraceFault.{TraceFault}
 use Rattle.lft_trace.specs.declared.fault.TraceFault.TheVariants as fault

@@ -1,13 +1,13 @@
 -- Trace tables: the rows of their records, and their faults.
 use Rattle.std.specs.Prelude.{◌≡◌, ◌≢◌, ◌≤◌, ◌<◌, ◌+◌, ◌⊎◌, ◌++◌, ℕ, List, [], ◌∷◌, length, codes, Bool, true, false, not, ◌&&◌, ◌||◌, is_some, ◌==◌, Some}
 use Rattle.std.specs.List.{AllZip}
-use Rattle.lft_program.specs.Names.{IsNamed}
-use Rattle.lft_program.specs.Parts.{Parts}
-use Rattle.lft_program.specs.declared.found.Found.{Found}
-use Rattle.lft_program.specs.declared.found.Found.TheVariants as found
-use Rattle.lft_program.specs.declared.parts.Name.{Name}
-use Rattle.lft_program.specs.declared.parts.Name.TheVariants.{Port, Action}
-use Rattle.lft_program.specs.declared.parts.Value.{Value}
+use Rattle.lft_flat.specs.Names.{IsNamed}
+use Rattle.lft_flat.specs.Parts.{Parts}
+use Rattle.lft_flat.specs.declared.found.Found.{Found}
+use Rattle.lft_flat.specs.declared.found.Found.TheVariants as found
+use Rattle.lft_flat.specs.declared.parts.Name.{Name}
+use Rattle.lft_flat.specs.declared.parts.Name.TheVariants.{Port, Action}
+use Rattle.lft_flat.specs.declared.parts.Value.{Value}
 use Rattle.lft_trace.specs.Numbers.{number, number_or_zero, value}
 use Rattle.lft_trace.specs.declared.fault.TraceFault.{TraceFault}
 use Rattle.lft_trace.specs.declared.fault.TraceFault.TheVariants as fault

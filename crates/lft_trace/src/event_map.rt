@@ -6,7 +6,7 @@ ghost use Rattle.lft_trace.specs.ExternalTables.{Clash, Has};
 ghost use Rattle.lft_trace.specs.Inputs.{InOrder};
 
 use crate::externals::Event;
-use lft_program::Value;
+use lft_flat::Value;
 use lft_tag::{NoMemory, Tag};
 use std::alloc::Global;
 use std::collections::BTreeMap;

@@ -19,7 +19,7 @@ use crate::names::read_physical;
 use crate::number::{read_tag, read_value};
 use crate::records::{LAST_LINE, open, read_next, stopped};
 use csv::ByteRecord;
-use lft_program::{Program, Value};
+use lft_flat::{Program, Value};
 use lft_tag::Tag;
 use std::alloc::Global;
 

@@ -4,7 +4,7 @@ ghost use Rattle.std.specs.Prelude.{◌≡◌, ◌↔◌, IfOk, IsTrue, length};
 
 use crate::fits::{MAX_ROWS, event_fits, is_recorded};
 use crate::same::same_events;
-use lft_program::{Program, Value};
+use lft_flat::{Program, Value};
 use lft_tag::{NoMemory, Tag};
 use std::alloc::Global;
 use std::marker::Model;

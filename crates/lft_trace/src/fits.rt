@@ -1,13 +1,13 @@
 //! Rows and external inputs that are of a program and within the limits of a table.
 
 ghost use Rattle.std.specs.Prelude.{◌≡◌, ◌↔◌, IsTrue};
-ghost use Rattle.lft_program.specs.Sound.{IsNameOf};
+ghost use Rattle.lft_flat.specs.Sound.{IsNameOf};
 ghost use Rattle.lft_tag.specs.Tags.{IsRecorded};
 ghost use Rattle.lft_trace.specs.Fits.{EventFits, RowFits, StepFits};
 
 use crate::externals::Event;
 use crate::row::{Row, Step};
-use lft_program::{Name, Program};
+use lft_flat::{Name, Program};
 use lft_tag::{MAX_MICRO, MAX_TIME, Tag};
 
 /// The greatest number of rows or events.

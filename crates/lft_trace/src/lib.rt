@@ -24,6 +24,3 @@ pub use row::{Row, Rows, Step};
 pub use steps::{is_end, is_start, is_stop, row_at};
 pub use trace_table::read_trace;
 pub use trace_writer::write_trace;
-
-#[cfg(test)]
-mod tests;

@@ -1,11 +1,11 @@
 //! What fields name in a program.
 
 ghost use Rattle.std.specs.Prelude.{◌≡◌, ◌≢◌, ◌<◌, ◌↔◌, ℕ, IfSome, IfNone, IsTrue, length};
-ghost use Rattle.lft_program.specs.Names.{IsNamed};
+ghost use Rattle.lft_flat.specs.Names.{IsNamed};
 ghost use Rattle.lft_trace.specs.ExternalTables.{IsPhysical};
 ghost use Rattle.lft_trace.specs.Traces.{IsThing, thing};
 
-use lft_program::{Found, Name, Program};
+use lft_flat::{Found, Name, Program};
 
 /// The reaction of this name. The rows of one run stand together, so the name of the last row's
 /// reaction is tried before all others.

@@ -3,7 +3,7 @@
 ghost use Rattle.std.specs.Prelude.{◌≡◌, ◌↔◌, IsTrue, length};
 
 use crate::fits::{MAX_ROWS, row_fits};
-use lft_program::{Name, Program, Value};
+use lft_flat::{Name, Program, Value};
 use lft_tag::Tag;
 use std::marker::Model;
 

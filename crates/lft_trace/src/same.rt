@@ -4,7 +4,7 @@ ghost use Rattle.std.specs.Prelude.{◌≡◌};
 ghost use Rattle.std.specs.Bool.{Decides};
 
 use crate::externals::Event;
-use lft_program::Value;
+use lft_flat::Value;
 
 fn same_value(a: Value, b: Value) -> bool
     ensures { Decides result (a ≡ b) }

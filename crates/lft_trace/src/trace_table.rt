@@ -17,7 +17,7 @@ use crate::number::{read_number, read_number_or_zero, read_tag, read_value};
 use crate::records::{LAST_LINE, open, read_next, stopped};
 use crate::row::{Row, Rows, Step};
 use csv::ByteRecord;
-use lft_program::{Name, Program, Value};
+use lft_flat::{Name, Program, Value};
 use lft_tag::{MAX_TIME, Tag};
 use std::alloc::Global;
 

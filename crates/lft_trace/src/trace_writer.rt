@@ -1,8 +1,8 @@
 //! Writing traces as tables.
 
 ghost use Rattle.std.specs.Prelude.{◌≡◌, ◌++◌, ◌∷◌, [], ℕ, List, IfOk, OnOk, length, ◌<◌, slice_index_or, slice_get, Some};
-ghost use Rattle.lft_program.specs.Parts.{Parts};
-ghost use Rattle.lft_program.specs.Sound.{IsNameOf};
+ghost use Rattle.lft_flat.specs.Parts.{Parts};
+ghost use Rattle.lft_flat.specs.Sound.{IsNameOf};
 ghost use Rattle.lft_trace.specs.Fits.{RowFits, RowsFit, StepFits};
 ghost use Rattle.lft_trace.specs.Records.{records_of};
 ghost use Rattle.lft_trace.specs.Traces.{Table, header, in_order, word};
@@ -15,7 +15,7 @@ use crate::row::{Row, Rows, Step};
 use crate::steps::row_at;
 use csv::{Writer, WriterBuilder};
 use itoa::Buffer;
-use lft_program::{Name, Program, Value};
+use lft_flat::{Name, Program, Value};
 use lft_tag::NoMemory;
 use std::alloc::Global;
 

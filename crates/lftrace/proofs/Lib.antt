@@ -1,4 +1,0 @@
-pub mod Texts
-pub mod Loading
-pub mod Judging
-pub mod Listed

@@ -1,28 +1,10 @@
 //! Judges recorded traces of Lingua Franca programs.
 #![tactic(auto)]
 
-mod bundle;
-mod fault;
-mod input;
-mod judge;
-mod line;
-mod load;
-mod output;
-mod show;
-mod status;
 mod words;
 
-ghost use Rattle.std.specs.Prelude.{IsTrue, ◌↔◌};
-ghost use Rattle.lftrace.specs.Status.{Accepts};
-
-use crate::bundle::split_bundle;
-use crate::fault::{Fault, Part};
-use crate::input::read_input;
-use crate::judge::{judge_texts, judge_texts_alone};
-use crate::show::show_text;
-use crate::status::finish;
 use crate::words::{Job, JudgeWords, read_words};
-use lft_check::Verdict;
+use lft_front::{Fault, Part, bundle_answer, finish, judge_answer, read_input, show_answer};
 use std::alloc::Global;
 use std::fs::File;
 use std::io::{Read, Write};
@@ -38,13 +20,6 @@ fn read_file<F: Files>(rt: &F, alloc: Global, path: &str) -> Result<Vec<u8>, Fau
     }
 }
 
-/// Whether a verdict is that the trace is accepted.
-fn is_accepted(verdict: Verdict) -> bool
-    ensures { IsTrue result ↔ Accepts verdict }
-{
-    matches!(verdict, Verdict::Accepted { .. })
-}
-
 /// Judges the trace of three files, all of which are read first.
 fn judge_files<F: Files, W: Write>(
     rt: &F,
@@ -55,15 +30,14 @@ fn judge_files<F: Files, W: Write>(
     let program = read_file(rt, alloc, words.program)?;
     let externals = read_file(rt, alloc, words.externals)?;
     let trace = read_file(rt, alloc, words.trace)?;
-    let verdict = judge_texts(
+    judge_answer(
         alloc,
         program.as_slice(),
         externals.as_slice(),
         trace.as_slice(),
         words.workers,
         out,
-    )?;
-    Ok(is_accepted(verdict))
+    )
 }
 
 /// Shows the program of a file.
@@ -74,8 +48,7 @@ fn show_file<F: Files, W: Write>(
     out: &mut W,
 ) -> Result<bool, Fault> {
     let program = read_file(rt, alloc, path)?;
-    show_text(alloc, program.as_slice(), out)?;
-    Ok(true)
+    show_answer(alloc, program.as_slice(), out)
 }
 
 /// Judges the bundle that a reader gives.
@@ -85,19 +58,7 @@ fn judge_bundle<R: Read, W: Write>(
     out: &mut W,
 ) -> Result<bool, Fault> {
     let text = read_input(alloc, "-", reader)?;
-    match split_bundle(text.as_slice()) {
-        Some(bundle) => {
-            let verdict = judge_texts_alone(
-                alloc,
-                bundle.program,
-                bundle.externals,
-                bundle.trace,
-                out,
-            )?;
-            Ok(is_accepted(verdict))
-        }
-        None => Err(Fault::plain(Part::Bundle, 1, "BadBundle")),
-    }
+    bundle_answer(alloc, text.as_slice(), out)
 }
 
 fn main(rt: HostRuntime) -> ExitCode {
@@ -131,6 +92,3 @@ fn main(rt: HostRuntime) -> ExitCode {
     };
     ExitCode::from(finish(answer, &mut rt.stderr()))
 }
-
-#[cfg(test)]
-mod tests;

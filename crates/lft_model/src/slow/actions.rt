@@ -1,12 +1,12 @@
 //! What rows schedule, and what the external inputs give, for an action.
 
 ghost use Rattle.std.specs.Prelude.{◌≡◌, ◌<◌, ◌≤◌, ◌↔◌, length, filter_map, slice_get, Some, IsTrue, IfSome, IfNone};
-ghost use Rattle.lft_program.specs.declared.parts.Name.TheVariants.{Action as TheAction};
+ghost use Rattle.lft_flat.specs.declared.parts.Name.TheVariants.{Action as TheAction};
 ghost use Rattle.lft_trace.specs.Fits.{RowFits, RowsFit};
 ghost use Rattle.lft_model.specs.Presence.{At, IsPresent, events_of, given as the_given, min_delay, scheduled as the_scheduled};
 
 use crate::plan::Plan;
-use lft_program::{Name, Value};
+use lft_flat::{Name, Value};
 use lft_tag::Tag;
 use lft_trace::{Event, Row, Step, row_at};
 

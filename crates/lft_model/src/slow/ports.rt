@@ -1,14 +1,14 @@
 //! What rows write to the origin of a port.
 
 ghost use Rattle.std.specs.Prelude.{◌≡◌, ◌<◌, ◌↔◌, length, IsTrue, IfSome, IfNone, cond, None};
-ghost use Rattle.lft_program.specs.declared.parts.Name.TheVariants.{Port as ThePort};
+ghost use Rattle.lft_flat.specs.declared.parts.Name.TheVariants.{Port as ThePort};
 ghost use Rattle.lft_tag.specs.Tags.{IsRecorded, same_tag};
 ghost use Rattle.lft_tag.specs.Shifts.{shifted};
 ghost use Rattle.lft_trace.specs.Fits.{RowsFit};
 ghost use Rattle.lft_model.specs.Presence.{At, IsPresent, PortClash, value_written as the_value_written};
 
 use crate::plan::Plan;
-use lft_program::{Name, Port, Value};
+use lft_flat::{Name, Port, Value};
 use lft_tag::Tag;
 use lft_trace::{Row, Step, row_at};
 

@@ -3,7 +3,8 @@
 ghost use Rattle.std.specs.Prelude.{◌≡◌, ℕ, codes, option_map};
 ghost use Rattle.lft_syntax.specs.Lexeme.{Letters, Symbol, is, is_word_of, scope_keys};
 ghost use Rattle.lft_syntax.specs.Grammar.{flat};
-ghost use Rattle.lft_syntax.specs.View.{Gives, at_next, time_view, port_view, timer_view, action_view, range_view};
+ghost use Rattle.lft_syntax.specs.View.{Gives, at_next};
+ghost use Rattle.lft_tree.specs.View.{time_view, port_view, timer_view, action_view, range_view};
 ghost use Rattle.lft_syntax.specs.Reading.{key_at, ignoring_at, apply, maybe, input_at, output_at, port_at, period_at, times_at, timer_at, min_delay_at, origin_at, action_at, state_at, scope_at, preamble_at};
 ghost use Rattle.lft_syntax.specs.Parsing.{words};
 
@@ -14,7 +15,7 @@ use crate::parser::times::time_expression;
 use crate::parser::tokens::{code, is_key, is_symbol, key, symbol};
 use crate::parser::types::typed;
 use crate::parser::values::initial;
-use crate::tree::{Action, Port, TimeExpression, Timer, TokenRange};
+use lft_tree::{Action, Port, TimeExpression, Timer, TokenRange};
 
 /// The word `mutable`, which may be left out.
 fn mutable(input: &Input, at: usize) -> Result<usize, ParseError>

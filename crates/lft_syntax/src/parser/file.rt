@@ -2,7 +2,8 @@
 
 ghost use Rattle.std.specs.Prelude.{◌≡◌, ℕ, codes, option_map};
 ghost use Rattle.lft_syntax.specs.Lexeme.{Symbol, Letters, is};
-ghost use Rattle.lft_syntax.specs.View.{Gives, at_next, range_view, item_view, item_views, file_view};
+ghost use Rattle.lft_syntax.specs.View.{Gives, at_next};
+ghost use Rattle.lft_tree.specs.View.{range_view, item_view, item_views, file_view};
 ghost use Rattle.lft_syntax.specs.Reading.{maybe, ignoring_at, braces_at, target_at, item_at, items_at, file_at, whole_at};
 ghost use Rattle.lft_syntax.specs.Parsing.{words};
 
@@ -13,7 +14,7 @@ use crate::parser::groups::braces;
 use crate::parser::names::{is_preamble_key, skip_name};
 use crate::parser::reactors::reactor;
 use crate::parser::tokens::{is_key, is_symbol, is_there, key};
-use crate::tree::{Item, TokenRange};
+use lft_tree::{Item, TokenRange};
 
 /// The target's properties, which may be left out.
 fn properties(input: &Input, at: usize) -> Result<usize, ParseError>

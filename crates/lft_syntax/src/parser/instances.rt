@@ -2,7 +2,8 @@
 
 ghost use Rattle.std.specs.Prelude.{◌≡◌, ℕ, [], ◌∷◌, map, option_map, codes};
 ghost use Rattle.lft_syntax.specs.Lexeme.{Symbol, Letters, is};
-ghost use Rattle.lft_syntax.specs.View.{Gives, time_view, assignment_view, instance_view, connection_view};
+ghost use Rattle.lft_syntax.specs.View.{Gives};
+ghost use Rattle.lft_tree.specs.View.{time_view, assignment_view, instance_view, connection_view};
 ghost use Rattle.lft_syntax.specs.Reading.{after_comma, repeated, with_front, listed_at, given_value_at, assign_at, assigns_at, instance_at, after_at, connection_at};
 ghost use Rattle.lft_syntax.specs.Parsing.{words};
 
@@ -12,7 +13,7 @@ use crate::parser::names::name;
 use crate::parser::references::references;
 use crate::parser::times::{delay_expression, time_expression};
 use crate::parser::tokens::{arrow, is_key, is_symbol, key, symbol};
-use crate::tree::{Assignment, Connection, Instance, TimeExpression};
+use lft_tree::{Assignment, Connection, Instance, TimeExpression};
 
 /// The value of a parameter, after `=` or in parentheses.
 #[tactic(auto, unfolding(crate::specs::Reading::given_value_at))]

@@ -2,9 +2,10 @@
 
 ghost use Rattle.std.specs.Prelude.{◌≡◌, ℕ, ◌+◌, ◌≤◌, length, slice_get};
 ghost use Rattle.lft_syntax.specs.Lexeme.{Symbol, is};
-ghost use Rattle.lft_syntax.specs.View.{Gives, member_view, member_views};
+ghost use Rattle.lft_syntax.specs.View.{Gives};
+ghost use Rattle.lft_tree.specs.View.{member_view, member_views};
 ghost use Rattle.lft_syntax.specs.Reading.{member_at, members_at, body_at, choice_next, apply, instance_at, connection_at};
-ghost use Rattle.lft_syntax.specs.Tree.{InstanceMember, ConnectionMember};
+ghost use Rattle.lft_tree.specs.Tree.{InstanceMember, ConnectionMember};
 ghost use Rattle.lft_syntax.specs.Parsing.{words};
 
 use crate::input::Input;
@@ -14,7 +15,7 @@ use crate::parser::instances::{connection, instance};
 use crate::parser::names::{is_action_key, is_port_key, is_preamble_key};
 use crate::parser::reactions::reaction;
 use crate::parser::tokens::{is_key, is_symbol, peek, symbol};
-use crate::tree::Member;
+use lft_tree::Member;
 
 /// Whether this symbol stands at the place after this one.
 fn is_before_symbol(input: &Input, at: usize, byte: u8) -> bool

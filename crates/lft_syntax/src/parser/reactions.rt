@@ -3,7 +3,8 @@
 ghost use Rattle.std.specs.Prelude.{◌≡◌, ℕ, [], ◌∷◌, map};
 ghost use Rattle.lft_syntax.specs.Lexeme as Lexeme;
 ghost use Rattle.lft_syntax.specs.Lexeme.{Symbol, is};
-ghost use Rattle.lft_syntax.specs.View.{Gives, at_next, trigger_view, reaction_view};
+ghost use Rattle.lft_syntax.specs.View.{Gives, at_next};
+ghost use Rattle.lft_tree.specs.View.{trigger_view, reaction_view};
 ghost use Rattle.lft_syntax.specs.Reading.{after_comma, repeated, with_front, listed_at, maybe, ignoring_at, name_at, trigger_at, triggers_at, reaction_at};
 ghost use Rattle.lft_syntax.specs.Parsing.{words};
 
@@ -12,7 +13,7 @@ use crate::parse_error::ParseError;
 use crate::parser::names::{is_name, skip_name};
 use crate::parser::references::{effects, reference, uses};
 use crate::parser::tokens::{code, is_key, is_symbol, key, symbol};
-use crate::tree::{Reaction, Trigger};
+use lft_tree::{Reaction, Trigger};
 
 #[tactic(auto, unfolding(crate::specs::Reading::trigger_at))]
 fn trigger(input: &Input, at: usize) -> Result<(Trigger, usize), ParseError>

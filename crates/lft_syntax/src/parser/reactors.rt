@@ -4,7 +4,8 @@ ghost use Rattle.std.specs.Prelude.{◌≡◌, ℕ, [], ◌∷◌, codes, map, o
 ghost use Rattle.lft_syntax.specs.Lexeme as Lexeme;
 ghost use Rattle.lft_syntax.specs.Lexeme.{Symbol, is};
 ghost use Rattle.lft_syntax.specs.Grammar.{or_empty, reactor_of, main_of};
-ghost use Rattle.lft_syntax.specs.View.{Gives, parameter_view, reactor_view};
+ghost use Rattle.lft_syntax.specs.View.{Gives};
+ghost use Rattle.lft_tree.specs.View.{parameter_view, reactor_view};
 ghost use Rattle.lft_syntax.specs.Reading.{after_comma, repeated, with_front, listed_at, apply, both, second, key_at, maybe, name_at, body_at, default_at, param_at, params_at, reactor_at};
 ghost use Rattle.lft_syntax.specs.Parsing.{words};
 
@@ -14,7 +15,7 @@ use crate::parser::members::body;
 use crate::parser::names::{is_name, name};
 use crate::parser::times::time;
 use crate::parser::tokens::{is_key, is_symbol, key, symbol};
-use crate::tree::{Parameter, Reactor, Time};
+use lft_tree::{Parameter, Reactor, Time};
 
 /// A parameter's default, after `=` or in parentheses.
 #[tactic(auto, unfolding(crate::specs::Reading::default_at))]

@@ -3,7 +3,8 @@
 ghost use Rattle.std.specs.Prelude.{◌≡◌, ℕ, [], ◌∷◌};
 ghost use Rattle.lft_syntax.specs.Lexeme.{Symbol, is};
 ghost use Rattle.lft_syntax.specs.Grammar.{or_empty};
-ghost use Rattle.lft_syntax.specs.View.{Gives, ref_view, ref_views};
+ghost use Rattle.lft_syntax.specs.View.{Gives};
+ghost use Rattle.lft_tree.specs.View.{ref_view, ref_views};
 ghost use Rattle.lft_syntax.specs.Reading.{apply, after_comma, repeated, with_front, ref_at, refs_at, uses_at, effects_at};
 ghost use Rattle.lft_syntax.specs.Parsing.{words};
 
@@ -11,7 +12,7 @@ use crate::input::Input;
 use crate::parse_error::ParseError;
 use crate::parser::names::{is_name, name};
 use crate::parser::tokens::{arrow, is_arrow, is_symbol, symbol};
-use crate::tree::Reference;
+use lft_tree::Reference;
 
 #[tactic(auto, unfolding(crate::specs::Reading::ref_at))]
 pub fn reference(input: &Input, at: usize) -> Result<(Reference, usize), ParseError>

@@ -4,7 +4,8 @@ ghost use Rattle.std.specs.Prelude.{◌≡◌, ℕ, ◌<◌, ◌≤◌, ◌+◌,
 ghost use Rattle.lft_syntax.specs.Language.{look};
 ghost use Rattle.lft_syntax.specs.Lexeme as Lexeme;
 ghost use Rattle.lft_syntax.specs.Lexeme.{is_one_of, unit_of, unit_in};
-ghost use Rattle.lft_syntax.specs.View.{Gives, time_view};
+ghost use Rattle.lft_syntax.specs.View.{Gives};
+ghost use Rattle.lft_tree.specs.View.{time_view};
 ghost use Rattle.lft_syntax.specs.Reading.{time_from, time_at, delay_at, ptime_at, pdelay_at};
 ghost use Rattle.lft_syntax.specs.Parsing.{words};
 
@@ -12,7 +13,7 @@ use crate::input::{Input, Seen};
 use crate::parse_error::ParseError;
 use crate::parser::names::{is_name, is_word, name};
 use crate::parser::tokens::{is_number, number, peek};
-use crate::tree::{Time, TimeExpression, TimeUnit};
+use lft_tree::{Time, TimeExpression, TimeUnit};
 
 fn is_nanosecond(word: &[u8]) -> bool
     ensures { result ≡ is_one_of (codes "ns" ∷ codes "nsec" ∷ codes "nsecs" ∷ []) word.now }

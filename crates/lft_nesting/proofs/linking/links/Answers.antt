@@ -1,7 +1,7 @@
 use Rattle.std.proofs.Common.{Err, ap}
-use Rattle.lft_syntax.specs.View.{tree_view}
-use Rattle.lft_reactors.specs.Causes.{NoneHolds}
-use Rattle.lft_reactors.proofs.Somes.{holds, fails}
+use Rattle.lft_tree.specs.View.{tree_view}
+use Rattle.lft_scope.specs.Causes.{NoneHolds}
+use Rattle.lft_scope.proofs.Somes.{holds, fails}
 use Rattle.lft_nesting.specs.Linking.{AreLinked}
 use Rattle.lft_nesting.specs.Links.{AreLinks, last_causes}
 use Rattle.lft_nesting.specs.Nests.{IsNest}

@@ -1,6 +1,6 @@
 use Rattle.std.proofs.Common.{◌≢◌, subst, sym}
-use Rattle.lft_syntax.specs.View.{tree_view}
-use Rattle.lft_reactors.specs.Causes.{IsFirst, causes}
+use Rattle.lft_tree.specs.View.{tree_view}
+use Rattle.lft_scope.specs.Causes.{IsFirst, causes}
 use Rattle.lft_nesting.specs.Links.{AreLinks}
 use Rattle.lft_program.specs.Faults.{number_of, of_links}
 use Rattle.lft_program.specs.declared.fault.ProgramFault.TheVariants as faults

@@ -1,13 +1,13 @@
 use Rattle.std.proofs.Common.{take, sym}
 use Rattle.std.proofs.lemmas.Result.{err_from_is_err_and}
-use Rattle.lft_syntax.specs.View.{ref_view, ref_views}
+use Rattle.lft_tree.specs.View.{ref_view, ref_views}
 use Rattle.lft_reactors.specs.Directories.{IsLost, is_spot}
 use Rattle.lft_reactors.specs.Sheets.{IsSpot}
-use Rattle.lft_reactors.specs.declared.kinds.Role.TheVariants.{Effect}
-use Rattle.lft_reactors.proofs.Files.{AllZip-last}
+use Rattle.lft_scope.specs.declared.kinds.Role.TheVariants.{Effect}
+use Rattle.lft_scope.proofs.Files.{AllZip-last}
 use Rattle.lft_reactors.proofs.Lost.{lost, effect_spot}
-use Rattle.lft_reactors.proofs.Somes.{some_here}
-use Rattle.lft_reactors.proofs.Twice.{map_last}
+use Rattle.lft_scope.proofs.Somes.{some_here}
+use Rattle.lft_scope.proofs.Twice.{map_last}
 use Rattle.lft_reactors.proofs.cues.effects.Goals as goal
 
 pub returns-in_err-spot-clause-lost : goal.returns-in_err-spot-clause-lost

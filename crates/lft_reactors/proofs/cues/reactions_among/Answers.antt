@@ -1,13 +1,13 @@
 use Rattle.std.proofs.Common.{◌<◌, take, length, sym, arith}
 use Rattle.std.proofs.lemmas.Result.{err_from_is_err_and}
-use Rattle.lft_syntax.specs.View.{reactor_view}
+use Rattle.lft_tree.specs.View.{reactor_view}
 use Rattle.lft_reactors.specs.Directories.{HasLost}
-use Rattle.lft_reactors.specs.References.{reactor_trees}
+use Rattle.lft_scope.specs.References.{reactor_trees}
 use Rattle.lft_reactors.specs.Sheets.{IsReactions}
 use Rattle.lft_reactors.proofs.Directed.{slice_get-map}
-use Rattle.lft_reactors.proofs.Files.{AllZip-last}
-use Rattle.lft_reactors.proofs.Somes.{some_here}
-use Rattle.lft_reactors.proofs.Twice.{map_last}
+use Rattle.lft_scope.proofs.Files.{AllZip-last}
+use Rattle.lft_scope.proofs.Somes.{some_here}
+use Rattle.lft_scope.proofs.Twice.{map_last}
 use Rattle.lft_reactors.proofs.cues.reactions_among.Goals as goal
 
 pub returns-in_err-reactions_in-clause-lost : goal.returns-in_err-reactions_in-clause-lost

@@ -1,15 +1,15 @@
 use Rattle.std.proofs.Common.{◌≡◌, Any, map, filter_map, take, sym, ap, subst, ◌∙◌}
 use Rattle.std.proofs.lemmas.Result.{err_from_is_err_and}
-use Rattle.lft_syntax.specs.Tree.{reaction_in, reactions_of}
-use Rattle.lft_syntax.specs.View.{member_view, reaction_view, reactor_view}
+use Rattle.lft_tree.specs.Tree.{reaction_in, reactions_of}
+use Rattle.lft_tree.specs.View.{member_view, reaction_view, reactor_view}
 use Rattle.lft_reactors.specs.Directories.{IsLost}
-use Rattle.lft_reactors.specs.Kinds.{reaction_refs}
-use Rattle.lft_reactors.specs.References.{reaction_trees}
+use Rattle.lft_scope.specs.Kinds.{reaction_refs}
+use Rattle.lft_scope.specs.References.{reaction_trees}
 use Rattle.lft_reactors.specs.Sheets.{AreCues}
-use Rattle.lft_reactors.proofs.Files.{AllZip-last}
+use Rattle.lft_scope.proofs.Files.{AllZip-last}
 use Rattle.lft_reactors.proofs.Filtered.{lost_reaction}
-use Rattle.lft_reactors.proofs.Somes.{some_here}
-use Rattle.lft_reactors.proofs.Twice.{map_last}
+use Rattle.lft_scope.proofs.Somes.{some_here}
+use Rattle.lft_scope.proofs.Twice.{map_last}
 use Rattle.lft_reactors.proofs.cues.reactions_in.Goals as goal
 
 pub returns-in_err-cues_of-clause-lost : goal.returns-in_err-cues_of-clause-lost

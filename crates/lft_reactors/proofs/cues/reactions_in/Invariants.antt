@@ -1,7 +1,7 @@
 use Rattle.std.proofs.Common.{List, take}
 use Rattle.std.specs.List.{AllZip}
-use Rattle.lft_syntax.specs.Tree.{ReactorTree}
-use Rattle.lft_reactors.specs.References.{reaction_trees}
+use Rattle.lft_tree.specs.Tree.{ReactorTree}
+use Rattle.lft_scope.specs.References.{reaction_trees}
 use Rattle.lft_reactors.specs.Directories.{IsAt}
 use Rattle.lft_reactors.specs.Sheets.{AreCues}
 use Rattle.lft_reactors.proofs.cues.reactions_in.Given as goal

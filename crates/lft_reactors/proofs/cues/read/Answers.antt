@@ -1,5 +1,5 @@
 use Rattle.std.proofs.Common.{Some, ap, sym, ◌∙◌}
-use Rattle.lft_syntax.specs.View.{ref_view}
+use Rattle.lft_tree.specs.View.{ref_view}
 use Rattle.lft_reactors.proofs.Lost.{lost_read}
 use Rattle.lft_reactors.proofs.cues.read.Goals as goal
 

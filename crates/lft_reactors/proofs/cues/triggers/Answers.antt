@@ -1,13 +1,13 @@
 use Rattle.std.proofs.Common.{IsSomeAnd, map, take, sym}
 use Rattle.std.proofs.lemmas.Result.{err_from_is_err_and}
-use Rattle.lft_syntax.specs.View.{trigger_view}
+use Rattle.lft_tree.specs.View.{trigger_view}
 use Rattle.lft_reactors.specs.Directories.{IsLost}
-use Rattle.lft_reactors.specs.Kinds.{ref_in}
+use Rattle.lft_scope.specs.Kinds.{ref_in}
 use Rattle.lft_reactors.specs.Sheets.{IsCue}
-use Rattle.lft_reactors.specs.declared.kinds.Role.TheVariants.{Read}
-use Rattle.lft_reactors.proofs.Files.{AllZip-last}
-use Rattle.lft_reactors.proofs.Somes.{some_here}
-use Rattle.lft_reactors.proofs.Twice.{map_last}
+use Rattle.lft_scope.specs.declared.kinds.Role.TheVariants.{Read}
+use Rattle.lft_scope.proofs.Files.{AllZip-last}
+use Rattle.lft_scope.proofs.Somes.{some_here}
+use Rattle.lft_scope.proofs.Twice.{map_last}
 use Rattle.lft_reactors.proofs.cues.triggers.Goals as goal
 
 pub returns-in_err-cue-clause-lost : goal.returns-in_err-cue-clause-lost

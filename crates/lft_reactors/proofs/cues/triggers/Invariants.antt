@@ -1,7 +1,7 @@
 use Rattle.std.proofs.Common.{List, map, take}
 use Rattle.std.specs.List.{AllZip}
-use Rattle.lft_syntax.specs.Tree.{ReactorTree}
-use Rattle.lft_syntax.specs.View.{trigger_view}
+use Rattle.lft_tree.specs.Tree.{ReactorTree}
+use Rattle.lft_tree.specs.View.{trigger_view}
 use Rattle.lft_reactors.specs.Directories.{IsAt}
 use Rattle.lft_reactors.specs.Sheets.{IsCue}
 use Rattle.lft_reactors.proofs.cues.triggers.Given as goal

@@ -1,12 +1,12 @@
 use Rattle.std.proofs.Common.{not, sym, ap}
 use Rattle.std.proofs.lemmas.Result.{err_from_is_err_and}
-use Rattle.lft_syntax.specs.View.{ref_view}
+use Rattle.lft_tree.specs.View.{ref_view}
 use Rattle.lft_reactors.specs.Directories.{IsLost}
 use Rattle.lft_reactors.specs.Sheets.{IsSpot, is_timer}
-use Rattle.lft_reactors.specs.declared.kinds.Role.TheVariants.{Read}
+use Rattle.lft_scope.specs.declared.kinds.Role.TheVariants.{Read}
 use Rattle.lft_reactors.proofs.Filtered.{filtered_more, filtered_kept}
 use Rattle.lft_reactors.proofs.Lost.{lost_read}
-use Rattle.lft_reactors.proofs.Somes.{some_here}
+use Rattle.lft_scope.proofs.Somes.{some_here}
 use Rattle.lft_reactors.proofs.cues.uses.Goals as goal
 use Rattle.lft_reactors.proofs.cues.uses.Goals.{in-Some, in-None+in_ok-spot-in-None+in_ok-push-in-None}
 

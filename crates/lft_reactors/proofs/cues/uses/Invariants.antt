@@ -1,7 +1,7 @@
 use Rattle.std.proofs.Common.{List, take}
 use Rattle.std.specs.List.{AllZip}
-use Rattle.lft_syntax.specs.Tree.{ReactorTree}
-use Rattle.lft_syntax.specs.View.{ref_views}
+use Rattle.lft_tree.specs.Tree.{ReactorTree}
+use Rattle.lft_tree.specs.View.{ref_views}
 use Rattle.lft_reactors.specs.Directories.{IsAt}
 use Rattle.lft_reactors.specs.Sheets.{IsSpot, without_timers}
 use Rattle.lft_reactors.proofs.cues.uses.Given as goal

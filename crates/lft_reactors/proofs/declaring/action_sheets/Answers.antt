@@ -1,12 +1,12 @@
 use Rattle.std.proofs.Common.{option_to_list, take, refl, sym}
-use Rattle.lft_syntax.specs.View.{action_view}
+use Rattle.lft_tree.specs.View.{action_view}
 use Rattle.lft_reactors.specs.Lacking.{LacksPlace}
-use Rattle.lft_reactors.specs.Places.{place_in}
-use Rattle.lft_reactors.specs.References.{action_trees}
+use Rattle.lft_scope.specs.Places.{place_in}
+use Rattle.lft_scope.specs.References.{action_trees}
 use Rattle.lft_reactors.specs.Sheets.{IsActionSheet}
-use Rattle.lft_reactors.proofs.Files.{AllZip-last}
+use Rattle.lft_scope.proofs.Files.{AllZip-last}
 use Rattle.lft_reactors.proofs.Lacking.{none_at}
-use Rattle.lft_reactors.proofs.Twice.{map_last}
+use Rattle.lft_scope.proofs.Twice.{map_last}
 use Rattle.lft_reactors.proofs.declaring.action_sheets.Goals as goal
 
 pub clock_or_zero-min_delay-requires : goal.clock_or_zero-min_delay-requires

@@ -1,8 +1,8 @@
 use Rattle.std.proofs.Common.{map, take}
 use Rattle.std.specs.List.{AllZip}
-use Rattle.lft_syntax.specs.Tree.{ReactorTree}
-use Rattle.lft_reactors.specs.Places.{IsIndexOf}
-use Rattle.lft_reactors.specs.References.{action_trees}
+use Rattle.lft_tree.specs.Tree.{ReactorTree}
+use Rattle.lft_scope.specs.Places.{IsIndexOf}
+use Rattle.lft_scope.specs.References.{action_trees}
 use Rattle.lft_reactors.specs.Sheets.{IsActionSheet}
 use Rattle.lft_reactors.proofs.declaring.action_sheets.Given as goal
 

@@ -1,8 +1,8 @@
 use Rattle.std.proofs.Common.{◌≡◌, Any, filter_map, ap, subst, ◌∙◌}
-use Rattle.lft_syntax.specs.Tree.{reactor_in, reactors_of}
-use Rattle.lft_syntax.specs.View.{item_views, tree_view}
+use Rattle.lft_tree.specs.Tree.{reactor_in, reactors_of}
+use Rattle.lft_tree.specs.View.{item_views, tree_view}
 use Rattle.lft_reactors.specs.Lacking.{TimeLacksPlace}
-use Rattle.lft_reactors.specs.References.{reactor_trees}
+use Rattle.lft_scope.specs.References.{reactor_trees}
 use Rattle.lft_reactors.proofs.Lacking.{none_lacks}
 use Rattle.lft_reactors.proofs.declaring.declarations.Goals as goal
 

@@ -1,11 +1,11 @@
 use Rattle.std.proofs.Common.{take, sym}
-use Rattle.lft_syntax.specs.View.{reactor_view}
+use Rattle.lft_tree.specs.View.{reactor_view}
 use Rattle.lft_reactors.specs.Lacking.{TimeLacksPlace}
-use Rattle.lft_reactors.specs.References.{reactor_trees}
+use Rattle.lft_scope.specs.References.{reactor_trees}
 use Rattle.lft_reactors.specs.Sheets.{IsDeclarations}
-use Rattle.lft_reactors.proofs.Files.{AllZip-last}
-use Rattle.lft_reactors.proofs.Somes.{some_here}
-use Rattle.lft_reactors.proofs.Twice.{map_last}
+use Rattle.lft_scope.proofs.Files.{AllZip-last}
+use Rattle.lft_scope.proofs.Somes.{some_here}
+use Rattle.lft_scope.proofs.Twice.{map_last}
 use Rattle.lft_reactors.proofs.declaring.declarations_among.Goals as goal
 
 pub declarations_of-requires : goal.declarations_of-requires

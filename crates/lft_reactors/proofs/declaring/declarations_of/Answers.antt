@@ -1,11 +1,11 @@
 use Rattle.std.proofs.Common.{◌≡◌, Any, map, filter_map, flat_map, option_to_list, ap, subst, ◌∙◌}
-use Rattle.lft_syntax.specs.Tree.{timer_in, action_in, timers_of, actions_of}
-use Rattle.lft_syntax.specs.View.{member_view, parameter_view, reactor_view}
-use Rattle.lft_reactors.specs.Kinds.{timer_times}
+use Rattle.lft_tree.specs.Tree.{timer_in, action_in, timers_of, actions_of}
+use Rattle.lft_tree.specs.View.{member_view, parameter_view, reactor_view}
+use Rattle.lft_scope.specs.Kinds.{timer_times}
 use Rattle.lft_reactors.specs.Lacking.{LacksPlace}
-use Rattle.lft_reactors.specs.Places.{IsIndexOf, place_in}
-use Rattle.lft_reactors.specs.References.{action_trees, timer_trees}
-use Rattle.lft_reactors.specs.Tests.{texts}
+use Rattle.lft_scope.specs.Places.{IsIndexOf, place_in}
+use Rattle.lft_scope.specs.References.{action_trees, timer_trees}
+use Rattle.lft_scope.specs.Tests.{texts}
 use Rattle.lft_reactors.proofs.Lacking.{timer_lacks, action_lacks}
 use Rattle.lft_reactors.proofs.declaring.declarations_of.Goals as goal
 use Rattle.lft_reactors.proofs.declaring.declarations_of.Goals.{In_ok-parameters}

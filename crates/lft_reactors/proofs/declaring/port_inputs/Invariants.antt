@@ -1,5 +1,5 @@
 use Rattle.std.proofs.Common.{◌≡◌, map, take}
-use Rattle.lft_reactors.specs.References.{port_trees}
+use Rattle.lft_scope.specs.References.{port_trees}
 use Rattle.lft_reactors.proofs.declaring.port_inputs.Given as goal
 
 abbrev pub invariant-loop-port : goal.invariant-loop-port

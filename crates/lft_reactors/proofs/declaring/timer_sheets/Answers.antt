@@ -1,14 +1,14 @@
 use Rattle.std.proofs.Common.{take, sym}
-use Rattle.lft_syntax.specs.View.{timer_view}
-use Rattle.lft_reactors.specs.Kinds.{timer_times}
+use Rattle.lft_tree.specs.View.{timer_view}
+use Rattle.lft_scope.specs.Kinds.{timer_times}
 use Rattle.lft_reactors.specs.Lacking.{LacksPlace}
-use Rattle.lft_reactors.specs.Places.{place_in}
-use Rattle.lft_reactors.specs.References.{timer_trees}
+use Rattle.lft_scope.specs.Places.{place_in}
+use Rattle.lft_scope.specs.References.{timer_trees}
 use Rattle.lft_reactors.specs.Sheets.{IsTimerSheet}
-use Rattle.lft_reactors.proofs.Files.{AllZip-last}
+use Rattle.lft_scope.proofs.Files.{AllZip-last}
 use Rattle.lft_reactors.proofs.Lacking.{none_at}
-use Rattle.lft_reactors.proofs.Somes.{Any-left, Any-right}
-use Rattle.lft_reactors.proofs.Twice.{map_last}
+use Rattle.lft_scope.proofs.Somes.{Any-left, Any-right}
+use Rattle.lft_scope.proofs.Twice.{map_last}
 use Rattle.lft_reactors.proofs.declaring.timer_sheets.Goals as goal
 
 pub clock_or_zero-offset-requires : goal.clock_or_zero-offset-requires

@@ -1,5 +1,5 @@
 use Rattle.std.proofs.Common.{◌≡◌, None, Some, option_map, string_bytes, sym, ap, ◌∙◌}
-use Rattle.lft_reactors.specs.Kinds.{kind_inside, own_kind}
+use Rattle.lft_scope.specs.Kinds.{kind_inside, own_kind}
 use Rattle.lft_reactors.specs.Sheets.{action_place, port_place}
 use Rattle.lft_reactors.proofs.Lost.{own_spotless}
 use Rattle.lft_reactors.proofs.ends.spot.Goals as goal

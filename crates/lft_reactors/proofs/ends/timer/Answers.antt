@@ -1,5 +1,5 @@
 use Rattle.std.proofs.Common.{option_map, string_bytes, ap, ◌∙◌}
-use Rattle.lft_syntax.specs.View.{ref_view}
+use Rattle.lft_tree.specs.View.{ref_view}
 use Rattle.lft_reactors.specs.Sheets.{timer_place}
 use Rattle.lft_reactors.proofs.Lost.{timer_there}
 use Rattle.lft_reactors.proofs.ends.timer.Goals as goal

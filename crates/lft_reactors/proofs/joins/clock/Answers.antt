@@ -1,5 +1,5 @@
 use Rattle.std.proofs.Common.{◌≡◌, None, string_bytes, sym, ap, subst, ◌∙◌}
-use Rattle.lft_syntax.specs.View.{time_view}
+use Rattle.lft_tree.specs.View.{time_view}
 use Rattle.lft_reactors.specs.Directories.{IsLostTime}
 use Rattle.lft_reactors.specs.Sheets.{parameter_place}
 use Rattle.lft_reactors.proofs.Lost.{lost_time}

@@ -1,8 +1,8 @@
 use Rattle.std.proofs.Common.{◌≡◌, Any, map, filter_map, ap, subst, ◌∙◌}
-use Rattle.lft_syntax.specs.Tree.{reactor_in, reactors_of}
-use Rattle.lft_syntax.specs.View.{item_view, tree_view}
+use Rattle.lft_tree.specs.Tree.{reactor_in, reactors_of}
+use Rattle.lft_tree.specs.View.{item_view, tree_view}
 use Rattle.lft_reactors.specs.Directories.{HasLost}
-use Rattle.lft_reactors.specs.References.{reactor_trees}
+use Rattle.lft_scope.specs.References.{reactor_trees}
 use Rattle.lft_reactors.proofs.Joined.{lost_nowhere}
 use Rattle.lft_reactors.proofs.joins.connections.Goals as goal
 

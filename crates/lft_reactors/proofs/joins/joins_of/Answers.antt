@@ -1,11 +1,11 @@
 use Rattle.std.proofs.Common.{◌≡◌, Any, map, filter_map, sym, ap, subst, ◌∙◌}
 use Rattle.std.proofs.lemmas.Result.{err_from_is_err_and}
-use Rattle.lft_syntax.specs.Tree.{connection_in, connections_of}
-use Rattle.lft_syntax.specs.View.{connection_view, member_view, reactor_view}
+use Rattle.lft_tree.specs.Tree.{connection_in, connections_of}
+use Rattle.lft_tree.specs.View.{connection_view, member_view, reactor_view}
 use Rattle.lft_reactors.specs.Directories.{LosesIn}
-use Rattle.lft_reactors.specs.References.{connection_trees}
+use Rattle.lft_scope.specs.References.{connection_trees}
 use Rattle.lft_reactors.proofs.Joined.{lost_among}
-use Rattle.lft_reactors.proofs.Somes.{some_here}
+use Rattle.lft_scope.proofs.Somes.{some_here}
 use Rattle.lft_reactors.proofs.joins.joins_of.Goals as goal
 
 pub returns-in_err-push_joins-clause-lost : goal.returns-in_err-push_joins-clause-lost

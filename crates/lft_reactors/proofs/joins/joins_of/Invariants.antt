@@ -1,8 +1,8 @@
 use Rattle.std.proofs.Common.{List, flat_map, take}
 use Rattle.std.specs.List.{AllZip}
-use Rattle.lft_syntax.specs.Tree.{ReactorTree}
+use Rattle.lft_tree.specs.Tree.{ReactorTree}
 use Rattle.lft_reactors.specs.Directories.{IsAt}
-use Rattle.lft_reactors.specs.References.{connection_trees}
+use Rattle.lft_scope.specs.References.{connection_trees}
 use Rattle.lft_reactors.specs.Sheets.{IsJoin, singles_in}
 use Rattle.lft_reactors.proofs.joins.joins_of.Given as goal
 

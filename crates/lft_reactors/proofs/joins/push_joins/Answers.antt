@@ -3,14 +3,14 @@ use Rattle.std.specs.List.{AllZip}
 use Rattle.std.proofs.lemmas.List.{length_push}
 use Rattle.std.proofs.lemmas.Result.{err_from_is_err_and}
 use Rattle.std.proofs.lemmas.Slice.Zip.{zip_turn, zip_end}
-use Rattle.lft_syntax.specs.View.{connection_view, ref_view, ref_views, time_view}
+use Rattle.lft_tree.specs.View.{connection_view, ref_view, ref_views, time_view}
 use Rattle.lft_reactors.specs.Directories.{IsLost, is_port}
-use Rattle.lft_reactors.specs.Kinds.{in_role}
+use Rattle.lft_scope.specs.Kinds.{in_role}
 use Rattle.lft_reactors.specs.Sheets.{IsJoin, singles_in}
-use Rattle.lft_reactors.specs.declared.kinds.Role.TheVariants.{Source, Destination}
+use Rattle.lft_scope.specs.declared.kinds.Role.TheVariants.{Source, Destination}
 use Rattle.lft_reactors.proofs.Joined.{singles_more, singles_all, single, joined_more, Any-role, some_at}
 use Rattle.lft_reactors.proofs.Lost.{lost, source_port, destination_port}
-use Rattle.lft_reactors.proofs.Somes.{Any-left, Any-right}
+use Rattle.lft_scope.proofs.Somes.{Any-left, Any-right}
 use Rattle.lft_reactors.proofs.joins.push_joins.Goals as goal
 
 pub returns-in_err-delay-clause-lost : goal.returns-in_err-delay-clause-lost

@@ -1,7 +1,7 @@
 use Rattle.std.proofs.Common.{◌++◌, List, length, take}
 use Rattle.std.specs.List.{AllZip}
-use Rattle.lft_syntax.specs.Tree.{ReactorTree}
-use Rattle.lft_syntax.specs.View.{connection_view}
+use Rattle.lft_tree.specs.Tree.{ReactorTree}
+use Rattle.lft_tree.specs.View.{connection_view}
 use Rattle.lft_reactors.specs.Directories.{IsAt}
 use Rattle.lft_reactors.specs.Sheets.{IsJoin, Single, singles_in}
 use Rattle.lft_reactors.proofs.joins.push_joins.Given as goal

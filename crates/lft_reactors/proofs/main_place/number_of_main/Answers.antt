@@ -1,8 +1,8 @@
 use Rattle.std.proofs.Common.{◌≡◌, Any, true, take, sym, subst, arith}
 use Rattle.std.proofs.lemmas.Grind.{common_steps}
-use Rattle.lft_syntax.specs.View.{reactor_view}
-use Rattle.lft_reactors.specs.Causes.{NoMain}
-use Rattle.lft_reactors.specs.References.{reactor_trees}
+use Rattle.lft_tree.specs.View.{reactor_view}
+use Rattle.lft_scope.specs.Causes.{NoMain}
+use Rattle.lft_scope.specs.References.{reactor_trees}
 use Rattle.lft_reactors.proofs.Firsts.{first_found, stands_there, none_passes}
 use Rattle.lft_reactors.proofs.main_place.number_of_main.Goals as goal
 

@@ -1,5 +1,5 @@
 use Rattle.std.proofs.Common.{Any, true, ◌≡◌, take}
-use Rattle.lft_reactors.specs.References.{reactor_trees}
+use Rattle.lft_scope.specs.References.{reactor_trees}
 use Rattle.lft_reactors.proofs.main_place.number_of_main.Given as goal
 
 abbrev pub invariant-loop-number : goal.invariant-loop-number

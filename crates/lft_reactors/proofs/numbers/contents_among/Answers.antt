@@ -1,11 +1,11 @@
 use Rattle.std.proofs.Common.{take, sym}
-use Rattle.lft_syntax.specs.View.{reactor_view}
-use Rattle.lft_reactors.specs.Causes.{LacksReactor, UnknownReactor}
+use Rattle.lft_tree.specs.View.{reactor_view}
+use Rattle.lft_scope.specs.Causes.{LacksReactor, UnknownReactor}
 use Rattle.lft_reactors.specs.Numbers.{IsContents}
-use Rattle.lft_reactors.specs.References.{reactor_trees}
-use Rattle.lft_reactors.proofs.Files.{AllZip-last}
-use Rattle.lft_reactors.proofs.Somes.{some_here}
-use Rattle.lft_reactors.proofs.Twice.{map_last}
+use Rattle.lft_scope.specs.References.{reactor_trees}
+use Rattle.lft_scope.proofs.Files.{AllZip-last}
+use Rattle.lft_scope.proofs.Somes.{some_here}
+use Rattle.lft_scope.proofs.Twice.{map_last}
 use Rattle.lft_reactors.proofs.numbers.contents_among.Goals as goal
 
 pub returns-in-Err-clause-unknown : goal.returns-in-Err-clause-unknown

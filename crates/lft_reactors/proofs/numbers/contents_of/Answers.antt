@@ -1,12 +1,12 @@
 use Rattle.std.proofs.Common.{◌≡◌, Some, None, Any, map, filter_map, take, string_bytes, refl, sym, ap, subst, ◌∙◌}
-use Rattle.lft_syntax.specs.View.{instance_view, member_view, reactor_view}
-use Rattle.lft_syntax.specs.Tree.{instances_of, instance_in}
-use Rattle.lft_reactors.specs.Instances.{reactor_named}
+use Rattle.lft_tree.specs.View.{instance_view, member_view, reactor_view}
+use Rattle.lft_tree.specs.Tree.{instances_of, instance_in}
+use Rattle.lft_scope.specs.Instances.{reactor_named}
 use Rattle.lft_reactors.specs.Numbers.{IsNumberOf}
-use Rattle.lft_reactors.specs.References.{instance_trees}
-use Rattle.lft_reactors.proofs.Files.{AllZip-last}
-use Rattle.lft_reactors.proofs.Somes.{some_here}
-use Rattle.lft_reactors.proofs.Twice.{map_last}
+use Rattle.lft_scope.specs.References.{instance_trees}
+use Rattle.lft_scope.proofs.Files.{AllZip-last}
+use Rattle.lft_scope.proofs.Somes.{some_here}
+use Rattle.lft_scope.proofs.Twice.{map_last}
 use Rattle.lft_reactors.proofs.numbers.contents_of.Goals as goal
 
 pub loop-instance-preserved : goal.loop-instance-preserved

@@ -1,9 +1,9 @@
 use Rattle.std.proofs.Common.{List, take}
 use Rattle.std.specs.List.{AllZip}
-use Rattle.lft_syntax.specs.Tree.{ReactorTree}
+use Rattle.lft_tree.specs.Tree.{ReactorTree}
 use Rattle.lft_reactors.specs.Numbers.{IsNumberOf}
-use Rattle.lft_reactors.specs.References.{instance_trees}
-use Rattle.lft_reactors.specs.Tables.{IsNumbers}
+use Rattle.lft_scope.specs.References.{instance_trees}
+use Rattle.lft_reactors.specs.Numbers.{IsNumbers}
 use Rattle.lft_reactors.proofs.numbers.contents_of.Given as goal
 
 abbrev pub invariant-loop-instance : goal.invariant-loop-instance

@@ -1,6 +1,6 @@
 use Rattle.std.proofs.Common.{◌≡◌, map, take}
-use Rattle.lft_syntax.specs.Tree.{nanoseconds}
-use Rattle.lft_syntax.specs.View.{parameter_view}
+use Rattle.lft_tree.specs.Tree.{nanoseconds}
+use Rattle.lft_tree.specs.View.{parameter_view}
 use Rattle.lft_reactors.specs.Sheets.{kept}
 use Rattle.lft_reactors.proofs.settings.default_times.Given as goal
 

@@ -1,12 +1,12 @@
 use Rattle.std.proofs.Common.{map, take, sym}
-use Rattle.lft_syntax.specs.View.{assignment_view}
+use Rattle.lft_tree.specs.View.{assignment_view}
 use Rattle.lft_reactors.specs.Lacking.{LacksName, LacksPlace}
-use Rattle.lft_reactors.specs.Places.{place_in}
+use Rattle.lft_scope.specs.Places.{place_in}
 use Rattle.lft_reactors.specs.Sheets.{IsGiven}
-use Rattle.lft_reactors.proofs.Files.{AllZip-last}
+use Rattle.lft_scope.proofs.Files.{AllZip-last}
 use Rattle.lft_reactors.proofs.Lacking.{Any-map}
-use Rattle.lft_reactors.proofs.Somes.{some_here}
-use Rattle.lft_reactors.proofs.Twice.{map_last}
+use Rattle.lft_scope.proofs.Somes.{some_here}
+use Rattle.lft_scope.proofs.Twice.{map_last}
 use Rattle.lft_reactors.proofs.settings.given_all.Goals as goal
 
 pub given_one-one-requires-clause-name : goal.given_one-one-requires-clause-name

@@ -1,8 +1,8 @@
 use Rattle.std.proofs.Common.{map, take}
 use Rattle.std.specs.List.{AllZip}
-use Rattle.lft_syntax.specs.Tree.{ReactorTree}
-use Rattle.lft_syntax.specs.View.{assignment_view}
-use Rattle.lft_reactors.specs.Places.{IsIndexOf}
+use Rattle.lft_tree.specs.Tree.{ReactorTree}
+use Rattle.lft_tree.specs.View.{assignment_view}
+use Rattle.lft_scope.specs.Places.{IsIndexOf}
 use Rattle.lft_reactors.specs.Sheets.{IsGiven}
 use Rattle.lft_reactors.proofs.settings.given_all.Given as goal
 

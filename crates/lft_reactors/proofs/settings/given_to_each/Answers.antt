@@ -1,19 +1,19 @@
 use Rattle.std.proofs.Common.{◌≡◌, List, Some, None, [], ◌∷◌, Any, map, take, string_bytes, sym, ap, subst, ◌∙◌}
 use Rattle.std.proofs.lemmas.List.{map-append}
 use Rattle.std.specs.List.{AllZip}
-use Rattle.lft_syntax.specs.Tree.{ReactorTree}
-use Rattle.lft_syntax.specs.View.{assignment_view, instance_view}
-use Rattle.lft_reactors.specs.Causes.{GivesUnknown, LacksParameter}
-use Rattle.lft_reactors.specs.Instances.{reactor_named}
+use Rattle.lft_tree.specs.Tree.{ReactorTree}
+use Rattle.lft_tree.specs.View.{assignment_view, instance_view}
+use Rattle.lft_scope.specs.Causes.{GivesUnknown, LacksParameter}
+use Rattle.lft_scope.specs.Instances.{reactor_named}
 use Rattle.lft_reactors.specs.Lacking.{LacksName, LacksPlace}
-use Rattle.lft_reactors.specs.Places.{IsIndexOf, place_in}
-use Rattle.lft_reactors.specs.References.{instance_trees}
+use Rattle.lft_scope.specs.Places.{IsIndexOf, place_in}
+use Rattle.lft_scope.specs.References.{instance_trees}
 use Rattle.lft_reactors.specs.Sheets.{AreGiven, IsGiven}
-use Rattle.lft_reactors.specs.Tables.{IsFile, IsOutside}
-use Rattle.lft_reactors.proofs.Files.{AllZip-last}
+use Rattle.lft_scope.specs.Tables.{IsFile, IsOutside}
+use Rattle.lft_scope.proofs.Files.{AllZip-last}
 use Rattle.lft_reactors.proofs.Lacking.{lacks_parameter, none_at}
-use Rattle.lft_reactors.proofs.Somes.{Any-weaker, some_here}
-use Rattle.lft_reactors.proofs.Twice.{map_last}
+use Rattle.lft_scope.proofs.Somes.{Any-weaker, some_here}
+use Rattle.lft_scope.proofs.Twice.{map_last}
 use Rattle.lft_reactors.proofs.settings.given_to_each.Goals as goal
 use Rattle.lft_reactors.proofs.settings.given_to_each.Goals.{After-parameters}
 

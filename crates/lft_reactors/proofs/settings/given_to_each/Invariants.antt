@@ -1,10 +1,10 @@
 use Rattle.std.proofs.Common.{List, map, take}
 use Rattle.std.specs.List.{AllZip}
-use Rattle.lft_syntax.specs.Tree.{ReactorTree}
-use Rattle.lft_reactors.specs.Places.{IsIndexOf}
-use Rattle.lft_reactors.specs.References.{instance_trees}
+use Rattle.lft_tree.specs.Tree.{ReactorTree}
+use Rattle.lft_scope.specs.Places.{IsIndexOf}
+use Rattle.lft_scope.specs.References.{instance_trees}
 use Rattle.lft_reactors.specs.Sheets.{AreGiven}
-use Rattle.lft_reactors.specs.Tables.{IsFile}
+use Rattle.lft_scope.specs.Tables.{IsFile}
 use Rattle.lft_reactors.proofs.settings.given_to_each.Given as goal
 
 abbrev pub invariant-loop-instance : goal.invariant-loop-instance

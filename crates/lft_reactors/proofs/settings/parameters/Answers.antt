@@ -1,9 +1,9 @@
 use Rattle.std.proofs.Common.{◌≡◌, Any, filter_map, ap, subst, ◌∙◌}
-use Rattle.lft_syntax.specs.Tree.{reactor_in, reactors_of}
-use Rattle.lft_syntax.specs.View.{item_views, tree_view}
-use Rattle.lft_reactors.specs.Causes.{LacksReactor, SomeGivesUnknown}
+use Rattle.lft_tree.specs.Tree.{reactor_in, reactors_of}
+use Rattle.lft_tree.specs.View.{item_views, tree_view}
+use Rattle.lft_scope.specs.Causes.{LacksReactor, SomeGivesUnknown}
 use Rattle.lft_reactors.specs.Lacking.{TimeLacksPlace}
-use Rattle.lft_reactors.specs.References.{reactor_trees}
+use Rattle.lft_scope.specs.References.{reactor_trees}
 use Rattle.lft_reactors.proofs.Lacking.{none_given, none_lacks, none_unknown}
 use Rattle.lft_reactors.proofs.settings.parameters.Goals as goal
 use Rattle.lft_reactors.proofs.settings.parameters.Goals.{After-deref-2}

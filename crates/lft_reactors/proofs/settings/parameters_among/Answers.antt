@@ -1,12 +1,12 @@
 use Rattle.std.proofs.Common.{take, sym}
-use Rattle.lft_syntax.specs.View.{reactor_view}
-use Rattle.lft_reactors.specs.Causes.{LacksReactor, SomeGivesUnknown}
+use Rattle.lft_tree.specs.View.{reactor_view}
+use Rattle.lft_scope.specs.Causes.{LacksReactor, SomeGivesUnknown}
 use Rattle.lft_reactors.specs.Lacking.{TimeLacksPlace}
-use Rattle.lft_reactors.specs.References.{reactor_trees}
+use Rattle.lft_scope.specs.References.{reactor_trees}
 use Rattle.lft_reactors.specs.Sheets.{IsParameters}
-use Rattle.lft_reactors.proofs.Files.{AllZip-last}
-use Rattle.lft_reactors.proofs.Somes.{some_here}
-use Rattle.lft_reactors.proofs.Twice.{map_last}
+use Rattle.lft_scope.proofs.Files.{AllZip-last}
+use Rattle.lft_scope.proofs.Somes.{some_here}
+use Rattle.lft_scope.proofs.Twice.{map_last}
 use Rattle.lft_reactors.proofs.settings.parameters_among.Goals as goal
 
 pub parameters_of-requires-clause-instances : goal.parameters_of-requires-clause-instances

@@ -1,10 +1,10 @@
 use Rattle.std.proofs.Common.{◌≡◌, Any, map, filter_map, flat_map, ap, subst, ◌∙◌}
-use Rattle.lft_syntax.specs.Tree.{instance_in, instances_of}
-use Rattle.lft_syntax.specs.View.{member_view, parameter_view, reactor_view}
+use Rattle.lft_tree.specs.Tree.{instance_in, instances_of}
+use Rattle.lft_tree.specs.View.{member_view, parameter_view, reactor_view}
 use Rattle.lft_reactors.specs.Lacking.{LacksPlace}
-use Rattle.lft_reactors.specs.Places.{IsIndexOf, place_in}
-use Rattle.lft_reactors.specs.References.{instance_trees}
-use Rattle.lft_reactors.specs.Tests.{texts}
+use Rattle.lft_scope.specs.Places.{IsIndexOf, place_in}
+use Rattle.lft_scope.specs.References.{instance_trees}
+use Rattle.lft_scope.specs.Tests.{texts}
 use Rattle.lft_reactors.proofs.Lacking.{value_lacks}
 use Rattle.lft_reactors.proofs.settings.parameters_of.Goals as goal
 use Rattle.lft_reactors.proofs.settings.parameters_of.Goals.{In_ok-places}

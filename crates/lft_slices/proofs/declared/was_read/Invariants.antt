@@ -1,5 +1,5 @@
 use Rattle.std.proofs.Common.{◌≡◌, ℕ, ◌<◌, Some, slice_get}
-use Rattle.lft_program.specs.declared.parts.Value.{Value}
+use Rattle.lft_flat.specs.declared.parts.Value.{Value}
 use Rattle.lft_trace.specs.declared.row.Step.TheVariants.{Read}
 use Rattle.lft_slices.proofs.declared.was_read.Given as goal
 

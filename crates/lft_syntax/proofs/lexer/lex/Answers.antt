@@ -12,7 +12,7 @@ handed_on P e (Ok v) p h = tt
 handed_on P e (Err x) p h = subst P (sym h) p
 
 pub returns-in_err-kind-clause-fault : goal.returns-in_err-kind-clause-fault
-returns-in_err-kind-clause-fault c = handed_on (LexFails c.args.text.now) c.in_err-kind.field-0.0 c.from_residual.result (front_fault c.args.text.now c.pieces.at c.pieces.tokens.items c.in_err-kind.field-0.0 c.pieces.invariant.cut c.in_err-kind.ensures.fault) c.from_residual.ensures.1
+returns-in_err-kind-clause-fault c = handed_on (LexFails c.args.text.now) c.in_err-kind.field-0.0 c.from_residual.result (front_fault c.args.text.now c.pieces.at c.pieces.tokens.items c.in_err-kind.field-0.0 (omega (arith, c.if-text-gt-MAX_LENGTH.false)) c.pieces.invariant.cut c.in_err-kind.ensures.fault) c.from_residual.ensures.1
 
 pub pieces-smaller-in_ok-push : goal.pieces-smaller-in_ok-push
 pieces-smaller-in_ok-push c =

@@ -1,9 +1,10 @@
 use Rattle.std.proofs.Common.{◌≡◌, ℕ, List, length, sym, ◌∙◌, ap, arith, Ok, Err}
 use Rattle.std.proofs.lemmas.List.{length-map}
 use Rattle.lft_syntax.specs.declared.token.Token.{Token}
-use Rattle.lft_syntax.specs.Tree.{FileTree}
+use Rattle.lft_tree.specs.Tree.{FileTree}
 use Rattle.lft_syntax.specs.Grammar.{Spells}
-use Rattle.lft_syntax.specs.View.{lexemes, lexeme_of, file_view}
+use Rattle.lft_syntax.specs.View.{lexemes, lexeme_of}
+use Rattle.lft_tree.specs.View.{file_view}
 use Rattle.lft_syntax.specs.Reading.{whole_at}
 use Rattle.lft_syntax.proofs.TokenFacts.{InText, token_at, name_ascii}
 use Rattle.lft_syntax.proofs.Whole.{read_tree, fault_given, read_fault}

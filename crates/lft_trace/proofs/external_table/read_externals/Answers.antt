@@ -1,6 +1,6 @@
 use Rattle.std.proofs.Common.{◌≡◌, Result, Ok, Err, IfOk, IfErr, true}
-use Rattle.lft_program.specs.Parts.{Parts}
-use Rattle.lft_program.specs.Sound.{IsSound}
+use Rattle.lft_flat.specs.Parts.{Parts}
+use Rattle.lft_flat.specs.Sound.{IsSound}
 use Rattle.lft_trace.specs.Faults.{is_told}
 use Rattle.lft_trace.specs.Fits.{ExternalsFit}
 use Rattle.lft_trace.specs.Inputs.{ExternalInputs}

@@ -1,6 +1,6 @@
 use Rattle.std.proofs.Common.{rules, arith, ◌≡◌, ◌≤◌, ◌∷◌, [], List, ℕ, Option, Some, None, Result, Ok, Err, IfOk, IfErr, true, sym, ◌∙◌}
 use Rattle.csv.specs.Records.{fields_of}
-use Rattle.lft_program.specs.Parts.{Parts}
+use Rattle.lft_flat.specs.Parts.{Parts}
 use Rattle.lft_tag.specs.declared.Tag.{Tag}
 use Rattle.lft_trace.specs.Faults.{is_told}
 use Rattle.lft_trace.specs.Inputs.{ExternalInputs, InOrder}

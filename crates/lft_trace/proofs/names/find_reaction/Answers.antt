@@ -1,10 +1,10 @@
 use Rattle.std.proofs.Common.{rules, ◌≢◌, ◌≡◌, ◌<◌, ℕ, IfNone, IfSome, List, Option, Some, None, length}
 use Rattle.std.proofs.lemmas.Option.{slice_get_within}
-use Rattle.lft_program.specs.Names.{AreDistinct, IsNamed, ThingNames}
-use Rattle.lft_program.specs.Parts.{Parts}
-use Rattle.lft_program.specs.Sound.{IsSound}
-use Rattle.lft_program.specs.declared.found.Found.{Found}
-use Rattle.lft_program.specs.declared.found.Found.TheVariants as found
+use Rattle.lft_flat.specs.Names.{AreDistinct, IsNamed, ThingNames}
+use Rattle.lft_flat.specs.Parts.{Parts}
+use Rattle.lft_flat.specs.Sound.{IsSound}
+use Rattle.lft_flat.specs.declared.found.Found.{Found}
+use Rattle.lft_flat.specs.declared.found.Found.TheVariants as found
 use Rattle.lft_trace.proofs.names.find_reaction.Goals as goal
 
 other : (names : ThingNames) (f : Found) (text : List ℕ) (o : Option ℕ) → AreDistinct names → IsNamed names f text → IfNone o ((r : ℕ) → f ≢ found.Reaction r)

@@ -1,6 +1,6 @@
 use Rattle.std.proofs.Common.{rules, ◌≡◌, IfErr, Ok, Err, Result, List, ℕ}
 use Rattle.csv.specs.Records.{fields_of}
-use Rattle.lft_program.specs.Parts.{Parts}
+use Rattle.lft_flat.specs.Parts.{Parts}
 use Rattle.lft_trace.specs.declared.fault.TraceFault.{TraceFault}
 use Rattle.lft_trace.specs.declared.kind.RowKind.{RowKind}
 use Rattle.lft_trace.specs.declared.row.Row.{Row}

@@ -1,4 +1,4 @@
-use Rattle.lft_syntax.specs.Tree.{actions_of}
+use Rattle.lft_tree.specs.Tree.{actions_of}
 use Rattle.lft_nesting.proofs.Listing.{listed_ok}
 use Rattle.lft_nesting.proofs.nest.Nest.actions_by_number.Goals as goal
 

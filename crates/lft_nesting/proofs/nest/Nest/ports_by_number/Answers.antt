@@ -1,4 +1,4 @@
-use Rattle.lft_syntax.specs.Tree.{ports_of}
+use Rattle.lft_tree.specs.Tree.{ports_of}
 use Rattle.lft_nesting.proofs.Listing.{listed_ok}
 use Rattle.lft_nesting.proofs.nest.Nest.ports_by_number.Goals as goal
 

@@ -1,4 +1,4 @@
-use Rattle.lft_syntax.specs.Tree.{timers_of}
+use Rattle.lft_tree.specs.Tree.{timers_of}
 use Rattle.lft_nesting.proofs.Listing.{listed_ok}
 use Rattle.lft_nesting.proofs.nest.Nest.timers_by_number.Goals as goal
 

@@ -1,5 +1,5 @@
 use Rattle.std.proofs.Common.{slice_get, Some, None, ap, ◌∙◌}
-use Rattle.lft_syntax.specs.Tree.{instances_of}
+use Rattle.lft_tree.specs.Tree.{instances_of}
 use Rattle.lft_reactors.proofs.Directed.{number_there}
 use Rattle.lft_reactors.proofs.directory.Directory.child.Goals as goal
 

@@ -1,11 +1,11 @@
 use Rattle.std.proofs.Common.{◌≡◌, take, sym, subst, arith}
 use Rattle.std.specs.List.{AllZip}
 use Rattle.std.proofs.lemmas.Grind.{common_steps}
-use Rattle.lft_syntax.specs.View.{reactor_view}
+use Rattle.lft_tree.specs.View.{reactor_view}
 use Rattle.lft_reactors.specs.Directories.{IsNames}
-use Rattle.lft_reactors.specs.References.{reactor_trees}
-use Rattle.lft_reactors.proofs.Files.{AllZip-last}
-use Rattle.lft_reactors.proofs.Twice.{map_last}
+use Rattle.lft_scope.specs.References.{reactor_trees}
+use Rattle.lft_scope.proofs.Files.{AllZip-last}
+use Rattle.lft_scope.proofs.Twice.{map_last}
 use Rattle.lft_reactors.proofs.directory.Directory.of.Goals as goal
 
 pub loop-reactor-preserved : goal.loop-reactor-preserved

@@ -1,10 +1,10 @@
 use Rattle.std.proofs.Common.{◌≡◌, map, filter_map, ap, sym, subst, ◌∙◌}
-use Rattle.lft_syntax.specs.Tree.{port_in, timer_in, action_in, instance_in}
-use Rattle.lft_syntax.specs.View.{member_views, parameter_view}
-use Rattle.lft_reactors.specs.Places.{IsIndexOf}
-use Rattle.lft_reactors.specs.Tests.{name_in, texts}
-use Rattle.lft_reactors.specs.declared.names.Declared.TheVariants.{Port, Timer, Action, Instance}
-use Rattle.lft_reactors.proofs.Picked.{map-filter_map}
+use Rattle.lft_tree.specs.Tree.{port_in, timer_in, action_in, instance_in}
+use Rattle.lft_tree.specs.View.{member_views, parameter_view}
+use Rattle.lft_scope.specs.Places.{IsIndexOf}
+use Rattle.lft_scope.specs.Tests.{name_in, texts}
+use Rattle.lft_scope.specs.declared.names.Declared.TheVariants.{Port, Timer, Action, Instance}
+use Rattle.lft_lists.proofs.Picked.{map-filter_map}
 use Rattle.lft_reactors.proofs.directory.Names.of.Goals as goal
 
 pub returns : goal.returns

@@ -1,10 +1,10 @@
 use Rattle.std.proofs.Common.{◌≡◌, slice_get, Some, None, sym, ap, ◌∙◌}
 use Rattle.std.specs.Option.{option_and_then}
-use Rattle.lft_reactors.specs.Places.{place}
-use Rattle.lft_reactors.specs.Tables.{with_name}
-use Rattle.lft_reactors.proofs.Files.{named-place}
+use Rattle.lft_scope.specs.Places.{place}
+use Rattle.lft_scope.specs.Tables.{with_name}
+use Rattle.lft_scope.proofs.Files.{named-place}
 use Rattle.lft_reactors.proofs.Numbered.{number_named}
-use Rattle.lft_reactors.proofs.NamedReactors.{named}
+use Rattle.lft_scope.proofs.NamedReactors.{named}
 use Rattle.lft_reactors.proofs.numbers.Numbers.get.Goals as goal
 
 pub returns-in-Some : goal.returns-in-Some

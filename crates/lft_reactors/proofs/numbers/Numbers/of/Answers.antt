@@ -1,13 +1,13 @@
 use Rattle.std.proofs.Common.{◌≡◌, ◌<◌, take, length, sym, ap, subst, ◌∙◌, arith}
 use Rattle.std.proofs.lemmas.Grind.{common_steps}
-use Rattle.lft_syntax.specs.View.{reactor_view}
+use Rattle.lft_tree.specs.View.{reactor_view}
 use Rattle.lft_reactors.specs.Numbers.{numbers_of}
-use Rattle.lft_reactors.specs.Places.{IsIndexOf}
-use Rattle.lft_reactors.specs.References.{reactor_trees}
-use Rattle.lft_reactors.specs.Tests.{texts}
-use Rattle.lft_reactors.proofs.Files.{named_some}
+use Rattle.lft_scope.specs.Places.{IsIndexOf}
+use Rattle.lft_scope.specs.References.{reactor_trees}
+use Rattle.lft_scope.specs.Tests.{texts}
+use Rattle.lft_scope.proofs.Files.{named_some}
 use Rattle.lft_reactors.proofs.Numbered.{number_more, number_kept}
-use Rattle.lft_reactors.proofs.NamedReactors.{named}
+use Rattle.lft_scope.proofs.NamedReactors.{named}
 use Rattle.lft_reactors.proofs.numbers.Numbers.of.Goals as goal
 use Rattle.lft_reactors.proofs.numbers.Numbers.of.Goals.{then-is_some+in_ok-push, else-is_some}
 

@@ -1,6 +1,6 @@
 use Rattle.std.proofs.Common.{◌≡◌, take}
 use Rattle.lft_reactors.specs.Numbers.{numbers_of}
-use Rattle.lft_reactors.specs.References.{reactor_trees}
+use Rattle.lft_scope.specs.References.{reactor_trees}
 use Rattle.lft_reactors.proofs.numbers.Numbers.of.Given as goal
 
 abbrev pub invariant-loop-number : goal.invariant-loop-number

@@ -2,7 +2,7 @@ use Rattle.std.proofs.Common.{◌≡◌, ◌++◌, ◌∷◌, [], refl, sym, ◌
 use Rattle.std.proofs.lemmas.Result.{err_from_is_err_and}
 use Rattle.std.proofs.lemmas.List.{map_push}
 use Rattle.lft_syntax.specs.Lexeme.{is_there}
-use Rattle.lft_syntax.specs.View.{item_view, item_views}
+use Rattle.lft_tree.specs.View.{item_view, item_views}
 use Rattle.lft_syntax.specs.Reading.{item_at, items_at}
 use Rattle.lft_syntax.specs.Parsing.{words}
 use Rattle.lft_syntax.proofs.Loop.{inside, loop_starts, loop_fails, loop_turns, loop_done}

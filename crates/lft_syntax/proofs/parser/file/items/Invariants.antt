@@ -1,6 +1,6 @@
 use Rattle.std.proofs.Common.{◌-◌, length}
 use Rattle.lft_syntax.specs.Lexeme.{is_there}
-use Rattle.lft_syntax.specs.View.{item_views}
+use Rattle.lft_tree.specs.View.{item_views}
 use Rattle.lft_syntax.specs.Reading.{item_at, items_at}
 use Rattle.lft_syntax.specs.Parsing.{words}
 use Rattle.lft_syntax.proofs.Loop.{SoFar}

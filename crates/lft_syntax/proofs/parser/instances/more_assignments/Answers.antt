@@ -3,7 +3,7 @@ use Rattle.std.specs.Prelude.{map}
 use Rattle.std.proofs.lemmas.Result.{err_from_is_err_and}
 use Rattle.std.proofs.lemmas.List.{map_push}
 use Rattle.lft_syntax.specs.Lexeme.{Symbol, is}
-use Rattle.lft_syntax.specs.View.{assignment_view}
+use Rattle.lft_tree.specs.View.{assignment_view}
 use Rattle.lft_syntax.specs.Reading.{repeated, after_comma, assign_at, with_front}
 use Rattle.lft_syntax.specs.Parsing.{words}
 use Rattle.lft_syntax.proofs.Loop.{inside, loop_fails, loop_turns, loop_done}

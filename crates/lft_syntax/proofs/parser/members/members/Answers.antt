@@ -2,7 +2,7 @@ use Rattle.std.proofs.Common.{◌≡◌, ◌++◌, ◌∷◌, [], sym, ◌∙◌
 use Rattle.std.proofs.lemmas.Result.{err_from_is_err_and}
 use Rattle.std.proofs.lemmas.List.{map_push}
 use Rattle.lft_syntax.specs.Lexeme.{negated}
-use Rattle.lft_syntax.specs.View.{member_view, member_views}
+use Rattle.lft_tree.specs.View.{member_view, member_views}
 use Rattle.lft_syntax.specs.Reading.{is_inside, member_at, members_at}
 use Rattle.lft_syntax.specs.Parsing.{words}
 use Rattle.lft_syntax.proofs.Loop.{loop_starts, loop_fails, loop_turns, loop_done}

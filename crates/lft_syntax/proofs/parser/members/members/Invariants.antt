@@ -1,5 +1,5 @@
 use Rattle.std.proofs.Common.{◌-◌, ◌≤◌, length}
-use Rattle.lft_syntax.specs.View.{member_views}
+use Rattle.lft_tree.specs.View.{member_views}
 use Rattle.lft_syntax.specs.Reading.{is_inside, member_at, members_at}
 use Rattle.lft_syntax.specs.Parsing.{words}
 use Rattle.lft_syntax.proofs.Loop.{SoFar}

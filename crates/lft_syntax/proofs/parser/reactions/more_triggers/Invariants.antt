@@ -1,7 +1,7 @@
 use Rattle.std.proofs.Common.{◌-◌, ◌∷◌, [], length}
 use Rattle.std.specs.Prelude.{map}
 use Rattle.lft_syntax.specs.Lexeme.{Symbol, is}
-use Rattle.lft_syntax.specs.View.{trigger_view}
+use Rattle.lft_tree.specs.View.{trigger_view}
 use Rattle.lft_syntax.specs.Reading.{repeated, after_comma, trigger_at, with_front}
 use Rattle.lft_syntax.specs.Parsing.{words}
 use Rattle.lft_syntax.proofs.Loop.{SoFar}

@@ -1,6 +1,6 @@
 use Rattle.std.proofs.Common.{◌-◌, ◌∷◌, [], length}
 use Rattle.lft_syntax.specs.Lexeme.{Symbol, is}
-use Rattle.lft_syntax.specs.View.{ref_view, ref_views}
+use Rattle.lft_tree.specs.View.{ref_view, ref_views}
 use Rattle.lft_syntax.specs.Reading.{repeated, after_comma, ref_at, with_front}
 use Rattle.lft_syntax.specs.Parsing.{words}
 use Rattle.lft_syntax.proofs.Loop.{SoFar}

@@ -2,7 +2,7 @@ use Rattle.std.proofs.Common.{◌≡◌, ◌∙◌, Option, Some, None, true, fa
 use Rattle.std.specs.BTreeMap.{insert_entry, is_at}
 use Rattle.std.specs.Map.{lookup}
 use Rattle.std.specs.Prelude.{is_some}
-use Rattle.lft_program.specs.declared.parts.Value.{Value}
+use Rattle.lft_flat.specs.declared.parts.Value.{Value}
 use Rattle.lft_trace.specs.ExternalTables.{Clash, Has}
 use Rattle.lft_trace.specs.Keys.{event_at}
 use Rattle.lft_trace.specs.declared.externals.Event.{Event}

@@ -1,0 +1,84 @@
+//! Reads cases from standard input, and writes what the product makes of each.
+//!
+//! A case is a line `== KIND` and the lines up to the next one; what stands before the first is a
+//! remark, and `== end` stands last. In these lines `\HH` is the byte of that hexadecimal number, and
+//! a backslash at the end of a line takes the line's end away. The kinds are told where they are
+//! answered: what is given to other cases, texts, programs, traces, external inputs, presence, and
+//! texts as a whole. `title` and some words are written as they are.
+#![tactic(auto)]
+
+mod case_text;
+mod external_tables;
+mod given;
+mod presence;
+mod programs;
+mod refusal;
+mod texts;
+mod trace_tables;
+mod whole;
+
+use crate::case_text::push_line;
+use crate::given::Given;
+use std::alloc::Global;
+use std::io;
+use std::io::Write;
+
+/// Writes what is to be told of a case.
+fn tell(
+    alloc: Global,
+    given: &Given,
+    kind: &str,
+    text: &[u8],
+    told: &mut Vec<u8>,
+) -> io::Result<()> {
+    let (kind, words) = kind.split_once(' ').unwrap_or((kind, ""));
+    match kind {
+        "" => Ok(()),
+        "title" => writeln!(told, "== {words}"),
+        "tokens" => texts::tokens(alloc, text, told),
+        "tree" => texts::tree(alloc, text, told),
+        "texts" => texts::texts(alloc, text, told),
+        "bodies" => texts::bodies(alloc, text, told),
+        "flat" => programs::flat(alloc, text, told),
+        "find" => programs::find(alloc, given, text, told),
+        "causes" => programs::causes(alloc, text, told),
+        "trace-rows" => trace_tables::rows(alloc, given, text, told),
+        "read-trace" => trace_tables::read(alloc, given, text, told),
+        "read-trace-text" => trace_tables::read_text(alloc, given, text, told),
+        "write-trace" => trace_tables::write(alloc, given, text, told),
+        "external-rows" => external_tables::rows(alloc, given, text, told),
+        "read-externals" => external_tables::read(alloc, given, text, told),
+        "read-externals-text" => external_tables::read_text(alloc, given, text, told),
+        "ask" => presence::ask(alloc, given, text, told),
+        "show" => whole::show(alloc, text, told),
+        "judge" => whole::judge(alloc, given, text, words, told),
+        "judge-text" => whole::judge_text(alloc, given, text, words, told),
+        "bundle" => whole::bundle(alloc, text, told),
+        _ => writeln!(told, "no such kind of case: {kind}"),
+    }
+}
+
+fn main(rt: HostRuntime) -> io::Result<()> {
+    let alloc = rt.alloc();
+    let mut given = Given::new(alloc);
+    let mut kind = String::new(alloc);
+    let mut text = Vec::new(alloc);
+    for line in rt.lines(alloc) {
+        let line = line?;
+        let mut told = Vec::new(alloc);
+        if let Some(next) = line.as_str().strip_prefix("== ") {
+            if !given.set(alloc, kind.as_str(), text.as_slice())? {
+                tell(alloc, &given, kind.as_str(), text.as_slice(), &mut told)?;
+            }
+            kind = next.to_string(alloc)?;
+            text.clear();
+        } else if !push_line(&mut text, line.as_str())? {
+            writeln!(told, "no line of a case: {line}")?;
+        }
+        io::writer(&rt).write_all(told.as_slice())?;
+    }
+    if kind.as_str() != "end" {
+        println!(rt; "no case `end` at the end")?;
+    }
+    Ok(())
+}

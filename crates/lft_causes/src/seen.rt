@@ -1,0 +1,54 @@
+//! Names that were met.
+
+ghost use Rattle.std.specs.Prelude.{◌≡◌, cond, not, true, false, IfOk, OnOk};
+ghost use Rattle.lft_tree.specs.Tree.{RefTree};
+ghost use Rattle.lft_tree.specs.View.{ref_view};
+ghost use Rattle.lft_causes.specs.Seen.{has_seen, same_ref};
+
+use lft_tag::NoMemory;
+use lft_tree::Reference;
+use std::alloc::Global;
+use std::collections::HashSet;
+
+/// The names that were met so far: those of the reactor's own things, and those of ports of
+/// contained instances.
+#[derive(Drop)]
+pub(crate) struct Seen<'a> {
+    own: HashSet<&'a str>,
+    inner: HashSet<(&'a str, &'a str)>,
+}
+
+impl<'a> Seen<'a> {
+    /// None was met.
+    pub(crate) fn new(alloc: Global) -> Seen<'a>
+        ensures { (q : RefTree) → has_seen result q ≡ false }
+    {
+        Seen {
+            own: HashSet::new(alloc),
+            inner: HashSet::new(alloc),
+        }
+    }
+
+    /// Whether the name was met.
+    pub(crate) fn has(&self, reference: &Reference) -> bool
+        ensures { result ≡ has_seen self.now (ref_view reference.now) }
+    {
+        match &reference.port {
+            None => self.own.contains(reference.head.as_str()),
+            Some(port) => self
+                .inner
+                .contains(&(reference.head.as_str(), port.as_str())),
+        }
+    }
+
+    /// Notes the name; false where it was met before.
+    pub(crate) fn add(&mut self, reference: &'a Reference) -> Result<bool, NoMemory>
+        ensures new { IfOk result (λ new. new ≡ not (has_seen self.old (ref_view reference.now))) }
+        ensures added { OnOk result ((q : RefTree) → has_seen self.new q ≡ cond (same_ref (ref_view reference.now) q) true (has_seen self.old q)) }
+    {
+        match &reference.port {
+            None => Ok(self.own.insert(reference.head.as_str())?),
+            Some(port) => Ok(self.inner.insert((reference.head.as_str(), port.as_str()))?),
+        }
+    }
+}

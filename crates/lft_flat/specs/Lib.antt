@@ -1,0 +1,6 @@
+pub mod Names
+pub mod Origins
+pub mod Parts
+pub mod Places
+pub mod Plain
+pub mod Sound

@@ -1,0 +1,20 @@
+#![tactic(auto)]
+//! The flat program as data: numbered instances, ports, actions, timers and reactions with their
+//! names, and what holds of each such program.
+
+mod copies;
+mod found;
+mod lists;
+mod names;
+mod parts;
+mod plainness;
+mod program;
+mod same;
+mod texts;
+
+pub use found::Found;
+pub use lists::{Names, Triggers};
+pub use names::{NameTable, Starts};
+pub use parts::{Action, Name, Port, Reaction, Source, Timer, Trigger, Value};
+pub use program::Program;
+pub use texts::Texts;

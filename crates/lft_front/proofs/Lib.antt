@@ -1,0 +1,4 @@
+pub mod Texts
+pub mod Loading
+pub mod Judging
+pub mod Listed

@@ -1,0 +1,58 @@
+-- Texts that grow by one piece for each item of a list, and what a graph's lists hold.
+use Rattle.std.proofs.Common.{◌≡◌, ℕ, zero, suc, ◌+◌, ◌<◌, ◌≤◌, ◌⊎◌, inl, inr, List, [], ◌∷◌, ◌++◌, length, take, flat_map, refl, sym, ap, ◌∙◌, arith, Some, slice_get, get_or}
+use Rattle.std.specs.List.{enumerate_from}
+use Rattle.std.proofs.lemmas.List.{append_assoc, append-nil, take_all}
+use Rattle.std.proofs.lemmas.Option.{slice_get_within}
+use Rattle.lft_flat.specs.Parts.{Parts}
+use Rattle.lft_flat.specs.Origins.{Origin}
+use Rattle.lft_flat.specs.Origins.Origin.{itself, over}
+use Rattle.lft_graph.specs.Graph.{GraphParts, IsGraphOf}
+use Rattle.lft_graph.specs.Before.{IsDeclaredJustBefore, FeedsLast}
+use Rattle.lft_graph.proofs.Places.{contains_at}
+
+-- one item more
+pub one_more : {X : Type 0} (f : X → List ℕ) (xs : List X) (k : ℕ) (x : X) → slice_get xs k ≡ Some x → flat_map f (take (suc k) xs) ≡ flat_map f (take k xs) ++ f x
+one_more f [] k x e = absurd (cc)
+one_more f (y ∷ ys) zero x e = let q : y ≡ x = cc in append-nil (f y) ∙ ap f q
+one_more f (y ∷ ys) (suc k) x e = ap (λ w. f y ++ w) (one_more f ys k x e) ∙ sym (append_assoc (f y) (flat_map f (take k ys)) (f x))
+
+-- a text that grew by the piece of one item more
+pub grown : {X : Type 0} (f : X → List ℕ) (xs : List X) (k : ℕ) (x : X) (start before after : List ℕ) → slice_get xs k ≡ Some x → before ≡ start ++ flat_map f (take k xs) → after ≡ before ++ f x → after ≡ start ++ flat_map f (take (k + 1) xs)
+grown f xs k x start before after e b a =
+    let n : suc k ≡ k + 1 = omega arith in
+    a ∙ ap (λ w. w ++ f x) b ∙ append_assoc start (flat_map f (take k xs)) (f x) ∙ ap (λ w. start ++ w) (sym (one_more f xs k x e) ∙ ap (λ j. flat_map f (take j xs)) n)
+
+-- the items with their places
+pub placed : {X : Type 0} (i : ℕ) (xs : List X) (n : ℕ) (x : X) → slice_get xs n ≡ Some x → slice_get (enumerate_from i xs) n ≡ Some (i + n, x)
+placed i [] n x e = absurd (cc)
+placed i (z ∷ xs) zero x e = let q : z ≡ x = cc in let j : i ≡ i + 0 = omega arith in ap (λ w. Some (i, w)) q ∙ ap (λ w. Some (w, x)) j
+placed i (z ∷ xs) (suc n) x e = let j : (i + 1) + n ≡ i + suc n = omega arith in placed (i + 1) xs n x e ∙ ap (λ w. Some (w, x)) j
+
+pub placed_first : {X : Type 0} (xs : List X) (n : ℕ) (x : X) → slice_get xs n ≡ Some x → slice_get (enumerate_from 0 xs) n ≡ Some (n, x)
+placed_first xs n x e = let j : 0 + n ≡ n = omega arith in placed 0 xs n x e ∙ ap (λ w. Some (w, x)) j
+
+pub length_placed : {X : Type 0} (i : ℕ) (xs : List X) → length (enumerate_from i xs) ≡ length xs
+length_placed i [] = refl
+length_placed i (x ∷ xs) = ap suc (length_placed (i + 1) xs)
+
+-- all items
+pub all_placed : {X : Type 0} (xs : List X) (n : ℕ) → length xs ≤ n → take n (enumerate_from 0 xs) ≡ enumerate_from 0 xs
+all_placed xs n l = let e : length (enumerate_from 0 xs) ≡ length xs = length_placed 0 xs in take_all n (enumerate_from 0 xs) (omega arith)
+
+-- the origin of a port is a port
+pub origin_within : (program : Parts) (p o : ℕ) (delays : List ℕ) → Origin program p o delays → o < length program.ports
+origin_within program p o delays (itself port h s) = slice_get_within program.ports p port h
+origin_within program p o delays (over {delays = d} port source first h s x e) = origin_within program source.port o first x
+
+-- what a graph's lists hold are reactions
+pub before_within : (program : Parts) (graph : GraphParts) → IsGraphOf program graph → (r : ℕ) (list : List ℕ) → slice_get graph.before r ≡ Some list → (i a : ℕ) → slice_get list i ≡ Some a → a < length program.reactions
+before_within program graph is r list e i a f = go (((is.before r list e).members a).0 (contains_at list i a f))
+  where
+    go : IsDeclaredJustBefore program a r ⊎ FeedsLast program a r → a < length program.reactions
+    go (inl j) = slice_get_within program.reactions a j.first j.is_first
+    go (inr w) = slice_get_within program.reactions a w.1.writes.writer w.1.writes.is_writer
+
+pub get_or_at : {X : Type 0} (xs : List X) (k : ℕ) (x d : X) → slice_get xs k ≡ Some x → get_or xs k d ≡ x
+get_or_at [] k x d e = absurd (cc)
+get_or_at (y ∷ ys) zero x d e = let q : y ≡ x = cc in q
+get_or_at (y ∷ ys) (suc k) x d e = get_or_at ys k x d e

@@ -1,0 +1,38 @@
+-- A verdict on three texts, and what was written of it.
+use Rattle.std.specs.Prelude.{◌↔◌, ℕ, Bool, IsTrue, List, Option}
+use Rattle.std.specs.Io.KnownBytes.{Appends}
+use Rattle.lft_flat.specs.Plain.{IsPlain}
+use Rattle.lft_trace.specs.declared.row.Row.{Row}
+use Rattle.lft_model.specs.Plans.{PlanParts}
+use Rattle.lft_model.specs.Runs.{by_ends}
+use Rattle.lft_model.specs.OneWorker.{OneWorker, InOrderOfPrecedence}
+use Rattle.lft_check.specs.declared.verdict.Verdict.{Verdict}
+use Rattle.lft_check.specs.declared.verdict.Verdict.TheVariants.{Accepted, Broken}
+use Rattle.lft_check.specs.Verdicts.{IsVerdict}
+use Rattle.lft_front.specs.Bundles.{IsBundle}
+use Rattle.lft_front.specs.Lines.{line_of}
+use Rattle.lft_front.specs.Meaning.{IsMeaning}
+use Rattle.lft_front.specs.Status.{Accepts}
+
+-- what accepted says: the runs, in order of their ends, are an execution by one worker, and no run started before every run that precedes it at its tag had ended
+abbrev pub AcceptedRuns : PlanParts → List Row → Verdict → Type 0
+AcceptedRuns plan rows (Accepted runs tags) = OneWorker plan (by_ends plan rows) × InOrderOfPrecedence plan rows
+AcceptedRuns plan rows (Broken b) = Unit {0}
+
+-- the verdict on the meaning of the three texts, whose program is plain, since no other is judged yet; its line was written
+pub record IsJudged (program externals trace : List ℕ) (old new : Option (List ℕ)) (verdict : Verdict) : Type 0 where
+  pub plan : PlanParts
+  pub rows : List Row
+  pub meaning : IsMeaning program externals trace plan rows
+  pub is_plain : IsPlain plan.program
+  pub right : IsVerdict plan rows verdict
+  pub one_worker : AcceptedRuns plan rows verdict
+  pub written : Appends old new (line_of plan.program verdict)
+
+-- true is the answer where the verdict on the three texts, whose line was written, accepts, and false where it doesn't
+abbrev pub IsAccepted : List ℕ → List ℕ → List ℕ → Option (List ℕ) → Option (List ℕ) → Bool → Type 0
+IsAccepted program externals trace old new answer = (verdict : Verdict) × IsJudged program externals trace old new verdict × (IsTrue answer ↔ Accepts verdict)
+
+-- the same of the three texts of a bundle
+abbrev pub IsBundleAccepted : List ℕ → Option (List ℕ) → Option (List ℕ) → Bool → Type 0
+IsBundleAccepted text old new answer = (program externals trace : List ℕ) × IsBundle text program externals trace × IsAccepted program externals trace old new answer

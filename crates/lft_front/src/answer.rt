@@ -1,0 +1,59 @@
+//! What a command answers: true where it found nothing wrong, and the exit status is 0.
+
+ghost use Rattle.std.specs.Prelude.{◌≡◌, ◌↔◌, true, IsTrue, IfOk, IfErr};
+ghost use Rattle.lft_front.specs.Judged.{IsAccepted, IsBundleAccepted};
+ghost use Rattle.lft_front.specs.Refusals.{JudgeRefusal};
+ghost use Rattle.lft_front.specs.Shown.{IsShown};
+ghost use Rattle.lft_front.specs.Status.{Accepts};
+
+use crate::bundle::split_bundle;
+use crate::fault::{Fault, Part};
+use crate::judge::{judge_texts, judge_texts_alone};
+use crate::show::show_text;
+use lft_check::Verdict;
+use std::alloc::Global;
+use std::io::Write;
+
+/// Whether a verdict is that the trace is accepted.
+fn is_accepted(verdict: Verdict) -> bool
+    ensures { IsTrue result ↔ Accepts verdict }
+{
+    matches!(verdict, Verdict::Accepted { .. })
+}
+
+/// Whether the trace of three texts is accepted, whose verdict's line is written.
+pub fn judge_answer<W: Write>(
+    alloc: Global,
+    program: &[u8],
+    externals: &[u8],
+    trace: &[u8],
+    workers: u32,
+    out: &mut W,
+) -> Result<bool, Fault>
+    ensures accepted { IfOk result (IsAccepted program.now externals.now trace.now (W.contents out.old) (W.contents out.new)) }
+    ensures refused { IfErr result (JudgeRefusal program.now externals.now trace.now workers (W.contents out.old) (W.contents out.new)) }
+{
+    let verdict = judge_texts(alloc, program, externals, trace, workers, out)?;
+    Ok(is_accepted(verdict))
+}
+
+/// Whether the trace of a bundle is accepted, whose verdict's line is written. A text that is no
+/// bundle is refused as `bundle 1 BadBundle`.
+pub fn bundle_answer<W: Write>(alloc: Global, text: &[u8], out: &mut W) -> Result<bool, Fault>
+    ensures { IfOk result (IsBundleAccepted text.now (W.contents out.old) (W.contents out.new)) }
+{
+    let Some(bundle) = split_bundle(text) else {
+        return Err(Fault::plain(Part::Bundle, 1, "BadBundle"));
+    };
+    let verdict = judge_texts_alone(alloc, bundle.program, bundle.externals, bundle.trace, out)?;
+    Ok(is_accepted(verdict))
+}
+
+/// True, once the lines of the program are written.
+pub fn show_answer<W: Write>(alloc: Global, program: &[u8], out: &mut W) -> Result<bool, Fault>
+    ensures yes { IfOk result (λ shown. shown ≡ true) }
+    ensures shown { IfOk result (λ shown. IsShown program.now (W.contents out.old) (W.contents out.new)) }
+{
+    show_text(alloc, program, out)?;
+    Ok(true)
+}

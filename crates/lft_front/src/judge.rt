@@ -1,0 +1,169 @@
+//! The verdict on three texts.
+
+ghost use Rattle.std.specs.Prelude.{◌≡◌, ◌≢◌, ◌≤◌, ◌↔◌, ◌⊎◌, true, IsTrue, OnOk, OnErr, IfOk, IfErr, List};
+ghost use Rattle.std.specs.Io.KnownBytes.{Appends, Keeps};
+ghost use Rattle.lft_flat.specs.Plain.{IsPlain};
+ghost use Rattle.lft_trace.specs.Fits.{RowsFit};
+ghost use Rattle.lft_trace.specs.declared.row.Row.{Row};
+ghost use Rattle.lft_model.specs.Plans.{PlanParts};
+ghost use Rattle.lft_model.specs.declared.breach.Breach.{Breach};
+ghost use Rattle.lft_check.specs.declared.verdict.Verdict.TheVariants.{Broken};
+ghost use Rattle.lft_check.specs.Verdicts.{IsVerdict};
+ghost use Rattle.lft_front.specs.Lines.{line_of, HasReaction};
+ghost use Rattle.lft_front.specs.Meaning.{IsMeaning, Mean};
+ghost use Rattle.lft_front.specs.Judged.{AcceptedRuns, IsJudged};
+ghost use Rattle.lft_front.specs.Refusals.{JudgeRefusal, JudgingRefusal, TextsRefusal, IsRefusedGrowth, IsUnjudged, IsWorkers, is_of_text};
+ghost use Rattle.lft_front.specs.Written.{AppendsFront};
+ghost use Rattle.lft_front.specs.declared.fault.Part.TheVariants as part;
+
+use crate::fault::{Fault, Part};
+use crate::line::verdict_line;
+use crate::load::load;
+use crate::output::write_text;
+use lft_check::{NoWatch, Verdict, judge_alone};
+use lft_flat::Program;
+use lft_model::Plan;
+use lft_model::laws::law_one_worker;
+use lft_program::ProgramFault;
+use lft_trace::{Rows, read_trace};
+use std::alloc::Global;
+use std::io::Write;
+
+/// The plan and the rows of three texts.
+#[derive(Drop)]
+struct Given {
+    plan: Plan,
+    rows: Rows,
+}
+
+/// The plan and the rows of three texts, else the fault of the first layer that refuses.
+fn read_texts(alloc: Global, program: &[u8], externals: &[u8], trace: &[u8]) -> Result<Given, Fault>
+    ensures meaning { IfOk result (λ given. IsMeaning program.now externals.now trace.now given.plan given.rows) }
+    ensures fit { IfOk result (λ given. RowsFit given.plan.program given.rows) }
+    ensures refused { IfErr result (TextsRefusal program.now externals.now trace.now) }
+    ensures none { IfErr result (λ f. is_of_text f.part f.number ≡ true → (plan : PlanParts) (rows : List Row) → Mean program.now externals.now trace.now plan rows → ⊥) }
+{
+    let plan = match load(alloc, program, externals) {
+        Ok(plan) => plan,
+        Err(fault) => return Err(fault),
+    };
+    match read_trace(alloc, plan.program(), trace) {
+        Ok(rows) => Ok(Given { plan, rows }),
+        Err(fault) => Err(Fault::trace(fault)),
+    }
+}
+
+/// Whether judging takes this number of workers: 1 to 64.
+fn is_workers(workers: u32) -> bool
+    ensures { IsTrue result ↔ IsWorkers workers }
+{
+    1 <= workers && workers <= 64
+}
+
+/// The verdict on rows.
+fn verdict_of(alloc: Global, plan: &Plan, rows: &Rows) -> Result<Verdict, Fault>
+    requires plain { IsPlain plan.now.program }
+    requires fit { RowsFit plan.now.program rows.now }
+    ensures verdict { IfOk result (IsVerdict plan.now rows.now) }
+    ensures one_worker { IfOk result (AcceptedRuns plan.now rows.now) }
+    ensures growth { IfErr result IsRefusedGrowth }
+{
+    law_one_worker(plan);
+    match judge_alone(alloc, plan, rows, &NoWatch) {
+        Ok(verdict) => Ok(verdict),
+        Err(_) => Err(Fault::plain(Part::Check, 3, "NoMemory")),
+    }
+}
+
+/// Writes the line of a verdict.
+fn report<W: Write>(
+    alloc: Global,
+    program: &Program,
+    verdict: Verdict,
+    out: &mut W,
+) -> Result<(), Fault>
+    requires { (b : Breach) → verdict ≡ Broken b → HasReaction program.now b.reaction }
+    ensures written { OnOk result (Appends (W.contents out.old) (W.contents out.new) (line_of program.now verdict)) }
+    ensures front { IfErr result (λ f. IsRefusedGrowth f ⊎ (f.part ≡ part.Write) × (f.number ≡ 1) × AppendsFront (W.contents out.old) (W.contents out.new) (line_of program.now verdict)) }
+    ensures kept { IfErr result (λ f. f.part ≢ part.Write → Keeps (W.contents out.old) (W.contents out.new)) }
+{
+    match verdict_line(alloc, program, verdict) {
+        Ok(line) => write_text(line.as_bytes(), out),
+        Err(_) => Err(Fault::no_memory()),
+    }
+}
+
+/// Judges rows and writes the verdict's line. The number of workers is tested first, and then
+/// whether the program is plain.
+fn judge_rows<W: Write>(
+    alloc: Global,
+    plan: &Plan,
+    rows: &Rows,
+    workers: u32,
+    out: &mut W,
+) -> Result<Verdict, Fault>
+    requires fit { RowsFit plan.now.program rows.now }
+    ensures verdict { IfOk result (IsVerdict plan.now rows.now) }
+    ensures one_worker { IfOk result (AcceptedRuns plan.now rows.now) }
+    ensures workers { OnOk result (IsWorkers workers) }
+    ensures plain { OnOk result (IsPlain plan.now.program) }
+    ensures written { IfOk result (λ v. Appends (W.contents out.old) (W.contents out.new) (line_of plan.now.program v)) }
+    ensures refused { IfErr result (JudgingRefusal plan.now rows.now workers (W.contents out.old) (W.contents out.new)) }
+    ensures kept { IfErr result (λ f. f.part ≢ part.Write → Keeps (W.contents out.old) (W.contents out.new)) }
+{
+    if !is_workers(workers) {
+        return Err(Fault::plain(Part::Check, 1, "BadWorkers"));
+    }
+    if !plan.program().is_plain() {
+        return Err(Fault::program(ProgramFault::WrongPlace));
+    }
+    let verdict = match verdict_of(alloc, plan, rows) {
+        Ok(verdict) => verdict,
+        Err(fault) => return Err(fault),
+    };
+    match report(alloc, plan.program(), verdict, out) {
+        Ok(()) => Ok(verdict),
+        Err(fault) => Err(fault),
+    }
+}
+
+/// Judges the trace of a program under external inputs, from their texts, and writes the verdict's
+/// line. The fault is that of the first layer that refuses, in the order lex, syntax, program,
+/// externals, graph, trace, check, write. A program with further instances that have reactions,
+/// with ports or with actions isn't judged yet: after the test of the number of workers, it is
+/// refused as `program 7 WrongPlace`.
+pub fn judge_texts<W: Write>(
+    alloc: Global,
+    program: &[u8],
+    externals: &[u8],
+    trace: &[u8],
+    workers: u32,
+    out: &mut W,
+) -> Result<Verdict, Fault>
+    ensures judged { IfOk result (IsJudged program.now externals.now trace.now (W.contents out.old) (W.contents out.new)) }
+    ensures workers { OnOk result (IsWorkers workers) }
+    ensures refused { IfErr result (JudgeRefusal program.now externals.now trace.now workers (W.contents out.old) (W.contents out.new)) }
+    ensures none { IfErr result (λ f. is_of_text f.part f.number ≡ true → (plan : PlanParts) (rows : List Row) → Mean program.now externals.now trace.now plan rows → IsUnjudged plan f) }
+    ensures kept { IfErr result (λ f. f.part ≢ part.Write → Keeps (W.contents out.old) (W.contents out.new)) }
+{
+    match read_texts(alloc, program, externals, trace) {
+        Ok(given) => judge_rows(alloc, &given.plan, &given.rows, workers, out),
+        Err(fault) => Err(fault),
+    }
+}
+
+/// The same by one worker.
+pub fn judge_texts_alone<W: Write>(
+    alloc: Global,
+    program: &[u8],
+    externals: &[u8],
+    trace: &[u8],
+    out: &mut W,
+) -> Result<Verdict, Fault>
+    ensures judged { IfOk result (IsJudged program.now externals.now trace.now (W.contents out.old) (W.contents out.new)) }
+    ensures refused { IfErr result (JudgeRefusal program.now externals.now trace.now 1 (W.contents out.old) (W.contents out.new)) }
+    ensures none { IfErr result (λ f. is_of_text f.part f.number ≡ true → (plan : PlanParts) (rows : List Row) → Mean program.now externals.now trace.now plan rows → IsUnjudged plan f) }
+    ensures kept { IfErr result (λ f. f.part ≢ part.Write → Keeps (W.contents out.old) (W.contents out.new)) }
+{
+    judge_texts(alloc, program, externals, trace, 1, out)
+}

@@ -1,0 +1,147 @@
+//! The lines that are printed.
+
+ghost use Rattle.std.specs.Prelude.{◌≡◌, ◌++◌, ◌<◌, ℕ, IfOk, OnOk, Some, length, slice_get, string_bytes};
+ghost use Rattle.lft_front.specs.Lines.{accepted_words, breach_words, field, line_of, names_words, reaction_name, reaction_words, row_words, rule_name, spaced_name, HasReaction};
+ghost use Rattle.lft_model.specs.declared.breach.Breach.{Breach as TheBreach};
+ghost use Rattle.lft_check.specs.declared.verdict.Verdict.TheVariants.{Broken};
+
+use itoa::Buffer;
+use lft_check::Verdict;
+use lft_flat::Program;
+use lft_model::Breach;
+use std::alloc::{AllocError, Global};
+
+/// Puts a word and a number at the end of a line.
+pub fn push_field(line: &mut String, word: &str, number: u64) -> Result<(), AllocError>
+    ensures { OnOk result (string_bytes line.new ≡ string_bytes line.old ++ field word.now number) }
+{
+    let mut buffer = Buffer::new();
+    line.push_str(word)?;
+    line.push_str(buffer.format(number))?;
+    Ok(())
+}
+
+/// Puts the name of a reaction at the end of a line.
+pub fn push_name(line: &mut String, program: &Program, reaction: u32) -> Result<(), AllocError>
+    requires { reaction < length program.now.reactions }
+    ensures { OnOk result (string_bytes line.new ≡ string_bytes line.old ++ reaction_name program.now reaction) }
+{
+    line.push_str(program.name_of_reaction(reaction))?;
+    Ok(())
+}
+
+/// Puts a space and the name of a reaction at the end of a line.
+fn push_spaced(line: &mut String, program: &Program, reaction: u32) -> Result<(), AllocError>
+    requires { reaction < length program.now.reactions }
+    ensures { OnOk result (string_bytes line.new ≡ string_bytes line.old ++ spaced_name program.now reaction) }
+{
+    line.push_str(" ")?;
+    push_name(line, program, reaction)?;
+    Ok(())
+}
+
+/// Puts the names of reactions at the end of a line, with a space between two.
+pub fn push_names(line: &mut String, program: &Program, reactions: &[u32]) -> Result<(), AllocError>
+    requires { (i r : ℕ) → slice_get reactions.now i ≡ Some r → r < length program.now.reactions }
+    ensures { OnOk result (string_bytes line.new ≡ string_bytes line.old ++ names_words program.now reactions.now) }
+{
+    if reactions.is_empty() {
+        return Ok(());
+    }
+    push_name(line, program, reactions[0])?;
+    for at in 1..reactions.len() {
+        push_spaced(line, program, reactions[at])?;
+    }
+    Ok(())
+}
+
+/// The name of a rule.
+fn name_of_rule(rule: u8) -> &'static str
+    ensures { result.now ≡ rule_name rule }
+{
+    match rule {
+        1 => "late",
+        2 => "after-stop",
+        3 => "order",
+        4 => "undeclared",
+        5 => "unended",
+        6 => "collision",
+        7 => "not-run",
+        8 => "not-triggered",
+        9 => "too-early",
+        10 => "wrong-read",
+        _ => "",
+    }
+}
+
+/// Puts the line of the table at the end of a line, where a rule is broken at a row.
+fn push_row(line: &mut String, row: u32) -> Result<(), AllocError>
+    ensures { OnOk result (string_bytes line.new ≡ string_bytes line.old ++ row_words row) }
+{
+    if row != 0 {
+        push_field(line, " line=", u64::from(row))?;
+    }
+    Ok(())
+}
+
+/// Puts the reaction that breaks a rule at the end of a line.
+fn push_reaction(
+    line: &mut String,
+    program: &Program,
+    reaction: Option<u32>,
+) -> Result<(), AllocError>
+    requires { HasReaction program.now reaction }
+    ensures { OnOk result (string_bytes line.new ≡ string_bytes line.old ++ reaction_words program.now reaction) }
+{
+    match reaction {
+        Some(number) => {
+            line.push_str(" reaction=")?;
+            push_name(line, program, number)?;
+        }
+        None => line.push_str(" (outside the profile)")?,
+    }
+    Ok(())
+}
+
+/// The line of a broken rule, with its line feed.
+fn breach_line(alloc: Global, program: &Program, breach: Breach) -> Result<String, AllocError>
+    requires { HasReaction program.now breach.reaction }
+    ensures { IfOk result (λ line. string_bytes line ≡ breach_words program.now breach) }
+{
+    let mut line = String::new(alloc);
+    push_field(&mut line, "broken rule=", u64::from(breach.rule))?;
+    line.push_str(" ")?;
+    line.push_str(name_of_rule(breach.rule))?;
+    push_row(&mut line, breach.row)?;
+    push_field(&mut line, " time=", breach.tag.time)?;
+    push_field(&mut line, " microstep=", u64::from(breach.tag.micro))?;
+    push_reaction(&mut line, program, breach.reaction)?;
+    line.push_str("\n")?;
+    Ok(line)
+}
+
+/// The line of an accepted trace, with its line feed.
+fn accepted_line(alloc: Global, runs: u32, tags: u32) -> Result<String, AllocError>
+    ensures { IfOk result (λ line. string_bytes line ≡ accepted_words runs tags) }
+{
+    let mut line = String::new(alloc);
+    push_field(&mut line, "accepted runs=", u64::from(runs))?;
+    push_field(&mut line, " tags=", u64::from(tags))?;
+    line.push_str("\n")?;
+    Ok(line)
+}
+
+/// The line of a verdict, with its line feed.
+pub fn verdict_line(
+    alloc: Global,
+    program: &Program,
+    verdict: Verdict,
+) -> Result<String, AllocError>
+    requires { (b : TheBreach) → verdict ≡ Broken b → HasReaction program.now b.reaction }
+    ensures { IfOk result (λ line. string_bytes line ≡ line_of program.now verdict) }
+{
+    match verdict {
+        Verdict::Accepted { runs, tags } => accepted_line(alloc, runs, tags),
+        Verdict::Broken(breach) => breach_line(alloc, program, breach),
+    }
+}

@@ -1,0 +1,2 @@
+#![tactic(auto)]
+//! Lemmas on lists that several crates cite. There is no code here.

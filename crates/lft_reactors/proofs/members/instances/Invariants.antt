@@ -1,8 +1,0 @@
-use Rattle.std.proofs.Common.{◌≡◌, filter_map, take}
-use Rattle.lft_syntax.specs.Tree.{instance_in}
-use Rattle.lft_syntax.specs.View.{member_views}
-use Rattle.lft_reactors.specs.References.{instance_trees}
-use Rattle.lft_reactors.proofs.members.instances.Given as goal
-
-abbrev pub invariant-loop-member : goal.invariant-loop-member
-invariant-loop-member l = instance_trees l.found.items ≡ filter_map instance_in (member_views (take l.member-index l.members))

@@ -1,7 +1,0 @@
-use Rattle.std.proofs.Common.{Any, take}
-use Rattle.lft_reactors.specs.Causes.{WritesTwice}
-use Rattle.lft_reactors.specs.References.{reactor_trees}
-use Rattle.lft_reactors.proofs.writers.has_two_sources.Given as goal
-
-abbrev pub invariant-loop-reactor : goal.invariant-loop-reactor
-invariant-loop-reactor l = Any WritesTwice (reactor_trees (take l.reactor-index l.reactors)) → ⊥

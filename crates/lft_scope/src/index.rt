@@ -1,0 +1,55 @@
+//! Where names stand in a list.
+
+ghost use Rattle.std.specs.Prelude.{◌≡◌, ℕ, List, Some, None, cond, IfOk, OnOk, bytes_eq};
+ghost use Rattle.lft_scope.specs.Tests.{texts};
+ghost use Rattle.lft_scope.specs.Places.{IsIndexOf, place_in};
+
+use lft_tag::NoMemory;
+use std::alloc::Global;
+use std::collections::HashMap;
+
+/// Where each name of a list stands in it first.
+#[derive(Drop)]
+pub struct Index<'a> {
+    places: HashMap<&'a str, usize>,
+}
+
+impl<'a> Index<'a> {
+    /// An index of no names.
+    fn new(alloc: Global) -> Index<'a>
+        ensures { (q : List ℕ) → place_in result q ≡ None }
+    {
+        Index {
+            places: HashMap::new(alloc),
+        }
+    }
+
+    /// Where the name stands first.
+    pub fn get(&self, name: &str) -> Option<usize>
+        ensures { result ≡ place_in self.now name.now }
+    {
+        self.places.get(name).copied()
+    }
+
+    /// Notes that the name stands at the place.
+    fn put(&mut self, name: &'a str, place: usize) -> Result<(), NoMemory>
+        ensures { OnOk result ((q : List ℕ) → place_in self.new q ≡ cond (bytes_eq name.now q) (Some place) (place_in self.old q)) }
+    {
+        self.places.insert(name, place)?;
+        Ok(())
+    }
+
+    /// The index of a list of names.
+    pub fn of(alloc: Global, names: &[&'a str]) -> Result<Index<'a>, NoMemory>
+        ensures { IfOk result (λ index. IsIndexOf index (texts names.now)) }
+    {
+        let mut index = Index::new(alloc);
+        for place in 0..names.len() {
+            let name = names[place];
+            if index.get(name).is_none() {
+                index.put(name, place)?;
+            }
+        }
+        Ok(index)
+    }
+}

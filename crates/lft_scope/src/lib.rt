@@ -1,0 +1,14 @@
+#![tactic(auto)]
+//! What the names in the reactors of a file stand for, and the definitions of instances and of the
+//! causes of refusal.
+
+mod fault;
+pub mod file;
+pub mod index;
+pub mod kinds;
+pub mod members;
+pub mod names;
+pub mod own;
+pub mod times;
+
+pub use fault::ReactorFault;

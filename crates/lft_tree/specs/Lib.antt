@@ -1,0 +1,5 @@
+pub mod Bytes
+pub mod Identifiers
+pub mod ItemView
+pub mod Tree
+pub mod View

@@ -1,0 +1,11 @@
+#![tactic(auto)]
+//! The tree of a program's text.
+
+mod ast;
+mod tree;
+
+pub use ast::Ast;
+pub use tree::{
+    Action, Assignment, Connection, Instance, Item, Member, Parameter, Port, Reaction, Reactor,
+    Reference, Time, TimeExpression, TimeUnit, Timer, TokenRange, Trigger,
+};
