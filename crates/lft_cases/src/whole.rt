@@ -10,7 +10,9 @@
 
 use crate::given::{Given, trace_table};
 use lft_check::Verdict;
-use lft_front::{Fault, bundle_answer, finish, judge_texts, judge_texts_alone, show_text, split_bundle};
+use lft_front::{
+    Fault, bundle_answer, finish, judge_texts, judge_texts_alone, show_text, split_bundle,
+};
 use std::alloc::Global;
 use std::io;
 use std::io::Write;

@@ -1,0 +1,14 @@
+#![tactic(auto)]
+//! The tests of the calls on texts that need code: long texts, readers and writers that are
+//! interrupted or fail, refused growths. What is data is a case of `lft_cases`.
+
+#[cfg(test)]
+mod growths;
+#[cfg(test)]
+mod long_texts;
+#[cfg(test)]
+mod readers;
+#[cfg(test)]
+mod texts;
+#[cfg(test)]
+mod writers;

@@ -1,0 +1,126 @@
+//! Readers that end, that are interrupted, that fail, and that never end.
+
+use crate::texts::with_fault;
+use lft_front::read_input;
+use std::alloc::Global;
+use std::io;
+use std::io::{ErrorKind, Read};
+
+const TEXT: &[u8] = b"abc";
+
+/// Gives a text, one byte a call. At so many calls, from the one of the number `at` on, counted
+/// from 0, it gives an error of this kind instead.
+#[derive(Drop)]
+struct Stumbling {
+    given: usize,
+    calls: usize,
+    at: usize,
+    times: usize,
+    kind: ErrorKind,
+}
+
+impl Read for Stumbling {
+    fn read(&mut self, buf: &mut [u8]) -> io::Result<usize> {
+        let call = self.calls;
+        self.calls = call.wrapping_add(1);
+        if self.at <= call && call - self.at < self.times {
+            return Err(io::Error::from(self.kind));
+        }
+        match TEXT.get(self.given) {
+            Some(byte) if !buf.is_empty() => {
+                buf[0] = *byte;
+                self.given = self.given.wrapping_add(1);
+                Ok(1)
+            }
+            _ => Ok(0),
+        }
+    }
+}
+
+/// Gives so many bytes, at most a number of them a call, whatever the buffer has.
+#[derive(Drop)]
+struct Bytes {
+    left: usize,
+    most: usize,
+}
+
+impl Read for Bytes {
+    fn read(&mut self, buf: &mut [u8]) -> io::Result<usize> {
+        let given = buf.len().min(self.most).min(self.left);
+        self.left -= given;
+        Ok(given)
+    }
+}
+
+/// The bytes of a reader, or the line of the fault.
+fn told<R: Read>(alloc: Global, reader: &mut R) -> Vec<u8> {
+    match read_input(alloc, "a b", reader) {
+        Ok(bytes) => bytes,
+        Err(fault) => with_fault(Vec::new(alloc), Some(fault)),
+    }
+}
+
+// an interrupted read is tried again, and another error is told, at each place and at the end
+#[test]
+fn reads_on_after_interruptions_alone(rt: HostRuntime) {
+    for (kind, want) in [
+        (ErrorKind::Interrupted, b"abc".as_slice()),
+        (ErrorKind::TimedOut, b"fault read 1 Failed a b\n".as_slice()),
+        (
+            ErrorKind::WouldBlock,
+            b"fault read 1 Failed a b\n".as_slice(),
+        ),
+    ] {
+        for at in 0..=TEXT.len() {
+            let mut reader = Stumbling {
+                given: 0,
+                calls: 0,
+                at,
+                times: 3,
+                kind,
+            };
+            assert!(rt; told(rt.alloc(), &mut reader).as_slice() == want, "{at}");
+        }
+    }
+}
+
+// 2^24 calls are made and no more
+#[test]
+fn gives_up_on_an_endless_reader(rt: HostRuntime) {
+    let mut endless = Bytes {
+        left: usize::MAX,
+        most: 1,
+    };
+    let line = told(rt.alloc(), &mut endless);
+    assert!(rt;
+        line.as_slice() == b"fault read 2 TooLarge a b\n".as_slice()
+            && endless.left == usize::MAX - (1 << 24)
+    );
+}
+
+// interruptions are calls too
+#[test]
+fn gives_up_on_endless_interruptions(rt: HostRuntime) {
+    let mut endless = Stumbling {
+        given: 0,
+        calls: 0,
+        at: 0,
+        times: usize::MAX,
+        kind: ErrorKind::Interrupted,
+    };
+    let line = told(rt.alloc(), &mut endless);
+    assert!(rt;
+        line.as_slice() == b"fault read 2 TooLarge a b\n".as_slice() && endless.calls == 1 << 24
+    );
+}
+
+#[test]
+fn takes_two_to_the_thirty_bytes_and_no_more(rt: HostRuntime) {
+    for (left, length) in [(1 << 30, 1 << 30), ((1 << 30) + 1, 26)] {
+        let mut reader = Bytes {
+            left,
+            most: usize::MAX,
+        };
+        assert!(rt; told(rt.alloc(), &mut reader).len() == length, "{left}");
+    }
+}

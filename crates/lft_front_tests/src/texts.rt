@@ -1,0 +1,19 @@
+//! What is shown of texts, with the lines of faults.
+
+use lft_front::{Fault, finish, show_text};
+use std::alloc::Global;
+
+/// What was written, and after it the line of the fault, where there is one.
+pub(crate) fn with_fault(mut out: Vec<u8>, fault: Option<Fault>) -> Vec<u8> {
+    if let Some(fault) = fault {
+        let _ = finish(Err(fault), &mut out);
+    }
+    out
+}
+
+/// What is shown of a program, and after it the line of the fault, where there is one.
+pub(crate) fn shown(alloc: Global, text: &[u8]) -> Vec<u8> {
+    let mut out = Vec::new(alloc);
+    let answer = show_text(alloc, text, &mut out);
+    with_fault(out, answer.err())
+}

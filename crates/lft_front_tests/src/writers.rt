@@ -1,0 +1,199 @@
+//! Writers that are interrupted, that fail, and that take nothing; statuses.
+
+use crate::texts::with_fault;
+use lft_front::{Fault, finish, judge_texts, judge_texts_alone, show_text};
+use std::alloc::Global;
+use std::io;
+use std::io::{ErrorKind, Write};
+use std::test::Fail;
+
+/// Takes one byte a call. At so many calls, from the one of the number `at` on, counted from 0, it
+/// gives an error of this kind instead, or takes nothing where there is no kind.
+#[derive(Drop)]
+struct Stumbling {
+    taken: Vec<u8>,
+    calls: usize,
+    at: usize,
+    times: usize,
+    kind: Option<ErrorKind>,
+    flushes: bool,
+}
+
+impl Stumbling {
+    fn new(alloc: Global, at: usize, times: usize, kind: Option<ErrorKind>) -> Stumbling {
+        Stumbling {
+            taken: Vec::new(alloc),
+            calls: 0,
+            at,
+            times,
+            kind,
+            flushes: true,
+        }
+    }
+}
+
+impl Write for Stumbling {
+    fn write(&mut self, buf: &[u8]) -> io::Result<usize> {
+        let call = self.calls;
+        self.calls = call.wrapping_add(1);
+        if self.at <= call && call - self.at < self.times {
+            return match self.kind {
+                Some(kind) => Err(io::Error::from(kind)),
+                None => Ok(0),
+            };
+        }
+        match buf.first() {
+            Some(byte) => {
+                self.taken.push(*byte)?;
+                Ok(1)
+            }
+            None => Ok(0),
+        }
+    }
+
+    fn flush(&mut self) -> io::Result<()> {
+        if self.flushes {
+            Ok(())
+        } else {
+            Err(io::Error::from(ErrorKind::TimedOut))
+        }
+    }
+}
+
+const EXTERNALS: &[u8] = b"kind,time,microstep,name,value\nstop,0,0,,\n";
+
+const TRACE: &[u8] = b"event,worker,time,microstep,reaction,name,value,delay\n";
+
+/// A call that writes.
+#[derive(Clone, Copy)]
+enum Call {
+    JudgeAlone,
+    Judge,
+    Show,
+}
+
+/// The fault of a call on the text of a program, if there is one.
+fn fault_of(alloc: Global, call: Call, program: &[u8], out: &mut Stumbling) -> Option<Fault> {
+    match call {
+        Call::JudgeAlone => judge_texts_alone(alloc, program, EXTERNALS, TRACE, out).err(),
+        Call::Judge => judge_texts(alloc, program, EXTERNALS, TRACE, 64, out).err(),
+        Call::Show => show_text(alloc, program, out).err(),
+    }
+}
+
+/// What a writer has taken of a call, and after it the line of the fault, where there is one.
+fn written(alloc: Global, call: Call, program: &str, mut out: Stumbling) -> Vec<u8> {
+    let fault = fault_of(alloc, call, program.as_bytes(), &mut out);
+    with_fault(out.taken, fault)
+}
+
+const EMPTY: &str = "main reactor { }";
+
+const ACCEPTED: &str = "accepted runs=0 tags=0\n";
+
+const CHAIN: &str = "main reactor {
+    timer t(0, 1 s)
+    reaction(startup) {= =}
+    reaction(t) {= =}
+    reaction(shutdown) {= =}
+}
+";
+
+const CHAIN_LINES: &str = "reaction main#1 level=0 before=-
+reaction main#2 level=1 before=main#1
+reaction main#3 level=2 before=main#2
+";
+
+/// A port that is reached over two connections, the second with a delay of one microstep.
+const DEEP: &str = "
+reactor A { output out: int  logical action n  reaction(startup, n) -> out, n {= =} }
+reactor C { input z: int  reaction(z) {= =} }
+reactor B { input x: int  c = new C()  x -> c.z after 0 }
+main reactor { a = new A()  b = new B()  a.out -> b.x after 5 ms }
+";
+
+const DEEP_LINES: &str = "port main.a.out origin=main.a.out after=0+0
+port main.b.x origin=main.a.out after=5000000+0
+port main.b.c.z origin=main.a.out after=5000000+1
+reaction main.a#1 level=0 before=-
+reaction main.b.c#1 level=0 before=-
+";
+
+/// Each call that writes, with a program and what is written of it.
+const CALLS: [(Call, &str, &str); 4] = [
+    (Call::JudgeAlone, EMPTY, ACCEPTED),
+    (Call::Judge, EMPTY, ACCEPTED),
+    (Call::Show, CHAIN, CHAIN_LINES),
+    (Call::Show, DEEP, DEEP_LINES),
+];
+
+const FAILED: &[u8] = b"fault write 1 Failed\n";
+
+#[test]
+fn writes_on_after_interruptions(rt: HostRuntime) {
+    for (call, program, lines) in CALLS {
+        for at in 0..lines.len() {
+            let out = Stumbling::new(rt.alloc(), at, 3, Some(ErrorKind::Interrupted));
+            let text = written(rt.alloc(), call, program, out);
+            assert!(rt; text.as_slice() == lines.as_bytes(), "{at} {lines}");
+        }
+    }
+}
+
+/// The first bytes of some lines, and the line of a failed write.
+fn failed(alloc: Global, lines: &[u8], taken: usize) -> Result<Vec<u8>, Fail> {
+    let mut text = Vec::new(alloc);
+    text.extend_from_slice(lines)?;
+    text.truncate(taken);
+    text.extend_from_slice(FAILED)?;
+    Ok(text)
+}
+
+// the writer isn't asked again: what it took is what stands before the place
+#[test]
+fn tells_failed_writes(rt: HostRuntime) -> Result<(), Fail> {
+    for kind in [Some(ErrorKind::TimedOut), Some(ErrorKind::WouldBlock), None] {
+        for (call, program, lines) in CALLS {
+            for at in 0..lines.len() {
+                let out = Stumbling::new(rt.alloc(), at, 1, kind);
+                let text = written(rt.alloc(), call, program, out);
+                let want = failed(rt.alloc(), lines.as_bytes(), at)?;
+                assert!(rt; text.as_slice() == want.as_slice(), "{at} {lines}");
+            }
+        }
+    }
+    Ok(())
+}
+
+#[test]
+fn tells_failed_flushes(rt: HostRuntime) -> Result<(), Fail> {
+    for (call, program, lines) in CALLS {
+        let mut out = Stumbling::new(rt.alloc(), 0, 0, None);
+        out.flushes = false;
+        let text = written(rt.alloc(), call, program, out);
+        let want = failed(rt.alloc(), lines.as_bytes(), lines.len())?;
+        assert!(rt; text.as_slice() == want.as_slice(), "{lines}");
+    }
+    Ok(())
+}
+
+// the status of a fault is 2 whatever becomes of its line
+#[test]
+fn gives_the_status(rt: HostRuntime) {
+    let line = b"fault memory 1 NoMemory\n".as_slice();
+    for (kind, is_whole) in [
+        (Some(ErrorKind::Interrupted), true),
+        (Some(ErrorKind::TimedOut), false),
+        (None, false),
+    ] {
+        for at in 0..line.len() {
+            let mut out = Stumbling::new(rt.alloc(), at, 1, kind);
+            let status = finish(Err(Fault::no_memory()), &mut out);
+            let end = if is_whole { line.len() } else { at };
+            assert!(rt; status == 2 && out.taken.as_slice() == &line[..end], "{at}");
+        }
+    }
+    let mut out = Stumbling::new(rt.alloc(), 0, usize::MAX, None);
+    let statuses = [finish(Ok(true), &mut out), finish(Ok(false), &mut out)];
+    assert!(rt; statuses == [0, 1] && out.calls == 0);
+}
