@@ -1,6 +1,6 @@
 //! Flat programs, their names, and why there is none.
 //!
-//! - `flat`: of a text, whether it is plain, and a line for each instance, port, action, timer and
+//! - `flat`: of a text, a line for each instance, port, action, timer and
 //!   reaction, in the order of their numbers.
 //! - `find`: of each line as a name, what it stands for in the given program.
 //! - `causes`: of each line as a text, whether it has a flat program.
@@ -72,12 +72,6 @@ pub fn flat(alloc: Global, text: &[u8], told: &mut Vec<u8>) -> io::Result<()> {
         Ok(program) => program,
         Err(refusal) => return writeln!(told, "{refusal:?}"),
     };
-    let kind = if program.is_plain() {
-        "plain"
-    } else {
-        "not plain"
-    };
-    writeln!(told, "{kind}")?;
     write_instances(&program, told)?;
     write_ports(&program, told)?;
     write_actions(&program, told)?;

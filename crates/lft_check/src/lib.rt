@@ -1,9 +1,11 @@
 #![tactic(auto)]
 //! The verdict on a trace.
 
+mod carry;
 mod count;
 mod examine;
 mod judge;
+mod ranks;
 mod verdict;
 mod watch;
 

@@ -2,5 +2,4 @@ pub mod Names
 pub mod Origins
 pub mod Parts
 pub mod Places
-pub mod Plain
 pub mod Sound

@@ -7,7 +7,6 @@ mod found;
 mod lists;
 mod names;
 mod parts;
-mod plainness;
 mod program;
 mod same;
 mod texts;

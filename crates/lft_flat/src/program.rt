@@ -134,14 +134,6 @@ impl Program {
         &self.reactions[number as usize]
     }
 
-    /// All reactions, each at its number.
-    pub(crate) fn all_reactions(&self) -> &[Reaction]
-        ensures value { result.now ≡ self.now.reactions }
-        ensures sound { IsSound self.now }
-    {
-        self.reactions.as_slice()
-    }
-
     /// The name of the instance of this number.
     pub fn name_of_instance(&self, number: u32) -> &str
         requires { number < length self.now.names.instances }

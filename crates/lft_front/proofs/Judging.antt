@@ -15,8 +15,8 @@ use Rattle.lft_check.specs.declared.verdict.Verdict.TheVariants.{Broken}
 use Rattle.lft_check.specs.Verdicts.{IsVerdict}
 use Rattle.lft_front.specs.Lines.{HasReaction}
 use Rattle.lft_front.specs.Meaning.{IsPlanOf, IsOnly, Mean}
-use Rattle.lft_front.specs.Refusals.{JudgingRefusal, IsUnjudged, is_of_text}
-use Rattle.lft_front.specs.Refusals.JudgingRefusal.{by_workers, by_other, by_growth, by_writer}
+use Rattle.lft_front.specs.Refusals.{JudgingRefusal, is_of_text}
+use Rattle.lft_front.specs.Refusals.JudgingRefusal.{by_workers, by_growth, by_writer}
 use Rattle.lft_front.specs.declared.fault.Fault.{Fault}
 use Rattle.lft_front.specs.declared.fault.Part.{Part}
 use Rattle.lft_front.specs.declared.fault.Part.TheVariants as part
@@ -58,13 +58,12 @@ memory_untold p n e t = let f : is_of_text part.Memory n ≡ true = subst (λ k.
 write_untold : (p : Part) (n : ℕ) → p ≡ part.Write → is_of_text p n ≡ true → ⊥
 write_untold p n e t = let f : is_of_text part.Write n ≡ true = subst (λ k. is_of_text k n ≡ true) e t in cc f
 
--- a fault that tells something of the texts of a plan and rows is that the program isn't judged yet
-pub judging_told : (plan : PlanParts) (rows : List Row) (workers : ℕ) (old new : Option (List ℕ)) (f : Fault) → JudgingRefusal plan rows workers old new f → is_of_text f.part f.number ≡ true → IsUnjudged plan f
-judging_told plan rows workers old new f (by_workers p n x) t = absurd (check_untold f.part f.number p t)
-judging_told plan rows workers old new f (by_other x w) t = x
-judging_told plan rows workers old new f (by_growth (inl x) w y) t = absurd (check_untold f.part f.number x.0 t)
-judging_told plan rows workers old new f (by_growth (inr x) w y) t = absurd (memory_untold f.part f.number x.0 t)
-judging_told plan rows workers old new f (by_writer v p n y x z) t = absurd (write_untold f.part f.number p t)
+-- where a plan and rows get no verdict, the fault tells nothing of the texts
+pub judging_untold : (plan : PlanParts) (rows : List Row) (workers : ℕ) (old new : Option (List ℕ)) (f : Fault) → JudgingRefusal plan rows workers old new f → is_of_text f.part f.number ≡ true → ⊥
+judging_untold plan rows workers old new f (by_workers p n x) t = check_untold f.part f.number p t
+judging_untold plan rows workers old new f (by_growth (inl x) w) t = check_untold f.part f.number x.0 t
+judging_untold plan rows workers old new f (by_growth (inr x) w) t = memory_untold f.part f.number x.0 t
+judging_untold plan rows workers old new f (by_writer v p n x z) t = write_untold f.part f.number p t
 
 -- the rows of three texts are those of its one plan
 pub rows_of_plan : (program externals trace : List ℕ) (plan : PlanParts) → IsOnly (IsPlanOf program externals) plan → (other : PlanParts) (rows : List Row) → Mean program externals trace other rows → Table plan.program (records_of trace) rows

@@ -1,7 +1,6 @@
 -- A verdict on three texts, and what was written of it.
 use Rattle.std.specs.Prelude.{◌↔◌, ℕ, Bool, IsTrue, List, Option}
 use Rattle.std.specs.Io.KnownBytes.{Appends}
-use Rattle.lft_flat.specs.Plain.{IsPlain}
 use Rattle.lft_trace.specs.declared.row.Row.{Row}
 use Rattle.lft_model.specs.Plans.{PlanParts}
 use Rattle.lft_model.specs.Runs.{by_ends}
@@ -19,12 +18,11 @@ abbrev pub AcceptedRuns : PlanParts → List Row → Verdict → Type 0
 AcceptedRuns plan rows (Accepted runs tags) = OneWorker plan (by_ends plan rows) × InOrderOfPrecedence plan rows
 AcceptedRuns plan rows (Broken b) = Unit {0}
 
--- the verdict on the meaning of the three texts, whose program is plain, since no other is judged yet; its line was written
+-- the verdict on the meaning of the three texts; its line was written
 pub record IsJudged (program externals trace : List ℕ) (old new : Option (List ℕ)) (verdict : Verdict) : Type 0 where
   pub plan : PlanParts
   pub rows : List Row
   pub meaning : IsMeaning program externals trace plan rows
-  pub is_plain : IsPlain plan.program
   pub right : IsVerdict plan rows verdict
   pub one_worker : AcceptedRuns plan rows verdict
   pub written : Appends old new (line_of plan.program verdict)

@@ -13,7 +13,6 @@ use Rattle.lft_program.specs.declared.fault.ProgramFault.{ProgramFault}
 use Rattle.lft_program.specs.declared.fault.ProgramFault.TheVariants as program
 use Rattle.lft_flat.specs.Parts.{Parts}
 use Rattle.lft_program.specs.Faults.{number_of as program_number}
-use Rattle.lft_flat.specs.Plain.{IsPlain}
 use Rattle.lft_scope.specs.Causes.{IsFirst, causes}
 use Rattle.lft_trace.specs.declared.fault.TraceFault.{TraceFault}
 use Rattle.lft_trace.specs.declared.row.Row.{Row}
@@ -101,16 +100,11 @@ pub data TextsRefusal (program externals trace : List ℕ) (f : Fault) : Type 0 
   by_load : LoadRefusal program externals f → TextsRefusal program externals trace f
   by_trace : (e : TraceFault) (plan : PlanParts) → f.part ≡ part.Trace → f.number ≡ table_number e → IsPlanOf program externals plan → (is_told e ≡ true → TraceFails plan.program (records_of trace) e) → TextsRefusal program externals trace f
 
--- the fault of a program that isn't plain, since none but plain ones are judged yet
-abbrev pub IsUnjudged : PlanParts → Fault → Type 0
-IsUnjudged plan f = (f.part ≡ part.Program) × (f.number ≡ 7) × (IsPlain plan.program → ⊥)
-
--- a plan and rows get no verdict: the number of workers isn't lawful, the program isn't judged yet, a growth was refused, or the writer failed on the verdict's line
+-- a plan and rows get no verdict: the number of workers isn't lawful, a growth was refused, or the writer failed on the verdict's line
 pub data JudgingRefusal (plan : PlanParts) (rows : List Row) (workers : ℕ) (old new : Option (List ℕ)) (f : Fault) : Type 0 where
   by_workers : f.part ≡ part.Check → f.number ≡ 1 → (IsWorkers workers → ⊥) → JudgingRefusal plan rows workers old new f
-  by_other : IsUnjudged plan f → IsWorkers workers → JudgingRefusal plan rows workers old new f
-  by_growth : IsRefusedGrowth f → IsWorkers workers → IsPlain plan.program → JudgingRefusal plan rows workers old new f
-  by_writer : (verdict : Verdict) → f.part ≡ part.Write → f.number ≡ 1 → IsPlain plan.program → IsVerdict plan rows verdict → AppendsFront old new (line_of plan.program verdict) → JudgingRefusal plan rows workers old new f
+  by_growth : IsRefusedGrowth f → IsWorkers workers → JudgingRefusal plan rows workers old new f
+  by_writer : (verdict : Verdict) → f.part ≡ part.Write → f.number ≡ 1 → IsVerdict plan rows verdict → AppendsFront old new (line_of plan.program verdict) → JudgingRefusal plan rows workers old new f
 
 -- the three texts get no verdict: they have no meaning, or their meaning gets none
 pub data JudgeRefusal (program externals trace : List ℕ) (workers : ℕ) (old new : Option (List ℕ)) (f : Fault) : Type 0 where

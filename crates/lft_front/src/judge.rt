@@ -2,7 +2,6 @@
 
 ghost use Rattle.std.specs.Prelude.{◌≡◌, ◌≢◌, ◌≤◌, ◌↔◌, ◌⊎◌, true, IsTrue, OnOk, OnErr, IfOk, IfErr, List};
 ghost use Rattle.std.specs.Io.KnownBytes.{Appends, Keeps};
-ghost use Rattle.lft_flat.specs.Plain.{IsPlain};
 ghost use Rattle.lft_trace.specs.Fits.{RowsFit};
 ghost use Rattle.lft_trace.specs.declared.row.Row.{Row};
 ghost use Rattle.lft_model.specs.Plans.{PlanParts};
@@ -12,7 +11,7 @@ ghost use Rattle.lft_check.specs.Verdicts.{IsVerdict};
 ghost use Rattle.lft_front.specs.Lines.{line_of, HasReaction};
 ghost use Rattle.lft_front.specs.Meaning.{IsMeaning, Mean};
 ghost use Rattle.lft_front.specs.Judged.{AcceptedRuns, IsJudged};
-ghost use Rattle.lft_front.specs.Refusals.{JudgeRefusal, JudgingRefusal, TextsRefusal, IsRefusedGrowth, IsUnjudged, IsWorkers, is_of_text};
+ghost use Rattle.lft_front.specs.Refusals.{JudgeRefusal, JudgingRefusal, TextsRefusal, IsRefusedGrowth, IsWorkers, is_of_text};
 ghost use Rattle.lft_front.specs.Written.{AppendsFront};
 ghost use Rattle.lft_front.specs.declared.fault.Part.TheVariants as part;
 
@@ -24,7 +23,6 @@ use lft_check::{NoWatch, Verdict, judge_alone};
 use lft_flat::Program;
 use lft_model::Plan;
 use lft_model::laws::law_one_worker;
-use lft_program::ProgramFault;
 use lft_trace::{Rows, read_trace};
 use std::alloc::Global;
 use std::io::Write;
@@ -62,7 +60,6 @@ fn is_workers(workers: u32) -> bool
 
 /// The verdict on rows.
 fn verdict_of(alloc: Global, plan: &Plan, rows: &Rows) -> Result<Verdict, Fault>
-    requires plain { IsPlain plan.now.program }
     requires fit { RowsFit plan.now.program rows.now }
     ensures verdict { IfOk result (IsVerdict plan.now rows.now) }
     ensures one_worker { IfOk result (AcceptedRuns plan.now rows.now) }
@@ -93,8 +90,7 @@ fn report<W: Write>(
     }
 }
 
-/// Judges rows and writes the verdict's line. The number of workers is tested first, and then
-/// whether the program is plain.
+/// Judges rows and writes the verdict's line. The number of workers is tested first.
 fn judge_rows<W: Write>(
     alloc: Global,
     plan: &Plan,
@@ -106,16 +102,12 @@ fn judge_rows<W: Write>(
     ensures verdict { IfOk result (IsVerdict plan.now rows.now) }
     ensures one_worker { IfOk result (AcceptedRuns plan.now rows.now) }
     ensures workers { OnOk result (IsWorkers workers) }
-    ensures plain { OnOk result (IsPlain plan.now.program) }
     ensures written { IfOk result (λ v. Appends (W.contents out.old) (W.contents out.new) (line_of plan.now.program v)) }
     ensures refused { IfErr result (JudgingRefusal plan.now rows.now workers (W.contents out.old) (W.contents out.new)) }
     ensures kept { IfErr result (λ f. f.part ≢ part.Write → Keeps (W.contents out.old) (W.contents out.new)) }
 {
     if !is_workers(workers) {
         return Err(Fault::plain(Part::Check, 1, "BadWorkers"));
-    }
-    if !plan.program().is_plain() {
-        return Err(Fault::program(ProgramFault::WrongPlace));
     }
     let verdict = match verdict_of(alloc, plan, rows) {
         Ok(verdict) => verdict,
@@ -129,9 +121,7 @@ fn judge_rows<W: Write>(
 
 /// Judges the trace of a program under external inputs, from their texts, and writes the verdict's
 /// line. The fault is that of the first layer that refuses, in the order lex, syntax, program,
-/// externals, graph, trace, check, write. A program with further instances that have reactions,
-/// with ports or with actions isn't judged yet: after the test of the number of workers, it is
-/// refused as `program 7 WrongPlace`.
+/// externals, graph, trace, check, write.
 pub fn judge_texts<W: Write>(
     alloc: Global,
     program: &[u8],
@@ -143,7 +133,7 @@ pub fn judge_texts<W: Write>(
     ensures judged { IfOk result (IsJudged program.now externals.now trace.now (W.contents out.old) (W.contents out.new)) }
     ensures workers { OnOk result (IsWorkers workers) }
     ensures refused { IfErr result (JudgeRefusal program.now externals.now trace.now workers (W.contents out.old) (W.contents out.new)) }
-    ensures none { IfErr result (λ f. is_of_text f.part f.number ≡ true → (plan : PlanParts) (rows : List Row) → Mean program.now externals.now trace.now plan rows → IsUnjudged plan f) }
+    ensures none { IfErr result (λ f. is_of_text f.part f.number ≡ true → (plan : PlanParts) (rows : List Row) → Mean program.now externals.now trace.now plan rows → ⊥) }
     ensures kept { IfErr result (λ f. f.part ≢ part.Write → Keeps (W.contents out.old) (W.contents out.new)) }
 {
     match read_texts(alloc, program, externals, trace) {
@@ -162,7 +152,7 @@ pub fn judge_texts_alone<W: Write>(
 ) -> Result<Verdict, Fault>
     ensures judged { IfOk result (IsJudged program.now externals.now trace.now (W.contents out.old) (W.contents out.new)) }
     ensures refused { IfErr result (JudgeRefusal program.now externals.now trace.now 1 (W.contents out.old) (W.contents out.new)) }
-    ensures none { IfErr result (λ f. is_of_text f.part f.number ≡ true → (plan : PlanParts) (rows : List Row) → Mean program.now externals.now trace.now plan rows → IsUnjudged plan f) }
+    ensures none { IfErr result (λ f. is_of_text f.part f.number ≡ true → (plan : PlanParts) (rows : List Row) → Mean program.now externals.now trace.now plan rows → ⊥) }
     ensures kept { IfErr result (λ f. f.part ≢ part.Write → Keeps (W.contents out.old) (W.contents out.new)) }
 {
     judge_texts(alloc, program, externals, trace, 1, out)

@@ -6,7 +6,6 @@ use Rattle.lft_tag.specs.Tags.{Before, UpTo}
 use Rattle.lft_tag.proofs.Order.{UpTo-trans, UpTo_antisym, Before-weaken, order_cases, Before-UpTo}
 use Rattle.lft_flat.specs.Parts.{Parts}
 use Rattle.lft_flat.specs.Sound.{IsSound, IsTriggerOf, IsNameOf}
-use Rattle.lft_flat.specs.Plain.{IsPlain}
 use Rattle.lft_flat.specs.declared.parts.Trigger.{Trigger}
 use Rattle.lft_flat.specs.declared.parts.Trigger.TheVariants.{Startup, Shutdown, Timer, On}
 use Rattle.lft_flat.specs.declared.parts.Timer.{Timer as TimerOf}
@@ -18,14 +17,6 @@ use Rattle.lft_model.proofs.Members.{mem_get, get_mem, mem_contains, contains_me
 use Rattle.lft_model.proofs.Places.{slice_get_within}
 use Rattle.lft_slices.specs.Slices.{CutParts, LeastTag, Misses, IsMissing, IsFirstMissing}
 use Rattle.lft_slices.specs.Least.{IsSooner, IsFirstOf, MissesAt, MissesFiring}
-
--- a plain program has no port and no action
-pub no_name : (program : Parts) → IsPlain program → (x : Trigger) (n : Name) → IsTriggerOf program x → x ≡ On n → ⊥
-no_name program plain x n h e = none n (subst (λ z. IsTriggerOf program z) e h)
-  where
-    none : (n : Name) → IsNameOf program n → ⊥
-    none (Port p) l = let e : length program.ports ≡ 0 = ap length plain.no_ports in let m : p < length program.ports = l in omega arith
-    none (Action a) l = let e : length program.actions ≡ 0 = ap length plain.no_actions in let m : a < length program.actions = l in omega arith
 
 pub at_reaction : (p q : Parts) (r : ℕ) (x : Reaction) → p ≡ q → slice_get p.reactions r ≡ Some x → slice_get q.reactions r ≡ Some x
 at_reaction p q r x e h = subst (λ (z : Parts). slice_get z.reactions r ≡ Some x) e h
@@ -190,8 +181,8 @@ missed_timer cut x r n timer o e t h = subst (λ z. LeastTag (Misses cut z r) o)
     from : (g : Tag) → Misses cut (Timer n) r g → MissesFiring cut timer r g
     from g m = let y : Some m.occurs.0 ≡ Some timer = sym m.occurs.1 ∙ t in let z : m.occurs.0 ≡ timer = cc in record { fires = subst (λ (v : TimerOf). (k : ℕ) × (g ≡ record { time = v.offset + k * v.period; micro = 0 }) × (v.period ≡ 0 → k ≡ 0)) z m.occurs.2; in_time = m.in_time; no_run = m.no_run }
 
-pub missed_name : (cut : CutParts) → IsPlain cut.plan.program → (x : Trigger) (n : Name) (r : ℕ) → IsTriggerOf cut.plan.program x → x ≡ On n → LeastTag (Misses cut x r) None
-missed_name cut plain x n r h e = λ g m. no_name cut.plan.program plain x n h e
+pub missed_name : (cut : CutParts) (x : Trigger) (n : Name) (r : ℕ) (o : Option Tag) → x ≡ On n → LeastTag (Misses cut (On n) r) o → LeastTag (Misses cut x r) o
+missed_name cut x n r o e h = subst (λ z. LeastTag (Misses cut z r) o) (sym e) h
 
 -- the trigger at a place that is present triggers the reaction
 pub triggered_by : (cut : CutParts) (g : Tag) (r : ℕ) (x : Reaction) (xs : List Trigger) (k : ℕ) (trigger : Trigger) → slice_get cut.plan.program.reactions r ≡ Some x → xs ≡ x.triggers → slice_get xs k ≡ Some trigger → Occurs cut.plan cut.rows g trigger → Triggered cut.plan cut.rows g r

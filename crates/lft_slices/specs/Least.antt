@@ -1,10 +1,13 @@
 -- What the steps of the search for the first missing run answer. This serves the proof of that search alone.
-use Rattle.std.specs.Prelude.{◌≡◌, ℕ, ◌⊎◌, Option, Some, None}
+use Rattle.std.specs.Prelude.{◌≡◌, ℕ, ◌<◌, ◌≤◌, ◌⊎◌, List, length, Option, Some, None, slice_get}
 use Rattle.lft_tag.specs.declared.Tag.{Tag}
 use Rattle.lft_tag.specs.Tags.{Before, UpTo}
 use Rattle.lft_flat.specs.declared.parts.Timer.{Timer as TimerOf}
 use Rattle.lft_model.specs.Presence.{stop, Fires}
 use Rattle.lft_model.specs.Runs.{Ran}
+use Rattle.lft_tag.specs.Shifts.{Folded, shifted}
+use Rattle.lft_slices.specs.declared.causes.Cause.{Cause}
+use Rattle.lft_slices.specs.Causes.{IsCause, Leads, tag_of}
 use Rattle.lft_slices.specs.Slices.{CutParts}
 
 -- the earlier of two tags, of those that are
@@ -31,3 +34,17 @@ pub record MissesFiring (cut : CutParts) (timer : TimerOf) (r : ℕ) (g : Tag) :
   pub fires : Fires timer g
   pub in_time : UpTo g (stop cut.plan cut.rows)
   pub no_run : ¬ Ran cut.rows g r
+
+-- a cause of the name leads to g, which is up to the stop, and r has no run there
+pub record MissesCause (cut : CutParts) (name : ℕ) (s : Folded) (r : ℕ) (g : Tag) : Type 0 where
+  pub cause : Cause
+  pub is_cause : IsCause cut.plan cut.rows cause
+  pub leads : Leads name s g cause
+  pub in_time : UpTo g (stop cut.plan cut.rows)
+  pub no_run : ¬ Ran cut.rows g r
+
+-- the causes of the name from one place up to, without, another lead to g
+pub record IsSkip (causes : List Cause) (name : ℕ) (s : Folded) (g : Tag) (place next : ℕ) : Type 0 where
+  pub further : place < next
+  pub within : next ≤ length causes
+  pub same : (k : ℕ) (c : Cause) → place ≤ k → k < next → slice_get causes k ≡ Some c → c.name ≡ name → shifted (tag_of c) s ≡ g

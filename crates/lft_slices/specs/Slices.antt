@@ -3,7 +3,6 @@ use Rattle.std.specs.Prelude.{◌≡◌, ℕ, ◌<◌, ◌≤◌, ◌⊎◌, Lis
 use Rattle.lft_tag.specs.declared.Tag.{Tag}
 use Rattle.lft_tag.specs.Tags.{Before, UpTo}
 use Rattle.lft_model.specs.Plans.{PlanParts, IsSoundPlan}
-use Rattle.lft_flat.specs.Plain.{IsPlain}
 use Rattle.lft_flat.specs.declared.parts.Trigger.{Trigger}
 use Rattle.lft_trace.specs.declared.row.Row.{Row}
 use Rattle.lft_trace.specs.Fits.{RowsFit}
@@ -38,10 +37,9 @@ IsCutFault plan t NoMemory = Unit {0}
 abbrev pub KeepsRows : CutParts → Type 0
 KeepsRows cut = (b : Breach) → ¬ RowBreach cut.plan cut.rows b
 
--- the rows that a cut is made of are of a plain program, and none breaks one of the rules 1 to 5
+-- the rows that a cut is made of are of its program, and none breaks one of the rules 1 to 5
 pub record IsCuttable (cut : CutParts) : Type 0 where
   pub sound : IsSoundPlan cut.plan
-  pub plain : IsPlain cut.plan.program
   pub fit : RowsFit cut.plan.program cut.rows
   pub kept : KeepsRows cut
 
@@ -81,3 +79,9 @@ pub record IsMissing (cut : CutParts) (r : ℕ) (g : Tag) : Type 0 where
 -- the least tag up to the stop at which a reaction is triggered and has no run, and the least such reaction
 abbrev pub IsFirstMissing : CutParts → Option (Tag × ℕ) → Type 0
 IsFirstMissing cut o = MatchOption o ((g : Tag) (r : ℕ) → ¬ IsMissing cut r g) (λ x. IsMissing cut x.1 x.0 × ((h : Tag) (a : ℕ) → IsMissing cut a h → Before x.0 h ⊎ ((x.0 ≡ h) × (x.1 ≤ a))))
+
+-- the reactions that are triggered at g, ascending
+pub record AreDue (cut : CutParts) (g : Tag) (due : List ℕ) : Type 0 where
+  pub ascending : (j k a b : ℕ) → j < k → slice_get due j ≡ Some a → slice_get due k ≡ Some b → a < b
+  pub triggered : (k a : ℕ) → slice_get due k ≡ Some a → Triggered cut.plan cut.rows g a
+  pub each : (a : ℕ) → Triggered cut.plan cut.rows g a → (k : ℕ) × (slice_get due k ≡ Some a)

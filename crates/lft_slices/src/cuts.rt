@@ -1,16 +1,22 @@
 //! A trace whose rows break no rule, cut by tag.
 
-ghost use Rattle.std.specs.Prelude.{◌≡◌, ◌≤◌, IsTrue, ◌↔◌};
+ghost use Rattle.std.specs.Prelude.{◌≡◌, ◌≤◌, length, IsTrue, ◌↔◌};
+ghost use Rattle.lft_graph.specs.Graph.{IsGraphOf};
 ghost use Rattle.lft_model.specs.Presence.{stop as the_stop};
 ghost use Rattle.lft_model.specs.Runs.{Ran};
+ghost use Rattle.lft_slices.specs.Causes.{AreCauses};
+ghost use Rattle.lft_slices.specs.Clashes.{IsClash};
+ghost use Rattle.lft_slices.specs.Reads.{AreReads};
 ghost use Rattle.lft_slices.specs.Slices.{AreSlices, IsCuttable};
 
+use crate::causes::Cause;
 use crate::slices::Slice;
 use crate::started::Started;
 use lft_flat::Program;
+use lft_graph::Graph;
 use lft_model::{Breach, Plan};
 use lft_tag::Tag;
-use lft_trace::Row;
+use lft_trace::{Event, Row};
 use std::marker::Model;
 
 /// Why rows can't be cut.
@@ -30,6 +36,9 @@ pub struct Cut<'a> {
     stop: Tag,
     slices: Vec<Slice>,
     started: Started,
+    causes: Vec<Cause>,
+    clash: Option<Tag>,
+    reads: Vec<Cause>,
 }
 
 impl<'a> Model for Cut<'a> {
@@ -41,7 +50,7 @@ impl<'a> Model for Cut<'a> {
 
     ghost use Rattle.lft_slices.specs.Indexes.{IsIndexed};
 
-    ghost invariant = { λ a. IsIndexed (record { plan = a.plan.now; rows = a.rows.now }) a.stop a.slices.items a.started };
+    ghost invariant = { λ a. IsIndexed (record { plan = a.plan.now; rows = a.rows.now }) a.stop a.slices.items a.started a.causes.items a.clash a.reads.items };
 }
 
 impl<'a> Cut<'a> {
@@ -54,8 +63,11 @@ impl<'a> Cut<'a> {
         stop: Tag,
         slices: Vec<Slice>,
         started: Started,
+        causes: Vec<Cause>,
+        clash: Option<Tag>,
+        reads: Vec<Cause>,
     ) -> Cut<'a>
-        requires { IsIndexed (record { plan = plan.now; rows = rows.now }) stop slices.items started }
+        requires { IsIndexed (record { plan = plan.now; rows = rows.now }) stop slices.items started causes.items clash reads.items }
         ensures { result ≡ record { plan = plan.now; rows = rows.now } }
     {
         Cut {
@@ -64,6 +76,9 @@ impl<'a> Cut<'a> {
             stop,
             slices,
             started,
+            causes,
+            clash,
+            reads,
         }
     }
 
@@ -82,12 +97,55 @@ impl<'a> Cut<'a> {
         self.slices.as_slice()
     }
 
+    /// The least tag up to the stop at which two causes give a port or an action an event.
+    pub fn clash(&self) -> Option<Tag>
+        ensures { IsClash self.now result }
+    {
+        self.clash
+    }
+
+    /// The graph of the program.
+    pub fn graph(&self) -> &Graph
+        ensures { IsGraphOf self.now.plan.program result.now }
+    {
+        self.plan.graph()
+    }
+
+    /// How many reactions the program has.
+    pub fn reactions(&self) -> usize
+        ensures count { result ≡ length self.now.plan.program.reactions }
+        ensures few { result ≤ 10000 }
+    {
+        self.plan.program().reactions()
+    }
+
     /// The flat program.
     pub(crate) fn program(&self) -> &Program
         ensures value { result.now ≡ self.now.plan.program }
         ensures rules { IsCuttable self.now }
     {
         self.plan.program()
+    }
+
+    /// The causes of events, by name, tag and place.
+    pub(crate) fn causes(&self) -> &[Cause]
+        ensures { AreCauses self.now.plan self.now.rows result.now }
+    {
+        self.causes.as_slice()
+    }
+
+    /// Where rows read, by reaction and name, by tag and by place.
+    pub(crate) fn read_rows(&self) -> &[Cause]
+        ensures { AreReads self.now.plan.program self.now.rows result.now }
+    {
+        self.reads.as_slice()
+    }
+
+    /// The events of the external inputs.
+    pub(crate) fn events(&self) -> &[Event]
+        ensures { result.now ≡ self.now.plan.externals.events }
+    {
+        self.plan.externals().events()
     }
 
     /// The last tag of the execution. Its time is at most that of a recorded tag.

@@ -8,16 +8,19 @@ ghost use Rattle.lft_flat.specs.declared.parts.Trigger.TheVariants.{On};
 ghost use Rattle.lft_trace.specs.declared.row.Step.TheVariants.{Read};
 ghost use Rattle.lft_trace.specs.Fits.{RowFits};
 ghost use Rattle.lft_model.specs.Breaches.{IsUndeclared, WasRead, MayWrite, MaySchedule};
+ghost use Rattle.lft_model.specs.Plans.{PlanParts};
 ghost use Rattle.lft_model.specs.Runs.{effects_of};
+ghost use Rattle.lft_slices.specs.Passes.{KeepsEarly};
 
 use crate::triggered::trigger_at;
 use lft_flat::{Name, Program, Reaction, Trigger};
-use lft_trace::{Row, Step, row_at};
+use lft_trace::{Row, Step, is_start, row_at};
 
 /// Whether the row's step names what its reaction didn't declare for it, or reads a name again.
 pub(crate) fn is_undeclared(program: &Program, rows: &[Row], place: usize, row: Row) -> bool
     requires known { RowFits program.now row }
     requires place { place < length rows.now }
+    requires kept { (plan : PlanParts) × KeepsEarly plan rows.now place }
     ensures { IsTrue result ↔ IsUndeclared program.now rows.now place row row.step }
 {
     match row.step {
@@ -77,7 +80,7 @@ fn is_same_name(a: Name, b: Name) -> bool
 }
 
 /// The name at the place, counted from 0.
-fn name_at(names: &[Name], place: usize) -> Name
+pub(crate) fn name_at(names: &[Name], place: usize) -> Name
     requires { place < length names.now }
     ensures { slice_get names.now place ≡ Some result }
 {
@@ -122,19 +125,31 @@ fn is_input(reaction: &Reaction, name: Name) -> bool
     is_trigger(reaction.triggers.as_slice(), name) || is_among(reaction.uses.as_slice(), name)
 }
 
-/// Whether a row before the place reads the name for the row's tag and reaction. It goes over all
-/// rows before, so it is slow where a trace has many reads; that of a plain program has none.
+/// Whether the two rows are of one tag and reaction.
+fn is_of_run(other: Row, row: Row) -> bool
+    ensures { IsTrue result ↔ ((other.tag ≡ row.tag) × (other.reaction ≡ row.reaction)) }
+{
+    other.tag.is_same(row.tag) && other.reaction == row.reaction
+}
+
+/// Whether a row before the place reads the name for the row's tag and reaction. It goes back to
+/// the start row of the run alone.
 fn was_read(rows: &[Row], place: usize, row: Row, name: Name) -> bool
-    requires { place < length rows.now }
+    requires place { place < length rows.now }
+    requires kept { (plan : PlanParts) × KeepsEarly plan rows.now place }
     ensures { IsTrue result ↔ WasRead rows.now place row.tag row.reaction name }
 {
-    for before in 0..place {
+    let mut before = place;
+    while before > 0 {
+        before -= 1;
         let other = row_at(rows, before);
-        if other.tag.is_same(row.tag)
-            && other.reaction == row.reaction
-            && reads(&other.step, name)
-        {
-            return true;
+        if is_of_run(other, row) {
+            if reads(&other.step, name) {
+                return true;
+            }
+            if is_start(&other.step) {
+                return false;
+            }
         }
     }
     false

@@ -1,14 +1,16 @@
 //! The first missing run, found from what makes reactions run and not from the tags.
 
 ghost use Rattle.std.specs.Prelude.{◌≡◌, ◌<◌, ◌≤◌, length, Some, None};
-ghost use Rattle.lft_flat.specs.Sound.{IsTriggerOf};
+ghost use Rattle.lft_flat.specs.Sound.{IsNameOf, IsTriggerOf};
+ghost use Rattle.lft_flat.specs.declared.parts.Trigger.TheVariants.{On};
 ghost use Rattle.lft_slices.specs.Slices.{LeastTag, Misses, IsMissing, IsFirstMissing};
-ghost use Rattle.lft_slices.specs.Least.{IsSooner, IsFirstOf, MissesAt, MissesFiring};
+ghost use Rattle.lft_slices.specs.Least.{IsSooner, IsFirstOf, MissesAt, MissesCause, MissesFiring};
 
+use crate::causes::{cause_at, cause_tag, moved, position, skip};
 use crate::cuts::Cut;
 use crate::triggered::trigger_at;
-use lft_flat::{Timer, Trigger};
-use lft_tag::Tag;
+use lft_flat::{Name, Timer, Trigger};
+use lft_tag::{Shift, Tag};
 
 /// The earlier of two tags, of those that are.
 pub(crate) fn sooner(first: Option<Tag>, second: Option<Tag>) -> Option<Tag>
@@ -72,6 +74,49 @@ impl<'a> Cut<'a> {
         None
     }
 
+    /// The first tag up to the stop to which a cause of the name leads and at which the reaction has
+    /// no run. Each tag that is looked at but the last one has a run.
+    fn missed_cause(&self, name: u32, shift: Shift, reaction: u32) -> Option<Tag>
+        ensures { LeastTag (MissesCause self.now name (shift.time, shift.steps) reaction) result }
+    {
+        let causes = self.causes();
+        let first = Tag { time: 0, micro: 0 };
+        let mut place = position(causes, name, Shift::none(), first, false);
+        while place < causes.len() {
+            let cause = cause_at(causes, place);
+            if cause.name != name {
+                return None;
+            }
+            let tag = moved(cause_tag(cause), shift);
+            if self.stop().is_before(tag) {
+                return None;
+            }
+            if !self.has_run(tag, reaction) {
+                return Some(tag);
+            }
+            place = skip(causes, place, name, shift, tag);
+        }
+        None
+    }
+
+    /// The first tag up to the stop at which the port or action is present and the reaction has no
+    /// run.
+    fn missed_name(&self, name: Name, reaction: u32) -> Option<Tag>
+        requires { IsNameOf self.now.plan.program name }
+        ensures { LeastTag (Misses self.now (On name) reaction) result }
+    {
+        let program = self.program();
+        match name {
+            Name::Port(number) => {
+                let port = program.port(number);
+                self.missed_cause(port.origin, port.shift, reaction)
+            }
+            Name::Action(number) => {
+                self.missed_cause(program.ports() as u32 + number, Shift::none(), reaction)
+            }
+        }
+    }
+
     /// The first tag up to the stop at which the trigger is present and the reaction has no run.
     fn missed_trigger(&self, trigger: Trigger, reaction: u32) -> Option<Tag>
         requires { IsTriggerOf self.now.plan.program trigger }
@@ -82,7 +127,7 @@ impl<'a> Cut<'a> {
             Trigger::Startup => self.missed_at(Tag { time: 0, micro: 0 }, reaction),
             Trigger::Shutdown => self.missed_at(self.stop(), reaction),
             Trigger::Timer(number) => self.missed_firing(program.timer(number), reaction),
-            Trigger::On(_) => None,
+            Trigger::On(name) => self.missed_name(name, reaction),
         }
     }
 

@@ -28,7 +28,7 @@ impl<'a> Cut<'a> {
             Trigger::Startup => tag.is_same(Tag { time: 0, micro: 0 }),
             Trigger::Shutdown => tag.is_same(self.stop()),
             Trigger::Timer(number) => fires(program.timer(number), tag),
-            Trigger::On(_) => false,
+            Trigger::On(name) => self.value_at(tag, name).is_some(),
         }
     }
 

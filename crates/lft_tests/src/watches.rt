@@ -60,7 +60,6 @@ const OPEN: &str = "start,0,0,0,main#1,,,\n";
 #[test]
 fn tells_the_tags_that_are_examined(rt: HostRuntime) -> Result<(), Fail> {
     let plan = plan(rt.alloc(), TWO, "stop,2,0,,\n")?;
-    assert!(rt; plan.program().is_plain());
     for (lines, want) in [(RUNS, 123), (EARLY, 12), (OPEN, 0), ("", 0)] {
         let rows = rows(rt.alloc(), plan.program(), lines)?;
         let watch = Digits {
