@@ -80,6 +80,8 @@ impl NameTable {
         ensures value { result ≡ names_from texts starts }
         ensures distinct { AreDistinct result }
     {
+        // Asked for what every list of texts keeps: none stands there twice, so no text names two
+        // things.
         let _ = texts.len();
         NameTable { texts, starts }
     }
@@ -98,6 +100,7 @@ impl NameTable {
         ensures some { IfSome result (λ f. IsNamed self.now f name.now) }
         ensures none { IfNone result ((f : Found) → IsNamed self.now f name.now → ⊥) }
     {
+        // Read for what every table keeps: each name is UTF-8, so bytes that aren't name nothing.
         let _ = &self.starts;
         match std::str::from_utf8(name) {
             Ok(text) => self.find(text),

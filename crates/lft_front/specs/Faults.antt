@@ -12,6 +12,7 @@ use Rattle.lft_front.specs.declared.fault.Fault.{Fault}
 use Rattle.lft_front.specs.declared.fault.Part.{Part}
 use Rattle.lft_front.specs.declared.fault.Part.TheVariants as part
 
+-- the number of a fault of a text that has no tokens
 abbrev pub lex_number : LexFault → ℕ
 lex_number (lex.BadChar at) = 1
 lex_number lex.OpenComment = 2
@@ -21,15 +22,17 @@ lex_number (lex.NumberTooLarge at) = 5
 lex_number lex.TooLong = 6
 lex_number lex.NoMemory = 7
 
+-- the number of a fault of tokens that have no tree
 abbrev pub syntax_number : SyntaxFault → ℕ
 syntax_number (syntax.Unexpected token) = 1
 syntax_number syntax.NoMemory = 2
 
+-- the number of a fault of a program without a graph
 abbrev pub graph_number : GraphFault → ℕ
 graph_number (graph.CausalityLoop loop) = 1
 graph_number graph.NoMemory = 2
 
--- of a trace table and of a table of external inputs
+-- the number of a fault of a trace table or of a table of external inputs
 abbrev pub table_number : TraceFault → ℕ
 table_number table.BadHeader = 1
 table_number (table.BadFieldCount line) = 2

@@ -18,7 +18,8 @@ use std::alloc::{AllocError, Global};
 use std::fmt;
 use thiserror::Error;
 
-/// The part of the product that a fault comes from.
+/// The part of the product that a fault comes from. `Pool` and `Cards` are kept for recording: no
+/// fault of these parts is made yet.
 #[derive(Clone, Copy, Debug, PartialEq, Eq)]
 pub enum Part {
     Lex,

@@ -1,4 +1,5 @@
-//! From texts to a plan.
+//! From texts to a plan. Faults are handed on by a `match` and not by `?`, since the clauses speak of
+//! them.
 
 ghost use Rattle.std.specs.Prelude.{◌≡◌, true, IfOk, OnOk, IfErr};
 ghost use Rattle.lft_tree.specs.Tree.{FileTree};

@@ -17,6 +17,8 @@ pub fn write_text<W: Write>(text: &[u8], out: &mut W) -> Result<(), Fault>
     ensures number { IfErr result (λ f. f.number ≡ 1) }
 {
     let mut written = 0;
+    // Each turn takes a byte at least, or ends, or was interrupted; the bound is for the proof that
+    // the loop ends, and no run comes near it.
     for _ in 0..u64::MAX {
         if written >= text.len() {
             break;

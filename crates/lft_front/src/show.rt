@@ -71,7 +71,8 @@ fn push_reaction(
     Ok(())
 }
 
-/// Puts the line of a reaction at the end of a text, by the graph.
+/// Puts the line of a reaction at the end of a text, by the graph: level and list are asked for here,
+/// so that what is written above speaks of them alone.
 fn push_line(
     text: &mut String,
     program: &Program,

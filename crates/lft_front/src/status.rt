@@ -15,6 +15,7 @@ pub fn finish<E: Write>(answer: Result<bool, Fault>, errors: &mut E) -> u8
         Ok(true) => 0,
         Ok(false) => 1,
         Err(fault) => {
+            // A failure here has nowhere to be told; the status tells the fault all the same.
             let _ = writeln!(errors, "{fault}");
             2
         }

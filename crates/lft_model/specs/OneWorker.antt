@@ -72,6 +72,7 @@ InOrderOfPrecedence plan t = (g : Tag) (a r : ℕ) → Precedes plan.program a r
 abbrev pub LegalRunsAreOneWorker : PlanParts → Type 0
 LegalRunsAreOneWorker plan = (t : List Row) → Legal plan t → OneWorker plan (by_ends plan t)
 
+-- of each legal trace: no run started before every run that precedes it at its tag had ended
 abbrev pub LegalRunsKeepPrecedence : PlanParts → Type 0
 LegalRunsKeepPrecedence plan = (t : List Row) → Legal plan t → InOrderOfPrecedence plan t
 

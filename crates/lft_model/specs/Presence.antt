@@ -81,6 +81,7 @@ abbrev pub At : PlanParts → List Row → Tag → Name → Value → Type 0
 At plan t g (Port p) v = (h : Tag) × IsWrittenFrom plan t g p h v
 At plan t g (Action a) v = Contains (events_of plan t g a) v
 
+-- the port or action has an event at g
 abbrev pub IsPresent : PlanParts → List Row → Tag → Name → Type 0
 IsPresent plan t g n = (v : Value) × At plan t g n v
 
@@ -112,6 +113,7 @@ OccursUntil last plan t g Shutdown = g ≡ last
 OccursUntil last plan t g (Timer n) = (timer : TimerOf) × (slice_get plan.program.timers n ≡ Some timer) × Fires timer g
 OccursUntil last plan t g (On n) = IsPresent plan t g n
 
+-- the trigger is present at g
 abbrev pub Occurs : PlanParts → List Row → Tag → Trigger → Type 0
 Occurs plan t g x = OccursUntil (stop plan t) plan t g x
 
@@ -153,5 +155,6 @@ abbrev pub ClashesAt : PlanParts → List Row → Tag → Name → Type 0
 ClashesAt plan t g (Port p) = PortClash plan t g p
 ClashesAt plan t g (Action a) = 2 ≤ length (events_of plan t g a)
 
+-- some port or action has two causes at g
 abbrev pub Collision : PlanParts → List Row → Tag → Type 0
 Collision plan t g = (n : Name) × ClashesAt plan t g n

@@ -59,6 +59,8 @@ impl Plan {
         ensures program { result.program ≡ program }
         ensures externals { result.externals ≡ externals }
     {
+        // Asked for what every program and all external inputs keep: the one is sound, the others
+        // stand in order.
         let _reactions = program.reactions();
         let _events = externals.events();
         Plan {

@@ -96,7 +96,8 @@ fn numbered(
 }
 
 impl Nest {
-    /// The nest of the tree whose reactors have these tables. Nothing is made past a limit.
+    /// The nest of the tree whose reactors have these tables. Nothing is made past a limit. The
+    /// order of the limits means nothing, since each gives the same fault.
     pub fn of(alloc: Global, tables: &Tables) -> Result<Nest, NestFault>
         ensures nest { IfOk result (λ n. (tree : FileTree) → AreTables tree tables.now → IsLawful tree → IsNest tree tables.now n) }
         ensures within { OnOk result ((tree : FileTree) → AreTables tree tables.now → IsLawful tree → TooMany tree → ⊥) }
@@ -107,6 +108,7 @@ impl Nest {
         let reactions = numbered(alloc, &instances, counts, MAX_REACTIONS)?;
         let counts = port_counts(alloc, &tables.declarations)?;
         let ports = numbered(alloc, &instances, counts, MAX_THINGS)?;
+        // Connections have no numbers in a flat program: they are counted for their limit alone.
         let counts = join_counts(alloc, &tables.connections)?;
         numbered(alloc, &instances, counts, MAX_THINGS)?;
         let counts = action_counts(alloc, &tables.declarations)?;

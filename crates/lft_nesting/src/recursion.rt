@@ -10,7 +10,8 @@ use lft_tag::NoMemory;
 use std::alloc::Global;
 
 /// Whether a reactor of the file contains itself, at any depth. The table has what each reactor
-/// contains, by number.
+/// contains, by number. It is a border of proofs: it says of a tree what `is_recursive` says of
+/// numbers.
 pub fn contains_itself(alloc: Global, contents: &[Contents]) -> Result<bool, NoMemory>
     ensures { IfOk result (λ b. (rs : List ReactorTree) → AreContents rs contents.now → NoneHolds (first_causes rs) → IsTrue b ↔ RecursiveReactor rs) }
 {

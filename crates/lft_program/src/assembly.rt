@@ -10,7 +10,8 @@ ghost use Rattle.lft_flat.specs.Sound.{IsWithinLimits};
 
 use lft_flat::{Action, NameTable, Port, Program, Reaction, Timer};
 
-/// The program of the parts of a tree of which no cause of refusal holds.
+/// The program of the parts of a tree of which no cause of refusal holds. It is a border of proofs:
+/// what `flatten` knows of the tree comes in, and what `from_parts` asks of parts goes out.
 pub(crate) fn assembled(
     ports: Vec<Port>,
     actions: Vec<Action>,

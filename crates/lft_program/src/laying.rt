@@ -1,4 +1,5 @@
-//! The parts of a flat program, made from the tables of a tree, its nest and its links.
+//! The parts of a flat program, made from the tables of a tree, its nest and its links. Timers,
+//! actions and reactions take the links for the condition alone, which is one for all four kinds.
 
 ghost use Rattle.std.specs.Prelude.{◌≡◌, Bool, Some, IfOk};
 ghost use Rattle.std.specs.List.{AllZip};
@@ -31,7 +32,8 @@ fn declarations_of<'a>(tables: &'a Tables, nest: &Nest, instance: u32) -> &'a De
     &tables.declarations[reactor as usize]
 }
 
-// the source of a port, as parts have it
+// the source of a port, as parts have it: the flat program stands below flattening, and so has a
+// type of its own for it
 fn source(link: &Linked) -> Option<Source>
     ensures { result ≡ source_of link.now.source }
 {

@@ -1,4 +1,5 @@
-//! What the names in a reaction stand for, by number.
+//! What the names in a reaction stand for, by number. Places are made numbers here as `find_sources`
+//! of `lft_instances` makes them of connections, by the same definitions.
 
 ghost use Rattle.std.specs.Prelude.{◌≡◌, Some, IfOk};
 ghost use Rattle.lft_instances.specs.Joins.{port_at, port_of};

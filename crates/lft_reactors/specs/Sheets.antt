@@ -66,7 +66,7 @@ pub record IsParameters (rs : List ReactorTree) (r : ReactorTree) (p : Parameter
   pub defaults : p.defaults.items ≡ map (λ x. kept (nanoseconds x.default)) r.parameters
   pub given : AllZip (AreGiven rs r) (instances_of r) (map (λ g. g.items) p.given.items)
 
--- those of each reactor, in order
+-- for each reactor in order: the defaults of its parameters, and what it gives to those of its instances
 abbrev pub AreParameters : List ReactorTree → List Parameters → Type 0
 AreParameters rs table = AllZip (IsParameters rs) rs table
 
@@ -86,7 +86,7 @@ pub record IsDeclarations (r : ReactorTree) (d : Declarations) : Type 0 where
   pub timers : AllZip (IsTimerSheet r) (timers_of r) d.timers.items
   pub actions : AllZip (IsActionSheet r) (actions_of r) d.actions.items
 
--- that of each reactor, in order
+-- for each reactor in order: its ports, timers and actions
 abbrev pub AreDeclarations : List ReactorTree → List Declarations → Type 0
 AreDeclarations rs table = AllZip IsDeclarations rs table
 
@@ -150,10 +150,11 @@ pub record AreCues (rs : List ReactorTree) (r : ReactorTree) (x : ReactionTree) 
   pub uses : AllZip (IsSpot rs r) (without_timers r x.uses) c.uses.items
   pub effects : AllZip (IsSpot rs r) x.effects c.effects.items
 
--- the reactions of a reactor, and of each reactor in order
+-- for each reaction of the reactor in order: what its names stand for
 abbrev pub IsReactions : List ReactorTree → ReactorTree → Reactions → Type 0
 IsReactions rs r x = AllZip (AreCues rs r) (reactions_of r) x.reactions.items
 
+-- for each reactor in order: what the names of its reactions stand for
 abbrev pub AreReactions : List ReactorTree → List Reactions → Type 0
 AreReactions rs table = AllZip (IsReactions rs) rs table
 
@@ -179,9 +180,10 @@ pub record IsJoin (rs : List ReactorTree) (r : ReactorTree) (s : Single) (join :
   pub to : IsEnd rs r s.to join.to
   pub delay : IsDelay r s.delay join.delay
 
--- what the connections of a reactor join, and of each reactor in order
+-- for each single connection of the reactor in order: what it joins
 abbrev pub IsConnections : List ReactorTree → ReactorTree → Connections → Type 0
 IsConnections rs r c = AllZip (IsJoin rs r) (singles_of r) c.joins.items
 
+-- for each reactor in order: what its connections join
 abbrev pub AreConnections : List ReactorTree → List Connections → Type 0
 AreConnections rs table = AllZip (IsConnections rs) rs table

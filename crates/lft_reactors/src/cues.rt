@@ -20,7 +20,8 @@ use lft_tag::NoMemory;
 use lft_tree::{Ast, Reaction, Reactor, Reference, Trigger};
 use std::alloc::Global;
 
-/// What a name among the triggers stands for.
+/// What a name among the triggers stands for. A timer is sought first: it is the one thing that may
+/// stand here and isn't a port or an action.
 fn read(directory: &Directory, number: usize, reference: &Reference) -> Result<Cue, ReactorFault>
     ensures ok { IfOk result (λ cue. (rs : List ReactorTree) (r : ReactorTree) → IsAt rs directory.now number r → IsCue rs r (OnRef (ref_view reference.now)) cue) }
     ensures lost { IfErr result (λ f. f ≢ faults.NoMemory → (rs : List ReactorTree) (r : ReactorTree) → IsAt rs directory.now number r → IsLost rs r (Read, ref_view reference.now)) }

@@ -31,6 +31,7 @@ pub fn main_number(alloc: Global, ast: &Ast) -> Result<u32, NoMemory>
     ensures { IfOk result (λ n. (r : ReactorTree) × (main_of (tree_view ast.now) ≡ Some r) × (slice_get (reactors_of (tree_view ast.now)) n ≡ Some r)) }
 {
     let reactors = members::reactors(alloc, &ast.items)?;
+    // No text within the limit has so many, but a tree alone doesn't say so.
     if reactors.len() > u32::MAX as usize {
         return Err(NoMemory);
     }

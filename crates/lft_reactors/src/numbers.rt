@@ -92,6 +92,7 @@ pub(crate) fn contents_among(
     ensures ok { IfOk result (λ v. AreContents (reactor_trees reactors.now) v.items) }
     ensures unknown { IfErr result (λ f. f ≢ faults.NoMemory → (f ≡ faults.UnknownReactor) × UnknownReactor (reactor_trees reactors.now)) }
 {
+    // No text within the limit has so many, but a tree alone doesn't say so.
     if reactors.len() > u32::MAX as usize {
         return Err(ReactorFault::NoMemory);
     }

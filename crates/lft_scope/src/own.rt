@@ -67,6 +67,7 @@ fn kinds(alloc: Global, reactor: &Reactor) -> Result<Vec<Kind>, NoMemory>
     Ok(kinds)
 }
 
+/// The kind at a place that may lie past the end, as the definition has it (`slice_get`).
 fn kind_at(kinds: &[Kind], place: usize) -> Option<Kind>
     ensures { result ≡ slice_get kinds.now place }
 {

@@ -51,6 +51,9 @@ pub fn read_externals(
     read_inputs(alloc, program, text)
 }
 
+// `stop` is the tag of the stop row, and in the arms of `read_next` why the records stop. A fault
+// is handed on by a `match` and not by `?`, here as in the other readers and where texts are
+// loaded: a clause speaks of the fault, and its proof then has it by its name.
 fn read_inputs(alloc: Global, program: &Program, text: &[u8]) -> Result<Externals, TraceFault>
     ensures table { IfOk result (λ inputs. ExternalTable program.now (records_of text.now) inputs) }
     ensures fault { IfErr result (λ e. is_told e ≡ true → ExternalFails program.now (records_of text.now) e) }

@@ -10,7 +10,7 @@ use crate::row::{Row, Step};
 use lft_flat::{Name, Program};
 use lft_tag::{MAX_MICRO, MAX_TIME, Tag};
 
-/// The greatest number of rows or events.
+/// The greatest number of rows or events. The readers keep it by `LAST_LINE` of `records.rt`.
 pub(crate) const MAX_ROWS: usize = 4_000_000;
 
 /// Whether a row is of the program, and its tag and its delay are within their limits.

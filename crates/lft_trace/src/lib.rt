@@ -1,5 +1,6 @@
 #![tactic(auto)]
-//! Rows of a trace and external inputs, and the tables that hold them.
+//! Rows of a trace and external inputs, and the tables that hold them. `write_trace` and `fits` of
+//! rows and of external inputs serve who records: no command calls them yet.
 
 mod event_map;
 mod external_table;

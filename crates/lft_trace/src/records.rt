@@ -9,7 +9,8 @@ use crate::fault::TraceFault;
 use csv::{ByteRecord, ErrorKind, Reader, ReaderBuilder};
 use std::alloc::Global;
 
-/// The line of the last row that a table may have.
+/// The line of the last row that a table may have: the header is line 1, so this is one more than
+/// `MAX_ROWS` of `fits.rt`.
 pub(crate) const LAST_LINE: u32 = 4_000_001;
 
 /// Why the records stop before their end.

@@ -5,7 +5,7 @@ ghost use Rattle.lft_trace.specs.declared.row.Step.TheVariants.{Start, Stop, End
 
 use crate::row::{Row, Step};
 
-/// The row at the place, counted from 0.
+/// The row at the place, counted from 0, said as the clauses on rows have it (`slice_get`).
 pub fn row_at(rows: &[Row], place: usize) -> Row
     requires { place < length rows.now }
     ensures { slice_get rows.now place ≡ Some result }

@@ -117,51 +117,65 @@ nanoseconds t = t.count * unit_nanoseconds t.unit
 
 -- ---- what a file and a reactor declare, in order
 
+-- the reactor that an item is, if it is one
 abbrev pub reactor_in : ItemTree → Option ReactorTree
 reactor_in (ReactorItem x) = Some x
 reactor_in _ = None
 
+-- the port that a member is, if it is one
 abbrev pub port_in : MemberTree → Option PortTree
 port_in (PortMember x) = Some x
 port_in _ = None
 
+-- the timer that a member is, if it is one
 abbrev pub timer_in : MemberTree → Option TimerTree
 timer_in (TimerMember x) = Some x
 timer_in _ = None
 
+-- the action that a member is, if it is one
 abbrev pub action_in : MemberTree → Option ActionTree
 action_in (ActionMember x) = Some x
 action_in _ = None
 
+-- the reaction that a member is, if it is one
 abbrev pub reaction_in : MemberTree → Option ReactionTree
 reaction_in (ReactionMember x) = Some x
 reaction_in _ = None
 
+-- the instance that a member is, if it is one
 abbrev pub instance_in : MemberTree → Option InstanceTree
 instance_in (InstanceMember x) = Some x
 instance_in _ = None
 
+-- the connection that a member is, if it is one
 abbrev pub connection_in : MemberTree → Option ConnectionTree
 connection_in (ConnectionMember x) = Some x
 connection_in _ = None
 
+-- the reactors of a file, in order
 abbrev pub reactors_of : FileTree → List ReactorTree
 reactors_of f = filter_map reactor_in f.items
 
+-- the ports that a reactor declares, in order
 abbrev pub ports_of : ReactorTree → List PortTree
 ports_of r = filter_map port_in r.members
 
+-- the timers that a reactor declares, in order
 abbrev pub timers_of : ReactorTree → List TimerTree
 timers_of r = filter_map timer_in r.members
 
+-- the actions that a reactor declares, in order
 abbrev pub actions_of : ReactorTree → List ActionTree
 actions_of r = filter_map action_in r.members
 
+-- the reactions that a reactor declares, in order
 abbrev pub reactions_of : ReactorTree → List ReactionTree
 reactions_of r = filter_map reaction_in r.members
 
+-- the instances that a reactor contains, in order
 abbrev pub instances_of : ReactorTree → List InstanceTree
 instances_of r = filter_map instance_in r.members
 
+-- the connections that a reactor makes, in order
 abbrev pub connections_of : ReactorTree → List ConnectionTree
 connections_of r = filter_map connection_in r.members

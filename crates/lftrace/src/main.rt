@@ -7,7 +7,7 @@ use crate::words::{Job, JudgeWords, read_words};
 use lft_front::{Fault, Part, bundle_answer, finish, judge_answer, read_input, show_answer};
 use std::alloc::Global;
 use std::fs::File;
-use std::io::{Read, Write};
+use std::io::{IsTerminal, Read, Write};
 use std::process::ExitCode;
 use std::rt::Files;
 use std::{env, io};
@@ -86,7 +86,14 @@ fn main(rt: HostRuntime) -> ExitCode {
     };
     let mut out = io::writer(&rt);
     let answer = match job {
-        Job::Bundle => judge_bundle(alloc, &mut rt.stdin(), &mut out),
+        Job::Bundle => {
+            if rt.stdin().is_terminal() {
+                let _ = eprintln!(rt;
+                    "lftrace: reading a bundle from standard input; `lftrace --help` tells more"
+                );
+            }
+            judge_bundle(alloc, &mut rt.stdin(), &mut out)
+        }
         Job::Judge(words) => judge_files(&rt, alloc, words, &mut out),
         Job::Show(path) => show_file(&rt, alloc, path, &mut out),
     };

@@ -3,6 +3,23 @@
 use clap::{Arg, ArgAction, ArgMatches, Command, Error};
 use std::alloc::Global;
 
+const VERSION: &str = "0.1.0";
+
+const HELP: &str = "\
+Status: 0 accepted or shown, 1 broken, 2 a fault (on standard error).
+A bundle is the lines `--- program`, `--- externals` and `--- trace`, each with its text after it.";
+
+const JUDGE_HELP: &str = "\
+EXTERNALS has the header  kind,time,microstep,name,value
+TRACE has the header      event,worker,time,microstep,reaction,name,value,delay
+Times are in nanoseconds. Words are paths of files; /dev/stdin is standard input.
+Printed: accepted runs=R tags=G (status 0), or broken rule=N .. (status 1).";
+
+const SHOW_HELP: &str = "\
+PROGRAM is the path of a file; /dev/stdin is standard input.
+Printed: port P origin=O after=TIME+STEPS for each port, then
+reaction X level=K before=Y Z for each reaction (status 0).";
+
 /// The words of `judge`: three paths, and how many workers, 1 to 64.
 #[derive(Clone, Copy, Debug, PartialEq, Eq)]
 pub struct JudgeWords<'a> {
@@ -33,7 +50,7 @@ fn workers<'a>(alloc: Global) -> Arg<'a> {
     Arg::new(alloc, "workers")
         .long("workers")
         .value_name("N")
-        .help("how many threads, 1 to 64")
+        .help("how many workers, 1 to 64; as yet one does all the work")
         .default_value("1")
         .value_parser(clap::value_parser!(u32).range(1..65))
 }
@@ -44,24 +61,28 @@ fn judge_command<'a>(alloc: Global) -> Result<Command<'a>, Error> {
         .arg(path(alloc, "PROGRAM", "the program's text"))?
         .arg(path(alloc, "EXTERNALS", "the table of external inputs"))?
         .arg(path(alloc, "TRACE", "the trace table"))?
-        .arg(workers(alloc))?;
+        .arg(workers(alloc))?
+        .after_help(JUDGE_HELP);
     Ok(command)
 }
 
 fn show_command<'a>(alloc: Global) -> Result<Command<'a>, Error> {
     let command = Command::new(alloc, "show")
         .about("Shows the ports of a program and which of its reactions precede which")
-        .arg(path(alloc, "PROGRAM", "the program's text"))?;
+        .arg(path(alloc, "PROGRAM", "the program's text"))?
+        .after_help(SHOW_HELP);
     Ok(command)
 }
 
 fn root_command<'a>(alloc: Global) -> Result<Command<'a>, Error> {
     let command = Command::new(alloc, "lftrace")
+        .version(VERSION)
         .about(
             "Checks recorded executions of reactor programs. Without a command it judges a bundle from standard input.",
         )
         .subcommand(judge_command(alloc)?)?
-        .subcommand(show_command(alloc)?)?;
+        .subcommand(show_command(alloc)?)?
+        .after_help(HELP);
     Ok(command)
 }
 
