@@ -82,7 +82,7 @@ impl NameTable {
     {
         // Asked for what every list of texts keeps: none stands there twice, so no text names two
         // things.
-        let _ = texts.len();
+        texts.keeps();
         NameTable { texts, starts }
     }
 

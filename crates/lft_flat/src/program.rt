@@ -58,6 +58,14 @@ impl Program {
         }
     }
 
+    /// Does nothing. It is called for its clause, where code has the program and a proof needs what
+    /// every program keeps: it is sound.
+    pub fn keeps(&self)
+        ensures sound { IsSound self.now }
+    {
+        let _ = &self.names;
+    }
+
     /// How many instances there are.
     pub fn instances(&self) -> usize
         ensures count { result ≡ length self.now.names.instances }

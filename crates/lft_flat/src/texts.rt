@@ -39,6 +39,15 @@ impl Texts {
         }
     }
 
+    /// Does nothing. It is called for its clauses, where code has texts and a proof needs what all
+    /// of them keep.
+    pub fn keeps(&self)
+        ensures distinct { HasNoTwice self.now }
+        ensures utf8 { AreUtf8 self.now }
+    {
+        let _ = &self.set;
+    }
+
     /// How many texts there are.
     pub fn len(&self) -> usize
         ensures count { result ≡ length self.now }

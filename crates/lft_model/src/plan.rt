@@ -61,13 +61,21 @@ impl Plan {
     {
         // Asked for what every program and all external inputs keep: the one is sound, the others
         // stand in order.
-        let _reactions = program.reactions();
-        let _events = externals.events();
+        program.keeps();
+        externals.keeps();
         Plan {
             program,
             externals,
             graph,
         }
+    }
+
+    /// Does nothing. It is called for its clause, where code has the plan and a proof needs what
+    /// every plan keeps: it is sound.
+    pub fn keeps(&self)
+        ensures sound { IsSoundPlan self.now }
+    {
+        let _ = &self.graph;
     }
 
     /// The flat program.

@@ -82,6 +82,14 @@ impl<'a> Cut<'a> {
         }
     }
 
+    /// Does nothing. It is called for its clause, where code has the cut and a proof needs what
+    /// every cut keeps: its rows break none of the rules 1 to 5.
+    pub fn keeps(&self)
+        ensures rules { IsCuttable self.now }
+    {
+        let _ = &self.slices;
+    }
+
     /// The rows that were cut.
     pub fn rows(&self) -> &[Row]
         ensures value { result.now ≡ self.now.rows }

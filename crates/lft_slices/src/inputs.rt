@@ -86,7 +86,8 @@ impl<'a> Cut<'a> {
         requires no_clash { Collision self.now.plan self.now.rows tag → ⊥ }
         ensures { IsTrue result ↔ IsRight self.now.plan self.now.rows tag reaction name }
     {
-        let _rows = self.rows();
+        // Asked for what every cut keeps: no run reads a name twice.
+        self.keeps();
         let read = self.read_at(tag, reaction, name);
         same_values(read, self.value_at(tag, name))
     }

@@ -47,7 +47,7 @@ pub fn read_externals(
     ensures fault { IfErr result (λ e. is_told e ≡ true → ExternalFails program.now (records_of text.now) e × ((inputs : ExternalInputs) → ExternalTable program.now (records_of text.now) inputs → ⊥)) }
 {
     // Asked for what every program keeps: no two of its things have one name.
-    let _ = program.actions();
+    program.keeps();
     read_inputs(alloc, program, text)
 }
 

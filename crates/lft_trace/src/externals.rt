@@ -49,6 +49,14 @@ impl Externals {
         Externals { stop, events }
     }
 
+    /// Does nothing. It is called for its clause, where code has external inputs and a proof needs
+    /// what all of them keep: their events stand in order.
+    pub fn keeps(&self)
+        ensures order { InOrder self.now.events }
+    {
+        let _ = &self.events;
+    }
+
     /// The greatest tag of the execution.
     pub fn stop(&self) -> Tag
         ensures { result ≡ self.now.stop }

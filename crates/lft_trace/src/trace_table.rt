@@ -33,7 +33,7 @@ pub fn read_trace(alloc: Global, program: &Program, text: &[u8]) -> Result<Rows,
     ensures fault { IfErr result (λ e. is_told e ≡ true → TraceFails program.now (records_of text.now) e × ((rows : List Row) → Table program.now (records_of text.now) rows → ⊥)) }
 {
     // Asked for what every program keeps: no two of its things have one name.
-    let _ = program.reactions();
+    program.keeps();
     match read_rows(alloc, program, text) {
         Ok(rows) => Ok(Rows::from_vec(rows)),
         Err(fault) => Err(fault),

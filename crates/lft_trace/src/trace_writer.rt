@@ -28,7 +28,7 @@ pub fn write_trace(alloc: Global, program: &Program, rows: &Rows) -> Result<Vec<
     ensures table { IfOk result (λ text. Table program.now (records_of text.items) rows.now) }
 {
     // Asked for what every program keeps: each of its things has a name, whose bytes need no quotes.
-    let _ = program.reactions();
+    program.keeps();
     write_rows(alloc, program, rows.as_slice())
 }
 

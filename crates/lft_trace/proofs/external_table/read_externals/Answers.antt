@@ -25,10 +25,10 @@ fault_told program records (Ok inputs) sound h = tt
 fault_told program records (Err e) sound h = λ told. (h told, λ inputs t. no_table program records e inputs sound (h told) t)
 
 pub returns-clause-one : goal.returns-clause-one
-returns-clause-one c = one c.args.program.now (records_of c.args.text.now) c.read_inputs.result c.actions.ensures.sound c.read_inputs.ensures.table
+returns-clause-one c = one c.args.program.now (records_of c.args.text.now) c.read_inputs.result c.keeps.ensures.sound c.read_inputs.ensures.table
 
 pub returns-clause-fits : goal.returns-clause-fits
 returns-clause-fits c = fits c.args.program.now (records_of c.args.text.now) c.read_inputs.result c.read_inputs.ensures.table
 
 pub returns-clause-fault : goal.returns-clause-fault
-returns-clause-fault c = fault_told c.args.program.now (records_of c.args.text.now) c.read_inputs.result c.actions.ensures.sound c.read_inputs.ensures.fault
+returns-clause-fault c = fault_told c.args.program.now (records_of c.args.text.now) c.read_inputs.result c.keeps.ensures.sound c.read_inputs.ensures.fault
