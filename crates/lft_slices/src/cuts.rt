@@ -6,7 +6,6 @@ ghost use Rattle.lft_model.specs.Presence.{stop as the_stop};
 ghost use Rattle.lft_model.specs.Runs.{Ran};
 ghost use Rattle.lft_slices.specs.Causes.{AreCauses};
 ghost use Rattle.lft_slices.specs.Clashes.{IsClash};
-ghost use Rattle.lft_slices.specs.Reads.{AreReads};
 ghost use Rattle.lft_slices.specs.Slices.{AreSlices, IsCuttable};
 
 use crate::causes::Cause;
@@ -38,7 +37,6 @@ pub struct Cut<'a> {
     started: Started,
     causes: Vec<Cause>,
     clash: Option<Tag>,
-    reads: Vec<Cause>,
 }
 
 impl<'a> Model for Cut<'a> {
@@ -50,7 +48,7 @@ impl<'a> Model for Cut<'a> {
 
     ghost use Rattle.lft_slices.specs.Indexes.{IsIndexed};
 
-    ghost invariant = { λ a. IsIndexed (record { plan = a.plan.now; rows = a.rows.now }) a.stop a.slices.items a.started a.causes.items a.clash a.reads.items };
+    ghost invariant = { λ a. IsIndexed (record { plan = a.plan.now; rows = a.rows.now }) a.stop a.slices.items a.started a.causes.items a.clash };
 }
 
 impl<'a> Cut<'a> {
@@ -65,9 +63,8 @@ impl<'a> Cut<'a> {
         started: Started,
         causes: Vec<Cause>,
         clash: Option<Tag>,
-        reads: Vec<Cause>,
     ) -> Cut<'a>
-        requires { IsIndexed (record { plan = plan.now; rows = rows.now }) stop slices.items started causes.items clash reads.items }
+        requires { IsIndexed (record { plan = plan.now; rows = rows.now }) stop slices.items started causes.items clash }
         ensures { result ≡ record { plan = plan.now; rows = rows.now } }
     {
         Cut {
@@ -78,7 +75,6 @@ impl<'a> Cut<'a> {
             started,
             causes,
             clash,
-            reads,
         }
     }
 
@@ -140,13 +136,6 @@ impl<'a> Cut<'a> {
         ensures { AreCauses self.now.plan self.now.rows result.now }
     {
         self.causes.as_slice()
-    }
-
-    /// Where rows read, by reaction and name, by tag and by place.
-    pub(crate) fn read_rows(&self) -> &[Cause]
-        ensures { AreReads self.now.plan.program self.now.rows result.now }
-    {
-        self.reads.as_slice()
     }
 
     /// The events of the external inputs.

@@ -1,37 +1,70 @@
 //! Rule 4: what a reaction declares, and what was read before.
 
-ghost use Rattle.std.specs.Prelude.{◌≡◌, ℕ, ◌<◌, length, Some, IsTrue, ◌↔◌, slice_get, Contains};
-ghost use Rattle.lft_flat.specs.Parts.{inputs};
+ghost use Rattle.std.specs.Prelude.{◌≡◌, ℕ, ◌+◌, ◌<◌, ◌≤◌, length, Some, IsTrue, ◌↔◌, slice_get, Contains};
 ghost use Rattle.lft_flat.specs.Sound.{IsNameOf};
-ghost use Rattle.lft_flat.specs.declared.parts.Value.{Value};
-ghost use Rattle.lft_flat.specs.declared.parts.Trigger.TheVariants.{On};
-ghost use Rattle.lft_trace.specs.declared.row.Step.TheVariants.{Read};
+ghost use Rattle.lft_trace.specs.declared.row.Row.{Row as TheRow};
 ghost use Rattle.lft_trace.specs.Fits.{RowFits};
-ghost use Rattle.lft_model.specs.Breaches.{IsUndeclared, WasRead, MayWrite, MaySchedule};
-ghost use Rattle.lft_model.specs.Plans.{PlanParts};
+ghost use Rattle.lft_model.specs.Breaches.{IsUndeclared, MayWrite, MaySchedule};
 ghost use Rattle.lft_model.specs.Runs.{effects_of};
-ghost use Rattle.lft_slices.specs.Passes.{KeepsEarly};
+ghost use Rattle.lft_slices.specs.Marks.{AreMarks};
+ghost use Rattle.lft_slices.specs.Passes.{RisesTo, IsBadRead};
 
-use crate::triggered::trigger_at;
-use lft_flat::{Name, Program, Reaction, Trigger};
-use lft_trace::{Row, Step, is_start, row_at};
+use crate::marks::{Marks, seat_of};
+use lft_flat::{Name, Program};
+use lft_tag::Tag;
+use lft_trace::{Row, Step, row_at};
 
 /// Whether the row's step names what its reaction didn't declare for it, or reads a name again.
-pub(crate) fn is_undeclared(program: &Program, rows: &[Row], place: usize, row: Row) -> bool
+pub(crate) fn is_undeclared(
+    program: &Program,
+    rows: &[Row],
+    place: usize,
+    row: Row,
+    marks: &Marks,
+) -> bool
     requires known { RowFits program.now row }
-    requires place { place < length rows.now }
-    requires kept { (plan : PlanParts) × KeepsEarly plan rows.now place }
+    requires place { slice_get rows.now place ≡ Some row }
+    requires rising { RisesTo rows.now place row.tag }
+    requires marks { AreMarks program.now rows.now 0 place marks.now }
     ensures { IsTrue result ↔ IsUndeclared program.now rows.now place row row.step }
 {
     match row.step {
-        Step::Read(name, _) => !is_input(program.reaction(row.reaction), name)
-            || was_read(rows, place, row, name),
+        Step::Read(name, _) => is_bad_read(program, rows, place, row, name, marks),
         Step::Write(name, _) => !may_write(program, row.reaction, name),
         Step::Schedule(name, _, _) => !may_schedule(program, row.reaction, name),
         Step::Start => false,
         Step::Stop => false,
         Step::End => false,
     }
+}
+
+/// Whether the name isn't among the inputs of the row's reaction, or was read before in its run.
+fn is_bad_read(
+    program: &Program,
+    rows: &[Row],
+    place: usize,
+    row: Row,
+    name: Name,
+    marks: &Marks,
+) -> bool
+    requires known { row.reaction < length program.now.reactions }
+    requires place { slice_get rows.now place ≡ Some row }
+    requires rising { RisesTo rows.now place row.tag }
+    requires marks { AreMarks program.now rows.now 0 place marks.now }
+    ensures { IsTrue result ↔ IsBadRead program.now rows.now place row name }
+{
+    match seat_of(program.reaction(row.reaction), name) {
+        Some(seat) => was_at(rows, place, row.tag, marks.of(program, row.reaction, seat)),
+        None => true,
+    }
+}
+
+/// Whether the row before the place past it is at the tag, if it is one.
+fn was_at(rows: &[Row], place: usize, tag: Tag, mark: u32) -> bool
+    requires { (mark ≤ place) × (place < length rows.now) }
+    ensures { IsTrue result ↔ ((j : ℕ) × (row : TheRow) × (mark ≡ j + 1) × (slice_get rows.now j ≡ Some row) × (row.tag ≡ tag)) }
+{
+    mark > 0 && row_at(rows, mark as usize - 1).tag.is_same(tag)
 }
 
 /// Whether the name is a port among the reaction's effects.
@@ -68,7 +101,7 @@ fn is_effect(program: &Program, reaction: u32, name: Name) -> bool
 }
 
 /// Whether the two are one name.
-fn is_same_name(a: Name, b: Name) -> bool
+pub(crate) fn is_same_name(a: Name, b: Name) -> bool
     ensures { IsTrue result ↔ (a ≡ b) }
 {
     match (a, b) {
@@ -97,74 +130,4 @@ fn is_among(names: &[Name], name: Name) -> bool
         }
     }
     false
-}
-
-/// Whether one of the triggers is the event of the name.
-fn is_trigger(triggers: &[Trigger], name: Name) -> bool
-    ensures { IsTrue result ↔ ((k : ℕ) × (slice_get triggers.now k ≡ Some (On name))) }
-{
-    for place in 0..triggers.len() {
-        match trigger_at(triggers, place) {
-            Trigger::On(other) => {
-                if is_same_name(other, name) {
-                    return true;
-                }
-            }
-            Trigger::Startup => {}
-            Trigger::Shutdown => {}
-            Trigger::Timer(_) => {}
-        }
-    }
-    false
-}
-
-/// Whether the name is among the reaction's inputs.
-fn is_input(reaction: &Reaction, name: Name) -> bool
-    ensures { IsTrue result ↔ Contains (inputs reaction.now) name }
-{
-    is_trigger(reaction.triggers.as_slice(), name) || is_among(reaction.uses.as_slice(), name)
-}
-
-/// Whether the two rows are of one tag and reaction.
-fn is_of_run(other: Row, row: Row) -> bool
-    ensures { IsTrue result ↔ ((other.tag ≡ row.tag) × (other.reaction ≡ row.reaction)) }
-{
-    other.tag.is_same(row.tag) && other.reaction == row.reaction
-}
-
-/// Whether a row before the place reads the name for the row's tag and reaction. It goes back to
-/// the start row of the run alone.
-fn was_read(rows: &[Row], place: usize, row: Row, name: Name) -> bool
-    requires place { place < length rows.now }
-    requires kept { (plan : PlanParts) × KeepsEarly plan rows.now place }
-    ensures { IsTrue result ↔ WasRead rows.now place row.tag row.reaction name }
-{
-    let mut before = place;
-    while before > 0 {
-        before -= 1;
-        let other = row_at(rows, before);
-        if is_of_run(other, row) {
-            if reads(&other.step, name) {
-                return true;
-            }
-            if is_start(&other.step) {
-                return false;
-            }
-        }
-    }
-    false
-}
-
-/// Whether the step reads the name.
-fn reads(step: &Step, name: Name) -> bool
-    ensures { IsTrue result ↔ ((v : Value) × (step.now ≡ Read name v)) }
-{
-    match step {
-        Step::Read(other, _) => is_same_name(*other, name),
-        Step::Start => false,
-        Step::Write(_, _) => false,
-        Step::Schedule(_, _, _) => false,
-        Step::Stop => false,
-        Step::End => false,
-    }
 }

@@ -1,36 +1,25 @@
 //! What a reaction reads at a tag, and what its run read.
 
-ghost use Rattle.std.specs.Prelude.{◌≡◌, ◌<◌, ◌↔◌, List, Option, length, IsTrue, IfOk};
+ghost use Rattle.std.specs.Prelude.{◌≡◌, ◌<◌, ◌↔◌, List, Option, Some, length, IsTrue, IfOk, slice_get};
 ghost use Rattle.lft_flat.specs.Sound.{IsNameOf, IsTriggerOf};
 ghost use Rattle.lft_flat.specs.declared.parts.Value.{Value as Carried};
 ghost use Rattle.lft_model.specs.Presence.{Collision, Inputs};
-ghost use Rattle.lft_model.specs.Runs.{read_of, steps_of, reads_at};
-ghost use Rattle.lft_slices.specs.Reads.{value_read as the_value_read, IsRight, IsTriggerRight};
+ghost use Rattle.lft_model.specs.Runs.{reads_at};
+ghost use Rattle.lft_flat.specs.declared.parts.Reaction.{Reaction as TheReaction};
+ghost use Rattle.lft_slices.specs.Marks.{HasSeat};
+ghost use Rattle.lft_slices.specs.Reads.{IsRight, IsTriggerRight};
+ghost use Rattle.lft_slices.specs.Slices.{IsSlice};
+ghost use Rattle.lft_slices.specs.Walks.{HasWalked};
 
-use crate::causes::{cause_at, leads, position};
 use crate::cuts::Cut;
 use crate::declared::name_at;
-use crate::reading::read_key;
+use crate::slices::Slice;
 use crate::triggered::trigger_at;
+use crate::walk::Walk;
 use lft_flat::{Name, Trigger, Value};
 use lft_model::Reads;
-use lft_tag::{NoMemory, Shift, Tag};
-use lft_trace::{Step, row_at};
+use lft_tag::{NoMemory, Tag};
 use std::alloc::Global;
-
-/// The value that a step reads, if it reads one.
-fn value_read(step: &Step) -> Option<Value>
-    ensures { result ≡ the_value_read step.now }
-{
-    match step {
-        Step::Read(_, value) => Some(*value),
-        Step::Start => None,
-        Step::Write(_, _) => None,
-        Step::Schedule(_, _, _) => None,
-        Step::Stop => None,
-        Step::End => None,
-    }
-}
 
 /// Whether the two are one value, or both none.
 fn same_values(a: Option<Value>, b: Option<Value>) -> bool
@@ -57,76 +46,69 @@ fn same_value(a: Value, b: Value) -> bool
 }
 
 impl<'a> Cut<'a> {
-    /// What the run of the reaction at the tag read of the name last, if it did.
-    fn read_at(&self, tag: Tag, reaction: u32, name: Name) -> Option<Value>
-        requires reaction { reaction < length self.now.plan.program.reactions }
+    /// Whether the run of the reaction at the tag read of the input at the seat what is present
+    /// there.
+    fn reads_right(&self, walk: &Walk, slice: Slice, reaction: u32, seat: usize, name: Name) -> bool
+        requires slice { IsSlice self.now.rows slice }
+        requires walked { HasWalked self.now slice walk.now }
+        requires seat { (x : TheReaction) × (slice_get self.now.plan.program.reactions reaction ≡ Some x) × HasSeat x name seat }
         requires name { IsNameOf self.now.plan.program name }
-        ensures { result ≡ read_of (steps_of self.now.rows tag reaction) name }
-    {
-        let rows = self.rows();
-        let reads = self.read_rows();
-        let key = read_key(self.program(), reaction, name);
-        let end = position(reads, key, Shift::none(), tag, true);
-        if end == 0 {
-            return None;
-        }
-        let last = cause_at(reads, end - 1);
-        if leads(last, key, Shift::none(), tag) {
-            let row = row_at(rows, last.place as usize);
-            value_read(&row.step)
-        } else {
-            None
-        }
-    }
-
-    /// Whether the run of the reaction at the tag read of the name what is present there.
-    fn reads_right(&self, tag: Tag, reaction: u32, name: Name) -> bool
-        requires reaction { reaction < length self.now.plan.program.reactions }
-        requires name { IsNameOf self.now.plan.program name }
-        requires no_clash { Collision self.now.plan self.now.rows tag → ⊥ }
-        ensures { IsTrue result ↔ IsRight self.now.plan self.now.rows tag reaction name }
+        requires no_clash { Collision self.now.plan self.now.rows slice.tag → ⊥ }
+        ensures { IsTrue result ↔ IsRight self.now.plan self.now.rows slice.tag reaction name }
     {
         // Asked for what every cut keeps: no run reads a name twice.
         self.keeps();
-        let read = self.read_at(tag, reaction, name);
-        same_values(read, self.value_at(tag, name))
+        let read = self.read_at(walk, slice, reaction, seat);
+        same_values(read, self.value_at(slice.tag, name))
     }
 
-    /// Whether the run of the reaction at the tag read of the trigger what is present there, if it
-    /// is a port or action.
-    fn trigger_right(&self, tag: Tag, reaction: u32, trigger: Trigger) -> bool
-        requires reaction { reaction < length self.now.plan.program.reactions }
+    /// Whether the run of the reaction at the tag read of the trigger at the seat what is present
+    /// there, if it is a port or action.
+    fn trigger_right(
+        &self,
+        walk: &Walk,
+        slice: Slice,
+        reaction: u32,
+        seat: usize,
+        trigger: Trigger,
+    ) -> bool
+        requires slice { IsSlice self.now.rows slice }
+        requires walked { HasWalked self.now slice walk.now }
+        requires seat { (x : TheReaction) × (slice_get self.now.plan.program.reactions reaction ≡ Some x) × (slice_get x.triggers seat ≡ Some trigger) }
         requires trigger { IsTriggerOf self.now.plan.program trigger }
-        requires no_clash { Collision self.now.plan self.now.rows tag → ⊥ }
-        ensures { IsTrue result ↔ IsTriggerRight self.now.plan self.now.rows tag reaction trigger }
+        requires no_clash { Collision self.now.plan self.now.rows slice.tag → ⊥ }
+        ensures { IsTrue result ↔ IsTriggerRight self.now.plan self.now.rows slice.tag reaction trigger }
     {
         match trigger {
-            Trigger::On(name) => self.reads_right(tag, reaction, name),
+            Trigger::On(name) => self.reads_right(walk, slice, reaction, seat, name),
             Trigger::Startup => true,
             Trigger::Shutdown => true,
             Trigger::Timer(_) => true,
         }
     }
 
-    /// Whether the run of the reaction at the tag read its inputs, and nothing else of them.
-    pub fn reads_inputs(&self, tag: Tag, reaction: u32) -> bool
+    /// Whether the run of the reaction at the tag of the slice, over which the walk went last, read
+    /// its inputs, and nothing else of them.
+    pub fn reads_inputs(&self, walk: &Walk, slice: Slice, reaction: u32) -> bool
+        requires slice { IsSlice self.now.rows slice }
+        requires walked { HasWalked self.now slice walk.now }
         requires reaction { reaction < length self.now.plan.program.reactions }
-        requires no_clash { Collision self.now.plan self.now.rows tag → ⊥ }
-        ensures { IsTrue result ↔ Inputs self.now.plan self.now.rows tag reaction (reads_at self.now.plan self.now.rows tag reaction) }
+        requires no_clash { Collision self.now.plan self.now.rows slice.tag → ⊥ }
+        ensures { IsTrue result ↔ Inputs self.now.plan self.now.rows slice.tag reaction (reads_at self.now.plan self.now.rows slice.tag reaction) }
     {
         let program = self.program();
         let read = program.reaction(reaction);
         let triggers = read.triggers.as_slice();
         for place in 0..triggers.len() {
             let trigger = trigger_at(triggers, place);
-            if !self.trigger_right(tag, reaction, trigger) {
+            if !self.trigger_right(walk, slice, reaction, place, trigger) {
                 return false;
             }
         }
         let uses = read.uses.as_slice();
         for place in 0..uses.len() {
             let name = name_at(uses, place);
-            if !self.reads_right(tag, reaction, name) {
+            if !self.reads_right(walk, slice, reaction, triggers.len() + place, name) {
                 return false;
             }
         }

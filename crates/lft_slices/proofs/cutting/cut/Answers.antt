@@ -1,7 +1,5 @@
 use Rattle.std.proofs.Common.{sym, subst}
-use Rattle.lft_flat.specs.Parts.{Parts}
 use Rattle.lft_trace.specs.Fits.{RowsFit}
-use Rattle.lft_slices.specs.Reads.{AreReads}
 use Rattle.lft_slices.proofs.Indexed.{rises_of, indexed}
 use Rattle.lft_slices.proofs.cutting.cut.Goals as goal
 
@@ -9,4 +7,4 @@ pub slices_of-requires : goal.slices_of-requires
 slices_of-requires c = rises_of c.args.plan.now c.as_slice-rows.result.now (rw c.in-Ok-None.field-0-is at c.in-Ok-None.ensures)
 
 pub from_parts-requires : goal.from_parts-requires
-from_parts-requires c = let t = c.as_slice-rows.result.now in indexed c.args.plan.now t c.trace_stop-stop.result c.in-Ok.slices.items c.in-Ok-started_of.started c.in-Ok-causes_of.causes.items c.in-Ok-clash_of.clash c.in-Ok-reads_of.reads.items c.keeps.ensures.sound (subst (λ z. RowsFit c.args.plan.now.program z) (sym c.as_slice-rows.ensures) c.requires) (rw c.in-Ok-None.field-0-is at c.in-Ok-None.ensures) c.trace_stop-stop.ensures c.in-Ok.ensures c.in-Ok-started_of.ensures c.in-Ok-causes_of.ensures c.in-Ok-clash_of.ensures (subst (λ (p : Parts). AreReads p t c.in-Ok-reads_of.reads.items) c.program.ensures.value c.in-Ok-reads_of.ensures)
+from_parts-requires c = let t = c.as_slice-rows.result.now in indexed c.args.plan.now t c.trace_stop-stop.result c.in-Ok.slices.items c.in-Ok-started_of.started c.in-Ok-causes_of.causes.items c.in-Ok-clash_of.clash c.keeps.ensures.sound (subst (λ z. RowsFit c.args.plan.now.program z) (sym c.as_slice-rows.ensures) c.requires) (rw c.in-Ok-None.field-0-is at c.in-Ok-None.ensures) c.trace_stop-stop.ensures c.in-Ok.ensures c.in-Ok-started_of.ensures c.in-Ok-causes_of.ensures c.in-Ok-clash_of.ensures
