@@ -15,7 +15,7 @@ use Rattle.lft_model.specs.Presence.{Inputs, stop}
 use Rattle.lft_model.specs.Runs.{Run, start_row, end_row, reads_at, ended_by, by_ends}
 use Rattle.lft_model.specs.Breaches.{IsOpen, IsLate, IsOutOfOrder, IsUndeclared, BreaksRow}
 use Rattle.lft_model.specs.OneWorker.{IsPending, Ready, Next, Path, NoClash, rows}
-use Rattle.lft_model.specs.Recorded.{SoFar}
+use Rattle.lft_model.specs.Recorded.{SoFar, run_row}
 use Rattle.lft_model.proofs.Places.{slice_get_within, slice_get_taken}
 use Rattle.lft_model.proofs.Legality.{KeepsFour, keeps_four}
 use Rattle.lft_model.proofs.Ended.{ended_before}
@@ -119,10 +119,6 @@ module _ (plan : PlanParts) (t more : List Row) where
             by_part (inr q) =
                 let s = fresh q.0 w g r q.2 in
                 subst (λ (k : ℕ). Ready plan (by_ends plan (take k (t ++ more))) g r × Inputs plan (rows plan (by_ends plan (take k (t ++ more)))) g r (reads_at plan (t ++ more) g r)) (sym q.1) s
-
--- the row of a step of the run of r at g, by worker w
-abbrev pub run_row : ℕ → Tag → ℕ → Step → Row
-run_row w g r s = record { worker = w; tag = g; reaction = r; step = s }
 
 -- a row that is added for a step of a run
 pub record AddedRow (w : ℕ) (g : Tag) (r : ℕ) (steps : List Step) (j : ℕ) (x : Row) : Type 0 where

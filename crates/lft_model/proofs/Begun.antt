@@ -19,7 +19,7 @@ use Rattle.lft_model.specs.Presence.{Inputs, Shows, requests, stop}
 use Rattle.lft_model.specs.Runs.{Run, Ran, start_row, end_row, read_step, value_read, read_of, step_of, steps_of, inputs_of, reads_at, ended_by, by_ends}
 use Rattle.lft_model.specs.Breaches.{IsOpen, IsOutOfOrder, IsUndeclared, WasRead, BreaksRow}
 use Rattle.lft_model.specs.OneWorker.{Ready, Path, NoClash, rows}
-use Rattle.lft_model.specs.Recorded.{SoFar}
+use Rattle.lft_model.specs.Recorded.{SoFar, run_row, begun_rows}
 use Rattle.lft_model.proofs.Places.{slice_get_within}
 use Rattle.lft_model.proofs.Members.{Mem, mem_get, get_mem, mem_contains, none_nil}
 use Rattle.lft_model.proofs.Stops.{asker, stop_added}
@@ -30,7 +30,7 @@ use Rattle.lft_model.proofs.Agree.{no_steps}
 use Rattle.lft_model.proofs.Grown.{added_none, slice_get_more}
 use Rattle.lft_model.proofs.Blocks.{get_append, put_right, two_places, reads_one}
 use Rattle.lft_model.proofs.RowsLegal.{told, last_option, inputs_apart}
-use Rattle.lft_model.proofs.Added.{keeps_added, by_ends_added, so_far_added, run_row, AddedRow, added_row, added_in_time}
+use Rattle.lft_model.proofs.Added.{keeps_added, by_ends_added, so_far_added, AddedRow, added_row, added_in_time}
 
 -- a start or a read
 abbrev pub IsOpening : Step → Type 0
@@ -40,14 +40,6 @@ IsOpening (Write n v) = ⊥
 IsOpening (Schedule n v d) = ⊥
 IsOpening Stop = ⊥
 IsOpening End = ⊥
-
--- the steps of a run that is begun: its start, then a read of each input that is shown present
-abbrev pub begun_steps : PlanParts → ℕ → List (Option Value) → List Step
-begun_steps plan r shown = Start ∷ filter_map read_step (zip (inputs_of plan.program r) shown)
-
--- and its rows
-abbrev pub begun_rows : PlanParts → ℕ → Tag → ℕ → List (Option Value) → List Row
-begun_rows plan w g r shown = map (run_row w g r) (begun_steps plan r shown)
 
 -- a run of r at g by worker w: r is ready and has no run yet, its inputs are shown, and the worker has no open run
 module _ (plan : PlanParts) (good : IsSoundPlan plan) (t : List Row) (so_far : SoFar plan t) (w : ℕ) (g : Tag) (r : ℕ) (shown : List (Option Value)) (ready : Ready plan (by_ends plan t) g r) (reads : Inputs plan (rows plan (by_ends plan t)) g r shown) (early : UpTo g (stop plan t)) (fresh : ¬ Ran t g r) (idle : (h : Tag) (c : ℕ) → ¬ IsOpen t (length t) w h c) where

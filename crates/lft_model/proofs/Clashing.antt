@@ -13,7 +13,8 @@ use Rattle.lft_trace.specs.declared.row.Row.{Row}
 use Rattle.lft_trace.specs.declared.row.Step.{Step}
 use Rattle.lft_trace.specs.declared.row.Step.TheVariants.{Schedule}
 use Rattle.lft_trace.specs.declared.externals.Event.{Event}
-use Rattle.lft_trace.specs.Fits.{RowsFit, ExternalsFit, StepFits}
+use Rattle.lft_trace.specs.Fits.{ExternalsFit, StepFits}
+use Rattle.lft_model.specs.Fitting.{EachFits}
 use Rattle.lft_model.specs.Plans.{PlanParts}
 use Rattle.lft_model.specs.Presence.{scheduled, given, min_delay, events_of, PortClash, ClashesAt, Collision}
 use Rattle.lft_model.proofs.Members.{Mem, get_mem, mem_cases, mem_from_filter}
@@ -30,13 +31,13 @@ origin_within {program} {p} (over x s first e n way l) = slice_get_within progra
 step_within : (program : Parts) (s : Step) (a extra : ℕ) (v : Value) → StepFits program s → s ≡ Schedule (Action a) v extra → a < length program.actions
 step_within program s a extra v fits e = let both : StepFits program (Schedule (Action a) v extra) = subst (λ z. StepFits program z) e fits in both.0
 
-module _ (plan : PlanParts) (t : List Row) (g : Tag) (rows : RowsFit plan.program t) (externals : ExternalsFit plan.program plan.externals) where
+module _ (plan : PlanParts) (t : List Row) (g : Tag) (rows : EachFits plan.program t) (externals : ExternalsFit plan.program plan.externals) where
   -- an action that has an event is of the program
   event_within : (a : ℕ) (v : Value) → Mem v (events_of plan t g a) → a < length plan.program.actions
   event_within a v m = go (mem_cases v (filter_map (scheduled g a (min_delay plan.program a)) t) (filter_map (given g a) plan.externals.events) m)
     where
       by_row : (x : Row) → Mem x t → Schedules g a (min_delay plan.program a) x.tag x.step v → a < length plan.program.actions
-      by_row x k s = let p = get_mem x t k in step_within plan.program x.step a s.extra v (rows.each p.0 x p.1).step (scheduled_some a x.step (s.extra, v) s.value_is)
+      by_row x k s = let p = get_mem x t k in step_within plan.program x.step a s.extra v (rows p.0 x p.1).step (scheduled_some a x.step (s.extra, v) s.value_is)
 
       by_event : (x : Event) → Mem x plan.externals.events → given g a x ≡ Some v → a < length plan.program.actions
       by_event x k e =
@@ -64,11 +65,11 @@ module _ (plan : PlanParts) (s t : List Row) (same : s ≡ t) (g : Tag) where
   found_collision n x = (λ _. subst (λ z. Collision plan z g) same (n, x), λ _. refl)
 
   -- there is none if no port and no action of the program has two
-  pub no_collision_found : RowsFit plan.program t → ExternalsFit plan.program plan.externals → ((p : ℕ) → p < length plan.program.ports → ¬ PortClash plan s g p) → ((a : ℕ) → a < length plan.program.actions → ¬ (2 ≤ length (events_of plan s g a))) → IsTrue false ↔ Collision plan t g
+  pub no_collision_found : EachFits plan.program t → ExternalsFit plan.program plan.externals → ((p : ℕ) → p < length plan.program.ports → ¬ PortClash plan s g p) → ((a : ℕ) → a < length plan.program.actions → ¬ (2 ≤ length (events_of plan s g a))) → IsTrue false ↔ Collision plan t g
   no_collision_found rows externals ports actions = (λ e. absurd (false≢true e), λ c. let d : Collision plan s g = subst (λ z. Collision plan z g) (sym same) c in absurd (go d.0 d.1))
     where
-      fit : RowsFit plan.program s
-      fit = subst (λ z. RowsFit plan.program z) (sym same) rows
+      fit : EachFits plan.program s
+      fit = subst (λ z. EachFits plan.program z) (sym same) rows
 
       go : (n : Name) → ClashesAt plan s g n → ⊥
       go (Port p) x = ports p (origin_within x.is_first.is_origin) x

@@ -16,7 +16,7 @@ use Rattle.lft_model.specs.Presence.{Inputs, requests, stop}
 use Rattle.lft_model.specs.Runs.{Run, start_row, end_row, value_read, read_of, step_of, steps_of, inputs_of, reads_at, run_at, ended_by, by_ends}
 use Rattle.lft_model.specs.Breaches.{IsOpen, IsOutOfOrder, MayWrite, MaySchedule, IsUndeclared, BreaksRow}
 use Rattle.lft_model.specs.OneWorker.{Ready, Next, Path, NoClash, rows}
-use Rattle.lft_model.specs.Recorded.{SoFar}
+use Rattle.lft_model.specs.Recorded.{SoFar, MayAnswer, run_row, committed_rows}
 use Rattle.lft_model.proofs.Places.{slice_get_within}
 use Rattle.lft_model.proofs.Members.{Mem, mem_get, mem_cases, mem_from_map, mem_from_filter, none_nil, last-append_nil}
 use Rattle.lft_model.proofs.Stops.{asker, stop_added}
@@ -28,20 +28,7 @@ use Rattle.lft_model.proofs.Answered.{answers_well}
 use Rattle.lft_model.proofs.Grown.{slice_get_more}
 use Rattle.lft_model.proofs.Blocks.{get_append}
 use Rattle.lft_model.proofs.Recording.{rows_up_to, open_ready_now, none_after_end}
-use Rattle.lft_model.proofs.Added.{keeps_added, by_ends_added, so_far_added, path_added, run_row, AddedRow, added_row, added_in_time}
-
--- a step that a reaction may make between its reads and its end
-abbrev pub MayAnswer : PlanParts → ℕ → Step → Type 0
-MayAnswer plan r (Write n v) = MayWrite plan.program r n
-MayAnswer plan r (Schedule n v d) = MaySchedule plan.program r n
-MayAnswer plan r Stop = Unit {0}
-MayAnswer plan r Start = ⊥
-MayAnswer plan r (Read n v) = ⊥
-MayAnswer plan r End = ⊥
-
--- the rows of a run that is committed: its steps, then its end
-abbrev pub committed_rows : ℕ → Tag → ℕ → List Step → List Row
-committed_rows w g r steps = map (run_row w g r) (steps ++ End ∷ [])
+use Rattle.lft_model.proofs.Added.{keeps_added, by_ends_added, so_far_added, path_added, AddedRow, added_row, added_in_time}
 
 -- the open run of r at g by worker w, with steps that r may make
 module _ (plan : PlanParts) (good : IsSoundPlan plan) (t : List Row) (so_far : SoFar plan t) (w : ℕ) (g : Tag) (r : ℕ) (open_run : IsOpen t (length t) w g r) (steps : List Step) (may : (s : Step) → Mem s steps → MayAnswer plan r s) where
@@ -71,7 +58,7 @@ module _ (plan : PlanParts) (good : IsSoundPlan plan) (t : List Row) (so_far : S
   answer_of j s n (inr z) = z.0
 
   -- the run has not ended yet
-  not_ended : ¬ EndRow t (length t) g r
+  pub not_ended : ¬ EndRow t (length t) g r
   not_ended o = go (dec_lt open_run.start o.place)
     where
       go : Dec (open_run.start < o.place) → ⊥
@@ -86,11 +73,11 @@ module _ (plan : PlanParts) (good : IsSoundPlan plan) (t : List Row) (so_far : S
           open_run.not_ended o.place b o.before (o.ends ∙ ap (λ (d : ℕ). Some (end_row d g r)) (sym v))
 
   -- so it is ready now, and its reads are its inputs
-  now : Ready plan (by_ends plan t) g r × Inputs plan (rows plan (by_ends plan t)) g r (reads_at plan t g r)
+  pub now : Ready plan (by_ends plan t) g r × Inputs plan (rows plan (by_ends plan t)) g r (reads_at plan t g r)
   now = open_ready_now plan good t so_far open_run.start w g r open_run.starts not_ended
 
   -- no row is after it
-  up_to : (i : ℕ) (x : Row) → slice_get t i ≡ Some x → UpTo x.tag g
+  pub up_to : (i : ℕ) (x : Row) → slice_get t i ≡ Some x → UpTo x.tag g
   up_to i x e = rows_up_to plan good t so_far g r now.0.pending i x e
 
   -- the new rows are at its tag
@@ -114,7 +101,7 @@ module _ (plan : PlanParts) (good : IsSoundPlan plan) (t : List Row) (so_far : S
       go (inr b) = Before-weaken x.tag (stop plan (t ++ new_rows)) (UpTo-Before x.tag g (stop plan (t ++ new_rows)) (up_to i x e) b)
 
   -- nor is the run
-  its_time : UpTo g (stop plan (t ++ new_rows))
+  pub its_time : UpTo g (stop plan (t ++ new_rows))
   its_time = old_in_time open_run.start (start_row w g r) open_run.starts
 
   -- the run is open at each of its new rows

@@ -20,7 +20,8 @@ use Rattle.lft_model.specs.OneWorker.{HasRun, IsPending, rows}
 use Rattle.lft_model.specs.Recorded.{SoFar}
 use Rattle.lft_model.proofs.Places.{slice_get_within, filter_map_get}
 use Rattle.lft_model.proofs.Members.{Mem, mem_get, get_mem, mem_left, mem_right, mem_cases, mem_filter, mem_from_filter, last_at, none_nil, mem_contains, contains_mem}
-use Rattle.lft_model.proofs.Legality.{IsInner, KeepsRows, IsOrdered, Inside, inside, ran_at}
+use Rattle.lft_model.specs.Recorded.{IsAnswer}
+use Rattle.lft_model.proofs.Legality.{KeepsRows, IsOrdered, Inside, told_all, ran_at}
 use Rattle.lft_model.proofs.Steps.{own_schedule, mem_step, scheduled_some, some_scheduled, both_true}
 use Rattle.lft_model.proofs.Ended.{ended_before, all_ended, ended_some, row_own, scheduled_by, by_scheduled, Schedules, written_down, events_down, row_is}
 use Rattle.lft_model.proofs.Kept.{dec_mem, writer_inside, last_kept}
@@ -48,7 +49,7 @@ module _ (plan : PlanParts) (good : IsSoundPlan plan) (t : List Row) (ordered : 
       at : (k : ℕ) (x : Row) → slice_get t k ≡ Some x → Schedules g a min x.tag x.step v → Mem v (filter_map (scheduled g a min) (rows_of plan.program (ended_before plan t (length t))))
       at k x e s =
           let z : x.step ≡ Schedule (Action a) v s.extra = scheduled_some a x.step (s.extra, v) s.value_is in
-          let n : Inside t k x.tag x.reaction = inside plan t ordered.rows k x e (subst (λ (y : Step). IsInner y) (sym z) tt) (λ q. let f : Schedule (Action a) v s.extra ≡ End = sym z ∙ q in absurd (cc)) in
+          let n : Inside t k x.tag x.reaction = ordered.told k x e (subst (λ (y : Step). IsAnswer y) (sym z) tt) in
           let st : Mem x.step (steps_of t x.tag x.reaction) = mem_step t x.tag x.reaction k x e refl refl in
           let sv : Mem (s.extra, v) (filter_map (value_scheduled a) (steps_of t x.tag x.reaction)) = mem_filter (value_scheduled a) x.step (s.extra, v) (steps_of t x.tag x.reaction) st s.value_is in
           let o = own_schedule plan.program t x.tag x.reaction (reads_at plan t x.tag x.reaction) a s.extra v (declared_schedule plan good t ordered k x a s.extra v e z) sv in
@@ -58,7 +59,7 @@ module _ (plan : PlanParts) (good : IsSoundPlan plan) (t : List Row) (ordered : 
       go q = let f = get_mem q.0 t q.1 in at f.0 q.0 f.1 (scheduled_by g a min q.0 v q.2)
 
   -- so they show of each name what the trace shows
-  at_own : (g : Tag) (n : Name) (v : Value) → At plan t g n v → At plan own g n v
+  pub at_own : (g : Tag) (n : Name) (v : Value) → At plan t g n v → At plan own g n v
   at_own g (Port p) v o = (o.0, record { origin = o.1.origin; delays = o.1.delays; is_origin = o.1.is_origin; arrives = o.1.arrives; is_last = last_all o.0 o.1.origin v o.1.is_last })
   at_own g (Action a) v c = mem_contains v (events_of plan own g a) (go (mem_cases v (filter_map (scheduled g a (min_delay plan.program a)) t) (filter_map (given g a) plan.externals.events) (contains_mem v (events_of plan t g a) c)))
     where
@@ -67,7 +68,7 @@ module _ (plan : PlanParts) (good : IsSoundPlan plan) (t : List Row) (ordered : 
       go (inr m) = mem_right v (filter_map (scheduled g a (min_delay plan.program a)) (rows_of plan.program (ended_before plan t (length t)))) (filter_map (given g a) plan.externals.events) m
 
   -- and no more
-  own_at : (g : Tag) (n : Name) (v : Value) → At plan own g n v → At plan t g n v
+  pub own_at : (g : Tag) (n : Name) (v : Value) → At plan own g n v → At plan t g n v
   own_at g (Port p) v o =
       let d = written_down plan t (length t) g p o.0 v o.1 in
       let e : d.1.origin ≡ o.1.origin = (origin_unique d.1.is_origin o.1.is_origin).0 in
@@ -77,7 +78,7 @@ module _ (plan : PlanParts) (good : IsSoundPlan plan) (t : List Row) (ordered : 
   own_at g (Action a) v c = mem_contains v (events_of plan t g a) (events_down plan t (length t) g a v (contains_mem v (events_of plan own g a) c))
 
   -- they trigger what the trace triggers
-  triggered_own : (g : Tag) (r : ℕ) → Triggered plan t g r → Triggered plan own g r
+  pub triggered_own : (g : Tag) (r : ℕ) → Triggered plan t g r → Triggered plan own g r
   triggered_own g r o = record { reaction = o.reaction; trigger = o.trigger; is_reaction = o.is_reaction; is_trigger = o.is_trigger; occurs = go o.trigger o.occurs }
     where
       go : (x : Trigger) → Occurs plan t g x → Occurs plan (rows_of plan.program (ended_before plan t (length t))) g x
@@ -87,7 +88,7 @@ module _ (plan : PlanParts) (good : IsSoundPlan plan) (t : List Row) (ordered : 
       go (On n) e = (e.0, at_own g n e.0 e.1)
 
   -- and no more
-  own_triggered : (g : Tag) (r : ℕ) → Triggered plan own g r → Triggered plan t g r
+  pub own_triggered : (g : Tag) (r : ℕ) → Triggered plan own g r → Triggered plan t g r
   own_triggered g r o = record { reaction = o.reaction; trigger = o.trigger; is_reaction = o.is_reaction; is_trigger = o.is_trigger; occurs = go o.trigger o.occurs }
     where
       go : (x : Trigger) → Occurs plan (rows_of plan.program (ended_before plan t (length t))) g x → Occurs plan t g x
@@ -109,7 +110,7 @@ module _ (plan : PlanParts) (good : IsSoundPlan plan) (t : List Row) (ordered : 
   own_all g (n ∷ ns) (o ∷ os) z = (own_shows g n o z.0, own_all g ns os z.1)
 
   -- what a reaction reads by the ended runs it reads in the trace
-  own_inputs : (g : Tag) (r : ℕ) (shown : List (Option Value)) → Inputs plan own g r shown → Inputs plan t g r shown
+  pub own_inputs : (g : Tag) (r : ℕ) (shown : List (Option Value)) → Inputs plan own g r shown → Inputs plan t g r shown
   own_inputs g r shown o = record { reaction = o.reaction; is_reaction = o.is_reaction; each = own_all g (inputs o.reaction) shown o.each }
 
   -- the ended runs give an action no fewer events
@@ -120,7 +121,7 @@ module _ (plan : PlanParts) (good : IsSoundPlan plan) (t : List Row) (ordered : 
       is_effect k x v e q =
           let s : Schedules g a (min_delay plan.program a) x.tag x.step v = scheduled_by g a (min_delay plan.program a) x v q in
           let z : x.step ≡ Schedule (Action a) v s.extra = scheduled_some a x.step (s.extra, v) s.value_is in
-          (declared_schedule plan good t ordered k x a s.extra v e z, inside plan t ordered.rows k x e (subst (λ (y : Step). IsInner y) (sym z) tt) (λ q. let f : Schedule (Action a) v s.extra ≡ End = sym z ∙ q in absurd (cc)))
+          (declared_schedule plan good t ordered k x a s.extra v e z, ordered.told k x e (subst (λ (y : Step). IsAnswer y) (sym z) tt))
 
       has_key : (x : Row) (v : Value) → Mem x t → scheduled g a (min_delay plan.program a) x ≡ Some v → Mem (x.tag, x.reaction) (filter_map (λ y. end_key y y.step) t)
       has_key x v m q =
@@ -146,7 +147,7 @@ module _ (plan : PlanParts) (good : IsSoundPlan plan) (t : List Row) (ordered : 
                       absurd (d (subst (λ (c : ℕ). Mem (Action a) (effects_of plan.program c)) (sym r) (is_effect j y v e q).0))
 
   -- so they make each collision of the trace
-  collision_own : (g : Tag) → Collision plan t g → Collision plan (rows plan (by_ends plan t)) g
+  pub collision_own : (g : Tag) → Collision plan t g → Collision plan (rows plan (by_ends plan t)) g
   collision_own g c = go c.0 c.1
     where
       go : (n : Name) → ClashesAt plan t g n → Collision plan (rows plan (by_ends plan t)) g
@@ -190,7 +191,7 @@ module _ (plan : PlanParts) (good : IsSoundPlan plan) (t : List Row) (so_far : S
 
   -- and the runs keep to the order of precedence
   its_order : IsOrdered plan t
-  its_order = record { rows = keeps_all; precedence = recorded_in_order plan good t so_far }
+  its_order = record { well = so_far.rows_well; told = told_all plan t keeps_all; precedence = recorded_in_order plan good t so_far }
 
   -- the ended runs have the stop of the recording
   its_stop : stop plan (rows plan (by_ends plan t)) ≡ stop plan t

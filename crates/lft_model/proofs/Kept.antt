@@ -1,5 +1,5 @@
 -- In a ordered trace: what an input of a run is at its tag, it is by the runs that ended before the run.
-use Rattle.std.proofs.Common.{◌≡◌, ℕ, ◌<◌, ◌⊎◌, inl, inr, List, [], ◌∷◌, take, refl, sym, ap, ◌∙◌, subst, arith, Option, Some, None, slice_get, filter_map, option_map, option_and_then, Contains, unwrap_or}
+use Rattle.std.proofs.Common.{◌≡◌, ℕ, ◌<◌, ◌⊎◌, inl, inr, List, [], ◌∷◌, take, refl, sym, ap, ◌∙◌, subst, arith, lit<, Option, Some, None, slice_get, filter_map, option_map, option_and_then, Contains, unwrap_or}
 use Rattle.std.specs.List.{last_or}
 use native.Mathlib.Decide.{ℕ_discrete, dec_lt}
 use Rattle.lft_tag.specs.declared.Tag.{Tag}
@@ -22,7 +22,8 @@ use Rattle.lft_model.proofs.Places.{stable, dec_map, slice_get_take, slice_get_t
 use Rattle.lft_model.proofs.Members.{Mem, mem_map, mem_from_map, mem_filter, mem_from_filter, last_same, LastAt, last_by_place, last_flat, filter_map-flat_map, filter_map-filter_map, flat_map-filter_map, of_option, nil_of_none, mem_contains, contains_mem}
 use Rattle.lft_model.proofs.Steps.{own_step, own_write, RowOf, step_row, row_step, written_some, some_written}
 use Rattle.lft_model.proofs.Ended.{ended_before, row_is, wrote_step, row_of_write, written_by, by_written}
-use Rattle.lft_model.proofs.Legality.{four, IsOrdered, IsInner, inside, Inside, one_start, one_end, keeps_row}
+use Rattle.lft_model.specs.Recorded.{IsAnswer}
+use Rattle.lft_model.proofs.Legality.{IsOrdered, Inside, one_start, one_end, keeps_four}
 
 pub name_discrete : (m n : Name) → Dec (m ≡ n)
 name_discrete (Port p) (Port q) = dec_map (λ e. ap Port e) (λ e. cc) (ℕ_discrete p q)
@@ -79,7 +80,7 @@ module _ (plan : PlanParts) (t : List Row) (h : Tag) (p : ℕ) where
 module _ (plan : PlanParts) (sound : IsSound plan.program) (t : List Row) (ordered : IsOrdered plan t) where
   -- what a run writes is an effect of its reaction
   pub declared_write : (i : ℕ) (x : Row) (p : ℕ) (v : Value) → slice_get t i ≡ Some x → x.step ≡ Write (Port p) v → Mem (Port p) (effects_of plan.program x.reaction)
-  declared_write i x p v e s = stable (dec_mem (Port p) (effects_of plan.program x.reaction)) (λ n. keeps_row plan t ordered.rows i x 4 e (inr (inr (inr (inl (refl, subst (λ (z : Step). IsUndeclared plan.program t i x z) (sym s) (λ (c : Contains (effects_of plan.program x.reaction) (Port p)). n (contains_mem (Port p) (effects_of plan.program x.reaction) c))))))))
+  declared_write i x p v e s = stable (dec_mem (Port p) (effects_of plan.program x.reaction)) (λ n. keeps_four plan t ordered.well i x 4 (lit< tt) e (inr (inr (inr (inl (refl, subst (λ (z : Step). IsUndeclared plan.program t i x z) (sym s) (λ (c : Contains (effects_of plan.program x.reaction) (Port p)). n (contains_mem (Port p) (effects_of plan.program x.reaction) c))))))))
 
   pub before_direct : (a c p : ℕ) → Mem (Port p) (effects_of plan.program a) → Mem (Port p) (effects_of plan.program c) → a < c → Direct plan.program a c
   before_direct a c p m n l =
@@ -98,7 +99,7 @@ module _ (plan : PlanParts) (sound : IsSound plan.program) (t : List Row) (order
 
   -- a write row stands between the start and the end of its run
   pub inside_write : (i : ℕ) (x : Row) (p : ℕ) (v : Value) → slice_get t i ≡ Some x → x.step ≡ Write (Port p) v → Inside t i x.tag x.reaction
-  inside_write i x p v e s = inside plan t ordered.rows i x e (subst (λ (z : Step). IsInner z) (sym s) tt) (λ q. let z : Write (Port p) v ≡ End = sym s ∙ q in absurd (cc))
+  inside_write i x p v e s = ordered.told i x e (subst (λ (z : Step). IsAnswer z) (sym s) tt)
 
   -- a write of a run, by its last value: a row inside the run
   pub record WriteRow (h : Tag) (c p : ℕ) (v : Value) : Type 0 where
@@ -165,8 +166,8 @@ module _ (plan : PlanParts) (sound : IsSound plan.program) (t : List Row) (order
           where
             by_order : EndsBefore t h l.item.reaction c ⊎ EndsBefore t h c l.item.reaction → j < writer_inside.end
             by_order (inl b) =
-                let e1 : b.ended_at ≡ writer_inside.end = one_end plan t (four plan t ordered.rows) b.ended_at writer_inside.end b.worker writer_inside.worker h l.item.reaction b.ends writer_inside.ends in
-                let e2 : b.started_at ≡ r.within.start = one_start plan t (four plan t ordered.rows) b.started_at r.within.start b.other r.within.worker h c b.starts r.within.starts in
+                let e1 : b.ended_at ≡ writer_inside.end = one_end plan t ordered.well b.ended_at writer_inside.end b.worker writer_inside.worker h l.item.reaction b.ends writer_inside.ends in
+                let e2 : b.started_at ≡ r.within.start = one_start plan t ordered.well b.started_at r.within.start b.other r.within.worker h c b.starts r.within.starts in
                 let o1 : l.place < writer_inside.end = writer_inside.before_end in
                 let o2 : b.ended_at < b.started_at = b.before in
                 let o3 : r.within.start < r.place = r.within.after_start in
@@ -175,8 +176,8 @@ module _ (plan : PlanParts) (sound : IsSound plan.program) (t : List Row) (order
                 let b2 = r.is_written in
                 absurd (cc)
             by_order (inr b) =
-                let e1 : b.ended_at ≡ j = one_end plan t (four plan t ordered.rows) b.ended_at j b.worker x h c b.ends k in
-                let e2 : b.started_at ≡ writer_inside.start = one_start plan t (four plan t ordered.rows) b.started_at writer_inside.start b.other writer_inside.worker h l.item.reaction b.starts writer_inside.starts in
+                let e1 : b.ended_at ≡ j = one_end plan t ordered.well b.ended_at j b.worker x h c b.ends k in
+                let e2 : b.started_at ≡ writer_inside.start = one_start plan t ordered.well b.started_at writer_inside.start b.other writer_inside.worker h l.item.reaction b.starts writer_inside.starts in
                 let o1 : writer_inside.start < l.place = writer_inside.after_start in
                 let o2 : b.ended_at < b.started_at = b.before in
                 let o3 : l.place < writer_inside.end = writer_inside.before_end in
@@ -204,7 +205,7 @@ module _ (plan : PlanParts) (sound : IsSound plan.program) (t : List Row) (order
                 go k (ℕ_discrete c l.item.reaction)
               where
                 go : slice_get t j ≡ Some (end_row x h c) → Dec (c ≡ l.item.reaction) → ⊥
-                go k (yes q) = let z : j ≡ writer_inside.end = one_end plan t (four plan t ordered.rows) j writer_inside.end x writer_inside.worker h l.item.reaction (k ∙ ap (λ (d : ℕ). Some (end_row x h d)) q) writer_inside.ends in omega arith
+                go k (yes q) = let z : j ≡ writer_inside.end = one_end plan t ordered.well j writer_inside.end x writer_inside.worker h l.item.reaction (k ∙ ap (λ (d : ℕ). Some (end_row x h d)) q) writer_inside.ends in omega arith
                 go k (no q) = let z : j < writer_inside.end = others_before c r.1 r.2 r.3 q j x k in omega arith
 
         by_step : (j : ℕ) (y : Row) (s : Step) → y.step ≡ s → writer_inside.end < j → slice_get t j ≡ Some y → of_option shown (ended_by plan t y s) ≡ []

@@ -19,7 +19,7 @@ use Rattle.lft_model.specs.OneWorker.{HasRun, IsPending, Ready, Next, Path, NoCl
 use Rattle.lft_model.proofs.Places.{slice_get_within, stable, slice_get_take, slice_get_taken, From, filter_map_get}
 use Rattle.lft_model.proofs.Members.{Mem, mem_get, get_mem, mem_filter, mem_from_filter}
 use Rattle.lft_model.proofs.Ended.{ended_before, all_ended, ended_some, row_is, written_down, stop_down}
-use Rattle.lft_model.proofs.Legality.{four, ordered, opened, ended, one_end, keeps_at, ran_in_time, no_collision}
+use Rattle.lft_model.proofs.Legality.{KeepsFour, four, ordered, opened, ended, one_end, keeps_at, ran_in_time, no_collision}
 use Rattle.lft_model.proofs.Reached.{triggered_down, triggered_up, all_stop, inputs_up, preceding_ended, earlier_ended}
 use Rattle.lft_model.proofs.Counted.{Key, NamesApart, names_apart, end_key, OneKey, rows_bound}
 use Rattle.lft_model.proofs.Answered.{answers_well}
@@ -58,6 +58,55 @@ run_of_end plan t i g r o =
     let b : Mem (run_at plan t g r) (ended_before plan t i) = mem_filter (λ row. ended_by plan t row row.step) e (run_at plan t g r) (take i t) a refl in
     let k = get_mem (run_at plan t g r) (ended_before plan t i) b in
     record { place = k.0; run = run_at plan t g r; is_run = k.1; same_tag = refl; same_reaction = refl }
+
+module _ (plan : PlanParts) (good : IsSoundPlan plan) (t : List Row) (well : KeepsFour plan t) where
+  -- the ended runs give an action no more events than the trace does
+  events_fewer : (i : ℕ) (g : Tag) (a : ℕ) → length (filter_map (scheduled g a (min_delay plan.program a)) (rows_of plan.program (ended_before plan t i))) ≤ length (filter_map (scheduled g a (min_delay plan.program a)) t)
+  events_fewer i g a = rows_bound plan t g a (min_delay plan.program a) distinct (take i t) one_key
+    where
+      distinct : (c : ℕ) → NamesApart (effects_of plan.program c)
+      distinct c = go (slice_get plan.program.reactions c) refl
+        where
+          go : (o : Option Reaction) → slice_get plan.program.reactions c ≡ o → NamesApart (unwrap_or (option_map (λ x. x.effects) o) [])
+          go None e = tt
+          go (Some x) e = names_apart x.effects (good.sound.distinct c x e).1
+
+      key : (x : Row) (k : Key) → end_key x x.step ≡ Some k → x ≡ end_row x.worker k.0 k.1
+      key x k e = go x.step refl e
+        where
+          go : (s : Step) → x.step ≡ s → end_key x s ≡ Some k → x ≡ end_row x.worker k.0 k.1
+          go Start q e = absurd (cc)
+          go (Read n v) q e = absurd (cc)
+          go (Write n v) q e = absurd (cc)
+          go (Schedule n v d) q e = absurd (cc)
+          go Stop q e = absurd (cc)
+          go End q e = let p : (x.tag, x.reaction) ≡ k = cc in row_is x x.worker k.0 k.1 End refl (ap (λ (y : Key). y.0) p) (ap (λ (y : Key). y.1) p) q
+
+      one_key : OneKey (take i t)
+      one_key j l x y k e f p q =
+          let a = (slice_get_take i t j x e).1 ∙ ap Some (key x k p) in
+          let b = (slice_get_take i t l y f).1 ∙ ap Some (key y k q) in
+          one_end plan t well j l x.worker y.worker k.0 k.1 a b
+
+  -- so they make no collision that the trace doesn't
+  pub collision_down : (i : ℕ) (g : Tag) → Collision plan (rows plan (ended_before plan t i)) g → Collision plan t g
+  collision_down i g c = go c.0 c.1
+    where
+      go : (n : Name) → ClashesAt plan (rows plan (ended_before plan t i)) g n → Collision plan t g
+      go (Port p) k =
+          let a = written_down plan t i g p k.first k.first_value k.is_first in
+          let b = written_down plan t i g p k.second k.second_value k.is_second in
+          (Port p, record { first = k.first; second = k.second; first_value = a.0; second_value = b.0; is_first = a.1; is_second = b.1; differ = k.differ })
+      go (Action a) k =
+          let own = filter_map (scheduled g a (min_delay plan.program a)) (rows_of plan.program (ended_before plan t i)) in
+          let all = filter_map (scheduled g a (min_delay plan.program a)) t in
+          let out = filter_map (given g a) plan.externals.events in
+          let x : length (own ++ out) ≡ length own + length out = length-append own out in
+          let y : length (all ++ out) ≡ length all + length out = length-append all out in
+          let z : length own ≤ length all = events_fewer i g a in
+          let w : 2 ≤ length (own ++ out) = k in
+          let f : 2 ≤ length (all ++ out) = omega arith in
+          (Action a, f)
 
 module _ (plan : PlanParts) (good : IsSoundPlan plan) (t : List Row) (legal : Legal plan t) where
   -- rules 7, 8 and 10, said positively
@@ -99,53 +148,6 @@ module _ (plan : PlanParts) (good : IsSoundPlan plan) (t : List Row) (legal : Le
             let e = end_of g a o in
             p.no_run (run_of_end plan t i g a (record { place = e.0; worker = o.worker; before = preceding_ended plan good t (ordered plan t legal) g r run i w is_end a e.0 o.worker q o e.2; ends = e.2 }))
 
-  -- the ended runs give an action no more events than the trace does
-  events_fewer : (i : ℕ) (g : Tag) (a : ℕ) → length (filter_map (scheduled g a (min_delay plan.program a)) (rows_of plan.program (ended_before plan t i))) ≤ length (filter_map (scheduled g a (min_delay plan.program a)) t)
-  events_fewer i g a = rows_bound plan t g a (min_delay plan.program a) distinct (take i t) one_key
-    where
-      distinct : (c : ℕ) → NamesApart (effects_of plan.program c)
-      distinct c = go (slice_get plan.program.reactions c) refl
-        where
-          go : (o : Option Reaction) → slice_get plan.program.reactions c ≡ o → NamesApart (unwrap_or (option_map (λ x. x.effects) o) [])
-          go None e = tt
-          go (Some x) e = names_apart x.effects (good.sound.distinct c x e).1
-
-      key : (x : Row) (k : Key) → end_key x x.step ≡ Some k → x ≡ end_row x.worker k.0 k.1
-      key x k e = go x.step refl e
-        where
-          go : (s : Step) → x.step ≡ s → end_key x s ≡ Some k → x ≡ end_row x.worker k.0 k.1
-          go Start q e = absurd (cc)
-          go (Read n v) q e = absurd (cc)
-          go (Write n v) q e = absurd (cc)
-          go (Schedule n v d) q e = absurd (cc)
-          go Stop q e = absurd (cc)
-          go End q e = let p : (x.tag, x.reaction) ≡ k = cc in row_is x x.worker k.0 k.1 End refl (ap (λ (y : Key). y.0) p) (ap (λ (y : Key). y.1) p) q
-
-      one_key : OneKey (take i t)
-      one_key j l x y k e f p q =
-          let a = (slice_get_take i t j x e).1 ∙ ap Some (key x k p) in
-          let b = (slice_get_take i t l y f).1 ∙ ap Some (key y k q) in
-          one_end plan t (four plan t legal.rows) j l x.worker y.worker k.0 k.1 a b
-
-  collision_down : (i : ℕ) (g : Tag) → Collision plan (rows plan (ended_before plan t i)) g → Collision plan t g
-  collision_down i g c = go c.0 c.1
-    where
-      go : (n : Name) → ClashesAt plan (rows plan (ended_before plan t i)) g n → Collision plan t g
-      go (Port p) k =
-          let a = written_down plan t i g p k.first k.first_value k.is_first in
-          let b = written_down plan t i g p k.second k.second_value k.is_second in
-          (Port p, record { first = k.first; second = k.second; first_value = a.0; second_value = b.0; is_first = a.1; is_second = b.1; differ = k.differ })
-      go (Action a) k =
-          let own = filter_map (scheduled g a (min_delay plan.program a)) (rows_of plan.program (ended_before plan t i)) in
-          let all = filter_map (scheduled g a (min_delay plan.program a)) t in
-          let out = filter_map (given g a) plan.externals.events in
-          let x : length (own ++ out) ≡ length own + length out = length-append own out in
-          let y : length (all ++ out) ≡ length all + length out = length-append all out in
-          let z : length own ≤ length all = events_fewer i g a in
-          let w : 2 ≤ length (own ++ out) = k in
-          let f : 2 ≤ length (all ++ out) = omega arith in
-          (Action a, f)
-
   ran_of_end : (i w : ℕ) (g : Tag) (r : ℕ) → slice_get t i ≡ Some (end_row w g r) → Ran t g r
   ran_of_end i w g r e = let o = opened plan t (four plan t legal.rows) i (end_row w g r) e tt in record { place = o.start; worker = w; starts = o.starts }
 
@@ -157,7 +159,7 @@ module _ (plan : PlanParts) (good : IsSoundPlan plan) (t : List Row) (legal : Le
         ready = is_ready i w g r e o;
         reads = inputs_up plan good t (ordered plan t legal) g r o i w e (reads_at plan t g r) (reads_inputs g r o);
         answers = answers_well plan t (four plan t legal.rows) g r;
-        no_clash = λ c. no_collision plan t legal g (ran_in_time plan t (four plan t legal.rows) g r o) (collision_down (suc i) g (subst (λ (l : List Run). Collision plan (rows plan l) g) (sym more) c));
+        no_clash = λ c. no_collision plan t legal g (ran_in_time plan t (four plan t legal.rows) g r o) (collision_down plan good t (four plan t legal.rows) (suc i) g (subst (λ (l : List Run). Collision plan (rows plan l) g) (sym more) c));
       }
 
   path : Path plan (by_ends plan t)
@@ -172,7 +174,7 @@ module _ (plan : PlanParts) (good : IsSoundPlan plan) (t : List Row) (legal : Le
           subst (λ (l : List Run). Next plan l u) (sym f.before) m
 
   no_clash : NoClash plan (by_ends plan t)
-  no_clash = subst (λ (l : List Run). NoClash plan l) (sym (all_ended plan t)) (λ g u c. no_collision plan t legal g (subst (λ (k : Tag). UpTo g k) (all_stop plan good t (ordered plan t legal)) u) (collision_down (length t) g c))
+  no_clash = subst (λ (l : List Run). NoClash plan l) (sym (all_ended plan t)) (λ g u c. no_collision plan t legal g (subst (λ (k : Tag). UpTo g k) (all_stop plan good t (ordered plan t legal)) u) (collision_down plan good t (four plan t legal.rows) (length t) g c))
 
   finished : (g : Tag) (r : ℕ) → ¬ IsPending plan (by_ends plan t) g r
   finished g r p = refute (subst (λ (l : List Run). IsPending plan l g r) (all_ended plan t) p)

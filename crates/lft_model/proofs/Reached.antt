@@ -1,5 +1,5 @@
 -- In a ordered trace each run reads and is triggered by what had ended before it.
-use Rattle.std.proofs.Common.{◌≡◌, ℕ, ◌+◌, ◌<◌, ◌⊎◌, inl, inr, List, [], ◌∷◌, length, refl, sym, ap, ◌∙◌, subst, arith, Option, Some, None, slice_get, filter_map, Contains}
+use Rattle.std.proofs.Common.{◌≡◌, ℕ, ◌+◌, ◌<◌, ◌⊎◌, inl, inr, List, [], ◌∷◌, length, refl, sym, ap, ◌∙◌, subst, arith, lit<, Option, Some, None, slice_get, filter_map, Contains}
 use Rattle.std.specs.List.{AllZip}
 use native.Mathlib.Decide.{ℕ_discrete, dec_lt}
 use Rattle.lft_tag.specs.declared.Tag.{Tag}
@@ -27,7 +27,8 @@ use Rattle.lft_model.proofs.Members.{Mem, get_mem, mem_left, mem_right, mem_case
 use Rattle.lft_model.proofs.Stops.{asker, stop_external, stop_asked, stop_cases}
 use Rattle.lft_model.proofs.Steps.{own_schedule, own_stop, mem_step, scheduled_some, some_scheduled}
 use Rattle.lft_model.proofs.Ended.{ended_before, row_own, scheduled_by, by_scheduled, Schedules, present_down, stop_down}
-use Rattle.lft_model.proofs.Legality.{four, IsOrdered, IsInner, rising, ended, inside, Inside, one_start, one_end, keeps_row}
+use Rattle.lft_model.specs.Recorded.{IsAnswer}
+use Rattle.lft_model.proofs.Legality.{IsOrdered, rising, opened, Inside, one_start, one_end, keeps_four}
 use Rattle.lft_model.proofs.Kept.{dec_mem, effect_of, writer_effect, writer_inside, last_kept}
 
 -- a trigger that is a port or an action is an input
@@ -47,12 +48,12 @@ triggered_down plan t i g r u o = record { reaction = o.reaction; trigger = o.tr
 module _ (plan : PlanParts) (good : IsSoundPlan plan) (t : List Row) (ordered : IsOrdered plan t) where
   -- what a run schedules is an effect of its reaction
   pub declared_schedule : (i : ℕ) (x : Row) (a d : ℕ) (v : Value) → slice_get t i ≡ Some x → x.step ≡ Schedule (Action a) v d → Mem (Action a) (effects_of plan.program x.reaction)
-  declared_schedule i x a d v e s = stable (dec_mem (Action a) (effects_of plan.program x.reaction)) (λ n. keeps_row plan t ordered.rows i x 4 e (inr (inr (inr (inl (refl, subst (λ (z : Step). IsUndeclared plan.program t i x z) (sym s) (λ (c : MaySchedule plan.program x.reaction (Action a)). n (contains_mem (Action a) (effects_of plan.program x.reaction) c.0))))))))
+  declared_schedule i x a d v e s = stable (dec_mem (Action a) (effects_of plan.program x.reaction)) (λ n. keeps_four plan t ordered.well i x 4 (lit< tt) e (inr (inr (inr (inl (refl, subst (λ (z : Step). IsUndeclared plan.program t i x z) (sym s) (λ (c : MaySchedule plan.program x.reaction (Action a)). n (contains_mem (Action a) (effects_of plan.program x.reaction) c.0))))))))
 
   -- a stop that is asked for by a run that ended is asked for by the ended runs
   asked_at : (k : ℕ) (x : Row) (i : ℕ) → slice_get t k ≡ Some x → x.step ≡ Stop → ((n : Inside t k x.tag x.reaction) → n.end < i) → Mem (after x.tag 0) (requests (rows_of plan.program (ended_before plan t i)))
   asked_at k x i e s soon =
-      let n : Inside t k x.tag x.reaction = inside plan t ordered.rows k x e (subst (λ (y : Step). IsInner y) (sym s) tt) (λ q. let f : Stop ≡ End = sym s ∙ q in absurd (cc)) in
+      let n : Inside t k x.tag x.reaction = ordered.told k x e (subst (λ (y : Step). IsAnswer y) (sym s) tt) in
       let m : Mem Stop (steps_of t x.tag x.reaction) = subst (λ (y : Step). Mem y (steps_of t x.tag x.reaction)) s (mem_step t x.tag x.reaction k x e refl refl) in
       row_own plan t (λ (row : Row). asked row.tag row.step) i (after x.tag 0) (record { place = n.end; worker = n.worker; tag = x.tag; reaction = x.reaction; step = Stop; is_before = soon n; is_end = n.ends; is_step = own_stop plan.program t x.tag x.reaction (reads_at plan t x.tag x.reaction) m; gives = refl })
 
@@ -88,13 +89,10 @@ module _ (plan : PlanParts) (good : IsSoundPlan plan) (t : List Row) (ordered : 
             let z : Some (end_row x h c) ≡ Some (end_row w g r) = sym e ∙ ap (λ k. slice_get t k) q ∙ is_end in
             let y : end_row x h c ≡ end_row w g r = cc in
             absurd (Before-irrefl g (subst (λ (k : Tag). Before k g) (ap (λ (u : Row). u.tag) y) b))
-        go (no n) (no m) = absurd (UpTo-not g h (rising plan t (four plan t ordered.rows) i j (end_row w g r) (end_row x h c) (omega arith) is_end e) b)
-
-    run_ended : (q : (k : ℕ) × (run.place < k) × (slice_get t k ≡ Some (end_row run.worker g r))) → run.place < i
-    run_ended q = let e : q.0 ≡ i = one_end plan t (four plan t ordered.rows) q.0 i run.worker w g r q.2 is_end in let l : run.place < q.0 = q.1 in omega arith
+        go (no n) (no m) = absurd (UpTo-not g h (rising plan t ordered.well i j (end_row w g r) (end_row x h c) (omega arith) is_end e) b)
 
     pub started_before : run.place < i
-    started_before = run_ended (ended plan t ordered.rows run.place run.worker g r run.starts)
+    started_before = let o = opened plan t ordered.well i (end_row w g r) is_end tt in let e : o.start ≡ run.place = one_start plan t ordered.well o.start run.place w run.worker g r o.starts run.starts in let l : o.start < i = o.before in omega arith
 
     -- and so does the end of a reaction that precedes it at its tag
     pub preceding_ended : (c j x : ℕ) → Precedes plan.program c r → Ran t g c → slice_get t j ≡ Some (end_row x g c) → j < i
@@ -102,8 +100,8 @@ module _ (plan : PlanParts) (good : IsSoundPlan plan) (t : List Row) (ordered : 
       where
         go : EndsBefore t g c r → j < i
         go b =
-            let e1 : b.ended_at ≡ j = one_end plan t (four plan t ordered.rows) b.ended_at j b.worker x g c b.ends e in
-            let e2 : b.started_at ≡ run.place = one_start plan t (four plan t ordered.rows) b.started_at run.place b.other run.worker g r b.starts run.starts in
+            let e1 : b.ended_at ≡ j = one_end plan t ordered.well b.ended_at j b.worker x g c b.ends e in
+            let e2 : b.started_at ≡ run.place = one_start plan t ordered.well b.started_at run.place b.other run.worker g r b.starts run.starts in
             let l : b.ended_at < b.started_at = b.before in
             let k : run.place < i = started_before in
             omega arith
@@ -139,7 +137,7 @@ module _ (plan : PlanParts) (good : IsSoundPlan plan) (t : List Row) (ordered : 
           at : (k : ℕ) (x : Row) → slice_get t k ≡ Some x → Schedules g a min x.tag x.step v → Mem v (filter_map (scheduled g a min) (rows_of plan.program (ended_before plan t i)))
           at k x e s =
               let z : x.step ≡ Schedule (Action a) v s.extra = scheduled_some a x.step (s.extra, v) s.value_is in
-              let n : Inside t k x.tag x.reaction = inside plan t ordered.rows k x e (subst (λ (y : Step). IsInner y) (sym z) tt) (λ q. let f : Schedule (Action a) v s.extra ≡ End = sym z ∙ q in absurd (cc)) in
+              let n : Inside t k x.tag x.reaction = ordered.told k x e (subst (λ (y : Step). IsAnswer y) (sym z) tt) in
               let b : Before x.tag g = subst (λ (y : Tag). Before x.tag y) s.arrives (after_past x.tag (min + s.extra)) in
               let st : Mem x.step (steps_of t x.tag x.reaction) = mem_step t x.tag x.reaction k x e refl refl in
               let sv : Mem (s.extra, v) (filter_map (value_scheduled a) (steps_of t x.tag x.reaction)) = mem_filter (value_scheduled a) x.step (s.extra, v) (steps_of t x.tag x.reaction) st s.value_is in

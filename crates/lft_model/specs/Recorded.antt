@@ -1,5 +1,5 @@
 -- A recording so far, and the histories of runs.
-use Rattle.std.specs.Prelude.{◌≡◌, ℕ, ◌<◌, ◌⊎◌, ◌==◌, cond, List, length, Option, Some, None, ℤ, pos, slice_get, take, filter_map, zip, unwrap_or, option_map}
+use Rattle.std.specs.Prelude.{◌≡◌, ℕ, ◌<◌, ◌⊎◌, ◌==◌, cond, List, [], ◌∷◌, ◌++◌, length, Option, Some, None, ℤ, pos, slice_get, take, filter_map, map, zip, unwrap_or, option_map}
 use Rattle.std.specs.List.{last_or}
 use Rattle.lft_flat.specs.Parts.{Parts}
 use Rattle.lft_tag.specs.declared.Tag.{Tag}
@@ -12,8 +12,8 @@ use Rattle.lft_trace.specs.declared.row.Step.TheVariants.{Start, Read, Write, Sc
 use Rattle.lft_model.specs.declared.breach.Breach.{Breach}
 use Rattle.lft_model.specs.Plans.{PlanParts}
 use Rattle.lft_model.specs.Presence.{Inputs}
-use Rattle.lft_model.specs.Runs.{Run, start_row, Ran, by_ends, steps_of, reads_at, answer_at}
-use Rattle.lft_model.specs.Breaches.{RowBreach, Legal}
+use Rattle.lft_model.specs.Runs.{Run, start_row, end_row, Ran, by_ends, inputs_of, read_step, steps_of, reads_at, answer_at}
+use Rattle.lft_model.specs.Breaches.{MayWrite, MaySchedule, RowBreach, Legal}
 use Rattle.lft_model.specs.OneWorker.{Path, NoClash, Ready, rows}
 
 -- a run of a reaction's instance before (g, r), by tag and then by reaction number
@@ -52,6 +52,44 @@ pub record SoFar (plan : PlanParts) (t : List Row) : Type 0 where
   pub path : Path plan (by_ends plan t)
   pub no_clash : NoClash plan (by_ends plan t)
   pub started : (i w : ℕ) (g : Tag) (r : ℕ) → slice_get t i ≡ Some (start_row w g r) → Ready plan (by_ends plan (take i t)) g r × Inputs plan (rows plan (by_ends plan (take i t))) g r (reads_at plan t g r)
+
+-- a write, a scheduling or a stop request
+abbrev pub IsAnswer : Step → Type 0
+IsAnswer Start = ⊥
+IsAnswer (Read n v) = ⊥
+IsAnswer (Write n v) = Unit {0}
+IsAnswer (Schedule n v d) = Unit {0}
+IsAnswer Stop = Unit {0}
+IsAnswer End = ⊥
+
+-- each answered row stands before the end row of its run: an open run has only its start and its reads
+abbrev pub OnlyEndedAnswer : List Row → Type 0
+OnlyEndedAnswer t = (i : ℕ) (x : Row) → slice_get t i ≡ Some x → IsAnswer x.step → (k : ℕ) × (i < k) × (slice_get t k ≡ Some (end_row x.worker x.tag x.reaction))
+
+-- a step that a reaction may make between its reads and its end
+abbrev pub MayAnswer : PlanParts → ℕ → Step → Type 0
+MayAnswer plan r (Write n v) = MayWrite plan.program r n
+MayAnswer plan r (Schedule n v d) = MaySchedule plan.program r n
+MayAnswer plan r Stop = Unit {0}
+MayAnswer plan r Start = ⊥
+MayAnswer plan r (Read n v) = ⊥
+MayAnswer plan r End = ⊥
+
+-- the row of a step of the run of r at g, by worker w
+abbrev pub run_row : ℕ → Tag → ℕ → Step → Row
+run_row w g r s = record { worker = w; tag = g; reaction = r; step = s }
+
+-- the steps of a run that is begun: its start, then a read of each input that is shown present
+abbrev pub begun_steps : PlanParts → ℕ → List (Option Value) → List Step
+begun_steps plan r shown = Start ∷ filter_map read_step (zip (inputs_of plan.program r) shown)
+
+-- and its rows
+abbrev pub begun_rows : PlanParts → ℕ → Tag → ℕ → List (Option Value) → List Row
+begun_rows plan w g r shown = map (run_row w g r) (begun_steps plan r shown)
+
+-- the rows of a run that is committed: its steps, then its end
+abbrev pub committed_rows : ℕ → Tag → ℕ → List Step → List Row
+committed_rows w g r steps = map (run_row w g r) (steps ++ End ∷ [])
 
 -- the instance of a reaction
 abbrev pub instance_of : Parts → ℕ → ℕ

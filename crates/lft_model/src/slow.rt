@@ -4,6 +4,7 @@ ghost use Rattle.std.specs.Prelude.{◌≡◌, ◌<◌, ◌↔◌, List, Option,
 ghost use Rattle.lft_flat.specs.Sound.{IsNameOf, IsTriggerOf};
 ghost use Rattle.lft_flat.specs.declared.parts.Value.{Value as Carried};
 ghost use Rattle.lft_trace.specs.Fits.{RowsFit};
+ghost use Rattle.lft_model.specs.Fitting.{EachFits};
 ghost use Rattle.lft_model.specs.Presence.{At, IsPresent, OccursUntil, Triggered, Collision, Inputs};
 
 mod actions;
@@ -78,7 +79,7 @@ pub fn triggered_slow(plan: &Plan, rows: &Rows, tag: Tag, reaction: u32) -> bool
 /// Whether two causes give one port or action an event at the tag: two tags at which the origin of
 /// the port was written, or two schedule rows or external events of the action. It takes no memory.
 pub fn clash_slow(plan: &Plan, rows: &Rows, tag: Tag) -> bool
-    requires { RowsFit plan.now.program rows.now }
+    requires { EachFits plan.now.program rows.now }
     ensures { IsTrue result ↔ Collision plan.now rows.now tag }
 {
     let rows = rows.as_slice();

@@ -1,10 +1,10 @@
 //! The rows of a trace.
 
-ghost use Rattle.std.specs.Prelude.{◌≡◌, ◌↔◌, IsTrue, length};
+ghost use Rattle.std.specs.Prelude.{◌≡◌, ◌↔◌, ◌++◌, IsTrue, OnOk, OnErr, length, take};
 
 use crate::fits::{MAX_ROWS, row_fits};
 use lft_flat::{Name, Program, Value};
-use lft_tag::Tag;
+use lft_tag::{NoMemory, Tag};
 use std::marker::Model;
 
 /// What a row tells of a run. A schedule has the extra delay in nanoseconds.
@@ -61,6 +61,24 @@ impl Rows {
         ensures { result.now ≡ self.now }
     {
         self.items.as_slice()
+    }
+
+    /// Adds rows behind the others. Where memory is refused the rows stay as they were.
+    pub fn append(&mut self, more: &[Row]) -> Result<(), NoMemory>
+        ensures ok { OnOk result (self.new ≡ self.old ++ more.now) }
+        ensures err { OnErr result (self.new ≡ self.old) }
+    {
+        match self.items.extend_from_slice(more) {
+            Ok(()) => return Ok(()),
+            Err(_) => return Err(NoMemory),
+        }
+    }
+
+    /// Keeps the first so many rows. It takes no memory.
+    pub fn truncate(&mut self, len: usize)
+        ensures { self.new ≡ take len self.old }
+    {
+        self.items.truncate(len);
     }
 
     /// Whether all numbers are of the program, all tags recorded and all delays at most 10^18, in

@@ -3,6 +3,7 @@
 ghost use Rattle.std.specs.Prelude.{◌≡◌, ◌<◌, ◌≤◌, ◌↔◌, length, filter_map, slice_get, Some, IsTrue, IfSome, IfNone};
 ghost use Rattle.lft_flat.specs.declared.parts.Name.TheVariants.{Action as TheAction};
 ghost use Rattle.lft_trace.specs.Fits.{RowFits, RowsFit};
+ghost use Rattle.lft_model.specs.Fitting.{EachFits};
 ghost use Rattle.lft_model.specs.Presence.{At, IsPresent, events_of, given as the_given, min_delay, scheduled as the_scheduled};
 
 use crate::plan::Plan;
@@ -74,7 +75,7 @@ pub(crate) fn action_value(plan: &Plan, rows: &[Row], tag: Tag, action: u32) -> 
 
 // How many rows schedule the action for the tag.
 fn count_scheduled(plan: &Plan, rows: &[Row], tag: Tag, action: u32) -> usize
-    requires fit { RowsFit plan.now.program rows.now }
+    requires fit { EachFits plan.now.program rows.now }
     requires action { action < length plan.now.program.actions }
     ensures { result ≡ length (filter_map (the_scheduled tag action (min_delay plan.now.program action)) rows.now) }
 {
@@ -102,10 +103,13 @@ fn count_given(events: &[Event], tag: Tag, action: u32) -> usize
 
 /// Whether two schedule rows or external events give the action an event at the tag.
 pub(crate) fn action_clashes(plan: &Plan, rows: &[Row], tag: Tag, action: u32) -> bool
-    requires fit { RowsFit plan.now.program rows.now }
+    requires fit { EachFits plan.now.program rows.now }
     requires action { action < length plan.now.program.actions }
     ensures { IsTrue result ↔ (2 ≤ length (events_of plan.now rows.now tag action)) }
 {
     let scheduled = count_scheduled(plan, rows, tag, action);
+    if scheduled >= 2 {
+        return true;
+    }
     scheduled + count_given(plan.externals().events(), tag, action) >= 2
 }

@@ -5,6 +5,7 @@ ghost use Rattle.lft_flat.specs.declared.parts.Name.TheVariants.{Port as ThePort
 ghost use Rattle.lft_tag.specs.Tags.{IsRecorded, same_tag};
 ghost use Rattle.lft_tag.specs.Shifts.{shifted};
 ghost use Rattle.lft_trace.specs.Fits.{RowsFit};
+ghost use Rattle.lft_model.specs.Fitting.{EachFits};
 ghost use Rattle.lft_model.specs.Presence.{At, IsPresent, PortClash, value_written as the_value_written};
 
 use crate::plan::Plan;
@@ -57,7 +58,7 @@ pub(crate) fn port_value(plan: &Plan, rows: &[Row], tag: Tag, port: u32) -> Opti
 
 /// Whether the origin of the port was written at two tags from which its delays lead to this one.
 pub(crate) fn port_clashes(plan: &Plan, rows: &[Row], tag: Tag, port: u32) -> bool
-    requires fit { RowsFit plan.now.program rows.now }
+    requires fit { EachFits plan.now.program rows.now }
     requires port { port < length plan.now.program.ports }
     ensures { IsTrue result ↔ PortClash plan.now rows.now tag port }
 {

@@ -1,0 +1,89 @@
+//! The bodies that are left, a list for each reaction.
+
+ghost use Rattle.std.specs.Prelude.{◌≡◌, ◌<◌, ◌≤◌, ◌+◌, ◌-◌, length, IfOk, IfErr, OnOk, slice_index, slice_set, All};
+
+use crate::body::{Body, BoxedCode, Code};
+use crate::law::Law;
+use lft_flat::Program;
+use lft_tag::NoMemory;
+use std::alloc::Global;
+use std::collections::VecDeque;
+use std::marker::Model;
+
+/// Why a body is handed back.
+#[derive(Clone, Copy, PartialEq, Eq, Debug)]
+pub enum PutFault {
+    /// There is no list for its reaction.
+    NoReaction,
+    /// A growth of memory was refused.
+    NoMemory,
+}
+
+/// The bodies that are left, in lists by reaction. Contracts see the lengths.
+#[derive(Drop)]
+pub struct Bodies<L: Law, C: Code + Drop = BoxedCode> {
+    lists: Vec<VecDeque<Body<L, C>>>,
+}
+
+impl<L: Law, C: Code + Drop> Model for Bodies<L, C> {
+    ghost use Rattle.std.specs.Prelude.{◌≡◌, ◌<◌, ℕ, List, map, length, slice_index_or, All};
+
+    ghost Value = { List ℕ };
+
+    ghost view = { λ b. map (λ q. length q.items) b.lists.items };
+
+    ghost invariant = { λ b. (r : ℕ) (d : _) → r < length b.lists.items → All (λ x. x ≡ r) (slice_index_or b.lists.items r d).items };
+}
+
+impl<L: Law, C: Code + Drop> Bodies<L, C> {
+    /// An empty list for each reaction of the program.
+    pub fn new(alloc: Global, program: &Program) -> Result<Bodies<L, C>, NoMemory>
+        ensures len { IfOk result (λ b. length b ≡ length program.now.reactions) }
+        ensures empty { IfOk result (λ b. All (λ n. n ≡ 0) b) }
+    {
+        let mut lists = Vec::new(alloc);
+        for _ in 0..program.reactions() {
+            lists.reserve(1)?;
+            lists.push_reserved(VecDeque::new(alloc));
+        }
+        Ok(Bodies { lists })
+    }
+
+    /// Puts a body behind the others of its reaction; where it can't it hands the body back, and
+    /// all lists stay as they were.
+    pub fn put(&mut self, body: Body<L, C>) -> Result<(), (Body<L, C>, PutFault)>
+        ensures ok { OnOk result (self.new ≡ slice_set self.old body (slice_index self.old body + 1)) }
+        ensures err { IfErr result (λ e. (self.new ≡ self.old) × (e.0 ≡ body)) }
+        ensures no_reaction { IfErr result (λ e. e.1 ≡ PutFault.NoReaction → length self.old ≤ body) }
+    {
+        let place = body.reaction() as usize;
+        if place >= self.lists.len() {
+            return Err((body, PutFault::NoReaction));
+        }
+        match self.lists[place].push_back(body) {
+            Ok(()) => return Ok(()),
+            Err(refused) => return Err((refused.value, PutFault::NoMemory)),
+        }
+    }
+
+    /// How many bodies of the reaction are left, 0 where it has no list. It takes no memory.
+    pub fn left(&self, reaction: u32) -> u64
+        ensures there { reaction < length self.now → result ≡ slice_index self.now reaction }
+        ensures none { length self.now ≤ reaction → result ≡ 0 }
+    {
+        match self.lists.get(reaction as usize) {
+            Some(list) => list.len() as u64,
+            None => 0,
+        }
+    }
+
+    /// Takes the body of the reaction that was put first.
+    pub fn take(&mut self, reaction: u32) -> Body<L, C>
+        requires there { reaction < length self.old }
+        requires some { 0 < slice_index self.old reaction }
+        ensures body { result ≡ reaction }
+        ensures fewer { self.new ≡ slice_set self.old reaction (slice_index self.old reaction - 1) }
+    {
+        self.lists[reaction as usize].pop_front().unwrap()
+    }
+}

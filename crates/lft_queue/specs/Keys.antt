@@ -1,0 +1,26 @@
+-- Events as entries of an ordered map.
+use Rattle.std.specs.Prelude.{ℕ, Bool, true, false}
+use Rattle.lft_tag.specs.declared.Tag.{Tag}
+use Rattle.lft_flat.specs.declared.parts.Value.{Value}
+use Rattle.lft_flat.specs.declared.parts.Name.{Name}
+use Rattle.lft_flat.specs.declared.parts.Name.TheVariants.{Port, Action}
+use Rattle.lft_queue.specs.Pending.{Pending}
+
+-- time, microstep, whether it is an action, number
+abbrev pub Key : Type 0
+Key = ℕ × ℕ × Bool × ℕ
+
+abbrev pub key_of : Tag → Name → Key
+key_of g (Port p) = (g.time, g.micro, false, p)
+key_of g (Action a) = (g.time, g.micro, true, a)
+
+abbrev pub tag_of : Key → Tag
+tag_of k = record { time = k.0; micro = k.1 }
+
+abbrev pub name_of : Bool → ℕ → Name
+name_of true a = Action a
+name_of false p = Port p
+
+-- the event of an entry
+abbrev pub pending_at : Key × Value → Pending
+pending_at entry = record { tag = tag_of entry.0; name = name_of entry.0.2 entry.0.3; value = entry.1 }

@@ -1,0 +1,124 @@
+//! The queue of pending events.
+
+ghost use Rattle.std.specs.Prelude.{◌≡◌, ◌+◌, ◌∷◌, [], List, length, filter, not, true, Some, None, IsSome, IfSome, IfNone, IfErr, OnOk, Contains};
+ghost use Rattle.lft_tag.specs.Tags.{UpTo};
+ghost use Rattle.lft_queue.specs.Pending.{Pending, value_of, Becomes, IsMap, is_at, is_after};
+
+use crate::keys::{Key, key, tag_of_key};
+use lft_flat::{Name, Value};
+use lft_tag::Tag;
+use std::alloc::Global;
+use std::collections::BTreeMap;
+use std::marker::Model;
+
+/// Why an event isn't put into a queue.
+#[derive(Clone, Copy, PartialEq, Eq, Debug)]
+pub enum QueueFault {
+    /// The port or action has an event at the tag already.
+    Collision,
+    /// A growth of memory was refused.
+    NoMemory,
+}
+
+/// Events that are to happen: a map from a tag and a port or action to the value of its event.
+#[derive(Drop)]
+pub struct Queue {
+    values: BTreeMap<Key, Value>,
+}
+
+impl Model for Queue {
+    ghost use Rattle.std.specs.Prelude.{List, map};
+    ghost use Rattle.lft_queue.specs.Pending.{Pending};
+    ghost use Rattle.lft_queue.specs.Keys.{pending_at};
+
+    ghost Value = { List Pending };
+
+    ghost view = { λ a. map pending_at a.values.entries };
+}
+
+impl Queue {
+    /// No events. It takes no memory.
+    pub fn new(alloc: Global) -> Queue
+        ensures { result ≡ [] }
+    {
+        Queue {
+            values: BTreeMap::new(alloc),
+        }
+    }
+
+    /// Puts an event in. Where the port or action has an event at the tag, or memory is refused,
+    /// the queue stays as it was.
+    pub fn put(&mut self, tag: Tag, name: Name, value: Value) -> Result<(), QueueFault>
+        ensures absent { OnOk result (value_of tag name self.old ≡ None) }
+        ensures ok { OnOk result (Becomes self.old self.new tag name (Some value)) }
+        ensures err { IfErr result (λ e. self.new ≡ self.old) }
+        ensures collision { IfErr result (λ e. e ≡ QueueFault.Collision → IsSome (value_of tag name self.old)) }
+    {
+        let key = key(tag, name);
+        if self.values.contains_key(&key) {
+            return Err(QueueFault::Collision);
+        }
+        match self.values.insert(key, value) {
+            Ok(_) => return Ok(()),
+            Err(_) => return Err(QueueFault::NoMemory),
+        }
+    }
+
+    /// Gives an event that is there another value. It takes no memory.
+    pub fn replace(&mut self, tag: Tag, name: Name, value: Value)
+        requires { IsSome (value_of tag name self.old) }
+        ensures { Becomes self.old self.new tag name (Some value) }
+    {
+        let _there = self.values.insert(key(tag, name), value);
+    }
+
+    /// Takes an event out, and gives its value if it was there. It takes no memory.
+    pub fn remove(&mut self, tag: Tag, name: Name) -> Option<Value>
+        ensures value { result ≡ value_of tag name self.old }
+        ensures removed { Becomes self.old self.new tag name None }
+    {
+        self.values.remove(&key(tag, name))
+    }
+
+    /// The value of an event, if it is there. It takes no memory.
+    pub fn get(&self, tag: Tag, name: Name) -> Option<Value>
+        ensures { result ≡ value_of tag name self.now }
+    {
+        self.values.get(&key(tag, name)).copied()
+    }
+
+    /// The least tag of an event. It takes no memory.
+    pub fn first_tag(&self) -> Option<Tag>
+        ensures some { IfSome result (λ g. (e : Pending) × Contains self.now e × (e.tag ≡ g)) }
+        ensures least { IfSome result (λ g. (e : Pending) → Contains self.now e → UpTo g e.tag) }
+        ensures none { IfNone result (self.now ≡ []) }
+        ensures once { IsMap self.now }
+    {
+        let _count = self.values.len();
+        match self.values.first_key_value() {
+            Some((key, _)) => return Some(tag_of_key(*key)),
+            None => return None,
+        }
+    }
+
+    /// Takes out all events at a tag, and gives how many there were. It takes no memory.
+    pub fn drop_all(&mut self, tag: Tag) -> u64
+        ensures rest { self.new ≡ filter (λ e. not (is_at tag e)) self.old }
+        ensures count { result + length self.new ≡ length self.old }
+    {
+        let before = self.values.len();
+        self.values.retain(|key, _| !tag.is_same(tag_of_key(*key)));
+        (before - self.values.len()) as u64
+    }
+
+    /// Takes out all events after a tag, and gives how many there were. It takes no memory.
+    pub fn drop_after(&mut self, tag: Tag) -> u64
+        ensures rest { self.new ≡ filter (λ e. not (is_after tag e)) self.old }
+        ensures count { result + length self.new ≡ length self.old }
+    {
+        let before = self.values.len();
+        self.values
+            .retain(|key, _| !tag.is_before(tag_of_key(*key)));
+        (before - self.values.len()) as u64
+    }
+}

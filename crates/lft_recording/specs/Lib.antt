@@ -1,0 +1,4 @@
+pub mod Starts
+pub mod Waits
+pub mod Arrivals
+pub mod Answering

@@ -1,0 +1,4 @@
+pub mod Phases
+pub mod Turns
+pub mod Flags
+pub mod Seats
