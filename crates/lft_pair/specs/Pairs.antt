@@ -1,0 +1,63 @@
+-- The comparison of two legal traces of one plan.
+use Rattle.std.specs.Prelude.{◌≡◌, ◌≢◌, ℕ, ◌<◌, ◌⊎◌, ◌↔◌, List, Option, Some, MatchOption, slice_get}
+use Rattle.lft_tag.specs.declared.Tag.{Tag}
+use Rattle.lft_tag.specs.Tags.{Before}
+use Rattle.lft_flat.specs.declared.parts.Name.{Name}
+use Rattle.lft_flat.specs.declared.parts.Value.{Value}
+use Rattle.lft_trace.specs.declared.row.Row.{Row}
+use Rattle.lft_graph.specs.Graph.{GraphParts, IsGraphOf}
+use Rattle.lft_model.specs.Plans.{PlanParts}
+use Rattle.lft_model.specs.Presence.{At}
+use Rattle.lft_model.specs.Runs.{Ran, reads_at, answer_at}
+use Rattle.lft_model.specs.Recorded.{SameHistory, SameRuns}
+use Rattle.lft_pair.specs.declared.comparison.Pair.{Pair}
+use Rattle.lft_pair.specs.declared.comparison.Pair.TheVariants.{Same, Differ}
+
+-- (h, a) comes before (g, r): by tag, then by level, then by reaction number
+abbrev pub ComesFirst : List ℕ → Tag → ℕ → Tag → ℕ → Type 0
+ComesFirst levels h a g r = Before h g ⊎ ((h ≡ g) × ((k l : ℕ) × (slice_get levels a ≡ Some k) × (slice_get levels r ≡ Some l) × ((k < l) ⊎ ((k ≡ l) × (a < r)))))
+
+-- both traces have a run of r at g and the two are equal, or neither has one
+pub record IsSameRun (plan : PlanParts) (t s : List Row) (g : Tag) (r : ℕ) : Type 0 where
+  pub there : Ran t g r → Ran s g r
+  pub back : Ran s g r → Ran t g r
+  pub reads : Ran t g r → reads_at plan t g r ≡ reads_at plan s g r
+  pub answers : Ran t g r → answer_at plan t g r ≡ answer_at plan s g r
+
+-- both traces have a run of r at g, which met the same history and the same inputs and answered otherwise; all that comes before it is the same in both
+pub record IsDifference (plan : PlanParts) (t s : List Row) (g : Tag) (r : ℕ) : Type 0 where
+  pub graph : GraphParts
+  pub is_graph : IsGraphOf plan.program graph
+  pub first_ran : Ran t g r
+  pub second_ran : Ran s g r
+  pub same_history : SameHistory plan t s g r
+  pub same_reads : reads_at plan t g r ≡ reads_at plan s g r
+  pub other_answer : answer_at plan t g r ≢ answer_at plan s g r
+  pub same_before : (h : Tag) (a : ℕ) → ComesFirst graph.levels h a g r → IsSameRun plan t s h a
+
+abbrev pub IsPair : PlanParts → List Row → List Row → Pair → Type 0
+IsPair plan t s Same = SameRuns plan t s
+IsPair plan t s (Differ g r) = IsDifference plan t s g r
+
+-- each port and action has the same values at each tag
+abbrev pub HaveSameValues : PlanParts → List Row → List Row → Type 0
+HaveSameValues plan t s = (g : Tag) (n : Name) (v : Value) → At plan t g n v ↔ At plan s g n v
+
+-- what the answer says: the same exactly where the traces have the same runs, and then the same values
+pub record IsComparison (plan : PlanParts) (t s : List Row) (p : Pair) : Type 0 where
+  pub is_pair : IsPair plan t s p
+  pub exact : (p ≡ Same) ↔ SameRuns plan t s
+  pub values : p ≡ Same → HaveSameValues plan t s
+
+-- the run of r at g is in both traces, with equal answers
+abbrev pub Agrees : PlanParts → List Row → List Row → Tag → ℕ → Type 0
+Agrees plan t s g r = Ran s g r × (answer_at plan t g r ≡ answer_at plan s g r)
+
+-- of the runs of the first trace that aren't in the second, or not with an equal answer, the first, if there is one
+pub record IsFirstOdd (plan : PlanParts) (levels : List ℕ) (t s : List Row) (x : Tag × ℕ) : Type 0 where
+  pub ran : Ran t x.0 x.1
+  pub odd : ¬ Agrees plan t s x.0 x.1
+  pub before : (h : Tag) (a : ℕ) → Ran t h a → ComesFirst levels h a x.0 x.1 → Agrees plan t s h a
+
+abbrev pub FirstOdd : PlanParts → List ℕ → List Row → List Row → Option (Tag × ℕ) → Type 0
+FirstOdd plan levels t s o = MatchOption o ((h : Tag) (a : ℕ) → Ran t h a → Agrees plan t s h a) (IsFirstOdd plan levels t s)

@@ -1,0 +1,98 @@
+//! Where the runs of a trace start, as its rows are read one tag after another.
+
+ghost use Rattle.std.specs.Prelude.{◌≡◌, ◌↔◌, ◌<◌, length, List, Some, slice_get, IsTrue, MatchOption, IfOk};
+ghost use Rattle.lft_flat.specs.Parts.{Parts};
+ghost use Rattle.lft_trace.specs.declared.row.Row.{Row as TheRow};
+ghost use Rattle.lft_trace.specs.Fits.{RowsFit};
+ghost use Rattle.lft_model.specs.Plans.{PlanParts};
+ghost use Rattle.lft_model.specs.Breaches.{Legal};
+ghost use Rattle.lft_model.specs.Runs.{Ran};
+ghost use Rattle.lft_pair.specs.Places.{StartsAt, AreLastStarts, AreUpTo, AreAfter};
+
+use lft_tag::{NoMemory, Tag};
+use lft_trace::{Row, is_start, row_at};
+use std::alloc::Global;
+
+/// How many rows of a trace are read, and for each reaction the place of its last start among them,
+/// or 0.
+#[derive(Drop)]
+pub(crate) struct Starts {
+    pub read: usize,
+    pub places: Vec<usize>,
+}
+
+/// The place at the index.
+fn place_of(places: &[usize], index: usize) -> usize
+    requires { index < length places.now }
+    ensures { slice_get places.now index ≡ Some result }
+{
+    places[index]
+}
+
+/// Whether the row at the place starts the reaction's run at the tag.
+fn is_start_at(rows: &[Row], tag: Tag, reaction: u32, place: usize) -> bool
+    ensures { IsTrue result ↔ StartsAt rows.now tag reaction place }
+{
+    if place >= rows.len() {
+        return false;
+    }
+    let row = row_at(rows, place);
+    is_start(&row.step) && row.tag.is_same(tag) && row.reaction == reaction
+}
+
+/// No row is read.
+pub(crate) fn no_starts(alloc: Global, reactions: usize) -> Result<Starts, NoMemory>
+    ensures as_long { IfOk result (λ starts. length starts.places.items ≡ reactions) }
+    ensures none_read { IfOk result (λ starts. starts.read ≡ 0) }
+    ensures kept { IfOk result (λ starts. (t : List TheRow) → AreLastStarts t starts.read starts.places.items) }
+{
+    let places = vec![in alloc; 0; reactions]?;
+    Ok(Starts { read: 0, places })
+}
+
+impl Starts {
+    /// Reads on, up to the first row after the tag.
+    fn read_to(&mut self, rows: &[Row], tag: Tag)
+        requires fit { (program : Parts) × RowsFit program rows.now × (length self.old.places.items ≡ length program.reactions) }
+        requires legal { (plan : PlanParts) × Legal plan rows.now }
+        requires kept { AreLastStarts rows.now self.old.read self.old.places.items }
+        requires read { AreUpTo rows.now self.old.read tag }
+        ensures as_long { length self.new.places.items ≡ length self.old.places.items }
+        ensures kept { AreLastStarts rows.now self.new.read self.new.places.items }
+        ensures read { AreUpTo rows.now self.new.read tag }
+        ensures rest { AreAfter rows.now self.new.read tag }
+    {
+        for place in self.read..rows.len() {
+            let row = row_at(rows, place);
+            if tag.is_before(row.tag) {
+                return;
+            }
+            if is_start(&row.step) {
+                self.places[row.reaction as usize] = place;
+            }
+            self.read = place + 1;
+        }
+    }
+
+    /// The place where the reaction's run at the tag starts, if it has one there. Tags are to be
+    /// asked for in order, since rows are read once.
+    pub(crate) fn find(&mut self, rows: &[Row], tag: Tag, reaction: u32) -> Option<usize>
+        requires fit { (program : Parts) × RowsFit program rows.now × (length self.old.places.items ≡ length program.reactions) }
+        requires legal { (plan : PlanParts) × Legal plan rows.now }
+        requires kept { AreLastStarts rows.now self.old.read self.old.places.items }
+        requires read { AreUpTo rows.now self.old.read tag }
+        requires reaction { reaction < length self.old.places.items }
+        ensures as_long { length self.new.places.items ≡ length self.old.places.items }
+        ensures kept { AreLastStarts rows.now self.new.read self.new.places.items }
+        ensures read { AreUpTo rows.now self.new.read tag }
+        ensures found { MatchOption result (¬ Ran rows.now tag reaction) (StartsAt rows.now tag reaction) }
+    {
+        self.read_to(rows, tag);
+        let place = place_of(self.places.as_slice(), reaction as usize);
+        if is_start_at(rows, tag, reaction, place) {
+            Some(place)
+        } else {
+            None
+        }
+    }
+}
