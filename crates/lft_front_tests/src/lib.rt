@@ -12,3 +12,5 @@ mod readers;
 mod texts;
 #[cfg(test)]
 mod writers;
+#[cfg(test)]
+mod words;
