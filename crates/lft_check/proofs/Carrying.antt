@@ -13,20 +13,21 @@ use Rattle.lft_model.specs.Runs.{end_row}
 use Rattle.lft_model.proofs.Legality.{four, one_end}
 use Rattle.lft_model.proofs.Places.{slice_get_within}
 use Rattle.lft_slices.specs.declared.slices.Slice.{Slice}
-use Rattle.lft_slices.specs.Slices.{CutParts, IsCuttable, IsSlice}
+use Rattle.lft_presence.specs.Traces.{TraceParts}
+use Rattle.lft_slices.specs.Slices.{IsCuttable, IsSlice}
 use Rattle.lft_check.specs.Carries.{EndsAt, AreEnds, HasAll, IsGreatest, IsCarried, AreCarried}
 use Rattle.lft_check.proofs.Early.{step_row}
 
 -- the ends among the rows of the slice before place i
-pub record AreEndsTo (cut : CutParts) (s : Slice) (i : ℕ) (ends : List ℕ) : Type 0 where
+pub record AreEndsTo (cut : TraceParts) (s : Slice) (i : ℕ) (ends : List ℕ) : Type 0 where
   pub as_long : length ends ≡ length cut.plan.program.reactions
   pub right : (r e : ℕ) → slice_get ends r ≡ Some e → (e ≡ 0) ⊎ EndsAt cut s.tag r e
   pub each : (j w r : ℕ) → s.first ≤ j → j < i → slice_get cut.rows j ≡ Some (end_row w s.tag r) → slice_get ends r ≡ Some (j + 1)
 
-pub ends_begin : (cut : CutParts) (s : Slice) (n : ℕ) → n ≡ length cut.plan.program.reactions → AreEndsTo cut s s.first (replicate n 0)
+pub ends_begin : (cut : TraceParts) (s : Slice) (n : ℕ) → n ≡ length cut.plan.program.reactions → AreEndsTo cut s s.first (replicate n 0)
 ends_begin cut s n e = record { as_long = length_same n 0 ∙ e; right = λ r x q. inl (get_same n r 0 x q); each = λ j w r l m q. absurd (omega arith) }
 
-module _ (cut : CutParts) (rules : IsCuttable cut) (s : Slice) (is_slice : IsSlice cut.rows s) (i : ℕ) (row : Row) (is_row : slice_get cut.rows i ≡ Some row) (from : s.first ≤ i) (before : i < s.end) (ends : List ℕ) (so_far : AreEndsTo cut s i ends) where
+module _ (cut : TraceParts) (rules : IsCuttable cut) (s : Slice) (is_slice : IsSlice cut.rows s) (i : ℕ) (row : Row) (is_row : slice_get cut.rows i ≡ Some row) (from : s.first ≤ i) (before : i < s.end) (ends : List ℕ) (so_far : AreEndsTo cut s i ends) where
   pub end_stays : ¬ (row.step ≡ End) → AreEndsTo cut s (i + 1) ends
   end_stays n = record { as_long = so_far.as_long; right = so_far.right; each = λ j w r l m q. go j w r l m q (ℕ_discrete j i) }
     where
@@ -60,7 +61,7 @@ module _ (cut : CutParts) (rules : IsCuttable cut) (s : Slice) (is_slice : IsSli
           go (no y) = so_far.each j w r l (omega arith) q
           go (yes y) = let a : Some (end_row w s.tag r) ≡ Some (end_row row.worker s.tag row.reaction) = sym q ∙ ap (λ k. slice_get cut.rows k) y ∙ it in let b : end_row w s.tag r ≡ end_row row.worker s.tag row.reaction = cc in absurd (x (ap (λ (z : Row). z.reaction) b))
 
-pub ends_end : (cut : CutParts) (s : Slice) → IsSlice cut.rows s → (i : ℕ) (ends : List ℕ) → s.end ≤ i → AreEndsTo cut s i ends → AreEnds cut s.tag ends
+pub ends_end : (cut : TraceParts) (s : Slice) → IsSlice cut.rows s → (i : ℕ) (ends : List ℕ) → s.end ≤ i → AreEndsTo cut s i ends → AreEnds cut s.tag ends
 ends_end cut s is_slice i ends l h = record { as_long = h.as_long; right = h.right; each = each }
   where
     each : (r e : ℕ) → EndsAt cut s.tag r e → slice_get ends r ≡ Some e
@@ -104,14 +105,14 @@ precedes_known program a b (Precedes.one d) = direct_known program _ _ d
 precedes_known program a b (Precedes.more d p) = direct_known program _ _ d
 
 -- what is carried is right for the reactions at the places before one
-pub record AreCarriedTo (cut : CutParts) (g : Tag) (order : List ℕ) (k : ℕ) (carried : List ℕ) : Type 0 where
+pub record AreCarriedTo (cut : TraceParts) (g : Tag) (order : List ℕ) (k : ℕ) (carried : List ℕ) : Type 0 where
   pub as_long : length carried ≡ length cut.plan.program.reactions
   pub right : (j r m : ℕ) → j < k → slice_get order j ≡ Some r → slice_get carried r ≡ Some m → IsCarried cut g r m
 
-pub carried_begin : (cut : CutParts) (g : Tag) (order : List ℕ) (n : ℕ) → n ≡ length cut.plan.program.reactions → AreCarriedTo cut g order 0 (replicate n 0)
+pub carried_begin : (cut : TraceParts) (g : Tag) (order : List ℕ) (n : ℕ) → n ≡ length cut.plan.program.reactions → AreCarriedTo cut g order 0 (replicate n 0)
 carried_begin cut g order n e = record { as_long = length_same n 0 ∙ e; right = λ j r m l p q. absurd (omega arith) }
 
-module _ (cut : CutParts) (g : Tag) (graph : GraphParts) (is_graph : IsGraphOf cut.plan.program graph) where
+module _ (cut : TraceParts) (g : Tag) (graph : GraphParts) (is_graph : IsGraphOf cut.plan.program graph) where
   many : length graph.levels ≡ length cut.plan.program.reactions
   many = is_graph.levels.as_long ∙ is_graph.as_long
 

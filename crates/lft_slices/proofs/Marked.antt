@@ -19,7 +19,7 @@ use Rattle.lft_model.proofs.Places.{slice_get_within}
 use Rattle.lft_slices.specs.declared.marks.Marks.{Marks}
 use Rattle.lft_slices.specs.Marks.{width, HasSeat, AreLaid, IsLaid, Mark, IsMarkedBy, AreNoneFrom, ReadsFor, NoneReads, IsLastRead, IsMark, AreBefore, AreMarks}
 use Rattle.lft_slices.proofs.Declares.{named_on}
-use Rattle.lft_slices.proofs.Sliced.{get_left, get_last, get_cases}
+use Rattle.lft_presence.proofs.Lists.{get_left, get_last, get_cases}
 
 -- a seat is one of the reaction's
 pub seat_within : (x : Reaction) (n : Name) (k : ℕ) → HasSeat x n k → k < width x

@@ -15,63 +15,23 @@ use Rattle.lft_flat.specs.declared.parts.Reaction.{Reaction}
 use Rattle.lft_model.specs.Presence.{stop, Occurs, Triggered}
 use Rattle.lft_model.proofs.Members.{mem_get, get_mem, mem_contains, contains_mem}
 use Rattle.lft_model.proofs.Places.{slice_get_within}
-use Rattle.lft_slices.specs.Slices.{CutParts, LeastTag, Misses, IsMissing, IsFirstMissing}
-use Rattle.lft_slices.specs.Least.{IsSooner, IsFirstOf, MissesAt, MissesFiring}
-
-pub at_reaction : (p q : Parts) (r : ℕ) (x : Reaction) → p ≡ q → slice_get p.reactions r ≡ Some x → slice_get q.reactions r ≡ Some x
-at_reaction p q r x e h = subst (λ (z : Parts). slice_get z.reactions r ≡ Some x) e h
-
-pub trigger_of : (program : Parts) → IsSound program → (r : ℕ) (x : Reaction) (xs : List Trigger) (k : ℕ) (trigger : Trigger) → slice_get program.reactions r ≡ Some x → xs ≡ x.triggers → slice_get xs k ≡ Some trigger → IsTriggerOf program trigger
-trigger_of program sound r x xs k trigger e q p = (sound.exist r x e).triggers trigger (subst (λ ys. Contains ys trigger) q (mem_contains trigger xs (mem_get xs k trigger p)))
-
--- one kind of tags stands for another
-pub least_as : (P Q : Tag → Type 0) (o : Option Tag) → LeastTag P o → ((g : Tag) → P g → Q g) → ((g : Tag) → Q g → P g) → LeastTag Q o
-least_as P Q None h to from = λ g q. h g (from g q)
-least_as P Q (Some g) h to from = (to g h.0, λ k q. h.1 k (from k q))
-
--- the least of two kinds
-pub least_of_both : (P Q : Tag → Type 0) (a b r : Option Tag) → LeastTag P a → LeastTag Q b → IsSooner a b r → LeastTag (λ g. P g ⊎ Q g) r
-least_of_both P Q None b r p q e = subst (λ o. LeastTag (λ g. P g ⊎ Q g) o) (sym e) (go b q)
-  where
-    go : (b : Option Tag) → LeastTag Q b → LeastTag (λ g. P g ⊎ Q g) b
-    go None n = λ g x. neither g x
-      where
-        neither : (g : Tag) → P g ⊎ Q g → ⊥
-        neither g (inl x) = p g x
-        neither g (inr x) = n g x
-    go (Some b) n = (inr n.0, λ h x. either h x)
-      where
-        either : (h : Tag) → P h ⊎ Q h → UpTo b h
-        either h (inl x) = absurd (p h x)
-        either h (inr x) = n.1 h x
-least_of_both P Q (Some a) None r p q e = subst (λ o. LeastTag (λ g. P g ⊎ Q g) o) (sym e) (inl p.0, λ h x. either h x)
-  where
-    either : (h : Tag) → P h ⊎ Q h → UpTo a h
-    either h (inl x) = p.1 h x
-    either h (inr x) = absurd (q h x)
-least_of_both P Q (Some a) (Some b) r p q (inl e) = subst (λ o. LeastTag (λ g. P g ⊎ Q g) o) (sym e.0) (inl p.0, λ h x. either h x)
-  where
-    either : (h : Tag) → P h ⊎ Q h → UpTo a h
-    either h (inl x) = p.1 h x
-    either h (inr x) = UpTo-trans a b h e.1 (q.1 h x)
-least_of_both P Q (Some a) (Some b) r p q (inr e) = subst (λ o. LeastTag (λ g. P g ⊎ Q g) o) (sym e.0) (inr q.0, λ h x. either h x)
-  where
-    either : (h : Tag) → P h ⊎ Q h → UpTo b h
-    either h (inl x) = UpTo-trans b a h (Before-weaken b a e.1) (p.1 h x)
-    either h (inr x) = q.1 h x
+use Rattle.lft_presence.specs.Traces.{TraceParts, LeastTag, IsSooner}
+use Rattle.lft_slices.specs.Slices.{Misses, IsMissing, IsFirstMissing}
+use Rattle.lft_presence.proofs.Leasts.{least_as, least_of_both}
+use Rattle.lft_slices.specs.Least.{IsFirstOf, MissesAt, MissesFiring}
 
 -- one of the triggers before place k is missed at g
-pub record MissesBefore (cut : CutParts) (xs : List Trigger) (k r : ℕ) (g : Tag) : Type 0 where
+pub record MissesBefore (cut : TraceParts) (xs : List Trigger) (k r : ℕ) (g : Tag) : Type 0 where
   pub place : ℕ
   pub trigger : Trigger
   pub before : place < k
   pub is_trigger : slice_get xs place ≡ Some trigger
   pub misses : Misses cut trigger r g
 
-pub missed_begin : (cut : CutParts) (xs : List Trigger) (r : ℕ) → LeastTag (MissesBefore cut xs 0 r) None
+pub missed_begin : (cut : TraceParts) (xs : List Trigger) (r : ℕ) → LeastTag (MissesBefore cut xs 0 r) None
 missed_begin cut xs r g x = let l : x.place < 0 = x.before in omega arith
 
-pub missed_more : (cut : CutParts) (xs : List Trigger) (k r : ℕ) (trigger : Trigger) (a b o : Option Tag) → slice_get xs k ≡ Some trigger → LeastTag (MissesBefore cut xs k r) a → LeastTag (Misses cut trigger r) b → IsSooner a b o → LeastTag (MissesBefore cut xs (k + 1) r) o
+pub missed_more : (cut : TraceParts) (xs : List Trigger) (k r : ℕ) (trigger : Trigger) (a b o : Option Tag) → slice_get xs k ≡ Some trigger → LeastTag (MissesBefore cut xs k r) a → LeastTag (Misses cut trigger r) b → IsSooner a b o → LeastTag (MissesBefore cut xs (k + 1) r) o
 missed_more cut xs k r trigger a b o e p q s = least_as (λ g. MissesBefore cut xs k r g ⊎ Misses cut trigger r g) (MissesBefore cut xs (k + 1) r) o (least_of_both (MissesBefore cut xs k r) (Misses cut trigger r) a b o p q s) to (λ g x. from g x (ℕ_discrete x.place k))
   where
     to : (g : Tag) → MissesBefore cut xs k r g ⊎ Misses cut trigger r g → MissesBefore cut xs (k + 1) r g
@@ -83,7 +43,7 @@ missed_more cut xs k r trigger a b o e p q s = least_as (λ g. MissesBefore cut 
     from g x (no n) = let l : x.place < k + 1 = x.before in inl (record { place = x.place; trigger = x.trigger; before = omega arith; is_trigger = x.is_trigger; misses = x.misses })
 
 -- over all triggers of a reaction
-pub missed_all : (cut : CutParts) (r k : ℕ) (x : Reaction) (xs : List Trigger) (o : Option Tag) → slice_get cut.plan.program.reactions r ≡ Some x → xs ≡ x.triggers → k ≡ length xs → LeastTag (MissesBefore cut xs k r) o → LeastTag (IsMissing cut r) o
+pub missed_all : (cut : TraceParts) (r k : ℕ) (x : Reaction) (xs : List Trigger) (o : Option Tag) → slice_get cut.plan.program.reactions r ≡ Some x → xs ≡ x.triggers → k ≡ length xs → LeastTag (MissesBefore cut xs k r) o → LeastTag (IsMissing cut r) o
 missed_all cut r k x xs o e q l h = least_as (MissesBefore cut xs k r) (IsMissing cut r) o h to from
   where
     to : (g : Tag) → MissesBefore cut xs k r g → IsMissing cut r g
@@ -99,10 +59,10 @@ missed_all cut r k x xs o e q l h = least_as (MissesBefore cut xs k r) (IsMissin
         record { place = p.0; trigger = m.triggered.trigger; before = omega arith; is_trigger = p.1; misses = record { occurs = m.triggered.occurs; in_time = m.in_time; no_run = m.no_run } }
 
 -- the pair comes before what is missed by a
-abbrev pub FirstBelow : CutParts → ℕ → Option (Tag × ℕ) → Type 0
+abbrev pub FirstBelow : TraceParts → ℕ → Option (Tag × ℕ) → Type 0
 FirstBelow cut n o = MatchOption o ((g : Tag) (r : ℕ) → r < n → ¬ IsMissing cut r g) (λ x. IsMissing cut x.1 x.0 × ((h : Tag) (a : ℕ) → a < n → IsMissing cut a h → Before x.0 h ⊎ ((x.0 ≡ h) × (x.1 ≤ a))) × (x.1 < n))
 
-pub first_begin : (cut : CutParts) → FirstBelow cut 0 None
+pub first_begin : (cut : TraceParts) → FirstBelow cut 0 None
 first_begin cut g r l x = omega arith
 
 last_or_less : (a n : ℕ) → a < n + 1 → Dec (a ≡ n) → (a < n) ⊎ (a ≡ n)
@@ -117,7 +77,7 @@ split_up g h u = go (order_cases g h)
     go (inl b) = inl b
     go (inr v) = inr (UpTo_antisym g h u v)
 
-pub first_more : (cut : CutParts) (n : ℕ) (x : Option (Tag × ℕ)) (o : Option Tag) (r : Option (Tag × ℕ)) → FirstBelow cut n x → LeastTag (IsMissing cut n) o → IsFirstOf x o n r → FirstBelow cut (n + 1) r
+pub first_more : (cut : TraceParts) (n : ℕ) (x : Option (Tag × ℕ)) (o : Option Tag) (r : Option (Tag × ℕ)) → FirstBelow cut n x → LeastTag (IsMissing cut n) o → IsFirstOf x o n r → FirstBelow cut (n + 1) r
 first_more cut n None None r h p e = subst (λ z. FirstBelow cut (n + 1) z) (sym e) (λ g a l m. go g a m (last_or_less a n l (ℕ_discrete a n)))
   where
     go : (g : Tag) (a : ℕ) → IsMissing cut a g → (a < n) ⊎ (a ≡ n) → ⊥
@@ -161,39 +121,25 @@ first_more cut n (Some x) (Some b) r h p (inr e) = subst (λ z. FirstBelow cut (
         by (inr u) = inr (u, omega arith)
 
 -- over all reactions
-pub first_all : (cut : CutParts) (n : ℕ) (o : Option (Tag × ℕ)) → n ≡ length cut.plan.program.reactions → FirstBelow cut n o → IsFirstMissing cut o
+pub first_all : (cut : TraceParts) (n : ℕ) (o : Option (Tag × ℕ)) → n ≡ length cut.plan.program.reactions → FirstBelow cut n o → IsFirstMissing cut o
 first_all cut n None e h = λ g r x. let l : r < length cut.plan.program.reactions = slice_get_within cut.plan.program.reactions r x.triggered.reaction x.triggered.is_reaction in let m : r < n = omega arith in h g r m x
 first_all cut n (Some x) e h = (h.0, λ k a m. let l : a < length cut.plan.program.reactions = slice_get_within cut.plan.program.reactions a m.triggered.reaction m.triggered.is_reaction in let b : a < n = omega arith in h.1 k a b m)
 
 -- where the trigger is at one tag
-pub missed_once : (cut : CutParts) (x : Trigger) (r : ℕ) (tag : Tag) (o : Option Tag) → ((g : Tag) → Occurs cut.plan cut.rows g x → g ≡ tag) → ((g : Tag) → g ≡ tag → Occurs cut.plan cut.rows g x) → LeastTag (MissesAt cut r tag) o → LeastTag (Misses cut x r) o
+pub missed_once : (cut : TraceParts) (x : Trigger) (r : ℕ) (tag : Tag) (o : Option Tag) → ((g : Tag) → Occurs cut.plan cut.rows g x → g ≡ tag) → ((g : Tag) → g ≡ tag → Occurs cut.plan cut.rows g x) → LeastTag (MissesAt cut r tag) o → LeastTag (Misses cut x r) o
 missed_once cut x r tag o to from h = least_as (MissesAt cut r tag) (Misses cut x r) o h (λ g m. record { occurs = from g m.same; in_time = m.in_time; no_run = m.no_run }) (λ g m. record { same = to g m.occurs; in_time = m.in_time; no_run = m.no_run })
 
-pub missed_startup : (cut : CutParts) (x : Trigger) (r : ℕ) (o : Option Tag) → x ≡ Startup → LeastTag (MissesAt cut r (record { time = 0; micro = 0 })) o → LeastTag (Misses cut x r) o
+pub missed_startup : (cut : TraceParts) (x : Trigger) (r : ℕ) (o : Option Tag) → x ≡ Startup → LeastTag (MissesAt cut r (record { time = 0; micro = 0 })) o → LeastTag (Misses cut x r) o
 missed_startup cut x r o e h = subst (λ z. LeastTag (Misses cut z r) o) (sym e) (missed_once cut Startup r (record { time = 0; micro = 0 }) o (λ g q. q) (λ g q. q) h)
 
-pub missed_shutdown : (cut : CutParts) (x : Trigger) (r : ℕ) (last : Tag) (o : Option Tag) → x ≡ Shutdown → last ≡ stop cut.plan cut.rows → LeastTag (MissesAt cut r last) o → LeastTag (Misses cut x r) o
+pub missed_shutdown : (cut : TraceParts) (x : Trigger) (r : ℕ) (last : Tag) (o : Option Tag) → x ≡ Shutdown → last ≡ stop cut.plan cut.rows → LeastTag (MissesAt cut r last) o → LeastTag (Misses cut x r) o
 missed_shutdown cut x r last o e s h = subst (λ z. LeastTag (Misses cut z r) o) (sym e) (missed_once cut Shutdown r last o (λ g q. q ∙ sym s) (λ g q. q ∙ s) h)
 
-pub missed_timer : (cut : CutParts) (x : Trigger) (r n : ℕ) (timer : TimerOf) (o : Option Tag) → x ≡ Timer n → slice_get cut.plan.program.timers n ≡ Some timer → LeastTag (MissesFiring cut timer r) o → LeastTag (Misses cut x r) o
+pub missed_timer : (cut : TraceParts) (x : Trigger) (r n : ℕ) (timer : TimerOf) (o : Option Tag) → x ≡ Timer n → slice_get cut.plan.program.timers n ≡ Some timer → LeastTag (MissesFiring cut timer r) o → LeastTag (Misses cut x r) o
 missed_timer cut x r n timer o e t h = subst (λ z. LeastTag (Misses cut z r) o) (sym e) (least_as (MissesFiring cut timer r) (Misses cut (Timer n) r) o h (λ g m. record { occurs = (timer, t, m.fires); in_time = m.in_time; no_run = m.no_run }) from)
   where
     from : (g : Tag) → Misses cut (Timer n) r g → MissesFiring cut timer r g
     from g m = let y : Some m.occurs.0 ≡ Some timer = sym m.occurs.1 ∙ t in let z : m.occurs.0 ≡ timer = cc in record { fires = subst (λ (v : TimerOf). (k : ℕ) × (g ≡ record { time = v.offset + k * v.period; micro = 0 }) × (v.period ≡ 0 → k ≡ 0)) z m.occurs.2; in_time = m.in_time; no_run = m.no_run }
 
-pub missed_name : (cut : CutParts) (x : Trigger) (n : Name) (r : ℕ) (o : Option Tag) → x ≡ On n → LeastTag (Misses cut (On n) r) o → LeastTag (Misses cut x r) o
+pub missed_name : (cut : TraceParts) (x : Trigger) (n : Name) (r : ℕ) (o : Option Tag) → x ≡ On n → LeastTag (Misses cut (On n) r) o → LeastTag (Misses cut x r) o
 missed_name cut x n r o e h = subst (λ z. LeastTag (Misses cut z r) o) (sym e) h
-
--- the trigger at a place that is present triggers the reaction
-pub triggered_by : (cut : CutParts) (g : Tag) (r : ℕ) (x : Reaction) (xs : List Trigger) (k : ℕ) (trigger : Trigger) → slice_get cut.plan.program.reactions r ≡ Some x → xs ≡ x.triggers → slice_get xs k ≡ Some trigger → Occurs cut.plan cut.rows g trigger → Triggered cut.plan cut.rows g r
-triggered_by cut g r x xs k trigger e q p o = record { reaction = x; trigger = trigger; is_reaction = e; is_trigger = subst (λ ys. Contains ys trigger) q (mem_contains trigger xs (mem_get xs k trigger p)); occurs = o }
-
-pub not_triggered : (cut : CutParts) (g : Tag) (r k : ℕ) (x : Reaction) (xs : List Trigger) → slice_get cut.plan.program.reactions r ≡ Some x → xs ≡ x.triggers → k ≡ length xs → ((j : ℕ) (trigger : Trigger) → j < k → slice_get xs j ≡ Some trigger → ¬ Occurs cut.plan cut.rows g trigger) → ¬ Triggered cut.plan cut.rows g r
-not_triggered cut g r k x xs e q l n m =
-    let y : Some m.reaction ≡ Some x = sym m.is_reaction ∙ e in
-    let z : m.reaction ≡ x = cc in
-    let c : Contains xs m.trigger = subst (λ ys. Contains ys m.trigger) (ap (λ (v : Reaction). v.triggers) z ∙ sym q) m.is_trigger in
-    let p = get_mem m.trigger xs (contains_mem m.trigger xs c) in
-    let b : p.0 < length xs = slice_get_within xs p.0 m.trigger p.1 in
-    let d : p.0 < k = omega arith in
-    n p.0 m.trigger d p.1 m.occurs

@@ -14,67 +14,22 @@ use Rattle.lft_trace.specs.Fits.{RowsFit}
 use Rattle.lft_model.specs.Presence.{stop}
 use Rattle.lft_model.specs.Runs.{Ran}
 use Rattle.lft_model.proofs.Places.{slice_get_within}
-use Rattle.lft_slices.specs.declared.causes.Cause.{Cause}
-use Rattle.lft_slices.specs.Causes.{tag_of, ComesUpTo, AreAscending, AreCauses, LiesBelow, IsPosition, Leads, IsCause}
-use Rattle.lft_slices.specs.Slices.{CutParts, LeastTag, Misses}
-use Rattle.lft_slices.specs.Least.{MissesCause, IsSkip}
-use Rattle.lft_slices.proofs.Missed.{least_as}
-use Rattle.lft_slices.proofs.Presences.{IsKey, present_cause, cause_present}
-use Rattle.lft_slices.proofs.Positions.{shifted_mono, tag_up, same_cause}
-
--- a later cause of the name leads no earlier
-leads_up : (causes : List Cause) → AreAscending causes → (s : Folded) (j k : ℕ) (x y : Cause) → j ≤ k → slice_get causes j ≡ Some x → slice_get causes k ≡ Some y → x.name ≡ y.name → UpTo (shifted (tag_of x) s) (shifted (tag_of y) s)
-leads_up causes up s j k x y l e f q = go (ℕ_discrete j k)
-  where
-    by : ComesUpTo x y → UpTo (shifted (tag_of x) s) (shifted (tag_of y) s)
-    by (inl m) = let a : x.name < y.name = m in absurd (omega arith)
-    by (inr m) = shifted_mono (tag_of x) (tag_of y) s (tag_up x y m.1)
-
-    go : Dec (j ≡ k) → UpTo (shifted (tag_of x) s) (shifted (tag_of y) s)
-    go (yes d) = subst (λ (z : Cause). UpTo (shifted (tag_of x) s) (shifted (tag_of z) s)) (same_cause causes j k x y d e f) (UpTo-refl (shifted (tag_of x) s))
-    go (no n) = by (up j k x y (omega arith) e f)
-
--- a later cause is of no lesser name
-pub names_up : (causes : List Cause) → AreAscending causes → (j k : ℕ) (x y : Cause) → j ≤ k → slice_get causes j ≡ Some x → slice_get causes k ≡ Some y → x.name ≤ y.name
-names_up causes up j k x y l e f = go (ℕ_discrete j k)
-  where
-    by : ComesUpTo x y → x.name ≤ y.name
-    by (inl m) = let a : x.name < y.name = m in omega arith
-    by (inr m) = let a : x.name ≡ y.name = m.0 in omega arith
-
-    go : Dec (j ≡ k) → x.name ≤ y.name
-    go (yes d) = let z : x.name ≡ y.name = ap (λ (v : Cause). v.name) (same_cause causes j k x y d e f) in omega arith
-    go (no n) = by (up j k x y (omega arith) e f)
-
--- the next place
-module _ (causes : List Cause) (up : AreAscending causes) (name : ℕ) (s : Folded) (g : Tag) (place : ℕ) (here : Cause) (is_here : slice_get causes place ≡ Some here) (leads : Leads name s g here) where
-  pub skip_one : place + 1 ≤ length causes → IsSkip causes name s g place (place + 1)
-  skip_one w = record { further = omega arith; within = w; same = λ k c l m e q. ap (λ (z : Cause). shifted (tag_of z) s) (same_cause causes k place c here (omega arith) e is_here) ∙ leads.1 }
-
-  pub skip_many : (n : ℕ) → IsPosition causes name s g true n → IsSkip causes name s g place n
-  skip_many n h = record { further = further (cases_lt place n); within = h.within; same = same }
-    where
-      further : (place < n) ⊎ (n ≤ place) → place < n
-      further (inl l) = l
-      further (inr l) = absurd (h.rest place here l is_here (inr (leads.0, inr (refl, leads.1))))
-
-      same : (k : ℕ) (c : Cause) → place ≤ k → k < n → slice_get causes k ≡ Some c → c.name ≡ name → shifted (tag_of c) s ≡ g
-      same k c l m e q = go (h.below k c m e)
-        where
-          not_before : ¬ Before (shifted (tag_of c) s) g
-          not_before b = UpTo-not g (shifted (tag_of c) s) (subst (λ (z : Tag). UpTo z (shifted (tag_of c) s)) leads.1 (leads_up causes up s place k here c l is_here e (leads.0 ∙ sym q))) b
-
-          go : LiesBelow name s g true c → shifted (tag_of c) s ≡ g
-          go (inl b) = let a : c.name < name = b in absurd (omega arith)
-          go (inr (b, inl d)) = absurd (not_before d)
-          go (inr (b, inr d)) = d.1
+use Rattle.lft_presence.specs.declared.causes.Cause.{Cause}
+use Rattle.lft_presence.specs.Causes.{tag_of, ComesUpTo, AreAscending, AreCauses, LiesBelow, IsPosition, Leads, IsCause, IsSkip}
+use Rattle.lft_presence.specs.Traces.{TraceParts, LeastTag}
+use Rattle.lft_slices.specs.Slices.{Misses}
+use Rattle.lft_slices.specs.Least.{MissesCause}
+use Rattle.lft_presence.proofs.Skips.{leads_up, names_up}
+use Rattle.lft_presence.proofs.Leasts.{least_as}
+use Rattle.lft_presence.proofs.Presences.{IsKey, present_cause, cause_present}
+use Rattle.lft_presence.proofs.Positions.{shifted_mono, tag_up, same_cause}
 
 -- at the tag of each cause of the name before a place r has a run; from there on no name is lesser
-pub record IsWalked (cut : CutParts) (causes : List Cause) (name : ℕ) (s : Folded) (r place : ℕ) : Type 0 where
+pub record IsWalked (cut : TraceParts) (causes : List Cause) (name : ℕ) (s : Folded) (r place : ℕ) : Type 0 where
   pub ran : (k : ℕ) (c : Cause) → k < place → slice_get causes k ≡ Some c → c.name ≡ name → Ran cut.rows (shifted (tag_of c) s) r
   pub least : (k : ℕ) (c : Cause) → place ≤ k → slice_get causes k ≡ Some c → name ≤ c.name
 
-module _ (cut : CutParts) (causes : List Cause) (are : AreCauses cut.plan cut.rows causes) (name : ℕ) (s : Folded) (r : ℕ) where
+module _ (cut : TraceParts) (causes : List Cause) (are : AreCauses cut.plan cut.rows causes) (name : ℕ) (s : Folded) (r : ℕ) where
   pub walk_begins : (n : ℕ) (none : Folded) → IsPosition causes name none (record { time = 0; micro = 0 }) false n → IsWalked cut causes name s r n
   walk_begins n none h = record { ran = λ k c l e q. absurd (lesser c q (h.below k c l e)); least = λ k c l e. no_lesser c (h.rest k c l e) (cases_lt c.name name) }
     where
@@ -132,18 +87,11 @@ module _ (cut : CutParts) (causes : List Cause) (are : AreCauses cut.plan cut.ro
               go (inl m) = h.ran k c m e q
               go (inr m) = subst (λ (z : Tag). Ran cut.rows z r) (sym (skip.same k c m l e q)) ran
 
-pub up_to_stop : (last g : Tag) → ¬ Before last g → UpTo g last
-up_to_stop last g n = go (order_cases last g)
-  where
-    go : Before last g ⊎ UpTo g last → UpTo g last
-    go (inl b) = absurd (n b)
-    go (inr u) = u
-
 pub not_ran : (t : List Row) (g : Tag) (r : ℕ) (b : Bool) → b ≡ false → IsTrue b ↔ Ran t g r → ¬ Ran t g r
 not_ran t g r b e d x = let y : true ≡ false = sym (d.1 x) ∙ e in absurd (cc)
 
 -- what is missed of a name is what is missed of its causes
-pub missed_key : (cut : CutParts) → IsSound cut.plan.program → RowsFit cut.plan.program cut.rows → (n : Name) (key : ℕ) (s : Folded) (r : ℕ) (o : Option Tag) → IsKey cut.plan.program n key s → LeastTag (MissesCause cut key s r) o → LeastTag (Misses cut (On n) r) o
+pub missed_key : (cut : TraceParts) → IsSound cut.plan.program → RowsFit cut.plan.program cut.rows → (n : Name) (key : ℕ) (s : Folded) (r : ℕ) (o : Option Tag) → IsKey cut.plan.program n key s → LeastTag (MissesCause cut key s r) o → LeastTag (Misses cut (On n) r) o
 missed_key cut sound fit n key s r o k h = least_as (MissesCause cut key s r) (Misses cut (On n) r) o h to from
   where
     to : (g : Tag) → MissesCause cut key s r g → Misses cut (On n) r g

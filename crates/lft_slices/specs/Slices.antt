@@ -10,14 +10,10 @@ use Rattle.lft_model.specs.declared.breach.Breach.{Breach}
 use Rattle.lft_model.specs.Presence.{stop, Occurs, Triggered}
 use Rattle.lft_model.specs.Runs.{Ran}
 use Rattle.lft_model.specs.Breaches.{RowBreach, RowOrder}
+use Rattle.lft_presence.specs.Traces.{TraceParts}
 use Rattle.lft_slices.specs.declared.slices.Slice.{Slice}
 use Rattle.lft_slices.specs.declared.cuts.CutFault.{CutFault}
 use Rattle.lft_slices.specs.declared.cuts.CutFault.TheVariants.{Broken, NoMemory}
-
--- a cut is seen as what was cut
-pub record CutParts : Type 0 where
-  pub plan : PlanParts
-  pub rows : List Row
 
 -- of the row breaches b is the first
 pub record IsFirstOfRows (plan : PlanParts) (t : List Row) (b : Breach) : Type 0 where
@@ -34,11 +30,11 @@ IsCutFault plan t (Broken b) = IsFirstOfRows plan t b
 IsCutFault plan t NoMemory = Unit {0}
 
 -- no row breaks one of the rules 1 to 5
-abbrev pub KeepsRows : CutParts → Type 0
+abbrev pub KeepsRows : TraceParts → Type 0
 KeepsRows cut = (b : Breach) → ¬ RowBreach cut.plan cut.rows b
 
 -- the rows that a cut is made of are of its program, and none breaks one of the rules 1 to 5
-pub record IsCuttable (cut : CutParts) : Type 0 where
+pub record IsCuttable (cut : TraceParts) : Type 0 where
   pub sound : IsSoundPlan cut.plan
   pub fit : RowsFit cut.plan.program cut.rows
   pub kept : KeepsRows cut
@@ -60,28 +56,18 @@ pub record AreSlices (t : List Row) (slices : List Slice) : Type 0 where
   pub is_slice : (k : ℕ) (x : Slice) → slice_get slices k ≡ Some x → IsSlice t x
   pub each : (i : ℕ) (row : Row) → slice_get t i ≡ Some row → (k : ℕ) × (x : Slice) × (slice_get slices k ≡ Some x) × (row.tag ≡ x.tag)
 
--- of the tags of a kind the least, if any
-abbrev pub LeastTag : (Tag → Type 0) → Option Tag → Type 0
-LeastTag P o = MatchOption o ((g : Tag) → ¬ P g) (λ g. P g × ((h : Tag) → P h → UpTo g h))
-
 -- the trigger is present at g, which is up to the stop, and r has no run there
-pub record Misses (cut : CutParts) (x : Trigger) (r : ℕ) (g : Tag) : Type 0 where
+pub record Misses (cut : TraceParts) (x : Trigger) (r : ℕ) (g : Tag) : Type 0 where
   pub occurs : Occurs cut.plan cut.rows g x
   pub in_time : UpTo g (stop cut.plan cut.rows)
   pub no_run : ¬ Ran cut.rows g r
 
 -- r is triggered at g, which is up to the stop, and has no run there
-pub record IsMissing (cut : CutParts) (r : ℕ) (g : Tag) : Type 0 where
+pub record IsMissing (cut : TraceParts) (r : ℕ) (g : Tag) : Type 0 where
   pub triggered : Triggered cut.plan cut.rows g r
   pub in_time : UpTo g (stop cut.plan cut.rows)
   pub no_run : ¬ Ran cut.rows g r
 
 -- the least tag up to the stop at which a reaction is triggered and has no run, and the least such reaction
-abbrev pub IsFirstMissing : CutParts → Option (Tag × ℕ) → Type 0
+abbrev pub IsFirstMissing : TraceParts → Option (Tag × ℕ) → Type 0
 IsFirstMissing cut o = MatchOption o ((g : Tag) (r : ℕ) → ¬ IsMissing cut r g) (λ x. IsMissing cut x.1 x.0 × ((h : Tag) (a : ℕ) → IsMissing cut a h → Before x.0 h ⊎ ((x.0 ≡ h) × (x.1 ≤ a))))
-
--- the reactions that are triggered at g, ascending
-pub record AreDue (cut : CutParts) (g : Tag) (due : List ℕ) : Type 0 where
-  pub ascending : (j k a b : ℕ) → j < k → slice_get due j ≡ Some a → slice_get due k ≡ Some b → a < b
-  pub triggered : (k a : ℕ) → slice_get due k ≡ Some a → Triggered cut.plan cut.rows g a
-  pub each : (a : ℕ) → Triggered cut.plan cut.rows g a → (k : ℕ) × (slice_get due k ≡ Some a)

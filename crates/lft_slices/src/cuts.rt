@@ -4,18 +4,17 @@ ghost use Rattle.std.specs.Prelude.{◌≡◌, ◌≤◌, length, IsTrue, ◌↔
 ghost use Rattle.lft_graph.specs.Graph.{IsGraphOf};
 ghost use Rattle.lft_model.specs.Presence.{stop as the_stop};
 ghost use Rattle.lft_model.specs.Runs.{Ran};
-ghost use Rattle.lft_slices.specs.Causes.{AreCauses};
-ghost use Rattle.lft_slices.specs.Clashes.{IsClash};
+ghost use Rattle.lft_presence.specs.Causes.{AreCauses};
 ghost use Rattle.lft_slices.specs.Slices.{AreSlices, IsCuttable};
 
-use crate::causes::Cause;
 use crate::slices::Slice;
 use crate::started::Started;
 use lft_flat::Program;
 use lft_graph::Graph;
-use lft_model::{Breach, Plan};
+use lft_model::Breach;
+use lft_presence::{Cause, Presence};
 use lft_tag::Tag;
-use lft_trace::{Event, Row};
+use lft_trace::Row;
 use std::marker::Model;
 
 /// Why rows can't be cut.
@@ -30,25 +29,21 @@ pub enum CutFault {
 /// The rows of a plan's trace, cut by tag. None of them breaks one of the rules 1 to 5.
 #[derive(Drop)]
 pub struct Cut<'a> {
-    plan: &'a Plan,
-    rows: &'a [Row],
-    stop: Tag,
+    presence: Presence<'a>,
     slices: Vec<Slice>,
     started: Started,
-    causes: Vec<Cause>,
-    clash: Option<Tag>,
 }
 
 impl<'a> Model for Cut<'a> {
-    ghost use Rattle.lft_slices.specs.Slices.{CutParts};
+    ghost use Rattle.lft_presence.specs.Traces.{TraceParts};
 
-    ghost Value = { CutParts };
+    ghost Value = { TraceParts };
 
-    ghost view = { λ a. record { plan = a.plan.now; rows = a.rows.now } };
+    ghost view = { λ a. a.presence };
 
     ghost use Rattle.lft_slices.specs.Indexes.{IsIndexed};
 
-    ghost invariant = { λ a. IsIndexed (record { plan = a.plan.now; rows = a.rows.now }) a.stop a.slices.items a.started a.causes.items a.clash };
+    ghost invariant = { λ a. IsIndexed a.presence a.slices.items a.started };
 }
 
 impl<'a> Cut<'a> {
@@ -56,25 +51,17 @@ impl<'a> Cut<'a> {
 
     /// The cut of rows with what is kept beside them. It takes no memory.
     pub(crate) fn from_parts(
-        plan: &'a Plan,
-        rows: &'a [Row],
-        stop: Tag,
+        presence: Presence<'a>,
         slices: Vec<Slice>,
         started: Started,
-        causes: Vec<Cause>,
-        clash: Option<Tag>,
     ) -> Cut<'a>
-        requires { IsIndexed (record { plan = plan.now; rows = rows.now }) stop slices.items started causes.items clash }
-        ensures { result ≡ record { plan = plan.now; rows = rows.now } }
+        requires { IsIndexed presence slices.items started }
+        ensures { result ≡ presence.entry }
     {
         Cut {
-            plan,
-            rows,
-            stop,
+            presence,
             slices,
             started,
-            causes,
-            clash,
         }
     }
 
@@ -86,12 +73,19 @@ impl<'a> Cut<'a> {
         let _ = &self.slices;
     }
 
+    /// The events of the rows, and what they cause.
+    pub fn presence(&self) -> &Presence<'a>
+        ensures { result.now ≡ self.now }
+    {
+        &self.presence
+    }
+
     /// The rows that were cut.
     pub fn rows(&self) -> &[Row]
         ensures value { result.now ≡ self.now.rows }
         ensures rules { IsCuttable self.now }
     {
-        self.rows
+        self.presence.rows()
     }
 
     /// The rows at each tag that has some, ascending by tag.
@@ -101,18 +95,11 @@ impl<'a> Cut<'a> {
         self.slices.as_slice()
     }
 
-    /// The least tag up to the stop at which two causes give a port or an action an event.
-    pub fn clash(&self) -> Option<Tag>
-        ensures { IsClash self.now result }
-    {
-        self.clash
-    }
-
     /// The graph of the program.
     pub fn graph(&self) -> &Graph
         ensures { IsGraphOf self.now.plan.program result.now }
     {
-        self.plan.graph()
+        self.presence.plan().graph()
     }
 
     /// How many reactions the program has.
@@ -120,7 +107,7 @@ impl<'a> Cut<'a> {
         ensures count { result ≡ length self.now.plan.program.reactions }
         ensures few { result ≤ 10000 }
     {
-        self.plan.program().reactions()
+        self.presence.plan().program().reactions()
     }
 
     /// The flat program.
@@ -128,21 +115,14 @@ impl<'a> Cut<'a> {
         ensures value { result.now ≡ self.now.plan.program }
         ensures rules { IsCuttable self.now }
     {
-        self.plan.program()
+        self.presence.plan().program()
     }
 
     /// The causes of events, by name, tag and place.
     pub(crate) fn causes(&self) -> &[Cause]
         ensures { AreCauses self.now.plan self.now.rows result.now }
     {
-        self.causes.as_slice()
-    }
-
-    /// The events of the external inputs.
-    pub(crate) fn events(&self) -> &[Event]
-        ensures { result.now ≡ self.now.plan.externals.events }
-    {
-        self.plan.externals().events()
+        self.presence.causes()
     }
 
     /// The last tag of the execution. Its time is at most that of a recorded tag.
@@ -150,7 +130,7 @@ impl<'a> Cut<'a> {
         ensures value { result ≡ the_stop self.now.plan self.now.rows }
         ensures limit { result.time ≤ 1000000000000000000 }
     {
-        self.stop
+        self.presence.stop()
     }
 
     /// Whether the reaction has a run at the tag.

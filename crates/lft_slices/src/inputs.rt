@@ -1,8 +1,7 @@
-//! What a reaction reads at a tag, and what its run read.
+//! Whether a run read what is present.
 
 ghost use Rattle.std.specs.Prelude.{◌≡◌, ◌<◌, ◌↔◌, List, Option, Some, length, IsTrue, IfOk, slice_get};
 ghost use Rattle.lft_flat.specs.Sound.{IsNameOf, IsTriggerOf};
-ghost use Rattle.lft_flat.specs.declared.parts.Value.{Value as Carried};
 ghost use Rattle.lft_model.specs.Presence.{Collision, Inputs};
 ghost use Rattle.lft_model.specs.Runs.{reads_at};
 ghost use Rattle.lft_flat.specs.declared.parts.Reaction.{Reaction as TheReaction};
@@ -14,12 +13,9 @@ ghost use Rattle.lft_slices.specs.Walks.{HasWalked};
 use crate::cuts::Cut;
 use crate::declared::name_at;
 use crate::slices::Slice;
-use crate::triggered::trigger_at;
 use crate::walk::Walk;
 use lft_flat::{Name, Trigger, Value};
-use lft_model::Reads;
-use lft_tag::{NoMemory, Tag};
-use std::alloc::Global;
+use lft_presence::trigger_at;
 
 /// Whether the two are one value, or both none.
 fn same_values(a: Option<Value>, b: Option<Value>) -> bool
@@ -113,29 +109,5 @@ impl<'a> Cut<'a> {
             }
         }
         true
-    }
-
-    /// What the reaction reads at the tag, where no port and no action has two causes: each of its
-    /// inputs in order, triggers before uses.
-    pub fn inputs(&self, alloc: Global, tag: Tag, reaction: u32) -> Result<Reads, NoMemory>
-        requires reaction { reaction < length self.now.plan.program.reactions }
-        requires no_clash { Collision self.now.plan self.now.rows tag → ⊥ }
-        ensures inputs { IfOk result (Inputs self.now.plan self.now.rows tag reaction) }
-        ensures only { IfOk result (λ reads. (other : List (Option Carried)) → Inputs self.now.plan self.now.rows tag reaction other → other ≡ reads) }
-    {
-        let program = self.program();
-        let reaction = program.reaction(reaction);
-        let mut reads = Vec::new(alloc);
-        let triggers = reaction.triggers.as_slice();
-        for place in 0..triggers.len() {
-            if let Trigger::On(name) = triggers[place] {
-                reads.push(self.value_at(tag, name))?;
-            }
-        }
-        let uses = reaction.uses.as_slice();
-        for place in 0..uses.len() {
-            reads.push(self.value_at(tag, uses[place]))?;
-        }
-        Ok(Reads::from_vec(reads))
     }
 }

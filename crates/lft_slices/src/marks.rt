@@ -7,8 +7,8 @@ ghost use Rattle.lft_trace.specs.Fits.{RowsFit};
 ghost use Rattle.lft_slices.specs.Marks.{width, HasSeat, AreNoneFrom, IsLaid, Mark, IsMarkedBy, AreMarks, AreBefore};
 
 use crate::declared::{is_same_name, name_at};
-use crate::triggered::trigger_at;
 use lft_flat::{Name, Program, Reaction, Trigger};
+use lft_presence::trigger_at;
 use lft_tag::NoMemory;
 use lft_trace::{Row, Step, row_at};
 use std::alloc::Global;

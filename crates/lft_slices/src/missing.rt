@@ -3,25 +3,14 @@
 ghost use Rattle.std.specs.Prelude.{◌≡◌, ◌<◌, ◌≤◌, length, Some, None};
 ghost use Rattle.lft_flat.specs.Sound.{IsNameOf, IsTriggerOf};
 ghost use Rattle.lft_flat.specs.declared.parts.Trigger.TheVariants.{On};
-ghost use Rattle.lft_slices.specs.Slices.{LeastTag, Misses, IsMissing, IsFirstMissing};
-ghost use Rattle.lft_slices.specs.Least.{IsSooner, IsFirstOf, MissesAt, MissesCause, MissesFiring};
+ghost use Rattle.lft_slices.specs.Slices.{Misses, IsMissing, IsFirstMissing};
+ghost use Rattle.lft_presence.specs.Traces.{LeastTag};
+ghost use Rattle.lft_slices.specs.Least.{IsFirstOf, MissesAt, MissesCause, MissesFiring};
 
-use crate::causes::{cause_at, cause_tag, moved, position, skip};
 use crate::cuts::Cut;
-use crate::triggered::trigger_at;
 use lft_flat::{Name, Timer, Trigger};
+use lft_presence::{cause_at, cause_tag, moved, position, skip, sooner, trigger_at};
 use lft_tag::{Shift, Tag};
-
-/// The earlier of two tags, of those that are.
-pub(crate) fn sooner(first: Option<Tag>, second: Option<Tag>) -> Option<Tag>
-    ensures { IsSooner first second result }
-{
-    match (first, second) {
-        (Some(a), Some(b)) => { if b.is_before(a) { Some(b) } else { Some(a) } }
-        (Some(a), None) => Some(a),
-        (None, b) => b,
-    }
-}
 
 /// The pair of the earlier tag, where they are at one tag the first pair.
 fn first_of(first: Option<(Tag, u32)>, tag: Option<Tag>, reaction: u32) -> Option<(Tag, u32)>

@@ -7,4 +7,4 @@ pub slices_of-requires : goal.slices_of-requires
 slices_of-requires c = rises_of c.args.plan.now c.as_slice-rows.result.now (rw c.in-Ok-None.field-0-is at c.in-Ok-None.ensures)
 
 pub from_parts-requires : goal.from_parts-requires
-from_parts-requires c = let t = c.as_slice-rows.result.now in indexed c.args.plan.now t c.trace_stop-stop.result c.in-Ok.slices.items c.in-Ok-started_of.started c.in-Ok-causes_of.causes.items c.in-Ok-clash_of.clash c.keeps.ensures.sound (subst (λ z. RowsFit c.args.plan.now.program z) (sym c.as_slice-rows.ensures) c.requires) (rw c.in-Ok-None.field-0-is at c.in-Ok-None.ensures) c.trace_stop-stop.ensures c.in-Ok.ensures c.in-Ok-started_of.ensures c.in-Ok-causes_of.ensures c.in-Ok-clash_of.ensures
+from_parts-requires c = let t = c.as_slice-rows.result.now in indexed c.in-Ok-presence_of.presence c.args.plan.now t c.in-Ok.slices.items c.in-Ok-started_of.started c.in-Ok-presence_of.ensures c.keeps.ensures.sound (subst (λ z. RowsFit c.args.plan.now.program z) (sym c.as_slice-rows.ensures) c.requires) (rw c.in-Ok-None.field-0-is at c.in-Ok-None.ensures) c.in-Ok.ensures c.in-Ok-started_of.ensures

@@ -3,7 +3,7 @@ use Rattle.std.proofs.Common.{refl}
 use Rattle.lft_flat.specs.Parts.{Parts}
 use Rattle.lft_flat.specs.declared.parts.Name.{Name}
 use Rattle.lft_flat.specs.declared.parts.Name.TheVariants.{Port, Action}
-use Rattle.lft_slices.proofs.Presences.{IsKey}
+use Rattle.lft_presence.proofs.Presences.{IsKey}
 use Rattle.lft_slices.proofs.Walks.{missed_key}
 use Rattle.lft_slices.proofs.cuts.Cut.missed_name.Goals as goal
 

@@ -1,0 +1,11 @@
+pub mod Lists
+pub mod Leasts
+pub mod Positions
+pub mod Made
+pub mod Presences
+pub mod Skips
+pub mod Paired
+pub mod Twice
+pub mod Collisions
+pub mod Dues
+pub mod Kept

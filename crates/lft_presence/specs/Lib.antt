@@ -1,0 +1,4 @@
+pub mod Traces
+pub mod Causes
+pub mod Clashes
+pub mod Kept
