@@ -1,0 +1,6 @@
+pub mod Known
+pub mod BegunRun
+pub mod CommittedRun
+pub mod Refusals
+pub mod Finishing
+pub mod Left

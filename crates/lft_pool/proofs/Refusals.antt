@@ -1,0 +1,107 @@
+-- Causes of refusal, from one another.
+use Rattle.std.proofs.Common.{◌≡◌, ℕ, ℤ, ◌<◌, zero, suc, List, [], ◌∷◌, length, refl, sym, ap, ◌∙◌, subst, arith, Option, Some, slice_get, slice_set, cond, ◌==◌, Bool, false, IsTrue, Ok, Err, Result, IsErr, IfErr, Contains, unwrap_or, option_map, rules}
+use Rattle.std.specs.Bool.{Decides}
+use Rattle.std.proofs.lemmas.Bool.Decides.{nat_tests}
+use Rattle.lft_flat.specs.Sound.{IsSound}
+use Rattle.lft_flat.specs.declared.parts.Name.{Name}
+use Rattle.lft_flat.specs.declared.parts.Name.TheVariants.{Port, Action}
+use Rattle.lft_flat.specs.declared.parts.Reaction.{Reaction}
+use Rattle.lft_trace.specs.declared.row.Row.{Row}
+use Rattle.lft_trace.specs.declared.row.Step.{Step}
+use Rattle.lft_trace.specs.declared.row.Step.TheVariants.{Start, Read, Write, Schedule, Stop as StopStep, End}
+use Rattle.lft_trace.specs.Fits.{StepFits}
+use Rattle.lft_model.specs.Plans.{PlanParts}
+use Rattle.lft_model.specs.Recorded.{MayAnswer}
+use Rattle.lft_model.proofs.Members.{Mem, get_mem}
+use Rattle.lft_bodies.specs.declared.done.Done.{Done}
+use Rattle.lft_bodies.specs.declared.ticket.Ticket.{Ticket}
+use Rattle.lft_pool.specs.declared.stop.Stop.{Stop}
+use Rattle.lft_pool.specs.declared.stop.Stop.TheVariants.{NoBody, Collision, UndeclaredEffect, TooManyRuns, Stranger, BodyNoMemory, NoMemory, NoWorker, PlanChanged, BadWorkers, TooManyRows, LimitTag}
+use Rattle.lft_pool.specs.Books.{BookParts, StopHolds}
+use Rattle.lft_recording.specs.Answering.{MayAll, IsLong, HasLongDelay}
+use Rattle.lft_pool.specs.Answers.{HasTicket, with_answer, RefusalCause, EndCause, CommitCause}
+
+-- a refusal of an answer says nothing of bodies
+pub refusal_holds : (plan : PlanParts) (t u : List Row) (left : List ℕ) (s : Stop) → RefusalCause plan t s → StopHolds plan u left s
+refusal_holds plan t u left (NoBody r) h = absurd h
+refusal_holds plan t u left (Collision g) h = tt
+refusal_holds plan t u left (UndeclaredEffect r) h = tt
+refusal_holds plan t u left TooManyRuns h = tt
+refusal_holds plan t u left Stranger h = tt
+refusal_holds plan t u left BodyNoMemory h = tt
+refusal_holds plan t u left NoMemory h = tt
+refusal_holds plan t u left NoWorker h = absurd h
+refusal_holds plan t u left PlanChanged h = absurd h
+refusal_holds plan t u left BadWorkers h = absurd h
+refusal_holds plan t u left TooManyRows h = tt
+refusal_holds plan t u left LimitTag h = tt
+
+-- steps that may be made without a long delay, and rows that are refused
+pub end_cause : (b : BookParts) (t : Ticket) (d : Done) (s : Stop) → MayAll b.plan t.reaction d.steps → ¬ HasLongDelay d.steps → RefusalCause b.plan (with_answer b t d) s → EndCause b t d s
+end_cause b t d (NoBody r) may short h = h
+end_cause b t d (Collision g) may short h = (may, short, h)
+end_cause b t d (UndeclaredEffect r) may short h = absurd h
+end_cause b t d TooManyRuns may short h = h
+end_cause b t d Stranger may short h = h
+end_cause b t d BodyNoMemory may short h = h
+end_cause b t d NoMemory may short h = h
+end_cause b t d NoWorker may short h = h
+end_cause b t d PlanChanged may short h = h
+end_cause b t d BadWorkers may short h = h
+end_cause b t d TooManyRows may short h = (may, short, h.0, h.1)
+end_cause b t d LimitTag may short h = absurd h
+
+-- an open run whose answer isn't committed
+pub commit_cause : (b : BookParts) (t : Ticket) (d : Done) (s : Stop) → HasTicket b t → EndCause b t d s → CommitCause b t (Ok d) s
+commit_cause b t d (NoBody r) k h = h
+commit_cause b t d (Collision g) k h = (k, h)
+commit_cause b t d (UndeclaredEffect r) k h = (k, h)
+commit_cause b t d TooManyRuns k h = h
+commit_cause b t d Stranger k h = absurd h
+commit_cause b t d BodyNoMemory k h = absurd h
+commit_cause b t d NoMemory k h = h
+commit_cause b t d NoWorker k h = h
+commit_cause b t d PlanChanged k h = h
+commit_cause b t d BadWorkers k h = h
+commit_cause b t d TooManyRows k h = (k, h)
+commit_cause b t d LimitTag k h = (k, h)
+
+pub may_mem : (plan : PlanParts) (r : ℕ) (steps : List Step) → MayAll plan r steps → (s : Step) → Mem s steps → MayAnswer plan r s
+may_mem plan r steps may s m = let p = get_mem s steps m in may p.0 s p.1
+
+pub short_mem : (steps : List Step) → ¬ HasLongDelay steps → (s : Step) → Mem s steps → ¬ IsLong s
+short_mem steps short s m l = let p = get_mem s steps m in short (p.0, s, p.1, l)
+
+-- a step that may be made, without a long delay, is of the program
+pub answer_fits : (plan : PlanParts) → IsSound plan.program → (r : ℕ) (x : Reaction) → slice_get plan.program.reactions r ≡ Some x → (s : Step) → MayAnswer plan r s → ¬ IsLong s → StepFits plan.program s
+answer_fits plan sound r x e Start m n = absurd m
+answer_fits plan sound r x e (Read k v) m n = absurd m
+answer_fits plan sound r x e (Write (Port p) v) m n = (sound.exist r x e).effects (Port p) (subst (λ (ns : List Name). Contains ns (Port p)) (ap (λ (o : Option Reaction). unwrap_or (option_map (λ y. y.effects) o) []) e) m)
+answer_fits plan sound r x e (Write (Action a) v) m n = absurd m
+answer_fits plan sound r x e (Schedule (Port p) v d) m n = absurd m
+answer_fits plan sound r x e (Schedule (Action a) v d) m n = ((sound.exist r x e).effects (Action a) (subst (λ (ns : List Name). Contains ns (Action a)) (ap (λ (o : Option Reaction). unwrap_or (option_map (λ y. y.effects) o) []) e) m.0), omega arith)
+answer_fits plan sound r x e StopStep m n = tt
+answer_fits plan sound r x e End m n = absurd m
+
+-- one word that changes
+pub set_words : (words : List ℤ) (i k : ℕ) (w v : ℤ) → i < length words → slice_get words k ≡ Some v → slice_get (slice_set words i w) k ≡ Some (cond (i == k) w v)
+set_words [] i k w v l e = absurd (omega arith)
+set_words (x ∷ words) zero zero w v l e = refl
+set_words (x ∷ words) zero (suc k) w v l e = let ne : (0 == suc k) ≡ false = grind (arith, nat_tests) in e ∙ ap (λ (b : Bool). Some (cond b w v)) (sym ne)
+set_words (x ∷ words) (suc i) zero w v l e = let ne : (suc i == 0) ≡ false = grind (arith, nat_tests) in e ∙ ap (λ (b : Bool). Some (cond b w v)) (sym ne)
+set_words (x ∷ words) (suc i) (suc k) w v l e = let se : (suc i == suc k) ≡ (i == k) = grind (arith, nat_tests) in set_words words i k w v (omega arith) e ∙ ap (λ (b : Bool). Some (cond b w v)) (sym se)
+
+pub decided : (b : Bool) (P : Type 0) → Decides b P → IsTrue b → P
+decided b P d e = d.0 e
+
+pub decided_back : (b : Bool) (P : Type 0) → Decides b P → P → IsTrue b
+decided_back b P d p = d.1 p
+
+-- what follows from an error
+pub if_err : {A E : Type 0} (r : Result A E) (P Q : E → Type 0) → ((s : E) → P s → Q s) → IfErr r P → IfErr r Q
+if_err (Ok a) P Q f h = h
+if_err (Err s) P Q f h = f s h
+
+pub is_err_of : {A E : Type 0} (r : Result A E) → ((x : A) → r ≡ Ok x → ⊥) → IsErr r
+is_err_of (Ok a) n = absurd (n a refl)
+is_err_of (Err s) n = search rules

@@ -1,0 +1,131 @@
+use Rattle.std.proofs.Common.{◌≡◌, ◌≤◌, ◌<◌, ◌+◌, ◌++◌, ℕ, slice_index, List, Option, Some, None, length, length-append, length-set, slice_get, refl, sym, ap, ◌∙◌, subst, arith, rules, unwrap_or, option_map, []}
+use Rattle.std.proofs.lemmas.Int.{to_z-of_z}
+use Rattle.lft_tag.specs.Tags.{IsRecorded}
+use Rattle.lft_trace.specs.declared.row.Row.{Row}
+use Rattle.lft_flat.specs.declared.parts.Reaction.{Reaction}
+use Rattle.lft_flat.specs.Parts.{inputs}
+use Rattle.lft_model.specs.Presence.{Inputs, Shows}
+use Rattle.lft_model.specs.Runs.{Run, by_ends}
+use Rattle.lft_model.specs.OneWorker.{IsPending, rows}
+use Rattle.lft_model.specs.Recorded.{begun_rows, word_after}
+use Rattle.lft_model.proofs.Places.{slice_get_within}
+use Rattle.lft_model.proofs.Quiet.{pending_time, no_collision, inputs_to_ended}
+use Rattle.lft_recording.specs.Starts.{MayStartFirst, IsBusy}
+use Rattle.lft_bodies.specs.declared.ticket.Ticket.{Ticket}
+use Rattle.lft_pool.specs.declared.stop.Stop.{Stop}
+use Rattle.lft_pool.specs.Begun.{Started}
+use Rattle.lft_pool.specs.Causes.{HasAllRuns, HasNoRoom, StartCause}
+use Rattle.lft_pool.specs.Books.{BookParts, IsRecording, IsKept}
+use Rattle.lft_pool.proofs.Known.{zipped_length}
+use Rattle.lft_pool.proofs.BegunRun.{same, begun_recording, begun_count}
+use Rattle.lft_pool.proofs.book.Book.start.Goals as goal
+
+pub inputs_slow-requires-clause-no_clash : goal.inputs_slow-requires-clause-no_clash
+inputs_slow-requires-clause-no_clash g c =
+    let first : MayStartFirst c.self.inside.plan c.self.inside.rows c.args.tag c.args.reaction = subst (λ (b : BookParts). MayStartFirst b.plan b.rows c.args.tag c.args.reaction) (sym c.self.view_is) c.requires.first in
+    no_collision c.self.inside.plan c.program.ensures.sound c.self.inside.rows c.self.invariant.0.so_far c.self.invariant.0.quiet c.args.tag (pending_time c.self.inside.plan c.program.ensures.sound c.self.inside.rows c.self.invariant.0.so_far c.self.invariant.0.quiet c.args.tag c.args.reaction first.may.ready.pending)
+
+pub begun-requires-clause-reads : goal.begun-requires-clause-reads
+begun-requires-clause-reads g c =
+    let i : Inputs c.self.inside.plan c.self.inside.rows c.args.tag c.args.reaction c.in-Ok.reads = search rules in
+    zipped_length (Shows c.self.inside.plan c.self.inside.rows c.args.tag) (inputs i.reaction) c.in-Ok.reads i.each ∙ ap (λ (o : Option Reaction). length (unwrap_or (option_map inputs o) [])) (sym i.is_reaction)
+
+pub word_at-state-requires : goal.word_at-state-requires
+word_at-state-requires g c =
+    let plan = c.self.inside.plan in
+    let x = c.reaction.result.now in
+    let e : slice_get plan.program.reactions c.args.reaction ≡ Some x = search rules in
+    let l : x.instance < length c.self.inside.words.items = slice_get_within c.self.inside.words.items x.instance (word_after plan.program x.instance (by_ends plan c.self.inside.rows) c.self.inside.states) (c.self.invariant.1.words_are c.args.reaction x e) in
+    search rules
+
+pub invariant_of-self-2 : goal.invariant_of-self-2
+invariant_of-self-2 g c =
+    let plan = c.self.inside.plan in
+    let t = c.self.inside.rows in
+    let first : MayStartFirst plan t c.args.tag c.args.reaction = subst (λ (b : BookParts). MayStartFirst b.plan b.rows c.args.tag c.args.reaction) (sym c.self.view_is) c.requires.first in
+    let idle : ¬ IsBusy t c.args.worker = subst (λ (b : BookParts). ¬ IsBusy b.rows c.args.worker) (sym c.self.view_is) c.requires.idle in
+    let i : Inputs plan t c.args.tag c.args.reaction c.in-Ok.reads = search rules in
+    let reads : Inputs plan (rows plan (by_ends plan t)) c.args.tag c.args.reaction c.in-Ok.reads = inputs_to_ended plan c.program.ensures.sound t c.self.invariant.0.so_far c.self.invariant.0.quiet c.args.tag c.args.reaction c.in-Ok.reads i in
+    let more : c.append.new.self ≡ t ++ c.as_slice-2.result.now = search rules in
+    let part : c.as_slice-2.result.now ≡ c.in-Ok-begun.added.items = search rules in
+    let its : c.in-Ok-begun.added.items ≡ begun_rows plan c.args.worker c.args.tag c.args.reaction c.in-Ok.reads = search rules in
+    let sum : length t + length c.in-Ok-begun.added.items ≤ 4000000 = search rules in
+    let grown : c.append.new.self ≡ t ++ begun_rows plan c.args.worker c.args.tag c.args.reaction c.in-Ok.reads = more ∙ ap (λ (xs : List Row). t ++ xs) (part ∙ its) in
+    let recorded : IsRecorded c.args.tag = search rules in
+    let few : length (t ++ begun_rows plan c.args.worker c.args.tag c.args.reaction c.in-Ok.reads) ≤ 4000000 = subst (λ (xs : List Row). length (t ++ xs) ≤ 4000000) its (omega (arith, length-append t c.in-Ok-begun.added.items)) in
+    let all = begun_recording g.L.Law.holds plan c.program.ensures.sound t c.self.inside.states c.self.invariant.0 c.args.worker c.args.tag c.args.reaction c.in-Ok.reads first.may reads idle recorded few in
+    let none : c.self.inside.reason ≡ None = ap (λ (b : BookParts). b.reason) c.self.view_is ∙ c.requires.going in
+    let kept : IsKept plan (t ++ begun_rows plan c.args.worker c.args.tag c.args.reaction c.in-Ok.reads) c.self.inside.states c.self.inside.words.items (c.self.inside.started + 1) c.take-body.new.self None = record {
+      words_are = λ r x e. subst (λ (us : List Run). slice_get c.self.inside.words.items x.instance ≡ Some (word_after plan.program x.instance us c.self.inside.states)) (sym (same g.L.Law.holds plan c.program.ensures.sound t c.self.inside.states c.self.invariant.0 c.args.worker c.args.tag c.args.reaction c.in-Ok.reads first.may reads idle)) (c.self.invariant.1.words_are r x e);
+      started_is = ap (λ (n : ℕ). n + 1) c.self.invariant.1.started_is ∙ sym (begun_count plan t c.args.worker c.args.tag c.args.reaction c.in-Ok.reads);
+      lists = let e = ap length c.take-body.ensures.fewer in let k = c.self.invariant.1.lists in search (rules, length-set);
+      why = tt;
+    } in
+    subst (λ (ts : List Row). IsRecording g.L.Law.holds plan ts c.self.inside.states × IsKept plan ts c.self.inside.states c.self.inside.words.items (c.self.inside.started + 1) c.take-body.new.self c.self.inside.reason) (sym grown) (all, subst (λ o. IsKept plan (t ++ begun_rows plan c.args.worker c.args.tag c.args.reaction c.in-Ok.reads) c.self.inside.states c.self.inside.words.items (c.self.inside.started + 1) c.take-body.new.self o) (sym none) kept)
+
+pub returns-clause-ok : goal.returns-clause-ok
+returns-clause-ok g c =
+    let old : BookParts = record { plan = c.self.inside.plan; rows = c.self.inside.rows; states = c.self.inside.states; left = c.self.inside.bodies; max_runs = c.self.inside.max_runs; reason = c.self.inside.reason } in
+    let new : BookParts = record { plan = c.self.inside.plan; rows = c.append.new.self; states = c.self.inside.states; left = c.take-body.new.self; max_runs = c.self.inside.max_runs; reason = c.self.inside.reason } in
+    let v : old ≡ c.args.self.now = c.self.view_is in
+    let i : Inputs c.self.inside.plan c.self.inside.rows c.args.tag c.args.reaction c.in-Ok.reads = search rules in
+    let reads : Inputs c.self.inside.plan (rows c.self.inside.plan (by_ends c.self.inside.plan c.self.inside.rows)) c.args.tag c.args.reaction c.in-Ok.reads = inputs_to_ended c.self.inside.plan c.program.ensures.sound c.self.inside.rows c.self.invariant.0.so_far c.self.invariant.0.quiet c.args.tag c.args.reaction c.in-Ok.reads i in
+    let more : c.append.new.self ≡ c.self.inside.rows ++ c.as_slice-2.result.now = search rules in
+    let part : c.as_slice-2.result.now ≡ c.in-Ok-begun.added.items = search rules in
+    let its : c.in-Ok-begun.added.items ≡ begun_rows c.self.inside.plan c.args.worker c.args.tag c.args.reaction c.in-Ok.reads = search rules in
+    let grown : c.append.new.self ≡ c.self.inside.rows ++ begun_rows c.self.inside.plan c.args.worker c.args.tag c.args.reaction c.in-Ok.reads = more ∙ ap (λ (xs : List Row). c.self.inside.rows ++ xs) (part ∙ its) in
+    let plan = c.self.inside.plan in
+    let x = c.reaction.result.now in
+    let of : slice_get plan.program.reactions c.args.reaction ≡ Some x = search rules in
+    let word = word_after plan.program x.instance (by_ends plan c.self.inside.rows) c.self.inside.states in
+    let w : slice_get c.self.inside.words.items x.instance ≡ Some c.word_at-state.result = search rules in
+    let q : Some c.word_at-state.result ≡ Some word = sym w ∙ c.self.invariant.1.words_are c.args.reaction x of in
+    let z : c.word_at-state.result ≡ word = cc in
+    let n : c.args.reaction < length plan.program.reactions = slice_get_within plan.program.reactions c.args.reaction x of in
+    let lists : length c.self.inside.bodies ≡ length plan.program.reactions = c.self.invariant.1.lists in
+    let b : c.args.reaction < length c.self.inside.bodies = omega arith in
+    let h = c.left.ensures.there b in
+    let ticket : Ticket = record { worker = c.args.worker; tag = c.args.tag; reaction = c.args.reaction; state = c.word_at-state.result; reads = c.in-Ok.reads } in
+    let started : Started old new c.args.worker ticket c.take-body.result = record {
+      first = subst (λ (b : BookParts). MayStartFirst b.plan b.rows c.args.tag c.args.reaction) (sym v) c.requires.first;
+      by_worker = refl;
+      body_is = c.take-body.ensures.body;
+      word_is = z ∙ ap (λ (i : ℕ). word_after plan.program i (by_ends plan c.self.inside.rows) c.self.inside.states) (ap (λ (o : Option Reaction). unwrap_or (option_map (λ y. y.instance) o) 0) (sym of));
+      reads = reads;
+      had_body = omega arith;
+      book_is = λ k. record { plan = c.self.inside.plan; rows = grown k; states = c.self.inside.states; left = c.take-body.ensures.fewer k; max_runs = c.self.inside.max_runs; reason = c.self.inside.reason };
+    } in
+    let id : c.ticket_of-ticket.result ≡ ticket = search (rules, to_z-of_z) in
+    subst (λ (k : Ticket). Started c.args.self.now new c.args.worker k c.take-body.result) (sym id) (subst (λ (b : BookParts). Started b new c.args.worker ticket c.take-body.result) v started)
+
+pub returns-then-as_slice-len-gt-MAX_ROWS-clause-cause : goal.returns-then-as_slice-len-gt-MAX_ROWS-clause-cause
+returns-then-as_slice-len-gt-MAX_ROWS-clause-cause g c =
+    let plan = c.self.inside.plan in
+    let t = c.self.inside.rows in
+    let i : Inputs plan t c.args.tag c.args.reaction c.in-Ok.reads = search rules in
+    let reads : Inputs plan (rows plan (by_ends plan t)) c.args.tag c.args.reaction c.in-Ok.reads = inputs_to_ended plan c.program.ensures.sound t c.self.invariant.0.so_far c.self.invariant.0.quiet c.args.tag c.args.reaction c.in-Ok.reads i in
+    let its : c.in-Ok-begun.added.items ≡ begun_rows plan c.args.worker c.args.tag c.args.reaction c.in-Ok.reads = search rules in
+    let sum : 4000000 < length t + length c.in-Ok-begun.added.items = search rules in
+    let many : 4000000 < length (t ++ begun_rows plan c.args.worker c.args.tag c.args.reaction c.in-Ok.reads) = subst (λ (xs : List Row). 4000000 < length (t ++ xs)) its (omega (arith, length-append t c.in-Ok-begun.added.items)) in
+    let old : BookParts = record { plan = plan; rows = t; states = c.self.inside.states; left = c.self.inside.bodies; max_runs = c.self.inside.max_runs; reason = c.self.inside.reason } in
+    let v : old ≡ c.args.self.now = c.self.view_is in
+    let room : HasNoRoom c.args.self.now c.args.worker c.args.tag c.args.reaction = subst (λ (b : BookParts). HasNoRoom b c.args.worker c.args.tag c.args.reaction) v (c.in-Ok.reads, reads, many) in
+    let recorded : IsRecorded c.args.tag = search rules in
+    let going : ¬ HasAllRuns c.args.self.now = search rules in
+    let some : 0 < slice_index c.args.self.now.left c.args.reaction = search rules in
+    subst (λ (s : Stop). StartCause c.args.self.now c.args.worker c.args.tag c.args.reaction s) (sym c.stop-then-as_slice-len-gt-MAX_ROWS.ensures.same) (recorded, going, some, room)
+
+pub returns-clause-left : goal.returns-clause-left
+returns-clause-left g c =
+    let plan = c.self.inside.plan in
+    let t = c.self.inside.rows in
+    let first : MayStartFirst plan t c.args.tag c.args.reaction = subst (λ (b : BookParts). MayStartFirst b.plan b.rows c.args.tag c.args.reaction) (sym c.self.view_is) c.requires.first in
+    let idle : ¬ IsBusy t c.args.worker = subst (λ (b : BookParts). ¬ IsBusy b.rows c.args.worker) (sym c.self.view_is) c.requires.idle in
+    let i : Inputs plan t c.args.tag c.args.reaction c.in-Ok.reads = search rules in
+    let reads : Inputs plan (rows plan (by_ends plan t)) c.args.tag c.args.reaction c.in-Ok.reads = inputs_to_ended plan c.program.ensures.sound t c.self.invariant.0.so_far c.self.invariant.0.quiet c.args.tag c.args.reaction c.in-Ok.reads i in
+    let more : c.append.new.self ≡ t ++ c.as_slice-2.result.now = search rules in
+    let part : c.as_slice-2.result.now ≡ c.in-Ok-begun.added.items = search rules in
+    let its : c.in-Ok-begun.added.items ≡ begun_rows plan c.args.worker c.args.tag c.args.reaction c.in-Ok.reads = search rules in
+    let grown : c.append.new.self ≡ t ++ begun_rows plan c.args.worker c.args.tag c.args.reaction c.in-Ok.reads = more ∙ ap (λ (xs : List Row). t ++ xs) (part ∙ its) in
+    let e = same g.L.Law.holds plan c.program.ensures.sound t c.self.inside.states c.self.invariant.0 c.args.worker c.args.tag c.args.reaction c.in-Ok.reads first.may reads idle in
+    (c.args.tag, c.args.reaction, subst (λ (ts : List Row). IsPending plan (by_ends plan ts) c.args.tag c.args.reaction) (sym grown) (subst (λ (us : List Run). IsPending plan us c.args.tag c.args.reaction) (sym e) first.may.ready.pending))

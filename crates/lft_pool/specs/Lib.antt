@@ -1,0 +1,5 @@
+pub mod Books
+pub mod Begun
+pub mod Causes
+pub mod Answers
+pub mod Endings

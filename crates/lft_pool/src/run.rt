@@ -1,0 +1,209 @@
+//! Many workers over one book.
+
+ghost use Rattle.std.specs.Prelude.{◌≡◌, ◌≢◌, ◌↔◌, ◌⊎◌, [], length, IfOk, IfErr, IfNone, IfSome, IsTrue, true, false, Some, is_ok};
+ghost use Rattle.lft_model.specs.Breaches.{Legal};
+ghost use Rattle.lft_recording.specs.Starts.{SomethingLeft};
+ghost use Rattle.lft_pool.specs.Books.{IsRecording, LacksBody};
+ghost use Rattle.lft_pool.specs.Begun.{MatchBegin};
+ghost use Rattle.lft_pool.specs.Endings.{AreBad, ReasonIs};
+
+use crate::book::{Begin, Book, Closed, Stopped};
+use crate::states::States;
+use crate::stop::Stop;
+use lft_bodies::{Bodies, BoxedCode, Code, Law};
+use lft_model::Plan;
+use lft_trace::Rows;
+use std::alloc::Global;
+use std::sync::{Condvar, Mutex, Wait};
+use std::thread;
+use std::thread::Threads;
+
+/// The greatest number of workers.
+pub const MAX_WORKERS: u32 = 64;
+
+/// A recording that was finished.
+#[derive(Drop)]
+pub struct Recorded<L: Law, C: Code + Drop = BoxedCode> {
+    pub plan: Plan,
+    pub rows: Rows,
+    pub states: States,
+    pub left: Bodies<L, C>,
+}
+
+// What one worker does until the book is finished or stopped. A body is called while no lock is
+// held.
+fn work<L: Law, C: Code + Drop, R: Wait>(
+    rt: &R,
+    alloc: Global,
+    worker: u32,
+    book: &Mutex<Book<L, C>>,
+    moved: &Condvar,
+) {
+    for _ in rt.forever() {
+        let mut guard = book.lock(rt);
+        match guard.begin(worker) {
+            Ok(Begin::Run(ticket, body)) => {
+                drop(guard);
+                let answered = body.call(alloc, ticket);
+                let ended = book.lock(rt).commit(answered);
+                moved.notify_all();
+                if ended.is_err() {
+                    return;
+                }
+            }
+            Ok(Begin::Wait) => {
+                let guard = moved.wait(rt, guard);
+                drop(guard);
+            }
+            Ok(Begin::Finished) | Err(_) => {
+                drop(guard);
+                moved.notify_all();
+                return;
+            }
+        }
+    }
+}
+
+// Runs so many workers to their ends, one of them here. False where a thread could not be started.
+fn work_all<L: Law + Send, C: Code + Drop + Send, R: Threads + Wait + Sync>(
+    rt: &R,
+    alloc: Global,
+    workers: u32,
+    book: &Mutex<Book<L, C>>,
+) -> bool {
+    let bell = Condvar::new();
+    let moved = &bell;
+    thread::scope(thread::scope_env(), rt, |scope| {
+        let mut all = true;
+        for worker in 1..workers {
+            if scope
+                .spawn(move || work(rt, alloc, worker, book, moved))
+                .is_err()
+            {
+                all = false;
+            }
+        }
+        work(rt, alloc, 0, book, moved);
+        all
+    })
+}
+
+// Why the recording isn't finished, if it isn't: another plan, a thread that could not be started,
+// the book's own reason.
+fn reason_of<L: Law, C: Code + Drop>(
+    same: bool,
+    all: bool,
+    last: Result<Begin<L, C>, Stop>,
+) -> Option<Stop>
+    ensures none { IfNone result ((same ≡ true) × (all ≡ true) × IfOk last (λ b. MatchBegin b (λ _ _. ⊥) ⊥ (Unit {0})) × (is_ok last ≡ true)) }
+    ensures changed { same ≡ false → result ≡ Some Stop.PlanChanged }
+    ensures some { IfSome result (λ s. ReasonIs same last s) }
+{
+    if !same {
+        return Some(Stop::PlanChanged);
+    }
+    if !all {
+        return Some(Stop::NoWorker);
+    }
+    match last {
+        Err(stop) => Some(stop),
+        Ok(Begin::Finished) => None,
+        Ok(_) => Some(Stop::PlanChanged),
+    }
+}
+
+// A recording that stopped before any run.
+fn unbegun<L: Law, C: Code + Drop>(
+    alloc: Global,
+    reason: Stop,
+    plan: Plan,
+    left: Bodies<L, C>,
+) -> Stopped<L, C>
+    ensures recording { IsRecording L.holds result.plan result.rows result.states }
+    ensures same { (result.reason ≡ reason) × (result.plan ≡ plan) × (result.left ≡ left) × (result.rows ≡ []) × (result.states ≡ []) }
+{
+    // Asked for what every plan keeps: of a sound one no rows are a recording.
+    plan.keeps();
+    let rows = Rows::from_vec(Vec::new(alloc));
+    let states = States::new(alloc);
+    Stopped {
+        reason,
+        plan,
+        rows,
+        states,
+        left,
+    }
+}
+
+// Whether there are not 1 to 64 workers.
+fn are_bad(workers: u32) -> bool
+    ensures { IsTrue result ↔ AreBad workers }
+{
+    workers == 0 || workers > MAX_WORKERS
+}
+
+/// Records the plan with so many workers, at most so many runs, if it returns.
+pub fn record_run<L: Law + Send, C: Code + Drop + Send, R: Threads + Wait + Sync>(
+    rt: &R,
+    alloc: Global,
+    plan: Plan,
+    bodies: Bodies<L, C>,
+    workers: u32,
+    max_runs: u32,
+) -> Result<Recorded<L, C>, Stopped<L, C>>
+    requires { length bodies ≡ length plan.program.reactions }
+    ensures plan { IfOk result (λ r. r.plan ≡ plan) }
+    ensures legal { IfOk result (λ r. Legal r.plan r.rows) }
+    ensures recording { IfOk result (λ r. IsRecording L.holds r.plan r.rows r.states) }
+    ensures lists { IfOk result (λ r. length r.left ≡ length r.plan.program.reactions) }
+    ensures so_far { IfErr result (λ s. IsRecording L.holds s.plan s.rows s.states) }
+    ensures lists_left { IfErr result (λ s. length s.left ≡ length s.plan.program.reactions) }
+    ensures changed { IfErr result (λ s. s.reason ≢ Stop.PlanChanged → s.plan ≡ plan) }
+{
+    if are_bad(workers) {
+        return Err(unbegun(alloc, Stop::BadWorkers, plan, bodies));
+    }
+    let Ok(kept) = plan.copy(alloc) else {
+        return Err(unbegun(alloc, Stop::NoMemory, plan, bodies));
+    };
+    let book = match Book::new(alloc, plan, bodies, max_runs) {
+        Ok(book) => book,
+        Err(stopped) => {
+            let Stopped {
+                reason,
+                plan,
+                rows: _,
+                states: _,
+                left,
+            } = stopped;
+            return Err(unbegun(alloc, reason, plan, left));
+        }
+    };
+    let shared = Mutex::new(book);
+    let all = work_all(rt, alloc, workers, &shared);
+    let mut book = shared.into_inner();
+    let last = book.begin(0);
+    let Closed {
+        reason: _,
+        plan,
+        rows,
+        states,
+        left,
+    } = book.close();
+    let same = kept.same(&plan);
+    match reason_of(same, all, last) {
+        None => Ok(Recorded {
+            plan,
+            rows,
+            states,
+            left,
+        }),
+        Some(reason) => Err(Stopped {
+            reason,
+            plan,
+            rows,
+            states,
+            left,
+        }),
+    }
+}
