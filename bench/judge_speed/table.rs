@@ -21,11 +21,8 @@ impl Records {
     pub fn open(path: &str, header: &str) -> Records {
         let file = File::open(path).expect("a table");
         let mut input = BufReader::with_capacity(1 << 16, file);
-        if input
-            .fill_buf()
-            .expect("bytes")
-            .starts_with(b"\xEF\xBB\xBF")
-        {
+        let start = input.fill_buf().expect("bytes");
+        if start.starts_with(b"\xEF\xBB\xBF") {
             input.consume(3);
         }
         let mut records = Records {
@@ -35,13 +32,10 @@ impl Records {
             odd: None,
         };
         assert!(records.next(), "a header");
-        let fields: Vec<_> = header.split(',').map(str::as_bytes).collect();
-        assert_eq!(
-            (0..records.ends.len())
-                .map(|at| records.field(at))
-                .collect::<Vec<_>>(),
-            fields
-        );
+        assert_eq!(records.ends.len(), header.split(',').count());
+        for (at, word) in header.split(',').enumerate() {
+            assert_eq!(records.field(at), word.as_bytes());
+        }
         records
     }
 
@@ -50,29 +44,26 @@ impl Records {
         while self.odd.is_none() {
             self.record.clear();
             self.ends.clear();
-            if self
-                .input
-                .read_until(b'\n', &mut self.record)
-                .expect("bytes")
-                == 0
-            {
+            let read = self.input.read_until(b'\n', &mut self.record);
+            if read.expect("bytes") == 0 {
                 return false;
             }
-            if self.record.contains(&b'"') || self.record.contains(&b'\r') {
+            let ended = self.record.pop_if(|byte| *byte == b'\n');
+            let mut is_odd = false;
+            for (at, byte) in self.record.iter().enumerate() {
+                match byte {
+                    b',' => self.ends.push(at),
+                    b'"' | b'\r' => is_odd = true,
+                    _ => {}
+                }
+            }
+            self.ends.push(self.record.len());
+            if is_odd {
+                self.record.extend(ended);
                 self.input.read_to_end(&mut self.record).expect("bytes");
                 self.odd = Some(odd_records(&self.record));
-            } else {
-                self.record.pop_if(|byte| *byte == b'\n');
-                let commas = self
-                    .record
-                    .iter()
-                    .enumerate()
-                    .filter(|(_, byte)| **byte == b',');
-                self.ends.extend(commas.map(|(at, _)| at));
-                self.ends.push(self.record.len());
-                if !self.record.is_empty() {
-                    return true;
-                }
+            } else if !self.record.is_empty() {
+                return true;
             }
         }
         let next = self.odd.as_mut().and_then(VecDeque::pop_front);
