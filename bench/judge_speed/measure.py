@@ -11,7 +11,7 @@ import hashlib, os, re, subprocess, sys, time
 ORDINARY = ["dense", "wide", "sparse", "pipelines", "events", "mixed"]
 CORNERS = {
     "triggers": "mixed", "reads": "mixed", "together": "wide", "schedules": "mixed",
-    "timers": "dense", "equal": "dense", "token": "pipelines",
+    "timers": "dense", "equal": "dense", "token": "pipelines", "overlaps": "sparse",
 }
 MOST_BY_CSV, MOST_BY_TENTH, MOST_BYTES, MOST_BY_ORDINARY = 2.5, 12, 110, 5
 MOST_BY_DENSE = {"timers": 3, "equal": 3}

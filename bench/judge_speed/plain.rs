@@ -84,6 +84,7 @@ struct Judge<'a> {
     occurred: Vec<usize>,
     written_at: Vec<Seen<usize>>,
     read: Vec<Seen<Value>>,
+    end_before: Vec<Seen<usize>>,
     run_count: usize,
     tag_count: usize,
     row_breach: Option<Breach>,
@@ -108,6 +109,7 @@ impl<'a> Judge<'a> {
             occurred: vec![0; program.sources.len()],
             written_at: vec![Seen::default(); program.things.len()],
             read: vec![Seen::default(); program.slots],
+            end_before: vec![Seen::default(); program.reactions.len()],
             run_count: 0,
             tag_count: 0,
             row_breach: None,
@@ -293,21 +295,21 @@ impl<'a> Judge<'a> {
         if let Some(reaction) = self.least_missing() {
             return Some((7, reaction));
         }
-        let least = |breaks: &dyn Fn(&Run) -> bool| {
-            let broken = self.runs.iter().filter(|run| breaks(run));
-            broken.map(|run| run.reaction).min()
-        };
-        if let Some(reaction) = least(&|run| self.triggered[run.reaction] != self.number) {
+        if let Some(reaction) = self.least(|run| self.triggered[run.reaction] != self.number) {
             return Some((8, reaction));
         }
-        if self.may_be_early() {
-            let ends = self.ends_before();
-            if let Some(reaction) = least(&|run| ends[run.reaction] > run.start) {
-                return Some((9, reaction));
-            }
+        if self.may_be_early()
+            && let Some(reaction) = self.least_early()
+        {
+            return Some((9, reaction));
         }
-        least(&|run| run.present != run.matched || run.reads != run.matched)
+        self.least(|run| run.present != run.matched || run.reads != run.matched)
             .map(|reaction| (10, reaction))
+    }
+
+    fn least(&self, breaks: impl Fn(&Run) -> bool) -> Option<usize> {
+        let broken = self.runs.iter().filter(|run| breaks(run));
+        broken.map(|run| run.reaction).min()
     }
 
     /// Finds what is present at a tag, and puts what is delayed on the agenda.
@@ -371,28 +373,36 @@ impl<'a> Judge<'a> {
         })
     }
 
-    /// The greatest line at which a run ended that precedes each reaction.
-    fn ends_before(&self) -> Vec<usize> {
-        let reactions = &self.program.reactions;
-        let mut ends = vec![0; reactions.len()];
-        for reaction in &self.program.order {
-            let end_of = |before: &usize| {
-                let ran = self.ran[*before];
-                let end = if ran.at == self.number {
-                    self.runs[ran.what].end
-                } else {
-                    0
-                };
-                end.max(ends[*before])
-            };
-            ends[*reaction] = reactions[*reaction]
-                .before
-                .iter()
-                .map(end_of)
-                .max()
-                .unwrap_or(0);
+    fn least_early(&mut self) -> Option<usize> {
+        let mut least: Option<usize> = None;
+        for run in 0..self.runs.len() {
+            let Run {
+                reaction, start, ..
+            } = self.runs[run];
+            if self.end_before(reaction) > start {
+                least = Some(least.unwrap_or(reaction).min(reaction));
+            }
         }
-        ends
+        least
+    }
+
+    /// The greatest line at which a run ended that precedes a reaction.
+    fn end_before(&mut self, reaction: usize) -> usize {
+        if self.end_before[reaction].at != self.number {
+            let mut greatest = 0;
+            for before in &self.program.reactions[reaction].before {
+                let ran = self.ran[*before];
+                if ran.at == self.number {
+                    greatest = greatest.max(self.runs[ran.what].end);
+                }
+                greatest = greatest.max(self.end_before(*before));
+            }
+            self.end_before[reaction] = Seen {
+                at: self.number,
+                what: greatest,
+            };
+        }
+        self.end_before[reaction].what
     }
 
     /// The first breach, once all rows were taken.

@@ -90,8 +90,6 @@ pub struct Program {
     pub timers: Vec<Timer>,
     pub sources: Vec<Source>,
     pub slots: usize,
-    /// The reactions, each after those that precede it.
-    pub order: Vec<usize>,
 }
 
 pub const STARTUP: usize = 0;
@@ -371,8 +369,8 @@ impl<'a> Flattening<'a> {
     }
 }
 
-/// Sorts the reactions so that each stands after those that precede it, and sets their levels.
-fn sort(program: &mut Program) {
+/// Sets the level of each reaction: one more than the greatest of those that precede it.
+fn set_levels(program: &mut Program) {
     let count = program.reactions.len();
     let mut waits: Vec<_> = program
         .reactions
@@ -385,21 +383,21 @@ fn sort(program: &mut Program) {
             followers[*before].push(number);
         }
     }
-    program.order = (0..count).filter(|number| waits[*number] == 0).collect();
+    let mut order: Vec<_> = (0..count).filter(|number| waits[*number] == 0).collect();
     let mut at = 0;
-    while let Some(number) = program.order.get(at).copied() {
+    while let Some(number) = order.get(at).copied() {
         let level = program.reactions[number].level;
         for follower in &followers[number] {
             let reaction = &mut program.reactions[*follower];
             reaction.level = reaction.level.max(level + 1);
             waits[*follower] -= 1;
             if waits[*follower] == 0 {
-                program.order.push(*follower);
+                order.push(*follower);
             }
         }
         at += 1;
     }
-    assert_eq!(program.order.len(), count, "a causality loop");
+    assert_eq!(order.len(), count, "a causality loop");
 }
 
 pub fn read_program(text: &str) -> Program {
@@ -423,7 +421,7 @@ pub fn read_program(text: &str) -> Program {
     flattening.fill_reactions();
     flattening.find_before(&origins);
     let mut program = flattening.program;
-    sort(&mut program);
+    set_levels(&mut program);
     // A timer that triggers nothing may fire at any number of tags.
     program
         .timers

@@ -23,6 +23,8 @@ struct Shape {
     program: String,
     /// So many runs of one level start before the first of them ends, each on its own worker.
     workers: usize,
+    /// Whether the first run of a tag is the last to end: no other is to wait for it.
+    holds_first: bool,
     /// How often an action is scheduled in a run, each time with a further nanosecond of delay.
     schedules: u64,
     /// How many physical actions take turns, with an event each microsecond.
@@ -38,6 +40,7 @@ fn shape(name: &str) -> Option<Shape> {
             "together" => 10_000,
             _ => 4,
         },
+        holds_first: name == "overlaps",
         schedules: if name == "schedules" { 10_000 } else { 1 },
         physical: if name == "events" { 100 } else { 0 },
     })
@@ -65,6 +68,10 @@ fn program_of(name: &str) -> Option<String> {
         "timers" => timers(|k| format!("{k} ns, 10 us")),
         "equal" => timers(|_| "0, 1 ns".to_string()),
         "token" => token(),
+        "overlaps" => {
+            let more = "timer t(0, 1 us)  reaction(t) {= =}\n";
+            parts(TWO_REACTIONS, 4_999, |k| format!("offset = {k} us"), more)
+        }
         _ => return None,
     })
 }
@@ -82,6 +89,14 @@ reactor Part { physical action key: int  output y: int  reaction(key) -> y {= =}
 ";
 
 const TIMED: &str = "reactor Part { timer t(0, 1 ms)  reaction(t) {= =} }\n";
+
+const TWO_REACTIONS: &str = "\
+reactor Part(offset: time = 0) {
+  timer t(offset, 4999 us)
+  reaction(t) {= =}
+  reaction(t) {= =}
+}
+";
 
 const SCHEDULES: &str = "\
 main reactor {
@@ -251,6 +266,7 @@ impl Recorder<'_> {
         for (source, value) in present {
             now.put(self.program, source, value);
         }
+        let mut held = None;
         while let Some((level, _)) = now.due.first().copied() {
             let mut open: Vec<(usize, usize)> = Vec::new();
             while open.len() < self.shape.workers
@@ -262,9 +278,15 @@ impl Recorder<'_> {
                 self.start(now, worker, reaction)?;
                 open.push((worker, reaction));
             }
+            if self.shape.holds_first && held.is_none() {
+                held = Some(open.remove(0));
+            }
             for (worker, reaction) in open {
                 now.row("end", worker, &self.program.reactions[reaction].name, ",,")?;
             }
+        }
+        if let Some((worker, reaction)) = held {
+            now.row("end", worker, &self.program.reactions[reaction].name, ",,")?;
         }
         Ok(())
     }
