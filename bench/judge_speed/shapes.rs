@@ -119,7 +119,7 @@ reactor Part {
   input x: int  input y: int  output out: int  output late: int
   logical action again: int  timer t(0, 1 ms)
   reaction(t, x) y -> out, again {= =}
-  reaction(again) x -> late {= =}
+  reaction(again) -> late {= =}
 }
 ";
 
