@@ -121,18 +121,21 @@ impl<'a> Judge<'a> {
         if let Step::Stop = row.step {
             self.stop = self.stop.min(row.tag.after(0));
         }
-        if self.row_breach.is_some() {
-            // What is still open may end.
-            if let (Step::End, true) = (row.step, self.is_open(row)) {
-                self.open.remove(&row.worker);
-            }
-        } else if let Some(rule) = self.take(line, row) {
-            self.row_breach = Some(Breach {
+        if self.row_breach.is_none() {
+            let rule = self.take(line, row);
+            self.row_breach = rule.map(|rule| Breach {
                 rule,
                 line,
                 tag: row.tag,
                 reaction: row.reaction,
             });
+        }
+        // After a breach, and by it, what is open may still end.
+        if self.row_breach.is_some()
+            && let Step::End = row.step
+            && self.is_open(row)
+        {
+            self.open.remove(&row.worker);
         }
     }
 
