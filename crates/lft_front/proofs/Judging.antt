@@ -49,13 +49,13 @@ module _ (plan : PlanParts) (rows : List Row) (fit : RowsFit plan.program rows) 
   pub has_reaction : (v : Verdict) → IsVerdict plan rows v → (b : Breach) → v ≡ Broken b → HasReaction plan.program b.reaction
   has_reaction v is b e = of_first b (subst (λ x. IsVerdict plan rows x) e is)
 
-check_untold : (p : Part) (n : ℕ) → p ≡ part.Check → is_of_text p n ≡ true → ⊥
+pub check_untold : (p : Part) (n : ℕ) → p ≡ part.Check → is_of_text p n ≡ true → ⊥
 check_untold p n e t = let f : is_of_text part.Check n ≡ true = subst (λ k. is_of_text k n ≡ true) e t in cc f
 
-memory_untold : (p : Part) (n : ℕ) → p ≡ part.Memory → is_of_text p n ≡ true → ⊥
+pub memory_untold : (p : Part) (n : ℕ) → p ≡ part.Memory → is_of_text p n ≡ true → ⊥
 memory_untold p n e t = let f : is_of_text part.Memory n ≡ true = subst (λ k. is_of_text k n ≡ true) e t in cc f
 
-write_untold : (p : Part) (n : ℕ) → p ≡ part.Write → is_of_text p n ≡ true → ⊥
+pub write_untold : (p : Part) (n : ℕ) → p ≡ part.Write → is_of_text p n ≡ true → ⊥
 write_untold p n e t = let f : is_of_text part.Write n ≡ true = subst (λ k. is_of_text k n ≡ true) e t in cc f
 
 -- where a plan and rows get no verdict, the fault tells nothing of the texts

@@ -7,3 +7,5 @@ pub mod Meaning
 pub mod Refusals
 pub mod Judged
 pub mod Shown
+pub mod Pairs
+pub mod PairRefusals

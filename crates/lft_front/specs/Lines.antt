@@ -4,6 +4,9 @@ use Rattle.lft_flat.specs.Parts.{Parts}
 use Rattle.lft_model.specs.declared.breach.Breach.{Breach}
 use Rattle.lft_check.specs.declared.verdict.Verdict.{Verdict}
 use Rattle.lft_check.specs.declared.verdict.Verdict.TheVariants.{Accepted, Broken}
+use Rattle.lft_tag.specs.declared.Tag.{Tag}
+use Rattle.lft_front.specs.declared.paired.Paired.{Paired}
+use Rattle.lft_front.specs.declared.paired.Paired.TheVariants as paired
 
 -- a word with its number
 abbrev pub field : List ℕ → ℕ → List ℕ
@@ -65,3 +68,18 @@ line_of program (Broken b) = breach_words program b
 abbrev pub HasReaction : Parts → Option ℕ → Type 0
 HasReaction program None = Unit {0}
 HasReaction program (Some r) = r < length program.reactions
+
+-- two traces with the same runs: how many runs and how many tags with a run
+abbrev pub same_words : ℕ → ℕ → List ℕ
+same_words runs tags = field (codes "same runs=") runs ++ field (codes " tags=") tags ++ codes "\n"
+
+-- two traces that differ: the tag and the reaction
+abbrev pub differ_words : Parts → Tag → ℕ → List ℕ
+differ_words program g r = field (codes "differ time=") g.time ++ field (codes " microstep=") g.micro ++ codes " reaction=" ++ reaction_name program r ++ codes "\n"
+
+-- the line of two traces: a broken rule behind the word that tells which of them breaks it, or what their comparison says
+abbrev pub line_of_pair : Parts → Paired → List ℕ
+line_of_pair program (paired.First b) = codes "first " ++ breach_words program b
+line_of_pair program (paired.Second b) = codes "second " ++ breach_words program b
+line_of_pair program (paired.Same runs tags) = same_words runs tags
+line_of_pair program (paired.Differ g r) = differ_words program g r

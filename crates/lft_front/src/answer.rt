@@ -2,6 +2,8 @@
 
 ghost use Rattle.std.specs.Prelude.{◌≡◌, ◌↔◌, true, IsTrue, IfOk, IfErr};
 ghost use Rattle.lft_front.specs.Judged.{IsAccepted, IsBundleAccepted};
+ghost use Rattle.lft_front.specs.PairRefusals.{PairRefusal};
+ghost use Rattle.lft_front.specs.Pairs.{IsSameAnswer, SaysSame};
 ghost use Rattle.lft_front.specs.Refusals.{JudgeRefusal};
 ghost use Rattle.lft_front.specs.Shown.{IsShown};
 ghost use Rattle.lft_front.specs.Status.{Accepts};
@@ -9,6 +11,8 @@ ghost use Rattle.lft_front.specs.Status.{Accepts};
 use crate::bundle::split_bundle;
 use crate::fault::{Fault, Part};
 use crate::judge::{judge_texts, judge_texts_alone};
+use crate::pair::pair_texts;
+use crate::paired::Paired;
 use crate::show::show_text;
 use lft_check::Verdict;
 use std::alloc::Global;
@@ -35,6 +39,31 @@ pub fn judge_answer<W: Write>(
 {
     let verdict = judge_texts(alloc, program, externals, trace, workers, out)?;
     Ok(is_accepted(verdict))
+}
+
+/// Whether two traces are said to be accepted and to have the same runs.
+fn is_same(paired: Paired) -> bool
+    ensures { IsTrue result ↔ SaysSame paired }
+{
+    matches!(paired, Paired::Same { .. })
+}
+
+/// Whether the two traces of four texts are accepted and have the same runs, of which a line is
+/// written.
+pub fn pair_answer<W: Write>(
+    alloc: Global,
+    program: &[u8],
+    externals: &[u8],
+    first: &[u8],
+    second: &[u8],
+    workers: u32,
+    out: &mut W,
+) -> Result<bool, Fault>
+    ensures same { IfOk result (IsSameAnswer program.now externals.now first.now second.now (W.contents out.old) (W.contents out.new)) }
+    ensures refused { IfErr result (PairRefusal program.now externals.now first.now second.now workers (W.contents out.old) (W.contents out.new)) }
+{
+    let paired = pair_texts(alloc, program, externals, first, second, workers, out)?;
+    Ok(is_same(paired))
 }
 
 /// Whether the trace of a bundle is accepted, whose verdict's line is written. A text that is no

@@ -29,13 +29,18 @@ use std::io::Write;
 
 /// The plan and the rows of three texts.
 #[derive(Drop)]
-struct Given {
-    plan: Plan,
-    rows: Rows,
+pub(crate) struct Given {
+    pub plan: Plan,
+    pub rows: Rows,
 }
 
 /// The plan and the rows of three texts, else the fault of the first layer that refuses.
-fn read_texts(alloc: Global, program: &[u8], externals: &[u8], trace: &[u8]) -> Result<Given, Fault>
+pub(crate) fn read_texts(
+    alloc: Global,
+    program: &[u8],
+    externals: &[u8],
+    trace: &[u8],
+) -> Result<Given, Fault>
     ensures meaning { IfOk result (λ given. IsMeaning program.now externals.now trace.now given.plan given.rows) }
     ensures fit { IfOk result (λ given. RowsFit given.plan.program given.rows) }
     ensures refused { IfErr result (TextsRefusal program.now externals.now trace.now) }
@@ -52,14 +57,14 @@ fn read_texts(alloc: Global, program: &[u8], externals: &[u8], trace: &[u8]) -> 
 }
 
 /// Whether judging takes this number of workers: 1 to 64.
-fn is_workers(workers: u32) -> bool
+pub(crate) fn is_workers(workers: u32) -> bool
     ensures { IsTrue result ↔ IsWorkers workers }
 {
     1 <= workers && workers <= 64
 }
 
 /// The verdict on rows.
-fn verdict_of(alloc: Global, plan: &Plan, rows: &Rows) -> Result<Verdict, Fault>
+pub(crate) fn verdict_of(alloc: Global, plan: &Plan, rows: &Rows) -> Result<Verdict, Fault>
     requires fit { RowsFit plan.now.program rows.now }
     ensures verdict { IfOk result (IsVerdict plan.now rows.now) }
     ensures one_worker { IfOk result (AcceptedRuns plan.now rows.now) }

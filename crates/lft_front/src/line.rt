@@ -1,14 +1,17 @@
 //! The lines that are printed.
 
 ghost use Rattle.std.specs.Prelude.{◌≡◌, ◌++◌, ◌<◌, ℕ, IfOk, OnOk, Some, length, slice_get, string_bytes};
-ghost use Rattle.lft_front.specs.Lines.{accepted_words, breach_words, field, line_of, names_words, reaction_name, reaction_words, row_words, rule_name, spaced_name, HasReaction};
+ghost use Rattle.lft_front.specs.Lines.{accepted_words, breach_words, differ_words, field, line_of, line_of_pair, names_words, reaction_name, reaction_words, row_words, rule_name, same_words, spaced_name, HasReaction};
 ghost use Rattle.lft_model.specs.declared.breach.Breach.{Breach as TheBreach};
 ghost use Rattle.lft_check.specs.declared.verdict.Verdict.TheVariants.{Broken};
+ghost use Rattle.lft_front.specs.Pairs.{NamesReaction};
 
+use crate::paired::Paired;
 use itoa::Buffer;
 use lft_check::Verdict;
 use lft_flat::Program;
 use lft_model::Breach;
+use lft_tag::Tag;
 use std::alloc::{AllocError, Global};
 
 /// Puts a word and a number at the end of a line.
@@ -120,6 +123,22 @@ fn breach_line(alloc: Global, program: &Program, breach: Breach) -> Result<Strin
     Ok(line)
 }
 
+/// The line of a broken rule behind the word that tells of which trace, with its line feed.
+fn named_line(
+    alloc: Global,
+    word: &str,
+    program: &Program,
+    breach: Breach,
+) -> Result<String, AllocError>
+    requires { HasReaction program.now breach.reaction }
+    ensures { IfOk result (λ line. string_bytes line ≡ word.now ++ breach_words program.now breach) }
+{
+    let mut line = String::from_str(alloc, word)?;
+    let broken = breach_line(alloc, program, breach)?;
+    line.push_str(broken.as_str())?;
+    Ok(line)
+}
+
 /// The line of an accepted trace, with its line feed.
 fn accepted_line(alloc: Global, runs: u32, tags: u32) -> Result<String, AllocError>
     ensures { IfOk result (λ line. string_bytes line ≡ accepted_words runs tags) }
@@ -143,5 +162,48 @@ pub fn verdict_line(
     match verdict {
         Verdict::Accepted { runs, tags } => accepted_line(alloc, runs, tags),
         Verdict::Broken(breach) => breach_line(alloc, program, breach),
+    }
+}
+
+/// The line of two traces with the same runs, with its line feed.
+fn same_line(alloc: Global, runs: u32, tags: u32) -> Result<String, AllocError>
+    ensures { IfOk result (λ line. string_bytes line ≡ same_words runs tags) }
+{
+    let mut line = String::new(alloc);
+    push_field(&mut line, "same runs=", u64::from(runs))?;
+    push_field(&mut line, " tags=", u64::from(tags))?;
+    line.push_str("\n")?;
+    Ok(line)
+}
+
+/// The line of two traces that differ, with its line feed.
+fn differ_line(
+    alloc: Global,
+    program: &Program,
+    tag: Tag,
+    reaction: u32,
+) -> Result<String, AllocError>
+    requires { reaction < length program.now.reactions }
+    ensures { IfOk result (λ line. string_bytes line ≡ differ_words program.now tag reaction) }
+{
+    let mut line = String::new(alloc);
+    push_field(&mut line, "differ time=", tag.time)?;
+    push_field(&mut line, " microstep=", u64::from(tag.micro))?;
+    line.push_str(" reaction=")?;
+    push_name(&mut line, program, reaction)?;
+    line.push_str("\n")?;
+    Ok(line)
+}
+
+/// The line of what two traces show, with its line feed.
+pub fn paired_line(alloc: Global, program: &Program, paired: Paired) -> Result<String, AllocError>
+    requires { NamesReaction program.now paired }
+    ensures { IfOk result (λ line. string_bytes line ≡ line_of_pair program.now paired) }
+{
+    match paired {
+        Paired::First(breach) => named_line(alloc, "first ", program, breach),
+        Paired::Second(breach) => named_line(alloc, "second ", program, breach),
+        Paired::Same { runs, tags } => same_line(alloc, runs, tags),
+        Paired::Differ { tag, reaction } => differ_line(alloc, program, tag, reaction),
     }
 }

@@ -1,0 +1,35 @@
+-- What two traces show names a reaction of the program, and faults that tell nothing of the texts.
+use Rattle.std.proofs.Common.{◌≡◌, ℕ, inl, inr, List, Option, true, refl, subst}
+use Rattle.lft_trace.specs.declared.row.Row.{Row}
+use Rattle.lft_trace.specs.Fits.{RowsFit}
+use Rattle.lft_trace.specs.Records.{records_of}
+use Rattle.lft_trace.specs.Traces.{Table}
+use Rattle.lft_model.specs.Plans.{PlanParts}
+use Rattle.lft_check.specs.declared.verdict.Verdict.TheVariants.{Broken}
+use Rattle.lft_front.specs.Meaning.{IsMeaning}
+use Rattle.lft_front.specs.Pairs.{IsPairing, MeanBoth, NamesReaction}
+use Rattle.lft_front.specs.PairRefusals.{PairingRefusal}
+use Rattle.lft_front.specs.PairRefusals.PairingRefusal.{by_workers, by_growth, by_writer}
+use Rattle.lft_front.specs.Refusals.{is_of_text}
+use Rattle.lft_front.specs.declared.fault.Fault.{Fault}
+use Rattle.lft_front.specs.declared.paired.Paired.{Paired}
+use Rattle.lft_front.specs.declared.paired.Paired.TheVariants.{First, Second, Same, Differ}
+use Rattle.lft_front.proofs.Judging.{has_reaction, check_untold, memory_untold, write_untold}
+
+-- the reaction that is named is one of the program
+pub names_reaction : (plan : PlanParts) (rows others : List Row) → RowsFit plan.program rows → RowsFit plan.program others → (said : Paired) → IsPairing plan rows others said → NamesReaction plan.program said
+names_reaction plan rows others fit fits (First b) x = has_reaction plan rows fit (Broken b) x b refl
+names_reaction plan rows others fit fits (Second b) x = has_reaction plan others fits (Broken b) x.2 b refl
+names_reaction plan rows others fit fits (Same runs tags) x = tt
+names_reaction plan rows others fit fits (Differ g r) x = let ran = x.1.is_pair.first_ran in (fit.each ran.place _ ran.starts).reaction
+
+-- where a plan and two traces get no comparison, the fault tells nothing of the texts
+pub pairing_untold : (plan : PlanParts) (rows others : List Row) (workers : ℕ) (old new : Option (List ℕ)) (f : Fault) → PairingRefusal plan rows others workers old new f → is_of_text f.part f.number ≡ true → ⊥
+pairing_untold plan rows others workers old new f (by_workers p n x) t = check_untold f.part f.number p t
+pairing_untold plan rows others workers old new f (by_growth (inl x) w) t = check_untold f.part f.number x.0 t
+pairing_untold plan rows others workers old new f (by_growth (inr x) w) t = memory_untold f.part f.number x.0 t
+pairing_untold plan rows others workers old new f (by_writer s p n x z) t = write_untold f.part f.number p t
+
+-- the second rows of four texts are those of the one plan of the first three
+pub second_of_plan : (program externals first second : List ℕ) (plan : PlanParts) (rows : List Row) → IsMeaning program externals first plan rows → (other : PlanParts) (one two : List Row) → MeanBoth program externals first second other one two → Table plan.program (records_of second) two
+second_of_plan program externals first second plan rows m other one two x = subst (λ (p : PlanParts). Table p.program (records_of second) two) (m.one_plan other x.is_first.is_plan) x.is_second

@@ -1,0 +1,73 @@
+-- What is said of two traces, from texts, and what was written of it.
+use Rattle.std.specs.Prelude.{◌≡◌, ◌↔◌, ℕ, ◌<◌, Bool, IsTrue, List, Option, length}
+use Rattle.std.specs.Io.KnownBytes.{Appends}
+use Rattle.lft_flat.specs.Parts.{Parts}
+use Rattle.lft_trace.specs.declared.row.Row.{Row}
+use Rattle.lft_trace.specs.Records.{records_of}
+use Rattle.lft_trace.specs.Traces.{Table}
+use Rattle.lft_model.specs.Plans.{PlanParts}
+use Rattle.lft_model.specs.Runs.{by_ends}
+use Rattle.lft_model.specs.Breaches.{Legal, First}
+use Rattle.lft_model.specs.OneWorker.{OneWorker, InOrderOfPrecedence}
+use Rattle.lft_check.specs.Verdicts.{IsAccepted}
+use Rattle.lft_pair.specs.declared.comparison.Pair.TheVariants as pair
+use Rattle.lft_pair.specs.Pairs.{IsComparison}
+use Rattle.lft_front.specs.declared.paired.Paired.{Paired}
+use Rattle.lft_front.specs.declared.paired.Paired.TheVariants as paired
+use Rattle.lft_front.specs.Lines.{HasReaction, line_of_pair}
+use Rattle.lft_front.specs.Meaning.{IsMeaning, Mean}
+
+-- the runs, in order of their ends, are an execution by one worker, and no run started before every run that precedes it at its tag had ended
+abbrev pub IsExecution : PlanParts → List Row → Type 0
+IsExecution plan rows = OneWorker plan (by_ends plan rows) × InOrderOfPrecedence plan rows
+
+-- both traces are legal, and executions
+pub record AreAccepted (plan : PlanParts) (rows others : List Row) : Type 0 where
+  pub first : Legal plan rows
+  pub second : Legal plan others
+  pub first_runs : IsExecution plan rows
+  pub second_runs : IsExecution plan others
+
+-- the first breach of the first trace, else that of the second, else what a comparison of the two says, with the numbers of runs and of tags where they are the same
+abbrev pub IsPairing : PlanParts → List Row → List Row → Paired → Type 0
+IsPairing plan rows others (paired.First b) = First plan rows b
+IsPairing plan rows others (paired.Second b) = Legal plan rows × IsExecution plan rows × First plan others b
+IsPairing plan rows others (paired.Same runs tags) = AreAccepted plan rows others × IsAccepted plan rows runs tags × IsComparison plan rows others pair.Same
+IsPairing plan rows others (paired.Differ g r) = AreAccepted plan rows others × IsComparison plan rows others (pair.Differ g r)
+
+-- the plan and the rows of the four texts
+pub record MeanBoth (program externals first second : List ℕ) (plan : PlanParts) (rows others : List Row) : Type 0 where
+  pub is_first : Mean program externals first plan rows
+  pub is_second : Table plan.program (records_of second) others
+
+-- the plan and the rows are the one meaning of the four texts
+pub record AreMeaning (program externals first second : List ℕ) (plan : PlanParts) (rows others : List Row) : Type 0 where
+  pub of_first : IsMeaning program externals first plan rows
+  pub of_second : IsMeaning program externals second plan others
+
+-- what is said of the meaning of the four texts; its line was written
+pub record IsPaired (program externals first second : List ℕ) (old new : Option (List ℕ)) (said : Paired) : Type 0 where
+  pub plan : PlanParts
+  pub rows : List Row
+  pub others : List Row
+  pub meaning : AreMeaning program externals first second plan rows others
+  pub right : IsPairing plan rows others said
+  pub written : Appends old new (line_of_pair plan.program said)
+
+-- the reaction that the line names, if it names one, is of the program
+abbrev pub NamesReaction : Parts → Paired → Type 0
+NamesReaction program (paired.First b) = HasReaction program b.reaction
+NamesReaction program (paired.Second b) = HasReaction program b.reaction
+NamesReaction program (paired.Same runs tags) = Unit {0}
+NamesReaction program (paired.Differ g r) = r < length program.reactions
+
+-- both traces are accepted and have the same runs
+abbrev pub SaysSame : Paired → Type 0
+SaysSame (paired.First b) = ⊥
+SaysSame (paired.Second b) = ⊥
+SaysSame (paired.Same runs tags) = Unit {0}
+SaysSame (paired.Differ g r) = ⊥
+
+-- true is the answer where the traces of the four texts, of which a line was written, are accepted and have the same runs, and false where not
+abbrev pub IsSameAnswer : List ℕ → List ℕ → List ℕ → List ℕ → Option (List ℕ) → Option (List ℕ) → Bool → Type 0
+IsSameAnswer program externals first second old new answer = (said : Paired) × IsPaired program externals first second old new said × (IsTrue answer ↔ SaysSame said)

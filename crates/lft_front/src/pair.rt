@@ -1,0 +1,212 @@
+//! Two traces of one program beside one another, from texts.
+
+ghost use Rattle.std.specs.Prelude.{◌≡◌, ◌≢◌, ◌⊎◌, true, OnOk, IfOk, IfErr, List};
+ghost use Rattle.std.specs.Io.KnownBytes.{Appends, Keeps};
+ghost use Rattle.lft_trace.specs.Fits.{RowsFit};
+ghost use Rattle.lft_trace.specs.declared.row.Row.{Row};
+ghost use Rattle.lft_model.specs.Plans.{PlanParts};
+ghost use Rattle.lft_check.specs.Verdicts.{IsAccepted};
+ghost use Rattle.lft_front.specs.Lines.{line_of_pair};
+ghost use Rattle.lft_front.specs.Pairs.{AreAccepted, AreMeaning, IsExecution, IsPaired, IsPairing, MeanBoth, NamesReaction};
+ghost use Rattle.lft_front.specs.PairRefusals.{PairRefusal, PairingRefusal, TextPairRefusal};
+ghost use Rattle.lft_front.specs.Refusals.{IsRefusedGrowth, IsWorkers, is_of_text};
+ghost use Rattle.lft_front.specs.Written.{AppendsFront};
+ghost use Rattle.lft_front.specs.declared.fault.Part.TheVariants as part;
+
+use crate::fault::{Fault, Part};
+use crate::judge::{Given, is_workers, read_texts, verdict_of};
+use crate::line::paired_line;
+use crate::output::write_text;
+use crate::paired::Paired;
+use lft_check::Verdict;
+use lft_flat::Program;
+use lft_model::Plan;
+use lft_pair::{Pair, pair as compare_rows};
+use lft_trace::{Rows, read_trace};
+use std::alloc::Global;
+use std::io::Write;
+
+/// What three texts gave, and the rows of a second trace.
+#[derive(Drop)]
+struct Both {
+    given: Given,
+    second: Rows,
+}
+
+/// The plan and the rows of four texts, else the fault of the first layer that refuses. Both tables
+/// are read before either is judged.
+fn read_both(
+    alloc: Global,
+    program: &[u8],
+    externals: &[u8],
+    first: &[u8],
+    second: &[u8],
+) -> Result<Both, Fault>
+    ensures meaning { IfOk result (λ both. AreMeaning program.now externals.now first.now second.now both.given.plan both.given.rows both.second) }
+    ensures first_fits { IfOk result (λ both. RowsFit both.given.plan.program both.given.rows) }
+    ensures second_fits { IfOk result (λ both. RowsFit both.given.plan.program both.second) }
+    ensures refused { IfErr result (TextPairRefusal program.now externals.now first.now second.now) }
+    ensures none { IfErr result (λ f. is_of_text f.part f.number ≡ true → (plan : PlanParts) (rows others : List Row) → MeanBoth program.now externals.now first.now second.now plan rows others → ⊥) }
+{
+    let given = match read_texts(alloc, program, externals, first) {
+        Ok(given) => given,
+        Err(fault) => return Err(fault),
+    };
+    match read_trace(alloc, given.plan.program(), second) {
+        Ok(others) => Ok(Both {
+            given,
+            second: others,
+        }),
+        Err(fault) => Err(Fault::trace(fault)),
+    }
+}
+
+/// What two accepted traces show beside one another.
+fn compare(
+    alloc: Global,
+    plan: &Plan,
+    first: &Rows,
+    second: &Rows,
+    runs: u32,
+    tags: u32,
+) -> Result<Paired, Fault>
+    requires first_fits { RowsFit plan.now.program first.now }
+    requires second_fits { RowsFit plan.now.program second.now }
+    requires accepted { AreAccepted plan.now first.now second.now }
+    requires counted { IsAccepted plan.now first.now runs tags }
+    ensures right { IfOk result (IsPairing plan.now first.now second.now) }
+    ensures growth { IfErr result IsRefusedGrowth }
+{
+    let pair = match compare_rows(alloc, plan, first, second) {
+        Ok(pair) => pair,
+        Err(_) => return Err(Fault::no_memory()),
+    };
+    match pair {
+        Pair::Same => Ok(Paired::Same { runs, tags }),
+        Pair::Differ { tag, reaction } => Ok(Paired::Differ { tag, reaction }),
+    }
+}
+
+/// Judges the second trace beside an accepted first one, and then compares the two.
+fn judge_second(
+    alloc: Global,
+    plan: &Plan,
+    first: &Rows,
+    second: &Rows,
+    runs: u32,
+    tags: u32,
+) -> Result<Paired, Fault>
+    requires first_fits { RowsFit plan.now.program first.now }
+    requires second_fits { RowsFit plan.now.program second.now }
+    requires execution { IsExecution plan.now first.now }
+    requires counted { IsAccepted plan.now first.now runs tags }
+    ensures right { IfOk result (IsPairing plan.now first.now second.now) }
+    ensures growth { IfErr result IsRefusedGrowth }
+{
+    let verdict = match verdict_of(alloc, plan, second) {
+        Ok(verdict) => verdict,
+        Err(fault) => return Err(fault),
+    };
+    match verdict {
+        Verdict::Accepted { .. } => compare(alloc, plan, first, second, runs, tags),
+        Verdict::Broken(breach) => Ok(Paired::Second(breach)),
+    }
+}
+
+/// Judges the first trace, then the second, and then compares the two.
+fn judge_both(alloc: Global, plan: &Plan, first: &Rows, second: &Rows) -> Result<Paired, Fault>
+    requires first_fits { RowsFit plan.now.program first.now }
+    requires second_fits { RowsFit plan.now.program second.now }
+    ensures right { IfOk result (IsPairing plan.now first.now second.now) }
+    ensures growth { IfErr result IsRefusedGrowth }
+{
+    let verdict = match verdict_of(alloc, plan, first) {
+        Ok(verdict) => verdict,
+        Err(fault) => return Err(fault),
+    };
+    match verdict {
+        Verdict::Accepted { runs, tags } => judge_second(alloc, plan, first, second, runs, tags),
+        Verdict::Broken(breach) => Ok(Paired::First(breach)),
+    }
+}
+
+/// Writes the line of what two traces show.
+fn report<W: Write>(
+    alloc: Global,
+    program: &Program,
+    paired: Paired,
+    out: &mut W,
+) -> Result<(), Fault>
+    requires { NamesReaction program.now paired }
+    ensures written { OnOk result (Appends (W.contents out.old) (W.contents out.new) (line_of_pair program.now paired)) }
+    ensures front { IfErr result (λ f. IsRefusedGrowth f ⊎ (f.part ≡ part.Write) × (f.number ≡ 1) × AppendsFront (W.contents out.old) (W.contents out.new) (line_of_pair program.now paired)) }
+    ensures kept { IfErr result (λ f. f.part ≢ part.Write → Keeps (W.contents out.old) (W.contents out.new)) }
+{
+    match paired_line(alloc, program, paired) {
+        Ok(line) => write_text(line.as_bytes(), out),
+        Err(_) => Err(Fault::no_memory()),
+    }
+}
+
+/// Judges and compares rows, and writes the line. The number of workers is tested first.
+fn pair_rows<W: Write>(
+    alloc: Global,
+    plan: &Plan,
+    first: &Rows,
+    second: &Rows,
+    workers: u32,
+    out: &mut W,
+) -> Result<Paired, Fault>
+    requires first_fits { RowsFit plan.now.program first.now }
+    requires second_fits { RowsFit plan.now.program second.now }
+    ensures right { IfOk result (IsPairing plan.now first.now second.now) }
+    ensures workers { OnOk result (IsWorkers workers) }
+    ensures written { IfOk result (λ said. Appends (W.contents out.old) (W.contents out.new) (line_of_pair plan.now.program said)) }
+    ensures refused { IfErr result (PairingRefusal plan.now first.now second.now workers (W.contents out.old) (W.contents out.new)) }
+    ensures kept { IfErr result (λ f. f.part ≢ part.Write → Keeps (W.contents out.old) (W.contents out.new)) }
+{
+    if !is_workers(workers) {
+        return Err(Fault::plain(Part::Check, 1, "BadWorkers"));
+    }
+    let paired = match judge_both(alloc, plan, first, second) {
+        Ok(paired) => paired,
+        Err(fault) => return Err(fault),
+    };
+    match report(alloc, plan.program(), paired, out) {
+        Ok(()) => Ok(paired),
+        Err(fault) => Err(fault),
+    }
+}
+
+/// Judges two traces of a program under the same external inputs, from their texts, compares them
+/// where both are accepted, and writes the line of what is said. Both tables are read before either
+/// is judged; the first is judged before the second. The fault is that of the first layer that
+/// refuses, in the order lex, syntax, program, externals, graph, trace (the first table, then the
+/// second), check, write. A growth that is refused to the comparison is `memory` 1 `NoMemory`.
+pub fn pair_texts<W: Write>(
+    alloc: Global,
+    program: &[u8],
+    externals: &[u8],
+    first: &[u8],
+    second: &[u8],
+    workers: u32,
+    out: &mut W,
+) -> Result<Paired, Fault>
+    ensures paired { IfOk result (IsPaired program.now externals.now first.now second.now (W.contents out.old) (W.contents out.new)) }
+    ensures workers { OnOk result (IsWorkers workers) }
+    ensures refused { IfErr result (PairRefusal program.now externals.now first.now second.now workers (W.contents out.old) (W.contents out.new)) }
+    ensures none { IfErr result (λ f. is_of_text f.part f.number ≡ true → (plan : PlanParts) (rows others : List Row) → MeanBoth program.now externals.now first.now second.now plan rows others → ⊥) }
+    ensures kept { IfErr result (λ f. f.part ≢ part.Write → Keeps (W.contents out.old) (W.contents out.new)) }
+{
+    match read_both(alloc, program, externals, first, second) {
+        Ok(both) => pair_rows(
+            alloc,
+            &both.given.plan,
+            &both.given.rows,
+            &both.second,
+            workers,
+            out,
+        ),
+        Err(fault) => Err(fault),
+    }
+}
