@@ -1,9 +1,11 @@
 #![tactic(auto)]
-//! The tests of the calls on texts that need code: long texts, readers and writers that are
-//! interrupted or fail, refused growths. What is data is a case of `lft_cases`.
+//! The tests of the calls on texts that need code: long texts and tables, readers and writers that
+//! are interrupted or fail, refused growths. What is data is a case of `lft_cases`.
 
 #[cfg(test)]
 mod growths;
+#[cfg(test)]
+mod limits;
 #[cfg(test)]
 mod long_texts;
 #[cfg(test)]

@@ -1,6 +1,6 @@
-//! What is shown of texts, with the lines of faults.
+//! What is written of texts, with the lines of faults.
 
-use lft_front::{Fault, finish, show_text};
+use lft_front::{Fault, finish, judge_texts_alone, show_text};
 use std::alloc::Global;
 
 /// What was written, and after it the line of the fault, where there is one.
@@ -15,5 +15,12 @@ pub(crate) fn with_fault(mut out: Vec<u8>, fault: Option<Fault>) -> Vec<u8> {
 pub(crate) fn shown(alloc: Global, text: &[u8]) -> Vec<u8> {
     let mut out = Vec::new(alloc);
     let answer = show_text(alloc, text, &mut out);
+    with_fault(out, answer.err())
+}
+
+/// The verdict's line on three texts, or the line of the fault.
+pub(crate) fn judged(alloc: Global, program: &[u8], externals: &[u8], trace: &[u8]) -> Vec<u8> {
+    let mut out = Vec::new(alloc);
+    let answer = judge_texts_alone(alloc, program, externals, trace, &mut out);
     with_fault(out, answer.err())
 }

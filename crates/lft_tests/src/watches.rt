@@ -1,8 +1,11 @@
 //! Who is told which tag is examined.
 
-use crate::texts::{plan, rows};
+use crate::texts::plan;
 use lft_check::{Watch, judge_alone};
+use lft_model::Plan;
 use lft_tag::Tag;
+use lft_trace::read_trace;
+use std::alloc::Global;
 use std::sync::atomic::{AtomicU64, Ordering};
 use std::test::Fail;
 
@@ -21,10 +24,13 @@ impl Watch for Digits {
     }
 }
 
-const TWO: &str = "main reactor { timer t(0, 1 ns) reaction(t) {= =} reaction(t) {= =} }";
+const TWO: &[u8] = b"main reactor { timer t(0, 1 ns) reaction(t) {= =} reaction(t) {= =} }";
+
+const EXTERNALS: &[u8] = b"kind,time,microstep,name,value\nstop,2,0,,\n";
 
 /// Two runs one after another at each of three tags.
-const RUNS: &str = "start,0,0,0,main#1,,,
+const RUNS: &[u8] = b"event,worker,time,microstep,reaction,name,value,delay
+start,0,0,0,main#1,,,
 end,0,0,0,main#1,,,
 start,0,0,0,main#2,,,
 end,0,0,0,main#2,,,
@@ -39,7 +45,8 @@ end,0,2,0,main#2,,,
 ";
 
 /// At the second tag the second run begins too early.
-const EARLY: &str = "start,0,0,0,main#1,,,
+const EARLY: &[u8] = b"event,worker,time,microstep,reaction,name,value,delay
+start,0,0,0,main#1,,,
 end,0,0,0,main#1,,,
 start,0,0,0,main#2,,,
 end,0,0,0,main#2,,,
@@ -54,19 +61,31 @@ end,0,2,0,main#2,,,
 ";
 
 /// A run that doesn't end.
-const OPEN: &str = "start,0,0,0,main#1,,,\n";
+const OPEN: &[u8] = b"event,worker,time,microstep,reaction,name,value,delay
+start,0,0,0,main#1,,,
+";
 
-// up to the first breach, and none where a row breaks a rule
+/// No run.
+const NONE: &[u8] = b"event,worker,time,microstep,reaction,name,value,delay
+";
+
+/// The digits that are told as the rows of a table are judged.
+fn told(alloc: Global, plan: &Plan, table: &[u8]) -> Result<u64, Fail> {
+    let rows = read_trace(alloc, plan.program(), table)?;
+    let watch = Digits {
+        told: AtomicU64::new(0),
+    };
+    let _ = judge_alone(alloc, plan, &rows, &watch)?;
+    Ok(watch.told.load(Ordering::SeqCst))
+}
+
+// up to the first breach, and none where a row breaks a rule; a copy is the same by its clause, but
+// no clause says that there is one
 #[test]
-fn tells_the_tags_that_are_examined(rt: HostRuntime) -> Result<(), Fail> {
-    let plan = plan(rt.alloc(), TWO, "stop,2,0,,\n")?;
-    for (lines, want) in [(RUNS, 123), (EARLY, 12), (OPEN, 0), ("", 0)] {
-        let rows = rows(rt.alloc(), plan.program(), lines)?;
-        let watch = Digits {
-            told: AtomicU64::new(0),
-        };
-        let _ = judge_alone(rt.alloc(), &plan, &rows, &watch)?;
-        assert!(rt; watch.told.load(Ordering::SeqCst) == want, "{lines}");
+fn tells_the_tags_that_a_copy_is_judged_at(rt: HostRuntime) -> Result<(), Fail> {
+    let plan = plan(rt.alloc(), TWO, EXTERNALS)?.copy(rt.alloc())?;
+    for (table, digits) in [(RUNS, 123), (EARLY, 12), (OPEN, 0), (NONE, 0)] {
+        assert!(rt; told(rt.alloc(), &plan, table)? == digits, "{digits}");
     }
     Ok(())
 }
