@@ -1,5 +1,5 @@
 -- What a last answer of a book says.
-use Rattle.std.proofs.Common.{◌≡◌, ◌≢◌, ◌⊎◌, inl, inr, ℕ, List, Result, Ok, Err, IfOk, IfErr, is_ok, Bool, true, false, refl, subst, sym, ◌∙◌}
+use Rattle.std.proofs.Common.{◌≡◌, ◌≢◌, ◌⊎◌, inl, inr, ℕ, List, Result, Ok, Err, IfOk, IfErr, is_ok, Bool, true, false, refl, subst, sym, ap, Option, Some, None, IfSome, ◌∙◌}
 use Rattle.lft_pool.specs.declared.book.Begin.{Begin}
 use Rattle.lft_pool.specs.declared.book.Begin.TheVariants.{Run, Wait, Finished}
 use Rattle.lft_trace.specs.declared.row.Row.{Row}
@@ -8,7 +8,7 @@ use Rattle.lft_pool.specs.declared.stop.Stop.{Stop}
 use Rattle.lft_pool.specs.declared.stop.Stop.TheVariants.{NoBody, NoWorker, PlanChanged, BadWorkers}
 use Rattle.lft_bodies.specs.declared.ticket.Ticket.{Ticket}
 use Rattle.lft_pool.specs.Begun.{MatchBegin}
-use Rattle.lft_pool.specs.Books.{LacksBody, StopHolds}
+use Rattle.lft_pool.specs.Books.{BookParts, LacksBody, StopHolds, ReasonHolds}
 use Rattle.lft_pool.specs.Endings.{IsUnfinished, ReasonIs}
 
 -- an answer that is neither a run nor a wait nor a refusal says what a finished one says
@@ -33,6 +33,16 @@ unfinished_says (Err s) P u says = let e = u.1 in absurd (cc)
 stop_says : {L C : Type 0} (last : Result (Begin L C) Stop) (s : Stop) (P : Stop → Type 0) → last ≡ Err s → IfErr last P → P s
 stop_says (Ok b) s P e h = absurd (cc)
 stop_says (Err x) s P e h = let q : x ≡ s = cc in subst P q h
+
+-- what is said of an item that is there
+pub if_some : {X : Type 0} (o : Option X) (x : X) (P : X → Type 0) → o ≡ Some x → IfSome o P → P x
+if_some None x P e h = absurd (cc)
+if_some (Some y) x P e h = let q : y ≡ x = cc in subst P q h
+
+-- a book that keeps the reason of its last answer keeps what it says
+pub own_reason : {L C : Type 0} (last : Result (Begin L C) Stop) (old new : BookParts) → IfErr last (λ s. new ≡ record old { reason = Some s }) → ReasonHolds new.plan new.rows new.left new.reason → IfErr last (λ s. StopHolds new.plan new.rows new.left s)
+own_reason (Ok b) old new e why = e
+own_reason (Err s) old new e why = subst (λ (o : Option Stop). ReasonHolds new.plan new.rows new.left o) (ap (λ (b : BookParts). b.reason) e) why
 
 -- what the reason says, where the book's own reasons say what they keep
 module _ {L C : Type 0} (same : Bool) (last : Result (Begin L C) Stop) (s : Stop) (is : ReasonIs same last s) (plan : PlanParts) (t : List Row) (left : List ℕ) (holds : IfErr last (λ e. StopHolds plan t left e)) where

@@ -159,6 +159,11 @@ pub fn record_run<L: Law + Send, C: Code + Drop + Send, R: Threads + Wait + Sync
     ensures so_far { IfErr result (λ s. IsRecording L.holds s.plan s.rows s.states) }
     ensures lists_left { IfErr result (λ s. length s.left ≡ length s.plan.program.reactions) }
     ensures changed { IfErr result (λ s. s.reason ≢ Stop.PlanChanged → s.plan ≡ plan) }
+    ensures why_changed { IfErr result (λ s. s.reason ≡ Stop.PlanChanged → (s.plan ≢ plan) ⊎ SomethingLeft s.plan s.rows) }
+    ensures no_body { IfErr result (λ s. (r : _) → s.reason ≡ Stop.NoBody r → LacksBody s.plan s.rows s.left r) }
+    ensures workers { IfOk result (λ r. ¬ AreBad workers) }
+    ensures bad { IfErr result (λ s. AreBad workers → s.reason ≡ Stop.BadWorkers) }
+    ensures unbegun { IfErr result (λ s. s.reason ≡ Stop.BadWorkers → AreBad workers × (s.rows ≡ []) × (s.states ≡ []) × (s.left ≡ bodies)) }
 {
     if are_bad(workers) {
         return Err(unbegun(alloc, Stop::BadWorkers, plan, bodies));

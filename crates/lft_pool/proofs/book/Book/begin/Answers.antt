@@ -2,7 +2,6 @@ use Rattle.std.proofs.Common.{◌≡◌, ◌∙◌, inl, inr, sym, ap, subst, No
 use Rattle.lft_model.specs.Breaches.{Legal}
 use Rattle.lft_pool.specs.Books.{BookParts}
 use Rattle.lft_recording.specs.Starts.{MayStartFirst, NoneMayStart, NothingLeft, SomethingLeft, IsBusy, IsAnyOpen}
-use Rattle.lft_pool.specs.declared.stop.Stop.{Stop}
 use Rattle.lft_pool.specs.Causes.{BeginCause, StartCause}
 use Rattle.lft_pool.proofs.Known.{nothing_left_legal}
 use Rattle.lft_pool.proofs.Left.{busy_left}
