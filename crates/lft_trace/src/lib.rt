@@ -23,5 +23,5 @@ pub use externals::{Event, Externals};
 pub use fault::TraceFault;
 pub use row::{Row, Rows, Step};
 pub use steps::{is_end, is_start, is_stop, row_at};
-pub use trace_table::read_trace;
+pub use trace_table::{read_part, read_trace};
 pub use trace_writer::write_trace;

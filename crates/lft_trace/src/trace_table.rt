@@ -1,6 +1,7 @@
 //! Traces as tables.
 
 ghost use Rattle.std.specs.Prelude.{◌≡◌, ◌≢◌, ◌+◌, ◌<◌, ℕ, List, length, IfSome, IfNone, IfOk, IfErr, IsTrue, ◌↔◌, true, false, is_some, not, ◌||◌, Some};
+ghost use Rattle.std.specs.List.{AllZip};
 ghost use Rattle.csv.specs.Records.{fields_of};
 ghost use Rattle.lft_trace.specs.Numbers.{number_or_zero, value};
 ghost use Rattle.lft_trace.specs.Faults.{is_told};
@@ -76,6 +77,35 @@ fn read_rows(alloc: Global, program: &Program, text: &[u8]) -> Result<Vec<Row>, 
         Ok(false) => Ok(rows),
         Err(stop) => Err(stopped(stop)),
     }
+}
+
+/// The rows of a part of a trace table: of a text whose records are rows, the first one too.
+///
+/// It says nothing of why a part has none: a record that is no row, more records than `most`, or
+/// want of memory. Which fault the whole table has is for [`read_trace`] to say.
+pub fn read_part(alloc: Global, program: &Program, text: &[u8], most: u32) -> Option<Vec<Row>>
+    ensures { IfSome result (λ rows. AllZip (IsRow program.now) (records_of text.now) rows.items) }
+{
+    let mut reader = open(alloc, text);
+    let mut fields = ByteRecord::new(alloc);
+    let mut rows = Vec::new(alloc);
+    let mut last = None;
+    // One turn more than there may be rows: the last one finds the end.
+    for at in 0..=most {
+        match read_next(&mut reader, &mut fields) {
+            Ok(true) => {}
+            Ok(false) => return Some(rows),
+            Err(_) => return None,
+        }
+        let Ok(row) = read_row(program, last, &fields, at) else {
+            return None;
+        };
+        if rows.push(row).is_err() {
+            return None;
+        }
+        last = Some(row.reaction);
+    }
+    None
 }
 
 // Whether the record is the header.

@@ -1,0 +1,23 @@
+-- Texts that can be cut: at the end of a line, where no quote stands before.
+use Rattle.std.specs.Prelude.{◌≡◌, ◌≢◌, ℕ, List, [], ◌∷◌, ◌++◌, Some, slice_get}
+use Rattle.std.specs.List.{AllZip}
+use Rattle.lft_flat.specs.Parts.{Parts}
+use Rattle.lft_trace.specs.Records.{records_of}
+use Rattle.lft_trace.specs.Traces.{IsRow}
+use Rattle.lft_trace.specs.declared.row.Row.{Row}
+
+-- no byte is a quotation mark
+abbrev pub HasNoQuote : List ℕ → Type 0
+HasNoQuote text = (i : ℕ) → slice_get text i ≢ Some 34
+
+-- the last byte is a line feed
+abbrev pub EndsLine : List ℕ → Type 0
+EndsLine text = (line : List ℕ) × (text ≡ line ++ 10 ∷ [])
+
+-- the first byte isn't that of a byte order mark
+abbrev pub BeginsPlain : List ℕ → Type 0
+BeginsPlain text = slice_get text 0 ≢ Some 239
+
+-- the text has no quotation mark, and its records are those of the rows, one by one
+abbrev pub HoldsRows : Parts → List ℕ → List Row → Type 0
+HoldsRows program text rows = HasNoQuote text × AllZip (IsRow program) (records_of text) rows

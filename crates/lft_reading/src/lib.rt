@@ -1,0 +1,8 @@
+#![tactic(auto)]
+//! Trace tables read in parts by several workers. No command calls it yet.
+
+mod lines;
+mod shared;
+mod workers;
+
+pub use shared::read_trace_shared;

@@ -1,0 +1,68 @@
+//! Trace tables, read by several workers.
+
+ghost use Rattle.std.specs.Prelude.{◌≡◌, List, IfSome, IfOk, IfErr, true};
+ghost use Rattle.lft_trace.specs.Faults.{is_told};
+ghost use Rattle.lft_trace.specs.Fits.{RowsFit};
+ghost use Rattle.lft_trace.specs.Records.{records_of};
+ghost use Rattle.lft_trace.specs.Traces.{Table, TraceFails};
+
+use crate::lines::below_header;
+use crate::workers::{is_one_part, read_parts};
+use lft_flat::Program;
+use lft_trace::{Row, Rows, TraceFault, read_trace};
+use std::alloc::Global;
+use std::thread::Threads;
+
+/// The greatest number of rows of a table.
+const MAX_ROWS: u32 = 4_000_000;
+
+/// The rows of a trace table, read by so many workers at a time: what `read_trace` gives.
+///
+/// It is read in one part, by `read_trace`, with one worker or none, under 1 MiB, where the header
+/// isn't written in just its own bytes and a line feed, where a quotation mark stands anywhere, and
+/// where anything is wrong, want of memory and of threads' room too. So the faults are those of
+/// `read_trace`, and a table with a fault is read twice. While the parts are read, rows take at
+/// most three times the memory of a whole table.
+pub fn read_trace_shared<R: Threads + Sync>(
+    rt: &R,
+    alloc: Global,
+    program: &Program,
+    text: &[u8],
+    workers: u32,
+) -> Result<Rows, TraceFault>
+    ensures table { IfOk result (λ rows. Table program.now (records_of text.now) rows) }
+    ensures one { IfOk result (λ rows. (other : List Row) → Table program.now (records_of text.now) other → other ≡ rows) }
+    ensures fits { IfOk result (λ rows. RowsFit program.now rows) }
+    ensures fault { IfErr result (λ e. is_told e ≡ true → TraceFails program.now (records_of text.now) e × ((rows : List Row) → Table program.now (records_of text.now) rows → ⊥)) }
+{
+    // Asked for what every program keeps: no two of its things have one name.
+    program.keeps();
+    match read_in_parts(rt, alloc, program, text, workers) {
+        Some(rows) => Ok(Rows::from_vec(rows)),
+        None => read_trace(alloc, program, text),
+    }
+}
+
+// The rows of a trace table, where it is long and nothing about it is odd.
+fn read_in_parts<R: Threads + Sync>(
+    rt: &R,
+    alloc: Global,
+    program: &Program,
+    text: &[u8],
+    workers: u32,
+) -> Option<Vec<Row>>
+    ensures { IfSome result (λ rows. Table program.now (records_of text.now) rows.items) }
+{
+    if is_one_part(text, workers) {
+        return None;
+    }
+    let rest = below_header(text)?;
+    // A table of too many rows is known only once its parts are read: so none may have many more
+    // than its share.
+    let most = MAX_ROWS / workers * 2;
+    let rows = read_parts(rt, alloc, program, rest, workers, most)?;
+    if rows.len() > MAX_ROWS as usize {
+        return None;
+    }
+    Some(rows)
+}

@@ -1,0 +1,80 @@
+//! The rows of a text without a header, read in parts.
+
+ghost use Rattle.std.specs.Prelude.{◌≡◌, ◌≤◌, ◌++◌, IfSome, false};
+ghost use Rattle.std.specs.Thread.{IsSync};
+ghost use Rattle.lft_reading.specs.Parts.{HoldsRows};
+
+use crate::lines::cut_behind;
+use lft_flat::Program;
+use lft_trace::{Row, read_part};
+use memchr::memchr;
+use std::alloc::Global;
+use std::thread::{Threads, join};
+
+/// Texts of fewer bytes are read in one part: of them a thread costs more than it brings.
+const SHORT: usize = 1 << 20;
+
+/// Whether a text is read in one part.
+pub(crate) fn is_one_part(text: &[u8], workers: u32) -> bool
+    ensures { result ≡ false → 2 ≤ workers }
+{
+    workers < 2 || text.len() < SHORT
+}
+
+/// The rows of a text without a quotation mark, at most so many a part.
+// Text and workers are divided in two, in the same proportion, until a part has one worker.
+#[cycle(parts)]
+pub(crate) fn read_parts<R: Threads + Sync>(
+    rt: &R,
+    alloc: Global,
+    program: &Program,
+    text: &[u8],
+    workers: u32,
+    most: u32,
+) -> Option<Vec<Row>>
+    ensures { IfSome result (λ rows. HoldsRows program.now text.now rows.items) }
+{
+    if is_one_part(text, workers) {
+        return read_plain(alloc, program, text, most);
+    }
+    let low = workers / 2;
+    let high = workers - low;
+    let share = text.len() / workers as usize;
+    let Some((first, second)) = cut_behind(text, share * low as usize) else {
+        return read_plain(alloc, program, text, most);
+    };
+    let front = move || -> Option<Vec<Row>>
+        requires { IsSync R.row }
+        ensures { IfSome result (λ rows. HoldsRows program.entry.now first.entry.now rows.items) }
+    { read_parts(rt, alloc, program, first, low, most) };
+    let back = move || -> Option<Vec<Row>>
+        requires { IsSync R.row }
+        ensures { IfSome result (λ rows. HoldsRows program.entry.now second.entry.now rows.items) }
+    { read_parts(rt, alloc, program, second, high, most) };
+    let (rows, more) = join(rt, front, back);
+    put_together(rows?, more?)
+}
+
+// The rows of a text, by one worker. A line may end within quotes: no place of such a text is known
+// to be one where a record begins.
+fn read_plain(alloc: Global, program: &Program, text: &[u8], most: u32) -> Option<Vec<Row>>
+    ensures { IfSome result (λ rows. HoldsRows program.now text.now rows.items) }
+{
+    if memchr(b'"', text).is_some() {
+        return None;
+    }
+    read_part(alloc, program, text, most)
+}
+
+fn put_together(rows: Vec<Row>, more: Vec<Row>) -> Option<Vec<Row>>
+    ensures { IfSome result (λ all. all.items ≡ rows.items ++ more.items) }
+{
+    let mut all = rows;
+    if all.reserve_exact(more.len()).is_err() {
+        return None;
+    }
+    if all.extend_from_slice(more.as_slice()).is_err() {
+        return None;
+    }
+    Some(all)
+}
