@@ -17,6 +17,8 @@ const LINE: &[u8] = b"end,0,1999999,0,main#1,,,\n";
 /// As many bytes as a line, and no row.
 const BAD: &[u8] = b"ent,0,1999999,0,main#1,,,\n";
 
+const BAD_AND_LINE: &[u8] = b"ent,0,1999999,0,main#1,,,\nend,0,1999999,0,main#1,,,\n";
+
 /// The trace table of 2,000,000 runs, one a nanosecond: 4,000,000 rows.
 fn full_trace(alloc: Global) -> Result<Vec<u8>, Fail> {
     let mut text = Vec::with_capacity(alloc, 130_000_000)?;
@@ -37,28 +39,35 @@ fn full_externals(alloc: Global) -> Result<Vec<u8>, Fail> {
     Ok(text)
 }
 
+/// Puts lines in place of all that a text has past a length, and answers whether there was memory.
+fn set_end(text: &mut Vec<u8>, length: usize, lines: &[u8]) -> bool {
+    text.truncate(length);
+    text.extend_from_slice(lines).is_ok()
+}
+
 // a row past the limit isn't looked at, and the last one within it is
 #[test]
 fn reads_four_million_rows_and_no_more(rt: HostRuntime) -> Result<(), Fail> {
     let mut text = full_trace(rt.alloc())?;
     let whole = text.len();
     let shorter = whole.saturating_sub(LINE.len());
-    for (length, first, second, line) in [
+    for (length, end, line) in [
         (
             whole,
             b"".as_slice(),
-            b"".as_slice(),
             "accepted runs=2000000 tags=2000000\n",
         ),
-        (whole, LINE, b"", "fault trace 10 TooManyRows\n"),
-        (whole, BAD, b"", "fault trace 10 TooManyRows\n"),
-        (shorter, BAD, LINE, "fault trace 3 BadEvent line=4000001\n"),
+        (whole, LINE, "fault trace 10 TooManyRows\n"),
+        (whole, BAD, "fault trace 10 TooManyRows\n"),
+        (
+            shorter,
+            BAD_AND_LINE,
+            "fault trace 3 BadEvent line=4000001\n",
+        ),
     ] {
-        text.truncate(length);
-        text.extend_from_slice(first)?;
-        text.extend_from_slice(second)?;
-        let lines = judged(rt.alloc(), PROGRAM, EXTERNALS, &text);
-        assert!(rt; lines.as_slice() == line.as_bytes(), "{line}");
+        let is_told = set_end(&mut text, length, end)
+            && judged(rt.alloc(), PROGRAM, EXTERNALS, &text).as_slice() == line.as_bytes();
+        assert!(rt; is_told, "{line}");
     }
     Ok(())
 }
@@ -68,7 +77,7 @@ fn reads_four_million_rows_and_no_more(rt: HostRuntime) -> Result<(), Fail> {
 fn reads_four_million_external_inputs_and_no_more(rt: HostRuntime) -> Result<(), Fail> {
     let mut text = full_externals(rt.alloc())?;
     let length = text.len();
-    for (lines, line) in [
+    for (end, line) in [
         ("stop,0,0,,\n", "fault trace 1 BadHeader\n"),
         ("event,0,0,main.lamp,\n", "fault externals 8 NoStop\n"),
         (
@@ -80,10 +89,9 @@ fn reads_four_million_external_inputs_and_no_more(rt: HostRuntime) -> Result<(),
             "fault externals 7 DuplicateExternal line=4000001\n",
         ),
     ] {
-        text.truncate(length);
-        text.extend_from_slice(lines.as_bytes())?;
-        let found = judged(rt.alloc(), PROGRAM, &text, b"");
-        assert!(rt; found.as_slice() == line.as_bytes(), "{line}");
+        let is_told = set_end(&mut text, length, end.as_bytes())
+            && judged(rt.alloc(), PROGRAM, &text, b"").as_slice() == line.as_bytes();
+        assert!(rt; is_told, "{line}");
     }
     Ok(())
 }

@@ -6,54 +6,62 @@ use std::alloc::Global;
 use std::io;
 use std::io::{ErrorKind, Read};
 
-const TEXT: &[u8] = b"abc";
-
-/// Gives a text, one byte a call. At so many calls, from the one of the number `at` on, counted
-/// from 0, it gives an error of this kind instead.
+/// Gives so many bytes, at most a number of them a call, whatever the buffer has. The first byte of
+/// each call is the next letter. At so many calls, from the one of the number `at` on, counted from
+/// 0, it gives an error of this kind instead.
 #[derive(Drop)]
-struct Stumbling {
-    given: usize,
+struct Letters {
+    left: usize,
+    most: usize,
+    letter: u8,
     calls: usize,
     at: usize,
     times: usize,
     kind: ErrorKind,
 }
 
-impl Read for Stumbling {
+impl Letters {
+    /// One letter a call, with errors.
+    fn stumbling(left: usize, at: usize, times: usize, kind: ErrorKind) -> Letters {
+        Letters {
+            left,
+            most: 1,
+            letter: b'a',
+            calls: 0,
+            at,
+            times,
+            kind,
+        }
+    }
+
+    /// No errors.
+    fn plain(left: usize, most: usize) -> Letters {
+        Letters {
+            most,
+            ..Letters::stumbling(left, 0, 0, ErrorKind::Other)
+        }
+    }
+}
+
+impl Read for Letters {
     fn read(&mut self, buf: &mut [u8]) -> io::Result<usize> {
         let call = self.calls;
         self.calls = call.wrapping_add(1);
         if self.at <= call && call - self.at < self.times {
             return Err(io::Error::from(self.kind));
         }
-        match TEXT.get(self.given) {
-            Some(byte) if !buf.is_empty() => {
-                buf[0] = *byte;
-                self.given = self.given.wrapping_add(1);
-                Ok(1)
-            }
-            _ => Ok(0),
-        }
-    }
-}
-
-/// Gives so many bytes, at most a number of them a call, whatever the buffer has.
-#[derive(Drop)]
-struct Bytes {
-    left: usize,
-    most: usize,
-}
-
-impl Read for Bytes {
-    fn read(&mut self, buf: &mut [u8]) -> io::Result<usize> {
         let given = buf.len().min(self.most).min(self.left);
         self.left -= given;
+        if given > 0 {
+            buf[0] = self.letter;
+            self.letter = self.letter.wrapping_add(1);
+        }
         Ok(given)
     }
 }
 
 /// The bytes of a reader, or the line of the fault.
-fn told<R: Read>(alloc: Global, reader: &mut R) -> Vec<u8> {
+fn told(alloc: Global, reader: &mut Letters) -> Vec<u8> {
     match read_input(alloc, "a b", reader) {
         Ok(bytes) => bytes,
         Err(fault) => with_fault(Vec::new(alloc), Some(fault)),
@@ -71,14 +79,8 @@ fn reads_on_after_interruptions_alone(rt: HostRuntime) {
             b"fault read 1 Failed a b\n".as_slice(),
         ),
     ] {
-        for at in 0..=TEXT.len() {
-            let mut reader = Stumbling {
-                given: 0,
-                calls: 0,
-                at,
-                times: 3,
-                kind,
-            };
+        for at in 0..=3 {
+            let mut reader = Letters::stumbling(3, at, 3, kind);
             assert!(rt; told(rt.alloc(), &mut reader).as_slice() == want, "{at}");
         }
     }
@@ -87,40 +89,25 @@ fn reads_on_after_interruptions_alone(rt: HostRuntime) {
 // 2^24 calls are made and no more
 #[test]
 fn gives_up_on_an_endless_reader(rt: HostRuntime) {
-    let mut endless = Bytes {
-        left: usize::MAX,
-        most: 1,
-    };
+    let mut endless = Letters::plain(usize::MAX, 1);
     let line = told(rt.alloc(), &mut endless);
-    assert!(rt;
-        line.as_slice() == b"fault read 2 TooLarge a b\n".as_slice()
-            && endless.left == usize::MAX - (1 << 24)
-    );
+    let is_told = line.as_slice() == b"fault read 2 TooLarge a b\n".as_slice();
+    assert!(rt; is_told && endless.left == usize::MAX - (1 << 24));
 }
 
 // interruptions are calls too
 #[test]
 fn gives_up_on_endless_interruptions(rt: HostRuntime) {
-    let mut endless = Stumbling {
-        given: 0,
-        calls: 0,
-        at: 0,
-        times: usize::MAX,
-        kind: ErrorKind::Interrupted,
-    };
+    let mut endless = Letters::stumbling(3, 0, usize::MAX, ErrorKind::Interrupted);
     let line = told(rt.alloc(), &mut endless);
-    assert!(rt;
-        line.as_slice() == b"fault read 2 TooLarge a b\n".as_slice() && endless.calls == 1 << 24
-    );
+    let is_told = line.as_slice() == b"fault read 2 TooLarge a b\n".as_slice();
+    assert!(rt; is_told && endless.calls == 1 << 24);
 }
 
 #[test]
 fn takes_two_to_the_thirty_bytes_and_no_more(rt: HostRuntime) {
     for (left, length) in [(1 << 30, 1 << 30), ((1 << 30) + 1, 26)] {
-        let mut reader = Bytes {
-            left,
-            most: usize::MAX,
-        };
+        let mut reader = Letters::plain(left, usize::MAX);
         assert!(rt; told(rt.alloc(), &mut reader).len() == length, "{left}");
     }
 }
