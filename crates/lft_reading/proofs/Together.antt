@@ -39,7 +39,7 @@ second : (a b : Bool) → (a && b) ≡ true → b ≡ true
 second true b h = h
 second false b h = absurd (false≢true h)
 
--- a text that was looked through
+-- a text of which each byte was looked at
 quiet : (text : List ℕ) → list_all (λ (c : ℕ). not (c == 34)) text ≡ true → HasNoQuote text
 quiet [] h i e = absurd (cc e)
 quiet (c ∷ text) h zero e = let s : c ≡ 34 = cc e in absurd (false≢true (rw s at h))

@@ -18,11 +18,12 @@ const MAX_ROWS: u32 = 4_000_000;
 
 /// The rows of a trace table, read by so many workers at a time: what `read_trace` gives.
 ///
-/// It is read in one part, by `read_trace`, with one worker or none, under 1 MiB, where the header
-/// isn't written in just its own bytes and a line feed, where a quotation mark stands anywhere, and
-/// where anything is wrong, want of memory and of threads' room too. So the faults are those of
-/// `read_trace`, and a table with a fault is read twice. While the parts are read, rows take at
-/// most three times the memory of a whole table.
+/// It is read in one part, by `read_trace`, with one worker or none, where the text has under
+/// 1 MiB, and where anything about it is odd: a header in other bytes than its own and a line feed,
+/// a quotation mark, a record that is no row, want of memory. So the faults are those of
+/// `read_trace`, and a table with a fault is read twice. While parts are put together, rows take up
+/// to three times the memory of those of the greatest table. Where no thread can be started, the
+/// parts are read one after another.
 pub fn read_trace_shared<R: Threads + Sync>(
     rt: &R,
     alloc: Global,

@@ -39,6 +39,7 @@ pub(crate) fn read_parts<R: Threads + Sync>(
     }
     let low = workers / 2;
     let high = workers - low;
+    // The share of the low workers is no longer than the text, since they are fewer than all.
     let share = text.len() / workers as usize;
     let Some((first, second)) = cut_behind(text, share * low as usize) else {
         return read_plain(alloc, program, text, most);
