@@ -107,7 +107,8 @@ pub fn least_clash(plan: &Plan, rows: &Rows) -> Option<Tag>
     ensures some { IfSome result (CollidesFirst plan.now rows.now) }
     ensures none { IfNone result (IsClean plan.now rows.now) }
 {
-    let _program = plan.program();
+    // Asked for what every plan keeps: it is sound, so that each collision is at a tag at which an event of a row arrives.
+    plan.keeps();
     let items = rows.as_slice();
     let stop = trace_stop(plan, items);
     let mut least = None;

@@ -211,7 +211,8 @@ pub(crate) fn least_tag(plan: &Plan, rows: &Rows) -> Option<Tag>
     ensures some { IfSome result (IsLeastTag plan.now rows.now) }
     ensures none { IfNone result (NothingLeft plan.now rows.now) }
 {
-    let _program = plan.program();
+    // Asked for what every plan keeps: it is sound, and what is pending of a sound plan is covered by the candidates.
+    plan.keeps();
     let last = last_tag(plan, rows);
     if awaits(plan, rows, last) {
         return Some(last);

@@ -21,7 +21,8 @@ fn is_pending(plan: &Plan, rows: &Rows, tag: Tag, reaction: u32) -> bool
     requires reaction { reaction < length plan.now.program.reactions }
     ensures { IsTrue result ↔ IsPending plan.now (by_ends plan.now rows.now) tag reaction }
 {
-    let _program = plan.program();
+    // Asked for what every plan keeps: it is sound, so that ended runs and rows agree on what is triggered.
+    plan.keeps();
     let items = rows.as_slice();
     if trace_stop(plan, items).is_before(tag) {
         return false;

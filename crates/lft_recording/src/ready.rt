@@ -33,7 +33,8 @@ pub fn find_ready(alloc: Global, plan: &Plan, rows: &Rows) -> Result<Found, NoMe
     ensures open { result ≡ Ok Found.Blocked → IsAnyOpen rows.now }
     ensures nothing { result ≡ Ok Found.Nothing → NothingLeft plan.now rows.now }
 {
-    let _program = plan.program();
+    // Asked for what every plan keeps: it is sound, so that what is pending first is ready or open.
+    plan.keeps();
     let Some(tag) = least_tag(plan, rows) else {
         return Ok(Found::Nothing);
     };

@@ -15,7 +15,7 @@ returns-clause-some c =
     let last : c.trace_stop-stop.result ≡ stop plan t = c.trace_stop-stop.ensures ∙ ap (λ (ts : List Row). stop plan ts) items in
     let sound : IfSome c.loop-place.least (Clashes plan t (stop plan t)) = subst (λ (g : Tag). IfSome c.loop-place.least (Clashes plan t g)) last c.loop-place.invariant.sound in
     let covers : (h : Tag) → ArrivalAt plan t h → Clashes plan t (stop plan t) h → IsCovered c.loop-place.least h = λ h a k. c.loop-place.invariant.covers a.0 a.1 h (let l : a.0 < length t = slice_get_within t a.0 a.1 a.2 in let e = ap length items in omega arith) (ap (λ (ts : List Row). slice_get ts a.0) items ∙ a.2) a.3 (subst (λ (g : Tag). Clashes plan t g h) (sym last) k) in
-    if_first plan t c.loop-place.least (arrives plan c.program-program.ensures.sound t c.requires) covers sound
+    if_first plan t c.loop-place.least (arrives plan c.keeps.ensures.sound t c.requires) covers sound
 
 pub returns-clause-none : goal.returns-clause-none
 returns-clause-none c =
@@ -24,7 +24,7 @@ returns-clause-none c =
     let items : c.as_slice-items.result.now ≡ t = c.as_slice-items.ensures in
     let last : c.trace_stop-stop.result ≡ stop plan t = c.trace_stop-stop.ensures ∙ ap (λ (ts : List Row). stop plan ts) items in
     let covers : (h : Tag) → ArrivalAt plan t h → Clashes plan t (stop plan t) h → IsCovered c.loop-place.least h = λ h a k. c.loop-place.invariant.covers a.0 a.1 h (let l : a.0 < length t = slice_get_within t a.0 a.1 a.2 in let e = ap length items in omega arith) (ap (λ (ts : List Row). slice_get ts a.0) items ∙ a.2) a.3 (subst (λ (g : Tag). Clashes plan t g h) (sym last) k) in
-    if_clean plan t c.loop-place.least (arrives plan c.program-program.ensures.sound t c.requires) covers
+    if_clean plan t c.loop-place.least (arrives plan c.keeps.ensures.sound t c.requires) covers
 
 pub loop-place-preserved : goal.loop-place-preserved
 loop-place-preserved c = record {

@@ -13,7 +13,7 @@ use Rattle.lft_recording.proofs.earliest.least_tag.Goals as goal
 pub returns-then-awaits-clause-some : goal.returns-then-awaits-clause-some
 returns-then-awaits-clause-some c = record {
   awaits = c.awaits.ensures.0 c.if-awaits.true;
-  least = λ h a p. last_up_to c.args.plan.now c.program-program.ensures.sound c.args.rows.now c.requires.so_far c.requires.quiet c.last_tag-last.result h a c.last_tag-last.ensures p;
+  least = λ h a p. last_up_to c.args.plan.now c.keeps.ensures.sound c.args.rows.now c.requires.so_far c.requires.quiet c.last_tag-last.result h a c.last_tag-last.ensures p;
 }
 
 pub returns-clause-some : goal.returns-clause-some
@@ -27,7 +27,7 @@ returns-clause-some c =
     let by_timers : (h : Tag) (n : ℕ) → n < length plan.program.timers → FiresAfter plan t c.last_tag-last.result n h → IsCovered found h = λ h n l f. c.with_rows.ensures.more h (c.with_events-by_events.ensures.more h (c.with_timers-by_timers.ensures.covers h n l f)) in
     let by_events : (h : Tag) (k : ℕ) → k < length plan.externals.events → EventAt plan k h → Awaits plan t h → IsCovered found h = λ h k l e a. c.with_rows.ensures.more h (c.with_events-by_events.ensures.covers h k l e a) in
     let by_rows : (h : Tag) → ArrivalAt plan t h → Awaits plan t h → IsCovered found h = λ h a o. c.with_rows.ensures.covers a.0 a.1 h a.2 a.3 o in
-    let covers : (h : Tag) (r : ℕ) → IsPending plan (by_ends plan t) h r → IsCovered found h = pending_covered plan c.program-program.ensures.sound t c.requires.so_far c.requires.quiet c.requires.fit c.last_tag-last.result c.last_tag-last.ensures found none_last by_stop by_timers by_events by_rows in
+    let covers : (h : Tag) (r : ℕ) → IsPending plan (by_ends plan t) h r → IsCovered found h = pending_covered plan c.keeps.ensures.sound t c.requires.so_far c.requires.quiet c.requires.fit c.last_tag-last.result c.last_tag-last.ensures found none_last by_stop by_timers by_events by_rows in
     if_least plan t found covers c.with_rows.ensures.sound
 
 pub returns-clause-none : goal.returns-clause-none
@@ -41,5 +41,5 @@ returns-clause-none c =
     let by_timers : (h : Tag) (n : ℕ) → n < length plan.program.timers → FiresAfter plan t c.last_tag-last.result n h → IsCovered found h = λ h n l f. c.with_rows.ensures.more h (c.with_events-by_events.ensures.more h (c.with_timers-by_timers.ensures.covers h n l f)) in
     let by_events : (h : Tag) (k : ℕ) → k < length plan.externals.events → EventAt plan k h → Awaits plan t h → IsCovered found h = λ h k l e a. c.with_rows.ensures.more h (c.with_events-by_events.ensures.covers h k l e a) in
     let by_rows : (h : Tag) → ArrivalAt plan t h → Awaits plan t h → IsCovered found h = λ h a o. c.with_rows.ensures.covers a.0 a.1 h a.2 a.3 o in
-    let covers : (h : Tag) (r : ℕ) → IsPending plan (by_ends plan t) h r → IsCovered found h = pending_covered plan c.program-program.ensures.sound t c.requires.so_far c.requires.quiet c.requires.fit c.last_tag-last.result c.last_tag-last.ensures found none_last by_stop by_timers by_events by_rows in
+    let covers : (h : Tag) (r : ℕ) → IsPending plan (by_ends plan t) h r → IsCovered found h = pending_covered plan c.keeps.ensures.sound t c.requires.so_far c.requires.quiet c.requires.fit c.last_tag-last.result c.last_tag-last.ensures found none_last by_stop by_timers by_events by_rows in
     if_nothing plan t found covers

@@ -14,7 +14,7 @@ returns-then-is_before c =
     let items : c.as_slice-items.result.now ≡ t = c.as_slice-items.ensures in
     let last : c.trace_stop.result ≡ stop plan t = c.trace_stop.ensures ∙ ap (λ (ts : List Row). stop plan ts) items in
     let b : Before c.trace_stop.result c.args.tag = c.is_before.ensures.0 c.if-is_before.true in
-    never (late_not_pending plan c.program-program.ensures.sound t c.requires.so_far c.requires.quiet c.args.tag c.args.reaction (subst (λ (k : Tag). Before k c.args.tag) last b))
+    never (late_not_pending plan c.keeps.ensures.sound t c.requires.so_far c.requires.quiet c.args.tag c.args.reaction (subst (λ (k : Tag). Before k c.args.tag) last b))
 
 pub returns-then-has_ended : goal.returns-then-has_ended
 returns-then-has_ended c =
@@ -22,7 +22,7 @@ returns-then-has_ended c =
     let t = c.args.rows.now in
     let items : c.as_slice-items.result.now ≡ t = c.as_slice-items.ensures in
     let e : HasEnded c.as_slice-items.result.now c.args.tag c.args.reaction = c.has_ended.ensures.0 c.if-has_ended.true in
-    never (ended_not_pending plan c.program-program.ensures.sound t c.requires.so_far c.requires.quiet c.args.tag c.args.reaction (subst (λ (ts : List Row). HasEnded ts c.args.tag c.args.reaction) items e))
+    never (ended_not_pending plan c.keeps.ensures.sound t c.requires.so_far c.requires.quiet c.args.tag c.args.reaction (subst (λ (ts : List Row). HasEnded ts c.args.tag c.args.reaction) items e))
 
 pub returns : goal.returns
 returns c =
@@ -32,4 +32,4 @@ returns c =
     let last : c.trace_stop.result ≡ stop plan t = c.trace_stop.ensures ∙ ap (λ (ts : List Row). stop plan ts) items in
     let late : ¬ Before c.trace_stop.result c.args.tag = search rules in
     let going : ¬ HasEnded c.as_slice-items.result.now c.args.tag c.args.reaction = search rules in
-    (λ e. pending_if plan c.program-program.ensures.sound t c.requires.so_far c.requires.quiet c.args.tag c.args.reaction (subst (λ (k : Tag). ¬ Before k c.args.tag) last late) (subst (λ (ts : List Row). ¬ HasEnded ts c.args.tag c.args.reaction) items going) (c.triggered_slow.ensures.0 e), λ p. c.triggered_slow.ensures.1 (pending_is_triggered plan c.program-program.ensures.sound t c.requires.so_far c.requires.quiet c.args.tag c.args.reaction p))
+    (λ e. pending_if plan c.keeps.ensures.sound t c.requires.so_far c.requires.quiet c.args.tag c.args.reaction (subst (λ (k : Tag). ¬ Before k c.args.tag) last late) (subst (λ (ts : List Row). ¬ HasEnded ts c.args.tag c.args.reaction) items going) (c.triggered_slow.ensures.0 e), λ p. c.triggered_slow.ensures.1 (pending_is_triggered plan c.keeps.ensures.sound t c.requires.so_far c.requires.quiet c.args.tag c.args.reaction p))
