@@ -3,13 +3,14 @@
 //! A case is a line `== KIND` and the lines up to the next one; what stands before the first is a
 //! remark, and `== end` stands last. In these lines `\HH` is the byte of that hexadecimal number, and
 //! a backslash at the end of a line takes the line's end away. The kinds are told where they are
-//! answered: what is given to other cases, texts, programs, traces, external inputs, presence, and
-//! texts as a whole. `title` and some words are written as they are.
+//! answered: what is given to other cases, texts, programs, traces, external inputs, presence, texts
+//! as a whole, and two traces beside one another. `title` and some words are written as they are.
 #![tactic(auto)]
 
 mod case_text;
 mod external_tables;
 mod given;
+mod pairs;
 mod presence;
 mod programs;
 mod refusal;
@@ -53,6 +54,8 @@ fn tell(
         "show" => whole::show(alloc, text, told),
         "judge" => whole::judge(alloc, given, text, words, told),
         "judge-text" => whole::judge_text(alloc, given, text, words, told),
+        "pair" => pairs::pair(alloc, given, text, words, told),
+        "pair-text" => pairs::pair_text(alloc, given, text, words, told),
         "bundle" => whole::bundle(alloc, text, told),
         _ => writeln!(told, "no such kind of case: {kind}"),
     }

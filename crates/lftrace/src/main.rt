@@ -1,10 +1,12 @@
-//! Judges recorded traces of Lingua Franca programs.
+//! Judges recorded traces of Lingua Franca programs, and compares them.
 #![tactic(auto)]
 
 mod words;
 
-use crate::words::{Job, JudgeWords, read_words};
-use lft_front::{Fault, Part, bundle_answer, finish, judge_answer, read_input, show_answer};
+use crate::words::{Job, JudgeWords, PairWords, read_words};
+use lft_front::{
+    Fault, Part, bundle_answer, finish, judge_answer, pair_answer, read_input, show_answer,
+};
 use std::alloc::Global;
 use std::fs::File;
 use std::io::{IsTerminal, Read, Write};
@@ -35,6 +37,28 @@ fn judge_files<F: Files, W: Write>(
         program.as_slice(),
         externals.as_slice(),
         trace.as_slice(),
+        words.workers,
+        out,
+    )
+}
+
+/// Compares the two traces of four files, all of which are read first.
+fn pair_files<F: Files, W: Write>(
+    rt: &F,
+    alloc: Global,
+    words: PairWords<'_>,
+    out: &mut W,
+) -> Result<bool, Fault> {
+    let program = read_file(rt, alloc, words.program)?;
+    let externals = read_file(rt, alloc, words.externals)?;
+    let first = read_file(rt, alloc, words.first)?;
+    let second = read_file(rt, alloc, words.second)?;
+    pair_answer(
+        alloc,
+        program.as_slice(),
+        externals.as_slice(),
+        first.as_slice(),
+        second.as_slice(),
         words.workers,
         out,
     )
@@ -95,6 +119,7 @@ fn main(rt: HostRuntime) -> ExitCode {
             judge_bundle(alloc, &mut rt.stdin(), &mut out)
         }
         Job::Judge(words) => judge_files(&rt, alloc, words, &mut out),
+        Job::Pair(words) => pair_files(&rt, alloc, words, &mut out),
         Job::Show(path) => show_file(&rt, alloc, path, &mut out),
     };
     ExitCode::from(finish(answer, &mut rt.stderr()))

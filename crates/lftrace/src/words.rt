@@ -6,7 +6,7 @@ use std::alloc::Global;
 const VERSION: &str = "0.1.0";
 
 const HELP: &str = "\
-Status: 0 accepted or shown, 1 broken, 2 a fault (on standard error).
+Status: 0 accepted, same or shown, 1 broken or differ, 2 a fault (on standard error).
 A bundle is the lines `--- program`, `--- externals` and `--- trace`, each with its text after it.";
 
 const JUDGE_HELP: &str = "\
@@ -14,6 +14,14 @@ EXTERNALS has the header  kind,time,microstep,name,value
 TRACE has the header      event,worker,time,microstep,reaction,name,value,delay
 Times are in nanoseconds. Words are paths of files; /dev/stdin is standard input.
 Printed: accepted runs=R tags=G (status 0), or broken rule=N .. (status 1).";
+
+const PAIR_HELP: &str = "\
+EXTERNALS has the header          kind,time,microstep,name,value
+FIRST and SECOND have the header  event,worker,time,microstep,reaction,name,value,delay
+Times are in nanoseconds. Words are paths of files; /dev/stdin is standard input.
+Printed: same runs=R tags=G (status 0); differ time=T microstep=M reaction=X,
+where that reaction met the same history and inputs in both and answered
+otherwise; or first broken rule=N .. or second broken rule=N .. (status 1).";
 
 const SHOW_HELP: &str = "\
 PROGRAM is the path of a file; /dev/stdin is standard input.
@@ -29,12 +37,23 @@ pub struct JudgeWords<'a> {
     pub workers: u32,
 }
 
+/// The words of `pair`: four paths, and how many workers, 1 to 64.
+#[derive(Clone, Copy, Debug, PartialEq, Eq)]
+pub struct PairWords<'a> {
+    pub program: &'a str,
+    pub externals: &'a str,
+    pub first: &'a str,
+    pub second: &'a str,
+    pub workers: u32,
+}
+
 /// What the command line asks for.
 #[derive(Clone, Copy, Debug, PartialEq, Eq)]
 pub enum Job<'a> {
     /// To judge a bundle from standard input.
     Bundle,
     Judge(JudgeWords<'a>),
+    Pair(PairWords<'a>),
     /// To show the ports and the precedence of the program at a path.
     Show(&'a str),
 }
@@ -66,6 +85,20 @@ fn judge_command<'a>(alloc: Global) -> Result<Command<'a>, Error> {
     Ok(command)
 }
 
+fn pair_command<'a>(alloc: Global) -> Result<Command<'a>, Error> {
+    let command = Command::new(alloc, "pair")
+        .about(
+            "Judges two recorded traces of one program, and tells whether they have the same runs",
+        )
+        .arg(path(alloc, "PROGRAM", "the program's text"))?
+        .arg(path(alloc, "EXTERNALS", "the table of external inputs of both"))?
+        .arg(path(alloc, "FIRST", "a trace table"))?
+        .arg(path(alloc, "SECOND", "another trace table"))?
+        .arg(workers(alloc))?
+        .after_help(PAIR_HELP);
+    Ok(command)
+}
+
 fn show_command<'a>(alloc: Global) -> Result<Command<'a>, Error> {
     let command = Command::new(alloc, "show")
         .about("Shows the ports of a program and which of its reactions precede which")
@@ -81,6 +114,7 @@ fn root_command<'a>(alloc: Global) -> Result<Command<'a>, Error> {
             "Checks recorded executions of reactor programs. Without a command it judges a bundle from standard input.",
         )
         .subcommand(judge_command(alloc)?)?
+        .subcommand(pair_command(alloc)?)?
         .subcommand(show_command(alloc)?)?
         .after_help(HELP);
     Ok(command)
@@ -106,6 +140,13 @@ pub fn read_words<'a>(alloc: Global, words: &'a [String]) -> Result<Job<'a>, Err
             externals: text(judge, "EXTERNALS"),
             trace: text(judge, "TRACE"),
             workers: number(judge, "workers", 1),
+        })),
+        Some(("pair", pair)) => Ok(Job::Pair(PairWords {
+            program: text(pair, "PROGRAM"),
+            externals: text(pair, "EXTERNALS"),
+            first: text(pair, "FIRST"),
+            second: text(pair, "SECOND"),
+            workers: number(pair, "workers", 1),
         })),
         Some(("show", show)) => Ok(Job::Show(text(show, "PROGRAM"))),
         _ => Ok(Job::Bundle),
