@@ -13,6 +13,6 @@ mod readers;
 #[cfg(test)]
 mod texts;
 #[cfg(test)]
-mod writers;
-#[cfg(test)]
 mod words;
+#[cfg(test)]
+mod writers;
