@@ -156,9 +156,11 @@ BreaksAt plan t g o k = BreaksAtUntil (stop plan t) plan t g o k
 abbrev pub TagBreach : PlanParts → List Row → Breach → Type 0
 TagBreach plan t b = TagBreachUntil (stop plan t) plan t b
 
+-- a trace that breaks no rule: one that is legal up to its own stop
 abbrev pub Legal : PlanParts → List Row → Type 0
 Legal plan t = LegalUntil (stop plan t) plan t
 
+-- the first breach of a trace, with its own stop
 abbrev pub First : PlanParts → List Row → Breach → Type 0
 First plan t b = FirstUntil (stop plan t) plan t b
 

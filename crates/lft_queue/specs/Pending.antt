@@ -37,9 +37,10 @@ Becomes old new g n o = (h : Tag) (m : Name) → value_of h m new ≡ cond (same
 abbrev pub IsMap : List Pending → Type 0
 IsMap es = AllPairs (λ d e. same_key d.tag d.name e.tag e.name ≡ false) es
 
--- the tests of an event by its tag
+-- the test of an event being at the tag
 abbrev pub is_at : Tag → Pending → Bool
 is_at g e = same_tag g e.tag
 
+-- the test of an event being after the tag
 abbrev pub is_after : Tag → Pending → Bool
 is_after g e = is_before g e.tag

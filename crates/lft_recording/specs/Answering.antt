@@ -9,7 +9,7 @@ use Rattle.lft_model.specs.Recorded.{MayAnswer}
 abbrev pub MayAll : PlanParts → ℕ → List Step → Type 0
 MayAll plan r steps = (k : ℕ) (s : Step) → slice_get steps k ≡ Some s → MayAnswer plan r s
 
--- a step schedules with an extra delay past 10^18
+-- the step schedules with an extra delay past 10^18
 abbrev pub IsLong : Step → Type 0
 IsLong (Schedule n v d) = 1000000000000000000 < d
 IsLong (Write n v) = ⊥
@@ -18,5 +18,6 @@ IsLong Start = ⊥
 IsLong Stop = ⊥
 IsLong End = ⊥
 
+-- one of the steps schedules with an extra delay past 10^18
 abbrev pub HasLongDelay : List Step → Type 0
 HasLongDelay steps = (k : ℕ) × (s : Step) × (slice_get steps k ≡ Some s) × IsLong s
