@@ -23,7 +23,7 @@ fn push_escaped(text: &mut Vec<u8>, line: &str) -> Result<bool, AllocError> {
 
 /// Puts a line at the end of a text, with its end if no backslash stands there. The answer is
 /// whether each other backslash has two hexadecimal digits.
-pub fn push_line(text: &mut Vec<u8>, line: &str) -> Result<bool, AllocError> {
+pub(crate) fn push_line(text: &mut Vec<u8>, line: &str) -> Result<bool, AllocError> {
     if let Some(open) = line.strip_suffix("\\") {
         return push_escaped(text, open);
     }
@@ -33,6 +33,6 @@ pub fn push_line(text: &mut Vec<u8>, line: &str) -> Result<bool, AllocError> {
 }
 
 /// The text of a case that has one thing a line.
-pub fn lines_of(text: &[u8]) -> &str {
+pub(crate) fn lines_of(text: &[u8]) -> &str {
     str::from_utf8(text).unwrap_or("this case isn't UTF-8")
 }

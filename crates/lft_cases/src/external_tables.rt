@@ -16,7 +16,12 @@ use std::io;
 use std::io::Write;
 
 /// A case `external-rows`.
-pub fn rows(alloc: Global, given: &Given, lines: &[u8], told: &mut Vec<u8>) -> io::Result<()> {
+pub(crate) fn rows(
+    alloc: Global,
+    given: &Given,
+    lines: &[u8],
+    told: &mut Vec<u8>,
+) -> io::Result<()> {
     let program = match program_of(alloc, given.program.as_slice()) {
         Ok(program) => program,
         Err(refusal) => return writeln!(told, "{refusal:?}"),
@@ -40,7 +45,12 @@ fn write_inputs(inputs: &Externals, told: &mut Vec<u8>) -> io::Result<()> {
 }
 
 /// A case `read-externals-text`.
-pub fn read_text(alloc: Global, given: &Given, table: &[u8], told: &mut Vec<u8>) -> io::Result<()> {
+pub(crate) fn read_text(
+    alloc: Global,
+    given: &Given,
+    table: &[u8],
+    told: &mut Vec<u8>,
+) -> io::Result<()> {
     let program = match program_of(alloc, given.program.as_slice()) {
         Ok(program) => program,
         Err(refusal) => return writeln!(told, "{refusal:?}"),
@@ -52,7 +62,12 @@ pub fn read_text(alloc: Global, given: &Given, table: &[u8], told: &mut Vec<u8>)
 }
 
 /// A case `read-externals`.
-pub fn read(alloc: Global, given: &Given, rows: &[u8], told: &mut Vec<u8>) -> io::Result<()> {
+pub(crate) fn read(
+    alloc: Global,
+    given: &Given,
+    rows: &[u8],
+    told: &mut Vec<u8>,
+) -> io::Result<()> {
     let table = external_table(alloc, rows)?;
     read_text(alloc, given, table.as_slice(), told)
 }

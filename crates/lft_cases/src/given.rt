@@ -18,25 +18,25 @@ pub struct Given {
 }
 
 /// A text and another one after it.
-pub fn joined(alloc: Global, front: &[u8], rest: &[u8]) -> Result<Vec<u8>, AllocError> {
+pub(crate) fn joined(alloc: Global, front: &[u8], rest: &[u8]) -> Result<Vec<u8>, AllocError> {
     let mut text = Vec::from_slice(alloc, front)?;
     text.extend_from_slice(rest)?;
     Ok(text)
 }
 
 /// The table of external inputs of these rows.
-pub fn external_table(alloc: Global, rows: &[u8]) -> Result<Vec<u8>, AllocError> {
+pub(crate) fn external_table(alloc: Global, rows: &[u8]) -> Result<Vec<u8>, AllocError> {
     joined(alloc, EXTERNAL_HEADER.as_bytes(), rows)
 }
 
 /// The trace table of these rows.
-pub fn trace_table(alloc: Global, rows: &[u8]) -> Result<Vec<u8>, AllocError> {
+pub(crate) fn trace_table(alloc: Global, rows: &[u8]) -> Result<Vec<u8>, AllocError> {
     joined(alloc, TRACE_HEADER.as_bytes(), rows)
 }
 
 impl Given {
     /// Empty texts.
-    pub fn new(alloc: Global) -> Given {
+    pub(crate) fn new(alloc: Global) -> Given {
         Given {
             program: Vec::new(alloc),
             externals: Vec::new(alloc),
@@ -45,7 +45,12 @@ impl Given {
     }
 
     /// Sets one of the texts, and answers whether cases of this kind do.
-    pub fn set(&mut self, alloc: Global, kind: &str, text: &[u8]) -> Result<bool, AllocError> {
+    pub(crate) fn set(
+        &mut self,
+        alloc: Global,
+        kind: &str,
+        text: &[u8],
+    ) -> Result<bool, AllocError> {
         match kind {
             "program" => self.program = Vec::from_slice(alloc, text)?,
             "externals" => self.externals = external_table(alloc, text)?,

@@ -14,7 +14,7 @@ use std::io;
 use std::io::Write;
 
 /// A case `pair-text`.
-pub fn pair_text(
+pub(crate) fn pair_text(
     alloc: Global,
     given: &Given,
     second: &[u8],
@@ -34,7 +34,7 @@ pub fn pair_text(
 }
 
 /// A case `pair`.
-pub fn pair(
+pub(crate) fn pair(
     alloc: Global,
     given: &Given,
     rows: &[u8],

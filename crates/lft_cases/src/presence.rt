@@ -103,7 +103,12 @@ fn answer(alloc: Global, plan: &Plan, rows: &Rows, line: &str) -> Option<String>
 }
 
 /// A case `ask`.
-pub fn ask(alloc: Global, given: &Given, questions: &[u8], told: &mut Vec<u8>) -> io::Result<()> {
+pub(crate) fn ask(
+    alloc: Global,
+    given: &Given,
+    questions: &[u8],
+    told: &mut Vec<u8>,
+) -> io::Result<()> {
     let (plan, rows) = match recorded(alloc, given) {
         Ok(recorded) => recorded,
         Err(refusal) => return writeln!(told, "{refusal:?}"),

@@ -17,7 +17,7 @@ use std::io;
 use std::io::Write;
 
 /// The flat program of a text.
-pub fn program_of(alloc: Global, text: &[u8]) -> Result<Program, Refusal> {
+pub(crate) fn program_of(alloc: Global, text: &[u8]) -> Result<Program, Refusal> {
     let tree = tree_of(alloc, text)?;
     Ok(flatten(alloc, &tree)?)
 }
@@ -67,7 +67,7 @@ fn write_reactions(program: &Program, told: &mut Vec<u8>) -> io::Result<()> {
 }
 
 /// A case `flat`.
-pub fn flat(alloc: Global, text: &[u8], told: &mut Vec<u8>) -> io::Result<()> {
+pub(crate) fn flat(alloc: Global, text: &[u8], told: &mut Vec<u8>) -> io::Result<()> {
     let program = match program_of(alloc, text) {
         Ok(program) => program,
         Err(refusal) => return writeln!(told, "{refusal:?}"),
@@ -80,7 +80,12 @@ pub fn flat(alloc: Global, text: &[u8], told: &mut Vec<u8>) -> io::Result<()> {
 }
 
 /// A case `find`.
-pub fn find(alloc: Global, given: &Given, names: &[u8], told: &mut Vec<u8>) -> io::Result<()> {
+pub(crate) fn find(
+    alloc: Global,
+    given: &Given,
+    names: &[u8],
+    told: &mut Vec<u8>,
+) -> io::Result<()> {
     let program = match program_of(alloc, given.program.as_slice()) {
         Ok(program) => program,
         Err(refusal) => return writeln!(told, "{refusal:?}"),
@@ -92,7 +97,7 @@ pub fn find(alloc: Global, given: &Given, names: &[u8], told: &mut Vec<u8>) -> i
 }
 
 /// A case `causes`.
-pub fn causes(alloc: Global, text: &[u8], told: &mut Vec<u8>) -> io::Result<()> {
+pub(crate) fn causes(alloc: Global, text: &[u8], told: &mut Vec<u8>) -> io::Result<()> {
     for line in lines_of(text).lines() {
         match program_of(alloc, line.as_bytes()) {
             Ok(_) => writeln!(told, "program: {line}")?,

@@ -16,7 +16,7 @@ use std::io;
 use std::io::Write;
 
 /// The tree of a text.
-pub fn tree_of(alloc: Global, text: &[u8]) -> Result<Ast, Refusal> {
+pub(crate) fn tree_of(alloc: Global, text: &[u8]) -> Result<Ast, Refusal> {
     let tokens = lex(alloc, text)?;
     Ok(parse(alloc, text, &tokens)?)
 }
@@ -31,7 +31,7 @@ fn write_tokens(tokens: &[Token], told: &mut Vec<u8>) -> io::Result<()> {
 }
 
 /// A case `tokens`.
-pub fn tokens(alloc: Global, text: &[u8], told: &mut Vec<u8>) -> io::Result<()> {
+pub(crate) fn tokens(alloc: Global, text: &[u8], told: &mut Vec<u8>) -> io::Result<()> {
     match lex(alloc, text) {
         Ok(tokens) => write_tokens(tokens.as_slice(), told),
         Err(fault) => writeln!(told, "{:?}", Refusal::Lex(fault)),
@@ -65,7 +65,7 @@ fn write_tree(tree: &Ast, told: &mut Vec<u8>) -> io::Result<()> {
 }
 
 /// A case `tree`.
-pub fn tree(alloc: Global, text: &[u8], told: &mut Vec<u8>) -> io::Result<()> {
+pub(crate) fn tree(alloc: Global, text: &[u8], told: &mut Vec<u8>) -> io::Result<()> {
     match tree_of(alloc, text) {
         Ok(tree) => write_tree(&tree, told),
         Err(refusal) => writeln!(told, "{refusal:?}"),
@@ -81,7 +81,7 @@ fn write_answer(alloc: Global, text: &str, line: &str, told: &mut Vec<u8>) -> io
 }
 
 /// A case `texts`.
-pub fn texts(alloc: Global, text: &[u8], told: &mut Vec<u8>) -> io::Result<()> {
+pub(crate) fn texts(alloc: Global, text: &[u8], told: &mut Vec<u8>) -> io::Result<()> {
     for line in lines_of(text).lines() {
         write_answer(alloc, line, line, told)?;
     }
@@ -89,7 +89,7 @@ pub fn texts(alloc: Global, text: &[u8], told: &mut Vec<u8>) -> io::Result<()> {
 }
 
 /// A case `bodies`.
-pub fn bodies(alloc: Global, text: &[u8], told: &mut Vec<u8>) -> io::Result<()> {
+pub(crate) fn bodies(alloc: Global, text: &[u8], told: &mut Vec<u8>) -> io::Result<()> {
     for line in lines_of(text).lines() {
         let text = format!(in alloc; "main reactor {{ {line} }}")?;
         write_answer(alloc, text.as_str(), line, told)?;

@@ -31,7 +31,12 @@ fn write_last(
 }
 
 /// A case `trace-rows`.
-pub fn rows(alloc: Global, given: &Given, lines: &[u8], told: &mut Vec<u8>) -> io::Result<()> {
+pub(crate) fn rows(
+    alloc: Global,
+    given: &Given,
+    lines: &[u8],
+    told: &mut Vec<u8>,
+) -> io::Result<()> {
     let program = match program_of(alloc, given.program.as_slice()) {
         Ok(program) => program,
         Err(refusal) => return writeln!(told, "{refusal:?}"),
@@ -56,7 +61,12 @@ fn write_rows(rows: &[Row], told: &mut Vec<u8>) -> io::Result<()> {
 }
 
 /// A case `read-trace-text`.
-pub fn read_text(alloc: Global, given: &Given, table: &[u8], told: &mut Vec<u8>) -> io::Result<()> {
+pub(crate) fn read_text(
+    alloc: Global,
+    given: &Given,
+    table: &[u8],
+    told: &mut Vec<u8>,
+) -> io::Result<()> {
     let program = match program_of(alloc, given.program.as_slice()) {
         Ok(program) => program,
         Err(refusal) => return writeln!(told, "{refusal:?}"),
@@ -68,7 +78,12 @@ pub fn read_text(alloc: Global, given: &Given, table: &[u8], told: &mut Vec<u8>)
 }
 
 /// A case `read-trace`.
-pub fn read(alloc: Global, given: &Given, rows: &[u8], told: &mut Vec<u8>) -> io::Result<()> {
+pub(crate) fn read(
+    alloc: Global,
+    given: &Given,
+    rows: &[u8],
+    told: &mut Vec<u8>,
+) -> io::Result<()> {
     let table = trace_table(alloc, rows)?;
     read_text(alloc, given, table.as_slice(), told)
 }
@@ -81,7 +96,12 @@ fn rewritten(alloc: Global, program: &[u8], table: &[u8]) -> Result<Vec<u8>, Ref
 }
 
 /// A case `write-trace`.
-pub fn write(alloc: Global, given: &Given, rows: &[u8], told: &mut Vec<u8>) -> io::Result<()> {
+pub(crate) fn write(
+    alloc: Global,
+    given: &Given,
+    rows: &[u8],
+    told: &mut Vec<u8>,
+) -> io::Result<()> {
     let table = trace_table(alloc, rows)?;
     match rewritten(alloc, given.program.as_slice(), table.as_slice()) {
         Ok(table) => told.write_all(table.as_slice()),

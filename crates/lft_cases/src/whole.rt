@@ -24,7 +24,7 @@ fn end(answer: Result<bool, Fault>, told: &mut Vec<u8>) -> io::Result<()> {
 }
 
 /// A case `show`.
-pub fn show(alloc: Global, program: &[u8], told: &mut Vec<u8>) -> io::Result<()> {
+pub(crate) fn show(alloc: Global, program: &[u8], told: &mut Vec<u8>) -> io::Result<()> {
     match show_text(alloc, program, told) {
         Ok(()) => end(Ok(true), told),
         Err(fault) => end(Err(fault), told),
@@ -48,7 +48,7 @@ fn verdict(
 }
 
 /// A case `judge-text`.
-pub fn judge_text(
+pub(crate) fn judge_text(
     alloc: Global,
     given: &Given,
     trace: &[u8],
@@ -67,7 +67,7 @@ pub fn judge_text(
 }
 
 /// A case `judge`.
-pub fn judge(
+pub(crate) fn judge(
     alloc: Global,
     given: &Given,
     rows: &[u8],
@@ -79,7 +79,7 @@ pub fn judge(
 }
 
 /// A case `bundle`.
-pub fn bundle(alloc: Global, text: &[u8], told: &mut Vec<u8>) -> io::Result<()> {
+pub(crate) fn bundle(alloc: Global, text: &[u8], told: &mut Vec<u8>) -> io::Result<()> {
     let Some(bundle) = split_bundle(text) else {
         let answer = bundle_answer(alloc, text, told);
         return end(answer, told);
