@@ -18,10 +18,6 @@ finished_says (Ok Wait) run wait P done ok says = absurd done
 finished_says (Ok Finished) run wait P done ok says = says
 finished_says (Err s) run wait P done ok says = absurd (cc)
 
-pub either : (b : Bool) → (b ≡ true) ⊎ (b ≡ false)
-either true = inl refl
-either false = inr refl
-
 -- an answer that something is left says so
 pub unfinished_says : {L C : Type 0} (last : Result (Begin L C) Stop) (P : Type 0) → IsUnfinished last → IfOk last (λ b. MatchBegin b (λ _ _. P) P (Unit {0})) → P
 unfinished_says (Ok (Run t b)) P u says = says

@@ -1,5 +1,6 @@
 -- The rows of a run that is begun, as they are pushed.
 use Rattle.std.proofs.Common.{◌≡◌, ℕ, zero, suc, ◌+◌, ◌<◌, List, [], ◌∷◌, ◌++◌, add-one, length, take, map, refl, sym, ap, ◌∙◌, arith, Option, Some, None, slice_get, filter_map, zip, get_or}
+use Rattle.std.proofs.lemmas.List.{map-append}
 use Rattle.std.proofs.lemmas.List.Elements.{filter_map-append}
 use Rattle.lft_tag.specs.declared.Tag.{Tag}
 use Rattle.lft_flat.specs.declared.parts.Value.{Value}
@@ -10,11 +11,6 @@ use Rattle.lft_flat.specs.declared.parts.Trigger.TheVariants.{Startup, Shutdown,
 use Rattle.lft_trace.specs.declared.row.Step.TheVariants.{Start}
 use Rattle.lft_model.specs.Runs.{read_step}
 use Rattle.lft_model.specs.Recorded.{run_row}
-
--- mapping two lists one after another
-pub map_both : {X Y : Type 0} (f : X → Y) (xs ys : List X) → map f (xs ++ ys) ≡ map f xs ++ map f ys
-map_both f [] ys = refl
-map_both f (x ∷ xs) ys = ap (λ zs. f x ∷ zs) (map_both f xs ys)
 
 -- one item more on both sides
 zip_more : {X Y : Type 0} (xs : List X) (i : ℕ) (x : X) (ys : List Y) (d : Y) → slice_get xs i ≡ Some x → i < length ys → zip (take (suc i) xs) ys ≡ zip (take i xs) ys ++ (x, get_or ys i d) ∷ []
@@ -29,7 +25,7 @@ pub read_more : (w : ℕ) (g : Tag) (r : ℕ) (names : List Name) (i : ℕ) (n :
 read_more w g r names i n shown d e l =
     let ps = zip (take i names) shown in
     let a : zip (take (i + 1) names) shown ≡ ps ++ (n, get_or shown i d) ∷ [] = ap (λ k. zip (take k names) shown) (add-one i) ∙ zip_more names i n shown d e l in
-    sym (ap (λ qs. map (run_row w g r) (Start ∷ filter_map read_step qs)) a ∙ ap (λ ss. map (run_row w g r) (Start ∷ ss)) (filter_map-append read_step ps ((n, get_or shown i d) ∷ [])) ∙ map_both (run_row w g r) (Start ∷ filter_map read_step ps) (filter_map read_step ((n, get_or shown i d) ∷ [])))
+    sym (ap (λ qs. map (run_row w g r) (Start ∷ filter_map read_step qs)) a ∙ ap (λ ss. map (run_row w g r) (Start ∷ ss)) (filter_map-append read_step ps ((n, get_or shown i d) ∷ [])) ∙ map-append (run_row w g r) (Start ∷ filter_map read_step ps) (filter_map read_step ((n, get_or shown i d) ∷ [])))
 
 -- a trigger that is no port and no action names none
 pub named_none : (x : Trigger) → ((n : Name) → ¬ (x ≡ On n)) → named x ≡ None
