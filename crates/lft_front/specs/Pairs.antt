@@ -1,5 +1,5 @@
 -- What is said of two traces, from texts, and what was written of it.
-use Rattle.std.specs.Prelude.{◌≡◌, ◌↔◌, ℕ, ◌<◌, Bool, IsTrue, List, Option, length}
+use Rattle.std.specs.Prelude.{◌↔◌, ℕ, ◌<◌, Bool, IsTrue, List, Option, length}
 use Rattle.std.specs.Io.KnownBytes.{Appends}
 use Rattle.lft_flat.specs.Parts.{Parts}
 use Rattle.lft_trace.specs.declared.row.Row.{Row}

@@ -1,32 +1,26 @@
 -- Pairs of causes, and what collides.
-use Rattle.std.proofs.Common.{◌≡◌, ◌≢◌, ℕ, zero, suc, ◌+◌, ◌<◌, ◌≤◌, ◌⊎◌, inl, inr, List, [], ◌∷◌, ◌++◌, length, length-append, refl, sym, ap, ◌∙◌, subst, arith, Bool, true, false, Option, Some, None, slice_get, filter_map}
-use Rattle.std.specs.List.{cons_option}
-use Rattle.std.specs.List.{last_or}
-use Rattle.std.proofs.lemmas.Bool.{cases_lt}
+use Rattle.std.proofs.Common.{◌≡◌, ◌≢◌, ℕ, zero, suc, ◌+◌, ◌<◌, ◌⊎◌, inl, inr, List, [], ◌∷◌, ◌++◌, length, length-append, refl, sym, ap, ◌∙◌, subst, arith, Bool, true, false, Option, Some, None, slice_get}
 use native.Mathlib.Decide.{ℕ_discrete}
 use Rattle.lft_tag.specs.declared.Tag.{Tag}
-use Rattle.lft_tag.specs.Tags.{Before, UpTo, after_all}
-use Rattle.lft_tag.specs.Shifts.{Folded, shifted, moved}
+use Rattle.lft_tag.specs.Tags.{Before, UpTo}
+use Rattle.lft_tag.specs.Shifts.{Folded, shifted}
 use Rattle.lft_tag.proofs.Order.{UpTo-trans, UpTo-not}
 use Rattle.lft_tag.proofs.Chains.{tag_of as tag_from}
 use Rattle.lft_flat.specs.Parts.{Parts}
-use Rattle.lft_flat.specs.Sound.{IsSound}
 use Rattle.lft_flat.specs.Origins.{Origin}
 use Rattle.lft_flat.specs.Origins.Origin.{itself, over}
 use Rattle.lft_flat.specs.declared.parts.Port.{Port as PortOf}
-use Rattle.lft_flat.specs.declared.parts.Value.{Value}
 use Rattle.lft_flat.specs.declared.parts.Name.{Name}
 use Rattle.lft_flat.specs.declared.parts.Name.TheVariants.{Port, Action}
 use Rattle.lft_trace.specs.declared.row.Row.{Row}
-use Rattle.lft_trace.specs.declared.externals.Event.{Event}
-use Rattle.lft_trace.specs.Fits.{RowsFit, ExternalsFit}
+use Rattle.lft_trace.specs.Fits.{RowsFit}
 use Rattle.lft_model.specs.Plans.{PlanParts}
-use Rattle.lft_model.specs.Presence.{stop, scheduled, given, min_delay, events_of, IsWrittenFrom, PortClash, ClashesAt, Collision}
+use Rattle.lft_model.specs.Presence.{stop, PortClash, ClashesAt, Collision}
 use Rattle.lft_model.proofs.Places.{slice_get_within}
 use Rattle.lft_presence.specs.declared.causes.Cause.{Cause}
 use Rattle.lft_presence.specs.Causes.{tag_of, AreCauses, AreNear, IsNear}
-use Rattle.lft_presence.specs.Traces.{TraceParts, LeastTag, IsSooner}
-use Rattle.lft_presence.specs.Clashes.{Among, IsPair, IsFirstPair, AreDoubles, HasTwo, PortsClash, ActionsClash, ClashesIn, IsClash}
+use Rattle.lft_presence.specs.Traces.{LeastTag, IsSooner}
+use Rattle.lft_presence.specs.Clashes.{Among, IsPair, IsFirstPair, AreDoubles, HasTwo, PortsClash, ActionsClash, IsClash}
 use Rattle.lft_presence.proofs.Positions.{shifted_mono}
 use Rattle.lft_presence.proofs.Lists.{get_cases}
 use Rattle.lft_presence.proofs.Leasts.{least_as, least_of_both}

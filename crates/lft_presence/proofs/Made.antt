@@ -1,5 +1,5 @@
 -- The causes, one row and one event after another, and in order.
-use Rattle.std.proofs.Common.{◌≡◌, ℕ, zero, suc, ◌+◌, ◌<◌, ◌≤◌, ◌⊎◌, inl, inr, List, [], ◌∷◌, ◌++◌, length, refl, sym, ap, ◌∙◌, subst, arith, Option, Some, None, slice_get, Contains, false, slice_index_or}
+use Rattle.std.proofs.Common.{◌≡◌, ℕ, zero, suc, ◌+◌, ◌<◌, ◌≤◌, ◌⊎◌, inl, inr, List, [], ◌∷◌, ◌++◌, length, refl, sym, ap, ◌∙◌, subst, arith, Option, Some, None, slice_get, false, slice_index_or}
 use Rattle.std.specs.List.Sorted.{IsPermutation, IsSorted}
 use Rattle.std.specs.Ordering.{nat_cmp, ordering_then, is_lt}
 use Rattle.std.specs.Cmp.{IsTotalOrder}
@@ -14,19 +14,18 @@ use Rattle.lft_tag.proofs.Chains.{tag_of as tag_from}
 use Rattle.lft_flat.specs.Parts.{Parts}
 use Rattle.lft_flat.specs.Sound.{IsSound}
 use Rattle.lft_flat.specs.declared.parts.Action.{Action as ActionOf}
-use Rattle.lft_flat.specs.declared.parts.Name.{Name}
 use Rattle.lft_flat.specs.declared.parts.Name.TheVariants.{Port, Action}
 use Rattle.lft_trace.specs.declared.row.Row.{Row}
 use Rattle.lft_trace.specs.declared.row.Step.{Step}
 use Rattle.lft_trace.specs.declared.row.Step.TheVariants.{Start, Read, Write, Schedule, Stop, End}
 use Rattle.lft_trace.specs.declared.externals.Event.{Event}
-use Rattle.lft_trace.specs.Fits.{RowsFit, StepFits, ExternalsFit}
+use Rattle.lft_trace.specs.Fits.{RowsFit, StepFits}
 use Rattle.lft_model.specs.Plans.{PlanParts, IsSoundPlan}
 use Rattle.lft_model.specs.Presence.{min_delay}
 use Rattle.lft_model.proofs.Members.{mem_get, get_mem, mem_contains, contains_mem}
 use Rattle.lft_model.proofs.Places.{slice_get_within}
 use Rattle.lft_presence.specs.declared.causes.Cause.{Cause}
-use Rattle.lft_presence.specs.Causes.{tag_of, ComesUpTo, AreAscending, IsNear, AreNear, HasJust, IsRowCause, IsEventCause, IsCause, AreCauses, write_cause, schedule_cause, step_cause, event_cause}
+use Rattle.lft_presence.specs.Causes.{tag_of, ComesUpTo, AreAscending, IsNear, AreNear, HasJust, IsRowCause, IsEventCause, IsCause, AreCauses, step_cause, event_cause}
 use Rattle.lft_presence.proofs.Lists.{get_left, get_last, get_cases}
 
 -- a list that has just one kind has just another that is the same

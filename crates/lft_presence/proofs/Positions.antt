@@ -1,10 +1,10 @@
 -- The order of causes, and how far a search has come.
-use Rattle.std.proofs.Common.{◌≡◌, ℕ, zero, suc, ◌+◌, ◌<◌, ◌≤◌, ◌⊎◌, inl, inr, List, length, refl, sym, ap, ◌∙◌, subst, arith, Bool, true, Some, slice_get}
-use native.Mathlib.Decide.{ℕ_discrete, dec_lt}
+use Rattle.std.proofs.Common.{◌≡◌, ℕ, zero, suc, ◌+◌, ◌<◌, ◌≤◌, ◌⊎◌, inl, inr, List, length, sym, ap, ◌∙◌, subst, arith, Bool, true, Some, slice_get}
+use native.Mathlib.Decide.{ℕ_discrete}
 use Rattle.lft_tag.specs.declared.Tag.{Tag}
 use Rattle.lft_tag.specs.Tags.{Before, UpTo}
-use Rattle.lft_tag.specs.Shifts.{Folded, shifted, moved}
-use Rattle.lft_tag.proofs.Order.{UpTo-Before, UpTo-trans, UpTo-refl, Before-weaken, order_cases, UpTo_antisym, UpTo-not}
+use Rattle.lft_tag.specs.Shifts.{Folded, shifted}
+use Rattle.lft_tag.proofs.Order.{UpTo-Before, UpTo-refl, Before-weaken, order_cases, UpTo_antisym}
 use Rattle.lft_presence.specs.declared.causes.Cause.{Cause}
 use Rattle.lft_presence.specs.Causes.{tag_of, ComesUpTo, AreAscending, LiesBelow, IsPosition}
 

@@ -1,12 +1,12 @@
 -- What the last cause that leads to a tag says of what is present there.
-use Rattle.std.proofs.Common.{◌≡◌, ℕ, ◌+◌, ◌-◌, ◌<◌, ◌≤◌, ◌⊎◌, inl, inr, List, length, refl, sym, ap, ◌∙◌, subst, arith, true, Bool, cond, ◌==◌, ◌&&◌, Option, Some, None, IfSome, IfNone, slice_get, filter_map, Contains, eqb-true}
+use Rattle.std.proofs.Common.{◌≡◌, ℕ, ◌+◌, ◌-◌, ◌<◌, ◌≤◌, ◌⊎◌, inl, inr, List, length, refl, sym, ap, ◌∙◌, subst, arith, true, cond, ◌==◌, ◌&&◌, Option, Some, None, IfSome, IfNone, slice_get, filter_map, eqb-true}
 use Rattle.std.specs.List.{last_or}
 use Rattle.std.proofs.lemmas.Bool.{cases_lt, eq-eqb, and_from}
 use native.Mathlib.Decide.{ℕ_discrete}
 use Rattle.lft_tag.specs.declared.Tag.{Tag}
 use Rattle.lft_tag.specs.Tags.{Before, UpTo, after, after_all, same_tag}
 use Rattle.lft_tag.specs.Shifts.{Folded, shifted}
-use Rattle.lft_tag.proofs.Order.{UpTo-refl, UpTo-not, Before-irrefl}
+use Rattle.lft_tag.proofs.Order.{UpTo-not, Before-irrefl}
 use Rattle.lft_tag.proofs.Chains.{tag_of as tag_from, shifted_chain}
 use Rattle.lft_flat.specs.Parts.{Parts}
 use Rattle.lft_flat.specs.Origins.{Origin}
@@ -21,9 +21,9 @@ use Rattle.lft_trace.specs.declared.row.Step.{Step}
 use Rattle.lft_trace.specs.declared.row.Step.TheVariants.{Start, Read, Write, Schedule, Stop, End}
 use Rattle.lft_trace.specs.declared.externals.Event.{Event}
 use Rattle.lft_trace.specs.Fits.{RowsFit, StepFits}
-use Rattle.lft_model.specs.Plans.{PlanParts, IsSoundPlan}
+use Rattle.lft_model.specs.Plans.{PlanParts}
 use Rattle.lft_model.specs.Presence.{value_written, written, value_scheduled, scheduled, given, min_delay, events_of, IsWrittenFrom, At, IsPresent}
-use Rattle.lft_model.proofs.Members.{Mem, LastAt, mem_get, get_mem, mem_contains, contains_mem, mem_filter, mem_from_filter, mem_left, mem_right, mem_cases, last_at, last_by_place, last_of_mem}
+use Rattle.lft_model.proofs.Members.{Mem, mem_get, get_mem, mem_contains, contains_mem, mem_filter, mem_from_filter, mem_left, mem_right, mem_cases, last_at, last_by_place, last_of_mem}
 use Rattle.lft_model.proofs.Places.{slice_get_within}
 use Rattle.lft_model.proofs.Ended.{Schedules, written_by, by_written, scheduled_by, by_scheduled}
 use Rattle.lft_model.proofs.Steps.{written_some, some_written, scheduled_some, some_scheduled, same_tag_refl, same_tag_true, cond_some, both_true}

@@ -1,7 +1,7 @@
 -- The causes of events in one list: by port or action, then by tag, then by place.
 use Rattle.std.specs.Prelude.{◌≡◌, ℕ, ◌+◌, ◌<◌, ◌≤◌, ◌⊎◌, Bool, true, List, length, Option, Some, None, MatchOption, slice_get}
 use Rattle.lft_tag.specs.declared.Tag.{Tag}
-use Rattle.lft_tag.specs.Tags.{Before, UpTo, after}
+use Rattle.lft_tag.specs.Tags.{Before, after}
 use Rattle.lft_tag.specs.Shifts.{Folded, shifted}
 use Rattle.lft_flat.specs.Parts.{Parts}
 use Rattle.lft_flat.specs.declared.parts.Value.{Value}

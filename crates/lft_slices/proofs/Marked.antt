@@ -1,5 +1,5 @@
 -- Seats of inputs, and what the marks tell after one more row.
-use Rattle.std.proofs.Common.{◌≡◌, ◌≢◌, ℕ, zero, suc, ◌+◌, ◌<◌, ◌≤◌, ◌⊎◌, inl, inr, List, [], ◌∷◌, ◌++◌, length, length-append, refl, sym, ap, ◌∙◌, subst, arith, Option, Some, None, slice_get, slice_set, filter_map, Contains, AllPairs, MatchOption}
+use Rattle.std.proofs.Common.{◌≡◌, ◌≢◌, ℕ, zero, suc, ◌+◌, ◌<◌, ◌≤◌, ◌⊎◌, inl, inr, List, [], ◌∷◌, ◌++◌, length, length-append, refl, sym, ap, ◌∙◌, subst, arith, Option, Some, slice_get, slice_set, filter_map, Contains}
 use Rattle.std.proofs.lemmas.Bool.{cases_lt}
 use native.Mathlib.Decide.{ℕ_discrete}
 use Rattle.lft_flat.specs.Parts.{Parts, inputs, named}
@@ -10,16 +10,15 @@ use Rattle.lft_flat.specs.declared.parts.Trigger.TheVariants.{Startup, Shutdown,
 use Rattle.lft_flat.specs.declared.parts.Reaction.{Reaction}
 use Rattle.lft_flat.specs.declared.parts.Value.{Value}
 use Rattle.lft_trace.specs.declared.row.Row.{Row}
-use Rattle.lft_trace.specs.declared.row.Step.{Step}
-use Rattle.lft_trace.specs.declared.row.Step.TheVariants.{Start, Read, Write, Schedule, Stop, End}
+use Rattle.lft_trace.specs.declared.row.Step.TheVariants.{Read}
 use Rattle.lft_graph.proofs.Places.{get_there, get_write_cases, length_written}
 use Rattle.lft_model.proofs.Members.{Mem, mem_get, get_mem, mem_contains, contains_mem, mem_left, mem_right, mem_cases, mem_filter, mem_from_filter}
 use Rattle.lft_model.proofs.Counted.{NamesApart, names_apart}
 use Rattle.lft_model.proofs.Places.{slice_get_within}
 use Rattle.lft_slices.specs.declared.marks.Marks.{Marks}
-use Rattle.lft_slices.specs.Marks.{width, HasSeat, AreLaid, IsLaid, Mark, IsMarkedBy, AreNoneFrom, ReadsFor, NoneReads, IsLastRead, IsMark, AreBefore, AreMarks}
+use Rattle.lft_slices.specs.Marks.{width, HasSeat, AreLaid, IsLaid, Mark, IsMarkedBy, AreNoneFrom, ReadsFor, NoneReads, IsMark, AreBefore, AreMarks}
 use Rattle.lft_slices.proofs.Declares.{named_on}
-use Rattle.lft_presence.proofs.Lists.{get_left, get_last, get_cases}
+use Rattle.lft_presence.proofs.Lists.{get_cases}
 
 -- a seat is one of the reaction's
 pub seat_within : (x : Reaction) (n : Name) (k : ℕ) → HasSeat x n k → k < width x

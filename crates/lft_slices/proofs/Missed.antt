@@ -4,15 +4,12 @@ use native.Mathlib.Decide.{ℕ_discrete}
 use Rattle.lft_tag.specs.declared.Tag.{Tag}
 use Rattle.lft_tag.specs.Tags.{Before, UpTo}
 use Rattle.lft_tag.proofs.Order.{UpTo-trans, UpTo_antisym, Before-weaken, order_cases, Before-UpTo}
-use Rattle.lft_flat.specs.Parts.{Parts}
-use Rattle.lft_flat.specs.Sound.{IsSound, IsTriggerOf, IsNameOf}
 use Rattle.lft_flat.specs.declared.parts.Trigger.{Trigger}
 use Rattle.lft_flat.specs.declared.parts.Trigger.TheVariants.{Startup, Shutdown, Timer, On}
 use Rattle.lft_flat.specs.declared.parts.Timer.{Timer as TimerOf}
 use Rattle.lft_flat.specs.declared.parts.Name.{Name}
-use Rattle.lft_flat.specs.declared.parts.Name.TheVariants.{Port, Action}
 use Rattle.lft_flat.specs.declared.parts.Reaction.{Reaction}
-use Rattle.lft_model.specs.Presence.{stop, Occurs, Triggered}
+use Rattle.lft_model.specs.Presence.{stop, Occurs}
 use Rattle.lft_model.proofs.Members.{mem_get, get_mem, mem_contains, contains_mem}
 use Rattle.lft_model.proofs.Places.{slice_get_within}
 use Rattle.lft_presence.specs.Traces.{TraceParts, LeastTag, IsSooner}

@@ -1,12 +1,11 @@
 -- Whether a name was read before in a run, by its mark.
-use Rattle.std.proofs.Common.{◌≡◌, ℕ, ◌+◌, ◌<◌, ◌≤◌, ◌⊎◌, inl, inr, List, [], refl, sym, ap, ◌∙◌, subst, arith, Bool, true, false, Option, Some, slice_get, Contains, option_map, unwrap_or}
+use Rattle.std.proofs.Common.{◌≡◌, ℕ, ◌+◌, ◌<◌, ◌≤◌, ◌⊎◌, inl, inr, List, [], refl, sym, ap, ◌∙◌, subst, arith, Option, Some, slice_get, Contains, option_map, unwrap_or}
 use Rattle.std.proofs.lemmas.Bool.{cases_lt}
 use native.Mathlib.Decide.{ℕ_discrete}
 use Rattle.lft_tag.specs.declared.Tag.{Tag}
 use Rattle.lft_tag.specs.Tags.{Before, UpTo}
 use Rattle.lft_tag.proofs.Order.{UpTo-trans, UpTo_antisym, order_cases}
 use Rattle.lft_flat.specs.Parts.{Parts, inputs}
-use Rattle.lft_flat.specs.declared.parts.Value.{Value}
 use Rattle.lft_flat.specs.declared.parts.Name.{Name}
 use Rattle.lft_flat.specs.declared.parts.Reaction.{Reaction}
 use Rattle.lft_trace.specs.declared.row.Row.{Row}
@@ -15,7 +14,7 @@ use Rattle.lft_model.specs.Plans.{PlanParts}
 use Rattle.lft_model.specs.Runs.{inputs_of}
 use Rattle.lft_model.specs.Breaches.{WasRead}
 use Rattle.lft_model.proofs.Ended.{row_is}
-use Rattle.lft_slices.specs.Marks.{HasSeat, ReadsFor, IsMark, IsLastRead}
+use Rattle.lft_slices.specs.Marks.{HasSeat, ReadsFor, IsMark}
 use Rattle.lft_slices.specs.Passes.{KeepsEarly, IsLatest, RisesTo, IsBadRead}
 use Rattle.lft_slices.proofs.Marked.{seat_input, input_seat, same_here}
 

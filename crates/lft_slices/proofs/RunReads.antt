@@ -1,5 +1,5 @@
 -- What a run read, by the mark of an input.
-use Rattle.std.proofs.Common.{◌≡◌, ℕ, ◌+◌, ◌<◌, ◌≤◌, ◌⊎◌, inl, inr, List, [], refl, sym, ap, ◌∙◌, arith, true, cond, Option, Some, None, slice_get, filter_map, option_and_then, eqb-true}
+use Rattle.std.proofs.Common.{◌≡◌, ℕ, ◌+◌, ◌<◌, ◌≤◌, inl, inr, List, [], refl, sym, ap, ◌∙◌, arith, true, cond, Option, Some, None, slice_get, filter_map, option_and_then, eqb-true}
 use Rattle.std.specs.List.{last_or}
 use Rattle.std.proofs.lemmas.Bool.{eq-eqb}
 use Rattle.lft_tag.specs.declared.Tag.{Tag}

@@ -1,11 +1,10 @@
 -- The tags to which the causes of a name lead, one after another.
-use Rattle.std.proofs.Common.{◌≡◌, ℕ, ◌+◌, ◌<◌, ◌≤◌, ◌⊎◌, inl, inr, List, length, refl, sym, ap, ◌∙◌, subst, arith, Bool, true, false, IsTrue, ◌↔◌, Option, Some, None, slice_get}
+use Rattle.std.proofs.Common.{◌≡◌, ℕ, ◌<◌, ◌≤◌, ◌⊎◌, inl, inr, List, length, refl, sym, ◌∙◌, subst, arith, Bool, true, false, IsTrue, ◌↔◌, Option, Some, None, slice_get}
 use Rattle.std.proofs.lemmas.Bool.{cases_lt}
-use native.Mathlib.Decide.{ℕ_discrete}
 use Rattle.lft_tag.specs.declared.Tag.{Tag}
 use Rattle.lft_tag.specs.Tags.{Before, UpTo}
 use Rattle.lft_tag.specs.Shifts.{Folded, shifted}
-use Rattle.lft_tag.proofs.Order.{UpTo-refl, UpTo-not, UpTo-trans, order_cases}
+use Rattle.lft_tag.proofs.Order.{UpTo-not, UpTo-trans}
 use Rattle.lft_flat.specs.Sound.{IsSound}
 use Rattle.lft_flat.specs.declared.parts.Name.{Name}
 use Rattle.lft_flat.specs.declared.parts.Trigger.TheVariants.{On}
@@ -15,14 +14,13 @@ use Rattle.lft_model.specs.Presence.{stop}
 use Rattle.lft_model.specs.Runs.{Ran}
 use Rattle.lft_model.proofs.Places.{slice_get_within}
 use Rattle.lft_presence.specs.declared.causes.Cause.{Cause}
-use Rattle.lft_presence.specs.Causes.{tag_of, ComesUpTo, AreAscending, AreCauses, LiesBelow, IsPosition, Leads, IsCause, IsSkip}
+use Rattle.lft_presence.specs.Causes.{tag_of, AreCauses, LiesBelow, IsPosition, IsSkip}
 use Rattle.lft_presence.specs.Traces.{TraceParts, LeastTag}
 use Rattle.lft_slices.specs.Slices.{Misses}
 use Rattle.lft_slices.specs.Least.{MissesCause}
 use Rattle.lft_presence.proofs.Skips.{leads_up, names_up}
 use Rattle.lft_presence.proofs.Leasts.{least_as}
 use Rattle.lft_presence.proofs.Presences.{IsKey, present_cause, cause_present}
-use Rattle.lft_presence.proofs.Positions.{shifted_mono, tag_up, same_cause}
 
 -- at the tag of each cause of the name before a place r has a run; from there on no name is lesser
 pub record IsWalked (cut : TraceParts) (causes : List Cause) (name : ℕ) (s : Folded) (r place : ℕ) : Type 0 where

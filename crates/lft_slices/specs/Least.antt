@@ -1,13 +1,13 @@
 -- What the steps of the search for the first missing run answer. This serves the proof of that search alone.
-use Rattle.std.specs.Prelude.{◌≡◌, ℕ, ◌<◌, ◌≤◌, ◌⊎◌, List, length, Option, Some, None, slice_get}
+use Rattle.std.specs.Prelude.{◌≡◌, ℕ, ◌⊎◌, Option, Some, None}
 use Rattle.lft_tag.specs.declared.Tag.{Tag}
 use Rattle.lft_tag.specs.Tags.{Before, UpTo}
 use Rattle.lft_flat.specs.declared.parts.Timer.{Timer as TimerOf}
 use Rattle.lft_model.specs.Presence.{stop, Fires}
 use Rattle.lft_model.specs.Runs.{Ran}
-use Rattle.lft_tag.specs.Shifts.{Folded, shifted}
+use Rattle.lft_tag.specs.Shifts.{Folded}
 use Rattle.lft_presence.specs.declared.causes.Cause.{Cause}
-use Rattle.lft_presence.specs.Causes.{IsCause, Leads, tag_of}
+use Rattle.lft_presence.specs.Causes.{IsCause, Leads}
 use Rattle.lft_presence.specs.Traces.{TraceParts}
 
 -- the pair with the earlier tag of a pair and of a tag with a reaction, of those that are; at one tag the pair

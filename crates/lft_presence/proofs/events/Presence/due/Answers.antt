@@ -1,5 +1,5 @@
-use Rattle.std.proofs.Common.{◌≡◌, ◌+◌, ◌≤◌, ℕ, List, length, refl, sym, ap, ◌∙◌, subst, arith}
-use Rattle.lft_presence.proofs.Dues.{AreDueTo, due_begins, due_stays, due_more, due_ends}
+use Rattle.std.proofs.Common.{◌≡◌, ◌+◌, ℕ, List, length, refl, sym, ap, ◌∙◌, subst, arith}
+use Rattle.lft_presence.proofs.Dues.{AreDueTo, due_stays, due_more, due_ends}
 use Rattle.lft_presence.proofs.Lists.{not_true}
 use Rattle.lft_presence.proofs.events.Presence.due.Goals as goal
 use Rattle.lft_presence.proofs.events.Presence.due.Goals.{then-triggered+in_ok-push, else-triggered}

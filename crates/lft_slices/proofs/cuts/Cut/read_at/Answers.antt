@@ -1,7 +1,5 @@
-use Rattle.std.proofs.Common.{◌≡◌, ◌-◌, ◌+◌, ◌<◌, ◌≤◌, ℕ, List, sym, subst, ◌∙◌, arith, Some, slice_get}
+use Rattle.std.proofs.Common.{◌≡◌, ◌-◌, ◌+◌, ◌<◌, ◌≤◌, List, subst, ◌∙◌, arith, Some, slice_get}
 use Rattle.lft_trace.specs.declared.row.Row.{Row}
-use Rattle.lft_flat.specs.Parts.{Parts}
-use Rattle.lft_slices.specs.Marks.{Mark}
 use Rattle.lft_slices.proofs.RunReads.{no_read, last_read}
 use Rattle.lft_slices.proofs.cuts.Cut.read_at.Goals as goal
 

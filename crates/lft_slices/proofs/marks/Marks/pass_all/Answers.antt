@@ -1,4 +1,4 @@
-use Rattle.std.proofs.Common.{ℕ, ◌≡◌, ◌≤◌, subst, arith}
+use Rattle.std.proofs.Common.{ℕ, ◌≡◌, subst, arith}
 use Rattle.lft_slices.specs.Marks.{AreMarks}
 use Rattle.lft_slices.proofs.Marked.{marks_begin}
 use Rattle.lft_slices.proofs.marks.Marks.pass_all.Goals as goal
