@@ -14,12 +14,14 @@ use Rattle.lft_check.specs.declared.verdict.Verdict.{Verdict}
 use Rattle.lft_check.specs.declared.verdict.Verdict.TheVariants.{Broken}
 use Rattle.lft_check.specs.Verdicts.{IsVerdict}
 use Rattle.lft_front.specs.Lines.{HasReaction}
-use Rattle.lft_front.specs.Meaning.{IsPlanOf, IsOnly, Mean}
-use Rattle.lft_front.specs.Refusals.{JudgingRefusal, is_of_text}
+use Rattle.lft_load.specs.Meaning.{IsPlanOf, IsOnly}
+use Rattle.lft_front.specs.Meaning.{Mean}
+use Rattle.lft_load.specs.Refusals.{is_of_text}
+use Rattle.lft_front.specs.Refusals.{JudgingRefusal}
 use Rattle.lft_front.specs.Refusals.JudgingRefusal.{by_workers, by_growth, by_writer}
-use Rattle.lft_front.specs.declared.fault.Fault.{Fault}
-use Rattle.lft_front.specs.declared.fault.Part.{Part}
-use Rattle.lft_front.specs.declared.fault.Part.TheVariants as part
+use Rattle.lft_load.specs.declared.fault.Fault.{Fault}
+use Rattle.lft_load.specs.declared.fault.Part.{Part}
+use Rattle.lft_load.specs.declared.fault.Part.TheVariants as part
 
 -- the reaction of a breach is one of the program
 module _ (plan : PlanParts) (rows : List Row) (fit : RowsFit plan.program rows) where

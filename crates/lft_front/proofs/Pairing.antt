@@ -10,8 +10,8 @@ use Rattle.lft_front.specs.Meaning.{IsMeaning}
 use Rattle.lft_front.specs.Pairs.{IsPairing, MeanBoth, NamesReaction}
 use Rattle.lft_front.specs.PairRefusals.{PairingRefusal}
 use Rattle.lft_front.specs.PairRefusals.PairingRefusal.{by_workers, by_growth, by_writer}
-use Rattle.lft_front.specs.Refusals.{is_of_text}
-use Rattle.lft_front.specs.declared.fault.Fault.{Fault}
+use Rattle.lft_load.specs.Refusals.{is_of_text}
+use Rattle.lft_load.specs.declared.fault.Fault.{Fault}
 use Rattle.lft_front.specs.declared.paired.Paired.{Paired}
 use Rattle.lft_front.specs.declared.paired.Paired.TheVariants.{First, Second, Same, Differ}
 use Rattle.lft_front.proofs.Judging.{has_reaction, check_untold, memory_untold, write_untold}

@@ -11,7 +11,11 @@ use Rattle.lft_check.specs.Verdicts.{IsVerdict}
 use Rattle.lft_front.specs.Bundles.{IsBundle}
 use Rattle.lft_front.specs.Lines.{line_of}
 use Rattle.lft_front.specs.Meaning.{IsMeaning}
-use Rattle.lft_front.specs.Status.{Accepts}
+
+-- the trace breaks no rule
+abbrev pub Accepts : Verdict → Type 0
+Accepts (Accepted runs tags) = Unit {0}
+Accepts (Broken b) = ⊥
 
 -- what accepted says: the runs, in order of their ends, are an execution by one worker, and no run started before every run that precedes it at its tag had ended
 abbrev pub AcceptedRuns : PlanParts → List Row → Verdict → Type 0

@@ -5,12 +5,9 @@ use Rattle.lft_model.specs.declared.breach.Breach.{Breach}
 use Rattle.lft_check.specs.declared.verdict.Verdict.{Verdict}
 use Rattle.lft_check.specs.declared.verdict.Verdict.TheVariants.{Accepted, Broken}
 use Rattle.lft_tag.specs.declared.Tag.{Tag}
+use Rattle.lft_load.specs.Words.{field, reaction_name}
 use Rattle.lft_front.specs.declared.paired.Paired.{Paired}
 use Rattle.lft_front.specs.declared.paired.Paired.TheVariants as paired
-
--- a word with its number
-abbrev pub field : List ℕ → ℕ → List ℕ
-field word number = word ++ decimal number
 
 -- the name of a rule
 abbrev pub rule_name : ℕ → List ℕ
@@ -30,19 +27,6 @@ rule_name rule =
 -- the line of the table, where a rule is broken at a row
 abbrev pub row_words : ℕ → List ℕ
 row_words row = if nat_eq row 0 then [] else field (codes " line=") row
-
--- the name of a reaction
-abbrev pub reaction_name : Parts → ℕ → List ℕ
-reaction_name program r = unwrap_or (slice_get program.names.reactions r) []
-
--- the name of a reaction after a space
-abbrev pub spaced_name : Parts → ℕ → List ℕ
-spaced_name program r = codes " " ++ reaction_name program r
-
--- the names of reactions, with a space between two
-abbrev pub names_words : Parts → List ℕ → List ℕ
-names_words program [] = []
-names_words program (r ∷ rs) = reaction_name program r ++ flat_map (spaced_name program) rs
 
 -- the reaction that breaks a rule, by its name; a collision is of none
 abbrev pub reaction_words : Parts → Option ℕ → List ℕ

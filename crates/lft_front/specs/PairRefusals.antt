@@ -6,14 +6,14 @@ use Rattle.lft_trace.specs.Faults.{is_told}
 use Rattle.lft_trace.specs.Records.{records_of}
 use Rattle.lft_trace.specs.Traces.{TraceFails}
 use Rattle.lft_model.specs.Plans.{PlanParts}
-use Rattle.lft_front.specs.Faults.{table_number}
+use Rattle.lft_load.specs.Faults.{table_number}
 use Rattle.lft_front.specs.Lines.{line_of_pair}
 use Rattle.lft_front.specs.Meaning.{IsMeaning}
 use Rattle.lft_front.specs.Pairs.{IsPairing, AreMeaning}
 use Rattle.lft_front.specs.Refusals.{TextsRefusal, IsWorkers, IsRefusedGrowth}
-use Rattle.lft_front.specs.Written.{AppendsFront}
-use Rattle.lft_front.specs.declared.fault.Fault.{Fault}
-use Rattle.lft_front.specs.declared.fault.Part.TheVariants as part
+use Rattle.lft_load.specs.Written.{AppendsFront}
+use Rattle.lft_load.specs.declared.fault.Fault.{Fault}
+use Rattle.lft_load.specs.declared.fault.Part.TheVariants as part
 use Rattle.lft_front.specs.declared.paired.Paired.{Paired}
 
 -- the four texts have no meaning: the first three have none, or the fourth is no trace table

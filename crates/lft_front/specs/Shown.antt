@@ -6,8 +6,8 @@ use Rattle.lft_flat.specs.Parts.{Parts}
 use Rattle.lft_flat.specs.declared.parts.Port.{Port}
 use Rattle.lft_flat.specs.declared.parts.Reaction.{Reaction}
 use Rattle.lft_graph.specs.Graph.{GraphParts, IsGraphOf}
-use Rattle.lft_front.specs.Lines.{field, names_words, reaction_name}
-use Rattle.lft_front.specs.Meaning.{IsProgramOf}
+use Rattle.lft_load.specs.Words.{field, names_words, reaction_name}
+use Rattle.lft_load.specs.Meaning.{IsProgramOf}
 
 -- the name of a port
 abbrev pub port_name : Parts → ℕ → List ℕ

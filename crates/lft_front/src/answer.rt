@@ -6,15 +6,15 @@ ghost use Rattle.lft_front.specs.PairRefusals.{PairRefusal};
 ghost use Rattle.lft_front.specs.Pairs.{IsSameAnswer, SaysSame};
 ghost use Rattle.lft_front.specs.Refusals.{JudgeRefusal};
 ghost use Rattle.lft_front.specs.Shown.{IsShown};
-ghost use Rattle.lft_front.specs.Status.{Accepts};
+ghost use Rattle.lft_front.specs.Judged.{Accepts};
 
 use crate::bundle::split_bundle;
-use crate::fault::{Fault, Part};
 use crate::judge::{judge_texts, judge_texts_alone};
 use crate::pair::pair_texts;
 use crate::paired::Paired;
 use crate::show::show_text;
 use lft_check::Verdict;
+use lft_load::{Fault, Part};
 use std::alloc::Global;
 use std::io::Write;
 

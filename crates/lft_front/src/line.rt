@@ -1,62 +1,18 @@
 //! The lines that are printed.
 
 ghost use Rattle.std.specs.Prelude.{◌≡◌, ◌++◌, ◌<◌, ℕ, IfOk, OnOk, Some, length, slice_get, string_bytes};
-ghost use Rattle.lft_front.specs.Lines.{accepted_words, breach_words, differ_words, field, line_of, line_of_pair, names_words, reaction_name, reaction_words, row_words, rule_name, same_words, spaced_name, HasReaction};
+ghost use Rattle.lft_front.specs.Lines.{accepted_words, breach_words, differ_words, line_of, line_of_pair, reaction_words, row_words, rule_name, same_words, HasReaction};
 ghost use Rattle.lft_model.specs.declared.breach.Breach.{Breach as TheBreach};
 ghost use Rattle.lft_check.specs.declared.verdict.Verdict.TheVariants.{Broken};
 ghost use Rattle.lft_front.specs.Pairs.{NamesReaction};
 
 use crate::paired::Paired;
-use itoa::Buffer;
 use lft_check::Verdict;
 use lft_flat::Program;
+use lft_load::{push_field, push_name};
 use lft_model::Breach;
 use lft_tag::Tag;
 use std::alloc::{AllocError, Global};
-
-/// Puts a word and a number at the end of a line.
-pub fn push_field(line: &mut String, word: &str, number: u64) -> Result<(), AllocError>
-    ensures { OnOk result (string_bytes line.new ≡ string_bytes line.old ++ field word.now number) }
-{
-    let mut buffer = Buffer::new();
-    line.push_str(word)?;
-    line.push_str(buffer.format(number))?;
-    Ok(())
-}
-
-/// Puts the name of a reaction at the end of a line.
-pub fn push_name(line: &mut String, program: &Program, reaction: u32) -> Result<(), AllocError>
-    requires { reaction < length program.now.reactions }
-    ensures { OnOk result (string_bytes line.new ≡ string_bytes line.old ++ reaction_name program.now reaction) }
-{
-    line.push_str(program.name_of_reaction(reaction))?;
-    Ok(())
-}
-
-/// Puts a space and the name of a reaction at the end of a line.
-fn push_spaced(line: &mut String, program: &Program, reaction: u32) -> Result<(), AllocError>
-    requires { reaction < length program.now.reactions }
-    ensures { OnOk result (string_bytes line.new ≡ string_bytes line.old ++ spaced_name program.now reaction) }
-{
-    line.push_str(" ")?;
-    push_name(line, program, reaction)?;
-    Ok(())
-}
-
-/// Puts the names of reactions at the end of a line, with a space between two.
-pub fn push_names(line: &mut String, program: &Program, reactions: &[u32]) -> Result<(), AllocError>
-    requires { (i r : ℕ) → slice_get reactions.now i ≡ Some r → r < length program.now.reactions }
-    ensures { OnOk result (string_bytes line.new ≡ string_bytes line.old ++ names_words program.now reactions.now) }
-{
-    if reactions.is_empty() {
-        return Ok(());
-    }
-    push_name(line, program, reactions[0])?;
-    for at in 1..reactions.len() {
-        push_spaced(line, program, reactions[at])?;
-    }
-    Ok(())
-}
 
 /// The name of a rule.
 fn name_of_rule(rule: u8) -> &'static str

@@ -7,17 +7,15 @@ ghost use Rattle.lft_flat.specs.declared.parts.Port.{Port as PortOf};
 ghost use Rattle.lft_flat.specs.declared.parts.Reaction.{Reaction};
 ghost use Rattle.lft_graph.specs.Graph.{IsGraphOf};
 ghost use Rattle.lft_graph.specs.Precedence.{HasNoLoop};
-ghost use Rattle.lft_front.specs.Meaning.{IsProgramOf};
-ghost use Rattle.lft_front.specs.Refusals.{ShowRefusal, is_of_text};
+ghost use Rattle.lft_load.specs.Meaning.{IsProgramOf};
+ghost use Rattle.lft_load.specs.Refusals.{is_of_text};
+ghost use Rattle.lft_front.specs.Refusals.{ShowRefusal};
 ghost use Rattle.lft_front.specs.Shown.{IsShown, before_words, port_words, reaction_line, reaction_words, show_words};
-ghost use Rattle.lft_front.specs.declared.fault.Part.TheVariants as part;
+ghost use Rattle.lft_load.specs.declared.fault.Part.TheVariants as part;
 
-use crate::fault::Fault;
-use crate::line::{push_field, push_name, push_names};
-use crate::load::{graph_of, read_program};
-use crate::output::write_text;
 use lft_flat::Program;
 use lft_graph::Graph;
+use lft_load::{Fault, graph_of, push_field, push_name, push_names, read_program, write_text};
 use std::alloc::{AllocError, Global};
 use std::io::Write;
 

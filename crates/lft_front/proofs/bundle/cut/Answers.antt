@@ -1,6 +1,7 @@
 use Rattle.std.proofs.Common.{◌+◌, length, sym, subst, take, refl}
 use Rattle.lft_front.specs.Bundles.{IsCut}
-use Rattle.lft_front.proofs.Texts.{cut_at, rest_from}
+use Rattle.lft_load.proofs.Texts.{rest_from}
+use Rattle.lft_front.proofs.Texts.{cut_at}
 use Rattle.lft_front.proofs.bundle.cut.Goals as goal
 
 pub returns-then-is_marker_line-clause-some : goal.returns-then-is_marker_line-clause-some

@@ -1,7 +1,7 @@
 use Rattle.std.proofs.Common.{◌≡◌, List, ℕ, length, take, drop, sym, ◌∙◌, ap}
 use Rattle.std.specs.Str.{bytes_eq}
 use Rattle.std.proofs.lemmas.Slice.Eq.{bytes_eq-Decides}
-use Rattle.lft_front.proofs.Texts.{rest_from}
+use Rattle.lft_load.proofs.Texts.{rest_from}
 use Rattle.lft_front.proofs.bundle.stands_at.Goals as goal
 
 pub returns : goal.returns

@@ -1,6 +1,6 @@
 use Rattle.std.proofs.Common.{inl, inr, refl, subst}
 use Rattle.lft_front.specs.Lines.{line_of}
-use Rattle.lft_front.specs.Written.{AppendsFront}
+use Rattle.lft_load.specs.Written.{AppendsFront}
 use Rattle.lft_front.specs.Refusals.JudgingRefusal.{by_growth, by_writer}
 use Rattle.lft_front.proofs.judge.judge_rows.Goals as goal
 

@@ -2,9 +2,10 @@ use Rattle.std.proofs.Common.{◌≡◌, IfErr, Result, Ok, Err, Option, List, �
 use Rattle.lft_model.specs.Plans.{PlanParts}
 use Rattle.lft_trace.specs.declared.row.Row.{Row}
 use Rattle.lft_check.specs.declared.verdict.Verdict.{Verdict}
-use Rattle.lft_front.specs.declared.fault.Fault.{Fault}
+use Rattle.lft_load.specs.declared.fault.Fault.{Fault}
 use Rattle.lft_front.specs.Meaning.{IsMeaning, Mean}
-use Rattle.lft_front.specs.Refusals.{JudgeRefusal, JudgingRefusal, is_of_text}
+use Rattle.lft_load.specs.Refusals.{is_of_text}
+use Rattle.lft_front.specs.Refusals.{JudgeRefusal, JudgingRefusal}
 use Rattle.lft_front.specs.Refusals.JudgeRefusal.{by_texts, by_judging}
 use Rattle.lft_front.proofs.Judging.{judging_untold}
 use Rattle.lft_front.proofs.judge.judge_texts.Goals as goal

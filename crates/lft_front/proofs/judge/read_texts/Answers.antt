@@ -2,9 +2,9 @@ use Rattle.std.proofs.Common.{sym, subst}
 use Rattle.lft_trace.specs.Records.{records_of}
 use Rattle.lft_trace.specs.Traces.{Table, TraceFails}
 use Rattle.lft_front.specs.Refusals.TextsRefusal.{by_load, by_trace}
-use Rattle.lft_front.specs.declared.fault.Part.TheVariants as part
-use Rattle.lft_front.specs.Faults.{table_number}
-use Rattle.lft_front.proofs.Loading.{trace_told, told_at}
+use Rattle.lft_load.specs.declared.fault.Part.TheVariants as part
+use Rattle.lft_load.specs.Faults.{table_number}
+use Rattle.lft_load.proofs.Loading.{trace_told, told_at}
 use Rattle.lft_front.proofs.Judging.{rows_of_plan}
 use Rattle.lft_front.proofs.judge.read_texts.Goals as goal
 

@@ -1,6 +1,6 @@
 use Rattle.std.specs.Prelude.{codes}
 use Rattle.std.proofs.Common.{◌++◌, ap, ◌∙◌}
-use Rattle.lft_front.specs.Lines.{field, reaction_name}
+use Rattle.lft_load.specs.Words.{field, reaction_name}
 use Rattle.lft_front.proofs.line.differ_line.Goals as goal
 
 pub returns : goal.returns

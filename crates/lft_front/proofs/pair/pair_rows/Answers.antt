@@ -2,7 +2,7 @@ use Rattle.std.proofs.Common.{inl, inr, refl, sym, subst}
 use Rattle.lft_flat.specs.Parts.{Parts}
 use Rattle.lft_front.specs.Lines.{line_of_pair}
 use Rattle.lft_front.specs.Pairs.{NamesReaction}
-use Rattle.lft_front.specs.Written.{AppendsFront}
+use Rattle.lft_load.specs.Written.{AppendsFront}
 use Rattle.lft_front.specs.PairRefusals.PairingRefusal.{by_growth, by_writer}
 use Rattle.lft_front.proofs.Pairing.{names_reaction}
 use Rattle.lft_front.proofs.pair.pair_rows.Goals as goal

@@ -1,14 +1,14 @@
 use Rattle.std.proofs.Common.{◌≡◌, IfOk, IfErr, Result, Ok, Err, Option, List, ℕ, true}
 use Rattle.lft_model.specs.Plans.{PlanParts}
 use Rattle.lft_trace.specs.declared.row.Row.{Row}
-use Rattle.lft_front.specs.declared.fault.Fault.{Fault}
+use Rattle.lft_load.specs.declared.fault.Fault.{Fault}
 use Rattle.lft_front.specs.declared.paired.Paired.{Paired}
 use Rattle.std.specs.Io.KnownBytes.{Appends}
 use Rattle.lft_front.specs.Lines.{line_of_pair}
 use Rattle.lft_front.specs.Pairs.{AreMeaning, IsPaired, IsPairing, MeanBoth}
 use Rattle.lft_front.specs.PairRefusals.{PairRefusal, PairingRefusal}
 use Rattle.lft_front.specs.PairRefusals.PairRefusal.{by_reading, by_pairing}
-use Rattle.lft_front.specs.Refusals.{is_of_text}
+use Rattle.lft_load.specs.Refusals.{is_of_text}
 use Rattle.lft_front.proofs.Pairing.{pairing_untold}
 use Rattle.lft_front.proofs.pair.pair_texts.Goals as goal
 

@@ -2,14 +2,14 @@ use Rattle.std.proofs.Common.{◌≡◌, ℕ, OnErr, IfErr, Result, Ok, Err, Opt
 use Rattle.lft_flat.specs.Parts.{Parts}
 use Rattle.lft_graph.specs.Graph.{GraphParts, IsGraphOf}
 use Rattle.lft_graph.specs.Precedence.{HasNoLoop}
-use Rattle.lft_front.specs.declared.fault.Fault.{Fault}
-use Rattle.lft_front.specs.declared.fault.Part.TheVariants as part
-use Rattle.lft_front.specs.Meaning.{IsProgramOf}
+use Rattle.lft_load.specs.declared.fault.Fault.{Fault}
+use Rattle.lft_load.specs.declared.fault.Part.TheVariants as part
+use Rattle.lft_load.specs.Meaning.{IsProgramOf}
 use Rattle.lft_front.specs.Refusals.{ShowRefusal}
 use Rattle.lft_front.specs.Refusals.ShowRefusal.{by_program, by_graph, by_writer}
 use Rattle.lft_front.specs.Shown.{show_words}
-use Rattle.lft_front.specs.Written.{AppendsFront}
-use Rattle.lft_front.proofs.Loading.{graph_none}
+use Rattle.lft_load.specs.Written.{AppendsFront}
+use Rattle.lft_load.proofs.Loading.{graph_none}
 use Rattle.lft_front.proofs.show.show_text.Goals as goal
 
 -- a writer that failed on the lines

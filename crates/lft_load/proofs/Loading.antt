@@ -1,0 +1,137 @@
+-- What a refusal of one layer says of the texts.
+use Rattle.std.proofs.Common.{◌≡◌, ℕ, ◌≤◌, List, length, Result, Err, true, refl, sym, ◌∙◌, subst, arith, inl, inr}
+use Rattle.lft_syntax.specs.declared.token.Token.{Token}
+use Rattle.lft_syntax.specs.declared.fault.LexFault.{LexFault}
+use Rattle.lft_syntax.specs.declared.fault.LexFault.TheVariants as lex
+use Rattle.lft_syntax.specs.declared.fault.SyntaxFault.{SyntaxFault}
+use Rattle.lft_syntax.specs.declared.fault.SyntaxFault.TheVariants as syntax
+use Rattle.lft_syntax.specs.Lexes.{Lexes, LexFails}
+use Rattle.lft_syntax.specs.View.{lexemes}
+use Rattle.lft_tree.specs.Tree.{FileTree}
+use Rattle.lft_syntax.specs.Grammar.{Spells}
+use Rattle.lft_program.specs.declared.fault.ProgramFault.{ProgramFault}
+use Rattle.lft_program.specs.declared.fault.ProgramFault.TheVariants as program
+use Rattle.lft_flat.specs.Parts.{Parts}
+use Rattle.lft_program.specs.Faults.{number_of as program_number}
+use Rattle.lft_program.specs.Flattening.{IsFlatOf}
+use Rattle.lft_scope.specs.Causes.{causes}
+use Rattle.lft_program.proofs.Firsts.{first_holds}
+use Rattle.lft_trace.specs.declared.fault.TraceFault.{TraceFault}
+use Rattle.lft_trace.specs.declared.fault.TraceFault.TheVariants as table
+use Rattle.lft_trace.specs.Faults.{is_told}
+use Rattle.lft_trace.specs.Inputs.{ExternalInputs}
+use Rattle.lft_trace.specs.Records.{records_of}
+use Rattle.lft_trace.specs.ExternalTables.{ExternalTable}
+use Rattle.lft_model.specs.Plans.{PlanParts}
+use Rattle.lft_load.specs.Faults.{lex_number, syntax_number, graph_number, table_number, IsFault}
+use Rattle.lft_graph.specs.Precedence.{HasNoLoop}
+use Rattle.lft_graph.specs.declared.fault.GraphFault.{GraphFault}
+use Rattle.lft_graph.specs.declared.fault.GraphFault.TheVariants as graph
+use Rattle.lft_graph.proofs.Cycles.{is_cycle}
+use Rattle.lft_load.specs.Meaning.{IsTreeOf, IsProgramOf, IsPlanOf, IsOnly}
+use Rattle.lft_load.specs.Refusals.{SyntaxFails, ProgramFails, GraphFails, GraphRefusal, is_of_text}
+use Rattle.lft_load.specs.declared.fault.Fault.{Fault}
+use Rattle.lft_load.specs.declared.fault.Part.{Part}
+use Rattle.lft_load.specs.declared.fault.Part.TheVariants as part
+
+-- a fault of this part and number tells something of the texts
+pub told_at : (p q : Part) (m n : ℕ) → p ≡ q → m ≡ n → is_of_text p m ≡ true → is_of_text q n ≡ true
+told_at p q m n e f t = subst (λ k. is_of_text q k ≡ true) f (subst (λ k. is_of_text k m ≡ true) e t)
+
+-- a text without tokens has no tree
+pub lex_none : (text : List ℕ) (e : LexFault) → LexFails text e → is_of_text part.Lex (lex_number e) ≡ true → (tree : FileTree) → IsTreeOf text tree → ⊥
+lex_none text (lex.BadChar at) h t tree x = h.2 x.tokens x.lexed
+lex_none text lex.OpenComment h t tree x = h.2 x.tokens x.lexed
+lex_none text lex.OpenCode h t tree x = h.2 x.tokens x.lexed
+lex_none text lex.OpenString h t tree x = h.2 x.tokens x.lexed
+lex_none text (lex.NumberTooLarge at) h t tree x = h.2 x.tokens x.lexed
+lex_none text lex.TooLong h t tree x = let l : length text ≤ 1048576 = x.short in absurd (omega arith)
+lex_none text lex.NoMemory h t tree x = absurd (cc t)
+
+-- the tokens of a text are one list
+pub one_tree : (text : List ℕ) (tokens : List Token) → ((other : List Token) → Lexes text other → other ≡ tokens) → (tree : FileTree) → IsTreeOf text tree → Spells tree (lexemes text tokens)
+one_tree text tokens one tree x = subst (λ k. Spells tree (lexemes text k)) (one x.tokens x.lexed) x.spelled
+
+pub syntax_fails : {X : Type 0} (text : List ℕ) (tokens : List Token) (result : Result X SyntaxFault) (e : SyntaxFault) → result ≡ Err e → ((k : ℕ) → result ≡ Err (syntax.Unexpected k) → SyntaxFails text tokens (syntax.Unexpected k)) → SyntaxFails text tokens e
+syntax_fails text tokens result (syntax.Unexpected k) q h = h k q
+syntax_fails text tokens result syntax.NoMemory q h = tt
+
+-- tokens that no tree has
+pub syntax_none : (text : List ℕ) (tokens : List Token) (e : SyntaxFault) → SyntaxFails text tokens e → is_of_text part.Syntax (syntax_number e) ≡ true → (tree : FileTree) → Spells tree (lexemes text tokens) → ⊥
+syntax_none text tokens (syntax.Unexpected k) h t tree x = h.2 (lexemes text tokens) tree refl x
+syntax_none text tokens syntax.NoMemory h t tree x = absurd (cc t)
+
+-- a tree without a flat program
+pub program_none : (tree : FileTree) (e : ProgramFault) → ProgramFails tree e → is_of_text part.Program (program_number e) ≡ true → (parts : Parts) → IsFlatOf tree parts → ⊥
+program_none tree e h t parts x = first_holds (causes tree) (program_number e) (h (λ q. absurd (untold (subst (λ k. is_of_text part.Program (program_number k) ≡ true) q t)))) x.none
+  where
+    untold : is_of_text part.Program (program_number program.NoMemory) ≡ true → ⊥
+    untold s = cc s
+
+-- a table's fault that tells something of the texts is told of them
+told : (e : TraceFault) → is_of_text part.Trace (table_number e) ≡ true → is_told e ≡ true
+told table.BadHeader t = refl
+told (table.BadFieldCount line) t = refl
+told (table.BadEvent line) t = refl
+told (table.BadNumber line) t = refl
+told (table.UnknownName line) t = refl
+told (table.FieldInPlace line) t = refl
+told (table.DuplicateExternal line) t = refl
+told table.NoStop t = refl
+told (table.TwoStops line) t = refl
+told table.TooManyRows t = refl
+told table.NotCsv t = absurd (cc t)
+told table.NoMemory t = absurd (cc t)
+
+pub trace_told : (e : TraceFault) → is_of_text part.Trace (table_number e) ≡ true → is_told e ≡ true
+trace_told e t = told e t
+
+pub externals_told : (e : TraceFault) → is_of_text part.Externals (table_number e) ≡ true → is_told e ≡ true
+externals_told e t = told e t
+
+plan_of : (p q : Parts) (x y : ExternalInputs) → p ≡ q → x ≡ y → (let a : PlanParts = record { program = p; externals = x } in let b : PlanParts = record { program = q; externals = y } in a ≡ b)
+plan_of p q x y e f = cc
+
+-- the flat program of a text is one
+module _ (text : List ℕ) (tree : FileTree) (only_tree : IsOnly (IsTreeOf text) tree) where
+  pub flat_of : (parts : Parts) → (x : IsProgramOf text parts) → IsFlatOf tree parts
+  flat_of parts x = subst (λ t. IsFlatOf t parts) (only_tree.only x.tree x.is_tree) x.is_flat
+
+  pub only_program : (parts : Parts) → IsFlatOf tree parts → ((other : Parts) → IsFlatOf tree other → other ≡ parts) → IsOnly (IsProgramOf text) parts
+  only_program parts flat one = record {
+    is = record { tree = tree; is_tree = only_tree.is; is_flat = flat };
+    only = λ other x. one other (flat_of other x);
+  }
+
+-- the plan of two texts is one
+module _ (text externals : List ℕ) (parts : Parts) (only : IsOnly (IsProgramOf text) parts) where
+  pub table_of : (plan : PlanParts) → (x : IsPlanOf text externals plan) → ExternalTable parts (records_of externals) plan.externals
+  table_of plan x = subst (λ p. ExternalTable p (records_of externals) plan.externals) (only.only plan.program x.is_program) x.is_externals
+
+  pub no_loop_of : (plan : PlanParts) → (x : IsPlanOf text externals plan) → HasNoLoop parts
+  no_loop_of plan x = subst HasNoLoop (only.only plan.program x.is_program) x.no_loop
+
+  pub only_plan : (given : ExternalInputs) (plan : PlanParts) → HasNoLoop parts → ExternalTable parts (records_of externals) given → ((other : ExternalInputs) → ExternalTable parts (records_of externals) other → other ≡ given) → plan.program ≡ parts → plan.externals ≡ given → IsOnly (IsPlanOf text externals) plan
+  only_plan given plan no_loop table one_table p e = record {
+    is = record {
+      is_program = subst (λ k. IsProgramOf text k) (sym p) only.is;
+      no_loop = subst HasNoLoop (sym p) no_loop;
+      is_externals = subst (λ k. ExternalTable k (records_of externals) plan.externals) (sym p) (subst (λ k. ExternalTable parts (records_of externals) k) (sym e) table);
+    };
+    only = λ other x. plan_of other.program plan.program other.externals plan.externals (only.only other.program x.is_program ∙ sym p) (one_table other.externals (table_of other x) ∙ sym e);
+  }
+
+graph_untold : (p : Part) (n : ℕ) → p ≡ part.Graph → n ≡ 2 → is_of_text p n ≡ true → ⊥
+graph_untold p n e f t = let q : is_of_text part.Graph 2 ≡ true = told_at p part.Graph n 2 e f t in cc q
+
+memory_untold : (p : Part) (n : ℕ) → p ≡ part.Memory → is_of_text p n ≡ true → ⊥
+memory_untold p n e t = let q : is_of_text part.Memory n ≡ true = subst (λ k. is_of_text k n ≡ true) e t in cc q
+
+-- a program with a loop has no graph, and want of memory tells nothing of it
+pub graph_none : (program : Parts) (f : Fault) → GraphRefusal program f → is_of_text f.part f.number ≡ true → HasNoLoop program → ⊥
+graph_none program f x t n = go x.0 x.1 x.2
+  where
+    go : (e : GraphFault) → IsFault f part.Graph (graph_number e) → GraphFails program e → ⊥
+    go (graph.CausalityLoop loop) i h = let c = is_cycle program loop h in n c.0 c.1
+    go graph.NoMemory (inl i) h = graph_untold f.part f.number i.0 i.1 t
+    go graph.NoMemory (inr i) h = memory_untold f.part f.number i.0 t

@@ -1,0 +1,21 @@
+use Rattle.std.proofs.Common.{◌≡◌, ◌+◌, ◌-◌, ◌≤◌, length, arith, take, drop, sym, subst}
+use Rattle.std.proofs.lemmas.List.{length-drop}
+use Rattle.std.specs.Io.KnownBytes.{Appends}
+use Rattle.std.proofs.KnownBytes.{Appends-kept}
+use Rattle.lft_load.proofs.Texts.{took, rest_from}
+use Rattle.lft_load.proofs.output.write_text.Goals as goal
+use Rattle.lft_load.proofs.output.write_text.Goals.{in-Ok, in-Err+else-ne}
+
+pub loop-preserved : goal.loop-preserved
+loop-preserved g c =
+    elim c.match-write.branch [
+      | in-Ok w ↦
+          let text = c.args.text.now in
+          let n = c.loop.written in
+          let e : length (take (length text - n) (drop n text)) ≡ length text - n = subst (λ x. length x ≡ length text - n) (sym (rest_from text n)) (omega (arith, length-drop n text)) in
+          let room : w.in-Ok.taken ≤ length (take (length text - n) (drop n text)) = w.in-Ok.ensures.bound in
+          let within : n ≤ length text = c.loop.invariant.0 in
+          let is : c.match-write.written ≡ n + w.in-Ok.taken = w.written-is in
+          (omega arith, subst (λ k. Appends (g.W.Write.contents c.args.out.now) (g.W.Write.contents c.write.new.self) (take k text)) (sym is) (took _ _ _ text n w.in-Ok.taken c.loop.invariant.1 w.in-Ok.ensures.bytes))
+      | in-Err+else-ne w ↦ (subst (λ k. k ≤ length c.args.text.now) (sym w.written-is) c.loop.invariant.0, subst (λ k. Appends (g.W.Write.contents c.args.out.now) (g.W.Write.contents c.write.new.self) (take k c.args.text.now)) (sym w.written-is) (Appends-kept _ _ _ _ c.loop.invariant.1 w.in-Err.ensures.bytes))
+    ]

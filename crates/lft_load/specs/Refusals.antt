@@ -1,0 +1,79 @@
+-- Why two texts get no plan: the fault of the first layer that refuses.
+use Rattle.std.specs.Prelude.{◌≡◌, ◌≢◌, ℕ, ◌+◌, ◌≤◌, ◌<◌, List, length, take, Bool, true, false, not, ◌&&◌, nat_eq}
+use Rattle.lft_syntax.specs.declared.token.Token.{Token}
+use Rattle.lft_syntax.specs.declared.fault.LexFault.{LexFault}
+use Rattle.lft_syntax.specs.declared.fault.SyntaxFault.{SyntaxFault}
+use Rattle.lft_syntax.specs.declared.fault.SyntaxFault.TheVariants as syntax
+use Rattle.lft_syntax.specs.Lexes.{Lexes, LexFails}
+use Rattle.lft_syntax.specs.Lexeme.{Lexeme}
+use Rattle.lft_syntax.specs.View.{lexemes}
+use Rattle.lft_tree.specs.Tree.{FileTree}
+use Rattle.lft_syntax.specs.Grammar.{Spells}
+use Rattle.lft_program.specs.declared.fault.ProgramFault.{ProgramFault}
+use Rattle.lft_program.specs.declared.fault.ProgramFault.TheVariants as program
+use Rattle.lft_flat.specs.Parts.{Parts}
+use Rattle.lft_program.specs.Faults.{number_of as program_number}
+use Rattle.lft_scope.specs.Causes.{IsFirst, causes}
+use Rattle.lft_trace.specs.declared.fault.TraceFault.{TraceFault}
+use Rattle.lft_trace.specs.Faults.{is_told}
+use Rattle.lft_trace.specs.Records.{records_of}
+use Rattle.lft_trace.specs.ExternalTables.{ExternalTable, ExternalFails}
+use Rattle.lft_trace.specs.Inputs.{ExternalInputs}
+use Rattle.lft_graph.specs.Loops.{IsLoop}
+use Rattle.lft_graph.specs.declared.fault.GraphFault.{GraphFault}
+use Rattle.lft_graph.specs.declared.fault.GraphFault.TheVariants as graph
+use Rattle.lft_load.specs.Faults.{lex_number, syntax_number, graph_number, table_number, IsFault}
+use Rattle.lft_load.specs.Meaning.{IsTreeOf, IsProgramOf}
+use Rattle.lft_load.specs.declared.fault.Fault.{Fault}
+use Rattle.lft_load.specs.declared.fault.Part.{Part}
+use Rattle.lft_load.specs.declared.fault.Part.TheVariants as part
+
+-- a fault of this part and number tells something of the texts: it is no refused growth, no fault of the reader of records, and not of the writer or of the number of workers
+abbrev pub is_of_text : Part → ℕ → Bool
+is_of_text part.Lex n = not (nat_eq n 7)
+is_of_text part.Syntax n = not (nat_eq n 2)
+is_of_text part.Program n = not (nat_eq n 16)
+is_of_text part.Graph n = not (nat_eq n 2)
+is_of_text part.Externals n = not (nat_eq n 11) && not (nat_eq n 12)
+is_of_text part.Trace n = not (nat_eq n 11) && not (nat_eq n 12)
+is_of_text part.Check n = false
+is_of_text part.Pool n = false
+is_of_text part.Cards n = false
+is_of_text part.Write n = false
+is_of_text part.Read n = false
+is_of_text part.Bundle n = false
+is_of_text part.Memory n = false
+
+-- no text whose tokens begin with the first k of these has a tree
+abbrev pub SyntaxFails : List ℕ → List Token → SyntaxFault → Type 0
+SyntaxFails text tokens (syntax.Unexpected k) = (0 < k) × (k ≤ length tokens + 1) × ((others : List Lexeme) (tree : FileTree) → take k others ≡ take k (lexemes text tokens) → Spells tree others → ⊥)
+SyntaxFails text tokens syntax.NoMemory = Unit {0}
+
+-- the first cause of refusal of the tree
+abbrev pub ProgramFails : FileTree → ProgramFault → Type 0
+ProgramFails tree e = e ≢ program.NoMemory → IsFirst (causes tree) (program_number e)
+
+-- the program has a causality loop
+abbrev pub GraphFails : Parts → GraphFault → Type 0
+GraphFails program (graph.CausalityLoop loop) = IsLoop program loop
+GraphFails program graph.NoMemory = Unit {0}
+
+-- the text has no tree: it has no tokens, or its tokens have none
+pub data TreeRefusal (text : List ℕ) (f : Fault) : Type 0 where
+  by_lex : (e : LexFault) → f.part ≡ part.Lex → f.number ≡ lex_number e → LexFails text e → TreeRefusal text f
+  by_syntax : (e : SyntaxFault) (tokens : List Token) → f.part ≡ part.Syntax → f.number ≡ syntax_number e → length text ≤ 1048576 → Lexes text tokens → SyntaxFails text tokens e → TreeRefusal text f
+
+-- the text has no flat program: it has no tree, or the tree has none
+pub data ProgramRefusal (text : List ℕ) (f : Fault) : Type 0 where
+  by_tree : TreeRefusal text f → ProgramRefusal text f
+  by_flat : (e : ProgramFault) (tree : FileTree) → f.part ≡ part.Program → f.number ≡ program_number e → IsTreeOf text tree → ProgramFails tree e → ProgramRefusal text f
+
+-- the flat program has no graph: it has a loop, whose reactions the fault names if there is memory for their names, or a growth was refused
+abbrev pub GraphRefusal : Parts → Fault → Type 0
+GraphRefusal program f = (e : GraphFault) × IsFault f part.Graph (graph_number e) × GraphFails program e
+
+-- the two texts have no plan: the program's text has no flat program, the external inputs are no table, or the program has no graph
+pub data LoadRefusal (program externals : List ℕ) (f : Fault) : Type 0 where
+  by_program : ProgramRefusal program f → LoadRefusal program externals f
+  by_externals : (e : TraceFault) (parts : Parts) → f.part ≡ part.Externals → f.number ≡ table_number e → IsProgramOf program parts → (is_told e ≡ true → ExternalFails parts (records_of externals) e) → LoadRefusal program externals f
+  by_graph : (parts : Parts) (given : ExternalInputs) → IsProgramOf program parts → ExternalTable parts (records_of externals) given → GraphRefusal parts f → LoadRefusal program externals f

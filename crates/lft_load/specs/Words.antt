@@ -1,0 +1,20 @@
+-- Words of the lines that are printed.
+use Rattle.std.specs.Prelude.{ℕ, List, [], ◌∷◌, ◌++◌, slice_get, unwrap_or, codes, decimal, flat_map}
+use Rattle.lft_flat.specs.Parts.{Parts}
+
+-- a word with its number
+abbrev pub field : List ℕ → ℕ → List ℕ
+field word number = word ++ decimal number
+
+-- the name of a reaction
+abbrev pub reaction_name : Parts → ℕ → List ℕ
+reaction_name program r = unwrap_or (slice_get program.names.reactions r) []
+
+-- the name of a reaction after a space
+abbrev pub spaced_name : Parts → ℕ → List ℕ
+spaced_name program r = codes " " ++ reaction_name program r
+
+-- the names of reactions, with a space between two
+abbrev pub names_words : Parts → List ℕ → List ℕ
+names_words program [] = []
+names_words program (r ∷ rs) = reaction_name program r ++ flat_map (spaced_name program) rs

@@ -1,0 +1,46 @@
+//! Reading a file or standard input.
+
+ghost use Rattle.std.specs.Prelude.{◌≡◌, ◌≤◌, ◌^◌, ◌⊎◌, IfOk, IfErr, OnOk, IfSome, length};
+ghost use Rattle.std.specs.Io.KnownBytes.{IsAtEnd};
+ghost use Rattle.lft_load.specs.Faults.{IsFault};
+ghost use Rattle.lft_load.specs.declared.fault.Part.TheVariants as part;
+
+use crate::fault::{Fault, Part};
+use std::alloc::Global;
+use std::io::{ErrorKind, Read};
+
+/// The most bytes of a file.
+const MOST_BYTES: usize = 1 << 30;
+/// The most calls of `read` that a file may take.
+const MOST_READS: u32 = 1 << 24;
+
+/// All bytes of a reader up to its end. `read` 1 `Failed` comes only where the reader failed, and
+/// `read` 2 `TooLarge` past 2^30 bytes or 2^24 calls; the path is for the fault alone.
+pub fn read_input<R: Read>(alloc: Global, path: &str, reader: &mut R) -> Result<Vec<u8>, Fault>
+    ensures bytes { IfOk result (λ v. IfSome (R.remaining reader.old) (λ xs. v.items ≡ xs)) }
+    ensures limit { IfOk result (λ v. length v.items ≤ 2 ^ 30) }
+    ensures end { OnOk result (IsAtEnd (R.remaining reader.new)) }
+    ensures refused { IfErr result (λ f. IsFault f part.Read 1 ⊎ IsFault f part.Read 2) }
+{
+    let mut bytes = Vec::new(alloc);
+    let mut chunk = [0u8; 65536];
+    for _ in 0..MOST_READS {
+        match reader.read(&mut chunk) {
+            Ok(0) => return Ok(bytes),
+            Ok(n) => {
+                if n > MOST_BYTES - bytes.len() {
+                    return Err(Fault::of_path(alloc, Part::Read, 2, "TooLarge", path));
+                }
+                if bytes.extend_from_slice(&chunk[..n]).is_err() {
+                    return Err(Fault::no_memory());
+                }
+            }
+            Err(e) => {
+                if e.kind() != ErrorKind::Interrupted {
+                    return Err(Fault::of_path(alloc, Part::Read, 1, "Failed", path));
+                }
+            }
+        }
+    }
+    Err(Fault::of_path(alloc, Part::Read, 2, "TooLarge", path))
+}

@@ -1,0 +1,16 @@
+#![tactic(auto)]
+//! From texts to a plan: faults and their lines, and what is read and written around it.
+
+mod fault;
+mod input;
+mod layers;
+mod output;
+mod status;
+mod words;
+
+pub use fault::{Detail, Fault, Part};
+pub use input::read_input;
+pub use layers::{graph_of, load, read_program};
+pub use output::write_text;
+pub use status::finish;
+pub use words::{push_field, push_name, push_names};
