@@ -8,7 +8,7 @@ use Rattle.lft_trace.specs.declared.row.Row.{Row}
 use Rattle.lft_trace.specs.declared.row.Step.TheVariants.{End}
 use Rattle.lft_graph.specs.Precedence.{Direct, Precedes}
 use Rattle.lft_graph.specs.Graph.{GraphParts, IsGraphOf}
-use Rattle.lft_graph.proofs.Places.{contains_at, at_contains, get_there, same_at, get_same, length_same, get_write_cases, get_written, get_unwritten, length_written}
+use Rattle.lft_lists.proofs.Places.{contains_at, at_contains, get_there, same_at, get_same, length_same, get_write_cases, get_written, get_unwritten, length_written}
 use Rattle.lft_model.specs.Runs.{end_row}
 use Rattle.lft_model.proofs.Legality.{four, one_end}
 use Rattle.lft_model.proofs.Places.{slice_get_within}

@@ -1,3 +1,4 @@
 pub mod Decimals
 pub mod Positions
 pub mod Ranges
+pub mod Origins

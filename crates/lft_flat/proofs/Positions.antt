@@ -12,6 +12,7 @@ use Rattle.std.proofs.lemmas.Option.{slice_get_within, get_or_from_slice_get, sl
 use Rattle.std.proofs.lemmas.Slice.Eq.{bytes_eq-Decides}
 use Rattle.std.proofs.lemmas.Str.{IsUtf8-string_bytes}
 use Rattle.indexmap.specs.IndexSet.{insert_key}
+use Rattle.lft_lists.proofs.Mapped.{mapped, mapped_from}
 use Rattle.lft_flat.specs.Names.{HasNoTwice}
 use Rattle.lft_flat.specs.Places.{AreUtf8}
 
@@ -35,15 +36,6 @@ module _ {X : Type 0} (p : X → Bool) where
   any_place xs any =
       let some = Any-from_list_any p xs any in
       (some.0, some.1, subst (λ y. slice_get xs some.0 ≡ Some y) some.3 (slice_get-get_or xs some.0 some.1 some.2), some.4)
-
--- what a mapped list has at a place, and from what
-pub mapped_from : {X Y : Type 0} (f : X → Y) (xs : List X) (i : ℕ) (y : Y) → slice_get (map f xs) i ≡ Some y → (x : X) × (slice_get xs i ≡ Some x) × (f x ≡ y)
-mapped_from f [] i y at = absurd (cc)
-mapped_from f (x ∷ xs) zero y at = (x, refl, (cc))
-mapped_from f (x ∷ xs) (suc i) y at = mapped_from f xs i y at
-
-pub mapped : {X Y : Type 0} (f : X → Y) (xs : List X) (i : ℕ) (x : X) → slice_get xs i ≡ Some x → slice_get (map f xs) i ≡ Some (f x)
-mapped f xs i x at = grind (arith, slice_get-map f xs i)
 
 -- an element of a list with one more at its end
 pub pushed_at : {X : Type 0} (xs : List X) (y x : X) (i : ℕ) → slice_get (xs ++ y ∷ []) i ≡ Some x → (slice_get xs i ≡ Some x) ⊎ ((i ≡ length xs) × (x ≡ y))

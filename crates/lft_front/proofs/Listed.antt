@@ -3,12 +3,14 @@ use Rattle.std.proofs.Common.{◌≡◌, ℕ, zero, suc, ◌+◌, ◌<◌, ◌�
 use Rattle.std.specs.List.{enumerate_from}
 use Rattle.std.proofs.lemmas.List.{append_assoc, append-nil, take_all}
 use Rattle.std.proofs.lemmas.Option.{slice_get_within}
+use Rattle.std.proofs.lemmas.List.FromFn.{length-enumerate_from}
+use Rattle.lft_lists.proofs.Mapped.{enumerate_at}
 use Rattle.lft_flat.specs.Parts.{Parts}
 use Rattle.lft_flat.specs.Origins.{Origin}
 use Rattle.lft_flat.specs.Origins.Origin.{itself, over}
 use Rattle.lft_graph.specs.Graph.{GraphParts, IsGraphOf}
 use Rattle.lft_graph.specs.Before.{IsDeclaredJustBefore, FeedsLast}
-use Rattle.lft_graph.proofs.Places.{contains_at}
+use Rattle.lft_lists.proofs.Places.{contains_at}
 
 -- one item more
 pub one_more : {X : Type 0} (f : X → List ℕ) (xs : List X) (k : ℕ) (x : X) → slice_get xs k ≡ Some x → flat_map f (take (suc k) xs) ≡ flat_map f (take k xs) ++ f x
@@ -22,27 +24,12 @@ grown f xs k x start before after e b a =
     let n : suc k ≡ k + 1 = omega arith in
     a ∙ ap (λ w. w ++ f x) b ∙ append_assoc start (flat_map f (take k xs)) (f x) ∙ ap (λ w. start ++ w) (sym (one_more f xs k x e) ∙ ap (λ j. flat_map f (take j xs)) n)
 
--- the items with their places
-pub placed : {X : Type 0} (i : ℕ) (xs : List X) (n : ℕ) (x : X) → slice_get xs n ≡ Some x → slice_get (enumerate_from i xs) n ≡ Some (i + n, x)
-placed i [] n x e = absurd (cc)
-placed i (z ∷ xs) zero x e = let q : z ≡ x = cc in let j : i ≡ i + 0 = omega arith in ap (λ w. Some (i, w)) q ∙ ap (λ w. Some (w, x)) j
-placed i (z ∷ xs) (suc n) x e = let j : (i + 1) + n ≡ i + suc n = omega arith in placed (i + 1) xs n x e ∙ ap (λ w. Some (w, x)) j
-
 pub placed_first : {X : Type 0} (xs : List X) (n : ℕ) (x : X) → slice_get xs n ≡ Some x → slice_get (enumerate_from 0 xs) n ≡ Some (n, x)
-placed_first xs n x e = let j : 0 + n ≡ n = omega arith in placed 0 xs n x e ∙ ap (λ w. Some (w, x)) j
-
-pub length_placed : {X : Type 0} (i : ℕ) (xs : List X) → length (enumerate_from i xs) ≡ length xs
-length_placed i [] = refl
-length_placed i (x ∷ xs) = ap suc (length_placed (i + 1) xs)
+placed_first xs n x e = let j : 0 + n ≡ n = omega arith in enumerate_at 0 xs n x e ∙ ap (λ w. Some (w, x)) j
 
 -- all items
 pub all_placed : {X : Type 0} (xs : List X) (n : ℕ) → length xs ≤ n → take n (enumerate_from 0 xs) ≡ enumerate_from 0 xs
-all_placed xs n l = let e : length (enumerate_from 0 xs) ≡ length xs = length_placed 0 xs in take_all n (enumerate_from 0 xs) (omega arith)
-
--- the origin of a port is a port
-pub origin_within : (program : Parts) (p o : ℕ) (delays : List ℕ) → Origin program p o delays → o < length program.ports
-origin_within program p o delays (itself port h s) = slice_get_within program.ports p port h
-origin_within program p o delays (over {delays = d} port source first h s x e) = origin_within program source.port o first x
+all_placed xs n l = let e : length (enumerate_from 0 xs) ≡ length xs = length-enumerate_from 0 xs in take_all n (enumerate_from 0 xs) (omega arith)
 
 -- what a graph's lists hold are reactions
 pub before_within : (program : Parts) (graph : GraphParts) → IsGraphOf program graph → (r : ℕ) (list : List ℕ) → slice_get graph.before r ≡ Some list → (i a : ℕ) → slice_get list i ≡ Some a → a < length program.reactions
@@ -51,8 +38,3 @@ before_within program graph is r list e i a f = go (((is.before r list e).member
     go : IsDeclaredJustBefore program a r ⊎ FeedsLast program a r → a < length program.reactions
     go (inl j) = slice_get_within program.reactions a j.first j.is_first
     go (inr w) = slice_get_within program.reactions a w.1.writes.writer w.1.writes.is_writer
-
-pub get_or_at : {X : Type 0} (xs : List X) (k : ℕ) (x d : X) → slice_get xs k ≡ Some x → get_or xs k d ≡ x
-get_or_at [] k x d e = absurd (cc)
-get_or_at (y ∷ ys) zero x d e = let q : y ≡ x = cc in q
-get_or_at (y ∷ ys) (suc k) x d e = get_or_at ys k x d e

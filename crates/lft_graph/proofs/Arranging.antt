@@ -10,7 +10,7 @@ use Rattle.std.proofs.lemmas.Map.Keys.{IsDistinct-IsPermutation}
 use Rattle.std.proofs.lemmas.Bool.Decides.{Decides-eqb, nat_tests}
 use Rattle.std.proofs.lemmas.Option.{slice_get_within, get_or_from_slice_get}
 use Rattle.lft_graph.specs.Graph.{AreByLevel}
-use Rattle.lft_graph.proofs.Places.{contains_at, at_contains, get_push_cases, get_there, same_at}
+use Rattle.lft_lists.proofs.Places.{contains_at, at_contains, get_push_cases, get_there, same_at}
 
 -- the order of the pairs: by level, then by number
 pair_cmp_total : IsTotalOrder (λ (x : ℕ × ℕ) y. ordering_then (nat_cmp x.0 y.0) (nat_cmp x.1 y.1))

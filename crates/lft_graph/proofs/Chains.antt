@@ -11,7 +11,7 @@ use Rattle.lft_graph.specs.Before.{IsDeclaredJustBefore, FeedsLast, Writes}
 use Rattle.lft_graph.specs.Graph.{AreLevels, AreByLevel, GraphParts, HasChains, IsGraphOf}
 use Rattle.lft_graph.specs.Loops.{IsLoopOf, IsLoop}
 use Rattle.lft_graph.specs.Walks.{HasLists, AreInside, IsStep}
-use Rattle.lft_graph.proofs.Places.{contains_at, get_there}
+use Rattle.lft_lists.proofs.Places.{contains_at, get_there}
 
 pub snoc : (program : Parts) (a b c : ℕ) → Precedes program a b → Direct program b c → Precedes program a c
 snoc program a b c (one d) e = more d (one e)

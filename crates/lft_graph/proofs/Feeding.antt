@@ -1,15 +1,15 @@
 -- Feeders, and the short lists that they make.
-use Rattle.std.proofs.Common.{◌≡◌, ℕ, zero, suc, ◌+◌, ◌-◌, ◌<◌, ◌≤◌, ◌⊎◌, ◌↔◌, inl, inr, List, [], ◌∷◌, ◌++◌, length, refl, sym, ap, ◌∙◌, subst, arith, Option, Some, None, slice_get, Contains, option_to_list, filter_map, AllPairs, length-append}
+use Rattle.std.proofs.Common.{◌≡◌, ℕ, zero, suc, ◌+◌, ◌-◌, ◌<◌, ◌≤◌, ◌⊎◌, ◌↔◌, inl, inr, List, [], ◌∷◌, ◌++◌, length, refl, sym, ap, ◌∙◌, subst, arith, Option, Some, slice_get, Contains, filter_map, AllPairs, length-append}
 use Rattle.std.proofs.lemmas.Option.{slice_get_within}
 use Rattle.std.proofs.lemmas.List.Elements.{Contains-push, Contains-push_cases, Contains-append_left, Contains-append_right, Contains-append_cases}
 use Rattle.std.proofs.lemmas.Bool.{cases_lt, cases_eq}
-use Rattle.lft_tag.specs.Shifts.{join, join_all, none, Folded}
+use Rattle.lft_tag.specs.Shifts.{none, join_all}
+use Rattle.lft_tag.proofs.Chains.{undelayed}
 use Rattle.lft_flat.specs.Parts.{Parts, named, inputs}
 use Rattle.lft_flat.specs.Sound.{IsSound}
 use Rattle.lft_flat.specs.Origins.{Origin}
-use Rattle.lft_flat.specs.Origins.Origin.{itself, over}
+use Rattle.lft_flat.proofs.Origins.{origin_unique, origin_inside}
 use Rattle.lft_flat.specs.declared.parts.Port.{Port as PortOf}
-use Rattle.lft_flat.specs.declared.parts.Source.{Source}
 use Rattle.lft_flat.specs.declared.parts.Reaction.{Reaction}
 use Rattle.lft_flat.specs.declared.parts.Name.{Name}
 use Rattle.lft_flat.specs.declared.parts.Name.TheVariants.{Port, Action}
@@ -17,41 +17,7 @@ use Rattle.lft_flat.specs.declared.parts.Trigger.{Trigger}
 use Rattle.lft_flat.specs.declared.parts.Trigger.TheVariants.{Startup, Shutdown, Timer, On}
 use Rattle.lft_graph.specs.Before.{Writes, IsLastWriter, Reaches, FeedsLast, IsDeclaredJustBefore, IsBefore}
 use Rattle.lft_graph.specs.Walks.{KnowsWriters, IsUndelayed, IsFeeder, NotesBelow, Covers, HasLists}
-use Rattle.lft_graph.proofs.Places.{contains_at, at_contains, get_push_cases}
-
--- a chain is undelayed exactly where its shift is nothing
-still_moves : (s : Folded) (d : ℕ) → 0 < (join s d).0 + (join s d).1
-still_moves s zero = omega arith
-still_moves s (suc d) = omega arith
-
-moves_on : (s : Folded) (ds : List ℕ) → 0 < s.0 + s.1 → 0 < (join_all s ds).0 + (join_all s ds).1
-moves_on s [] l = l
-moves_on s (d ∷ ds) l = moves_on (join s d) ds (still_moves s d)
-
-undelayed : (ds : List ℕ) → join_all none ds ≡ none → ds ≡ []
-undelayed [] e = refl
-undelayed (d ∷ ds) e = let l = moves_on (join none d) ds (still_moves none d) in let a : (join_all (join none d) ds).0 ≡ 0 = ap (λ s. s.0) e in let b : (join_all (join none d) ds).1 ≡ 0 = ap (λ s. s.1) e in absurd (omega arith)
-
--- a port has one origin and one list of delays
-origin_unique : {program : Parts} {p o q : ℕ} {ds es : List ℕ} → Origin program p o ds → Origin program p q es → (o ≡ q) × (ds ≡ es)
-origin_unique (itself x e n) (itself y f m) = (refl, refl)
-origin_unique (itself x e n) (over y s first f m way l) = let a : Some x ≡ Some y = sym e ∙ f in let b : x ≡ y = cc in let c : None ≡ Some s = sym n ∙ ap (λ z. z.source) b ∙ m in absurd (cc)
-origin_unique (over y s first f m way l) (itself x e n) = let a : Some x ≡ Some y = sym e ∙ f in let b : x ≡ y = cc in let c : None ≡ Some s = sym n ∙ ap (λ z. z.source) b ∙ m in absurd (cc)
-origin_unique {program} (over x s first e n way l) (over y u second f m road k) =
-    let a : Some x ≡ Some y = sym e ∙ f in
-    let b : x ≡ y = cc in
-    let c : Some s ≡ Some u = sym n ∙ ap (λ z. z.source) b ∙ m in
-    let d : s ≡ u = cc in
-    let rest = origin_unique way (same d road) in
-    (rest.0, l ∙ ap (λ z. z ++ option_to_list s.delay) rest.1 ∙ ap (λ (z : Source). second ++ option_to_list z.delay) d ∙ sym k)
-  where
-    same : {s u : Source} {q : ℕ} {es : List ℕ} → s ≡ u → Origin program u.port q es → Origin program s.port q es
-    same {s} {u} {q} {es} d road = subst (λ (z : Source). Origin program z.port q es) (sym d) road
-
--- an origin is a port
-origin_inside : {program : Parts} {p o : ℕ} {ds : List ℕ} → Origin program p o ds → o < length program.ports
-origin_inside {program} {p} (itself x e n) = slice_get_within program.ports p x e
-origin_inside (over x s first e n way l) = origin_inside way
+use Rattle.lft_lists.proofs.Places.{contains_at, at_contains, get_push_cases}
 
 module _ (program : Parts) (sound : IsSound program) where
   pub origin_there : (p : ℕ) (port : PortOf) → slice_get program.ports p ≡ Some port → port.origin < length program.ports

@@ -6,7 +6,7 @@ use Rattle.lft_graph.specs.declared.levels.Mark.{Mark}
 use Rattle.lft_graph.specs.declared.levels.Mark.TheVariants.{New, Open, Done}
 use Rattle.lft_graph.specs.Graph.{AreLevels}
 use Rattle.lft_graph.specs.Walks.{IsSettled, NoneOpen, KeepsLooked, IsLevelOf}
-use Rattle.lft_graph.proofs.Places.{get_push_cases, get_same, length_same, get_there, at_contains, contains_at}
+use Rattle.lft_lists.proofs.Places.{get_push_cases, get_same, length_same, get_there, at_contains, contains_at}
 
 -- each reaction below a number is looked at, and none is open
 pub record Looked (before : List (List ℕ)) (marks : List Mark) (reaction : ℕ) : Type 0 where

@@ -1,4 +1,3 @@
-pub mod Places
 pub mod Turning
 pub mod Writing
 pub mod Feeding

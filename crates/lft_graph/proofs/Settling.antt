@@ -7,7 +7,7 @@ use Rattle.lft_graph.specs.declared.levels.Mark.TheVariants.{New, Open, Done}
 use Rattle.lft_graph.specs.declared.levels.Next.TheVariants.{Level, Looped, First}
 use Rattle.lft_graph.specs.Loops.{IsLoopOf}
 use Rattle.lft_graph.specs.Walks.{IsStep, AreDone, IsLevelOf, IsSettled, NoneOpen, KeepsLooked, IsNext, IsCut, tally, done_weight}
-use Rattle.lft_graph.proofs.Places.{contains_at, at_contains, get_written, get_unwritten, get_write_cases, length_written, get_push, get_last, get_push_cases}
+use Rattle.lft_lists.proofs.Places.{contains_at, at_contains, get_written, get_unwritten, get_write_cases, length_written, get_push, get_last, get_push_cases}
 use Rattle.lft_graph.proofs.Turning.{cut_loop}
 use Rattle.lft_graph.proofs.Walking.{tally_written, KeepsDone, keeps_done, done_kept, level_kept}
 

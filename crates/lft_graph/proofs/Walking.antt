@@ -4,7 +4,7 @@ use Rattle.std.proofs.lemmas.Bool.{cases_eq}
 use Rattle.lft_graph.specs.declared.levels.Mark.{Mark}
 use Rattle.lft_graph.specs.declared.levels.Mark.TheVariants.{New, Open, Done}
 use Rattle.lft_graph.specs.Walks.{IsDone, IsLevelOf, tally, done_weight}
-use Rattle.lft_graph.proofs.Places.{get_unwritten}
+use Rattle.lft_lists.proofs.Places.{get_unwritten}
 
 pub tally_written : (f : Mark → ℕ) (xs : List Mark) (i : ℕ) (x y : Mark) → slice_get xs i ≡ Some x → tally f (slice_set xs i y) + f x ≡ tally f xs + f y
 tally_written f [] i x y e = absurd (cc)

@@ -7,7 +7,7 @@ use Rattle.lft_flat.specs.declared.parts.Name.{Name}
 use Rattle.lft_flat.specs.declared.parts.Name.TheVariants.{Port}
 use Rattle.lft_graph.specs.Before.{Writes}
 use Rattle.lft_graph.specs.Walks.{KnowsWriters}
-use Rattle.lft_graph.proofs.Places.{contains_at, get_written, get_unwritten, get_same, length_same, length_written}
+use Rattle.lft_lists.proofs.Places.{contains_at, get_written, get_unwritten, get_same, length_same, length_written}
 
 -- the effects at the places below one are noted
 pub record Noted (effects : List Name) (reaction : ℕ) (old new : List (Option ℕ)) (place : ℕ) : Type 0 where

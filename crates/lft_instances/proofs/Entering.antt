@@ -5,6 +5,11 @@ use Rattle.std.specs.Option.{option_map_or, option_map, option_and_then}
 use Rattle.std.proofs.lemmas.Bool.{cases_lt}
 use Rattle.std.proofs.Math.Seq.{drop-length}
 use Rattle.std.proofs.lemmas.Bool.Decides.{eqb_tells}
+use Rattle.std.proofs.lemmas.Option.{slice_get_within}
+use Rattle.std.proofs.lemmas.List.FromFn.{length-enumerate_from}
+use Rattle.std.proofs.lemmas.List.{length-map}
+use Rattle.lft_lists.proofs.Mapped.{mapped, enumerate_at}
+use Rattle.lft_lists.proofs.Places.{get_there, get_written, get_unwritten, length_written, get_push_cases, same_some}
 use Rattle.lft_instances.specs.declared.walk.Contents.{Contents}
 use Rattle.lft_instances.specs.declared.walk.Instance.{Instance}
 use Rattle.lft_instances.specs.Paths.{along}
@@ -12,25 +17,12 @@ use Rattle.lft_instances.specs.Contents.{contained, IsAt}
 use Rattle.lft_instances.specs.declared.settings.Given.{Given}
 use Rattle.lft_instances.specs.declared.settings.Parameters.{Parameters}
 use Rattle.lft_instances.specs.Values.{clock_in, value_in, values_in, defaults_of, given_by, entered, HaveValues, LeadToValues}
-use Rattle.lft_instances.proofs.Members.{get_within, get_push_cases}
 use Rattle.lft_instances.proofs.Orders.{along_at, along_kid}
-use Rattle.lft_instances.proofs.Walks.{get_there}
-use Rattle.lft_instances.proofs.Siblings.{map_get, length_map}
-use Rattle.lft_instances.proofs.Settling.{get_written, get_unwritten, length_written}
 
 -- each parameter has its value
 pub record AreEntered (outer : List ℕ) (given : List Given) (defaults values : List ℕ) : Type 0 where
   pub as_long : length values ≡ length defaults
   pub each : (place default : ℕ) → slice_get defaults place ≡ Some default → slice_get values place ≡ Some (value_in outer given place default)
-
-enumerate_at : {X : Type 0} (i : ℕ) (xs : List X) (n : ℕ) (x : X) → slice_get xs n ≡ Some x → slice_get (enumerate_from i xs) n ≡ Some (i + n, x)
-enumerate_at i [] n x e = absurd (cc)
-enumerate_at i (z ∷ xs) zero x e = let q : z ≡ x = cc in let j : i ≡ i + 0 = omega arith in ap (λ w. Some (i, w)) q ∙ ap (λ w. Some (w, x)) j
-enumerate_at i (z ∷ xs) (suc n) x e = let j : (i + 1) + n ≡ i + suc n = omega arith in enumerate_at (i + 1) xs n x e ∙ ap (λ w. Some (w, x)) j
-
-length_enumerate : {X : Type 0} (i : ℕ) (xs : List X) → length (enumerate_from i xs) ≡ length xs
-length_enumerate i [] = refl
-length_enumerate i (x ∷ xs) = ap suc (length_enumerate (i + 1) xs)
 
 same_list : {X : Type 0} (xs ys : List X) → length xs ≡ length ys → ((k : ℕ) (x : X) → slice_get ys k ≡ Some x → slice_get xs k ≡ Some x) → xs ≡ ys
 same_list [] [] l e = refl
@@ -39,22 +31,22 @@ same_list (x ∷ xs) [] l e = absurd (omega arith)
 same_list (x ∷ xs) (y ∷ ys) l e = let q : Some x ≡ Some y = e 0 y refl in let r : xs ≡ ys = same_list xs ys (omega arith) (λ k z f. e (suc k) z f) in cc
 
 pub length_values : (outer : List ℕ) (given : List Given) (defaults : List ℕ) → length (values_in outer given defaults) ≡ length defaults
-length_values outer given defaults = length_map (λ d. value_in outer given d.0 d.1) (enumerate_from 0 defaults) ∙ length_enumerate 0 defaults
+length_values outer given defaults = length-map (enumerate_from 0 defaults) (λ d. value_in outer given d.0 d.1) ∙ length-enumerate_from 0 defaults
 
 -- so the values are those of the definition
 pub entered_is : (outer : List ℕ) (given : List Given) (defaults values : List ℕ) → AreEntered outer given defaults values → values ≡ values_in outer given defaults
-entered_is outer given defaults values w = same_list values (values_in outer given defaults) (w.as_long ∙ sym (length_enumerate 0 defaults) ∙ sym (length_map value (enumerate_from 0 defaults))) each
+entered_is outer given defaults values w = same_list values (values_in outer given defaults) (w.as_long ∙ sym (length-enumerate_from 0 defaults) ∙ sym (length-map (enumerate_from 0 defaults) value)) each
   where
     value : ℕ × ℕ → ℕ
     value d = value_in outer given d.0 d.1
 
     each : (k v : ℕ) → slice_get (values_in outer given defaults) k ≡ Some v → slice_get values k ≡ Some v
     each k v e =
-        let l = get_within (values_in outer given defaults) k v e in
-        let a = length_map value (enumerate_from 0 defaults) in
-        let b = length_enumerate 0 defaults in
+        let l = slice_get_within (values_in outer given defaults) k v e in
+        let a = length-map (enumerate_from 0 defaults) value in
+        let b = length-enumerate_from 0 defaults in
         let d = get_there defaults k (omega arith) in
-        let f : slice_get (values_in outer given defaults) k ≡ Some (value (0 + k, d.0)) = map_get value (enumerate_from 0 defaults) k (0 + k, d.0) (enumerate_at 0 defaults k d.0 d.1) in
+        let f : slice_get (values_in outer given defaults) k ≡ Some (value (0 + k, d.0)) = mapped value (enumerate_from 0 defaults) k (0 + k, d.0) (enumerate_at 0 defaults k d.0 d.1) in
         let z : 0 + k ≡ k = omega arith in
         let g : Some (value (0 + k, d.0)) ≡ Some (value_in outer given k d.0) = ap (λ j. Some (value_in outer given j d.0)) z in
         w.each k d.0 d.1 ∙ sym g ∙ sym f ∙ e
@@ -99,7 +91,7 @@ entered_first outer given defaults own g w l = record {
 entered_past : (outer : List ℕ) (given : List Given) (defaults own : List ℕ) (g : Given) → AreEntered outer given defaults own → length own ≤ g.place → AreEntered outer (g ∷ given) defaults own
 entered_past outer given defaults own g w l = record {
   as_long = w.as_long;
-  each = λ place default e. w.each place default e ∙ ap Some (sym (value_later outer given g place default (λ q. let k = get_within defaults place default e in let s = w.as_long in omega arith)));
+  each = λ place default e. w.each place default e ∙ ap Some (sym (value_later outer given g place default (λ q. let k = slice_get_within defaults place default e in let s = w.as_long in omega arith)));
 }
 
 pub entered_more : (outer : List ℕ) (given : List Given) (defaults own : List ℕ) (k : ℕ) (g : Given) → slice_get given k ≡ Some g → AreEntered outer (drop (k + 1) given) defaults own → g.place < length own → AreEntered outer (drop k given) defaults (slice_set own g.place (clock_in outer g.clock))
@@ -120,15 +112,12 @@ pub record Valued (table : List Parameters) (instances : List Instance) (rows : 
 pub valued_start : (table : List Parameters) (instances : List Instance) → Valued table instances [] 0
 valued_start table instances = record { as_long = refl; main = λ i own e f. absurd (cc); later = λ n i above own outer l e a f g. absurd (cc) }
 
-same_some : {X : Type 0} (o : Option X) (x y : X) → o ≡ Some x → o ≡ Some y → x ≡ y
-same_some o x y a b = cc
-
 -- the main instance
 pub valued_main : (table : List Parameters) (instances : List Instance) (rows : List (List ℕ)) (number : ℕ) (i : Instance) (own : List ℕ) → Valued table instances rows number → number ≡ 0 → slice_get instances number ≡ Some i → own ≡ defaults_of table i.reactor → Valued table instances (rows ++ own ∷ []) (number + 1)
 valued_main table instances rows number i own w z e o = record {
   as_long = length-append rows (own ∷ []) ∙ ap (λ k. k + 1) w.as_long;
   main = λ j mine f g. elim (get_push_cases rows own 0 mine g) [ inl a ↦ w.main j mine f a | inr a ↦ sym a.1 ∙ o ∙ ap (λ x. defaults_of table x.reactor) (same_some (slice_get instances 0) i j (subst (λ k. slice_get instances k ≡ Some i) z e) f) ];
-  later = λ n j above mine outer l f a g h. absurd (let k = get_within (rows ++ own ∷ []) n mine g in let s = length-append rows (own ∷ []) in let t = w.as_long in omega arith);
+  later = λ n j above mine outer l f a g h. absurd (let k = slice_get_within (rows ++ own ∷ []) n mine g in let s = length-append rows (own ∷ []) in let t = w.as_long in omega arith);
 }
 
 -- a later instance, after its parent
@@ -141,7 +130,7 @@ valued_later table instances rows number i above own outer before w l e a o t = 
   where
     later : (n : ℕ) (j up : Instance) (mine theirs : List ℕ) → 0 < n → slice_get instances n ≡ Some j → slice_get instances j.parent ≡ Some up → (slice_get rows n ≡ Some mine) ⊎ ((n ≡ length rows) × (own ≡ mine)) → (slice_get rows j.parent ≡ Some theirs) ⊎ ((j.parent ≡ length rows) × (own ≡ theirs)) → mine ≡ values_in theirs (given_by table up.reactor j.place) (defaults_of table j.reactor)
     later n j up mine theirs k f b (inl g) (inl h) = w.later n j up mine theirs k f b g h
-    later n j up mine theirs k f b (inl g) (inr h) = absurd (let p = before n j f k in let q = get_within rows n mine g in let r : j.parent ≡ length rows = h.0 in omega arith)
+    later n j up mine theirs k f b (inl g) (inr h) = absurd (let p = before n j f k in let q = slice_get_within rows n mine g in let r : j.parent ≡ length rows = h.0 in omega arith)
     later n j up mine theirs k f b (inr g) (inr h) = absurd (let p = before n j f k in let q : n ≡ length rows = g.0 in let r : j.parent ≡ length rows = h.0 in omega arith)
     later n j up mine theirs k f b (inr g) (inl h) =
         let s : n ≡ number = g.0 ∙ w.as_long in
@@ -186,7 +175,7 @@ lead_to_values contents table main instances values h w n i path own e p r = bel
             let long = w.as_long in
             let rows = h.as_long in
             let b : i.parent < n = up.1 in
-            let within = get_within instances n i e in
+            let within = slice_get_within instances n i e in
             let above = get_there instances i.parent (omega arith) in
             let outer = get_there values i.parent (omega arith) in
             let led = rest i.parent above.0 up.0 outer.0 (omega arith) above.1 up.2 outer.1 in

@@ -1,6 +1,8 @@
 -- What exploring the reactors keeps.
 use Rattle.std.proofs.Common.{◌≡◌, ◌≢◌, ℕ, zero, suc, ◌+◌, ◌-◌, ◌<◌, ◌≤◌, ◌⊎◌, inl, inr, List, [], ◌∷◌, ◌++◌, length, refl, sym, ap, ◌∙◌, subst, arith, Option, Some, None, slice_get, slice_set, replicate}
 use Rattle.std.proofs.lemmas.Bool.{cases_lt}
+use Rattle.std.proofs.lemmas.Option.{slice_get_within}
+use Rattle.lft_lists.proofs.Places.{get_there, get_written, get_unwritten, get_write_cases, length_written, length_same}
 use Rattle.lft_instances.specs.declared.walk.Contents.{Contents}
 use Rattle.lft_instances.specs.declared.recursion.Stage.{Stage}
 use Rattle.lft_instances.specs.declared.recursion.Stage.TheVariants.{New, Open, Done}
@@ -9,9 +11,9 @@ use Rattle.lft_instances.specs.declared.recursion.Turn.TheVariants.{Finished, Sk
 use Rattle.lft_instances.specs.Contents.{contained}
 use Rattle.lft_instances.specs.Containment.{Holds, HoldsDeep, one, more, IsRecursive}
 use Rattle.lft_instances.specs.Stages.{IsPast, IsExplored, IsTurn, NoneOpen, KeepsExplored}
-use Rattle.lft_instances.proofs.Members.{Mem, Pairs, mem_left, mem_right, mem_cases, pairs_append, get_within}
-use Rattle.lft_instances.proofs.Walks.{count, count_of, has_kids, get_there}
-use Rattle.lft_instances.proofs.Settling.{get_written, get_unwritten, get_write_cases, length_written, mem_last, pairs_front, pairs_last}
+use Rattle.lft_instances.proofs.Members.{Mem, Pairs, mem_left, mem_right, mem_cases, pairs_append}
+use Rattle.lft_instances.proofs.Walks.{count, count_of, has_kids}
+use Rattle.lft_instances.proofs.Settling.{mem_last, pairs_front, pairs_last}
 
 -- the reactors on the stack
 abbrev pub reactors_of : List Visit → List ℕ
@@ -54,7 +56,7 @@ contained_below table r n k b e f = elim (cases_lt k n) [ inl l ↦ l | inr g �
 
 count_past : (table : List Contents) (a : ℕ) (o : Option Contents) → slice_get table a ≡ o → length table ≤ a → count table a ≡ 0
 count_past table a None e g = ap count_of e
-count_past table a (Some c) e g = absurd (let l = get_within table a c e in omega arith)
+count_past table a (Some c) e g = absurd (let l = slice_get_within table a c e in omega arith)
 
 holds_within : (table : List Contents) (a b : ℕ) → Holds table a b → a < length table
 holds_within table a b h = elim (cases_lt a (length table)) [ inl l ↦ l | inr g ↦ absurd (let l = (has_kids table a).within h.0 b h.1 in let z = count_past table a (slice_get table a) refl g in omega arith) ]
@@ -87,7 +89,7 @@ past_written stages i b x y e n (inr l) = inr (let s = length_written stages i y
 
 open_not_past : (table : List Contents) (stages : List Stage) (r : ℕ) → slice_get stages r ≡ Some Open → IsPast stages r → ⊥
 open_not_past table stages r e (inl d) = let q : Open ≡ Done = not_both (slice_get stages r) Open Done e d in cc
-open_not_past table stages r e (inr l) = let k = get_within stages r Open e in omega arith
+open_not_past table stages r e (inr l) = let k = slice_get_within stages r Open e in omega arith
 
 -- marking a reactor as open changes nothing of what is explored
 explored_opens : (table : List Contents) (stages : List Stage) (r : ℕ) → IsExplored table stages → slice_get stages r ≡ Some New → IsExplored table (slice_set stages r Open)
@@ -97,7 +99,7 @@ explored_opens table stages r w e = record {
 }
   where
     done : (a : ℕ) → slice_get (slice_set stages r Open) a ≡ Some Done → slice_get stages a ≡ Some Done
-    done a f = elim (get_write_cases stages r a Open Done (get_within stages r New e) f) [ inl q ↦ absurd (let z : Open ≡ Done = q.1 in cc) | inr q ↦ q.1 ]
+    done a f = elim (get_write_cases stages r a Open Done (slice_get_within stages r New e) f) [ inl q ↦ absurd (let z : Open ≡ Done = q.1 in cc) | inr q ↦ q.1 ]
 
 pub exploring_start : (table : List Contents) (stages : List Stage) (start : ℕ) (v : Visit) → length stages ≡ length table → IsExplored table stages → NoneOpen stages → slice_get stages start ≡ Some New → v.reactor ≡ start → v.next ≡ 0 → Exploring table stages start (slice_set stages start Open) (v ∷ [])
 exploring_start table stages start v same s none e at next = record {
@@ -112,7 +114,7 @@ exploring_start table stages start v same s none e at next = record {
 }
   where
     within : start < length stages
-    within = get_within stages start New e
+    within = slice_get_within stages start New e
 
 -- what a reactor that is past contains is past too
 past_holds : (table : List Contents) (stages : List Stage) (a b : ℕ) → length stages ≡ length table → IsExplored table stages → IsPast stages a → Holds table a b → IsPast stages b
@@ -143,7 +145,7 @@ exploring_done table before stages start visits top w n = record {
     is_open = w.are_open top.reactor (rw (reactors_push visits top) (mem_last (reactors_of visits) top.reactor))
 
     within : top.reactor < length stages
-    within = get_within stages top.reactor Open is_open
+    within = slice_get_within stages top.reactor Open is_open
 
     cases : (q : ℕ) (z : Stage) → slice_get (slice_set stages top.reactor Done) q ≡ Some z → ((q ≡ top.reactor) × (Done ≡ z)) ⊎ ((q ≢ top.reactor) × (slice_get stages q ≡ Some z))
     cases q z f = get_write_cases stages top.reactor q Done z within f
@@ -218,7 +220,7 @@ exploring_enter table before stages start c visits top inner w n at next = recor
     is_new = n.1
 
     within : c < length stages
-    within = get_within stages c New is_new
+    within = slice_get_within stages c New is_new
 
     apart : (x : ℕ) → Mem x on → x ≢ c
     apart x m e = let q : New ≡ Open = not_both (slice_get stages x) New Open (subst (λ k. slice_get stages k ≡ Some New) (sym e) is_new) (w.are_open x m) in cc
@@ -254,13 +256,9 @@ all_new zero r s e = absurd (cc)
 all_new (suc n) zero s e = let q : New ≡ s = cc in sym q
 all_new (suc n) (suc r) s e = all_new n r s e
 
-length_new : (n : ℕ) → length (replicate n New) ≡ n
-length_new zero = refl
-length_new (suc n) = ap suc (length_new n)
-
 pub explored_start : (table : List Contents) → Explored table (replicate (length table) New) 0
 explored_start table = record {
-  as_long = length_new (length table);
+  as_long = length_same (length table) New;
   explored = record { closed = λ a b e h. absurd (let q : Done ≡ New = all_new (length table) a Done e in cc); ends = λ a e h. let q : Done ≡ New = all_new (length table) a Done e in cc };
   none_open = λ r e. let q : Open ≡ New = all_new (length table) r Open e in cc;
   looked = λ r l. absurd (omega arith);
@@ -297,7 +295,7 @@ top_within table before stages start visits top w = w.are_open top.reactor (rw (
 pub done_smaller : (table : List Contents) (before stages : List Stage) (start : ℕ) (visits : List Visit) (top : Visit) → Exploring table before start stages (visits ++ top ∷ []) → weigh table (slice_set stages top.reactor Done) + load table visits < weigh table stages + load table (visits ++ top ∷ [])
 done_smaller table before stages start visits top w =
     let e = top_within table before stages start visits top w in
-    let l = get_within stages top.reactor Open e in
+    let l = slice_get_within stages top.reactor Open e in
     let s = w.as_long in
     let c = get_there table top.reactor (omega arith) in
     let a : weigh table (slice_set stages top.reactor Done) + 0 ≡ weigh table stages + 0 = weigh_written table stages top.reactor c.0 Open Done c.1 e in
@@ -314,7 +312,7 @@ skip_smaller table stages visits top again n at next =
 
 pub enter_smaller : (table : List Contents) (before stages : List Stage) (start c : ℕ) (visits : List Visit) (top inner : Visit) → Exploring table before start stages (visits ++ top ∷ []) → IsTurn table stages top (Enter c) → inner.reactor ≡ c → inner.next ≡ 0 → weigh table (slice_set stages c Open) + load table ((visits ++ top ∷ []) ++ inner ∷ []) < weigh table stages + load table (visits ++ top ∷ [])
 enter_smaller table before stages start c visits top inner w n at next =
-    let l = get_within stages c New n.1 in
+    let l = slice_get_within stages c New n.1 in
     let s = w.as_long in
     let x = get_there table c (omega arith) in
     let a : weigh table (slice_set stages c Open) + (length x.0.instances.items + 2) ≡ weigh table stages + 0 = weigh_written table stages c x.0 New Open x.1 n.1 in

@@ -2,6 +2,8 @@
 use Rattle.std.proofs.Common.{◌≡◌, ◌≢◌, ℕ, zero, suc, ◌+◌, ◌<◌, ◌≤◌, ◌⊎◌, inl, inr, List, [], length, refl, sym, ap, ◌∙◌, subst, arith, Option, Some, None, slice_get, slice_set, replicate, unwrap_or}
 use Rattle.std.specs.Option.{option_map, option_and_then}
 use Rattle.std.proofs.lemmas.Bool.{cases_lt, cases_eq}
+use Rattle.std.proofs.lemmas.Option.{slice_get_within}
+use Rattle.lft_lists.proofs.Places.{get_there, get_written, get_unwritten, get_write_cases, length_written, same_some}
 use Rattle.lft_instances.specs.declared.walk.Instance.{Instance}
 use Rattle.lft_instances.specs.declared.origins.Source.{Source}
 use Rattle.lft_instances.specs.declared.joins.End.{End}
@@ -12,10 +14,7 @@ use Rattle.lft_instances.specs.Numbers.{things, AreFirst}
 use Rattle.lft_instances.specs.Values.{clock_in}
 use Rattle.lft_instances.specs.Sources.{AreInside}
 use Rattle.lft_instances.specs.Joins.{port_at, port_of, Declares, IsPort, joins_of, HasJoin, JoinPorts, LeadApart, Joins, AreSources}
-use Rattle.lft_instances.proofs.Members.{get_within}
-use Rattle.lft_instances.proofs.Walks.{get_there}
 use Rattle.lft_instances.proofs.Things.{things_more, things_some}
-use Rattle.lft_instances.proofs.Settling.{get_written, get_write_cases, length_written, get_unwritten}
 
 -- the number of a port that is declared is below their count
 abbrev pub Number : ℕ → Option ℕ → Type 0
@@ -23,7 +22,7 @@ Number total o = (p : ℕ) × (o ≡ Some p) × (p < total)
 
 declared_number : (counts : List ℕ) (instances : List Instance) (firsts : List ℕ) → AreFirst counts instances firsts → (n port : ℕ) → Declares counts instances n port → Number (things counts instances) (port_at firsts n port)
 declared_number counts instances firsts w n port d =
-    let f = get_there firsts n (let l = get_within instances n d.0 d.1 in let s = w.as_long in omega arith) in
+    let f = get_there firsts n (let l = slice_get_within instances n d.0 d.1 in let s = w.as_long in omega arith) in
     let e = w.each n f.0 f.1 in
     let m = things_more counts instances n d.0 d.1 in
     let s = things_some counts instances (n + 1) in
@@ -73,7 +72,7 @@ rest_earlier table instances number place n k join i h e l (inl a) = go (cases_l
         let q : n ≡ number = omega arith in
         let x : slice_get instances number ≡ Some h.0 = subst (λ m. slice_get instances m ≡ Some h.0) q h.1 in
         let y : h.0 ≡ i = cc in
-        let t = get_within (joins_of table h.0.reactor) k join h.2 in
+        let t = slice_get_within (joins_of table h.0.reactor) k join h.2 in
         let u : length (joins_of table h.0.reactor) ≡ length (joins_of table i.reactor) = ap (λ m. length (joins_of table m.reactor)) y in
         inr (q, omega arith)
 
@@ -84,9 +83,6 @@ sourced_next counts table instances firsts children values number place sources 
   right = w.right;
   all = λ b s j a. w.all b s j (rest_earlier table instances number place j.number j.place j.join i j.has_join e l a);
 }
-
-same_some : {X : Type 0} (o : Option X) (x y : X) → o ≡ Some x → o ≡ Some y → x ≡ y
-same_some o x y a b = cc
 
 -- what instance and place tell of a join
 pub same_join : (table : List Connections) (instances : List Instance) (n place : ℕ) (j k : Join) → HasJoin table instances n place j → HasJoin table instances n place k → j ≡ k
@@ -158,7 +154,7 @@ sourced_more counts table instances firsts children values apart number place so
 pub sourced_end : (counts : List ℕ) (table : List Connections) (instances : List Instance) (firsts : List ℕ) (children values : List (List ℕ)) (number place : ℕ) (sources : List (Option Source)) → Sourced counts table instances firsts children values number place sources → length instances ≤ number → AreSources counts table instances firsts children values sources
 sourced_end counts table instances firsts children values number place sources w l = record {
   as_long = w.as_long;
-  each = λ b s. (w.right b s, λ j. w.all b s j (inl (let h = j.has_join in let k = get_within instances j.number h.0 h.1 in omega arith)));
+  each = λ b s. (w.right b s, λ j. w.all b s j (inl (let h = j.has_join in let k = slice_get_within instances j.number h.0 h.1 in omega arith)));
 }
 
 pub sources_inside : (counts : List ℕ) (table : List Connections) (instances : List Instance) (firsts : List ℕ) (children values : List (List ℕ)) (sources : List (Option Source)) → AreFirst counts instances firsts → JoinPorts counts table instances children → AreSources counts table instances firsts children values sources → AreInside sources

@@ -1,11 +1,11 @@
 -- What holds of each join so far, in a pass over the joins of each instance.
 use Rattle.std.proofs.Common.{◌≡◌, ℕ, ◌+◌, ◌<◌, ◌≤◌, ◌⊎◌, inl, inr, List, length, sym, subst, arith, Some, slice_get}
 use Rattle.std.proofs.lemmas.Bool.{cases_lt}
+use Rattle.std.proofs.lemmas.Option.{slice_get_within}
 use Rattle.lft_instances.specs.declared.walk.Instance.{Instance}
 use Rattle.lft_instances.specs.declared.joins.Join.{Join}
 use Rattle.lft_instances.specs.declared.joins.Connections.{Connections}
 use Rattle.lft_instances.specs.Joins.{joins_of, HasJoin}
-use Rattle.lft_instances.proofs.Members.{get_within}
 use Rattle.lft_instances.proofs.Joining.{Earlier, same_join, rest_earlier}
 
 pub record Each (table : List Connections) (instances : List Instance) (P : ℕ → ℕ → Join → Type 0) (number place : ℕ) : Type 0 where
@@ -31,4 +31,4 @@ pub each_next : (table : List Connections) (instances : List Instance) (P : ℕ 
 each_next table instances P number place i w e l = record { each = λ n k j h a. w.each n k j h (rest_earlier table instances number place n k j i h e l a) }
 
 pub each_end : (table : List Connections) (instances : List Instance) (P : ℕ → ℕ → Join → Type 0) (number place : ℕ) → Each table instances P number place → length instances ≤ number → (n k : ℕ) (j : Join) → HasJoin table instances n k j → P n k j
-each_end table instances P number place w l n k j h = w.each n k j h (inl (let g = get_within instances n h.0 h.1 in omega arith))
+each_end table instances P number place w l n k j h = w.each n k j h (inl (let g = slice_get_within instances n h.0 h.1 in omega arith))

@@ -1,11 +1,12 @@
 -- The things of the first instances, in order.
 use Rattle.std.proofs.Common.{◌≡◌, ℕ, ◌+◌, ◌<◌, ◌≤◌, ◌⊎◌, inl, inr, List, [], ◌∷◌, ◌++◌, length, refl, sym, ap, ◌∙◌, subst, arith, Some, slice_get, take, length-append}
 use Rattle.std.proofs.lemmas.Bool.{cases_lt}
+use Rattle.std.proofs.lemmas.Option.{slice_get_within}
+use Rattle.lft_lists.proofs.Places.{get_push, get_last}
 use Rattle.lft_instances.specs.declared.walk.Instance.{Instance}
 use Rattle.lft_instances.specs.declared.numbering.Thing.{Thing}
 use Rattle.lft_instances.specs.Numbers.{count_of, things}
 use Rattle.lft_instances.specs.Listing.{AreListed}
-use Rattle.lft_instances.proofs.Members.{get_push, get_last, get_within}
 use Rattle.lft_instances.proofs.Things.{things_more, things_all}
 use Rattle.lft_instances.proofs.Joining.{Earlier}
 
@@ -62,5 +63,5 @@ listing_next counts instances number place all i w e f = record {
 pub listing_end : (counts : List ℕ) (instances : List Instance) (number : ℕ) (all : List Thing) → Listing counts instances number 0 all → number ≡ length instances → AreListed counts instances all
 listing_end counts instances number all w e = record {
   as_long = let s = w.as_long in let t : things counts (take number instances) ≡ things counts instances = ap (λ k. things counts (take k instances)) e ∙ things_all counts instances in omega arith;
-  each = λ n k i f l. w.each n k i f l (inl (let g = get_within instances n i f in omega arith));
+  each = λ n k i f l. w.each n k i f l (inl (let g = slice_get_within instances n i f in omega arith));
 }

@@ -1,5 +1,5 @@
 -- The order of paths, and the list that the walk makes.
-use Rattle.std.proofs.Common.{◌≡◌, ℕ, zero, suc, ◌+◌, ◌<◌, ◌≤◌, ◌⊎◌, inl, inr, List, [], ◌∷◌, ◌++◌, refl, sym, ap, ◌∙◌, subst, arith, Option, Some, None, append_assoc}
+use Rattle.std.proofs.Common.{◌≡◌, ℕ, zero, suc, ◌+◌, ◌<◌, ◌≤◌, ◌⊎◌, inl, inr, List, [], ◌∷◌, ◌++◌, refl, sym, ap, ◌∙◌, subst, arith, Option, Some, None, append_assoc, append-nil}
 use Rattle.std.proofs.lemmas.Bool.{cases_lt}
 use Rattle.std.specs.Option.{option_and_then}
 use Rattle.lft_instances.specs.Paths.{along, Before, Exists, IsPreOrder}
@@ -135,11 +135,7 @@ halfway_turn {X} step root x made later p n h e has = record {
     Covered q = Mem q (made ++ p ∷ []) ⊎ ((f : List ℕ) × (rest : List ℕ) × Mem f (kids p 0 n ++ later) × (f ++ rest ≡ q))
 
     inside : (q : List ℕ) (rest : List ℕ) → Exists step root q → p ++ rest ≡ q → Covered q
-    inside q [] ex f = inl (mem_right q made (p ∷ []) (inl (sym (append_nil p) ∙ f)))
-      where
-        append_nil : (xs : List ℕ) → xs ++ [] ≡ xs
-        append_nil [] = refl
-        append_nil (y ∷ ys) = ap (λ l. y ∷ l) (append_nil ys)
+    inside q [] ex f = inl (mem_right q made (p ∷ []) (inl (sym (append-nil p) ∙ f)))
     inside q (k ∷ rest) ex f = inr (p ++ k ∷ [], rest, mem_left (p ++ k ∷ []) (kids p 0 n) later (mem_kids p k 0 n (omega arith) (let l : k < n = steps (step x k) refl in omega arith)), append_assoc p (k ∷ []) rest ∙ f)
       where
         leads : along step x (k ∷ rest) ≡ Some ex.0

@@ -1,13 +1,15 @@
 -- The ports one after another.
 use Rattle.std.proofs.Common.{◌≡◌, ◌≢◌, ℕ, zero, suc, ◌+◌, ◌<◌, ◌⊎◌, inl, inr, List, [], ◌∷◌, ◌++◌, length, refl, sym, ap, ◌∙◌, subst, arith, Option, Some, slice_get, length-append, replicate}
 use Rattle.std.proofs.lemmas.Bool.{cases_lt}
+use Rattle.std.proofs.lemmas.Option.{slice_get_within}
+use Rattle.lft_instances.proofs.Settling.{leads_on}
+use Rattle.lft_lists.proofs.Places.{get_there, get_push_cases, length_same}
 use Rattle.lft_instances.specs.declared.origins.Source.{Source}
 use Rattle.lft_instances.specs.declared.origins.Reached.{Reached}
 use Rattle.lft_instances.specs.declared.origins.Mark.{Mark}
 use Rattle.lft_instances.specs.declared.origins.Mark.TheVariants.{New, Open, Done}
 use Rattle.lft_instances.specs.Sources.{Origin, itself, over, Leads, one, more, AreReached}
 use Rattle.lft_instances.specs.Marks.{IsSettled, NoneOpen, KeepsLooked}
-use Rattle.lft_instances.proofs.Members.{get_within, get_push_cases}
 
 pub record Looked (sources : List (Option Source)) (marks : List Mark) (port : ℕ) : Type 0 where
   pub as_long : length marks ≡ length sources
@@ -20,13 +22,9 @@ all_new zero p m e = absurd (cc)
 all_new (suc n) zero m e = let q : New ≡ m = cc in sym q
 all_new (suc n) (suc p) m e = all_new n p m e
 
-length_new : (n : ℕ) → length (replicate n New) ≡ n
-length_new zero = refl
-length_new (suc n) = ap suc (length_new n)
-
 pub looked_start : (sources : List (Option Source)) → Looked sources (replicate (length sources) New) 0
 looked_start sources = record {
-  as_long = length_new (length sources);
+  as_long = length_same (length sources) New;
   settled = record { right = λ p r e. absurd (let q : Done r ≡ New = all_new (length sources) p (Done r) e in cc); steps = λ p r e. absurd (let q : Done r ≡ New = all_new (length sources) p (Done r) e in cc) };
   none_open = λ p e. absurd (let q : Open ≡ New = all_new (length sources) p Open e in cc);
   looked = λ p l. absurd (omega arith);
@@ -63,7 +61,7 @@ taken_all sources marks all port k w t e = record { as_long = t.as_long ∙ e; e
 
 -- where each port is looked at, each is known
 pub is_known : (sources : List (Option Source)) (marks : List Mark) (p : ℕ) (m : Mark) → Looked sources marks (length sources) → slice_get marks p ≡ Some m → (r : Reached) × (m ≡ Done r)
-is_known sources marks p New w e = absurd (w.looked p (let l = get_within marks p New e in let s = w.as_long in omega arith) e)
+is_known sources marks p New w e = absurd (w.looked p (let l = slice_get_within marks p New e in let s = w.as_long in omega arith) e)
 is_known sources marks p Open w e = absurd (w.none_open p e)
 is_known sources marks p (Done r) w e = (r, refl)
 
@@ -72,10 +70,6 @@ leads_step : (sources : List (Option Source)) (p q : ℕ) (s : Source) → Leads
 leads_step sources p q s (one t a e) b = let f : t ≡ s = cc in inl (ap (λ x. x.port) (sym f) ∙ e)
 leads_step sources p q s (more t a r) b = let f : t ≡ s = cc in inr (subst (λ x. Leads sources x.port q) f r)
 
-leads_join : (sources : List (Option Source)) (p q : ℕ) (s : Source) → Leads sources p q → slice_get sources q ≡ Some (Some s) → Leads sources p s.port
-leads_join sources p q s (one t a e) b = more t a (one s (subst (λ k. slice_get sources k ≡ Some (Some s)) (sym e) b) refl)
-leads_join sources p q s (more t a r) b = more t a (leads_join sources t.port q s r b)
-
 pub ends_once : (sources : List (Option Source)) (p o : ℕ) (delays : List ℕ) → Origin sources p o delays → Leads sources p p → ⊥
 ends_once sources p o delays (itself e) (one t a f) = cc
 ends_once sources p o delays (itself e) (more t a r) = cc
@@ -83,16 +77,11 @@ ends_once sources p o delays (over s first e rest g) l = ends_once sources s.por
   where
     turn : (s.port ≡ p) ⊎ Leads sources s.port p → Leads sources s.port s.port
     turn (inl q) = one s (subst (λ k. slice_get sources k ≡ Some (Some s)) (sym q) e) refl
-    turn (inr r) = leads_join sources s.port p s r e
+    turn (inr r) = leads_on sources s.port p s r e
 
 leads_from : (sources : List (Option Source)) (p q : ℕ) → Leads sources p q → p < length sources
-leads_from sources p q (one t a e) = get_within sources p (Some t) a
-leads_from sources p q (more t a r) = get_within sources p (Some t) a
-
-get_there : {X : Type 0} (xs : List X) (k : ℕ) → k < length xs → (x : X) × (slice_get xs k ≡ Some x)
-get_there [] k l = absurd (omega arith)
-get_there (y ∷ ys) zero l = (y, refl)
-get_there (y ∷ ys) (suc k) l = get_there ys k (omega arith)
+leads_from sources p q (one t a e) = slice_get_within sources p (Some t) a
+leads_from sources p q (more t a r) = slice_get_within sources p (Some t) a
 
 pub no_cycle : (sources : List (Option Source)) (all : List Reached) → AreReached sources all → (p : ℕ) → Leads sources p p → ⊥
 no_cycle sources all w p l =

@@ -1,5 +1,7 @@
 -- What following the chains of sources keeps.
 use Rattle.std.proofs.Common.{◌≡◌, ◌≢◌, ℕ, zero, suc, ◌+◌, ◌<◌, ◌≤◌, ◌⊎◌, inl, inr, List, [], ◌∷◌, ◌++◌, length, refl, sym, ap, ◌∙◌, subst, arith, Option, Some, slice_get, slice_set}
+use Rattle.std.proofs.lemmas.Option.{slice_get_within}
+use Rattle.lft_lists.proofs.Places.{get_written, get_unwritten, get_write_cases, length_written}
 use Rattle.lft_tag.specs.Shifts.{none}
 use Rattle.lft_instances.specs.declared.origins.Source.{Source}
 use Rattle.lft_instances.specs.declared.origins.Reached.{Reached}
@@ -8,39 +10,13 @@ use Rattle.lft_instances.specs.declared.origins.Mark.TheVariants.{New, Open, Don
 use Rattle.lft_instances.specs.declared.origins.Next.TheVariants.{Known, Cycle, First}
 use Rattle.lft_instances.specs.Sources.{Leads, one, more, IsReached}
 use Rattle.lft_instances.specs.Marks.{IsSettled, IsNext, NoneOpen, KeepsLooked, tally, done_weight, steps_of}
-use Rattle.lft_instances.proofs.Members.{Mem, Pairs, mem_left, mem_right, mem_cases, pairs_append, get_within}
-use Rattle.std.proofs.lemmas.Bool.{cases_eq}
+use Rattle.lft_instances.proofs.Members.{Mem, Pairs, mem_left, mem_right, mem_cases, pairs_append}
 
 -- with this weight, the ports not looked at are counted
 abbrev pub new_weight : Mark → ℕ
 new_weight New = 1
 new_weight Open = 0
 new_weight (Done r) = 0
-
--- a write at a place
-pub get_written : {X : Type 0} (xs : List X) (i : ℕ) (y : X) → i < length xs → slice_get (slice_set xs i y) i ≡ Some y
-get_written [] i y l = absurd (omega arith)
-get_written (x ∷ xs) zero y l = refl
-get_written (x ∷ xs) (suc i) y l = get_written xs i y (omega arith)
-
-pub get_unwritten : {X : Type 0} (xs : List X) (i j : ℕ) (y : X) → j ≢ i → slice_get (slice_set xs i y) j ≡ slice_get xs j
-get_unwritten [] i j y n = refl
-get_unwritten (x ∷ xs) zero zero y n = absurd (n refl)
-get_unwritten (x ∷ xs) zero (suc j) y n = refl
-get_unwritten (x ∷ xs) (suc i) zero y n = refl
-get_unwritten (x ∷ xs) (suc i) (suc j) y n = get_unwritten xs i j y (λ e. n (ap suc e))
-
-pub get_write_cases : {X : Type 0} (xs : List X) (i j : ℕ) (y z : X) → i < length xs → slice_get (slice_set xs i y) j ≡ Some z → ((j ≡ i) × (y ≡ z)) ⊎ ((j ≢ i) × (slice_get xs j ≡ Some z))
-get_write_cases {X} xs i j y z l e = go (cases_eq j i)
-  where
-    go : (j ≡ i) ⊎ (j ≡ i → ⊥) → ((j ≡ i) × (y ≡ z)) ⊎ ((j ≢ i) × (slice_get xs j ≡ Some z))
-    go (inl s) = let a : slice_get (slice_set xs i y) i ≡ Some z = subst (λ k. slice_get (slice_set xs i y) k ≡ Some z) s e in let b = get_written xs i y l in let q : y ≡ z = cc in inl (s, q)
-    go (inr n) = inr (n, sym (get_unwritten xs i j y n) ∙ e)
-
-pub length_written : {X : Type 0} (xs : List X) (i : ℕ) (y : X) → length (slice_set xs i y) ≡ length xs
-length_written [] i y = refl
-length_written (x ∷ xs) zero y = refl
-length_written (x ∷ xs) (suc i) y = ap suc (length_written xs i y)
 
 pub tally_written : (f : Mark → ℕ) (xs : List Mark) (i : ℕ) (x y : Mark) → slice_get xs i ≡ Some x → tally f (slice_set xs i y) + f x ≡ tally f xs + f y
 tally_written f [] i x y e = absurd (cc)
@@ -89,7 +65,7 @@ settled_opens sources marks p s e = record {
 }
   where
     within : p < length marks
-    within = get_within marks p New e
+    within = slice_get_within marks p New e
 
     right : (q : ℕ) (r : Reached) → slice_get (slice_set marks p Open) q ≡ Some (Done r) → ((q ≡ p) × (Open ≡ Done r)) ⊎ ((q ≢ p) × (slice_get marks q ≡ Some (Done r))) → IsReached sources q r
     right q r f (inl a) = let b : Open ≡ Done r = a.1 in absurd (cc)
@@ -111,7 +87,7 @@ settling_start sources marks port same s none e = record {
 }
   where
     within : port < length marks
-    within = get_within marks port New e
+    within = slice_get_within marks port New e
 
 pub mem_last : {X : Type 0} (xs : List X) (x : X) → Mem x (xs ++ x ∷ [])
 mem_last xs x = mem_right x xs (x ∷ []) (inl refl)
@@ -141,7 +117,7 @@ settling_done sources before marks port top stack r w n = record {
     is_open = w.are_open top (mem_last stack top)
 
     within : top < length marks
-    within = get_within marks top Open is_open
+    within = slice_get_within marks top Open is_open
 
     cases : (q : ℕ) (z : Mark) → slice_get (slice_set marks top (Done r)) q ≡ Some z → ((q ≡ top) × (Done r ≡ z)) ⊎ ((q ≢ top) × (slice_get marks q ≡ Some z))
     cases q z f = get_write_cases marks top q (Done r) z within f
@@ -177,7 +153,7 @@ settling_first sources before marks port top q stack w n = record {
     is_new = n.3
 
     within : q < length marks
-    within = get_within marks q New n.3
+    within = slice_get_within marks q New n.3
 
     apart : (x : ℕ) → Mem x (stack ++ top ∷ []) → x ≢ q
     apart x m e = new_not_open (slice_get marks x) (subst (λ k. slice_get marks k ≡ Some New) (sym e) n.3) (w.are_open x m)

@@ -2,16 +2,16 @@
 use Rattle.std.proofs.Common.{◌≡◌, ◌≢◌, ℕ, zero, suc, ◌+◌, ◌<◌, ◌≤◌, ◌⊎◌, inl, inr, List, [], ◌∷◌, ◌++◌, length, refl, sym, ap, ◌∙◌, subst, arith, Option, Some, None, slice_get, slice_set, length-append, map}
 use Rattle.std.specs.Option.{option_and_then}
 use Rattle.std.proofs.lemmas.Bool.{cases_lt, cases_eq}
+use Rattle.std.proofs.lemmas.Option.{slice_get_within}
+use Rattle.lft_lists.proofs.Places.{get_there, get_written, get_unwritten, get_write_cases, length_written, get_push, get_last, get_push_cases, push_apart, same_some}
 use Rattle.lft_instances.specs.declared.walk.Contents.{Contents}
 use Rattle.lft_instances.specs.declared.walk.Instance.{Instance}
 use Rattle.lft_instances.specs.Paths.{along, Before}
 use Rattle.lft_instances.specs.Contents.{contained, IsWalk}
 use Rattle.lft_instances.specs.Children.{IsChild, AreChildren, child_of}
-use Rattle.lft_instances.proofs.Members.{get_within, get_push, get_last, get_push_cases}
 use Rattle.lft_instances.proofs.Orders.{before_itself, apart_before, apart_kids, along_at, along_kid}
-use Rattle.lft_instances.proofs.Walks.{count, has_kids, get_there}
+use Rattle.lft_instances.proofs.Walks.{count, has_kids}
 use Rattle.lft_instances.proofs.Unique.{before_both}
-use Rattle.lft_instances.proofs.Settling.{get_written, get_write_cases, length_written, get_unwritten}
 
 -- a path stands at one place
 path_once : (table : List Contents) (main : ℕ) (made : List Instance) (w : IsWalk table main made) (m n : ℕ) (p : List ℕ) → slice_get w.paths m ≡ Some p → slice_get w.paths n ≡ Some p → m ≡ n
@@ -23,10 +23,10 @@ path_once table main made w m n p a b = go (cases_lt m n) (cases_lt n m)
     go (inr l) (inr r) = omega arith
 
 path_at : (table : List Contents) (main : ℕ) (made : List Instance) (w : IsWalk table main made) (m : ℕ) (i : Instance) → slice_get made m ≡ Some i → (p : List ℕ) × (slice_get w.paths m ≡ Some p)
-path_at table main made w m i e = let l = get_within made m i e in let s = w.as_long in get_there w.paths m (omega arith)
+path_at table main made w m i e = let l = slice_get_within made m i e in let s = w.as_long in get_there w.paths m (omega arith)
 
 instance_of : (table : List Contents) (main : ℕ) (made : List Instance) (w : IsWalk table main made) (m : ℕ) (p : List ℕ) → slice_get w.paths m ≡ Some p → (i : Instance) × (slice_get made m ≡ Some i)
-instance_of table main made w m p e = let l = get_within w.paths m p e in let s = w.as_long in get_there made m (omega arith)
+instance_of table main made w m p e = let l = slice_get_within w.paths m p e in let s = w.as_long in get_there made m (omega arith)
 
 pub parent_before : (table : List Contents) (main : ℕ) (made : List Instance) → IsWalk table main made → (m : ℕ) (i : Instance) → slice_get made m ≡ Some i → 0 < m → i.parent < m
 parent_before table main made w m i e l = let p = path_at table main made w m i e in ((w.each m i p.0 e p.1).later l).1
@@ -42,21 +42,12 @@ below_of table main made w n place m c =
     let e : r.0 ++ place ∷ [] ≡ p.0 = ap (λ k. r.0 ++ k ∷ []) (sym c.4) ∙ r.3 in
     (r.0, subst (λ k. slice_get w.paths k ≡ Some r.0) c.3 r.2, p.1 ∙ ap Some (sym e))
 
-same_some : {X : Type 0} (o : Option X) (x y : X) → o ≡ Some x → o ≡ Some y → x ≡ y
-same_some o x y a b = cc
-
 pub one_child : (table : List Contents) (main : ℕ) (made : List Instance) → IsWalk table main made → (n place m k : ℕ) → IsChild made n place m → IsChild made n place k → m ≡ k
 one_child table main made w n place m k a b =
     let p = below_of table main made w n place m a in
     let q = below_of table main made w n place k b in
     let e : p.0 ≡ q.0 = same_some (slice_get w.paths n) p.0 q.0 p.1 q.1 in
     path_once table main made w m k (q.0 ++ place ∷ []) (subst (λ x. slice_get w.paths m ≡ Some (x ++ place ∷ [])) e p.2) q.2
-
-push_apart : (p q : List ℕ) (j k : ℕ) → p ++ j ∷ [] ≡ q ++ k ∷ [] → (p ≡ q) × (j ≡ k)
-push_apart [] [] j k e = (refl, (cc))
-push_apart [] (y ∷ q) j k e = absurd (let l : length (j ∷ []) ≡ length ((y ∷ q) ++ k ∷ []) = ap length e in let s = length-append q (k ∷ []) in omega arith)
-push_apart (x ∷ p) [] j k e = absurd (let l : length ((x ∷ p) ++ j ∷ []) ≡ length (k ∷ []) = ap length e in let s = length-append p (j ∷ []) in omega arith)
-push_apart (x ∷ p) (y ∷ q) j k e = let f : p ++ j ∷ [] ≡ q ++ k ∷ [] = cc in let h : x ≡ y = cc in let r = push_apart p q j k f in let t : p ≡ q = r.0 in ((cc), r.1)
 
 child_at : (table : List Contents) (main : ℕ) (made : List Instance) (w : IsWalk table main made) (n place m : ℕ) → Below w.paths n place m → IsChild made n place m
 child_at table main made w n place m b = go (cases_lt 0 m)
@@ -144,7 +135,7 @@ filled_more table main made w rows number i row f e pos r = record {
     earlier = parent_before table main made w number i e pos
 
     room : i.parent < length (rows ++ [] ∷ [])
-    room = get_within (rows ++ [] ∷ []) i.parent row r
+    room = slice_get_within (rows ++ [] ∷ []) i.parent row r
 
     here : slice_get rows i.parent ≡ Some row
     here = elim (get_push_cases rows [] i.parent row r) [ inl a ↦ a | inr a ↦ absurd (let s = f.as_long in let q : i.parent ≡ length rows = a.0 in omega (arith, earlier)) ]
@@ -156,7 +147,7 @@ filled_more table main made w rows number i row f e pos r = record {
     below l =
         let s = earlier_child table main made w i.parent i.place number (length row) it l in
         let g : slice_get row (length row) ≡ Some s.0 = sym (child_row rows i.parent (length row) row here) ∙ f.all i.parent (length row) s.0 s.2 s.1 in
-        let k = get_within row (length row) s.0 g in
+        let k = slice_get_within row (length row) s.0 g in
         omega arith
 
     above : i.place < length row → ⊥
@@ -209,23 +200,9 @@ filled_more table main made w rows number i row f e pos r = record {
         subst (λ x. child_of New x place ≡ Some m) (sym (ap (λ x. x.parent) t) ∙ c.3) (at_last place m (sym c.4 ∙ ap (λ x. x.place) t) s)
 
 pub filled_end : (made : List Instance) (rows : List (List ℕ)) (number : ℕ) → Filled made rows number → length made ≤ number → AreChildren made rows
-filled_end made rows number f l n place m = ((λ e. (f.each n place m e).0), (λ c. f.all n place m c (let k = get_within made m c.0 c.1 in omega arith)))
-
--- rows as the code has them
-pub map_push : {X Y : Type 0} (f : X → Y) (xs : List X) (y : X) → map f (xs ++ y ∷ []) ≡ map f xs ++ f y ∷ []
-map_push f [] y = refl
-map_push f (x ∷ xs) y = ap (λ l. f x ∷ l) (map_push f xs y)
+filled_end made rows number f l n place m = ((λ e. (f.each n place m e).0), (λ c. f.all n place m c (let k = slice_get_within made m c.0 c.1 in omega arith)))
 
 pub map_set : {X Y : Type 0} (f : X → Y) (xs : List X) (i : ℕ) (y : X) → map f (slice_set xs i y) ≡ slice_set (map f xs) i (f y)
 map_set f [] i y = refl
 map_set f (x ∷ xs) zero y = refl
 map_set f (x ∷ xs) (suc i) y = ap (λ l. f x ∷ l) (map_set f xs i y)
-
-pub map_get : {X Y : Type 0} (f : X → Y) (xs : List X) (i : ℕ) (x : X) → slice_get xs i ≡ Some x → slice_get (map f xs) i ≡ Some (f x)
-map_get f [] i x e = absurd (cc)
-map_get f (z ∷ xs) zero x e = let q : z ≡ x = cc in ap (λ w. Some (f w)) q
-map_get f (z ∷ xs) (suc i) x e = map_get f xs i x e
-
-pub length_map : {X Y : Type 0} (f : X → Y) (xs : List X) → length (map f xs) ≡ length xs
-length_map f [] = refl
-length_map f (x ∷ xs) = ap suc (length_map f xs)

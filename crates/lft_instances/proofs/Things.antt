@@ -1,14 +1,15 @@
 -- The things of instances, counted and listed.
 use Rattle.std.proofs.Common.{◌≡◌, ℕ, zero, suc, ◌+◌, ◌<◌, ◌≤◌, ◌⊎◌, inl, inr, List, [], ◌∷◌, ◌++◌, length, refl, sym, ap, ◌∙◌, subst, arith, Some, slice_get, take, length-append, add-one}
 use Rattle.std.proofs.lemmas.Bool.{cases_lt}
+use Rattle.std.proofs.lemmas.Option.{slice_get_within}
+use Rattle.lft_lists.proofs.Places.{get_there, get_push_cases}
 use Rattle.lft_instances.specs.declared.walk.Contents.{Contents}
 use Rattle.lft_instances.specs.declared.walk.Instance.{Instance}
 use Rattle.lft_instances.specs.Paths.{Before, IsMoreThan}
 use Rattle.lft_instances.specs.Contents.{IsWalk}
 use Rattle.lft_instances.specs.Numbers.{count_of, things, AreFirst, IsThing}
-use Rattle.lft_instances.proofs.Members.{Mem, Pairs, mem_get, get_mem, mem_left, mem_right, mem_cases, pairs_append, pairs_at, get_push_cases, get_within}
+use Rattle.lft_instances.proofs.Members.{Mem, Pairs, mem_get, get_mem, mem_left, mem_right, mem_cases, pairs_append, pairs_at}
 use Rattle.lft_instances.proofs.Orders.{before_itself}
-use Rattle.lft_instances.proofs.Walks.{get_there}
 use Rattle.lft_instances.proofs.Limits.{no_longer}
 use Rattle.lft_instances.proofs.Unique.{pairs_from}
 
@@ -153,7 +154,7 @@ walk_not_more_things counts table main instances limit w l m =
         let at = w.in_order.all x.0 (t.0, t.1) in
         let there = get_mem x.0 w.paths (mem_get w.paths at.0 x.0 at.1) in
         let b = w.as_long in
-        let i = get_there instances at.0 (let l : at.0 < length w.paths = get_within w.paths at.0 x.0 at.1 in omega arith) in
+        let i = get_there instances at.0 (let l : at.0 < length w.paths = slice_get_within w.paths at.0 x.0 at.1 in omega arith) in
         let e = (w.each at.0 i.0 x.0 i.1 at.1).leads in
         let q : t.0 ≡ i.0.reactor = (let f = t.1 in cc) in
         listed_mem counts instances w.paths at.0 i.0 x.0 x.1 i.1 at.1 (subst (λ r. x.1 < count_of counts r) q t.2)

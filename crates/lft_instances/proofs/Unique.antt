@@ -1,9 +1,8 @@
--- A list in pre-order is determined by what exists; and a shift of nothing is a chain without delays.
-use Rattle.std.proofs.Common.{◌≡◌, ℕ, zero, suc, ◌+◌, ◌<◌, ◌⊎◌, inl, inr, List, [], ◌∷◌, refl, sym, ap, ◌∙◌, subst, arith, Option, Some, slice_get}
+-- A list in pre-order is determined by what exists.
+use Rattle.std.proofs.Common.{◌≡◌, ℕ, suc, ◌<◌, ◌⊎◌, inl, inr, List, [], ◌∷◌, refl, sym, ◌∙◌, subst, arith, Option, Some, slice_get}
 use Rattle.lft_instances.specs.Paths.{Before, IsPreOrder}
 use Rattle.lft_instances.proofs.Members.{Mem, Pairs, mem_get, get_mem}
 use Rattle.lft_instances.proofs.Orders.{before_itself}
-use Rattle.lft_tag.specs.Shifts.{join, join_all, none, Folded}
 
 pub before_both : (p q : List ℕ) → Before p q → Before q p → ⊥
 before_both p [] a b = a
@@ -46,19 +45,3 @@ pre_order_unique step root ps qs v w =
   where
     over : (xs ys : List (List ℕ)) → IsPreOrder step root xs → IsPreOrder step root ys → (p : List ℕ) → Mem p xs → Mem p ys
     over xs ys a b p m = let g = get_mem p xs m in let h = b.all p (a.each g.0 p g.1) in mem_get ys h.0 p h.1
-
--- a chain is undelayed exactly where its shift is nothing
-Moves : Folded → Type 0
-Moves s = 0 < s.0 + s.1
-
-still_moves : (s : Folded) (d : ℕ) → 0 < (join s d).0 + (join s d).1
-still_moves s zero = omega arith
-still_moves s (suc d) = omega arith
-
-moves_on : (s : Folded) (ds : List ℕ) → 0 < s.0 + s.1 → 0 < (join_all s ds).0 + (join_all s ds).1
-moves_on s [] l = l
-moves_on s (d ∷ ds) l = moves_on (join s d) ds (still_moves s d)
-
-pub undelayed : (ds : List ℕ) → join_all none ds ≡ none → ds ≡ []
-undelayed [] e = refl
-undelayed (d ∷ ds) e = let l = moves_on (join none d) ds (still_moves none d) in let a : (join_all (join none d) ds).0 ≡ 0 = ap (λ s. s.0) e in let b : (join_all (join none d) ds).1 ≡ 0 = ap (λ s. s.1) e in absurd (omega arith)

@@ -1,13 +1,15 @@
 -- What the walk keeps: the stack against the paths yet to come.
-use Rattle.std.proofs.Common.{◌≡◌, ℕ, zero, suc, ◌+◌, ◌-◌, ◌<◌, ◌≤◌, ◌⊎◌, inl, inr, List, [], ◌∷◌, ◌++◌, length, refl, sym, ap, ◌∙◌, subst, arith, Option, Some, None, slice_get, append_assoc, length-append, add-one}
+use Rattle.std.proofs.Common.{◌≡◌, ℕ, zero, suc, ◌+◌, ◌-◌, ◌<◌, ◌≤◌, ◌⊎◌, inl, inr, List, [], ◌∷◌, ◌++◌, length, refl, sym, ap, ◌∙◌, subst, arith, Option, Some, None, slice_get, append_assoc, length-append, add-one, append-nil}
 use Rattle.std.specs.Option.{option_and_then}
 use Rattle.std.proofs.lemmas.Bool.{cases_lt}
+use Rattle.std.proofs.lemmas.Option.{slice_get_within}
+use Rattle.lft_lists.proofs.Places.{get_there, get_push, get_last, get_push_cases}
 use Rattle.lft_instances.specs.declared.walk.Contents.{Contents}
 use Rattle.lft_instances.specs.declared.walk.Instance.{Instance}
 use Rattle.lft_instances.specs.declared.walk.Frame.{Frame}
 use Rattle.lft_instances.specs.Paths.{along, Before, Exists, IsMoreThan}
 use Rattle.lft_instances.specs.Contents.{contained, IsAt, IsWalk}
-use Rattle.lft_instances.proofs.Members.{Mem, mem_get, mem_left, mem_right, mem_cases, pairs_at, get_within, get_push, get_last, get_push_cases}
+use Rattle.lft_instances.proofs.Members.{Mem, mem_get, mem_left, mem_right, mem_cases, pairs_at}
 use Rattle.lft_instances.proofs.Orders.{Halfway, HasKids, kids, halfway_start, halfway_turn, halfway_end, before_itself, along_kid}
 
 -- how many instances a reactor has
@@ -17,11 +19,6 @@ count_of (Some s) = length s.instances.items
 
 abbrev pub count : List Contents → ℕ → ℕ
 count table r = count_of (slice_get table r)
-
-pub get_there : {X : Type 0} (xs : List X) (k : ℕ) → k < length xs → (x : X) × (slice_get xs k ≡ Some x)
-get_there [] k l = absurd (omega arith)
-get_there (y ∷ ys) zero l = (y, refl)
-get_there (y ∷ ys) (suc k) l = get_there ys k (omega arith)
 
 pub has_kids : (table : List Contents) (r : ℕ) → HasKids (contained table) r (count table r)
 has_kids table r = go (slice_get table r) refl
@@ -33,7 +30,7 @@ has_kids table r = go (slice_get table r) refl
     }
     go (Some s) e = record {
       there = λ k l. let f : count table r ≡ length s.instances.items = ap count_of e in let y = get_there s.instances.items k (omega arith) in (y.0, ap (option_and_then (λ s. slice_get s.instances.items k)) e ∙ y.1);
-      within = λ k y f. let g : count table r ≡ length s.instances.items = ap count_of e in let h : slice_get s.instances.items k ≡ Some y = sym (ap (option_and_then (λ s. slice_get s.instances.items k)) e) ∙ f in let l = get_within s.instances.items k y h in omega arith;
+      within = λ k y f. let g : count table r ≡ length s.instances.items = ap count_of e in let h : slice_get s.instances.items k ≡ Some y = sym (ap (option_and_then (λ s. slice_get s.instances.items k)) e) ∙ f in let l = slice_get_within s.instances.items k y h in omega arith;
     }
 
 abbrev pub path_of : Option (List ℕ) → List ℕ
@@ -62,12 +59,8 @@ pub record Walking (table : List Contents) (main : ℕ) (made : List Instance) (
 sub-zero : (n : ℕ) → n - 0 ≡ n
 sub-zero n = omega arith
 
-append_nil : {X : Type 0} (xs : List X) → xs ++ [] ≡ xs
-append_nil [] = refl
-append_nil (y ∷ ys) = ap (λ l. y ∷ l) (append_nil ys)
-
 pub pending_push : (table : List Contents) (paths : List (List ℕ)) (fs : List Frame) (f : Frame) → pending table paths (fs ++ f ∷ []) ≡ rest_of table paths f ++ pending table paths fs
-pending_push table paths [] f = sym (append_nil (rest_of table paths f))
+pending_push table paths [] f = sym (append-nil (rest_of table paths f))
 pending_push table paths (g ∷ fs) f = ap (λ l. l ++ rest_of table paths g) (pending_push table paths fs f) ∙ append_assoc (rest_of table paths f) (pending table paths fs) (rest_of table paths g)
 
 -- a path more changes nothing for the instances on the stack
@@ -92,7 +85,7 @@ walking_start table main = record {
   as_long = refl;
   each = λ n m p a b. at n m p a b;
   are_open = λ f m. elim m [ inl e ↦ ([], ap (λ g. slice_get ([] ∷ []) g.number) (sym e), ap (λ g. Some g.reactor) e) | inr z ↦ absurd z ];
-  halfway = subst (λ l. Halfway (contained table) main ([] ∷ []) l) (append_nil (kids [] 0 (count table main)) ∙ ap (kids [] 0) (sym (sub-zero (count table main)))) (halfway_turn (contained table) main main [] [] [] (count table main) (halfway_start (contained table) main) refl (has_kids table main));
+  halfway = subst (λ l. Halfway (contained table) main ([] ∷ []) l) (append-nil (kids [] 0 (count table main)) ∙ ap (kids [] 0) (sym (sub-zero (count table main)))) (halfway_turn (contained table) main main [] [] [] (count table main) (halfway_start (contained table) main) refl (has_kids table main));
 }
   where
     at : (n : ℕ) (m : Instance) (p : List ℕ) → slice_get (root_instance main ∷ []) n ≡ Some m → slice_get ([] ∷ []) n ≡ Some p → IsAt table main ([] ∷ []) n m p
@@ -192,14 +185,14 @@ walking_make table main made fs f again inner m w e parent place again_is inner_
     new : IsAt table main paths2 (length made) m q
     new = record {
       leads = leads_q;
-      first = λ z. let l = get_within w.paths f.number p open_f.1 in let s = w.as_long in absurd (omega arith);
-      later = λ l. (p, (let a = get_within w.paths f.number p open_f.1 in let s = w.as_long in omega arith), subst (λ k. slice_get paths2 k ≡ Some p) (sym parent) number_p, ap (λ k. p ++ k ∷ []) place);
+      first = λ z. let l = slice_get_within w.paths f.number p open_f.1 in let s = w.as_long in absurd (omega arith);
+      later = λ l. (p, (let a = slice_get_within w.paths f.number p open_f.1 in let s = w.as_long in omega arith), subst (λ k. slice_get paths2 k ≡ Some p) (sym parent) number_p, ap (λ k. p ++ k ∷ []) place);
     }
 
     at : (k : ℕ) (x : Instance) (y : List ℕ) → (slice_get made k ≡ Some x) ⊎ ((k ≡ length made) × (m ≡ x)) → (slice_get w.paths k ≡ Some y) ⊎ ((k ≡ length w.paths) × (q ≡ y)) → IsAt table main paths2 k x y
     at k x y (inl a) (inl b) = wider k x y (w.each k x y a b)
-    at k x y (inl a) (inr b) = let l = get_within made k x a in let s = w.as_long in let z = b.0 in absurd (omega arith)
-    at k x y (inr a) (inl b) = let l = get_within w.paths k y b in let s = w.as_long in let z = a.0 in absurd (omega arith)
+    at k x y (inl a) (inr b) = let l = slice_get_within made k x a in let s = w.as_long in let z = b.0 in absurd (omega arith)
+    at k x y (inr a) (inl b) = let l = slice_get_within w.paths k y b in let s = w.as_long in let z = a.0 in absurd (omega arith)
     at k x y (inr a) (inr b) = subst (λ v. IsAt table main paths2 k x v) b.1 (subst (λ u. IsAt table main paths2 k u q) a.1 (subst (λ j. IsAt table main paths2 j m q) (sym a.0) new))
 
 pub walking_end : (table : List Contents) (main : ℕ) (made : List Instance) → Walking table main made [] → IsWalk table main made

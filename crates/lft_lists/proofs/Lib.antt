@@ -1,1 +1,3 @@
 pub mod Picked
+pub mod Places
+pub mod Mapped

@@ -69,25 +69,22 @@ program_none tree e h t parts x = first_holds (causes tree) (program_number e) (
     untold s = cc s
 
 -- a table's fault that tells something of the texts is told of them
-told : (e : TraceFault) → is_of_text part.Trace (table_number e) ≡ true → is_told e ≡ true
-told table.BadHeader t = refl
-told (table.BadFieldCount line) t = refl
-told (table.BadEvent line) t = refl
-told (table.BadNumber line) t = refl
-told (table.UnknownName line) t = refl
-told (table.FieldInPlace line) t = refl
-told (table.DuplicateExternal line) t = refl
-told table.NoStop t = refl
-told (table.TwoStops line) t = refl
-told table.TooManyRows t = refl
-told table.NotCsv t = absurd (cc t)
-told table.NoMemory t = absurd (cc t)
-
 pub trace_told : (e : TraceFault) → is_of_text part.Trace (table_number e) ≡ true → is_told e ≡ true
-trace_told e t = told e t
+trace_told table.BadHeader t = refl
+trace_told (table.BadFieldCount line) t = refl
+trace_told (table.BadEvent line) t = refl
+trace_told (table.BadNumber line) t = refl
+trace_told (table.UnknownName line) t = refl
+trace_told (table.FieldInPlace line) t = refl
+trace_told (table.DuplicateExternal line) t = refl
+trace_told table.NoStop t = refl
+trace_told (table.TwoStops line) t = refl
+trace_told table.TooManyRows t = refl
+trace_told table.NotCsv t = absurd (cc t)
+trace_told table.NoMemory t = absurd (cc t)
 
 pub externals_told : (e : TraceFault) → is_of_text part.Externals (table_number e) ≡ true → is_told e ≡ true
-externals_told e t = told e t
+externals_told e t = trace_told e t
 
 plan_of : (p q : Parts) (x y : ExternalInputs) → p ≡ q → x ≡ y → (let a : PlanParts = record { program = p; externals = x } in let b : PlanParts = record { program = q; externals = y } in a ≡ b)
 plan_of p q x y e f = cc

@@ -2,6 +2,7 @@
 use Rattle.std.proofs.Common.{◌≡◌, ℕ, zero, suc, ◌+◌, ◌<◌, ◌≤◌, ◌⊎◌, inl, inr, List, [], ◌∷◌, length, map, refl, sym, ap, ◌∙◌, subst, arith, Option, Some, None, slice_get, filter_map, Contains}
 use Rattle.std.specs.List.{last_or, AllZip}
 use native.Mathlib.Decide.{ℕ_discrete, dec_lt}
+use Rattle.lft_flat.proofs.Origins.{origin_unique}
 use Rattle.lft_tag.specs.declared.Tag.{Tag}
 use Rattle.lft_tag.specs.Tags.{Before, UpTo, after, after_all}
 use Rattle.lft_tag.proofs.Order.{order_cases, UpTo-refl, UpTo-trans, UpTo_antisym, Before-UpTo, Before-weaken, UpTo-not, after_past, after_some_past}
@@ -31,7 +32,7 @@ use Rattle.lft_model.proofs.Ended.{scheduled_by, by_scheduled, Schedules}
 use Rattle.lft_model.proofs.Legality.{KeepsFour, four, ordered, ran_at, Inside, one_start, one_end, in_order_of_precedence, ran_in_time, no_collision}
 use Rattle.lft_model.proofs.Kept.{effect_of, before_direct, write_row, WriteRow, writer_effect, writer_inside, own_last, others_before}
 use Rattle.lft_model.proofs.Reached.{declared_schedule, input_of_trigger}
-use Rattle.lft_model.proofs.Decided.{origin_unique, dec_ran}
+use Rattle.lft_model.proofs.Decided.{dec_ran}
 use Rattle.lft_model.proofs.Law.{runs_if_triggered, triggered_if_ran, reads_inputs}
 
 map_same : {X Y : Type 0} (f h : X → Y) (xs : List X) (x : X) → map f xs ≡ map h xs → Mem x xs → f x ≡ h x

@@ -14,7 +14,7 @@ use Rattle.lft_trace.specs.declared.row.Step.TheVariants.{Start, Read, Write, Sc
 use Rattle.lft_model.specs.Plans.{PlanParts, IsSoundPlan}
 use Rattle.lft_model.specs.Presence.{Inputs, requests, stop}
 use Rattle.lft_model.specs.Runs.{Run, start_row, end_row, value_read, read_of, step_of, steps_of, inputs_of, reads_at, run_at, ended_by, by_ends}
-use Rattle.lft_model.specs.Breaches.{IsOpen, IsOutOfOrder, MayWrite, MaySchedule, IsUndeclared, BreaksRow}
+use Rattle.lft_model.specs.Breaches.{IsOpen, IsOutOfOrder, IsUndeclared, BreaksRow}
 use Rattle.lft_model.specs.OneWorker.{Ready, Next, Path, NoClash, rows}
 use Rattle.lft_model.specs.Recorded.{SoFar, MayAnswer, run_row, committed_rows}
 use Rattle.lft_model.proofs.Places.{slice_get_within}

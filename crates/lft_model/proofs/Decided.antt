@@ -1,9 +1,10 @@
 -- What is present at a tag can be decided, and so can what is triggered and read there.
-use Rattle.std.proofs.Common.{◌≡◌, ℕ, suc, ◌+◌, ◌*◌, ◌<◌, ◌≤◌, inl, inr, List, [], ◌∷◌, ◌++◌, length, refl, sym, ap, ◌∙◌, subst, arith, Option, Some, None, slice_get, filter_map, option_to_list}
+use Rattle.std.proofs.Common.{◌≡◌, ℕ, suc, ◌+◌, ◌*◌, ◌<◌, ◌≤◌, inl, inr, List, [], ◌∷◌, length, refl, sym, ap, ◌∙◌, subst, arith, Option, Some, None, slice_get, filter_map}
 use Rattle.std.specs.List.{last_or, AllZip}
 use Rattle.std.proofs.Math.Nat.{mul-le-mul_left}
 use Rattle.std.proofs.Math.IntN.{ℤ_discrete}
 use native.Mathlib.Decide.{ℕ_discrete}
+use Rattle.lft_flat.proofs.Origins.{origin_unique}
 use Rattle.lft_tag.specs.declared.Tag.{Tag}
 use Rattle.lft_tag.specs.Tags.{after_all}
 use Rattle.lft_flat.specs.Parts.{Parts, inputs}
@@ -11,7 +12,6 @@ use Rattle.lft_flat.specs.Sound.{IsSound}
 use Rattle.lft_flat.specs.Origins.{Origin}
 use Rattle.lft_flat.specs.Origins.Origin.{itself, over}
 use Rattle.lft_flat.specs.declared.parts.Port.{Port as PortOf}
-use Rattle.lft_flat.specs.declared.parts.Source.{Source}
 use Rattle.lft_flat.specs.declared.parts.Timer.{Timer as TimerOf}
 use Rattle.lft_flat.specs.declared.parts.Reaction.{Reaction}
 use Rattle.lft_flat.specs.declared.parts.Value.{Value}
@@ -73,22 +73,6 @@ dec_ran t g r = dec_map to from (dec_some t (λ x. x ≡ start_row x.worker g r)
 
     from : Ran t g r → (i : ℕ) × (x : Row) × (slice_get t i ≡ Some x) × (x ≡ start_row x.worker g r)
     from o = (o.place, start_row o.worker g r, o.starts, refl)
-
--- a port has one origin and one list of delays
-pub origin_unique : {program : Parts} {p o q : ℕ} {ds es : List ℕ} → Origin program p o ds → Origin program p q es → (o ≡ q) × (ds ≡ es)
-origin_unique (itself x e n) (itself y f m) = (refl, refl)
-origin_unique (itself x e n) (over y s first f m way l) = let a : Some x ≡ Some y = sym e ∙ f in let b : x ≡ y = cc in let c : None ≡ Some s = sym n ∙ ap (λ z. z.source) b ∙ m in absurd (cc)
-origin_unique (over y s first f m way l) (itself x e n) = let a : Some x ≡ Some y = sym e ∙ f in let b : x ≡ y = cc in let c : None ≡ Some s = sym n ∙ ap (λ z. z.source) b ∙ m in absurd (cc)
-origin_unique {program} (over x s first e n way l) (over y u second f m road k) =
-    let a : Some x ≡ Some y = sym e ∙ f in
-    let b : x ≡ y = cc in
-    let c : Some s ≡ Some u = sym n ∙ ap (λ z. z.source) b ∙ m in
-    let d : s ≡ u = cc in
-    let rest = origin_unique way (same d road) in
-    (rest.0, l ∙ ap (λ z. z ++ option_to_list s.delay) rest.1 ∙ ap (λ (z : Source). second ++ option_to_list z.delay) d ∙ sym k)
-  where
-    same : {s u : Source} {q : ℕ} {es : List ℕ} → s ≡ u → Origin program u.port q es → Origin program s.port q es
-    same {s} {u} {q} {es} d road = subst (λ (z : Source). Origin program z.port q es) (sym d) road
 
 no_origin : {program : Parts} {p o : ℕ} {ds : List ℕ} → slice_get program.ports p ≡ None → Origin program p o ds → ⊥
 no_origin e (itself x f n) = cc

@@ -1,6 +1,7 @@
 -- A recording whose runs have all ended, after which nothing is pending, is legal.
 use Rattle.std.proofs.Common.{◌≡◌, ℕ, ◌+◌, ◌<◌, ◌≤◌, ◌⊎◌, inl, inr, List, [], ◌∷◌, ◌++◌, length, length-append, refl, sym, ap, ◌∙◌, subst, arith, Option, Some, None, slice_get, filter_map, Bool, true, false, cond, ◌==◌, eqb-true}
 use Rattle.std.specs.List.{AllZip}
+use Rattle.lft_flat.proofs.Origins.{origin_unique}
 use Rattle.lft_tag.specs.declared.Tag.{Tag}
 use Rattle.lft_tag.specs.Tags.{UpTo, same_tag}
 use Rattle.lft_flat.specs.Parts.{inputs}
@@ -27,7 +28,6 @@ use Rattle.lft_model.proofs.Ended.{ended_before, all_ended, ended_some, row_own,
 use Rattle.lft_model.proofs.Kept.{dec_mem, writer_inside, last_kept}
 use Rattle.lft_model.proofs.Reached.{declared_schedule, all_stop}
 use Rattle.lft_model.proofs.Counted.{only, of_run, count, end_key, run_cover, rows_cover}
-use Rattle.lft_model.proofs.Decided.{origin_unique}
 use Rattle.lft_model.proofs.Law.{end_of_run, run_of_end}
 use Rattle.lft_model.proofs.Paths.{triggered_kept, inputs_kept}
 use Rattle.lft_model.proofs.Recording.{recorded_in_order}

@@ -3,6 +3,7 @@ use Rattle.std.proofs.Common.{◌≡◌, ℕ, ◌+◌, ◌<◌, List, length, ta
 use Rattle.std.specs.List.{last_or}
 use Rattle.std.proofs.lemmas.List.{take_all}
 use native.Mathlib.Decide.{ℕ_discrete}
+use Rattle.lft_flat.proofs.Origins.{origin_unique}
 use Rattle.lft_tag.specs.declared.Tag.{Tag}
 use Rattle.lft_tag.specs.Tags.{after_all, same_tag}
 use Rattle.lft_tag.specs.Shifts.{shifted}
@@ -20,7 +21,6 @@ use Rattle.lft_model.proofs.Places.{slice_get_within}
 use Rattle.lft_model.proofs.Counted.{get_or_get}
 use Rattle.lft_model.proofs.Ended.{written_by, by_written}
 use Rattle.lft_model.proofs.Steps.{same_tag_true, same_tag_refl}
-use Rattle.lft_model.proofs.Decided.{origin_unique}
 
 -- the value that a row gives the port at tag g
 abbrev pub arriving : Tag → PortOf → Row → Option Value

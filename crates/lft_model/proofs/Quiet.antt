@@ -11,13 +11,12 @@ use Rattle.lft_trace.specs.declared.row.Step.{Step}
 use Rattle.lft_trace.specs.declared.row.Step.TheVariants.{Start, Read, Write, Schedule, Stop, End}
 use Rattle.lft_model.specs.Plans.{PlanParts, IsSoundPlan}
 use Rattle.lft_model.specs.Presence.{stop, Triggered, Shows, Inputs, Collision}
-use Rattle.lft_model.specs.Runs.{Run, end_row, by_ends, rows_of}
+use Rattle.lft_model.specs.Runs.{Run, by_ends, rows_of}
 use Rattle.lft_model.specs.OneWorker.{HasRun, IsPending, rows}
 use Rattle.lft_model.specs.Recorded.{SoFar, IsAnswer, OnlyEndedAnswer}
-use Rattle.lft_model.proofs.Places.{slice_get_within}
 use Rattle.lft_model.proofs.Legality.{IsInner, IsOrdered, Inside, opened}
 use Rattle.lft_model.proofs.Ended.{ended_before, all_ended}
-use Rattle.lft_model.proofs.Law.{EndRow, end_of_run, run_of_end, collision_down}
+use Rattle.lft_model.proofs.Law.{EndRow, end_of_run, run_of_end}
 use Rattle.lft_model.proofs.Reached.{all_stop}
 use Rattle.lft_model.proofs.Recording.{recorded_in_order}
 use Rattle.lft_model.proofs.Finished.{at_own, own_at, triggered_own, own_triggered, own_inputs, collision_own}

@@ -15,7 +15,7 @@ use Rattle.lft_flat.specs.declared.parts.Trigger.{Trigger}
 use Rattle.lft_flat.specs.declared.parts.Trigger.TheVariants.{Startup, Shutdown, Timer, On}
 use Rattle.lft_trace.specs.declared.row.Row.{Row}
 use Rattle.lft_trace.specs.declared.row.Step.{Step}
-use Rattle.lft_trace.specs.declared.row.Step.TheVariants.{Schedule, Stop, End}
+use Rattle.lft_trace.specs.declared.row.Step.TheVariants.{Schedule, Stop}
 use Rattle.lft_model.specs.Plans.{PlanParts, IsSoundPlan}
 use Rattle.lft_graph.specs.Precedence.{Precedes}
 use Rattle.lft_graph.specs.Precedence.Precedes.{one}

@@ -1,15 +1,14 @@
 -- What holds of each reactor of a tree of which no cause holds that is looked for in each alone.
 use Rattle.std.proofs.Common.{◌≡◌, ◌≢◌, ℕ, ◌+◌, ◌<◌, ◌≤◌, ◌⊎◌, inl, inr, List, ◌++◌, length, sym, ap, ◌∙◌, arith, Some, slice_get, map}
 use Rattle.std.proofs.lemmas.Bool.{cases_lt, cases_eq}
+use Rattle.lft_scope.proofs.Effects.{no_duplicate}
+use Rattle.lft_lists.proofs.Mapped.{mapped}
+use Rattle.lft_lists.proofs.Places.{get_right, get_left}
 use Rattle.lft_tree.specs.Tree.{FileTree, ReactorTree, PortTree, TimerTree, ActionTree, ConnectionTree, reactors_of, connections_of, ports_of, timers_of, actions_of, instances_of}
-use Rattle.lft_scope.specs.Causes.{IsTwice, NoneHolds, DuplicateName, DeclaresTwice, UnknownName, WrongPlace, TwoSources, WritesTwice, WidthMismatch, DiffersInWidth, first_causes, later_causes}
+use Rattle.lft_scope.specs.Causes.{IsTwice, NoneHolds, DuplicateName, DeclaresTwice, UnknownName, WrongPlace, TwoSources, WritesTwice, WidthMismatch, DiffersInWidth, later_causes}
 use Rattle.lft_scope.specs.Kinds.{names_in, destinations_in}
 use Rattle.lft_scope.proofs.Twice.{Any-at}
 use Rattle.lft_nesting.specs.Tables.{IsLawful}
-use Rattle.lft_nesting.proofs.Counting.{get_right, get_left, map_at}
-
-first_parts : (rs : List ReactorTree) → NoneHolds (first_causes rs) → DuplicateName rs → ⊥
-first_parts rs n = n.1.1.0
 
 pub later_parts : (rs : List ReactorTree) → NoneHolds (later_causes rs) → (UnknownName rs → ⊥) × (WrongPlace rs → ⊥) × (TwoSources rs → ⊥) × (WidthMismatch rs → ⊥)
 later_parts rs n = (n.0, n.1.0, n.1.1.1.0, n.1.1.1.1.0)
@@ -29,7 +28,7 @@ once_among name xs all n once stands i j x y a b same = by (cases_lt i j) (cases
 module _ (tree : FileTree) (lawful : IsLawful tree) (k : ℕ) (r : ReactorTree) (at : slice_get (reactors_of tree) k ≡ Some r) where
   names_once : IsTwice (names_in r) → ⊥
   unfolding DuplicateName
-  names_once two = first_parts (reactors_of tree) lawful.first (inr (Any-at DeclaresTwice (reactors_of tree) k r at (inl two)))
+  names_once two = no_duplicate (reactors_of tree) lawful.first (inr (Any-at DeclaresTwice (reactors_of tree) k r at (inl two)))
 
   abbrev parameters : List (List ℕ)
   parameters = map (λ x. x.name) r.parameters
@@ -52,18 +51,18 @@ module _ (tree : FileTree) (lawful : IsLawful tree) (k : ℕ) (r : ReactorTree) 
       get_left (parameters ++ ports ++ timers ++ actions) instances (length parameters + m) z.name
       (get_left (parameters ++ ports ++ timers) actions (length parameters + m) z.name
       (get_left (parameters ++ ports) timers (length parameters + m) z.name
-      (get_right parameters ports m ∙ map_at (λ x. x.name) (ports_of r) m z e))))
+      (get_right parameters ports m ∙ mapped (λ x. x.name) (ports_of r) m z e))))
 
   pub timers_once : (i j : ℕ) (x y : TimerTree) → slice_get (timers_of r) i ≡ Some x → slice_get (timers_of r) j ≡ Some y → x.name ≡ y.name → i ≡ j
   timers_once = once_among (λ x. x.name) (timers_of r) (names_in r) (length (parameters ++ ports)) names_once (λ m z e.
       get_left (parameters ++ ports ++ timers ++ actions) instances (length (parameters ++ ports) + m) z.name
       (get_left (parameters ++ ports ++ timers) actions (length (parameters ++ ports) + m) z.name
-      (get_right (parameters ++ ports) timers m ∙ map_at (λ x. x.name) (timers_of r) m z e)))
+      (get_right (parameters ++ ports) timers m ∙ mapped (λ x. x.name) (timers_of r) m z e)))
 
   pub actions_once : (i j : ℕ) (x y : ActionTree) → slice_get (actions_of r) i ≡ Some x → slice_get (actions_of r) j ≡ Some y → x.name ≡ y.name → i ≡ j
   actions_once = once_among (λ x. x.name) (actions_of r) (names_in r) (length (parameters ++ ports ++ timers)) names_once (λ m z e.
       get_left (parameters ++ ports ++ timers ++ actions) instances (length (parameters ++ ports ++ timers) + m) z.name
-      (get_right (parameters ++ ports ++ timers) actions m ∙ map_at (λ x. x.name) (actions_of r) m z e))
+      (get_right (parameters ++ ports ++ timers) actions m ∙ mapped (λ x. x.name) (actions_of r) m z e))
 
   -- the two lists of a connection are as long as each other
   pub even : (c : ℕ) (con : ConnectionTree) → slice_get (connections_of r) c ≡ Some con → length con.sources ≡ length con.destinations

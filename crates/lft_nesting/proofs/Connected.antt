@@ -1,5 +1,7 @@
 -- The sources by number are the connections of the tree.
 use Rattle.std.proofs.Common.{◌≡◌, ℕ, ◌+◌, List, [], refl, sym, ap, ◌∙◌, subst, Option, Some, option_map, slice_get, length, unwrap_or, Any}
+use Rattle.std.proofs.lemmas.List.{length-map}
+use Rattle.lft_lists.proofs.Mapped.{mapped}
 use Rattle.lft_tree.specs.Tree.{FileTree, TimeTree, ConnectionTree, RefTree, reactors_of, ports_of, connections_of}
 use Rattle.lft_instances.specs.declared.origins.Source.{Source}
 use Rattle.lft_instances.specs.declared.joins.Join.{Join}
@@ -16,7 +18,7 @@ use Rattle.lft_nesting.specs.Tables.{AreTables, IsLawful}
 use Rattle.lft_nesting.specs.declared.nest.Nest.{Nest}
 use Rattle.lft_nesting.specs.declared.tables.Tables.{Tables}
 use Rattle.lft_nesting.proofs.Checked.{ports_once}
-use Rattle.lft_nesting.proofs.Counting.{base, map_at, length_map}
+use Rattle.lft_nesting.proofs.Counting.{base}
 use Rattle.lft_nesting.proofs.Delays.{delay_is, long_delay}
 use Rattle.lft_nesting.proofs.Ends.{Standing, standing, place_at}
 use Rattle.lft_nesting.proofs.Joints.{Joint, joint, has_join, join_ports, lead_apart}
@@ -41,7 +43,7 @@ module _ (tree : FileTree) (tables : Tables) (nest : Nest) (made : AreTables tre
   delays short k l e number c f s same join is = sym (ap (λ v. option_map (clock_in v) join.delay) values ∙ delay_is l.inside s.delay join.delay is.delay (λ t g long. short (no_long t g long)) ∙ ap (option_map (time_in l.inside)) (sym same))
     where
       values : unwrap_or (slice_get nest.values k) [] ≡ l.inside.values
-      values = ap (λ v. unwrap_or (slice_get v k) []) (n.values short) ∙ ap (λ o. unwrap_or o []) (map_at (λ x. x.inside.values) n.located k l e)
+      values = ap (λ v. unwrap_or (slice_get v k) []) (n.values short) ∙ ap (λ o. unwrap_or o []) (mapped (λ x. x.inside.values) n.located k l e)
 
       no_long : (t : TimeTree) → s.delay ≡ Some t → IsLongTime t → Any HasLongTime (reactors_of tree)
       no_long t g long = let r = instance_of tree tables nest n k l e in long_delay tree r.0.reactor l.inside.reactor r.2 number c t f (same ∙ g) long
@@ -127,7 +129,7 @@ module _ (tree : FileTree) (tables : Tables) (nest : Nest) (made : AreTables tre
 
   pub tree_sources : TreeSources tree (ports_in n.located) sources
   tree_sources = record {
-    as_long = length_map _ (declared ports_of n.located) ∙ as_many ports_of (reactors_of tree) nest.ports.counts.items n.ports.counts n.located nest.instances.items n.instances ∙ sym w.as_long;
+    as_long = length-map (declared ports_of n.located) _ ∙ as_many ports_of (reactors_of tree) nest.ports.counts.items n.ports.counts n.located nest.instances.items n.instances ∙ sym w.as_long;
     joined = joined;
     complete = complete;
     distinct = distinct ports_of (λ p. p.name) tree tables nest n (λ k i j l x y e f g same. let r = instance_of tree tables nest n k l e in ports_once tree lawful r.0.reactor l.inside.reactor r.2 i j x y f g same);

@@ -3,9 +3,9 @@ use Rattle.std.proofs.Common.{◌≡◌, ◌≢◌, ℕ, suc, ◌+◌, ◌⊎◌
 use Rattle.std.specs.List.{AllZip, zip}
 use Rattle.std.proofs.lemmas.Bool.Decides.{eqb_tells}
 use Rattle.std.proofs.lemmas.Slice.Zip.{AllZip-long}
+use Rattle.std.proofs.lemmas.List.{length-map}
 use Rattle.lft_tree.specs.Tree.{ReactorTree, ConnectionTree, actions_of, connections_of, ports_of, reactions_of, timers_of}
 use Rattle.lft_instances.specs.declared.joins.Connections.{Connections}
-use Rattle.lft_instances.proofs.Siblings.{length_map}
 use Rattle.lft_scope.specs.Causes.{DiffersInWidth, NoneHolds, WidthMismatch, joins_of, later_causes}
 use Rattle.lft_reactors.specs.Sheets.{AreConnections, AreCues, AreDeclarations, AreReactions, IsActionSheet, IsDeclarations, IsJoin, IsReactions, IsTimerSheet, singles_in, singles_of}
 use Rattle.lft_reactors.specs.declared.sheets.Declarations.{Declarations}
@@ -19,7 +19,7 @@ same_counts R f g e (x ∷ xs) [] all = absurd all
 same_counts R f g e (x ∷ xs) (y ∷ ys) all = let a : g y ≡ f x = e x y all.0 in let b : map g ys ≡ map f xs = same_counts R f g e xs ys all.1 in cc
 
 pub ports_counted : (rs : List ReactorTree) (table : List Declarations) → AreDeclarations rs table → map (λ x. length x.inputs.items) table ≡ map (λ r. length (ports_of r)) rs
-ports_counted rs table all = same_counts IsDeclarations (λ r. length (ports_of r)) (λ x. length x.inputs.items) (λ r x is. ap length is.inputs ∙ length_map (λ p. p.is_input) (ports_of r)) rs table all
+ports_counted rs table all = same_counts IsDeclarations (λ r. length (ports_of r)) (λ x. length x.inputs.items) (λ r x is. ap length is.inputs ∙ length-map (ports_of r) (λ p. p.is_input)) rs table all
 
 pub timers_counted : (rs : List ReactorTree) (table : List Declarations) → AreDeclarations rs table → map (λ x. length x.timers.items) table ≡ map (λ r. length (timers_of r)) rs
 timers_counted rs table all = same_counts IsDeclarations (λ r. length (timers_of r)) (λ x. length x.timers.items) (λ r x is. (AllZip-long (IsTimerSheet r) (timers_of r) x.timers.items is.timers)) rs table all
@@ -49,7 +49,7 @@ length_singles [] even = refl
 length_singles (c ∷ cs) even =
     let P : ConnectionTree → Type 0 = λ c. length c.sources ≢ length c.destinations in
     let same : length c.sources ≡ length c.destinations = same_number (length c.sources) (length c.destinations) (λ d. even (Any-head P c cs d)) in
-    let a : length (singles_in c) ≡ length c.sources = length_map _ (zip c.sources c.destinations) ∙ length_zip c.sources c.destinations same in
+    let a : length (singles_in c) ≡ length c.sources = length-map (zip c.sources c.destinations) _ ∙ length_zip c.sources c.destinations same in
     let b = length_singles cs (λ d. even (Any-tail P c cs d)) in
     length-append (singles_in c) (flat_map singles_in cs) ∙ (let s : length (singles_in c) + length (flat_map singles_in cs) ≡ length c.sources + length (flat_map (λ c. c.sources) cs) = omega arith in s) ∙ sym (length-append c.sources (flat_map (λ c. c.sources) cs))
 

@@ -1,10 +1,10 @@
 -- A cycle of sources is a cycle of connections, and the other way round.
 use Rattle.std.proofs.Common.{◌≡◌, ℕ, List, ◌++◌, refl, sym, ◌∙◌, subst, Option, Some, slice_get, option_to_list, arith}
+use Rattle.std.proofs.lemmas.Option.{slice_get_within}
+use Rattle.lft_lists.proofs.Places.{get_there}
 use Rattle.lft_tree.specs.Tree.{FileTree}
 use Rattle.lft_instances.specs.Sources.{Leads, one, more}
 use Rattle.lft_instances.specs.declared.origins.Source.{Source}
-use Rattle.lft_instances.proofs.Members.{get_within}
-use Rattle.lft_instances.proofs.Walks.{get_there}
 use Rattle.lft_scope.specs.Causes.{ConnectionCycle}
 use Rattle.lft_scope.specs.Instances.{Thing, Chain, one as one_step, more as more_steps}
 use Rattle.lft_nesting.proofs.Connected.{TreeSources}
@@ -12,7 +12,7 @@ use Rattle.lft_nesting.proofs.Connected.{TreeSources}
 module _ (tree : FileTree) (ports : List Thing) (sources : List (Option Source)) (w : TreeSources tree ports sources) where
   -- the port of a number that has an entry
   pub within : (p : ℕ) (o : Option Source) → slice_get sources p ≡ Some o → (t : Thing) × (slice_get ports p ≡ Some t)
-  within p o e = get_there ports p (let l = get_within sources p o e in let s = w.as_long in omega arith)
+  within p o e = get_there ports p (let l = slice_get_within sources p o e in let s = w.as_long in omega arith)
 
   chain_of : (p q : ℕ) (t : Thing) → Leads sources p q → slice_get ports p ≡ Some t → (u : Thing) × (delays : List ℕ) × (slice_get ports q ≡ Some u) × Chain tree u t delays
   chain_of p q t (one s a e) f =

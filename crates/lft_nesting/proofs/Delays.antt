@@ -1,6 +1,7 @@
 -- Delays as clocks, against the times that they are in the tree.
 use Rattle.std.proofs.Common.{◌≡◌, ℕ, suc, ◌+◌, ◌<◌, inl, inr, Bool, true, false, cond, List, [], ◌∷◌, ◌++◌, refl, sym, ap, ◌∙◌, subst, Option, Some, None, option_map, option_to_list, slice_get, map, flat_map, unwrap_or, bytes_eq, Any}
 use Rattle.std.proofs.lemmas.Bool.{cases_lt, le-ltb}
+use Rattle.lft_scope.proofs.Effects.{Any-flat}
 use Rattle.lft_tree.specs.Tree.{FileTree, ReactorTree, ParameterTree, ConnectionTree, TimeTree, Written, Named, nanoseconds, reactors_of, connections_of, timers_of, actions_of, instances_of}
 use Rattle.lft_instances.specs.declared.settings.Clock.{Clock}
 use Rattle.lft_instances.specs.declared.settings.Clock.TheVariants.{Fixed, Parameter}
@@ -12,13 +13,12 @@ use Rattle.lft_scope.specs.Places.{place}
 use Rattle.lft_reactors.specs.Sheets.{IsClock, IsDelay, kept}
 use Rattle.lft_scope.proofs.Somes.{Any-right}
 use Rattle.lft_scope.proofs.Twice.{Any-at}
-use Rattle.lft_reactors.proofs.Written.{any_piece}
 
-kept_is : (t : ℕ) → (longest < t → ⊥) → kept t ≡ t
+pub kept_is : (t : ℕ) → (longest < t → ⊥) → kept t ≡ t
 kept_is t short = elim (cases_lt longest t) [ inl l ↦ absurd (short l) | inr g ↦ ap (λ b. cond b (longest + 1) t) (le-ltb longest t g) ]
 
 -- the value of a name is what stands at the name's place
-value_at : (ps : List ParameterTree) (vs : List ℕ) (name : List ℕ) (k : ℕ) → place name (map (λ p. p.name) ps) ≡ Some k → unwrap_or (slice_get vs k) 0 ≡ value_of ps vs name
+pub value_at : (ps : List ParameterTree) (vs : List ℕ) (name : List ℕ) (k : ℕ) → place name (map (λ p. p.name) ps) ≡ Some k → unwrap_or (slice_get vs k) 0 ≡ value_of ps vs name
 value_at [] vs name k e = absurd (cc)
 value_at (p ∷ ps) [] name k e = refl
 value_at (p ∷ ps) (v ∷ vs) name k e = by (bytes_eq name p.name) (place name (map (λ p. p.name) ps)) (λ j f. value_at ps vs name j f) e
@@ -48,4 +48,4 @@ long_delay tree k r at number c t e f long = Any-at HasLongTime (reactors_of tre
     one = subst (λ o. Any IsLongTime (option_to_list o)) (sym f) (Any-at IsLongTime (t ∷ []) 0 t refl long)
 
     among : Any IsLongTime (times_in r)
-    among = Any-right IsLongTime (flat_map timer_times (timers_of r) ++ flat_map (λ a. option_to_list a.min_delay) (actions_of r) ++ flat_map (λ i. map (λ a. a.value) i.given) (instances_of r)) (flat_map (λ c. option_to_list c.delay) (connections_of r)) (any_piece IsLongTime (λ c. option_to_list c.delay) (connections_of r) number c e one)
+    among = Any-right IsLongTime (flat_map timer_times (timers_of r) ++ flat_map (λ a. option_to_list a.min_delay) (actions_of r) ++ flat_map (λ i. map (λ a. a.value) i.given) (instances_of r)) (flat_map (λ c. option_to_list c.delay) (connections_of r)) (Any-flat IsLongTime (λ c. option_to_list c.delay) (connections_of r) number c e one)

@@ -1,13 +1,13 @@
 -- The ends of the connections of an instance: the ports that they are, by number and in the tree.
 use Rattle.std.proofs.Common.{◌≡◌, ℕ, ◌+◌, List, [], ◌∷◌, ◌++◌, refl, sym, ap, ◌∙◌, subst, arith, Some, option_map, slice_get, map, position, bytes_eq}
 use Rattle.std.specs.Option.{option_and_then}
+use Rattle.std.proofs.lemmas.Option.{slice_get_within}
 use Rattle.lft_tree.specs.Tree.{FileTree, ReactorTree, PortTree, InstanceTree, RefTree, reactors_of, ports_of, instances_of}
 use Rattle.lft_instances.specs.declared.joins.End.{End}
 use Rattle.lft_instances.specs.declared.joins.End.TheVariants.{Own, Inner}
 use Rattle.lft_instances.specs.Paths.{along}
 use Rattle.lft_instances.specs.Children.{child_of}
 use Rattle.lft_instances.specs.Joins.{port_at, port_of, Declares, IsPort}
-use Rattle.lft_instances.proofs.Members.{get_within}
 use Rattle.lft_instances.proofs.Orders.{along_kid}
 use Rattle.lft_scope.specs.Instances.{Inside, thing_at, stands_for, stands_inside, entered, main_instance, reactor_named, given_in}
 use Rattle.lft_reactors.specs.Sheets.{IsEnd, IsInner}
@@ -54,7 +54,7 @@ module _ (tree : FileTree) (tables : Tables) (nest : Nest) (n : IsNest tree tabl
   declares k port l x e f =
       let i = instance_of tree tables nest n k l e in
       let c = count_is ports_of (reactors_of tree) nest.ports.counts.items n.ports.counts i.0.reactor l.inside.reactor i.2 in
-      let w = get_within (ports_of l.inside.reactor) port x f in
+      let w = slice_get_within (ports_of l.inside.reactor) port x f in
       (i.0, i.1, omega arith)
 
   append_none : (p : List ℕ) → p ≡ p ++ []

@@ -1,10 +1,12 @@
 -- What parameters are given, by name in the tree and by place in the tables.
-use Rattle.std.proofs.Common.{◌≡◌, ℕ, zero, suc, ◌+◌, ◌<◌, ◌≤◌, ◌⊎◌, inl, inr, Bool, true, false, cond, eqb, nat_lt, List, [], ◌∷◌, ◌++◌, Any, refl, sym, ap, ◌∙◌, subst, arith, Some, slice_get, find, map, flat_map, option_map, option_to_list, unwrap_or, bytes_eq}
+use Rattle.std.proofs.Common.{◌≡◌, ℕ, zero, suc, ◌+◌, ◌<◌, ◌≤◌, ◌⊎◌, inl, inr, Bool, true, false, cond, eqb, List, [], ◌∷◌, ◌++◌, Any, refl, sym, ap, ◌∙◌, subst, arith, Some, slice_get, find, map, flat_map, option_map, option_to_list, unwrap_or, bytes_eq}
 use Rattle.std.specs.List.{AllZip, enumerate_from}
 use Rattle.std.specs.Option.{option_map_or}
-use Rattle.std.proofs.lemmas.Bool.{cases_lt, ltb-true}
+use Rattle.std.proofs.lemmas.Bool.{cases_lt}
 use Rattle.std.proofs.lemmas.Bool.Decides.{eqb_tells}
 use Rattle.std.proofs.lemmas.Slice.Eq.{bytes_eq-Decides}
+use Rattle.lft_nesting.proofs.Delays.{kept_is}
+use Rattle.lft_lists.proofs.Mapped.{mapped}
 use Rattle.lft_tree.specs.Tree.{ReactorTree, ParameterTree, AssignmentTree, InstanceTree, TimeTree, Written, Named, nanoseconds, instances_of, ports_of, timers_of, actions_of, connections_of}
 use Rattle.lft_instances.specs.Values.{clock_in, value_in, values_in}
 use Rattle.lft_instances.specs.declared.settings.Clock.{Clock}
@@ -17,7 +19,7 @@ use Rattle.lft_scope.specs.Places.{place}
 use Rattle.lft_reactors.specs.Sheets.{IsClock, IsGiven, kept}
 use Rattle.lft_scope.proofs.Somes.{Any-head, Any-left, Any-right, Any-tail}
 use Rattle.lft_scope.proofs.Twice.{Any-at, twice_left}
-use Rattle.lft_nesting.proofs.Counting.{flat_at, map_at}
+use Rattle.lft_nesting.proofs.Counting.{flat_at}
 use Rattle.lft_nesting.proofs.Zipping.{map_some}
 
 -- ---- places of names that stand once
@@ -64,25 +66,18 @@ parameters_once rs n r none at two =
 
 -- ---- times that aren't too long
 
-kept_short : (n : ℕ) → (longest < n → ⊥) → kept n ≡ n
-kept_short n short = by (nat_lt longest n) refl
-  where
-    by : (b : Bool) → nat_lt longest n ≡ b → cond b (longest + 1) n ≡ n
-    by true f = absurd (short (ltb-true longest n f))
-    by false f = refl
-
 pub defaults_short : (ps : List ParameterTree) → (Any (λ p. longest < nanoseconds p.default) ps → ⊥) → map (λ p. kept (nanoseconds p.default)) ps ≡ map (λ p. nanoseconds p.default) ps
 defaults_short [] short = refl
 defaults_short (p ∷ ps) short =
     let P : ParameterTree → Type 0 = λ p. longest < nanoseconds p.default in
-    let a : kept (nanoseconds p.default) ≡ nanoseconds p.default = kept_short (nanoseconds p.default) (λ l. short (Any-head P p ps l)) in
+    let a : kept (nanoseconds p.default) ≡ nanoseconds p.default = kept_is (nanoseconds p.default) (λ l. short (Any-head P p ps l)) in
     let b = defaults_short ps (λ l. short (Any-tail P p ps l)) in
     ap (λ n. n ∷ map (λ p. kept (nanoseconds p.default)) ps) a ∙ ap (λ l. nanoseconds p.default ∷ l) b
 
 pub given_short : (r : ReactorTree) (k j : ℕ) (i : InstanceTree) (a : AssignmentTree) → (HasLongTime r → ⊥) → slice_get (instances_of r) k ≡ Some i → slice_get i.given j ≡ Some a → IsLongTime a.value → ⊥
 given_short r k j i a short e f long =
     let times : InstanceTree → List TimeTree = λ i. map (λ a. a.value) i.given in
-    let at = flat_at times (instances_of r) k j i a.value e (map_at (λ a. a.value) i.given j a f) in
+    let at = flat_at times (instances_of r) k j i a.value e (mapped (λ a. a.value) i.given j a f) in
     let offsets = flat_map timer_times (timers_of r) in
     let delays = flat_map (λ a. option_to_list a.min_delay) (actions_of r) in
     let given = flat_map times (instances_of r) in
@@ -102,7 +97,7 @@ value_is (p ∷ ps) (v ∷ vs) name k e = by (bytes_eq name p.name) (λ j f. val
     by false go e = let m = map_some suc (place name (map (λ p. p.name) ps)) k e in go m.0 m.1 ∙ ap (λ k. unwrap_or (slice_get (v ∷ vs) k) 0) m.2
 
 pub time_is : (x : Inside) (t : TimeTree) (clock : Clock) → (IsLongTime t → ⊥) → IsClock x.reactor t clock → clock_in x.values clock ≡ time_in x t
-time_is x (Written t) (Fixed n) short c = c ∙ kept_short (nanoseconds t) short
+time_is x (Written t) (Fixed n) short c = c ∙ kept_is (nanoseconds t) short
 time_is x (Written t) (Parameter k) short c = absurd c
 time_is x (Named name) (Fixed n) short c = absurd c
 time_is x (Named name) (Parameter k) short c = sym (value_is x.reactor.parameters x.values name k c)
@@ -117,7 +112,7 @@ module _ (x : Inside) (r : ReactorTree) (once : IsTwice (map (λ p. p.name) r.pa
       names = map (λ p. p.name) r.parameters
 
       here : slice_get names n ≡ Some p.name
-      here = map_at (λ p. p.name) r.parameters n p at
+      here = mapped (λ p. p.name) r.parameters n p at
 
       by : (b : Bool) → bytes_eq p.name a.name ≡ b → ((eqb g.place n ≡ true) × (g.place ≡ n)) ⊎ ((eqb g.place n ≡ false) × (g.place ≡ n → ⊥)) → b ≡ eqb g.place n
       by true f (inl t) = sym t.0

@@ -2,6 +2,7 @@
 use Rattle.std.proofs.Common.{◌≡◌, ℕ, ◌+◌, ◌<◌, ◌≤◌, ◌⊎◌, inl, inr, Bool, true, false, List, [], ◌∷◌, ◌++◌, refl, sym, ap, ◌∙◌, subst, arith, Some, slice_get}
 use Rattle.std.specs.Option.{option_map_or}
 use Rattle.std.proofs.lemmas.Bool.{cases_lt}
+use Rattle.lft_lists.proofs.Places.{push_apart}
 use Rattle.lft_tree.specs.Tree.{FileTree, ReactorTree, PortTree, InstanceTree, RefTree, reactors_of, ports_of, instances_of}
 use Rattle.lft_instances.specs.declared.walk.Instance.{Instance}
 use Rattle.lft_instances.specs.declared.joins.End.{End}
@@ -22,7 +23,6 @@ use Rattle.lft_nesting.specs.declared.tables.Tables.{Tables}
 use Rattle.lft_nesting.proofs.Checked.{later_parts, ports_once, even, destinations_once}
 use Rattle.lft_nesting.proofs.Counting.{base}
 use Rattle.lft_nesting.proofs.Ends.{Standing, standing, steps_to, place_at, holder}
-use Rattle.lft_nesting.proofs.Lists.{last_step}
 use Rattle.lft_nesting.proofs.Zipping.{zip_at, zip_back}
 use Rattle.lft_nesting.proofs.Nested.{located_of, instance_of, one_number}
 use Rattle.lft_nesting.proofs.Singles.{IsOf, single_back, to_at, place_forth}
@@ -43,7 +43,7 @@ same_end : (d e : End) (p q : List ℕ) → goes_in d ≡ goes_in e → p ++ ste
 same_end (Own a) (Own b) p q f g h = (no_step p q g, ap (λ x. Own x) h)
 same_end (Own a) (Inner k b) p q f g h = absurd (cc)
 same_end (Inner j a) (Own b) p q f g h = absurd (cc)
-same_end (Inner j a) (Inner k b) p q f g h = let r = last_step p q j k g in (r.0, ap (λ x. Inner x a) r.1 ∙ ap (λ x. Inner k x) h)
+same_end (Inner j a) (Inner k b) p q f g h = let r = push_apart p q j k g in (r.0, ap (λ x. Inner x a) r.1 ∙ ap (λ x. Inner k x) h)
 
 -- names that stand for one end are one name
 one_name : (rs : List ReactorTree) (r : ReactorTree) (d e : RefTree) (end : End) → IsEnd rs r d end → IsEnd rs r e end → (d.head ≡ e.head) × (d.port ≡ e.port)

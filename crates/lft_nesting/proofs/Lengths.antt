@@ -1,6 +1,8 @@
 -- The delays of a chain of connections against those of its port's sources.
 use Rattle.std.proofs.Common.{◌≡◌, ℕ, ◌+◌, ◌<◌, ◌≤◌, ◌⊎◌, inl, inr, List, [], ◌∷◌, ◌++◌, refl, sym, ap, ◌∙◌, subst, arith, Option, Some, slice_get, option_to_list, sum, append_assoc, Any}
 use Rattle.std.proofs.lemmas.List.Sums.{sum_by-cons}
+use Rattle.std.proofs.lemmas.Option.{slice_get_within}
+use Rattle.lft_lists.proofs.Places.{get_there}
 use Rattle.lft_tree.specs.Tree.{FileTree, reactors_of}
 use Rattle.lft_tag.specs.Shifts.{join_all, none}
 use Rattle.lft_tag.specs.declared.Shift.{Shift}
@@ -8,8 +10,6 @@ use Rattle.lft_instances.specs.Sources.{Origin, itself, over, IsFolded, IsReache
 use Rattle.lft_instances.specs.declared.origins.Source.{Source}
 use Rattle.lft_instances.specs.declared.origins.Reached.{Reached}
 use Rattle.lft_instances.proofs.Folding.{time_sum}
-use Rattle.lft_instances.proofs.Members.{get_within}
-use Rattle.lft_instances.proofs.Walks.{get_there}
 use Rattle.lft_scope.specs.Causes.{DelayTooLong, HasLongChain, HasLongTime}
 use Rattle.lft_scope.specs.Instances.{Thing, Chain, Connects, one as one_step, more as more_steps}
 use Rattle.lft_nesting.specs.Linking.{IsTooLong}
@@ -68,7 +68,7 @@ module _ (tree : FileTree) (ports : List Thing) (sources : List (Option Source))
       i = reached.each p r e
 
       t : (t : Thing) × (slice_get ports p ≡ Some t)
-      t = get_there ports p (let l = get_within all p r e in let s = reached.as_long in let u = w.as_long in omega arith)
+      t = get_there ports p (let l = slice_get_within all p r e in let s = reached.as_long in let u = w.as_long in omega arith)
 
       long : 1000000000000000000 < sum i.delays
       long = subst (IsFolded i.delays) no_shift i.folded
@@ -87,7 +87,7 @@ module _ (tree : FileTree) (ports : List Thing) (sources : List (Option Source))
       p = part_of a t ds chain
 
       r : (r : Reached) × (slice_get all p.0 ≡ Some r)
-      r = get_there all p.0 (let l = get_within ports p.0 t p.1 in let s = reached.as_long in let u = w.as_long in omega arith)
+      r = get_there all p.0 (let l = slice_get_within ports p.0 t p.1 in let s = reached.as_long in let u = w.as_long in omega arith)
 
       i : IsReached sources p.0 r.0
       i = reached.each p.0 r.0 r.1

@@ -1,13 +1,13 @@
 -- Limits by number and limits of the tree.
 use Rattle.std.proofs.Common.{◌≡◌, ℕ, List, length, sym, ◌∙◌, subst, arith, Some, slice_get, map}
+use Rattle.std.proofs.lemmas.Option.{slice_get_within}
+use Rattle.lft_lists.proofs.Places.{get_there}
 use Rattle.lft_tree.specs.Tree.{FileTree, ReactorTree, reactors_of}
 use Rattle.lft_instances.specs.Contents.{contained}
 use Rattle.lft_instances.specs.Numbers.{HasMoreThings, IsThing}
 use Rattle.lft_instances.specs.Paths.{Exists, IsMoreThan, along}
 use Rattle.lft_instances.specs.declared.walk.Contents.{Contents}
-use Rattle.lft_instances.proofs.Members.{get_within}
 use Rattle.lft_instances.proofs.Simulation.{along_back, along_forth}
-use Rattle.lft_instances.proofs.Walks.{get_there}
 use Rattle.lft_scope.specs.Causes.{IsDeclaredAt}
 use Rattle.lft_scope.specs.Instances.{Inside, IsInside, entered, main_instance, main_of}
 use Rattle.lft_reactors.specs.Numbers.{AreContents}
@@ -52,7 +52,7 @@ module _ (tree : FileTree) (table : List Contents) (main : ℕ) (first : Reactor
     declared_forth d (x, item, is, at) =
         let b = leads_forth d.0 x is in
         let c = count_is kind (reactors_of tree) counts counted b.0 x.reactor b.2 in
-        let l = get_within (kind x.reactor) d.1 item at in
+        let l = slice_get_within (kind x.reactor) d.1 item at in
         (b.0, b.1, omega arith)
 
     pub more_declared : HasMoreThings table main counts limit → IsMoreThan (IsDeclaredAt tree kind) limit

@@ -1,35 +1,29 @@
 -- The list of the things of one kind has the declarations of the instances in order.
-use Rattle.std.proofs.Common.{◌≡◌, ℕ, zero, suc, ◌+◌, ◌<◌, ◌⊎◌, inl, inr, List, [], ◌∷◌, ◌++◌, length, length-append, refl, sym, ap, ◌∙◌, subst, arith, Some, Result, Ok, Err, IfOk, slice_get, take, map, flat_map, unwrap_or}
+use Rattle.std.proofs.Common.{◌≡◌, ℕ, zero, suc, ◌+◌, ◌<◌, ◌⊎◌, inl, inr, List, [], ◌∷◌, length, length-append, refl, sym, ap, ◌∙◌, subst, arith, Some, Result, Ok, Err, IfOk, slice_get, take, map, flat_map, unwrap_or}
 use Rattle.std.specs.List.{AllZip, enumerate_from}
+use Rattle.std.proofs.lemmas.Option.{slice_get_within}
+use Rattle.std.proofs.lemmas.List.FromFn.{length-enumerate_from}
+use Rattle.std.proofs.lemmas.List.{length-map}
+use Rattle.lft_lists.proofs.Mapped.{mapped, mapped_from}
+use Rattle.lft_lists.proofs.Places.{get_append_cases}
 use Rattle.lft_tree.specs.Tree.{FileTree, ReactorTree, reactors_of}
 use Rattle.lft_instances.specs.Listing.{AreListed}
 use Rattle.lft_instances.specs.Numbers.{count_of, things}
 use Rattle.lft_instances.specs.declared.numbering.Thing.{Thing}
 use Rattle.lft_instances.specs.declared.walk.Instance.{Instance}
-use Rattle.lft_instances.proofs.Members.{get_within}
-use Rattle.lft_instances.proofs.Siblings.{length_map}
 use Rattle.lft_nesting.specs.Located.{Located, Declared, declared, declared_in}
 use Rattle.lft_nesting.specs.Nests.{IsInstanceOf, IsNest, IsNumbering, IsThingOf}
 use Rattle.lft_nesting.specs.declared.nest.Nest.{Nest}
 use Rattle.lft_nesting.specs.declared.nest.Numbering.{Numbering}
 use Rattle.lft_nesting.specs.declared.tables.Tables.{Tables}
-use Rattle.lft_nesting.proofs.Counting.{base, map_at, total}
-use Rattle.lft_nesting.proofs.Zipping.{map_from, zip_at, zip_of}
+use Rattle.lft_nesting.proofs.Counting.{base, total}
+use Rattle.lft_nesting.proofs.Zipping.{zip_at, zip_of}
 
 -- ---- where a declaration stands
 
-get_append : {X : Type 0} (xs ys : List X) (k : ℕ) (x : X) → slice_get (xs ++ ys) k ≡ Some x → (slice_get xs k ≡ Some x) ⊎ ((j : ℕ) × (k ≡ length xs + j) × (slice_get ys j ≡ Some x))
-get_append [] ys k x at = inr (k, omega arith, at)
-get_append (z ∷ xs) ys zero x at = inl at
-get_append {X} (z ∷ xs) ys (suc k) x at = up (get_append xs ys k x at)
-  where
-    up : (slice_get xs k ≡ Some x) ⊎ ((j : ℕ) × (k ≡ length xs + j) × (slice_get ys j ≡ Some x)) → (slice_get xs k ≡ Some x) ⊎ ((j : ℕ) × (suc k ≡ suc (length xs) + j) × (slice_get ys j ≡ Some x))
-    up (inl a) = inl a
-    up (inr (j, e, a)) = inr (j, omega arith, a)
-
 pub flat_from : {X Y : Type 0} (f : X → List Y) (xs : List X) (k : ℕ) (y : Y) → slice_get (flat_map f xs) k ≡ Some y → (n : ℕ) × (j : ℕ) × (x : X) × (slice_get xs n ≡ Some x) × (slice_get (f x) j ≡ Some y) × (k ≡ total f n xs + j)
 flat_from f [] k y at = absurd (cc)
-flat_from {X} {Y} f (x ∷ xs) k y at = by (get_append (f x) (flat_map f xs) k y at) (λ i a. flat_from f xs i y a)
+flat_from {X} {Y} f (x ∷ xs) k y at = by (get_append_cases (f x) (flat_map f xs) k y at) (λ i a. flat_from f xs i y a)
   where
     Found : List X → ℕ → Type 0
     Found l k = (n : ℕ) × (j : ℕ) × (x : X) × (slice_get l n ≡ Some x) × (slice_get (f x) j ≡ Some y) × (k ≡ total f n l + j)
@@ -54,7 +48,7 @@ declared_from {X} kind located k d at =
     let f = flat_from (declared_in kind) (enumerate_from 0 located) k d at in
     let l = enumerate_from_at 0 located f.0 f.2 f.3 in
     let P : ℕ × X → Declared X = λ p. record { instance = f.2.0; located = f.2.1; place = p.0; item = p.1 } in
-    let m = map_from P (enumerate_from 0 (kind f.2.1.inside.reactor)) f.1 d f.4 in
+    let m = mapped_from P (enumerate_from 0 (kind f.2.1.inside.reactor)) f.1 d f.4 in
     let j = enumerate_from_at 0 (kind f.2.1.inside.reactor) f.1 m.0 m.1 in
     let number : f.2.0 ≡ f.0 = (let a : f.2.0 ≡ 0 + f.0 = l.0 in omega arith) in
     let place : m.0.0 ≡ f.1 = (let a : m.0.0 ≡ 0 + f.1 = j.0 in omega arith) in
@@ -66,16 +60,12 @@ declared_from {X} kind located k d at =
 
 -- ---- counted by reactor and counted by declaration
 
-length_enumerate : {X : Type 0} (i : ℕ) (xs : List X) → length (enumerate_from i xs) ≡ length xs
-length_enumerate i [] = refl
-length_enumerate i (x ∷ xs) = ap suc (length_enumerate (i + 1) xs)
-
 module _ {X : Type 0} (kind : ReactorTree → List X) (rs : List ReactorTree) (counts : List ℕ) (are : counts ≡ map (λ r. length (kind r)) rs) where
   pub count_is : (n : ℕ) (r : ReactorTree) → slice_get rs n ≡ Some r → count_of counts n ≡ length (kind r)
-  count_is n r at = ap (λ l. unwrap_or (slice_get l n) 0) are ∙ ap (λ o. unwrap_or o 0) (map_at (λ r. length (kind r)) rs n r at)
+  count_is n r at = ap (λ l. unwrap_or (slice_get l n) 0) are ∙ ap (λ o. unwrap_or o 0) (mapped (λ r. length (kind r)) rs n r at)
 
   own : (i : ℕ) (l : Located) (instance : Instance) → IsInstanceOf rs l instance → length (declared_in kind (i, l)) ≡ count_of counts instance.reactor
-  own i l instance is = length_map _ (enumerate_from 0 (kind l.inside.reactor)) ∙ length_enumerate 0 (kind l.inside.reactor) ∙ sym (count_is instance.reactor l.inside.reactor is)
+  own i l instance is = length-map (enumerate_from 0 (kind l.inside.reactor)) _ ∙ length-enumerate_from 0 (kind l.inside.reactor) ∙ sym (count_is instance.reactor l.inside.reactor is)
 
   before : (i : ℕ) (located : List Located) (instances : List Instance) (n : ℕ) → AllZip (IsInstanceOf rs) located instances → total (declared_in kind) n (enumerate_from i located) ≡ things counts (take n instances)
   before i located instances zero all = refl
@@ -114,7 +104,7 @@ listed {X} kind rs located instances limit n all zipped is are = zip_of IsThingO
     each k d t at there =
         let s = declared_from kind located k d at in
         let i = zip_at (IsInstanceOf rs) located instances zipped d.instance d.located s.instance in
-        let within : d.place < count_of n.counts.items i.0.reactor = (let l = get_within (kind d.located.inside.reactor) d.place d.item s.place in let c = count_is kind rs n.counts.items is.counts i.0.reactor d.located.inside.reactor i.2 in omega arith) in
+        let within : d.place < count_of n.counts.items i.0.reactor = (let l = slice_get_within (kind d.located.inside.reactor) d.place d.item s.place in let c = count_is kind rs n.counts.items is.counts i.0.reactor d.located.inside.reactor i.2 in omega arith) in
         let number : k ≡ things n.counts.items (take d.instance instances) + d.place = s.number ∙ ap (λ b. b + d.place) (base_is kind rs n.counts.items is.counts located instances d.instance zipped) in
         let e : Some t ≡ Some (record { instance = d.instance; place = d.place }) = sym there ∙ ap (slice_get all) number ∙ are.each d.instance d.place i.0 i.1 within in
         let same : t ≡ record { instance = d.instance; place = d.place } = cc in

@@ -1,16 +1,8 @@
 -- Elements of joined lists, of pairs, and of paths with one more step.
 use Rattle.std.proofs.Common.{◌≡◌, ℕ, zero, suc, ◌+◌, ◌⊎◌, inl, inr, List, [], ◌∷◌, ◌++◌, length, refl, ap, ◌∙◌, arith, Some, slice_get, flat_map}
 use Rattle.std.specs.List.{enumerate_from, zip}
+use Rattle.lft_lists.proofs.Places.{get_append_cases}
 use Rattle.lft_nesting.proofs.Counting.{total}
-
-pub append_cases : {X : Type 0} (xs ys : List X) (k : ℕ) (x : X) → slice_get (xs ++ ys) k ≡ Some x → (slice_get xs k ≡ Some x) ⊎ ((j : ℕ) × (k ≡ length xs + j) × (slice_get ys j ≡ Some x))
-append_cases [] ys k x e = inr (k, omega arith, e)
-append_cases (z ∷ xs) ys zero x e = inl e
-append_cases {X} (z ∷ xs) ys (suc k) x e = up (append_cases xs ys k x e)
-  where
-    up : (slice_get xs k ≡ Some x) ⊎ ((j : ℕ) × (k ≡ length xs + j) × (slice_get ys j ≡ Some x)) → (slice_get xs k ≡ Some x) ⊎ ((j : ℕ) × (suc k ≡ suc (length xs) + j) × (slice_get ys j ≡ Some x))
-    up (inl a) = inl a
-    up (inr b) = inr (b.0, (let q : k ≡ length xs + b.0 = b.1 in omega arith), b.2)
 
 -- from which element, and from which of its pieces, a piece comes
 pub record From {X Y : Type 0} (f : X → List Y) (xs : List X) (p : ℕ) (y : Y) : Type 0 where
@@ -23,7 +15,7 @@ pub record From {X Y : Type 0} (f : X → List Y) (xs : List X) (p : ℕ) (y : Y
 
 pub flat_back : {X Y : Type 0} (f : X → List Y) (xs : List X) (p : ℕ) (y : Y) → slice_get (flat_map f xs) p ≡ Some y → From f xs p y
 flat_back f [] p y e = absurd (cc)
-flat_back {X} {Y} f (x ∷ xs) p y e = by (append_cases (f x) (flat_map f xs) p y e) (λ j g. flat_back f xs j y g)
+flat_back {X} {Y} f (x ∷ xs) p y e = by (get_append_cases (f x) (flat_map f xs) p y e) (λ j g. flat_back f xs j y g)
   where
     by : (slice_get (f x) p ≡ Some y) ⊎ ((j : ℕ) × (p ≡ length (f x) + j) × (slice_get (flat_map f xs) j ≡ Some y)) → ((j : ℕ) → slice_get (flat_map f xs) j ≡ Some y → From f xs j y) → From f (x ∷ xs) p y
     by (inl a) more = record { number = 0; element = x; place = p; is_element = refl; is_piece = a; is_at = omega arith }
@@ -50,19 +42,6 @@ pair_back [] ys k p e = absurd (cc)
 pair_back (x ∷ xs) [] k p e = absurd (cc)
 pair_back (x ∷ xs) (y ∷ ys) zero p e = let q : (x, y) ≡ p = cc in (ap (λ w. Some w.0) q, ap (λ w. Some w.1) q)
 pair_back (x ∷ xs) (y ∷ ys) (suc k) p e = pair_back xs ys k p e
-
--- a path with one more step is of one path and one step
-pub last_step : (p q : List ℕ) (j k : ℕ) → p ++ j ∷ [] ≡ q ++ k ∷ [] → (p ≡ q) × (j ≡ k)
-last_step [] [] j k e = (refl, cc)
-last_step [] (y ∷ []) j k e = absurd (cc)
-last_step [] (y ∷ z ∷ q) j k e = absurd (cc)
-last_step (x ∷ []) [] j k e = absurd (cc)
-last_step (x ∷ z ∷ p) [] j k e = absurd (cc)
-last_step (x ∷ p) (y ∷ q) j k e =
-    let a : x ≡ y = cc in
-    let b : p ++ j ∷ [] ≡ q ++ k ∷ [] = cc in
-    let r = last_step p q j k b in
-    (ap (λ w. w ∷ p) a ∙ ap (λ w. y ∷ w) r.0, r.1)
 
 pub some_step : (p : List ℕ) (k : ℕ) → p ++ k ∷ [] ≡ [] → ⊥
 some_step [] k e = cc

@@ -1,6 +1,10 @@
 -- The instances of a tree with their paths, from a walk.
 use Rattle.std.proofs.Common.{◌≡◌, ℕ, List, [], ◌∷◌, Any, length, refl, sym, ap, ◌∙◌, subst, arith, Some, slice_get, map, unwrap_or}
 use Rattle.std.specs.List.{AllZip}
+use Rattle.std.proofs.lemmas.Option.{slice_get_within}
+use Rattle.std.proofs.lemmas.List.{length-map}
+use Rattle.lft_lists.proofs.Mapped.{mapped_from}
+use Rattle.lft_lists.proofs.Places.{get_there}
 use Rattle.lft_tree.specs.Tree.{FileTree, ReactorTree, reactors_of}
 use Rattle.lft_instances.specs.Contents.{IsWalk, contained}
 use Rattle.lft_instances.specs.Paths.{IsPreOrder, along}
@@ -8,10 +12,7 @@ use Rattle.lft_instances.specs.Values.{HaveValues, LeadToValues, defaults_of, en
 use Rattle.lft_instances.specs.declared.settings.Parameters.{Parameters}
 use Rattle.lft_instances.specs.declared.walk.Contents.{Contents}
 use Rattle.lft_instances.specs.declared.walk.Instance.{Instance}
-use Rattle.lft_instances.proofs.Members.{get_within}
-use Rattle.lft_instances.proofs.Siblings.{length_map}
 use Rattle.lft_instances.proofs.Simulation.{along_back, pre_order_back}
-use Rattle.lft_instances.proofs.Walks.{get_there}
 use Rattle.lft_scope.specs.Causes.{HasLongTime, NoneHolds, first_causes}
 use Rattle.lft_scope.specs.Instances.{entered, main_instance, main_of}
 use Rattle.lft_reactors.specs.Numbers.{AreContents}
@@ -20,7 +21,7 @@ use Rattle.lft_nesting.specs.Located.{AreLocated, Located}
 use Rattle.lft_nesting.specs.Nests.{IsInstanceOf}
 use Rattle.lft_nesting.proofs.Entering.{HasNumber, numbers_go_along}
 use Rattle.lft_nesting.proofs.Valuing.{HasValues, main_values, values_go_along}
-use Rattle.lft_nesting.proofs.Zipping.{map_from, same_values, zip_of}
+use Rattle.lft_nesting.proofs.Zipping.{same_values, zip_of}
 
 map_itself : {X Y : Type 0} (f : X → Y) (g : Y → X) (xs : List X) → ((x : X) → g (f x) ≡ x) → map g (map f xs) ≡ xs
 map_itself f g [] e = refl
@@ -38,7 +39,7 @@ module _ (tree : FileTree) (contents : List Contents) (main : ℕ) (first : Reac
   located_paths = map_itself (locate tree first) (λ l. l.path) w.paths (λ p. refl)
 
   located_from : (n : ℕ) (l : Located) → slice_get all_located n ≡ Some l → (p : List ℕ) × (slice_get w.paths n ≡ Some p) × (locate tree first p ≡ l)
-  located_from n l e = map_from (locate tree first) w.paths n l e
+  located_from n l e = mapped_from (locate tree first) w.paths n l e
 
   -- what a number on the way leads to is what the path leads to
   inside_is : (p : List ℕ) (r : ℕ) → along (contained contents) main p ≡ Some r → (along (entered tree) (main_instance first) p ≡ Some (locate tree first p).inside) × HasNumber (reactors_of tree) (locate tree first p).inside r
@@ -56,7 +57,7 @@ module _ (tree : FileTree) (contents : List Contents) (main : ℕ) (first : Reac
   }
 
   long : length all_located ≡ length instances
-  long = length_map (locate tree first) w.paths ∙ sym w.as_long
+  long = length-map w.paths (locate tree first) ∙ sym w.as_long
 
   pub are_instances : AllZip (IsInstanceOf (reactors_of tree)) all_located instances
   are_instances = zip_of (IsInstanceOf (reactors_of tree)) all_located instances long (λ n l i e g.
@@ -69,7 +70,7 @@ module _ (tree : FileTree) (contents : List Contents) (main : ℕ) (first : Reac
       each : (n : ℕ) (v : List ℕ) (l : Located) → slice_get values n ≡ Some v → slice_get all_located n ≡ Some l → v ≡ l.inside.values
       each n v l e g =
           let f = located_from n l g in
-          let i = get_there instances n (let a = get_within values n v e in let b = have.as_long in omega arith) in
+          let i = get_there instances n (let a = slice_get_within values n v e in let b = have.as_long in omega arith) in
           let b = along_back (HasValues (reactors_of tree)) (entered tree) (entered_by_number contents table) (values_go_along tree contents table are parameters none short) (main_instance first) (main, defaults_of table main) f.0 (i.0.reactor, v) (main_values (reactors_of tree) table parameters none short main first main_number) (lead w n i.0 f.0 v i.1 f.1 e) in
           let same : b.0 ≡ (locate tree first f.0).inside = sym (ap (λ o. unwrap_or o (main_instance first)) b.1) in
           b.2.1 ∙ ap (λ x. x.values) same ∙ ap (λ l. l.inside.values) f.2

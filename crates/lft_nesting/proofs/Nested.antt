@@ -1,6 +1,8 @@
 -- The instances of a nest: what each is in the tree, and the number of each path.
 use Rattle.std.proofs.Common.{◌≡◌, ℕ, ◌<◌, ◌≤◌, ◌⊎◌, inl, inr, List, [], ◌∷◌, ◌++◌, sym, ap, ◌∙◌, subst, arith, Some, slice_get, map}
 use Rattle.std.proofs.lemmas.Bool.{cases_lt}
+use Rattle.lft_lists.proofs.Places.{push_apart}
+use Rattle.lft_lists.proofs.Mapped.{mapped, mapped_from}
 use Rattle.lft_tree.specs.Tree.{FileTree, reactors_of}
 use Rattle.lft_instances.specs.declared.walk.Instance.{Instance}
 use Rattle.lft_instances.specs.Paths.{along}
@@ -12,9 +14,8 @@ use Rattle.lft_nesting.specs.Located.{Located}
 use Rattle.lft_nesting.specs.Nests.{IsNest, IsInstanceOf}
 use Rattle.lft_nesting.specs.declared.nest.Nest.{Nest}
 use Rattle.lft_nesting.specs.declared.tables.Tables.{Tables}
-use Rattle.lft_nesting.proofs.Counting.{map_at}
-use Rattle.lft_nesting.proofs.Lists.{last_step, some_step}
-use Rattle.lft_nesting.proofs.Zipping.{zip_at, zip_back, map_from}
+use Rattle.lft_nesting.proofs.Lists.{some_step}
+use Rattle.lft_nesting.proofs.Zipping.{zip_at, zip_back}
 
 module _ (tree : FileTree) (tables : Tables) (nest : Nest) (n : IsNest tree tables nest) where
   -- the instance of a number in the tree, and back
@@ -26,14 +27,14 @@ module _ (tree : FileTree) (tables : Tables) (nest : Nest) (n : IsNest tree tabl
 
   -- its path
   pub path_of : (k : ℕ) (l : Located) → slice_get n.located k ≡ Some l → slice_get n.walk.paths k ≡ Some l.path
-  path_of k l e = subst (λ ps. slice_get ps k ≡ Some l.path) n.paths (map_at (λ x. x.path) n.located k l e)
+  path_of k l e = subst (λ ps. slice_get ps k ≡ Some l.path) n.paths (mapped (λ x. x.path) n.located k l e)
 
   pub inside_of : (k : ℕ) (l : Located) → slice_get n.located k ≡ Some l → IsInside tree l.path l.inside
   inside_of k l e = (n.are_located.main, n.are_located.is_main, n.are_located.inside k l e)
 
   -- the number of a path
   pub number_of : (path : List ℕ) (x : Inside) → IsInside tree path x → (k : ℕ) × (l : Located) × (slice_get n.located k ≡ Some l) × (l.path ≡ path) × (l.inside ≡ x)
-  number_of path x i = at (map_from (λ y. y.path) n.located there.0 path there.1)
+  number_of path x i = at (mapped_from (λ y. y.path) n.located there.0 path there.1)
     where
       main : i.0 ≡ n.are_located.main
       main = let e : Some i.0 ≡ Some n.are_located.main = sym i.1 ∙ n.are_located.is_main in cc
@@ -83,10 +84,10 @@ module _ (tree : FileTree) (tables : Tables) (nest : Nest) (n : IsNest tree tabl
       above = is_at.later (later (cases_lt k 1))
 
       steps : (above.0 ≡ l.path) × (made.0.place ≡ place)
-      steps = last_step above.0 l.path made.0.place place (above.3 ∙ longer)
+      steps = push_apart above.0 l.path made.0.place place (above.3 ∙ longer)
 
       over : (o : Located) × (slice_get n.located made.0.parent ≡ Some o) × (o.path ≡ above.0)
-      over = map_from (λ y. y.path) n.located made.0.parent above.0 (subst (λ ps. slice_get ps made.0.parent ≡ Some above.0) (sym n.paths) above.2)
+      over = mapped_from (λ y. y.path) n.located made.0.parent above.0 (subst (λ ps. slice_get ps made.0.parent ≡ Some above.0) (sym n.paths) above.2)
 
       child : IsChild nest.instances.items j place k
       child = (made.0, made.1, later (cases_lt k 1), one_number made.0.parent j over.0 l over.1 a (over.2 ∙ steps.0), steps.1)

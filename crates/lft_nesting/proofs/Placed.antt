@@ -1,18 +1,15 @@
 -- What stands at a number: the declaration, with the number of its instance and its place there.
-use Rattle.std.proofs.Common.{◌≡◌, ℕ, zero, suc, ◌+◌, ◌⊎◌, inl, inr, ⊎_elim, List, [], ◌∷◌, ◌++◌, length, refl, sym, ap, ◌∙◌, subst, arith, Some, slice_get, map, flat_map}
-use Rattle.std.specs.List.{enumerate_from}
+use Rattle.std.proofs.Common.{◌≡◌, ℕ, ◌+◌, ⊎_elim, List, sym, ap, ◌∙◌, subst, arith, Some, slice_get, map}
 use Rattle.std.proofs.lemmas.Bool.{cases_lt}
+use Rattle.lft_lists.proofs.Places.{Some_same}
+use Rattle.lft_lists.proofs.Mapped.{mapped, mapped_from}
 use Rattle.lft_tree.specs.Tree.{FileTree, ReactorTree}
 use Rattle.lft_instances.specs.Paths.{along, Before}
 use Rattle.lft_instances.proofs.Orders.{before_itself}
 use Rattle.lft_scope.specs.Instances.{Thing, thing_at, entered, main_instance}
-use Rattle.lft_nesting.specs.Located.{Located, AreLocated, Declared, declared, declared_in, things}
-use Rattle.lft_nesting.proofs.Counting.{base, map_at}
+use Rattle.lft_nesting.specs.Located.{Located, AreLocated, Declared, declared, things}
+use Rattle.lft_nesting.proofs.Counting.{base}
 use Rattle.lft_nesting.proofs.Listing.{declared_from as stands}
-use Rattle.lft_nesting.proofs.Zipping.{map_from}
-
-pub Some_same : {X : Type 0} (x y : X) → Some x ≡ Some y → x ≡ y
-Some_same x y same = cc
 
 -- the declaration at a number is one of the instance, at its place
 pub record IsAt {X : Type 0} (kind : ReactorTree → List X) (instances : List Located) (n : ℕ) (d : Declared X) : Type 0 where
@@ -27,7 +24,7 @@ declared_from kind instances n d at =
 
 -- the declaration of a thing at a number
 pub thing_from : {X : Type 0} (name : X → List ℕ) (all : List (Declared X)) (n : ℕ) (t : Thing) → slice_get (things name all) n ≡ Some t → (d : Declared X) × (slice_get all n ≡ Some d) × (thing_at d.located.path (name d.item) ≡ t)
-thing_from name all n t e = map_from (λ d. thing_at d.located.path (name d.item)) all n t e
+thing_from name all n t e = mapped_from (λ d. thing_at d.located.path (name d.item)) all n t e
 
 -- two instances with one path are one
 pub path_once : (tree : FileTree) (instances : List Located) → AreLocated tree instances → (i j : ℕ) (a b : Located) → slice_get instances i ≡ Some a → slice_get instances j ≡ Some b → a.path ≡ b.path → i ≡ j
@@ -40,7 +37,7 @@ path_once tree instances are i j a b at_i at_j same = ⊎_elim
     (cases_lt i j)
   where
     path_at : (n : ℕ) (l : Located) → slice_get instances n ≡ Some l → slice_get (map (λ i. i.path) instances) n ≡ Some l.path
-    path_at n l at = map_at (λ i. i.path) instances n l at
+    path_at n l at = mapped (λ i. i.path) instances n l at
 
 -- and have the same parameters
 pub inside_once : (tree : FileTree) (instances : List Located) → AreLocated tree instances → (i j : ℕ) (a b : Located) → slice_get instances i ≡ Some a → slice_get instances j ≡ Some b → a.path ≡ b.path → a.inside ≡ b.inside

@@ -2,30 +2,32 @@
 use Rattle.std.proofs.Common.{◌≡◌, ℕ, zero, suc, ◌+◌, List, [], ◌∷◌, length, length-append, refl, sym, ap, ◌∙◌, subst, arith, Some, slice_get, map, flat_map, take, unwrap_or}
 use Rattle.std.specs.List.{AllZip, enumerate_from}
 use Rattle.std.specs.Option.{option_map}
+use Rattle.std.proofs.lemmas.Option.{slice_get_within}
+use Rattle.std.proofs.lemmas.List.FromFn.{length-enumerate_from}
+use Rattle.std.proofs.lemmas.List.{length-map}
+use Rattle.lft_lists.proofs.Mapped.{mapped, mapped_from}
+use Rattle.lft_lists.proofs.Places.{get_there}
 use Rattle.lft_tree.specs.Tree.{FileTree, ReactorTree, reactors_of}
 use Rattle.lft_instances.specs.declared.walk.Instance.{Instance}
 use Rattle.lft_instances.specs.Joins.{port_at}
 use Rattle.lft_instances.specs.Numbers.{count_of, things as how_many}
-use Rattle.lft_instances.proofs.Members.{get_within}
-use Rattle.lft_instances.proofs.Walks.{get_there}
 use Rattle.lft_scope.specs.Instances.{Thing, thing_at}
 use Rattle.lft_nesting.specs.Located.{Located, Declared, declared, declared_in, things}
 use Rattle.lft_nesting.specs.Nests.{IsNest, IsNumbering, IsInstanceOf}
 use Rattle.lft_nesting.specs.declared.nest.Nest.{Nest}
 use Rattle.lft_nesting.specs.declared.nest.Numbering.{Numbering}
 use Rattle.lft_nesting.specs.declared.tables.Tables.{Tables}
-use Rattle.lft_nesting.proofs.Counting.{total, base, map_at, declared_at, length_enumerate, length_map}
+use Rattle.lft_nesting.proofs.Counting.{total, base, declared_at}
 use Rattle.lft_nesting.proofs.Lists.{From, flat_back, enumerate_back}
-use Rattle.lft_nesting.proofs.Zipping.{map_from}
 use Rattle.lft_nesting.proofs.Nested.{one_number, instance_of}
 
 -- how many each instance declares
 module _ {X : Type 0} (kind : ReactorTree → List X) (rs : List ReactorTree) (counts : List ℕ) (is_counts : counts ≡ map (λ r. length (kind r)) rs) where
   pub count_is : (n : ℕ) (r : ReactorTree) → slice_get rs n ≡ Some r → count_of counts n ≡ length (kind r)
-  count_is n r e = ap (λ c. unwrap_or (slice_get c n) 0) is_counts ∙ ap (λ o. unwrap_or o 0) (map_at (λ x. length (kind x)) rs n r e)
+  count_is n r e = ap (λ c. unwrap_or (slice_get c n) 0) is_counts ∙ ap (λ o. unwrap_or o 0) (mapped (λ x. length (kind x)) rs n r e)
 
   length_in : (n : ℕ) (l : Located) → length (declared_in kind (n, l)) ≡ length (kind l.inside.reactor)
-  length_in n l = length_map _ (enumerate_from 0 (kind l.inside.reactor)) ∙ length_enumerate 0 (kind l.inside.reactor)
+  length_in n l = length-map (enumerate_from 0 (kind l.inside.reactor)) _ ∙ length-enumerate_from 0 (kind l.inside.reactor)
 
   one : (n : ℕ) (l : Located) (i : Instance) → IsInstanceOf rs l i → count_of counts i.reactor ≡ length (declared_in kind (n, l))
   one n l i e = count_is i.reactor l.inside.reactor e ∙ sym (length_in n l)
@@ -59,7 +61,7 @@ module _ {X : Type 0} (kind : ReactorTree → List X) (tree : FileTree) (tables 
   pub first_at : (k : ℕ) (l : Located) → slice_get n.located k ≡ Some l → slice_get numbers.firsts.items k ≡ Some (base kind n.located k)
   first_at k l e =
       let i = instance_of tree tables nest n k l e in
-      let f = get_there numbers.firsts.items k (let a = get_within nest.instances.items k i.0 i.1 in let b = w.firsts.as_long in omega arith) in
+      let f = get_there numbers.firsts.items k (let a = slice_get_within nest.instances.items k i.0 i.1 in let b = w.firsts.as_long in omega arith) in
       f.1 ∙ ap Some (w.firsts.each k f.0 f.1 ∙ base_is kind (reactors_of tree) numbers.counts.items w.counts n.located nest.instances.items n.instances k)
 
   -- the number of the thing at a place of an instance
@@ -80,7 +82,7 @@ declared_back {X} kind located p d e = subst Stands g.2 (instance, item, number)
     of y = record { instance = f.element.0; located = f.element.1; place = y.0; item = y.1 }
 
     g : (y : ℕ × X) × (slice_get (enumerate_from 0 (kind f.element.1.inside.reactor)) f.place ≡ Some y) × (of y ≡ d)
-    g = map_from of (enumerate_from 0 (kind f.element.1.inside.reactor)) f.place d f.is_piece
+    g = mapped_from of (enumerate_from 0 (kind f.element.1.inside.reactor)) f.place d f.is_piece
 
     at : (0 + f.number ≡ f.element.0) × (slice_get located f.number ≡ Some f.element.1)
     at = enumerate_back 0 located f.number f.element f.is_element
@@ -105,11 +107,11 @@ declared_back {X} kind located p d e = subst Stands g.2 (instance, item, number)
 
 module _ {X : Type 0} (kind : ReactorTree → List X) (name : X → List ℕ) where
   pub thing_forth : (located : List Located) (k place : ℕ) (l : Located) (x : X) → slice_get located k ≡ Some l → slice_get (kind l.inside.reactor) place ≡ Some x → slice_get (things name (declared kind located)) (base kind located k + place) ≡ Some (thing_at l.path (name x))
-  thing_forth located k place l x e f = map_at (λ d. thing_at d.located.path (name d.item)) (declared kind located) (base kind located k + place) (record { instance = k; located = l; place = place; item = x }) (declared_at kind located k place l x e f)
+  thing_forth located k place l x e f = mapped (λ d. thing_at d.located.path (name d.item)) (declared kind located) (base kind located k + place) (record { instance = k; located = l; place = place; item = x }) (declared_at kind located k place l x e f)
 
   -- what is declared under the number of a thing
   pub thing_back : (located : List Located) (p : ℕ) (t : Thing) → slice_get (things name (declared kind located)) p ≡ Some t → (d : Declared X) × (slice_get (declared kind located) p ≡ Some d) × (thing_at d.located.path (name d.item) ≡ t)
-  thing_back located p t e = map_from (λ d. thing_at d.located.path (name d.item)) (declared kind located) p t e
+  thing_back located p t e = mapped_from (λ d. thing_at d.located.path (name d.item)) (declared kind located) p t e
 
   -- where no reactor declares a name twice, no thing has two numbers
   pub distinct : (tree : FileTree) (tables : Tables) (nest : Nest) (n : IsNest tree tables nest) → ((k i j : ℕ) (l : Located) (x y : X) → slice_get n.located k ≡ Some l → slice_get (kind l.inside.reactor) i ≡ Some x → slice_get (kind l.inside.reactor) j ≡ Some y → name x ≡ name y → i ≡ j) → (p q : ℕ) (t : Thing) → slice_get (things name (declared kind n.located)) p ≡ Some t → slice_get (things name (declared kind n.located)) q ≡ Some t → p ≡ q

@@ -1,12 +1,14 @@
 -- How ports are linked, against the tree.
 use Rattle.std.proofs.Common.{◌≡◌, ◌≢◌, Result, Ok, Err, IfOk, IfErr, OnOk, ℕ, suc, ◌+◌, ◌<◌, ◌≤◌, inl, inr, List, [], ◌∷◌, ◌++◌, length, length-append, refl, sym, ap, ◌∙◌, subst, arith, Option, Some, None, slice_get, map}
+use Rattle.std.proofs.lemmas.Option.{slice_get_within}
+use Rattle.std.proofs.lemmas.List.{length-map}
+use Rattle.lft_lists.proofs.Mapped.{mapped_from}
+use Rattle.lft_lists.proofs.Places.{get_there, get_push_cases}
 use Rattle.lft_tree.specs.Tree.{FileTree}
 use Rattle.lft_tag.specs.declared.Shift.{Shift}
 use Rattle.lft_instances.specs.Sources.{AreReached, Leads, Origin}
 use Rattle.lft_instances.specs.declared.origins.Source.{Source}
 use Rattle.lft_instances.specs.declared.origins.Reached.{Reached}
-use Rattle.lft_instances.proofs.Members.{get_push_cases, get_within}
-use Rattle.lft_instances.proofs.Walks.{get_there}
 use Rattle.lft_scope.specs.Causes.{DelayTooLong as HasLongDelay, IsFirst, NoneHolds}
 use Rattle.lft_scope.specs.Instances.{Thing, Connects}
 use Rattle.lft_nesting.specs.Linking.{IsLinked, IsTooLong, AreLinked}
@@ -16,10 +18,8 @@ use Rattle.lft_nesting.specs.declared.linking.Linked.{Linked}
 use Rattle.lft_nesting.specs.declared.linking.LinkFault.{LinkFault}
 use Rattle.lft_nesting.specs.declared.linking.LinkFault.TheVariants.{ConnectionCycle, DelayTooLong, NoMemory}
 use Rattle.lft_nesting.proofs.Connected.{NoLongTime, TreeSources}
-use Rattle.lft_nesting.proofs.Counting.{length_map}
 use Rattle.lft_nesting.proofs.Cycles.{cycle_is_cause, no_cycle_no_cause}
 use Rattle.lft_nesting.proofs.Lengths.{long_is_cause, no_long_no_cause}
-use Rattle.lft_nesting.proofs.Zipping.{map_from}
 
 -- the ports so far are linked
 pub record Linking (sources : List (Option Source)) (reached : List Reached) (number : ℕ) (links : List Linked) : Type 0 where
@@ -69,14 +69,14 @@ module _ {tree : FileTree} (located : List Located) {sources : List (Option Sour
           where
             folded : (p : ℕ) (r : Reached) → slice_get all p ≡ Some r → (s : Shift) × (r.shift ≡ Some s)
             folded p r e =
-                let l = get_there links p (let a = get_within all p r e in let s = reached.as_long in let i = linked.as_long in omega arith) in
+                let l = get_there links p (let a = slice_get_within all p r e in let s = reached.as_long in let i = linked.as_long in omega arith) in
                 let is : slice_get all p ≡ Some (record { origin = l.0.origin; shift = Some l.0.shift }) = (linked.each p l.0 l.1).1 in
                 let z : Some r ≡ Some (record { origin = l.0.origin; shift = Some l.0.shift }) = sym e ∙ is in
                 let y : r ≡ record { origin = l.0.origin; shift = Some l.0.shift } = cc in
                 (l.0.shift, ap (λ (x : Reached). x.shift) y)
 
         sources_are : map (λ (k : Linked). k.source) links ≡ sources
-        sources_are = same_list (map (λ (k : Linked). k.source) links) sources (length_map (λ (k : Linked). k.source) links ∙ linked.as_long) (λ p x e. let m = map_from (λ (k : Linked). k.source) links p x e in (linked.each p m.0 m.1).0 ∙ ap Some m.2)
+        sources_are = same_list (map (λ (k : Linked). k.source) links) sources (length-map links (λ (k : Linked). k.source) ∙ linked.as_long) (λ p x e. let m = mapped_from (λ (k : Linked). k.source) links p x e in (linked.each p m.0 m.1).0 ∙ ap Some m.2)
 
         source : (p : ℕ) (t : Thing) → slice_get (ports_in located) p ≡ Some t → (o : Option Source) → slice_get sources p ≡ Some o → IsSource tree (ports_in located) t o
         source p t e None f = λ from delay c.

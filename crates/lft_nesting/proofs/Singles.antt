@@ -4,13 +4,13 @@ use Rattle.std.specs.List.{zip, prefix_len}
 use Rattle.std.proofs.lemmas.Bool.{cases_lt, lt-ltb, le-ltb}
 use Rattle.std.proofs.lemmas.List.{map-append}
 use Rattle.std.proofs.lemmas.Slice.Eq.{bytes_eq-Decides}
+use Rattle.lft_lists.proofs.Mapped.{mapped, mapped_from}
 use Rattle.lft_tree.specs.Tree.{ReactorTree, ConnectionTree, RefTree, TimeTree, connections_of}
 use Rattle.lft_scope.specs.Kinds.{destinations_in}
 use Rattle.lft_scope.specs.Places.{place}
 use Rattle.lft_reactors.specs.Sheets.{Single, singles_in, singles_of}
-use Rattle.lft_nesting.proofs.Counting.{total, map_at, flat_at}
+use Rattle.lft_nesting.proofs.Counting.{total, flat_at}
 use Rattle.lft_nesting.proofs.Lists.{From, flat_back, pair_at, pair_back}
-use Rattle.lft_nesting.proofs.Zipping.{map_from}
 
 -- the connection that a single one is of
 pub record IsOf (r : ReactorTree) (s : Single) : Type 0 where
@@ -25,7 +25,7 @@ pub record IsOf (r : ReactorTree) (s : Single) : Type 0 where
 pub single_back : (r : ReactorTree) (k : ℕ) (s : Single) → slice_get (singles_of r) k ≡ Some s → IsOf r s
 single_back r k s e =
     let f : From singles_in (connections_of r) k s = flat_back singles_in (connections_of r) k s e in
-    let m = map_from (λ (p : RefTree × RefTree). record { from = p.0; to = p.1; delay = f.element.delay }) (zip f.element.sources f.element.destinations) f.place s f.is_piece in
+    let m = mapped_from (λ (p : RefTree × RefTree). record { from = p.0; to = p.1; delay = f.element.delay }) (zip f.element.sources f.element.destinations) f.place s f.is_piece in
     let p = pair_back f.element.sources f.element.destinations f.place m.0 m.1 in
     record {
       number = f.number;
@@ -41,7 +41,7 @@ pub single_forth : (r : ReactorTree) (number : ℕ) (c : ConnectionTree) (k : �
 single_forth r number c k from to e f g = (
   total singles_in number (connections_of r) + k,
   flat_at singles_in (connections_of r) number k c (record { from = from; to = to; delay = c.delay }) e
-      (map_at (λ (p : RefTree × RefTree). record { from = p.0; to = p.1; delay = c.delay }) (zip c.sources c.destinations) k (from, to) (pair_at c.sources c.destinations k from to f g)),
+      (mapped (λ (p : RefTree × RefTree). record { from = p.0; to = p.1; delay = c.delay }) (zip c.sources c.destinations) k (from, to) (pair_at c.sources c.destinations k from to f g)),
 )
 
 -- where all lists are as long as each other, the single ones have all destinations in order
@@ -56,7 +56,7 @@ tos [] h = refl
 tos (c ∷ cs) h = map-append (λ s. s.to) (singles_in c) (flat_map singles_in cs) ∙ ap (λ l. l ++ map (λ (s : Single). s.to) (flat_map singles_in cs)) (seconds c.delay c.sources c.destinations (h 0 c refl)) ∙ ap (λ l. c.destinations ++ l) (tos cs (λ k d e. h (suc k) d e))
 
 pub to_at : (r : ReactorTree) → ((k : ℕ) (c : ConnectionTree) → slice_get (connections_of r) k ≡ Some c → length c.sources ≡ length c.destinations) → (k : ℕ) (s : Single) → slice_get (singles_of r) k ≡ Some s → slice_get (destinations_in r) k ≡ Some s.to
-to_at r even k s e = subst (λ l. slice_get l k ≡ Some s.to) (tos (connections_of r) even) (map_at (λ x. x.to) (singles_of r) k s e)
+to_at r even k s e = subst (λ l. slice_get l k ≡ Some s.to) (tos (connections_of r) even) (mapped (λ x. x.to) (singles_of r) k s e)
 
 -- what stands at the first place of a name has it
 pub place_forth : {X : Type 0} (name : X → List ℕ) (q : List ℕ) (xs : List X) (k : ℕ) → place q (map name xs) ≡ Some k → (x : X) × (slice_get xs k ≡ Some x) × (name x ≡ q)

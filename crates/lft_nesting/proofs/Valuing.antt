@@ -2,6 +2,7 @@
 use Rattle.std.proofs.Common.{◌≡◌, ℕ, List, [], Any, inl, sym, ap, ◌∙◌, subst, Some, slice_get, map, option_map, option_and_then}
 use Rattle.std.specs.List.{AllZip}
 use Rattle.std.specs.Option.{option_map_or}
+use Rattle.lft_lists.proofs.Mapped.{mapped_from}
 use Rattle.lft_tree.specs.Tree.{FileTree, ReactorTree, InstanceTree, nanoseconds, reactors_of, instances_of}
 use Rattle.lft_instances.specs.Contents.{contained}
 use Rattle.lft_instances.specs.Values.{defaults_of, entered as entered_by_number, given_by, values_in}
@@ -16,7 +17,7 @@ use Rattle.lft_scope.proofs.Twice.{Any-at}
 use Rattle.lft_nesting.proofs.Containing.{inner_at}
 use Rattle.lft_nesting.proofs.Entering.{entered_by, enters, made_in, step_forth}
 use Rattle.lft_nesting.proofs.Giving.{defaults_short, given_short, parameters_once, values_given}
-use Rattle.lft_nesting.proofs.Zipping.{map_some, map_from, zip_at}
+use Rattle.lft_nesting.proofs.Zipping.{map_some, zip_at}
 
 -- the reactor's number and the values are those of the instance
 abbrev pub HasValues : List ReactorTree → Inside → ℕ × List ℕ → Type 0
@@ -35,7 +36,7 @@ module _ (rs : List ReactorTree) (table : List Parameters) (are : AreParameters 
   given_are n k o i r at e named =
       let p = zip_at (IsParameters rs) rs table are n o at in
       let g = zip_at (AreGiven rs o) (instances_of o) (map (λ g. g.items) p.0.given.items) p.2.given k i e in
-      let v = map_from (λ g. g.items) p.0.given.items k g.0 g.1 in
+      let v = mapped_from (λ g. g.items) p.0.given.items k g.0 g.1 in
       let same : g.2.0 ≡ r = (let f : Some g.2.0 ≡ Some r = sym g.2.1 ∙ named in cc) in
       let is : given_by table n k ≡ g.0 = ap (λ o. option_map_or (λ given. given.items) (option_and_then (λ p. slice_get p.given.items k) o) []) p.1 ∙ ap (λ o. option_map_or (λ given. given.items) o []) v.1 ∙ v.2 in
       subst (λ l. AllZip (IsGiven o r) i.given l) (sym is) (subst (λ q. AllZip (IsGiven o q) i.given g.0) same g.2.2)

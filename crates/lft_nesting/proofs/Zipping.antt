@@ -1,5 +1,5 @@
 -- Two lists place by place, and lists of what is there.
-use Rattle.std.proofs.Common.{◌≡◌, ℕ, zero, suc, ◌<◌, List, [], ◌∷◌, map, length, refl, ap, subst, arith, Option, Some, None, slice_get}
+use Rattle.std.proofs.Common.{◌≡◌, ℕ, zero, suc, List, [], ◌∷◌, map, length, refl, ap, subst, arith, Option, Some, None, slice_get}
 use Rattle.std.specs.List.{AllZip}
 use Rattle.std.specs.Option.{option_and_then, option_map}
 
@@ -48,15 +48,3 @@ then_some f (Some x) y e = (x, refl, e)
 pub map_some : {X Y : Type 0} (f : X → Y) (o : Option X) (y : Y) → option_map f o ≡ Some y → (x : X) × (o ≡ Some x) × (f x ≡ y)
 map_some f None y e = absurd (cc)
 map_some f (Some x) y e = (x, refl, cc)
-
--- what a mapped list has at a place, and from what
-pub map_from : {X Y : Type 0} (f : X → Y) (xs : List X) (n : ℕ) (y : Y) → slice_get (map f xs) n ≡ Some y → (x : X) × (slice_get xs n ≡ Some x) × (f x ≡ y)
-map_from f [] n y at = absurd (cc)
-map_from f (x ∷ xs) zero y at = (x, refl, (cc))
-map_from f (x ∷ xs) (suc n) y at = map_from f xs n y at
-
--- each place within a list has an element
-pub get_at : {X : Type 0} (xs : List X) (k : ℕ) → k < length xs → (x : X) × (slice_get xs k ≡ Some x)
-get_at [] k l = absurd (omega arith)
-get_at (x ∷ xs) zero l = (x, refl)
-get_at (x ∷ xs) (suc k) l = get_at xs k (omega arith)

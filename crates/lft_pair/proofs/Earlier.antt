@@ -7,7 +7,7 @@ use Rattle.lft_trace.specs.declared.row.Row.{Row}
 use Rattle.lft_graph.specs.Precedence.{Direct, Precedes}
 use Rattle.lft_graph.specs.Precedence.Precedes.{one, more}
 use Rattle.lft_graph.specs.Graph.{GraphParts, IsGraphOf}
-use Rattle.lft_graph.proofs.Places.{get_there}
+use Rattle.lft_lists.proofs.Places.{get_there}
 use Rattle.lft_model.specs.Plans.{PlanParts, IsSoundPlan}
 use Rattle.lft_trace.specs.declared.row.Step.{Step}
 use Rattle.lft_model.specs.Runs.{Ran, steps_of, read_of, inputs_of, effects_of}

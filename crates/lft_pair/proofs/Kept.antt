@@ -6,7 +6,7 @@ use Rattle.lft_tag.specs.Tags.{Before, UpTo}
 use Rattle.lft_tag.proofs.Order.{Before-irrefl, Before-UpTo, UpTo_antisym, order_cases}
 use Rattle.lft_trace.specs.declared.row.Row.{Row}
 use Rattle.lft_trace.specs.declared.row.Step.TheVariants.{Start}
-use Rattle.lft_graph.proofs.Places.{get_same, get_write_cases}
+use Rattle.lft_lists.proofs.Places.{get_same, get_write_cases}
 use Rattle.lft_model.specs.Plans.{PlanParts}
 use Rattle.lft_model.specs.Breaches.{Legal}
 use Rattle.lft_model.specs.Runs.{start_row, Ran}

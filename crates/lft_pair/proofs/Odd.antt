@@ -13,7 +13,7 @@ use Rattle.lft_trace.specs.declared.row.Step.{Step}
 use Rattle.lft_trace.specs.declared.row.Step.TheVariants.{Start}
 use Rattle.lft_trace.specs.Fits.{RowsFit}
 use Rattle.lft_graph.specs.Graph.{GraphParts, IsGraphOf}
-use Rattle.lft_graph.proofs.Places.{get_there}
+use Rattle.lft_lists.proofs.Places.{get_there}
 use Rattle.lft_model.specs.Plans.{PlanParts}
 use Rattle.lft_model.specs.Breaches.{Legal}
 use Rattle.lft_model.specs.Runs.{Ran, start_row, steps_of, effects_of}

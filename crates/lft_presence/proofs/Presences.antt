@@ -3,6 +3,7 @@ use Rattle.std.proofs.Common.{◌≡◌, ℕ, ◌+◌, ◌-◌, ◌<◌, ◌≤�
 use Rattle.std.specs.List.{last_or}
 use Rattle.std.proofs.lemmas.Bool.{cases_lt, eq-eqb, and_from}
 use native.Mathlib.Decide.{ℕ_discrete}
+use Rattle.lft_flat.proofs.Origins.{origin_unique}
 use Rattle.lft_tag.specs.declared.Tag.{Tag}
 use Rattle.lft_tag.specs.Tags.{Before, UpTo, after, after_all, same_tag}
 use Rattle.lft_tag.specs.Shifts.{Folded, shifted}
@@ -27,7 +28,6 @@ use Rattle.lft_model.proofs.Members.{Mem, mem_get, get_mem, mem_contains, contai
 use Rattle.lft_model.proofs.Places.{slice_get_within}
 use Rattle.lft_model.proofs.Ended.{Schedules, written_by, by_written, scheduled_by, by_scheduled}
 use Rattle.lft_model.proofs.Steps.{written_some, some_written, scheduled_some, some_scheduled, same_tag_refl, same_tag_true, cond_some, both_true}
-use Rattle.lft_model.proofs.Decided.{origin_unique}
 use Rattle.lft_presence.specs.declared.causes.Cause.{Cause}
 use Rattle.lft_presence.specs.Causes.{tag_of, cause, ComesUpTo, AreCauses, LiesBelow, IsPosition, Leads, IsLastCause, IsValueFrom, IsRowCause, IsEventCause, IsCause, Carries, value_of, write_cause, schedule_cause, step_cause, event_cause}
 use Rattle.lft_presence.proofs.Positions.{shifted_mono, tag_up, same_cause}

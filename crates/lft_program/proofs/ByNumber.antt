@@ -1,15 +1,14 @@
 -- What is read from tables by number.
 use Rattle.std.proofs.Common.{◌≡◌, ℕ, ◌<◌, List, Option, Some, slice_get, get_or, length, sym, ap, ◌∙◌}
 use Rattle.std.specs.Option.{option_and_then}
-use Rattle.std.proofs.lemmas.Option.{get_or_from_slice_get, slice_get-get_or}
-use Rattle.lft_instances.proofs.Members.{get_within}
+use Rattle.std.proofs.lemmas.Option.{get_or_from_slice_get, slice_get-get_or, slice_get_within}
 
 pub then_at : {X Y : Type 0} (f : X → Option Y) (o : Option X) (x : X) (y : Y) → option_and_then f o ≡ Some y → o ≡ Some x → f x ≡ Some y
 then_at f o x y e is = sym (ap (option_and_then f) is) ∙ e
 
 -- an item of a table's row is within it
 pub row_within : {X Y : Type 0} (row : X → List Y) (o : Option X) (k : ℕ) (x : X) (y : Y) → option_and_then (λ z. slice_get (row z) k) o ≡ Some y → o ≡ Some x → k < length (row x)
-row_within row o k x y e is = get_within (row x) k y (then_at (λ z. slice_get (row z) k) o x y e is)
+row_within row o k x y e is = slice_get_within (row x) k y (then_at (λ z. slice_get (row z) k) o x y e is)
 
 -- what an index read is what stands there
 pub item_same : {X : Type 0} (xs : List X) (k : ℕ) (x y : X) → slice_get xs k ≡ Some x → y ≡ get_or xs k y → x ≡ y

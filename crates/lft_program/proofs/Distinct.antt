@@ -1,6 +1,7 @@
 -- Names that begin with `main`, each made from one before it: no two are the same where no instance has an ending twice.
 use Rattle.std.proofs.Common.{◌≡◌, ℕ, ◌+◌, ◌<◌, zero, suc, List, [], ◌∷◌, ◌++◌, length, get_or, slice_get, Some, codes, refl, sym, ap, subst, ◌∙◌, arith, append_assoc, append-nil}
 use Rattle.std.proofs.lemmas.Option.{slice_get_within, slice_get-get_or}
+use Rattle.lft_lists.proofs.Places.{Some_same}
 use Rattle.lft_flat.specs.Names.{HasNoTwice}
 use Rattle.lft_program.specs.Extended.{Ending, name_after, extended, AreAfter}
 use Rattle.lft_scope.proofs.Twice.{slice_get-front, slice_get-middle}
@@ -21,9 +22,6 @@ main_has_none : (c s : List ℕ) → IsEnding s → codes "main" ≡ c ++ s → 
 main_has_none c s is same =
     let whole : codes "main" ≡ c ++ is.separator ∷ is.rest = same ∙ ap (λ l. c ++ l) is.whole in
     separator_inside c is.rest is.separator is.separates (subst HasNoSeparator whole HasNoSeparator-main)
-
-pub Some_same : {X : Type 0} (x y : X) → Some x ≡ Some y → x ≡ y
-Some_same x y same = cc
 
 module _ (ds rest : List Ending) (e : Ending) (paths : ArePaths (ds ++ e ∷ rest)) (once : HasNoTwice (extended main ds)) where
   here : slice_get (ds ++ e ∷ rest) (length ds) ≡ Some e

@@ -3,6 +3,8 @@ use Rattle.std.proofs.Common.{◌≡◌, ℕ, suc, ◌<◌, ◌≤◌, inl, inr,
 use Rattle.std.specs.Option.{option_map, option_and_then}
 use Rattle.std.specs.Str.{bytes_eq}
 use Rattle.std.proofs.lemmas.Bool.{cases_lt}
+use Rattle.lft_lists.proofs.Places.{Some_same}
+use Rattle.lft_lists.proofs.Mapped.{mapped, mapped_from}
 use Rattle.lft_tree.specs.Tree.{FileTree, ReactorTree, ParameterTree, AssignmentTree, InstanceTree, TimeTree, Written, Named, nanoseconds, reactors_of, instances_of, timers_of, actions_of, connections_of}
 use Rattle.lft_instances.specs.Paths.{along}
 use Rattle.lft_scope.specs.Causes.{HasLongTime, IsLongTime, longest}
@@ -12,9 +14,6 @@ use Rattle.lft_scope.proofs.Effects.{Any-flat}
 use Rattle.lft_scope.proofs.Somes.{Any-left, Any-right, Any-head}
 use Rattle.lft_scope.proofs.Twice.{Any-at}
 use Rattle.lft_nesting.specs.Located.{Located, AreLocated}
-use Rattle.lft_nesting.proofs.Counting.{map_at}
-use Rattle.lft_nesting.proofs.Placed.{Some_same}
-use Rattle.lft_nesting.proofs.Zipping.{map_from}
 use Rattle.lft_program.specs.Flattening.{time_or_zero}
 
 -- what is found stands in the list, and passes
@@ -122,7 +121,7 @@ module _ (tree : FileTree) (in_time : Any HasLongTime (reactors_of tree) → ⊥
       record {
         number = at.0;
         reactor = at.1;
-        short = λ k v there. (let p = map_from (λ p. nanoseconds p.default) main.parameters k v there in subst (λ n. n ≤ 1000000000000000000) p.2 (default_short at.0 main at.1 k p.0 p.1));
+        short = λ k v there. (let p = mapped_from (λ p. nanoseconds p.default) main.parameters k v there in subst (λ n. n ≤ 1000000000000000000) p.2 (default_short at.0 main at.1 k p.0 p.1));
       }
 
   given_short : (x : Inside) → IsUsual x → (k : ℕ) (i : InstanceTree) → slice_get (instances_of x.reactor) k ≡ Some i → (p : ParameterTree) → nanoseconds p.default ≤ 1000000000000000000 → given_in x i.given p ≤ 1000000000000000000
@@ -134,7 +133,7 @@ module _ (tree : FileTree) (in_time : Any HasLongTime (reactors_of tree) → ⊥
           let f = find_in (λ a. bytes_eq p.name a.name) i.given a is in
           time_short x a.value usual.short
           (λ long. no_long usual.number x.reactor usual.reactor
-          (inr (in_given x.reactor (Any-flat IsLongTime (λ i. map (λ a. a.value) i.given) (instances_of x.reactor) k i at (Any-at IsLongTime (map (λ a. a.value) i.given) f.0 a.value (map_at (λ a. a.value) i.given f.0 a f.1) long)))))
+          (inr (in_given x.reactor (Any-flat IsLongTime (λ i. map (λ a. a.value) i.given) (instances_of x.reactor) k i at (Any-at IsLongTime (map (λ a. a.value) i.given) f.0 a.value (mapped (λ a. a.value) i.given f.0 a f.1) long)))))
 
   entered_usual : (x : Inside) (k : ℕ) (y : Inside) → IsUsual x → entered tree x k ≡ Some y → IsUsual y
   entered_usual x k y usual e =
@@ -144,7 +143,7 @@ module _ (tree : FileTree) (in_time : Any HasLongTime (reactors_of tree) → ⊥
       (record {
         number = at.0;
         reactor = at.1;
-        short = λ j v there. (let p = map_from (given_in x n.instance.given) n.reactor.parameters j v there in subst (λ m. m ≤ 1000000000000000000) p.2 (given_short x usual k n.instance n.there p.0 (default_short at.0 n.reactor at.1 j p.0 p.1)));
+        short = λ j v there. (let p = mapped_from (given_in x n.instance.given) n.reactor.parameters j v there in subst (λ m. m ≤ 1000000000000000000) p.2 (given_short x usual k n.instance n.there p.0 (default_short at.0 n.reactor at.1 j p.0 p.1)));
       })
 
   pub all_usual : (instances : List Located) → AreLocated tree instances → (n : ℕ) (l : Located) → slice_get instances n ≡ Some l → IsUsual l.inside

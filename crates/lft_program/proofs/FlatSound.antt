@@ -2,6 +2,7 @@
 use Rattle.std.proofs.Common.{◌≡◌, ℕ, ◌<◌, ◌≤◌, filter_map, length, not, slice_get, Some, Any, Contains, option_to_list, sym, ap, subst, ◌∙◌}
 use Rattle.std.proofs.lemmas.List.{length-map}
 use Rattle.std.proofs.lemmas.Option.{slice_get_within}
+use Rattle.lft_lists.proofs.Places.{at_contains, Some_same}
 use Rattle.lft_tree.specs.Tree.{FileTree, PortTree, RefTree, TriggerTree, AtStartup, AtShutdown, OnRef, reactors_of, ports_of, actions_of, timers_of, reactions_of}
 use Rattle.lft_scope.proofs.Effects.{Any-flat, reads_once, effects_once}
 use Rattle.lft_scope.proofs.Somes.{Any-left, Any-right}
@@ -11,7 +12,7 @@ use Rattle.lft_scope.specs.Kinds.{reads_of, ref_in, timer_times}
 use Rattle.lft_reactors.specs.Sheets.{is_timer, without_timers}
 use Rattle.lft_nesting.specs.Located.{Located, Declared, declared, ports_in, actions_in, timers_in}
 use Rattle.lft_nesting.specs.Tables.{IsLawful}
-use Rattle.lft_nesting.proofs.Placed.{Some_same, declared_from, thing_from, path_once}
+use Rattle.lft_nesting.proofs.Placed.{declared_from, thing_from, path_once}
 use Rattle.lft_program.specs.Flattening.{Flat, IsPort, IsAction, IsTimer, IsReaction, IsName, IsTrigger, name_of_thing, name_of_reaction}
 use Rattle.lft_flat.specs.Names.{AreDistinct, AreWords}
 use Rattle.lft_flat.specs.Parts.{Parts, named, inputs}
@@ -24,7 +25,6 @@ use Rattle.lft_flat.specs.declared.parts.Trigger.TheVariants.{Startup, Shutdown,
 use Rattle.lft_program.proofs.Entered.{IsUsual, all_usual, option_short, in_timers, in_actions}
 use Rattle.lft_program.proofs.OneWriter.{Writes, writes, same_path}
 use Rattle.lft_program.proofs.Ordered.{reaction_at, is_numbered, is_consecutive}
-use Rattle.lft_program.proofs.Zips.{at_contains}
 use Rattle.lft_program.proofs.Standing.{Some_of, all_of, some_kept, some_append, some_distinct, once_apart, apart_pairs, name_once, trigger_names}
 use Rattle.lft_program.proofs.Zips.{AllZip-from, AllZip-length}
 

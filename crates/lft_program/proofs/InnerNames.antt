@@ -2,27 +2,26 @@
 use Rattle.std.proofs.Common.{◌≡◌, ℕ, ◌+◌, ◌<◌, List, [], ◌∷◌, ◌++◌, map, flat_map, drop, length, slice_get, Some, None, Option, option_map, option_to_list, codes, ⊎_elim, refl, sym, ap, subst, ◌∙◌, arith, append_assoc, append-nil}
 use Rattle.std.proofs.lemmas.Bool.{cases_order}
 use Rattle.std.proofs.lemmas.List.{length-map}
+use Rattle.std.proofs.lemmas.Option.{slice_get_within}
+use Rattle.lft_lists.proofs.Mapped.{mapped, mapped_from}
+use Rattle.lft_lists.proofs.Places.{get_there, Some_same}
 use Rattle.lft_tree.specs.Tree.{FileTree, ReactorTree, InstanceTree, reactors_of, instances_of}
 use Rattle.lft_instances.specs.Paths.{along}
 use Rattle.lft_instances.specs.declared.walk.Instance.{Instance}
-use Rattle.lft_instances.proofs.Members.{get_within}
 use Rattle.lft_instances.proofs.Orders.{before_itself}
 use Rattle.lft_scope.specs.Instances.{Inside, entered, given_in, main_instance, reactor_named}
 use Rattle.lft_nesting.specs.Located.{Located}
 use Rattle.lft_nesting.specs.Nests.{IsInstanceOf, IsNest}
 use Rattle.lft_nesting.specs.declared.nest.Nest.{Nest}
 use Rattle.lft_nesting.specs.declared.tables.Tables.{Tables}
-use Rattle.lft_nesting.proofs.Counting.{map_at}
-use Rattle.lft_nesting.proofs.Zipping.{get_at, then_some, zip_at, zip_back, zip_long}
+use Rattle.lft_nesting.proofs.Zipping.{then_some, zip_at, zip_back, zip_long}
 use Rattle.lft_program.specs.Flattening.{name_of_path, name_under}
 use Rattle.lft_program.specs.OwnNames.{own_names}
 use Rattle.lft_program.specs.TreeLists.{name_at, seen}
 use Rattle.lft_program.specs.declared.naming.Declared.{Declared}
 use Rattle.lft_program.specs.declared.own_names.Kind.TheVariants as kinds
-use Rattle.lft_program.proofs.Distinct.{Some_same}
 use Rattle.lft_program.proofs.KindNames.{instance_name_there}
 use Rattle.lft_program.proofs.NamesOnce.{instance_names}
-use Rattle.lft_flat.proofs.Positions.{mapped_from}
 use Rattle.lft_flat.proofs.Ranges.{slice_get-drop}
 use Rattle.lft_program.proofs.Sites.{AreSites}
 
@@ -90,7 +89,7 @@ module _ (tree : FileTree) (tables : Tables) (nest : Nest) (is : IsNest tree tab
       (s.0, s.1)
 
   path_at : (n : ℕ) (l : Located) → slice_get is.located n ≡ Some l → slice_get is.walk.paths n ≡ Some l.path
-  path_at n l at = ap (λ ps. slice_get ps n) (sym is.paths) ∙ map_at (λ l. l.path) is.located n l at
+  path_at n l at = ap (λ ps. slice_get ps n) (sym is.paths) ∙ mapped (λ l. l.path) is.located n l at
 
   located_at : (n : ℕ) (p : List ℕ) → slice_get is.walk.paths n ≡ Some p → (l : Located) × (slice_get is.located n ≡ Some l) × (l.path ≡ p)
   located_at n p at = mapped_from (λ l. l.path) is.located n p (ap (λ ps. slice_get ps n) is.paths ∙ at)
@@ -103,12 +102,12 @@ module _ (tree : FileTree) (tables : Tables) (nest : Nest) (is : IsNest tree tab
   first =
       let root = is.walk.in_order.all [] (tables.main, refl) in
       let within = get_within_path root.0 root.1 in
-      let l = get_at is.located 0 within in
+      let l = get_there is.located 0 within in
       let m = zip_at (IsInstanceOf (reactors_of tree)) is.located nest.instances.items is.instances 0 l.0 l.1 in
       (l.0, l.1, (is.walk.each 0 m.0 l.0.path m.1 (path_at 0 l.0 l.1)).first refl)
     where
       get_within_path : (i : ℕ) → slice_get is.walk.paths i ≡ Some [] → 0 < length is.located
-      get_within_path i at = let l = located_at i [] at in let w = get_within is.located i l.0 l.1 in omega arith
+      get_within_path i at = let l = located_at i [] at in let w = slice_get_within is.located i l.0 l.1 in omega arith
 
   -- no two places have one path
   one_path : (i j : ℕ) (k l : Located) → slice_get is.located i ≡ Some k → slice_get is.located j ≡ Some l → k.path ≡ l.path → i ≡ j
@@ -152,7 +151,7 @@ module _ (tree : FileTree) (tables : Tables) (nest : Nest) (is : IsNest tree tab
 
     pub inner_at : (k : ℕ) (x : Declared) → slice_get xs k ≡ Some x → 0 < k → IsInner is.located k x
     inner_at k x at later =
-        let made : slice_get (map told_of nest.instances.items) k ≡ Some (seen x) = ap (λ l. slice_get l k) (sym seen_so) ∙ map_at seen xs k x at in
+        let made : slice_get (map told_of nest.instances.items) k ≡ Some (seen x) = ap (λ l. slice_get l k) (sym seen_so) ∙ mapped seen xs k x at in
         let m = mapped_from told_of nest.instances.items k (seen x) made in
         let l = zip_back (IsInstanceOf (reactors_of tree)) is.located nest.instances.items is.instances k m.0 m.1 in
         let walked = (is.walk.each k m.0 l.0.path m.1 (path_at k l.0 l.1)).later later in
@@ -167,7 +166,7 @@ module _ (tree : FileTree) (tables : Tables) (nest : Nest) (is : IsNest tree tab
     inner_sites = record {
       site = λ k x at.
           let i = inner_at (1 + k) x (later_at k x at) (omega arith) in
-          record { at = i.outer; place = i.place; there = i.there; name = map_at (λ i. i.name) (instances_of i.outer.inside.reactor) i.place i.item i.stands ∙ ap Some (sym i.called) };
+          record { at = i.outer; place = i.place; there = i.there; name = mapped (λ i. i.name) (instances_of i.outer.inside.reactor) i.place i.item i.stands ∙ ap Some (sym i.called) };
       one = λ i j a b at_a at_b instance place.
           let x = inner_at (1 + i) a (later_at i a at_a) (omega arith) in
           let y = inner_at (1 + j) b (later_at j b at_b) (omega arith) in

@@ -4,13 +4,15 @@ use Rattle.std.specs.List.{AllZip}
 use Rattle.std.specs.Option.{option_and_then, unwrap_or}
 use Rattle.std.proofs.lemmas.List.{length-map}
 use Rattle.std.proofs.lemmas.Option.{slice_get_within}
+use Rattle.lft_lists.proofs.Places.{Some_same}
+use Rattle.lft_lists.proofs.Mapped.{mapped}
 use Rattle.lft_tree.specs.Tree.{ReactorTree, InstanceTree, instances_of, ports_of, actions_of, timers_of, instance_in, port_in, action_in, timer_in}
 use Rattle.lft_instances.specs.declared.numbering.Thing.{Thing}
 use Rattle.lft_instances.specs.declared.walk.Instance.{Instance}
 use Rattle.lft_nesting.specs.Located.{Located, declared, Declared as DeclaredItem}
 use Rattle.lft_nesting.specs.Nests.{IsInstanceOf, IsNumbering, IsThingOf}
 use Rattle.lft_nesting.specs.declared.nest.Numbering.{Numbering}
-use Rattle.lft_nesting.proofs.Counting.{base, map_at}
+use Rattle.lft_nesting.proofs.Counting.{base}
 use Rattle.lft_nesting.proofs.Listing.{declared_from, declared-length}
 use Rattle.lft_nesting.proofs.Zipping.{zip_at, zip_back, zip_long, zip_of}
 use Rattle.lft_program.specs.OwnNames.{own_names}
@@ -19,7 +21,6 @@ use Rattle.lft_program.specs.declared.naming.Declared.{Declared}
 use Rattle.lft_program.specs.declared.naming.Placed.{Placed}
 use Rattle.lft_program.specs.declared.own_names.Kind.TheVariants as kinds
 use Rattle.lft_lists.proofs.Picked.{map-filter_map}
-use Rattle.lft_program.proofs.Distinct.{Some_same}
 use Rattle.lft_program.proofs.Sites.{AreSites}
 
 -- the names of a kind are those of the members
@@ -44,7 +45,7 @@ module _ (rs : List ReactorTree) (located : List Located) (instances : List Inst
   pub name_there : (names : ReactorTree → List (List ℕ)) (n place : ℕ) (l : Located) (x : List ℕ) → slice_get located n ≡ Some l → slice_get (names l.inside.reactor) place ≡ Some x → name_at (map names rs) instances n place ≡ x
   name_there names n place l x at here =
       let m = reactor_at n l at in
-      let list : slice_get (map names rs) m.0.reactor ≡ Some (names l.inside.reactor) = map_at names rs m.0.reactor l.inside.reactor m.2 in
+      let list : slice_get (map names rs) m.0.reactor ≡ Some (names l.inside.reactor) = mapped names rs m.0.reactor l.inside.reactor m.2 in
       ap (λ o. unwrap_or (option_and_then (λ l. slice_get l place) (option_and_then (λ i. slice_get (map names rs) i.reactor) o)) []) m.1
       ∙ ap (λ o. unwrap_or (option_and_then (λ l. slice_get l place) o) []) list
       ∙ ap (λ o. unwrap_or o []) here
@@ -52,7 +53,7 @@ module _ (rs : List ReactorTree) (located : List Located) (instances : List Inst
   -- and that of an instance
   pub instance_name_there : (n place : ℕ) (l : Located) (i : InstanceTree) → slice_get located n ≡ Some l → slice_get (instances_of l.inside.reactor) place ≡ Some i → name_at (map (own_names kinds.Instance) rs) instances n place ≡ i.name
   instance_name_there n place l i at here =
-      let own : slice_get (own_names kinds.Instance l.inside.reactor) place ≡ Some i.name = ap (λ names. slice_get names place) (own_instances l.inside.reactor) ∙ map_at (λ i. i.name) (instances_of l.inside.reactor) place i here in
+      let own : slice_get (own_names kinds.Instance l.inside.reactor) place ≡ Some i.name = ap (λ names. slice_get names place) (own_instances l.inside.reactor) ∙ mapped (λ i. i.name) (instances_of l.inside.reactor) place i here in
       name_there (own_names kinds.Instance) n place l i.name at own
 
   module _ {X : Type 0} (kind : ReactorTree → List X) where
@@ -66,7 +67,7 @@ module _ (rs : List ReactorTree) (located : List Located) (instances : List Inst
 
     module _ (name : X → List ℕ) (names : ReactorTree → List (List ℕ)) (same : (r : ReactorTree) → names r ≡ map name (kind r)) where
       item_name : (r : ReactorTree) (k : ℕ) (x : X) → slice_get (kind r) k ≡ Some x → slice_get (names r) k ≡ Some (name x)
-      item_name r k x at = ap (λ l. slice_get l k) (same r) ∙ map_at name (kind r) k x at
+      item_name r k x at = ap (λ l. slice_get l k) (same r) ∙ mapped name (kind r) k x at
 
       pub told : (things : List Thing) → AllZip IsThingOf (declared kind located) things
           → (xs : List Declared) → map seen xs ≡ map (λ t. (t.instance, name_at (map names rs) instances t.instance t.place)) things
@@ -80,8 +81,8 @@ module _ (rs : List ReactorTree) (located : List Located) (instances : List Inst
           each k d x at_d at_x =
               let stands = declared_from kind located k d at_d in
               let t = zip_at IsThingOf (declared kind located) things all k d at_d in
-              let made : slice_get (map (λ t. (t.instance, name_at (map names rs) instances t.instance t.place)) things) k ≡ Some (t.0.instance, name_at (map names rs) instances t.0.instance t.0.place) = map_at (λ t. (t.instance, name_at (map names rs) instances t.instance t.place)) things k t.0 t.1 in
-              let shown : slice_get (map seen xs) k ≡ Some (seen x) = map_at seen xs k x at_x in
+              let made : slice_get (map (λ t. (t.instance, name_at (map names rs) instances t.instance t.place)) things) k ≡ Some (t.0.instance, name_at (map names rs) instances t.0.instance t.0.place) = mapped (λ t. (t.instance, name_at (map names rs) instances t.instance t.place)) things k t.0 t.1 in
+              let shown : slice_get (map seen xs) k ≡ Some (seen x) = mapped seen xs k x at_x in
               let one : seen x ≡ (t.0.instance, name_at (map names rs) instances t.0.instance t.0.place) = Some_same _ _ (sym shown ∙ ap (λ l. slice_get l k) is ∙ made) in
               let found : name_at (map names rs) instances d.instance d.place ≡ name d.item = name_there names d.instance d.place d.located (name d.item) stands.instance (item_name d.located.inside.reactor d.place d.item stands.place) in
               (ap (λ p. p.0) one ∙ t.2.0, ap (λ p. p.1) one ∙ ap (λ n. name_at (map names rs) instances n t.0.place) t.2.0 ∙ ap (λ n. name_at (map names rs) instances d.instance n) t.2.1 ∙ found)
@@ -128,7 +129,7 @@ module _ (rs : List ReactorTree) (located : List Located) (instances : List Inst
         each : (k : ℕ) (d : DeclaredItem X) (x : Placed) → slice_get (declared kind located) k ≡ Some d → slice_get xs k ≡ Some x → IsPlacedAt d x
         each k d x at_d at_x =
             let t = zip_at IsThingOf (declared kind located) things all k d at_d in
-            let one : x ≡ placed_at t.0 = Some_same _ _ (sym at_x ∙ ap (λ l. slice_get l k) is ∙ map_at placed_at things k t.0 t.1) in
+            let one : x ≡ placed_at t.0 = Some_same _ _ (sym at_x ∙ ap (λ l. slice_get l k) is ∙ mapped placed_at things k t.0 t.1) in
             (ap (λ p. p.instance) one ∙ t.2.0, ap (λ p. p.place) one ∙ t.2.1)
 
     module _ (xs : List Placed) (all : AllZip IsPlacedAt (declared kind located) xs) where

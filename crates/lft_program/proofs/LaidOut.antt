@@ -2,12 +2,13 @@
 use Rattle.std.proofs.Common.{◌≡◌, ℕ, zero, suc, List, [], ◌∷◌, ◌++◌, Option, Some, map, flat_map, length, slice_get, option_to_list, Any, inr, subst, sym, ap, ◌∙◌}
 use Rattle.std.specs.Option.{option_and_then, unwrap_or}
 use Rattle.std.specs.List.{AllZip}
+use Rattle.lft_scope.proofs.Effects.{Any-flat}
+use Rattle.lft_lists.proofs.Mapped.{mapped}
 use Rattle.lft_tree.specs.Tree.{FileTree, ReactorTree, TimerTree, ActionTree, TimeTree, reactors_of, timers_of, actions_of, instances_of, connections_of}
 use Rattle.lft_instances.specs.Values.{clock_in}
 use Rattle.lft_instances.specs.declared.numbering.Thing.{Thing}
 use Rattle.lft_instances.specs.declared.settings.Clock.{Clock}
 use Rattle.lft_instances.specs.declared.walk.Instance.{Instance}
-use Rattle.lft_instances.proofs.Siblings.{map_get}
 use Rattle.lft_scope.specs.Causes.{IsLongTime, HasLongTime}
 use Rattle.lft_scope.specs.Kinds.{times_in, timer_times}
 use Rattle.lft_reactors.specs.Sheets.{IsDeclarations, IsTimerSheet, IsActionSheet, IsClockOrZero}
@@ -36,20 +37,15 @@ any_at P [] k x at p = absurd (cc)
 any_at P (z ∷ xs) zero x at p = Any-head P z xs (let same : x ≡ z = cc in subst P same p)
 any_at P (z ∷ xs) (suc k) x at p = Any-tail P z xs (any_at P xs k x at p)
 
-any_flat : {X Y : Type 0} (P : Y → Type 0) (f : X → List Y) (xs : List X) (k : ℕ) (x : X) → slice_get xs k ≡ Some x → Any P (f x) → Any P (flat_map f xs)
-any_flat P f [] k x at p = absurd (cc)
-any_flat P f (z ∷ xs) zero x at p = Any-left P (f z) (flat_map f xs) (let same : x ≡ z = cc in subst (λ w. Any P (f w)) same p)
-any_flat P f (z ∷ xs) (suc k) x at p = Any-right P (f z) (flat_map f xs) (any_flat P f xs k x at p)
-
 -- times of timers and actions are among those of their reactor
 long_first : (r : ReactorTree) → Any IsLongTime (flat_map timer_times (timers_of r) ++ flat_map (λ a. option_to_list a.min_delay) (actions_of r)) → Any IsLongTime (times_in r)
 long_first r long = Any-left IsLongTime _ (flat_map (λ c. option_to_list c.delay) (connections_of r)) (Any-left IsLongTime _ (flat_map (λ i. map (λ a. a.value) i.given) (instances_of r)) long)
 
 long_timer : (r : ReactorTree) (k : ℕ) (t : TimerTree) → slice_get (timers_of r) k ≡ Some t → Any IsLongTime (timer_times t) → Any IsLongTime (times_in r)
-long_timer r k t at long = long_first r (Any-left IsLongTime _ (flat_map (λ a. option_to_list a.min_delay) (actions_of r)) (any_flat IsLongTime timer_times (timers_of r) k t at long))
+long_timer r k t at long = long_first r (Any-left IsLongTime _ (flat_map (λ a. option_to_list a.min_delay) (actions_of r)) (Any-flat IsLongTime timer_times (timers_of r) k t at long))
 
 long_action : (r : ReactorTree) (k : ℕ) (a : ActionTree) → slice_get (actions_of r) k ≡ Some a → Any IsLongTime (option_to_list a.min_delay) → Any IsLongTime (times_in r)
-long_action r k a at long = long_first r (Any-right IsLongTime (flat_map timer_times (timers_of r)) _ (any_flat IsLongTime (λ x. option_to_list x.min_delay) (actions_of r) k a at long))
+long_action r k a at long = long_first r (Any-right IsLongTime (flat_map timer_times (timers_of r)) _ (Any-flat IsLongTime (λ x. option_to_list x.min_delay) (actions_of r) k a at long))
 
 module _ (tree : FileTree) (tables : Tables) (nest : Nest) (links : List Linked) (of : AreOfTree tree tables nest links) where
   pub instance_there : (n : ℕ) (l : Located) → slice_get of.is_nest.located n ≡ Some l → (i : Instance) × (slice_get nest.instances.items n ≡ Some i) × IsInstanceOf (reactors_of tree) l i
@@ -70,7 +66,7 @@ module _ (tree : FileTree) (tables : Tables) (nest : Nest) (links : List Linked)
 
   clock_read : (n : ℕ) (l : Located) (o : Option TimeTree) (clock : Clock) → slice_get of.is_nest.located n ≡ Some l → (Any IsLongTime (option_to_list o) → ⊥) → IsClockOrZero l.inside.reactor o clock → clock_at nest n clock ≡ time_or_zero l.inside o
   clock_read n l o clock at short is =
-      let values : slice_get nest.values n ≡ Some l.inside.values = ap (λ rows. slice_get rows n) (of.is_nest.values of.in_time) ∙ map_get (λ l. l.inside.values) of.is_nest.located n l at in
+      let values : slice_get nest.values n ≡ Some l.inside.values = ap (λ rows. slice_get rows n) (of.is_nest.values of.in_time) ∙ mapped (λ l. l.inside.values) of.is_nest.located n l at in
       ap (λ row. clock_in (unwrap_or row []) clock) values ∙ clock_or_zero_is l.inside o clock short is
 
   -- the thing of a declaration is in the tables

@@ -1,7 +1,7 @@
 -- Loops that make one item of each thing by number.
 use Rattle.std.proofs.Common.{◌≡◌, ℕ, suc, List, [], ◌∷◌, ◌++◌, ⊎_elim, length, slice_get, Some, refl, sym, ap, subst, ◌∙◌}
 use Rattle.std.specs.List.{AllZip}
-use Rattle.lft_instances.proofs.Members.{get_push_cases}
+use Rattle.lft_lists.proofs.Places.{get_push_cases}
 
 -- each item made so far goes with the thing of its number
 abbrev pub Made : {B C : Type 0} → (ℕ → B → C → Type 0) → List B → List C → Type 0

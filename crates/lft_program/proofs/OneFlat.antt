@@ -1,6 +1,8 @@
 -- A tree has one flat program.
 use Rattle.std.proofs.Common.{◌≡◌, ℕ, suc, List, [], ◌∷◌, map, slice_get, Some, refl, sym, ap, subst, ◌∙◌}
 use Rattle.std.specs.List.{AllZip}
+use Rattle.lft_lists.proofs.Picked.{map-same}
+use Rattle.lft_lists.proofs.Places.{Some_same}
 use Rattle.lft_tree.specs.Tree.{FileTree, PortTree, ports_of, actions_of, timers_of, reactions_of}
 use Rattle.lft_nesting.specs.Located.{Located, AreLocated, Declared, declared}
 use Rattle.lft_nesting.specs.Tables.{IsLawful}
@@ -9,7 +11,6 @@ use Rattle.lft_program.specs.Flattening.{Flat, IsPort, IsAction, IsTimer, IsReac
 use Rattle.lft_flat.specs.Parts.{Parts}
 use Rattle.lft_flat.specs.Sound.{KeepsOrigins}
 use Rattle.lft_flat.specs.declared.parts.Port.{Port as PortOf}
-use Rattle.lft_program.proofs.Distinct.{Some_same}
 use Rattle.lft_program.proofs.OneInstances.{one_located}
 use Rattle.lft_program.proofs.OneName.{one_of_action, one_of_timer, one_of_reaction}
 use Rattle.lft_program.proofs.OneOrigin.{one_end}
@@ -29,10 +30,6 @@ module _ {A B C : Type 0} (R : A → B → Type 0) (f : B → C) where
       let tail = one_mapped xs ys zs a.1 b.1 (λ k. one (suc k)) in
       λ j. head j ∷ tail j
 
-map_itself : {X : Type 0} (xs : List X) → map (λ x. x) xs ≡ xs
-map_itself [] = refl
-map_itself (x ∷ xs) = ap (λ l. x ∷ l) (map_itself xs)
-
 module _ (tree : FileTree) (lawful : IsLawful tree) (all : List Located) (are : AreLocated tree all) (p q : Parts) (a : AllZip (IsPort tree all) (declared ports_of all) p.ports) (b : AllZip (IsPort tree all) (declared ports_of all) q.ports) where
   sources : map (λ (x : PortOf). x.source) p.ports ≡ map (λ (x : PortOf). x.source) q.ports
   sources = one_mapped (IsPort tree all) (λ (x : PortOf). x.source) (declared ports_of all) p.ports q.ports a b one
@@ -41,7 +38,7 @@ module _ (tree : FileTree) (lawful : IsLawful tree) (all : List Located) (are : 
       one k d x y at _ _ v w = one_source tree lawful all are k d (declared_from ports_of all k d at) x.source y.source v.source w.source
 
   one_ports : KeepsOrigins p → KeepsOrigins q → p.ports ≡ q.ports
-  one_ports keeps keeps_too = sym (map_itself p.ports) ∙ one_mapped (IsPort tree all) (λ (x : PortOf). x) (declared ports_of all) p.ports q.ports a b one ∙ map_itself q.ports
+  one_ports keeps keeps_too = sym (map-same p.ports) ∙ one_mapped (IsPort tree all) (λ (x : PortOf). x) (declared ports_of all) p.ports q.ports a b one ∙ map-same q.ports
     where
       one : (k : ℕ) (d : Declared PortTree) (x y : PortOf) → slice_get (declared ports_of all) k ≡ Some d → slice_get p.ports k ≡ Some x → slice_get q.ports k ≡ Some y → IsPort tree all d x → IsPort tree all d y → x ≡ y
       one k d x y at e f v w =

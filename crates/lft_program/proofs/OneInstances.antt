@@ -1,16 +1,13 @@
 -- The instances of a tree are one list, and the reactor of each is one of the file.
-use Rattle.std.proofs.Common.{◌≡◌, ℕ, suc, ⊎_elim, Bool, true, false, cond, List, [], ◌∷◌, map, find, slice_get, Some, refl, sym, ap, subst, ◌∙◌, arith}
+use Rattle.std.proofs.Common.{◌≡◌, ℕ, suc, Bool, true, false, cond, List, [], ◌∷◌, map, find, slice_get, Some, refl, sym, ap, subst, ◌∙◌}
 use Rattle.std.specs.Option.{option_map}
-use Rattle.std.proofs.lemmas.Bool.{cases_lt}
+use Rattle.lft_lists.proofs.Places.{Some_same}
 use Rattle.lft_tree.specs.Tree.{FileTree, ReactorTree, InstanceTree, reactors_of, instances_of}
-use Rattle.lft_instances.specs.Paths.{along, Before, IsPreOrder}
-use Rattle.lft_instances.proofs.Orders.{before_itself}
+use Rattle.lft_instances.specs.Paths.{along, IsPreOrder}
 use Rattle.lft_instances.proofs.Unique.{pre_order_unique}
 use Rattle.lft_scope.specs.Instances.{Inside, IsInside, is_called, reactor_named, given_in, entered, main_of, main_instance}
 use Rattle.lft_nesting.specs.Located.{Located, AreLocated}
-use Rattle.lft_nesting.proofs.Counting.{map_at}
 use Rattle.lft_nesting.proofs.Zipping.{then_some, map_some}
-use Rattle.lft_program.proofs.Distinct.{Some_same}
 
 -- what is found stands in the list
 found_in : {X : Type 0} (p : X → Bool) (xs : List X) (x : X) → find p xs ≡ Some x → (k : ℕ) × (slice_get xs k ≡ Some x)
@@ -78,14 +75,3 @@ one_located tree xs ys a b =
     same_instances tree xs ys (pre_order_unique (entered tree) (main_instance a.main) (paths xs) (paths ys) a.in_order in_order) (inside_at tree xs a) (inside_at tree ys b)
 
 -- no path has two numbers
-pub path_once : (tree : FileTree) (all : List Located) → AreLocated tree all → (i j : ℕ) (a b : Located) → slice_get all i ≡ Some a → slice_get all j ≡ Some b → a.path ≡ b.path → i ≡ j
-path_once tree all are i j a b at_i at_j same = ⊎_elim
-    (λ low. absurd (before_itself b.path (subst (λ p. Before p b.path) same (are.in_order.in_order i j a.path b.path (path_at i a at_i) (path_at j b at_j) low))))
-    (λ high. ⊎_elim
-    (λ low. absurd (before_itself b.path (subst (λ p. Before b.path p) same (are.in_order.in_order j i b.path a.path (path_at j b at_j) (path_at i a at_i) low))))
-    (λ more. omega arith)
-    (cases_lt j i))
-    (cases_lt i j)
-  where
-    path_at : (n : ℕ) (l : Located) → slice_get all n ≡ Some l → slice_get (map (λ i. i.path) all) n ≡ Some l.path
-    path_at n l at = map_at (λ i. i.path) all n l at

@@ -1,5 +1,6 @@
 -- A name in an instance is of one port or action, a trigger is one, and so is a reaction.
 use Rattle.std.proofs.Common.{◌≡◌, ℕ, List, slice_get, Some, sym, ap, subst, ◌∙◌}
+use Rattle.lft_lists.proofs.Places.{Some_same}
 use Rattle.lft_tree.specs.Tree.{FileTree, RefTree, TriggerTree, ReactionTree, ActionTree, TimerTree, AtStartup, AtShutdown, OnRef}
 use Rattle.lft_scope.specs.Instances.{Thing, stands_for}
 use Rattle.lft_reactors.specs.Sheets.{without_timers}
@@ -13,7 +14,6 @@ use Rattle.lft_flat.specs.declared.parts.Name.{Name}
 use Rattle.lft_flat.specs.declared.parts.Name.TheVariants.{Port, Action}
 use Rattle.lft_flat.specs.declared.parts.Trigger.{Trigger}
 use Rattle.lft_flat.specs.declared.parts.Trigger.TheVariants.{Startup, Shutdown, Timer, On}
-use Rattle.lft_program.proofs.Distinct.{Some_same}
 use Rattle.lft_program.proofs.OneThing.{one_port, one_action, one_timer, port_or_timer, port_or_action, timer_or_action}
 use Rattle.lft_program.proofs.Zips.{AllZip-one}
 

@@ -3,11 +3,11 @@ use Rattle.std.proofs.Common.{◌≡◌, ℕ, ◌+◌, ◌<◌, zero, suc, List,
 use Rattle.std.specs.Fmt.{decimal}
 use Rattle.std.specs.List.{AllZip}
 use Rattle.std.proofs.lemmas.Option.{slice_get_within}
+use Rattle.lft_lists.proofs.Places.{Some_same}
 use Rattle.lft_flat.specs.Names.{ThingNames}
 use Rattle.lft_program.specs.FullNames.{IsDotted, IsHashed, AreFullNames, AreNested}
 use Rattle.lft_program.specs.declared.naming.Declared.{Declared}
 use Rattle.lft_program.specs.declared.naming.Placed.{Placed}
-use Rattle.lft_program.proofs.Distinct.{Some_same}
 use Rattle.lft_flat.proofs.Ranges.{slice_get-drop}
 use Rattle.lft_program.proofs.Zips.{AllZip-length, AllZip-from, AllZip-one}
 

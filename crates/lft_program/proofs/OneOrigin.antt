@@ -2,6 +2,8 @@
 use Rattle.std.proofs.Common.{◌≡◌, ◌≤◌, ℕ, List, ◌++◌, map, slice_get, Some, None, option_to_list, refl, sym, ap, subst, ◌∙◌}
 use Rattle.std.proofs.Math.Bridge.{le_prop}
 use Rattle.std.proofs.Math.Path.{to_path_p}
+use Rattle.lft_lists.proofs.Places.{Some_same}
+use Rattle.lft_lists.proofs.Mapped.{mapped}
 use Rattle.lft_tag.specs.Shifts.{join_all, none}
 use Rattle.lft_tag.specs.declared.Shift.{Shift}
 use Rattle.lft_flat.specs.Origins.{Origin, itself, over}
@@ -9,8 +11,6 @@ use Rattle.lft_flat.specs.Parts.{Parts}
 use Rattle.lft_flat.specs.Sound.{KeepsOrigins}
 use Rattle.lft_flat.specs.declared.parts.Port.{Port as PortOf}
 use Rattle.lft_flat.specs.declared.parts.Source.{Source}
-use Rattle.lft_program.proofs.Distinct.{Some_same}
-use Rattle.lft_flat.proofs.Positions.{mapped}
 
 -- a shift is known by its time and steps
 same_shift : (s t : Shift) → s.time ≡ t.time → s.steps ≡ t.steps → s ≡ t

@@ -3,9 +3,10 @@ use Rattle.std.proofs.Common.{◌≡◌, ℕ, zero, suc, ◌+◌, ◌⊎◌, inl
 use Rattle.std.specs.List.{position_or_len}
 use Rattle.std.proofs.lemmas.Grind.{common_steps}
 use Rattle.std.proofs.lemmas.List.Folds.{find_at}
+use Rattle.std.proofs.lemmas.Option.{slice_get_within}
+use Rattle.lft_lists.proofs.Places.{get_left, push_apart, Some_same}
 use Rattle.lft_tree.specs.Tree.{FileTree, PortTree, InstanceTree, ConnectionTree, RefTree, reactors_of, ports_of, instances_of, connections_of}
 use Rattle.lft_instances.specs.Paths.{along}
-use Rattle.lft_instances.proofs.Members.{get_within}
 use Rattle.lft_instances.proofs.Orders.{along_at}
 use Rattle.lft_scope.specs.Causes.{IsTwice, TwoSources, WritesTwice}
 use Rattle.lft_scope.specs.Instances.{Inside, IsInside, Thing, thing_at, stands_for, stands_inside, time_in, Connects, entered, main_instance, reactor_named}
@@ -23,15 +24,14 @@ use Rattle.lft_nesting.proofs.Listing.{Stands}
 use Rattle.lft_nesting.proofs.Zipping.{then_some}
 use Rattle.lft_program.specs.Flattening.{IsSource}
 use Rattle.lft_flat.specs.declared.parts.Source.{Source}
-use Rattle.lft_program.proofs.Distinct.{Some_same}
-use Rattle.lft_program.proofs.OneInstances.{enters, InFile, in_file, one_inside, inside_at}
-use Rattle.lft_program.proofs.OneThing.{once_at, left_at, right_at, one_port}
-use Rattle.lft_program.proofs.Standing.{StandsInner, stands_inner, stands_once, last_same}
+use Rattle.lft_program.proofs.OneInstances.{InFile, in_file, one_inside, inside_at, enters}
+use Rattle.lft_program.proofs.OneThing.{once_at, right_at, one_port}
+use Rattle.lft_program.proofs.Standing.{StandsInner, stands_inner, stands_once}
 
 -- ---- lists
 
 -- what is found is the element at the place where it is found
-found_at : {X : Type 0} (p : X → Bool) (xs : List X) (k : ℕ) (x : X) → position p xs ≡ Some k → slice_get xs k ≡ Some x → find p xs ≡ Some x
+pub found_at : {X : Type 0} (p : X → Bool) (xs : List X) (k : ℕ) (x : X) → position p xs ≡ Some k → slice_get xs k ≡ Some x → find p xs ≡ Some x
 found_at p xs k x is at = let e : position_or_len p xs ≡ k = grind (arith, common_steps) in find_at p xs ∙ ap (slice_get xs) e ∙ at
 
 -- and it stands at the first place of its name
@@ -42,13 +42,13 @@ once_right : {X : Type 0} (xs ys : List X) → (IsTwice (xs ++ ys) → ⊥) → 
 once_right xs ys once (i, j, x, low, a, b) = once (length xs + i, length xs + j, x, omega arith, right_at xs ys i x a, right_at xs ys j x b)
 
 once_left : {X : Type 0} (xs ys : List X) → (IsTwice (xs ++ ys) → ⊥) → IsTwice xs → ⊥
-once_left xs ys once (i, j, x, low, a, b) = once (i, j, x, low, left_at xs ys i x a, left_at xs ys j x b)
+once_left xs ys once (i, j, x, low, a, b) = once (i, j, x, low, get_left xs ys i x a, get_left xs ys j x b)
 
 -- an element that one gives and a later one too stands twice
 apart_pieces : {X Y : Type 0} (f : X → List Y) (w : X) (xs : List X) → (IsTwice (f w ++ flat_map f xs) → ⊥) → (i n j : ℕ) (y : X) (z : Y) → slice_get (f w) i ≡ Some z → slice_get xs n ≡ Some y → slice_get (f y) j ≡ Some z → ⊥
 apart_pieces f w xs once i n j y z first at second =
-    let low = get_within (f w) i z first in
-    once (i, length (f w) + (total f n xs + j), z, omega arith, left_at (f w) (flat_map f xs) i z first, right_at (f w) (flat_map f xs) (total f n xs + j) z (flat_at f xs n j y z at second))
+    let low = slice_get_within (f w) i z first in
+    once (i, length (f w) + (total f n xs + j), z, omega arith, get_left (f w) (flat_map f xs) i z first, right_at (f w) (flat_map f xs) (total f n xs + j) z (flat_at f xs n j y z at second))
 
 -- where nothing stands twice among what all give, each comes from one place of one
 one_piece : {X Y : Type 0} (f : X → List Y) (xs : List X) → (IsTwice (flat_map f xs) → ⊥) → (m n i j : ℕ) (x y : X) (z : Y) → slice_get xs m ≡ Some x → slice_get xs n ≡ Some y → slice_get (f x) i ≡ Some z → slice_get (f y) j ≡ Some z → (m ≡ n) × (i ≡ j)
@@ -174,7 +174,7 @@ module _ (tree : FileTree) (lawful : IsLawful tree) (all : List Located) (are : 
     same_path x y (inl e) (inl f) = e.1 ∙ sym f.1
     same_path x y (inl e) (inr f) = absurd (in_and_out q.item.is_input f.1 e.0)
     same_path x y (inr e) (inl f) = absurd (in_and_out q.item.is_input e.1 f.0)
-    same_path x y (inr e) (inr f) = (last_same x y e.0 f.0 (e.2 ∙ sym f.2)).0
+    same_path x y (inr e) (inr f) = (push_apart x y e.0 f.0 (e.2 ∙ sym f.2)).0
 
     one_connection : (a b : Thing) (d e : Option ℕ) → Connects tree a target d → Connects tree b target e → (a ≡ b) × (d ≡ e)
     one_connection a b d e c h = one_of_one a b target d e c h (same_path c.path h.path (leads a d c) (leads b e h))

@@ -1,31 +1,28 @@
 -- A thing that instances declare has one number and is of one kind.
-use Rattle.std.proofs.Common.{◌≡◌, ℕ, zero, suc, ◌+◌, ⊎_elim, List, [], ◌∷◌, ◌++◌, map, length, slice_get, Some, sym, ap, subst, ◌∙◌, arith, length-append}
+use Rattle.std.proofs.Common.{◌≡◌, ℕ, suc, ◌+◌, ⊎_elim, List, [], ◌∷◌, ◌++◌, map, length, slice_get, Some, sym, ap, subst, ◌∙◌, arith, length-append}
 use Rattle.std.proofs.lemmas.Bool.{cases_lt}
 use Rattle.std.proofs.lemmas.List.{length-map}
-use Rattle.lft_tree.specs.Tree.{FileTree, ReactorTree, PortTree, TimerTree, ActionTree, reactors_of, ports_of, timers_of, actions_of, instances_of}
-use Rattle.lft_instances.proofs.Members.{get_within}
+use Rattle.std.proofs.lemmas.Option.{slice_get_within}
+use Rattle.lft_program.proofs.NamesOnce.{port_names, timer_names, action_names, instance_names}
+use Rattle.lft_nesting.proofs.Placed.{path_once}
+use Rattle.lft_lists.proofs.Mapped.{mapped, mapped_from}
+use Rattle.lft_lists.proofs.Places.{get_left, Some_same}
+use Rattle.lft_tree.specs.Tree.{FileTree, ReactorTree, PortTree, TimerTree, ActionTree, reactors_of, ports_of, timers_of, actions_of}
 use Rattle.lft_scope.specs.Causes.{IsTwice}
 use Rattle.lft_scope.specs.Instances.{Thing, thing_at}
 use Rattle.lft_scope.specs.Kinds.{names_in}
 use Rattle.lft_scope.proofs.Effects.{names_once}
 use Rattle.lft_nesting.specs.Located.{Located, AreLocated, Declared, declared, things, ports_in, actions_in, timers_in}
 use Rattle.lft_nesting.specs.Tables.{IsLawful}
-use Rattle.lft_nesting.proofs.Counting.{base, map_at}
+use Rattle.lft_nesting.proofs.Counting.{base}
 use Rattle.lft_nesting.proofs.Listing.{Stands, declared_from}
-use Rattle.lft_program.proofs.Distinct.{Some_same}
-use Rattle.lft_program.proofs.OneInstances.{in_file, inside_at, path_once}
-use Rattle.lft_flat.proofs.Positions.{mapped_from}
+use Rattle.lft_program.proofs.OneInstances.{in_file, inside_at}
 
 pub once_at : {X : Type 0} (xs : List X) (x : X) (i j : ℕ) → (IsTwice xs → ⊥) → slice_get xs i ≡ Some x → slice_get xs j ≡ Some x → i ≡ j
 once_at xs x i j once a b = ⊎_elim
     (λ low. absurd (once (i, j, x, low, a, b)))
     (λ high. ⊎_elim (λ low. absurd (once (j, i, x, low, b, a))) (λ more. omega arith) (cases_lt j i))
     (cases_lt i j)
-
-pub left_at : {X : Type 0} (xs ys : List X) (k : ℕ) (x : X) → slice_get xs k ≡ Some x → slice_get (xs ++ ys) k ≡ Some x
-left_at [] ys k x at = absurd (cc)
-left_at (z ∷ xs) ys zero x at = at
-left_at (z ∷ xs) ys (suc k) x at = left_at xs ys k x at
 
 pub right_at : {X : Type 0} (xs ys : List X) (k : ℕ) (x : X) → slice_get ys k ≡ Some x → slice_get (xs ++ ys) (length xs + k) ≡ Some x
 right_at [] ys k x at = let e : k ≡ 0 + k = omega arith in subst (λ n. slice_get ys n ≡ Some x) e at
@@ -35,18 +32,6 @@ right_at (z ∷ xs) ys k x at = let e : suc (length xs + k) ≡ suc (length xs) 
 
 abbrev parameter_names : ReactorTree → List (List ℕ)
 parameter_names r = map (λ x. x.name) r.parameters
-
-abbrev port_names : ReactorTree → List (List ℕ)
-port_names r = map (λ x. x.name) (ports_of r)
-
-abbrev timer_names : ReactorTree → List (List ℕ)
-timer_names r = map (λ x. x.name) (timers_of r)
-
-abbrev action_names : ReactorTree → List (List ℕ)
-action_names r = map (λ x. x.name) (actions_of r)
-
-abbrev instance_names : ReactorTree → List (List ℕ)
-instance_names r = map (λ x. x.name) (instances_of r)
 
 abbrev before_ports : ReactorTree → ℕ
 before_ports r = length (parameter_names r)
@@ -59,21 +44,21 @@ before_actions r = length ((parameter_names r ++ port_names r) ++ timer_names r)
 
 port_name : (r : ReactorTree) (k : ℕ) (x : PortTree) → slice_get (ports_of r) k ≡ Some x → slice_get (names_in r) (before_ports r + k) ≡ Some x.name
 port_name r k x at =
-    left_at (((parameter_names r ++ port_names r) ++ timer_names r) ++ action_names r) (instance_names r) (before_ports r + k) x.name
-    (left_at ((parameter_names r ++ port_names r) ++ timer_names r) (action_names r) (before_ports r + k) x.name
-    (left_at (parameter_names r ++ port_names r) (timer_names r) (before_ports r + k) x.name
-    (right_at (parameter_names r) (port_names r) k x.name (map_at (λ x. x.name) (ports_of r) k x at))))
+    get_left (((parameter_names r ++ port_names r) ++ timer_names r) ++ action_names r) (instance_names r) (before_ports r + k) x.name
+    (get_left ((parameter_names r ++ port_names r) ++ timer_names r) (action_names r) (before_ports r + k) x.name
+    (get_left (parameter_names r ++ port_names r) (timer_names r) (before_ports r + k) x.name
+    (right_at (parameter_names r) (port_names r) k x.name (mapped (λ x. x.name) (ports_of r) k x at))))
 
 timer_name : (r : ReactorTree) (k : ℕ) (x : TimerTree) → slice_get (timers_of r) k ≡ Some x → slice_get (names_in r) (before_timers r + k) ≡ Some x.name
 timer_name r k x at =
-    left_at (((parameter_names r ++ port_names r) ++ timer_names r) ++ action_names r) (instance_names r) (before_timers r + k) x.name
-    (left_at ((parameter_names r ++ port_names r) ++ timer_names r) (action_names r) (before_timers r + k) x.name
-    (right_at (parameter_names r ++ port_names r) (timer_names r) k x.name (map_at (λ x. x.name) (timers_of r) k x at)))
+    get_left (((parameter_names r ++ port_names r) ++ timer_names r) ++ action_names r) (instance_names r) (before_timers r + k) x.name
+    (get_left ((parameter_names r ++ port_names r) ++ timer_names r) (action_names r) (before_timers r + k) x.name
+    (right_at (parameter_names r ++ port_names r) (timer_names r) k x.name (mapped (λ x. x.name) (timers_of r) k x at)))
 
 action_name : (r : ReactorTree) (k : ℕ) (x : ActionTree) → slice_get (actions_of r) k ≡ Some x → slice_get (names_in r) (before_actions r + k) ≡ Some x.name
 action_name r k x at =
-    left_at (((parameter_names r ++ port_names r) ++ timer_names r) ++ action_names r) (instance_names r) (before_actions r + k) x.name
-    (right_at ((parameter_names r ++ port_names r) ++ timer_names r) (action_names r) k x.name (map_at (λ x. x.name) (actions_of r) k x at))
+    get_left (((parameter_names r ++ port_names r) ++ timer_names r) ++ action_names r) (instance_names r) (before_actions r + k) x.name
+    (right_at ((parameter_names r ++ port_names r) ++ timer_names r) (action_names r) k x.name (mapped (λ x. x.name) (actions_of r) k x at))
 
 timers_after : (r : ReactorTree) → before_timers r ≡ before_ports r + length (ports_of r)
 timers_after r = length-append (parameter_names r) (port_names r) ∙ ap (λ n. before_ports r + n) (length-map (ports_of r) (λ x. x.name))
@@ -143,7 +128,7 @@ module _ (tree : FileTree) (lawful : IsLawful tree) (all : List Located) (are : 
       let r = m.first.located.inside.reactor in
       let e : before_ports r + m.first.place ≡ before_timers r + m.second.place = m.places in
       let f = timers_after r in
-      let l = get_within (ports_of r) m.first.place m.first.item m.stands.place in
+      let l = slice_get_within (ports_of r) m.first.place m.first.item m.stands.place in
       omega arith
 
   pub port_or_action : (t : Thing) (p q : ℕ) → slice_get (ports_in all) p ≡ Some t → slice_get (actions_in all) q ≡ Some t → ⊥
@@ -153,7 +138,7 @@ module _ (tree : FileTree) (lawful : IsLawful tree) (all : List Located) (are : 
       let e : before_ports r + m.first.place ≡ before_actions r + m.second.place = m.places in
       let f = timers_after r in
       let g = actions_after r in
-      let l = get_within (ports_of r) m.first.place m.first.item m.stands.place in
+      let l = slice_get_within (ports_of r) m.first.place m.first.item m.stands.place in
       omega arith
 
   pub timer_or_action : (t : Thing) (p q : ℕ) → slice_get (timers_in all) p ≡ Some t → slice_get (actions_in all) q ≡ Some t → ⊥
@@ -162,5 +147,5 @@ module _ (tree : FileTree) (lawful : IsLawful tree) (all : List Located) (are : 
       let r = m.first.located.inside.reactor in
       let e : before_timers r + m.first.place ≡ before_actions r + m.second.place = m.places in
       let g = actions_after r in
-      let l = get_within (timers_of r) m.first.place m.first.item m.stands.place in
+      let l = slice_get_within (timers_of r) m.first.place m.first.item m.stands.place in
       omega arith

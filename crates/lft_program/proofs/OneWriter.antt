@@ -1,10 +1,9 @@
 -- The reactions that write one port are of one instance: an output is written where it is declared, an input where the instance is made.
-use Rattle.std.proofs.Common.{◌≡◌, ℕ, List, [], ◌∷◌, ◌++◌, find, position, slice_get, Bool, true, false, Option, Some, None, Any, ◌⊎◌, inl, inr, refl, sym, ap, ◌∙◌, arith}
+use Rattle.std.proofs.Common.{◌≡◌, ℕ, List, [], ◌∷◌, ◌++◌, find, slice_get, Bool, true, false, Option, Some, None, Any, ◌⊎◌, inl, inr, refl, sym, ap, ◌∙◌}
 use Rattle.std.specs.Option.{option_and_then}
-use Rattle.std.specs.List.{position_or_len}
 use Rattle.std.specs.Str.{bytes_eq}
-use Rattle.std.proofs.lemmas.Grind.{common_steps}
-use Rattle.std.proofs.lemmas.List.Folds.{find_at}
+use Rattle.lft_program.proofs.OneSource.{found_at}
+use Rattle.lft_lists.proofs.Places.{push_apart, Some_same}
 use Rattle.lft_tree.specs.Tree.{FileTree, ReactionTree, PortTree, RefTree, reactors_of, reactions_of, ports_of, instances_of}
 use Rattle.lft_instances.specs.Paths.{along}
 use Rattle.lft_instances.proofs.Orders.{along_at}
@@ -13,13 +12,9 @@ use Rattle.lft_scope.specs.Causes.{HasLongTime}
 use Rattle.lft_scope.specs.Instances.{Inside, thing_at, stands_for, stands_inside, entered, main_instance, reactor_named}
 use Rattle.lft_nesting.specs.Located.{Located, AreLocated, Declared}
 use Rattle.lft_nesting.specs.Tables.{IsLawful}
-use Rattle.lft_nesting.proofs.Placed.{Some_same, IsAt, inside_once}
-use Rattle.lft_program.proofs.Entered.{IsUsual, enters, all_usual}
-use Rattle.lft_program.proofs.Standing.{StandsInner, stands_inner, last_same}
-
--- what is found is the element at the place where it is found
-found_at : {X : Type 0} (p : X → Bool) (xs : List X) (k : ℕ) (x : X) → position p xs ≡ Some k → slice_get xs k ≡ Some x → find p xs ≡ Some x
-found_at p xs k x is at = let e : position_or_len p xs ≡ k = grind (arith, common_steps) in find_at p xs ∙ ap (slice_get xs) e ∙ at
+use Rattle.lft_nesting.proofs.Placed.{IsAt, inside_once}
+use Rattle.lft_program.proofs.Entered.{IsUsual, all_usual, enters}
+use Rattle.lft_program.proofs.Standing.{StandsInner, stands_inner}
 
 -- how a reaction may write a port: an output of its own instance, or an input of an instance that this contains
 abbrev pub Writes : Declared ReactionTree → Declared PortTree → Type 0
@@ -32,7 +27,7 @@ pub same_path : (d e : Declared ReactionTree) (q : Declared PortTree) → Writes
 same_path d e q (inl a) (inl b) = a.1 ∙ sym b.1
 same_path d e q (inl a) (inr (k, incoming, b)) = absurd (input_output q.item.is_input incoming a.0)
 same_path d e q (inr (k, incoming, a)) (inl b) = absurd (input_output q.item.is_input incoming b.0)
-same_path d e q (inr (j, incoming, a)) (inr (k, also, b)) = (last_same d.located.path e.located.path j k (a ∙ sym b)).0
+same_path d e q (inr (j, incoming, a)) (inr (k, also, b)) = (push_apart d.located.path e.located.path j k (a ∙ sym b)).0
 
 module _ (tree : FileTree) (lawful : IsLawful tree) (in_time : Any HasLongTime (reactors_of tree) → ⊥) (instances : List Located) (are : AreLocated tree instances) where
   module _ (n p : ℕ) (d : Declared ReactionTree) (q : Declared PortTree) (at_d : IsAt reactions_of instances n d) (at_q : IsAt ports_of instances p q) (j : ℕ) (ref : RefTree) (among : slice_get d.item.effects j ≡ Some ref) where

@@ -1,14 +1,14 @@
 -- The chains of connections of a tree's links are those of the ports made of them.
 use Rattle.std.proofs.Common.{◌≡◌, ◌<◌, ℕ, List, Some, None, map, length, slice_get, sym, subst, ap, ◌∙◌}
+use Rattle.std.proofs.lemmas.Option.{slice_get_within}
+use Rattle.lft_lists.proofs.Mapped.{mapped_from}
+use Rattle.lft_lists.proofs.Places.{get_there}
 use Rattle.lft_tree.specs.Tree.{FileTree}
 use Rattle.lft_instances.specs.Sources.{Origin as OriginBefore, itself as itself_before, over as over_before}
 use Rattle.lft_instances.specs.declared.numbering.Thing.{Thing}
-use Rattle.lft_instances.proofs.Members.{get_within}
-use Rattle.lft_instances.proofs.Walks.{get_there}
 use Rattle.lft_nesting.specs.declared.linking.Linked.{Linked}
 use Rattle.lft_nesting.specs.declared.nest.Nest.{Nest}
 use Rattle.lft_nesting.specs.declared.tables.Tables.{Tables}
-use Rattle.lft_nesting.proofs.Zipping.{map_from}
 use Rattle.lft_program.specs.Laying.{source_of}
 use Rattle.lft_program.specs.OfTree.{AreOfTree}
 use Rattle.lft_flat.specs.Origins.{Origin, itself, over}
@@ -24,11 +24,11 @@ HaveSources links program = (p : ℕ) (l : Linked) → slice_get links p ≡ Som
 
 chain_is : (links : List Linked) (program : Parts) → HaveSources links program → (p o : ℕ) (delays : List ℕ) → OriginBefore (map (λ l. l.source) links) p o delays → Origin program p o delays
 chain_is links program have p _ _ (itself_before at) =
-    let l = map_from (λ (l : Linked). l.source) links p None at in
+    let l = mapped_from (λ (l : Linked). l.source) links p None at in
     let port = have p l.0 l.1 in
     itself port.0 port.1 (port.2 ∙ ap source_of l.2)
 chain_is links program have p o delays (over_before source first at rest is) =
-    let l = map_from (λ (l : Linked). l.source) links p (Some source) at in
+    let l = mapped_from (λ (l : Linked). l.source) links p (Some source) at in
     let port = have p l.0 l.1 in
     over port.0 (record { port = source.port; delay = source.delay }) first port.1 (port.2 ∙ ap source_of l.2) (chain_is links program have source.port o first rest) is
 
@@ -36,13 +36,13 @@ module _ (tree : FileTree) (tables : Tables) (nest : Nest) (links : List Linked)
   -- the link of a port
   linked : (p : ℕ) (port : PortOf) → slice_get ports p ≡ Some port → (thing : Thing) × IsLinkedPort tables nest links p thing port
   linked p port at =
-      let within : p < length things = subst (λ n. p < n) long (get_within ports p port at) in
+      let within : p < length things = subst (λ n. p < n) long (slice_get_within ports p port at) in
       let thing = get_there things p within in
       (thing.0, made p thing.0 port thing.1 at)
 
   have_sources : (program : Parts) → program.ports ≡ ports → HaveSources links program
   have_sources program same p l at =
-      let within : p < length ports = subst (λ n. p < n) (as_long ∙ sym long) (get_within links p l at) in
+      let within : p < length ports = subst (λ n. p < n) (as_long ∙ sym long) (slice_get_within links p l at) in
       let port = get_there ports p within in
       let link = linked p port.0 port.1 in
       let is : link.1.0 ≡ l = (let e : Some link.1.0 ≡ Some l = sym link.1.1 ∙ at in cc) in

@@ -2,10 +2,11 @@
 use Rattle.std.proofs.Common.{◌≡◌, ◌<◌, ℕ, Bool, List, Option, Some, None, length, slice_get, sym, subst, ap, ◌∙◌}
 use Rattle.std.specs.Option.{option_and_then}
 use Rattle.std.specs.List.{AllZip}
+use Rattle.std.proofs.lemmas.List.{length-map}
+use Rattle.lft_lists.proofs.Mapped.{mapped}
 use Rattle.lft_tree.specs.Tree.{FileTree, PortTree, ports_of}
 use Rattle.lft_instances.specs.declared.numbering.Thing.{Thing}
 use Rattle.lft_instances.specs.declared.origins.Source.{Source as Before}
-use Rattle.lft_instances.proofs.Siblings.{map_get, length_map}
 use Rattle.lft_scope.specs.Instances.{Thing as Spoken, thing_at}
 use Rattle.lft_reactors.specs.Sheets.{IsDeclarations}
 use Rattle.lft_nesting.specs.Links.{IsSource as IsSourceBefore}
@@ -40,12 +41,12 @@ module _ (tree : FileTree) (tables : Tables) (nest : Nest) (links : List Linked)
         let item : slice_get (ports_of d.located.inside.reactor) thing.place ≡ Some d.item = ap (slice_get (ports_of d.located.inside.reactor)) same.1 ∙ at.1 in
         ap (option_and_then (λ x. slice_get x.inputs.items thing.place)) row.1
         ∙ ap (λ inputs. slice_get inputs thing.place) row.2.inputs
-        ∙ map_get (λ x. x.is_input) (ports_of d.located.inside.reactor) thing.place d.item item
+        ∙ mapped (λ x. x.is_input) (ports_of d.located.inside.reactor) thing.place d.item item
 
     pub port_is : (port : PortOf) → IsLinkedPort tables nest links k thing port → IsPort tree of.is_nest.located d port
     port_is port made =
         let name : Declared PortTree → Spoken = λ x. thing_at x.located.path x.item.name in
-        let source = of.are_links.sources k (name d) made.0 (map_get name (declared ports_of of.is_nest.located) k d is) made.1 in
+        let source = of.are_links.sources k (name d) made.0 (mapped name (declared ports_of of.is_nest.located) k d is) made.1 in
         let input : Some port.is_input ≡ Some d.item.is_input = sym made.2.direction ∙ port_there in
         record {
           instance = made.2.instance ∙ same.0;
@@ -55,7 +56,7 @@ module _ (tree : FileTree) (tables : Tables) (nest : Nest) (links : List Linked)
 
   module _ (things : List Thing) (all : AllZip IsThingOf (declared ports_of of.is_nest.located) things) where
     pub links_long : length links ≡ length things
-    links_long = of.are_links.as_long ∙ length_map (λ x. thing_at x.located.path x.item.name) (declared ports_of of.is_nest.located) ∙ sym (AllZip-length IsThingOf (declared ports_of of.is_nest.located) things all)
+    links_long = of.are_links.as_long ∙ length-map (declared ports_of of.is_nest.located) (λ x. thing_at x.located.path x.item.name) ∙ sym (AllZip-length IsThingOf (declared ports_of of.is_nest.located) things all)
 
     pub link_within : (k : ℕ) → k < length things → k < length links
     link_within k within = subst (λ n. k < n) (sym links_long) within

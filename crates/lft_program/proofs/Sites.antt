@@ -2,11 +2,11 @@
 use Rattle.std.proofs.Common.{◌≡◌, ℕ, ◌+◌, ◌<◌, List, ◌++◌, length, slice_get, get_or, Some, All, AllPairs, ⊎_elim, sym, ap, ◌∙◌, arith}
 use Rattle.std.proofs.lemmas.Bool.{cases_order}
 use Rattle.std.proofs.lemmas.Option.{slice_get_within, slice_get-get_or}
+use Rattle.lft_lists.proofs.Places.{Some_same}
 use Rattle.lft_tree.specs.Tree.{ReactorTree}
 use Rattle.lft_scope.specs.Causes.{IsTwice}
 use Rattle.lft_nesting.specs.Located.{Located}
 use Rattle.lft_program.specs.declared.naming.Declared.{Declared}
-use Rattle.lft_program.proofs.Distinct.{Some_same}
 use Rattle.lft_program.proofs.FullNames.{part_at}
 
 -- ---- names that an instance has once

@@ -2,11 +2,11 @@
 use Rattle.std.proofs.Common.{◌≡◌, ℕ, ◌≤◌, List, [], ◌∷◌, ◌+◌, Some, None, map, length, slice_get, sym, ap, subst, ◌∙◌, arith}
 use Rattle.std.specs.Option.{option_map, option_and_then}
 use Rattle.std.specs.List.{AllZip}
+use Rattle.std.proofs.lemmas.Option.{slice_get_within}
+use Rattle.std.proofs.lemmas.List.{length-map}
 use Rattle.lft_tree.specs.Tree.{FileTree, ReactorTree, ReactionTree, RefTree, TriggerTree, AtStartup, AtShutdown, OnRef, reactors_of, ports_of, timers_of, actions_of, reactions_of}
 use Rattle.lft_instances.specs.Joins.{port_at}
 use Rattle.lft_instances.specs.declared.numbering.Thing.{Thing}
-use Rattle.lft_instances.proofs.Members.{get_within}
-use Rattle.lft_instances.proofs.Siblings.{length_map}
 use Rattle.lft_scope.specs.Instances.{Thing as Spoken, thing_at, stands_inside, stands_for}
 use Rattle.lft_scope.specs.Places.{place}
 use Rattle.lft_reactors.specs.Sheets.{AreCues, IsCue, IsReactions, IsSpot, without_timers}
@@ -64,8 +64,8 @@ module _ (tree : FileTree) (tables : Tables) (nest : Nest) (links : List Linked)
 
     few : (p : ℕ) (t : Spoken) → slice_get (things name (declared kind all)) p ≡ Some t → p ≤ limit
     few p t at =
-        let within = get_within (things name (declared kind all)) p t at in
-        let same = length_map (λ d. thing_at d.located.path (name d.item)) (declared kind all) in
+        let within = slice_get_within (things name (declared kind all)) p t at in
+        let same = length-map (declared kind all) (λ d. thing_at d.located.path (name d.item)) in
         let most = declared_few in
         omega arith
 

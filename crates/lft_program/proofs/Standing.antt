@@ -1,9 +1,10 @@
 -- No thing stands twice among what a reaction reads, or among what it writes.
-use Rattle.std.proofs.Common.{◌≡◌, ◌≢◌, ℕ, suc, ◌+◌, ◌⊎◌, inl, inr, Bool, true, false, cond, List, [], ◌∷◌, ◌++◌, filter, filter_map, position, length, get_or, slice_get, Option, Some, None, option_map, AllPairs, refl, sym, ap, subst, ◌∙◌, arith, length-append}
+use Rattle.std.proofs.Common.{◌≡◌, ◌≢◌, ℕ, ◌+◌, ◌⊎◌, inl, inr, Bool, true, false, cond, List, [], ◌∷◌, ◌++◌, filter, filter_map, position, length, get_or, slice_get, Option, Some, None, option_map, AllPairs, refl, sym, ap, subst, ◌∙◌, arith, length-append}
 use Rattle.std.specs.List.{AllZip}
 use Rattle.std.specs.Str.{bytes_eq}
 use Rattle.std.proofs.lemmas.Option.{slice_get-get_or}
 use Rattle.std.proofs.lemmas.Slice.Eq.{bytes_eq-Decides}
+use Rattle.lft_lists.proofs.Places.{push_apart, Some_same}
 use Rattle.lft_tree.specs.Tree.{ReactorTree, InstanceTree, RefTree, TriggerTree, AtStartup, AtShutdown, OnRef, instances_of}
 use Rattle.lft_instances.proofs.Members.{Mem, Pairs, pairs_at}
 use Rattle.lft_instances.proofs.Unique.{pairs_from}
@@ -11,7 +12,6 @@ use Rattle.lft_scope.specs.Causes.{IsTwice}
 use Rattle.lft_scope.specs.Instances.{Thing, thing_at, stands_for, stands_inside}
 use Rattle.lft_scope.specs.Kinds.{ref_in}
 use Rattle.lft_nesting.specs.Located.{Located}
-use Rattle.lft_nesting.proofs.Placed.{Some_same}
 use Rattle.lft_program.specs.Flattening.{IsName, IsTrigger, Means}
 use Rattle.lft_flat.specs.Parts.{named}
 use Rattle.lft_flat.specs.declared.parts.Name.{Name}
@@ -75,12 +75,6 @@ apart_pairs xs apart i j d low high = pairs_at (λ a b. a ≢ b) xs apart i j (g
 one_longer : (path : List ℕ) (k : ℕ) → path ≡ path ++ k ∷ [] → ⊥
 one_longer path k e = let l : length path ≡ length (path ++ k ∷ []) = ap length e in let m : length (path ++ k ∷ []) ≡ length path + 1 = length-append path (k ∷ []) in omega arith
 
-pub last_same : (p q : List ℕ) (j k : ℕ) → p ++ j ∷ [] ≡ q ++ k ∷ [] → (p ≡ q) × (j ≡ k)
-last_same [] [] j k e = (refl, (cc))
-last_same [] (y ∷ q) j k e = let l : 1 ≡ suc (length (q ++ k ∷ [])) = ap length e in let m : length (q ++ k ∷ []) ≡ length q + 1 = length-append q (k ∷ []) in absurd (omega arith)
-last_same (x ∷ p) [] j k e = let l : suc (length (p ++ j ∷ [])) ≡ 1 = ap length e in let m : length (p ++ j ∷ []) ≡ length p + 1 = length-append p (j ∷ []) in absurd (omega arith)
-last_same (x ∷ p) (y ∷ q) j k e = let r = last_same p q j k (cc) in let h : x ≡ y = (cc) in ((λ i. h i ∷ r.0 i), r.1)
-
 -- the contained instance that a name of one of its ports begins with
 pub record StandsInner (r : ReactorTree) (path head name : List ℕ) (t : Thing) : Type 0 where
   pub place : ℕ
@@ -120,7 +114,7 @@ stands_once r path a b t e f = by a.port refl b.port refl e f
         let u = stands_inner r path a.head m t e in
         let v = stands_inner r path b.head n t f in
         let w : thing_at (path ++ u.place ∷ []) m ≡ thing_at (path ++ v.place ∷ []) n = u.thing ∙ sym v.thing in
-        let k : u.place ≡ v.place = (last_same path path u.place v.place (ap (λ x. x.path) w)).1 in
+        let k : u.place ≡ v.place = (push_apart path path u.place v.place (ap (λ x. x.path) w)).1 in
         let i : u.instance ≡ v.instance = Some_same _ _ (sym u.there ∙ ap (slice_get (instances_of r)) k ∙ v.there) in
         let n : m ≡ n = ap (λ x. x.name) w in
         same (u.called ∙ ap (λ x. x.name) i ∙ sym v.called) (c ∙ ap Some n ∙ sym d)

@@ -4,6 +4,8 @@ use Rattle.std.specs.Fmt.{decimal}
 use Rattle.std.specs.List.{AllZip}
 use Rattle.std.proofs.lemmas.List.{length-map}
 use Rattle.std.proofs.lemmas.Option.{slice_get_within}
+use Rattle.lft_lists.proofs.Places.{Some_same}
+use Rattle.lft_lists.proofs.Mapped.{mapped, mapped_from}
 use Rattle.lft_tree.specs.Identifiers.{IsIdentifier, HasIdentifiers}
 use Rattle.lft_tree.specs.Tree.{FileTree, ReactorTree, reactors_of, ports_of, actions_of, timers_of, reactions_of}
 use Rattle.lft_scope.specs.Kinds.{names_in}
@@ -13,7 +15,6 @@ use Rattle.lft_nesting.specs.Nests.{IsNest}
 use Rattle.lft_nesting.specs.Tables.{IsLawful}
 use Rattle.lft_nesting.specs.declared.nest.Nest.{Nest}
 use Rattle.lft_nesting.specs.declared.tables.Tables.{Tables}
-use Rattle.lft_nesting.proofs.Counting.{map_at}
 use Rattle.lft_nesting.proofs.Listing.{declared_from}
 use Rattle.lft_nesting.proofs.Zipping.{zip_at, zip_long, zip_of}
 use Rattle.lft_program.specs.Flattening.{name_of_path, name_of_thing, name_of_reaction, names_of}
@@ -23,11 +24,9 @@ use Rattle.lft_program.specs.TreeLists.{AreLists, IsPlacedAt, Says}
 use Rattle.lft_program.specs.declared.naming.Declared.{Declared}
 use Rattle.lft_program.specs.declared.naming.Placed.{Placed}
 use Rattle.lft_program.specs.declared.tree_lists.Lists.{Lists}
-use Rattle.lft_program.proofs.Distinct.{Some_same}
 use Rattle.lft_program.proofs.InnerNames.{first, inner_at, inner_sites, long, long_inner, path_last}
 use Rattle.lft_program.proofs.KindNames.{reactor_at, sites, few_told, placed_within, placed_once, few_placed}
 use Rattle.lft_program.proofs.NamesOnce.{port_names, timer_names, action_names, instance_names, never_twice, ports_once, timers_once, actions_once, instances_once, ports_timers, ports_actions, ports_instances, timers_actions, timers_instances, actions_instances, ports_named, timers_named, actions_named, instances_named}
-use Rattle.lft_flat.proofs.Positions.{mapped_from}
 use Rattle.lft_flat.proofs.Ranges.{slice_get-drop}
 use Rattle.lft_program.proofs.Sites.{Once, AreApart, AreSites, Each, all_of, pairs_of, each_append, once_append, apart_append, append_apart, once_of, apart_of, names_of_sites, within_sites}
 
@@ -139,7 +138,7 @@ module _ (tree : FileTree) (tables : Tables) (nest : Nest) (is : IsNest tree tab
   instance_texts = map (λ i. name_of_path tree is.are_located.main i.path) is.located
 
   text_at : (n : ℕ) (l : Located) → slice_get is.located n ≡ Some l → slice_get instance_texts n ≡ Some (name_of_path tree is.are_located.main l.path)
-  text_at n l at = map_at (λ i. name_of_path tree is.are_located.main i.path) is.located n l at
+  text_at n l at = mapped (λ i. name_of_path tree is.are_located.main i.path) is.located n l at
 
   names_of_kind : {X : Type 0} (kind : ReactorTree → List X) (name : X → List ℕ) (xs : List Declared) → AllZip (Says name) (declared kind is.located) xs → AllZip (IsDotted instance_texts) xs (map (name_of_thing tree is.are_located.main) (things name (declared kind is.located)))
   names_of_kind {X} kind name xs all = zip_of (IsDotted instance_texts) xs _ same each

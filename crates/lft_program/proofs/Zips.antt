@@ -1,9 +1,8 @@
 -- Loops that make one item of each element of a list.
-use Rattle.std.proofs.Common.{◌≡◌, ℕ, ◌+◌, ◌<◌, zero, suc, List, [], ◌∷◌, ◌++◌, map, take, drop, length, get_or, slice_get, Some, Contains, refl, sym, ap, subst, ◌∙◌, arith, zero-add, add-zero}
+use Rattle.std.proofs.Common.{◌≡◌, ℕ, ◌+◌, ◌<◌, zero, suc, List, [], ◌∷◌, ◌++◌, map, take, drop, length, get_or, slice_get, Some, refl, sym, ap, subst, ◌∙◌, arith, zero-add, add-zero}
 use Rattle.std.specs.List.{AllZip, enumerate_from}
 use Rattle.std.proofs.lemmas.Grind.{common_steps}
 use Rattle.std.proofs.lemmas.List.{map-append}
-use Rattle.std.proofs.lemmas.Option.{slice_get-get_or}
 use Rattle.lft_lists.proofs.Picked.{take_one_more}
 
 module _ {A B : Type 0} (R : A → B → Type 0) where
@@ -86,7 +85,3 @@ module _ {A C : Type 0} (v : C → A) (xs : List C) (i : ℕ) (x : C) (lt : i < 
       let e : enumerate_from 0 (map v xs) ≡ enumerate_from 0 (map v (take i xs)) ++ (i, v x) ∷ enumerate_from (i + 1) rest =
       ap (enumerate_from 0) map_around ∙ enumerate_from-append 0 (map v (take i xs)) (v x ∷ rest) ∙ ap (λ k. enumerate_from 0 (map v (take i xs)) ++ (k, v x) ∷ enumerate_from (k + 1) rest) number in
       AllZip-none R (enumerate_from 0 (map v (take i xs))) (enumerate_from (i + 1) rest) (i, v x) none ys (subst (λ l. AllZip R l ys) e all)
-
--- what a list contains stands at a place of it
-pub at_contains : {X : Type 0} (xs : List X) (x : X) → Contains xs x → (k : ℕ) × (slice_get xs k ≡ Some x)
-at_contains xs x (k, lt, is) = (k, slice_get-get_or xs k x lt ∙ ap Some is)

@@ -2,11 +2,11 @@
 use Rattle.std.proofs.Common.{◌≡◌, ℕ, ◌+◌, ◌<◌, Bool, true, false, cond, List, [], ◌∷◌, ◌++◌, map, flat_map, filter, take, length, get_or, Any, inl, append-nil, sym, ap, subst, ◌∙◌}
 use Rattle.std.specs.List.{AllZip}
 use Rattle.std.proofs.lemmas.List.Elements.{filter-append}
+use Rattle.lft_reactors.proofs.Lacking.{Any-flat_map}
 use Rattle.lft_tree.specs.Tree.{ReactorTree, connections_of, reactions_of}
 use Rattle.lft_reactors.specs.Directories.{HasLost, IsLost}
 use Rattle.lft_scope.specs.Kinds.{connection_refs, reaction_refs}
 use Rattle.lft_scope.proofs.Files.{AllZip-last}
-use Rattle.lft_reactors.proofs.Joined.{Any-flat}
 use Rattle.lft_scope.proofs.Somes.{Any-left}
 use Rattle.lft_scope.proofs.Twice.{map_last}
 
@@ -27,4 +27,4 @@ module _ {A B C : Type 0} (test : B → Bool) (v : A → B) (R : B → C → Typ
 
 -- what is lost in a reaction is lost in its reactor
 pub lost_reaction : (rs : List ReactorTree) (r : ReactorTree) → Any (λ x. Any (IsLost rs r) (reaction_refs x)) (reactions_of r) → HasLost rs r
-lost_reaction rs r a = inl (Any-left (IsLost rs r) (flat_map reaction_refs (reactions_of r)) (flat_map connection_refs (connections_of r)) (Any-flat (IsLost rs r) reaction_refs (reactions_of r) a))
+lost_reaction rs r a = inl (Any-left (IsLost rs r) (flat_map reaction_refs (reactions_of r)) (flat_map connection_refs (connections_of r)) (Any-flat_map (IsLost rs r) reaction_refs (reactions_of r) a))

@@ -1,6 +1,7 @@
 -- What connections join, as lists of joins grow, and where names are lost among them.
 use Rattle.std.proofs.Common.{◌≡◌, ℕ, ◌+◌, ◌<◌, zero, suc, min, List, [], ◌∷◌, ◌++◌, map, flat_map, take, length, get_or, Option, None, Any, ◌⊎◌, inl, inr, ⊎_elim, append_assoc, option_to_list, refl, sym, ap, subst, ◌∙◌, arith}
 use Rattle.std.specs.List.{AllZip, zip}
+use Rattle.lft_reactors.proofs.Lacking.{Any-flat_map}
 use Rattle.lft_tree.specs.Tree.{ReactorTree, ConnectionTree, RefTree, TimeTree, actions_of, connections_of, instances_of, reactions_of, timers_of}
 use Rattle.lft_scope.specs.Causes.{IsMisplaced, IsMisplacedTime, IsUnknownTime, UnknownName, WrongPlace}
 use Rattle.lft_reactors.specs.Directories.{HasLost, IsLost, IsLostTime, LosesIn}
@@ -8,7 +9,7 @@ use Rattle.lft_scope.specs.Kinds.{connection_refs, in_role, kind_of, reaction_re
 use Rattle.lft_reactors.specs.Sheets.{Single}
 use Rattle.lft_scope.specs.declared.kinds.Role.{Role}
 use Rattle.lft_scope.proofs.Files.{AllZip-last}
-use Rattle.lft_scope.proofs.Somes.{Any-nil, Any-head, Any-tail, Any-cases, Any-left, Any-right, some_here}
+use Rattle.lft_scope.proofs.Somes.{Any-nil, Any-head, Any-tail, Any-cases, Any-right, some_here}
 
 -- the single connections of two lists of names, seen by view
 module _ {A : Type 0} (view : A → RefTree) (delay : Option TimeTree) where
@@ -44,11 +45,6 @@ module _ {A : Type 0} (view : A → RefTree) (delay : Option TimeTree) where
 pub joined_more : {A B : Type 0} (R : A → B → Type 0) (front so_far next : List A) (x : A) (ys : List B) (y : B) → next ≡ so_far ++ x ∷ [] → AllZip R (front ++ so_far) ys → R x y → AllZip R (front ++ next) (ys ++ y ∷ [])
 joined_more R front so_far next x ys y is all one = subst (λ l. AllZip R l (ys ++ y ∷ [])) (append_assoc front so_far (x ∷ []) ∙ ap (λ l. front ++ l) (sym is)) (AllZip-last R (front ++ so_far) ys x y all one)
 
--- some element of some list
-pub Any-flat : {X Y : Type 0} (P : Y → Type 0) (f : X → List Y) (xs : List X) → Any (λ x. Any P (f x)) xs → Any P (flat_map f xs)
-Any-flat P f [] a = absurd (Any-nil (λ x. Any P (f x)) a)
-Any-flat P f (x ∷ xs) a = ⊎_elim (λ p. Any-left P (f x) (flat_map f xs) p) (λ r. Any-right P (f x) (flat_map f xs) (Any-flat P f xs r)) (Any-cases (λ x. Any P (f x)) x xs a)
-
 -- a name that is lost in its role
 pub Any-role : (rs : List ReactorTree) (r : ReactorTree) (role : Role) (refs : List RefTree) → Any (λ ref. IsLost rs r (role, ref)) refs → Any (IsLost rs r) (in_role role refs)
 Any-role rs r role [] a = absurd (Any-nil (λ ref. IsLost rs r (role, ref)) a)
@@ -61,8 +57,8 @@ some_at view P xs n x within is p = some_here view P xs n x within (sym (is x)) 
 -- what is lost in a connection is lost in its reactor
 pub lost_among : (rs : List ReactorTree) (r : ReactorTree) → Any (LosesIn rs r) (connections_of r) → HasLost rs r
 lost_among rs r a = ⊎_elim
-    (λ p. inl (Any-right (IsLost rs r) (flat_map reaction_refs (reactions_of r)) (flat_map connection_refs (connections_of r)) (Any-flat (IsLost rs r) connection_refs (connections_of r) p)))
-    (λ t. inr (Any-right (IsLostTime r) (flat_map timer_times (timers_of r) ++ flat_map (λ a. option_to_list a.min_delay) (actions_of r) ++ flat_map (λ i. map (λ a. a.value) i.given) (instances_of r)) (flat_map (λ c. option_to_list c.delay) (connections_of r)) (Any-flat (IsLostTime r) (λ c. option_to_list c.delay) (connections_of r) t)))
+    (λ p. inl (Any-right (IsLost rs r) (flat_map reaction_refs (reactions_of r)) (flat_map connection_refs (connections_of r)) (Any-flat_map (IsLost rs r) connection_refs (connections_of r) p)))
+    (λ t. inr (Any-right (IsLostTime r) (flat_map timer_times (timers_of r) ++ flat_map (λ a. option_to_list a.min_delay) (actions_of r) ++ flat_map (λ i. map (λ a. a.value) i.given) (instances_of r)) (flat_map (λ c. option_to_list c.delay) (connections_of r)) (Any-flat_map (IsLostTime r) (λ c. option_to_list c.delay) (connections_of r) t)))
     (parted (connections_of r) a)
   where
     parted : (cs : List ConnectionTree) → Any (LosesIn rs r) cs → Any (λ c. Any (IsLost rs r) (connection_refs c)) cs ⊎ Any (λ c. Any (IsLostTime r) (option_to_list c.delay)) cs

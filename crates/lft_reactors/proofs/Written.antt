@@ -1,6 +1,8 @@
 -- What a destination of a connection is, where no name is nothing and none stands in a wrong place.
-use Rattle.std.proofs.Common.{◌≡◌, ℕ, zero, suc, Bool, true, false, List, [], ◌∷◌, refl, sym, ap, ◌∙◌, subst, Option, Some, None, slice_get, map, flat_map, find, bytes_eq, Any, inl}
+use Rattle.std.proofs.Common.{◌≡◌, ℕ, Bool, true, false, List, refl, sym, ap, ◌∙◌, subst, Option, Some, None, slice_get, map, flat_map, find, bytes_eq, Any, inl}
 use Rattle.std.specs.Option.{option_map, option_and_then}
+use Rattle.lft_scope.proofs.Effects.{Any-flat}
+use Rattle.lft_lists.proofs.Mapped.{mapped}
 use Rattle.lft_tree.specs.Tree.{ReactorTree, ParameterTree, PortTree, InstanceTree, ConnectionTree, RefTree, connections_of, reactions_of, ports_of, timers_of, actions_of, instances_of}
 use Rattle.lft_scope.specs.Causes.{UnknownName, NamesNothing, WrongPlace, Misplaces, IsMisplaced}
 use Rattle.lft_scope.specs.Instances.{reactor_named}
@@ -12,19 +14,8 @@ use Rattle.lft_scope.specs.declared.kinds.Kind.TheVariants.{OwnParameter, OwnTim
 use Rattle.lft_scope.specs.declared.kinds.Role.{Role}
 use Rattle.lft_scope.specs.declared.kinds.Role.TheVariants.{Source, Destination}
 use Rattle.lft_scope.proofs.Placing.{find-place}
-use Rattle.lft_scope.proofs.Somes.{Any-left, Any-right}
+use Rattle.lft_scope.proofs.Somes.{Any-right}
 use Rattle.lft_scope.proofs.Twice.{Any-at}
-
--- something that holds of a piece of some element
-pub any_piece : {X Y : Type 0} (P : Y → Type 0) (f : X → List Y) (xs : List X) (k : ℕ) (x : X) → slice_get xs k ≡ Some x → Any P (f x) → Any P (flat_map f xs)
-any_piece P f [] k x e a = absurd (cc)
-any_piece P f (z ∷ xs) zero x e a = Any-left P (f z) (flat_map f xs) (subst (λ w. Any P (f w)) (let q : x ≡ z = cc in q) a)
-any_piece P f (z ∷ xs) (suc k) x e a = Any-right P (f z) (flat_map f xs) (any_piece P f xs k x e a)
-
-map_at : {X Y : Type 0} (f : X → Y) (xs : List X) (n : ℕ) (x : X) → slice_get xs n ≡ Some x → slice_get (map f xs) n ≡ Some (f x)
-map_at f [] n x e = absurd (cc)
-map_at f (z ∷ xs) zero x e = let q : z ≡ x = cc in ap (λ w. Some (f w)) q
-map_at f (z ∷ xs) (suc n) x e = map_at f xs n x e
 
 -- an own name that may be a destination is an output
 own_output : (a : Option ParameterTree) (b : Bool) (rest : Option Kind) (kind : Kind) → or_else (option_map (λ x. OwnParameter) a) (or_else (Some (own_port b)) rest) ≡ Some kind → may_stand Destination kind ≡ true → b ≡ false
@@ -42,7 +33,7 @@ found name q xs k x e f = find-place name q xs ∙ ap (option_and_then (slice_ge
 
 module _ (rs : List ReactorTree) (known : UnknownName rs → ⊥) (placed : WrongPlace rs → ⊥) (n : ℕ) (r : ReactorTree) (at : slice_get rs n ≡ Some r) (c k : ℕ) (con : ConnectionTree) (ref : RefTree) (is_connection : slice_get (connections_of r) c ≡ Some con) (is_destination : slice_get con.destinations k ≡ Some ref) where
   among : (P : Role × RefTree → Type 0) → P (Destination, ref) → Any P (refs_in r)
-  among P p = Any-right P (flat_map reaction_refs (reactions_of r)) (flat_map connection_refs (connections_of r)) (any_piece P connection_refs (connections_of r) c con is_connection (Any-right P (in_role Source con.sources) (in_role Destination con.destinations) (Any-at P (in_role Destination con.destinations) k (Destination, ref) (map_at (λ x. (Destination, x)) con.destinations k ref is_destination) p)))
+  among P p = Any-right P (flat_map reaction_refs (reactions_of r)) (flat_map connection_refs (connections_of r)) (Any-flat P connection_refs (connections_of r) c con is_connection (Any-right P (in_role Source con.sources) (in_role Destination con.destinations) (Any-at P (in_role Destination con.destinations) k (Destination, ref) (mapped (λ x. (Destination, x)) con.destinations k ref is_destination) p)))
 
   misplaced : (kind : Kind) → kind_of rs r ref ≡ Some kind → may_stand Destination kind ≡ false → ⊥
   unfolding WrongPlace

@@ -1,6 +1,7 @@
 -- Each collision is at a tag at which an event of a row arrives.
 use Rattle.std.proofs.Common.{◌≡◌, ℕ, zero, suc, ◌+◌, ◌<◌, ◌≤◌, inl, List, [], ◌∷◌, ◌++◌, length, refl, sym, ap, ◌∙◌, subst, arith, Option, Some, None, slice_get, filter_map, IfSome, IfNone, unwrap_or, option_map, rules}
 use native.Mathlib.Decide.{dec_lt}
+use Rattle.lft_flat.proofs.Origins.{origin_unique}
 use Rattle.lft_tag.specs.declared.Tag.{Tag}
 use Rattle.lft_tag.specs.Tags.{Before, UpTo, after, after_all}
 use Rattle.lft_tag.specs.Shifts.{shifted}
@@ -23,7 +24,6 @@ use Rattle.lft_model.specs.Plans.{PlanParts, IsSoundPlan}
 use Rattle.lft_model.specs.Presence.{stop, written, scheduled, given, min_delay, events_of, Collision, ClashesAt, IsWrittenFrom}
 use Rattle.lft_model.proofs.Members.{Mem, get_mem, mem_from_filter, last_mem}
 use Rattle.lft_model.proofs.Places.{slice_get_within}
-use Rattle.lft_model.proofs.Decided.{origin_unique}
 use Rattle.lft_model.proofs.Stops.{stop_external}
 use Rattle.lft_model.proofs.Empty.{empty_so_far}
 use Rattle.lft_model.proofs.Steps.{written_some, scheduled_some}

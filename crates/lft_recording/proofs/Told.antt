@@ -4,7 +4,7 @@ use Rattle.lft_tag.specs.declared.Tag.{Tag}
 use Rattle.lft_tag.proofs.Order.{UpTo_antisym}
 use Rattle.lft_trace.specs.declared.row.Row.{Row}
 use Rattle.lft_graph.specs.Graph.{IsGraphOf}
-use Rattle.lft_graph.proofs.Places.{get_there, get_same, get_write_cases, length_same, length_written}
+use Rattle.lft_lists.proofs.Places.{get_there, get_same, get_write_cases, length_same, length_written}
 use Rattle.lft_turn.specs.declared.phase.Phase.{Phase}
 use Rattle.lft_turn.specs.declared.phase.Phase.TheVariants.{Idle, Waiting, Open}
 use Rattle.lft_turn.specs.Turns.{TurnParts, IsReady, IsLeastReady, NoneOpen, NonePending}

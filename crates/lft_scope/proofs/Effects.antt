@@ -3,6 +3,7 @@ use Rattle.std.proofs.Common.{◌≡◌, ℕ, zero, suc, ◌<◌, inl, inr, ⊎_
 use Rattle.std.specs.Option.{option_and_then}
 use Rattle.std.proofs.lemmas.Bool.{cases_lt}
 use Rattle.std.proofs.lemmas.Slice.Eq.{bytes_eq-Decides}
+use Rattle.lft_lists.proofs.Mapped.{mapped}
 use Rattle.lft_tree.specs.Tree.{ReactorTree, ReactionTree, InstanceTree, ParameterTree, RefTree, PortTree, ports_of, timers_of, actions_of, instances_of, reactions_of, connections_of}
 use Rattle.lft_scope.specs.Causes.{IsTwice, NoneHolds, DuplicateName, DeclaresTwice, WrongPlace, Misplaces, IsMisplaced, DuplicateInput, RepeatsName, NamesTwice, first_causes, later_causes}
 use Rattle.lft_scope.specs.Instances.{reactor_named}
@@ -13,11 +14,6 @@ use Rattle.lft_scope.specs.declared.kinds.Role.{Role}
 use Rattle.lft_scope.specs.declared.kinds.Role.TheVariants.{Read, Effect}
 use Rattle.lft_scope.proofs.Somes.{Any-left, Any-right}
 use Rattle.lft_scope.proofs.Twice.{Any-at, twice_left}
-
-at_map : {X Y : Type 0} (f : X → Y) (xs : List X) (k : ℕ) (x : X) → slice_get xs k ≡ Some x → slice_get (map f xs) k ≡ Some (f x)
-at_map f [] k x at = absurd (cc)
-at_map f (y ∷ xs) zero x at = let e : y ≡ x = cc in ap (λ z. Some (f z)) e
-at_map f (y ∷ xs) (suc k) x at = at_map f xs k x at
 
 -- what one of a list gives is among what all give
 pub Any-flat : {X Y : Type 0} (P : Y → Type 0) (f : X → List Y) (xs : List X) (k : ℕ) (x : X) → slice_get xs k ≡ Some x → Any P (f x) → Any P (flat_map f xs)
@@ -64,7 +60,7 @@ may_be_inner : (b : Bool) → may_stand Effect (inner_port b) ≡ true → b ≡
 may_be_inner true e = refl
 may_be_inner false e = absurd (cc)
 
-no_duplicate : (rs : List ReactorTree) → NoneHolds (first_causes rs) → DuplicateName rs → ⊥
+pub no_duplicate : (rs : List ReactorTree) → NoneHolds (first_causes rs) → DuplicateName rs → ⊥
 no_duplicate rs (none, (two, (duplicate, rest))) = duplicate
 
 no_misplaced : (rs : List ReactorTree) → NoneHolds (later_causes rs) → WrongPlace rs → ⊥
@@ -83,7 +79,7 @@ module _ (rs : List ReactorTree) (n : ℕ) (r : ReactorTree) (there : slice_get 
   port_found lawful k q at = find_only (λ x. bytes_eq q.name x.name) (ports_of r) k q at ((bytes_eq-Decides q.name q.name).1 refl) only
     where
       name_at : (i : ℕ) (x : PortTree) → slice_get (ports_of r) i ≡ Some x → slice_get (map (λ x. x.name) (ports_of r)) i ≡ Some x.name
-      name_at i x a = at_map (λ x. x.name) (ports_of r) i x a
+      name_at i x a = mapped (λ x. x.name) (ports_of r) i x a
 
       only : (j : ℕ) (y : PortTree) → slice_get (ports_of r) j ≡ Some y → bytes_eq q.name y.name ≡ true → y ≡ q
       only j y a is =
@@ -114,7 +110,7 @@ module _ (rs : List ReactorTree) (n : ℕ) (r : ReactorTree) (there : slice_get 
           Any-left P (flat_map reaction_refs (reactions_of r)) (flat_map connection_refs (connections_of r))
           (Any-flat P reaction_refs (reactions_of r) k x at
           (Any-right P (in_role Read (reads_of x)) (in_role Effect x.effects)
-          (Any-at P (in_role Effect x.effects) j (Effect, ref) (at_map (λ s. (Effect, s)) x.effects j ref among) p)))
+          (Any-at P (in_role Effect x.effects) j (Effect, ref) (mapped (λ s. (Effect, s)) x.effects j ref among) p)))
 
       is_placed : IsMisplaced rs r (Effect, ref) → ⊥
       unfolding WrongPlace

@@ -138,10 +138,6 @@ module _ {X : Type 0} (test : X → Bool) where
   pub count_kept : {C : Type 0} (v : C → X) (xs : List C) → length (filter test (map v xs)) ≡ count_by (λ x. test (v x)) xs
   count_kept v xs = length-filter test (map v xs) ∙ fold-map (λ a x. a + cond (test x) 1 0) v 0 xs
 
-pub nothing : {X : Type 0} (xs : List X) → length xs ≡ 0 → xs ≡ []
-nothing [] e = refl
-nothing (x ∷ xs) e = absurd (cc)
-
 pub something : {X : Type 0} (xs : List X) → Any (λ _. Unit {0}) xs → xs ≢ []
 something xs (k, x, within, is, p) none = let empty : length xs ≡ 0 = ap length none in absurd (omega arith)
 

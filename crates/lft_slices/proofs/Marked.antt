@@ -11,7 +11,7 @@ use Rattle.lft_flat.specs.declared.parts.Reaction.{Reaction}
 use Rattle.lft_flat.specs.declared.parts.Value.{Value}
 use Rattle.lft_trace.specs.declared.row.Row.{Row}
 use Rattle.lft_trace.specs.declared.row.Step.TheVariants.{Read}
-use Rattle.lft_graph.proofs.Places.{get_there, get_write_cases, length_written}
+use Rattle.lft_lists.proofs.Places.{get_there, get_write_cases, length_written}
 use Rattle.lft_model.proofs.Members.{Mem, mem_get, get_mem, mem_contains, contains_mem, mem_left, mem_right, mem_cases, mem_filter, mem_from_filter}
 use Rattle.lft_model.proofs.Counted.{NamesApart, names_apart}
 use Rattle.lft_model.proofs.Places.{slice_get_within}

@@ -2,6 +2,7 @@
 use Rattle.std.proofs.Common.{◌≡◌, ℕ, ◌+◌, ◌<◌, ◌≤◌, ◌⊎◌, inl, inr, List, [], ◌∷◌, length, refl, sym, ap, ◌∙◌, subst, arith, Bool, true, false, ◌↔◌, Option, Some, None, IfSome, IfNone, slice_get, filter_map, map, unwrap_or, option_map, Contains}
 use Rattle.std.specs.List.{last_or, AllZip}
 use native.Mathlib.Decide.{ℕ_discrete}
+use Rattle.lft_flat.proofs.Origins.{origin_unique}
 use Rattle.lft_tag.specs.declared.Tag.{Tag}
 use Rattle.lft_flat.specs.Parts.{Parts, inputs, named}
 use Rattle.lft_flat.specs.Sound.{IsSound, IsNameOf}
@@ -17,7 +18,6 @@ use Rattle.lft_model.specs.Presence.{At, IsPresent, Shows, Inputs, Collision, wr
 use Rattle.lft_model.specs.Runs.{read_of, steps_of, inputs_of, reads_at}
 use Rattle.lft_model.proofs.Members.{Mem, mem_get, get_mem, mem_cases, mem_left, mem_right, mem_filter, mem_from_filter, contains_mem, mem_contains}
 use Rattle.lft_model.proofs.Places.{slice_get_within, tag_discrete}
-use Rattle.lft_model.proofs.Decided.{origin_unique}
 use Rattle.lft_slices.specs.Reads.{IsRight, IsTriggerRight}
 
 -- without a collision a name shows one thing

@@ -4,6 +4,7 @@ use Rattle.std.specs.Prelude.{slice_get}
 use Rattle.std.proofs.lemmas.Option.{slice_get_within}
 use Rattle.std.proofs.lemmas.Bool.{eqb-true}
 use Rattle.std.proofs.lemmas.Slice.Eq.{bytes_eq-Decides}
+use Rattle.lft_syntax.proofs.Options.{some, some_is}
 use Rattle.lft_syntax.specs.Lexeme.{Lexeme, Code, Text, Letters, Number, Arrow, Symbol, same}
 use Rattle.lft_syntax.specs.Language.{Spelling, look, token, this, one, ◌&◌, ◌>>◌, ◌<<◌, ◌or◌, optional, many, made, ignored, range}
 use Rattle.lft_syntax.specs.Reading.{Reading, ◌>>=◌, seen_at, token_at, both, second, first, apply, maybe, choice, choice_next, many_at, repeated, range_at}
@@ -128,12 +129,6 @@ right_ignored P F e h n p right = adapt (λ _. tt) P (ignored P) F e h n (λ ws 
 
 abbrev pub Any : Follow
 Any vs m = Unit {0}
-
-abbrev some : {A : Type 0} → A → Option A
-some x = Some x
-
-some_is : {A : Type 0} (x y : A) → some x ≡ some y → x ≡ y
-some_is x y e = cc
 
 module _ {A : Type 0} (see : Lexeme → Option A) (ws : List Lexeme) (i : ℕ) (le : i ≤ length ws) where
   look_within : (o : Option Lexeme) (x : A) → slice_get ws i ≡ o → look see o ≡ Some x → i < length ws

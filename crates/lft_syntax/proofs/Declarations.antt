@@ -1,13 +1,14 @@
 -- Ports, timers, actions, state variables and preambles.
 use Rattle.std.proofs.Common.{◌≡◌, ℕ, Bool, true, false, List, Some, refl, arith}
 use Rattle.std.specs.Prelude.{slice_get, codes, ◌||◌}
+use Rattle.std.proofs.lemmas.Bool.{or_from}
 use Rattle.lft_syntax.specs.Lexeme.{Lexeme, Code, Letters, Symbol, is, is_word_of, input_keys, scope_keys, name_in}
 use Rattle.lft_syntax.specs.Language.{Spelling, one, ◌&◌, ◌>>◌, ◌<<◌, ◌or◌, optional, made, ignored, range}
 use Rattle.lft_tree.specs.Tree.{TimeTree}
 use Rattle.lft_syntax.specs.Grammar.{key, symbol, name, ptime, enclosed, typed, value, parentheses, braces, port, timer, action, state, preamble, input_of, output_of, timer_of, logical_is, physical_is, action_of}
 use Rattle.lft_syntax.specs.Reading.{Reading, input_at, output_at, port_at, period_at, times_at, timer_at, min_delay_at, origin_at, action_at, is_initial, initial_at, state_at, scope_at, preamble_at, range_at}
 use Rattle.lft_syntax.proofs.Algebra.{Follow, Horizon, near, Right, Leads, Any, Test, Starts, Not, right_token, right_range, starts_one}
-use Rattle.lft_syntax.proofs.Rules.{near_looks, and, and_if, skip, skip_if, before, before_if, making, ignoring, this_one, perhaps, perhaps_to, Here, here, leads_one, leads_ignored, leads_optional, starts_skip, starts_and, starts_before, starts_made, starts_range, starts_or, starts_either, choose, ended, taking, same_follow, neither}
+use Rattle.lft_syntax.proofs.Rules.{near_looks, and, and_if, skip, skip_if, before, before_if, making, ignoring, this_one, perhaps, perhaps_to, Here, here, leads_one, leads_ignored, leads_optional, starts_skip, starts_and, starts_before, starts_made, starts_range, starts_or, starts_either, choose, ended, taking, same_follow}
 use Rattle.lft_syntax.proofs.Lists.{right_enclosed, starts_enclosed}
 use Rattle.lft_syntax.proofs.Lookahead.{far, Ends, far_looks, no_symbol}
 use Rattle.lft_syntax.proofs.Times.{NoUnit, here_no_unit, right_ptime, starts_ptime}
@@ -70,7 +71,7 @@ starts_timer go b own = starts_made timer_of (starts_and (optional (enclosed (pt
 
 -- ---- actions
 
--- neither a minimum delay nor a type stands there
+-- or_from a minimum delay nor a type stands there
 abbrev pub ActionEnd : Follow
 ActionEnd vs m = TypeEnd vs m × (is (Symbol 40) (slice_get vs m) ≡ false)
 
@@ -111,8 +112,8 @@ right_initial = choose (is (Symbol 61)) (starts_skip value (starts_one (Symbol 6
     (ended Ends far 1 (λ vs m h. tt) far_looks (omega arith) right_parentheses) (ended Ends far 1 (λ vs m h. tt) far_looks (omega arith) right_braces))
 
 no_initial : (vs : List Lexeme) (m : ℕ) → Ends vs m → is_initial (slice_get vs m) ≡ false
-no_initial vs m h = neither (is (Symbol 61) (slice_get vs m) || is (Symbol 40) (slice_get vs m)) (is (Symbol 123) (slice_get vs m))
-    (neither (is (Symbol 61) (slice_get vs m)) (is (Symbol 40) (slice_get vs m)) (no_symbol 61 refl vs m h) (no_symbol 40 refl vs m h)) (no_symbol 123 refl vs m h)
+no_initial vs m h = or_from (is (Symbol 61) (slice_get vs m) || is (Symbol 40) (slice_get vs m)) (is (Symbol 123) (slice_get vs m))
+    (or_from (is (Symbol 61) (slice_get vs m)) (is (Symbol 40) (slice_get vs m)) (no_symbol 61 refl vs m h) (no_symbol 40 refl vs m h)) (no_symbol 123 refl vs m h)
 
 initial_begins : (vs : List Lexeme) (i j : ℕ) (x : Unit {0}) → initial vs i j x → TypeEnd vs i
 initial_begins vs i j x s = (

@@ -5,14 +5,12 @@ use Rattle.std.specs.Str.{bytes_eq}
 use Rattle.std.proofs.lemmas.Slice.Eq.{bytes_eq-Decides}
 use Rattle.std.proofs.lemmas.Bool.{eq-eqb}
 use Rattle.std.proofs.lemmas.Option.{slice_get_within}
+use Rattle.lft_syntax.proofs.Options.{some}
 use Rattle.lft_syntax.specs.Lexeme.{Lexeme, Code, Text, Letters, Number, Arrow, Symbol, same}
 use Rattle.lft_syntax.specs.Language.{Spelling, look, this, one, Balanced, nothing, another, nested, group}
 use Rattle.lft_syntax.specs.Reading.{◌>>=◌, one_at, inside_step, inside_at, group_at}
 use Rattle.lft_syntax.proofs.Rules.{leads_one}
 use Rattle.lft_syntax.proofs.Algebra.{near, Known, Refused, Outcome, fewer, Right, Any, same-true, right_token}
-
-abbrev some : {A : Type 0} → A → Option A
-some x = Some x
 
 bytes_self : (x : List ℕ) → bytes_eq x x ≡ true
 bytes_self x = (bytes_eq-Decides x x).1 refl

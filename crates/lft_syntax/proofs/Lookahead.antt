@@ -4,6 +4,7 @@ use Rattle.std.specs.Prelude.{slice_get, ◌||◌}
 use Rattle.std.specs.Str.{bytes_eq}
 use Rattle.std.proofs.lemmas.Slice.Eq.{bytes_eq-Decides}
 use Rattle.std.proofs.lemmas.Bool.{eqb-true}
+use Rattle.lft_syntax.proofs.Options.{some}
 use Rattle.lft_tree.specs.declared.tree.TimeUnit.{TimeUnit}
 use Rattle.lft_syntax.specs.Lexeme.{Lexeme, Code, Text, Letters, Number, Arrow, Symbol, is, is_name, is_word_of, is_follower, is_reserved, is_one_of, member_keys, closes_at, negated, name_in, unit_in, unit_of}
 use Rattle.lft_syntax.specs.Language.{Spelling, look}
@@ -65,9 +66,6 @@ unfolding past_name
 past_two ws i e = rw e refl
 
 -- ---- a name at the beginning
-
-abbrev some : {A : Type 0} → A → Option A
-some x = Some x
 
 not_name : (x : List ℕ) (b : Bool) → is_reserved x ≡ b → cond b None (some x) ≡ None → negated (is_reserved x) ≡ false
 not_name x true e s = rw e refl

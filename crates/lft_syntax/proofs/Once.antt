@@ -3,6 +3,7 @@ use Rattle.std.proofs.Common.{◌≡◌, ℕ, ◌+◌, ◌<◌, ◌≤◌, ◌^�
 use Rattle.std.specs.Prelude.{slice_get, ◌⊎◌}
 use Rattle.std.proofs.lemmas.Option.{slice_get_within}
 use Rattle.std.proofs.lemmas.Bool.{cases_order}
+use Rattle.lft_syntax.proofs.Options.{some}
 use Rattle.lft_syntax.specs.declared.token.Token.{Token}
 use Rattle.lft_syntax.specs.declared.token.TokenKind.{TokenKind}
 use Rattle.lft_syntax.specs.declared.token.TokenKind.TheVariants as kinds
@@ -39,9 +40,6 @@ pair_once x y t i j k a b = elim (three_ways a.place b.place) [
 -- a quote is no backslash
 pub apart : (o : Option ℕ) → o ≡ Some 34 → o ≡ Some 92 → ⊥
 apart o q b = let f : true ≡ false = sym (ap (is_byte 34) q) ∙ ap (is_byte 34) b in cc f
-
-abbrev some : {A : Type 0} → A → Option A
-some x = Some x
 
 some_is : (x y : ℕ) → some x ≡ some y → x ≡ y
 some_is x y e = cc

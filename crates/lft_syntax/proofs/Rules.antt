@@ -1,6 +1,7 @@
 -- The rules, with what the premises show left out.
 use Rattle.std.proofs.Common.{◌≡◌, ℕ, suc, ◌+◌, ◌≤◌, Bool, true, false, List, [], ◌∷◌, Option, Some, None, refl, ap, subst, arith, cond, ◌∙◌, sym, inl, inr}
-use Rattle.std.specs.Prelude.{slice_get, ◌||◌}
+use Rattle.std.specs.Prelude.{slice_get}
+use Rattle.lft_syntax.proofs.Options.{some}
 use Rattle.lft_syntax.specs.Lexeme.{Lexeme, same}
 use Rattle.lft_syntax.specs.Language.{Spelling, look, this, one, ◌&◌, ◌>>◌, ◌<<◌, ◌or◌, optional, many, made, ignored, range}
 use Rattle.lft_syntax.specs.Reading.{Reading, one_at, both, second, first, apply, maybe, choice, repeated}
@@ -51,9 +52,6 @@ perhaps {P = P} {F = F} {n = n} {p = p} G go starts stops leads right = right_ma
 -- what stands there is w
 abbrev pub Here : Lexeme → Follow
 Here w vs m = slice_get vs m ≡ Some w
-
-abbrev some : {A : Type 0} → A → Option A
-some x = Some x
 
 same_is : (w v : Lexeme) (x : Unit {0}) (b : Bool) → same w v ≡ b → cond b (some tt) None ≡ Some x → ◌≡◌ {A = Option Lexeme} (Some v) (Some w)
 same_is w v x true e s = ap some (sym (same-true w v e))
@@ -146,8 +144,3 @@ starts_either {P = P} {Q = Q} {go = go} {b = b} one two = record { at = λ vs i 
 
 pub leads_ignored : {A : Type 0} {P : Spelling A} {G F : Follow} → Leads P G F → Leads (ignored P) G F
 leads_ignored leads vs m j y s after = leads vs m j s.0 s.1 after
-
--- neither of two
-pub neither : (a b : Bool) → a ≡ false → b ≡ false → (a || b) ≡ false
-neither true b e f = absurd cc
-neither false b e f = f

@@ -3,6 +3,7 @@ use Rattle.std.proofs.Common.{◌≡◌, ℕ, ◌+◌, ◌≤◌, Bool, true, fa
 use Rattle.std.specs.Prelude.{slice_get}
 use Rattle.std.proofs.lemmas.Bool.{eqb-true, eq-eqb}
 use Rattle.std.proofs.lemmas.Option.{slice_get_within}
+use Rattle.lft_syntax.proofs.Options.{some, some_is}
 use Rattle.lft_tree.specs.declared.tree.TimeUnit.{TimeUnit}
 use Rattle.lft_syntax.specs.Lexeme.{Lexeme, Code, Text, Letters, Number, Arrow, Symbol, is_number, is_name, is_follower, same, name_in, number_in, unit_in}
 use Rattle.lft_syntax.specs.Language.{look, this, made}
@@ -16,9 +17,6 @@ use Rattle.lft_syntax.proofs.Lookahead.{far, Ends, far_looks, far_two, ends_unit
 -- no unit stands there
 abbrev pub NoUnit : Follow
 NoUnit vs m = look unit_in (slice_get vs m) ≡ None
-
-abbrev some : {A : Type 0} → A → Option A
-some x = Some x
 
 zero_is : (w : Lexeme) (x : Unit {0}) → same (Number 0) w ≡ true → number_in w ≡ Some 0
 zero_is w x e = let is_w : Number 0 ≡ w = same-true (Number 0) w e in ap number_in (sym is_w)
@@ -43,9 +41,6 @@ zero_seen (Symbol b) e = absurd cc
 there_zero : (o : Option Lexeme) → look number_in o ≡ Some 0 → look (this (Number 0)) o ≡ Some tt
 there_zero None e = absurd cc
 there_zero (Some w) e = zero_seen w e
-
-some_is : {A : Type 0} (x y : A) → some x ≡ some y → x ≡ y
-some_is x y e = cc
 
 pub look_within : {A : Type 0} (see : Lexeme → Option A) (ws : List Lexeme) (i : ℕ) (x : A) (o : Option Lexeme) → slice_get ws i ≡ o → look see o ≡ Some x → i + 1 ≤ length ws
 look_within see ws i x None e s = absurd cc

@@ -1,12 +1,13 @@
 -- Types.
 use Rattle.std.proofs.Common.{◌≡◌, ℕ, suc, Bool, true, false, List, Some, refl, arith}
 use Rattle.std.specs.Prelude.{slice_get}
+use Rattle.std.proofs.lemmas.Bool.{or_from}
 use Rattle.lft_syntax.specs.Lexeme.{Lexeme, Code, Letters, Symbol, is, is_number, number_in, name_in}
 use Rattle.lft_syntax.specs.Language.{◌>>◌, optional, many, ignored}
 use Rattle.lft_syntax.specs.Grammar.{symbol, name, number, type, typed, type_part, array_part}
 use Rattle.lft_syntax.specs.Reading.{symbol_at, is_type_part, type_part_at, type_parts_at, stars_at, array_part_at, array_parts_at, type_at, typed_at, second, ignoring_at, name_at}
 use Rattle.lft_syntax.proofs.Algebra.{Follow, near, Right, Leads, Any, Test, Starts, Not, right_token, starts_token, starts_one}
-use Rattle.lft_syntax.proofs.Rules.{near_looks, skip, skip_if, ignoring, this_one, perhaps, Here, here, leads_one, leads_ignored, leads_many, leads_optional, starts_skip, starts_ignored, starts_or, repeat, choose, ended, taking, same_follow, neither}
+use Rattle.lft_syntax.proofs.Rules.{near_looks, skip, skip_if, ignoring, this_one, perhaps, Here, here, leads_one, leads_ignored, leads_many, leads_optional, starts_skip, starts_ignored, starts_or, repeat, choose, ended, taking, same_follow}
 use Rattle.lft_syntax.proofs.Lookahead.{Ends, no_symbol, starts_name, named}
 use Rattle.lft_syntax.proofs.Times.{number_starts}
 
@@ -19,7 +20,7 @@ abbrev StarsEnd : Follow
 StarsEnd vs m = (is_type_part (slice_get vs m) ≡ false) × (is (Symbol 42) (slice_get vs m) ≡ false)
 
 no_part : (vs : List Lexeme) (m : ℕ) → TypeEnd vs m → is_type_part (slice_get vs m) ≡ false
-no_part vs m h = neither (is (Symbol 46) (slice_get vs m)) (is (Symbol 58) (slice_get vs m)) h.0 h.1
+no_part vs m h = or_from (is (Symbol 46) (slice_get vs m)) (is (Symbol 58) (slice_get vs m)) h.0 h.1
 
 pub ends_type : (vs : List Lexeme) (m : ℕ) → Ends vs m → TypeEnd vs m
 ends_type vs m h = (no_symbol 46 refl vs m h, no_symbol 58 refl vs m h, no_symbol 42 refl vs m h, no_symbol 91 refl vs m h)

@@ -1,12 +1,14 @@
 -- Values of state variables.
 use Rattle.std.proofs.Common.{◌≡◌, ℕ, suc, ◌+◌, ◌≤◌, Bool, true, false, List, length, Option, Some, None, Result, Ok, Err, refl, sym, ap, subst, ◌∙◌, arith, cond}
 use Rattle.std.specs.Prelude.{slice_get}
+use Rattle.std.proofs.lemmas.Bool.{or_from}
+use Rattle.lft_syntax.proofs.Options.{some}
 use Rattle.lft_syntax.specs.Lexeme.{Lexeme, Code, Text, Letters, Number, Arrow, Symbol, is, is_name, is_follower, same, number_in, name_in}
 use Rattle.lft_syntax.specs.Language.{Spelling, ◌>>◌, ◌or◌, optional, many, ignored, group}
 use Rattle.lft_syntax.specs.Grammar.{symbol, name, number, braces, brackets, parentheses, suffix, quantity, value}
 use Rattle.lft_syntax.specs.Reading.{Reading, ◌>>=◌, maybe_suffix, braces_at, brackets_at, parentheses_at, signed_at, suffix_at, quantity_at, is_sign, dot_name_at, dot_names_at, path_at, value_at}
 use Rattle.lft_syntax.proofs.Algebra.{near, Outcome, Right, Any, Test, Starts, Not, right_token, starts_token, starts_one}
-use Rattle.lft_syntax.proofs.Rules.{near_looks, skip, skip_if, ignoring, this_one, perhaps, perhaps_to, here, leads_ignored, leads_optional, starts_skip, starts_ignored, starts_or, starts_either, repeat, choose, ended, same_follow, neither}
+use Rattle.lft_syntax.proofs.Rules.{near_looks, skip, skip_if, ignoring, this_one, perhaps, perhaps_to, here, leads_ignored, leads_optional, starts_skip, starts_ignored, starts_or, starts_either, repeat, choose, ended, same_follow}
 use Rattle.lft_syntax.proofs.Groups.{right_group}
 use Rattle.lft_syntax.proofs.Lookahead.{far, past_name, Ends, far_looks, far_past, far_two, past_two, no_symbol, ends_follower, name_first, starts_name, named, ends_name}
 
@@ -35,7 +37,7 @@ right_signed = choose (is (Symbol 43)) (starts_skip (ignored number) (starts_one
     (skip (this_one (Symbol 43)) (ignoring (right_token number_in))) (skip (this_one (Symbol 45)) (ignoring (right_token number_in)))
 
 no_sign : (vs : List Lexeme) (m : ℕ) → Ends vs m → is_sign (slice_get vs m) ≡ false
-no_sign vs m h = neither (is (Symbol 43) (slice_get vs m)) (is (Symbol 45) (slice_get vs m)) (no_symbol 43 refl vs m h) (no_symbol 45 refl vs m h)
+no_sign vs m h = or_from (is (Symbol 43) (slice_get vs m)) (is (Symbol 45) (slice_get vs m)) (no_symbol 43 refl vs m h) (no_symbol 45 refl vs m h)
 
 right_suffix : Right suffix Ends past_name far 1 suffix_at
 unfolding suffix_at
@@ -51,9 +53,6 @@ suffix_next vs i m (Some x) s after follows = let no = (starts_signed is_followe
 
 suffix_clash : (vs : List Lexeme) (i m : ℕ) (y : Unit {0}) → suffix vs i m y → Ends vs m → is_follower (slice_get vs (i + 1)) ≡ true → ⊥
 suffix_clash vs i m y s after follows = suffix_next vs s.0 m s.2.0 s.2.1 after (subst (λ (k : ℕ). is_follower (slice_get vs k) ≡ true) (sym s.1.1.1) follows)
-
-abbrev some : {A : Type 0} → A → Option A
-some x = Some x
 
 abbrev Suffix : Type 0
 Suffix = Unit {0}

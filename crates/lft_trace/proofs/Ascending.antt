@@ -1,6 +1,6 @@
 -- Ascending lists of events with the same members are one.
-use Rattle.std.proofs.Common.{◌≡◌, ◌∙◌, ◌⊎◌, inl, inr, ◌<◌, ℕ, suc, List, [], ◌∷◌, length, get_or, Some, slice_get, refl, sym, ap, subst, arith}
-use Rattle.std.proofs.lemmas.Option.{slice_get-get_or, slice_get_within}
+use Rattle.std.proofs.Common.{◌≡◌, ◌∙◌, ◌⊎◌, inl, inr, ◌<◌, suc, List, [], ◌∷◌, length, get_or, refl, sym, ap, subst, arith}
+use Rattle.std.proofs.lemmas.Option.{slice_get_within, get_or_from_slice_get}
 use Rattle.lft_tag.specs.declared.Tag.{Tag}
 use Rattle.lft_tag.specs.Tags.{Before}
 use Rattle.lft_trace.specs.ExternalTables.{Has}
@@ -33,14 +33,11 @@ not_both_ways x y (inl a) (inr b) = not_itself x.tag y.tag a b.0
 not_both_ways x y (inr a) (inl b) = not_itself y.tag x.tag b a.0
 not_both_ways x y (inr a) (inr b) = let c = a.1 in let d = b.1 in omega arith
 
-at_place : (xs : List Event) (i : ℕ) (d e : Event) → slice_get xs i ≡ Some e → get_or xs i d ≡ e
-at_place xs i d e h = let w = slice_get_within xs i e h in let s = slice_get-get_or xs i d w in let q : Some (get_or xs i d) ≡ Some e = sym s ∙ h in cc (q)
-
 first_follows : (x e : Event) (xs : List Event) → InOrder (x ∷ xs) → Has xs e → Follows x e
 first_follows x e xs h k =
     let w : k.0 < length xs = slice_get_within xs k.0 e k.1 in
     let f : Follows x (get_or xs k.0 e) = h 0 (suc k.0) e (omega arith) (omega arith) in
-    subst (λ (y : Event). Follows x y) (at_place xs k.0 e e k.1) f
+    subst (λ (y : Event). Follows x y) (get_or_from_slice_get xs k.0 e e k.1) f
 
 rest_in_order : (x : Event) (xs : List Event) → InOrder (x ∷ xs) → InOrder xs
 rest_in_order x xs h = λ i j d lt len. h (suc i) (suc j) d (omega arith) (omega arith)

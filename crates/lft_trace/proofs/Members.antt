@@ -1,17 +1,14 @@
 -- Events of a list, by their places.
-use Rattle.std.proofs.Common.{◌≡◌, ◌∙◌, ◌⊎◌, inl, inr, ◌++◌, ℕ, zero, suc, List, [], ◌∷◌, length, get_or, Some, slice_get, refl, sym, ap, arith}
+use Rattle.std.proofs.Common.{◌≡◌, ◌∙◌, ◌⊎◌, inl, inr, ◌++◌, ℕ, zero, suc, List, [], ◌∷◌, length, Some, slice_get, refl, sym, ap, arith}
 use Rattle.std.specs.List.{Contains}
 use Rattle.std.specs.List.Sorted.{IsPermutation}
 use Rattle.std.proofs.lemmas.List.Sorted.{Contains-permutation, IsPermutation-sym}
-use Rattle.std.proofs.lemmas.Option.{slice_get-get_or, slice_get_within}
+use Rattle.std.proofs.lemmas.Option.{slice_get-get_or, slice_get_within, get_or_from_slice_get}
 use Rattle.lft_trace.specs.ExternalTables.{AreApart, Clash, Has}
 use Rattle.lft_trace.specs.declared.externals.Event.{Event}
 
-has_at : (xs : List Event) (i : ℕ) (d e : Event) → slice_get xs i ≡ Some e → get_or xs i d ≡ e
-has_at xs i d e h = let w = slice_get_within xs i e h in let s = slice_get-get_or xs i d w in let q : Some (get_or xs i d) ≡ Some e = sym s ∙ h in cc (q)
-
 contains : (xs : List Event) (e : Event) → Has xs e → Contains xs e
-contains xs e h = (h.0, slice_get_within xs h.0 e h.1, has_at xs h.0 e e h.1)
+contains xs e h = (h.0, slice_get_within xs h.0 e h.1, get_or_from_slice_get xs h.0 e e h.1)
 
 has : (xs : List Event) (e : Event) → Contains xs e → Has xs e
 has xs e h = (h.0, slice_get-get_or xs h.0 e h.1 ∙ ap Some h.2)

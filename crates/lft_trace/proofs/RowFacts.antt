@@ -1,7 +1,8 @@
 -- What the fields of a record of a trace table tell.
-use Rattle.std.proofs.Common.{◌≡◌, ℕ, suc, arith, List, [], ◌∷◌, length, Bool, true, false, not, ◌||◌, refl}
+use Rattle.std.proofs.Common.{◌≡◌, ℕ, suc, arith, List, [], ◌∷◌, length, true, false, not, ◌||◌, refl}
 use Rattle.std.specs.Prelude.{◌==◌}
 use Rattle.std.proofs.lemmas.Bool.Decides.{nat_tests}
+use Rattle.std.proofs.lemmas.Bool.{or_parts}
 use Rattle.lft_flat.specs.Parts.{Parts}
 use Rattle.lft_trace.specs.declared.fault.TraceFault.{TraceFault}
 use Rattle.lft_trace.specs.declared.fault.TraceFault.TheVariants as fault
@@ -12,10 +13,6 @@ use Rattle.lft_trace.specs.declared.trace_table.Numbers.{Numbers}
 use Rattle.lft_trace.specs.Seen.{FieldFault, NumbersOf, StepOf}
 use Rattle.lft_trace.specs.Traces.{FaultAt, IsStep, TraceFields, in_order, is_empty, is_filled, word}
 
-neither : (a b : Bool) → (a || b) ≡ false → (a ≡ false) × (b ≡ false)
-neither true b h = cc
-neither false b h = (refl, h)
-
 not_none : (n : ℕ) → (suc n == 0) ≡ false
 not_none n = grind (arith, nat_tests)
 
@@ -25,8 +22,8 @@ bare (x ∷ xs) h = let e = not_none (length xs) in let t : not (suc (length xs)
 
 all_bare : (c : TraceFields) → ((not (is_empty c.name) || not (is_empty c.value)) || not (is_empty c.delay)) ≡ false → (c.name ≡ []) × (c.value ≡ []) × (c.delay ≡ [])
 all_bare c h =
-    let a = neither (not (is_empty c.name) || not (is_empty c.value)) (not (is_empty c.delay)) h in
-    let b = neither (not (is_empty c.name)) (not (is_empty c.value)) a.0 in
+    let a = or_parts (not (is_empty c.name) || not (is_empty c.value)) (not (is_empty c.delay)) h in
+    let b = or_parts (not (is_empty c.name)) (not (is_empty c.value)) a.0 in
     (bare c.name b.0, bare c.value b.1, bare c.delay a.1)
 
 pub step_is : (program : Parts) (kind : RowKind) (c : TraceFields) (n : Numbers) (s : Step) → NumbersOf kind c n → StepOf program kind c.name n.value n.delay s → is_filled kind c ≡ false → IsStep program kind c s

@@ -5,7 +5,7 @@ use Rattle.lft_flat.specs.Parts.{Parts}
 use Rattle.lft_graph.specs.Precedence.{Precedes}
 use Rattle.lft_graph.specs.Before.{IsDeclaredJustBefore, FeedsLast}
 use Rattle.lft_graph.specs.Graph.{GraphParts, IsGraphOf}
-use Rattle.lft_graph.proofs.Places.{get_there}
+use Rattle.lft_lists.proofs.Places.{get_there}
 use Rattle.lft_turn.specs.declared.phase.Phase.{Phase}
 use Rattle.lft_turn.specs.declared.phase.Phase.TheVariants.{Waiting, Open}
 use Rattle.lft_turn.specs.Turns.{IsPending, IsReady, IsLeastReady}

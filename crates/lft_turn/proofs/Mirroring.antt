@@ -4,7 +4,7 @@ use Rattle.std.proofs.lemmas.Option.{slice_get_within, slice_get-get_or}
 use Rattle.std.proofs.lemmas.Bool.{cases_eq, cases_lt, cases_order}
 use Rattle.lft_flat.specs.Parts.{Parts}
 use Rattle.lft_graph.specs.Graph.{GraphParts, IsGraphOf}
-use Rattle.lft_graph.proofs.Places.{get_there, get_write_cases, length_written, same_at}
+use Rattle.lft_lists.proofs.Places.{get_there, get_write_cases, length_written, same_at}
 use Rattle.lft_turn.specs.Seats.{hit, times, AreInside, AreOnce, IsNoted, IsMirrored, IsMirror}
 use Rattle.lft_turn.proofs.Adding.{hit_same, hit_apart, times_drop, times_at, times_back}
 

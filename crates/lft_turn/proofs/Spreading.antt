@@ -3,7 +3,7 @@ use Rattle.std.proofs.Common.{◌≡◌, ℕ, zero, suc, ◌<◌, ◌≤◌, ◌
 use Rattle.std.proofs.lemmas.Option.{slice_get_within, slice_get-map}
 use Rattle.std.proofs.lemmas.Bool.{false≢true, cases_lt}
 use mathlib.Core.Bool.{Bool, true}
-use Rattle.lft_graph.proofs.Places.{get_there, same_at, contains_at, at_contains}
+use Rattle.lft_lists.proofs.Places.{get_there, same_at, contains_at, at_contains}
 use Rattle.lft_turn.specs.declared.phase.Phase.{Phase}
 use Rattle.lft_turn.specs.declared.phase.Phase.TheVariants.{Idle, Waiting, Open}
 use Rattle.lft_turn.specs.declared.seats.Seat.{Seat}

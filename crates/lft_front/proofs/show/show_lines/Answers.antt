@@ -1,7 +1,7 @@
 use Rattle.std.proofs.Common.{◌≤◌, ◌++◌, [], length, flat_map, string_bytes, sym, ap, ◌∙◌, arith}
 use Rattle.std.specs.List.{enumerate_from}
 use Rattle.std.proofs.lemmas.List.{append-nil}
-use Rattle.lft_graph.proofs.Places.{get_there}
+use Rattle.lft_lists.proofs.Places.{get_there}
 use Rattle.lft_front.specs.Shown.{port_words, reaction_line}
 use Rattle.lft_front.proofs.Listed.{grown, placed_first, all_placed}
 use Rattle.lft_front.proofs.show.show_lines.Goals as goal

@@ -1,10 +1,11 @@
 use Rattle.std.proofs.Common.{◌≡◌, ◌+◌, inl, length, [], ◌∷◌, ◌++◌, refl, ap, ◌∙◌, subst, arith, Some, slice_get, slice_set, length-append}
+use Rattle.std.proofs.lemmas.Option.{slice_get_within}
 use Rattle.lft_instances.specs.declared.origins.Mark.TheVariants.{New, Open, Done}
 use Rattle.lft_instances.specs.declared.origins.Next.TheVariants.{First}
 use Rattle.lft_instances.specs.Marks.{IsNext, tally}
 use Rattle.lft_instances.proofs.Settling.{new_weight}
 use Rattle.lft_instances.proofs.Settling.{Settling, settling_start, settling_done, settling_first, settling_cycle, tally_below, tally_written}
-use Rattle.lft_instances.proofs.Members.{get_within, mem_right}
+use Rattle.lft_instances.proofs.Members.{mem_right}
 use Rattle.lft_instances.proofs.origins.settle.Goals as goal
 use Rattle.lft_instances.proofs.origins.settle.Goals.{In-Some, In-First}
 
@@ -24,13 +25,13 @@ top_open : (c : goal.In-Some) → slice_get c.chain.marks c.in-Some.top ≡ Some
 top_open c = (before c).are_open c.in-Some.top (mem_right c.in-Some.top c.pop.new.self.items (c.in-Some.top ∷ []) (inl refl))
 
 pub look-requires-clause-known : goal.look-requires-clause-known
-look-requires-clause-known c = let l = get_within c.chain.marks c.in-Some.top Open (top_open c) in let s = c.chain.invariant.as_long in omega arith
+look-requires-clause-known c = let l = slice_get_within c.chain.marks c.in-Some.top Open (top_open c) in let s = c.chain.invariant.as_long in omega arith
 
 pub look-requires-clause-few : goal.look-requires-clause-few
 look-requires-clause-few c = let l = tally_below c.chain.marks c.in-Some.top Open (top_open c) refl in let s = c.chain.invariant.as_long in let f = c.requires.few in omega arith
 
 pub bounds-marks-top : goal.bounds-marks-top
-bounds-marks-top c = get_within c.chain.marks c.in-Some.top Open (top_open ((goal.at.bounds-marks-top c).In-Some))
+bounds-marks-top c = slice_get_within c.chain.marks c.in-Some.top Open (top_open ((goal.at.bounds-marks-top c).In-Some))
 
 pub chain-smaller-in-Known : goal.chain-smaller-in-Known
 chain-smaller-in-Known c =

@@ -1,9 +1,9 @@
 use Rattle.std.proofs.Common.{◌≡◌, ◌+◌, [], ◌∷◌, ◌++◌, refl, ap, ◌∙◌, subst, arith}
+use Rattle.std.proofs.lemmas.Option.{slice_get_within}
 use Rattle.lft_instances.specs.declared.recursion.Stage.TheVariants.{New, Open}
 use Rattle.lft_instances.specs.declared.recursion.Turn.TheVariants.{Finished, Skipped, Enter}
 use Rattle.lft_instances.specs.declared.recursion.Visit.{Visit}
 use Rattle.lft_instances.specs.Stages.{IsTurn}
-use Rattle.lft_instances.proofs.Members.{get_within}
 use Rattle.lft_instances.proofs.Exploring.{Exploring, exploring_done, exploring_skip, exploring_enter, exploring_loop, done_smaller, skip_smaller, enter_smaller, top_within}
 use Rattle.lft_instances.proofs.recursion.explore.Goals as goal
 use Rattle.lft_instances.proofs.recursion.explore.Goals.{In-Some, In-Finished, In-Skipped, In-Enter}
@@ -16,7 +16,7 @@ before : (c : goal.In-Some) → Before c
 before c = subst (λ l. Exploring c.args.reactors.now c.args.stages.now c.args.start c.visits.stages l) c.in-Some.ensures.items c.visits.invariant
 
 pub bounds-stages-top : goal.bounds-stages-top
-bounds-stages-top c = get_within c.visits.stages c.in-Some.top.reactor Open (top_within c.args.reactors.now c.args.stages.now c.visits.stages c.args.start c.pop.new.self.items c.in-Some.top (before ((goal.at.bounds-stages-top c).In-Some)))
+bounds-stages-top c = slice_get_within c.visits.stages c.in-Some.top.reactor Open (top_within c.args.reactors.now c.args.stages.now c.visits.stages c.args.start c.pop.new.self.items c.in-Some.top (before ((goal.at.bounds-stages-top c).In-Some)))
 
 finished : (c : goal.In-Finished) → IsTurn c.args.reactors.now c.visits.stages c.in-Some.top Finished
 finished c = subst (λ x. IsTurn c.args.reactors.now c.visits.stages c.in-Some.top x) c.in-Finished.is c.look.ensures.turn
@@ -50,7 +50,7 @@ returns-in-Recursive-clause-found c =
     exploring_loop c.args.reactors.now c.args.stages.now c.visits.stages c.args.start c.pop.new.self.items c.in-Some.top (before ((goal.at.returns-in-Recursive-clause-found c).In-Some)) (subst (λ x. IsTurn c.args.reactors.now c.visits.stages c.in-Some.top x) c.in-Recursive.is c.look.ensures.turn)
 
 pub bounds-stages-inner : goal.bounds-stages-inner
-bounds-stages-inner c = get_within c.visits.stages c.in-Enter.inner New (enters ((goal.at.bounds-stages-inner c).In-Enter)).1
+bounds-stages-inner c = slice_get_within c.visits.stages c.in-Enter.inner New (enters ((goal.at.bounds-stages-inner c).In-Enter)).1
 
 pub visits-smaller : goal.visits-smaller
 visits-smaller c =

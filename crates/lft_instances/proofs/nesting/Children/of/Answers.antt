@@ -1,6 +1,8 @@
 use Rattle.std.proofs.Common.{◌≡◌, ℕ, ◌<◌, ◌≤◌, ◌++◌, List, [], ◌∷◌, length, map, Some, sym, ap, ◌∙◌, arith, slice_get, length-append}
 use Rattle.std.proofs.lemmas.Option.{slice_get-get_or}
-use Rattle.lft_instances.proofs.Siblings.{filled_more, filled_end, parent_before, length_map, map_push, map_set, map_get}
+use Rattle.std.proofs.lemmas.List.{map_push, length-map}
+use Rattle.lft_lists.proofs.Mapped.{mapped}
+use Rattle.lft_instances.proofs.Siblings.{filled_more, filled_end, parent_before, map_set}
 use Rattle.lft_instances.proofs.nesting.Children.of.Goals as goal
 use Rattle.lft_instances.proofs.nesting.Children.of.Goals.{After-instance_at-parent}
 
@@ -9,7 +11,7 @@ has_row : (c : goal.After-instance_at-parent) → c.instance_at-parent.result.pa
 has_row c =
     let w = c.requires.walked in
     let before = parent_before w.0 w.1 c.args.instances.now w.2 c.instances.number c.instance_at-parent.result c.instance_at-parent.ensures (omega arith) in
-    let rows = length_map (λ row. row.items) c.instances.rows.items in
+    let rows = length-map c.instances.rows.items (λ row. row.items) in
     let long = c.instances.invariant.as_long in
     let pushed = ap length c.in_ok-push-2.ensures.items ∙ length-append c.instances.rows.items (c.new-in-instances.result ∷ []) in
     omega arith
@@ -26,7 +28,7 @@ instances-preserved c =
     let within = has_row ((goal.at.instances-preserved c).After-instance_at-parent) in
     let pushed : map (λ r. r.items) c.push-in-instances.new.self.items ≡ rows ++ [] ∷ [] = ap (map (λ r. r.items)) c.in_ok-push-2.ensures.items ∙ map_push (λ r. r.items) c.instances.rows.items c.new-in-instances.result ∙ ap (λ r. rows ++ r ∷ []) c.new-in-instances.ensures.items in
     let here : slice_get c.push-in-instances.new.self.items parent ≡ Some row = slice_get-get_or c.push-in-instances.new.self.items parent row within ∙ ap Some (sym c.index_mut.ensures.value) in
-    let there : slice_get (rows ++ [] ∷ []) parent ≡ Some row.items = ap (λ l. slice_get l parent) (sym pushed) ∙ map_get (λ r. r.items) c.push-in-instances.new.self.items parent row here in
+    let there : slice_get (rows ++ [] ∷ []) parent ≡ Some row.items = ap (λ l. slice_get l parent) (sym pushed) ∙ mapped (λ r. r.items) c.push-in-instances.new.self.items parent row here in
     rw (map_set (λ r. r.items) c.push-in-instances.new.self.items parent c.push-in-instances-2.new.self, pushed, c.in_ok-push-3.ensures.items) (filled_more w.0 w.1 c.args.instances.now w.2 rows c.instances.number c.instance_at-parent.result row.items c.instances.invariant c.instance_at-parent.ensures (omega arith) there)
 
 pub returns : goal.returns

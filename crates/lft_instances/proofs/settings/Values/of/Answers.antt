@@ -1,9 +1,10 @@
 use Rattle.std.proofs.Common.{◌≡◌, ℕ, ◌+◌, ◌<◌, ◌≤◌, ◌++◌, List, [], ◌∷◌, length, map, Some, sym, ap, ◌∙◌, arith, slice_get}
-use Rattle.std.proofs.lemmas.List.{with_items_is}
+use Rattle.std.proofs.lemmas.List.{with_items_is, map_push, length-map}
 use Rattle.std.proofs.lemmas.Option.{slice_get-get_or}
+use Rattle.lft_lists.proofs.Mapped.{mapped}
 use Rattle.lft_instances.specs.declared.walk.Instance.{Instance}
 use Rattle.lft_instances.specs.Values.{values_in, given_by}
-use Rattle.lft_instances.proofs.Siblings.{parent_before, length_map, map_push, map_get}
+use Rattle.lft_instances.proofs.Siblings.{parent_before}
 use Rattle.lft_instances.proofs.Entering.{Valued, valued_main, valued_later, length_values, valued_end, lead_to_values}
 use Rattle.lft_instances.proofs.settings.Values.of.Goals as goal
 use Rattle.lft_instances.proofs.settings.Values.of.Goals.{then-number-gt0, else-number-gt0}
@@ -18,7 +19,7 @@ pub index-requires : goal.index-requires
 index-requires c =
     let w = c.requires in
     let before = parent_before w.0 w.1 c.args.instances.now w.2 c.instances.number c.instance_at-instance.result c.instance_at-instance.ensures (omega arith) in
-    let rows = length_map (λ row. row.items) c.instances.rows.items in
+    let rows = length-map c.instances.rows.items (λ row. row.items) in
     let long = c.instances.invariant.as_long in
     let all = c.instances.rows.ok.0 in
     omega arith
@@ -29,7 +30,7 @@ instances-preserved c =
     (elim c.if-number-gt0.branch [
       | then-number-gt0 w ↦
           (let here : slice_get c.instances.rows.items parent ≡ Some w.index.result.now = slice_get-get_or c.instances.rows.items parent w.index.result.now (within w.if-number-gt0.true) ∙ ap Some (sym w.index.ensures) in
-          let row : slice_get rows parent ≡ Some w.index.result.now.items = map_get (λ r. r.items) c.instances.rows.items parent w.index.result.now here in
+          let row : slice_get rows parent ≡ Some w.index.result.now.items = mapped (λ r. r.items) c.instances.rows.items parent w.index.result.now here in
           let same : w.give.new.own ≡ values_in w.index.result.now.items (given_by c.args.table.now w.instance_at-above.result.reactor c.instance_at-instance.result.place) c.in_ok-own.own.items = w.give.ensures ∙ ap (λ g. values_in w.deref.result.now g w.deref_mut.result.now) w.given_to.ensures ∙ ap (λ l. values_in l (given_by c.args.table.now w.instance_at-above.result.reactor c.instance_at-instance.result.place) w.deref_mut.result.now) w.deref.ensures.value ∙ ap (values_in w.index.result.now.items (given_by c.args.table.now w.instance_at-above.result.reactor c.instance_at-instance.result.place)) w.deref_mut.ensures.value in
           let long : length w.give.new.own ≡ length c.in_ok-own.own.items = ap length same ∙ length_values w.index.result.now.items (given_by c.args.table.now w.instance_at-above.result.reactor c.instance_at-instance.result.place) c.in_ok-own.own.items in
           let own : c.if-number-gt0.own.items ≡ w.give.new.own = ap (λ v. v.items) w.own-is ∙ with_items_is c.in_ok-own.own w.give.new.own (let all = c.in_ok-own.own.ok.0 in omega arith) in
@@ -53,7 +54,7 @@ instances-preserved c =
     within l =
         let b = before c.instances.number c.instance_at-instance.result c.instance_at-instance.ensures l in
         let long = c.instances.invariant.as_long in
-        let all = length_map (λ r. r.items) c.instances.rows.items in
+        let all = length-map c.instances.rows.items (λ r. r.items) in
         omega arith
 
     Step : Type 0

@@ -1,5 +1,5 @@
 -- What stands at the places of lists.
-use Rattle.std.proofs.Common.{◌≡◌, ◌≢◌, ℕ, zero, suc, ◌<◌, ◌⊎◌, inl, inr, List, [], ◌∷◌, ◌++◌, length, refl, sym, ap, ◌∙◌, subst, arith, Some, slice_get, slice_set, Contains, replicate, take}
+use Rattle.std.proofs.Common.{◌≡◌, ◌≢◌, ℕ, zero, suc, ◌+◌, ◌<◌, ◌⊎◌, inl, inr, List, [], ◌∷◌, ◌++◌, length, refl, sym, ap, ◌∙◌, subst, arith, Some, slice_get, slice_set, Contains, replicate, take, length-append, Option}
 use Rattle.std.proofs.lemmas.Option.{slice_get-get_or}
 use Rattle.std.proofs.lemmas.Bool.{cases_eq}
 
@@ -79,3 +79,36 @@ written_back {X} xs ys n e = ap (λ k. take k (xs ++ ys)) e ∙ go xs
     go : (xs : List X) → take (length xs) (xs ++ ys) ≡ xs
     go [] = refl
     go (x ∷ xs) = ap (λ l. x ∷ l) (go xs)
+
+-- one list behind another
+pub get_left : {X : Type 0} (xs ys : List X) (k : ℕ) (x : X) → slice_get xs k ≡ Some x → slice_get (xs ++ ys) k ≡ Some x
+get_left [] ys k x e = absurd (cc)
+get_left (y ∷ xs) ys zero x e = e
+get_left (y ∷ xs) ys (suc k) x e = get_left xs ys k x e
+
+pub get_right : {X : Type 0} (xs ys : List X) (k : ℕ) → slice_get (xs ++ ys) (length xs + k) ≡ slice_get ys k
+get_right [] ys k = let e : 0 + k ≡ k = omega arith in ap (slice_get ys) e
+get_right (x ∷ xs) ys k = let e : suc (length xs) + k ≡ suc (length xs + k) = omega arith in ap (slice_get ((x ∷ xs) ++ ys)) e ∙ get_right xs ys k
+
+pub get_append_cases : {X : Type 0} (xs ys : List X) (k : ℕ) (x : X) → slice_get (xs ++ ys) k ≡ Some x → (slice_get xs k ≡ Some x) ⊎ ((j : ℕ) × (k ≡ length xs + j) × (slice_get ys j ≡ Some x))
+get_append_cases [] ys k x e = inr (k, omega arith, e)
+get_append_cases (z ∷ xs) ys zero x e = inl e
+get_append_cases {X} (z ∷ xs) ys (suc k) x e = up (get_append_cases xs ys k x e)
+  where
+    up : (slice_get xs k ≡ Some x) ⊎ ((j : ℕ) × (k ≡ length xs + j) × (slice_get ys j ≡ Some x)) → (slice_get xs k ≡ Some x) ⊎ ((j : ℕ) × (suc k ≡ suc (length xs) + j) × (slice_get ys j ≡ Some x))
+    up (inl a) = inl a
+    up (inr b) = inr (b.0, (let q : k ≡ length xs + b.0 = b.1 in omega arith), b.2)
+
+-- a list with one more at its end is of one list and one element
+pub push_apart : (p q : List ℕ) (j k : ℕ) → p ++ j ∷ [] ≡ q ++ k ∷ [] → (p ≡ q) × (j ≡ k)
+push_apart [] [] j k e = (refl, (cc))
+push_apart [] (y ∷ q) j k e = absurd (let l : length (j ∷ []) ≡ length ((y ∷ q) ++ k ∷ []) = ap length e in let s = length-append q (k ∷ []) in omega arith)
+push_apart (x ∷ p) [] j k e = absurd (let l : length ((x ∷ p) ++ j ∷ []) ≡ length (k ∷ []) = ap length e in let s = length-append p (j ∷ []) in omega arith)
+push_apart (x ∷ p) (y ∷ q) j k e = let f : p ++ j ∷ [] ≡ q ++ k ∷ [] = cc in let h : x ≡ y = cc in let r = push_apart p q j k f in let t : p ≡ q = r.0 in ((cc), r.1)
+
+-- what is there is one thing
+pub same_some : {X : Type 0} (o : Option X) (x y : X) → o ≡ Some x → o ≡ Some y → x ≡ y
+same_some o x y a b = cc
+
+pub Some_same : {X : Type 0} (x y : X) → Some x ≡ Some y → x ≡ y
+Some_same x y same = cc

@@ -1,0 +1,19 @@
+-- What mapped and numbered lists have at their places.
+use Rattle.std.proofs.Common.{◌≡◌, ℕ, zero, suc, ◌+◌, List, [], ◌∷◌, map, Some, slice_get, refl, ap, ◌∙◌, arith}
+use Rattle.std.specs.List.{enumerate_from}
+
+pub mapped : {X Y : Type 0} (f : X → Y) (xs : List X) (k : ℕ) (x : X) → slice_get xs k ≡ Some x → slice_get (map f xs) k ≡ Some (f x)
+mapped f [] k x e = absurd (cc)
+mapped f (z ∷ xs) zero x e = let q : z ≡ x = cc in ap (λ w. Some (f w)) q
+mapped f (z ∷ xs) (suc k) x e = mapped f xs k x e
+
+-- and from what
+pub mapped_from : {X Y : Type 0} (f : X → Y) (xs : List X) (i : ℕ) (y : Y) → slice_get (map f xs) i ≡ Some y → (x : X) × (slice_get xs i ≡ Some x) × (f x ≡ y)
+mapped_from f [] i y at = absurd (cc)
+mapped_from f (x ∷ xs) zero y at = (x, refl, (cc))
+mapped_from f (x ∷ xs) (suc i) y at = mapped_from f xs i y at
+
+pub enumerate_at : {X : Type 0} (i : ℕ) (xs : List X) (n : ℕ) (x : X) → slice_get xs n ≡ Some x → slice_get (enumerate_from i xs) n ≡ Some (i + n, x)
+enumerate_at i [] n x e = absurd (cc)
+enumerate_at i (z ∷ xs) zero x e = let q : z ≡ x = cc in let j : i ≡ i + 0 = omega arith in ap (λ w. Some (i, w)) q ∙ ap (λ w. Some (w, x)) j
+enumerate_at i (z ∷ xs) (suc n) x e = let j : (i + 1) + n ≡ i + suc n = omega arith in enumerate_at (i + 1) xs n x e ∙ ap (λ w. Some (w, x)) j
