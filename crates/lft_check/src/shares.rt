@@ -1,12 +1,11 @@
 //! The tags of a trace, shared out among workers.
 
-ghost use Rattle.std.specs.Prelude.{◌≡◌, ◌<◌, ◌≤◌, length, Some, IfOk, IfErr, OnOk, MatchResult, slice_get};
+ghost use Rattle.std.specs.Prelude.{◌≡◌, ◌<◌, ◌≤◌, length, Some, IfOk, OnOk, slice_get};
 ghost use Rattle.lft_presence.specs.Clashes.{IsClash};
 ghost use Rattle.lft_slices.specs.Slices.{AreSlices};
-ghost use Rattle.lft_check.specs.Verdicts.{LeastOf, BreachIn, IsCheckFault};
+ghost use Rattle.lft_check.specs.Verdicts.{LeastOf, BreachIn};
 ghost use Rattle.lft_check.specs.Shares.{share_start, IsLeastOfShare, AreShares, IsFound, AreOk};
 
-use crate::fault::CheckFault;
 use crate::judging::{first_in, lesser};
 use crate::watch::Watch;
 use lft_model::Breach;
@@ -112,19 +111,13 @@ pub(crate) fn examine_shared<W: Watch, R: Threads + Sync>(
     slices: &[Slice],
     bound: Option<Tag>,
     workers: usize,
-) -> Result<Option<Breach>, CheckFault>
+) -> Result<Option<Breach>, NoMemory>
     requires slices { AreSlices cut.now.rows slices.now }
     requires bound { IsClash cut.now bound }
     requires workers { (1 < workers) × (workers ≤ 64) }
-    ensures least { IfOk result (LeastOf (BreachIn cut.now slices.now bound 0 (length slices.now))) }
-    ensures fault { IfErr result (IsCheckFault workers) }
+    ensures { IfOk result (LeastOf (BreachIn cut.now slices.now bound 0 (length slices.now))) }
 {
-    let found = match examine_shares(rt, alloc, cut, watch, slices, bound, workers) {
-        Ok(found) => found,
-        Err(_) => return Err(CheckFault::NoMemory),
-    };
-    match least_found(found.as_slice()) {
-        Ok(least) => Ok(least),
-        Err(_) => Err(CheckFault::NoMemory),
-    }
+    let found = examine_shares(rt, alloc, cut, watch, slices, bound, workers)?;
+    let least = least_found(found.as_slice())?;
+    Ok(least)
 }
