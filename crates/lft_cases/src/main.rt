@@ -23,9 +23,11 @@ use crate::given::Given;
 use std::alloc::Global;
 use std::io;
 use std::io::Write;
+use std::thread::Threads;
 
 /// Writes what is to be told of a case.
-fn tell(
+fn tell<R: Threads + Sync>(
+    rt: &R,
     alloc: Global,
     given: &Given,
     kind: &str,
@@ -52,10 +54,10 @@ fn tell(
         "read-externals-text" => external_tables::read_text(alloc, given, text, told),
         "ask" => presence::ask(alloc, given, text, told),
         "show" => whole::show(alloc, text, told),
-        "judge" => whole::judge(alloc, given, text, words, told),
-        "judge-text" => whole::judge_text(alloc, given, text, words, told),
-        "pair" => pairs::pair(alloc, given, text, words, told),
-        "pair-text" => pairs::pair_text(alloc, given, text, words, told),
+        "judge" => whole::judge(rt, alloc, given, text, words, told),
+        "judge-text" => whole::judge_text(rt, alloc, given, text, words, told),
+        "pair" => pairs::pair(rt, alloc, given, text, words, told),
+        "pair-text" => pairs::pair_text(rt, alloc, given, text, words, told),
         "bundle" => whole::bundle(alloc, text, told),
         _ => writeln!(told, "no such kind of case: {kind}"),
     }
@@ -71,7 +73,14 @@ fn main(rt: HostRuntime) -> io::Result<()> {
         let mut told = Vec::new(alloc);
         if let Some(next) = line.as_str().strip_prefix("== ") {
             if !given.set(alloc, kind.as_str(), text.as_slice())? {
-                tell(alloc, &given, kind.as_str(), text.as_slice(), &mut told)?;
+                tell(
+                    &rt,
+                    alloc,
+                    &given,
+                    kind.as_str(),
+                    text.as_slice(),
+                    &mut told,
+                )?;
             }
             kind = next.to_string(alloc)?;
             text.clear();

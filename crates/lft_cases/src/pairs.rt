@@ -2,7 +2,8 @@
 //!
 //! - `pair`: of the rows of a second trace table under its header, what it shows beside the given
 //!   trace, by the given program and external inputs. A number beside the word is that of the
-//!   workers, which is 1 where none stands there.
+//!   workers. Where none stands there, it is told by one worker, and what 2, 3 and 64 say only where
+//!   it is something else.
 //! - `pair-text`: the same of a whole second table.
 //!
 //! A line that tells the status is written at the end.
@@ -12,29 +13,59 @@ use lft_front::{finish, pair_answer};
 use std::alloc::Global;
 use std::io;
 use std::io::Write;
+use std::thread::Threads;
+
+/// What is written of two traces by so many workers.
+fn paired<R: Threads + Sync>(
+    rt: &R,
+    alloc: Global,
+    given: &Given,
+    second: &[u8],
+    workers: u32,
+) -> io::Result<Vec<u8>> {
+    let program = given.program.as_slice();
+    let externals = given.externals.as_slice();
+    let first = given.trace.as_slice();
+    let mut told = Vec::new(alloc);
+    let answer = pair_answer(
+        rt, alloc, program, externals, first, second, workers, &mut told,
+    );
+    let status = finish(answer, &mut told);
+    writeln!(told, "status {status}")?;
+    Ok(told)
+}
 
 /// A case `pair-text`.
-pub(crate) fn pair_text(
+pub(crate) fn pair_text<R: Threads + Sync>(
+    rt: &R,
     alloc: Global,
     given: &Given,
     second: &[u8],
     workers: &str,
     told: &mut Vec<u8>,
 ) -> io::Result<()> {
-    let words = if workers.is_empty() { "1" } else { workers };
-    let Ok(number) = words.parse::<u32>() else {
-        return writeln!(told, "no number of workers: {workers}");
-    };
-    let program = given.program.as_slice();
-    let externals = given.externals.as_slice();
-    let first = given.trace.as_slice();
-    let answer = pair_answer(alloc, program, externals, first, second, number, told);
-    let status = finish(answer, told);
-    writeln!(told, "status {status}")
+    if !workers.is_empty() {
+        let Ok(number) = workers.parse::<u32>() else {
+            return writeln!(told, "no number of workers: {workers}");
+        };
+        let lines = paired(rt, alloc, given, second, number)?;
+        return told.write_all(lines.as_slice());
+    }
+    let lines = paired(rt, alloc, given, second, 1)?;
+    told.write_all(lines.as_slice())?;
+    for number in [2, 3, 64] {
+        let others = paired(rt, alloc, given, second, number)?;
+        if others != lines {
+            writeln!(told, "by {number} workers:")?;
+            told.write_all(others.as_slice())?;
+        }
+    }
+    Ok(())
 }
 
 /// A case `pair`.
-pub(crate) fn pair(
+pub(crate) fn pair<R: Threads + Sync>(
+    rt: &R,
     alloc: Global,
     given: &Given,
     rows: &[u8],
@@ -42,5 +73,5 @@ pub(crate) fn pair(
     told: &mut Vec<u8>,
 ) -> io::Result<()> {
     let second = trace_table(alloc, rows)?;
-    pair_text(alloc, given, second.as_slice(), workers, told)
+    pair_text(rt, alloc, given, second.as_slice(), workers, told)
 }

@@ -2,7 +2,9 @@
 //!
 //! - `show`: of a program's text, its ports and reactions.
 //! - `judge`: of the rows of a trace table under its header, the verdict by the given program and
-//!   external inputs. A number beside the word is that of the workers.
+//!   external inputs. A number beside the word is that of the workers. Where none stands there, the
+//!   trace is judged by the call that starts no thread, and by 1, 2, 3 and 64 workers; what these say
+//!   is written only where it is something else.
 //! - `judge-text`: the same of a whole table.
 //! - `bundle`: of a text, the three texts that it bundles.
 //!
@@ -16,6 +18,7 @@ use lft_front::{
 use std::alloc::Global;
 use std::io;
 use std::io::Write;
+use std::thread::Threads;
 
 /// Writes the line of a fault, if there is one, and the status.
 fn end(answer: Result<bool, Fault>, told: &mut Vec<u8>) -> io::Result<()> {
@@ -31,43 +34,60 @@ pub(crate) fn show(alloc: Global, program: &[u8], told: &mut Vec<u8>) -> io::Res
     }
 }
 
-/// The verdict by so many workers, or by the call that has one.
-fn verdict(
+/// What is written of a trace by so many workers, or by the call that has one.
+fn judged<R: Threads + Sync>(
+    rt: &R,
     alloc: Global,
     given: &Given,
     trace: &[u8],
     workers: Option<u32>,
-    told: &mut Vec<u8>,
-) -> Result<Verdict, Fault> {
+) -> io::Result<Vec<u8>> {
     let program = given.program.as_slice();
     let externals = given.externals.as_slice();
-    match workers {
-        Some(workers) => judge_texts(alloc, program, externals, trace, workers, told),
-        None => judge_texts_alone(alloc, program, externals, trace, told),
-    }
+    let mut told = Vec::new(alloc);
+    let verdict = match workers {
+        Some(number) => judge_texts(rt, alloc, program, externals, trace, number, &mut told),
+        None => judge_texts_alone(alloc, program, externals, trace, &mut told),
+    };
+    let answer = match verdict {
+        Ok(verdict) => Ok(matches!(verdict, Verdict::Accepted { .. })),
+        Err(fault) => Err(fault),
+    };
+    end(answer, &mut told)?;
+    Ok(told)
 }
 
 /// A case `judge-text`.
-pub(crate) fn judge_text(
+pub(crate) fn judge_text<R: Threads + Sync>(
+    rt: &R,
     alloc: Global,
     given: &Given,
     trace: &[u8],
     workers: &str,
     told: &mut Vec<u8>,
 ) -> io::Result<()> {
-    let number = workers.parse::<u32>().ok();
-    if number.is_none() && !workers.is_empty() {
-        return writeln!(told, "no number of workers: {workers}");
+    if !workers.is_empty() {
+        let Ok(number) = workers.parse::<u32>() else {
+            return writeln!(told, "no number of workers: {workers}");
+        };
+        let lines = judged(rt, alloc, given, trace, Some(number))?;
+        return told.write_all(lines.as_slice());
     }
-    match verdict(alloc, given, trace, number, told) {
-        Ok(Verdict::Accepted { .. }) => end(Ok(true), told),
-        Ok(Verdict::Broken(_)) => end(Ok(false), told),
-        Err(fault) => end(Err(fault), told),
+    let lines = judged(rt, alloc, given, trace, None)?;
+    told.write_all(lines.as_slice())?;
+    for number in [1, 2, 3, 64] {
+        let others = judged(rt, alloc, given, trace, Some(number))?;
+        if others != lines {
+            writeln!(told, "by {number} workers:")?;
+            told.write_all(others.as_slice())?;
+        }
     }
+    Ok(())
 }
 
 /// A case `judge`.
-pub(crate) fn judge(
+pub(crate) fn judge<R: Threads + Sync>(
+    rt: &R,
     alloc: Global,
     given: &Given,
     rows: &[u8],
@@ -75,7 +95,7 @@ pub(crate) fn judge(
     told: &mut Vec<u8>,
 ) -> io::Result<()> {
     let trace = trace_table(alloc, rows)?;
-    judge_text(alloc, given, trace.as_slice(), workers, told)
+    judge_text(rt, alloc, given, trace.as_slice(), workers, told)
 }
 
 /// A case `bundle`.

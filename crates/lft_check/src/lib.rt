@@ -4,11 +4,14 @@
 mod carry;
 mod count;
 mod examine;
-mod judge;
+mod fault;
+mod judging;
 mod ranks;
+mod shares;
 mod verdict;
 mod watch;
 
-pub use judge::judge_alone;
+pub use fault::CheckFault;
+pub use judging::{judge, judge_alone};
 pub use verdict::Verdict;
 pub use watch::{NoWatch, Watch};

@@ -9,12 +9,12 @@ use Rattle.lft_check.specs.declared.verdict.Verdict.TheVariants.{Broken}
 use Rattle.lft_front.specs.Meaning.{IsMeaning}
 use Rattle.lft_front.specs.Pairs.{IsPairing, MeanBoth, NamesReaction}
 use Rattle.lft_front.specs.PairRefusals.{PairingRefusal}
-use Rattle.lft_front.specs.PairRefusals.PairingRefusal.{by_workers, by_growth, by_writer}
+use Rattle.lft_front.specs.PairRefusals.PairingRefusal.{by_check, by_writer}
 use Rattle.lft_load.specs.Refusals.{is_of_text}
 use Rattle.lft_load.specs.declared.fault.Fault.{Fault}
 use Rattle.lft_front.specs.declared.paired.Paired.{Paired}
 use Rattle.lft_front.specs.declared.paired.Paired.TheVariants.{First, Second, Same, Differ}
-use Rattle.lft_front.proofs.Judging.{has_reaction, check_untold, memory_untold, write_untold}
+use Rattle.lft_front.proofs.Judging.{has_reaction, refusal_untold, write_untold}
 
 -- the reaction that is named is one of the program
 pub names_reaction : (plan : PlanParts) (rows others : List Row) → RowsFit plan.program rows → RowsFit plan.program others → (said : Paired) → IsPairing plan rows others said → NamesReaction plan.program said
@@ -25,9 +25,7 @@ names_reaction plan rows others fit fits (Differ g r) x = let ran = x.1.is_pair.
 
 -- where a plan and two traces get no comparison, the fault tells nothing of the texts
 pub pairing_untold : (plan : PlanParts) (rows others : List Row) (workers : ℕ) (old new : Option (List ℕ)) (f : Fault) → PairingRefusal plan rows others workers old new f → is_of_text f.part f.number ≡ true → ⊥
-pairing_untold plan rows others workers old new f (by_workers p n x) t = check_untold f.part f.number p t
-pairing_untold plan rows others workers old new f (by_growth (inl x) w) t = check_untold f.part f.number x.0 t
-pairing_untold plan rows others workers old new f (by_growth (inr x) w) t = memory_untold f.part f.number x.0 t
+pairing_untold plan rows others workers old new f (by_check x) t = refusal_untold workers f x t
 pairing_untold plan rows others workers old new f (by_writer s p n x z) t = write_untold f.part f.number p t
 
 -- the second rows of four texts are those of the one plan of the first three

@@ -10,7 +10,7 @@ use Rattle.lft_load.specs.Faults.{table_number}
 use Rattle.lft_front.specs.Lines.{line_of_pair}
 use Rattle.lft_front.specs.Meaning.{IsMeaning}
 use Rattle.lft_front.specs.Pairs.{IsPairing, AreMeaning}
-use Rattle.lft_front.specs.Refusals.{TextsRefusal, IsWorkers, IsRefusedGrowth}
+use Rattle.lft_front.specs.Refusals.{TextsRefusal, CheckRefusal}
 use Rattle.lft_load.specs.Written.{AppendsFront}
 use Rattle.lft_load.specs.declared.fault.Fault.{Fault}
 use Rattle.lft_load.specs.declared.fault.Part.TheVariants as part
@@ -21,10 +21,9 @@ pub data TextPairRefusal (program externals first second : List ℕ) (f : Fault)
   by_texts : TextsRefusal program externals first f → TextPairRefusal program externals first second f
   by_second : (e : TraceFault) (plan : PlanParts) (rows : List Row) → f.part ≡ part.Trace → f.number ≡ table_number e → IsMeaning program externals first plan rows → (is_told e ≡ true → TraceFails plan.program (records_of second) e) → TextPairRefusal program externals first second f
 
--- a plan and two traces get no comparison: the number of workers isn't lawful, a growth was refused, or the writer failed on the line
+-- a plan and two traces get no written comparison: by the checker or for want of memory they get none, or the writer failed on its line
 pub data PairingRefusal (plan : PlanParts) (rows others : List Row) (workers : ℕ) (old new : Option (List ℕ)) (f : Fault) : Type 0 where
-  by_workers : f.part ≡ part.Check → f.number ≡ 1 → (IsWorkers workers → ⊥) → PairingRefusal plan rows others workers old new f
-  by_growth : IsRefusedGrowth f → IsWorkers workers → PairingRefusal plan rows others workers old new f
+  by_check : CheckRefusal workers f → PairingRefusal plan rows others workers old new f
   by_writer : (said : Paired) → f.part ≡ part.Write → f.number ≡ 1 → IsPairing plan rows others said → AppendsFront old new (line_of_pair plan.program said) → PairingRefusal plan rows others workers old new f
 
 -- the four texts get no comparison: they have no meaning, or their meaning gets none

@@ -9,7 +9,7 @@ use Rattle.lft_trace.specs.Traces.{TraceFails}
 use Rattle.lft_model.specs.Plans.{PlanParts}
 use Rattle.lft_load.specs.Faults.{table_number}
 use Rattle.lft_check.specs.declared.verdict.Verdict.{Verdict}
-use Rattle.lft_check.specs.Verdicts.{IsVerdict}
+use Rattle.lft_check.specs.Verdicts.{IsVerdict, IsWorkers}
 use Rattle.lft_front.specs.Lines.{line_of}
 use Rattle.lft_load.specs.Meaning.{IsProgramOf, IsPlanOf}
 use Rattle.lft_front.specs.Meaning.{IsMeaning}
@@ -20,23 +20,23 @@ use Rattle.lft_load.specs.declared.fault.Fault.{Fault}
 use Rattle.lft_load.specs.declared.fault.Part.TheVariants as part
 use Rattle.lft_load.specs.Refusals.{LoadRefusal, ProgramRefusal, GraphRefusal}
 
--- a lawful number of workers
-abbrev pub IsWorkers : ℕ → Type 0
-IsWorkers n = (1 ≤ n) × (n ≤ 64)
-
 -- a growth of the checker or of the program itself was refused
 abbrev pub IsRefusedGrowth : Fault → Type 0
 IsRefusedGrowth f = (f.part ≡ part.Check) × (f.number ≡ 3) ⊎ (f.part ≡ part.Memory) × (f.number ≡ 1)
+
+-- by so many workers rows get no verdict: their number isn't lawful, or it is and a growth was refused
+pub data CheckRefusal (workers : ℕ) (f : Fault) : Type 0 where
+  by_workers : f.part ≡ part.Check → f.number ≡ 1 → (IsWorkers workers → ⊥) → CheckRefusal workers f
+  by_growth : IsRefusedGrowth f → IsWorkers workers → CheckRefusal workers f
 
 -- the three texts have no meaning: the first two have no plan, or the third is no trace table
 pub data TextsRefusal (program externals trace : List ℕ) (f : Fault) : Type 0 where
   by_load : LoadRefusal program externals f → TextsRefusal program externals trace f
   by_trace : (e : TraceFault) (plan : PlanParts) → f.part ≡ part.Trace → f.number ≡ table_number e → IsPlanOf program externals plan → (is_told e ≡ true → TraceFails plan.program (records_of trace) e) → TextsRefusal program externals trace f
 
--- a plan and rows get no verdict: the number of workers isn't lawful, a growth was refused, or the writer failed on the verdict's line
+-- a plan and rows get no written verdict: they get none, or the writer failed on its line
 pub data JudgingRefusal (plan : PlanParts) (rows : List Row) (workers : ℕ) (old new : Option (List ℕ)) (f : Fault) : Type 0 where
-  by_workers : f.part ≡ part.Check → f.number ≡ 1 → (IsWorkers workers → ⊥) → JudgingRefusal plan rows workers old new f
-  by_growth : IsRefusedGrowth f → IsWorkers workers → JudgingRefusal plan rows workers old new f
+  by_check : CheckRefusal workers f → JudgingRefusal plan rows workers old new f
   by_writer : (verdict : Verdict) → f.part ≡ part.Write → f.number ≡ 1 → IsVerdict plan rows verdict → AppendsFront old new (line_of plan.program verdict) → JudgingRefusal plan rows workers old new f
 
 -- the three texts get no verdict: they have no meaning, or their meaning gets none

@@ -8,8 +8,9 @@ ghost use Rattle.lft_front.specs.Refusals.{JudgeRefusal};
 ghost use Rattle.lft_front.specs.Shown.{IsShown};
 ghost use Rattle.lft_front.specs.Judged.{Accepts};
 
+use crate::alone::judge_texts_alone;
 use crate::bundle::split_bundle;
-use crate::judge::{judge_texts, judge_texts_alone};
+use crate::judge::judge_texts;
 use crate::pair::pair_texts;
 use crate::paired::Paired;
 use crate::show::show_text;
@@ -17,6 +18,7 @@ use lft_check::Verdict;
 use lft_load::{Fault, Part};
 use std::alloc::Global;
 use std::io::Write;
+use std::thread::Threads;
 
 /// Whether a verdict is that the trace is accepted.
 fn is_accepted(verdict: Verdict) -> bool
@@ -26,7 +28,8 @@ fn is_accepted(verdict: Verdict) -> bool
 }
 
 /// Whether the trace of three texts is accepted, whose verdict's line is written.
-pub fn judge_answer<W: Write>(
+pub fn judge_answer<W: Write, R: Threads + Sync>(
+    rt: &R,
     alloc: Global,
     program: &[u8],
     externals: &[u8],
@@ -37,7 +40,7 @@ pub fn judge_answer<W: Write>(
     ensures accepted { IfOk result (IsAccepted program.now externals.now trace.now (W.contents out.old) (W.contents out.new)) }
     ensures refused { IfErr result (JudgeRefusal program.now externals.now trace.now workers (W.contents out.old) (W.contents out.new)) }
 {
-    let verdict = judge_texts(alloc, program, externals, trace, workers, out)?;
+    let verdict = judge_texts(rt, alloc, program, externals, trace, workers, out)?;
     Ok(is_accepted(verdict))
 }
 
@@ -50,7 +53,8 @@ fn is_same(paired: Paired) -> bool
 
 /// Whether the two traces of four texts are accepted and have the same runs, of which a line is
 /// written.
-pub fn pair_answer<W: Write>(
+pub fn pair_answer<W: Write, R: Threads + Sync>(
+    rt: &R,
     alloc: Global,
     program: &[u8],
     externals: &[u8],
@@ -62,7 +66,7 @@ pub fn pair_answer<W: Write>(
     ensures same { IfOk result (IsSameAnswer program.now externals.now first.now second.now (W.contents out.old) (W.contents out.new)) }
     ensures refused { IfErr result (PairRefusal program.now externals.now first.now second.now workers (W.contents out.old) (W.contents out.new)) }
 {
-    let paired = pair_texts(alloc, program, externals, first, second, workers, out)?;
+    let paired = pair_texts(rt, alloc, program, externals, first, second, workers, out)?;
     Ok(is_same(paired))
 }
 

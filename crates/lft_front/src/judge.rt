@@ -1,30 +1,32 @@
 //! The verdict on three texts.
 
-ghost use Rattle.std.specs.Prelude.{◌≡◌, ◌≢◌, ◌≤◌, ◌↔◌, ◌⊎◌, true, IsTrue, OnOk, OnErr, IfOk, IfErr, List};
+ghost use Rattle.std.specs.Prelude.{◌≡◌, ◌≢◌, ◌⊎◌, true, OnOk, IfOk, IfErr, List};
 ghost use Rattle.std.specs.Io.KnownBytes.{Appends, Keeps};
 ghost use Rattle.lft_trace.specs.Fits.{RowsFit};
 ghost use Rattle.lft_trace.specs.declared.row.Row.{Row};
 ghost use Rattle.lft_model.specs.Plans.{PlanParts};
 ghost use Rattle.lft_model.specs.declared.breach.Breach.{Breach};
 ghost use Rattle.lft_check.specs.declared.verdict.Verdict.TheVariants.{Broken};
-ghost use Rattle.lft_check.specs.Verdicts.{IsVerdict};
+ghost use Rattle.lft_check.specs.Verdicts.{IsVerdict, IsWorkers};
 ghost use Rattle.lft_front.specs.Lines.{line_of, HasReaction};
 ghost use Rattle.lft_front.specs.Meaning.{IsMeaning, Mean};
 ghost use Rattle.lft_front.specs.Judged.{AcceptedRuns, IsJudged};
 ghost use Rattle.lft_load.specs.Refusals.{is_of_text};
-ghost use Rattle.lft_front.specs.Refusals.{JudgeRefusal, JudgingRefusal, TextsRefusal, IsRefusedGrowth, IsWorkers};
+ghost use Rattle.lft_front.specs.Refusals.{JudgeRefusal, JudgingRefusal, CheckRefusal, TextsRefusal, IsRefusedGrowth};
 ghost use Rattle.lft_load.specs.Written.{AppendsFront};
 ghost use Rattle.lft_load.specs.declared.fault.Part.TheVariants as part;
 
 use crate::line::verdict_line;
-use lft_check::{NoWatch, Verdict, judge_alone};
+use lft_check::{CheckFault, NoWatch, Verdict, judge};
 use lft_flat::Program;
 use lft_load::{Fault, Part, load, write_text};
 use lft_model::Plan;
 use lft_model::laws::law_one_worker;
-use lft_trace::{Rows, read_trace};
+use lft_reading::read_trace_shared;
+use lft_trace::Rows;
 use std::alloc::Global;
 use std::io::Write;
+use std::thread::Threads;
 
 /// The plan and the rows of three texts.
 #[derive(Drop)]
@@ -33,12 +35,15 @@ pub(crate) struct Given {
     pub rows: Rows,
 }
 
-/// The plan and the rows of three texts, else the fault of the first layer that refuses.
-pub(crate) fn read_texts(
+/// The plan and the rows of three texts, read by so many workers, else the fault of the first layer
+/// that refuses.
+pub(crate) fn read_texts<R: Threads + Sync>(
+    rt: &R,
     alloc: Global,
     program: &[u8],
     externals: &[u8],
     trace: &[u8],
+    workers: u32,
 ) -> Result<Given, Fault>
     ensures meaning { IfOk result (λ given. IsMeaning program.now externals.now trace.now given.plan given.rows) }
     ensures fit { IfOk result (λ given. RowsFit given.plan.program given.rows) }
@@ -49,35 +54,36 @@ pub(crate) fn read_texts(
         Ok(plan) => plan,
         Err(fault) => return Err(fault),
     };
-    match read_trace(alloc, plan.program(), trace) {
+    match read_trace_shared(rt, alloc, plan.program(), trace, workers) {
         Ok(rows) => Ok(Given { plan, rows }),
         Err(fault) => Err(Fault::trace(fault)),
     }
 }
 
-/// Whether judging takes this number of workers: 1 to 64.
-pub(crate) fn is_workers(workers: u32) -> bool
-    ensures { IsTrue result ↔ IsWorkers workers }
-{
-    1 <= workers && workers <= 64
-}
-
-/// The verdict on rows.
-pub(crate) fn verdict_of(alloc: Global, plan: &Plan, rows: &Rows) -> Result<Verdict, Fault>
+/// The verdict on rows by so many workers, whose number is tested first.
+pub(crate) fn verdict_of<R: Threads + Sync>(
+    rt: &R,
+    alloc: Global,
+    plan: &Plan,
+    rows: &Rows,
+    workers: u32,
+) -> Result<Verdict, Fault>
     requires fit { RowsFit plan.now.program rows.now }
     ensures verdict { IfOk result (IsVerdict plan.now rows.now) }
     ensures one_worker { IfOk result (AcceptedRuns plan.now rows.now) }
-    ensures growth { IfErr result IsRefusedGrowth }
+    ensures workers { OnOk result (IsWorkers workers) }
+    ensures fault { IfErr result (CheckRefusal workers) }
 {
     law_one_worker(plan);
-    match judge_alone(alloc, plan, rows, &NoWatch) {
+    match judge(rt, alloc, plan, rows, workers, &NoWatch) {
         Ok(verdict) => Ok(verdict),
-        Err(_) => Err(Fault::plain(Part::Check, 3, "NoMemory")),
+        Err(CheckFault::BadWorkers) => Err(Fault::plain(Part::Check, 1, "BadWorkers")),
+        Err(CheckFault::NoMemory) => Err(Fault::plain(Part::Check, 3, "NoMemory")),
     }
 }
 
 /// Writes the line of a verdict.
-fn report<W: Write>(
+pub(crate) fn report<W: Write>(
     alloc: Global,
     program: &Program,
     verdict: Verdict,
@@ -94,8 +100,9 @@ fn report<W: Write>(
     }
 }
 
-/// Judges rows and writes the verdict's line. The number of workers is tested first.
-fn judge_rows<W: Write>(
+/// Judges rows by so many workers and writes the verdict's line.
+fn judge_rows<W: Write, R: Threads + Sync>(
+    rt: &R,
     alloc: Global,
     plan: &Plan,
     rows: &Rows,
@@ -110,10 +117,7 @@ fn judge_rows<W: Write>(
     ensures refused { IfErr result (JudgingRefusal plan.now rows.now workers (W.contents out.old) (W.contents out.new)) }
     ensures kept { IfErr result (λ f. f.part ≢ part.Write → Keeps (W.contents out.old) (W.contents out.new)) }
 {
-    if !is_workers(workers) {
-        return Err(Fault::plain(Part::Check, 1, "BadWorkers"));
-    }
-    let verdict = match verdict_of(alloc, plan, rows) {
+    let verdict = match verdict_of(rt, alloc, plan, rows, workers) {
         Ok(verdict) => verdict,
         Err(fault) => return Err(fault),
     };
@@ -123,10 +127,12 @@ fn judge_rows<W: Write>(
     }
 }
 
-/// Judges the trace of a program under external inputs, from their texts, and writes the verdict's
-/// line. The fault is that of the first layer that refuses, in the order lex, syntax, program,
-/// externals, graph, trace, check, write.
-pub fn judge_texts<W: Write>(
+/// Judges the trace of a program under external inputs, from their texts, by so many workers, and
+/// writes the verdict's line. The fault is that of the first layer that refuses, in the order lex,
+/// syntax, program, externals, graph, trace, check, write. The number of workers, 1 to 64, is tested
+/// by the checker.
+pub fn judge_texts<W: Write, R: Threads + Sync>(
+    rt: &R,
     alloc: Global,
     program: &[u8],
     externals: &[u8],
@@ -140,24 +146,8 @@ pub fn judge_texts<W: Write>(
     ensures none { IfErr result (λ f. is_of_text f.part f.number ≡ true → (plan : PlanParts) (rows : List Row) → Mean program.now externals.now trace.now plan rows → ⊥) }
     ensures kept { IfErr result (λ f. f.part ≢ part.Write → Keeps (W.contents out.old) (W.contents out.new)) }
 {
-    match read_texts(alloc, program, externals, trace) {
-        Ok(given) => judge_rows(alloc, &given.plan, &given.rows, workers, out),
+    match read_texts(rt, alloc, program, externals, trace, workers) {
+        Ok(given) => judge_rows(rt, alloc, &given.plan, &given.rows, workers, out),
         Err(fault) => Err(fault),
     }
-}
-
-/// The same by one worker.
-pub fn judge_texts_alone<W: Write>(
-    alloc: Global,
-    program: &[u8],
-    externals: &[u8],
-    trace: &[u8],
-    out: &mut W,
-) -> Result<Verdict, Fault>
-    ensures judged { IfOk result (IsJudged program.now externals.now trace.now (W.contents out.old) (W.contents out.new)) }
-    ensures refused { IfErr result (JudgeRefusal program.now externals.now trace.now 1 (W.contents out.old) (W.contents out.new)) }
-    ensures none { IfErr result (λ f. is_of_text f.part f.number ≡ true → (plan : PlanParts) (rows : List Row) → Mean program.now externals.now trace.now plan rows → ⊥) }
-    ensures kept { IfErr result (λ f. f.part ≢ part.Write → Keeps (W.contents out.old) (W.contents out.new)) }
-{
-    judge_texts(alloc, program, externals, trace, 1, out)
 }

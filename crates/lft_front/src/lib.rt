@@ -2,6 +2,7 @@
 //! From texts to a verdict, to the comparison of two traces, or to the lines of a program. It hands
 //! on the faults of `lft_load`.
 
+mod alone;
 mod answer;
 mod bundle;
 mod judge;
@@ -10,10 +11,11 @@ mod pair;
 mod paired;
 mod show;
 
+pub use alone::judge_texts_alone;
 pub use answer::{bundle_answer, judge_answer, pair_answer, show_answer};
 pub use bundle::{Bundle, split_bundle};
+pub use judge::judge_texts;
 pub use lft_load::{Fault, Part, finish, load, read_input};
-pub use judge::{judge_texts, judge_texts_alone};
 pub use pair::pair_texts;
 pub use paired::Paired;
 pub use show::show_text;

@@ -5,26 +5,28 @@ ghost use Rattle.std.specs.Io.KnownBytes.{Appends, Keeps};
 ghost use Rattle.lft_trace.specs.Fits.{RowsFit};
 ghost use Rattle.lft_trace.specs.declared.row.Row.{Row};
 ghost use Rattle.lft_model.specs.Plans.{PlanParts};
-ghost use Rattle.lft_check.specs.Verdicts.{IsAccepted};
+ghost use Rattle.lft_check.specs.Verdicts.{IsAccepted, IsWorkers};
 ghost use Rattle.lft_front.specs.Lines.{line_of_pair};
 ghost use Rattle.lft_front.specs.Pairs.{AreAccepted, AreMeaning, IsExecution, IsPaired, IsPairing, MeanBoth, NamesReaction};
 ghost use Rattle.lft_front.specs.PairRefusals.{PairRefusal, PairingRefusal, TextPairRefusal};
 ghost use Rattle.lft_load.specs.Refusals.{is_of_text};
-ghost use Rattle.lft_front.specs.Refusals.{IsRefusedGrowth, IsWorkers};
+ghost use Rattle.lft_front.specs.Refusals.{CheckRefusal, IsRefusedGrowth};
 ghost use Rattle.lft_load.specs.Written.{AppendsFront};
 ghost use Rattle.lft_load.specs.declared.fault.Part.TheVariants as part;
 
-use crate::judge::{Given, is_workers, read_texts, verdict_of};
+use crate::judge::{Given, read_texts, verdict_of};
 use crate::line::paired_line;
 use crate::paired::Paired;
 use lft_check::Verdict;
 use lft_flat::Program;
-use lft_load::{Fault, Part, write_text};
+use lft_load::{Fault, write_text};
 use lft_model::Plan;
 use lft_pair::{Pair, pair as compare_rows};
-use lft_trace::{Rows, read_trace};
+use lft_reading::read_trace_shared;
+use lft_trace::Rows;
 use std::alloc::Global;
 use std::io::Write;
+use std::thread::Threads;
 
 /// What three texts gave, and the rows of a second trace.
 #[derive(Drop)]
@@ -35,12 +37,14 @@ struct Both {
 
 /// The plan and the rows of four texts, else the fault of the first layer that refuses. Both tables
 /// are read before either is judged.
-fn read_both(
+fn read_both<R: Threads + Sync>(
+    rt: &R,
     alloc: Global,
     program: &[u8],
     externals: &[u8],
     first: &[u8],
     second: &[u8],
+    workers: u32,
 ) -> Result<Both, Fault>
     ensures meaning { IfOk result (λ both. AreMeaning program.now externals.now first.now second.now both.given.plan both.given.rows both.second) }
     ensures first_fits { IfOk result (λ both. RowsFit both.given.plan.program both.given.rows) }
@@ -48,11 +52,11 @@ fn read_both(
     ensures refused { IfErr result (TextPairRefusal program.now externals.now first.now second.now) }
     ensures none { IfErr result (λ f. is_of_text f.part f.number ≡ true → (plan : PlanParts) (rows others : List Row) → MeanBoth program.now externals.now first.now second.now plan rows others → ⊥) }
 {
-    let given = match read_texts(alloc, program, externals, first) {
+    let given = match read_texts(rt, alloc, program, externals, first, workers) {
         Ok(given) => given,
         Err(fault) => return Err(fault),
     };
-    match read_trace(alloc, given.plan.program(), second) {
+    match read_trace_shared(rt, alloc, given.plan.program(), second, workers) {
         Ok(others) => Ok(Both {
             given,
             second: others,
@@ -88,11 +92,13 @@ fn compare(
 }
 
 /// Judges the second trace beside an accepted first one, and then compares the two.
-fn judge_second(
+fn judge_second<R: Threads + Sync>(
+    rt: &R,
     alloc: Global,
     plan: &Plan,
     first: &Rows,
     second: &Rows,
+    workers: u32,
     runs: u32,
     tags: u32,
 ) -> Result<Paired, Fault>
@@ -101,9 +107,10 @@ fn judge_second(
     requires execution { IsExecution plan.now first.now }
     requires counted { IsAccepted plan.now first.now runs tags }
     ensures right { IfOk result (IsPairing plan.now first.now second.now) }
-    ensures growth { IfErr result IsRefusedGrowth }
+    ensures workers { OnOk result (IsWorkers workers) }
+    ensures fault { IfErr result (CheckRefusal workers) }
 {
-    let verdict = match verdict_of(alloc, plan, second) {
+    let verdict = match verdict_of(rt, alloc, plan, second, workers) {
         Ok(verdict) => verdict,
         Err(fault) => return Err(fault),
     };
@@ -114,18 +121,28 @@ fn judge_second(
 }
 
 /// Judges the first trace, then the second, and then compares the two.
-fn judge_both(alloc: Global, plan: &Plan, first: &Rows, second: &Rows) -> Result<Paired, Fault>
+fn judge_both<R: Threads + Sync>(
+    rt: &R,
+    alloc: Global,
+    plan: &Plan,
+    first: &Rows,
+    second: &Rows,
+    workers: u32,
+) -> Result<Paired, Fault>
     requires first_fits { RowsFit plan.now.program first.now }
     requires second_fits { RowsFit plan.now.program second.now }
     ensures right { IfOk result (IsPairing plan.now first.now second.now) }
-    ensures growth { IfErr result IsRefusedGrowth }
+    ensures workers { OnOk result (IsWorkers workers) }
+    ensures fault { IfErr result (CheckRefusal workers) }
 {
-    let verdict = match verdict_of(alloc, plan, first) {
+    let verdict = match verdict_of(rt, alloc, plan, first, workers) {
         Ok(verdict) => verdict,
         Err(fault) => return Err(fault),
     };
     match verdict {
-        Verdict::Accepted { runs, tags } => judge_second(alloc, plan, first, second, runs, tags),
+        Verdict::Accepted { runs, tags } => {
+            judge_second(rt, alloc, plan, first, second, workers, runs, tags)
+        }
         Verdict::Broken(breach) => Ok(Paired::First(breach)),
     }
 }
@@ -148,8 +165,9 @@ fn report<W: Write>(
     }
 }
 
-/// Judges and compares rows, and writes the line. The number of workers is tested first.
-fn pair_rows<W: Write>(
+/// Judges and compares rows, and writes the line.
+fn pair_rows<W: Write, R: Threads + Sync>(
+    rt: &R,
     alloc: Global,
     plan: &Plan,
     first: &Rows,
@@ -165,10 +183,7 @@ fn pair_rows<W: Write>(
     ensures refused { IfErr result (PairingRefusal plan.now first.now second.now workers (W.contents out.old) (W.contents out.new)) }
     ensures kept { IfErr result (λ f. f.part ≢ part.Write → Keeps (W.contents out.old) (W.contents out.new)) }
 {
-    if !is_workers(workers) {
-        return Err(Fault::plain(Part::Check, 1, "BadWorkers"));
-    }
-    let paired = match judge_both(alloc, plan, first, second) {
+    let paired = match judge_both(rt, alloc, plan, first, second, workers) {
         Ok(paired) => paired,
         Err(fault) => return Err(fault),
     };
@@ -179,11 +194,13 @@ fn pair_rows<W: Write>(
 }
 
 /// Judges two traces of a program under the same external inputs, from their texts, compares them
-/// where both are accepted, and writes the line of what is said. Both tables are read before either
-/// is judged; the first is judged before the second. The fault is that of the first layer that
-/// refuses, in the order lex, syntax, program, externals, graph, trace (the first table, then the
-/// second), check, write. A growth that is refused to the comparison is `memory` 1 `NoMemory`.
-pub fn pair_texts<W: Write>(
+/// where both are accepted, and writes the line of what is said. Each table is read and each trace
+/// judged by so many workers; the comparison has one. Both tables are read before either is judged;
+/// the first is judged before the second. The fault is that of the first layer that refuses, in the
+/// order lex, syntax, program, externals, graph, trace (the first table, then the second), check,
+/// write. A growth that is refused to the comparison is `memory` 1 `NoMemory`.
+pub fn pair_texts<W: Write, R: Threads + Sync>(
+    rt: &R,
     alloc: Global,
     program: &[u8],
     externals: &[u8],
@@ -198,8 +215,9 @@ pub fn pair_texts<W: Write>(
     ensures none { IfErr result (λ f. is_of_text f.part f.number ≡ true → (plan : PlanParts) (rows others : List Row) → MeanBoth program.now externals.now first.now second.now plan rows others → ⊥) }
     ensures kept { IfErr result (λ f. f.part ≢ part.Write → Keeps (W.contents out.old) (W.contents out.new)) }
 {
-    match read_both(alloc, program, externals, first, second) {
+    match read_both(rt, alloc, program, externals, first, second, workers) {
         Ok(both) => pair_rows(
+            rt,
             alloc,
             &both.given.plan,
             &both.given.rows,

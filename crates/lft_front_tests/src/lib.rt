@@ -1,5 +1,5 @@
 #![tactic(auto)]
-//! The tests of the calls on texts that need code: long texts and tables, readers and writers that
+//! The tests of the calls on texts that need code: long texts and tables, many workers, readers and writers that
 //! are interrupted or fail, refused growths. What is data is a case of `lft_cases`.
 
 #[cfg(test)]
@@ -8,6 +8,8 @@ mod growths;
 mod limits;
 #[cfg(test)]
 mod long_texts;
+#[cfg(test)]
+mod many_workers;
 #[cfg(test)]
 mod readers;
 #[cfg(test)]

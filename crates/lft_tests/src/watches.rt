@@ -1,13 +1,14 @@
-//! Who is told which tag is examined.
+//! Who is told which tag is examined, by one worker and by two.
 
 use crate::texts::plan;
-use lft_check::{Watch, judge_alone};
+use lft_check::{CheckFault, NoWatch, Verdict, Watch, judge, judge_alone};
 use lft_model::Plan;
 use lft_tag::Tag;
 use lft_trace::read_trace;
 use std::alloc::Global;
-use std::sync::atomic::{AtomicU64, Ordering};
+use std::sync::atomic::{AtomicBool, AtomicU64, Ordering};
 use std::test::Fail;
+use std::thread;
 
 /// The times of the tags that were told, from 1 on, as the digits of a number.
 #[derive(Drop)]
@@ -86,6 +87,71 @@ fn tells_the_tags_that_a_copy_is_judged_at(rt: HostRuntime) -> Result<(), Fail> 
     let plan = plan(rt.alloc(), TWO, EXTERNALS)?.copy(rt.alloc())?;
     for (table, digits) in [(RUNS, 123), (EARLY, 12), (OPEN, 0), (NONE, 0)] {
         assert!(rt; told(rt.alloc(), &plan, table)? == digits, "{digits}");
+    }
+    Ok(())
+}
+
+/// Holds the first tag until the second has begun. After so many turns it goes on, and keeps that it
+/// was late.
+#[derive(Drop)]
+struct Hold {
+    begun: AtomicBool,
+    late: AtomicBool,
+}
+
+impl Watch for Hold {
+    fn tag_begins(&self, tag: Tag) {
+        if tag.micro != 0 {
+            self.begun.store(true, Ordering::SeqCst);
+            return;
+        }
+        for _ in 0..100_000_000u64 {
+            if self.begun.load(Ordering::SeqCst) {
+                return;
+            }
+            thread::yield_now();
+        }
+        self.late.store(true, Ordering::SeqCst);
+    }
+}
+
+const AGAIN: &[u8] =
+    b"main reactor { logical action n reaction(startup) -> n {= =} reaction(n) {= =} }";
+
+const AGAIN_EXTERNALS: &[u8] = b"kind,time,microstep,name,value\nstop,0,1,,\n";
+
+/// Runs at two tags.
+const AGAIN_RUNS: &[u8] = b"event,worker,time,microstep,reaction,name,value,delay
+start,0,0,0,main#1,,,
+schedule,0,0,0,main#1,main.n,,
+end,0,0,0,main#1,,,
+start,0,0,1,main#2,,,
+read,0,0,1,main#2,main.n,,
+end,0,0,1,main#2,,,
+";
+
+// no clause says that two workers work at the same time, or that there are two
+#[test]
+fn examines_two_tags_at_once(rt: HostRuntime) -> Result<(), Fail> {
+    let plan = plan(rt.alloc(), AGAIN, AGAIN_EXTERNALS)?;
+    let rows = read_trace(rt.alloc(), plan.program(), AGAIN_RUNS)?;
+    let watch = Hold {
+        begun: AtomicBool::new(false),
+        late: AtomicBool::new(false),
+    };
+    let verdict = judge(&rt, rt.alloc(), &plan, &rows, 2, &watch);
+    assert!(rt; verdict == Ok(Verdict::Accepted { runs: 2, tags: 2 }));
+    assert!(rt; !watch.late.load(Ordering::SeqCst));
+    Ok(())
+}
+
+#[test]
+fn refuses_no_worker_and_more_than_sixty_four(rt: HostRuntime) -> Result<(), Fail> {
+    let plan = plan(rt.alloc(), AGAIN, AGAIN_EXTERNALS)?;
+    let rows = read_trace(rt.alloc(), plan.program(), AGAIN_RUNS)?;
+    for workers in [0, 65] {
+        let verdict = judge(&rt, rt.alloc(), &plan, &rows, workers, &NoWatch);
+        assert!(rt; verdict == Err(CheckFault::BadWorkers));
     }
     Ok(())
 }

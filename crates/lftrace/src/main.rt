@@ -12,6 +12,7 @@ use std::fs::File;
 use std::io::{IsTerminal, Read, Write};
 use std::process::ExitCode;
 use std::rt::Files;
+use std::thread::Threads;
 use std::{env, io};
 
 /// The bytes of the file at a path.
@@ -23,7 +24,7 @@ fn read_file<F: Files>(rt: &F, alloc: Global, path: &str) -> Result<Vec<u8>, Fau
 }
 
 /// Judges the trace of three files, all of which are read first.
-fn judge_files<F: Files, W: Write>(
+fn judge_files<F: Files + Threads + Sync, W: Write>(
     rt: &F,
     alloc: Global,
     words: JudgeWords<'_>,
@@ -33,6 +34,7 @@ fn judge_files<F: Files, W: Write>(
     let externals = read_file(rt, alloc, words.externals)?;
     let trace = read_file(rt, alloc, words.trace)?;
     judge_answer(
+        rt,
         alloc,
         program.as_slice(),
         externals.as_slice(),
@@ -43,7 +45,7 @@ fn judge_files<F: Files, W: Write>(
 }
 
 /// Compares the two traces of four files, all of which are read first.
-fn pair_files<F: Files, W: Write>(
+fn pair_files<F: Files + Threads + Sync, W: Write>(
     rt: &F,
     alloc: Global,
     words: PairWords<'_>,
@@ -54,6 +56,7 @@ fn pair_files<F: Files, W: Write>(
     let first = read_file(rt, alloc, words.first)?;
     let second = read_file(rt, alloc, words.second)?;
     pair_answer(
+        rt,
         alloc,
         program.as_slice(),
         externals.as_slice(),

@@ -69,7 +69,7 @@ fn workers<'a>(alloc: Global) -> Arg<'a> {
     Arg::new(alloc, "workers")
         .long("workers")
         .value_name("N")
-        .help("how many workers, 1 to 64; as yet one does all the work")
+        .help("how many workers read and judge, 1 to 64; the answer is the same")
         .default_value("1")
         .value_parser(clap::value_parser!(u32).range(1..65))
 }

@@ -5,10 +5,10 @@ use Rattle.lft_front.specs.Judged.{AcceptedRuns}
 use Rattle.lft_front.proofs.pair.judge_both.Goals as goal
 
 pub judge_second-requires-clause-execution : goal.judge_second-requires-clause-execution
-judge_second-requires-clause-execution c = subst (λ (x : Verdict). AcceptedRuns c.args.plan.now c.args.first.now x) c.in-Accepted.is c.in-Ok.ensures.one_worker
+judge_second-requires-clause-execution g c = λ _ _. subst (λ (x : Verdict). AcceptedRuns c.args.plan.now c.args.first.now x) c.in-Accepted.is c.in-Ok.ensures.one_worker
 
 pub judge_second-requires-clause-counted : goal.judge_second-requires-clause-counted
-judge_second-requires-clause-counted c = subst (λ (x : Verdict). IsVerdict c.args.plan.now c.args.first.now x) c.in-Accepted.is c.in-Ok.ensures.verdict
+judge_second-requires-clause-counted g c = λ _ _. subst (λ (x : Verdict). IsVerdict c.args.plan.now c.args.first.now x) c.in-Accepted.is c.in-Ok.ensures.verdict
 
 pub returns-in-Broken-clause-right : goal.returns-in-Broken-clause-right
-returns-in-Broken-clause-right c = subst (λ (x : Verdict). IsVerdict c.args.plan.now c.args.first.now x) c.in-Broken.is c.in-Ok.ensures.verdict
+returns-in-Broken-clause-right g c = subst (λ (x : Verdict). IsVerdict c.args.plan.now c.args.first.now x) c.in-Broken.is c.in-Ok.ensures.verdict

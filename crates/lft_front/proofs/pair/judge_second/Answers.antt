@@ -5,7 +5,7 @@ use Rattle.lft_front.specs.Judged.{AcceptedRuns}
 use Rattle.lft_front.proofs.pair.judge_second.Goals as goal
 
 pub compare-requires-clause-accepted : goal.compare-requires-clause-accepted
-compare-requires-clause-accepted c =
+compare-requires-clause-accepted g c =
     let v = subst (λ (x : Verdict). IsVerdict c.args.plan.now c.args.second.now x) c.in-Accepted.is c.in-Ok.ensures.verdict in
     record {
       first = c.requires.counted.legal;
@@ -15,4 +15,4 @@ compare-requires-clause-accepted c =
     }
 
 pub returns-in-Broken-clause-right : goal.returns-in-Broken-clause-right
-returns-in-Broken-clause-right c = (c.requires.counted.legal, c.requires.execution, subst (λ (x : Verdict). IsVerdict c.args.plan.now c.args.second.now x) c.in-Broken.is c.in-Ok.ensures.verdict)
+returns-in-Broken-clause-right g c = (c.requires.counted.legal, c.requires.execution, subst (λ (x : Verdict). IsVerdict c.args.plan.now c.args.second.now x) c.in-Broken.is c.in-Ok.ensures.verdict)

@@ -1,9 +1,10 @@
-use Rattle.std.proofs.Common.{inl, inr, refl, sym, subst}
+use Rattle.std.proofs.Common.{inl, inr, sym, subst}
 use Rattle.lft_flat.specs.Parts.{Parts}
 use Rattle.lft_front.specs.Lines.{line_of_pair}
 use Rattle.lft_front.specs.Pairs.{NamesReaction}
 use Rattle.lft_load.specs.Written.{AppendsFront}
-use Rattle.lft_front.specs.PairRefusals.PairingRefusal.{by_growth, by_writer}
+use Rattle.lft_front.specs.Refusals.CheckRefusal.{by_growth}
+use Rattle.lft_front.specs.PairRefusals.PairingRefusal.{by_check, by_writer}
 use Rattle.lft_front.proofs.Pairing.{names_reaction}
 use Rattle.lft_front.proofs.pair.pair_rows.Goals as goal
 
@@ -11,9 +12,7 @@ pub report-requires : goal.report-requires
 report-requires g c = subst (λ (p : Parts). NamesReaction p c.in-Ok.paired) (sym c.program.ensures.value) (names_reaction c.args.plan.now c.args.first.now c.args.second.now c.requires.first_fits c.requires.second_fits c.in-Ok.paired c.in-Ok.ensures.right)
 
 pub returns-in-Err-report-clause-refused : goal.returns-in-Err-report-clause-refused
-returns-in-Err-report-clause-refused g c =
-    let workers = c.if-not-is_workers.ensures.0 refl in
-    elim c.in-Err-report.ensures.front [
-      | inl x ↦ by_growth x workers
-      | inr x ↦ by_writer c.in-Ok.paired x.0 x.1 c.in-Ok.ensures.right (subst (λ p. AppendsFront (g.W.Write.contents c.args.out.now) (g.W.Write.contents c.report.new.out) (line_of_pair p c.in-Ok.paired)) c.program.ensures.value x.2)
-    ]
+returns-in-Err-report-clause-refused g c = elim c.in-Err-report.ensures.front [
+  | inl x ↦ by_check (by_growth x c.in-Ok.ensures.workers)
+  | inr x ↦ by_writer c.in-Ok.paired x.0 x.1 c.in-Ok.ensures.right (subst (λ p. AppendsFront (g.W.Write.contents c.args.out.now) (g.W.Write.contents c.report.new.out) (line_of_pair p c.in-Ok.paired)) c.program.ensures.value x.2)
+]

@@ -1,0 +1,6 @@
+use Rattle.lft_check.specs.Verdicts.{LeastOf}
+use Rattle.lft_check.specs.Shares.{IsFound, AreOk}
+use Rattle.lft_check.proofs.shares.least_found.Given as goal
+
+abbrev pub invariant-loop-place : goal.invariant-loop-place
+invariant-loop-place l = record { least : LeastOf (IsFound l.found l.place) l.least; all : AreOk l.found l.place }

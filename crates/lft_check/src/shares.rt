@@ -1,0 +1,123 @@
+//! The tags of a trace, shared out among workers.
+
+ghost use Rattle.std.specs.Prelude.{◌≡◌, ◌<◌, ◌≤◌, length, Some, IfOk, OnOk, slice_get};
+ghost use Rattle.lft_presence.specs.Clashes.{IsClash};
+ghost use Rattle.lft_slices.specs.Slices.{AreSlices};
+ghost use Rattle.lft_check.specs.Verdicts.{LeastOf, BreachIn};
+ghost use Rattle.lft_check.specs.Shares.{share_start, IsLeastOfShare, AreShares, IsFound, AreOk};
+
+use crate::judging::{first_in, lesser};
+use crate::watch::Watch;
+use lft_model::Breach;
+use lft_slices::{Cut, Slice};
+use lft_tag::{NoMemory, Tag};
+use std::alloc::Global;
+use std::thread;
+use std::thread::Threads;
+
+/// What a worker found: the first breach of its share, if any.
+type Found = Result<Option<Breach>, NoMemory>;
+
+/// Where the share of a worker begins. That of a worker past the last begins where the tags end.
+fn share_begins(tags: usize, workers: usize, worker: usize) -> usize
+    requires { (0 < workers) × (workers ≤ 64) × (worker ≤ workers) × (tags ≤ 4000000) }
+    ensures value { result ≡ share_start tags workers worker }
+    ensures within { result ≤ tags }
+{
+    worker * tags / workers
+}
+
+/// The first breach of the rules 8 to 10 in the share of a worker, before the first collision.
+fn examine_share<W: Watch>(
+    alloc: Global,
+    cut: &Cut,
+    watch: &W,
+    slices: &[Slice],
+    bound: Option<Tag>,
+    worker: usize,
+    workers: usize,
+) -> Found
+    requires slices { AreSlices cut.now.rows slices.now }
+    requires bound { IsClash cut.now bound }
+    requires workers { (worker < workers) × (workers ≤ 64) }
+    ensures { IfOk result (IsLeastOfShare cut.now slices.now bound workers worker) }
+{
+    // Asked for what every cut keeps: it has no more slices than rows.
+    cut.keeps();
+    let low = share_begins(slices.len(), workers, worker);
+    let high = share_begins(slices.len(), workers, worker + 1);
+    let mut walk = cut.walk(alloc)?;
+    first_in(alloc, cut, watch, &mut walk, slices, bound, low, high)
+}
+
+/// What each of several workers found, each in a thread of its own.
+fn examine_shares<W: Watch, R: Threads + Sync>(
+    rt: &R,
+    alloc: Global,
+    cut: &Cut,
+    watch: &W,
+    slices: &[Slice],
+    bound: Option<Tag>,
+    workers: usize,
+) -> Result<Vec<Found>, NoMemory>
+    requires slices { AreSlices cut.now.rows slices.now }
+    requires bound { IsClash cut.now bound }
+    requires workers { (1 < workers) × (workers ≤ 64) }
+    ensures { IfOk result (λ found. AreShares cut.now slices.now bound workers found.items) }
+{
+    let Ok(found) = thread::map_indices(
+        rt,
+        alloc,
+        workers,
+        &|worker: usize| -> Found
+            requires { AreSlices cut.now.rows slices.now × IsClash cut.now bound × (worker < workers) × (workers ≤ 64) }
+            ensures { IfOk result (IsLeastOfShare cut.entry.now slices.entry.now bound workers worker) }
+        { examine_share(alloc, cut, watch, slices, bound, worker, workers) },
+    ) else {
+        return Err(NoMemory);
+    };
+    Ok(found)
+}
+
+/// What the worker at the place found, counted from 0.
+fn found_at(found: &[Found], place: usize) -> Found
+    requires { place < length found.now }
+    ensures { slice_get found.now place ≡ Some result }
+{
+    found[place]
+}
+
+/// The least of the breaches that workers found, of those that are.
+fn least_found(found: &[Found]) -> Result<Option<Breach>, NoMemory>
+    ensures least { IfOk result (LeastOf (IsFound found.now (length found.now))) }
+    ensures all { OnOk result (AreOk found.now (length found.now)) }
+{
+    let mut least = None;
+    for place in 0..found.len() {
+        match found_at(found, place) {
+            Ok(breach) => least = lesser(least, breach),
+            Err(_) => return Err(NoMemory),
+        }
+    }
+    Ok(least)
+}
+
+/// The first breach of the rules 8 to 10 before the first collision, by several workers.
+pub(crate) fn examine_shared<W: Watch, R: Threads + Sync>(
+    rt: &R,
+    alloc: Global,
+    cut: &Cut,
+    watch: &W,
+    slices: &[Slice],
+    bound: Option<Tag>,
+    workers: usize,
+) -> Result<Option<Breach>, NoMemory>
+    requires slices { AreSlices cut.now.rows slices.now }
+    requires bound { IsClash cut.now bound }
+    requires workers { (1 < workers) × (workers ≤ 64) }
+    ensures { IfOk result (LeastOf (BreachIn cut.now slices.now bound 0 (length slices.now))) }
+{
+    let found = examine_shares(rt, alloc, cut, watch, slices, bound, workers)?;
+    let least = least_found(found.as_slice())?;
+    Ok(least)
+}

@@ -1,0 +1,97 @@
+//! The verdict on three texts by one worker, without a runtime.
+
+ghost use Rattle.std.specs.Prelude.{◌≡◌, ◌≢◌, true, IfOk, IfErr, List};
+ghost use Rattle.std.specs.Io.KnownBytes.{Appends, Keeps};
+ghost use Rattle.lft_trace.specs.Fits.{RowsFit};
+ghost use Rattle.lft_trace.specs.declared.row.Row.{Row};
+ghost use Rattle.lft_model.specs.Plans.{PlanParts};
+ghost use Rattle.lft_check.specs.Verdicts.{IsVerdict};
+ghost use Rattle.lft_front.specs.Lines.{line_of};
+ghost use Rattle.lft_front.specs.Meaning.{IsMeaning, Mean};
+ghost use Rattle.lft_front.specs.Judged.{AcceptedRuns, IsJudged};
+ghost use Rattle.lft_load.specs.Refusals.{is_of_text};
+ghost use Rattle.lft_front.specs.Refusals.{JudgeRefusal, JudgingRefusal, IsRefusedGrowth, TextsRefusal};
+ghost use Rattle.lft_load.specs.declared.fault.Part.TheVariants as part;
+
+use crate::judge::{Given, report};
+use lft_check::{NoWatch, Verdict, judge_alone};
+use lft_load::{Fault, Part, load};
+use lft_model::Plan;
+use lft_model::laws::law_one_worker;
+use lft_trace::{Rows, read_trace};
+use std::alloc::Global;
+use std::io::Write;
+
+/// The plan and the rows of three texts, else the fault of the first layer that refuses.
+fn read_texts(alloc: Global, program: &[u8], externals: &[u8], trace: &[u8]) -> Result<Given, Fault>
+    ensures meaning { IfOk result (λ given. IsMeaning program.now externals.now trace.now given.plan given.rows) }
+    ensures fit { IfOk result (λ given. RowsFit given.plan.program given.rows) }
+    ensures refused { IfErr result (TextsRefusal program.now externals.now trace.now) }
+    ensures none { IfErr result (λ f. is_of_text f.part f.number ≡ true → (plan : PlanParts) (rows : List Row) → Mean program.now externals.now trace.now plan rows → ⊥) }
+{
+    let plan = match load(alloc, program, externals) {
+        Ok(plan) => plan,
+        Err(fault) => return Err(fault),
+    };
+    match read_trace(alloc, plan.program(), trace) {
+        Ok(rows) => Ok(Given { plan, rows }),
+        Err(fault) => Err(Fault::trace(fault)),
+    }
+}
+
+/// The verdict on rows.
+fn verdict_of(alloc: Global, plan: &Plan, rows: &Rows) -> Result<Verdict, Fault>
+    requires fit { RowsFit plan.now.program rows.now }
+    ensures verdict { IfOk result (IsVerdict plan.now rows.now) }
+    ensures one_worker { IfOk result (AcceptedRuns plan.now rows.now) }
+    ensures growth { IfErr result IsRefusedGrowth }
+{
+    law_one_worker(plan);
+    match judge_alone(alloc, plan, rows, &NoWatch) {
+        Ok(verdict) => Ok(verdict),
+        Err(_) => Err(Fault::plain(Part::Check, 3, "NoMemory")),
+    }
+}
+
+/// Judges rows and writes the verdict's line.
+fn judge_rows<W: Write>(
+    alloc: Global,
+    plan: &Plan,
+    rows: &Rows,
+    out: &mut W,
+) -> Result<Verdict, Fault>
+    requires fit { RowsFit plan.now.program rows.now }
+    ensures verdict { IfOk result (IsVerdict plan.now rows.now) }
+    ensures one_worker { IfOk result (AcceptedRuns plan.now rows.now) }
+    ensures written { IfOk result (λ v. Appends (W.contents out.old) (W.contents out.new) (line_of plan.now.program v)) }
+    ensures refused { IfErr result (JudgingRefusal plan.now rows.now 1 (W.contents out.old) (W.contents out.new)) }
+    ensures kept { IfErr result (λ f. f.part ≢ part.Write → Keeps (W.contents out.old) (W.contents out.new)) }
+{
+    let verdict = match verdict_of(alloc, plan, rows) {
+        Ok(verdict) => verdict,
+        Err(fault) => return Err(fault),
+    };
+    match report(alloc, plan.program(), verdict, out) {
+        Ok(()) => Ok(verdict),
+        Err(fault) => Err(fault),
+    }
+}
+
+/// What `judge_texts` does, by one worker. It starts no thread.
+pub fn judge_texts_alone<W: Write>(
+    alloc: Global,
+    program: &[u8],
+    externals: &[u8],
+    trace: &[u8],
+    out: &mut W,
+) -> Result<Verdict, Fault>
+    ensures judged { IfOk result (IsJudged program.now externals.now trace.now (W.contents out.old) (W.contents out.new)) }
+    ensures refused { IfErr result (JudgeRefusal program.now externals.now trace.now 1 (W.contents out.old) (W.contents out.new)) }
+    ensures none { IfErr result (λ f. is_of_text f.part f.number ≡ true → (plan : PlanParts) (rows : List Row) → Mean program.now externals.now trace.now plan rows → ⊥) }
+    ensures kept { IfErr result (λ f. f.part ≢ part.Write → Keeps (W.contents out.old) (W.contents out.new)) }
+{
+    match read_texts(alloc, program, externals, trace) {
+        Ok(given) => judge_rows(alloc, &given.plan, &given.rows, out),
+        Err(fault) => Err(fault),
+    }
+}
