@@ -10,11 +10,13 @@ mod marks;
 mod missing;
 mod open;
 mod pass;
+mod pieces;
 mod slices;
 mod started;
 mod walk;
 
 pub use cuts::{Cut, CutFault};
 pub use cutting::cut;
+pub use pieces::Piece;
 pub use slices::Slice;
 pub use walk::Walk;
