@@ -31,7 +31,7 @@ use Rattle.lft_slices.specs.declared.slices.Slice.{Slice}
 use Rattle.lft_slices.specs.declared.pieces.Piece.{Piece}
 use Rattle.lft_slices.specs.Slices.{IsCuttable, IsSlice, AreSlices}
 use Rattle.lft_slices.specs.declared.pieces.Pieces.{Pieces}
-use Rattle.lft_slices.specs.Pieces.{AreTags, IsPiece, AreRuns, AreEndsTo, AreStartsTo, AreRunsIn, ArePiecesTo, ArePieces}
+use Rattle.lft_slices.specs.Pieces.{AreTags, IsPiece, AreRuns, AreEndsTo, AreStartsTo, AreRunsIn, ArePiecesTo, ArePieces, IsTagAt}
 
 -- no two pieces of the list are of one reaction
 abbrev AreApart : List Piece → Type 0
@@ -338,3 +338,19 @@ runs_at t kept are k a b g xs e p q is = subst (λ zs. AreRuns t g zs) (sym is) 
         let m : y.0 < b = y.3 in
         let c : a + (y.0 - a) ≡ y.0 = omega arith in
         (y.0 - a, y.1, range-get kept.list.items a b (y.0 - a) (omega arith) ∙ ap (λ i. slice_get kept.list.items i) c ∙ y.4, y.5)
+
+-- a number of a tag of any list of the tags with a run is one of the list that is kept
+pub tag_there : (t : List Row) (kept : Pieces) → ArePieces t kept → (k : ℕ) (tags : List Tag) → AreTags t tags → k < length tags → k < length kept.tags.items
+tag_there t kept are k tags theirs l = let g = get_there tags k l in slice_get_within kept.tags.items k g.0 (same_tags t tags kept.tags.items theirs are.are_tags k g.0 g.1)
+
+pub range_there : (t : List Row) (kept : Pieces) → ArePieces t kept → (k a b : ℕ) → k < length kept.tags.items → slice_get kept.firsts.items k ≡ Some a → slice_get kept.firsts.items (k + 1) ≡ Some b → (a ≤ b) × (b ≤ length kept.list.items)
+range_there t kept are k a b l p q = let g = get_there kept.tags.items k l in let h = are.runs k a b g.0 g.1 p q in (h.order, h.within)
+
+pub runs_there : (t : List Row) (kept : Pieces) → ArePieces t kept → (k : ℕ) (g : Tag) (xs : List Piece) → ((a b : ℕ) → slice_get kept.firsts.items k ≡ Some a → slice_get kept.firsts.items (k + 1) ≡ Some b → xs ≡ slice_range kept.list.items a b) → IsTagAt t k g → AreRuns t g xs
+runs_there t kept are k g xs is (tags, theirs, e) =
+    let mine : slice_get kept.tags.items k ≡ Some g = same_tags t tags kept.tags.items theirs are.are_tags k g e in
+    let l : k < length kept.tags.items = slice_get_within kept.tags.items k g mine in
+    let long : length kept.firsts.items ≡ length kept.tags.items + 1 = are.as_long in
+    let a : (a : ℕ) × (slice_get kept.firsts.items k ≡ Some a) = get_there kept.firsts.items k (omega arith) in
+    let b : (b : ℕ) × (slice_get kept.firsts.items (k + 1) ≡ Some b) = get_there kept.firsts.items (k + 1) (omega arith) in
+    runs_at t kept are k a.0 b.0 g xs mine a.1 b.1 (is a.0 b.0 a.1 b.1)
