@@ -77,7 +77,7 @@ impl<'a> Presence<'a> {
     }
 
     /// The flat program.
-    pub(crate) fn program(&self) -> &Program
+    pub fn program(&self) -> &Program
         ensures value { result.now ≡ self.now.plan.program }
         ensures fits { IsFitting self.now }
     {
@@ -85,7 +85,7 @@ impl<'a> Presence<'a> {
     }
 
     /// How many reactions the program has.
-    pub(crate) fn reactions(&self) -> usize
+    pub fn reactions(&self) -> usize
         ensures count { result ≡ length self.now.plan.program.reactions }
         ensures few { result ≤ 10000 }
     {

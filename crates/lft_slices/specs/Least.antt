@@ -1,10 +1,10 @@
--- What the steps of the search for the first missing run answer. This serves the proof of that search alone.
-use Rattle.std.specs.Prelude.{◌≡◌, ℕ, ◌⊎◌, Option, Some, None}
+-- What the steps of the search for the first missing run answer, and of that for the first tag without any run. This serves the proofs of these searches alone.
+use Rattle.std.specs.Prelude.{◌≡◌, ℕ, ◌<◌, ◌⊎◌, Bool, true, List, Option, Some, None, slice_get}
 use Rattle.lft_tag.specs.declared.Tag.{Tag}
 use Rattle.lft_tag.specs.Tags.{Before, UpTo}
 use Rattle.lft_flat.specs.declared.parts.Timer.{Timer as TimerOf}
-use Rattle.lft_model.specs.Presence.{stop, Fires}
-use Rattle.lft_model.specs.Runs.{Ran}
+use Rattle.lft_flat.specs.declared.parts.Trigger.{Trigger}
+use Rattle.lft_model.specs.Presence.{stop, Fires, Occurs, Triggered}
 use Rattle.lft_tag.specs.Shifts.{Folded}
 use Rattle.lft_presence.specs.declared.causes.Cause.{Cause}
 use Rattle.lft_presence.specs.Causes.{IsCause, Leads}
@@ -17,22 +17,46 @@ IsFirstOf None (Some b) n r = r ≡ Some (b, n)
 IsFirstOf (Some x) None n r = r ≡ Some x
 IsFirstOf (Some x) (Some b) n r = (r ≡ Some x) × UpTo x.0 b ⊎ (r ≡ Some (b, n)) × Before b x.0
 
--- g is the tag, which is up to the stop, and r has no run there
-pub record MissesAt (cut : TraceParts) (r : ℕ) (tag g : Tag) : Type 0 where
+-- the tags are ascending
+abbrev pub AreUp : List Tag → Type 0
+AreUp tags = (j k : ℕ) (g h : Tag) → j < k → slice_get tags j ≡ Some g → slice_get tags k ≡ Some h → Before g h
+
+-- g is one of the tags
+abbrev pub HasTag : List Tag → Tag → Type 0
+HasTag tags g = (k : ℕ) × (slice_get tags k ≡ Some g)
+
+-- r is triggered at the tags that are marked
+abbrev pub AreTriggered : TraceParts → ℕ → List Tag → List Bool → Type 0
+AreTriggered cut r tags known = (k : ℕ) (g : Tag) → slice_get known k ≡ Some true → slice_get tags k ≡ Some g → Triggered cut.plan cut.rows g r
+
+-- g is the tag, which is up to the stop and none of the tags
+pub record LacksAt (cut : TraceParts) (tags : List Tag) (tag g : Tag) : Type 0 where
   pub same : g ≡ tag
   pub in_time : UpTo g (stop cut.plan cut.rows)
-  pub no_run : ¬ Ran cut.rows g r
+  pub not_there : ¬ HasTag tags g
 
--- the timer fires at g, which is up to the stop, and r has no run there
-pub record MissesFiring (cut : TraceParts) (timer : TimerOf) (r : ℕ) (g : Tag) : Type 0 where
+-- the timer fires at g, which is up to the stop and none of the tags
+pub record LacksFiring (cut : TraceParts) (timer : TimerOf) (tags : List Tag) (g : Tag) : Type 0 where
   pub fires : Fires timer g
   pub in_time : UpTo g (stop cut.plan cut.rows)
-  pub no_run : ¬ Ran cut.rows g r
+  pub not_there : ¬ HasTag tags g
 
--- a cause of the name leads to g, which is up to the stop, and r has no run there
-pub record MissesCause (cut : TraceParts) (name : ℕ) (s : Folded) (r : ℕ) (g : Tag) : Type 0 where
+-- a cause of the name leads to g, which is up to the stop and none of the tags
+pub record LacksCause (cut : TraceParts) (name : ℕ) (s : Folded) (tags : List Tag) (g : Tag) : Type 0 where
   pub cause : Cause
   pub is_cause : IsCause cut.plan cut.rows cause
   pub leads : Leads name s g cause
   pub in_time : UpTo g (stop cut.plan cut.rows)
-  pub no_run : ¬ Ran cut.rows g r
+  pub not_there : ¬ HasTag tags g
+
+-- the trigger is present at g, which is up to the stop and none of the tags
+pub record LacksTrigger (cut : TraceParts) (x : Trigger) (tags : List Tag) (g : Tag) : Type 0 where
+  pub occurs : Occurs cut.plan cut.rows g x
+  pub in_time : UpTo g (stop cut.plan cut.rows)
+  pub not_there : ¬ HasTag tags g
+
+-- r is triggered at g, which is up to the stop and none of the tags
+pub record Lacks (cut : TraceParts) (tags : List Tag) (r : ℕ) (g : Tag) : Type 0 where
+  pub triggered : Triggered cut.plan cut.rows g r
+  pub in_time : UpTo g (stop cut.plan cut.rows)
+  pub not_there : ¬ HasTag tags g

@@ -1,13 +1,12 @@
--- What a cut of a trace tells: the rows at each tag, and the first missing run.
+-- What a cut of a trace tells: the rows at each tag, the first missing run, and the first tag without any run.
 use Rattle.std.specs.Prelude.{◌≡◌, ℕ, ◌<◌, ◌≤◌, ◌⊎◌, List, length, Option, Some, MatchOption, slice_get}
 use Rattle.lft_tag.specs.declared.Tag.{Tag}
 use Rattle.lft_tag.specs.Tags.{Before, UpTo}
 use Rattle.lft_model.specs.Plans.{PlanParts, IsSoundPlan}
-use Rattle.lft_flat.specs.declared.parts.Trigger.{Trigger}
 use Rattle.lft_trace.specs.declared.row.Row.{Row}
 use Rattle.lft_trace.specs.Fits.{RowsFit}
 use Rattle.lft_model.specs.declared.breach.Breach.{Breach}
-use Rattle.lft_model.specs.Presence.{stop, Occurs, Triggered}
+use Rattle.lft_model.specs.Presence.{stop, Triggered}
 use Rattle.lft_model.specs.Runs.{Ran}
 use Rattle.lft_model.specs.Breaches.{RowBreach, RowOrder}
 use Rattle.lft_presence.specs.Traces.{TraceParts}
@@ -56,11 +55,9 @@ pub record AreSlices (t : List Row) (slices : List Slice) : Type 0 where
   pub is_slice : (k : ℕ) (x : Slice) → slice_get slices k ≡ Some x → IsSlice t x
   pub each : (i : ℕ) (row : Row) → slice_get t i ≡ Some row → (k : ℕ) × (x : Slice) × (slice_get slices k ≡ Some x) × (row.tag ≡ x.tag)
 
--- the trigger is present at g, which is up to the stop, and r has no run there
-pub record Misses (cut : TraceParts) (x : Trigger) (r : ℕ) (g : Tag) : Type 0 where
-  pub occurs : Occurs cut.plan cut.rows g x
-  pub in_time : UpTo g (stop cut.plan cut.rows)
-  pub no_run : ¬ Ran cut.rows g r
+-- of the pairs of a reaction and a tag of a kind the least: by tag, then by reaction
+abbrev pub LeastPair : (ℕ → Tag → Type 0) → Option (Tag × ℕ) → Type 0
+LeastPair P o = MatchOption o ((g : Tag) (r : ℕ) → ¬ P r g) (λ x. P x.1 x.0 × ((h : Tag) (a : ℕ) → P a h → Before x.0 h ⊎ ((x.0 ≡ h) × (x.1 ≤ a))))
 
 -- r is triggered at g, which is up to the stop, and has no run there
 pub record IsMissing (cut : TraceParts) (r : ℕ) (g : Tag) : Type 0 where
@@ -70,4 +67,14 @@ pub record IsMissing (cut : TraceParts) (r : ℕ) (g : Tag) : Type 0 where
 
 -- the least tag up to the stop at which a reaction is triggered and has no run, and the least such reaction
 abbrev pub IsFirstMissing : TraceParts → Option (Tag × ℕ) → Type 0
-IsFirstMissing cut o = MatchOption o ((g : Tag) (r : ℕ) → ¬ IsMissing cut r g) (λ x. IsMissing cut x.1 x.0 × ((h : Tag) (a : ℕ) → IsMissing cut a h → Before x.0 h ⊎ ((x.0 ≡ h) × (x.1 ≤ a))))
+IsFirstMissing cut o = LeastPair (IsMissing cut) o
+
+-- r is triggered at g, which is up to the stop, and no reaction has a run there
+pub record IsVacant (cut : TraceParts) (r : ℕ) (g : Tag) : Type 0 where
+  pub triggered : Triggered cut.plan cut.rows g r
+  pub in_time : UpTo g (stop cut.plan cut.rows)
+  pub no_run : (a : ℕ) → ¬ Ran cut.rows g a
+
+-- the least tag up to the stop without any run at which a reaction is triggered, and the least such reaction
+abbrev pub IsGap : TraceParts → Option (Tag × ℕ) → Type 0
+IsGap cut o = LeastPair (IsVacant cut) o

@@ -1,20 +1,21 @@
 //! A trace whose rows break no rule, cut by tag.
 
-ghost use Rattle.std.specs.Prelude.{◌≡◌, ◌≤◌, length, IsTrue, ◌↔◌};
+ghost use Rattle.std.specs.Prelude.{◌≡◌, ◌<◌, ◌≤◌, ◌↔◌, List, length, Some, IsTrue, slice_get};
+ghost use Rattle.lft_tag.specs.declared.Tag.{Tag as TheTag};
 ghost use Rattle.lft_graph.specs.Graph.{IsGraphOf};
-ghost use Rattle.lft_model.specs.Presence.{stop as the_stop};
-ghost use Rattle.lft_model.specs.Runs.{Ran};
-ghost use Rattle.lft_presence.specs.Causes.{AreCauses};
-ghost use Rattle.lft_slices.specs.Slices.{AreSlices, IsCuttable};
+ghost use Rattle.lft_trace.specs.declared.row.Row.{Row as TheRow};
+ghost use Rattle.lft_model.specs.Presence.{Triggered};
+ghost use Rattle.lft_slices.specs.Pieces.{AreTags, IsTagAt, AreRuns};
+ghost use Rattle.lft_slices.specs.Slices.{AreSlices, IsCuttable, IsFirstMissing};
 
+use crate::pieces::{Piece, Pieces};
 use crate::slices::Slice;
-use crate::started::Started;
 use lft_flat::Program;
 use lft_graph::Graph;
 use lft_model::Breach;
-use lft_presence::{Cause, Presence};
+use lft_presence::Presence;
 use lft_tag::Tag;
-use lft_trace::Row;
+use lft_trace::{Row, row_at};
 use std::marker::Model;
 
 /// Why rows can't be cut.
@@ -31,7 +32,9 @@ pub enum CutFault {
 pub struct Cut<'a> {
     presence: Presence<'a>,
     slices: Vec<Slice>,
-    started: Started,
+    pieces: Pieces,
+    missing: Option<(Tag, u32)>,
+    due: Vec<bool>,
 }
 
 impl<'a> Model for Cut<'a> {
@@ -43,7 +46,7 @@ impl<'a> Model for Cut<'a> {
 
     ghost use Rattle.lft_slices.specs.Indexes.{IsIndexed};
 
-    ghost invariant = { λ a. IsIndexed a.presence a.slices.items a.started };
+    ghost invariant = { λ a. IsIndexed a.presence a.slices.items a.pieces a.missing a.due.items };
 }
 
 impl<'a> Cut<'a> {
@@ -53,15 +56,19 @@ impl<'a> Cut<'a> {
     pub(crate) fn from_parts(
         presence: Presence<'a>,
         slices: Vec<Slice>,
-        started: Started,
+        pieces: Pieces,
+        missing: Option<(Tag, u32)>,
+        due: Vec<bool>,
     ) -> Cut<'a>
-        requires { IsIndexed presence slices.items started }
+        requires { IsIndexed presence slices.items pieces missing due.items }
         ensures { result ≡ presence.entry }
     {
         Cut {
             presence,
             slices,
-            started,
+            pieces,
+            missing,
+            due,
         }
     }
 
@@ -118,25 +125,48 @@ impl<'a> Cut<'a> {
         self.presence.plan().program()
     }
 
-    /// The causes of events, by name, tag and place.
-    pub(crate) fn causes(&self) -> &[Cause]
-        ensures { AreCauses self.now.plan self.now.rows result.now }
+    /// The tags with a run, ascending.
+    pub fn tags(&self) -> &[Tag]
+        ensures { AreTags self.now.rows result.now }
     {
-        self.presence.causes()
+        self.pieces.tags.as_slice()
     }
 
-    /// The last tag of the execution. Its time is at most that of a recorded tag.
-    pub(crate) fn stop(&self) -> Tag
-        ensures value { result ≡ the_stop self.now.plan self.now.rows }
-        ensures limit { result.time ≤ 1000000000000000000 }
+    /// The runs at the k-th tag with a run, counted from 0, by reaction number.
+    pub fn slice(&self, k: usize) -> &[Piece]
+        requires { (tags : List TheTag) × AreTags self.now.rows tags × (k < length tags) }
+        ensures { (g : TheTag) → IsTagAt self.now.rows k g → AreRuns self.now.rows g result.now }
     {
-        self.presence.stop()
+        self.pieces.at(k)
     }
 
-    /// Whether the reaction has a run at the tag.
-    pub(crate) fn has_run(&self, tag: Tag, reaction: u32) -> bool
-        ensures { IsTrue result ↔ Ran self.now.rows tag reaction }
+    /// The least tag up to the stop at which a reaction is triggered and has no run, and the least
+    /// such reaction.
+    pub fn missing(&self) -> Option<(Tag, u32)>
+        ensures { IsFirstMissing self.now result }
     {
-        self.started.has(reaction, tag)
+        self.missing
+    }
+
+    /// Whether the row at the place is known to be of a run whose reaction is triggered at its tag.
+    /// Where no run is missing, each start row of such a run is.
+    fn is_marked(&self, place: usize) -> bool
+        ensures { IsTrue result → (row : TheRow) → slice_get self.now.rows place ≡ Some row → Triggered self.now.plan self.now.rows row.tag row.reaction }
+    {
+        place < self.due.len() && self.due[place]
+    }
+
+    /// Whether the reaction of the row at the place is triggered at the tag of the row.
+    pub fn is_due(&self, place: usize) -> bool
+        requires { place < length self.now.rows }
+        ensures { (row : TheRow) → slice_get self.now.rows place ≡ Some row → IsTrue result ↔ Triggered self.now.plan self.now.rows row.tag row.reaction }
+    {
+        if self.is_marked(place) {
+            return true;
+        }
+        // Asked for what every cut keeps: the reactions of its rows are the program's.
+        self.keeps();
+        let row = row_at(self.presence.rows(), place);
+        self.presence.triggered(row.tag, row.reaction)
     }
 }

@@ -1,0 +1,19 @@
+use Rattle.std.proofs.Common.{◌≡◌, length, ap, ◌∙◌, sym, subst, arith}
+use Rattle.lft_presence.specs.Traces.{TraceParts, LeastTag}
+use Rattle.lft_slices.specs.Slices.{IsVacant}
+use Rattle.lft_slices.specs.Least.{Lacks}
+use Rattle.lft_slices.proofs.Begun.{vacant_of}
+use Rattle.lft_slices.proofs.Missed.{first_more, first_all, known_reaction}
+use Rattle.lft_slices.proofs.cuts.Cut.gap.Goals as goal
+
+pub loop-reaction-preserved : goal.loop-reaction-preserved
+loop-reaction-preserved c =
+    let cut = c.args.self.now in
+    let r = c.loop-reaction.reaction in
+    first_more (IsVacant cut) r c.loop-reaction.first c.lacked-vacant.result c.first_of-first.result c.loop-reaction.invariant (vacant_of cut r c.tags-tags.result.now c.lacked-vacant.result c.tags-tags.ensures (subst (λ (z : TraceParts). LeastTag (Lacks z c.tags-tags.result.now r) c.lacked-vacant.result) c.presence.ensures c.lacked-vacant.ensures.least)) c.first_of-first.ensures
+
+pub returns : goal.returns
+returns c =
+    let cut = c.args.self.now in
+    let count : c.reactions-reaction-end.result ≡ length cut.plan.program.reactions = c.reactions-reaction-end.ensures.count in
+    first_all (IsVacant cut) c.loop-reaction.reaction c.loop-reaction.first (λ r g x. known_reaction cut g r c.loop-reaction.reaction (omega arith) x.triggered) c.loop-reaction.invariant

@@ -1,0 +1,5 @@
+use Rattle.lft_slices.specs.Pieces.{AreStartsTo}
+use Rattle.lft_slices.proofs.pieces.add_starts.Given as goal
+
+abbrev pub invariant-loop-place : goal.invariant-loop-place
+invariant-loop-place l = AreStartsTo l.rows l.fn.slice l.place l.found.items

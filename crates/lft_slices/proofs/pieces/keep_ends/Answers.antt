@@ -1,0 +1,22 @@
+use Rattle.std.proofs.Common.{◌≡◌, ℕ, ◌+◌, ◌<◌, List, length, refl, sym, ap, ◌∙◌, subst, arith}
+use Rattle.lft_graph.proofs.Places.{length_written}
+use Rattle.lft_presence.proofs.Lists.{not_true}
+use Rattle.lft_slices.specs.Pieces.{AreEndsTo}
+use Rattle.lft_slices.proofs.Piecing.{ends_stay, ends_more}
+use Rattle.lft_slices.proofs.pieces.keep_ends.Goals as goal
+use Rattle.lft_slices.proofs.pieces.keep_ends.Goals.{then-is_end, else-is_end}
+
+pub loop-place-preserved : goal.loop-place-preserved
+loop-place-preserved c =
+    let t = c.args.rows.now in
+    let s = c.args.slice in
+    let i = c.loop-place.place in
+    let row = c.row_at-row.result in
+    let rules = c.requires.rules in
+    let known : row.reaction < length rules.0.program.reactions = (rules.1.fit.each i row c.row_at-row.ensures).reaction in
+    let long : length c.loop-place.ends.items ≡ length c.args.ends.now.items = c.loop-place.invariant.0 in
+    let first : length c.args.ends.now.items ≡ length rules.0.program.reactions = rules.2 in
+    elim c.if-is_end.branch [
+      | then-is_end w ↦ subst (λ (xs : List ℕ). (length xs ≡ length c.args.ends.now.items) × AreEndsTo t s (i + 1) xs) (sym (ap (λ v. v.items) w.ends-is)) (length_written c.loop-place.ends.items row.reaction i ∙ long, ends_more rules.0 t rules.1 s c.requires.slice i row c.row_at-row.ensures (omega arith) (omega arith) c.loop-place.ends.items (omega arith) (w.if-is_end.ensures.0 refl) c.loop-place.invariant.1)
+      | else-is_end w ↦ subst (λ (xs : List ℕ). (length xs ≡ length c.args.ends.now.items) × AreEndsTo t s (i + 1) xs) (sym (ap (λ v. v.items) w.ends-is)) (long, ends_stay rules.0 t rules.1 s c.requires.slice i row c.row_at-row.ensures (omega arith) (omega arith) c.loop-place.ends.items (λ e. not_true (w.if-is_end.ensures.1 e)) c.loop-place.invariant.1)
+    ]
