@@ -6,7 +6,7 @@ use Rattle.lft_tag.specs.Tags.{Before, UpTo}
 use Rattle.lft_tag.proofs.Order.{order_cases, UpTo_antisym}
 use Rattle.lft_trace.specs.declared.row.Row.{Row}
 use Rattle.lft_trace.specs.declared.row.Step.TheVariants.{Start}
-use Rattle.lft_graph.proofs.Places.{get_there, same_at, get_write_cases, get_unwritten, get_push, get_last, get_push_cases, length_written}
+use Rattle.lft_lists.proofs.Places.{get_there, same_at, get_write_cases, get_unwritten, get_push, get_last, get_push_cases, length_written}
 use Rattle.lft_model.specs.Plans.{PlanParts}
 use Rattle.lft_model.specs.Presence.{Triggered}
 use Rattle.lft_model.specs.Runs.{start_row, Ran}

@@ -18,7 +18,7 @@ use Rattle.lft_flat.proofs.Ranges.{range-get, range-within}
 use Rattle.lft_trace.specs.declared.row.Row.{Row}
 use Rattle.lft_trace.specs.declared.row.Step.{Step}
 use Rattle.lft_trace.specs.declared.row.Step.TheVariants.{Start, End}
-use Rattle.lft_graph.proofs.Places.{get_there, same_at, get_write_cases, get_written, get_unwritten, get_push, get_last, get_push_cases, length_written}
+use Rattle.lft_lists.proofs.Places.{get_there, same_at, get_write_cases, get_written, get_unwritten, get_push, get_last, get_push_cases, length_written}
 use Rattle.lft_model.specs.Plans.{PlanParts}
 use Rattle.lft_model.specs.Runs.{start_row, end_row, Ran}
 use Rattle.lft_model.proofs.Blocks.{get_append, put_right}

@@ -5,7 +5,7 @@ use native.Mathlib.Decide.{ℕ_discrete}
 use Rattle.lft_tag.specs.declared.Tag.{Tag}
 use Rattle.lft_tag.specs.Tags.{Before, UpTo}
 use Rattle.lft_tag.proofs.Order.{UpTo-not, UpTo-refl, Before-irrefl, Before-trans, Before-weaken, order_cases, UpTo-trans}
-use Rattle.lft_graph.proofs.Places.{same_at, get_unwritten, get_there}
+use Rattle.lft_lists.proofs.Places.{same_at, get_unwritten, get_there}
 use Rattle.lft_model.specs.Presence.{Triggered}
 use Rattle.lft_model.proofs.Places.{slice_get_within}
 use Rattle.lft_presence.specs.Traces.{TraceParts}
