@@ -5,6 +5,7 @@ use lft_front::{Fault, finish, judge_texts, judge_texts_alone, show_text};
 use std::alloc::Global;
 use std::io;
 use std::io::{ErrorKind, Write};
+use std::thread::Threads;
 
 /// Takes one byte a call. At so many calls, from the one of the number `at` on, counted from 0, it
 /// gives an error of this kind instead, or takes nothing where there is no kind.
@@ -72,17 +73,29 @@ enum Call {
 }
 
 /// The fault of a call on the text of a program, if there is one.
-fn fault_of(alloc: Global, call: Call, program: &[u8], out: &mut Stumbling) -> Option<Fault> {
+fn fault_of<R: Threads + Sync>(
+    rt: &R,
+    alloc: Global,
+    call: Call,
+    program: &[u8],
+    out: &mut Stumbling,
+) -> Option<Fault> {
     match call {
         Call::JudgeAlone => judge_texts_alone(alloc, program, EXTERNALS, TRACE, out).err(),
-        Call::Judge => judge_texts(alloc, program, EXTERNALS, TRACE, 64, out).err(),
+        Call::Judge => judge_texts(rt, alloc, program, EXTERNALS, TRACE, 2, out).err(),
         Call::Show => show_text(alloc, program, out).err(),
     }
 }
 
 /// What a writer has taken of a call, and after it the line of the fault, where there is one.
-fn written(alloc: Global, call: Call, program: &str, mut out: Stumbling) -> Vec<u8> {
-    let fault = fault_of(alloc, call, program.as_bytes(), &mut out);
+fn written<R: Threads + Sync>(
+    rt: &R,
+    alloc: Global,
+    call: Call,
+    program: &str,
+    mut out: Stumbling,
+) -> Vec<u8> {
+    let fault = fault_of(rt, alloc, call, program.as_bytes(), &mut out);
     with_fault(out.taken, fault)
 }
 
@@ -138,7 +151,7 @@ fn writes_on_after_interruptions(rt: HostRuntime) {
     for (call, program, lines) in CALLS {
         for at in 0..lines.len() {
             let out = Stumbling::new(rt.alloc(), at, 3, Some(ErrorKind::Interrupted));
-            let text = written(rt.alloc(), call, program, out);
+            let text = written(&rt, rt.alloc(), call, program, out);
             assert!(rt; text.as_slice() == lines.as_bytes(), "{at} {lines}");
         }
     }
@@ -151,7 +164,7 @@ fn tells_failed_writes(rt: HostRuntime) {
         for (call, program, lines) in CALLS {
             for at in 0..lines.len() {
                 let out = Stumbling::new(rt.alloc(), at, 1, kind);
-                let text = written(rt.alloc(), call, program, out);
+                let text = written(&rt, rt.alloc(), call, program, out);
                 assert!(rt; is_failed(&text, lines.as_bytes(), at), "{at} {lines}");
             }
         }
@@ -163,7 +176,7 @@ fn tells_failed_flushes(rt: HostRuntime) {
     for (call, program, lines) in CALLS {
         let mut out = Stumbling::new(rt.alloc(), 0, 0, None);
         out.flushes = false;
-        let text = written(rt.alloc(), call, program, out);
+        let text = written(&rt, rt.alloc(), call, program, out);
         assert!(rt; is_failed(&text, lines.as_bytes(), lines.len()), "{lines}");
     }
 }
