@@ -1,12 +1,12 @@
 -- The runs of each reaction, one row after another.
-use Rattle.std.proofs.Common.{◌≡◌, ℕ, ◌+◌, ◌<◌, ◌≤◌, ◌⊎◌, inl, inr, List, [], ◌∷◌, ◌++◌, length, length-append, take, drop, refl, sym, ap, ◌∙◌, subst, arith, Bool, true, false, Option, Some, slice_get, slice_set}
+use Rattle.std.proofs.Common.{◌≡◌, ℕ, ◌+◌, ◌<◌, ◌⊎◌, inl, inr, List, [], ◌∷◌, ◌++◌, length, length-append, take, drop, replicate, refl, sym, ap, ◌∙◌, subst, arith, Bool, true, false, Option, Some, slice_get, slice_set}
 use native.Mathlib.Decide.{ℕ_discrete}
 use Rattle.lft_tag.specs.declared.Tag.{Tag}
 use Rattle.lft_tag.specs.Tags.{Before, UpTo}
 use Rattle.lft_tag.proofs.Order.{order_cases, UpTo_antisym}
 use Rattle.lft_trace.specs.declared.row.Row.{Row}
 use Rattle.lft_trace.specs.declared.row.Step.TheVariants.{Start}
-use Rattle.lft_lists.proofs.Places.{get_there, same_at, get_write_cases, get_unwritten, get_push, get_last, get_push_cases, length_written}
+use Rattle.lft_lists.proofs.Places.{get_there, same_at, get_write_cases, get_unwritten, get_push, get_last, get_push_cases, length_written, get_same}
 use Rattle.lft_model.specs.Plans.{PlanParts}
 use Rattle.lft_model.specs.Presence.{Triggered}
 use Rattle.lft_model.specs.Runs.{start_row, Ran}
@@ -191,3 +191,6 @@ due_over cut new old n none h i row p q = go (written_over new old n i p)
     go : (slice_get new i ≡ Some true) ⊎ (slice_get old i ≡ Some true) → Triggered cut.plan cut.rows row.tag row.reaction
     go (inl e) = h i row e q
     go (inr e) = absurd (none i e)
+
+pub none_in : (n : ℕ) (bs : List Bool) → bs ≡ replicate n false → NoneMarked bs
+none_in n bs e k p = let z : true ≡ false = get_same n k false true (ap (λ xs. slice_get xs k) (sym e) ∙ p) in absurd (cc)

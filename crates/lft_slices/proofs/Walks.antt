@@ -1,5 +1,5 @@
 -- The tags to which the causes of a name lead, one after another.
-use Rattle.std.proofs.Common.{◌≡◌, ℕ, ◌<◌, ◌≤◌, ◌⊎◌, inl, inr, List, length, refl, sym, ◌∙◌, subst, arith, Bool, true, false, IsTrue, ◌↔◌, Option, Some, None, slice_get}
+use Rattle.std.proofs.Common.{◌≡◌, ℕ, ◌<◌, ◌≤◌, ◌⊎◌, inl, inr, List, length, refl, sym, ◌∙◌, subst, arith, true, false, Option, Some, None, slice_get}
 use Rattle.std.proofs.lemmas.Bool.{cases_lt}
 use Rattle.lft_tag.specs.declared.Tag.{Tag}
 use Rattle.lft_tag.specs.Tags.{Before, UpTo}
@@ -8,7 +8,6 @@ use Rattle.lft_tag.proofs.Order.{UpTo-not, UpTo-trans}
 use Rattle.lft_flat.specs.Sound.{IsSound}
 use Rattle.lft_flat.specs.declared.parts.Name.{Name}
 use Rattle.lft_flat.specs.declared.parts.Trigger.TheVariants.{On}
-use Rattle.lft_trace.specs.declared.row.Row.{Row}
 use Rattle.lft_trace.specs.Fits.{RowsFit}
 use Rattle.lft_model.specs.Presence.{stop}
 use Rattle.lft_model.proofs.Places.{slice_get_within}

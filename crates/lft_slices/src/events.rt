@@ -30,14 +30,6 @@ impl<'a> Cut<'a> {
         self.presence().value_at(tag, name)
     }
 
-    /// Whether the reaction is triggered at the tag.
-    pub fn triggered(&self, tag: Tag, reaction: u32) -> bool
-        requires { reaction < length self.now.plan.program.reactions }
-        ensures { IsTrue result ↔ Triggered self.now.plan self.now.rows tag reaction }
-    {
-        self.presence().triggered(tag, reaction)
-    }
-
     /// The reactions that are triggered at the tag, ascending. The tag may lie past the stop. Each
     /// reaction is asked.
     pub fn due(&self, alloc: Global, tag: Tag) -> Result<Vec<u32>, NoMemory>

@@ -80,18 +80,6 @@ fn find_tag(tags: &[Tag], tag: Tag, hint: usize) -> Option<usize>
     }
 }
 
-/// So many places without a mark.
-pub(crate) fn unmarked(alloc: Global, count: usize) -> Result<Vec<bool>, NoMemory>
-    ensures { IfOk result (λ marks. (k : ℕ) → slice_get marks.items k ≡ Some true → ⊥) }
-{
-    let mut marks = Vec::new(alloc);
-    marks.reserve(count)?;
-    for _ in 0..count {
-        marks.push_reserved(false);
-    }
-    Ok(marks)
-}
-
 /// Marks the place, where there are marks.
 fn mark(known: &mut [bool], place: usize)
     ensures { known.new ≡ slice_set known.old place true }
@@ -280,24 +268,19 @@ pub(crate) fn lacked(
     let mut least = None;
     for place in 0..triggers.len() {
         let trigger = trigger_at(triggers, place);
-        least = sooner(least, lacked_trigger(presence, trigger, reaction, tags, known));
+        least = sooner(
+            least,
+            lacked_trigger(presence, trigger, reaction, tags, known),
+        );
     }
     least
 }
 
-/// Whether the run of this number is marked.
-fn is_marked(known: &[bool], number: usize) -> bool
-    requires { number < length known.now }
-    ensures { slice_get known.now number ≡ Some result }
+/// Where the run of this number starts, if it is marked.
+fn marked_start(places: &[u32], known: &[bool], number: usize) -> Option<usize>
+    ensures { IfSome result (λ p. (slice_get known.now number ≡ Some true) × (slice_get places.now number ≡ Some p)) }
 {
-    known[number]
-}
-
-/// Where the run of this number starts, if there is one.
-fn start_of(places: &[u32], number: usize) -> Option<usize>
-    ensures { IfSome result (λ p. slice_get places.now number ≡ Some p) }
-{
-    if number < places.len() {
+    if number < known.len() && number < places.len() && known[number] {
         Some(places[number] as usize)
     } else {
         None
@@ -319,10 +302,8 @@ fn keep_due(
     ensures { AreDue presence.now due.new }
 {
     for number in 0..known.len() {
-        if is_marked(known, number) {
-            if let Some(place) = start_of(places, number) {
-                mark(due, place);
-            }
+        if let Some(place) = marked_start(places, known, number) {
+            mark(due, place);
         }
     }
 }
@@ -348,7 +329,7 @@ pub(crate) fn first_missing(
     let mut first = None;
     for reaction in 0..presence.reactions() as u32 {
         let tags = started.tags.at(reaction);
-        let mut known = unmarked(alloc, tags.len())?;
+        let mut known = vec![in alloc; false; tags.len()]?;
         let missed = lacked(presence, reaction, tags, known.as_mut_slice());
         keep_due(
             presence,

@@ -1,8 +1,6 @@
-use Rattle.std.proofs.Common.{◌≡◌, ◌+◌, List, sym, ap, ◌∙◌, subst, arith, length}
-use Rattle.lft_tag.specs.declared.Tag.{Tag}
-use Rattle.lft_slices.specs.declared.pieces.Piece.{Piece}
-use Rattle.lft_slices.specs.Pieces.{ArePiecesTo, AreRuns}
-use Rattle.lft_slices.proofs.Piecing.{pieces_begin, pieces_more, pieces_end}
+use Rattle.std.proofs.Common.{sym, ◌∙◌, subst, arith}
+use Rattle.lft_slices.specs.Pieces.{AreRuns}
+use Rattle.lft_slices.proofs.Piecing.{pieces_more, pieces_end}
 use Rattle.lft_slices.proofs.pieces.pieces_of.Goals as goal
 
 pub loop-place-preserved : goal.loop-place-preserved

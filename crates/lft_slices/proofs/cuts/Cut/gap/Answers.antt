@@ -1,4 +1,4 @@
-use Rattle.std.proofs.Common.{◌≡◌, length, ap, ◌∙◌, sym, subst, arith}
+use Rattle.std.proofs.Common.{◌≡◌, length, subst, arith}
 use Rattle.lft_presence.specs.Traces.{TraceParts, LeastTag}
 use Rattle.lft_slices.specs.Slices.{IsVacant}
 use Rattle.lft_slices.specs.Least.{Lacks}

@@ -1,4 +1,4 @@
-use Rattle.std.proofs.Common.{sym, subst, List}
+use Rattle.std.proofs.Common.{subst}
 use Rattle.lft_presence.specs.Traces.{TraceParts}
 use Rattle.lft_slices.specs.Pieces.{ArePieces}
 use Rattle.lft_slices.proofs.Piecing.{tag_there, range_there, runs_there}

@@ -1,5 +1,4 @@
-use Rattle.std.proofs.Common.{◌≡◌, sym, ap, ◌∙◌, arith, length}
-use Rattle.std.proofs.lemmas.List.{length-map}
+use Rattle.std.proofs.Common.{sym, ◌∙◌}
 use Rattle.lft_model.proofs.Blocks.{get_map}
 use Rattle.lft_slices.proofs.lists.Lists.new.Goals as goal
 
