@@ -12,14 +12,14 @@ use Rattle.lft_trace.specs.declared.trace_table.Numbers.{Numbers}
 use Rattle.lft_trace.specs.Seen.{FieldFault, NumbersOf, StepOf}
 use Rattle.lft_trace.specs.Traces.{FaultAt, IsStep, TraceFields, in_order, is_empty, is_filled, word}
 
-neither : (a b : Bool) → (a || b) ≡ false → (a ≡ false) × (b ≡ false)
+pub neither : (a b : Bool) → (a || b) ≡ false → (a ≡ false) × (b ≡ false)
 neither true b h = cc
 neither false b h = (refl, h)
 
 not_none : (n : ℕ) → (suc n == 0) ≡ false
 not_none n = grind (arith, nat_tests)
 
-bare : (f : List ℕ) → not (is_empty f) ≡ false → f ≡ []
+pub bare : (f : List ℕ) → not (is_empty f) ≡ false → f ≡ []
 bare [] h = refl
 bare (x ∷ xs) h = let e = not_none (length xs) in let t : not (suc (length xs) == 0) ≡ true = rw e refl in cc (h, t)
 
