@@ -16,7 +16,7 @@ use Rattle.lft_trace.specs.Traces.{FaultAt, IsStep, TraceFields, in_order, is_em
 not_none : (n : ℕ) → (suc n == 0) ≡ false
 not_none n = grind (arith, nat_tests)
 
-bare : (f : List ℕ) → not (is_empty f) ≡ false → f ≡ []
+pub bare : (f : List ℕ) → not (is_empty f) ≡ false → f ≡ []
 bare [] h = refl
 bare (x ∷ xs) h = let e = not_none (length xs) in let t : not (suc (length xs) == 0) ≡ true = rw e refl in cc (h, t)
 

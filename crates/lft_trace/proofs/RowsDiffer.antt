@@ -36,7 +36,7 @@ kind_of_word End = refl
 same_kind : (j k : RowKind) → word j ≡ word k → j ≡ k
 same_kind j k h = sym (kind_of_word j) ∙ ap kind_of h ∙ kind_of_word k
 
-same_thing : (m n : Name) → thing m ≡ thing n → m ≡ n
+pub same_thing : (m n : Name) → thing m ≡ thing n → m ≡ n
 same_thing (Port a) (Port b) h = cc
 same_thing (Port a) (Action b) h = cc
 same_thing (Action a) (Port b) h = cc

@@ -8,18 +8,8 @@ ghost use Rattle.lft_trace.specs.Seen.{trace_fields};
 ghost use Rattle.lft_trace.specs.SeenExternals.{external_fields};
 
 use crate::kind::{EntryKind, RowKind};
+use crate::records::field;
 use csv::ByteRecord;
-
-// The field at a place.
-fn field(fields: &ByteRecord, at: usize) -> &[u8]
-    requires { at < length (fields_of fields.now) }
-    ensures { result.now ≡ slice_index_or (fields_of fields.now) at [] }
-{
-    match fields.get(at) {
-        Some(field) => field,
-        None => &[],
-    }
-}
 
 /// The fields of a record of a trace table.
 #[derive(Clone, Copy)]

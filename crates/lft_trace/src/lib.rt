@@ -1,6 +1,7 @@
 #![tactic(auto)]
 //! Rows of a trace and external inputs, and the tables that hold them. `write_trace` and `fits` of
-//! rows and of external inputs serve who records: no command calls them yet.
+//! rows and of external inputs serve who records. The modules `records`, `number` and `names` serve
+//! who reads another table.
 
 mod event_map;
 mod external_table;
@@ -9,9 +10,9 @@ mod fault;
 mod fields;
 mod fits;
 mod kind;
-mod names;
-mod number;
-mod records;
+pub mod names;
+pub mod number;
+pub mod records;
 mod row;
 mod same;
 mod steps;

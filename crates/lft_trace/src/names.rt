@@ -9,7 +9,7 @@ use lft_flat::{Found, Name, Program};
 
 /// The reaction of this name. The rows of one run stand together, so the name of the last row's
 /// reaction is tried before all others.
-pub(crate) fn read_reaction(program: &Program, last: Option<u32>, field: &[u8]) -> Option<u32>
+pub fn read_reaction(program: &Program, last: Option<u32>, field: &[u8]) -> Option<u32>
     requires { IfSome last (λ r. r < length program.now.reactions) }
     ensures some { IfSome result (λ r. IsNamed program.now.names (Found.Reaction r) field.now) }
     ensures none { IfNone result ((r : ℕ) → IsNamed program.now.names (Found.Reaction r) field.now → ⊥) }
@@ -48,7 +48,7 @@ fn find_reaction(program: &Program, field: &[u8]) -> Option<u32>
 }
 
 /// The port or action of this name.
-pub(crate) fn read_thing(program: &Program, field: &[u8]) -> Option<Name>
+pub fn read_thing(program: &Program, field: &[u8]) -> Option<Name>
     ensures some { IfSome result (λ n. IsThing program.now field.now n) }
     ensures none { IfNone result ((n : Name) → IsThing program.now field.now n → ⊥) }
 {

@@ -10,7 +10,7 @@ use lft_tag::{MAX_MICRO, MAX_TIME, Tag};
 const LEAST: u64 = 9_223_372_036_854_775_808;
 
 /// An unsigned number.
-pub(crate) fn read_number(field: &[u8], limit: u64) -> Option<u64>
+pub fn read_number(field: &[u8], limit: u64) -> Option<u64>
     ensures value { result ≡ number limit field.now }
     ensures within { IfSome result (λ n. n ≤ limit) }
 {
@@ -33,7 +33,7 @@ pub(crate) fn read_number(field: &[u8], limit: u64) -> Option<u64>
 }
 
 /// An unsigned number, or 0 where the field is empty.
-pub(crate) fn read_number_or_zero(field: &[u8], limit: u64) -> Option<u64>
+pub fn read_number_or_zero(field: &[u8], limit: u64) -> Option<u64>
     ensures value { result ≡ number_or_zero limit field.now }
     ensures within { IfSome result (λ n. n ≤ limit) }
 {
@@ -63,7 +63,7 @@ pub(crate) fn read_tag(time: &[u8], microstep: &[u8]) -> Option<Tag>
 }
 
 /// The value of a port or an action.
-pub(crate) fn read_value(field: &[u8]) -> Option<Value>
+pub fn read_value(field: &[u8]) -> Option<Value>
     ensures { result ≡ value field.now }
 {
     if field.is_empty() {

@@ -1,6 +1,6 @@
 //! The records of a text, one at a time.
 
-ghost use Rattle.std.specs.Prelude.{◌≡◌, ◌∷◌, [], true, false, IfOk};
+ghost use Rattle.std.specs.Prelude.{◌≡◌, ◌<◌, ◌∷◌, [], true, false, IfOk, length, slice_index_or};
 ghost use Rattle.csv.specs.Records.{fields_of};
 ghost use Rattle.lft_trace.specs.Faults.{is_told};
 ghost use Rattle.lft_trace.specs.Records.{records_of, reader_left, IsPlain};
@@ -11,11 +11,11 @@ use std::alloc::Global;
 
 /// The line of the last row that a table may have: the header is line 1, so this is one more than
 /// `MAX_ROWS` of `fits.rt`.
-pub(crate) const LAST_LINE: u32 = 4_000_001;
+pub const LAST_LINE: u32 = 4_000_001;
 
 /// Why the records stop before their end.
 #[derive(Clone, Copy, Debug, PartialEq, Eq)]
-pub(crate) enum Stop {
+pub enum Stop {
     NotCsv,
     NoMemory,
 }
@@ -31,7 +31,7 @@ pub(crate) fn stopped(stop: Stop) -> TraceFault
 }
 
 /// A reader of the records of a text, the first one included. It takes no memory.
-pub(crate) fn open(alloc: Global, text: &[u8]) -> Reader<&[u8]>
+pub fn open(alloc: Global, text: &[u8]) -> Reader<&[u8]>
     ensures plain { IsPlain result }
     ensures left { reader_left result ≡ records_of text.now }
 {
@@ -42,7 +42,7 @@ pub(crate) fn open(alloc: Global, text: &[u8]) -> Reader<&[u8]>
 }
 
 /// Reads the next record, if there is one.
-pub(crate) fn read_next(reader: &mut Reader<&[u8]>, fields: &mut ByteRecord) -> Result<bool, Stop>
+pub fn read_next(reader: &mut Reader<&[u8]>, fields: &mut ByteRecord) -> Result<bool, Stop>
     requires { IsPlain reader.old }
     ensures plain { IfOk result (λ found. found ≡ true → IsPlain reader.new) }
     ensures found { IfOk result (λ found. found ≡ true → reader_left reader.old ≡ fields_of fields.new ∷ reader_left reader.new) }
@@ -54,5 +54,16 @@ pub(crate) fn read_next(reader: &mut Reader<&[u8]>, fields: &mut ByteRecord) -> 
             ErrorKind::OutOfMemory => Err(Stop::NoMemory),
             _ => Err(Stop::NotCsv),
         },
+    }
+}
+
+/// The field of a record at a place.
+pub fn field(fields: &ByteRecord, at: usize) -> &[u8]
+    requires { at < length (fields_of fields.now) }
+    ensures { result.now ≡ slice_index_or (fields_of fields.now) at [] }
+{
+    match fields.get(at) {
+        Some(field) => field,
+        None => &[],
     }
 }

@@ -1,17 +1,19 @@
-//! Judges recorded traces of Lingua Franca programs, and compares them.
+//! Judges recorded traces of Lingua Franca programs, compares them, and records executions.
 #![tactic(auto)]
 
 mod words;
 
-use crate::words::{Job, JudgeWords, PairWords, read_words};
+use crate::words::{Job, JudgeWords, PairWords, RecordWords, read_words};
 use lft_front::{
     Fault, Part, bundle_answer, finish, judge_answer, pair_answer, read_input, show_answer,
 };
+use lft_record::record_answer;
 use std::alloc::Global;
 use std::fs::File;
 use std::io::{IsTerminal, Read, Write};
 use std::process::ExitCode;
 use std::rt::Files;
+use std::sync::Wait;
 use std::thread::Threads;
 use std::{env, io};
 
@@ -63,6 +65,28 @@ fn pair_files<F: Files + Threads + Sync, W: Write>(
         first.as_slice(),
         second.as_slice(),
         words.workers,
+        out,
+    )
+}
+
+/// Records the program of three files, all of which are read first.
+fn record_files<R: Files + Threads + Wait + Sync, W: Write>(
+    rt: &R,
+    alloc: Global,
+    words: RecordWords<'_>,
+    out: &mut W,
+) -> Result<bool, Fault> {
+    let program = read_file(rt, alloc, words.program)?;
+    let externals = read_file(rt, alloc, words.externals)?;
+    let cards = read_file(rt, alloc, words.cards)?;
+    record_answer(
+        rt,
+        alloc,
+        program.as_slice(),
+        externals.as_slice(),
+        cards.as_slice(),
+        words.workers,
+        words.max_runs,
         out,
     )
 }
@@ -123,6 +147,7 @@ fn main(rt: HostRuntime) -> ExitCode {
         }
         Job::Judge(words) => judge_files(&rt, alloc, words, &mut out),
         Job::Pair(words) => pair_files(&rt, alloc, words, &mut out),
+        Job::Record(words) => record_files(&rt, alloc, words, &mut out),
         Job::Show(path) => show_file(&rt, alloc, path, &mut out),
     };
     ExitCode::from(finish(answer, &mut rt.stderr()))

@@ -6,7 +6,7 @@ use std::alloc::Global;
 const VERSION: &str = "0.1.0";
 
 const HELP: &str = "\
-Status: 0 accepted, same or shown, 1 broken or differ, 2 a fault (on standard error).
+Status: 0 accepted, same, recorded or shown, 1 broken or differ, 2 a fault (on standard error).
 A bundle is the lines `--- program`, `--- externals` and `--- trace`, each with its text after it.";
 
 const JUDGE_HELP: &str = "\
@@ -22,6 +22,14 @@ Times are in nanoseconds. Words are paths of files; /dev/stdin is standard input
 Printed: same runs=R tags=G (status 0); differ time=T microstep=M reaction=X,
 where that reaction met the same history and inputs in both and answered
 otherwise; or first broken rule=N .. or second broken rule=N .. (status 1).";
+
+const RECORD_HELP: &str = "\
+EXTERNALS has the header  kind,time,microstep,name,value
+CARDS has the header      kind,reaction,name,delay,value
+A card is how many bodies a reaction has (bodies), a step of each (write, schedule,
+stop), or the state word that each leaves (state). Words are paths of files.
+Printed: the trace table (status 0); where the recording stops, the rows so far,
+and a fault of part pool (status 2).";
 
 const SHOW_HELP: &str = "\
 PROGRAM is the path of a file; /dev/stdin is standard input.
@@ -47,6 +55,16 @@ pub struct PairWords<'a> {
     pub workers: u32,
 }
 
+/// The words of `record`: three paths, how many workers, 1 to 64, and how many runs at most.
+#[derive(Clone, Copy, Debug, PartialEq, Eq)]
+pub struct RecordWords<'a> {
+    pub program: &'a str,
+    pub externals: &'a str,
+    pub cards: &'a str,
+    pub workers: u32,
+    pub max_runs: u32,
+}
+
 /// What the command line asks for.
 #[derive(Clone, Copy, Debug, PartialEq, Eq)]
 pub enum Job<'a> {
@@ -54,6 +72,7 @@ pub enum Job<'a> {
     Bundle,
     Judge(JudgeWords<'a>),
     Pair(PairWords<'a>),
+    Record(RecordWords<'a>),
     /// To show the ports and the precedence of the program at a path.
     Show(&'a str),
 }
@@ -65,11 +84,14 @@ fn path<'a>(alloc: Global, id: &'a str, help: &'a str) -> Arg<'a> {
         .help(help)
 }
 
-fn workers<'a>(alloc: Global) -> Arg<'a> {
+/// The help of `--workers` where one worker does all the work.
+const JUDGES: &str = "how many workers read and judge, 1 to 64; the answer is the same";
+
+fn workers<'a>(alloc: Global, help: &'a str) -> Arg<'a> {
     Arg::new(alloc, "workers")
         .long("workers")
         .value_name("N")
-        .help("how many workers read and judge, 1 to 64; the answer is the same")
+        .help(help)
         .default_value("1")
         .value_parser(clap::value_parser!(u32).range(1..65))
 }
@@ -80,7 +102,7 @@ fn judge_command<'a>(alloc: Global) -> Result<Command<'a>, Error> {
         .arg(path(alloc, "PROGRAM", "the program's text"))?
         .arg(path(alloc, "EXTERNALS", "the table of external inputs"))?
         .arg(path(alloc, "TRACE", "the trace table"))?
-        .arg(workers(alloc))?
+        .arg(workers(alloc, JUDGES))?
         .after_help(JUDGE_HELP);
     Ok(command)
 }
@@ -94,8 +116,26 @@ fn pair_command<'a>(alloc: Global) -> Result<Command<'a>, Error> {
         .arg(path(alloc, "EXTERNALS", "the table of external inputs of both"))?
         .arg(path(alloc, "FIRST", "a trace table"))?
         .arg(path(alloc, "SECOND", "another trace table"))?
-        .arg(workers(alloc))?
+        .arg(workers(alloc, JUDGES))?
         .after_help(PAIR_HELP);
+    Ok(command)
+}
+
+fn record_command<'a>(alloc: Global) -> Result<Command<'a>, Error> {
+    let max_runs = Arg::new(alloc, "max-runs")
+        .long("max-runs")
+        .value_name("N")
+        .help("how many runs at most, 0 to 1000000")
+        .default_value("1000000")
+        .value_parser(clap::value_parser!(u32).range(0..1_000_001));
+    let command = Command::new(alloc, "record")
+        .about("Records an execution whose bodies answer what a table of cards says")
+        .arg(path(alloc, "PROGRAM", "the program's text"))?
+        .arg(path(alloc, "EXTERNALS", "the table of external inputs"))?
+        .arg(path(alloc, "CARDS", "the table of cards"))?
+        .arg(workers(alloc, "how many workers, 1 to 64"))?
+        .arg(max_runs)?
+        .after_help(RECORD_HELP);
     Ok(command)
 }
 
@@ -111,10 +151,11 @@ fn root_command<'a>(alloc: Global) -> Result<Command<'a>, Error> {
     let command = Command::new(alloc, "lftrace")
         .version(VERSION)
         .about(
-            "Checks recorded executions of reactor programs. Without a command it judges a bundle from standard input.",
+            "Checks recorded executions of reactor programs, and records them. Without a command it judges a bundle from standard input.",
         )
         .subcommand(judge_command(alloc)?)?
         .subcommand(pair_command(alloc)?)?
+        .subcommand(record_command(alloc)?)?
         .subcommand(show_command(alloc)?)?
         .after_help(HELP);
     Ok(command)
@@ -147,6 +188,13 @@ pub fn read_words<'a>(alloc: Global, words: &'a [String]) -> Result<Job<'a>, Err
             first: text(pair, "FIRST"),
             second: text(pair, "SECOND"),
             workers: number(pair, "workers", 1),
+        })),
+        Some(("record", record)) => Ok(Job::Record(RecordWords {
+            program: text(record, "PROGRAM"),
+            externals: text(record, "EXTERNALS"),
+            cards: text(record, "CARDS"),
+            workers: number(record, "workers", 1),
+            max_runs: number(record, "max-runs", 1_000_000),
         })),
         Some(("show", show)) => Ok(Job::Show(text(show, "PROGRAM"))),
         _ => Ok(Job::Bundle),

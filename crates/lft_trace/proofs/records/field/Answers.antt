@@ -1,7 +1,7 @@
 use Rattle.std.proofs.Common.{rules, ◌≡◌, sym, Some, None}
 use Rattle.csv.specs.Records.{field_at, fields_of}
 use Rattle.csv.proofs.RecordFacts.{field-get, field-there}
-use Rattle.lft_trace.proofs.fields.field.Goals as goal
+use Rattle.lft_trace.proofs.records.field.Goals as goal
 
 pub returns-in-Some : goal.returns-in-Some
 returns-in-Some c =

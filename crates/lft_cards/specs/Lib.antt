@@ -1,0 +1,5 @@
+pub mod Expressions
+pub mod CardTables
+pub mod Faults
+pub mod Scripts
+pub mod Seen
