@@ -84,7 +84,7 @@ fn path<'a>(alloc: Global, id: &'a str, help: &'a str) -> Arg<'a> {
         .help(help)
 }
 
-/// The help of `--workers` where one worker does all the work.
+/// The help of `--workers` of what judges.
 const JUDGES: &str = "how many workers read and judge, 1 to 64; the answer is the same";
 
 fn workers<'a>(alloc: Global, help: &'a str) -> Arg<'a> {
