@@ -9,7 +9,7 @@ ghost use Rattle.lft_model.specs.Runs.{effects_of};
 ghost use Rattle.lft_slices.specs.Marks.{AreMarks};
 ghost use Rattle.lft_slices.specs.Passes.{RisesTo, IsBadRead};
 
-use crate::marks::{Marks, seat_of};
+use crate::marks::Marks;
 use lft_flat::{Name, Program};
 use lft_tag::Tag;
 use lft_trace::{Row, Step, row_at};
@@ -53,7 +53,7 @@ fn is_bad_read(
     requires marks { AreMarks program.now rows.now 0 place marks.now }
     ensures { IsTrue result ↔ IsBadRead program.now rows.now place row name }
 {
-    match seat_of(program.reaction(row.reaction), name) {
+    match marks.seat(program.reaction(row.reaction), name) {
         Some(seat) => was_at(rows, place, row.tag, marks.of(program, row.reaction, seat)),
         None => true,
     }

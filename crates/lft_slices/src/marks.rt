@@ -1,6 +1,6 @@
 //! Where each reaction read each of its inputs last.
 
-ghost use Rattle.std.specs.Prelude.{◌≡◌, ℕ, ◌+◌, ◌<◌, ◌≤◌, length, Some, IfOk, OnOk, MatchOption, slice_get};
+ghost use Rattle.std.specs.Prelude.{◌≡◌, ℕ, ◌+◌, ◌<◌, ◌≤◌, length, Some, IsTrue, IfOk, OnOk, MatchOption, slice_get};
 ghost use Rattle.lft_flat.specs.declared.parts.Reaction.{Reaction as TheReaction};
 ghost use Rattle.lft_flat.specs.declared.parts.Trigger.TheVariants.{On};
 ghost use Rattle.lft_trace.specs.Fits.{RowsFit};
@@ -19,6 +19,28 @@ use std::alloc::Global;
 pub(crate) struct Marks {
     firsts: Vec<usize>,
     places: Vec<u32>,
+    /// Where the next input is looked for first: a run mostly reads its inputs in order.
+    guess: usize,
+}
+
+/// Whether the name stands at the seat of the reaction.
+fn is_seat(reaction: &Reaction, name: Name, seat: usize) -> bool
+    ensures { IsTrue result → HasSeat reaction.now name seat }
+{
+    let triggers = reaction.triggers.as_slice();
+    let uses = reaction.uses.as_slice();
+    if seat < triggers.len() {
+        match trigger_at(triggers, seat) {
+            Trigger::On(other) => is_same_name(other, name),
+            Trigger::Startup => false,
+            Trigger::Shutdown => false,
+            Trigger::Timer(_) => false,
+        }
+    } else if seat - triggers.len() < uses.len() {
+        is_same_name(name_at(uses, seat - triggers.len()), name)
+    } else {
+        false
+    }
 }
 
 /// The place of the name among the triggers, if it is one.
@@ -52,10 +74,14 @@ fn name_seat(names: &[Name], name: Name) -> Option<usize>
     None
 }
 
-/// Where the name stands among the reaction's inputs, if it is one.
-pub(crate) fn seat_of(reaction: &Reaction, name: Name) -> Option<usize>
+/// Where the name stands among the reaction's inputs, if it is one. The seat that is guessed is
+/// asked first.
+fn seat_of(reaction: &Reaction, name: Name, guess: usize) -> Option<usize>
     ensures { MatchOption result ((k : ℕ) → ¬ HasSeat reaction.now name k) (HasSeat reaction.now name) }
 {
+    if is_seat(reaction, name, guess) {
+        return Some(guess);
+    }
     let triggers = reaction.triggers.as_slice();
     if let Some(place) = trigger_seat(triggers, name) {
         return Some(place);
@@ -91,7 +117,11 @@ impl Marks {
             add_marks(&mut places, reaction.triggers.as_slice().len())?;
             add_marks(&mut places, reaction.uses.as_slice().len())?;
         }
-        Ok(Marks { firsts, places })
+        Ok(Marks {
+            firsts,
+            places,
+            guess: 0,
+        })
     }
 
     /// The mark of the input that stands at the seat of the reaction.
@@ -103,6 +133,13 @@ impl Marks {
         self.places[self.firsts[reaction as usize] + seat]
     }
 
+    /// Where the name stands among the reaction's inputs, if it is one.
+    pub(crate) fn seat(&self, reaction: &Reaction, name: Name) -> Option<usize>
+        ensures { MatchOption result ((k : ℕ) → ¬ HasSeat reaction.now name k) (HasSeat reaction.now name) }
+    {
+        seat_of(reaction, name, self.guess)
+    }
+
     /// Sets the mark of the input that stands at the seat of the reaction.
     fn set(&mut self, program: &Program, reaction: u32, seat: usize, mark: u32)
         requires laid { IsLaid program.now self.old }
@@ -111,6 +148,7 @@ impl Marks {
     {
         let at = self.firsts[reaction as usize] + seat;
         self.places[at] = mark;
+        self.guess = seat.wrapping_add(1);
     }
 
     /// Goes on past the row at the place.
@@ -122,7 +160,7 @@ impl Marks {
     {
         let row = row_at(rows, place);
         if let Step::Read(name, _) = row.step {
-            if let Some(seat) = seat_of(program.reaction(row.reaction), name) {
+            if let Some(seat) = self.seat(program.reaction(row.reaction), name) {
                 self.set(program, row.reaction, seat, place as u32 + 1);
             }
         }
