@@ -1,0 +1,4 @@
+pub mod Heard
+pub mod Written
+pub mod Fed
+pub mod Steps
