@@ -245,3 +245,21 @@ reads_of plan t runs w g r k o is e q =
 
 pub reads_none : (plan : PlanParts) (t : List Row) (runs : List OpenRun) (w : ℕ) (g : Tag) (r : ℕ) (reads : List (Option Value)) → AreOpen plan t runs → ((k : ℕ) (o : OpenRun) → slice_get runs k ≡ Some o → is_run w g r o ≡ false) → ¬ HasReads plan t w g r reads
 reads_none plan t runs w g r reads is none h = let q = is.all w g r h.0 in false≢true (sym (none q.0 q.1 q.2) ∙ is_its_run w g r q.1 q.3 q.4 q.5)
+
+-- what holds of the first items and of the next
+pub before_one_more : (runs : List OpenRun) (i : ℕ) (x : OpenRun) (P : OpenRun → Type 0) → slice_get runs i ≡ Some x → ((k : ℕ) (o : OpenRun) → k < i → slice_get runs k ≡ Some o → P o) → P x → (k : ℕ) (o : OpenRun) → k < i + 1 → slice_get runs k ≡ Some o → P o
+before_one_more runs i x P is before here k o l e = go (dec_lt k i)
+  where
+    go : Dec (k < i) → P o
+    go (yes m) = before k o m e
+    go (no n) =
+        let q : k ≡ i = omega arith in
+        let z : Some x ≡ Some o = sym is ∙ ap (λ (j : ℕ). slice_get runs j) (sym q) ∙ e in
+        let y : x ≡ o = cc in
+        subst (λ (z : OpenRun). P z) y here
+
+-- a comparison of the reads of the run that was found
+pub reads_iff : (plan : PlanParts) (t : List Row) (runs : List OpenRun) (w : ℕ) (g : Tag) (r k : ℕ) (o : OpenRun) (reads : List (Option Value)) (b : Bool) → slice_get runs k ≡ Some o → is_run w g r o ≡ true → IsTrue b ↔ (o.reads ≡ reads) → AreOpen plan t runs → IsTrue b ↔ HasReads plan t w g r reads
+reads_iff plan t runs w g r k o reads b e q iff is =
+    let h = reads_of plan t runs w g r k o is e q in
+    (λ x. (h.0, sym (iff.0 x) ∙ h.1), λ s. iff.1 (h.1 ∙ sym s.1))

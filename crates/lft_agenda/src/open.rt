@@ -28,11 +28,11 @@ fn is_of(run: &OpenRun, worker: u32, tag: Tag, reaction: u32) -> bool
 }
 
 /// Whether a run is the worker's.
-pub(crate) fn is_busy(open: &[OpenRun], worker: u32) -> bool
-    ensures { (plan : PlanParts) (t : List Row) → AreOpen plan t open.now → IsTrue result ↔ IsBusy t worker }
+pub(crate) fn is_busy(runs: &[OpenRun], worker: u32) -> bool
+    ensures { (plan : PlanParts) (t : List Row) → AreOpen plan t runs.now → IsTrue result ↔ IsBusy t worker }
 {
-    for at in 0..open.len() {
-        if open[at].worker == worker {
+    for at in 0..runs.len() {
+        if runs[at].worker == worker {
             return true;
         }
     }
@@ -41,16 +41,16 @@ pub(crate) fn is_busy(open: &[OpenRun], worker: u32) -> bool
 
 /// Whether the run of the reaction at the tag by the worker is open and read this.
 pub(crate) fn has_reads(
-    open: &[OpenRun],
+    runs: &[OpenRun],
     worker: u32,
     tag: Tag,
     reaction: u32,
     reads: &[Option<Value>],
 ) -> bool
-    ensures { (plan : PlanParts) (t : List Row) → AreOpen plan t open.now → IsTrue result ↔ HasReads plan t worker tag reaction reads.now }
+    ensures { (plan : PlanParts) (t : List Row) → AreOpen plan t runs.now → IsTrue result ↔ HasReads plan t worker tag reaction reads.now }
 {
-    for at in 0..open.len() {
-        let run = &open[at];
+    for at in 0..runs.len() {
+        let run = &runs[at];
         if is_of(run, worker, tag, reaction) {
             return same_reads(run.reads.as_slice(), reads);
         }
@@ -59,8 +59,8 @@ pub(crate) fn has_reads(
 }
 
 /// Takes the run of the reaction at the tag by the worker out.
-pub(crate) fn take_out(open: &mut Vec<OpenRun>, worker: u32, tag: Tag, reaction: u32)
-    ensures { open.new.items ≡ filter (λ o. not (is_run worker tag reaction o)) open.old.items }
+pub(crate) fn take_out(runs: &mut Vec<OpenRun>, worker: u32, tag: Tag, reaction: u32)
+    ensures { runs.new.items ≡ filter (λ o. not (is_run worker tag reaction o)) runs.old.items }
 {
-    open.retain(|run| !is_of(run, worker, tag, reaction));
+    runs.retain(|run| !is_of(run, worker, tag, reaction));
 }
