@@ -61,9 +61,12 @@ module _ (plan : PlanParts) (good : IsSoundPlan plan) (t : List Row) (w : ℕ) (
         collides = f.2;
         least = λ k before c. has.clean k c.0 (UpTo-trans k h last (Before-weaken k h before) f.1) before c.1;
       }
-  ended_agenda q None has = (λ k u c. has.clean k c.0 (subst (λ (h : Tag). UpTo k h) (sym last_is) u) tt c.1, λ so_far. record {
-    runs = committed_open plan good t w g r steps b a.runs is.runs;
-    stop_is = last_is;
-    reached = λ h c p. rows_up_to plan good (t ++ committed_rows w g r steps) so_far h c p b.open_run.start (start_row w g r) (slice_get_more t (committed_rows w g r steps) b.open_run.start (start_row w g r) b.open_run.starts);
-    events = has;
-  })
+  ended_agenda q None has = (
+    λ k u c. has.clean k c.0 (subst (λ (h : Tag). UpTo k h) (sym last_is) u) tt c.1,
+    λ so_far. record {
+      runs = committed_open plan good t w g r steps b a.runs is.runs;
+      stop_is = last_is;
+      reached = λ h c p. rows_up_to plan good (t ++ committed_rows w g r steps) so_far h c p b.open_run.start (start_row w g r) (slice_get_more t (committed_rows w g r steps) b.open_run.start (start_row w g r) b.open_run.starts);
+      events = has;
+    },
+  )

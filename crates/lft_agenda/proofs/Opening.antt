@@ -175,7 +175,7 @@ module _ (plan : PlanParts) (good : IsSoundPlan plan) (t : List Row) (w : ℕ) (
       last (s ∷ ss) = last ss
 
   -- an open run is an old one, and another than the one that is ended
-  committed_cases : (v : ℕ) (h : Tag) (c : ℕ) → IsOpen (t ++ committed_rows w g r steps) (length (t ++ committed_rows w g r steps)) v h c → IsOpen t (length t) v h c × ((v ≡ w) × (h ≡ g) × (c ≡ r) → ⊥)
+  pub committed_cases : (v : ℕ) (h : Tag) (c : ℕ) → IsOpen (t ++ committed_rows w g r steps) (length (t ++ committed_rows w g r steps)) v h c → IsOpen t (length t) v h c × ((v ≡ w) × (h ≡ g) × (c ≡ r) → ⊥)
   committed_cases v h c o = go (get_append t (committed_rows w g r steps) o.start (start_row v h c) o.starts)
     where
       other : slice_get t o.start ≡ Some (start_row v h c) → (v ≡ w) × (h ≡ g) × (c ≡ r) → ⊥

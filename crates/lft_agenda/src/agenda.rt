@@ -66,13 +66,7 @@ impl Agenda {
     }
 
     /// Whether the run of the reaction at the tag by the worker is open and read this.
-    pub fn has_reads(
-        &self,
-        worker: u32,
-        tag: Tag,
-        reaction: u32,
-        reads: &[Option<Value>],
-    ) -> bool
+    pub fn has_reads(&self, worker: u32, tag: Tag, reaction: u32, reads: &[Option<Value>]) -> bool
         ensures { (plan : PlanParts) (t : List RowOf) → IsAgenda plan t self.now → IsTrue result ↔ HasReads plan t worker tag reaction reads.now }
     {
         has_reads(self.runs.as_slice(), worker, tag, reaction, reads)

@@ -43,7 +43,6 @@ some_there (Some u) s = (u, refl)
 
 -- a port hears of a write of its origin
 module _ (plan : PlanParts) (good : IsSoundPlan plan) (t : List Row) (x : Row) (o : ℕ) (v : Value) (writes : x.step ≡ Write (Port o) v) (p : ℕ) (port : PortOf) (is_port : slice_get plan.program.ports p ≡ Some port) (last : Tag) (clash : Option Tag) (q0 : List Pending) (is : IsFedTo plan t x last p clash q0) where
-
   -- one that has another origin hears nothing
   pub other_fed : ¬ (port.origin ≡ o) → IsFedTo plan t x last (p + 1) clash q0
   other_fed n = unheard plan (seen_below (t ++ x ∷ []) t p) (seen_below (t ++ x ∷ []) t (p + 1)) x.tag last clash q0 ats clashes is
@@ -66,7 +65,6 @@ module _ (plan : PlanParts) (good : IsSoundPlan plan) (t : List Row) (x : Row) (
           go false e = subst (λ (s : List Row). ClashesAt plan s k m ↔ ClashesAt plan (seen_below (t ++ x ∷ []) t p m) k m) (sym (below_other (t ++ x ∷ []) t p m e)) (λ a. a, λ a. a)
 
   module _ (its : port.origin ≡ o) (q1 q2 : List Pending) (found : Option Tag) (put : IsPut last clash (shifted x.tag (port.shift.time, port.shift.steps)) (Port p) v q1 q2 found) where
-
     clean_old : IsWanted last clash (shifted x.tag (port.shift.time, port.shift.steps)) → ¬ PortClash plan t (shifted x.tag (port.shift.time, port.shift.steps)) p
     clean_old w = subst (λ (s : List Row). ¬ ClashesAt plan s (shifted x.tag (port.shift.time, port.shift.steps)) (Port p)) (below_old (t ++ x ∷ []) t p) (is.clean (shifted x.tag (port.shift.time, port.shift.steps)) (Port p) w.0 w.1)
 

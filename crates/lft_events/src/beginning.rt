@@ -31,9 +31,11 @@ pub fn first_events(alloc: Global, plan: &Plan) -> Result<Queue, NoMemory>
     for at in 0..events.len() {
         let event = event_at(events, at);
         if !stop.is_before(event.tag) {
-            if let Err(QueueFault::NoMemory) =
-                queue.put(event.tag, Name::Action(event.action), event.value)
-            {
+            if let Err(QueueFault::NoMemory) = queue.put(
+                event.tag,
+                Name::Action(event.action),
+                event.value,
+            ) {
                 return Err(NoMemory);
             }
         }

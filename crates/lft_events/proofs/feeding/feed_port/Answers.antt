@@ -29,10 +29,10 @@ returns c = λ t w r is was.
     let x = run_row w c.args.tag r (Write (Port c.args.origin) c.args.value) in
     let at : c.plus-at.result ≡ shifted c.args.tag (port.shift.time, port.shift.steps) = c.plus-at.ensures.folded in
     if_ok c.put.result (λ found. IsPut c.args.last c.args.clash c.plus-at.result (Port c.args.number) c.args.value c.if-again.queue c.put.new.queue found) (λ found. IsFedTo plan t x c.args.last (c.args.number + 1) found c.put.new.queue) (λ found put0.
-      let put : IsPut c.args.last c.args.clash (shifted c.args.tag (port.shift.time, port.shift.steps)) (Port c.args.number) c.args.value c.if-again.queue c.put.new.queue found = subst (λ (g : Tag). IsPut c.args.last c.args.clash g (Port c.args.number) c.args.value c.if-again.queue c.put.new.queue found) at put0 in
-      elim c.if-again.branch [
-        | then-again k ↦
-            let out0 : Becomes c.args.queue.now c.if-again.queue c.plus-at.result (Port c.args.number) None = subst (λ (q : List Pending). Becomes c.args.queue.now q c.plus-at.result (Port c.args.number) None) (sym k.queue-is) k.remove-replaced.ensures.removed in
-            again_fed plan c.program.ensures.sound t x c.args.origin c.args.value refl c.args.number port there c.args.last c.args.clash c.args.queue.now is its c.if-again.queue c.put.new.queue found put ((was c.args.number port there its).0 k.if-again.true) (subst (λ (g : Tag). Becomes c.args.queue.now c.if-again.queue g (Port c.args.number) None) at out0)
-        | else-again k ↦ first_fed plan c.program.ensures.sound t x c.args.origin c.args.value refl c.args.number port there c.args.last c.args.clash c.args.queue.now is its c.if-again.queue c.put.new.queue found put (λ y. false≢true (sym k.if-again.false ∙ (was c.args.number port there its).1 y)) k.queue-is
-      ]) c.put.ensures
+    let put : IsPut c.args.last c.args.clash (shifted c.args.tag (port.shift.time, port.shift.steps)) (Port c.args.number) c.args.value c.if-again.queue c.put.new.queue found = subst (λ (g : Tag). IsPut c.args.last c.args.clash g (Port c.args.number) c.args.value c.if-again.queue c.put.new.queue found) at put0 in
+    elim c.if-again.branch [
+      | then-again k ↦
+          let out0 : Becomes c.args.queue.now c.if-again.queue c.plus-at.result (Port c.args.number) None = subst (λ (q : List Pending). Becomes c.args.queue.now q c.plus-at.result (Port c.args.number) None) (sym k.queue-is) k.remove-replaced.ensures.removed in
+          again_fed plan c.program.ensures.sound t x c.args.origin c.args.value refl c.args.number port there c.args.last c.args.clash c.args.queue.now is its c.if-again.queue c.put.new.queue found put ((was c.args.number port there its).0 k.if-again.true) (subst (λ (g : Tag). Becomes c.args.queue.now c.if-again.queue g (Port c.args.number) None) at out0)
+      | else-again k ↦ first_fed plan c.program.ensures.sound t x c.args.origin c.args.value refl c.args.number port there c.args.last c.args.clash c.args.queue.now is its c.if-again.queue c.put.new.queue found put (λ y. false≢true (sym k.if-again.false ∙ (was c.args.number port there its).1 y)) k.queue-is
+    ]) c.put.ensures
