@@ -1,8 +1,8 @@
 -- The agenda once a run has been begun or ended.
-use Rattle.std.proofs.Common.{◌≡◌, ℕ, List, [], ◌∷◌, ◌++◌, length, refl, sym, ap, ◌∙◌, subst, Option, Some, None, slice_get, not}
+use Rattle.std.proofs.Common.{◌≡◌, ℕ, List, [], ◌∷◌, ◌++◌, length, refl, sym, ◌∙◌, subst, Option, Some, None, not}
 use Rattle.std.specs.List.{filter}
 use Rattle.lft_tag.specs.declared.Tag.{Tag}
-use Rattle.lft_tag.specs.Tags.{Before, UpTo}
+use Rattle.lft_tag.specs.Tags.{UpTo}
 use Rattle.lft_tag.proofs.Order.{UpTo-trans, Before-weaken}
 use Rattle.lft_flat.specs.declared.parts.Value.{Value}
 use Rattle.lft_trace.specs.declared.row.Row.{Row}
@@ -10,10 +10,10 @@ use Rattle.lft_trace.specs.declared.row.Step.{Step}
 use Rattle.lft_queue.specs.Pending.{Pending}
 use Rattle.lft_model.specs.Plans.{PlanParts, IsSoundPlan}
 use Rattle.lft_model.specs.Presence.{stop}
-use Rattle.lft_model.specs.Runs.{Run, start_row, by_ends}
+use Rattle.lft_model.specs.Runs.{Run, start_row}
 use Rattle.lft_model.specs.Breaches.{IsOpen}
 use Rattle.lft_model.specs.OneWorker.{IsPending}
-use Rattle.lft_model.specs.Recorded.{SoFar, MayAnswer, begun_rows, committed_rows}
+use Rattle.lft_model.specs.Recorded.{MayAnswer, begun_rows, committed_rows}
 use Rattle.lft_model.proofs.Members.{Mem, get_mem}
 use Rattle.lft_model.proofs.Stops.{stop_append}
 use Rattle.lft_model.proofs.Grown.{slice_get_more}

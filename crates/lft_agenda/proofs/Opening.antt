@@ -1,18 +1,17 @@
 -- The open runs when a run is begun and when one is ended.
-use Rattle.std.proofs.Common.{◌≡◌, ◌↔◌, ℕ, zero, suc, ◌+◌, ◌<◌, ◌⊎◌, inl, inr, List, [], ◌∷◌, ◌++◌, length, map, refl, sym, ap, ◌∙◌, subst, arith, Option, Some, None, slice_get, filter_map, zip, option_map, Bool, true, false, not, cond, ◌&&◌, ◌==◌, eqb-true, eq-eqb, IsTrue}
-use Rattle.std.specs.List.{filter, cons_option}
+use Rattle.std.proofs.Common.{◌≡◌, ◌↔◌, ℕ, zero, suc, ◌+◌, ◌<◌, ◌⊎◌, inl, inr, List, [], ◌∷◌, ◌++◌, length, map, refl, sym, ap, ◌∙◌, subst, arith, Option, Some, slice_get, filter_map, zip, Bool, true, false, not, cond, ◌&&◌, ◌==◌, eqb-true, eq-eqb, IsTrue}
+use Rattle.std.specs.List.{filter}
 use Rattle.std.proofs.lemmas.Bool.{false≢true}
 use native.Mathlib.Decide.{dec_lt}
 use Rattle.lft_tag.specs.declared.Tag.{Tag}
 use Rattle.lft_tag.specs.Tags.{UpTo, same_tag}
 use Rattle.lft_flat.specs.declared.parts.Value.{Value}
-use Rattle.lft_flat.specs.declared.parts.Name.{Name}
 use Rattle.lft_trace.specs.declared.row.Row.{Row}
 use Rattle.lft_trace.specs.declared.row.Step.{Step}
-use Rattle.lft_trace.specs.declared.row.Step.TheVariants.{Start, Read, Write, Schedule, Stop, End}
+use Rattle.lft_trace.specs.declared.row.Step.TheVariants.{Start, Read, End}
 use Rattle.lft_model.specs.Plans.{PlanParts, IsSoundPlan}
 use Rattle.lft_model.specs.Presence.{stop}
-use Rattle.lft_model.specs.Runs.{Ran, start_row, end_row, read_step, read_of, steps_of, inputs_of, reads_at}
+use Rattle.lft_model.specs.Runs.{Ran, start_row, end_row, read_step, read_of, inputs_of, reads_at}
 use Rattle.lft_model.specs.Breaches.{IsOpen}
 use Rattle.lft_model.specs.Recorded.{run_row, begun_rows, committed_rows, MayAnswer}
 use Rattle.lft_model.proofs.Members.{Mem, mem_get, get_mem, mem_cases}
@@ -20,7 +19,7 @@ use Rattle.lft_model.proofs.Places.{slice_get_within}
 use Rattle.lft_model.proofs.Steps.{both_true, same_tag_true, same_tag_refl, in_reads}
 use Rattle.lft_model.proofs.Blocks.{get_append, put_right}
 use Rattle.lft_model.proofs.Grown.{slice_get_more}
-use Rattle.lft_model.proofs.Added.{AddedRow, added_row}
+use Rattle.lft_model.proofs.Added.{added_row}
 use Rattle.lft_model.proofs.Begun.{steps_same, own_reads}
 use Rattle.lft_model.proofs.Committed.{same_reads}
 use Rattle.lft_model.proofs.Quiet.{pending_time}

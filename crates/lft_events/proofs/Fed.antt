@@ -1,22 +1,21 @@
 -- The events in the queue, when a row is fed to it.
-use Rattle.std.proofs.Common.{◌≡◌, ◌↔◌, ℕ, ◌+◌, ◌<◌, ◌⊎◌, inl, inr, List, [], ◌∷◌, ◌++◌, refl, sym, ap, ◌∙◌, subst, arith, Option, Some, None, IsSome, Bool, true, false, cond, ltb, ◌==◌, slice_get, Result, Ok, Err, IfOk}
+use Rattle.std.proofs.Common.{◌≡◌, ◌↔◌, ℕ, ◌+◌, List, [], ◌∷◌, ◌++◌, refl, sym, ap, ◌∙◌, subst, arith, Option, Some, None, IsSome, Bool, true, false, cond, ltb, slice_get, Result, Ok, Err, IfOk}
 use Rattle.std.proofs.lemmas.Bool.Decides.{nat_tests}
 use Rattle.lft_tag.specs.declared.Tag.{Tag}
-use Rattle.lft_tag.specs.Tags.{Before, UpTo, same_tag}
+use Rattle.lft_tag.specs.Tags.{Before, same_tag}
 use Rattle.lft_tag.specs.Shifts.{shifted}
 use Rattle.lft_flat.specs.declared.parts.Port.{Port as PortOf}
 use Rattle.lft_flat.specs.declared.parts.Value.{Value}
 use Rattle.lft_flat.specs.declared.parts.Name.{Name}
 use Rattle.lft_flat.specs.declared.parts.Name.TheVariants.{Port, Action}
 use Rattle.lft_trace.specs.declared.row.Row.{Row}
-use Rattle.lft_trace.specs.declared.row.Step.{Step}
 use Rattle.lft_trace.specs.declared.row.Step.TheVariants.{Write}
 use Rattle.lft_queue.specs.Pending.{Pending, value_of, same_name, same_key, Becomes}
 use Rattle.lft_model.specs.Plans.{PlanParts, IsSoundPlan}
 use Rattle.lft_model.specs.Presence.{Last, IsWrittenFrom, At, PortClash, ClashesAt}
 use Rattle.lft_model.proofs.Places.{tag_discrete}
 use Rattle.lft_model.proofs.Steps.{same_tag_refl}
-use Rattle.lft_events.specs.Events.{IsWanted, IsPut, HasEventsOf, seen_below, IsFedTo, WasWritten}
+use Rattle.lft_events.specs.Events.{IsWanted, IsPut, seen_below, IsFedTo, WasWritten}
 use Rattle.lft_events.proofs.Heard.{heard, unheard, name_same, name_refl}
 use Rattle.lft_events.proofs.Written.{shifts_on, from_written, to_written, unheard_at, unheard_clash, elsewhere_at, elsewhere_clash, more_clash, one_event, two_events}
 

@@ -1,6 +1,6 @@
 -- The events of the external inputs in the queue.
-use Rattle.std.proofs.Common.{◌≡◌, ◌↔◌, ℕ, zero, suc, ◌+◌, ◌<◌, ◌≤◌, ◌⊎◌, inl, inr, List, [], ◌∷◌, ◌++◌, length, refl, sym, ap, ◌∙◌, subst, arith, Option, Some, None, IsSome, Bool, true, false, cond, ◌&&◌, ◌==◌, eq-eqb, eqb-true, slice_get, slice_index_or, filter_map, Contains, map, take, append-nil}
-use Rattle.std.specs.List.{AllPairs, AllZip}
+use Rattle.std.proofs.Common.{◌≡◌, ◌↔◌, ℕ, ◌+◌, ◌<◌, ◌≤◌, ◌⊎◌, inl, inr, List, [], ◌∷◌, ◌++◌, length, refl, sym, ap, ◌∙◌, subst, arith, Option, Some, None, IsSome, Bool, true, false, cond, ◌&&◌, ◌==◌, eq-eqb, eqb-true, slice_get, slice_index_or, filter_map, map}
+use Rattle.std.specs.List.{AllZip}
 use Rattle.std.proofs.lemmas.Bool.{false≢true}
 use native.Mathlib.Decide.{dec_lt}
 use Rattle.lft_tag.specs.declared.Tag.{Tag}
@@ -19,14 +19,13 @@ use Rattle.lft_trace.specs.declared.externals.Event.{Event}
 use Rattle.lft_trace.specs.Inputs.{InOrder}
 use Rattle.lft_queue.specs.Pending.{Pending, value_of, same_name, same_key, Becomes}
 use Rattle.lft_model.specs.Plans.{PlanParts, IsSoundPlan}
-use Rattle.lft_model.specs.Presence.{given, events_of, Last, At, ClashesAt, Shows, Inputs}
-use Rattle.lft_model.specs.Runs.{inputs_of}
-use Rattle.lft_model.proofs.Members.{Mem, mem_get, get_mem, mem_filter, mem_from_filter, mem_contains, contains_mem}
+use Rattle.lft_model.specs.Presence.{given, At, Shows, Inputs}
+use Rattle.lft_model.proofs.Members.{mem_get, get_mem, mem_filter, mem_from_filter, mem_contains, contains_mem}
 use Rattle.lft_model.proofs.Places.{slice_get_within}
 use Rattle.lft_model.proofs.Counted.{get_or_get}
 use Rattle.lft_model.proofs.Steps.{both_true, same_tag_true, same_tag_refl, cond_some}
 use Rattle.lft_model.proofs.Empty.{empty_so_far}
-use Rattle.lft_events.specs.Events.{IsEarlier, HasEvents, HasEventsOf}
+use Rattle.lft_events.specs.Events.{HasEvents}
 use Rattle.lft_events.proofs.Heard.{name_same, name_refl}
 use Rattle.lft_events.proofs.Fed.{none_there, some_there}
 

@@ -1,5 +1,5 @@
 -- One event more in the queue: what it has then.
-use Rattle.std.proofs.Common.{◌≡◌, ◌↔◌, ℕ, ◌⊎◌, inl, inr, List, refl, sym, ap, ◌∙◌, subst, Option, Some, None, IsSome, Bool, true, false, cond, ◌&&◌, ◌==◌, eqb-true, eq-eqb}
+use Rattle.std.proofs.Common.{◌≡◌, ◌↔◌, inl, inr, List, refl, sym, ap, ◌∙◌, subst, Option, Some, None, IsSome, Bool, true, false, cond, ◌&&◌, eqb-true, eq-eqb}
 use Rattle.lft_tag.specs.declared.Tag.{Tag}
 use Rattle.lft_tag.specs.Tags.{Before, UpTo, same_tag}
 use Rattle.lft_tag.proofs.Order.{Before-trans, Before-irrefl}
@@ -7,7 +7,7 @@ use Rattle.lft_flat.specs.declared.parts.Value.{Value}
 use Rattle.lft_flat.specs.declared.parts.Name.{Name}
 use Rattle.lft_flat.specs.declared.parts.Name.TheVariants.{Port, Action}
 use Rattle.lft_trace.specs.declared.row.Row.{Row}
-use Rattle.lft_queue.specs.Pending.{Pending, value_of, same_name, same_key, Becomes}
+use Rattle.lft_queue.specs.Pending.{Pending, value_of, same_name, same_key}
 use Rattle.lft_model.specs.Plans.{PlanParts}
 use Rattle.lft_model.specs.Presence.{At, ClashesAt}
 use Rattle.lft_model.proofs.Steps.{both_true, same_tag_true, same_tag_refl}

@@ -1,7 +1,7 @@
 -- The events in the queue from a later tag on, up to an earlier one, and after rows that make none.
-use Rattle.std.proofs.Common.{◌≡◌, ◌↔◌, ℕ, ◌⊎◌, inl, inr, List, [], ◌∷◌, ◌++◌, append-nil, map, filter_map, zip, refl, sym, ap, ◌∙◌, subst, Option, Some, None}
+use Rattle.std.proofs.Common.{◌≡◌, ℕ, inl, inr, List, [], ◌∷◌, ◌++◌, append-nil, map, filter_map, zip, refl, sym, ap, ◌∙◌, subst, Option, None}
 use Rattle.lft_tag.specs.declared.Tag.{Tag}
-use Rattle.lft_tag.specs.Tags.{Before, UpTo}
+use Rattle.lft_tag.specs.Tags.{UpTo}
 use Rattle.lft_tag.proofs.Order.{UpTo-trans}
 use Rattle.lft_flat.specs.declared.parts.Value.{Value}
 use Rattle.lft_flat.specs.declared.parts.Name.{Name}
@@ -15,7 +15,7 @@ use Rattle.lft_model.specs.Runs.{inputs_of, read_step}
 use Rattle.lft_model.specs.Recorded.{run_row, begun_rows}
 use Rattle.lft_model.proofs.Members.{Mem}
 use Rattle.lft_model.proofs.Steps.{in_reads}
-use Rattle.lft_events.specs.Events.{HasEvents, HasEventsOf}
+use Rattle.lft_events.specs.Events.{HasEvents}
 use Rattle.lft_events.proofs.Steps.{inert}
 
 -- from a later tag on, up to an earlier one

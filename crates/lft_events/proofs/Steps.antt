@@ -1,5 +1,5 @@
 -- The events in the queue, when a step of a run is fed to it.
-use Rattle.std.proofs.Common.{◌≡◌, ◌↔◌, ℕ, zero, suc, ◌+◌, ◌<◌, ◌≤◌, ◌⊎◌, inl, inr, List, [], ◌∷◌, ◌++◌, length, length-append, map, take, refl, sym, ap, ◌∙◌, subst, arith, Option, Some, None, IsSome, is_some, IsTrue, Bool, true, false, cond, ltb, ◌==◌, slice_get, filter_map, Contains, eq-eqb}
+use Rattle.std.proofs.Common.{◌≡◌, ◌↔◌, ℕ, zero, suc, ◌+◌, ◌<◌, ◌≤◌, inl, inr, List, [], ◌∷◌, ◌++◌, length, length-append, map, take, refl, sym, ap, ◌∙◌, subst, arith, Option, Some, None, IsSome, is_some, IsTrue, Bool, true, false, cond, ltb, ◌==◌, slice_get, filter_map, Contains, eq-eqb}
 use Rattle.std.specs.List.{cons_option, last_or}
 use Rattle.std.proofs.lemmas.Bool.{false≢true}
 use Rattle.std.proofs.lemmas.Bool.Decides.{nat_tests}
@@ -7,16 +7,14 @@ use Rattle.std.proofs.lemmas.List.Elements.{filter_map-append}
 use Rattle.lft_tag.specs.declared.Tag.{Tag}
 use Rattle.lft_tag.specs.Tags.{Before, UpTo, after}
 use Rattle.lft_tag.proofs.Order.{UpTo-refl, Before-weaken, after_past}
-use Rattle.lft_flat.specs.Parts.{Parts}
-use Rattle.lft_flat.specs.declared.parts.Action.{Action as ActionOf}
 use Rattle.lft_flat.specs.declared.parts.Port.{Port as PortOf}
 use Rattle.lft_flat.specs.declared.parts.Value.{Value}
 use Rattle.lft_flat.specs.declared.parts.Name.{Name}
 use Rattle.lft_flat.specs.declared.parts.Name.TheVariants.{Port, Action}
 use Rattle.lft_trace.specs.declared.row.Row.{Row}
 use Rattle.lft_trace.specs.declared.row.Step.{Step}
-use Rattle.lft_trace.specs.declared.row.Step.TheVariants.{Start, Read, Write, Schedule, Stop, End}
-use Rattle.lft_queue.specs.Pending.{Pending, value_of, same_name, same_key}
+use Rattle.lft_trace.specs.declared.row.Step.TheVariants.{Write, Schedule, End}
+use Rattle.lft_queue.specs.Pending.{Pending, value_of, same_name}
 use Rattle.lft_model.specs.Plans.{PlanParts, IsSoundPlan}
 use Rattle.lft_model.specs.Presence.{written, value_scheduled, scheduled, given, min_delay, events_of, Last, IsWrittenFrom, At, PortClash, ClashesAt}
 use Rattle.lft_model.specs.Recorded.{run_row, committed_rows}
@@ -26,8 +24,8 @@ use Rattle.lft_model.proofs.Steps.{written_some, scheduled_some, some_scheduled}
 use Rattle.lft_model.proofs.Ended.{written_by, scheduled_by, by_scheduled}
 use Rattle.lft_model.proofs.Grown.{added_none}
 use Rattle.lft_events.specs.Events.{IsEarlier, IsWanted, IsPut, HasEvents, HasEventsOf, seen_below, IsFedTo, WasWritten, KnowsAgain}
-use Rattle.lft_events.proofs.Heard.{heard, unheard, name_same, name_refl, iff_trans, iff_sym}
-use Rattle.lft_events.proofs.Written.{port_of, origin_at, unheard_at, unheard_clash}
+use Rattle.lft_events.proofs.Heard.{heard, unheard, name_refl, iff_trans}
+use Rattle.lft_events.proofs.Written.{origin_at, unheard_at, unheard_clash}
 use Rattle.lft_events.proofs.Fed.{none_there, some_there}
 
 -- a row that schedules nothing for an action

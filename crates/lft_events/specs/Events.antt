@@ -1,5 +1,5 @@
 -- The events that rows make from a tag on, as a queue of them.
-use Rattle.std.specs.Prelude.{◌≡◌, ◌↔◌, ◌⊎◌, ℕ, false, Bool, cond, ltb, List, [], ◌∷◌, ◌++◌, Option, Some, None, IsSome, IsTrue, slice_get}
+use Rattle.std.specs.Prelude.{◌≡◌, ◌↔◌, ◌⊎◌, ℕ, Bool, cond, ltb, List, [], ◌∷◌, ◌++◌, Option, Some, None, IsSome, IsTrue, slice_get}
 use Rattle.lft_tag.specs.declared.Tag.{Tag}
 use Rattle.lft_tag.specs.Tags.{Before, UpTo}
 use Rattle.lft_flat.specs.declared.parts.Port.{Port as PortOf}
@@ -7,7 +7,7 @@ use Rattle.lft_flat.specs.declared.parts.Value.{Value}
 use Rattle.lft_flat.specs.declared.parts.Name.{Name}
 use Rattle.lft_flat.specs.declared.parts.Name.TheVariants.{Port, Action}
 use Rattle.lft_trace.specs.declared.row.Row.{Row}
-use Rattle.lft_queue.specs.Pending.{Pending, value_of, same_key, Becomes}
+use Rattle.lft_queue.specs.Pending.{Pending, value_of, Becomes}
 use Rattle.lft_model.specs.Plans.{PlanParts}
 use Rattle.lft_model.specs.Presence.{At, ClashesAt, Last}
 

@@ -1,8 +1,7 @@
-use Rattle.std.proofs.Common.{◌≡◌, ℕ, ◌<◌, ◌+◌, List, Some, length, slice_get, refl, sym, ap, ◌∙◌, subst, arith, rules}
+use Rattle.std.proofs.Common.{◌≡◌, ◌<◌, Some, length, slice_get, refl, sym, ap, ◌∙◌, arith, rules}
 use Rattle.std.proofs.lemmas.Bool.{false≢true}
 use Rattle.std.proofs.lemmas.Option.{slice_get-get_or}
 use Rattle.lft_model.proofs.Places.{slice_get_within}
-use Rattle.lft_agenda.specs.declared.open.OpenRun.{OpenRun}
 use Rattle.lft_agenda.proofs.Opening.{busy_with, busy_none, before_one_more}
 use Rattle.lft_agenda.proofs.open.is_busy.Goals as goal
 

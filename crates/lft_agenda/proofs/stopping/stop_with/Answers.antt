@@ -1,8 +1,7 @@
-use Rattle.std.proofs.Common.{◌≡◌, sym, ap, ◌∙◌, subst, rules}
+use Rattle.std.proofs.Common.{◌≡◌, sym, ◌∙◌, subst}
 use Rattle.std.proofs.lemmas.Bool.{false≢true}
 use Rattle.lft_tag.specs.declared.Tag.{Tag}
 use Rattle.lft_tag.specs.Tags.{Before, after}
-use Rattle.lft_agenda.specs.Agendas.{AsksStop}
 use Rattle.lft_agenda.proofs.Stops.{stop_now, stop_late, stop_unasked}
 use Rattle.lft_agenda.proofs.stopping.stop_with.Goals as goal
 

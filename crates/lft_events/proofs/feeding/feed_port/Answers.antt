@@ -1,9 +1,8 @@
-use Rattle.std.proofs.Common.{◌≡◌, ◌+◌, ℕ, List, Option, Some, None, true, slice_get, refl, sym, ap, ◌∙◌, subst, rules}
+use Rattle.std.proofs.Common.{◌≡◌, ◌+◌, List, Some, None, slice_get, refl, sym, ap, ◌∙◌, subst, rules}
 use Rattle.std.proofs.lemmas.Bool.{false≢true}
 use Rattle.lft_tag.specs.declared.Tag.{Tag}
 use Rattle.lft_tag.specs.Shifts.{shifted}
 use Rattle.lft_flat.specs.Parts.{Parts}
-use Rattle.lft_flat.specs.declared.parts.Port.{Port as PortOf}
 use Rattle.lft_flat.specs.declared.parts.Name.TheVariants.{Port}
 use Rattle.lft_trace.specs.declared.row.Step.TheVariants.{Write}
 use Rattle.lft_queue.specs.Pending.{Pending, Becomes}

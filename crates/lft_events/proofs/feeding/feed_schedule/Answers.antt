@@ -1,4 +1,4 @@
-use Rattle.std.proofs.Common.{◌≡◌, ◌+◌, ◌++◌, ◌∷◌, [], ℕ, List, Option, Some, slice_get, refl, sym, ap, ◌∙◌, subst, rules, unwrap_or, option_map}
+use Rattle.std.proofs.Common.{◌≡◌, ◌+◌, ◌++◌, ◌∷◌, [], ℕ, Option, Some, slice_get, refl, sym, ap, ◌∙◌, subst, unwrap_or, option_map}
 use Rattle.lft_tag.specs.declared.Tag.{Tag}
 use Rattle.lft_tag.specs.Tags.{after}
 use Rattle.lft_flat.specs.Parts.{Parts}

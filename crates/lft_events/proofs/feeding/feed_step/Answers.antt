@@ -1,6 +1,4 @@
-use Rattle.std.proofs.Common.{◌≡◌, ◌∙◌, sym, rules}
-use Rattle.lft_trace.specs.declared.row.Step.TheVariants.{Start, Read, Write, Schedule, Stop, End}
-use Rattle.lft_flat.specs.declared.parts.Name.TheVariants.{Port, Action}
+use Rattle.std.proofs.Common.{rules}
 use Rattle.lft_model.specs.Recorded.{run_row}
 use Rattle.lft_events.proofs.Steps.{inert}
 use Rattle.lft_events.proofs.feeding.feed_step.Goals as goal

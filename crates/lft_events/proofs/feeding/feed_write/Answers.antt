@@ -1,11 +1,9 @@
-use Rattle.std.proofs.Common.{◌≡◌, ◌≤◌, ◌+◌, ℕ, List, Option, length, refl, sym, ap, ◌∙◌, subst, arith, is_some, rules}
+use Rattle.std.proofs.Common.{◌≡◌, length, refl, ap, ◌∙◌, arith, is_some}
 use Rattle.lft_flat.specs.Parts.{Parts}
-use Rattle.lft_flat.specs.declared.parts.Value.{Value}
 use Rattle.lft_flat.specs.declared.parts.Name.TheVariants.{Port}
 use Rattle.lft_trace.specs.declared.row.Step.TheVariants.{Write}
 use Rattle.lft_queue.specs.Pending.{value_of}
 use Rattle.lft_model.specs.Recorded.{run_row}
-use Rattle.lft_events.specs.Events.{IsFedTo, KnowsAgain}
 use Rattle.lft_events.proofs.Steps.{none_fed, write_fed, knows_again}
 use Rattle.lft_events.proofs.feeding.feed_write.Goals as goal
 

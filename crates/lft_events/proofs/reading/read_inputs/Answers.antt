@@ -1,13 +1,10 @@
-use Rattle.std.proofs.Common.{◌≡◌, ◌≤◌, ◌∷◌, [], ◌++◌, append-nil, append_assoc, List, Option, Some, None, length, filter_map, get_or, slice_get, take, take_all, map, refl, sym, ap, ◌∙◌, subst, arith, unwrap_or, option_map}
+use Rattle.std.proofs.Common.{◌≡◌, ◌∷◌, [], ◌++◌, append-nil, Option, Some, None, filter_map, get_or, slice_get, take, map, refl, sym, ap, ◌∙◌, arith}
 use Rattle.std.proofs.lemmas.Option.{slice_get-get_or}
-use Rattle.lft_flat.specs.Parts.{Parts, named, inputs}
+use Rattle.lft_flat.specs.Parts.{named}
 use Rattle.lft_flat.specs.declared.parts.Name.{Name}
-use Rattle.lft_flat.specs.declared.parts.Name.TheVariants.{Port}
 use Rattle.lft_flat.specs.declared.parts.Value.{Value}
-use Rattle.lft_flat.specs.declared.parts.Reaction.{Reaction}
 use Rattle.lft_flat.specs.declared.parts.Trigger.TheVariants.{Startup, On}
 use Rattle.lft_queue.specs.Pending.{value_of}
-use Rattle.lft_model.specs.Runs.{inputs_of}
 use Rattle.lft_model.proofs.ActionEvents.{kept_more}
 use Rattle.lft_events.proofs.Given.{named_none, value_more}
 use Rattle.lft_events.proofs.reading.read_inputs.Goals as goal

@@ -1,4 +1,4 @@
-use Rattle.std.proofs.Common.{◌≡◌, List, Option, Some, map, slice_get, sym, ap, ◌∙◌, subst, unwrap_or, option_map, []}
+use Rattle.std.proofs.Common.{◌≡◌, List, Option, map, sym, ap, ◌∙◌, subst, unwrap_or, option_map, []}
 use Rattle.lft_tag.specs.declared.Tag.{Tag}
 use Rattle.lft_tag.specs.Tags.{UpTo}
 use Rattle.lft_flat.specs.Parts.{inputs}
@@ -7,7 +7,7 @@ use Rattle.lft_flat.specs.declared.parts.Value.{Value}
 use Rattle.lft_flat.specs.declared.parts.Reaction.{Reaction}
 use Rattle.lft_graph.proofs.Places.{get_there}
 use Rattle.lft_queue.specs.Pending.{value_of}
-use Rattle.lft_model.specs.Presence.{stop, Inputs}
+use Rattle.lft_model.specs.Presence.{Inputs}
 use Rattle.lft_model.specs.Runs.{inputs_of}
 use Rattle.lft_model.proofs.Quiet.{pending_time}
 use Rattle.lft_events.proofs.Fed.{if_ok}
