@@ -27,7 +27,7 @@ pub record AgendaParts : Type 0 where
   pub from : Tag
   pub stop : Tag
 
--- they are those of the rows, and no reaction is pending before that tag
+-- the agenda's open runs, stop and events are those of the rows, and no reaction is pending before the tag from which on it has the events
 pub record IsAgenda (plan : PlanParts) (t : List Row) (a : AgendaParts) : Type 0 where
   pub runs : AreOpen plan t a.runs
   pub stop_is : a.stop ≡ stop plan t

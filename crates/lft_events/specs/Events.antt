@@ -22,7 +22,7 @@ pub record HasEventsOf (plan : PlanParts) (seen : Name → List Row) (from last 
   pub clean : (h : Tag) (n : Name) → UpTo h last → IsEarlier clash h → ¬ ClashesAt plan (seen n) h n
   pub found : (c : Tag) → clash ≡ Some c → Before from c × UpTo c last × ((n : Name) × ClashesAt plan (seen n) c n)
 
--- the same, where the rows are those of all
+-- the queue has, from a tag on up to a last one, for each port and action the value of its event by the rows; a tag that was found is the least at which they collide, and it is right up to there
 abbrev pub HasEvents : PlanParts → List Row → Tag → Tag → Option Tag → List Pending → Type 0
 HasEvents plan t from last clash q = HasEventsOf plan (λ n. t) from last clash q
 
