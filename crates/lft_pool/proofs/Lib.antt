@@ -4,3 +4,4 @@ pub mod CommittedRun
 pub mod Refusals
 pub mod Finishing
 pub mod Left
+pub mod Commuting

@@ -1,5 +1,5 @@
 -- Causes of refusal, from one another.
-use Rattle.std.proofs.Common.{◌≡◌, ℕ, ℤ, ◌<◌, zero, suc, List, [], ◌∷◌, length, refl, sym, ap, ◌∙◌, subst, arith, Option, Some, slice_get, slice_set, cond, ◌==◌, Bool, false, IsTrue, Ok, Err, Result, IsErr, IfErr, Contains, unwrap_or, option_map, rules}
+use Rattle.std.proofs.Common.{◌≡◌, ℕ, ℤ, ◌<◌, zero, suc, List, [], ◌∷◌, ◌++◌, length, refl, sym, ap, ◌∙◌, subst, arith, Option, Some, None, slice_get, slice_set, cond, ◌==◌, Bool, false, IsTrue, Ok, Err, Result, IsErr, IfErr, Contains, unwrap_or, option_map, rules}
 use Rattle.std.specs.Bool.{Decides}
 use Rattle.std.proofs.lemmas.Bool.Decides.{nat_tests}
 use Rattle.lft_flat.specs.Sound.{IsSound}
@@ -11,7 +11,10 @@ use Rattle.lft_trace.specs.declared.row.Step.{Step}
 use Rattle.lft_trace.specs.declared.row.Step.TheVariants.{Start, Read, Write, Schedule, Stop as StopStep, End}
 use Rattle.lft_trace.specs.Fits.{StepFits}
 use Rattle.lft_model.specs.Plans.{PlanParts}
-use Rattle.lft_model.specs.Recorded.{MayAnswer}
+use Rattle.lft_tag.specs.declared.Tag.{Tag}
+use Rattle.lft_model.specs.Recorded.{MayAnswer, SoFar, committed_rows}
+use Rattle.lft_agenda.specs.Agendas.{AgendaParts, IsAgenda, EndsWith}
+use Rattle.lft_recording.specs.Arrivals.{IsClean}
 use Rattle.lft_model.proofs.Members.{Mem, get_mem}
 use Rattle.lft_bodies.specs.declared.done.Done.{Done}
 use Rattle.lft_bodies.specs.declared.ticket.Ticket.{Ticket}
@@ -19,7 +22,7 @@ use Rattle.lft_pool.specs.declared.stop.Stop.{Stop}
 use Rattle.lft_pool.specs.declared.stop.Stop.TheVariants.{NoBody, Collision, UndeclaredEffect, TooManyRuns, Stranger, BodyNoMemory, NoMemory, NoWorker, PlanChanged, BadWorkers, TooManyRows, LimitTag}
 use Rattle.lft_pool.specs.Books.{BookParts, StopHolds}
 use Rattle.lft_recording.specs.Answering.{MayAll, IsLong, HasLongDelay}
-use Rattle.lft_pool.specs.Answers.{HasTicket, with_answer, RefusalCause, EndCause, CommitCause}
+use Rattle.lft_pool.specs.Answers.{HasTicket, HasClash, with_answer, RefusalCause, EndCause, CommitCause}
 
 -- a refusal of an answer says nothing of bodies
 pub refusal_holds : (plan : PlanParts) (t u : List Row) (left : List ℕ) (s : Stop) → RefusalCause plan t s → StopHolds plan u left s
@@ -105,3 +108,11 @@ if_err (Err s) P Q f h = f s h
 pub is_err_of : {A E : Type 0} (r : Result A E) → ((x : A) → r ≡ Ok x → ⊥) → IsErr r
 is_err_of (Ok a) n = absurd (n a refl)
 is_err_of (Err s) n = search rules
+
+-- an answer whose rows have no collision, and one whose rows have
+pub ends_clash : (plan : PlanParts) (t : List Row) (w : ℕ) (g : Tag) (r : ℕ) (steps : List Step) (a : AgendaParts) (clash : Option Tag) → EndsWith plan t w g r steps a clash → HasClash plan (t ++ committed_rows w g r steps) clash
+ends_clash plan t w g r steps a None e = e.0
+ends_clash plan t w g r steps a (Some h) e = e
+
+pub ends_clean : (plan : PlanParts) (t : List Row) (w : ℕ) (g : Tag) (r : ℕ) (steps : List Step) (a : AgendaParts) (clash : Option Tag) → clash ≡ None → EndsWith plan t w g r steps a clash → IsClean plan (t ++ committed_rows w g r steps) × (SoFar plan (t ++ committed_rows w g r steps) → IsAgenda plan (t ++ committed_rows w g r steps) a)
+ends_clean plan t w g r steps a clash q e = subst (λ (o : Option Tag). EndsWith plan t w g r steps a o) q e

@@ -1,9 +1,13 @@
 -- What `commit` is given and does, and why it refuses.
-use Rattle.std.specs.Prelude.{◌≡◌, ◌<◌, ◌++◌, ◌∷◌, [], List, length, Result, IsErr, IfOk}
+use Rattle.std.specs.Prelude.{◌≡◌, ℕ, ◌<◌, ◌++◌, ◌∷◌, [], List, length, Option, Some, None, Result, IsErr, IfOk}
+use Rattle.lft_tag.specs.declared.Tag.{Tag}
 use Rattle.lft_tag.specs.declared.NoMemory.{NoMemory as Refused}
+use Rattle.lft_flat.specs.declared.parts.Value.{Value}
 use Rattle.lft_trace.specs.declared.row.Row.{Row}
 use Rattle.lft_model.specs.Plans.{PlanParts}
-use Rattle.lft_model.specs.Runs.{reads_at}
+use Rattle.lft_model.specs.Presence.{Triggered, Inputs}
+use Rattle.lft_model.specs.Runs.{reads_at, by_ends}
+use Rattle.lft_model.specs.OneWorker.{rows}
 use Rattle.lft_model.specs.Breaches.{IsOpen}
 use Rattle.lft_model.specs.Recorded.{committed_rows}
 use Rattle.lft_recording.specs.Answering.{MayAll, HasLongDelay}
@@ -29,6 +33,11 @@ pub record Committed (old new : BookParts) (t : Ticket) (d : Done) : Type 0 wher
   pub had_ticket : HasTicket old t
   pub may : MayAll old.plan t.reaction d.steps
   pub book_is : new ≡ record old { rows = with_answer old t d; states = old.states ++ (t.state, d.state) ∷ [] }
+
+-- the rows have that first collision, or none
+abbrev pub HasClash : PlanParts → List Row → Option Tag → Type 0
+HasClash plan t (Some g) = CollidesFirst plan t g
+HasClash plan t None = IsClean plan t
 
 -- why rows with an answer are refused
 abbrev pub RefusalCause : PlanParts → List Row → Stop → Type 0
@@ -74,3 +83,7 @@ CommitCause b t answer (UndeclaredEffect r) = HasTicket b t × IfOk answer (λ d
 CommitCause b t answer (Collision g) = HasTicket b t × IfOk answer (λ d. EndCause b t d (Collision g))
 CommitCause b t answer TooManyRows = HasTicket b t × IfOk answer (λ d. EndCause b t d TooManyRows)
 CommitCause b t answer LimitTag = HasTicket b t × IfOk answer (λ d. EndCause b t d LimitTag)
+
+-- each run that is still open was triggered and is, and has the inputs that it had
+abbrev pub KeepsOpenRuns : PlanParts → List Row → List Row → Type 0
+KeepsOpenRuns plan old new = (w : ℕ) (g : Tag) (r : ℕ) → IsOpen new (length new) w g r → Triggered plan (rows plan (by_ends plan old)) g r × Triggered plan (rows plan (by_ends plan new)) g r × ((shown : List (Option Value)) → Inputs plan (rows plan (by_ends plan old)) g r shown → Inputs plan (rows plan (by_ends plan new)) g r shown)

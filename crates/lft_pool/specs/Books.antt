@@ -12,6 +12,7 @@ use Rattle.lft_bodies.specs.declared.done.Done.{Done}
 use Rattle.lft_pool.specs.declared.stop.Stop.{Stop}
 use Rattle.lft_pool.specs.declared.stop.Stop.TheVariants.{NoBody, Collision, UndeclaredEffect, TooManyRuns, Stranger, BodyNoMemory, NoMemory, NoWorker, PlanChanged, BadWorkers, TooManyRows, LimitTag}
 use Rattle.lft_recording.specs.Starts.{MayStart, started_count}
+use Rattle.lft_agenda.specs.Agendas.{AgendaParts, IsAgenda}
 
 -- plan, rows, words before and after each ended run, how many bodies each reaction has left, greatest number of runs, why it stopped
 pub record BookParts : Type 0 where
@@ -67,3 +68,8 @@ pub record IsKept (plan : PlanParts) (t : List Row) (states : List (ℤ × ℤ))
   pub started_is : started ≡ started_count t
   pub lists : length left ≡ length plan.program.reactions
   pub why : ReasonHolds plan t left reason
+
+-- the agenda is that of the rows, until the book stops
+abbrev pub AgendaHolds : Option Stop → PlanParts → List Row → AgendaParts → Type 0
+AgendaHolds None plan t agenda = IsAgenda plan t agenda
+AgendaHolds (Some s) plan t agenda = Unit {0}

@@ -1,24 +1,22 @@
 //! The book: the state of a recording, changed by `begin` and `commit` alone.
 
 ghost use Rattle.std.specs.Prelude.{◌≡◌, ◌<◌, ◌+◌, ◌-◌, [], length, Some, None, Err, IfOk, IfErr, IfSome, IfNone, OnOk, IsOk, IsTrue, ◌↔◌, ◌≤◌, ◌⊎◌, slice_get};
-ghost use Rattle.lft_model.specs.Fitting.{EachFits};
+ghost use Rattle.lft_model.specs.Plans.{PlanParts};
 ghost use Rattle.lft_model.specs.Breaches.{Legal};
 ghost use Rattle.lft_pool.specs.Books.{BookParts, IsRecording, ReasonHolds, StopHolds};
 ghost use Rattle.lft_pool.specs.Begun.{MatchBegin, Started};
 ghost use Rattle.lft_pool.specs.Causes.{BeginCause, StartCause};
 ghost use Rattle.lft_recording.specs.Arrivals.{CollidesFirst, IsClean};
-ghost use Rattle.lft_pool.specs.Answers.{HasTicket, Committed, CommitCause, EndCause, RefusalCause};
+ghost use Rattle.lft_pool.specs.Answers.{HasTicket, HasClash, KeepsOpenRuns, Committed, CommitCause, EndCause, RefusalCause};
 ghost use Rattle.lft_recording.specs.Starts.{IsAnyOpen, IsBusy, MayStartFirst, NoneMayStart, NothingLeft, SomethingLeft};
 
 use crate::states::States;
 use crate::stop::Stop;
-use crate::words::{no_words, set_word, word_at};
+use crate::words::{is_same, no_words, set_word, word_at};
+use lft_agenda::Agenda;
 use lft_bodies::{Answered, Bodies, Body, BoxedCode, Code, Done, Law, Ticket, ticket_of};
-use lft_model::{Plan, inputs_slow};
-use lft_recording::{
-    Found, begun, committed, find_ready, has_long_delay, is_busy, is_open, least_clash,
-    may_make_all, same_reads,
-};
+use lft_model::Plan;
+use lft_recording::{Found, begun, committed, find_ready, has_long_delay, may_make_all};
 use lft_tag::{NoMemory, Tag};
 use lft_trace::Rows;
 use std::alloc::Global;
@@ -49,16 +47,17 @@ pub struct Book<L: Law, C: Code + Drop = BoxedCode> {
     started: u32,
     max_runs: u32,
     reason: Option<Stop>,
+    agenda: Agenda,
 }
 
 impl<L: Law, C: Code + Drop> Model for Book<L, C> {
-    ghost use Rattle.lft_pool.specs.Books.{BookParts, IsRecording, IsKept};
+    ghost use Rattle.lft_pool.specs.Books.{BookParts, IsRecording, IsKept, AgendaHolds};
 
     ghost Value = { BookParts };
 
     ghost view = { λ b. record { plan = b.plan; rows = b.rows; states = b.states; left = b.bodies; max_runs = b.max_runs; reason = b.reason } };
 
-    ghost invariant = { λ b. IsRecording L.holds b.plan b.rows b.states × IsKept b.plan b.rows b.states b.words.items b.started b.bodies b.reason };
+    ghost invariant = { λ b. IsRecording L.holds b.plan b.rows b.states × IsKept b.plan b.rows b.states b.words.items b.started b.bodies b.reason × AgendaHolds b.reason b.plan b.rows b.agenda };
 }
 
 /// What a book hands back.
@@ -95,7 +94,8 @@ impl<L: Law, C: Code + Drop> Book<L, C> {
     {
         let rows = Rows::from_vec(Vec::new(alloc));
         let states = States::new(alloc);
-        let Ok(words) = no_words(alloc, plan.program()) else {
+        let (Ok(words), Ok(agenda)) = (no_words(alloc, plan.program()), Agenda::new(alloc, &plan))
+        else {
             return Err(Stopped {
                 reason: Stop::NoMemory,
                 plan,
@@ -114,6 +114,7 @@ impl<L: Law, C: Code + Drop> Book<L, C> {
             started: 0,
             max_runs,
             reason: None,
+            agenda,
         })
     }
 
@@ -133,7 +134,7 @@ impl<L: Law, C: Code + Drop> Book<L, C> {
         }
         // Asked for what every plan keeps: it is sound, so that an open run is pending.
         self.plan.keeps();
-        if is_busy(self.rows.as_slice(), worker) {
+        if self.agenda.is_busy(worker) {
             return Ok(Begin::Wait);
         }
         let Ok(found) = find_ready(self.alloc, &self.plan, &self.rows) else {
@@ -166,7 +167,7 @@ impl<L: Law, C: Code + Drop> Book<L, C> {
         if self.bodies.left(reaction) == 0 {
             return Err(self.stop(Stop::NoBody(reaction)));
         }
-        let Ok(reads) = inputs_slow(self.alloc, &self.plan, &self.rows, tag, reaction) else {
+        let Ok(reads) = self.agenda.inputs(&self.plan, tag, reaction) else {
             return Err(self.stop(Stop::NoMemory));
         };
         let Ok(added) = begun(self.alloc, &self.plan, worker, tag, reaction, &reads) else {
@@ -175,6 +176,10 @@ impl<L: Law, C: Code + Drop> Book<L, C> {
         if self.rows.as_slice().len() + added.len() > MAX_ROWS {
             return Err(self.stop(Stop::TooManyRows));
         }
+        let Ok(()) = self.agenda.begin(worker, tag, reaction, &reads) else {
+            self.reason = Some(Stop::NoMemory);
+            return Err(Stop::NoMemory);
+        };
         let Ok(()) = self.rows.append(added.as_slice()) else {
             self.reason = Some(Stop::NoMemory);
             return Err(Stop::NoMemory);
@@ -190,6 +195,7 @@ impl<L: Law, C: Code + Drop> Book<L, C> {
     /// word. A refusal drops the answer and keeps its reason alone.
     pub fn commit(&mut self, answered: Answered<L>) -> Result<(), Stop>
         ensures ok { OnOk result (IfOk answered.1 (λ d. Committed self.old self.new answered.0 d) × IsOk answered.1) }
+        ensures commuting { OnOk result (KeepsOpenRuns self.old.plan self.old.rows self.new.rows) }
         ensures err { IfErr result (λ s. self.new ≡ record self.old { reason = Some s }) }
         ensures cause { IfErr result (λ s. self.old.reason ≡ None → CommitCause self.old answered.0 answered.1 s) }
         ensures kept { IfSome self.old.reason (λ s. result ≡ Err s) }
@@ -198,10 +204,7 @@ impl<L: Law, C: Code + Drop> Book<L, C> {
             return Err(stop);
         }
         let (ticket, answer) = answered.into_parts();
-        let Ok(known) = self.has_ticket(&ticket) else {
-            return Err(self.stop(Stop::NoMemory));
-        };
-        if !known {
+        if !self.has_ticket(&ticket) {
             return Err(self.stop(Stop::Stranger));
         }
         let Ok(done) = answer else {
@@ -211,10 +214,10 @@ impl<L: Law, C: Code + Drop> Book<L, C> {
     }
 
     // Whether an open run has the ticket.
-    fn has_ticket(&self, ticket: &Ticket) -> Result<bool, NoMemory>
-        ensures { IfOk result (λ known. IsTrue known ↔ HasTicket self.now ticket.now) }
+    fn has_ticket(&self, ticket: &Ticket) -> bool
+        requires going { self.now.reason ≡ None }
+        ensures { IsTrue result ↔ HasTicket self.now ticket.now }
     {
-        let rows = self.rows.as_slice();
         let Ticket {
             worker,
             tag,
@@ -222,16 +225,14 @@ impl<L: Law, C: Code + Drop> Book<L, C> {
             state,
             reads,
         } = ticket;
-        let program = self.plan.program();
-        if !is_open(rows, *worker, *tag, *reaction) {
-            return Ok(false);
+        if !self
+            .agenda
+            .has_reads(*worker, *tag, *reaction, reads.as_slice())
+        {
+            return false;
         }
-        let instance = program.reaction(*reaction).instance;
-        if word_at(self.words.as_slice(), instance) != *state {
-            return Ok(false);
-        }
-        let its = inputs_slow(self.alloc, &self.plan, &self.rows, *tag, *reaction)?;
-        Ok(same_reads(its.as_slice(), reads.as_slice()))
+        let instance = self.plan.program().reaction(*reaction).instance;
+        is_same(word_at(self.words.as_slice(), instance), *state)
     }
 
     // Ends the run of the ticket with an answer that meets the law.
@@ -240,6 +241,7 @@ impl<L: Law, C: Code + Drop> Book<L, C> {
         requires ticket { HasTicket self.old ticket }
         requires lawful { L.holds ticket.reaction ticket.tag ticket.state ticket.reads done }
         ensures ok { OnOk result (Committed self.old self.new ticket done) }
+        ensures commuting { OnOk result (KeepsOpenRuns self.old.plan self.old.rows self.new.rows) }
         ensures err { IfErr result (λ s. self.new ≡ record self.old { reason = Some s }) }
         ensures cause { IfErr result (λ s. EndCause self.old ticket done s) }
     {
@@ -268,7 +270,12 @@ impl<L: Law, C: Code + Drop> Book<L, C> {
             self.reason = Some(Stop::NoMemory);
             return Err(Stop::NoMemory);
         };
-        if let Some(reason) = refusal(&self.plan, &self.rows) {
+        let Ok(clash) = self.agenda.end(&self.plan, worker, tag, reaction, steps) else {
+            self.rows.truncate(before);
+            self.reason = Some(Stop::NoMemory);
+            return Err(Stop::NoMemory);
+        };
+        if let Some(reason) = refusal(clash, &self.rows) {
             self.rows.truncate(before);
             self.reason = Some(reason);
             return Err(reason);
@@ -309,6 +316,7 @@ impl<L: Law, C: Code + Drop> Book<L, C> {
             started: _,
             max_runs: _,
             reason,
+            agenda: _,
         } = self;
         Closed {
             reason,
@@ -320,14 +328,12 @@ impl<L: Law, C: Code + Drop> Book<L, C> {
     }
 }
 
-// Why rows with an answer can't be kept.
-fn refusal(plan: &Plan, rows: &Rows) -> Option<Stop>
-    requires { EachFits plan.now.program rows.now }
-    ensures some { IfSome result (λ s. RefusalCause plan.now rows.now s) }
-    ensures clean { IfNone result (IsClean plan.now rows.now) }
+// Why rows with an answer can't be kept: their first collision, or that there are too many.
+fn refusal(clash: Option<Tag>, rows: &Rows) -> Option<Stop>
+    ensures some { (plan : PlanParts) → HasClash plan rows.now clash → IfSome result (λ s. RefusalCause plan rows.now s) }
+    ensures clean { IfNone result (clash ≡ None) }
     ensures few { IfNone result (length rows.now ≤ 4000000) }
 {
-    let clash = least_clash(plan, rows);
     if let Some(tag) = clash {
         return Some(Stop::Collision(tag));
     }

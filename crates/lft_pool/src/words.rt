@@ -1,6 +1,6 @@
 //! The state words of instances.
 
-ghost use Rattle.std.specs.Prelude.{◌≡◌, ◌<◌, ℤ, pos, length, Some, slice_get, slice_set, IfOk};
+ghost use Rattle.std.specs.Prelude.{◌≡◌, ◌↔◌, ◌<◌, IsTrue, ℤ, pos, length, Some, slice_get, slice_set, IfOk};
 ghost use Rattle.lft_flat.specs.declared.parts.Reaction.{Reaction as ReactionOf};
 
 use lft_flat::Program;
@@ -13,6 +13,13 @@ pub(crate) fn word_at(words: &[i64], place: u32) -> i64
     ensures { slice_get words.now place ≡ Some result }
 {
     words[place as usize]
+}
+
+/// Whether the two words are the same.
+pub(crate) fn is_same(a: i64, b: i64) -> bool
+    ensures { IsTrue result ↔ (a ≡ b) }
+{
+    a == b
 }
 
 /// Writes the word at the place.

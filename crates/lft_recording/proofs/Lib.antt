@@ -1,7 +1,6 @@
 pub mod Arriving
 pub mod Awaiting
 pub mod BegunRows
-pub mod Busy
 pub mod NextFiring
 pub mod Sets
 pub mod Told

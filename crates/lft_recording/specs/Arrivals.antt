@@ -12,10 +12,6 @@ use Rattle.lft_trace.specs.declared.row.Step.TheVariants.{Start, Read, Write, Sc
 use Rattle.lft_model.specs.Plans.{PlanParts}
 use Rattle.lft_model.specs.Presence.{stop, Collision}
 
--- h is up to the stop and has a collision
-abbrev pub Clashes : PlanParts → List Row → Tag → Tag → Type 0
-Clashes plan t last h = UpTo h last × Collision plan t h
-
 -- g is the least tag up to the stop at which two causes give one port or action an event
 pub record CollidesFirst (plan : PlanParts) (t : List Row) (g : Tag) : Type 0 where
   pub in_time : UpTo g (stop plan t)

@@ -1,5 +1,5 @@
 -- What may start next in a recording so far, and what is open.
-use Rattle.std.specs.Prelude.{◌≡◌, ℕ, ◌<◌, ◌≤◌, List, length, Option, Some, None, slice_get, filter_map}
+use Rattle.std.specs.Prelude.{◌≡◌, ℕ, ◌≤◌, List, length, Option, Some, None, slice_get, filter_map}
 use Rattle.lft_tag.specs.declared.Tag.{Tag}
 use Rattle.lft_trace.specs.declared.row.Row.{Row}
 use Rattle.lft_trace.specs.declared.row.Step.{Step}
@@ -42,10 +42,6 @@ IsAnyOpen t = (w : ℕ) × IsBusy t w
 -- the run of r at g has ended
 abbrev pub HasEnded : List Row → Tag → ℕ → Type 0
 HasEnded t g r = (k w : ℕ) × (slice_get t k ≡ Some (end_row w g r))
-
--- an end row of the three stands after a place
-abbrev pub EndsAfter : List Row → ℕ → ℕ → Tag → ℕ → Type 0
-EndsAfter t i w g r = (k : ℕ) × (i < k) × (slice_get t k ≡ Some (end_row w g r))
 
 -- how many runs have started
 abbrev pub started_row : Step → Option Step

@@ -2,7 +2,11 @@ use Rattle.std.proofs.Common.{◌≡◌, ◌∙◌, ◌<◌, ◌≤◌, ◌++◌
 use Rattle.std.proofs.Math.Seq.{take-append_seam}
 use Rattle.lft_trace.specs.declared.row.Row.{Row}
 use Rattle.lft_trace.specs.declared.row.Step.{Step}
-use Rattle.lft_trace.specs.Fits.{RowFits}
+use Rattle.lft_tag.specs.declared.Tag.{Tag}
+use Rattle.lft_model.specs.Recorded.{SoFar}
+use Rattle.lft_model.proofs.Members.{mem_get}
+use Rattle.lft_agenda.specs.Agendas.{AgendaParts, IsAgenda, MayEnd, EndsWith}
+use Rattle.lft_trace.specs.Fits.{StepFits}
 use Rattle.lft_flat.specs.declared.parts.Value.{Value}
 use Rattle.lft_flat.specs.declared.parts.Reaction.{Reaction}
 use Rattle.lft_model.specs.Runs.{by_ends, reads_at}
@@ -10,65 +14,102 @@ use Rattle.lft_model.specs.Recorded.{committed_rows, instance_of, word_after}
 use Rattle.lft_model.proofs.Places.{slice_get_within}
 use Rattle.lft_pool.specs.declared.stop.Stop.{Stop}
 use Rattle.lft_pool.specs.declared.stop.Stop.TheVariants.{NoMemory}
-use Rattle.lft_pool.specs.Books.{BookParts, IsRecording, IsKept, StopHolds}
+use Rattle.lft_pool.specs.Books.{BookParts, IsRecording, IsKept, StopHolds, AgendaHolds}
 use Rattle.lft_recording.specs.Answering.{MayAll, HasLongDelay}
 use Rattle.lft_recording.specs.Arrivals.{IsClean}
-use Rattle.lft_pool.specs.Answers.{HasTicket, RefusalCause, EndCause, with_answer}
-use Rattle.lft_pool.proofs.Refusals.{refusal_holds, end_cause, may_mem, short_mem, answer_fits, set_words}
-use Rattle.lft_pool.proofs.CommittedRun.{committed_each, committed_recording, word_more, committed_count}
+use Rattle.lft_pool.specs.Answers.{HasTicket, HasClash, KeepsOpenRuns, RefusalCause, EndCause, Committed, with_answer}
+use Rattle.lft_pool.proofs.Refusals.{refusal_holds, end_cause, may_mem, short_mem, answer_fits, set_words, ends_clash, ends_clean}
+use Rattle.lft_pool.proofs.Finishing.{if_some}
+use Rattle.lft_pool.proofs.Commuting.{keeps_open_runs}
+use Rattle.lft_pool.proofs.CommittedRun.{committed_recording, word_more, committed_count}
 use Rattle.lft_pool.proofs.book.Book.end.Goals as goal
 
-pub refusal-requires : goal.refusal-requires
-refusal-requires g c =
+pub end-requires-clause-fit : goal.end-requires-clause-fit
+end-requires-clause-fit g c = λ i s e.
     let k = c.args.ticket in
     let d = c.args.done in
     let plan = c.self.inside.plan in
     let t = c.self.inside.rows in
+    let states = c.self.inside.states in
     let good = c.program-program.ensures.sound in
-    let old : BookParts = record { plan = plan; rows = t; states = c.self.inside.states; left = c.self.inside.bodies; max_runs = c.self.inside.max_runs; reason = c.self.inside.reason } in
+    let old : BookParts = record { plan = plan; rows = t; states = states; left = c.self.inside.bodies; max_runs = c.self.inside.max_runs; reason = c.self.inside.reason } in
     let v : old ≡ c.args.self.now = c.self.view_is in
     let has : HasTicket old k = subst (λ (b : BookParts). HasTicket b k) (sym v) c.requires.ticket in
-    let st : c.as_slice-steps.result.now ≡ d.steps = search rules in
-    let may0 : MayAll plan k.reaction c.as_slice-steps.result.now = search rules in
-    let may : MayAll plan k.reaction d.steps = subst (λ (ss : List Step). MayAll plan k.reaction ss) st may0 in
-    let short0 : ¬ HasLongDelay c.as_slice-steps.result.now = search rules in
-    let short : ¬ HasLongDelay d.steps = subst (λ (ss : List Step). ¬ HasLongDelay ss) st short0 in
-    let more : c.append.new.self ≡ t ++ c.as_slice.result.now = search rules in
-    let part : c.as_slice.result.now ≡ c.in-Ok.added.items = search rules in
-    let its : c.in-Ok.added.items ≡ committed_rows k.worker k.tag k.reaction c.as_slice-steps.result.now = search rules in
-    let grown : c.append.new.self ≡ t ++ committed_rows k.worker k.tag k.reaction d.steps = more ∙ ap (λ (xs : List Row). t ++ xs) (part ∙ its ∙ ap (λ (ss : List Step). committed_rows k.worker k.tag k.reaction ss) st) in
+    let ss = c.as_slice-steps.result.now in
+    let may0 : MayAll plan k.reaction ss = search rules in
+    let short0 : ¬ HasLongDelay ss = search rules in
     let x = c.reaction.result.now in
     let of : slice_get plan.program.reactions k.reaction ≡ Some x = search rules in
-    subst (λ (ts : List Row). (i : ℕ) (row : Row) → slice_get ts i ≡ Some row → RowFits plan.program row) (sym grown) (committed_each g.L.Law.holds plan good t c.self.inside.states c.self.invariant.0 k.worker k.tag k.reaction has.open_run d.steps (may_mem plan k.reaction d.steps may) (λ s m. answer_fits plan good.sound k.reaction x of s (may_mem plan k.reaction d.steps may s m) (short_mem d.steps short s m)))
+    let m = mem_get ss i s e in
+    answer_fits plan good.sound k.reaction x of s (may_mem plan k.reaction ss may0 s m) (short_mem ss short0 s m)
 
-pub invariant_of-self-in-Some : goal.invariant_of-self-in-Some
-invariant_of-self-in-Some g c =
+pub invariant_of-self-in_default-end : goal.invariant_of-self-in_default-end
+invariant_of-self-in_default-end g c =
     let plan = c.self.inside.plan in
     let t = c.self.inside.rows in
     let more : c.append.new.self ≡ t ++ c.as_slice.result.now = search rules in
     let back : c.truncate.new.self ≡ t = c.truncate.ensures ∙ ap (λ (xs : List Row). take (length xs) c.append.new.self) c.as_slice-before.ensures ∙ ap (λ (xs : List Row). take (length t) xs) more ∙ take-append_seam t c.as_slice.result.now in
-    let cause : RefusalCause plan c.append.new.self c.in-Some.reason = search rules in
-    let why : StopHolds plan t c.self.inside.bodies c.in-Some.reason = refusal_holds plan c.append.new.self t c.self.inside.bodies c.in-Some.reason cause in
-    let kept : IsKept plan t c.self.inside.states c.self.inside.words.items c.self.inside.started c.self.inside.bodies (Some c.in-Some.reason) = record { words_are = c.self.invariant.1.words_are; started_is = c.self.invariant.1.started_is; lists = c.self.invariant.1.lists; why = why } in
-    subst (λ (ts : List Row). IsRecording g.L.Law.holds plan ts c.self.inside.states × IsKept plan ts c.self.inside.states c.self.inside.words.items c.self.inside.started c.self.inside.bodies (Some c.in-Some.reason)) (sym back) (c.self.invariant.0, kept)
+    let kept : IsKept plan t c.self.inside.states c.self.inside.words.items c.self.inside.started c.self.inside.bodies (Some NoMemory) = record { words_are = c.self.invariant.1.words_are; started_is = c.self.invariant.1.started_is; lists = c.self.invariant.1.lists; why = tt } in
+    subst (λ (ts : List Row). IsRecording g.L.Law.holds plan ts c.self.inside.states × IsKept plan ts c.self.inside.states c.self.inside.words.items c.self.inside.started c.self.inside.bodies (Some NoMemory) × Unit {0}) (sym back) (c.self.invariant.0, kept, tt)
+
+pub invariant_of-self-in-Some : goal.invariant_of-self-in-Some
+invariant_of-self-in-Some g c =
+    let k = c.args.ticket in
+    let d = c.args.done in
+    let plan = c.self.inside.plan in
+    let t = c.self.inside.rows in
+    let states = c.self.inside.states in
+    let good = c.program-program.ensures.sound in
+    let old : BookParts = record { plan = plan; rows = t; states = states; left = c.self.inside.bodies; max_runs = c.self.inside.max_runs; reason = c.self.inside.reason } in
+    let v : old ≡ c.args.self.now = c.self.view_is in
+    let has : HasTicket old k = subst (λ (b : BookParts). HasTicket b k) (sym v) c.requires.ticket in
+    let ss = c.as_slice-steps.result.now in
+    let may0 : MayAll plan k.reaction ss = search rules in
+    let short0 : ¬ HasLongDelay ss = search rules in
+    let st : ss ≡ d.steps = search rules in
+    let none : c.self.inside.reason ≡ None = ap (λ (b : BookParts). b.reason) v ∙ c.requires.going in
+    let agenda : IsAgenda plan t c.self.inside.agenda = subst (λ (o : Option Stop). AgendaHolds o plan t c.self.inside.agenda) none c.self.invariant.2 in
+    let more : c.append.new.self ≡ t ++ c.as_slice.result.now = search rules in
+    let part : c.as_slice.result.now ≡ c.in-Ok.added.items = search rules in
+    let its : c.in-Ok.added.items ≡ committed_rows k.worker k.tag k.reaction ss = search rules in
+    let grown0 : c.append.new.self ≡ t ++ committed_rows k.worker k.tag k.reaction ss = more ∙ ap (λ (xs : List Row). t ++ xs) (part ∙ its) in
+    let grown : c.append.new.self ≡ with_answer old k d = grown0 ∙ ap (λ (us : List Step). t ++ committed_rows k.worker k.tag k.reaction us) st in
+    let ending : EndsWith plan t k.worker k.tag k.reaction ss c.end.new.self c.in-Ok-end.clash = c.in-Ok-end.ensures t agenda (record { so_far = c.self.invariant.0.so_far; open_run = has.open_run; may = may0 }) in
+    let clash : HasClash plan c.append.new.self c.in-Ok-end.clash = subst (λ (ts : List Row). HasClash plan ts c.in-Ok-end.clash) (sym grown0) (ends_clash plan t k.worker k.tag k.reaction ss c.end.new.self c.in-Ok-end.clash ending) in
+    let cause0 : RefusalCause plan c.append.new.self c.in-Some.reason = if_some c.refusal.result c.in-Some.reason (λ s. RefusalCause plan c.append.new.self s) c.in-Some.is (c.refusal.ensures.some plan clash) in
+    let back : c.truncate-in-Some.new.self ≡ t = c.truncate-in-Some.ensures ∙ ap (λ (xs : List Row). take (length xs) c.append.new.self) c.as_slice-before.ensures ∙ ap (λ (xs : List Row). take (length t) xs) more ∙ take-append_seam t c.as_slice.result.now in
+    let why : StopHolds plan t c.self.inside.bodies c.in-Some.reason = refusal_holds plan c.append.new.self t c.self.inside.bodies c.in-Some.reason cause0 in
+    let kept : IsKept plan t states c.self.inside.words.items c.self.inside.started c.self.inside.bodies (Some c.in-Some.reason) = record { words_are = c.self.invariant.1.words_are; started_is = c.self.invariant.1.started_is; lists = c.self.invariant.1.lists; why = why } in
+    subst (λ (ts : List Row). IsRecording g.L.Law.holds plan ts states × IsKept plan ts states c.self.inside.words.items c.self.inside.started c.self.inside.bodies (Some c.in-Some.reason) × Unit {0}) (sym back) (c.self.invariant.0, kept, tt)
 
 pub returns-in-Some-clause-cause : goal.returns-in-Some-clause-cause
 returns-in-Some-clause-cause g c =
     let k = c.args.ticket in
     let d = c.args.done in
-    let old : BookParts = record { plan = c.self.inside.plan; rows = c.self.inside.rows; states = c.self.inside.states; left = c.self.inside.bodies; max_runs = c.self.inside.max_runs; reason = c.self.inside.reason } in
+    let plan = c.self.inside.plan in
+    let t = c.self.inside.rows in
+    let states = c.self.inside.states in
+    let good = c.program-program.ensures.sound in
+    let old : BookParts = record { plan = plan; rows = t; states = states; left = c.self.inside.bodies; max_runs = c.self.inside.max_runs; reason = c.self.inside.reason } in
     let v : old ≡ c.args.self.now = c.self.view_is in
-    let st : c.as_slice-steps.result.now ≡ d.steps = search rules in
-    let may0 : MayAll old.plan k.reaction c.as_slice-steps.result.now = search rules in
-    let may : MayAll old.plan k.reaction d.steps = subst (λ (ss : List Step). MayAll old.plan k.reaction ss) st may0 in
-    let short0 : ¬ HasLongDelay c.as_slice-steps.result.now = search rules in
-    let short : ¬ HasLongDelay d.steps = subst (λ (ss : List Step). ¬ HasLongDelay ss) st short0 in
-    let more : c.append.new.self ≡ old.rows ++ c.as_slice.result.now = search rules in
+    let has : HasTicket old k = subst (λ (b : BookParts). HasTicket b k) (sym v) c.requires.ticket in
+    let ss = c.as_slice-steps.result.now in
+    let may0 : MayAll plan k.reaction ss = search rules in
+    let short0 : ¬ HasLongDelay ss = search rules in
+    let st : ss ≡ d.steps = search rules in
+    let none : c.self.inside.reason ≡ None = ap (λ (b : BookParts). b.reason) v ∙ c.requires.going in
+    let agenda : IsAgenda plan t c.self.inside.agenda = subst (λ (o : Option Stop). AgendaHolds o plan t c.self.inside.agenda) none c.self.invariant.2 in
+    let more : c.append.new.self ≡ t ++ c.as_slice.result.now = search rules in
     let part : c.as_slice.result.now ≡ c.in-Ok.added.items = search rules in
-    let its : c.in-Ok.added.items ≡ committed_rows k.worker k.tag k.reaction c.as_slice-steps.result.now = search rules in
-    let grown : c.append.new.self ≡ with_answer old k d = more ∙ ap (λ (xs : List Row). old.rows ++ xs) (part ∙ its ∙ ap (λ (ss : List Step). committed_rows k.worker k.tag k.reaction ss) st) in
-    let cause0 : RefusalCause old.plan c.append.new.self c.in-Some.reason = search rules in
-    let cause : RefusalCause old.plan (with_answer old k d) c.in-Some.reason = subst (λ (ts : List Row). RefusalCause old.plan ts c.in-Some.reason) grown cause0 in
+    let its : c.in-Ok.added.items ≡ committed_rows k.worker k.tag k.reaction ss = search rules in
+    let grown0 : c.append.new.self ≡ t ++ committed_rows k.worker k.tag k.reaction ss = more ∙ ap (λ (xs : List Row). t ++ xs) (part ∙ its) in
+    let grown : c.append.new.self ≡ with_answer old k d = grown0 ∙ ap (λ (us : List Step). t ++ committed_rows k.worker k.tag k.reaction us) st in
+    let ending : EndsWith plan t k.worker k.tag k.reaction ss c.end.new.self c.in-Ok-end.clash = c.in-Ok-end.ensures t agenda (record { so_far = c.self.invariant.0.so_far; open_run = has.open_run; may = may0 }) in
+    let clash : HasClash plan c.append.new.self c.in-Ok-end.clash = subst (λ (ts : List Row). HasClash plan ts c.in-Ok-end.clash) (sym grown0) (ends_clash plan t k.worker k.tag k.reaction ss c.end.new.self c.in-Ok-end.clash ending) in
+    let cause0 : RefusalCause plan c.append.new.self c.in-Some.reason = if_some c.refusal.result c.in-Some.reason (λ s. RefusalCause plan c.append.new.self s) c.in-Some.is (c.refusal.ensures.some plan clash) in
+    let may : MayAll plan k.reaction d.steps = subst (λ (us : List Step). MayAll plan k.reaction us) st may0 in
+    let short : ¬ HasLongDelay d.steps = subst (λ (us : List Step). ¬ HasLongDelay us) st short0 in
+    let cause : RefusalCause plan (with_answer old k d) c.in-Some.reason = subst (λ (ts : List Row). RefusalCause plan ts c.in-Some.reason) grown cause0 in
     subst (λ (b : BookParts). EndCause b k d c.in-Some.reason) v (end_cause old k d c.in-Some.reason may short cause)
 
 pub invariant_of-self-in_default-push : goal.invariant_of-self-in_default-push
@@ -79,7 +120,7 @@ invariant_of-self-in_default-push g c =
     let back : c.truncate-in_default-push.new.self ≡ t = c.truncate-in_default-push.ensures ∙ ap (λ (xs : List Row). take (length xs) c.append.new.self) c.as_slice-before.ensures ∙ ap (λ (xs : List Row). take (length t) xs) more ∙ take-append_seam t c.as_slice.result.now in
     let same : c.push.new.self ≡ c.self.inside.states = search rules in
     let kept : IsKept plan t c.self.inside.states c.self.inside.words.items c.self.inside.started c.self.inside.bodies (Some NoMemory) = record { words_are = c.self.invariant.1.words_are; started_is = c.self.invariant.1.started_is; lists = c.self.invariant.1.lists; why = tt } in
-    subst (λ (ss : List (ℤ × ℤ)). IsRecording g.L.Law.holds plan c.truncate-in_default-push.new.self ss × IsKept plan c.truncate-in_default-push.new.self ss c.self.inside.words.items c.self.inside.started c.self.inside.bodies (Some NoMemory)) (sym same) (subst (λ (ts : List Row). IsRecording g.L.Law.holds plan ts c.self.inside.states × IsKept plan ts c.self.inside.states c.self.inside.words.items c.self.inside.started c.self.inside.bodies (Some NoMemory)) (sym back) (c.self.invariant.0, kept))
+    subst (λ (ws : List (ℤ × ℤ)). IsRecording g.L.Law.holds plan c.truncate-in_default-push.new.self ws × IsKept plan c.truncate-in_default-push.new.self ws c.self.inside.words.items c.self.inside.started c.self.inside.bodies (Some NoMemory) × Unit {0}) (sym same) (subst (λ (ts : List Row). IsRecording g.L.Law.holds plan ts c.self.inside.states × IsKept plan ts c.self.inside.states c.self.inside.words.items c.self.inside.started c.self.inside.bodies (Some NoMemory) × Unit {0}) (sym back) (c.self.invariant.0, kept, tt))
 
 pub set_word-requires : goal.set_word-requires
 set_word-requires g c =
@@ -99,17 +140,24 @@ invariant_of-self-2 g c =
     let old : BookParts = record { plan = plan; rows = t; states = states; left = c.self.inside.bodies; max_runs = c.self.inside.max_runs; reason = c.self.inside.reason } in
     let v : old ≡ c.args.self.now = c.self.view_is in
     let has : HasTicket old k = subst (λ (b : BookParts). HasTicket b k) (sym v) c.requires.ticket in
-    let st : c.as_slice-steps.result.now ≡ d.steps = search rules in
-    let may0 : MayAll plan k.reaction c.as_slice-steps.result.now = search rules in
-    let may : MayAll plan k.reaction d.steps = subst (λ (ss : List Step). MayAll plan k.reaction ss) st may0 in
-    let short0 : ¬ HasLongDelay c.as_slice-steps.result.now = search rules in
-    let short : ¬ HasLongDelay d.steps = subst (λ (ss : List Step). ¬ HasLongDelay ss) st short0 in
+    let ss = c.as_slice-steps.result.now in
+    let may0 : MayAll plan k.reaction ss = search rules in
+    let short0 : ¬ HasLongDelay ss = search rules in
+    let st : ss ≡ d.steps = search rules in
+    let none : c.self.inside.reason ≡ None = ap (λ (b : BookParts). b.reason) v ∙ c.requires.going in
+    let agenda : IsAgenda plan t c.self.inside.agenda = subst (λ (o : Option Stop). AgendaHolds o plan t c.self.inside.agenda) none c.self.invariant.2 in
     let more : c.append.new.self ≡ t ++ c.as_slice.result.now = search rules in
     let part : c.as_slice.result.now ≡ c.in-Ok.added.items = search rules in
-    let its : c.in-Ok.added.items ≡ committed_rows k.worker k.tag k.reaction c.as_slice-steps.result.now = search rules in
-    let grown : c.append.new.self ≡ t ++ committed_rows k.worker k.tag k.reaction d.steps = more ∙ ap (λ (xs : List Row). t ++ xs) (part ∙ its ∙ ap (λ (ss : List Step). committed_rows k.worker k.tag k.reaction ss) st) in
-    let clean0 : IsClean plan c.append.new.self = search rules in
-    let clean : IsClean plan (t ++ committed_rows k.worker k.tag k.reaction d.steps) = subst (λ (ts : List Row). IsClean plan ts) grown clean0 in
+    let its : c.in-Ok.added.items ≡ committed_rows k.worker k.tag k.reaction ss = search rules in
+    let grown0 : c.append.new.self ≡ t ++ committed_rows k.worker k.tag k.reaction ss = more ∙ ap (λ (xs : List Row). t ++ xs) (part ∙ its) in
+    let grown : c.append.new.self ≡ with_answer old k d = grown0 ∙ ap (λ (us : List Step). t ++ committed_rows k.worker k.tag k.reaction us) st in
+    let ending : EndsWith plan t k.worker k.tag k.reaction ss c.end.new.self c.in-Ok-end.clash = c.in-Ok-end.ensures t agenda (record { so_far = c.self.invariant.0.so_far; open_run = has.open_run; may = may0 }) in
+    let may : MayAll plan k.reaction d.steps = subst (λ (us : List Step). MayAll plan k.reaction us) st may0 in
+    let short : ¬ HasLongDelay d.steps = subst (λ (us : List Step). ¬ HasLongDelay us) st short0 in
+    let none_clash : c.in-Ok-end.clash ≡ None = search rules in
+    let ending2 : EndsWith plan t k.worker k.tag k.reaction d.steps c.end.new.self c.in-Ok-end.clash = subst (λ (us : List Step). EndsWith plan t k.worker k.tag k.reaction us c.end.new.self c.in-Ok-end.clash) st ending in
+    let ended = ends_clean plan t k.worker k.tag k.reaction d.steps c.end.new.self c.in-Ok-end.clash none_clash ending2 in
+    let clean : IsClean plan (t ++ committed_rows k.worker k.tag k.reaction d.steps) = ended.0 in
     let few0 : length c.append.new.self ≤ 4000000 = search rules in
     let few : length (t ++ committed_rows k.worker k.tag k.reaction d.steps) ≤ 4000000 = subst (λ (ts : List Row). length ts ≤ 4000000) grown few0 in
     let x = c.reaction.result.now in
@@ -117,7 +165,6 @@ invariant_of-self-2 g c =
     let lawful : g.L.Law.holds k.reaction k.tag k.state (reads_at plan t k.tag k.reaction) d = subst (λ (os : List (Option Value)). g.L.Law.holds k.reaction k.tag k.state os d) has.reads_are c.requires.lawful in
     let all = committed_recording g.L.Law.holds plan good t states c.self.invariant.0 k.worker k.tag k.reaction has.open_run d.steps (may_mem plan k.reaction d.steps may) k.state d.state has.word_is lawful clean (λ s m. answer_fits plan good.sound k.reaction x of s (may_mem plan k.reaction d.steps may s m) (short_mem d.steps short s m)) few in
     let pushed : c.push.new.self ≡ states ++ (k.state, d.state) ∷ [] = search rules in
-    let none : c.self.inside.reason ≡ None = ap (λ (b : BookParts). b.reason) v ∙ c.requires.going in
     let place : instance_of plan.program k.reaction ≡ x.instance = ap (λ (o : Option Reaction). unwrap_or (option_map (λ u. u.instance) o) 0) of in
     let l : x.instance < length c.self.inside.words.items = slice_get_within c.self.inside.words.items x.instance (word_after plan.program x.instance (by_ends plan t) states) (c.self.invariant.1.words_are k.reaction x of) in
     let words : c.set_word.new.words.items ≡ slice_set c.self.inside.words.items x.instance d.state = search rules in
@@ -127,7 +174,55 @@ invariant_of-self-2 g c =
       lists = c.self.invariant.1.lists;
       why = tt;
     } in
-    subst (λ (o : Option Stop). IsRecording g.L.Law.holds plan c.append.new.self c.push.new.self × IsKept plan c.append.new.self c.push.new.self c.set_word.new.words.items c.self.inside.started c.self.inside.bodies o) (sym none)
-    (subst (λ (ws : List ℤ). IsRecording g.L.Law.holds plan c.append.new.self c.push.new.self × IsKept plan c.append.new.self c.push.new.self ws c.self.inside.started c.self.inside.bodies None) (sym words)
-    (subst (λ (ss : List (ℤ × ℤ)). IsRecording g.L.Law.holds plan c.append.new.self ss × IsKept plan c.append.new.self ss (slice_set c.self.inside.words.items x.instance d.state) c.self.inside.started c.self.inside.bodies None) (sym pushed)
-    (subst (λ (ts : List Row). IsRecording g.L.Law.holds plan ts (states ++ (k.state, d.state) ∷ []) × IsKept plan ts (states ++ (k.state, d.state) ∷ []) (slice_set c.self.inside.words.items x.instance d.state) c.self.inside.started c.self.inside.bodies None) (sym grown) (all, kept))))
+    subst (λ (o : Option Stop). IsRecording g.L.Law.holds plan c.append.new.self c.push.new.self × IsKept plan c.append.new.self c.push.new.self c.set_word.new.words.items c.self.inside.started c.self.inside.bodies o × AgendaHolds o plan c.append.new.self c.end.new.self) (sym none)
+    (subst (λ (ws : List ℤ). IsRecording g.L.Law.holds plan c.append.new.self c.push.new.self × IsKept plan c.append.new.self c.push.new.self ws c.self.inside.started c.self.inside.bodies None × IsAgenda plan c.append.new.self c.end.new.self) (sym words)
+    (subst (λ (us : List (ℤ × ℤ)). IsRecording g.L.Law.holds plan c.append.new.self us × IsKept plan c.append.new.self us (slice_set c.self.inside.words.items x.instance d.state) c.self.inside.started c.self.inside.bodies None × IsAgenda plan c.append.new.self c.end.new.self) (sym pushed)
+    (subst (λ (ts : List Row). IsRecording g.L.Law.holds plan ts (states ++ (k.state, d.state) ∷ []) × IsKept plan ts (states ++ (k.state, d.state) ∷ []) (slice_set c.self.inside.words.items x.instance d.state) c.self.inside.started c.self.inside.bodies None × IsAgenda plan ts c.end.new.self) (sym grown) (all, kept, ended.1 all.so_far))))
+
+pub returns-clause-ok : goal.returns-clause-ok
+returns-clause-ok g c =
+    let k = c.args.ticket in
+    let d = c.args.done in
+    let plan = c.self.inside.plan in
+    let t = c.self.inside.rows in
+    let states = c.self.inside.states in
+    let good = c.program-program.ensures.sound in
+    let old : BookParts = record { plan = plan; rows = t; states = states; left = c.self.inside.bodies; max_runs = c.self.inside.max_runs; reason = c.self.inside.reason } in
+    let v : old ≡ c.args.self.now = c.self.view_is in
+    let has : HasTicket old k = subst (λ (b : BookParts). HasTicket b k) (sym v) c.requires.ticket in
+    let ss = c.as_slice-steps.result.now in
+    let may0 : MayAll plan k.reaction ss = search rules in
+    let short0 : ¬ HasLongDelay ss = search rules in
+    let st : ss ≡ d.steps = search rules in
+    let may : MayAll plan k.reaction d.steps = subst (λ (us : List Step). MayAll plan k.reaction us) st may0 in
+    let more : c.append.new.self ≡ t ++ c.as_slice.result.now = search rules in
+    let part : c.as_slice.result.now ≡ c.in-Ok.added.items = search rules in
+    let its : c.in-Ok.added.items ≡ committed_rows k.worker k.tag k.reaction ss = search rules in
+    let grown : c.append.new.self ≡ with_answer old k d = more ∙ ap (λ (xs : List Row). t ++ xs) (part ∙ its ∙ ap (λ (us : List Step). committed_rows k.worker k.tag k.reaction us) st) in
+    let pushed : c.push.new.self ≡ states ++ (k.state, d.state) ∷ [] = search rules in
+    let new : BookParts = record { plan = plan; rows = c.append.new.self; states = c.push.new.self; left = c.self.inside.bodies; max_runs = c.self.inside.max_runs; reason = c.self.inside.reason } in
+    let committed : Committed old new k d = record { had_ticket = has; may = may; book_is = λ i. record { plan = plan; rows = grown i; states = pushed i; left = c.self.inside.bodies; max_runs = c.self.inside.max_runs; reason = c.self.inside.reason } } in
+    subst (λ (b : BookParts). Committed b new k d) v committed
+
+pub returns-clause-commuting : goal.returns-clause-commuting
+returns-clause-commuting g c =
+    let k = c.args.ticket in
+    let d = c.args.done in
+    let plan = c.self.inside.plan in
+    let t = c.self.inside.rows in
+    let states = c.self.inside.states in
+    let good = c.program-program.ensures.sound in
+    let old : BookParts = record { plan = plan; rows = t; states = states; left = c.self.inside.bodies; max_runs = c.self.inside.max_runs; reason = c.self.inside.reason } in
+    let v : old ≡ c.args.self.now = c.self.view_is in
+    let has : HasTicket old k = subst (λ (b : BookParts). HasTicket b k) (sym v) c.requires.ticket in
+    let ss = c.as_slice-steps.result.now in
+    let may0 : MayAll plan k.reaction ss = search rules in
+    let short0 : ¬ HasLongDelay ss = search rules in
+    let st : ss ≡ d.steps = search rules in
+    let may : MayAll plan k.reaction d.steps = subst (λ (us : List Step). MayAll plan k.reaction us) st may0 in
+    let more : c.append.new.self ≡ t ++ c.as_slice.result.now = search rules in
+    let part : c.as_slice.result.now ≡ c.in-Ok.added.items = search rules in
+    let its : c.in-Ok.added.items ≡ committed_rows k.worker k.tag k.reaction ss = search rules in
+    let grown : c.append.new.self ≡ with_answer old k d = more ∙ ap (λ (xs : List Row). t ++ xs) (part ∙ its ∙ ap (λ (us : List Step). committed_rows k.worker k.tag k.reaction us) st) in
+    let kept : KeepsOpenRuns plan t (t ++ committed_rows k.worker k.tag k.reaction d.steps) = keeps_open_runs plan good t k.worker k.tag k.reaction d.steps (record { so_far = c.self.invariant.0.so_far; open_run = has.open_run; may = may }) in
+    subst (λ (b : BookParts). KeepsOpenRuns b.plan b.rows c.append.new.self) v (subst (λ (ts : List Row). KeepsOpenRuns plan t ts) (sym grown) kept)

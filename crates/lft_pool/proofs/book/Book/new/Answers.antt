@@ -3,6 +3,7 @@ use Rattle.lft_flat.specs.Parts.{Parts}
 use Rattle.lft_flat.specs.declared.parts.Reaction.{Reaction}
 use Rattle.lft_trace.specs.declared.row.Row.{Row}
 use Rattle.lft_pool.specs.Books.{IsRecording, IsKept}
+use Rattle.lft_agenda.specs.Agendas.{IsAgenda}
 use Rattle.lft_pool.proofs.Known.{empty_recording}
 use Rattle.lft_pool.proofs.book.Book.new.Goals as goal
 
@@ -11,7 +12,8 @@ invariant_of-result g c =
     let plan = c.args.plan in
     let r : c.from_vec-rows.result ≡ [] = c.from_vec-rows.ensures ∙ c.new.ensures.items in
     let s : c.new-states.result ≡ [] = c.new-states.ensures in
-    let w0 : (r : ℕ) (x : Reaction) → slice_get c.program.result.now.reactions r ≡ Some x → slice_get c.in-Ok.words.items x.instance ≡ Some (pos 0) = search rules in
-    let w : (r : ℕ) (x : Reaction) → slice_get plan.program.reactions r ≡ Some x → slice_get c.in-Ok.words.items x.instance ≡ Some (pos 0) = subst (λ (p : Parts). (r : ℕ) (x : Reaction) → slice_get p.reactions r ≡ Some x → slice_get c.in-Ok.words.items x.instance ≡ Some (pos 0)) c.program.ensures.value w0 in
-    let kept : IsKept plan [] [] c.in-Ok.words.items 0 c.args.bodies None = record { words_are = w; started_is = refl; lists = c.requires; why = tt } in
-    subst (λ (ts : List Row). IsRecording g.L.Law.holds plan ts c.new-states.result × IsKept plan ts c.new-states.result c.in-Ok.words.items 0 c.args.bodies None) (sym r) (subst (λ (ss : List (ℤ × ℤ)). IsRecording g.L.Law.holds plan [] ss × IsKept plan [] ss c.in-Ok.words.items 0 c.args.bodies None) (sym s) (empty_recording g.L.Law.holds plan c.program.ensures.sound, kept))
+    let w0 : (r : ℕ) (x : Reaction) → slice_get c.program.result.now.reactions r ≡ Some x → slice_get c.in-Ok-Ok.words.items x.instance ≡ Some (pos 0) = search rules in
+    let w : (r : ℕ) (x : Reaction) → slice_get plan.program.reactions r ≡ Some x → slice_get c.in-Ok-Ok.words.items x.instance ≡ Some (pos 0) = subst (λ (p : Parts). (r : ℕ) (x : Reaction) → slice_get p.reactions r ≡ Some x → slice_get c.in-Ok-Ok.words.items x.instance ≡ Some (pos 0)) c.program.ensures.value w0 in
+    let kept : IsKept plan [] [] c.in-Ok-Ok.words.items 0 c.args.bodies None = record { words_are = w; started_is = refl; lists = c.requires; why = tt } in
+    let agenda : IsAgenda plan [] c.in-Ok-Ok.agenda = search rules in
+    subst (λ (ts : List Row). IsRecording g.L.Law.holds plan ts c.new-states.result × IsKept plan ts c.new-states.result c.in-Ok-Ok.words.items 0 c.args.bodies None × IsAgenda plan ts c.in-Ok-Ok.agenda) (sym r) (subst (λ (ss : List (ℤ × ℤ)). IsRecording g.L.Law.holds plan [] ss × IsKept plan [] ss c.in-Ok-Ok.words.items 0 c.args.bodies None × IsAgenda plan [] c.in-Ok-Ok.agenda) (sym s) (empty_recording g.L.Law.holds plan c.program.ensures.sound, kept, agenda))

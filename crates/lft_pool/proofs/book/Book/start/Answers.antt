@@ -9,21 +9,17 @@ use Rattle.lft_model.specs.Runs.{Run, by_ends}
 use Rattle.lft_model.specs.OneWorker.{IsPending, rows}
 use Rattle.lft_model.specs.Recorded.{begun_rows, word_after}
 use Rattle.lft_model.proofs.Places.{slice_get_within}
-use Rattle.lft_model.proofs.Quiet.{pending_time, no_collision, inputs_to_ended}
+use Rattle.lft_model.proofs.Quiet.{inputs_to_ended}
 use Rattle.lft_recording.specs.Starts.{MayStartFirst, IsBusy}
 use Rattle.lft_bodies.specs.declared.ticket.Ticket.{Ticket}
 use Rattle.lft_pool.specs.declared.stop.Stop.{Stop}
 use Rattle.lft_pool.specs.Begun.{Started}
 use Rattle.lft_pool.specs.Causes.{HasAllRuns, HasNoRoom, StartCause}
-use Rattle.lft_pool.specs.Books.{BookParts, IsRecording, IsKept}
+use Rattle.lft_agenda.specs.Agendas.{IsAgenda}
+use Rattle.lft_pool.specs.Books.{BookParts, IsRecording, IsKept, AgendaHolds}
 use Rattle.lft_pool.proofs.Known.{zipped_length}
 use Rattle.lft_pool.proofs.BegunRun.{same, begun_recording, begun_count}
 use Rattle.lft_pool.proofs.book.Book.start.Goals as goal
-
-pub inputs_slow-requires-clause-no_clash : goal.inputs_slow-requires-clause-no_clash
-inputs_slow-requires-clause-no_clash g c =
-    let first : MayStartFirst c.self.inside.plan c.self.inside.rows c.args.tag c.args.reaction = subst (λ (b : BookParts). MayStartFirst b.plan b.rows c.args.tag c.args.reaction) (sym c.self.view_is) c.requires.first in
-    no_collision c.self.inside.plan c.program.ensures.sound c.self.inside.rows c.self.invariant.0.so_far c.self.invariant.0.quiet c.args.tag (pending_time c.self.inside.plan c.program.ensures.sound c.self.inside.rows c.self.invariant.0.so_far c.self.invariant.0.quiet c.args.tag c.args.reaction first.may.ready.pending)
 
 pub begun-requires-clause-reads : goal.begun-requires-clause-reads
 begun-requires-clause-reads g c =
@@ -55,13 +51,15 @@ invariant_of-self-2 g c =
     let few : length (t ++ begun_rows plan c.args.worker c.args.tag c.args.reaction c.in-Ok.reads) ≤ 4000000 = subst (λ (xs : List Row). length (t ++ xs) ≤ 4000000) its (omega (arith, length-append t c.in-Ok-begun.added.items)) in
     let all = begun_recording g.L.Law.holds plan c.program.ensures.sound t c.self.inside.states c.self.invariant.0 c.args.worker c.args.tag c.args.reaction c.in-Ok.reads first.may reads idle recorded few in
     let none : c.self.inside.reason ≡ None = ap (λ (b : BookParts). b.reason) c.self.view_is ∙ c.requires.going in
+    let agenda : IsAgenda plan t c.self.inside.agenda = subst (λ (o : Option Stop). AgendaHolds o plan t c.self.inside.agenda) none c.self.invariant.2 in
+    let now : IsAgenda plan (t ++ begun_rows plan c.args.worker c.args.tag c.args.reaction c.in-Ok.reads) c.begin.new.self = c.in-Ok-begin.ensures.ok plan t c.program.ensures.sound agenda (record { so_far = c.self.invariant.0.so_far; quiet = c.self.invariant.0.quiet; may = first.may; reads_are = reads; idle = idle }) in
     let kept : IsKept plan (t ++ begun_rows plan c.args.worker c.args.tag c.args.reaction c.in-Ok.reads) c.self.inside.states c.self.inside.words.items (c.self.inside.started + 1) c.take-body.new.self None = record {
       words_are = λ r x e. subst (λ (us : List Run). slice_get c.self.inside.words.items x.instance ≡ Some (word_after plan.program x.instance us c.self.inside.states)) (sym (same g.L.Law.holds plan c.program.ensures.sound t c.self.inside.states c.self.invariant.0 c.args.worker c.args.tag c.args.reaction c.in-Ok.reads first.may reads idle)) (c.self.invariant.1.words_are r x e);
       started_is = ap (λ (n : ℕ). n + 1) c.self.invariant.1.started_is ∙ sym (begun_count plan t c.args.worker c.args.tag c.args.reaction c.in-Ok.reads);
       lists = let e = ap length c.take-body.ensures.fewer in let k = c.self.invariant.1.lists in search (rules, length-set);
       why = tt;
     } in
-    subst (λ (ts : List Row). IsRecording g.L.Law.holds plan ts c.self.inside.states × IsKept plan ts c.self.inside.states c.self.inside.words.items (c.self.inside.started + 1) c.take-body.new.self c.self.inside.reason) (sym grown) (all, subst (λ o. IsKept plan (t ++ begun_rows plan c.args.worker c.args.tag c.args.reaction c.in-Ok.reads) c.self.inside.states c.self.inside.words.items (c.self.inside.started + 1) c.take-body.new.self o) (sym none) kept)
+    subst (λ (ts : List Row). IsRecording g.L.Law.holds plan ts c.self.inside.states × IsKept plan ts c.self.inside.states c.self.inside.words.items (c.self.inside.started + 1) c.take-body.new.self c.self.inside.reason × AgendaHolds c.self.inside.reason plan ts c.begin.new.self) (sym grown) (subst (λ (o : Option Stop). IsRecording g.L.Law.holds plan (t ++ begun_rows plan c.args.worker c.args.tag c.args.reaction c.in-Ok.reads) c.self.inside.states × IsKept plan (t ++ begun_rows plan c.args.worker c.args.tag c.args.reaction c.in-Ok.reads) c.self.inside.states c.self.inside.words.items (c.self.inside.started + 1) c.take-body.new.self o × AgendaHolds o plan (t ++ begun_rows plan c.args.worker c.args.tag c.args.reaction c.in-Ok.reads) c.begin.new.self) (sym none) (all, kept, now))
 
 pub returns-clause-ok : goal.returns-clause-ok
 returns-clause-ok g c =

@@ -1,0 +1,2 @@
+pub mod OpenRuns
+pub mod Agendas

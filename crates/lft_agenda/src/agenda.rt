@@ -1,0 +1,136 @@
+//! What is kept beside the rows of a recording.
+
+ghost use Rattle.std.specs.Prelude.{◌≡◌, ◌<◌, ◌↔◌, ◌++◌, ℕ, List, [], length, slice_get, Some, IsTrue, IfOk, OnOk, OnErr};
+ghost use Rattle.lft_tag.specs.Tags.{IsRecorded};
+ghost use Rattle.lft_model.specs.Plans.{PlanParts, IsSoundPlan};
+ghost use Rattle.lft_model.specs.Presence.{Inputs};
+ghost use Rattle.lft_model.specs.Recorded.{SoFar, OnlyEndedAnswer, begun_rows};
+ghost use Rattle.lft_trace.specs.declared.row.Row.{Row as RowOf};
+ghost use Rattle.lft_trace.specs.declared.row.Step.{Step as StepOf};
+ghost use Rattle.lft_trace.specs.Fits.{StepFits};
+ghost use Rattle.lft_recording.specs.Starts.{IsBusy, MayStart};
+ghost use Rattle.lft_agenda.specs.Agendas.{IsAgenda, MayBegin, MayEnd, EndsWith};
+ghost use Rattle.lft_agenda.specs.OpenRuns.{HasReads};
+
+use crate::open::{OpenRun, has_reads, is_busy, take_out};
+use crate::stopping::stop_with;
+use lft_events::{feed, first_events, read_inputs};
+use lft_flat::Value;
+use lft_model::{Plan, Reads};
+use lft_queue::Queue;
+use lft_tag::{NoMemory, Tag};
+use lft_trace::Step;
+use std::alloc::Global;
+use std::marker::Model;
+
+/// What is kept beside the rows of a recording: its open runs, the events that are to happen, and
+/// the stop.
+#[derive(Drop)]
+pub struct Agenda {
+    alloc: Global,
+    runs: Vec<OpenRun>,
+    queue: Queue,
+    from: Tag,
+    stop: Tag,
+}
+
+impl Model for Agenda {
+    ghost use Rattle.lft_agenda.specs.Agendas.{AgendaParts};
+
+    ghost Value = { AgendaParts };
+
+    ghost view = { λ a. record { runs = a.runs.items; queue = a.queue; from = a.from; stop = a.stop } };
+}
+
+impl Agenda {
+    /// The agenda of no rows.
+    pub fn new(alloc: Global, plan: &Plan) -> Result<Agenda, NoMemory>
+        ensures { IfOk result (IsAgenda plan.now []) }
+    {
+        let queue = first_events(alloc, plan)?;
+        let stop = plan.externals().stop();
+        Ok(Agenda {
+            alloc,
+            runs: Vec::new(alloc),
+            queue,
+            from: Tag { time: 0, micro: 0 },
+            stop,
+        })
+    }
+
+    /// Whether the worker has an open run.
+    pub fn is_busy(&self, worker: u32) -> bool
+        ensures { (plan : PlanParts) (t : List RowOf) → IsAgenda plan t self.now → IsTrue result ↔ IsBusy t worker }
+    {
+        is_busy(self.runs.as_slice(), worker)
+    }
+
+    /// Whether the run of the reaction at the tag by the worker is open and read this.
+    pub fn has_reads(&self, worker: u32, tag: Tag, reaction: u32, reads: &[Option<Value>]) -> bool
+        ensures { (plan : PlanParts) (t : List RowOf) → IsAgenda plan t self.now → IsTrue result ↔ HasReads plan t worker tag reaction reads.now }
+    {
+        has_reads(self.runs.as_slice(), worker, tag, reaction, reads)
+    }
+
+    /// What a reaction that may start reads.
+    pub fn inputs(&self, plan: &Plan, tag: Tag, reaction: u32) -> Result<Reads, NoMemory>
+        requires { reaction < length plan.now.program.reactions }
+        ensures { (t : List RowOf) → IsAgenda plan.now t self.now → SoFar plan.now t → OnlyEndedAnswer t → MayStart plan.now t tag reaction → IfOk result (Inputs plan.now t tag reaction) }
+    {
+        // Asked for what every plan keeps: it is sound, so that what may start is up to the stop.
+        plan.keeps();
+        read_inputs(self.alloc, &self.queue, plan, tag, reaction)
+    }
+
+    /// The run of the reaction at the tag is begun by the worker, with these reads. Where memory
+    /// is refused nothing changes.
+    pub fn begin(
+        &mut self,
+        worker: u32,
+        tag: Tag,
+        reaction: u32,
+        reads: &Reads,
+    ) -> Result<(), NoMemory>
+        ensures ok { (plan : PlanParts) (t : List RowOf) → IsSoundPlan plan → IsAgenda plan t self.old → MayBegin plan t worker tag reaction reads.now → OnOk result (IsAgenda plan (t ++ begun_rows plan worker tag reaction reads.now) self.new) }
+        ensures err { OnErr result (self.new ≡ self.old) }
+    {
+        let Ok(items) = Vec::from_slice(self.alloc, reads.as_slice()) else {
+            return Err(NoMemory);
+        };
+        let reads = Reads::from_vec(items);
+        let run = OpenRun {
+            worker,
+            tag,
+            reaction,
+            reads,
+        };
+        match self.runs.push(run) {
+            Ok(()) => return Ok(()),
+            Err(_) => return Err(NoMemory),
+        }
+    }
+
+    /// The run of the reaction at the tag is ended by the worker, with these steps. Gives the
+    /// least tag up to the stop at which two causes then give one port or action an event.
+    pub fn end(
+        &mut self,
+        plan: &Plan,
+        worker: u32,
+        tag: Tag,
+        reaction: u32,
+        steps: &[Step],
+    ) -> Result<Option<Tag>, NoMemory>
+        requires recorded { IsRecorded tag }
+        requires fit { (k : ℕ) (s : StepOf) → slice_get steps.now k ≡ Some s → StepFits plan.now.program s }
+        ensures { (t : List RowOf) → IsAgenda plan.now t self.old → MayEnd plan.now t worker tag reaction steps.now → IfOk result (EndsWith plan.now t worker tag reaction steps.now self.new) }
+    {
+        // Asked for what every plan keeps: it is sound.
+        plan.keeps();
+        let stop = stop_with(self.stop, tag, steps);
+        let clash = feed(&mut self.queue, plan, stop, tag, steps)?;
+        take_out(&mut self.runs, worker, tag, reaction);
+        self.from = tag;
+        self.stop = stop;
+        Ok(clash)
+    }
+}

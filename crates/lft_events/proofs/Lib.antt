@@ -1,0 +1,6 @@
+pub mod Heard
+pub mod Written
+pub mod Fed
+pub mod Steps
+pub mod Given
+pub mod Keeping

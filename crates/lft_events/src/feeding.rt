@@ -1,0 +1,183 @@
+//! The events of a run's steps go into the queue.
+
+ghost use Rattle.std.specs.Prelude.{◌≡◌, ◌<◌, ◌≤◌, ◌↔◌, ◌+◌, ◌++◌, ◌∷◌, [], ℕ, List, length, map, slice_get, Some, None, IfOk, IsTrue};
+ghost use Rattle.lft_tag.specs.Tags.{UpTo, IsRecorded};
+ghost use Rattle.lft_flat.specs.declared.parts.Value.{Value as Carried};
+ghost use Rattle.lft_trace.specs.declared.row.Row.{Row as RowOf};
+ghost use Rattle.lft_trace.specs.Fits.{StepFits};
+ghost use Rattle.lft_flat.specs.declared.parts.Port.{Port as PortOf};
+ghost use Rattle.lft_model.specs.Presence.{Last};
+ghost use Rattle.lft_model.specs.Recorded.{run_row, committed_rows};
+ghost use Rattle.lft_trace.specs.declared.row.Step.{Step as StepOf};
+ghost use Rattle.lft_events.specs.Events.{HasEvents, IsPut, IsFedTo, KnowsAgain};
+
+use lft_flat::{Name, Value};
+use lft_model::Plan;
+use lft_queue::{Queue, QueueFault};
+use lft_tag::{NoMemory, Tag};
+use lft_trace::Step;
+
+// Puts an event in, where it is up to the last tag and earlier than the collision that was found.
+// Gives the earliest collision.
+fn put(
+    queue: &mut Queue,
+    last: Tag,
+    clash: Option<Tag>,
+    tag: Tag,
+    name: Name,
+    value: Value,
+) -> Result<Option<Tag>, NoMemory>
+    ensures { IfOk result (λ found. IsPut last clash tag name value queue.old queue.new found) }
+{
+    if last.is_before(tag) {
+        return Ok(clash);
+    }
+    if let Some(least) = clash {
+        if !tag.is_before(least) {
+            return Ok(clash);
+        }
+    }
+    match queue.put(tag, name, value) {
+        Ok(()) => return Ok(clash),
+        Err(QueueFault::Collision) => return Ok(Some(tag)),
+        Err(QueueFault::NoMemory) => return Err(NoMemory),
+    }
+}
+
+// Puts the event of a port in, where a write of the origin at the tag arrives there. Where the
+// origin was written at the tag before, its event takes another value.
+fn feed_port(
+    queue: &mut Queue,
+    plan: &Plan,
+    last: Tag,
+    clash: Option<Tag>,
+    tag: Tag,
+    origin: u32,
+    value: Value,
+    again: bool,
+    number: u32,
+) -> Result<Option<Tag>, NoMemory>
+    requires recorded { IsRecorded tag }
+    requires number { number < length plan.now.program.ports }
+    ensures { (t : List RowOf) (w : ℕ) (r : ℕ) → IsFedTo plan.now t (run_row w tag r (Step.Write (Name.Port origin) value)) last number clash queue.old → KnowsAgain plan.now t tag origin again → IfOk result (λ found. IsFedTo plan.now t (run_row w tag r (Step.Write (Name.Port origin) value)) last (number + 1) found queue.new) }
+{
+    let port = plan.program().port(number);
+    if port.origin != origin {
+        return Ok(clash);
+    }
+    let at = tag.plus(port.shift);
+    if again {
+        let _replaced = queue.remove(at, Name::Port(number));
+    }
+    put(queue, last, clash, at, Name::Port(number), value)
+}
+
+// Puts the events of a write of the origin at the tag in.
+fn feed_write(
+    queue: &mut Queue,
+    plan: &Plan,
+    last: Tag,
+    clash: Option<Tag>,
+    tag: Tag,
+    origin: u32,
+    value: Value,
+) -> Result<Option<Tag>, NoMemory>
+    requires recorded { IsRecorded tag }
+    ensures { (t : List RowOf) (w : ℕ) (r : ℕ) → UpTo tag last → HasEvents plan.now t tag last clash queue.old → IfOk result (λ found. HasEvents plan.now (t ++ run_row w tag r (Step.Write (Name.Port origin) value) ∷ []) tag last found queue.new) }
+{
+    let again = queue.get(tag, Name::Port(origin)).is_some();
+    let mut found = clash;
+    for number in 0..plan.program().ports() {
+        found = feed_port(
+            queue,
+            plan,
+            last,
+            found,
+            tag,
+            origin,
+            value,
+            again,
+            number as u32,
+        )?;
+    }
+    Ok(found)
+}
+
+// Puts the event of a scheduling at the tag in.
+fn feed_schedule(
+    queue: &mut Queue,
+    plan: &Plan,
+    last: Tag,
+    clash: Option<Tag>,
+    tag: Tag,
+    action: u32,
+    value: Value,
+    delay: u64,
+) -> Result<Option<Tag>, NoMemory>
+    requires recorded { IsRecorded tag }
+    requires action { action < length plan.now.program.actions }
+    requires delay { delay ≤ 1000000000000000000 }
+    ensures { (t : List RowOf) (w : ℕ) (r : ℕ) → HasEvents plan.now t tag last clash queue.old → IfOk result (λ found. HasEvents plan.now (t ++ run_row w tag r (Step.Schedule (Name.Action action) value delay) ∷ []) tag last found queue.new) }
+{
+    let min_delay = plan.program().action(action).min_delay;
+    put(
+        queue,
+        last,
+        clash,
+        tag.after(min_delay, delay),
+        Name::Action(action),
+        value,
+    )
+}
+
+// Puts the events of a step at the tag in.
+fn feed_step(
+    queue: &mut Queue,
+    plan: &Plan,
+    last: Tag,
+    clash: Option<Tag>,
+    tag: Tag,
+    step: Step,
+) -> Result<Option<Tag>, NoMemory>
+    requires recorded { IsRecorded tag }
+    requires fits { StepFits plan.now.program step }
+    ensures { (t : List RowOf) (w : ℕ) (r : ℕ) → UpTo tag last → HasEvents plan.now t tag last clash queue.old → IfOk result (λ found. HasEvents plan.now (t ++ run_row w tag r step ∷ []) tag last found queue.new) }
+{
+    match step {
+        Step::Write(Name::Port(origin), value) => {
+            return feed_write(queue, plan, last, clash, tag, origin, value);
+        }
+        Step::Schedule(Name::Action(action), value, delay) => {
+            return feed_schedule(queue, plan, last, clash, tag, action, value, delay);
+        }
+        _ => return Ok(clash),
+    }
+}
+
+// The step at a place.
+fn step_at(steps: &[Step], place: usize) -> Step
+    requires { place < length steps.now }
+    ensures { slice_get steps.now place ≡ Some result }
+{
+    steps[place]
+}
+
+/// Puts the events of the steps of a run at the tag in, as far as they are up to the last tag.
+/// Gives the least tag at which two causes give one port or action an event, if there is one.
+pub fn feed(
+    queue: &mut Queue,
+    plan: &Plan,
+    last: Tag,
+    tag: Tag,
+    steps: &[Step],
+) -> Result<Option<Tag>, NoMemory>
+    requires recorded { IsRecorded tag }
+    requires fit { (k : ℕ) (s : StepOf) → slice_get steps.now k ≡ Some s → StepFits plan.now.program s }
+    ensures { (t : List RowOf) (w : ℕ) (r : ℕ) → UpTo tag last → HasEvents plan.now t tag last None queue.old → IfOk result (λ found. HasEvents plan.now (t ++ committed_rows w tag r steps.now) tag last found queue.new) }
+{
+    let mut found = None;
+    for at in 0..steps.len() {
+        found = feed_step(queue, plan, last, found, tag, step_at(steps, at))?;
+    }
+    Ok(found)
+}

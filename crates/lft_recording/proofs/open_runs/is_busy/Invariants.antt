@@ -1,8 +1,0 @@
-use Rattle.std.proofs.Common.{◌≡◌, ℕ, ◌<◌, Some, slice_get}
-use Rattle.lft_tag.specs.declared.Tag.{Tag}
-use Rattle.lft_model.specs.Runs.{start_row}
-use Rattle.lft_recording.specs.Starts.{EndsAfter}
-use Rattle.lft_recording.proofs.open_runs.is_busy.Given as goal
-
-abbrev pub invariant-loop-place : goal.invariant-loop-place
-invariant-loop-place l = (k : ℕ) (g : Tag) (r : ℕ) → k < l.place → slice_get l.rows k ≡ Some (start_row l.worker g r) → EndsAfter l.rows k l.worker g r
