@@ -22,7 +22,7 @@ use Rattle.lft_model.proofs.Members.{Mem, last-append_some}
 use Rattle.lft_model.proofs.Places.{tag_discrete}
 use Rattle.lft_model.proofs.Steps.{written_some, some_written}
 use Rattle.lft_model.proofs.Ended.{written_by, by_written}
-use Rattle.lft_model.proofs.Decided.{origin_unique}
+use Rattle.lft_flat.proofs.Origins.{origin_unique}
 use Rattle.lft_model.proofs.Grown.{added_none}
 
 -- a port that has an origin is one of the program

@@ -5,7 +5,7 @@ use Rattle.lft_flat.specs.Parts.{inputs}
 use Rattle.lft_flat.specs.declared.parts.Name.{Name}
 use Rattle.lft_flat.specs.declared.parts.Value.{Value}
 use Rattle.lft_flat.specs.declared.parts.Reaction.{Reaction}
-use Rattle.lft_graph.proofs.Places.{get_there}
+use Rattle.lft_lists.proofs.Places.{get_there}
 use Rattle.lft_queue.specs.Pending.{value_of}
 use Rattle.lft_model.specs.Presence.{Inputs}
 use Rattle.lft_model.specs.Runs.{inputs_of}
