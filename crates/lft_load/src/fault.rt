@@ -13,13 +13,13 @@ use lft_flat::Program;
 use lft_graph::GraphFault;
 use lft_program::ProgramFault;
 use lft_syntax::{LexFault, SyntaxFault};
+use lft_tag::Tag;
 use lft_trace::TraceFault;
 use std::alloc::{AllocError, Global};
 use std::fmt;
 use thiserror::Error;
 
-/// The part of the product that a fault comes from. `Pool` and `Cards` are kept for recording: no
-/// fault of these parts is made yet.
+/// The part of the product that a fault comes from.
 #[derive(Clone, Copy, Debug, PartialEq, Eq)]
 pub enum Part {
     Lex,
@@ -64,13 +64,14 @@ impl fmt::Display for Part {
 }
 
 /// What a fault's line tells beside its name: a byte counted from 0, a token counted from 1, a line
-/// of a table counted from 1, or some words, as a path.
+/// of a table counted from 1, a tag, or some words, as a path.
 #[derive(Debug, Drop, PartialEq, Eq)]
 pub enum Detail {
     Nothing,
     At(usize),
     Token(usize),
     Line(u32),
+    Tag(Tag),
     Words(String),
 }
 
@@ -81,6 +82,7 @@ impl fmt::Display for Detail {
             Detail::At(at) => write!(f, " at={at}"),
             Detail::Token(token) => write!(f, " token={token}"),
             Detail::Line(line) => write!(f, " line={line}"),
+            Detail::Tag(tag) => write!(f, " time={} microstep={}", tag.time, tag.micro),
             Detail::Words(words) => write!(f, " {words}"),
         }
     }

@@ -1,0 +1,59 @@
+-- What a recording writes, and why it ends before its plan.
+use Rattle.std.specs.Prelude.{◌≡◌, ◌≢◌, ◌⊎◌, ℕ, ℤ, List, Option}
+use Rattle.std.specs.Io.KnownBytes.{Appends, Keeps}
+use Rattle.lft_tag.specs.declared.Tag.{Tag}
+use Rattle.lft_flat.specs.Parts.{Parts}
+use Rattle.lft_flat.specs.declared.parts.Value.{Value}
+use Rattle.lft_trace.specs.Records.{records_of}
+use Rattle.lft_trace.specs.Traces.{Table}
+use Rattle.lft_trace.specs.Written.{table_text}
+use Rattle.lft_trace.specs.declared.row.Row.{Row}
+use Rattle.lft_model.specs.Breaches.{Legal}
+use Rattle.lft_model.specs.Plans.{PlanParts}
+use Rattle.lft_bodies.specs.declared.done.Done.{Done}
+use Rattle.lft_pool.specs.Books.{IsRecording}
+use Rattle.lft_pool.specs.Endings.{AreBad}
+use Rattle.lft_pool.specs.declared.stop.Stop.{Stop}
+use Rattle.lft_pool.specs.declared.stop.Stop.TheVariants as stop
+use Rattle.lft_load.specs.Written.{AppendsFront}
+use Rattle.lft_load.specs.declared.fault.Fault.{Fault}
+use Rattle.lft_load.specs.declared.fault.Part.TheVariants as part
+use Rattle.lft_record.specs.Faults.{stop_number}
+
+-- a relation over the answers of bodies
+abbrev pub AnswerLaw : Type 1
+AnswerLaw = ℕ → Tag → ℤ → List (Option Value) → Done → Type 0
+
+-- the trace table of the rows was written, and it is read as these rows
+pub record Writes (program : Parts) (rows : List Row) (old new : Option (List ℕ)) : Type 0 where
+  pub text : List ℕ
+  pub plain : text ≡ table_text program rows
+  pub table : Table program (records_of text) rows
+  pub written : Appends old new text
+
+-- the trace table of the rows wasn't written: a growth was refused, and nothing was written, or the writer failed, and took a front of it
+pub data TableRefusal (program : Parts) (rows : List Row) (old new : Option (List ℕ)) (f : Fault) : Type 0 where
+  by_growth : f.part ≡ part.Memory → f.number ≡ 1 → Keeps old new → TableRefusal program rows old new f
+  by_writer : f.part ≡ part.Write → f.number ≡ 1 → AppendsFront old new (table_text program rows) → TableRefusal program rows old new f
+
+-- the plan was recorded to its stop by a lawful number of workers: the table of legal rows was written, whose ended runs follow the law
+pub record IsRecorded (law : AnswerLaw) (plan : PlanParts) (workers : ℕ) (old new : Option (List ℕ)) : Type 0 where
+  pub rows : List Row
+  pub states : List (ℤ × ℤ)
+  pub workers_are : ¬ AreBad workers
+  pub legal : Legal plan rows
+  pub recording : IsRecording law plan rows states
+  pub written : Writes plan.program rows old new
+
+-- the recording stopped at these rows, for this reason; they are of the plan unless the reason is that it isn't the one given
+pub record StopsAt (law : AnswerLaw) (plan : PlanParts) (workers : ℕ) (reason : Stop) (end : PlanParts) (rows : List Row) : Type 0 where
+  pub states : List (ℤ × ℤ)
+  pub recording : IsRecording law end rows states
+  pub same : reason ≢ stop.PlanChanged → end ≡ plan
+  pub bad : AreBad workers → reason ≡ stop.BadWorkers
+
+-- the plan wasn't recorded to its stop: the recording stopped and the table of its rows so far was written, or a table wasn't written
+pub data RecordRefusal (law : AnswerLaw) (plan : PlanParts) (workers : ℕ) (old new : Option (List ℕ)) (f : Fault) : Type 0 where
+  by_stop : (reason : Stop) (end : PlanParts) (rows : List Row) → f.part ≡ part.Pool → f.number ≡ stop_number reason → StopsAt law plan workers reason end rows → Writes end.program rows old new → RecordRefusal law plan workers old new f
+  by_growth : f.part ≡ part.Memory → f.number ≡ 1 → Keeps old new → RecordRefusal law plan workers old new f
+  by_writer : (end : PlanParts) (rows : List Row) (states : List (ℤ × ℤ)) → f.part ≡ part.Write → f.number ≡ 1 → IsRecording law end rows states → AppendsFront old new (table_text end.program rows) → RecordRefusal law plan workers old new f

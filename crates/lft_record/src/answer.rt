@@ -1,0 +1,49 @@
+//! From texts to a recording.
+
+ghost use Rattle.std.specs.Prelude.{◌≡◌, IfOk, IfErr, true};
+ghost use Rattle.lft_record.specs.Answers.{AnswerRefusal, IsAnswer};
+
+use crate::bodies::card_bodies;
+use crate::fault::cards_fault;
+use crate::recording::record_to;
+use lft_cards::read_cards;
+use lft_load::{Fault, load};
+use std::alloc::Global;
+use std::io::Write;
+use std::sync::Wait;
+use std::thread::Threads;
+
+/// True, once the program under its external inputs is recorded with the bodies of the cards, and the
+/// trace table is written. The fault is that of the first layer that refuses, in the order lex,
+/// syntax, program, externals, graph, cards, pool, write.
+pub fn record_answer<R: Threads + Wait + Sync, W: Write>(
+    rt: &R,
+    alloc: Global,
+    program: &[u8],
+    externals: &[u8],
+    cards: &[u8],
+    workers: u32,
+    max_runs: u32,
+    out: &mut W,
+) -> Result<bool, Fault>
+    ensures yes { IfOk result (λ recorded. recorded ≡ true) }
+    ensures recorded { IfOk result (λ recorded. IsAnswer program.now externals.now cards.now workers (W.contents out.old) (W.contents out.new)) }
+    ensures refused { IfErr result (AnswerRefusal program.now externals.now cards.now workers (W.contents out.old) (W.contents out.new)) }
+{
+    let plan = match load(alloc, program, externals) {
+        Ok(plan) => plan,
+        Err(fault) => return Err(fault),
+    };
+    let cards = match read_cards(alloc, plan.program(), cards) {
+        Ok(cards) => cards,
+        Err(fault) => return Err(cards_fault(fault)),
+    };
+    let bodies = match card_bodies(alloc, plan.program(), cards, max_runs) {
+        Ok(bodies) => bodies,
+        Err(_) => return Err(Fault::no_memory()),
+    };
+    match record_to(rt, alloc, plan, bodies, workers, max_runs, out) {
+        Ok(()) => Ok(true),
+        Err(fault) => Err(fault),
+    }
+}
