@@ -4,7 +4,7 @@
 //! remark, and `== end` stands last. In these lines `\HH` is the byte of that hexadecimal number, and
 //! a backslash at the end of a line takes the line's end away. The kinds are told where they are
 //! answered: what is given to other cases, texts, programs, traces, external inputs, presence, texts
-//! as a whole, and two traces beside one another. `title` and some words are written as they are.
+//! as a whole, two traces beside one another, and recordings. `title` and some words are written as they are.
 #![tactic(auto)]
 
 mod case_text;
@@ -13,6 +13,7 @@ mod given;
 mod pairs;
 mod presence;
 mod programs;
+mod recordings;
 mod refusal;
 mod texts;
 mod trace_tables;
@@ -23,10 +24,11 @@ use crate::given::Given;
 use std::alloc::Global;
 use std::io;
 use std::io::Write;
+use std::sync::Wait;
 use std::thread::Threads;
 
 /// Writes what is to be told of a case.
-fn tell<R: Threads + Sync>(
+fn tell<R: Threads + Wait + Sync>(
     rt: &R,
     alloc: Global,
     given: &Given,
@@ -58,6 +60,9 @@ fn tell<R: Threads + Sync>(
         "judge-text" => whole::judge_text(rt, alloc, given, text, words, told),
         "pair" => pairs::pair(rt, alloc, given, text, words, told),
         "pair-text" => pairs::pair_text(rt, alloc, given, text, words, told),
+        "record" => recordings::record(rt, alloc, given, text, words, told),
+        "record-text" => recordings::record_text(rt, alloc, given, text, words, told),
+        "recordings" => recordings::recordings(rt, alloc, given, text, words, told),
         "bundle" => whole::bundle(alloc, text, told),
         _ => writeln!(told, "no such kind of case: {kind}"),
     }
