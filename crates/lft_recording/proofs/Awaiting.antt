@@ -109,6 +109,14 @@ module _ (plan : PlanParts) (good : IsSoundPlan plan) (t : List Row) (so_far : S
   pub last_up_to : (last g : Tag) (r : ℕ) → IsLastTag t last → IsPending plan (by_ends plan t) g r → UpTo last g
   last_up_to last g r is p = is.least g (rows_up_to plan good t so_far g r p)
 
+  -- where nothing is pending at the last tag, what is pending is later
+  pub all_later : (last : Tag) → IsLastTag t last → ¬ Awaits plan t last → (h : Tag) → Awaits plan t h → Before last h
+  all_later last is none h a = go (order_cases last h)
+    where
+      go : Before last h ⊎ UpTo h last → Before last h
+      go (inl b) = b
+      go (inr u) = absurd (none (a.0, subst (λ (g : Tag). IsPending plan (by_ends plan t) g a.0) (UpTo_antisym h last u (last_up_to last h a.0 is a.1)) a.1))
+
   -- at the next firing of a timer something is pending, where it triggers a reaction at a later firing
   pub firing_awaits : (last c h : Tag) (n : ℕ) → IsLastTag t last → (f : FiresAfter plan t last n h) → IsNextFiring f.timer last c → IsPending plan (by_ends plan t) c f.number
   firing_awaits last c h n is f next =

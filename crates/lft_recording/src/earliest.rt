@@ -2,7 +2,7 @@
 //! next firing of each timer, and every tag at which an event arrives.
 
 ghost use Rattle.std.specs.Prelude.{◌≡◌, ◌<◌, length, slice_get, Some, IfSome, IfNone};
-ghost use Rattle.lft_tag.specs.Tags.{IsRecorded};
+ghost use Rattle.lft_tag.specs.Tags.{Before, IsRecorded};
 ghost use Rattle.lft_trace.specs.Fits.{RowsFit, RowFits};
 ghost use Rattle.lft_model.specs.Recorded.{SoFar, OnlyEndedAnswer};
 ghost use Rattle.lft_recording.specs.Arrivals.{IsCovered, Arrives, ArrivesAt};
@@ -16,16 +16,21 @@ use lft_model::{Plan, trace_stop};
 use lft_tag::Tag;
 use lft_trace::{Event, Row, Rows, Step, row_at};
 
-// The lesser of the tag and the least so far, where a reaction is pending at the tag.
-fn sooner(plan: &Plan, rows: &Rows, least: Option<Tag>, tag: Tag) -> Option<Tag>
+// The lesser of the tag and the least so far, where a reaction is pending at the tag. Nothing is
+// pending up to the last tag, so tags up to there aren't asked: most events of rows are past.
+fn sooner(plan: &Plan, rows: &Rows, last: Tag, least: Option<Tag>, tag: Tag) -> Option<Tag>
     requires so_far { SoFar plan.now rows.now }
     requires fit { RowsFit plan.now.program rows.now }
     requires quiet { OnlyEndedAnswer rows.now }
+    requires past { (h : _) → Awaits plan.now rows.now h → Before last h }
     requires sound { IfSome least (Awaits plan.now rows.now) }
     ensures sound { IfSome result (Awaits plan.now rows.now) }
     ensures covers { Awaits plan.now rows.now tag → IsCovered result tag }
     ensures more { (h : _) → IsCovered least h → IsCovered result h }
 {
+    if !last.is_before(tag) {
+        return least;
+    }
     let Some(earlier) = least else {
         if awaits(plan, rows, tag) {
             return Some(tag);
@@ -45,6 +50,7 @@ fn sooner(plan: &Plan, rows: &Rows, least: Option<Tag>, tag: Tag) -> Option<Tag>
 fn with_port(
     plan: &Plan,
     rows: &Rows,
+    last: Tag,
     least: Option<Tag>,
     tag: Tag,
     origin: u32,
@@ -53,6 +59,7 @@ fn with_port(
     requires so_far { SoFar plan.now rows.now }
     requires fit { RowsFit plan.now.program rows.now }
     requires quiet { OnlyEndedAnswer rows.now }
+    requires past { (h : _) → Awaits plan.now rows.now h → Before last h }
     requires recorded { IsRecorded tag }
     requires sound { IfSome least (Awaits plan.now rows.now) }
     requires port { number < length plan.now.program.ports }
@@ -64,14 +71,22 @@ fn with_port(
     if port.origin != origin {
         return least;
     }
-    sooner(plan, rows, least, tag.plus(port.shift))
+    sooner(plan, rows, last, least, tag.plus(port.shift))
 }
 
 // The same with all tags at which a write of the origin at the tag arrives.
-fn with_write(plan: &Plan, rows: &Rows, least: Option<Tag>, tag: Tag, origin: u32) -> Option<Tag>
+fn with_write(
+    plan: &Plan,
+    rows: &Rows,
+    last: Tag,
+    least: Option<Tag>,
+    tag: Tag,
+    origin: u32,
+) -> Option<Tag>
     requires so_far { SoFar plan.now rows.now }
     requires fit { RowsFit plan.now.program rows.now }
     requires quiet { OnlyEndedAnswer rows.now }
+    requires past { (h : _) → Awaits plan.now rows.now h → Before last h }
     requires recorded { IsRecorded tag }
     requires sound { IfSome least (Awaits plan.now rows.now) }
     ensures sound { IfSome result (Awaits plan.now rows.now) }
@@ -80,16 +95,17 @@ fn with_write(plan: &Plan, rows: &Rows, least: Option<Tag>, tag: Tag, origin: u3
 {
     let mut found = least;
     for number in 0..plan.program().ports() {
-        found = with_port(plan, rows, found, tag, origin, number as u32);
+        found = with_port(plan, rows, last, found, tag, origin, number as u32);
     }
     found
 }
 
 // The same with all tags at which the row's events arrive.
-fn with_row(plan: &Plan, rows: &Rows, least: Option<Tag>, row: Row) -> Option<Tag>
+fn with_row(plan: &Plan, rows: &Rows, last: Tag, least: Option<Tag>, row: Row) -> Option<Tag>
     requires so_far { SoFar plan.now rows.now }
     requires fit { RowsFit plan.now.program rows.now }
     requires quiet { OnlyEndedAnswer rows.now }
+    requires past { (h : _) → Awaits plan.now rows.now h → Before last h }
     requires row { RowFits plan.now.program row }
     requires sound { IfSome least (Awaits plan.now rows.now) }
     ensures sound { IfSome result (Awaits plan.now rows.now) }
@@ -98,21 +114,22 @@ fn with_row(plan: &Plan, rows: &Rows, least: Option<Tag>, row: Row) -> Option<Ta
 {
     match row.step {
         Step::Write(Name::Port(origin), _) => {
-            return with_write(plan, rows, least, row.tag, origin);
+            return with_write(plan, rows, last, least, row.tag, origin);
         }
         Step::Schedule(Name::Action(action), _, delay) => {
             let min_delay = plan.program().action(action).min_delay;
-            return sooner(plan, rows, least, row.tag.after(min_delay, delay));
+            return sooner(plan, rows, last, least, row.tag.after(min_delay, delay));
         }
         _ => return least,
     }
 }
 
 // The same with all tags at which an event of a row arrives.
-fn with_rows(plan: &Plan, rows: &Rows, least: Option<Tag>) -> Option<Tag>
+fn with_rows(plan: &Plan, rows: &Rows, last: Tag, least: Option<Tag>) -> Option<Tag>
     requires so_far { SoFar plan.now rows.now }
     requires fit { RowsFit plan.now.program rows.now }
     requires quiet { OnlyEndedAnswer rows.now }
+    requires past { (h : _) → Awaits plan.now rows.now h → Before last h }
     requires sound { IfSome least (Awaits plan.now rows.now) }
     ensures sound { IfSome result (Awaits plan.now rows.now) }
     ensures covers { (k : _) (row : _) (h : _) → slice_get rows.now k ≡ Some row → Arrives plan.now row.tag h row.step → Awaits plan.now rows.now h → IsCovered result h }
@@ -121,7 +138,7 @@ fn with_rows(plan: &Plan, rows: &Rows, least: Option<Tag>) -> Option<Tag>
     let items = rows.as_slice();
     let mut found = least;
     for place in 0..items.len() {
-        found = with_row(plan, rows, found, row_at(items, place));
+        found = with_row(plan, rows, last, found, row_at(items, place));
     }
     found
 }
@@ -135,10 +152,11 @@ fn event_at(events: &[Event], place: usize) -> Event
 }
 
 // The same with the tags of the external events.
-fn with_events(plan: &Plan, rows: &Rows, least: Option<Tag>) -> Option<Tag>
+fn with_events(plan: &Plan, rows: &Rows, last: Tag, least: Option<Tag>) -> Option<Tag>
     requires so_far { SoFar plan.now rows.now }
     requires fit { RowsFit plan.now.program rows.now }
     requires quiet { OnlyEndedAnswer rows.now }
+    requires past { (h : _) → Awaits plan.now rows.now h → Before last h }
     requires sound { IfSome least (Awaits plan.now rows.now) }
     ensures sound { IfSome result (Awaits plan.now rows.now) }
     ensures covers { (h : _) (k : _) → k < length plan.now.externals.events → EventAt plan.now k h → Awaits plan.now rows.now h → IsCovered result h }
@@ -148,16 +166,17 @@ fn with_events(plan: &Plan, rows: &Rows, least: Option<Tag>) -> Option<Tag>
     let mut found = least;
     for place in 0..events.len() {
         let event = event_at(events, place);
-        found = sooner(plan, rows, found, event.tag);
+        found = sooner(plan, rows, last, found, event.tag);
     }
     found
 }
 
 // The same with the next firing of a timer after the tag of the last row.
-fn with_timer(plan: &Plan, rows: &Rows, least: Option<Tag>, last: Tag, number: u32) -> Option<Tag>
+fn with_timer(plan: &Plan, rows: &Rows, last: Tag, least: Option<Tag>, number: u32) -> Option<Tag>
     requires so_far { SoFar plan.now rows.now }
     requires fit { RowsFit plan.now.program rows.now }
     requires quiet { OnlyEndedAnswer rows.now }
+    requires past { (h : _) → Awaits plan.now rows.now h → Before last h }
     requires sound { IfSome least (Awaits plan.now rows.now) }
     requires last { IsLastTag rows.now last }
     requires timer { number < length plan.now.program.timers }
@@ -169,14 +188,15 @@ fn with_timer(plan: &Plan, rows: &Rows, least: Option<Tag>, last: Tag, number: u
     let Some(tag) = next_firing(timer, last) else {
         return least;
     };
-    sooner(plan, rows, least, tag)
+    sooner(plan, rows, last, least, tag)
 }
 
 // The same with the next firing of each timer.
-fn with_timers(plan: &Plan, rows: &Rows, least: Option<Tag>, last: Tag) -> Option<Tag>
+fn with_timers(plan: &Plan, rows: &Rows, last: Tag, least: Option<Tag>) -> Option<Tag>
     requires so_far { SoFar plan.now rows.now }
     requires fit { RowsFit plan.now.program rows.now }
     requires quiet { OnlyEndedAnswer rows.now }
+    requires past { (h : _) → Awaits plan.now rows.now h → Before last h }
     requires sound { IfSome least (Awaits plan.now rows.now) }
     requires last { IsLastTag rows.now last }
     ensures sound { IfSome result (Awaits plan.now rows.now) }
@@ -185,7 +205,7 @@ fn with_timers(plan: &Plan, rows: &Rows, least: Option<Tag>, last: Tag) -> Optio
 {
     let mut found = least;
     for number in 0..plan.program().timers() {
-        found = with_timer(plan, rows, found, last, number as u32);
+        found = with_timer(plan, rows, last, found, number as u32);
     }
     found
 }
@@ -218,8 +238,8 @@ pub(crate) fn least_tag(plan: &Plan, rows: &Rows) -> Option<Tag>
         return Some(last);
     }
     let stop = trace_stop(plan, rows.as_slice());
-    let by_stop = sooner(plan, rows, None, stop);
-    let by_timers = with_timers(plan, rows, by_stop, last);
-    let by_events = with_events(plan, rows, by_timers);
-    with_rows(plan, rows, by_events)
+    let by_stop = sooner(plan, rows, last, None, stop);
+    let by_timers = with_timers(plan, rows, last, by_stop);
+    let by_events = with_events(plan, rows, last, by_timers);
+    with_rows(plan, rows, last, by_events)
 }

@@ -7,7 +7,7 @@ use Rattle.lft_model.specs.OneWorker.{IsPending}
 use Rattle.lft_recording.specs.Arrivals.{IsCovered}
 use Rattle.lft_recording.specs.Waits.{Awaits, FiresAfter, EventAt}
 use Rattle.lft_recording.proofs.Arriving.{ArrivalAt}
-use Rattle.lft_recording.proofs.Awaiting.{last_up_to, pending_covered, if_least, if_nothing}
+use Rattle.lft_recording.proofs.Awaiting.{all_later, last_up_to, pending_covered, if_least, if_nothing}
 use Rattle.lft_recording.proofs.earliest.least_tag.Goals as goal
 
 pub returns-then-awaits-clause-some : goal.returns-then-awaits-clause-some
@@ -43,3 +43,23 @@ returns-clause-none c =
     let by_rows : (h : Tag) → ArrivalAt plan t h → Awaits plan t h → IsCovered found h = λ h a o. c.with_rows.ensures.covers a.0 a.1 h a.2 a.3 o in
     let covers : (h : Tag) (r : ℕ) → IsPending plan (by_ends plan t) h r → IsCovered found h = pending_covered plan c.keeps.ensures.sound t c.requires.so_far c.requires.quiet c.requires.fit c.last_tag-last.result c.last_tag-last.ensures found none_last by_stop by_timers by_events by_rows in
     if_nothing plan t found covers
+
+pub sooner-by_stop-requires-clause-past : goal.sooner-by_stop-requires-clause-past
+sooner-by_stop-requires-clause-past c =
+    let none_last : ¬ Awaits c.args.plan.now c.args.rows.now c.last_tag-last.result = search rules in
+    all_later c.args.plan.now c.keeps.ensures.sound c.args.rows.now c.requires.so_far c.requires.quiet c.last_tag-last.result c.last_tag-last.ensures none_last
+
+pub with_timers-by_timers-requires-clause-past : goal.with_timers-by_timers-requires-clause-past
+with_timers-by_timers-requires-clause-past c =
+    let none_last : ¬ Awaits c.args.plan.now c.args.rows.now c.last_tag-last.result = search rules in
+    all_later c.args.plan.now c.keeps.ensures.sound c.args.rows.now c.requires.so_far c.requires.quiet c.last_tag-last.result c.last_tag-last.ensures none_last
+
+pub with_events-by_events-requires-clause-past : goal.with_events-by_events-requires-clause-past
+with_events-by_events-requires-clause-past c =
+    let none_last : ¬ Awaits c.args.plan.now c.args.rows.now c.last_tag-last.result = search rules in
+    all_later c.args.plan.now c.keeps.ensures.sound c.args.rows.now c.requires.so_far c.requires.quiet c.last_tag-last.result c.last_tag-last.ensures none_last
+
+pub with_rows-requires-clause-past : goal.with_rows-requires-clause-past
+with_rows-requires-clause-past c =
+    let none_last : ¬ Awaits c.args.plan.now c.args.rows.now c.last_tag-last.result = search rules in
+    all_later c.args.plan.now c.keeps.ensures.sound c.args.rows.now c.requires.so_far c.requires.quiet c.last_tag-last.result c.last_tag-last.ensures none_last
