@@ -43,9 +43,7 @@ fn recorded<R: Threads + Wait + Sync>(
 ) -> u8 {
     let program = given.program.as_slice();
     let externals = given.externals.as_slice();
-    let answer = record_answer(
-        rt, alloc, program, externals, cards, workers, runs, table,
-    );
+    let answer = record_answer(rt, alloc, program, externals, cards, workers, runs, table);
     finish(answer, told)
 }
 
