@@ -1,5 +1,5 @@
 -- What a recording writes, and why it ends before its plan.
-use Rattle.std.specs.Prelude.{◌≡◌, ◌≢◌, ◌⊎◌, ℕ, ℤ, List, Option}
+use Rattle.std.specs.Prelude.{◌≡◌, ◌≢◌, ◌⊎◌, ℕ, ℤ, List, [], Option}
 use Rattle.std.specs.Io.KnownBytes.{Appends, Keeps}
 use Rattle.lft_tag.specs.declared.Tag.{Tag}
 use Rattle.lft_flat.specs.Parts.{Parts}
@@ -45,12 +45,13 @@ pub record IsRecorded (law : AnswerLaw) (plan : PlanParts) (workers : ℕ) (old 
   pub recording : IsRecording law plan rows states
   pub written : Writes plan.program rows old new
 
--- the recording stopped at these rows, for this reason; they are of the plan unless the reason is that it isn't the one given
+-- the recording stopped at these rows, for this reason; they are of the plan unless the reason is that it isn't the one given, and there are none where the number of workers isn't lawful, which is told exactly then
 pub record StopsAt (law : AnswerLaw) (plan : PlanParts) (workers : ℕ) (reason : Stop) (end : PlanParts) (rows : List Row) : Type 0 where
   pub states : List (ℤ × ℤ)
   pub recording : IsRecording law end rows states
   pub same : reason ≢ stop.PlanChanged → end ≡ plan
   pub bad : AreBad workers → reason ≡ stop.BadWorkers
+  pub unbegun : reason ≡ stop.BadWorkers → AreBad workers × (rows ≡ [])
 
 -- the plan wasn't recorded to its stop: the recording stopped and the table of its rows so far was written, or a table wasn't written
 pub data RecordRefusal (law : AnswerLaw) (plan : PlanParts) (workers : ℕ) (old new : Option (List ℕ)) (f : Fault) : Type 0 where
