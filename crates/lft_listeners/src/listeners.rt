@@ -1,6 +1,6 @@
 //! The listeners of a program.
 
-ghost use Rattle.std.specs.Prelude.{◌≡◌, ◌≢◌, ◌↔◌, ◌⊎◌, ◌<◌, ℕ, [], length, slice_get, Some, Contains, IfOk, OnOk};
+ghost use Rattle.std.specs.Prelude.{◌≡◌, ◌≢◌, ◌↔◌, ◌<◌, ℕ, [], length, slice_get, Some, Contains, IfOk, OnOk};
 ghost use Rattle.lft_flat.specs.Parts.{Parts};
 ghost use Rattle.lft_flat.specs.declared.parts.Trigger.{Trigger as TriggerOf};
 ghost use Rattle.lft_listeners.specs.Listeners.{IsListener, IsLive, AreListeners};

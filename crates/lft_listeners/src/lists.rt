@@ -29,8 +29,7 @@ impl Lists {
     {
         let mut rows = Vec::new(alloc);
         'rows: for _number in 0..count {
-            rows.reserve(1)?;
-            rows.push_reserved(Vec::new(alloc));
+            rows.push(Vec::new(alloc))?;
         }
         Ok(Lists { rows })
     }
