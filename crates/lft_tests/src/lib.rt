@@ -1,7 +1,22 @@
 #![tactic(auto)]
 //! The tests below the calls on texts that need code: who is told of a tag, by a copy of a plan and
-//! by two workers at a time. What is data is a case of `lft_cases`.
+//! by two workers at a time; queues, books driven by hand, and recordings. What is data is a case of
+//! `lft_cases`.
 
+#[cfg(test)]
+mod answers;
+#[cfg(test)]
+mod books;
+#[cfg(test)]
+mod closures;
+#[cfg(test)]
+mod queues;
+#[cfg(test)]
+mod recordings;
+#[cfg(test)]
+mod stops;
+#[cfg(test)]
+mod strangers;
 #[cfg(test)]
 mod texts;
 #[cfg(test)]

@@ -1,11 +1,33 @@
-//! Plans of texts.
+//! Programs and external inputs, their plans, and the tables of rows.
+
+ghost use Rattle.lft_trace.specs.Fits.{RowsFit};
 
 use lft_model::Plan;
 use lft_program::flatten;
 use lft_syntax::{lex, parse};
-use lft_trace::read_externals;
+use lft_trace::{Rows, read_externals, write_trace};
 use std::alloc::Global;
 use std::test::Fail;
+
+/// A reaction to a timer writes a port, and another one reads it at the same tag.
+pub(crate) const PIPE: &[u8] = b"target C
+reactor A { output out: int  timer t(0, 10 ms)  reaction(t) -> out {= =} }
+reactor B { input x: int  reaction(x) {= =} }
+main reactor { a = new A()  b = new B()  a.out -> b.x }
+";
+
+/// Two reactions that run at one tag, and know nothing of each other.
+pub(crate) const TWO: &[u8] = b"reactor S { output o: int  reaction(startup) -> o {= =} }
+main reactor { p = new S()  q = new S() }
+";
+
+/// A reaction schedules an action, another one is triggered by it, and a third runs at the end.
+pub(crate) const ASK: &[u8] = b"main reactor { logical action n  reaction(startup) -> n {= =}
+reaction(n) {= =}  reaction(shutdown) {= =} }
+";
+
+/// The execution is stopped at its first tag.
+pub(crate) const AT_ONCE: &[u8] = b"kind,time,microstep,name,value\nstop,0,0,,\n";
 
 /// The plan of a program's text and of a table of external inputs.
 pub(crate) fn plan(alloc: Global, program: &[u8], externals: &[u8]) -> Result<Plan, Fail> {
@@ -14,4 +36,12 @@ pub(crate) fn plan(alloc: Global, program: &[u8], externals: &[u8]) -> Result<Pl
     let program = flatten(alloc, &tree)?;
     let externals = read_externals(alloc, &program, externals)?;
     Ok(Plan::new(alloc, program, externals)?)
+}
+
+/// Whether the rows of a plan are written as this table.
+pub(crate) fn is_table(alloc: Global, plan: &Plan, rows: &Rows, table: &[u8]) -> Result<bool, Fail>
+    requires { RowsFit plan.now.program rows.now }
+{
+    let text = write_trace(alloc, plan.program(), rows)?;
+    Ok(text.as_slice() == table)
 }

@@ -1,0 +1,65 @@
+//! Bodies whose answers are made beforehand.
+
+ghost use Rattle.std.specs.Prelude.{◌≡◌, OnOk, length};
+
+use lft_flat::{Name, Value};
+use lft_model::Reads;
+use lft_pool::{AnyAnswer, Bodies, Body, Code, Done, Steps};
+use lft_tag::{NoMemory, Tag};
+use lft_trace::Step;
+use std::alloc::Global;
+
+/// Code that gives its answer whatever it is given.
+#[derive(Drop)]
+pub(crate) struct Prepared {
+    answer: Result<Done, NoMemory>,
+}
+
+impl Prepared {
+    pub(crate) fn new(answer: Result<Done, NoMemory>) -> Prepared {
+        Prepared { answer }
+    }
+}
+
+impl Code for Prepared {
+    ghost can_run = { λ _. Unit {0} };
+
+    ghost gives = { λ _ _ _ _ _. Unit {0} };
+
+    fn run(self, _tag: Tag, _state: i64, _reads: Reads) -> Result<Done, NoMemory> {
+        self.answer
+    }
+}
+
+/// Bodies of whose answers nothing is asked.
+pub(crate) type PreparedBodies = Bodies<AnyAnswer, Prepared>;
+
+/// The answer that leaves this state word and makes these steps.
+pub(crate) fn done(alloc: Global, state: i64, steps: &[Step]) -> Result<Done, NoMemory> {
+    let steps = Steps::from_vec(Vec::from_slice(alloc, steps)?);
+    Ok(Done { state, steps })
+}
+
+/// Puts a body with this answer behind the others of its reaction.
+pub(crate) fn put(
+    bodies: &mut PreparedBodies,
+    reaction: u32,
+    answer: Result<Done, NoMemory>,
+) -> Result<(), NoMemory>
+    ensures { OnOk result (length bodies.new ≡ length bodies.old) }
+{
+    match bodies.put(Body::new(reaction, Prepared::new(answer))) {
+        Ok(()) => return Ok(()),
+        Err(_) => return Err(NoMemory),
+    }
+}
+
+/// The step that writes a number to a port.
+pub(crate) fn write(port: u32, value: i64) -> Step {
+    Step::Write(Name::Port(port), Value::Int(value))
+}
+
+/// The step that schedules the first action after so many nanoseconds more.
+pub(crate) fn schedule(delay: u64) -> Step {
+    Step::Schedule(Name::Action(0), Value::Bare, delay)
+}
