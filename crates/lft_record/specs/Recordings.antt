@@ -11,7 +11,8 @@ use Rattle.lft_trace.specs.declared.row.Row.{Row}
 use Rattle.lft_model.specs.Breaches.{Legal}
 use Rattle.lft_model.specs.Plans.{PlanParts}
 use Rattle.lft_bodies.specs.declared.done.Done.{Done}
-use Rattle.lft_pool.specs.Books.{IsRecording}
+use Rattle.lft_recording.specs.Starts.{SomethingLeft}
+use Rattle.lft_pool.specs.Books.{IsRecording, LacksBody}
 use Rattle.lft_pool.specs.Endings.{AreBad}
 use Rattle.lft_pool.specs.declared.stop.Stop.{Stop}
 use Rattle.lft_pool.specs.declared.stop.Stop.TheVariants as stop
@@ -45,13 +46,16 @@ pub record IsRecorded (law : AnswerLaw) (plan : PlanParts) (workers : ℕ) (old 
   pub recording : IsRecording law plan rows states
   pub written : Writes plan.program rows old new
 
--- the recording stopped at these rows, for this reason; they are of the plan unless the reason is that it isn't the one given, and there are none where the number of workers isn't lawful, which is told exactly then
+-- the recording stopped at these rows, for this reason, with so many bodies of each reaction left; the rows are of the plan unless the reason is that it isn't the one given, and there are none where the number of workers isn't lawful, which is told exactly then; a reaction that has no body left may start
 pub record StopsAt (law : AnswerLaw) (plan : PlanParts) (workers : ℕ) (reason : Stop) (end : PlanParts) (rows : List Row) : Type 0 where
   pub states : List (ℤ × ℤ)
+  pub left : List ℕ
   pub recording : IsRecording law end rows states
   pub same : reason ≢ stop.PlanChanged → end ≡ plan
   pub bad : AreBad workers → reason ≡ stop.BadWorkers
   pub unbegun : reason ≡ stop.BadWorkers → AreBad workers × (rows ≡ [])
+  pub no_body : (r : ℕ) → reason ≡ stop.NoBody r → LacksBody end rows left r
+  pub changed : reason ≡ stop.PlanChanged → (end ≢ plan) ⊎ SomethingLeft end rows
 
 -- the plan wasn't recorded to its stop: the recording stopped and the table of its rows so far was written, or a table wasn't written
 pub data RecordRefusal (law : AnswerLaw) (plan : PlanParts) (workers : ℕ) (old new : Option (List ℕ)) (f : Fault) : Type 0 where

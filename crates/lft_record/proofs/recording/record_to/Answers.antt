@@ -48,7 +48,16 @@ pub returns-in-Ok-write_rows-clause-refused : goal.returns-in-Ok-write_rows-clau
 returns-in-Ok-write_rows-clause-refused g c =
     let s = c.in-Err.stopped in
     by_stop s.reason s.plan s.rows c.in-Ok-stop_fault.ensures.part c.in-Ok-stop_fault.ensures.number
-    (record { states = s.states; recording = c.in-Err.ensures.so_far; same = c.in-Err.ensures.changed; bad = c.in-Err.ensures.bad; unbegun = λ e. (let u = c.in-Err.ensures.unbegun e in (u.0, u.1)) }) c.in-Ok-write_rows.ensures.written
+    (record {
+      states = s.states;
+      left = s.left;
+      recording = c.in-Err.ensures.so_far;
+      same = c.in-Err.ensures.changed;
+      bad = c.in-Err.ensures.bad;
+      unbegun = λ e. (let u = c.in-Err.ensures.unbegun e in (u.0, u.1));
+      no_body = λ r e. c.in-Err.ensures.no_body r e;
+      changed = c.in-Err.ensures.why_changed;
+    }) c.in-Ok-write_rows.ensures.written
 
 pub returns-clause-refused : goal.returns-clause-refused
 returns-clause-refused g c =
