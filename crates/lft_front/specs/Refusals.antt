@@ -9,7 +9,8 @@ use Rattle.lft_trace.specs.Traces.{TraceFails}
 use Rattle.lft_model.specs.Plans.{PlanParts}
 use Rattle.lft_load.specs.Faults.{table_number}
 use Rattle.lft_check.specs.declared.verdict.Verdict.{Verdict}
-use Rattle.lft_check.specs.Verdicts.{IsVerdict, IsWorkers}
+use Rattle.lft_model.specs.Workers.{IsWorkers}
+use Rattle.lft_check.specs.Verdicts.{IsVerdict}
 use Rattle.lft_front.specs.Lines.{line_of}
 use Rattle.lft_load.specs.Meaning.{IsProgramOf, IsPlanOf}
 use Rattle.lft_front.specs.Meaning.{IsMeaning}

@@ -1,13 +1,9 @@
 -- Why a recording isn't finished.
-use Rattle.std.specs.Prelude.{◌≡◌, ℕ, ◌<◌, ◌⊎◌, Bool, true, false, Result, Err, IfOk, is_ok}
+use Rattle.std.specs.Prelude.{◌≡◌, ◌⊎◌, Bool, true, false, Result, Err, IfOk, is_ok}
 use Rattle.lft_pool.specs.declared.book.Begin.{Begin}
 use Rattle.lft_pool.specs.declared.stop.Stop.{Stop}
 use Rattle.lft_pool.specs.declared.stop.Stop.TheVariants.{NoWorker, PlanChanged}
 use Rattle.lft_pool.specs.Begun.{MatchBegin}
-
--- there are not 1 to 64 workers
-abbrev pub AreBad : ℕ → Type 0
-AreBad workers = (workers ≡ 0) ⊎ (64 < workers)
 
 -- the last answer of a book is that something is left to run
 abbrev pub IsUnfinished : {L C : Type 0} → Result (Begin L C) Stop → Type 0

@@ -5,7 +5,8 @@ ghost use Rattle.lft_model.specs.Breaches.{Legal};
 ghost use Rattle.lft_recording.specs.Starts.{SomethingLeft};
 ghost use Rattle.lft_pool.specs.Books.{IsRecording, LacksBody};
 ghost use Rattle.lft_pool.specs.Begun.{MatchBegin};
-ghost use Rattle.lft_pool.specs.Endings.{AreBad, ReasonIs};
+ghost use Rattle.lft_model.specs.Workers.{IsWorkers};
+ghost use Rattle.lft_pool.specs.Endings.{ReasonIs};
 
 use crate::book::{Begin, Book, Closed, Stopped};
 use crate::states::States;
@@ -135,11 +136,11 @@ fn unbegun<L: Law, C: Code + Drop>(
     }
 }
 
-// Whether there are not 1 to 64 workers.
-fn are_bad(workers: u32) -> bool
-    ensures { IsTrue result ↔ AreBad workers }
+// Whether recording takes this number of workers: 1 to 64.
+fn is_workers(workers: u32) -> bool
+    ensures { IsTrue result ↔ IsWorkers workers }
 {
-    workers == 0 || workers > MAX_WORKERS
+    1 <= workers && workers <= MAX_WORKERS
 }
 
 /// Records the plan with so many workers, at most so many runs, if it returns.
@@ -161,11 +162,11 @@ pub fn record_run<L: Law + Send, C: Code + Drop + Send, R: Threads + Wait + Sync
     ensures changed { IfErr result (λ s. s.reason ≢ Stop.PlanChanged → s.plan ≡ plan) }
     ensures why_changed { IfErr result (λ s. s.reason ≡ Stop.PlanChanged → (s.plan ≢ plan) ⊎ SomethingLeft s.plan s.rows) }
     ensures no_body { IfErr result (λ s. (r : _) → s.reason ≡ Stop.NoBody r → LacksBody s.plan s.rows s.left r) }
-    ensures workers { IfOk result (λ r. ¬ AreBad workers) }
-    ensures bad { IfErr result (λ s. AreBad workers → s.reason ≡ Stop.BadWorkers) }
-    ensures unbegun { IfErr result (λ s. s.reason ≡ Stop.BadWorkers → AreBad workers × (s.rows ≡ []) × (s.states ≡ []) × (s.left ≡ bodies)) }
+    ensures workers { IfOk result (λ r. IsWorkers workers) }
+    ensures bad { IfErr result (λ s. (IsWorkers workers → ⊥) → s.reason ≡ Stop.BadWorkers) }
+    ensures unbegun { IfErr result (λ s. s.reason ≡ Stop.BadWorkers → (IsWorkers workers → ⊥) × (s.rows ≡ []) × (s.states ≡ []) × (s.left ≡ bodies)) }
 {
-    if are_bad(workers) {
+    if !is_workers(workers) {
         return Err(unbegun(alloc, Stop::BadWorkers, plan, bodies));
     }
     let Ok(kept) = plan.copy(alloc) else {

@@ -10,10 +10,10 @@ use Rattle.lft_trace.specs.Written.{table_text}
 use Rattle.lft_trace.specs.declared.row.Row.{Row}
 use Rattle.lft_model.specs.Breaches.{Legal}
 use Rattle.lft_model.specs.Plans.{PlanParts}
+use Rattle.lft_model.specs.Workers.{IsWorkers}
 use Rattle.lft_bodies.specs.declared.done.Done.{Done}
 use Rattle.lft_recording.specs.Starts.{SomethingLeft}
 use Rattle.lft_pool.specs.Books.{IsRecording, LacksBody}
-use Rattle.lft_pool.specs.Endings.{AreBad}
 use Rattle.lft_pool.specs.declared.stop.Stop.{Stop}
 use Rattle.lft_pool.specs.declared.stop.Stop.TheVariants as stop
 use Rattle.lft_load.specs.Written.{AppendsFront}
@@ -41,7 +41,7 @@ pub data TableRefusal (program : Parts) (rows : List Row) (old new : Option (Lis
 pub record IsRecorded (law : AnswerLaw) (plan : PlanParts) (workers : ℕ) (old new : Option (List ℕ)) : Type 0 where
   pub rows : List Row
   pub states : List (ℤ × ℤ)
-  pub workers_are : ¬ AreBad workers
+  pub workers_are : IsWorkers workers
   pub legal : Legal plan rows
   pub recording : IsRecording law plan rows states
   pub written : Writes plan.program rows old new
@@ -52,8 +52,8 @@ pub record StopsAt (law : AnswerLaw) (plan : PlanParts) (workers : ℕ) (reason 
   pub left : List ℕ
   pub recording : IsRecording law end rows states
   pub same : reason ≢ stop.PlanChanged → end ≡ plan
-  pub bad : AreBad workers → reason ≡ stop.BadWorkers
-  pub unbegun : reason ≡ stop.BadWorkers → AreBad workers × (rows ≡ [])
+  pub bad : (IsWorkers workers → ⊥) → reason ≡ stop.BadWorkers
+  pub unbegun : reason ≡ stop.BadWorkers → (IsWorkers workers → ⊥) × (rows ≡ [])
   pub no_body : (r : ℕ) → reason ≡ stop.NoBody r → LacksBody end rows left r
   pub changed : reason ≡ stop.PlanChanged → (end ≢ plan) ⊎ SomethingLeft end rows
 

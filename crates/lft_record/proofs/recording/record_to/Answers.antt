@@ -3,8 +3,8 @@ use Rattle.std.specs.Io.KnownBytes.{Appends, Keeps}
 use Rattle.lft_trace.specs.declared.row.Row.{Row}
 use Rattle.lft_model.specs.Breaches.{Legal}
 use Rattle.lft_model.specs.Plans.{PlanParts}
+use Rattle.lft_model.specs.Workers.{IsWorkers}
 use Rattle.lft_pool.specs.Books.{IsRecording}
-use Rattle.lft_pool.specs.Endings.{AreBad}
 use Rattle.lft_pool.specs.declared.stop.Stop.{Stop}
 use Rattle.lft_load.specs.declared.fault.Fault.{Fault}
 use Rattle.lft_load.specs.declared.fault.Part.TheVariants as part
@@ -15,7 +15,7 @@ use Rattle.lft_record.specs.Recordings.TableRefusal.{by_growth as no_growth, by_
 use Rattle.lft_record.proofs.recording.record_to.Goals as goal
 
 recorded : {A E : Type 0} (law : AnswerLaw) (plan : PlanParts) (workers : ℕ) (old new : Option (List ℕ)) (rows : List Row) (states : List (ℤ × ℤ)) (r : Result A E)
-    → ¬ AreBad workers → Legal plan rows → IsRecording law plan rows states → OnOk r (Writes plan.program rows old new) → OnOk r (IsRecorded law plan workers old new)
+    → IsWorkers workers → Legal plan rows → IsRecording law plan rows states → OnOk r (Writes plan.program rows old new) → OnOk r (IsRecorded law plan workers old new)
 recorded law plan workers old new rows states (Ok x) good legal is h = record { rows = rows; states = states; workers_are = good; legal = legal; recording = is; written = h }
 recorded law plan workers old new rows states (Err e) good legal is h = tt
 
