@@ -1,3 +1,10 @@
 pub mod Opening
 pub mod Stops
+pub mod NextFiring
+pub mod Awaiting
+pub mod Told
+pub mod Telling
+pub mod Advancing
+pub mod Committed
+pub mod Turned
 pub mod Ending
