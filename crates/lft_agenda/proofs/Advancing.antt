@@ -6,6 +6,7 @@ use Rattle.std.proofs.lemmas.Bool.{false≢true}
 use Rattle.lft_tag.specs.declared.Tag.{Tag}
 use Rattle.lft_tag.specs.Tags.{Before, UpTo, is_before, same_tag}
 use Rattle.lft_tag.proofs.Order.{Before-irrefl, Before-trans, Before-UpTo, Before-weaken, UpTo-refl, UpTo-trans, UpTo-not, UpTo_antisym, order_cases, UpTo-Before}
+use Rattle.lft_flat.specs.Parts.{Parts}
 use Rattle.lft_flat.specs.declared.parts.Name.{Name}
 use Rattle.lft_flat.specs.declared.parts.Value.{Value}
 use Rattle.lft_flat.specs.declared.parts.Trigger.{Trigger}
@@ -30,7 +31,8 @@ use Rattle.lft_events.specs.Events.{HasEvents}
 use Rattle.lft_events.proofs.Fed.{some_there}
 use Rattle.lft_recording.specs.Starts.{SomethingLeft, IsAnyOpen}
 use Rattle.lft_agenda.specs.Waits.{Awaits, IsLeastTag, IsBetween, IsCovered, PhaseIs, IsTurnOf}
-use Rattle.lft_agenda.specs.Telling.{IsTold, OccursBy, IsCalled}
+use Rattle.lft_listeners.specs.Listeners.{IsListener, IsLive}
+use Rattle.lft_agenda.specs.Telling.{IsTold, FiresAt, OccursBy, IsCalled}
 use Rattle.lft_agenda.specs.Agendas.{MayAdvance, IsReached, IsCurrent}
 use Rattle.lft_agenda.proofs.Opening.{filter_mem}
 use Rattle.lft_agenda.proofs.Told.{pending_back, none_waits, none_open_there, all_idle}
@@ -110,7 +112,7 @@ module _ (plan : PlanParts) (t : List Row) (last : Tag) (stop_is : last ≡ stop
       go (On n) e = let v = some_there (value_of h n q) e in (v.0, (values n v.0).0 v.1)
 
 -- the tag after which no row is, at which those that are triggered have been told, where all were idle
-told_turn : (plan : PlanParts) (good : IsSoundPlan plan) (t : List Row) (so_far : SoFar plan t) (quiet : OnlyEndedAnswer t) (last : Tag) (stop_is : last ≡ stop plan t) (q : List Pending) (h : Tag) (u : UpTo h last) (values : (n : Name) (v : Value) → (value_of h n q ≡ Some v) ↔ At plan t h n v) (none : (i : ℕ) (x : Row) → slice_get t i ≡ Some x → Before x.tag h) (old new : TurnParts) → IsGraphOf plan.program old.graph → length old.phases ≡ length plan.program.reactions → ((r : ℕ) (x : Phase) → slice_get old.phases r ≡ Some x → x ≡ Idle) → IsTold (IsCalled plan.program q last h) old new → IsTurnOf plan t h new
+pub told_turn : (plan : PlanParts) (good : IsSoundPlan plan) (t : List Row) (so_far : SoFar plan t) (quiet : OnlyEndedAnswer t) (last : Tag) (stop_is : last ≡ stop plan t) (q : List Pending) (h : Tag) (u : UpTo h last) (values : (n : Name) (v : Value) → (value_of h n q ≡ Some v) ↔ At plan t h n v) (none : (i : ℕ) (x : Row) → slice_get t i ≡ Some x → Before x.tag h) (old new : TurnParts) → IsGraphOf plan.program old.graph → length old.phases ≡ length plan.program.reactions → ((r : ℕ) (x : Phase) → slice_get old.phases r ≡ Some x → x ≡ Idle) → IsTold (IsCalled plan.program q last h) old new → IsTurnOf plan t h new
 told_turn plan good t so_far quiet last stop_is q h u values none old new graph count idle told = record { graph = subst (λ (k : GraphParts). IsGraphOf plan.program k) (sym told.graph) graph; count = told.count ∙ count; phases = phases }
   where
     open_here : (r : ℕ) → Triggered plan t h r → IsPending plan (by_ends plan t) h r
@@ -147,7 +149,8 @@ module _ (plan : PlanParts) (good : IsSoundPlan plan) (t : List Row) (last : Tag
   pub reached_current : (r : ℕ) → slice_get turn.phases r ≡ Some Waiting → IsCurrent plan t from last turn q
   reached_current r e = record { turn = is.turn; least = λ o. record { awaits = (r, pending_back plan good t may.so_far may.quiet from turn is.turn r (inl e)); least = is.least }; events = λ o. is.events }
 
-  module _ (over : NonePending turn.phases) where
+  -- the events that are left where those up to the tag are taken out
+  module _ (over : NonePending turn.phases) (rest : List Pending) (rest_is : rest ≡ filter (λ e. is_after from e) q) where
     -- what is pending is later than the tag
     all_later : (h : Tag) (r : ℕ) → IsPending plan (by_ends plan t) h r → Before from h
     all_later h r p = go (order_cases from h)
@@ -159,35 +162,54 @@ module _ (plan : PlanParts) (good : IsSoundPlan plan) (t : List Row) (last : Tag
     early : (h : Tag) (r : ℕ) → IsPending plan (by_ends plan t) h r → UpTo h last
     early h r p = subst (λ (k : Tag). UpTo h k) (sym may.stop_is) (pending_time plan good t may.so_far may.quiet h r p)
 
-    -- and is called by the events that are left
-    pending_called : (h : Tag) (r : ℕ) → IsPending plan (by_ends plan t) h r → IsCalled plan.program (filter (λ e. is_after from e) q) last h r
-    pending_called h r p =
-        let b = all_later h r p in
-        let has = dropped plan t from h last q b is.events in
-        called plan t last may.stop_is (filter (λ e. is_after from e) q) h (λ n v. has.values h n v (UpTo-refl h) (early h r p) tt) r (pending_triggered plan good t may.so_far may.quiet h r p)
+    -- they have what is to happen from a later tag on
+    has_rest : (next : Tag) → Before from next → HasEvents plan t next last None rest
+    has_rest next b = subst (λ (es : List Pending). HasEvents plan t next last None es) (sym rest_is) (dropped plan t from next last q b is.events)
 
-    module _ (found : Option Tag) (covers : (h : Tag) (r : ℕ) → IsCalled plan.program (filter (λ e. is_after from e) q) last h r → Before from h → UpTo h last → IsCovered found h) where
+    -- and call what is pending
+    pending_called : (h : Tag) (r : ℕ) → IsPending plan (by_ends plan t) h r → IsCalled plan.program rest last h r
+    pending_called h r p = called plan t last may.stop_is rest h (λ n v. (has_rest h (all_later h r p)).values h n v (UpTo-refl h) (early h r p) tt) r (pending_triggered plan good t may.so_far may.quiet h r p)
+
+    module _ (found : Option Tag) (covers : (h : Tag) (r : ℕ) → IsCalled plan.program rest last h r → Before from h → UpTo h last → IsCovered found h) where
       pending_covered : (h : Tag) (r : ℕ) → IsPending plan (by_ends plan t) h r → IsCovered found h
       pending_covered h r p = covers h r (pending_called h r p) (all_later h r p) (early h r p)
 
       -- no tag was found: nothing is left
-      pub finished_current : found ≡ None → IsCurrent plan t from last turn (filter (λ e. is_after from e) q)
+      pub finished_current : found ≡ None → IsCurrent plan t from last turn rest
       finished_current none = record { turn = is.turn; least = λ o. absurd (nothing o); events = λ o. absurd (nothing o) }
         where
           nothing : ¬ SomethingLeft plan t
           nothing o = let k = pending_covered o.0 o.1 o.2 in let z : None ≡ Some k.0 = sym none ∙ k.1 in absurd (cc)
 
       -- a tag was found: it is reached, once those that are triggered there have been told
-      pub moved_on : (next : Tag) (new : TurnParts) → found ≡ Some next → IsBetween from last next → IsTold (IsCalled plan.program (filter (λ e. is_after from e) q) last next) turn new → IsReached plan t next last new (filter (λ e. is_after from e) q)
+      pub moved_on : (next : Tag) (new : TurnParts) → found ≡ Some next → IsBetween from last next → IsTold (IsCalled plan.program rest last next) turn new → IsReached plan t next last new rest
       moved_on next new some between told = record {
         past = λ i x e. Before-weaken x.tag next (past i x e);
         least = λ h r p. (let k = pending_covered h r p in let z : Some next ≡ Some k.0 = sym some ∙ k.1 in let y : k.0 ≡ next = cc in subst (λ (g : Tag). UpTo g h) y k.2);
-        turn = told_turn plan good t may.so_far may.quiet last may.stop_is (filter (λ e. is_after from e) q) next between.1 (λ n v. has.values next n v (UpTo-refl next) between.1 tt) past turn new is.turn.graph is.turn.count (all_idle plan good t may.so_far may.quiet from turn is.turn over) told;
-        events = has;
+        turn = told_turn plan good t may.so_far may.quiet last may.stop_is rest next between.1 (λ n v. (has_rest next between.0).values next n v (UpTo-refl next) between.1 tt) past turn new is.turn.graph is.turn.count (all_idle plan good t may.so_far may.quiet from turn is.turn over) told;
+        events = has_rest next between.0;
       }
         where
-          has : HasEvents plan t next last None (filter (λ e. is_after from e) q)
-          has = dropped plan t from next last q between.0 is.events
-
           past : (i : ℕ) (x : Row) → slice_get t i ≡ Some x → Before x.tag next
           past i x e = UpTo-Before x.tag from next (is.past i x e) between.0
+
+-- what is covered by the stop, the queue's first tag and the next firings
+pub next_covers : (program : Parts) (q : List Pending) (last from : Tag) (a b found : Option Tag) → (Before from last → UpTo last last → IsCovered a last) → ((h : Tag) (n : Name) (v : Value) → value_of h n q ≡ Some v → UpTo h last → IsCovered b h) → ((h : Tag) → IsCovered a h → IsCovered b h) → ((h : Tag) (n : ℕ) → IsLive program n → FiresAt program h n → Before from h → UpTo h last → IsCovered found h) → ((h : Tag) → IsCovered b h → IsCovered found h) → (h : Tag) (r : ℕ) → IsCalled program q last h r → Before from h → UpTo h last → IsCovered found h
+next_covers program q last from a b found by_stop by_events more_events by_timers more h r o later u = go o.0 o.1 o.2
+  where
+    go : (x : Trigger) → OccursBy program q last h x → IsListener program x r → IsCovered found h
+    go Startup e l = absurd (none_before_first from h e later)
+    go Shutdown e l = subst (λ (k : Tag). IsCovered found k) (sym e) (more last (more_events last (by_stop (subst (λ (k : Tag). Before from k) e later) (UpTo-refl last))))
+    go (Timer n) e l = by_timers h n (r, l) e later u
+    go (On n) e l = let v = some_there (value_of h n q) e in more h (by_events h n v.0 v.1 u)
+
+-- the measure of a walk over tags up to the stop
+pub nearer : (from next last : Tag) → next.micro < 4294967296 → from.micro < 4294967296 → IsBetween from last next → 4294967296 * (last.time - next.time) + (4294967296 - next.micro) < 4294967296 * (last.time - from.time) + (4294967296 - from.micro)
+nearer from next last a b (inl l, inl u) = omega arith
+nearer from next last a b (inl l, inr u) = let p = u.0 in omega arith
+nearer from next last a b (inr l, inl u) = let p = l.0 in let q = l.1 in omega arith
+nearer from next last a b (inr l, inr u) = let p = l.0 in let q = l.1 in let s = u.0 in omega arith
+
+pub some_number : (o : Option ℕ) → is_some o ≡ true → (x : ℕ) × (o ≡ Some x)
+some_number None e = absurd (cc)
+some_number (Some x) e = (x, refl)

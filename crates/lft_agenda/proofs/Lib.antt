@@ -5,6 +5,7 @@ pub mod Awaiting
 pub mod Told
 pub mod Telling
 pub mod Advancing
+pub mod Beginning
 pub mod Committed
 pub mod Turned
 pub mod Ending

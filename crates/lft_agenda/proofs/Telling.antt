@@ -1,12 +1,20 @@
 -- Turns of which some reactions have been told that they are triggered.
-use Rattle.std.proofs.Common.{◌≡◌, ◌≢◌, ℕ, ◌+◌, ◌<◌, ◌≤◌, ◌⊎◌, inl, inr, List, length, refl, sym, ap, ◌∙◌, subst, arith, Some, slice_get, slice_set, Contains}
+use Rattle.std.proofs.Common.{◌≡◌, ◌≢◌, ◌↔◌, ℕ, zero, suc, ◌+◌, ◌<◌, ◌≤◌, ◌⊎◌, inl, inr, List, [], ◌∷◌, length, drop, refl, sym, ap, ◌∙◌, subst, arith, add-one, Some, IsSome, slice_get, slice_set, Contains, Bool, IsTrue}
 use native.Mathlib.Decide.{dec_lt}
+use Rattle.lft_tag.specs.declared.Tag.{Tag}
+use Rattle.lft_flat.specs.Parts.{Parts}
+use Rattle.lft_flat.specs.Sound.{IsSound}
+use Rattle.lft_flat.specs.declared.parts.Name.{Name}
+use Rattle.lft_flat.specs.declared.parts.Trigger.{Trigger}
+use Rattle.lft_flat.specs.declared.parts.Trigger.TheVariants.{Startup, Shutdown, Timer, On}
+use Rattle.lft_queue.specs.Pending.{Pending, value_of}
+use Rattle.lft_listeners.specs.Listeners.{IsListener, IsLive}
 use Rattle.lft_lists.proofs.Places.{get_there, get_written, get_unwritten, length_written, get_write_cases, contains_at, at_contains, same_at}
 use Rattle.lft_model.proofs.Places.{slice_get_within}
 use Rattle.lft_turn.specs.declared.phase.Phase.{Phase}
 use Rattle.lft_turn.specs.declared.phase.Phase.TheVariants.{Idle, Waiting, Open}
 use Rattle.lft_turn.specs.Turns.{TurnParts, IsPending}
-use Rattle.lft_agenda.specs.Telling.{IsTold, OfFirst}
+use Rattle.lft_agenda.specs.Telling.{IsTold, FiresAt, OccursBy, IsCalled, OfFirst}
 
 -- where the property holds of none, nothing changes
 pub told_none : (P : ℕ → Type 0) (a : TurnParts) → ((r : ℕ) → ¬ P r) → IsTold P a a
@@ -129,3 +137,54 @@ module _ {X : Type 0} (P : X → ℕ → Type 0) (xs : List X) where
   -- and of all
   pub told_each : (Q : ℕ → Type 0) (i : ℕ) (a b : TurnParts) → length xs ≤ i → ((r : ℕ) (k : ℕ) (x : X) → slice_get xs k ≡ Some x → P x r → Q r) → ((r : ℕ) → Q r → (k : ℕ) × (x : X) × (slice_get xs k ≡ Some x) × P x r) → IsTold (OfFirst P xs i) a b → IsTold Q a b
   told_each Q i a b enough to from is = told_as (OfFirst P xs i) Q a b (λ r q. to r q.0 q.1 q.3 q.4) (λ r q. (let k = from r q in let l : k.0 < length xs = slice_get_within xs k.0 k.1 k.2 in (k.0, k.1, omega arith, k.2, k.3))) is
+
+-- a timer that triggers a reaction is one of the program
+pub live_within : (program : Parts) → IsSound program → (n : ℕ) → IsLive program n → n < length program.timers
+live_within program sound n o = (sound.exist o.0 o.1.0 o.1.1).triggers (Timer n) o.1.2
+
+-- the first of what is left of a list
+pub drop_head : {X : Type 0} (xs : List X) (k : ℕ) (x : X) (ys : List X) → drop k xs ≡ x ∷ ys → (slice_get xs k ≡ Some x) × (drop (suc k) xs ≡ ys)
+drop_head [] zero x ys e = absurd (cc)
+drop_head [] (suc k) x ys e = absurd (cc)
+drop_head (z ∷ xs) zero x ys e = (cc, cc)
+drop_head (z ∷ xs) (suc k) x ys e = drop_head xs k x ys e
+
+pub drop_none : {X : Type 0} (xs : List X) (k : ℕ) → drop k xs ≡ [] → length xs ≤ k
+drop_none [] k e = omega arith
+drop_none (z ∷ xs) zero e = absurd (cc)
+drop_none (z ∷ xs) (suc k) e = let l : length xs ≤ k = drop_none xs k e in omega arith
+
+-- those that listen to one of the triggers that occur
+module _ (program : Parts) (q : List Pending) (last g : Tag) (first final : Bool) where
+  abbrev Starts : ℕ → Type 0
+  Starts r = IsTrue first × IsListener program Startup r
+
+  abbrev Ends : ℕ → Type 0
+  Ends r = IsTrue final × IsListener program Shutdown r
+
+  abbrev Ticks : ℕ → Type 0
+  Ticks r = (n : ℕ) × FiresAt program g n × IsListener program (Timer n) r
+
+  abbrev Names : ℕ → Type 0
+  Names r = (n : Name) × IsSome (value_of g n q) × IsListener program (On n) r
+
+  abbrev Any : ℕ → Type 0
+  Any r = ((Starts r ⊎ Ends r) ⊎ Ticks r) ⊎ Names r
+
+  pub told_called : (a b c d e : TurnParts) → IsTrue first ↔ (g ≡ record { time = 0; micro = 0 }) → IsTrue final ↔ (g ≡ last) → IsTold Starts a b → IsTold Ends b c → IsTold Ticks c d → IsTold Names d e → IsTold (IsCalled program q last g) a e
+  told_called a b c d e is_first is_final one two three four = told_as Any (IsCalled program q last g) a e to from (told_more (λ r. (Starts r ⊎ Ends r) ⊎ Ticks r) Names a d e (told_more (λ r. Starts r ⊎ Ends r) Ticks a c d (told_more Starts Ends a b c one two) three) four)
+    where
+      to : (r : ℕ) → Any r → IsCalled program q last g r
+      to r (inl (inl (inl p))) = (Startup, is_first.0 p.0, p.1)
+      to r (inl (inl (inr p))) = (Shutdown, is_final.0 p.0, p.1)
+      to r (inl (inr p)) = (Timer p.0, p.1, p.2)
+      to r (inr p) = (On p.0, p.1, p.2)
+
+      from : (r : ℕ) → IsCalled program q last g r → Any r
+      from r o = go o.0 o.1 o.2
+        where
+          go : (x : Trigger) → OccursBy program q last g x → IsListener program x r → Any r
+          go Startup h l = inl (inl (inl (is_first.1 h, l)))
+          go Shutdown h l = inl (inl (inr (is_final.1 h, l)))
+          go (Timer n) h l = inl (inr (n, h, l))
+          go (On n) h l = inr (n, h, l)

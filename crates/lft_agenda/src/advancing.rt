@@ -1,12 +1,12 @@
 //! On to the next tag at which a reaction is triggered.
 
-ghost use Rattle.std.specs.Prelude.{◌≡◌, ◌≤◌, ◌<◌, length, slice_get, Some, IfSome, List};
+ghost use Rattle.std.specs.Prelude.{◌≡◌, ◌≤◌, ◌<◌, length, Some, IfSome, List, Contains};
 ghost use Rattle.lft_tag.specs.declared.Tag.{Tag as TagOf};
 ghost use Rattle.lft_tag.specs.Tags.{Before, UpTo};
 ghost use Rattle.lft_flat.specs.declared.parts.Name.{Name as NameOf};
 ghost use Rattle.lft_flat.specs.declared.parts.Value.{Value as Carried};
 ghost use Rattle.lft_trace.specs.declared.row.Row.{Row as RowOf};
-ghost use Rattle.lft_queue.specs.Pending.{value_of};
+ghost use Rattle.lft_queue.specs.Pending.{Pending, value_of};
 ghost use Rattle.lft_listeners.specs.Listeners.{AreListeners, IsLive};
 ghost use Rattle.lft_agenda.specs.Waits.{IsBetween, IsCovered};
 ghost use Rattle.lft_agenda.specs.Telling.{FiresAt, IsCalled};
@@ -84,7 +84,7 @@ fn with_timers(
 
 // The same with the least tag of the queue, whose events are all later.
 fn with_events(queue: &Queue, least: Option<Tag>, from: Tag, stop: Tag) -> Option<Tag>
-    requires later { (h : TagOf) (n : NameOf) (v : Carried) → value_of h n queue.now ≡ Some v → Before from h }
+    requires later { (e : Pending) → Contains queue.now e → Before from e.tag }
     requires between { IfSome least (IsBetween from stop) }
     ensures between { IfSome result (IsBetween from stop) }
     ensures covers { (h : TagOf) (n : NameOf) (v : Carried) → value_of h n queue.now ≡ Some v → UpTo h stop → IsCovered result h }
@@ -101,7 +101,7 @@ fn with_events(queue: &Queue, least: Option<Tag>, from: Tag, stop: Tag) -> Optio
 fn next_tag(listeners: &Listeners, plan: &Plan, queue: &Queue, from: Tag, stop: Tag) -> Option<Tag>
     requires listeners { AreListeners plan.now.program listeners.now }
     requires time { from.time ≤ 1000000000000000000 }
-    requires later { (h : TagOf) (n : NameOf) (v : Carried) → value_of h n queue.now ≡ Some v → Before from h }
+    requires later { (e : Pending) → Contains queue.now e → Before from e.tag }
     ensures between { IfSome result (IsBetween from stop) }
     ensures covers { (h : TagOf) (r : _) → IsCalled plan.now.program queue.now stop h r → Before from h → UpTo h stop → IsCovered result h }
 {
