@@ -14,11 +14,7 @@ use Rattle.lft_flat.specs.declared.parts.Value.{Value}
 use Rattle.lft_flat.specs.declared.parts.Name.{Name}
 use Rattle.lft_flat.specs.declared.parts.Name.TheVariants.{Port, Action}
 use Rattle.lft_queue.specs.Pending.{Pending, same_key, value_of, Becomes, IsMap}
-use Rattle.lft_queue.specs.Keys.{Key, key_of, tag_of, name_of, pending_at}
-
--- the order of keys
-abbrev pub key_cmp : Key → Key → Ordering
-key_cmp x y = ordering_then (ordering_then (ordering_then (nat_cmp x.0 y.0) (nat_cmp x.1 y.1)) (bool_cmp x.2 y.2)) (nat_cmp x.3 y.3)
+use Rattle.lft_queue.specs.Keys.{Key, key_of, tag_of, name_of, pending_at, key_cmp}
 
 eq_nat : (a b : ℕ) → is_eq (nat_cmp a b) ≡ (a == b)
 eq_nat a b = grind (arith, nat_tests)
@@ -126,7 +122,7 @@ both_equal Equal q h = (refl, h)
 both_equal Greater q h = cc (h)
 
 -- keys in order have tags in order
-follows : (j k : Key) → key_cmp j k ≡ Less → UpTo (tag_of j) (tag_of k)
+pub follows : (j k : Key) → key_cmp j k ≡ Less → UpTo (tag_of j) (tag_of k)
 follows j k h = by_last (less_then (ordering_then (ordering_then (nat_cmp j.0 k.0) (nat_cmp j.1 k.1)) (bool_cmp j.2 k.2)) (nat_cmp j.3 k.3) h)
   where
     equal : ordering_then (nat_cmp j.0 k.0) (nat_cmp j.1 k.1) ≡ Equal → UpTo (tag_of j) (tag_of k)
@@ -147,6 +143,15 @@ follows j k h = by_last (less_then (ordering_then (ordering_then (nat_cmp j.0 k.
     by_last : (ordering_then (ordering_then (nat_cmp j.0 k.0) (nat_cmp j.1 k.1)) (bool_cmp j.2 k.2) ≡ Less) ⊎ ((ordering_then (ordering_then (nat_cmp j.0 k.0) (nat_cmp j.1 k.1)) (bool_cmp j.2 k.2) ≡ Equal) × (nat_cmp j.3 k.3 ≡ Less)) → UpTo (tag_of j) (tag_of k)
     by_last (inl a) = by_kind a
     by_last (inr b) = equal (both_equal (ordering_then (nat_cmp j.0 k.0) (nat_cmp j.1 k.1)) (bool_cmp j.2 k.2) b.0).0
+
+-- and so have keys that are the same
+pub equal_up : (j k : Key) → key_cmp j k ≡ Equal → UpTo (tag_of j) (tag_of k)
+equal_up j k e =
+    let p = both_equal (ordering_then (ordering_then (nat_cmp j.0 k.0) (nat_cmp j.1 k.1)) (bool_cmp j.2 k.2)) (nat_cmp j.3 k.3) e in
+    let q = both_equal (ordering_then (nat_cmp j.0 k.0) (nat_cmp j.1 k.1)) (bool_cmp j.2 k.2) p.0 in
+    let r = both_equal (nat_cmp j.0 k.0) (nat_cmp j.1 k.1) q.0 in
+    let b : j.1 ≡ k.1 = same_nat j.1 k.1 r.1 in
+    inr (same_nat j.0 k.0 r.0, omega arith)
 
 up_to_self : (g : Tag) → UpTo g g
 up_to_self g = inr (refl, omega arith)

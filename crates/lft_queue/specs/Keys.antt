@@ -1,6 +1,12 @@
 -- Events as entries of an ordered map.
-use Rattle.std.specs.Prelude.{ℕ, Bool, true, false}
+use Rattle.std.specs.Prelude.{ℕ, Bool, true, false, List}
+use Rattle.std.specs.List.{AllByRecursion}
+use Rattle.std.specs.List.Sorted.{IsStrictlySortedBy}
+use Rattle.std.specs.Map.{keys_of}
+use Rattle.std.specs.declared.cmp.Ordering.{Ordering}
+use Rattle.std.specs.Ordering.{nat_cmp, bool_cmp, ordering_then}
 use Rattle.lft_tag.specs.declared.Tag.{Tag}
+use Rattle.lft_tag.specs.Tags.{UpTo}
 use Rattle.lft_flat.specs.declared.parts.Value.{Value}
 use Rattle.lft_flat.specs.declared.parts.Name.{Name}
 use Rattle.lft_flat.specs.declared.parts.Name.TheVariants.{Port, Action}
@@ -24,3 +30,12 @@ name_of false p = Port p
 -- the event of an entry
 abbrev pub pending_at : Key × Value → Pending
 pending_at entry = record { tag = tag_of entry.0; name = name_of entry.0.2 entry.0.3; value = entry.1 }
+
+-- the order of keys
+abbrev pub key_cmp : Key → Key → Ordering
+key_cmp x y = ordering_then (ordering_then (ordering_then (nat_cmp x.0 y.0) (nat_cmp x.1 y.1)) (bool_cmp x.2 y.2)) (nat_cmp x.3 y.3)
+
+-- entries in the order of their keys, none before the tag
+pub record AreFrom (g : Tag) (es : List (Key × Value)) : Type 0 where
+  pub ordered : IsStrictlySortedBy key_cmp (keys_of es)
+  pub from : AllByRecursion (λ k. UpTo g (tag_of k)) (keys_of es)

@@ -1,7 +1,7 @@
 //! Tags and names as keys of an ordered map.
 
 ghost use Rattle.std.specs.Prelude.{◌≡◌, ◌↔◌, IsTrue};
-ghost use Rattle.lft_queue.specs.Keys.{key_of, tag_of};
+ghost use Rattle.lft_queue.specs.Keys.{key_of, tag_of, name_of};
 
 use lft_flat::Name;
 use lft_tag::Tag;
@@ -28,4 +28,14 @@ pub(crate) fn tag_of_key(key: Key) -> Tag
         time: key.0,
         micro: key.1,
     }
+}
+
+/// The port or action of a key.
+pub(crate) fn name_of_key(key: Key) -> Name
+    ensures { result ≡ name_of key.2 key.3 }
+{
+    if key.2 {
+        return Name::Action(key.3);
+    }
+    Name::Port(key.3)
 }

@@ -1,10 +1,14 @@
 //! The queue of pending events.
 
-ghost use Rattle.std.specs.Prelude.{◌≡◌, ◌+◌, ◌∷◌, [], List, length, filter, not, true, Some, None, IsSome, IfSome, IfNone, IfErr, OnOk, Contains};
-ghost use Rattle.lft_tag.specs.Tags.{UpTo};
+ghost use Rattle.std.specs.Prelude.{◌≡◌, ◌↔◌, ◌+◌, ◌∷◌, [], List, length, map, filter, not, true, false, Some, None, IsSome, IfSome, IfNone, IfErr, OnOk, IsTrue, Contains, slice_get};
+ghost use Rattle.lft_tag.specs.Tags.{Before, UpTo};
+ghost use Rattle.lft_flat.specs.declared.parts.Name.{Name as NameOf};
+ghost use Rattle.lft_flat.specs.declared.parts.Value.{Value as Carried};
 ghost use Rattle.lft_queue.specs.Pending.{Pending, value_of, Becomes, IsMap, is_at, is_after};
+ghost use Rattle.lft_queue.specs.Keys.{Key as KeyOf, tag_of, pending_at};
 
 use crate::keys::{Key, key, tag_of_key};
+use crate::names::NamesAt;
 use lft_flat::{Name, Value};
 use lft_tag::Tag;
 use std::alloc::Global;
@@ -34,6 +38,19 @@ impl Model for Queue {
     ghost Value = { List Pending };
 
     ghost view = { λ a. map pending_at a.values.entries };
+}
+
+// Whether the first event is there and not after the tag.
+fn begins_by(values: &BTreeMap<Key, Value>, tag: Tag) -> bool
+    ensures begins { IsTrue result → (k : KeyOf) × (v : Carried) × (slice_get values.now.entries 0 ≡ Some (k, v)) × ¬ Before tag (tag_of k) }
+    ensures over { result ≡ false → map pending_at values.now.entries ≡ filter (λ e. is_after tag e) (map pending_at values.now.entries) }
+{
+    // Asked for its clause that the keys ascend.
+    let _count = values.len();
+    match values.first_key_value() {
+        Some((key, _)) => return !tag.is_before(tag_of_key(*key)),
+        None => return false,
+    }
 }
 
 impl Queue {
@@ -98,6 +115,23 @@ impl Queue {
         match self.values.first_key_value() {
             Some((key, _)) => return Some(tag_of_key(*key)),
             None => return None,
+        }
+    }
+
+    /// The names that have an event at the tag. It takes no memory, and costs a look-up and a step
+    /// for each.
+    pub fn names_at(&self, tag: Tag) -> NamesAt<'_>
+        ensures { (n : NameOf) → Contains result n ↔ IsSome (value_of tag n self.now) }
+    {
+        NamesAt::new(tag, self.values.range(key(tag, Name::Port(0))..))
+    }
+
+    /// Takes out all events up to a tag. It takes no memory, and costs what it takes out.
+    pub fn drop_until(&mut self, tag: Tag)
+        ensures { self.new ≡ filter (λ e. is_after tag e) self.old }
+    {
+        'past: while begins_by(&self.values, tag) {
+            let _past = self.values.pop_first();
         }
     }
 

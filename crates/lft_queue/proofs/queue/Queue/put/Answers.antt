@@ -4,8 +4,8 @@ use Rattle.std.specs.BTreeMap.{is_at}
 use Rattle.std.specs.Map.{lookup}
 use Rattle.lft_flat.specs.declared.parts.Value.{Value}
 use Rattle.lft_queue.specs.Pending.{Pending, value_of, Becomes}
-use Rattle.lft_queue.specs.Keys.{Key, key_of, pending_at}
-use Rattle.lft_queue.proofs.Entries.{key_cmp, value_found, becomes}
+use Rattle.lft_queue.specs.Keys.{Key, key_of, pending_at, key_cmp}
+use Rattle.lft_queue.proofs.Entries.{value_found, becomes}
 use Rattle.lft_queue.proofs.queue.Queue.put.Goals as goal
 
 some : (o : Option Value) → is_some o ≡ true → IsSome o
