@@ -5,6 +5,7 @@ use Rattle.lft_trace.specs.declared.row.Row.{Row}
 use Rattle.lft_model.specs.Plans.{PlanParts, IsSoundPlan}
 use Rattle.lft_model.specs.Presence.{Triggered}
 use Rattle.lft_model.specs.Runs.{Ran, start_row, by_ends}
+use Rattle.lft_model.specs.Breaches.{IsOpen}
 use Rattle.lft_model.specs.OneWorker.{IsPending}
 use Rattle.lft_model.specs.Recorded.{SoFar, OnlyEndedAnswer}
 use Rattle.lft_model.proofs.Places.{slice_get_within}
@@ -22,8 +23,11 @@ module _ (plan : PlanParts) (good : IsSoundPlan plan) (t : List Row) (so_far : S
   ran_open g r p o = (o.worker, (g, r, record { start = o.place; before = slice_get_within t o.place (start_row o.worker g r) o.starts; starts = o.starts; not_ended = λ k a b e. pending_open plan good t so_far quiet g r p (record { place = k; worker = o.worker; before = b; ends = e }) }))
 
 -- an open run is pending
+pub open_pending : (plan : PlanParts) → IsSoundPlan plan → (t : List Row) → SoFar plan t → (w : ℕ) (g : Tag) (r : ℕ) → IsOpen t (length t) w g r → IsPending plan (by_ends plan t) g r
+open_pending plan good t so_far w g r o = (now plan good t so_far w g r o [] (λ s m. absurd m)).0.pending
+
 pub busy_left : (plan : PlanParts) → IsSoundPlan plan → (t : List Row) → SoFar plan t → (w : ℕ) → IsBusy t w → SomethingLeft plan t
-busy_left plan good t so_far w b = (b.0, b.1, (now plan good t so_far w b.0 b.1 b.2 [] (λ s m. absurd m)).0.pending)
+busy_left plan good t so_far w b = (b.0, b.1, open_pending plan good t so_far w b.0 b.1 b.2)
 
 pub any_left : (plan : PlanParts) → IsSoundPlan plan → (t : List Row) → SoFar plan t → IsAnyOpen t → SomethingLeft plan t
 any_left plan good t so_far o = busy_left plan good t so_far o.0 o.1

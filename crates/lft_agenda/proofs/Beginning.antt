@@ -1,5 +1,5 @@
 -- The agenda of no rows.
-use Rattle.std.proofs.Common.{◌≡◌, ℕ, ◌<◌, List, [], length, replicate, refl, sym, ap, ◌∙◌, subst, Some, None, slice_get}
+use Rattle.std.proofs.Common.{◌≡◌, ℕ, ◌<◌, List, [], length, replicate, refl, sym, ap, ◌∙◌, subst, arith, Some, None, slice_get}
 use Rattle.lft_tag.specs.declared.Tag.{Tag}
 use Rattle.lft_tag.specs.Tags.{Before, UpTo}
 use Rattle.lft_tag.proofs.Order.{UpTo-refl, UpTo-trans}
@@ -22,7 +22,7 @@ use Rattle.lft_agenda.specs.declared.open.OpenRun.{OpenRun}
 use Rattle.lft_agenda.specs.OpenRuns.{AreOpen}
 use Rattle.lft_agenda.specs.Telling.{IsTold, IsCalled}
 use Rattle.lft_agenda.specs.Agendas.{IsReached, MayAdvance}
-use Rattle.lft_agenda.proofs.Advancing.{told_turn}
+use Rattle.lft_agenda.proofs.NextTags.{told_turn}
 
 -- no row is there
 no_row : (i : ℕ) (x : Row) → slice_get [] i ≡ Some x → ⊥
@@ -49,6 +49,6 @@ pub first_reached : (plan : PlanParts) (good : IsSoundPlan plan) (q : List Pendi
 first_reached plan good q old new has graph idle told = record {
   past = λ i x e. absurd (no_row i x e);
   least = λ h c p. from_first h;
-  turn = told_turn plan good [] (empty_so_far plan good) quiet plan.externals.stop refl q (record { time = 0; micro = 0 }) (from_first plan.externals.stop) (λ n v. has.values (record { time = 0; micro = 0 }) n v (from_first (record { time = 0; micro = 0 })) (from_first plan.externals.stop) tt) (λ i x e. absurd (no_row i x e)) old new graph (ap length idle ∙ length_same (length plan.program.reactions) Idle) (λ r x e. get_same (length plan.program.reactions) r Idle x (subst (λ (ps : List Phase). slice_get ps r ≡ Some x) idle e)) told;
+  turn_is = told_turn plan good [] (empty_so_far plan good) quiet plan.externals.stop refl q (record { time = 0; micro = 0 }) (from_first plan.externals.stop) (λ n v. has.values (record { time = 0; micro = 0 }) n v (from_first (record { time = 0; micro = 0 })) (from_first plan.externals.stop) tt) (λ i x e. absurd (no_row i x e)) old new graph (ap length idle ∙ length_same (length plan.program.reactions) Idle) (λ r x e. get_same (length plan.program.reactions) r Idle x (subst (λ (ps : List Phase). slice_get ps r ≡ Some x) idle e)) told;
   events = has;
 }

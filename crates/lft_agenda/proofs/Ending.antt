@@ -27,14 +27,14 @@ use Rattle.lft_model.proofs.Begun.{same_stop, same_runs}
 use Rattle.lft_model.proofs.Committed.{now, up_to, its_time}
 use Rattle.lft_events.specs.Events.{HasEvents}
 use Rattle.lft_events.proofs.Keeping.{narrowed, begun_inert}
-use Rattle.lft_recording.specs.Starts.{SomethingLeft, IsAnyOpen}
+use Rattle.lft_recording.specs.Starts.{IsAnyOpen}
 use Rattle.lft_agenda.specs.declared.open.OpenRun.{OpenRun}
 use Rattle.lft_agenda.specs.OpenRuns.{AreOpen, is_run}
 use Rattle.lft_agenda.specs.Waits.{IsLeastTag, IsTurnOf}
 use Rattle.lft_agenda.specs.Telling.{IsTold, IsCalledBy}
 use Rattle.lft_agenda.specs.Agendas.{AgendaParts, IsOf, IsAgenda, IsCurrent, IsReached, MayAdvance, MayBegin, MayEnd, EndsWith}
-use Rattle.lft_agenda.proofs.Awaiting.{any_left}
-use Rattle.lft_agenda.proofs.Told.{waits_to, opens_to, at_least}
+use Rattle.lft_agenda.proofs.Awaiting.{open_pending}
+use Rattle.lft_agenda.proofs.Told.{waits_to, opens_to, at_least, some_run, no_run}
 use Rattle.lft_agenda.proofs.Opening.{opened_at, begun_open, committed_open}
 use Rattle.lft_agenda.proofs.Committed.{its_row, quiet_more}
 use Rattle.lft_agenda.proofs.Turned.{begun_turn, ended_turn}
@@ -54,10 +54,10 @@ module _ (plan : PlanParts) (good : IsSoundPlan plan) (t : List Row) (w : ℕ) (
 
   -- it may start at the agenda's tag, where it waits
   here : g ≡ a.from
-  here = at_least plan good t b.so_far b.quiet a.from a.turn is.current.turn least g r b.may
+  here = at_least plan good t b.so_far b.quiet a.from a.turn is.current.turn_is least g r b.may
 
   turn_here : IsTurnOf plan t g a.turn
-  turn_here = subst (λ (k : Tag). IsTurnOf plan t k a.turn) (sym here) is.current.turn
+  turn_here = subst (λ (k : Tag). IsTurnOf plan t k a.turn) (sym here) is.current.turn_is
 
   waiting : slice_get a.turn.phases r ≡ Some Waiting
   waiting = waits_to plan good t b.so_far b.quiet g a.turn turn_here r b.may.ready.pending b.may.fresh
@@ -68,7 +68,7 @@ module _ (plan : PlanParts) (good : IsSoundPlan plan) (t : List Row) (w : ℕ) (
     stop_is = is.stop_is ∙ sym (same_stop plan good t b.so_far w g r shown b.may.ready b.reads_are early b.may.fresh none_open);
     of = record { listeners = is.of.listeners; arrivals = is.of.arrivals; phases = count ∙ is.of.phases; recorded = is.of.recorded };
     current = record {
-      turn = subst (λ (k : Tag). IsTurnOf plan (t ++ begun_rows plan w g r shown) k new) here (begun_turn plan t w g r shown same b.may.ready.pending a.turn new turn_here graph (opens waiting) waiting);
+      turn_is = subst (λ (k : Tag). IsTurnOf plan (t ++ begun_rows plan w g r shown) k new) here (begun_turn plan t w g r shown same b.may.ready.pending a.turn new turn_here graph (opens waiting) waiting);
       least = λ o. record { awaits = (least.awaits.0, subst (λ (us : List Run). IsPending plan us a.from least.awaits.0) (sym same) least.awaits.1); least = λ h c p. least.least h c (subst (λ (us : List Run). IsPending plan us h c) same p) };
       events = λ o. begun_inert plan t w g r shown a.from a.stop a.queue (is.current.events (g, r, b.may.ready.pending));
     };
@@ -76,13 +76,13 @@ module _ (plan : PlanParts) (good : IsSoundPlan plan) (t : List Row) (w : ℕ) (
 
 -- while a run is open, its tag is the least
 pub open_current : (plan : PlanParts) (good : IsSoundPlan plan) (t : List Row) → SoFar plan t → (from last : Tag) (turn : TurnParts) (q : List Pending) → IsReached plan t from last turn q → IsAnyOpen t → IsCurrent plan t from last turn q
-open_current plan good t so_far from last turn q is o = record { turn = is.turn; least = λ k. record { awaits = (left.1, subst (λ (h : Tag). IsPending plan (by_ends plan t) h left.1) same left.2); least = is.least }; events = λ k. is.events }
+open_current plan good t so_far from last turn q is o = record { turn_is = is.turn_is; least = λ k. record { awaits = (o.1.1, subst (λ (h : Tag). IsPending plan (by_ends plan t) h o.1.1) same pending); least = is.least }; events = λ k. is.events }
   where
-    left : SomethingLeft plan t
-    left = any_left plan good t so_far o
+    pending : IsPending plan (by_ends plan t) o.1.0 o.1.1
+    pending = open_pending plan good t so_far o.0 o.1.0 o.1.1 o.1.2
 
-    same : left.0 ≡ from
-    same = UpTo_antisym left.0 from (is.past o.1.2.start (start_row o.0 o.1.0 o.1.1) o.1.2.starts) (is.least left.0 left.1 left.2)
+    same : o.1.0 ≡ from
+    same = UpTo_antisym o.1.0 from (is.past o.1.2.start (start_row o.0 o.1.0 o.1.1) o.1.2.starts) (is.least o.1.0 o.1.1 pending)
 
 module _ (plan : PlanParts) (good : IsSoundPlan plan) (t : List Row) (w : ℕ) (g : Tag) (r : ℕ) (steps : List Step) (b : MayEnd plan t w g r steps) (a : AgendaParts) (is : IsAgenda plan t a) (last : Tag) (last_is : last ≡ stop plan (t ++ committed_rows w g r steps)) where
   may : (s : Step) → Mem s steps → MayAnswer plan r s
@@ -99,7 +99,7 @@ module _ (plan : PlanParts) (good : IsSoundPlan plan) (t : List Row) (w : ℕ) (
   here_run = UpTo_antisym g a.from (ready.least a.from least_tag.awaits.0 least_tag.awaits.1) (least_tag.least g r ready.pending)
 
   turn_now : IsTurnOf plan t g a.turn
-  turn_now = subst (λ (k : Tag). IsTurnOf plan t k a.turn) (sym here_run) is.current.turn
+  turn_now = subst (λ (k : Tag). IsTurnOf plan t k a.turn) (sym here_run) is.current.turn_is
 
   opened : slice_get a.turn.phases r ≡ Some Open
   opened = opens_to plan good t b.so_far b.quiet g a.turn turn_now r ready.pending (opened_at t w g r b.open_run)
@@ -111,6 +111,10 @@ module _ (plan : PlanParts) (good : IsSoundPlan plan) (t : List Row) (w : ℕ) (
   pub from_here : HasEvents plan t g last None a.queue
   from_here = narrowed plan t a.from g a.stop last a.queue (least_tag.least g r ready.pending) (subst (λ (k : Tag). UpTo k a.stop) (sym last_is) (subst (λ (k : Tag). UpTo (stop plan (t ++ committed_rows w g r steps)) k) (sym is.stop_is) (stop_append plan t (committed_rows w g r steps)))) (is.current.events (g, r, ready.pending))
 
+  -- the runs that are left are those that are open
+  pub open_left : AreOpen plan (t ++ committed_rows w g r steps) (filter (λ o. not (is_run w g r o)) a.runs)
+  open_left = committed_open plan good t w g r steps b a.runs is.runs
+
   module _ (told new : TurnParts) (telling : IsTold (IsCalledBy plan.program g steps) a.turn told) (graph : new.graph ≡ told.graph) (ends : slice_get told.phases r ≡ Some Open → new.phases ≡ slice_set told.phases r Idle) (q : List Pending) (has : HasEvents plan (t ++ committed_rows w g r steps) g last None q) (so_far : SoFar plan (t ++ committed_rows w g r steps)) where
     still : slice_get told.phases r ≡ Some Open
     still = telling.kept r Open (λ z. absurd (cc)) opened
@@ -119,7 +123,7 @@ module _ (plan : PlanParts) (good : IsSoundPlan plan) (t : List Row) (w : ℕ) (
     ended_reached = record {
       past = λ i x e. past i x (get_append t (committed_rows w g r steps) i x e);
       least = λ h c p. rows_up_to plan good (t ++ committed_rows w g r steps) so_far h c p b.open_run.start (start_row w g r) (slice_get_more t (committed_rows w g r steps) b.open_run.start (start_row w g r) b.open_run.starts);
-      turn = ended_turn plan good t w g r steps b so_far a.turn told new turn_now telling graph (ends still) (slice_get_within told.phases r Open still);
+      turn_is = ended_turn plan good t w g r steps b so_far a.turn told new turn_now telling graph (ends still) (slice_get_within told.phases r Open still);
       events = has;
     }
       where
@@ -127,13 +131,13 @@ module _ (plan : PlanParts) (good : IsSoundPlan plan) (t : List Row) (w : ℕ) (
         past i x (inl e) = up_to plan good t b.so_far w g r b.open_run steps may i x e
         past i x (inr e) = subst (λ (k : Tag). UpTo k g) (sym (its_row plan good t w g r steps b x (mem_get (committed_rows w g r steps) e.0 x e.2)).0) (UpTo-refl g)
 
-    -- where no run is open the agenda may go on
-    pub may_go_on : ¬ IsAnyOpen (t ++ committed_rows w g r steps) → MayAdvance plan (t ++ committed_rows w g r steps) last
-    may_go_on none = record { so_far = so_far; quiet = quiet_more plan good t w g r steps b; stop_is = last_is; none_open = none }
+    -- where no run is left the agenda may go on
+    pub may_go_on : length (filter (λ o. not (is_run w g r o)) a.runs) ≡ 0 → MayAdvance plan (t ++ committed_rows w g r steps) last
+    may_go_on none = record { so_far = so_far; quiet = quiet_more plan good t w g r steps b; stop_is = last_is; none_open = no_run plan (t ++ committed_rows w g r steps) (filter (λ o. not (is_run w g r o)) a.runs) open_left none }
 
     -- else it stays
-    pub stays_current : IsAnyOpen (t ++ committed_rows w g r steps) → IsCurrent plan (t ++ committed_rows w g r steps) g last new q
-    stays_current o = open_current plan good (t ++ committed_rows w g r steps) so_far g last new q ended_reached o
+    pub stays_current : 0 < length (filter (λ o. not (is_run w g r o)) a.runs) → IsCurrent plan (t ++ committed_rows w g r steps) g last new q
+    stays_current some = open_current plan good (t ++ committed_rows w g r steps) so_far g last new q ended_reached (some_run plan (t ++ committed_rows w g r steps) (filter (λ o. not (is_run w g r o)) a.runs) open_left some)
 
   pub ended_agenda : (clash : Option Tag) (q : List Pending) (new : AgendaParts) → HasEvents plan (t ++ committed_rows w g r steps) g last clash q → new.runs ≡ filter (λ o. not (is_run w g r o)) a.runs → new.stop ≡ last → IsOf plan.program new → (clash ≡ None → SoFar plan (t ++ committed_rows w g r steps) → IsCurrent plan (t ++ committed_rows w g r steps) new.from new.stop new.turn new.queue) → EndsWith plan t w g r steps new clash
   ended_agenda (Some h) q new has runs stops of current =
@@ -146,7 +150,7 @@ module _ (plan : PlanParts) (good : IsSoundPlan plan) (t : List Row) (w : ℕ) (
   ended_agenda None q new has runs stops of current = (
     λ k u c. has.clean k c.0 (subst (λ (h : Tag). UpTo k h) (sym last_is) u) tt c.1,
     λ so_far. record {
-      runs = subst (λ (os : List OpenRun). AreOpen plan (t ++ committed_rows w g r steps) os) (sym runs) (committed_open plan good t w g r steps b a.runs is.runs);
+      runs = subst (λ (os : List OpenRun). AreOpen plan (t ++ committed_rows w g r steps) os) (sym runs) open_left;
       stop_is = stops ∙ last_is;
       of = of;
       current = current refl so_far;

@@ -3,8 +3,8 @@ pub mod Stops
 pub mod NextFiring
 pub mod Awaiting
 pub mod Told
-pub mod Telling
-pub mod Advancing
+pub mod ToldTurns
+pub mod NextTags
 pub mod Beginning
 pub mod Committed
 pub mod Turned

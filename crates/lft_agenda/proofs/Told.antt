@@ -1,9 +1,10 @@
 -- What the turn of a tag says of the reactions there; of the least tag it says what may start next.
-use Rattle.std.proofs.Common.{◌≡◌, ℕ, ◌<◌, ◌⊎◌, inl, inr, List, [], length, refl, subst, arith, Some, slice_get}
+use Rattle.std.proofs.Common.{◌≡◌, ℕ, ◌<◌, ◌⊎◌, inl, inr, List, length, refl, subst, arith, Some, slice_get}
 use Rattle.lft_tag.specs.declared.Tag.{Tag}
 use Rattle.lft_tag.proofs.Order.{UpTo_antisym}
 use Rattle.lft_trace.specs.declared.row.Row.{Row}
 use Rattle.lft_lists.proofs.Places.{get_there}
+use Rattle.lft_model.proofs.Places.{slice_get_within}
 use Rattle.lft_turn.specs.declared.phase.Phase.{Phase}
 use Rattle.lft_turn.specs.declared.phase.Phase.TheVariants.{Idle, Waiting, Open}
 use Rattle.lft_turn.specs.Turns.{TurnParts, IsReady, IsLeastReady, NoneOpen, NonePending}
@@ -23,11 +24,11 @@ use Rattle.lft_agenda.proofs.Awaiting.{pending_within, ran_open, any_left}
 pub some_run : (plan : PlanParts) (t : List Row) (runs : List OpenRun) → AreOpen plan t runs → 0 < length runs → IsAnyOpen t
 some_run plan t runs is l = let o = get_there runs 0 l in (o.0.worker, (o.0.tag, o.0.reaction, (is.each 0 o.0 o.1).0))
 
-pub no_run : (plan : PlanParts) (t : List Row) (runs : List OpenRun) → AreOpen plan t runs → runs ≡ [] → ¬ IsAnyOpen t
+pub no_run : (plan : PlanParts) (t : List Row) (runs : List OpenRun) → AreOpen plan t runs → length runs ≡ 0 → ¬ IsAnyOpen t
 no_run plan t runs is none o =
     let q = is.all o.0 o.1.0 o.1.1 o.1.2 in
-    let z : slice_get [] q.0 ≡ Some q.1 = subst (λ (rs : List OpenRun). slice_get rs q.0 ≡ Some q.1) none q.2 in
-    absurd (cc)
+    let l : q.0 < length runs = slice_get_within runs q.0 q.1 q.2 in
+    omega arith
 
 module _ (plan : PlanParts) (good : IsSoundPlan plan) (t : List Row) (so_far : SoFar plan t) (quiet : OnlyEndedAnswer t) (g : Tag) (turn : TurnParts) (is : IsTurnOf plan t g turn) where
   -- waiting there is pending without a run
@@ -107,13 +108,13 @@ module _ (plan : PlanParts) (good : IsSoundPlan plan) (t : List Row) (so_far : S
 module _ (plan : PlanParts) (t : List Row) (may : MayFind plan t) (a : AgendaParts) (is : IsAgenda plan t a) where
   pub finds_ready : (r : ℕ) → IsLeastReady plan.program a.turn.phases r → MayStartFirst plan t a.from r
   finds_ready r first =
-      let w = waits plan may.sound t may.so_far may.quiet a.from a.turn is.current.turn r first.ready.waiting in
-      starts_first plan may.sound t may.so_far may.quiet a.from a.turn is.current.turn (is.current.least (a.from, r, w.0)) r first
+      let w = waits plan may.sound t may.so_far may.quiet a.from a.turn is.current.turn_is r first.ready.waiting in
+      starts_first plan may.sound t may.so_far may.quiet a.from a.turn is.current.turn_is (is.current.least (a.from, r, w.0)) r first
 
   pub finds_blocked : ((r : ℕ) → ¬ IsReady plan.program a.turn.phases r) → IsAnyOpen t → NoneMayStart plan t × IsAnyOpen t
-  finds_blocked none o = (none_starts plan may.sound t may.so_far may.quiet a.from a.turn is.current.turn (is.current.least (any_left plan may.sound t may.so_far o)) none, o)
+  finds_blocked none o = (none_starts plan may.sound t may.so_far may.quiet a.from a.turn is.current.turn_is (is.current.least (any_left plan may.sound t may.so_far o)) none, o)
 
   pub finds_nothing : (NoneOpen a.turn.phases → NonePending a.turn.phases) → ¬ IsAnyOpen t → NothingLeft plan t
   finds_nothing over n h r p =
       let least = is.current.least (h, r, p) in
-      none_waits plan may.sound t may.so_far may.quiet a.from a.turn is.current.turn (over (none_open_there plan may.sound t may.so_far may.quiet a.from a.turn is.current.turn n)) least.awaits
+      none_waits plan may.sound t may.so_far may.quiet a.from a.turn is.current.turn_is (over (none_open_there plan may.sound t may.so_far may.quiet a.from a.turn is.current.turn_is n)) least.awaits

@@ -45,7 +45,7 @@ pub record IsOf (program : Parts) (a : AgendaParts) : Type 0 where
 
 -- the turn is that of the tag; while something is left to run, the tag is the least at which a reaction is pending, and the queue has the events from there on up to the last tag
 pub record IsCurrent (plan : PlanParts) (t : List Row) (from last : Tag) (turn : TurnParts) (q : List Pending) : Type 0 where
-  pub turn : IsTurnOf plan t from turn
+  pub turn_is : IsTurnOf plan t from turn
   pub least : SomethingLeft plan t → IsLeastTag plan t from
   pub events : SomethingLeft plan t → HasEvents plan t from last None q
 
@@ -60,7 +60,7 @@ pub record IsAgenda (plan : PlanParts) (t : List Row) (a : AgendaParts) : Type 0
 pub record IsReached (plan : PlanParts) (t : List Row) (from last : Tag) (turn : TurnParts) (q : List Pending) : Type 0 where
   pub past : (i : ℕ) (x : Row) → slice_get t i ≡ Some x → UpTo x.tag from
   pub least : (h : Tag) (c : ℕ) → IsPending plan (by_ends plan t) h c → UpTo from h
-  pub turn : IsTurnOf plan t from turn
+  pub turn_is : IsTurnOf plan t from turn
   pub events : HasEvents plan t from last None q
 
 -- the rows are a recording so far with that stop, and no run is open

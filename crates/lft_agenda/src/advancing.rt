@@ -74,6 +74,8 @@ fn with_timers(
     ensures covers { (h : TagOf) (n : _) → IsLive plan.now.program n → FiresAt plan.now.program h n → Before from h → UpTo h stop → IsCovered result h }
     ensures more { (h : TagOf) → IsCovered least h → IsCovered result h }
 {
+    // Asked for what every plan keeps: it is sound, so that these are timers of the program.
+    plan.keeps();
     let timers = listeners.live_timers();
     let mut found = least;
     for at in 0..timers.len() {
@@ -139,6 +141,8 @@ pub(crate) fn advance(
         let Some(next) = next_tag(listeners, plan, queue, reached, stop) else {
             return reached;
         };
+        // Read for its range: the tags of one time have an end.
+        let _micro = reached.micro;
         reached = next;
         tell(turn, listeners, plan, queue, reached, stop);
     }

@@ -7,7 +7,7 @@ abbrev pub invariant-tags : goal.invariant-tags
 invariant-tags l = record {
   phases : length l.turn.phases ≡ length l.fn.turn.phases;
   time : l.reached.time ≤ 1000000000000000000;
-  reached : (t : List Row) → MayAdvance l.plan t l.stop → IsReached l.plan t l.from l.stop l.fn.turn l.fn.queue → IsReached l.plan t l.reached l.stop l.turn l.queue;
+  reached : (t : List Row) → MayAdvance l.plan t l.stop → IsReached l.plan t l.fn.from l.stop l.fn.turn l.fn.queue → IsReached l.plan t l.reached l.stop l.turn l.queue;
 }
 
 abbrev pub decreases-tags : goal.decreases-tags

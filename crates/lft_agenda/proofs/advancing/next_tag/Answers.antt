@@ -1,4 +1,4 @@
-use Rattle.lft_agenda.proofs.Advancing.{next_covers}
+use Rattle.lft_agenda.proofs.NextTags.{next_covers}
 use Rattle.lft_agenda.proofs.advancing.next_tag.Goals as goal
 
 pub returns-clause-covers : goal.returns-clause-covers

@@ -3,7 +3,7 @@ use Rattle.lft_tag.specs.declared.Tag.{Tag}
 use Rattle.lft_tag.specs.Tags.{Before, UpTo}
 use Rattle.lft_tag.proofs.Order.{UpTo-trans}
 use Rattle.lft_queue.specs.Pending.{Pending, value_of}
-use Rattle.lft_agenda.proofs.Advancing.{covered_after, value_there}
+use Rattle.lft_agenda.proofs.NextTags.{covered_after, value_there}
 use Rattle.lft_agenda.proofs.advancing.with_events.Goals as goal
 
 pub returns-in_default-clause-covers : goal.returns-in_default-clause-covers

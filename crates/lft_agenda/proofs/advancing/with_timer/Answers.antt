@@ -5,7 +5,7 @@ use Rattle.lft_flat.specs.Parts.{Parts}
 use Rattle.lft_flat.specs.declared.parts.Timer.{Timer as TimerOf}
 use Rattle.lft_lists.proofs.Places.{same_some}
 use Rattle.lft_model.specs.Presence.{Fires}
-use Rattle.lft_agenda.proofs.Advancing.{covered_after}
+use Rattle.lft_agenda.proofs.NextTags.{covered_after}
 use Rattle.lft_agenda.proofs.advancing.with_timer.Goals as goal
 
 pub returns-in_default-clause-covers : goal.returns-in_default-clause-covers

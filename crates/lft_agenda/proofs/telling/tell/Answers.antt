@@ -1,4 +1,4 @@
-use Rattle.lft_agenda.proofs.Telling.{told_called}
+use Rattle.lft_agenda.proofs.ToldTurns.{told_called}
 use Rattle.lft_agenda.proofs.telling.tell.Goals as goal
 
 pub returns : goal.returns

@@ -3,7 +3,7 @@ use Rattle.std.proofs.lemmas.Bool.{false≢true}
 use Rattle.lft_lists.proofs.Places.{contains_at, at_contains}
 use Rattle.lft_model.proofs.Places.{slice_get_within}
 use Rattle.lft_listeners.specs.Listeners.{IsListener}
-use Rattle.lft_agenda.proofs.Telling.{told_none, told_begun, told_next, told_each, told_one}
+use Rattle.lft_agenda.proofs.ToldTurns.{told_none, told_begun, told_next, told_each, told_one}
 use Rattle.lft_agenda.proofs.telling.tell_of.Goals as goal
 
 pub returns-then-not-is_present : goal.returns-then-not-is_present
@@ -26,7 +26,7 @@ loop-at-preserved c =
     let l : c.number_at.result < length c.args.plan.now.program.reactions = slice_get_within c.args.plan.now.program.reactions c.number_at.result its.0 its.1 in
     let e = c.requires.phases in
     let k = c.loop-at.invariant.count in
-    told_next (λ (x r : ℕ). r ≡ x) c.of-reactions.result.now c.loop-at.at c.number_at.result c.args.turn.now c.loop-at.turn c.trigger.new.turn c.number_at.ensures c.loop-at.invariant (told_one c.loop-at.turn c.trigger.new.turn c.number_at.result (omega arith) c.trigger.ensures.graph c.trigger.ensures.idle c.trigger.ensures.pending)
+    told_next (λ (x r : ℕ). r ≡ x) c.of-reactions.result.now c.loop-at.at c.number_at.result c.args.turn.now c.loop-at.turn c.trigger.new.self c.number_at.ensures c.loop-at.invariant (told_one c.loop-at.turn c.trigger.new.self c.number_at.result (omega arith) c.trigger.ensures.graph c.trigger.ensures.idle c.trigger.ensures.pending)
 
 pub returns : goal.returns
 returns c =

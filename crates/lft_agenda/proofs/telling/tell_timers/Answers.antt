@@ -6,7 +6,7 @@ use Rattle.lft_lists.proofs.Places.{contains_at, at_contains, same_some}
 use Rattle.lft_model.specs.Presence.{Fires}
 use Rattle.lft_listeners.specs.Listeners.{IsListener, IsLive}
 use Rattle.lft_agenda.specs.Telling.{FiresAt}
-use Rattle.lft_agenda.proofs.Telling.{told_as, told_begun, told_next, told_each, live_within}
+use Rattle.lft_agenda.proofs.ToldTurns.{told_as, told_begun, told_next, told_each, live_within}
 use Rattle.lft_agenda.proofs.telling.tell_timers.Goals as goal
 
 pub loop-at-init : goal.loop-at-init

@@ -3,6 +3,7 @@ use Rattle.lft_tag.specs.declared.Tag.{Tag}
 use Rattle.lft_tag.specs.Shifts.{shifted}
 use Rattle.lft_flat.specs.Parts.{Parts}
 use Rattle.lft_flat.specs.declared.parts.Port.{Port as PortOf}
+use Rattle.lft_flat.specs.declared.parts.Value.TheVariants.{Bare}
 use Rattle.lft_flat.specs.declared.parts.Name.TheVariants.{Port}
 use Rattle.lft_flat.specs.declared.parts.Trigger.TheVariants.{On}
 use Rattle.lft_trace.specs.declared.row.Step.TheVariants.{Write}
@@ -10,7 +11,7 @@ use Rattle.lft_lists.proofs.Places.{contains_at, at_contains, same_some}
 use Rattle.lft_model.proofs.Places.{slice_get_within}
 use Rattle.lft_listeners.specs.Listeners.{IsListener, IsArrival}
 use Rattle.lft_agenda.specs.Telling.{ArrivesAtOnce}
-use Rattle.lft_agenda.proofs.Telling.{told_as, told_begun, told_next, told_each}
+use Rattle.lft_agenda.proofs.ToldTurns.{told_as, told_begun, told_next, told_each}
 use Rattle.lft_agenda.proofs.writing.tell_write.Goals as goal
 
 pub loop-at-init : goal.loop-at-init
@@ -46,3 +47,6 @@ returns c = λ v.
     (λ r k p e q. (p, q.0, q.1))
     (λ r q. (let k = at_contains c.of-ports.result.now q.0 ((c.of-ports.ensures.each program c.requires.arrivals q.0).1 (q.1.0, q.1.1, q.1.2)) in (k.0, q.0, k.1, (q.1, q.2))))
     (c.loop-at.invariant v)
+
+pub tell_of-requires-clause-phases : goal.tell_of-requires-clause-phases
+tell_of-requires-clause-phases c = (c.loop-at.invariant Bare).count ∙ c.requires.phases

@@ -4,7 +4,7 @@ use Rattle.lft_flat.specs.declared.parts.Trigger.TheVariants.{On}
 use Rattle.lft_trace.specs.declared.row.Step.{Step}
 use Rattle.lft_listeners.specs.Listeners.{IsListener}
 use Rattle.lft_agenda.specs.Telling.{ArrivesAtOnce, IsCalledBy}
-use Rattle.lft_agenda.proofs.Telling.{told_begun, told_next, told_each}
+use Rattle.lft_agenda.proofs.ToldTurns.{told_begun, told_next, told_each}
 use Rattle.lft_agenda.proofs.writing.tell_writes.Goals as goal
 
 pub loop-at-init : goal.loop-at-init

@@ -56,14 +56,14 @@ covered_after found g h u o = (o.0, o.1, UpTo-trans o.0 g h o.2 u)
 -- an event of the queue is one at its tag
 pub value_there : (h : Tag) (n : Name) (v : Value) (q : List Pending) → value_of h n q ≡ Some v → (e : Pending) × Contains q e × (e.tag ≡ h)
 value_there h n v [] z = absurd (cc)
-value_there h n v (e ∷ q) z = go (same_key h n e.tag e.name) refl z
+value_there h n v (e ∷ q) z = go (same_key h n e.tag e.name) refl z (λ f. value_there h n v q f)
   where
     later : (d : Pending) × Contains q d × (d.tag ≡ h) → (d : Pending) × Contains (e ∷ q) d × (d.tag ≡ h)
     later o = let k : o.1.0 < length q = o.1.1 in (o.0, (suc o.1.0, omega arith, o.1.2), o.2)
 
-    go : (b : Bool) → same_key h n e.tag e.name ≡ b → cond b (Some e.value) (value_of h n q) ≡ Some v → (d : Pending) × Contains (e ∷ q) d × (d.tag ≡ h)
-    go true s f = (e, (0, omega arith, refl), sym (same_tag_true h e.tag (both_true (same_tag h e.tag) (same_name n e.name) s).0))
-    go false s f = later (value_there h n v q f)
+    go : (b : Bool) → same_key h n e.tag e.name ≡ b → cond b (Some e.value) (value_of h n q) ≡ Some v → (value_of h n q ≡ Some v → (d : Pending) × Contains q d × (d.tag ≡ h)) → (d : Pending) × Contains (e ∷ q) d × (d.tag ≡ h)
+    go true s f rest = (e, (0, omega arith, refl), sym (same_tag_true h e.tag (both_true (same_tag h e.tag) (same_name n e.name) s).0))
+    go false s f rest = later (rest f)
 
 -- where the events up to a tag are taken out, the later ones stay
 pub later_value : (g h : Tag) (n : Name) → Before g h → (q : List Pending) → value_of h n (filter (λ e. is_after g e) q) ≡ value_of h n q
@@ -147,7 +147,7 @@ told_turn plan good t so_far quiet last stop_is q h u values none old new graph 
 module _ (plan : PlanParts) (good : IsSoundPlan plan) (t : List Row) (last : Tag) (may : MayAdvance plan t last) (from : Tag) (turn : TurnParts) (q : List Pending) (is : IsReached plan t from last turn q) where
   -- where something waits at the tag, it is the least
   pub reached_current : (r : ℕ) → slice_get turn.phases r ≡ Some Waiting → IsCurrent plan t from last turn q
-  reached_current r e = record { turn = is.turn; least = λ o. record { awaits = (r, pending_back plan good t may.so_far may.quiet from turn is.turn r (inl e)); least = is.least }; events = λ o. is.events }
+  reached_current r e = record { turn_is = is.turn_is; least = λ o. record { awaits = (r, pending_back plan good t may.so_far may.quiet from turn is.turn_is r (inl e)); least = is.least }; events = λ o. is.events }
 
   -- the events that are left where those up to the tag are taken out
   module _ (over : NonePending turn.phases) (rest : List Pending) (rest_is : rest ≡ filter (λ e. is_after from e) q) where
@@ -157,7 +157,7 @@ module _ (plan : PlanParts) (good : IsSoundPlan plan) (t : List Row) (last : Tag
       where
         go : Before from h ⊎ UpTo h from → Before from h
         go (inl b) = b
-        go (inr u) = absurd (none_waits plan good t may.so_far may.quiet from turn is.turn over (r, subst (λ (g : Tag). IsPending plan (by_ends plan t) g r) (UpTo_antisym h from u (is.least h r p)) p))
+        go (inr u) = absurd (none_waits plan good t may.so_far may.quiet from turn is.turn_is over (r, subst (λ (g : Tag). IsPending plan (by_ends plan t) g r) (UpTo_antisym h from u (is.least h r p)) p))
 
     early : (h : Tag) (r : ℕ) → IsPending plan (by_ends plan t) h r → UpTo h last
     early h r p = subst (λ (k : Tag). UpTo h k) (sym may.stop_is) (pending_time plan good t may.so_far may.quiet h r p)
@@ -176,7 +176,7 @@ module _ (plan : PlanParts) (good : IsSoundPlan plan) (t : List Row) (last : Tag
 
       -- no tag was found: nothing is left
       pub finished_current : found ≡ None → IsCurrent plan t from last turn rest
-      finished_current none = record { turn = is.turn; least = λ o. absurd (nothing o); events = λ o. absurd (nothing o) }
+      finished_current none = record { turn_is = is.turn_is; least = λ o. absurd (nothing o); events = λ o. absurd (nothing o) }
         where
           nothing : ¬ SomethingLeft plan t
           nothing o = let k = pending_covered o.0 o.1 o.2 in let z : None ≡ Some k.0 = sym none ∙ k.1 in absurd (cc)
@@ -186,7 +186,7 @@ module _ (plan : PlanParts) (good : IsSoundPlan plan) (t : List Row) (last : Tag
       moved_on next new some between told = record {
         past = λ i x e. Before-weaken x.tag next (past i x e);
         least = λ h r p. (let k = pending_covered h r p in let z : Some next ≡ Some k.0 = sym some ∙ k.1 in let y : k.0 ≡ next = cc in subst (λ (g : Tag). UpTo g h) y k.2);
-        turn = told_turn plan good t may.so_far may.quiet last may.stop_is rest next between.1 (λ n v. (has_rest next between.0).values next n v (UpTo-refl next) between.1 tt) past turn new is.turn.graph is.turn.count (all_idle plan good t may.so_far may.quiet from turn is.turn over) told;
+        turn_is = told_turn plan good t may.so_far may.quiet last may.stop_is rest next between.1 (λ n v. (has_rest next between.0).values next n v (UpTo-refl next) between.1 tt) past turn new is.turn_is.graph is.turn_is.count (all_idle plan good t may.so_far may.quiet from turn is.turn_is over) told;
         events = has_rest next between.0;
       }
         where
@@ -204,11 +204,11 @@ next_covers program q last from a b found by_stop by_events more_events by_timer
     go (On n) e l = let v = some_there (value_of h n q) e in more h (by_events h n v.0 v.1 u)
 
 -- the measure of a walk over tags up to the stop
-pub nearer : (from next last : Tag) → next.micro < 4294967296 → from.micro < 4294967296 → IsBetween from last next → 4294967296 * (last.time - next.time) + (4294967296 - next.micro) < 4294967296 * (last.time - from.time) + (4294967296 - from.micro)
-nearer from next last a b (inl l, inl u) = omega arith
-nearer from next last a b (inl l, inr u) = let p = u.0 in omega arith
-nearer from next last a b (inr l, inl u) = let p = l.0 in let q = l.1 in omega arith
-nearer from next last a b (inr l, inr u) = let p = l.0 in let q = l.1 in let s = u.0 in omega arith
+pub nearer : (from next last : Tag) → from.micro < 4294967296 → IsBetween from last next → 4294967296 * (last.time - next.time) + (4294967296 - next.micro) < 4294967296 * (last.time - from.time) + (4294967296 - from.micro)
+nearer from next last b (inl l, inl u) = omega arith
+nearer from next last b (inl l, inr u) = let p = u.0 in omega arith
+nearer from next last b (inr l, inl u) = let p = l.0 in let q = l.1 in omega arith
+nearer from next last b (inr l, inr u) = let p = l.0 in let q = l.1 in let s = u.0 in omega arith
 
 pub some_number : (o : Option ℕ) → is_some o ≡ true → (x : ℕ) × (o ≡ Some x)
 some_number None e = absurd (cc)
