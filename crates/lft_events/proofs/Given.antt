@@ -18,6 +18,7 @@ use Rattle.lft_trace.specs.declared.row.Row.{Row}
 use Rattle.lft_trace.specs.declared.externals.Event.{Event}
 use Rattle.lft_trace.specs.Inputs.{InOrder}
 use Rattle.lft_queue.specs.Pending.{Pending, value_of, same_name, same_key, Becomes}
+use Rattle.lft_queue.proofs.Tests.{name_same, name_refl}
 use Rattle.lft_model.specs.Plans.{PlanParts, IsSoundPlan}
 use Rattle.lft_model.specs.Presence.{given, At, Shows, Inputs}
 use Rattle.lft_model.proofs.Members.{mem_get, get_mem, mem_filter, mem_from_filter, mem_contains, contains_mem}
@@ -26,7 +27,6 @@ use Rattle.lft_model.proofs.Counted.{get_or_get}
 use Rattle.lft_model.proofs.Steps.{both_true, same_tag_true, same_tag_refl, cond_some}
 use Rattle.lft_model.proofs.Empty.{empty_so_far}
 use Rattle.lft_events.specs.Events.{HasEvents}
-use Rattle.lft_events.proofs.Heard.{name_same, name_refl}
 use Rattle.lft_events.proofs.Fed.{none_there, some_there}
 
 -- one of the first i events is of the action at the tag, with the value

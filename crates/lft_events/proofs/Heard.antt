@@ -1,13 +1,13 @@
 -- One event more in the queue: what it has then.
-use Rattle.std.proofs.Common.{◌≡◌, ◌↔◌, inl, inr, List, refl, sym, ap, ◌∙◌, subst, Option, Some, None, IsSome, Bool, true, false, cond, ◌&&◌, eqb-true, eq-eqb}
+use Rattle.std.proofs.Common.{◌≡◌, ◌↔◌, inl, inr, List, refl, sym, ap, ◌∙◌, subst, Option, Some, None, IsSome, Bool, true, false, cond, ◌&&◌}
 use Rattle.lft_tag.specs.declared.Tag.{Tag}
 use Rattle.lft_tag.specs.Tags.{Before, UpTo, same_tag}
 use Rattle.lft_tag.proofs.Order.{Before-trans, Before-irrefl}
 use Rattle.lft_flat.specs.declared.parts.Value.{Value}
 use Rattle.lft_flat.specs.declared.parts.Name.{Name}
-use Rattle.lft_flat.specs.declared.parts.Name.TheVariants.{Port, Action}
 use Rattle.lft_trace.specs.declared.row.Row.{Row}
 use Rattle.lft_queue.specs.Pending.{Pending, value_of, same_name, same_key}
+use Rattle.lft_queue.proofs.Tests.{name_same, name_refl}
 use Rattle.lft_model.specs.Plans.{PlanParts}
 use Rattle.lft_model.specs.Presence.{At, ClashesAt}
 use Rattle.lft_model.proofs.Steps.{both_true, same_tag_true, same_tag_refl}
@@ -18,16 +18,6 @@ iff_trans f g = (λ a. g.0 (f.0 a), λ c. f.1 (g.1 c))
 
 pub iff_sym : {A B : Type 0} → A ↔ B → B ↔ A
 iff_sym f = (f.1, f.0)
-
-pub name_same : (n m : Name) → same_name n m ≡ true → n ≡ m
-name_same (Port p) (Port q) e = ap Port (eqb-true p q e)
-name_same (Port p) (Action b) e = absurd (cc)
-name_same (Action a) (Port q) e = absurd (cc)
-name_same (Action a) (Action b) e = ap Action (eqb-true a b e)
-
-pub name_refl : (n : Name) → same_name n n ≡ true
-name_refl (Port p) = eq-eqb p p refl
-name_refl (Action a) = eq-eqb a a refl
 
 -- what is earlier than an earlier tag
 pub earlier_down : (clash : Option Tag) (h k : Tag) → IsEarlier clash h → Before k h → IsEarlier clash k

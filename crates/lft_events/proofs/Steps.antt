@@ -1,9 +1,10 @@
 -- The events in the queue, when a step of a run is fed to it.
-use Rattle.std.proofs.Common.{◌≡◌, ◌↔◌, ℕ, zero, suc, ◌+◌, ◌<◌, ◌≤◌, inl, inr, List, [], ◌∷◌, ◌++◌, length, length-append, map, take, refl, sym, ap, ◌∙◌, subst, arith, Option, Some, None, IsSome, is_some, IsTrue, Bool, true, false, cond, ltb, ◌==◌, slice_get, filter_map, Contains, eq-eqb}
-use Rattle.std.specs.List.{cons_option, last_or}
+use Rattle.std.proofs.Common.{◌≡◌, ◌↔◌, ℕ, zero, suc, ◌+◌, ◌<◌, ◌≤◌, inl, inr, List, [], ◌∷◌, ◌++◌, length, length-append, map, take, refl, sym, ap, ◌∙◌, subst, arith, Option, Some, None, IsSome, is_some, IsTrue, Bool, true, false, cond, nat_eq, ◌==◌, slice_get, filter_map, Contains, eq-eqb}
+use Rattle.std.specs.Cmp.{nat_eq_equiv}
+use Rattle.std.specs.List.{cons_option, last_or, list_any}
 use Rattle.std.proofs.lemmas.Bool.{false≢true}
-use Rattle.std.proofs.lemmas.Bool.Decides.{nat_tests}
 use Rattle.std.proofs.lemmas.List.Elements.{filter_map-append}
+use Rattle.std.proofs.lemmas.Map.Views.{list_any-from_Contains}
 use Rattle.lft_tag.specs.declared.Tag.{Tag}
 use Rattle.lft_tag.specs.Tags.{Before, UpTo, after}
 use Rattle.lft_tag.proofs.Order.{UpTo-refl, Before-weaken, after_past}
@@ -15,16 +16,17 @@ use Rattle.lft_trace.specs.declared.row.Row.{Row}
 use Rattle.lft_trace.specs.declared.row.Step.{Step}
 use Rattle.lft_trace.specs.declared.row.Step.TheVariants.{Write, Schedule, End}
 use Rattle.lft_queue.specs.Pending.{Pending, value_of, same_name}
+use Rattle.lft_queue.proofs.Tests.{name_refl}
+use Rattle.lft_listeners.specs.Listeners.{IsArrival}
 use Rattle.lft_model.specs.Plans.{PlanParts, IsSoundPlan}
 use Rattle.lft_model.specs.Presence.{written, value_scheduled, scheduled, given, min_delay, events_of, Last, IsWrittenFrom, At, PortClash, ClashesAt}
 use Rattle.lft_model.specs.Recorded.{run_row, committed_rows}
 use Rattle.lft_model.proofs.Members.{Mem, mem_contains, contains_mem, nil_of_none, mem_left, mem_right}
-use Rattle.lft_model.proofs.Places.{slice_get_within}
 use Rattle.lft_model.proofs.Steps.{written_some, scheduled_some, some_scheduled}
 use Rattle.lft_model.proofs.Ended.{written_by, scheduled_by, by_scheduled}
 use Rattle.lft_model.proofs.Grown.{added_none}
-use Rattle.lft_events.specs.Events.{IsEarlier, IsWanted, IsPut, HasEvents, HasEventsOf, seen_below, IsFedTo, WasWritten, KnowsAgain}
-use Rattle.lft_events.proofs.Heard.{heard, unheard, name_refl, iff_trans}
+use Rattle.lft_events.specs.Events.{IsEarlier, IsWanted, IsPut, HasEvents, HasEventsOf, seen_by, IsFedTo, WasWritten, KnowsAgain}
+use Rattle.lft_events.proofs.Heard.{heard, unheard, iff_trans}
 use Rattle.lft_events.proofs.Written.{origin_at, unheard_at, unheard_clash}
 use Rattle.lft_events.proofs.Fed.{none_there, some_there}
 
@@ -97,42 +99,42 @@ inert plan t x no_write no_schedule from last clash q is = unheard plan (λ n. t
     clashes (Port p) k = port_clash plan t x no_write p k
     clashes (Action a) k = action_clash plan (t ++ x ∷ []) t k a (none_scheduled plan t x k a (not_scheduled x k a (min_delay plan.program a) (λ v d e q. no_schedule a d v e)))
 
--- all ports have heard of a write
-pub write_fed : (plan : PlanParts) (good : IsSoundPlan plan) (t : List Row) (x : Row) (o : ℕ) (v : Value) → x.step ≡ Write (Port o) v → (last : Tag) (clash : Option Tag) (q : List Pending) (i : ℕ) → length plan.program.ports ≤ i → IsFedTo plan t x last i clash q → HasEvents plan (t ++ x ∷ []) x.tag last clash q
-write_fed plan good t x o v writes last clash q i enough is = unheard plan (seen_below (t ++ x ∷ []) t i) (λ n. t ++ x ∷ []) x.tag last clash q ats clashes is
+-- all ports of the origin have heard of a write
+pub write_fed : (plan : PlanParts) (good : IsSoundPlan plan) (t : List Row) (x : Row) (o : ℕ) (v : Value) → x.step ≡ Write (Port o) v → (last : Tag) (clash : Option Tag) (q : List Pending) (ports : List ℕ) → ((p : ℕ) → IsArrival plan.program o p → Contains ports p) → IsFedTo plan t x last ports clash q → HasEvents plan (t ++ x ∷ []) x.tag last clash q
+write_fed plan good t x o v writes last clash q ports all is = unheard plan (seen_by ports (t ++ x ∷ []) t) (λ n. t ++ x ∷ []) x.tag last clash q ats clashes is
   where
     no_schedule : (k : Tag) (a : ℕ) → scheduled k a (min_delay plan.program a) x ≡ None
     no_schedule k a = not_scheduled x k a (min_delay plan.program a) (λ u d e z. let y : Write (Port o) v ≡ Schedule (Action a) u d = sym writes ∙ e in absurd (cc))
 
-    no_port : (p : ℕ) → ltb p i ≡ false → (port : PortOf) → slice_get plan.program.ports p ≡ Some port → ¬ (port.origin ≡ o)
-    no_port p f port e z = let l : p < length plan.program.ports = slice_get_within plan.program.ports p port e in let m : ltb p i ≡ true = grind (arith, nat_tests) in false≢true (sym f ∙ m)
+    no_port : (p : ℕ) → list_any (nat_eq p) ports ≡ false → (port : PortOf) → slice_get plan.program.ports p ≡ Some port → ¬ (port.origin ≡ o)
+    no_port p f port e z = false≢true (sym f ∙ list_any-from_Contains nat_eq_equiv p ports (all p (port, e, z)))
 
-    ats : (n : Name) (k : Tag) (u : Value) → At plan (t ++ x ∷ []) k n u ↔ At plan (seen_below (t ++ x ∷ []) t i n) k n u
-    ats (Port p) k u = go (ltb p i) refl
+    ats : (n : Name) (k : Tag) (u : Value) → At plan (t ++ x ∷ []) k n u ↔ At plan (seen_by ports (t ++ x ∷ []) t n) k n u
+    ats (Port p) k u = go (list_any (nat_eq p) ports) refl
       where
-        go : (b : Bool) → ltb p i ≡ b → At plan (t ++ x ∷ []) k (Port p) u ↔ At plan (cond b (t ++ x ∷ []) t) k (Port p) u
+        go : (b : Bool) → list_any (nat_eq p) ports ≡ b → At plan (t ++ x ∷ []) k (Port p) u ↔ At plan (cond b (t ++ x ∷ []) t) k (Port p) u
         go true e = (λ a. a, λ a. a)
         go false e = unheard_at plan good t x o v writes p (no_port p e) k u
     ats (Action a) k u = action_at plan (t ++ x ∷ []) t k a (none_scheduled plan t x k a (no_schedule k a)) u
 
-    clashes : (n : Name) (k : Tag) → ClashesAt plan (t ++ x ∷ []) k n ↔ ClashesAt plan (seen_below (t ++ x ∷ []) t i n) k n
-    clashes (Port p) k = go (ltb p i) refl
+    clashes : (n : Name) (k : Tag) → ClashesAt plan (t ++ x ∷ []) k n ↔ ClashesAt plan (seen_by ports (t ++ x ∷ []) t n) k n
+    clashes (Port p) k = go (list_any (nat_eq p) ports) refl
       where
-        go : (b : Bool) → ltb p i ≡ b → ClashesAt plan (t ++ x ∷ []) k (Port p) ↔ ClashesAt plan (cond b (t ++ x ∷ []) t) k (Port p)
+        go : (b : Bool) → list_any (nat_eq p) ports ≡ b → ClashesAt plan (t ++ x ∷ []) k (Port p) ↔ ClashesAt plan (cond b (t ++ x ∷ []) t) k (Port p)
         go true e = (λ a. a, λ a. a)
         go false e = unheard_clash plan good t x o v writes p (no_port p e) k
     clashes (Action a) k = action_clash plan (t ++ x ∷ []) t k a (none_scheduled plan t x k a (no_schedule k a))
 
 -- no port has heard of it yet
-pub none_fed : (plan : PlanParts) (t : List Row) (x : Row) (last : Tag) (clash : Option Tag) (q : List Pending) → HasEvents plan t x.tag last clash q → IsFedTo plan t x last 0 clash q
-none_fed plan t x last clash q is = unheard plan (λ n. t) (seen_below (t ++ x ∷ []) t 0) x.tag last clash q ats clashes is
+pub none_fed : (plan : PlanParts) (t : List Row) (x : Row) (last : Tag) (clash : Option Tag) (q : List Pending) → HasEvents plan t x.tag last clash q → IsFedTo plan t x last [] clash q
+none_fed plan t x last clash q is = unheard plan (λ n. t) (seen_by [] (t ++ x ∷ []) t) x.tag last clash q ats clashes is
   where
-    ats : (n : Name) (k : Tag) (u : Value) → At plan (seen_below (t ++ x ∷ []) t 0 n) k n u ↔ At plan t k n u
-    ats (Port p) k u = subst (λ (s : List Row). At plan s k (Port p) u ↔ At plan t k (Port p) u) (ap (λ (b : Bool). cond b (t ++ x ∷ []) t) (let z : false ≡ ltb p 0 = grind (arith, nat_tests) in z)) (λ a. a, λ a. a)
+    ats : (n : Name) (k : Tag) (u : Value) → At plan (seen_by [] (t ++ x ∷ []) t n) k n u ↔ At plan t k n u
+    ats (Port p) k u = (λ a. a, λ a. a)
     ats (Action a) k u = (λ a. a, λ a. a)
 
-    clashes : (n : Name) (k : Tag) → ClashesAt plan (seen_below (t ++ x ∷ []) t 0 n) k n ↔ ClashesAt plan t k n
-    clashes (Port p) k = subst (λ (s : List Row). ClashesAt plan s k (Port p) ↔ ClashesAt plan t k (Port p)) (ap (λ (b : Bool). cond b (t ++ x ∷ []) t) (let z : false ≡ ltb p 0 = grind (arith, nat_tests) in z)) (λ a. a, λ a. a)
+    clashes : (n : Name) (k : Tag) → ClashesAt plan (seen_by [] (t ++ x ∷ []) t n) k n ↔ ClashesAt plan t k n
+    clashes (Port p) k = (λ a. a, λ a. a)
     clashes (Action a) k = (λ a. a, λ a. a)
 
 -- what was found is later than the tag

@@ -1,5 +1,6 @@
 -- The events that rows make from a tag on, as a queue of them.
-use Rattle.std.specs.Prelude.{◌≡◌, ◌↔◌, ◌⊎◌, ℕ, Bool, cond, ltb, List, [], ◌∷◌, ◌++◌, Option, Some, None, IsSome, IsTrue, slice_get}
+use Rattle.std.specs.Prelude.{◌≡◌, ◌↔◌, ◌⊎◌, ℕ, Bool, cond, nat_eq, List, [], ◌∷◌, ◌++◌, Option, Some, None, IsSome, IsTrue, slice_get}
+use Rattle.std.specs.List.{list_any}
 use Rattle.lft_tag.specs.declared.Tag.{Tag}
 use Rattle.lft_tag.specs.Tags.{Before, UpTo}
 use Rattle.lft_flat.specs.declared.parts.Port.{Port as PortOf}
@@ -26,10 +27,10 @@ pub record HasEventsOf (plan : PlanParts) (seen : Name → List Row) (from last 
 abbrev pub HasEvents : PlanParts → List Row → Tag → Tag → Option Tag → List Pending → Type 0
 HasEvents plan t from last clash q = HasEventsOf plan (λ n. t) from last clash q
 
--- the rows of a port below a number are some rows, those of another port and of an action others
-abbrev pub seen_below : List Row → List Row → ℕ → Name → List Row
-seen_below new old i (Port p) = cond (ltb p i) new old
-seen_below new old i (Action a) = old
+-- the rows of some ports are some rows, those of another port and of an action others
+abbrev pub seen_by : List ℕ → List Row → List Row → Name → List Row
+seen_by ports new old (Port p) = cond (list_any (nat_eq p) ports) new old
+seen_by ports new old (Action a) = old
 
 -- the tag is up to the last one and earlier than the one that was found
 abbrev pub IsWanted : Tag → Option Tag → Tag → Type 0
@@ -42,9 +43,9 @@ IsPut last clash h n v old new found =
     ⊎ IsWanted last clash h × (value_of h n old ≡ None) × Becomes old new h n (Some v) × (found ≡ clash)
     ⊎ IsWanted last clash h × IsSome (value_of h n old) × (new ≡ old) × (found ≡ Some h)
 
--- the ports below a number have heard of a row more
-abbrev pub IsFedTo : PlanParts → List Row → Row → Tag → ℕ → Option Tag → List Pending → Type 0
-IsFedTo plan t x last i clash q = HasEventsOf plan (seen_below (t ++ x ∷ []) t i) x.tag last clash q
+-- some ports have heard of a row more
+abbrev pub IsFedTo : PlanParts → List Row → Row → Tag → List ℕ → Option Tag → List Pending → Type 0
+IsFedTo plan t x last ports clash q = HasEventsOf plan (seen_by ports (t ++ x ∷ []) t) x.tag last clash q
 
 -- the origin was written at g
 abbrev pub WasWritten : List Row → Tag → ℕ → Type 0

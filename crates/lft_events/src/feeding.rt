@@ -1,8 +1,9 @@
 //! The events of a run's steps go into the queue.
 
-ghost use Rattle.std.specs.Prelude.{◌≡◌, ◌<◌, ◌≤◌, ◌↔◌, ◌+◌, ◌++◌, ◌∷◌, [], ℕ, List, length, map, slice_get, Some, None, IfOk, IsTrue};
+ghost use Rattle.std.specs.Prelude.{◌≡◌, ◌<◌, ◌≤◌, ◌↔◌, ◌+◌, ◌++◌, ◌∷◌, [], ℕ, List, length, map, slice_get, Some, None, IfOk, IsTrue, Contains};
 ghost use Rattle.lft_tag.specs.Tags.{UpTo, IsRecorded};
 ghost use Rattle.lft_flat.specs.declared.parts.Value.{Value as Carried};
+ghost use Rattle.lft_listeners.specs.Listeners.{IsArrival, AreArrivals};
 ghost use Rattle.lft_trace.specs.declared.row.Row.{Row as RowOf};
 ghost use Rattle.lft_trace.specs.Fits.{StepFits};
 ghost use Rattle.lft_flat.specs.declared.parts.Port.{Port as PortOf};
@@ -12,6 +13,7 @@ ghost use Rattle.lft_trace.specs.declared.row.Step.{Step as StepOf};
 ghost use Rattle.lft_events.specs.Events.{HasEvents, IsPut, IsFedTo, KnowsAgain};
 
 use lft_flat::{Name, Value};
+use lft_listeners::Arrivals;
 use lft_model::Plan;
 use lft_queue::{Queue, QueueFault};
 use lft_tag::{NoMemory, Tag};
@@ -44,28 +46,31 @@ fn put(
     }
 }
 
-// Puts the event of a port in, where a write of the origin at the tag arrives there. Where the
-// origin was written at the tag before, its event takes another value.
+// The port at a place.
+fn port_at(ports: &[u32], place: usize) -> u32
+    requires { place < length ports.now }
+    ensures { slice_get ports.now place ≡ Some result }
+{
+    ports[place]
+}
+
+// Puts the event of a port in, at which a write of its origin at the tag arrives. Where the origin
+// was written at the tag before, its event takes another value.
 fn feed_port(
     queue: &mut Queue,
     plan: &Plan,
     last: Tag,
     clash: Option<Tag>,
     tag: Tag,
-    origin: u32,
+    number: u32,
     value: Value,
     again: bool,
-    number: u32,
 ) -> Result<Option<Tag>, NoMemory>
     requires recorded { IsRecorded tag }
     requires number { number < length plan.now.program.ports }
-    ensures { (t : List RowOf) (w : ℕ) (r : ℕ) → IsFedTo plan.now t (run_row w tag r (Step.Write (Name.Port origin) value)) last number clash queue.old → KnowsAgain plan.now t tag origin again → IfOk result (λ found. IsFedTo plan.now t (run_row w tag r (Step.Write (Name.Port origin) value)) last (number + 1) found queue.new) }
+    ensures { (t : List RowOf) (w r o : ℕ) (ports : List ℕ) → IsArrival plan.now.program o number → ¬ Contains ports number → IsFedTo plan.now t (run_row w tag r (Step.Write (Name.Port o) value)) last ports clash queue.old → KnowsAgain plan.now t tag o again → IfOk result (λ found. IsFedTo plan.now t (run_row w tag r (Step.Write (Name.Port o) value)) last (ports ++ number ∷ []) found queue.new) }
 {
-    let port = plan.program().port(number);
-    if port.origin != origin {
-        return Ok(clash);
-    }
-    let at = tag.plus(port.shift);
+    let at = tag.plus(plan.program().port(number).shift);
     if again {
         let _replaced = queue.remove(at, Name::Port(number));
     }
@@ -76,6 +81,7 @@ fn feed_port(
 fn feed_write(
     queue: &mut Queue,
     plan: &Plan,
+    arrivals: &Arrivals,
     last: Tag,
     clash: Option<Tag>,
     tag: Tag,
@@ -83,21 +89,24 @@ fn feed_write(
     value: Value,
 ) -> Result<Option<Tag>, NoMemory>
     requires recorded { IsRecorded tag }
+    requires arrivals { AreArrivals plan.now.program arrivals.now }
     ensures { (t : List RowOf) (w : ℕ) (r : ℕ) → UpTo tag last → HasEvents plan.now t tag last clash queue.old → IfOk result (λ found. HasEvents plan.now (t ++ run_row w tag r (Step.Write (Name.Port origin) value) ∷ []) tag last found queue.new) }
 {
+    // Asked for what every plan keeps: of a sound one an origin has an event where it is written.
+    plan.keeps();
     let again = queue.get(tag, Name::Port(origin)).is_some();
     let mut found = clash;
-    for number in 0..plan.program().ports() {
+    let ports = arrivals.of(origin);
+    for place in 0..ports.len() {
         found = feed_port(
             queue,
             plan,
             last,
             found,
             tag,
-            origin,
+            port_at(ports, place),
             value,
             again,
-            number as u32,
         )?;
     }
     Ok(found)
@@ -134,6 +143,7 @@ fn feed_schedule(
 fn feed_step(
     queue: &mut Queue,
     plan: &Plan,
+    arrivals: &Arrivals,
     last: Tag,
     clash: Option<Tag>,
     tag: Tag,
@@ -141,11 +151,12 @@ fn feed_step(
 ) -> Result<Option<Tag>, NoMemory>
     requires recorded { IsRecorded tag }
     requires fits { StepFits plan.now.program step }
+    requires arrivals { AreArrivals plan.now.program arrivals.now }
     ensures { (t : List RowOf) (w : ℕ) (r : ℕ) → UpTo tag last → HasEvents plan.now t tag last clash queue.old → IfOk result (λ found. HasEvents plan.now (t ++ run_row w tag r step ∷ []) tag last found queue.new) }
 {
     match step {
         Step::Write(Name::Port(origin), value) => {
-            return feed_write(queue, plan, last, clash, tag, origin, value);
+            return feed_write(queue, plan, arrivals, last, clash, tag, origin, value);
         }
         Step::Schedule(Name::Action(action), value, delay) => {
             return feed_schedule(queue, plan, last, clash, tag, action, value, delay);
@@ -163,21 +174,24 @@ fn step_at(steps: &[Step], place: usize) -> Step
 }
 
 /// Puts the events of the steps of a run at the tag in, as far as they are up to the last tag.
-/// Gives the least tag at which two causes give one port or action an event, if there is one.
+/// Gives the least tag at which two causes give one port or action an event, if there is one. The
+/// arrivals are those of the plan's program; it costs what the steps' ports and actions are.
 pub fn feed(
     queue: &mut Queue,
     plan: &Plan,
+    arrivals: &Arrivals,
     last: Tag,
     tag: Tag,
     steps: &[Step],
 ) -> Result<Option<Tag>, NoMemory>
     requires recorded { IsRecorded tag }
     requires fit { (k : ℕ) (s : StepOf) → slice_get steps.now k ≡ Some s → StepFits plan.now.program s }
+    requires arrivals { AreArrivals plan.now.program arrivals.now }
     ensures { (t : List RowOf) (w : ℕ) (r : ℕ) → UpTo tag last → HasEvents plan.now t tag last None queue.old → IfOk result (λ found. HasEvents plan.now (t ++ committed_rows w tag r steps.now) tag last found queue.new) }
 {
     let mut found = None;
     for at in 0..steps.len() {
-        found = feed_step(queue, plan, last, found, tag, step_at(steps, at))?;
+        found = feed_step(queue, plan, arrivals, last, found, tag, step_at(steps, at))?;
     }
     Ok(found)
 }

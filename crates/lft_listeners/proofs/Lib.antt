@@ -1,0 +1,3 @@
+pub mod Pushing
+pub mod Filling
+pub mod Arriving

@@ -1,0 +1,3 @@
+pub mod Listeners
+pub mod Lists
+pub mod Filling

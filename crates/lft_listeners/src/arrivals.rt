@@ -1,0 +1,48 @@
+//! Where writes arrive.
+
+ghost use Rattle.std.specs.Prelude.{◌≡◌, ◌≢◌, ◌↔◌, ℕ, Contains, AllPairs, IfOk};
+ghost use Rattle.lft_flat.specs.Parts.{Parts};
+ghost use Rattle.lft_listeners.specs.Listeners.{IsArrival, AreArrivals};
+
+use crate::lists::Lists;
+use lft_flat::Program;
+use lft_tag::NoMemory;
+use std::alloc::Global;
+use std::marker::Model;
+
+/// For each port of a program the ports at which a write of it arrives: those whose origin it is.
+#[derive(Debug, Drop)]
+pub struct Arrivals {
+    lists: Lists,
+}
+
+impl Model for Arrivals {
+    ghost use Rattle.std.specs.Prelude.{List, ℕ};
+
+    ghost Value = { List (List ℕ) };
+
+    ghost view = { λ a. a.lists };
+}
+
+impl Arrivals {
+    /// The arrivals of the program. It costs what the program's ports are.
+    pub fn new(alloc: Global, program: &Program) -> Result<Arrivals, NoMemory>
+        ensures { IfOk result (λ arrivals. AreArrivals program.now arrivals) }
+    {
+        let mut lists = Lists::new(alloc, program.ports())?;
+        'ports: for number in 0..program.ports() {
+            let port = program.port(number as u32);
+            lists.push(port.origin, number as u32)?;
+        }
+        Ok(Arrivals { lists })
+    }
+
+    /// The ports at which a write of the origin arrives, each once; none where the number is no
+    /// port's or the port isn't an origin.
+    pub fn of(&self, origin: u32) -> &[u32]
+        ensures each { (program : Parts) → AreArrivals program self.now → (p : ℕ) → Contains result.now p ↔ IsArrival program origin p }
+        ensures once { (program : Parts) → AreArrivals program self.now → AllPairs (λ p q. p ≢ q) result.now }
+    {
+        self.lists.at(origin)
+    }
+}

@@ -1,0 +1,10 @@
+#![tactic(auto)]
+//! Who listens: the reactions that each trigger triggers, and the ports at which a write arrives.
+
+mod arrivals;
+mod by_trigger;
+mod listeners;
+mod lists;
+
+pub use arrivals::Arrivals;
+pub use listeners::Listeners;

@@ -1,0 +1,104 @@
+//! The listeners of a program.
+
+ghost use Rattle.std.specs.Prelude.{◌≡◌, ◌≢◌, ◌↔◌, ◌⊎◌, ◌<◌, ℕ, [], length, slice_get, Some, Contains, IfOk, OnOk};
+ghost use Rattle.lft_flat.specs.Parts.{Parts};
+ghost use Rattle.lft_flat.specs.declared.parts.Trigger.{Trigger as TriggerOf};
+ghost use Rattle.lft_listeners.specs.Listeners.{IsListener, IsLive, AreListeners};
+ghost use Rattle.lft_listeners.specs.Lists.{list_of, HasList, ArePushed};
+ghost use Rattle.lft_listeners.specs.Filling.{AreListed};
+
+use crate::by_trigger::ByTrigger;
+use lft_flat::{Program, Trigger};
+use lft_tag::NoMemory;
+use std::alloc::Global;
+use std::marker::Model;
+
+/// The listeners of each trigger of a program: the reactions that it triggers.
+#[derive(Debug, Drop)]
+pub struct Listeners {
+    by_trigger: ByTrigger,
+    live_timers: Vec<u32>,
+}
+
+impl Model for Listeners {
+    ghost use Rattle.lft_listeners.specs.Listeners.{ListenerParts};
+
+    ghost Value = { ListenerParts };
+
+    ghost view = { λ a. record { by_trigger = a.by_trigger; live_timers = a.live_timers.items } };
+}
+
+// the trigger at a place
+fn trigger_at(triggers: &[Trigger], place: usize) -> Trigger
+    requires { place < length triggers.now }
+    ensures { slice_get triggers.now place ≡ Some result }
+{
+    triggers[place]
+}
+
+// the reaction is put into the list of each of its triggers
+fn push_all(lists: &mut ByTrigger, triggers: &[Trigger], reaction: u32) -> Result<(), NoMemory>
+    requires { (t : TriggerOf) → Contains triggers.now t → HasList lists.old t }
+    ensures { OnOk result (ArePushed triggers.now reaction lists.old lists.new) }
+{
+    'triggers: for place in 0..triggers.len() {
+        lists.push(trigger_at(triggers, place), reaction)?;
+    }
+    Ok(())
+}
+
+// the reactions that each trigger triggers
+fn by_trigger(alloc: Global, program: &Program) -> Result<ByTrigger, NoMemory>
+    ensures { IfOk result (λ lists. AreListed program.now (length program.now.reactions) lists) }
+{
+    let mut lists = ByTrigger::new(alloc, program)?;
+    'reactions: for number in 0..program.reactions() {
+        let triggers = program.reaction(number as u32).triggers.as_slice();
+        push_all(&mut lists, triggers, number as u32)?;
+    }
+    Ok(lists)
+}
+
+// the timers whose list isn't empty
+fn live_timers(alloc: Global, program: &Program, lists: &ByTrigger) -> Result<Vec<u32>, NoMemory>
+    ensures { IfOk result (λ live. (n : ℕ) → Contains live.items n ↔ ((n < length program.now.timers) × (list_of lists.now (Trigger.Timer n) ≢ []))) }
+{
+    let mut live = Vec::new(alloc);
+    'timers: for number in 0..program.timers() {
+        if !lists.at(Trigger::Timer(number as u32)).is_empty() {
+            live.push(number as u32)?;
+        }
+    }
+    Ok(live)
+}
+
+impl Listeners {
+    /// The listeners of the program. It costs what the program's triggers, timers, ports and
+    /// actions are.
+    pub fn new(alloc: Global, program: &Program) -> Result<Listeners, NoMemory>
+        ensures { IfOk result (λ listeners. AreListeners program.now listeners) }
+    {
+        // Asked for what every program keeps: a timer that a reaction names is one of the program.
+        program.keeps();
+        let by_trigger = by_trigger(alloc, program)?;
+        let live_timers = live_timers(alloc, program, &by_trigger)?;
+        Ok(Listeners {
+            by_trigger,
+            live_timers,
+        })
+    }
+
+    /// The reactions that the trigger triggers; none where it is of another program.
+    pub fn of(&self, trigger: Trigger) -> &[u32]
+        ensures { (program : Parts) → AreListeners program self.now → (r : ℕ) → Contains result.now r ↔ IsListener program trigger r }
+    {
+        self.by_trigger.at(trigger)
+    }
+
+    /// The timers that trigger a reaction.
+    pub fn live_timers(&self) -> &[u32]
+        ensures { (program : Parts) → AreListeners program self.now → (n : ℕ) → Contains result.now n ↔ IsLive program n }
+    {
+        self.live_timers.as_slice()
+    }
+}
