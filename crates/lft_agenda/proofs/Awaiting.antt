@@ -1,5 +1,5 @@
 -- What is pending in a recording so far is a reaction, and open where it has run; what is open is pending.
-use Rattle.std.proofs.Common.{◌≡◌, ℕ, ◌<◌, List, [], length}
+use Rattle.std.proofs.Common.{ℕ, ◌<◌, List, [], length}
 use Rattle.lft_tag.specs.declared.Tag.{Tag}
 use Rattle.lft_trace.specs.declared.row.Row.{Row}
 use Rattle.lft_model.specs.Plans.{PlanParts, IsSoundPlan}

@@ -1,24 +1,19 @@
 -- The agenda of no rows.
-use Rattle.std.proofs.Common.{◌≡◌, ℕ, ◌<◌, List, [], length, replicate, refl, sym, ap, ◌∙◌, subst, arith, Some, None, slice_get}
+use Rattle.std.proofs.Common.{◌≡◌, ℕ, List, [], length, replicate, refl, ap, ◌∙◌, subst, arith, Some, None, slice_get}
 use Rattle.lft_tag.specs.declared.Tag.{Tag}
-use Rattle.lft_tag.specs.Tags.{Before, UpTo}
-use Rattle.lft_tag.proofs.Order.{UpTo-refl, UpTo-trans}
+use Rattle.lft_tag.specs.Tags.{UpTo}
 use Rattle.lft_trace.specs.declared.row.Row.{Row}
 use Rattle.lft_queue.specs.Pending.{Pending}
-use Rattle.lft_graph.specs.Graph.{GraphParts, IsGraphOf}
+use Rattle.lft_graph.specs.Graph.{IsGraphOf}
 use Rattle.lft_lists.proofs.Places.{get_same, length_same}
 use Rattle.lft_turn.specs.declared.phase.Phase.{Phase}
 use Rattle.lft_turn.specs.declared.phase.Phase.TheVariants.{Idle}
 use Rattle.lft_turn.specs.Turns.{TurnParts}
 use Rattle.lft_model.specs.Plans.{PlanParts, IsSoundPlan}
-use Rattle.lft_model.specs.Presence.{stop}
-use Rattle.lft_model.specs.Runs.{by_ends}
-use Rattle.lft_model.specs.OneWorker.{IsPending}
-use Rattle.lft_model.specs.Recorded.{SoFar, OnlyEndedAnswer}
+use Rattle.lft_model.specs.Recorded.{OnlyEndedAnswer}
 use Rattle.lft_model.proofs.Empty.{empty_so_far}
 use Rattle.lft_events.specs.Events.{HasEvents}
 use Rattle.lft_recording.specs.Starts.{IsAnyOpen}
-use Rattle.lft_agenda.specs.declared.open.OpenRun.{OpenRun}
 use Rattle.lft_agenda.specs.OpenRuns.{AreOpen}
 use Rattle.lft_agenda.specs.Telling.{IsTold, IsCalled}
 use Rattle.lft_agenda.specs.Agendas.{IsReached, MayAdvance}

@@ -1,11 +1,10 @@
 -- The rows once a run has ended: who has run, what is triggered at its tag, and what is pending there.
-use Rattle.std.proofs.Common.{◌≡◌, ℕ, zero, suc, ◌+◌, ◌<◌, ◌⊎◌, inl, inr, List, [], ◌∷◌, ◌++◌, length, map, refl, sym, ap, ◌∙◌, subst, arith, Option, Some, None, slice_get, filter_map, Contains}
-use Rattle.std.specs.List.{last_or}
+use Rattle.std.proofs.Common.{◌≡◌, ℕ, zero, suc, ◌+◌, ◌<◌, ◌⊎◌, inl, inr, List, [], ◌∷◌, ◌++◌, length, map, refl, sym, ap, ◌∙◌, subst, arith, Some, slice_get, filter_map, Contains}
 use Rattle.std.proofs.lemmas.List.Elements.{filter_map-append}
 use Rattle.lft_tag.specs.declared.Tag.{Tag}
 use Rattle.lft_tag.specs.Tags.{Before, UpTo, after_all}
 use Rattle.lft_tag.specs.Shifts.{shifted}
-use Rattle.lft_tag.proofs.Order.{UpTo-trans, UpTo-refl, UpTo_antisym, Before-irrefl, after_past, after_some_past}
+use Rattle.lft_tag.proofs.Order.{UpTo-trans, UpTo_antisym, Before-irrefl, after_past, after_some_past}
 use Rattle.lft_tag.proofs.Chains.{shifted_chain}
 use Rattle.lft_flat.specs.Origins.{Origin}
 use Rattle.lft_flat.proofs.Origins.{origin_unique}
@@ -21,7 +20,7 @@ use Rattle.lft_trace.specs.declared.row.Step.TheVariants.{Start, Read, Write, Sc
 use Rattle.lft_graph.specs.Precedence.{Precedes}
 use Rattle.lft_graph.specs.Precedence.Precedes.{one}
 use Rattle.lft_model.specs.Plans.{PlanParts, IsSoundPlan}
-use Rattle.lft_model.specs.Presence.{stop, written, scheduled, given, min_delay, events_of, Last, IsWrittenFrom, At, Occurs, Triggered}
+use Rattle.lft_model.specs.Presence.{stop, written, scheduled, given, min_delay, events_of, Last, At, Occurs, Triggered}
 use Rattle.lft_model.specs.Runs.{Ran, start_row, end_row, effects_of, by_ends}
 use Rattle.lft_model.specs.OneWorker.{IsPending}
 use Rattle.lft_model.specs.Recorded.{SoFar, IsAnswer, OnlyEndedAnswer, MayAnswer, run_row, committed_rows}
@@ -39,7 +38,7 @@ use Rattle.lft_model.proofs.Grown.{slice_get_more}
 use Rattle.lft_model.proofs.Added.{added_row}
 use Rattle.lft_model.proofs.Committed.{not_ended, its_time, new_stop}
 use Rattle.lft_model.proofs.Recording.{precedes_ended}
-use Rattle.lft_model.proofs.Quiet.{pending_now, pending_time, pending_triggered, pending_open}
+use Rattle.lft_model.proofs.Quiet.{pending_now, pending_triggered, pending_open}
 use Rattle.lft_events.proofs.Written.{port_of, from_written, to_written}
 use Rattle.lft_listeners.specs.Listeners.{IsListener}
 use Rattle.lft_agenda.specs.Telling.{ArrivesAtOnce, IsCalledBy}

@@ -1,5 +1,5 @@
 -- The agenda once a run has been begun or ended.
-use Rattle.std.proofs.Common.{◌≡◌, ℕ, ◌+◌, ◌<◌, ◌≤◌, ◌⊎◌, inl, inr, List, [], ◌∷◌, ◌++◌, length, refl, sym, ap, ◌∙◌, subst, arith, Option, Some, None, not, slice_get, slice_set}
+use Rattle.std.proofs.Common.{◌≡◌, ℕ, ◌+◌, ◌<◌, ◌⊎◌, inl, inr, List, [], ◌∷◌, ◌++◌, length, refl, sym, ◌∙◌, subst, Option, Some, None, not, slice_get, slice_set}
 use Rattle.std.specs.List.{filter}
 use Rattle.lft_tag.specs.declared.Tag.{Tag}
 use Rattle.lft_tag.specs.Tags.{UpTo}
@@ -12,10 +12,10 @@ use Rattle.lft_turn.specs.declared.phase.Phase.TheVariants.{Idle, Waiting, Open}
 use Rattle.lft_turn.specs.Turns.{TurnParts}
 use Rattle.lft_model.specs.Plans.{PlanParts, IsSoundPlan}
 use Rattle.lft_model.specs.Presence.{stop}
-use Rattle.lft_model.specs.Runs.{Run, Ran, start_row, by_ends}
+use Rattle.lft_model.specs.Runs.{Run, start_row, by_ends}
 use Rattle.lft_model.specs.Breaches.{IsOpen}
 use Rattle.lft_model.specs.OneWorker.{IsPending, Ready}
-use Rattle.lft_model.specs.Recorded.{SoFar, OnlyEndedAnswer, MayAnswer, begun_rows, committed_rows}
+use Rattle.lft_model.specs.Recorded.{SoFar, MayAnswer, begun_rows, committed_rows}
 use Rattle.lft_model.proofs.Members.{Mem, get_mem, mem_get}
 use Rattle.lft_model.proofs.Places.{slice_get_within}
 use Rattle.lft_model.proofs.Stops.{stop_append}

@@ -1,11 +1,11 @@
 -- What is triggered at a tag by the queue, and what the agenda is at the next tag.
-use Rattle.std.proofs.Common.{◌≡◌, ◌↔◌, ℕ, zero, suc, ◌+◌, ◌-◌, ◌*◌, ◌<◌, ◌≤◌, ◌⊎◌, inl, inr, List, [], ◌∷◌, length, refl, sym, ap, ◌∙◌, subst, arith, Option, Some, None, IsSome, IfSome, is_some, slice_get, Bool, true, false, cond, ◌&&◌, Contains}
+use Rattle.std.proofs.Common.{◌≡◌, ◌↔◌, ℕ, suc, ◌+◌, ◌-◌, ◌*◌, ◌<◌, ◌⊎◌, inl, inr, List, [], ◌∷◌, length, refl, sym, ap, ◌∙◌, subst, arith, Option, Some, None, is_some, slice_get, Bool, true, false, cond, Contains}
 use Rattle.std.specs.List.{filter}
 use Rattle.std.proofs.lemmas.Bool.Decides.{nat_tests}
 use Rattle.std.proofs.lemmas.Bool.{false≢true}
 use Rattle.lft_tag.specs.declared.Tag.{Tag}
 use Rattle.lft_tag.specs.Tags.{Before, UpTo, is_before, same_tag}
-use Rattle.lft_tag.proofs.Order.{Before-irrefl, Before-trans, Before-UpTo, Before-weaken, UpTo-refl, UpTo-trans, UpTo-not, UpTo_antisym, order_cases, UpTo-Before}
+use Rattle.lft_tag.proofs.Order.{Before-irrefl, Before-UpTo, Before-weaken, UpTo-refl, UpTo-trans, UpTo_antisym, order_cases, UpTo-Before}
 use Rattle.lft_flat.specs.Parts.{Parts}
 use Rattle.lft_flat.specs.declared.parts.Name.{Name}
 use Rattle.lft_flat.specs.declared.parts.Value.{Value}
@@ -29,13 +29,13 @@ use Rattle.lft_model.proofs.Steps.{both_true, same_tag_true}
 use Rattle.lft_model.proofs.Quiet.{pending_now, pending_time, pending_triggered}
 use Rattle.lft_events.specs.Events.{HasEvents}
 use Rattle.lft_events.proofs.Fed.{some_there}
-use Rattle.lft_recording.specs.Starts.{SomethingLeft, IsAnyOpen}
-use Rattle.lft_agenda.specs.Waits.{Awaits, IsLeastTag, IsBetween, IsCovered, PhaseIs, IsTurnOf}
+use Rattle.lft_recording.specs.Starts.{SomethingLeft}
+use Rattle.lft_agenda.specs.Waits.{IsBetween, IsCovered, PhaseIs, IsTurnOf}
 use Rattle.lft_listeners.specs.Listeners.{IsListener, IsLive}
 use Rattle.lft_agenda.specs.Telling.{IsTold, FiresAt, OccursBy, IsCalled}
 use Rattle.lft_agenda.specs.Agendas.{MayAdvance, IsReached, IsCurrent}
 use Rattle.lft_agenda.proofs.Opening.{filter_mem}
-use Rattle.lft_agenda.proofs.Told.{pending_back, none_waits, none_open_there, all_idle}
+use Rattle.lft_agenda.proofs.Told.{pending_back, none_waits, all_idle}
 
 -- the test of tags
 pub true_before : (g h : Tag) → Before g h → is_before g h ≡ true

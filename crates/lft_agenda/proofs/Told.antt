@@ -1,5 +1,5 @@
 -- What the turn of a tag says of the reactions there; of the least tag it says what may start next.
-use Rattle.std.proofs.Common.{◌≡◌, ℕ, ◌<◌, ◌⊎◌, inl, inr, List, length, refl, subst, arith, Some, slice_get}
+use Rattle.std.proofs.Common.{◌≡◌, ℕ, ◌<◌, inl, inr, List, length, refl, subst, arith, Some, slice_get}
 use Rattle.lft_tag.specs.declared.Tag.{Tag}
 use Rattle.lft_tag.proofs.Order.{UpTo_antisym}
 use Rattle.lft_trace.specs.declared.row.Row.{Row}
@@ -13,7 +13,7 @@ use Rattle.lft_model.specs.Plans.{PlanParts, IsSoundPlan}
 use Rattle.lft_model.specs.Runs.{Ran, by_ends}
 use Rattle.lft_model.specs.OneWorker.{IsPending}
 use Rattle.lft_model.specs.Recorded.{SoFar, OnlyEndedAnswer}
-use Rattle.lft_recording.specs.Starts.{MayStart, MayStartFirst, NoneMayStart, NothingLeft, SomethingLeft, IsAnyOpen}
+use Rattle.lft_recording.specs.Starts.{MayStart, MayStartFirst, NoneMayStart, NothingLeft, IsAnyOpen}
 use Rattle.lft_agenda.specs.declared.open.OpenRun.{OpenRun}
 use Rattle.lft_agenda.specs.OpenRuns.{AreOpen}
 use Rattle.lft_agenda.specs.Waits.{Awaits, IsLeastTag, PhaseIs, IsTurnOf}

@@ -1,5 +1,5 @@
 -- The turn of a tag once a run there has been begun or ended.
-use Rattle.std.proofs.Common.{◌≡◌, ◌≢◌, ℕ, ◌+◌, ◌<◌, ◌⊎◌, inl, inr, List, [], ◌∷◌, ◌++◌, length, refl, sym, ap, ◌∙◌, subst, arith, Option, Some, slice_get, slice_set}
+use Rattle.std.proofs.Common.{◌≡◌, ◌≢◌, ℕ, ◌+◌, ◌<◌, ◌⊎◌, inl, inr, List, ◌++◌, length, refl, sym, ap, ◌∙◌, subst, arith, Option, Some, slice_get, slice_set}
 use Rattle.lft_tag.specs.declared.Tag.{Tag}
 use Rattle.lft_flat.specs.declared.parts.Value.{Value}
 use Rattle.lft_trace.specs.declared.row.Row.{Row}
@@ -19,7 +19,7 @@ use Rattle.lft_model.proofs.Grown.{slice_get_more}
 use Rattle.lft_model.proofs.Added.{added_row}
 use Rattle.lft_agenda.specs.Waits.{PhaseIs, IsTurnOf}
 use Rattle.lft_agenda.specs.Telling.{IsTold, IsCalledBy}
-use Rattle.lft_agenda.specs.Agendas.{MayBegin, MayEnd}
+use Rattle.lft_agenda.specs.Agendas.{MayEnd}
 use Rattle.lft_agenda.proofs.Committed.{ran_before, ran_on, no_more, called_waits, pending_on, pending_cases}
 
 -- a run of r at g has been begun, and the ended runs are as they were

@@ -14,7 +14,7 @@ use Rattle.lft_queue.specs.Pending.{Pending, value_of}
 use Rattle.lft_model.specs.Presence.{Fires}
 use Rattle.lft_listeners.specs.Listeners.{IsListener}
 use Rattle.lft_turn.specs.declared.phase.Phase.{Phase}
-use Rattle.lft_turn.specs.declared.phase.Phase.TheVariants.{Idle, Waiting, Open}
+use Rattle.lft_turn.specs.declared.phase.Phase.TheVariants.{Idle, Waiting}
 use Rattle.lft_turn.specs.Turns.{TurnParts}
 
 -- the idle reactions with a property wait now, and all else is as it was

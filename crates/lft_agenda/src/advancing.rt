@@ -112,6 +112,14 @@ fn next_tag(listeners: &Listeners, plan: &Plan, queue: &Queue, from: Tag, stop: 
     with_timers(listeners, plan, by_events, from, stop)
 }
 
+// The microstep of the tag.
+fn micro_of(tag: Tag) -> u32
+    ensures same { result ≡ tag.micro }
+    ensures fits { result < 4294967296 }
+{
+    tag.micro
+}
+
 /// Where no run is open: on to the least tag from this one on at which a reaction is pending. The
 /// queue loses the events before it. Gives the tag that was reached; where nothing is left to run
 /// up to the stop, nothing waits there.
@@ -134,6 +142,8 @@ pub(crate) fn advance(
     plan.keeps();
     let mut reached = from;
     'tags: loop {
+        // Asked for what a microstep is: a 32-bit number, so that the tags of one time have an end.
+        let _micro = micro_of(reached);
         if turn.first().is_some() {
             return reached;
         }
@@ -141,8 +151,6 @@ pub(crate) fn advance(
         let Some(next) = next_tag(listeners, plan, queue, reached, stop) else {
             return reached;
         };
-        // Read for its range: the tags of one time have an end.
-        let _micro = reached.micro;
         reached = next;
         tell(turn, listeners, plan, queue, reached, stop);
     }

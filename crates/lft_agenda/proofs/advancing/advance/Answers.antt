@@ -1,4 +1,4 @@
-use Rattle.std.proofs.Common.{◌≡◌, ◌<◌, ◌≤◌, ◌∙◌, ℕ, List, Option, Some, None, Contains, length, sym, subst, arith, rules}
+use Rattle.std.proofs.Common.{◌≡◌, ◌∙◌, List, None, Contains, subst, arith, rules}
 use Rattle.lft_trace.specs.declared.row.Row.{Row}
 use Rattle.lft_queue.specs.Pending.{Pending}
 use Rattle.lft_turn.specs.Turns.{NonePending}

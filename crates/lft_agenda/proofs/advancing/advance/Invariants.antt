@@ -1,4 +1,4 @@
-use Rattle.std.proofs.Common.{◌≡◌, ℕ, ◌+◌, ◌-◌, ◌*◌, ◌≤◌, List, length}
+use Rattle.std.proofs.Common.{◌≡◌, ◌+◌, ◌-◌, ◌*◌, ◌≤◌, List, length}
 use Rattle.lft_trace.specs.declared.row.Row.{Row}
 use Rattle.lft_agenda.specs.Agendas.{MayAdvance, IsReached}
 use Rattle.lft_agenda.proofs.advancing.advance.Given as goal

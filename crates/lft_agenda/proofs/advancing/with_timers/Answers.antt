@@ -1,11 +1,9 @@
-use Rattle.std.proofs.Common.{◌≡◌, ◌<◌, ◌+◌, ℕ, length, Some, slice_get, subst, sym, ap, ◌∙◌, arith}
+use Rattle.std.proofs.Common.{◌≡◌, ◌<◌, ◌+◌, ℕ, length, Some, slice_get, subst, arith}
 use native.Mathlib.Decide.{dec_lt}
 use Rattle.lft_tag.specs.declared.Tag.{Tag}
 use Rattle.lft_tag.specs.Tags.{Before, UpTo}
-use Rattle.lft_flat.specs.Parts.{Parts}
 use Rattle.lft_lists.proofs.Places.{contains_at, at_contains, same_at}
 use Rattle.lft_model.proofs.Places.{slice_get_within}
-use Rattle.lft_listeners.specs.Listeners.{IsLive}
 use Rattle.lft_agenda.specs.Waits.{IsCovered}
 use Rattle.lft_agenda.specs.Telling.{FiresAt}
 use Rattle.lft_agenda.proofs.ToldTurns.{live_within}

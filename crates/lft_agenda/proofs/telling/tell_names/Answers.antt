@@ -1,4 +1,4 @@
-use Rattle.std.proofs.Common.{◌≡◌, ◌↔◌, ℕ, suc, ◌+◌, List, Contains, IsSome, [], ◌∷◌, drop, Some, slice_get, IsTrue, true, refl, sym, ap, ◌∙◌, subst, add-one, rules}
+use Rattle.std.proofs.Common.{◌≡◌, ◌↔◌, ℕ, ◌+◌, List, Contains, IsSome, [], ◌∷◌, drop, IsTrue, true, refl, sym, ap, ◌∙◌, subst, add-one, rules}
 use Rattle.lft_flat.specs.declared.parts.Name.{Name}
 use Rattle.lft_flat.specs.declared.parts.Trigger.TheVariants.{On}
 use Rattle.lft_queue.specs.Pending.{value_of}

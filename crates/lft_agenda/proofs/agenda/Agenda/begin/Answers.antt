@@ -1,6 +1,5 @@
 use Rattle.std.proofs.Common.{◌≡◌, ◌∷◌, [], ◌++◌, List, Option, sym, ap, ◌∙◌, subst}
 use Rattle.lft_flat.specs.declared.parts.Value.{Value}
-use Rattle.lft_turn.specs.Turns.{TurnParts}
 use Rattle.lft_model.specs.Recorded.{begun_rows}
 use Rattle.lft_agenda.specs.declared.open.OpenRun.{OpenRun}
 use Rattle.lft_agenda.specs.Agendas.{AgendaParts, IsAgenda}

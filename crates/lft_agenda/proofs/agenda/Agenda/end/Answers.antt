@@ -1,4 +1,4 @@
-use Rattle.std.proofs.Common.{◌≡◌, ◌++◌, ◌<◌, ◌≤◌, ◌∙◌, List, Option, None, length, not, refl, sym, ap, subst, arith, rules}
+use Rattle.std.proofs.Common.{◌≡◌, ◌++◌, ◌<◌, ◌∙◌, Option, None, length, not, refl, sym, ap, subst, arith, rules}
 use Rattle.std.specs.List.{filter}
 use Rattle.lft_tag.specs.declared.Tag.{Tag}
 use Rattle.lft_model.specs.Presence.{stop as the_stop}
@@ -30,8 +30,8 @@ returns-then-is_empty c = λ t is may.
     let now : AgendaParts = record { runs = c.take_out.new.runs.items; queue = c.advance-self-inside.new.queue; turn = c.advance-self-inside.new.turn; from = c.advance-self-inside.result; stop = stop; listeners = a.listeners; arrivals = a.arrivals } in
     let its_of : IsOf plan.program now = record { listeners = of.listeners; arrivals = of.arrivals; phases = c.advance-self-inside.ensures.phases ∙ c.finish.ensures.count ∙ c.tell_writes.ensures.count ∙ of.phases; recorded = (let s = c.stop_with-stop.ensures.sooner in let q = of.recorded in omega arith) } in
     ended_agenda plan good t w g r steps may a its stop last c.in_ok-clash.clash c.feed.new.queue now fed c.take_out.ensures refl its_of (λ none so_far.
-        let has : HasEvents plan (t ++ committed_rows w g r steps) g stop None c.feed.new.queue = subst (λ (o : Option Tag). HasEvents plan (t ++ committed_rows w g r steps) g stop o c.feed.new.queue) none fed in
-        c.advance-self-inside.ensures.current (t ++ committed_rows w g r steps) (may_go_on plan good t w g r steps may a its stop last told new c.tell_writes.ensures c.finish.ensures.graph c.finish.ensures.ends c.feed.new.queue has so_far (sym left ∙ empty)) (ended_reached plan good t w g r steps may a its stop last told new c.tell_writes.ensures c.finish.ensures.graph c.finish.ensures.ends c.feed.new.queue has so_far))
+    let has : HasEvents plan (t ++ committed_rows w g r steps) g stop None c.feed.new.queue = subst (λ (o : Option Tag). HasEvents plan (t ++ committed_rows w g r steps) g stop o c.feed.new.queue) none fed in
+    c.advance-self-inside.ensures.current (t ++ committed_rows w g r steps) (may_go_on plan good t w g r steps may a its stop last told new c.tell_writes.ensures c.finish.ensures.graph c.finish.ensures.ends c.feed.new.queue has so_far (sym left ∙ empty)) (ended_reached plan good t w g r steps may a its stop last told new c.tell_writes.ensures c.finish.ensures.graph c.finish.ensures.ends c.feed.new.queue has so_far))
 
 pub returns-else-is_empty : goal.returns-else-is_empty
 returns-else-is_empty c = λ t is may.
@@ -54,5 +54,5 @@ returns-else-is_empty c = λ t is may.
     let now : AgendaParts = record { runs = c.take_out.new.runs.items; queue = c.feed.new.queue; turn = new; from = g; stop = stop; listeners = a.listeners; arrivals = a.arrivals } in
     let its_of : IsOf plan.program now = record { listeners = of.listeners; arrivals = of.arrivals; phases = c.finish.ensures.count ∙ c.tell_writes.ensures.count ∙ of.phases; recorded = (let s = c.stop_with-stop.ensures.sooner in let q = of.recorded in omega arith) } in
     ended_agenda plan good t w g r steps may a its stop last c.in_ok-clash.clash c.feed.new.queue now fed c.take_out.ensures refl its_of (λ none so_far.
-        let has : HasEvents plan (t ++ committed_rows w g r steps) g stop None c.feed.new.queue = subst (λ (o : Option Tag). HasEvents plan (t ++ committed_rows w g r steps) g stop o c.feed.new.queue) none fed in
-        stays_current plan good t w g r steps may a its stop last told new c.tell_writes.ensures c.finish.ensures.graph c.finish.ensures.ends c.feed.new.queue has so_far (omega arith))
+    let has : HasEvents plan (t ++ committed_rows w g r steps) g stop None c.feed.new.queue = subst (λ (o : Option Tag). HasEvents plan (t ++ committed_rows w g r steps) g stop o c.feed.new.queue) none fed in
+    stays_current plan good t w g r steps may a its stop last told new c.tell_writes.ensures c.finish.ensures.graph c.finish.ensures.ends c.feed.new.queue has so_far (omega arith))

@@ -1,5 +1,4 @@
-use Rattle.std.proofs.Common.{◌≡◌, ℕ, ◌<◌, None, length, [], List, sym, subst, arith, rules}
-use Rattle.lft_agenda.specs.declared.open.OpenRun.{OpenRun}
+use Rattle.std.proofs.Common.{◌≡◌, ◌<◌, None, length, sym, subst, rules}
 use Rattle.lft_agenda.specs.Agendas.{AgendaParts, IsAgenda}
 use Rattle.lft_agenda.proofs.Told.{some_run, no_run, finds_ready, finds_blocked, finds_nothing}
 use Rattle.lft_agenda.proofs.agenda.Agenda.find.Goals as goal
