@@ -13,7 +13,7 @@ use Rattle.lft_trace.specs.declared.row.Step.TheVariants.{Start, Read, Write, Sc
 use Rattle.lft_trace.specs.Fits.{RowsFit, RowFits, StepFits}
 use Rattle.lft_model.specs.Plans.{PlanParts, IsSoundPlan}
 use Rattle.lft_model.specs.Presence.{stop, Collision}
-use Rattle.lft_model.specs.Runs.{Run, Ran, start_row, end_row, step_of, steps_of, reads_at, run_at, by_ends}
+use Rattle.lft_model.specs.Runs.{Run, start_row, end_row, step_of, steps_of, reads_at, run_at, by_ends}
 use Rattle.lft_model.specs.Breaches.{IsOpen}
 use Rattle.lft_model.specs.OneWorker.{HasRun, NoClash, InOrderOfPrecedence}
 use Rattle.lft_model.specs.Recorded.{Follows, IsAnswer, OnlyEndedAnswer, MayAnswer, run_row, committed_rows, answered, answered_steps, instance_of, word_left, word_after}
@@ -22,7 +22,7 @@ use Rattle.lft_model.proofs.Places.{slice_get_within}
 use Rattle.lft_model.proofs.Legality.{IsOrdered, IsInner, Inside, KeepsFour, opened}
 use Rattle.lft_model.proofs.Steps.{step_row, row_step, RowOf, step_mem}
 use Rattle.lft_model.proofs.Ended.{all_ended}
-use Rattle.lft_model.proofs.Blocks.{get_append, get_map, put_right}
+use Rattle.lft_model.proofs.Blocks.{get_append, get_map}
 use Rattle.lft_model.proofs.Grown.{added_none, slice_get_more}
 use Rattle.lft_model.proofs.Law.{EndRow, end_of_run, collision_down}
 use Rattle.lft_model.proofs.Reached.{all_stop}

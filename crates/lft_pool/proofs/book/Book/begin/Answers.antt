@@ -1,7 +1,5 @@
-use Rattle.std.proofs.Common.{◌≡◌, ◌∙◌, inl, inr, sym, ap, subst, List, Option, None, rules}
-use Rattle.lft_trace.specs.declared.row.Row.{Row}
+use Rattle.std.proofs.Common.{◌≡◌, inl, inr, sym, subst, Option, None, rules}
 use Rattle.lft_model.specs.Breaches.{Legal}
-use Rattle.lft_model.specs.Plans.{PlanParts}
 use Rattle.lft_agenda.specs.declared.found.Found.{Found}
 use Rattle.lft_agenda.specs.Agendas.{IsAgenda, MayFind, Finds}
 use Rattle.lft_agenda.proofs.Awaiting.{busy_left}

@@ -2,11 +2,8 @@ use Rattle.std.proofs.Common.{◌≡◌, ◌∙◌, ◌<◌, ◌≤◌, ◌++◌
 use Rattle.std.proofs.Math.Seq.{take-append_seam}
 use Rattle.lft_trace.specs.declared.row.Row.{Row}
 use Rattle.lft_trace.specs.declared.row.Step.{Step}
-use Rattle.lft_tag.specs.declared.Tag.{Tag}
-use Rattle.lft_model.specs.Recorded.{SoFar}
 use Rattle.lft_model.proofs.Members.{mem_get}
-use Rattle.lft_agenda.specs.Agendas.{AgendaParts, IsAgenda, MayEnd, EndsWith}
-use Rattle.lft_trace.specs.Fits.{StepFits}
+use Rattle.lft_agenda.specs.Agendas.{IsAgenda, EndsWith}
 use Rattle.lft_flat.specs.declared.parts.Value.{Value}
 use Rattle.lft_flat.specs.declared.parts.Reaction.{Reaction}
 use Rattle.lft_model.specs.Runs.{by_ends, reads_at}
