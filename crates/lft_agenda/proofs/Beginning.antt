@@ -15,7 +15,7 @@ use Rattle.lft_model.proofs.Empty.{empty_so_far}
 use Rattle.lft_events.specs.Events.{HasEvents}
 use Rattle.lft_recording.specs.Starts.{IsAnyOpen}
 use Rattle.lft_agenda.specs.OpenRuns.{AreOpen}
-use Rattle.lft_agenda.specs.Telling.{IsTold, IsCalled}
+use Rattle.lft_agenda.specs.Telling.{IsTold, TriggeredByQueue}
 use Rattle.lft_agenda.specs.Agendas.{IsReached, MayAdvance}
 use Rattle.lft_agenda.proofs.NextTags.{told_turn}
 
@@ -40,7 +40,7 @@ pub no_rows_yet : (plan : PlanParts) (good : IsSoundPlan plan) → MayAdvance pl
 no_rows_yet plan good = record { so_far = empty_so_far plan good; quiet = quiet; stop_is = refl; none_open = none_open }
 
 -- the first tag is reached once those that are triggered there have been told
-pub first_reached : (plan : PlanParts) (good : IsSoundPlan plan) (q : List Pending) (old new : TurnParts) → HasEvents plan [] (record { time = 0; micro = 0 }) plan.externals.stop None q → IsGraphOf plan.program old.graph → old.phases ≡ replicate (length plan.program.reactions) Idle → IsTold (IsCalled plan.program q plan.externals.stop (record { time = 0; micro = 0 })) old new → IsReached plan [] (record { time = 0; micro = 0 }) plan.externals.stop new q
+pub first_reached : (plan : PlanParts) (good : IsSoundPlan plan) (q : List Pending) (old new : TurnParts) → HasEvents plan [] (record { time = 0; micro = 0 }) plan.externals.stop None q → IsGraphOf plan.program old.graph → old.phases ≡ replicate (length plan.program.reactions) Idle → IsTold (TriggeredByQueue plan.program q plan.externals.stop (record { time = 0; micro = 0 })) old new → IsReached plan [] (record { time = 0; micro = 0 }) plan.externals.stop new q
 first_reached plan good q old new has graph idle told = record {
   past = λ i x e. absurd (no_row i x e);
   least = λ h c p. from_first h;

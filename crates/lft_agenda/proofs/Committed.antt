@@ -41,7 +41,7 @@ use Rattle.lft_model.proofs.Recording.{precedes_ended}
 use Rattle.lft_model.proofs.Quiet.{pending_now, pending_triggered, pending_open}
 use Rattle.lft_events.proofs.Written.{port_of, from_written, to_written}
 use Rattle.lft_listeners.specs.Listeners.{IsListener}
-use Rattle.lft_agenda.specs.Telling.{ArrivesAtOnce, IsCalledBy}
+use Rattle.lft_agenda.specs.Telling.{ArrivesAtOnce, TriggeredByWrites}
 use Rattle.lft_agenda.specs.Agendas.{MayEnd}
 
 -- delays that lead from a tag to itself are none
@@ -246,19 +246,19 @@ module _ (plan : PlanParts) (good : IsSoundPlan plan) (t : List Row) (w : ℕ) (
       go (inr q) = absurd (Before-irrefl g (subst (λ (k : Tag). Before g k) (sym e) q))
 
   -- who is triggered at g by the new rows was so before, or listens to what the steps have written at once
-  triggered_cases : (c : ℕ) → Triggered plan (t ++ new_rows) g c → Triggered plan t g c ⊎ IsCalledBy plan.program g steps c
+  triggered_cases : (c : ℕ) → Triggered plan (t ++ new_rows) g c → Triggered plan t g c ⊎ TriggeredByWrites plan.program g steps c
   triggered_cases c o = go o.trigger o.is_trigger o.occurs
     where
-      before : (x : Trigger) → Contains o.reaction.triggers x → Occurs plan t g x → Triggered plan t g c ⊎ IsCalledBy plan.program g steps c
+      before : (x : Trigger) → Contains o.reaction.triggers x → Occurs plan t g x → Triggered plan t g c ⊎ TriggeredByWrites plan.program g steps c
       before x m e = inl (record { reaction = o.reaction; trigger = x; is_reaction = o.is_reaction; is_trigger = m; occurs = e })
 
-      go : (x : Trigger) → Contains o.reaction.triggers x → Occurs plan (t ++ new_rows) g x → Triggered plan t g c ⊎ IsCalledBy plan.program g steps c
+      go : (x : Trigger) → Contains o.reaction.triggers x → Occurs plan (t ++ new_rows) g x → Triggered plan t g c ⊎ TriggeredByWrites plan.program g steps c
       go Startup m e = before Startup m e
       go Shutdown m e = before Shutdown m (stop_back e)
       go (Timer n) m e = before (Timer n) m e
       go (On n) m e = by (present_cases n e.0 e.1)
         where
-          by : ((u : Value) × At plan t g n u) ⊎ ((k : ℕ) × (s : Step) × (p : ℕ) × (slice_get steps k ≡ Some s) × ArrivesAtOnce plan.program g s p × (n ≡ Port p)) → Triggered plan t g c ⊎ IsCalledBy plan.program g steps c
+          by : ((u : Value) × At plan t g n u) ⊎ ((k : ℕ) × (s : Step) × (p : ℕ) × (slice_get steps k ≡ Some s) × ArrivesAtOnce plan.program g s p × (n ≡ Port p)) → Triggered plan t g c ⊎ TriggeredByWrites plan.program g steps c
           by (inl a) = before (On n) m a
           by (inr a) = inr (a.0, a.1, a.2, a.3, a.4, (o.reaction, o.is_reaction, subst (λ (k : Name). Contains o.reaction.triggers (On k)) a.5 m))
 
@@ -281,7 +281,7 @@ module _ (plan : PlanParts) (good : IsSoundPlan plan) (t : List Row) (w : ℕ) (
     no_more p = pending_open plan good (t ++ new_rows) so_far quiet_more g r p has_ended
 
     -- who listens to what was written at once waits
-    pub called_waits : (c : ℕ) → IsCalledBy plan.program g steps c → IsPending plan (by_ends plan (t ++ committed_rows w g r steps)) g c × (¬ Ran (t ++ committed_rows w g r steps) g c)
+    pub called_waits : (c : ℕ) → TriggeredByWrites plan.program g steps c → IsPending plan (by_ends plan (t ++ committed_rows w g r steps)) g c × (¬ Ran (t ++ committed_rows w g r steps) g c)
     called_waits c o = (pending_now plan good (t ++ new_rows) so_far quiet_more g c its_end now (λ e. fresh (ended_ran e)), fresh)
       where
         now : Triggered plan (t ++ new_rows) g c
@@ -308,9 +308,9 @@ module _ (plan : PlanParts) (good : IsSoundPlan plan) (t : List Row) (w : ℕ) (
         by (inr e) = other e
 
     -- who is pending was so before, or listens to what was written at once
-    pub pending_cases : (c : ℕ) → IsPending plan (by_ends plan (t ++ committed_rows w g r steps)) g c → IsPending plan (by_ends plan t) g c ⊎ IsCalledBy plan.program g steps c
+    pub pending_cases : (c : ℕ) → IsPending plan (by_ends plan (t ++ committed_rows w g r steps)) g c → IsPending plan (by_ends plan t) g c ⊎ TriggeredByWrites plan.program g steps c
     pending_cases c p = go (triggered_cases c (pending_triggered plan good (t ++ new_rows) so_far quiet_more g c p))
       where
-        go : Triggered plan t g c ⊎ IsCalledBy plan.program g steps c → IsPending plan (by_ends plan t) g c ⊎ IsCalledBy plan.program g steps c
+        go : Triggered plan t g c ⊎ TriggeredByWrites plan.program g steps c → IsPending plan (by_ends plan t) g c ⊎ TriggeredByWrites plan.program g steps c
         go (inr o) = inr o
         go (inl o) = inl (pending_now plan good t b.so_far b.quiet g c (UpTo-trans g (stop plan (t ++ new_rows)) (stop plan t) its_end (stop_append plan t new_rows)) o (λ e. pending_open plan good (t ++ new_rows) so_far quiet_more g c p (ended_on g c e)))

@@ -31,7 +31,7 @@ use Rattle.lft_recording.specs.Starts.{IsAnyOpen}
 use Rattle.lft_agenda.specs.declared.open.OpenRun.{OpenRun}
 use Rattle.lft_agenda.specs.OpenRuns.{AreOpen, is_run}
 use Rattle.lft_agenda.specs.Waits.{IsLeastTag, IsTurnOf}
-use Rattle.lft_agenda.specs.Telling.{IsTold, IsCalledBy}
+use Rattle.lft_agenda.specs.Telling.{IsTold, TriggeredByWrites}
 use Rattle.lft_agenda.specs.Agendas.{AgendaParts, IsOf, IsAgenda, IsCurrent, IsReached, MayAdvance, MayBegin, MayEnd, EndsWith}
 use Rattle.lft_agenda.proofs.Awaiting.{open_pending}
 use Rattle.lft_agenda.proofs.Told.{waits_to, opens_to, at_least, some_run, no_run}
@@ -115,7 +115,7 @@ module _ (plan : PlanParts) (good : IsSoundPlan plan) (t : List Row) (w : ℕ) (
   pub open_left : AreOpen plan (t ++ committed_rows w g r steps) (filter (λ o. not (is_run w g r o)) a.runs)
   open_left = committed_open plan good t w g r steps b a.runs is.runs
 
-  module _ (told new : TurnParts) (telling : IsTold (IsCalledBy plan.program g steps) a.turn told) (graph : new.graph ≡ told.graph) (ends : slice_get told.phases r ≡ Some Open → new.phases ≡ slice_set told.phases r Idle) (q : List Pending) (has : HasEvents plan (t ++ committed_rows w g r steps) g last None q) (so_far : SoFar plan (t ++ committed_rows w g r steps)) where
+  module _ (told new : TurnParts) (telling : IsTold (TriggeredByWrites plan.program g steps) a.turn told) (graph : new.graph ≡ told.graph) (ends : slice_get told.phases r ≡ Some Open → new.phases ≡ slice_set told.phases r Idle) (q : List Pending) (has : HasEvents plan (t ++ committed_rows w g r steps) g last None q) (so_far : SoFar plan (t ++ committed_rows w g r steps)) where
     still : slice_get told.phases r ≡ Some Open
     still = telling.kept r Open (λ z. absurd (cc)) opened
 

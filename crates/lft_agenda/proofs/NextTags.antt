@@ -32,7 +32,7 @@ use Rattle.lft_events.proofs.Fed.{some_there}
 use Rattle.lft_recording.specs.Starts.{SomethingLeft}
 use Rattle.lft_agenda.specs.Waits.{IsBetween, IsCovered, PhaseIs, IsTurnOf}
 use Rattle.lft_listeners.specs.Listeners.{IsListener, IsLive}
-use Rattle.lft_agenda.specs.Telling.{IsTold, FiresAt, OccursBy, IsCalled}
+use Rattle.lft_agenda.specs.Telling.{IsTold, FiresAt, OccursBy, TriggeredByQueue}
 use Rattle.lft_agenda.specs.Agendas.{MayAdvance, IsReached, IsCurrent}
 use Rattle.lft_agenda.proofs.Opening.{filter_mem}
 use Rattle.lft_agenda.proofs.Told.{pending_back, none_waits, all_idle}
@@ -93,7 +93,7 @@ dropped plan t from next last q b is = record {
 
 -- what occurs by the queue is what occurs by the rows
 module _ (plan : PlanParts) (t : List Row) (last : Tag) (stop_is : last ≡ stop plan t) (q : List Pending) (h : Tag) (values : (n : Name) (v : Value) → (value_of h n q ≡ Some v) ↔ At plan t h n v) where
-  pub called : (r : ℕ) → Triggered plan t h r → IsCalled plan.program q last h r
+  pub called : (r : ℕ) → Triggered plan t h r → TriggeredByQueue plan.program q last h r
   called r o = (o.trigger, go o.trigger o.occurs, (o.reaction, o.is_reaction, o.is_trigger))
     where
       go : (x : Trigger) → Occurs plan t h x → OccursBy plan.program q last h x
@@ -102,7 +102,7 @@ module _ (plan : PlanParts) (t : List Row) (last : Tag) (stop_is : last ≡ stop
       go (Timer n) e = e
       go (On n) e = ap is_some ((values n e.0).1 e.1)
 
-  pub triggered : (r : ℕ) → IsCalled plan.program q last h r → Triggered plan t h r
+  pub triggered : (r : ℕ) → TriggeredByQueue plan.program q last h r → Triggered plan t h r
   triggered r o = record { reaction = o.2.0; trigger = o.0; is_reaction = o.2.1; is_trigger = o.2.2; occurs = go o.0 o.1 }
     where
       go : (x : Trigger) → OccursBy plan.program q last h x → Occurs plan t h x
@@ -112,7 +112,7 @@ module _ (plan : PlanParts) (t : List Row) (last : Tag) (stop_is : last ≡ stop
       go (On n) e = let v = some_there (value_of h n q) e in (v.0, (values n v.0).0 v.1)
 
 -- the tag after which no row is, at which those that are triggered have been told, where all were idle
-pub told_turn : (plan : PlanParts) (good : IsSoundPlan plan) (t : List Row) (so_far : SoFar plan t) (quiet : OnlyEndedAnswer t) (last : Tag) (stop_is : last ≡ stop plan t) (q : List Pending) (h : Tag) (u : UpTo h last) (values : (n : Name) (v : Value) → (value_of h n q ≡ Some v) ↔ At plan t h n v) (none : (i : ℕ) (x : Row) → slice_get t i ≡ Some x → Before x.tag h) (old new : TurnParts) → IsGraphOf plan.program old.graph → length old.phases ≡ length plan.program.reactions → ((r : ℕ) (x : Phase) → slice_get old.phases r ≡ Some x → x ≡ Idle) → IsTold (IsCalled plan.program q last h) old new → IsTurnOf plan t h new
+pub told_turn : (plan : PlanParts) (good : IsSoundPlan plan) (t : List Row) (so_far : SoFar plan t) (quiet : OnlyEndedAnswer t) (last : Tag) (stop_is : last ≡ stop plan t) (q : List Pending) (h : Tag) (u : UpTo h last) (values : (n : Name) (v : Value) → (value_of h n q ≡ Some v) ↔ At plan t h n v) (none : (i : ℕ) (x : Row) → slice_get t i ≡ Some x → Before x.tag h) (old new : TurnParts) → IsGraphOf plan.program old.graph → length old.phases ≡ length plan.program.reactions → ((r : ℕ) (x : Phase) → slice_get old.phases r ≡ Some x → x ≡ Idle) → IsTold (TriggeredByQueue plan.program q last h) old new → IsTurnOf plan t h new
 told_turn plan good t so_far quiet last stop_is q h u values none old new graph count idle told = record { graph = subst (λ (k : GraphParts). IsGraphOf plan.program k) (sym told.graph) graph; count = told.count ∙ count; phases = phases }
   where
     open_here : (r : ℕ) → Triggered plan t h r → IsPending plan (by_ends plan t) h r
@@ -127,19 +127,19 @@ told_turn plan good t so_far quiet last stop_is q h u values none old new graph 
         let k = get_there old.phases r (let c = told.count in omega arith) in
         k.1 ∙ ap Some (idle r k.0 k.1)
 
-    waits : (r : ℕ) (x : Phase) → slice_get new.phases r ≡ Some x → (x ≡ Idle) ⊎ ((x ≡ Waiting) × IsCalled plan.program q last h r)
+    waits : (r : ℕ) (x : Phase) → slice_get new.phases r ≡ Some x → (x ≡ Idle) ⊎ ((x ≡ Waiting) × TriggeredByQueue plan.program q last h r)
     waits r x e = told.only r x (was_idle r x e) e
 
     phases : (r : ℕ) (x : Phase) → slice_get new.phases r ≡ Some x → PhaseIs plan t h r x
     phases r Idle e = λ p. told.all r (called plan t last stop_is q h values r (pending_triggered plan good t so_far quiet h r p)) e
     phases r Waiting e = go (waits r Waiting e)
       where
-        go : (Waiting ≡ Idle) ⊎ ((Waiting ≡ Waiting) × IsCalled plan.program q last h r) → IsPending plan (by_ends plan t) h r × (¬ Ran t h r)
+        go : (Waiting ≡ Idle) ⊎ ((Waiting ≡ Waiting) × TriggeredByQueue plan.program q last h r) → IsPending plan (by_ends plan t) h r × (¬ Ran t h r)
         go (inl z) = absurd (cc)
         go (inr k) = (open_here r (triggered plan t last stop_is q h values r k.1), unrun r)
     phases r Open e = go (waits r Open e)
       where
-        go : (Open ≡ Idle) ⊎ ((Open ≡ Waiting) × IsCalled plan.program q last h r) → IsPending plan (by_ends plan t) h r × Ran t h r
+        go : (Open ≡ Idle) ⊎ ((Open ≡ Waiting) × TriggeredByQueue plan.program q last h r) → IsPending plan (by_ends plan t) h r × Ran t h r
         go (inl z) = absurd (cc)
         go (inr k) = let z : Open ≡ Waiting = k.0 in absurd (cc)
 
@@ -167,10 +167,10 @@ module _ (plan : PlanParts) (good : IsSoundPlan plan) (t : List Row) (last : Tag
     has_rest next b = subst (λ (es : List Pending). HasEvents plan t next last None es) (sym rest_is) (dropped plan t from next last q b is.events)
 
     -- and call what is pending
-    pending_called : (h : Tag) (r : ℕ) → IsPending plan (by_ends plan t) h r → IsCalled plan.program rest last h r
+    pending_called : (h : Tag) (r : ℕ) → IsPending plan (by_ends plan t) h r → TriggeredByQueue plan.program rest last h r
     pending_called h r p = called plan t last may.stop_is rest h (λ n v. (has_rest h (all_later h r p)).values h n v (UpTo-refl h) (early h r p) tt) r (pending_triggered plan good t may.so_far may.quiet h r p)
 
-    module _ (found : Option Tag) (covers : (h : Tag) (r : ℕ) → IsCalled plan.program rest last h r → Before from h → UpTo h last → IsCovered found h) where
+    module _ (found : Option Tag) (covers : (h : Tag) (r : ℕ) → TriggeredByQueue plan.program rest last h r → Before from h → UpTo h last → IsCovered found h) where
       pending_covered : (h : Tag) (r : ℕ) → IsPending plan (by_ends plan t) h r → IsCovered found h
       pending_covered h r p = covers h r (pending_called h r p) (all_later h r p) (early h r p)
 
@@ -182,7 +182,7 @@ module _ (plan : PlanParts) (good : IsSoundPlan plan) (t : List Row) (last : Tag
           nothing o = let k = pending_covered o.0 o.1 o.2 in let z : None ≡ Some k.0 = sym none ∙ k.1 in absurd (cc)
 
       -- a tag was found: it is reached, once those that are triggered there have been told
-      pub moved_on : (next : Tag) (new : TurnParts) → found ≡ Some next → IsBetween from last next → IsTold (IsCalled plan.program rest last next) turn new → IsReached plan t next last new rest
+      pub moved_on : (next : Tag) (new : TurnParts) → found ≡ Some next → IsBetween from last next → IsTold (TriggeredByQueue plan.program rest last next) turn new → IsReached plan t next last new rest
       moved_on next new some between told = record {
         past = λ i x e. Before-weaken x.tag next (past i x e);
         least = λ h r p. (let k = pending_covered h r p in let z : Some next ≡ Some k.0 = sym some ∙ k.1 in let y : k.0 ≡ next = cc in subst (λ (g : Tag). UpTo g h) y k.2);
@@ -194,7 +194,7 @@ module _ (plan : PlanParts) (good : IsSoundPlan plan) (t : List Row) (last : Tag
           past i x e = UpTo-Before x.tag from next (is.past i x e) between.0
 
 -- what is covered by the stop, the queue's first tag and the next firings
-pub next_covers : (program : Parts) (q : List Pending) (last from : Tag) (a b found : Option Tag) → (Before from last → UpTo last last → IsCovered a last) → ((h : Tag) (n : Name) (v : Value) → value_of h n q ≡ Some v → UpTo h last → IsCovered b h) → ((h : Tag) → IsCovered a h → IsCovered b h) → ((h : Tag) (n : ℕ) → IsLive program n → FiresAt program h n → Before from h → UpTo h last → IsCovered found h) → ((h : Tag) → IsCovered b h → IsCovered found h) → (h : Tag) (r : ℕ) → IsCalled program q last h r → Before from h → UpTo h last → IsCovered found h
+pub next_covers : (program : Parts) (q : List Pending) (last from : Tag) (a b found : Option Tag) → (Before from last → UpTo last last → IsCovered a last) → ((h : Tag) (n : Name) (v : Value) → value_of h n q ≡ Some v → UpTo h last → IsCovered b h) → ((h : Tag) → IsCovered a h → IsCovered b h) → ((h : Tag) (n : ℕ) → IsLive program n → FiresAt program h n → Before from h → UpTo h last → IsCovered found h) → ((h : Tag) → IsCovered b h → IsCovered found h) → (h : Tag) (r : ℕ) → TriggeredByQueue program q last h r → Before from h → UpTo h last → IsCovered found h
 next_covers program q last from a b found by_stop by_events more_events by_timers more h r o later u = go o.0 o.1 o.2
   where
     go : (x : Trigger) → OccursBy program q last h x → IsListener program x r → IsCovered found h

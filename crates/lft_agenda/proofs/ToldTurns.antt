@@ -14,7 +14,7 @@ use Rattle.lft_model.proofs.Places.{slice_get_within}
 use Rattle.lft_turn.specs.declared.phase.Phase.{Phase}
 use Rattle.lft_turn.specs.declared.phase.Phase.TheVariants.{Idle, Waiting, Open}
 use Rattle.lft_turn.specs.Turns.{TurnParts, IsPending}
-use Rattle.lft_agenda.specs.Telling.{IsTold, FiresAt, OccursBy, IsCalled, OfFirst}
+use Rattle.lft_agenda.specs.Telling.{IsTold, FiresAt, OccursBy, TriggeredByQueue, OfFirst}
 
 -- where the property holds of none, nothing changes
 pub told_none : (P : ℕ → Type 0) (a : TurnParts) → ((r : ℕ) → ¬ P r) → IsTold P a a
@@ -171,16 +171,16 @@ module _ (program : Parts) (q : List Pending) (last g : Tag) (first final : Bool
   abbrev Any : ℕ → Type 0
   Any r = ((Starts r ⊎ Ends r) ⊎ Ticks r) ⊎ Names r
 
-  pub told_called : (a b c d e : TurnParts) → IsTrue first ↔ (g ≡ record { time = 0; micro = 0 }) → IsTrue final ↔ (g ≡ last) → IsTold Starts a b → IsTold Ends b c → IsTold Ticks c d → IsTold Names d e → IsTold (IsCalled program q last g) a e
-  told_called a b c d e is_first is_final one two three four = told_as Any (IsCalled program q last g) a e to from (told_more (λ r. (Starts r ⊎ Ends r) ⊎ Ticks r) Names a d e (told_more (λ r. Starts r ⊎ Ends r) Ticks a c d (told_more Starts Ends a b c one two) three) four)
+  pub told_called : (a b c d e : TurnParts) → IsTrue first ↔ (g ≡ record { time = 0; micro = 0 }) → IsTrue final ↔ (g ≡ last) → IsTold Starts a b → IsTold Ends b c → IsTold Ticks c d → IsTold Names d e → IsTold (TriggeredByQueue program q last g) a e
+  told_called a b c d e is_first is_final one two three four = told_as Any (TriggeredByQueue program q last g) a e to from (told_more (λ r. (Starts r ⊎ Ends r) ⊎ Ticks r) Names a d e (told_more (λ r. Starts r ⊎ Ends r) Ticks a c d (told_more Starts Ends a b c one two) three) four)
     where
-      to : (r : ℕ) → Any r → IsCalled program q last g r
+      to : (r : ℕ) → Any r → TriggeredByQueue program q last g r
       to r (inl (inl (inl p))) = (Startup, is_first.0 p.0, p.1)
       to r (inl (inl (inr p))) = (Shutdown, is_final.0 p.0, p.1)
       to r (inl (inr p)) = (Timer p.0, p.1, p.2)
       to r (inr p) = (On p.0, p.1, p.2)
 
-      from : (r : ℕ) → IsCalled program q last g r → Any r
+      from : (r : ℕ) → TriggeredByQueue program q last g r → Any r
       from r o = go o.0 o.1 o.2
         where
           go : (x : Trigger) → OccursBy program q last g x → IsListener program x r → Any r

@@ -18,7 +18,7 @@ use Rattle.lft_model.proofs.Blocks.{get_append, put_right}
 use Rattle.lft_model.proofs.Grown.{slice_get_more}
 use Rattle.lft_model.proofs.Added.{added_row}
 use Rattle.lft_agenda.specs.Waits.{PhaseIs, IsTurnOf}
-use Rattle.lft_agenda.specs.Telling.{IsTold, IsCalledBy}
+use Rattle.lft_agenda.specs.Telling.{IsTold, TriggeredByWrites}
 use Rattle.lft_agenda.specs.Agendas.{MayEnd}
 use Rattle.lft_agenda.proofs.Committed.{ran_before, ran_on, no_more, called_waits, pending_on, pending_cases}
 
@@ -58,8 +58,8 @@ module _ (plan : PlanParts) (t : List Row) (w : ℕ) (g : Tag) (r : ℕ) (shown 
       go c x (inl q) = subst (λ (d : ℕ). PhaseIs plan more g d x) (sym q.0) (subst (λ (y : Phase). PhaseIs plan more g r y) q.1 (on r pending, ran_itself))
       go c x (inr q) = stays c q.0 x (is.phases c x q.1)
 
--- the run of r at g has ended, those that it calls at once have been told, and it is idle
-module _ (plan : PlanParts) (good : IsSoundPlan plan) (t : List Row) (w : ℕ) (g : Tag) (r : ℕ) (steps : List Step) (b : MayEnd plan t w g r steps) (so_far : SoFar plan (t ++ committed_rows w g r steps)) (old told new : TurnParts) (is : IsTurnOf plan t g old) (telling : IsTold (IsCalledBy plan.program g steps) old told) where
+-- the run of r at g has ended, those that its writes trigger there have been told, and it is idle
+module _ (plan : PlanParts) (good : IsSoundPlan plan) (t : List Row) (w : ℕ) (g : Tag) (r : ℕ) (steps : List Step) (b : MayEnd plan t w g r steps) (so_far : SoFar plan (t ++ committed_rows w g r steps)) (old told new : TurnParts) (is : IsTurnOf plan t g old) (telling : IsTold (TriggeredByWrites plan.program g steps) old told) where
   abbrev rows : List Row
   rows = t ++ committed_rows w g r steps
 
@@ -75,12 +75,12 @@ module _ (plan : PlanParts) (good : IsSoundPlan plan) (t : List Row) (w : ℕ) (
           stays Waiting h n = (pending_on plan good t w g r steps b so_far c other h.0, λ o. h.1 (ran_before plan good t w g r steps b g c o))
           stays Open h n = (pending_on plan good t w g r steps b so_far c other h.0, ran_on plan good t w g r steps b g c h.1)
 
-      -- an idle one waits where it is called
-      idle : (c : ℕ) (y : Phase) → ¬ IsPending plan (by_ends plan t) g c → slice_get told.phases c ≡ Some y → (y ≡ Idle) ⊎ ((y ≡ Waiting) × IsCalledBy plan.program g steps c) → PhaseIs plan rows g c y
+      -- an idle one waits where it is triggered by a write
+      idle : (c : ℕ) (y : Phase) → ¬ IsPending plan (by_ends plan t) g c → slice_get told.phases c ≡ Some y → (y ≡ Idle) ⊎ ((y ≡ Waiting) × TriggeredByWrites plan.program g steps c) → PhaseIs plan rows g c y
       idle c y none f (inr q) = subst (λ (p : Phase). PhaseIs plan rows g c p) (sym q.0) (called_waits plan good t w g r steps b so_far c q.1)
       idle c y none f (inl q) = subst (λ (p : Phase). PhaseIs plan rows g c p) (sym q) (λ p. still (pending_cases plan good t w g r steps b so_far c p))
         where
-          still : IsPending plan (by_ends plan t) g c ⊎ IsCalledBy plan.program g steps c → ⊥
+          still : IsPending plan (by_ends plan t) g c ⊎ TriggeredByWrites plan.program g steps c → ⊥
           still (inl p) = none p
           still (inr o) = telling.all c o (f ∙ ap Some q)
 

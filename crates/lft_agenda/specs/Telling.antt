@@ -36,9 +36,9 @@ OccursBy program q last g Shutdown = g ≡ last
 OccursBy program q last g (Timer n) = FiresAt program g n
 OccursBy program q last g (On n) = IsSome (value_of g n q)
 
--- one of the reaction's triggers is
-abbrev pub IsCalled : Parts → List Pending → Tag → Tag → ℕ → Type 0
-IsCalled program q last g r = (x : Trigger) × OccursBy program q last g x × IsListener program x r
+-- a trigger of the reaction is present at g, by the same
+abbrev pub TriggeredByQueue : Parts → List Pending → Tag → Tag → ℕ → Type 0
+TriggeredByQueue program q last g r = (x : Trigger) × OccursBy program q last g x × IsListener program x r
 
 -- the step writes the origin of port p, and what is written at g arrives there at g itself
 abbrev pub ArrivesAtOnce : Parts → Tag → Step → ℕ → Type 0
@@ -50,9 +50,9 @@ ArrivesAtOnce program g (Schedule n v d) p = ⊥
 ArrivesAtOnce program g Stop p = ⊥
 ArrivesAtOnce program g End p = ⊥
 
--- the reaction listens to a port at which what one of the steps writes at g arrives at once
-abbrev pub IsCalledBy : Parts → Tag → List Step → ℕ → Type 0
-IsCalledBy program g steps r = (k : ℕ) × (s : Step) × (p : ℕ) × (slice_get steps k ≡ Some s) × ArrivesAtOnce program g s p × IsListener program (On (Port p)) r
+-- a trigger of the reaction is a port at which what one of the steps writes at g arrives at once
+abbrev pub TriggeredByWrites : Parts → Tag → List Step → ℕ → Type 0
+TriggeredByWrites program g steps r = (k : ℕ) × (s : Step) × (p : ℕ) × (slice_get steps k ≡ Some s) × ArrivesAtOnce program g s p × IsListener program (On (Port p)) r
 
 -- it holds of one of the first n items of a list
 abbrev pub OfFirst : {X : Type 0} → (X → ℕ → Type 0) → List X → ℕ → ℕ → Type 0

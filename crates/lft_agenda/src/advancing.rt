@@ -9,7 +9,7 @@ ghost use Rattle.lft_trace.specs.declared.row.Row.{Row as RowOf};
 ghost use Rattle.lft_queue.specs.Pending.{Pending, value_of};
 ghost use Rattle.lft_listeners.specs.Listeners.{AreListeners, IsLive};
 ghost use Rattle.lft_agenda.specs.Waits.{IsBetween, IsCovered};
-ghost use Rattle.lft_agenda.specs.Telling.{FiresAt, IsCalled};
+ghost use Rattle.lft_agenda.specs.Telling.{FiresAt, TriggeredByQueue};
 ghost use Rattle.lft_agenda.specs.Agendas.{MayAdvance, IsReached, IsCurrent};
 
 use crate::firing::next_firing;
@@ -58,8 +58,8 @@ fn with_timer(plan: &Plan, least: Option<Tag>, from: Tag, stop: Tag, number: u32
     sooner(least, from, stop, tag)
 }
 
-// The same with the next firing of each timer that triggers a reaction. All of them are looked
-// at; programs have few.
+// The same with the next firing of each timer that triggers a reaction. All of them are looked at
+// for each next tag: programs have few. With many, a queue of next firings would be better.
 fn with_timers(
     listeners: &Listeners,
     plan: &Plan,
@@ -105,7 +105,7 @@ fn next_tag(listeners: &Listeners, plan: &Plan, queue: &Queue, from: Tag, stop: 
     requires time { from.time ≤ 1000000000000000000 }
     requires later { (e : Pending) → Contains queue.now e → Before from e.tag }
     ensures between { IfSome result (IsBetween from stop) }
-    ensures covers { (h : TagOf) (r : _) → IsCalled plan.now.program queue.now stop h r → Before from h → UpTo h stop → IsCovered result h }
+    ensures covers { (h : TagOf) (r : _) → TriggeredByQueue plan.now.program queue.now stop h r → Before from h → UpTo h stop → IsCovered result h }
 {
     let by_stop = sooner(None, from, stop, stop);
     let by_events = with_events(queue, by_stop, from, stop);

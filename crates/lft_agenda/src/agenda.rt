@@ -166,7 +166,7 @@ impl Agenda {
         let stop = stop_with(self.stop, tag, steps);
         let clash = feed(&mut self.queue, plan, &self.arrivals, stop, tag, steps)?;
         take_out(&mut self.runs, worker, tag, reaction);
-        // Those that the run calls are told before it is idle: they aren't ready in between.
+        // Those that its writes trigger are told before it is idle: they aren't ready in between.
         tell_writes(
             &mut self.turn,
             &self.listeners,

@@ -5,7 +5,7 @@ ghost use Rattle.lft_flat.specs.declared.parts.Name.{Name as NameOf};
 ghost use Rattle.lft_model.specs.Plans.{PlanParts};
 ghost use Rattle.lft_listeners.specs.Listeners.{IsListener, AreListeners};
 ghost use Rattle.lft_queue.specs.Pending.{value_of};
-ghost use Rattle.lft_agenda.specs.Telling.{IsTold, FiresAt, IsCalled};
+ghost use Rattle.lft_agenda.specs.Telling.{IsTold, FiresAt, TriggeredByQueue};
 
 use lft_flat::Trigger;
 use lft_listeners::Listeners;
@@ -79,7 +79,7 @@ pub(crate) fn tell(
 )
     requires listeners { AreListeners plan.now.program listeners.now }
     requires phases { length turn.old.phases ≡ length plan.now.program.reactions }
-    ensures { IsTold (IsCalled plan.now.program queue.now stop tag) turn.old turn.new }
+    ensures { IsTold (TriggeredByQueue plan.now.program queue.now stop tag) turn.old turn.new }
 {
     let is_first = tag.is_same(Tag { time: 0, micro: 0 });
     tell_of(turn, listeners, plan, Trigger::Startup, is_first);

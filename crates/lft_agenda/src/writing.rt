@@ -4,7 +4,7 @@ ghost use Rattle.std.specs.Prelude.{◌≡◌, ◌<◌, length, slice_get, Some}
 ghost use Rattle.lft_tag.specs.Tags.{IsRecorded};
 ghost use Rattle.lft_flat.specs.declared.parts.Name.{Name as NameOf};
 ghost use Rattle.lft_listeners.specs.Listeners.{IsListener, AreListeners, AreArrivals};
-ghost use Rattle.lft_agenda.specs.Telling.{IsTold, ArrivesAtOnce, IsCalledBy};
+ghost use Rattle.lft_agenda.specs.Telling.{IsTold, ArrivesAtOnce, TriggeredByWrites};
 
 use crate::telling::{number_at, tell_of};
 use lft_flat::{Name, Trigger};
@@ -94,7 +94,7 @@ pub(crate) fn tell_writes(
     requires listeners { AreListeners plan.now.program listeners.now }
     requires arrivals { AreArrivals plan.now.program arrivals.now }
     requires phases { length turn.old.phases ≡ length plan.now.program.reactions }
-    ensures { IsTold (IsCalledBy plan.now.program tag steps.now) turn.old turn.new }
+    ensures { IsTold (TriggeredByWrites plan.now.program tag steps.now) turn.old turn.new }
 {
     for at in 0..steps.len() {
         tell_step(turn, listeners, arrivals, plan, tag, step_at(steps, at));

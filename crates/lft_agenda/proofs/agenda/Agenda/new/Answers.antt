@@ -8,7 +8,7 @@ use Rattle.lft_listeners.specs.Listeners.{AreListeners, AreArrivals}
 use Rattle.lft_lists.proofs.Places.{length_same}
 use Rattle.lft_agenda.specs.declared.open.OpenRun.{OpenRun}
 use Rattle.lft_agenda.specs.OpenRuns.{AreOpen}
-use Rattle.lft_agenda.specs.Telling.{IsTold, IsCalled}
+use Rattle.lft_agenda.specs.Telling.{IsTold, TriggeredByQueue}
 use Rattle.lft_agenda.specs.Agendas.{IsCurrent, IsReached, MayAdvance}
 use Rattle.lft_agenda.proofs.Beginning.{none_are_open, no_rows_yet, first_reached}
 use Rattle.lft_agenda.proofs.agenda.Agenda.new.Goals as goal
@@ -24,7 +24,7 @@ returns c =
     let stop : c.stop-stop.result ≡ plan.externals.stop = c.stop-stop.ensures ∙ ap (λ (x : ExternalInputs). x.stop) c.externals.ensures.value in
     let graph : IsGraphOf plan.program c.in_ok-turn.turn.graph = subst (λ (k : GraphParts). IsGraphOf plan.program k) (sym c.in_ok-turn.ensures.graph) c.graph.ensures.graph in
     let idle : c.in_ok-turn.turn.phases ≡ replicate (length plan.program.reactions) Idle = c.in_ok-turn.ensures.idle ∙ ap (λ (n : ℕ). replicate n Idle) c.graph.ensures.graph.as_long in
-    let told : IsTold (IsCalled plan.program c.in_ok-queue.queue plan.externals.stop first) c.in_ok-turn.turn c.tell.new.turn = subst (λ (g : Tag). IsTold (IsCalled plan.program c.in_ok-queue.queue g first) c.in_ok-turn.turn c.tell.new.turn) stop c.tell.ensures in
+    let told : IsTold (TriggeredByQueue plan.program c.in_ok-queue.queue plan.externals.stop first) c.in_ok-turn.turn c.tell.new.turn = subst (λ (g : Tag). IsTold (TriggeredByQueue plan.program c.in_ok-queue.queue g first) c.in_ok-turn.turn c.tell.new.turn) stop c.tell.ensures in
     let reached = first_reached plan good c.in_ok-queue.queue c.in_ok-turn.turn c.tell.new.turn c.in_ok-queue.ensures graph idle told in
     let current0 = subst (λ (g : Tag). MayAdvance plan [] g → IsReached plan [] first g c.tell.new.turn c.in_ok-queue.queue → IsCurrent plan [] c.advance-from.result g c.advance-from.new.turn c.advance-from.new.queue) stop (c.advance-from.ensures.current []) in
     let current : IsCurrent plan [] c.advance-from.result plan.externals.stop c.advance-from.new.turn c.advance-from.new.queue = current0 (no_rows_yet plan good) reached in
