@@ -1,3 +1,11 @@
 pub mod Opening
 pub mod Stops
+pub mod NextFiring
+pub mod Awaiting
+pub mod Told
+pub mod ToldTurns
+pub mod NextTags
+pub mod Beginning
+pub mod Committed
+pub mod Turned
 pub mod Ending

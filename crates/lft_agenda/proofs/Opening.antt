@@ -62,7 +62,7 @@ is_its_run w g r o a b c =
     rw (x, y, z) refl
 
 -- a start row without a later end row
-opened_at : (t : List Row) (w : ℕ) (g : Tag) (r : ℕ) → IsOpen t (length t) w g r → Ran t g r
+pub opened_at : (t : List Row) (w : ℕ) (g : Tag) (r : ℕ) → IsOpen t (length t) w g r → Ran t g r
 opened_at t w g r o = record { place = o.start; worker = w; starts = o.starts }
 
 module _ (plan : PlanParts) (good : IsSoundPlan plan) (t : List Row) (w : ℕ) (g : Tag) (r : ℕ) (shown : List (Option Value)) (b : MayBegin plan t w g r shown) where

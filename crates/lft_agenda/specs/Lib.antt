@@ -1,2 +1,4 @@
 pub mod OpenRuns
+pub mod Waits
+pub mod Telling
 pub mod Agendas

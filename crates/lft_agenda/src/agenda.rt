@@ -9,27 +9,39 @@ ghost use Rattle.lft_trace.specs.declared.row.Row.{Row as RowOf};
 ghost use Rattle.lft_trace.specs.declared.row.Step.{Step as StepOf};
 ghost use Rattle.lft_trace.specs.Fits.{StepFits};
 ghost use Rattle.lft_recording.specs.Starts.{IsBusy, MayStart};
-ghost use Rattle.lft_agenda.specs.Agendas.{IsAgenda, MayBegin, MayEnd, EndsWith};
+ghost use Rattle.lft_agenda.specs.Agendas.{IsAgenda, IsOf, MayFind, Finds, MayBegin, MayEnd, EndsWith};
 ghost use Rattle.lft_agenda.specs.OpenRuns.{HasReads};
 
+use crate::advancing::advance;
+use crate::found::Found;
 use crate::open::{OpenRun, has_reads, is_busy, take_out};
 use crate::stopping::stop_with;
+use crate::telling::tell;
+use crate::turning::{finish, start};
+use crate::writing::tell_writes;
 use lft_events::{feed, first_events, read_inputs};
 use lft_flat::Value;
+use lft_listeners::{Arrivals, Listeners};
 use lft_model::{Plan, Reads};
 use lft_queue::Queue;
 use lft_tag::{NoMemory, Tag};
 use lft_trace::Step;
+use lft_turn::Turn;
 use std::alloc::Global;
 use std::marker::Model;
 
-/// What is kept beside the rows of a recording: its open runs, the events that are to happen, and
-/// the stop.
+/// What is kept beside the rows of a recording: its open runs, the events that are to happen, how
+/// far each reaction is at the tag that is run, and the stop. While something is left to run, that
+/// tag is the least at which a reaction is pending: `new` and `end` go on to it, so that `find`
+/// has nothing to look for.
 #[derive(Drop)]
 pub struct Agenda {
     alloc: Global,
+    listeners: Listeners,
+    arrivals: Arrivals,
     runs: Vec<OpenRun>,
     queue: Queue,
+    turn: Turn,
     from: Tag,
     stop: Tag,
 }
@@ -39,7 +51,7 @@ impl Model for Agenda {
 
     ghost Value = { AgendaParts };
 
-    ghost view = { λ a. record { runs = a.runs.items; queue = a.queue; from = a.from; stop = a.stop } };
+    ghost view = { λ a. record { runs = a.runs.items; queue = a.queue; turn = a.turn; from = a.from; stop = a.stop; listeners = a.listeners; arrivals = a.arrivals } };
 }
 
 impl Agenda {
@@ -47,15 +59,38 @@ impl Agenda {
     pub fn new(alloc: Global, plan: &Plan) -> Result<Agenda, NoMemory>
         ensures { IfOk result (IsAgenda plan.now []) }
     {
-        let queue = first_events(alloc, plan)?;
+        let program = plan.program();
+        let listeners = Listeners::new(alloc, program)?;
+        let arrivals = Arrivals::new(alloc, program)?;
+        let mut queue = first_events(alloc, plan)?;
+        let mut turn = Turn::new(alloc, program, plan.graph())?;
         let stop = plan.externals().stop();
+        let first = Tag { time: 0, micro: 0 };
+        tell(&mut turn, &listeners, plan, &queue, first, stop);
+        let from = advance(&mut turn, &mut queue, &listeners, plan, first, stop);
         Ok(Agenda {
             alloc,
+            listeners,
+            arrivals,
             runs: Vec::new(alloc),
             queue,
-            from: Tag { time: 0, micro: 0 },
+            turn,
+            from,
             stop,
         })
+    }
+
+    /// What may start next. It takes no memory, and looks at no row and at no event.
+    pub fn find(&self) -> Found
+        ensures { (plan : PlanParts) (t : List RowOf) → MayFind plan t → IsAgenda plan t self.now → Finds plan t result }
+    {
+        if let Some(reaction) = self.turn.first() {
+            return Found::Ready(self.from, reaction);
+        }
+        if self.runs.is_empty() {
+            return Found::Nothing;
+        }
+        Found::Blocked
     }
 
     /// Whether the worker has an open run.
@@ -104,10 +139,11 @@ impl Agenda {
             reaction,
             reads,
         };
-        match self.runs.push(run) {
-            Ok(()) => return Ok(()),
-            Err(_) => return Err(NoMemory),
-        }
+        let Ok(()) = self.runs.push(run) else {
+            return Err(NoMemory);
+        };
+        start(&mut self.turn, reaction);
+        Ok(())
     }
 
     /// The run of the reaction at the tag is ended by the worker, with these steps. Gives the
@@ -120,6 +156,7 @@ impl Agenda {
         reaction: u32,
         steps: &[Step],
     ) -> Result<Option<Tag>, NoMemory>
+        requires of { IsOf plan.now.program self.old }
         requires recorded { IsRecorded tag }
         requires fit { (k : ℕ) (s : StepOf) → slice_get steps.now k ≡ Some s → StepFits plan.now.program s }
         ensures { (t : List RowOf) → IsAgenda plan.now t self.old → MayEnd plan.now t worker tag reaction steps.now → IfOk result (EndsWith plan.now t worker tag reaction steps.now self.new) }
@@ -127,10 +164,30 @@ impl Agenda {
         // Asked for what every plan keeps: it is sound.
         plan.keeps();
         let stop = stop_with(self.stop, tag, steps);
-        let clash = feed(&mut self.queue, plan, stop, tag, steps)?;
+        let clash = feed(&mut self.queue, plan, &self.arrivals, stop, tag, steps)?;
         take_out(&mut self.runs, worker, tag, reaction);
+        // Those that its writes trigger are told before it is idle: they aren't ready in between.
+        tell_writes(
+            &mut self.turn,
+            &self.listeners,
+            &self.arrivals,
+            plan,
+            tag,
+            steps,
+        );
+        finish(&mut self.turn, reaction);
         self.from = tag;
         self.stop = stop;
+        if self.runs.is_empty() {
+            self.from = advance(
+                &mut self.turn,
+                &mut self.queue,
+                &self.listeners,
+                plan,
+                tag,
+                stop,
+            );
+        }
         Ok(clash)
     }
 }

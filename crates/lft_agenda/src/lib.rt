@@ -1,10 +1,17 @@
 #![tactic(auto)]
 //! What is kept beside the rows of a recording, so that no row is looked at again: its open runs,
-//! the events that are to happen, the stop.
+//! the events that are to happen, how far each reaction is at the tag that is run, the stop.
 
+mod advancing;
 mod agenda;
+mod firing;
+mod found;
 mod open;
 mod stopping;
+mod telling;
+mod turning;
+mod writing;
 
 pub use agenda::Agenda;
+pub use found::Found;
 pub use open::OpenRun;

@@ -1,6 +1,6 @@
 //! The stop after the steps of a run.
 
-ghost use Rattle.std.specs.Prelude.{◌≡◌, ◌↔◌, ◌++◌, ◌⊎◌, ℕ, List, IsTrue, Contains};
+ghost use Rattle.std.specs.Prelude.{◌≡◌, ◌≤◌, ◌↔◌, ◌++◌, ◌⊎◌, ℕ, List, IsTrue, Contains};
 ghost use Rattle.lft_tag.specs.Tags.{IsRecorded};
 ghost use Rattle.lft_trace.specs.declared.row.Row.{Row as RowOf};
 ghost use Rattle.lft_model.specs.Plans.{PlanParts};
@@ -26,7 +26,8 @@ fn asks_stop(steps: &[Step]) -> bool
 /// The stop of rows with this one, once a run at the tag has ended with the steps.
 pub(crate) fn stop_with(stop: Tag, tag: Tag, steps: &[Step]) -> Tag
     requires { IsRecorded tag }
-    ensures { (plan : PlanParts) (t : List RowOf) (w : ℕ) (r : ℕ) → stop ≡ the_stop plan t → result ≡ the_stop plan (t ++ committed_rows w tag r steps.now) }
+    ensures sooner { result.time ≤ stop.time }
+    ensures stop { (plan : PlanParts) (t : List RowOf) (w : ℕ) (r : ℕ) → stop ≡ the_stop plan t → result ≡ the_stop plan (t ++ committed_rows w tag r steps.now) }
 {
     if asks_stop(steps) {
         let asked = tag.after(0, 0);

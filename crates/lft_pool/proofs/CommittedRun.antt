@@ -13,7 +13,7 @@ use Rattle.lft_trace.specs.declared.row.Step.TheVariants.{Start, Read, Write, Sc
 use Rattle.lft_trace.specs.Fits.{RowsFit, RowFits, StepFits}
 use Rattle.lft_model.specs.Plans.{PlanParts, IsSoundPlan}
 use Rattle.lft_model.specs.Presence.{stop, Collision}
-use Rattle.lft_model.specs.Runs.{Run, Ran, start_row, end_row, step_of, steps_of, reads_at, run_at, by_ends}
+use Rattle.lft_model.specs.Runs.{Run, start_row, end_row, step_of, steps_of, reads_at, run_at, by_ends}
 use Rattle.lft_model.specs.Breaches.{IsOpen}
 use Rattle.lft_model.specs.OneWorker.{HasRun, NoClash, InOrderOfPrecedence}
 use Rattle.lft_model.specs.Recorded.{Follows, IsAnswer, OnlyEndedAnswer, MayAnswer, run_row, committed_rows, answered, answered_steps, instance_of, word_left, word_after}
@@ -22,7 +22,7 @@ use Rattle.lft_model.proofs.Places.{slice_get_within}
 use Rattle.lft_model.proofs.Legality.{IsOrdered, IsInner, Inside, KeepsFour, opened}
 use Rattle.lft_model.proofs.Steps.{step_row, row_step, RowOf, step_mem}
 use Rattle.lft_model.proofs.Ended.{all_ended}
-use Rattle.lft_model.proofs.Blocks.{get_append, get_map, put_right}
+use Rattle.lft_model.proofs.Blocks.{get_append, get_map}
 use Rattle.lft_model.proofs.Grown.{added_none, slice_get_more}
 use Rattle.lft_model.proofs.Law.{EndRow, end_of_run, collision_down}
 use Rattle.lft_model.proofs.Reached.{all_stop}
@@ -30,6 +30,8 @@ use Rattle.lft_model.proofs.Recording.{recorded_in_order}
 use Rattle.lft_model.proofs.Committed.{committed_kept, committed_runs, same_reads, committed_so_far, not_ended}
 use Rattle.lft_bodies.specs.declared.done.Done.{Done}
 use Rattle.lft_recording.specs.Starts.{started_row, started_count}
+use Rattle.lft_agenda.specs.Agendas.{MayEnd}
+use Rattle.lft_agenda.proofs.Committed.{quiet_more, ran_before}
 use Rattle.lft_pool.specs.Books.{law_of, IsRecording}
 use Rattle.lft_pool.proofs.BegunRun.{HandsOn, MeetsLaw}
 
@@ -59,51 +61,11 @@ module _ (holds : ℕ → Tag → ℤ → List (Option Value) → Done → Type 
       let z : q.0 ≡ x.step = ap (λ (y : Row). y.step) q.2 in
       (sym q.2 ∙ ap (λ (s : Step). run_row w g r s) z, q.1 ∙ ap Some z)
 
-  -- the end row stands last
-  end_there : slice_get (t ++ committed_rows w g r steps) (length t + length steps) ≡ Some (end_row w g r)
-  end_there = put_right t (committed_rows w g r steps) (length steps) (end_row w g r) (length t + length steps) (omega arith) (last steps)
-    where
-      last : (ss : List Step) → slice_get (map (run_row w g r) (ss ++ End ∷ [])) (length ss) ≡ Some (end_row w g r)
-      last [] = refl
-      last (s ∷ ss) = last ss
-
-  within : (j : ℕ) (s : Step) → slice_get (steps ++ End ∷ []) j ≡ Some s → IsAnswer s → j < length steps
-  within j s e a = go (get_append steps (End ∷ []) j s e)
-    where
-      at_end : (k : ℕ) → slice_get (End ∷ []) k ≡ Some s → ⊥
-      at_end zero f = let z : End ≡ s = cc in subst (λ (y : Step). IsAnswer y) (sym z) a
-      at_end (suc k) f = absurd (cc)
-
-      go : (slice_get steps j ≡ Some s) ⊎ ((k : ℕ) × (j ≡ length steps + k) × (slice_get (End ∷ []) k ≡ Some s)) → j < length steps
-      go (inl f) = slice_get_within steps j s f
-      go (inr f) = absurd (at_end f.0 f.2)
+  ending : MayEnd plan t w g r steps
+  ending = record { so_far = is.so_far; quiet = is.quiet; open_run = open_run; may = λ k s e. may s (mem_get steps k s e) }
 
   quiet : OnlyEndedAnswer (t ++ committed_rows w g r steps)
-  quiet i x e a = go (get_append t (committed_rows w g r steps) i x e)
-    where
-      go : (slice_get t i ≡ Some x) ⊎ ((j : ℕ) × (i ≡ length t + j) × (slice_get (committed_rows w g r steps) j ≡ Some x)) → (k : ℕ) × (i < k) × (slice_get (t ++ committed_rows w g r steps) k ≡ Some (end_row x.worker x.tag x.reaction))
-      go (inl f) = let q = is.quiet i x f a in (q.0, q.1, slice_get_more t (committed_rows w g r steps) q.0 (end_row x.worker x.tag x.reaction) q.2)
-      go (inr f) =
-          let n = new_row f.0 x f.2 in
-          let l : f.0 < length steps = within f.0 x.step n.1 a in
-          let p : i ≡ length t + f.0 = f.1 in
-          (length t + length steps, omega arith, end_there ∙ ap (λ (y : Row). Some (end_row y.worker y.tag y.reaction)) (sym n.0))
-
-  -- no run has started
-  ran_before : (h : Tag) (c : ℕ) → Ran (t ++ committed_rows w g r steps) h c → Ran t h c
-  ran_before h c o = go (get_append t (committed_rows w g r steps) o.place (start_row o.worker h c) o.starts)
-    where
-      no_start : (j : ℕ) → slice_get (steps ++ End ∷ []) j ≡ Some Start → ⊥
-      no_start j e = by (mem_cases Start steps (End ∷ []) (mem_get (steps ++ End ∷ []) j Start e))
-        where
-          by : Mem Start steps ⊎ Mem Start (End ∷ []) → ⊥
-          by (inl m) = may Start m
-          by (inr (inl z)) = absurd (cc)
-          by (inr (inr z)) = z
-
-      go : (slice_get t o.place ≡ Some (start_row o.worker h c)) ⊎ ((j : ℕ) × (o.place ≡ length t + j) × (slice_get (committed_rows w g r steps) j ≡ Some (start_row o.worker h c))) → Ran t h c
-      go (inl f) = record { place = o.place; worker = o.worker; starts = f }
-      go (inr f) = absurd (no_start f.0 (new_row f.0 (start_row o.worker h c) f.2).1)
+  quiet = quiet_more plan good t w g r steps ending
 
   in_order : IsOrdered plan (t ++ committed_rows w g r steps)
   in_order = record { well = kept; told = told; precedence = precedence }
@@ -124,7 +86,7 @@ module _ (holds : ℕ → Tag → ℤ → List (Option Value) → Done → Type 
 
       precedence : InOrderOfPrecedence plan (t ++ committed_rows w g r steps)
       precedence h a c p first second =
-          let b = recorded_in_order plan good t is.so_far h a c p (ran_before h a first) (ran_before h c second) in
+          let b = recorded_in_order plan good t is.so_far h a c p (ran_before plan good t w g r steps ending h a first) (ran_before plan good t w g r steps ending h c second) in
           record { ended_at = b.ended_at; started_at = b.started_at; worker = b.worker; other = b.other; ends = slice_get_more t (committed_rows w g r steps) b.ended_at (end_row b.worker h a) b.ends; starts = slice_get_more t (committed_rows w g r steps) b.started_at (start_row b.other h c) b.starts; before = b.before }
 
   -- rows without a collision up to their stop make none by their ended runs

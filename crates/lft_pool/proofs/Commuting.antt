@@ -1,16 +1,14 @@
 -- A committed run leaves the other open runs what they were: triggered, with their inputs.
-use Rattle.std.proofs.Common.{◌≡◌, ℕ, List, [], ◌∷◌, ◌++◌, length, refl, sym, ap, ◌∙◌, subst, Option, Some}
+use Rattle.std.proofs.Common.{◌≡◌, ℕ, List, [], ◌∷◌, ◌++◌, sym, ap, ◌∙◌, subst, Some}
 use Rattle.lft_tag.specs.declared.Tag.{Tag}
 use Rattle.lft_tag.proofs.Order.{UpTo_antisym}
-use Rattle.lft_flat.specs.declared.parts.Value.{Value}
 use Rattle.lft_trace.specs.declared.row.Row.{Row}
 use Rattle.lft_trace.specs.declared.row.Step.{Step}
 use Rattle.lft_model.specs.Plans.{PlanParts, IsSoundPlan}
 use Rattle.lft_model.specs.Presence.{Triggered, Inputs}
 use Rattle.lft_model.specs.Runs.{Run, run_at, start_row, by_ends}
-use Rattle.lft_model.specs.Breaches.{IsOpen}
 use Rattle.lft_model.specs.OneWorker.{Ready, rows}
-use Rattle.lft_model.specs.Recorded.{SoFar, MayAnswer, committed_rows}
+use Rattle.lft_model.specs.Recorded.{MayAnswer, committed_rows}
 use Rattle.lft_model.proofs.Members.{Mem, get_mem}
 use Rattle.lft_model.proofs.Legality.{one_starter}
 use Rattle.lft_model.proofs.Grown.{open_triggered, open_inputs}

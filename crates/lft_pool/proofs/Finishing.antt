@@ -1,5 +1,5 @@
 -- What a last answer of a book says.
-use Rattle.std.proofs.Common.{◌≡◌, ◌≢◌, ◌⊎◌, inl, inr, ℕ, List, Result, Ok, Err, IfOk, IfErr, is_ok, Bool, true, false, refl, subst, sym, ap, Option, Some, None, IfSome, ◌∙◌}
+use Rattle.std.proofs.Common.{◌≡◌, ◌≢◌, ◌⊎◌, inl, inr, ℕ, List, Result, Ok, Err, IfOk, IfErr, is_ok, Bool, true, false, subst, sym, ap, Option, Some, None, IfSome, ◌∙◌}
 use Rattle.lft_pool.specs.declared.book.Begin.{Begin}
 use Rattle.lft_pool.specs.declared.book.Begin.TheVariants.{Run, Wait, Finished}
 use Rattle.lft_trace.specs.declared.row.Row.{Row}

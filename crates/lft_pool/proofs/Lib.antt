@@ -3,5 +3,4 @@ pub mod BegunRun
 pub mod CommittedRun
 pub mod Refusals
 pub mod Finishing
-pub mod Left
 pub mod Commuting

@@ -14,7 +14,7 @@ use Rattle.lft_model.specs.Plans.{PlanParts}
 use Rattle.lft_tag.specs.declared.Tag.{Tag}
 use Rattle.lft_model.specs.Recorded.{MayAnswer, SoFar, committed_rows}
 use Rattle.lft_agenda.specs.Agendas.{AgendaParts, IsAgenda, EndsWith}
-use Rattle.lft_recording.specs.Arrivals.{IsClean}
+use Rattle.lft_recording.specs.Collisions.{IsClean}
 use Rattle.lft_model.proofs.Members.{Mem, get_mem}
 use Rattle.lft_bodies.specs.declared.done.Done.{Done}
 use Rattle.lft_bodies.specs.declared.ticket.Ticket.{Ticket}

@@ -11,7 +11,7 @@ use Rattle.lft_model.specs.OneWorker.{rows}
 use Rattle.lft_model.specs.Breaches.{IsOpen}
 use Rattle.lft_model.specs.Recorded.{committed_rows}
 use Rattle.lft_recording.specs.Answering.{MayAll, HasLongDelay}
-use Rattle.lft_recording.specs.Arrivals.{CollidesFirst, IsClean}
+use Rattle.lft_recording.specs.Collisions.{CollidesFirst, IsClean}
 use Rattle.lft_bodies.specs.declared.done.Done.{Done}
 use Rattle.lft_bodies.specs.declared.ticket.Ticket.{Ticket}
 use Rattle.lft_pool.specs.declared.stop.Stop.{Stop}

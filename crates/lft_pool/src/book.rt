@@ -6,17 +6,17 @@ ghost use Rattle.lft_model.specs.Breaches.{Legal};
 ghost use Rattle.lft_pool.specs.Books.{BookParts, IsRecording, ReasonHolds, StopHolds};
 ghost use Rattle.lft_pool.specs.Begun.{MatchBegin, Started};
 ghost use Rattle.lft_pool.specs.Causes.{BeginCause, StartCause};
-ghost use Rattle.lft_recording.specs.Arrivals.{CollidesFirst, IsClean};
+ghost use Rattle.lft_recording.specs.Collisions.{CollidesFirst, IsClean};
 ghost use Rattle.lft_pool.specs.Answers.{HasTicket, HasClash, KeepsOpenRuns, Committed, CommitCause, EndCause, RefusalCause};
 ghost use Rattle.lft_recording.specs.Starts.{IsAnyOpen, IsBusy, MayStartFirst, NoneMayStart, NothingLeft, SomethingLeft};
 
 use crate::states::States;
 use crate::stop::Stop;
 use crate::words::{is_same, no_words, set_word, word_at};
-use lft_agenda::Agenda;
+use lft_agenda::{Agenda, Found};
 use lft_bodies::{Answered, Bodies, Body, BoxedCode, Code, Done, Law, Ticket, ticket_of};
 use lft_model::Plan;
-use lft_recording::{Found, begun, committed, find_ready, has_long_delay, may_make_all};
+use lft_recording::{begun, committed, has_long_delay, may_make_all};
 use lft_tag::{NoMemory, Tag};
 use lft_trace::Rows;
 use std::alloc::Global;
@@ -137,10 +137,7 @@ impl<L: Law, C: Code + Drop> Book<L, C> {
         if self.agenda.is_busy(worker) {
             return Ok(Begin::Wait);
         }
-        let Ok(found) = find_ready(self.alloc, &self.plan, &self.rows) else {
-            return Err(self.stop(Stop::NoMemory));
-        };
-        match found {
+        match self.agenda.find() {
             Found::Ready(tag, reaction) => return self.start(worker, tag, reaction),
             Found::Blocked => return Ok(Begin::Wait),
             Found::Nothing => return Ok(Begin::Finished),

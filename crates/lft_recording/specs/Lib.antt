@@ -1,4 +1,3 @@
 pub mod Starts
-pub mod Waits
-pub mod Arrivals
+pub mod Collisions
 pub mod Answering

@@ -1,11 +1,11 @@
 -- What may start next in a recording so far, and what is open.
-use Rattle.std.specs.Prelude.{◌≡◌, ℕ, ◌≤◌, List, length, Option, Some, None, slice_get, filter_map}
+use Rattle.std.specs.Prelude.{ℕ, ◌≤◌, List, length, Option, Some, None, filter_map}
 use Rattle.lft_tag.specs.declared.Tag.{Tag}
 use Rattle.lft_trace.specs.declared.row.Row.{Row}
 use Rattle.lft_trace.specs.declared.row.Step.{Step}
 use Rattle.lft_trace.specs.declared.row.Step.TheVariants.{Start, Read, Write, Schedule, Stop, End}
 use Rattle.lft_model.specs.Plans.{PlanParts}
-use Rattle.lft_model.specs.Runs.{Ran, end_row, by_ends}
+use Rattle.lft_model.specs.Runs.{Ran, by_ends}
 use Rattle.lft_model.specs.Breaches.{IsOpen}
 use Rattle.lft_model.specs.OneWorker.{IsPending, Ready}
 
@@ -38,10 +38,6 @@ IsBusy t w = (g : Tag) × (r : ℕ) × IsOpen t (length t) w g r
 -- some worker has one
 abbrev pub IsAnyOpen : List Row → Type 0
 IsAnyOpen t = (w : ℕ) × IsBusy t w
-
--- the run of r at g has ended
-abbrev pub HasEnded : List Row → Tag → ℕ → Type 0
-HasEnded t g r = (k w : ℕ) × (slice_get t k ≡ Some (end_row w g r))
 
 -- how many runs have started
 abbrev pub started_row : Step → Option Step

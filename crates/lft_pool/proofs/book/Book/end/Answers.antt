@@ -2,11 +2,8 @@ use Rattle.std.proofs.Common.{◌≡◌, ◌∙◌, ◌<◌, ◌≤◌, ◌++◌
 use Rattle.std.proofs.Math.Seq.{take-append_seam}
 use Rattle.lft_trace.specs.declared.row.Row.{Row}
 use Rattle.lft_trace.specs.declared.row.Step.{Step}
-use Rattle.lft_tag.specs.declared.Tag.{Tag}
-use Rattle.lft_model.specs.Recorded.{SoFar}
 use Rattle.lft_model.proofs.Members.{mem_get}
-use Rattle.lft_agenda.specs.Agendas.{AgendaParts, IsAgenda, MayEnd, EndsWith}
-use Rattle.lft_trace.specs.Fits.{StepFits}
+use Rattle.lft_agenda.specs.Agendas.{IsAgenda, EndsWith}
 use Rattle.lft_flat.specs.declared.parts.Value.{Value}
 use Rattle.lft_flat.specs.declared.parts.Reaction.{Reaction}
 use Rattle.lft_model.specs.Runs.{by_ends, reads_at}
@@ -16,7 +13,7 @@ use Rattle.lft_pool.specs.declared.stop.Stop.{Stop}
 use Rattle.lft_pool.specs.declared.stop.Stop.TheVariants.{NoMemory}
 use Rattle.lft_pool.specs.Books.{BookParts, IsRecording, IsKept, StopHolds, AgendaHolds}
 use Rattle.lft_recording.specs.Answering.{MayAll, HasLongDelay}
-use Rattle.lft_recording.specs.Arrivals.{IsClean}
+use Rattle.lft_recording.specs.Collisions.{IsClean}
 use Rattle.lft_pool.specs.Answers.{HasTicket, HasClash, KeepsOpenRuns, RefusalCause, EndCause, Committed, with_answer}
 use Rattle.lft_pool.proofs.Refusals.{refusal_holds, end_cause, may_mem, short_mem, answer_fits, set_words, ends_clash, ends_clean}
 use Rattle.lft_pool.proofs.Finishing.{if_some}
@@ -42,6 +39,14 @@ end-requires-clause-fit g c = λ i s e.
     let of : slice_get plan.program.reactions k.reaction ≡ Some x = search rules in
     let m = mem_get ss i s e in
     answer_fits plan good.sound k.reaction x of s (may_mem plan k.reaction ss may0 s m) (short_mem ss short0 s m)
+
+pub end-requires-clause-of : goal.end-requires-clause-of
+end-requires-clause-of g c =
+    let plan = c.self.inside.plan in
+    let t = c.self.inside.rows in
+    let none : c.self.inside.reason ≡ None = ap (λ (b : BookParts). b.reason) c.self.view_is ∙ c.requires.going in
+    let agenda : IsAgenda plan t c.self.inside.agenda = subst (λ (o : Option Stop). AgendaHolds o plan t c.self.inside.agenda) none c.self.invariant.2 in
+    agenda.of
 
 pub invariant_of-self-in_default-end : goal.invariant_of-self-in_default-end
 invariant_of-self-in_default-end g c =
@@ -74,7 +79,7 @@ invariant_of-self-in-Some g c =
     let its : c.in-Ok.added.items ≡ committed_rows k.worker k.tag k.reaction ss = search rules in
     let grown0 : c.append.new.self ≡ t ++ committed_rows k.worker k.tag k.reaction ss = more ∙ ap (λ (xs : List Row). t ++ xs) (part ∙ its) in
     let grown : c.append.new.self ≡ with_answer old k d = grown0 ∙ ap (λ (us : List Step). t ++ committed_rows k.worker k.tag k.reaction us) st in
-    let ending : EndsWith plan t k.worker k.tag k.reaction ss c.end.new.self c.in-Ok-end.clash = c.in-Ok-end.ensures t agenda (record { so_far = c.self.invariant.0.so_far; open_run = has.open_run; may = may0 }) in
+    let ending : EndsWith plan t k.worker k.tag k.reaction ss c.end.new.self c.in-Ok-end.clash = c.in-Ok-end.ensures t agenda (record { so_far = c.self.invariant.0.so_far; quiet = c.self.invariant.0.quiet; open_run = has.open_run; may = may0 }) in
     let clash : HasClash plan c.append.new.self c.in-Ok-end.clash = subst (λ (ts : List Row). HasClash plan ts c.in-Ok-end.clash) (sym grown0) (ends_clash plan t k.worker k.tag k.reaction ss c.end.new.self c.in-Ok-end.clash ending) in
     let cause0 : RefusalCause plan c.append.new.self c.in-Some.reason = if_some c.refusal.result c.in-Some.reason (λ s. RefusalCause plan c.append.new.self s) c.in-Some.is (c.refusal.ensures.some plan clash) in
     let back : c.truncate-in-Some.new.self ≡ t = c.truncate-in-Some.ensures ∙ ap (λ (xs : List Row). take (length xs) c.append.new.self) c.as_slice-before.ensures ∙ ap (λ (xs : List Row). take (length t) xs) more ∙ take-append_seam t c.as_slice.result.now in
@@ -104,7 +109,7 @@ returns-in-Some-clause-cause g c =
     let its : c.in-Ok.added.items ≡ committed_rows k.worker k.tag k.reaction ss = search rules in
     let grown0 : c.append.new.self ≡ t ++ committed_rows k.worker k.tag k.reaction ss = more ∙ ap (λ (xs : List Row). t ++ xs) (part ∙ its) in
     let grown : c.append.new.self ≡ with_answer old k d = grown0 ∙ ap (λ (us : List Step). t ++ committed_rows k.worker k.tag k.reaction us) st in
-    let ending : EndsWith plan t k.worker k.tag k.reaction ss c.end.new.self c.in-Ok-end.clash = c.in-Ok-end.ensures t agenda (record { so_far = c.self.invariant.0.so_far; open_run = has.open_run; may = may0 }) in
+    let ending : EndsWith plan t k.worker k.tag k.reaction ss c.end.new.self c.in-Ok-end.clash = c.in-Ok-end.ensures t agenda (record { so_far = c.self.invariant.0.so_far; quiet = c.self.invariant.0.quiet; open_run = has.open_run; may = may0 }) in
     let clash : HasClash plan c.append.new.self c.in-Ok-end.clash = subst (λ (ts : List Row). HasClash plan ts c.in-Ok-end.clash) (sym grown0) (ends_clash plan t k.worker k.tag k.reaction ss c.end.new.self c.in-Ok-end.clash ending) in
     let cause0 : RefusalCause plan c.append.new.self c.in-Some.reason = if_some c.refusal.result c.in-Some.reason (λ s. RefusalCause plan c.append.new.self s) c.in-Some.is (c.refusal.ensures.some plan clash) in
     let may : MayAll plan k.reaction d.steps = subst (λ (us : List Step). MayAll plan k.reaction us) st may0 in
@@ -151,7 +156,7 @@ invariant_of-self-2 g c =
     let its : c.in-Ok.added.items ≡ committed_rows k.worker k.tag k.reaction ss = search rules in
     let grown0 : c.append.new.self ≡ t ++ committed_rows k.worker k.tag k.reaction ss = more ∙ ap (λ (xs : List Row). t ++ xs) (part ∙ its) in
     let grown : c.append.new.self ≡ with_answer old k d = grown0 ∙ ap (λ (us : List Step). t ++ committed_rows k.worker k.tag k.reaction us) st in
-    let ending : EndsWith plan t k.worker k.tag k.reaction ss c.end.new.self c.in-Ok-end.clash = c.in-Ok-end.ensures t agenda (record { so_far = c.self.invariant.0.so_far; open_run = has.open_run; may = may0 }) in
+    let ending : EndsWith plan t k.worker k.tag k.reaction ss c.end.new.self c.in-Ok-end.clash = c.in-Ok-end.ensures t agenda (record { so_far = c.self.invariant.0.so_far; quiet = c.self.invariant.0.quiet; open_run = has.open_run; may = may0 }) in
     let may : MayAll plan k.reaction d.steps = subst (λ (us : List Step). MayAll plan k.reaction us) st may0 in
     let short : ¬ HasLongDelay d.steps = subst (λ (us : List Step). ¬ HasLongDelay us) st short0 in
     let none_clash : c.in-Ok-end.clash ≡ None = search rules in
@@ -224,5 +229,5 @@ returns-clause-commuting g c =
     let part : c.as_slice.result.now ≡ c.in-Ok.added.items = search rules in
     let its : c.in-Ok.added.items ≡ committed_rows k.worker k.tag k.reaction ss = search rules in
     let grown : c.append.new.self ≡ with_answer old k d = more ∙ ap (λ (xs : List Row). t ++ xs) (part ∙ its ∙ ap (λ (us : List Step). committed_rows k.worker k.tag k.reaction us) st) in
-    let kept : KeepsOpenRuns plan t (t ++ committed_rows k.worker k.tag k.reaction d.steps) = keeps_open_runs plan good t k.worker k.tag k.reaction d.steps (record { so_far = c.self.invariant.0.so_far; open_run = has.open_run; may = may }) in
+    let kept : KeepsOpenRuns plan t (t ++ committed_rows k.worker k.tag k.reaction d.steps) = keeps_open_runs plan good t k.worker k.tag k.reaction d.steps (record { so_far = c.self.invariant.0.so_far; quiet = c.self.invariant.0.quiet; open_run = has.open_run; may = may }) in
     subst (λ (b : BookParts). KeepsOpenRuns b.plan b.rows c.append.new.self) v (subst (λ (ts : List Row). KeepsOpenRuns plan t ts) (sym grown) kept)

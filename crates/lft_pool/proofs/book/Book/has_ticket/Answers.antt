@@ -1,9 +1,8 @@
-use Rattle.std.proofs.Common.{◌≡◌, ◌∙◌, ◌<◌, ◌↔◌, ℕ, List, Option, Some, None, IsTrue, false, length, slice_get, sym, ap, subst, arith, rules, unwrap_or, option_map}
+use Rattle.std.proofs.Common.{◌≡◌, ◌∙◌, ◌<◌, ◌↔◌, ℕ, Option, Some, None, IsTrue, false, length, slice_get, sym, ap, subst, arith, rules, unwrap_or, option_map}
 use Rattle.std.proofs.lemmas.Bool.{false≢true}
 use Rattle.std.proofs.lemmas.Int.{to_z-of_z}
-use Rattle.lft_flat.specs.declared.parts.Value.{Value}
 use Rattle.lft_flat.specs.declared.parts.Reaction.{Reaction}
-use Rattle.lft_model.specs.Runs.{start_row, by_ends, reads_at}
+use Rattle.lft_model.specs.Runs.{start_row, by_ends}
 use Rattle.lft_model.specs.Breaches.{IsOpen}
 use Rattle.lft_model.specs.Recorded.{word_after}
 use Rattle.lft_model.proofs.Places.{slice_get_within}

@@ -1,0 +1,46 @@
+use Rattle.std.proofs.Common.{◌≡◌, ◌∙◌, List, None, Contains, subst, arith, rules}
+use Rattle.lft_trace.specs.declared.row.Row.{Row}
+use Rattle.lft_queue.specs.Pending.{Pending}
+use Rattle.lft_turn.specs.Turns.{NonePending}
+use Rattle.lft_agenda.specs.Agendas.{MayAdvance, IsReached}
+use Rattle.lft_agenda.proofs.Told.{none_open_there}
+use Rattle.lft_agenda.proofs.NextTags.{some_number, later_event, reached_current, finished_current, moved_on, nearer}
+use Rattle.lft_agenda.proofs.advancing.advance.Goals as goal
+
+pub returns-then-is_some-clause-current : goal.returns-then-is_some-clause-current
+returns-then-is_some-clause-current c = λ t may start.
+    let plan = c.args.plan.now in
+    let is = c.tags.invariant.reached t may start in
+    let s = some_number c.first.result (search rules) in
+    reached_current plan c.keeps.ensures.sound t c.args.stop may c.tags.reached c.tags.turn c.tags.queue is s.0 (c.first.ensures.ready plan.program s.0 is.turn_is.graph s.1).ready.waiting
+
+pub next_tag-requires-clause-later : goal.next_tag-requires-clause-later
+next_tag-requires-clause-later c = λ e k. later_event c.tags.reached c.tags.queue e (subst (λ (q : List Pending). Contains q e) c.drop_until.ensures k)
+
+pub returns-in_default-clause-current : goal.returns-in_default-clause-current
+returns-in_default-clause-current c = λ t may start.
+    let plan = c.args.plan.now in
+    let good = c.keeps.ensures.sound in
+    let is = c.tags.invariant.reached t may start in
+    let none : c.first.result ≡ None = search rules in
+    let over : NonePending c.tags.turn.phases = c.first.ensures.over plan.program is.turn_is.graph none (none_open_there plan good t may.so_far may.quiet c.tags.reached c.tags.turn is.turn_is may.none_open) in
+    finished_current plan good t c.args.stop may c.tags.reached c.tags.turn c.tags.queue is over c.drop_until.new.self c.drop_until.ensures c.next_tag.result c.next_tag.ensures.covers (search rules)
+
+pub tags-preserved : goal.tags-preserved
+tags-preserved c = record {
+  phases = c.tell.ensures.count ∙ c.tags.invariant.phases;
+  time = (let b = c.in-Some.ensures.between in let s = c.requires.stop in search arith);
+  reached = λ t may start. reached t may start;
+}
+  where
+    reached : (t : List Row) → MayAdvance c.args.plan.now t c.args.stop → IsReached c.args.plan.now t c.args.from c.args.stop c.args.turn.now c.args.queue.now → IsReached c.args.plan.now t c.in-Some.next c.args.stop c.tell.new.turn c.drop_until.new.self
+    reached t may start =
+        let plan = c.args.plan.now in
+        let good = c.keeps.ensures.sound in
+        let is = c.tags.invariant.reached t may start in
+        let none : c.first.result ≡ None = search rules in
+        let over : NonePending c.tags.turn.phases = c.first.ensures.over plan.program is.turn_is.graph none (none_open_there plan good t may.so_far may.quiet c.tags.reached c.tags.turn is.turn_is may.none_open) in
+        moved_on plan good t c.args.stop may c.tags.reached c.tags.turn c.tags.queue is over c.drop_until.new.self c.drop_until.ensures c.next_tag.result c.next_tag.ensures.covers c.in-Some.next c.tell.new.turn c.in-Some.is c.in-Some.ensures.between c.tell.ensures
+
+pub tags-smaller : goal.tags-smaller
+tags-smaller c = nearer c.tags.reached c.in-Some.next c.args.stop (omega arith) c.in-Some.ensures.between

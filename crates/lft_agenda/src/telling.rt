@@ -1,0 +1,90 @@
+//! The reactions that are triggered at a tag are told.
+
+ghost use Rattle.std.specs.Prelude.{◌≡◌, ◌<◌, length, slice_get, Some, IsSome, IsTrue};
+ghost use Rattle.lft_flat.specs.declared.parts.Name.{Name as NameOf};
+ghost use Rattle.lft_model.specs.Plans.{PlanParts};
+ghost use Rattle.lft_listeners.specs.Listeners.{IsListener, AreListeners};
+ghost use Rattle.lft_queue.specs.Pending.{value_of};
+ghost use Rattle.lft_agenda.specs.Telling.{IsTold, FiresAt, TriggeredByQueue};
+
+use lft_flat::Trigger;
+use lft_listeners::Listeners;
+use lft_model::{Plan, fires};
+use lft_queue::Queue;
+use lft_tag::Tag;
+use lft_turn::Turn;
+
+/// The number at a place.
+pub(crate) fn number_at(numbers: &[u32], place: usize) -> u32
+    requires { place < length numbers.now }
+    ensures { slice_get numbers.now place ≡ Some result }
+{
+    numbers[place]
+}
+
+/// Where the trigger is present, the reactions that listen to it are told.
+pub(crate) fn tell_of(
+    turn: &mut Turn,
+    listeners: &Listeners,
+    plan: &Plan,
+    trigger: Trigger,
+    is_present: bool,
+)
+    requires listeners { AreListeners plan.now.program listeners.now }
+    requires phases { length turn.old.phases ≡ length plan.now.program.reactions }
+    ensures { IsTold (λ r. IsTrue is_present × IsListener plan.now.program trigger r) turn.old turn.new }
+{
+    if !is_present {
+        return;
+    }
+    let reactions = listeners.of(trigger);
+    for at in 0..reactions.len() {
+        turn.trigger(number_at(reactions, at));
+    }
+}
+
+// Those that listen to a timer that fires at the tag.
+fn tell_timers(turn: &mut Turn, listeners: &Listeners, plan: &Plan, tag: Tag)
+    requires listeners { AreListeners plan.now.program listeners.now }
+    requires phases { length turn.old.phases ≡ length plan.now.program.reactions }
+    ensures { IsTold (λ r. (n : _) × FiresAt plan.now.program tag n × IsListener plan.now.program (Trigger.Timer n) r) turn.old turn.new }
+{
+    let timers = listeners.live_timers();
+    for at in 0..timers.len() {
+        let number = number_at(timers, at);
+        let now = fires(plan.program().timer(number), tag);
+        tell_of(turn, listeners, plan, Trigger::Timer(number), now);
+    }
+}
+
+// Those that listen to a port or an action with an event at the tag.
+fn tell_names(turn: &mut Turn, listeners: &Listeners, plan: &Plan, queue: &Queue, tag: Tag)
+    requires listeners { AreListeners plan.now.program listeners.now }
+    requires phases { length turn.old.phases ≡ length plan.now.program.reactions }
+    ensures { IsTold (λ r. (n : NameOf) × IsSome (value_of tag n queue.now) × IsListener plan.now.program (Trigger.On n) r) turn.old turn.new }
+{
+    for name in queue.names_at(tag) {
+        tell_of(turn, listeners, plan, Trigger::On(name), true);
+    }
+}
+
+/// The reactions that are triggered at the tag are told, by the events in the queue and the stop.
+pub(crate) fn tell(
+    turn: &mut Turn,
+    listeners: &Listeners,
+    plan: &Plan,
+    queue: &Queue,
+    tag: Tag,
+    stop: Tag,
+)
+    requires listeners { AreListeners plan.now.program listeners.now }
+    requires phases { length turn.old.phases ≡ length plan.now.program.reactions }
+    ensures { IsTold (TriggeredByQueue plan.now.program queue.now stop tag) turn.old turn.new }
+{
+    let is_first = tag.is_same(Tag { time: 0, micro: 0 });
+    tell_of(turn, listeners, plan, Trigger::Startup, is_first);
+    let is_last = tag.is_same(stop);
+    tell_of(turn, listeners, plan, Trigger::Shutdown, is_last);
+    tell_timers(turn, listeners, plan, tag);
+    tell_names(turn, listeners, plan, queue, tag);
+}
