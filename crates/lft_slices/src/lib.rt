@@ -10,6 +10,7 @@ mod inputs;
 mod lists;
 mod marks;
 mod missing;
+mod needed;
 mod open;
 mod pass;
 mod pieces;
