@@ -20,6 +20,6 @@ mod walk;
 
 pub use cuts::{Cut, CutFault};
 pub use cutting::cut;
-pub use pieces::Piece;
+pub use pieces::{Piece, keep_ends};
 pub use slices::Slice;
 pub use walk::Walk;
