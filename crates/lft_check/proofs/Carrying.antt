@@ -100,7 +100,7 @@ direct_known : (program : Parts) (a b : ℕ) → Direct program a b → a < leng
 direct_known program a b (inl x) = slice_get_within program.reactions a x.first x.is_first
 direct_known program a b (inr x) = slice_get_within program.reactions a x.writer x.is_writer
 
-precedes_known : (program : Parts) (a b : ℕ) → Precedes program a b → a < length program.reactions
+pub precedes_known : (program : Parts) (a b : ℕ) → Precedes program a b → a < length program.reactions
 precedes_known program a b (Precedes.one d) = direct_known program _ _ d
 precedes_known program a b (Precedes.more d p) = direct_known program _ _ d
 
@@ -126,7 +126,7 @@ module _ (cut : TraceParts) (g : Tag) (graph : GraphParts) (is_graph : IsGraphOf
   level_there r l = let m = many in get_there graph.levels r (omega arith)
 
   -- a member of a short list precedes, so it is a reaction
-  member_known : (b r i : ℕ) (list : List ℕ) → slice_get graph.before r ≡ Some list → slice_get list i ≡ Some b → b < length cut.plan.program.reactions
+  pub member_known : (b r i : ℕ) (list : List ℕ) → slice_get graph.before r ≡ Some list → slice_get list i ≡ Some b → b < length cut.plan.program.reactions
   member_known b r i list e p = precedes_known cut.plan.program b r ((is_graph.chains b r list e).1 (b, contains_at list i b p, inl refl))
 
   pub has_all : (r : ℕ) (list numbers : List ℕ) → slice_get graph.before r ≡ Some list → length numbers ≡ length cut.plan.program.reactions → HasAll list numbers

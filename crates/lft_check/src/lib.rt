@@ -8,6 +8,7 @@ mod fault;
 mod judging;
 mod ranks;
 mod shares;
+mod upstream;
 mod verdict;
 mod watch;
 

@@ -46,8 +46,7 @@ fn examine_share<W: Watch>(
     cut.keeps();
     let low = share_begins(slices.len(), workers, worker);
     let high = share_begins(slices.len(), workers, worker + 1);
-    let mut walk = cut.walk(alloc)?;
-    first_in(alloc, cut, watch, &mut walk, slices, bound, low, high)
+    first_in(alloc, cut, watch, slices, bound, low, high)
 }
 
 /// What each of several workers found, each in a thread of its own.

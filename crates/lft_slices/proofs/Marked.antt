@@ -1,109 +1,49 @@
 -- Seats of inputs, and what the marks tell after one more row.
-use Rattle.std.proofs.Common.{◌≡◌, ◌≢◌, ℕ, zero, suc, ◌+◌, ◌<◌, ◌≤◌, ◌⊎◌, inl, inr, List, [], ◌∷◌, ◌++◌, length, length-append, refl, sym, ap, ◌∙◌, subst, arith, Option, Some, slice_get, slice_set, filter_map, Contains}
+use Rattle.std.proofs.Common.{◌≡◌, ◌≢◌, ℕ, zero, suc, ◌+◌, ◌<◌, ◌≤◌, ◌⊎◌, inl, inr, List, [], ◌∷◌, ◌++◌, length, length-append, refl, sym, ap, ◌∙◌, subst, arith, Some, slice_get, slice_set, Contains}
 use Rattle.std.proofs.lemmas.Bool.{cases_lt}
 use native.Mathlib.Decide.{ℕ_discrete}
-use Rattle.lft_flat.specs.Parts.{Parts, inputs, named}
+use Rattle.lft_flat.specs.Parts.{Parts, inputs}
 use Rattle.lft_flat.specs.Sound.{IsSound}
 use Rattle.lft_flat.specs.declared.parts.Name.{Name}
-use Rattle.lft_flat.specs.declared.parts.Trigger.{Trigger}
-use Rattle.lft_flat.specs.declared.parts.Trigger.TheVariants.{Startup, Shutdown, Timer, On}
 use Rattle.lft_flat.specs.declared.parts.Reaction.{Reaction}
 use Rattle.lft_flat.specs.declared.parts.Value.{Value}
 use Rattle.lft_trace.specs.declared.row.Row.{Row}
 use Rattle.lft_trace.specs.declared.row.Step.TheVariants.{Read}
-use Rattle.lft_lists.proofs.Places.{get_there, get_write_cases, length_written}
-use Rattle.lft_model.proofs.Members.{Mem, mem_get, get_mem, mem_contains, contains_mem, mem_left, mem_right, mem_cases, mem_filter, mem_from_filter}
+use Rattle.lft_lists.proofs.Places.{at_contains, contains_at, get_there, get_write_cases, get_push, get_last, length_written, same_some}
+use Rattle.lft_model.proofs.Members.{mem_get}
 use Rattle.lft_model.proofs.Counted.{NamesApart, names_apart}
 use Rattle.lft_model.proofs.Places.{slice_get_within}
 use Rattle.lft_slices.specs.declared.marks.Marks.{Marks}
 use Rattle.lft_slices.specs.Marks.{width, HasSeat, AreLaid, IsLaid, Mark, IsMarkedBy, AreNoneFrom, ReadsFor, NoneReads, IsMark, AreBefore, AreMarks}
-use Rattle.lft_slices.proofs.Declares.{named_on}
 use Rattle.lft_presence.proofs.Lists.{get_cases}
 
 -- a seat is one of the reaction's
 pub seat_within : (x : Reaction) (n : Name) (k : ℕ) → HasSeat x n k → k < width x
-seat_within x n k (inl e) = let l : k < length x.triggers = slice_get_within x.triggers k (On n) e in omega arith
-seat_within x n k (inr (i, q, e)) = let l : i < length x.uses = slice_get_within x.uses i n e in let m : k ≡ length x.triggers + i = q in omega arith
+seat_within x n k e = slice_get_within (inputs x) k n e
 
 -- a name with a seat is an input
 pub seat_input : (x : Reaction) (n : Name) (k : ℕ) → HasSeat x n k → Contains (inputs x) n
-seat_input x n k (inl e) = mem_contains n (inputs x) (mem_left n (filter_map named x.triggers) x.uses (mem_filter named (On n) n x.triggers (mem_get x.triggers k (On n) e) refl))
-seat_input x n k (inr (i, q, e)) = mem_contains n (inputs x) (mem_right n (filter_map named x.triggers) x.uses (mem_get x.uses i n e))
+seat_input x n k e = contains_at (inputs x) k n e
 
 -- an input has a seat
 pub input_seat : (x : Reaction) (n : Name) → Contains (inputs x) n → (k : ℕ) × HasSeat x n k
-input_seat x n c = go (mem_cases n (filter_map named x.triggers) x.uses (contains_mem n (inputs x) c))
-  where
-    go : Mem n (filter_map named x.triggers) ⊎ Mem n x.uses → (k : ℕ) × HasSeat x n k
-    go (inl m) =
-        let f = mem_from_filter named x.triggers n m in
-        let q : f.0 ≡ On n = named_on f.0 n f.2 in
-        let p = get_mem (On n) x.triggers (subst (λ z. Mem z x.triggers) q f.1) in
-        (p.0, inl p.1)
-    go (inr m) = let p = get_mem n x.uses m in (length x.triggers + p.0, inr (p.0, refl, p.1))
+input_seat x n c = at_contains (inputs x) n c
 
 -- a name stands at one place of a list of different names
-one_use : (us : List Name) → NamesApart us → (i j : ℕ) (n : Name) → slice_get us i ≡ Some n → slice_get us j ≡ Some n → i ≡ j
-one_use [] a i j n p q = absurd (cc)
-one_use (u ∷ us) a zero zero n p q = refl
-one_use (u ∷ us) a zero (suc j) n p q = let e : u ≡ n = cc in absurd (a.0 n (mem_get us j n q) (sym e))
-one_use (u ∷ us) a (suc i) zero n p q = let e : u ≡ n = cc in absurd (a.0 n (mem_get us i n p) (sym e))
-one_use (u ∷ us) a (suc i) (suc j) n p q = ap suc (one_use us a.1 i j n p q)
-
--- the names of triggers and uses stay apart without the first trigger
-apart_rest : (t : Trigger) (ts : List Trigger) (us : List Name) → NamesApart (filter_map named (t ∷ ts) ++ us) → NamesApart (filter_map named ts ++ us)
-apart_rest Startup ts us a = a
-apart_rest Shutdown ts us a = a
-apart_rest (Timer k) ts us a = a
-apart_rest (On n) ts us a = a.1
-
-trigger_apart : (n : Name) (ts : List Trigger) (us : List Name) → NamesApart (filter_map named (On n ∷ ts) ++ us) → ¬ Mem n (filter_map named ts ++ us)
-trigger_apart n ts us a m = a.0 n m refl
-
-among_triggers : (ts : List Trigger) (us : List Name) (k : ℕ) (n : Name) → slice_get ts k ≡ Some (On n) → Mem n (filter_map named ts ++ us)
-among_triggers ts us k n e = mem_left n (filter_map named ts) us (mem_filter named (On n) n ts (mem_get ts k (On n) e) refl)
-
-first_on : (t : Trigger) (n : Name) → ◌≡◌ {A = Option Trigger} (Some t) (Some (On n)) → t ≡ On n
-first_on t n e = cc
-
-one_trigger : (ts : List Trigger) (us : List Name) → NamesApart (filter_map named ts ++ us) → (i j : ℕ) (n : Name) → slice_get ts i ≡ Some (On n) → slice_get ts j ≡ Some (On n) → i ≡ j
-one_trigger [] us a i j n p q = absurd (cc)
-one_trigger (t ∷ ts) us a zero zero n p q = refl
-one_trigger (t ∷ ts) us a zero (suc j) n p q = let e = first_on t n p in absurd (trigger_apart n ts us (subst (λ z. NamesApart (filter_map named (z ∷ ts) ++ us)) e a) (among_triggers ts us j n q))
-one_trigger (t ∷ ts) us a (suc i) zero n p q = let e = first_on t n q in absurd (trigger_apart n ts us (subst (λ z. NamesApart (filter_map named (z ∷ ts) ++ us)) e a) (among_triggers ts us i n p))
-one_trigger (t ∷ ts) us a (suc i) (suc j) n p q = ap suc (one_trigger ts us (apart_rest t ts us a) i j n p q)
-
-apart_uses : (ts : List Trigger) (us : List Name) → NamesApart (filter_map named ts ++ us) → NamesApart us
-apart_uses [] us a = a
-apart_uses (t ∷ ts) us a = apart_uses ts us (apart_rest t ts us a)
-
-no_use : (ts : List Trigger) (us : List Name) → NamesApart (filter_map named ts ++ us) → (i j : ℕ) (n : Name) → slice_get ts i ≡ Some (On n) → ¬ (slice_get us j ≡ Some n)
-no_use [] us a i j n p q = absurd (cc)
-no_use (t ∷ ts) us a zero j n p q = let e = first_on t n p in trigger_apart n ts us (subst (λ z. NamesApart (filter_map named (z ∷ ts) ++ us)) e a) (mem_right n (filter_map named ts) us (mem_get us j n q))
-no_use (t ∷ ts) us a (suc i) j n p q = no_use ts us (apart_rest t ts us a) i j n p q
+one_place : (us : List Name) → NamesApart us → (i j : ℕ) (n : Name) → slice_get us i ≡ Some n → slice_get us j ≡ Some n → i ≡ j
+one_place [] a i j n p q = absurd (cc)
+one_place (u ∷ us) a zero zero n p q = refl
+one_place (u ∷ us) a zero (suc j) n p q = let e : u ≡ n = cc in absurd (a.0 n (mem_get us j n q) (sym e))
+one_place (u ∷ us) a (suc i) zero n p q = let e : u ≡ n = cc in absurd (a.0 n (mem_get us i n p) (sym e))
+one_place (u ∷ us) a (suc i) (suc j) n p q = ap suc (one_place us a.1 i j n p q)
 
 -- where all inputs differ, one has one seat
 one_seat : (x : Reaction) → NamesApart (inputs x) → (n : Name) (j k : ℕ) → HasSeat x n j → HasSeat x n k → j ≡ k
-one_seat x a n j k (inl p) (inl q) = one_trigger x.triggers x.uses a j k n p q
-one_seat x a n j k (inl p) (inr (i, e, q)) = absurd (no_use x.triggers x.uses a j i n p q)
-one_seat x a n j k (inr (i, e, p)) (inl q) = absurd (no_use x.triggers x.uses a k i n q p)
-one_seat x a n j k (inr (h, d, p)) (inr (i, e, q)) =
-    let s : h ≡ i = one_use x.uses (apart_uses x.triggers x.uses a) h i n p q in
-    let u : j ≡ length x.triggers + h = d in
-    let v : k ≡ length x.triggers + i = e in
-    omega arith
+one_seat x a n j k p q = one_place (inputs x) a j k n p q
 
 -- at one seat stands one name
 seat_name : (x : Reaction) (m n : Name) (k : ℕ) → HasSeat x m k → HasSeat x n k → m ≡ n
-seat_name x m n k (inl p) (inl q) = let e : Some (On m) ≡ Some (On n) = sym p ∙ q in cc
-seat_name x m n k (inl p) (inr (i, e, q)) = let l : k < length x.triggers = slice_get_within x.triggers k (On m) p in let d : k ≡ length x.triggers + i = e in absurd (omega arith)
-seat_name x m n k (inr (i, e, p)) (inl q) = let l : k < length x.triggers = slice_get_within x.triggers k (On n) q in let d : k ≡ length x.triggers + i = e in absurd (omega arith)
-seat_name x m n k (inr (h, d, p)) (inr (i, e, q)) =
-    let u : k ≡ length x.triggers + h = d in
-    let v : k ≡ length x.triggers + i = e in
-    let s : h ≡ i = omega arith in
-    let z : Some m ≡ Some n = sym p ∙ ap (λ y. slice_get x.uses y) s ∙ q in
-    cc
+seat_name x m n k p q = same_some (slice_get (inputs x) k) m n p q
 
 pub same_here : {X : Type 0} (xs : List X) (i : ℕ) (x y : X) → slice_get xs i ≡ Some x → slice_get xs i ≡ Some y → x ≡ y
 same_here xs i x y p q = let e : Some x ≡ Some y = sym p ∙ q in cc
@@ -125,6 +65,7 @@ pub laid_on : (program : Parts) (old new : Marks) (r k m f : ℕ) → IsLaid pro
 laid_on program old new r k m f laid by e =
     let size : length new.places.items ≡ length old.places.items = ap length (by.places f e) ∙ length_written old.places.items (f + k) m in
     record {
+      inputs_are = λ s x is. ap (λ (ns : List (List Name)). slice_get ns s) by.inputs ∙ laid.inputs_are s x is;
       as_long = ap length by.firsts ∙ laid.as_long;
       laid = subst (λ (fs : List ℕ). AreLaid program.reactions fs (length new.places.items)) (sym by.firsts) (subst (λ (z : ℕ). AreLaid program.reactions old.firsts.items z) (sym size) laid.laid);
     }
@@ -216,18 +157,30 @@ marks_begin program t low marks h = record { are_before = h; right = λ r k m x 
 pub before_on : (program : Parts) (i j : ℕ) (marks : Marks) → i ≤ j → AreBefore program i marks → AreBefore program j marks
 before_on program i j marks l h = record { is_laid = h.is_laid; none = λ k m e. let a : m ≤ i = h.none k m e in omega arith }
 
--- the seats of the reactions before some number
-pub record AreLaidTo (reactions : List Reaction) (n : ℕ) (firsts places : List ℕ) : Type 0 where
+-- the inputs and the seats of the reactions before some number
+pub record AreLaidTo (reactions : List Reaction) (n : ℕ) (names : List (List Name)) (firsts places : List ℕ) : Type 0 where
+  pub many : length names ≡ n
+  pub inputs_are : (r : ℕ) (x : Reaction) → r < n → slice_get reactions r ≡ Some x → slice_get names r ≡ Some (inputs x)
   pub as_long : length firsts ≡ n
   pub laid : AreLaid reactions firsts (length places)
   pub none : AreNoneFrom 0 places
 
-pub laid_none : (reactions : List Reaction) → AreLaidTo reactions 0 [] []
-laid_none reactions = record { as_long = refl; laid = record { within = λ r f x ex ef. absurd (cc); apart = λ r s f g x l ex ef eg. absurd (cc) }; none = λ k m e. absurd (cc) }
+pub laid_none : (reactions : List Reaction) → AreLaidTo reactions 0 [] [] []
+laid_none reactions = record { many = refl; inputs_are = λ r x l e. absurd (omega arith); as_long = refl; laid = record { within = λ r f x ex ef. absurd (cc); apart = λ r s f g x l ex ef eg. absurd (cc) }; none = λ k m e. absurd (cc) }
 
-pub laid_more : (reactions : List Reaction) (n : ℕ) (firsts places more : List ℕ) (x : Reaction) → slice_get reactions n ≡ Some x → AreLaidTo reactions n firsts places → length more ≡ length places + width x → AreNoneFrom 0 more → AreLaidTo reactions (n + 1) (firsts ++ length places ∷ []) more
-laid_more reactions n firsts places more x ex h size none = record { as_long = let a : length firsts ≡ n = h.as_long in let b : length (firsts ++ length places ∷ []) ≡ length firsts + 1 = length-append firsts (length places ∷ []) in omega arith; laid = record { within = within; apart = apart }; none = none }
+-- what is known of all reactions
+pub laid_all : (program : Parts) (n : ℕ) (marks : Marks) → length program.reactions ≤ n → n ≤ length program.reactions → AreLaidTo program.reactions n marks.inputs.items marks.firsts.items marks.places.items → AreBefore program 0 marks
+laid_all program n marks l m h = record { is_laid = record { inputs_are = λ r x e. h.inputs_are r x (let w : r < length program.reactions = slice_get_within program.reactions r x e in omega arith) e; as_long = (let w : length marks.firsts.items ≡ n = h.as_long in omega arith); laid = h.laid }; none = h.none }
+
+pub laid_more : (reactions : List Reaction) (n : ℕ) (names : List (List Name)) (firsts places more : List ℕ) (x : Reaction) → slice_get reactions n ≡ Some x → AreLaidTo reactions n names firsts places → length more ≡ length places + width x → AreNoneFrom 0 more → AreLaidTo reactions (n + 1) (names ++ inputs x ∷ []) (firsts ++ length places ∷ []) more
+laid_more reactions n names firsts places more x ex h size none = record { many = (let a : length names ≡ n = h.many in let b : length (names ++ inputs x ∷ []) ≡ length names + 1 = length-append names (inputs x ∷ []) in omega arith); inputs_are = λ r y l e. own r y l e (ℕ_discrete r n); as_long = let a : length firsts ≡ n = h.as_long in let b : length (firsts ++ length places ∷ []) ≡ length firsts + 1 = length-append firsts (length places ∷ []) in omega arith; laid = record { within = within; apart = apart }; none = none }
   where
+    own : (r : ℕ) (y : Reaction) → r < n + 1 → slice_get reactions r ≡ Some y → Dec (r ≡ n) → slice_get (names ++ inputs x ∷ []) r ≡ Some (inputs y)
+    own r y l e (no d) = get_push names (inputs x) r (inputs y) (h.inputs_are r y (omega arith) e)
+    own r y l e (yes d) =
+        let z : x ≡ y = same_here reactions n x y ex (ap (λ k. slice_get reactions k) (sym d) ∙ e) in
+        ap (λ k. slice_get (names ++ inputs x ∷ []) k) (d ∙ sym h.many) ∙ get_last names (inputs x) ∙ ap (λ (v : Reaction). Some (inputs v)) z
+
     many : length firsts ≡ n
     many = h.as_long
 
@@ -254,6 +207,14 @@ laid_more reactions n firsts places more x ex h size none = record { as_long = l
         go (inl d) (inr e) = let a : f + width y ≤ length places = h.laid.within r f y ey d in let b : length places ≡ g = e.1 in omega arith
         go (inr d) (inl e) = let a : s < length firsts = slice_get_within firsts s g e in let b : r ≡ length firsts = d.0 in absurd (omega arith)
         go (inr d) (inr e) = let a : s ≡ length firsts = e.0 in let b : r ≡ length firsts = d.0 in absurd (omega arith)
+
+-- one number written, up to the place
+pub none_written : (i : ℕ) (places : List ℕ) (k m : ℕ) → k < length places → m ≤ i → AreNoneFrom i places → AreNoneFrom i (slice_set places k m)
+none_written i places k m l up h j x e = go (get_write_cases places k j m x l e)
+  where
+    go : ((j ≡ k) × (m ≡ x)) ⊎ ((j ≢ k) × (slice_get places j ≡ Some x)) → x ≤ i
+    go (inl q) = let z : m ≡ x = q.1 in omega arith
+    go (inr q) = h j x q.1
 
 -- one zero more
 pub none_pushed : (places : List ℕ) → AreNoneFrom 0 places → AreNoneFrom 0 (places ++ 0 ∷ [])

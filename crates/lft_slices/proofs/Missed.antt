@@ -1,20 +1,24 @@
 -- The least missed tag: over triggers, then over reactions.
-use Rattle.std.proofs.Common.{◌≡◌, ℕ, ◌+◌, ◌*◌, ◌<◌, ◌≤◌, ◌⊎◌, inl, inr, List, length, sym, ap, ◌∙◌, subst, arith, Option, Some, None, slice_get, Contains, MatchOption}
+use Rattle.std.proofs.Common.{◌≡◌, ℕ, ◌+◌, ◌*◌, ◌<◌, ◌≤◌, ◌⊎◌, inl, inr, List, length, refl, sym, ap, ◌∙◌, subst, arith, Option, Some, None, slice_get, Contains, MatchOption}
 use native.Mathlib.Decide.{ℕ_discrete}
 use Rattle.lft_tag.specs.declared.Tag.{Tag}
 use Rattle.lft_tag.specs.Tags.{Before, UpTo}
 use Rattle.lft_tag.proofs.Order.{UpTo-trans, UpTo_antisym, Before-weaken, order_cases, Before-UpTo}
+use Rattle.lft_flat.specs.Parts.{Parts}
+use Rattle.lft_flat.specs.Sound.{IsSound, IsTriggerOf}
 use Rattle.lft_flat.specs.declared.parts.Trigger.{Trigger}
 use Rattle.lft_flat.specs.declared.parts.Trigger.TheVariants.{Startup, Shutdown, Timer, On}
 use Rattle.lft_flat.specs.declared.parts.Timer.{Timer as TimerOf}
 use Rattle.lft_flat.specs.declared.parts.Name.{Name}
 use Rattle.lft_flat.specs.declared.parts.Reaction.{Reaction}
 use Rattle.lft_model.specs.Presence.{stop, Occurs, Triggered}
-use Rattle.lft_model.proofs.Members.{mem_get, get_mem, mem_contains, contains_mem}
+use Rattle.lft_lists.proofs.Places.{at_contains}
 use Rattle.lft_model.proofs.Places.{slice_get_within}
 use Rattle.lft_presence.specs.Traces.{TraceParts, LeastTag, IsSooner}
 use Rattle.lft_slices.specs.Slices.{LeastPair}
-use Rattle.lft_presence.proofs.Leasts.{least_as, least_of_both}
+use Rattle.lft_presence.proofs.Leasts.{least_as, least_of_both, trigger_of, triggered_by}
+use Rattle.lft_slices.specs.Needed.{AreNeededOf}
+use Rattle.lft_slices.proofs.Needing.{stands_occurs}
 use Rattle.lft_slices.specs.Least.{IsFirstOf, LacksAt, LacksFiring, LacksTrigger, Lacks}
 
 -- one of the triggers before place k is lacked at g
@@ -39,21 +43,30 @@ lacked_more cut xs k tags trigger a b o e p q s = least_as (λ g. LacksBefore cu
     from g x (yes d) = let y : Some x.trigger ≡ Some trigger = sym x.is_trigger ∙ ap (λ j. slice_get xs j) d ∙ e in let z : x.trigger ≡ trigger = cc in inr (subst (λ t. LacksTrigger cut t tags g) z x.lacks)
     from g x (no n) = let l : x.place < k + 1 = x.before in inl (record { place = x.place; trigger = x.trigger; before = omega arith; is_trigger = x.is_trigger; lacks = x.lacks })
 
--- over all triggers of a reaction
-pub lacked_all : (cut : TraceParts) (r k : ℕ) (tags : List Tag) (x : Reaction) (xs : List Trigger) (o : Option Tag) → slice_get cut.plan.program.reactions r ≡ Some x → xs ≡ x.triggers → k ≡ length xs → LeastTag (LacksBefore cut xs k tags) o → LeastTag (Lacks cut tags r) o
-lacked_all cut r k tags x xs o e q l h = least_as (LacksBefore cut xs k tags) (Lacks cut tags r) o h to from
-  where
-    to : (g : Tag) → LacksBefore cut xs k tags g → Lacks cut tags r g
-    to g m = record { triggered = record { reaction = x; trigger = m.trigger; is_reaction = e; is_trigger = subst (λ ys. Contains ys m.trigger) q (mem_contains m.trigger xs (mem_get xs m.place m.trigger m.is_trigger)); occurs = m.lacks.occurs }; in_time = m.lacks.in_time; not_there = m.lacks.not_there }
+-- a trigger that is needed is of the program
+pub needed_known : (program : Parts) → IsSound program → (r k : ℕ) (ys : List Trigger) (y : Trigger) → AreNeededOf program r ys → slice_get ys k ≡ Some y → IsTriggerOf program y
+needed_known program sound r k ys y h e = let j = h.2.only k y e in trigger_of program sound r h.0 h.0.triggers j.0 y h.1 refl j.1
 
-    from : (g : Tag) → Lacks cut tags r g → LacksBefore cut xs k tags g
+-- where it is present, its reaction is triggered
+pub needed_triggers : (cut : TraceParts) (g : Tag) (r k : ℕ) (ys : List Trigger) (y : Trigger) → AreNeededOf cut.plan.program r ys → slice_get ys k ≡ Some y → Occurs cut.plan cut.rows g y → Triggered cut.plan cut.rows g r
+needed_triggers cut g r k ys y h e o = let j = h.2.only k y e in triggered_by cut g r h.0 h.0.triggers j.0 y h.1 refl j.1 o
+
+-- over triggers that stand for all of a reaction
+pub lacked_all : (cut : TraceParts) (r k : ℕ) (tags : List Tag) (ys : List Trigger) (o : Option Tag) → AreNeededOf cut.plan.program r ys → k ≡ length ys → LeastTag (LacksBefore cut ys k tags) o → LeastTag (Lacks cut tags r) o
+lacked_all cut r k tags ys o needed l h = least_as (LacksBefore cut ys k tags) (Lacks cut tags r) o h to from
+  where
+    to : (g : Tag) → LacksBefore cut ys k tags g → Lacks cut tags r g
+    to g m = record { triggered = needed_triggers cut g r m.place ys m.trigger needed m.is_trigger m.lacks.occurs; in_time = m.lacks.in_time; not_there = m.lacks.not_there }
+
+    from : (g : Tag) → Lacks cut tags r g → LacksBefore cut ys k tags g
     from g m =
-        let y : Some m.triggered.reaction ≡ Some x = sym m.triggered.is_reaction ∙ e in
-        let z : m.triggered.reaction ≡ x = cc in
-        let c : Contains xs m.triggered.trigger = subst (λ ys. Contains ys m.triggered.trigger) (ap (λ (v : Reaction). v.triggers) z ∙ sym q) m.triggered.is_trigger in
-        let p = get_mem m.triggered.trigger xs (contains_mem m.triggered.trigger xs c) in
-        let b : p.0 < length xs = slice_get_within xs p.0 m.triggered.trigger p.1 in
-        record { place = p.0; trigger = m.triggered.trigger; before = omega arith; is_trigger = p.1; lacks = record { occurs = m.triggered.occurs; in_time = m.in_time; not_there = m.not_there } }
+        let y : Some m.triggered.reaction ≡ Some needed.0 = sym m.triggered.is_reaction ∙ needed.1 in
+        let z : m.triggered.reaction ≡ needed.0 = cc in
+        let c : Contains needed.0.triggers m.triggered.trigger = subst (λ (v : Reaction). Contains v.triggers m.triggered.trigger) z m.triggered.is_trigger in
+        let p = at_contains needed.0.triggers m.triggered.trigger c in
+        let q = needed.2.each p.0 m.triggered.trigger p.1 in
+        let b : q.0 < length ys = slice_get_within ys q.0 q.1 q.2 in
+        record { place = q.0; trigger = q.1; before = omega arith; is_trigger = q.2; lacks = record { occurs = stands_occurs cut g q.1 m.triggered.trigger q.3 m.triggered.occurs; in_time = m.in_time; not_there = m.not_there } }
 
 -- the pair comes before what is missed by a
 abbrev pub FirstBelow : (ℕ → Tag → Type 0) → ℕ → Option (Tag × ℕ) → Type 0

@@ -1,29 +1,29 @@
 -- Where each reaction read each of its inputs last. This serves the proofs of the rules 4 and 10.
 use Rattle.std.specs.Prelude.{◌≡◌, ℕ, ◌+◌, ◌<◌, ◌≤◌, ◌⊎◌, List, length, Some, slice_get, slice_set}
-use Rattle.lft_flat.specs.Parts.{Parts}
+use Rattle.lft_flat.specs.Parts.{Parts, inputs}
 use Rattle.lft_flat.specs.declared.parts.Value.{Value}
 use Rattle.lft_flat.specs.declared.parts.Name.{Name}
-use Rattle.lft_flat.specs.declared.parts.Trigger.TheVariants.{On}
 use Rattle.lft_flat.specs.declared.parts.Reaction.{Reaction}
 use Rattle.lft_trace.specs.declared.row.Row.{Row}
 use Rattle.lft_trace.specs.declared.row.Step.TheVariants.{Read}
 use Rattle.lft_slices.specs.declared.marks.Marks.{Marks}
 
--- how many seats a reaction has: one for each trigger, and past them one for each use
+-- how many seats a reaction has: one for each input
 abbrev pub width : Reaction → ℕ
-width x = length x.triggers + length x.uses
+width x = length (inputs x)
 
--- the input n stands at seat k of the reaction
+-- n is the k-th input of the reaction, counted from 0
 abbrev pub HasSeat : Reaction → Name → ℕ → Type 0
-HasSeat x n k = (slice_get x.triggers k ≡ Some (On n)) ⊎ ((i : ℕ) × (k ≡ length x.triggers + i) × (slice_get x.uses i ≡ Some n))
+HasSeat x n k = slice_get (inputs x) k ≡ Some n
 
 -- the seats of all reactions lie one after another in a list of this length
 pub record AreLaid (reactions : List Reaction) (firsts : List ℕ) (size : ℕ) : Type 0 where
   pub within : (r f : ℕ) (x : Reaction) → slice_get reactions r ≡ Some x → slice_get firsts r ≡ Some f → f + width x ≤ size
   pub apart : (r s f g : ℕ) (x : Reaction) → r < s → slice_get reactions r ≡ Some x → slice_get firsts r ≡ Some f → slice_get firsts s ≡ Some g → f + width x ≤ g
 
--- the marks have a seat for each trigger and use of each reaction
+-- the marks know the inputs of each reaction, and have a seat for each
 pub record IsLaid (program : Parts) (marks : Marks) : Type 0 where
+  pub inputs_are : (r : ℕ) (x : Reaction) → slice_get program.reactions r ≡ Some x → slice_get marks.inputs.items r ≡ Some (inputs x)
   pub as_long : length marks.firsts.items ≡ length program.reactions
   pub laid : AreLaid program.reactions marks.firsts.items (length marks.places.items)
 
@@ -33,6 +33,7 @@ Mark marks r k m = (f : ℕ) × (slice_get marks.firsts.items r ≡ Some f) × (
 
 -- m is kept at one seat now, and all else is as it was
 pub record IsMarkedBy (old : Marks) (r k m : ℕ) (new : Marks) : Type 0 where
+  pub inputs : new.inputs.items ≡ old.inputs.items
   pub firsts : new.firsts.items ≡ old.firsts.items
   pub places : (f : ℕ) → slice_get old.firsts.items r ≡ Some f → new.places.items ≡ slice_set old.places.items (f + k) m
 

@@ -3,8 +3,6 @@ use Rattle.std.specs.Prelude.{ℕ, List, Option, Some, None}
 use Rattle.lft_tag.specs.declared.Tag.{Tag}
 use Rattle.lft_flat.specs.declared.parts.Value.{Value}
 use Rattle.lft_flat.specs.declared.parts.Name.{Name}
-use Rattle.lft_flat.specs.declared.parts.Trigger.{Trigger}
-use Rattle.lft_flat.specs.declared.parts.Trigger.TheVariants.{Startup, Shutdown, Timer, On}
 use Rattle.lft_trace.specs.declared.row.Row.{Row}
 use Rattle.lft_trace.specs.declared.row.Step.{Step}
 use Rattle.lft_trace.specs.declared.row.Step.TheVariants.{Start, Read, Write, Schedule, Stop, End}
@@ -24,10 +22,3 @@ value_read End = None
 -- the run of r at g read of the name what is present there
 abbrev pub IsRight : PlanParts → List Row → Tag → ℕ → Name → Type 0
 IsRight plan t g r n = Shows plan t g n (read_of (steps_of t g r) n)
-
--- the same of a trigger, where it is a port or an action
-abbrev pub IsTriggerRight : PlanParts → List Row → Tag → ℕ → Trigger → Type 0
-IsTriggerRight plan t g r Startup = Unit {0}
-IsTriggerRight plan t g r Shutdown = Unit {0}
-IsTriggerRight plan t g r (Timer k) = Unit {0}
-IsTriggerRight plan t g r (On n) = IsRight plan t g r n

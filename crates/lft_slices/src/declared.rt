@@ -53,7 +53,7 @@ fn is_bad_read(
     requires marks { AreMarks program.now rows.now 0 place marks.now }
     ensures { IsTrue result ↔ IsBadRead program.now rows.now place row name }
 {
-    match marks.seat(program.reaction(row.reaction), name) {
+    match marks.seat(program, row.reaction, name) {
         Some(seat) => was_at(rows, place, row.tag, marks.of(program, row.reaction, seat)),
         None => true,
     }

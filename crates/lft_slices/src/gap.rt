@@ -17,7 +17,8 @@ impl<'a> Cut<'a> {
         let tags = self.tags();
         let mut first = None;
         for reaction in 0..self.reactions() as u32 {
-            let vacant = lacked(self.presence(), reaction, tags, &mut []);
+            let triggers = self.program().reaction(reaction).triggers.as_slice();
+            let vacant = lacked(self.presence(), reaction, triggers, tags, &mut []);
             first = first_of(first, vacant, reaction);
         }
         first

@@ -1,12 +1,12 @@
 //! Whether a run read what is present.
 
 ghost use Rattle.std.specs.Prelude.{◌≡◌, ◌<◌, ◌↔◌, List, Option, Some, length, IsTrue, IfOk, slice_get};
-ghost use Rattle.lft_flat.specs.Sound.{IsNameOf, IsTriggerOf};
+ghost use Rattle.lft_flat.specs.Sound.{IsNameOf};
 ghost use Rattle.lft_model.specs.Presence.{Collision, Inputs};
 ghost use Rattle.lft_model.specs.Runs.{reads_at};
 ghost use Rattle.lft_flat.specs.declared.parts.Reaction.{Reaction as TheReaction};
 ghost use Rattle.lft_slices.specs.Marks.{HasSeat};
-ghost use Rattle.lft_slices.specs.Reads.{IsRight, IsTriggerRight};
+ghost use Rattle.lft_slices.specs.Reads.{IsRight};
 ghost use Rattle.lft_slices.specs.Slices.{IsSlice};
 ghost use Rattle.lft_slices.specs.Walks.{HasWalked};
 
@@ -14,8 +14,7 @@ use crate::cuts::Cut;
 use crate::declared::name_at;
 use crate::slices::Slice;
 use crate::walk::Walk;
-use lft_flat::{Name, Trigger, Value};
-use lft_presence::trigger_at;
+use lft_flat::{Name, Value};
 
 /// Whether the two are one value, or both none.
 fn same_values(a: Option<Value>, b: Option<Value>) -> bool
@@ -58,31 +57,6 @@ impl<'a> Cut<'a> {
         same_values(read, self.value_at(slice.tag, name))
     }
 
-    /// Whether the run of the reaction at the tag read of the trigger at the seat what is present
-    /// there, if it is a port or action.
-    fn trigger_right(
-        &self,
-        walk: &Walk,
-        slice: Slice,
-        reaction: u32,
-        seat: usize,
-        trigger: Trigger,
-    ) -> bool
-        requires slice { IsSlice self.now.rows slice }
-        requires walked { HasWalked self.now slice walk.now }
-        requires seat { (x : TheReaction) × (slice_get self.now.plan.program.reactions reaction ≡ Some x) × (slice_get x.triggers seat ≡ Some trigger) }
-        requires trigger { IsTriggerOf self.now.plan.program trigger }
-        requires no_clash { Collision self.now.plan self.now.rows slice.tag → ⊥ }
-        ensures { IsTrue result ↔ IsTriggerRight self.now.plan self.now.rows slice.tag reaction trigger }
-    {
-        match trigger {
-            Trigger::On(name) => self.reads_right(walk, slice, reaction, seat, name),
-            Trigger::Startup => true,
-            Trigger::Shutdown => true,
-            Trigger::Timer(_) => true,
-        }
-    }
-
     /// Whether the run of the reaction at the tag of the slice, over which the walk went last, read
     /// its inputs, and nothing else of them.
     pub fn reads_inputs(&self, walk: &Walk, slice: Slice, reaction: u32) -> bool
@@ -92,19 +66,10 @@ impl<'a> Cut<'a> {
         requires no_clash { Collision self.now.plan self.now.rows slice.tag → ⊥ }
         ensures { IsTrue result ↔ Inputs self.now.plan self.now.rows slice.tag reaction (reads_at self.now.plan self.now.rows slice.tag reaction) }
     {
-        let program = self.program();
-        let read = program.reaction(reaction);
-        let triggers = read.triggers.as_slice();
-        for place in 0..triggers.len() {
-            let trigger = trigger_at(triggers, place);
-            if !self.trigger_right(walk, slice, reaction, place, trigger) {
-                return false;
-            }
-        }
-        let uses = read.uses.as_slice();
-        for place in 0..uses.len() {
-            let name = name_at(uses, place);
-            if !self.reads_right(walk, slice, reaction, triggers.len() + place, name) {
+        let names = walk.marks.inputs(self.program(), reaction);
+        for seat in 0..names.len() {
+            let name = name_at(names, seat);
+            if !self.reads_right(walk, slice, reaction, seat, name) {
                 return false;
             }
         }

@@ -10,6 +10,7 @@ mod inputs;
 mod lists;
 mod marks;
 mod missing;
+mod needed;
 mod open;
 mod pass;
 mod pieces;
@@ -19,6 +20,6 @@ mod walk;
 
 pub use cuts::{Cut, CutFault};
 pub use cutting::cut;
-pub use pieces::Piece;
+pub use pieces::{Piece, keep_ends};
 pub use slices::Slice;
 pub use walk::Walk;

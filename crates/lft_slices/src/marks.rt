@@ -1,65 +1,44 @@
 //! Where each reaction read each of its inputs last.
 
 ghost use Rattle.std.specs.Prelude.{◌≡◌, ℕ, ◌+◌, ◌<◌, ◌≤◌, length, Some, IsTrue, IfOk, OnOk, MatchOption, slice_get};
+ghost use Rattle.lft_flat.specs.Parts.{inputs as the_inputs};
 ghost use Rattle.lft_flat.specs.declared.parts.Reaction.{Reaction as TheReaction};
-ghost use Rattle.lft_flat.specs.declared.parts.Trigger.TheVariants.{On};
 ghost use Rattle.lft_trace.specs.Fits.{RowsFit};
 ghost use Rattle.lft_slices.specs.Marks.{width, HasSeat, AreNoneFrom, IsLaid, Mark, IsMarkedBy, AreMarks, AreBefore};
 
 use crate::declared::{is_same_name, name_at};
-use lft_flat::{Name, Program, Reaction, Trigger};
+use lft_flat::{Name, Names, Program, Reaction, Trigger};
 use lft_presence::trigger_at;
 use lft_tag::NoMemory;
 use lft_trace::{Row, Step, row_at};
 use std::alloc::Global;
 
 /// For each input of each reaction the place past the row that read it last. Those of a reaction
-/// stand together, its triggers before its uses.
+/// stand together, in the order of its inputs.
 #[derive(Drop)]
 pub(crate) struct Marks {
+    /// The inputs of each reaction. A timer is none, so that a reaction with many timers is asked
+    /// for its few inputs alone.
+    inputs: Vec<Names>,
     firsts: Vec<usize>,
     places: Vec<u32>,
     /// Where the next input is looked for first: a run mostly reads its inputs in order.
     guess: usize,
 }
 
-/// Whether the name stands at the seat of the reaction.
-fn is_seat(reaction: &Reaction, name: Name, seat: usize) -> bool
-    ensures { IsTrue result → HasSeat reaction.now name seat }
+/// The inputs of the reaction: the ports and actions among its triggers, then its uses.
+fn inputs_of(alloc: Global, reaction: &Reaction) -> Result<Vec<Name>, NoMemory>
+    ensures { IfOk result (λ names. names.items ≡ the_inputs reaction.now) }
 {
+    let mut names = Vec::new(alloc);
     let triggers = reaction.triggers.as_slice();
-    let uses = reaction.uses.as_slice();
-    if seat < triggers.len() {
-        match trigger_at(triggers, seat) {
-            Trigger::On(other) => is_same_name(other, name),
-            Trigger::Startup => false,
-            Trigger::Shutdown => false,
-            Trigger::Timer(_) => false,
-        }
-    } else if seat - triggers.len() < uses.len() {
-        is_same_name(name_at(uses, seat - triggers.len()), name)
-    } else {
-        false
-    }
-}
-
-/// The place of the name among the triggers, if it is one.
-fn trigger_seat(triggers: &[Trigger], name: Name) -> Option<usize>
-    ensures { MatchOption result ((k : ℕ) → ¬ (slice_get triggers.now k ≡ Some (On name))) (λ k. slice_get triggers.now k ≡ Some (On name)) }
-{
     for place in 0..triggers.len() {
-        match trigger_at(triggers, place) {
-            Trigger::On(other) => {
-                if is_same_name(other, name) {
-                    return Some(place);
-                }
-            }
-            Trigger::Startup => {}
-            Trigger::Shutdown => {}
-            Trigger::Timer(_) => {}
+        if let Trigger::On(name) = trigger_at(triggers, place) {
+            names.push(name)?;
         }
     }
-    None
+    names.extend_from_slice(reaction.uses.as_slice())?;
+    Ok(names)
 }
 
 /// The place of the name among the names, if it is one.
@@ -74,22 +53,16 @@ fn name_seat(names: &[Name], name: Name) -> Option<usize>
     None
 }
 
-/// Where the name stands among the reaction's inputs, if it is one. The seat that is guessed is
-/// asked first.
-fn seat_of(reaction: &Reaction, name: Name, guess: usize) -> Option<usize>
-    ensures { MatchOption result ((k : ℕ) → ¬ HasSeat reaction.now name k) (HasSeat reaction.now name) }
+/// The place of the name among the names, if it is one. The place that is guessed is asked first,
+/// and in place of one past the last that of the first name.
+fn seat_of(names: &[Name], name: Name, guess: usize) -> Option<usize>
+    ensures { MatchOption result ((k : ℕ) → ¬ (slice_get names.now k ≡ Some name)) (λ k. slice_get names.now k ≡ Some name) }
 {
-    if is_seat(reaction, name, guess) {
-        return Some(guess);
+    let first = if guess < names.len() { guess } else { 0 };
+    if first < names.len() && is_same_name(name_at(names, first), name) {
+        return Some(first);
     }
-    let triggers = reaction.triggers.as_slice();
-    if let Some(place) = trigger_seat(triggers, name) {
-        return Some(place);
-    }
-    match name_seat(reaction.uses.as_slice(), name) {
-        Some(place) => Some(triggers.len() + place),
-        None => None,
-    }
+    name_seat(names, name)
 }
 
 /// Adds marks that tell of no row.
@@ -109,15 +82,17 @@ impl Marks {
     pub(crate) fn new(alloc: Global, program: &Program) -> Result<Marks, NoMemory>
         ensures { IfOk result (AreBefore program.now 0) }
     {
+        let mut inputs = Vec::new(alloc);
         let mut firsts = Vec::new(alloc);
         let mut places = Vec::new(alloc);
         for number in 0..program.reactions() {
-            let reaction = program.reaction(number as u32);
+            let names = inputs_of(alloc, program.reaction(number as u32))?;
             firsts.push(places.len())?;
-            add_marks(&mut places, reaction.triggers.as_slice().len())?;
-            add_marks(&mut places, reaction.uses.as_slice().len())?;
+            add_marks(&mut places, names.len())?;
+            inputs.push(Names::from_vec(names))?;
         }
         Ok(Marks {
+            inputs,
             firsts,
             places,
             guess: 0,
@@ -133,11 +108,22 @@ impl Marks {
         self.places[self.firsts[reaction as usize] + seat]
     }
 
-    /// Where the name stands among the reaction's inputs, if it is one.
-    pub(crate) fn seat(&self, reaction: &Reaction, name: Name) -> Option<usize>
-        ensures { MatchOption result ((k : ℕ) → ¬ HasSeat reaction.now name k) (HasSeat reaction.now name) }
+    /// The inputs of the reaction, in order.
+    pub(crate) fn inputs(&self, program: &Program, reaction: u32) -> &[Name]
+        requires laid { IsLaid program.now self.now }
+        requires reaction { reaction < length program.now.reactions }
+        ensures { (x : TheReaction) × (slice_get program.now.reactions reaction ≡ Some x) × (result.now ≡ the_inputs x) }
     {
-        seat_of(reaction, name, self.guess)
+        self.inputs[reaction as usize].as_slice()
+    }
+
+    /// Where the name stands among the reaction's inputs, if it is one.
+    pub(crate) fn seat(&self, program: &Program, reaction: u32, name: Name) -> Option<usize>
+        requires laid { IsLaid program.now self.now }
+        requires reaction { reaction < length program.now.reactions }
+        ensures { (x : TheReaction) × (slice_get program.now.reactions reaction ≡ Some x) × MatchOption result ((k : ℕ) → ¬ HasSeat x name k) (HasSeat x name) }
+    {
+        seat_of(self.inputs(program, reaction), name, self.guess)
     }
 
     /// Sets the mark of the input that stands at the seat of the reaction.
@@ -158,9 +144,11 @@ impl Marks {
         requires marks { (low : ℕ) × (low ≤ place) × AreMarks program.now rows.now low place self.old }
         ensures { (low : ℕ) → low ≤ place → AreMarks program.now rows.now low place self.old → AreMarks program.now rows.now low (place + 1) self.new }
     {
+        // Asked for what every program keeps: no input stands twice in its reaction.
+        let _ = program.reactions();
         let row = row_at(rows, place);
         if let Step::Read(name, _) = row.step {
-            if let Some(seat) = self.seat(program.reaction(row.reaction), name) {
+            if let Some(seat) = self.seat(program, row.reaction, name) {
                 self.set(program, row.reaction, seat, place as u32 + 1);
             }
         }

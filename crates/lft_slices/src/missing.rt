@@ -7,10 +7,12 @@ ghost use Rattle.lft_flat.specs.declared.parts.Trigger.TheVariants.{On};
 ghost use Rattle.lft_model.specs.Presence.{Fires, IsPresent, Occurs, Triggered};
 ghost use Rattle.lft_presence.specs.Causes.{IsCause, Leads};
 ghost use Rattle.lft_presence.specs.Traces.{LeastTag};
+ghost use Rattle.lft_slices.specs.Needed.{AreNeededOf};
 ghost use Rattle.lft_slices.specs.Indexes.{AreStartsOf, HasRuns, AreDue};
 ghost use Rattle.lft_slices.specs.Slices.{IsCuttable, IsFirstMissing};
 ghost use Rattle.lft_slices.specs.Least.{AreUp, HasTag, AreTriggered, IsFirstOf, LacksAt, LacksFiring, LacksCause, LacksTrigger, Lacks};
 
+use crate::needed::needed_of;
 use crate::started::Started;
 use lft_flat::{Name, Timer, Trigger};
 use lft_presence::{Presence, cause_at, cause_tag, moved, position, skip, sooner, trigger_at};
@@ -250,21 +252,24 @@ fn lacked_trigger(
     }
 }
 
-/// The first tag up to the stop at which the reaction is triggered and which is none of the tags.
-/// Marks are set at some of the tags at which it is triggered: at all, where none is answered.
+/// The first tag up to the stop at which the reaction is triggered and which is none of the tags, by
+/// triggers that stand for all of the reaction. Marks are set at some of the tags at which it is
+/// triggered: at all, where none is answered.
 pub(crate) fn lacked(
     presence: &Presence,
     reaction: u32,
+    triggers: &[Trigger],
     tags: &[Tag],
     known: &mut [bool],
 ) -> Option<Tag>
-    requires reaction { reaction < length presence.now.plan.program.reactions }
+    requires triggers { AreNeededOf presence.now.plan.program reaction triggers.now }
     requires up { AreUp tags.now }
     requires known { AreTriggered presence.now reaction tags.now known.old }
     ensures known { AreTriggered presence.now reaction tags.now known.new }
     ensures least { LeastTag (Lacks presence.now tags.now reaction) result }
 {
-    let triggers = presence.program().reaction(reaction).triggers.as_slice();
+    // Asked for what every presence keeps: its program is sound, so its triggers are.
+    let _ = presence.program();
     let mut least = None;
     for place in 0..triggers.len() {
         let trigger = trigger_at(triggers, place);
@@ -312,8 +317,8 @@ fn keep_due(
 /// reaction. The start rows of runs that are found to be triggered are marked on the way: where
 /// none is answered, of all that are.
 ///
-/// A timer is gone through only up to its first tag without a run, and one that triggers nothing is
-/// passed over.
+/// A timer is gone through only up to its first tag without a run. One that triggers nothing is
+/// passed over, and so is one whose firings another timer of the reaction makes too.
 pub(crate) fn first_missing(
     alloc: Global,
     presence: &Presence,
@@ -330,7 +335,14 @@ pub(crate) fn first_missing(
     for reaction in 0..presence.reactions() as u32 {
         let tags = started.tags.at(reaction);
         let mut known = vec![in alloc; false; tags.len()]?;
-        let missed = lacked(presence, reaction, tags, known.as_mut_slice());
+        let needed = needed_of(alloc, presence.program(), reaction)?;
+        let missed = lacked(
+            presence,
+            reaction,
+            needed.as_slice(),
+            tags,
+            known.as_mut_slice(),
+        );
         keep_due(
             presence,
             reaction,

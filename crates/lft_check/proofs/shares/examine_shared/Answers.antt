@@ -1,6 +1,4 @@
 use Rattle.std.proofs.Common.{◌<◌, arith}
-use Rattle.lft_check.specs.Verdicts.{LeastOf}
-use Rattle.lft_check.specs.Shares.{IsFound, AreOk}
 use Rattle.lft_check.proofs.Sharing.{least_of_all}
 use Rattle.lft_check.proofs.shares.examine_shared.Goals as goal
 

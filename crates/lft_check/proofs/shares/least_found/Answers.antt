@@ -1,6 +1,6 @@
-use Rattle.std.proofs.Common.{◌≡◌, ◌≤◌, ◌<◌, length, subst, arith}
+use Rattle.std.proofs.Common.{◌≡◌, ◌≤◌, length, subst, arith}
 use Rattle.lft_check.specs.Verdicts.{LeastOf}
-use Rattle.lft_check.specs.Shares.{IsFound, AreOk}
+use Rattle.lft_check.specs.Shares.{IsFound}
 use Rattle.lft_check.proofs.Sharing.{next_found, next_ok}
 use Rattle.lft_check.proofs.shares.least_found.Goals as goal
 

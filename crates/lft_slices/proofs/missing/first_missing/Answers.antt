@@ -1,4 +1,6 @@
 use Rattle.std.proofs.Common.{◌≡◌, length, sym, subst, arith}
+use Rattle.lft_flat.specs.Parts.{Parts}
+use Rattle.lft_slices.specs.Needed.{AreNeededOf}
 use Rattle.lft_slices.specs.Slices.{IsMissing}
 use Rattle.lft_slices.specs.Least.{AreTriggered}
 use Rattle.lft_slices.proofs.Begun.{starts_of, none_marked, none_in, marks_over, missing_of}
@@ -28,4 +30,9 @@ returns-clause-missing c =
     first_all (IsMissing cut) c.loop-reaction.reaction c.loop-reaction.first (λ r g x. known_reaction cut g r c.loop-reaction.reaction (omega arith) x.triggered) c.loop-reaction.invariant.first
 
 pub keep_due-requires-clause-known : goal.keep_due-requires-clause-known
-keep_due-requires-clause-known c = subst (λ bs. AreTriggered c.args.presence.now c.loop-reaction.reaction c.at-tags.result.now bs) (sym c.as_slice.ensures.value) (marks_over c.args.presence.now c.loop-reaction.reaction c.at-tags.result.now c.lacked-missed.new.known c.in_ok-known.known.items c.in_ok-known.known.len (none_in (length c.at-tags.result.now) c.in_ok-known.known.items (c.in_ok-known.ensures.items_if_clones_equal (λ y e. e))) c.lacked-missed.ensures.known)
+keep_due-requires-clause-known c = subst (λ bs. AreTriggered c.args.presence.now c.loop-reaction.reaction c.at-tags.result.now bs) (sym c.as_slice-in-loop-reaction.ensures.value) (marks_over c.args.presence.now c.loop-reaction.reaction c.at-tags.result.now c.lacked-missed.new.known c.in_ok-known.known.items c.in_ok-known.known.len (none_in (length c.at-tags.result.now) c.in_ok-known.known.items (c.in_ok-known.ensures.items_if_clones_equal (λ y e. e))) c.lacked-missed.ensures.known)
+
+pub lacked-missed-requires-clause-triggers : goal.lacked-missed-requires-clause-triggers
+lacked-missed-requires-clause-triggers c =
+    let own = subst (λ (p : Parts). AreNeededOf p c.loop-reaction.reaction c.in_ok-needed.needed.items) c.program.ensures.value c.in_ok-needed.ensures in
+    subst (λ ys. AreNeededOf c.args.presence.now.plan.program c.loop-reaction.reaction ys) (sym c.as_slice.ensures.value) own

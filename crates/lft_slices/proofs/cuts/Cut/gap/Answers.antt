@@ -1,4 +1,8 @@
-use Rattle.std.proofs.Common.{◌≡◌, length, subst, arith}
+use Rattle.std.proofs.Common.{◌≡◌, length, sym, ap, subst, arith}
+use Rattle.lft_flat.specs.Parts.{Parts}
+use Rattle.lft_presence.proofs.Leasts.{at_reaction}
+use Rattle.lft_slices.specs.Needed.{AreNeeded, AreNeededOf}
+use Rattle.lft_slices.proofs.Needing.{needed_all}
 use Rattle.lft_presence.specs.Traces.{TraceParts, LeastTag}
 use Rattle.lft_slices.specs.Slices.{IsVacant}
 use Rattle.lft_slices.specs.Least.{Lacks}
@@ -17,3 +21,9 @@ returns c =
     let cut = c.args.self.now in
     let count : c.reactions-reaction-end.result ≡ length cut.plan.program.reactions = c.reactions-reaction-end.ensures.count in
     first_all (IsVacant cut) c.loop-reaction.reaction c.loop-reaction.first (λ r g x. known_reaction cut g r c.loop-reaction.reaction (omega arith) x.triggered) c.loop-reaction.invariant
+
+pub lacked-vacant-requires-clause-triggers : goal.lacked-vacant-requires-clause-triggers
+lacked-vacant-requires-clause-triggers c =
+    let x = c.reaction.result.now in
+    let own = at_reaction c.program.result.now c.args.self.now.plan.program c.loop-reaction.reaction x c.program.ensures.value c.reaction.ensures.value in
+    subst (λ (p : Parts). AreNeededOf p c.loop-reaction.reaction c.as_slice-triggers.result.now) (sym (ap (λ (z : TraceParts). z.plan.program) c.presence.ensures)) (x, own, subst (λ ys. AreNeeded c.args.self.now.plan.program x.triggers ys) (sym c.as_slice-triggers.ensures) (needed_all c.args.self.now.plan.program x.triggers))
