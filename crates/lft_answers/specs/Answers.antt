@@ -24,7 +24,7 @@ reads_of names steps = map (read_of steps) names
 abbrev pub answer_of : List Name → List Step → Answer
 answer_of effects steps = record { outcomes = map (outcome_of steps) effects; stops = request_of steps }
 
--- an outcome that is kept is one of the same case with the same values
+-- what a kept outcome says: the value that was written last, if one was, or the schedulings in order
 abbrev pub as_outcome : KeptOutcome → Outcome
 as_outcome (kept.Written o) = Written o
 as_outcome (kept.Scheduled s) = Scheduled s

@@ -15,7 +15,8 @@ use lft_tag::NoMemory;
 use lft_trace::Row;
 use std::alloc::Global;
 
-/// What the run that starts in the row at the place read. Rows behind its end row aren't looked at.
+/// What the run that starts in the row at the place read. It looks at the rows up to its end row once,
+/// and then at the run's own steps once for each input.
 pub fn reads_of_run(
     alloc: Global,
     plan: &Plan,
@@ -35,8 +36,8 @@ pub fn reads_of_run(
     reads_of_steps(alloc, reaction, steps.as_slice())
 }
 
-/// What the run that starts in the row at the place answered. Rows behind its end row aren't looked
-/// at.
+/// What the run that starts in the row at the place answered. It looks at the rows up to its end row
+/// once, and then at the run's own steps once for each effect.
 pub fn answer_of_run(
     alloc: Global,
     plan: &Plan,

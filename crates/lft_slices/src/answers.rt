@@ -14,7 +14,8 @@ use lft_trace::row_at;
 use std::alloc::Global;
 
 impl<'a> Cut<'a> {
-    /// What the run read. It looks at the rows from the start row of the run to its end row.
+    /// What the run read. It looks at the rows from the start row of the run to its end row once, and
+    /// then at the run's own steps once for each input.
     pub fn reads(&self, alloc: Global, piece: Piece) -> Result<Reads, NoMemory>
         requires { (g : TheTag) × IsPiece self.now.rows g piece }
         ensures { (g : TheTag) → IsPiece self.now.rows g piece → IfOk result (λ reads. reads ≡ reads_at self.now.plan self.now.rows g piece.reaction) }
@@ -25,7 +26,8 @@ impl<'a> Cut<'a> {
         reads_of_run(alloc, self.presence().plan(), rows, place, start)
     }
 
-    /// What the run answered. It looks at the rows from the start row of the run to its end row.
+    /// What the run answered. It looks at the rows from the start row of the run to its end row once,
+    /// and then at the run's own steps once for each effect.
     pub fn answer(&self, alloc: Global, piece: Piece) -> Result<Answer, NoMemory>
         requires { (g : TheTag) × IsPiece self.now.rows g piece }
         ensures { (g : TheTag) → IsPiece self.now.rows g piece → IfOk result (λ answer. answer ≡ answer_at self.now.plan self.now.rows g piece.reaction) }
