@@ -3,16 +3,16 @@
 //! A case is a line `== KIND` and the lines up to the next one; what stands before the first is a
 //! remark, and `== end` stands last. In these lines `\HH` is the byte of that hexadecimal number, and
 //! a backslash at the end of a line takes the line's end away. The kinds are told where they are
-//! answered: what is given to other cases, texts, programs, traces, external inputs, presence, texts
-//! as a whole, two traces beside one another, recordings, and the words of faults. `title` and some
+//! answered: what is given to other cases, texts, programs, traces, external inputs, presence, the
+//! runs of a trace, texts as a whole, two traces beside one another, and recordings. `title` and some
 //! words are written as they are.
 #![tactic(auto)]
 
 mod case_text;
 mod external_tables;
-mod faults;
 mod given;
 mod pairs;
+mod pieces;
 mod presence;
 mod programs;
 mod recordings;
@@ -57,6 +57,7 @@ fn tell<R: Threads + Wait + Sync>(
         "read-externals" => external_tables::read(alloc, given, text, told),
         "read-externals-text" => external_tables::read_text(alloc, given, text, told),
         "ask" => presence::ask(alloc, given, text, told),
+        "pieces" => pieces::pieces(alloc, given, text, told),
         "show" => whole::show(alloc, text, told),
         "judge" => whole::judge(rt, alloc, given, text, words, told),
         "judge-text" => whole::judge_text(rt, alloc, given, text, words, told),
@@ -65,8 +66,6 @@ fn tell<R: Threads + Wait + Sync>(
         "record" => recordings::record(rt, alloc, given, text, words, told),
         "record-text" => recordings::record_text(rt, alloc, given, text, words, told),
         "recordings" => recordings::recordings(rt, alloc, given, text, words, told),
-        "card-faults" => faults::cards(told),
-        "pool-faults" => faults::pool(alloc, given, told),
         "bundle" => whole::bundle(alloc, text, told),
         _ => writeln!(told, "no such kind of case: {kind}"),
     }

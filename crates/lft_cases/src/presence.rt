@@ -24,14 +24,14 @@ use std::alloc::Global;
 use std::io;
 use std::io::Write;
 
-/// The given plan, with the rows of the given trace.
-fn recorded(alloc: Global, given: &Given) -> Result<(Plan, Rows), Refusal>
+/// The given plan, with the rows of the trace table.
+pub(crate) fn recorded(alloc: Global, given: &Given, table: &[u8]) -> Result<(Plan, Rows), Refusal>
     ensures { IfOk result (λ r. RowsFit r.0.program r.1) }
 {
     let program = program_of(alloc, given.program.as_slice())?;
     let externals = read_externals(alloc, &program, given.externals.as_slice())?;
     let plan = Plan::new(alloc, program, externals)?;
-    let rows = read_trace(alloc, plan.program(), given.trace.as_slice())?;
+    let rows = read_trace(alloc, plan.program(), table)?;
     Ok((plan, rows))
 }
 
@@ -109,7 +109,7 @@ pub(crate) fn ask(
     questions: &[u8],
     told: &mut Vec<u8>,
 ) -> io::Result<()> {
-    let (plan, rows) = match recorded(alloc, given) {
+    let (plan, rows) = match recorded(alloc, given, given.trace.as_slice()) {
         Ok(recorded) => recorded,
         Err(refusal) => return writeln!(told, "{refusal:?}"),
     };

@@ -12,7 +12,7 @@ use Rattle.lft_model.specs.Plans.{PlanParts, IsSoundPlan}
 use Rattle.lft_trace.specs.declared.row.Step.{Step}
 use Rattle.lft_model.specs.Runs.{Ran, steps_of, read_of, inputs_of, effects_of}
 use Rattle.lft_model.proofs.Legality.{four}
-use Rattle.lft_pair.specs.Answers.{answer_of}
+use Rattle.lft_answers.specs.Answers.{answer_of}
 use Rattle.lft_model.specs.Recorded.{SameRuns}
 use Rattle.lft_model.specs.Breaches.{Legal}
 use Rattle.lft_model.proofs.Places.{slice_get_within}

@@ -20,7 +20,7 @@ use Rattle.lft_model.specs.Runs.{Ran, start_row, steps_of, effects_of}
 use Rattle.lft_model.proofs.Legality.{four, rising}
 use Rattle.lft_model.proofs.Places.{slice_get_within}
 use Rattle.lft_model.proofs.Ended.{row_is}
-use Rattle.lft_pair.specs.Answers.{answer_of}
+use Rattle.lft_answers.specs.Answers.{answer_of}
 use Rattle.lft_pair.specs.Places.{StartsAt, AreLastStarts, AreUpTo}
 use Rattle.lft_pair.specs.Pairs.{ComesFirst, Agrees, FirstOdd}
 use Rattle.lft_pair.proofs.Kept.{start_is}

@@ -1,15 +1,14 @@
 //! Whether two runs answered alike, by their steps.
 
-ghost use Rattle.std.specs.Prelude.{◌≡◌, ◌<◌, length, None, Some, filter_map, slice_get, IfOk};
-ghost use Rattle.std.specs.List.{last_or};
+ghost use Rattle.std.specs.Prelude.{◌≡◌, ◌<◌, length, Some, slice_get, IfOk};
 ghost use Rattle.std.specs.Bool.{Decides};
-ghost use Rattle.lft_model.specs.Presence.{value_written as the_value_written, value_scheduled as the_value_scheduled};
-ghost use Rattle.lft_model.specs.Runs.{outcome_of, request_of};
-ghost use Rattle.lft_pair.specs.Answers.{answer_of};
+ghost use Rattle.lft_model.specs.Runs.{outcome_of};
+ghost use Rattle.lft_answers.specs.Answers.{answer_of};
 
+use lft_answers::{all_scheduled, last_written, requests_stop};
 use lft_flat::{Name, Value};
 use lft_tag::NoMemory;
-use lft_trace::{Step, is_stop};
+use lft_trace::Step;
 use std::alloc::Global;
 
 /// Whether the two are one value.
@@ -34,75 +33,12 @@ fn same_written(a: Option<Value>, b: Option<Value>) -> bool
     }
 }
 
-/// The value that the step writes to the port, if it writes one.
-fn value_written(step: Step, port: u32) -> Option<Value>
-    ensures { result ≡ the_value_written port step }
-{
-    match step {
-        Step::Write(Name::Port(number), value) => {
-            if number == port { Some(value) } else { None }
-        }
-        _ => None,
-    }
-}
-
-/// What the step schedules for the action, if it does: extra delay and value.
-fn value_scheduled(step: Step, action: u32) -> Option<(u64, Value)>
-    ensures { result ≡ the_value_scheduled action step }
-{
-    match step {
-        Step::Schedule(Name::Action(number), value, delay) => {
-            if number == action {
-                Some((delay, value))
-            } else {
-                None
-            }
-        }
-        _ => None,
-    }
-}
-
-/// The step at the place, counted from 0.
-fn step_at(steps: &[Step], place: usize) -> Step
-    requires { place < length steps.now }
-    ensures { slice_get steps.now place ≡ Some result }
-{
-    steps[place]
-}
-
 /// The name at the place, counted from 0.
 fn name_at(names: &[Name], place: usize) -> Name
     requires { place < length names.now }
     ensures { slice_get names.now place ≡ Some result }
 {
     names[place]
-}
-
-/// The last value that the steps write to the port.
-fn last_written(steps: &[Step], port: u32) -> Option<Value>
-    ensures { result ≡ last_or None (filter_map (the_value_written port) steps.now) }
-{
-    let mut last = None;
-    for place in 0..steps.len() {
-        let value = value_written(step_at(steps, place), port);
-        if value.is_some() {
-            last = value;
-        }
-    }
-    last
-}
-
-/// What the steps schedule for the action, in order.
-fn all_scheduled(alloc: Global, steps: &[Step], action: u32) -> Result<Vec<(u64, Value)>, NoMemory>
-    ensures { IfOk result (λ list. list.items ≡ filter_map (the_value_scheduled action) steps.now) }
-{
-    let mut list = Vec::new(alloc);
-    for place in 0..steps.len() {
-        if let Some(value) = value_scheduled(step_at(steps, place), action) {
-            list.push(value)?;
-        }
-    }
-    Ok(list)
 }
 
 /// Whether two lists of schedulings are the same.
@@ -118,18 +54,6 @@ fn same_scheduled(a: &[(u64, Value)], b: &[(u64, Value)]) -> bool
         }
     }
     true
-}
-
-/// Whether one of the steps requests a stop.
-fn requests_stop(steps: &[Step]) -> bool
-    ensures { result ≡ request_of steps.now }
-{
-    for place in 0..steps.len() {
-        if is_stop(&step_at(steps, place)) {
-            return true;
-        }
-    }
-    false
 }
 
 /// Whether two runs with these steps answered the same for the effect.

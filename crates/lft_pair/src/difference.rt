@@ -13,7 +13,7 @@ ghost use Rattle.lft_flat.specs.Parts.{Parts};
 
 use crate::answers::same_answer;
 use crate::starts::{Starts, no_starts};
-use crate::steps::read_steps;
+use lft_answers::read_steps;
 use lft_graph::Graph;
 use lft_model::Plan;
 use lft_tag::{NoMemory, Tag};

@@ -6,7 +6,6 @@ mod comparison;
 mod difference;
 mod pairing;
 mod starts;
-mod steps;
 
 pub use comparison::Pair;
 pub use pairing::pair;

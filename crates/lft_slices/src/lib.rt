@@ -1,6 +1,7 @@
 #![tactic(auto)]
 //! The rows of a trace: the rules that are broken at a row, the stop, and the rows cut by tag.
 
+mod answers;
 mod cuts;
 mod cutting;
 mod declared;

@@ -12,7 +12,8 @@ use lft_trace::{Row, is_end, is_start, row_at};
 use std::alloc::Global;
 
 /// A run: its reaction, and the places of its start row and of its end row among all rows, counted
-/// from 0. Its tag is that of these rows; what it read and answered they have between them.
+/// from 0. Its tag is that of these rows; what it read and answered they have between them, and
+/// `Cut::reads` and `Cut::answer` tell it.
 // Runs are ordered by their reaction, so that field stands first. There are millions of them, so a
 // run has no list of its own.
 #[derive(Clone, Copy, PartialEq, Eq, PartialOrd, Ord, Debug, Drop)]

@@ -1,6 +1,17 @@
 use Rattle.std.proofs.Common.{◌∙◌}
+use Rattle.lft_model.specs.Runs.{start_row}
+use Rattle.lft_model.proofs.Places.{slice_get_within}
 use Rattle.lft_pair.proofs.Odd.{own_effects, agrees_by}
 use Rattle.lft_pair.proofs.difference.agrees.Goals as goal
+
+pub read_steps-requires-clause-rules : goal.read_steps-requires-clause-rules
+read_steps-requires-clause-rules c = (c.args.plan.now, c.requires.legal.rows)
+
+pub row_at-requires : goal.row_at-requires
+row_at-requires c = slice_get_within c.args.others.now c.in-Some.other (start_row c.in-Some.ensures.found.0 c.args.row.tag c.args.row.reaction) c.in-Some.ensures.found.1
+
+pub read_steps-requires-in-Some-clause-rules : goal.read_steps-requires-in-Some-clause-rules
+read_steps-requires-in-Some-clause-rules c = (c.args.plan.now, c.requires.others.rows)
 
 pub returns-in_ok-same-in-Some-clause-same : goal.returns-in_ok-same-in-Some-clause-same
 returns-in_ok-same-in-Some-clause-same c =

@@ -1,0 +1,91 @@
+//! What a run answered, as one value.
+
+ghost use Rattle.std.specs.Prelude.{◌≡◌};
+
+use lft_flat::Value;
+use std::marker::Model;
+
+/// What a run scheduled for an action: extra delays in nanoseconds with their values, in order.
+#[derive(Debug, Drop)]
+pub struct Schedulings {
+    items: Vec<(u64, Value)>,
+}
+
+impl Model for Schedulings {
+    ghost use Rattle.std.specs.Prelude.{ℕ, List};
+    ghost use Rattle.lft_flat.specs.declared.parts.Value.{Value as Carried};
+
+    ghost Value = { List (ℕ × Carried) };
+
+    ghost view = { λ a. a.items.items };
+}
+
+impl Schedulings {
+    /// The schedulings of the list. It takes no memory.
+    pub(crate) fn from_vec(items: Vec<(u64, Value)>) -> Schedulings
+        ensures { result ≡ items.items }
+    {
+        Schedulings { items }
+    }
+
+    /// The schedulings in order. It takes no memory.
+    pub fn as_slice(&self) -> &[(u64, Value)]
+        ensures { result.now ≡ self.now }
+    {
+        self.items.as_slice()
+    }
+}
+
+/// What a run answered for one effect.
+#[derive(Debug, Drop)]
+pub enum Outcome {
+    /// The last value that was written to the port, if one was.
+    Written(Option<Value>),
+    /// What was scheduled for the action.
+    Scheduled(Schedulings),
+}
+
+/// What a run answered: an outcome for each effect of its reaction, in order, and whether it
+/// requested a stop.
+#[derive(Debug, Drop)]
+pub struct Answer {
+    outcomes: Vec<Outcome>,
+    stops: bool,
+}
+
+impl Model for Answer {
+    ghost use Rattle.std.specs.Prelude.{map};
+    ghost use Rattle.lft_model.specs.Runs.{Answer as TheAnswer};
+
+    ghost Value = { TheAnswer };
+
+    ghost use Rattle.lft_answers.specs.Answers.{as_outcome};
+
+    ghost view = { λ a. record { outcomes = map as_outcome a.outcomes.items; stops = a.stops } };
+}
+
+impl Answer {
+    ghost use Rattle.std.specs.Prelude.{map};
+    ghost use Rattle.lft_answers.specs.Answers.{as_outcome};
+
+    /// The answer of these outcomes. It takes no memory.
+    pub(crate) fn from_parts(outcomes: Vec<Outcome>, stops: bool) -> Answer
+        ensures { result ≡ record { outcomes = map as_outcome outcomes.items; stops = stops } }
+    {
+        Answer { outcomes, stops }
+    }
+
+    /// The outcome for each effect, in order. It takes no memory.
+    pub fn outcomes(&self) -> &[Outcome]
+        ensures { map as_outcome result.now ≡ self.now.outcomes }
+    {
+        self.outcomes.as_slice()
+    }
+
+    /// Whether a stop was requested. It takes no memory.
+    pub fn stops(&self) -> bool
+        ensures { result ≡ self.now.stops }
+    {
+        self.stops
+    }
+}
