@@ -6,8 +6,10 @@ use Rattle.lft_tag.specs.Tags.{Before, UpTo, after_all}
 use Rattle.lft_tag.specs.Shifts.{shifted}
 use Rattle.lft_tag.proofs.Order.{UpTo-trans, UpTo_antisym, Before-irrefl, after_past, after_some_past}
 use Rattle.lft_tag.proofs.Chains.{shifted_chain}
+use Rattle.lft_lists.proofs.Members.{Mem, mem_get, get_mem, mem_cases, mem_left, mem_right, mem_map, mem_from_map, mem_filter, mem_from_filter, mem_contains, contains_mem, last_of_mem, last_mem}
+use Rattle.lft_lists.proofs.Places.{get_append_cases, get_left}
 use Rattle.lft_flat.specs.Origins.{Origin}
-use Rattle.lft_flat.proofs.Origins.{origin_unique}
+use Rattle.lft_flat.proofs.Origins.{origin_unique, port_of}
 use Rattle.lft_flat.specs.declared.parts.Port.{Port as PortOf}
 use Rattle.lft_flat.specs.declared.parts.Value.{Value}
 use Rattle.lft_flat.specs.declared.parts.Name.{Name}
@@ -25,7 +27,6 @@ use Rattle.lft_model.specs.Runs.{Ran, start_row, end_row, effects_of, by_ends}
 use Rattle.lft_model.specs.OneWorker.{IsPending}
 use Rattle.lft_model.specs.Recorded.{SoFar, IsAnswer, OnlyEndedAnswer, MayAnswer, run_row, committed_rows}
 use Rattle.lft_model.proofs.Places.{slice_get_within}
-use Rattle.lft_model.proofs.Members.{Mem, mem_get, get_mem, mem_cases, mem_left, mem_right, mem_map, mem_from_map, mem_filter, mem_from_filter, mem_contains, contains_mem, last_of_mem, last_mem}
 use Rattle.lft_model.proofs.Stops.{stop_append}
 use Rattle.lft_model.proofs.Steps.{written_some, some_written}
 use Rattle.lft_model.proofs.Ended.{written_by, by_written, scheduled_by}
@@ -33,13 +34,12 @@ use Rattle.lft_model.proofs.Law.{EndRow}
 use Rattle.lft_model.proofs.Legality.{ran_at}
 use Rattle.lft_model.proofs.Kept.{effect_of}
 use Rattle.lft_model.proofs.Reached.{input_of_trigger}
-use Rattle.lft_model.proofs.Blocks.{get_append, put_right}
-use Rattle.lft_model.proofs.Grown.{slice_get_more}
+use Rattle.lft_model.proofs.Blocks.{put_right}
 use Rattle.lft_model.proofs.Added.{added_row}
 use Rattle.lft_model.proofs.Committed.{not_ended, its_time, new_stop}
 use Rattle.lft_model.proofs.Recording.{precedes_ended}
 use Rattle.lft_model.proofs.Quiet.{pending_now, pending_triggered, pending_open}
-use Rattle.lft_events.proofs.Written.{port_of, from_written, to_written}
+use Rattle.lft_events.proofs.Written.{from_written, to_written}
 use Rattle.lft_listeners.specs.Listeners.{IsListener}
 use Rattle.lft_agenda.specs.Telling.{ArrivesAtOnce, TriggeredByWrites}
 use Rattle.lft_agenda.specs.Agendas.{MayEnd}
@@ -70,7 +70,7 @@ module _ (plan : PlanParts) (good : IsSoundPlan plan) (t : List Row) (w : ℕ) (
 
   -- no run has started
   pub ran_before : (h : Tag) (c : ℕ) → Ran (t ++ committed_rows w g r steps) h c → Ran t h c
-  ran_before h c o = go (get_append t new_rows o.place (start_row o.worker h c) o.starts)
+  ran_before h c o = go (get_append_cases t new_rows o.place (start_row o.worker h c) o.starts)
     where
       no_start : Mem Start steps ⊎ (Start ≡ End) → ⊥
       no_start (inl m) = may Start m
@@ -81,7 +81,7 @@ module _ (plan : PlanParts) (good : IsSoundPlan plan) (t : List Row) (w : ℕ) (
       go (inr e) = absurd (no_start (its_row (start_row o.worker h c) (mem_get new_rows e.0 (start_row o.worker h c) e.2)).2)
 
   pub ran_on : (h : Tag) (c : ℕ) → Ran t h c → Ran (t ++ committed_rows w g r steps) h c
-  ran_on h c o = record { place = o.place; worker = o.worker; starts = slice_get_more t new_rows o.place (start_row o.worker h c) o.starts }
+  ran_on h c o = record { place = o.place; worker = o.worker; starts = get_left t new_rows o.place (start_row o.worker h c) o.starts }
 
   -- the end row stands last
   end_there : slice_get (t ++ committed_rows w g r steps) (length t + length steps) ≡ Some (end_row w g r)
@@ -96,21 +96,21 @@ module _ (plan : PlanParts) (good : IsSoundPlan plan) (t : List Row) (w : ℕ) (
   has_ended = record { place = length t + length steps; worker = w; before = slice_get_within (t ++ new_rows) (length t + length steps) (end_row w g r) end_there; ends = end_there }
 
   ended_before : (h : Tag) (c : ℕ) → EndRow (t ++ new_rows) (length (t ++ new_rows)) h c → EndRow t (length t) h c ⊎ (c ≡ r)
-  ended_before h c o = go (get_append t new_rows o.place (end_row o.worker h c) o.ends)
+  ended_before h c o = go (get_append_cases t new_rows o.place (end_row o.worker h c) o.ends)
     where
       go : (slice_get t o.place ≡ Some (end_row o.worker h c)) ⊎ ((j : ℕ) × (o.place ≡ length t + j) × (slice_get new_rows j ≡ Some (end_row o.worker h c))) → EndRow t (length t) h c ⊎ (c ≡ r)
       go (inl e) = inl (record { place = o.place; worker = o.worker; before = slice_get_within t o.place (end_row o.worker h c) e; ends = e })
       go (inr e) = inr (its_row (end_row o.worker h c) (mem_get new_rows e.0 (end_row o.worker h c) e.2)).1
 
   ended_on : (h : Tag) (c : ℕ) → EndRow t (length t) h c → EndRow (t ++ new_rows) (length (t ++ new_rows)) h c
-  ended_on h c o = let e = slice_get_more t new_rows o.place (end_row o.worker h c) o.ends in record { place = o.place; worker = o.worker; before = slice_get_within (t ++ new_rows) o.place (end_row o.worker h c) e; ends = e }
+  ended_on h c o = let e = get_left t new_rows o.place (end_row o.worker h c) o.ends in record { place = o.place; worker = o.worker; before = slice_get_within (t ++ new_rows) o.place (end_row o.worker h c) e; ends = e }
 
   -- each answered row stands before the end row of its run still
   pub quiet_more : OnlyEndedAnswer (t ++ committed_rows w g r steps)
-  quiet_more i x e a = go (get_append t new_rows i x e)
+  quiet_more i x e a = go (get_append_cases t new_rows i x e)
     where
       go : (slice_get t i ≡ Some x) ⊎ ((j : ℕ) × (i ≡ length t + j) × (slice_get new_rows j ≡ Some x)) → (k : ℕ) × (i < k) × (slice_get (t ++ new_rows) k ≡ Some (end_row x.worker x.tag x.reaction))
-      go (inl f) = let q = b.quiet i x f a in (q.0, q.1, slice_get_more t new_rows q.0 (end_row x.worker x.tag x.reaction) q.2)
+      go (inl f) = let q = b.quiet i x f a in (q.0, q.1, get_left t new_rows q.0 (end_row x.worker x.tag x.reaction) q.2)
       go (inr f) =
           let n = added_row w g r (steps ++ End ∷ []) f.0 x f.2 in
           let l : f.0 < length steps = inner f.0 x.step n.is_step a in
@@ -122,7 +122,7 @@ module _ (plan : PlanParts) (good : IsSoundPlan plan) (t : List Row) (w : ℕ) (
           at_end s a (suc k) q = absurd (cc)
 
           inner : (j : ℕ) (s : Step) → slice_get (steps ++ End ∷ []) j ≡ Some s → IsAnswer s → j < length steps
-          inner j s q a = by (get_append steps (End ∷ []) j s q)
+          inner j s q a = by (get_append_cases steps (End ∷ []) j s q)
             where
               by : (slice_get steps j ≡ Some s) ⊎ ((k : ℕ) × (j ≡ length steps + k) × (slice_get (End ∷ []) k ≡ Some s)) → j < length steps
               by (inl z) = slice_get_within steps j s z

@@ -4,6 +4,8 @@ use Rattle.std.specs.List.{filter}
 use Rattle.lft_tag.specs.declared.Tag.{Tag}
 use Rattle.lft_tag.specs.Tags.{UpTo}
 use Rattle.lft_tag.proofs.Order.{UpTo-refl, UpTo-trans, UpTo_antisym, Before-weaken}
+use Rattle.lft_lists.proofs.Members.{Mem, get_mem, mem_get}
+use Rattle.lft_lists.proofs.Places.{get_append_cases, get_left}
 use Rattle.lft_flat.specs.declared.parts.Value.{Value}
 use Rattle.lft_trace.specs.declared.row.Row.{Row}
 use Rattle.lft_trace.specs.declared.row.Step.{Step}
@@ -16,11 +18,8 @@ use Rattle.lft_model.specs.Runs.{Run, start_row, by_ends}
 use Rattle.lft_model.specs.Breaches.{IsOpen}
 use Rattle.lft_model.specs.OneWorker.{IsPending, Ready}
 use Rattle.lft_model.specs.Recorded.{SoFar, MayAnswer, begun_rows, committed_rows}
-use Rattle.lft_model.proofs.Members.{Mem, get_mem, mem_get}
 use Rattle.lft_model.proofs.Places.{slice_get_within}
 use Rattle.lft_model.proofs.Stops.{stop_append}
-use Rattle.lft_model.proofs.Blocks.{get_append}
-use Rattle.lft_model.proofs.Grown.{slice_get_more}
 use Rattle.lft_model.proofs.Quiet.{pending_time}
 use Rattle.lft_model.proofs.Recording.{rows_up_to}
 use Rattle.lft_model.proofs.Begun.{same_stop, same_runs}
@@ -121,8 +120,8 @@ module _ (plan : PlanParts) (good : IsSoundPlan plan) (t : List Row) (w : ℕ) (
 
     pub ended_reached : IsReached plan (t ++ committed_rows w g r steps) g last new q
     ended_reached = record {
-      past = λ i x e. past i x (get_append t (committed_rows w g r steps) i x e);
-      least = λ h c p. rows_up_to plan good (t ++ committed_rows w g r steps) so_far h c p b.open_run.start (start_row w g r) (slice_get_more t (committed_rows w g r steps) b.open_run.start (start_row w g r) b.open_run.starts);
+      past = λ i x e. past i x (get_append_cases t (committed_rows w g r steps) i x e);
+      least = λ h c p. rows_up_to plan good (t ++ committed_rows w g r steps) so_far h c p b.open_run.start (start_row w g r) (get_left t (committed_rows w g r steps) b.open_run.start (start_row w g r) b.open_run.starts);
       turn_is = ended_turn plan good t w g r steps b so_far a.turn told new turn_now telling graph (ends still) (slice_get_within told.phases r Open still);
       events = has;
     }

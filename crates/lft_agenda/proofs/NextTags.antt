@@ -23,8 +23,8 @@ use Rattle.lft_model.specs.Runs.{Ran, start_row, end_row, by_ends}
 use Rattle.lft_model.specs.OneWorker.{IsPending}
 use Rattle.lft_model.specs.Recorded.{SoFar, OnlyEndedAnswer}
 use Rattle.lft_lists.proofs.Places.{get_there}
+use Rattle.lft_lists.proofs.Members.{contains_mem}
 use Rattle.lft_model.proofs.Places.{slice_get_within}
-use Rattle.lft_model.proofs.Members.{contains_mem}
 use Rattle.lft_model.proofs.Steps.{both_true, same_tag_true}
 use Rattle.lft_model.proofs.Quiet.{pending_now, pending_time, pending_triggered}
 use Rattle.lft_events.specs.Events.{HasEvents}

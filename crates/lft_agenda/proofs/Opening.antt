@@ -5,6 +5,8 @@ use Rattle.std.proofs.lemmas.Bool.{false≢true}
 use native.Mathlib.Decide.{dec_lt}
 use Rattle.lft_tag.specs.declared.Tag.{Tag}
 use Rattle.lft_tag.specs.Tags.{UpTo, same_tag}
+use Rattle.lft_lists.proofs.Members.{Mem, mem_get, get_mem, mem_cases}
+use Rattle.lft_lists.proofs.Places.{get_append_cases, get_left}
 use Rattle.lft_flat.specs.declared.parts.Value.{Value}
 use Rattle.lft_trace.specs.declared.row.Row.{Row}
 use Rattle.lft_trace.specs.declared.row.Step.{Step}
@@ -14,11 +16,9 @@ use Rattle.lft_model.specs.Presence.{stop}
 use Rattle.lft_model.specs.Runs.{Ran, start_row, end_row, read_step, read_of, inputs_of, reads_at}
 use Rattle.lft_model.specs.Breaches.{IsOpen}
 use Rattle.lft_model.specs.Recorded.{run_row, begun_rows, committed_rows, MayAnswer}
-use Rattle.lft_model.proofs.Members.{Mem, mem_get, get_mem, mem_cases}
 use Rattle.lft_model.proofs.Places.{slice_get_within}
 use Rattle.lft_model.proofs.Steps.{both_true, same_tag_true, same_tag_refl, in_reads}
-use Rattle.lft_model.proofs.Blocks.{get_append, put_right}
-use Rattle.lft_model.proofs.Grown.{slice_get_more}
+use Rattle.lft_model.proofs.Blocks.{put_right}
 use Rattle.lft_model.proofs.Added.{added_row}
 use Rattle.lft_model.proofs.Begun.{steps_same, own_reads}
 use Rattle.lft_model.proofs.Committed.{same_reads}
@@ -91,20 +91,20 @@ module _ (plan : PlanParts) (good : IsSoundPlan plan) (t : List Row) (w : ℕ) (
 
   -- so an open run is the new one or an old one
   begun_cases : (v : ℕ) (h : Tag) (c : ℕ) → IsOpen (t ++ begun_rows plan w g r shown) (length (t ++ begun_rows plan w g r shown)) v h c → IsOpen t (length t) v h c ⊎ ((v ≡ w) × (h ≡ g) × (c ≡ r))
-  begun_cases v h c o = go (get_append t (begun_rows plan w g r shown) o.start (start_row v h c) o.starts)
+  begun_cases v h c o = go (get_append_cases t (begun_rows plan w g r shown) o.start (start_row v h c) o.starts)
     where
       go : (slice_get t o.start ≡ Some (start_row v h c)) ⊎ ((j : ℕ) × (o.start ≡ length t + j) × (slice_get (begun_rows plan w g r shown) j ≡ Some (start_row v h c))) → IsOpen t (length t) v h c ⊎ ((v ≡ w) × (h ≡ g) × (c ≡ r))
-      go (inl e) = inl (record { start = o.start; before = slice_get_within t o.start (start_row v h c) e; starts = e; not_ended = λ k a d f. (let m = slice_get_more t (begun_rows plan w g r shown) k (end_row v h c) f in o.not_ended k a (slice_get_within (t ++ begun_rows plan w g r shown) k (end_row v h c) m) m) })
+      go (inl e) = inl (record { start = o.start; before = slice_get_within t o.start (start_row v h c) e; starts = e; not_ended = λ k a d f. (let m = get_left t (begun_rows plan w g r shown) k (end_row v h c) f in o.not_ended k a (slice_get_within (t ++ begun_rows plan w g r shown) k (end_row v h c) m) m) })
       go (inr e) = inr (its_start e.0 v h c e.2)
 
   -- an old one stays open
   begun_stays : (v : ℕ) (h : Tag) (c : ℕ) → IsOpen t (length t) v h c → IsOpen (t ++ begun_rows plan w g r shown) (length (t ++ begun_rows plan w g r shown)) v h c
   begun_stays v h c o =
-      let s = slice_get_more t (begun_rows plan w g r shown) o.start (start_row v h c) o.starts in
+      let s = get_left t (begun_rows plan w g r shown) o.start (start_row v h c) o.starts in
       record { start = o.start; before = slice_get_within (t ++ begun_rows plan w g r shown) o.start (start_row v h c) s; starts = s; not_ended = none }
     where
       none : (k : ℕ) → o.start < k → k < length (t ++ begun_rows plan w g r shown) → ¬ (slice_get (t ++ begun_rows plan w g r shown) k ≡ Some (end_row v h c))
-      none k a d f = go (get_append t (begun_rows plan w g r shown) k (end_row v h c) f)
+      none k a d f = go (get_append_cases t (begun_rows plan w g r shown) k (end_row v h c) f)
         where
           go : (slice_get t k ≡ Some (end_row v h c)) ⊎ ((j : ℕ) × (k ≡ length t + j) × (slice_get (begun_rows plan w g r shown) j ≡ Some (end_row v h c))) → ⊥
           go (inl e) = o.not_ended k a (slice_get_within t k (end_row v h c) e) e
@@ -117,7 +117,7 @@ module _ (plan : PlanParts) (good : IsSoundPlan plan) (t : List Row) (w : ℕ) (
       record { start = length t; before = slice_get_within (t ++ begun_rows plan w g r shown) (length t) (start_row w g r) s; starts = s; not_ended = none }
     where
       none : (k : ℕ) → length t < k → k < length (t ++ begun_rows plan w g r shown) → ¬ (slice_get (t ++ begun_rows plan w g r shown) k ≡ Some (end_row w g r))
-      none k a d f = go (get_append t (begun_rows plan w g r shown) k (end_row w g r) f)
+      none k a d f = go (get_append_cases t (begun_rows plan w g r shown) k (end_row w g r) f)
         where
           go : (slice_get t k ≡ Some (end_row w g r)) ⊎ ((j : ℕ) × (k ≡ length t + j) × (slice_get (begun_rows plan w g r shown) j ≡ Some (end_row w g r))) → ⊥
           go (inl e) = let l : k < length t = slice_get_within t k (end_row w g r) e in omega arith
@@ -144,7 +144,7 @@ module _ (plan : PlanParts) (good : IsSoundPlan plan) (t : List Row) (w : ℕ) (
       all v h c o = go (begun_cases v h c o)
         where
           go : IsOpen t (length t) v h c ⊎ ((v ≡ w) × (h ≡ g) × (c ≡ r)) → (k : ℕ) × (o : OpenRun) × (slice_get (runs ++ its ∷ []) k ≡ Some o) × (o.worker ≡ v) × (o.tag ≡ h) × (o.reaction ≡ c)
-          go (inl p) = let q = is.all v h c p in (q.0, q.1, slice_get_more runs (its ∷ []) q.0 q.1 q.2, q.3, q.4, q.5)
+          go (inl p) = let q = is.all v h c p in (q.0, q.1, get_left runs (its ∷ []) q.0 q.1 q.2, q.3, q.4, q.5)
           go (inr p) = (length runs, its, put_right runs (its ∷ []) 0 its (length runs) (omega arith) refl, ap (λ (x : OpenRun). x.worker) its_is ∙ sym p.0, ap (λ (x : OpenRun). x.tag) its_is ∙ sym p.1, ap (λ (x : OpenRun). x.reaction) its_is ∙ sym p.2)
 
 module _ (plan : PlanParts) (good : IsSoundPlan plan) (t : List Row) (w : ℕ) (g : Tag) (r : ℕ) (steps : List Step) (b : MayEnd plan t w g r steps) where
@@ -175,7 +175,7 @@ module _ (plan : PlanParts) (good : IsSoundPlan plan) (t : List Row) (w : ℕ) (
 
   -- an open run is an old one, and another than the one that is ended
   pub committed_cases : (v : ℕ) (h : Tag) (c : ℕ) → IsOpen (t ++ committed_rows w g r steps) (length (t ++ committed_rows w g r steps)) v h c → IsOpen t (length t) v h c × ((v ≡ w) × (h ≡ g) × (c ≡ r) → ⊥)
-  committed_cases v h c o = go (get_append t (committed_rows w g r steps) o.start (start_row v h c) o.starts)
+  committed_cases v h c o = go (get_append_cases t (committed_rows w g r steps) o.start (start_row v h c) o.starts)
     where
       other : slice_get t o.start ≡ Some (start_row v h c) → (v ≡ w) × (h ≡ g) × (c ≡ r) → ⊥
       other e q =
@@ -184,17 +184,17 @@ module _ (plan : PlanParts) (good : IsSoundPlan plan) (t : List Row) (w : ℕ) (
           o.not_ended (length t + length steps) (omega arith) (slice_get_within (t ++ committed_rows w g r steps) (length t + length steps) (end_row v h c) there) there
 
       go : (slice_get t o.start ≡ Some (start_row v h c)) ⊎ ((j : ℕ) × (o.start ≡ length t + j) × (slice_get (committed_rows w g r steps) j ≡ Some (start_row v h c))) → IsOpen t (length t) v h c × ((v ≡ w) × (h ≡ g) × (c ≡ r) → ⊥)
-      go (inl e) = (record { start = o.start; before = slice_get_within t o.start (start_row v h c) e; starts = e; not_ended = λ k a d f. (let m = slice_get_more t (committed_rows w g r steps) k (end_row v h c) f in o.not_ended k a (slice_get_within (t ++ committed_rows w g r steps) k (end_row v h c) m) m) }, other e)
+      go (inl e) = (record { start = o.start; before = slice_get_within t o.start (start_row v h c) e; starts = e; not_ended = λ k a d f. (let m = get_left t (committed_rows w g r steps) k (end_row v h c) f in o.not_ended k a (slice_get_within (t ++ committed_rows w g r steps) k (end_row v h c) m) m) }, other e)
       go (inr e) = absurd (no_start (its_row e.0 v h c Start e.2).3)
 
   -- another stays open
   committed_stays : (v : ℕ) (h : Tag) (c : ℕ) → ((v ≡ w) × (h ≡ g) × (c ≡ r) → ⊥) → IsOpen t (length t) v h c → IsOpen (t ++ committed_rows w g r steps) (length (t ++ committed_rows w g r steps)) v h c
   committed_stays v h c n o =
-      let s = slice_get_more t (committed_rows w g r steps) o.start (start_row v h c) o.starts in
+      let s = get_left t (committed_rows w g r steps) o.start (start_row v h c) o.starts in
       record { start = o.start; before = slice_get_within (t ++ committed_rows w g r steps) o.start (start_row v h c) s; starts = s; not_ended = none }
     where
       none : (k : ℕ) → o.start < k → k < length (t ++ committed_rows w g r steps) → ¬ (slice_get (t ++ committed_rows w g r steps) k ≡ Some (end_row v h c))
-      none k a d f = go (get_append t (committed_rows w g r steps) k (end_row v h c) f)
+      none k a d f = go (get_append_cases t (committed_rows w g r steps) k (end_row v h c) f)
         where
           go : (slice_get t k ≡ Some (end_row v h c)) ⊎ ((j : ℕ) × (k ≡ length t + j) × (slice_get (committed_rows w g r steps) j ≡ Some (end_row v h c))) → ⊥
           go (inl e) = o.not_ended k a (slice_get_within t k (end_row v h c) e) e

@@ -5,7 +5,7 @@ use Rattle.lft_flat.specs.declared.parts.Value.{Value}
 use Rattle.lft_trace.specs.declared.row.Row.{Row}
 use Rattle.lft_trace.specs.declared.row.Step.{Step}
 use Rattle.lft_graph.specs.Graph.{GraphParts, IsGraphOf}
-use Rattle.lft_lists.proofs.Places.{get_there, get_write_cases, length_written}
+use Rattle.lft_lists.proofs.Places.{get_there, get_write_cases, length_written, get_append_cases, get_left}
 use Rattle.lft_turn.specs.declared.phase.Phase.{Phase}
 use Rattle.lft_turn.specs.declared.phase.Phase.TheVariants.{Idle, Waiting, Open}
 use Rattle.lft_turn.specs.Turns.{TurnParts}
@@ -14,8 +14,7 @@ use Rattle.lft_model.specs.Runs.{Run, Ran, start_row, by_ends}
 use Rattle.lft_model.specs.OneWorker.{IsPending}
 use Rattle.lft_model.specs.Recorded.{SoFar, begun_steps, begun_rows, committed_rows}
 use Rattle.lft_model.proofs.Places.{slice_get_within}
-use Rattle.lft_model.proofs.Blocks.{get_append, put_right}
-use Rattle.lft_model.proofs.Grown.{slice_get_more}
+use Rattle.lft_model.proofs.Blocks.{put_right}
 use Rattle.lft_model.proofs.Added.{added_row}
 use Rattle.lft_agenda.specs.Waits.{PhaseIs, IsTurnOf}
 use Rattle.lft_agenda.specs.Telling.{IsTold, TriggeredByWrites}
@@ -34,13 +33,13 @@ module _ (plan : PlanParts) (t : List Row) (w : ℕ) (g : Tag) (r : ℕ) (shown 
   back c p = subst (λ (us : List Run). IsPending plan us g c) same p
 
   ran_too : (c : ℕ) → Ran t g c → Ran more g c
-  ran_too c o = record { place = o.place; worker = o.worker; starts = slice_get_more t (begun_rows plan w g r shown) o.place (start_row o.worker g c) o.starts }
+  ran_too c o = record { place = o.place; worker = o.worker; starts = get_left t (begun_rows plan w g r shown) o.place (start_row o.worker g c) o.starts }
 
   ran_itself : Ran more g r
   ran_itself = record { place = length t; worker = w; starts = put_right t (begun_rows plan w g r shown) 0 (start_row w g r) (length t) (omega arith) refl }
 
   ran_other : (c : ℕ) → c ≢ r → Ran more g c → Ran t g c
-  ran_other c other o = go (get_append t (begun_rows plan w g r shown) o.place (start_row o.worker g c) o.starts)
+  ran_other c other o = go (get_append_cases t (begun_rows plan w g r shown) o.place (start_row o.worker g c) o.starts)
     where
       go : (slice_get t o.place ≡ Some (start_row o.worker g c)) ⊎ ((j : ℕ) × (o.place ≡ length t + j) × (slice_get (begun_rows plan w g r shown) j ≡ Some (start_row o.worker g c))) → Ran t g c
       go (inl e) = record { place = o.place; worker = o.worker; starts = e }

@@ -4,12 +4,13 @@
 //! remark, and `== end` stands last. In these lines `\HH` is the byte of that hexadecimal number, and
 //! a backslash at the end of a line takes the line's end away. The kinds are told where they are
 //! answered: what is given to other cases, texts, programs, traces, external inputs, presence, the
-//! runs of a trace, texts as a whole, two traces beside one another, and recordings. `title` and some
-//! words are written as they are.
+//! runs of a trace, texts as a whole, two traces beside one another, recordings, and the words of
+//! faults. `title` and some words are written as they are.
 #![tactic(auto)]
 
 mod case_text;
 mod external_tables;
+mod faults;
 mod given;
 mod pairs;
 mod pieces;
@@ -66,6 +67,8 @@ fn tell<R: Threads + Wait + Sync>(
         "record" => recordings::record(rt, alloc, given, text, words, told),
         "record-text" => recordings::record_text(rt, alloc, given, text, words, told),
         "recordings" => recordings::recordings(rt, alloc, given, text, words, told),
+        "card-faults" => faults::cards(told),
+        "pool-faults" => faults::pool(alloc, given, told),
         "bundle" => whole::bundle(alloc, text, told),
         _ => writeln!(told, "no such kind of case: {kind}"),
     }

@@ -10,6 +10,8 @@ use Rattle.lft_flat.specs.Parts.{inputs, named}
 use Rattle.lft_flat.specs.declared.parts.Trigger.{Trigger}
 use Rattle.lft_flat.specs.declared.parts.Trigger.TheVariants.{Startup, Shutdown, Timer, On}
 use Rattle.std.proofs.lemmas.List.{map-append}
+use Rattle.lft_lists.proofs.Members.{mem_get, get_mem, mem_filter, mem_from_filter, mem_contains, contains_mem}
+use Rattle.lft_flat.proofs.Naming.{named_none}
 use Rattle.lft_flat.specs.declared.parts.Reaction.{Reaction}
 use Rattle.lft_flat.specs.declared.parts.Value.{Value}
 use Rattle.lft_flat.specs.declared.parts.Name.{Name}
@@ -21,7 +23,6 @@ use Rattle.lft_queue.specs.Pending.{Pending, value_of, same_name, same_key, Beco
 use Rattle.lft_queue.proofs.Tests.{name_same, name_refl}
 use Rattle.lft_model.specs.Plans.{PlanParts, IsSoundPlan}
 use Rattle.lft_model.specs.Presence.{given, At, Shows, Inputs}
-use Rattle.lft_model.proofs.Members.{mem_get, get_mem, mem_filter, mem_from_filter, mem_contains, contains_mem}
 use Rattle.lft_model.proofs.Places.{slice_get_within}
 use Rattle.lft_model.proofs.Counted.{get_or_get}
 use Rattle.lft_model.proofs.Steps.{both_true, same_tag_true, same_tag_refl, cond_some}
@@ -150,13 +151,6 @@ inputs_read plan t from last q is g a b r x e = record { reaction = x; is_reacti
     all : (ns : List Name) → AllZip (Shows plan t g) ns (map (λ n. value_of g n q) ns)
     all [] = tt
     all (n ∷ ns) = (shown n (value_of g n q) refl, all ns)
-
--- a trigger that is no port and no action names none
-pub named_none : (x : Trigger) → ((n : Name) → ¬ (x ≡ On n)) → named x ≡ None
-named_none Startup other = refl
-named_none Shutdown other = refl
-named_none (Timer k) other = refl
-named_none (On n) other = absurd (other n refl)
 
 -- one value more
 pub value_more : {X : Type 0} (f : X → Option Value) (xs ys : List X) (y : X) (os now : List (Option Value)) → os ≡ map f xs → now ≡ os ++ f y ∷ [] → ys ≡ xs ++ y ∷ [] → now ≡ map f ys

@@ -3,6 +3,7 @@ use Rattle.std.proofs.Common.{◌≡◌, ℕ, inl, inr, List, [], ◌∷◌, ◌
 use Rattle.lft_tag.specs.declared.Tag.{Tag}
 use Rattle.lft_tag.specs.Tags.{UpTo}
 use Rattle.lft_tag.proofs.Order.{UpTo-trans}
+use Rattle.lft_lists.proofs.Members.{Mem}
 use Rattle.lft_flat.specs.declared.parts.Value.{Value}
 use Rattle.lft_flat.specs.declared.parts.Name.{Name}
 use Rattle.lft_flat.specs.declared.parts.Name.TheVariants.{Port, Action}
@@ -13,7 +14,6 @@ use Rattle.lft_queue.specs.Pending.{Pending}
 use Rattle.lft_model.specs.Plans.{PlanParts}
 use Rattle.lft_model.specs.Runs.{inputs_of, read_step}
 use Rattle.lft_model.specs.Recorded.{run_row, begun_rows}
-use Rattle.lft_model.proofs.Members.{Mem}
 use Rattle.lft_model.proofs.Steps.{in_reads}
 use Rattle.lft_events.specs.Events.{HasEvents}
 use Rattle.lft_events.proofs.Steps.{inert}

@@ -8,6 +8,7 @@ use Rattle.std.proofs.lemmas.Map.Views.{list_any-from_Contains}
 use Rattle.lft_tag.specs.declared.Tag.{Tag}
 use Rattle.lft_tag.specs.Tags.{Before, UpTo, after}
 use Rattle.lft_tag.proofs.Order.{UpTo-refl, Before-weaken, after_past}
+use Rattle.lft_lists.proofs.Members.{Mem, mem_contains, contains_mem, nil_of_none, mem_left, mem_right}
 use Rattle.lft_flat.specs.declared.parts.Port.{Port as PortOf}
 use Rattle.lft_flat.specs.declared.parts.Value.{Value}
 use Rattle.lft_flat.specs.declared.parts.Name.{Name}
@@ -21,7 +22,6 @@ use Rattle.lft_listeners.specs.Listeners.{IsArrival}
 use Rattle.lft_model.specs.Plans.{PlanParts, IsSoundPlan}
 use Rattle.lft_model.specs.Presence.{written, value_scheduled, scheduled, given, min_delay, events_of, Last, IsWrittenFrom, At, PortClash, ClashesAt}
 use Rattle.lft_model.specs.Recorded.{run_row, committed_rows}
-use Rattle.lft_model.proofs.Members.{Mem, mem_contains, contains_mem, nil_of_none, mem_left, mem_right}
 use Rattle.lft_model.proofs.Steps.{written_some, scheduled_some, some_scheduled}
 use Rattle.lft_model.proofs.Ended.{written_by, scheduled_by, by_scheduled}
 use Rattle.lft_model.proofs.Grown.{added_none}

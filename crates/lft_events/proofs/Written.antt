@@ -7,6 +7,7 @@ use Rattle.lft_tag.specs.Tags.{Before, UpTo, after_all}
 use Rattle.lft_tag.specs.Shifts.{Folded, shifted}
 use Rattle.lft_tag.proofs.Order.{order_cases, UpTo_antisym, after_all_past}
 use Rattle.lft_tag.proofs.Chains.{shifted_chain, tag_of}
+use Rattle.lft_lists.proofs.Members.{Mem, last-append_some}
 use Rattle.lft_flat.specs.Parts.{Parts}
 use Rattle.lft_flat.specs.Origins.{Origin}
 use Rattle.lft_flat.specs.Origins.Origin.{itself, over}
@@ -18,17 +19,11 @@ use Rattle.lft_trace.specs.declared.row.Step.{Step}
 use Rattle.lft_trace.specs.declared.row.Step.TheVariants.{Write}
 use Rattle.lft_model.specs.Plans.{PlanParts, IsSoundPlan}
 use Rattle.lft_model.specs.Presence.{value_written, written, Last, IsWrittenFrom, At, PortClash, ClashesAt}
-use Rattle.lft_model.proofs.Members.{Mem, last-append_some}
 use Rattle.lft_model.proofs.Places.{tag_discrete}
 use Rattle.lft_model.proofs.Steps.{written_some, some_written}
 use Rattle.lft_model.proofs.Ended.{written_by, by_written}
-use Rattle.lft_flat.proofs.Origins.{origin_unique}
+use Rattle.lft_flat.proofs.Origins.{origin_unique, port_of}
 use Rattle.lft_model.proofs.Grown.{added_none}
-
--- a port that has an origin is one of the program
-pub port_of : {program : Parts} {p o : ℕ} {ds : List ℕ} → Origin program p o ds → (port : PortOf) × (slice_get program.ports p ≡ Some port)
-port_of (itself port e n) = (port, e)
-port_of (over port source first e s way d) = (port, e)
 
 -- the origin of a port is its own origin
 pub own_origin : {program : Parts} {p o : ℕ} {ds : List ℕ} → Origin program p o ds → Origin program o o []

@@ -2,3 +2,4 @@ pub mod Decimals
 pub mod Positions
 pub mod Ranges
 pub mod Origins
+pub mod Naming

@@ -5,6 +5,7 @@ use Rattle.lft_flat.specs.Parts.{Parts}
 use Rattle.lft_flat.specs.Origins.{Origin}
 use Rattle.lft_flat.specs.Origins.Origin.{itself, over}
 use Rattle.lft_flat.specs.declared.parts.Source.{Source}
+use Rattle.lft_flat.specs.declared.parts.Port.{Port as PortOf}
 
 -- a port has one origin and one list of delays
 pub origin_unique : {program : Parts} {p o q : ℕ} {ds es : List ℕ} → Origin program p o ds → Origin program p q es → (o ≡ q) × (ds ≡ es)
@@ -26,3 +27,13 @@ origin_unique {program} (over x s first e n way l) (over y u second f m road k) 
 pub origin_inside : {program : Parts} {p o : ℕ} {ds : List ℕ} → Origin program p o ds → o < length program.ports
 origin_inside {program} {p} (itself x e n) = slice_get_within program.ports p x e
 origin_inside (over x s first e n way l) = origin_inside way
+
+-- so is what has one
+pub origin_within : {program : Parts} {p o : ℕ} {ds : List ℕ} → Origin program p o ds → p < length program.ports
+origin_within {program} {p} (itself x e n) = slice_get_within program.ports p x e
+origin_within {program} {p} (over x s first e n way l) = slice_get_within program.ports p x e
+
+-- and is one of the program's
+pub port_of : {program : Parts} {p o : ℕ} {ds : List ℕ} → Origin program p o ds → (port : PortOf) × (slice_get program.ports p ≡ Some port)
+port_of (itself port e n) = (port, e)
+port_of (over port source first e s way d) = (port, e)

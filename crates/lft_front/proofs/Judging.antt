@@ -21,7 +21,7 @@ use Rattle.lft_front.specs.Lines.{HasReaction}
 use Rattle.lft_flat.specs.Parts.{Parts}
 use Rattle.lft_load.specs.Faults.{table_number}
 use Rattle.lft_load.specs.Meaning.{IsPlanOf, IsOnly}
-use Rattle.lft_load.proofs.Loading.{trace_told, told_at}
+use Rattle.lft_load.proofs.Loading.{trace_told, told_at, memory_untold}
 use Rattle.lft_front.specs.Meaning.{IsMeaning, Mean}
 use Rattle.lft_load.specs.Refusals.{is_of_text}
 use Rattle.lft_front.specs.Refusals.{CheckRefusal, JudgingRefusal, JudgeRefusal, TextsRefusal}
@@ -68,9 +68,6 @@ accepted_runs plan rows runs order (Broken b) x = tt
 
 pub check_untold : (p : Part) (n : ℕ) → p ≡ part.Check → is_of_text p n ≡ true → ⊥
 check_untold p n e t = let f : is_of_text part.Check n ≡ true = subst (λ k. is_of_text k n ≡ true) e t in cc f
-
-pub memory_untold : (p : Part) (n : ℕ) → p ≡ part.Memory → is_of_text p n ≡ true → ⊥
-memory_untold p n e t = let f : is_of_text part.Memory n ≡ true = subst (λ k. is_of_text k n ≡ true) e t in cc f
 
 pub write_untold : (p : Part) (n : ℕ) → p ≡ part.Write → is_of_text p n ≡ true → ⊥
 write_untold p n e t = let f : is_of_text part.Write n ≡ true = subst (λ k. is_of_text k n ≡ true) e t in cc f

@@ -3,6 +3,7 @@ use Rattle.std.proofs.Common.{◌≡◌, ◌≢◌, ℕ, zero, suc, ◌+◌, ◌
 use Rattle.std.proofs.lemmas.Bool.{cases_lt}
 use Rattle.std.proofs.lemmas.Option.{slice_get_within}
 use Rattle.lft_lists.proofs.Places.{get_there, get_written, get_unwritten, get_write_cases, length_written, length_same}
+use Rattle.lft_lists.proofs.Members.{Mem, mem_left, mem_right, mem_cases}
 use Rattle.lft_instances.specs.declared.walk.Contents.{Contents}
 use Rattle.lft_instances.specs.declared.recursion.Stage.{Stage}
 use Rattle.lft_instances.specs.declared.recursion.Stage.TheVariants.{New, Open, Done}
@@ -11,9 +12,9 @@ use Rattle.lft_instances.specs.declared.recursion.Turn.TheVariants.{Finished, Sk
 use Rattle.lft_instances.specs.Contents.{contained}
 use Rattle.lft_instances.specs.Containment.{Holds, HoldsDeep, one, more, IsRecursive}
 use Rattle.lft_instances.specs.Stages.{IsPast, IsExplored, IsTurn, NoneOpen, KeepsExplored}
-use Rattle.lft_instances.proofs.Members.{Mem, Pairs, mem_left, mem_right, mem_cases, pairs_append}
 use Rattle.lft_instances.proofs.Walks.{count, count_of, has_kids}
 use Rattle.lft_instances.proofs.Settling.{mem_last, pairs_front, pairs_last}
+use Rattle.lft_instances.proofs.Pairs.{Pairs, pairs_append}
 
 -- the reactors on the stack
 abbrev pub reactors_of : List Visit → List ℕ

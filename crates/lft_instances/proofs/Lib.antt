@@ -1,4 +1,4 @@
-pub mod Members
+pub mod Pairs
 pub mod Orders
 pub mod Walks
 pub mod Settling

@@ -1,10 +1,10 @@
 -- Paths that exist are no more than those in the list of the instances.
 use Rattle.std.proofs.Common.{◌≡◌, ℕ, suc, ◌≤◌, inl, inr, List, [], ◌∷◌, length, refl, sym, ap, ◌∙◌, arith, Option, Some, slice_get}
+use Rattle.lft_lists.proofs.Members.{Mem, mem_get, get_mem}
 use Rattle.lft_instances.specs.Paths.{Exists, IsPreOrder, IsMoreThan}
 use Rattle.lft_instances.specs.Contents.{contained, IsWalk}
 use Rattle.lft_instances.specs.declared.walk.Contents.{Contents}
 use Rattle.lft_instances.specs.declared.walk.Instance.{Instance}
-use Rattle.lft_instances.proofs.Members.{Mem, mem_get, get_mem}
 
 -- x taken out of ys
 abbrev pub without : {X : Type 0} (x : X) (ys : List X) → Mem x ys → List X

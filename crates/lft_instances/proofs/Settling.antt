@@ -3,6 +3,7 @@ use Rattle.std.proofs.Common.{◌≡◌, ◌≢◌, ℕ, zero, suc, ◌+◌, ◌
 use Rattle.std.proofs.lemmas.Option.{slice_get_within}
 use Rattle.lft_lists.proofs.Places.{get_written, get_unwritten, get_write_cases, length_written}
 use Rattle.lft_tag.specs.Shifts.{none}
+use Rattle.lft_lists.proofs.Members.{Mem, mem_left, mem_right, mem_cases}
 use Rattle.lft_instances.specs.declared.origins.Source.{Source}
 use Rattle.lft_instances.specs.declared.origins.Reached.{Reached}
 use Rattle.lft_instances.specs.declared.origins.Mark.{Mark}
@@ -10,7 +11,7 @@ use Rattle.lft_instances.specs.declared.origins.Mark.TheVariants.{New, Open, Don
 use Rattle.lft_instances.specs.declared.origins.Next.TheVariants.{Known, Cycle, First}
 use Rattle.lft_instances.specs.Sources.{Leads, one, more, IsReached}
 use Rattle.lft_instances.specs.Marks.{IsSettled, IsNext, NoneOpen, KeepsLooked, tally, done_weight, steps_of}
-use Rattle.lft_instances.proofs.Members.{Mem, Pairs, mem_left, mem_right, mem_cases, pairs_append}
+use Rattle.lft_instances.proofs.Pairs.{Pairs, pairs_append}
 
 -- with this weight, the ports not looked at are counted
 abbrev pub new_weight : Mark → ℕ

@@ -3,15 +3,16 @@ use Rattle.std.proofs.Common.{◌≡◌, ℕ, zero, suc, ◌+◌, ◌<◌, ◌�
 use Rattle.std.proofs.lemmas.Bool.{cases_lt}
 use Rattle.std.proofs.lemmas.Option.{slice_get_within}
 use Rattle.lft_lists.proofs.Places.{get_there, get_push_cases}
+use Rattle.lft_lists.proofs.Members.{Mem, mem_get, get_mem, mem_left, mem_right, mem_cases}
 use Rattle.lft_instances.specs.declared.walk.Contents.{Contents}
 use Rattle.lft_instances.specs.declared.walk.Instance.{Instance}
 use Rattle.lft_instances.specs.Paths.{Before, IsMoreThan}
 use Rattle.lft_instances.specs.Contents.{IsWalk}
 use Rattle.lft_instances.specs.Numbers.{count_of, things, AreFirst, IsThing}
-use Rattle.lft_instances.proofs.Members.{Mem, Pairs, mem_get, get_mem, mem_left, mem_right, mem_cases, pairs_append, pairs_at}
 use Rattle.lft_instances.proofs.Orders.{before_itself}
 use Rattle.lft_instances.proofs.Limits.{no_longer}
 use Rattle.lft_instances.proofs.Unique.{pairs_from}
+use Rattle.lft_instances.proofs.Pairs.{Pairs, pairs_append, pairs_at}
 
 -- one instance more
 pub things_more : (counts : List ℕ) (instances : List Instance) (n : ℕ) (i : Instance) → slice_get instances n ≡ Some i → things counts (take (n + 1) instances) ≡ things counts (take n instances) + count_of counts i.reactor

@@ -1,8 +1,9 @@
 -- A list in pre-order is determined by what exists.
 use Rattle.std.proofs.Common.{◌≡◌, ℕ, suc, ◌<◌, ◌⊎◌, inl, inr, List, [], ◌∷◌, refl, sym, ◌∙◌, subst, arith, Option, Some, slice_get}
+use Rattle.lft_lists.proofs.Members.{Mem, mem_get, get_mem}
 use Rattle.lft_instances.specs.Paths.{Before, IsPreOrder}
-use Rattle.lft_instances.proofs.Members.{Mem, Pairs, mem_get, get_mem}
 use Rattle.lft_instances.proofs.Orders.{before_itself}
+use Rattle.lft_instances.proofs.Pairs.{Pairs}
 
 pub before_both : (p q : List ℕ) → Before p q → Before q p → ⊥
 before_both p [] a b = a

@@ -4,13 +4,14 @@ use Rattle.std.specs.Option.{option_and_then}
 use Rattle.std.proofs.lemmas.Bool.{cases_lt}
 use Rattle.std.proofs.lemmas.Option.{slice_get_within}
 use Rattle.lft_lists.proofs.Places.{get_there, get_push, get_last, get_push_cases}
+use Rattle.lft_lists.proofs.Members.{Mem, mem_get, mem_left, mem_right, mem_cases}
 use Rattle.lft_instances.specs.declared.walk.Contents.{Contents}
 use Rattle.lft_instances.specs.declared.walk.Instance.{Instance}
 use Rattle.lft_instances.specs.declared.walk.Frame.{Frame}
 use Rattle.lft_instances.specs.Paths.{along, Before, Exists, IsMoreThan}
 use Rattle.lft_instances.specs.Contents.{contained, IsAt, IsWalk}
-use Rattle.lft_instances.proofs.Members.{Mem, mem_get, mem_left, mem_right, mem_cases, pairs_at}
 use Rattle.lft_instances.proofs.Orders.{Halfway, HasKids, kids, halfway_start, halfway_turn, halfway_end, before_itself, along_kid}
+use Rattle.lft_instances.proofs.Pairs.{pairs_at}
 
 -- how many instances a reactor has
 abbrev pub count_of : Option Contents → ℕ

@@ -1,3 +1,4 @@
 pub mod Picked
 pub mod Places
 pub mod Mapped
+pub mod Members

@@ -1,5 +1,5 @@
 -- What mapped and numbered lists have at their places.
-use Rattle.std.proofs.Common.{◌≡◌, ℕ, zero, suc, ◌+◌, List, [], ◌∷◌, map, Some, slice_get, refl, ap, ◌∙◌, arith}
+use Rattle.std.proofs.Common.{◌≡◌, ℕ, zero, suc, ◌+◌, List, [], ◌∷◌, map, Option, Some, None, option_map, slice_get, refl, ap, ◌∙◌, arith}
 use Rattle.std.specs.List.{enumerate_from}
 
 pub mapped : {X Y : Type 0} (f : X → Y) (xs : List X) (k : ℕ) (x : X) → slice_get xs k ≡ Some x → slice_get (map f xs) k ≡ Some (f x)
@@ -17,3 +17,8 @@ pub enumerate_at : {X : Type 0} (i : ℕ) (xs : List X) (n : ℕ) (x : X) → sl
 enumerate_at i [] n x e = absurd (cc)
 enumerate_at i (z ∷ xs) zero x e = let q : z ≡ x = cc in let j : i ≡ i + 0 = omega arith in ap (λ w. Some (i, w)) q ∙ ap (λ w. Some (w, x)) j
 enumerate_at i (z ∷ xs) (suc n) x e = let j : (i + 1) + n ≡ i + suc n = omega arith in enumerate_at (i + 1) xs n x e ∙ ap (λ w. Some (w, x)) j
+
+-- what a mapped option comes from
+pub option_map_some : {X Y : Type 0} (f : X → Y) (o : Option X) (y : Y) → option_map f o ≡ Some y → (x : X) × (o ≡ Some x) × (f x ≡ y)
+option_map_some f None y e = absurd (cc)
+option_map_some f (Some x) y e = (x, refl, (cc))

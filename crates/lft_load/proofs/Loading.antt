@@ -121,7 +121,7 @@ module _ (text externals : List ℕ) (parts : Parts) (only : IsOnly (IsProgramOf
 graph_untold : (p : Part) (n : ℕ) → p ≡ part.Graph → n ≡ 2 → is_of_text p n ≡ true → ⊥
 graph_untold p n e f t = let q : is_of_text part.Graph 2 ≡ true = told_at p part.Graph n 2 e f t in cc q
 
-memory_untold : (p : Part) (n : ℕ) → p ≡ part.Memory → is_of_text p n ≡ true → ⊥
+pub memory_untold : (p : Part) (n : ℕ) → p ≡ part.Memory → is_of_text p n ≡ true → ⊥
 memory_untold p n e t = let q : is_of_text part.Memory n ≡ true = subst (λ k. is_of_text k n ≡ true) e t in cc q
 
 -- a program with a loop has no graph, and want of memory tells nothing of it

@@ -6,6 +6,8 @@ use Rattle.std.proofs.lemmas.List.Elements.{filter_map-append}
 use Rattle.lft_tag.specs.declared.Tag.{Tag}
 use Rattle.lft_tag.specs.Tags.{Before, UpTo}
 use Rattle.lft_tag.proofs.Order.{UpTo-not, Before-irrefl}
+use Rattle.lft_lists.proofs.Places.{get_left, get_append_cases}
+use Rattle.lft_lists.proofs.Mapped.{mapped_from}
 use Rattle.lft_flat.specs.declared.parts.Value.{Value}
 use Rattle.lft_trace.specs.declared.row.Row.{Row}
 use Rattle.lft_trace.specs.declared.row.Step.{Step}
@@ -19,13 +21,11 @@ use Rattle.lft_model.specs.Recorded.{SoFar, run_row}
 use Rattle.lft_model.proofs.Places.{slice_get_within, slice_get_taken}
 use Rattle.lft_model.proofs.Legality.{KeepsFour, keeps_four}
 use Rattle.lft_model.proofs.Ended.{ended_before}
-use Rattle.lft_model.proofs.Grown.{slice_get_more}
-use Rattle.lft_model.proofs.Blocks.{get_append, get_map}
 use Rattle.lft_model.proofs.Recording.{by_ends_taken, rows_up_to}
 
 -- a path and one more next run
 pub path_added : (plan : PlanParts) (l : List Run) (u : Run) → Path plan l → Next plan l u → Path plan (l ++ u ∷ [])
-path_added plan l u path next k v e = go (get_append l (u ∷ []) k v e)
+path_added plan l u path next k v e = go (get_append_cases l (u ∷ []) k v e)
   where
     last : (j : ℕ) → k ≡ length l + j → slice_get (u ∷ []) j ≡ Some v → Next plan (take k (l ++ u ∷ [])) v
     last zero q f =
@@ -52,15 +52,15 @@ module _ (plan : PlanParts) (t more : List Row) where
   open_back : (i w : ℕ) (g : Tag) (r : ℕ) → i < length t → IsOpen grown i w g r → IsOpen t i w g r
   open_back i w g r l o =
       let b : o.start < i = o.before in
-      record { start = o.start; before = o.before; starts = old_row o.start (start_row w g r) (omega arith) o.starts; not_ended = λ k a c e. o.not_ended k a c (slice_get_more t more k (end_row w g r) e) }
+      record { start = o.start; before = o.before; starts = old_row o.start (start_row w g r) (omega arith) o.starts; not_ended = λ k a c e. o.not_ended k a c (get_left t more k (end_row w g r) e) }
 
   -- and one that was open there still is
   open_on : (i w : ℕ) (g : Tag) (r : ℕ) → i < length t → IsOpen t i w g r → IsOpen grown i w g r
-  open_on i w g r l o = record { start = o.start; before = o.before; starts = slice_get_more t more o.start (start_row w g r) o.starts; not_ended = λ k a c e. o.not_ended k a c (old_row k (end_row w g r) (let d : k < i = c in omega arith) e) }
+  open_on i w g r l o = record { start = o.start; before = o.before; starts = get_left t more o.start (start_row w g r) o.starts; not_ended = λ k a c e. o.not_ended k a c (old_row k (end_row w g r) (let d : k < i = c in omega arith) e) }
 
   -- the rules 1 to 4 hold of all rows if they hold of the new rows, and no old row is after the stop
   pub keeps_added : KeepsFour plan t → ((i : ℕ) (x : Row) → slice_get t i ≡ Some x → UpTo x.tag (stop plan grown)) → ((j : ℕ) (x : Row) (k : ℕ) → slice_get more j ≡ Some x → k < 5 → ¬ BreaksRow plan grown (length t + j) x k) → KeepsFour plan grown
-  keeps_added well in_time fresh b l o = by_part (get_append t more o.place o.row o.is_row)
+  keeps_added well in_time fresh b l o = by_part (get_append_cases t more o.place o.row o.is_row)
     where
       old : slice_get t o.place ≡ Some o.row → o.place < length t → BreaksRow plan (t ++ more) o.place o.row b.rule → ⊥
       old e d (inl q) = keeps_four plan t well o.place o.row b.rule l e (inl (q.0, (q.1.0, q.1.1, q.1.2, old_row q.1.0 q.1.1 (let z : q.1.0 < o.place = q.1.2 in omega arith) q.1.3, q.1.4)))
@@ -107,7 +107,7 @@ module _ (plan : PlanParts) (t more : List Row) where
     so_far_added so_far path no_clash same_reads fresh = record { rows_well = kept; path = path; no_clash = no_clash; started = started }
       where
         started : (i w : ℕ) (g : Tag) (r : ℕ) → slice_get (t ++ more) i ≡ Some (start_row w g r) → Ready plan (by_ends plan (take i (t ++ more))) g r × Inputs plan (rows plan (by_ends plan (take i (t ++ more)))) g r (reads_at plan (t ++ more) g r)
-        started i w g r e = by_part (get_append t more i (start_row w g r) e)
+        started i w g r e = by_part (get_append_cases t more i (start_row w g r) e)
           where
             by_part : (slice_get t i ≡ Some (start_row w g r)) ⊎ ((j : ℕ) × (i ≡ length t + j) × (slice_get more j ≡ Some (start_row w g r))) → Ready plan (by_ends plan (take i (t ++ more))) g r × Inputs plan (rows plan (by_ends plan (take i (t ++ more)))) g r (reads_at plan (t ++ more) g r)
             by_part (inl q) =
@@ -128,13 +128,13 @@ pub record AddedRow (w : ℕ) (g : Tag) (r : ℕ) (steps : List Step) (j : ℕ) 
 -- each row that is added for some steps of a run is that of one of the steps
 pub added_row : (w : ℕ) (g : Tag) (r : ℕ) (steps : List Step) (j : ℕ) (x : Row) → slice_get (map (run_row w g r) steps) j ≡ Some x → AddedRow w g r steps j x
 added_row w g r steps j x e =
-    let q = get_map (run_row w g r) steps j x e in
+    let q = mapped_from (run_row w g r) steps j x e in
     let s : q.0 ≡ x.step = ap (λ (y : Row). y.step) q.2 in
     record { is_step = q.1 ∙ ap Some s; row_is = ap (λ (z : Step). run_row w g r z) (sym s) ∙ q.2 }
 
 -- no row that is added at a tag at which a reaction is pending is late
 pub added_in_time : (plan : PlanParts) (good : IsSoundPlan plan) (t : List Row) (so_far : SoFar plan t) (w : ℕ) (g : Tag) (r c : ℕ) → IsPending plan (by_ends plan t) g c → (steps : List Step) (j : ℕ) (x : Row) → slice_get (map (run_row w g r) steps) j ≡ Some x → ¬ IsLate (t ++ map (run_row w g r) steps) (length t + j) x
-added_in_time plan good t so_far w g r c pending steps j x e late = by_part (get_append t (map (run_row w g r) steps) late.0 late.1 late.3)
+added_in_time plan good t so_far w g r c pending steps j x e late = by_part (get_append_cases t (map (run_row w g r) steps) late.0 late.1 late.3)
   where
     tag_is : (i : ℕ) (y : Row) → slice_get (map (run_row w g r) steps) i ≡ Some y → y.tag ≡ g
     tag_is i y f = ap (λ (z : Row). z.tag) (sym (added_row w g r steps i y f).row_is)

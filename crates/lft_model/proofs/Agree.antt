@@ -6,6 +6,7 @@ use Rattle.lft_flat.proofs.Origins.{origin_unique}
 use Rattle.lft_tag.specs.declared.Tag.{Tag}
 use Rattle.lft_tag.specs.Tags.{Before, UpTo, after, after_all}
 use Rattle.lft_tag.proofs.Order.{order_cases, UpTo-refl, UpTo-trans, UpTo_antisym, Before-UpTo, Before-weaken, UpTo-not, after_past, after_some_past}
+use Rattle.lft_lists.proofs.Members.{Mem, mem_get, get_mem, mem_left, mem_right, mem_cases, mem_filter, mem_from_filter, last_of_mem, LastAt, last_at, nil_of_none, mem_contains, contains_mem}
 use Rattle.lft_flat.specs.Parts.{inputs}
 use Rattle.lft_flat.specs.Origins.{Origin}
 use Rattle.lft_flat.specs.declared.parts.Reaction.{Reaction}
@@ -25,7 +26,6 @@ use Rattle.lft_model.specs.Runs.{Answer, answer_at, request_of, read_of, Ran, st
 use Rattle.lft_model.specs.Recorded.{SameHistory, SameRuns, AnswerAlike}
 use Rattle.lft_model.specs.Breaches.{Legal, EndsBefore}
 use Rattle.lft_model.proofs.Places.{tag_discrete}
-use Rattle.lft_model.proofs.Members.{Mem, mem_get, get_mem, mem_left, mem_right, mem_cases, mem_filter, mem_from_filter, last_of_mem, LastAt, last_at, nil_of_none, mem_contains, contains_mem}
 use Rattle.lft_model.proofs.Stops.{ask, asker, stop_external, stop_asked, stop_cases}
 use Rattle.lft_model.proofs.Steps.{RowOf, step_mem, request_mem, mem_request, mem_step, scheduled_some}
 use Rattle.lft_model.proofs.Ended.{scheduled_by, by_scheduled, Schedules}

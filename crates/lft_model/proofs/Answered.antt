@@ -2,6 +2,7 @@
 use Rattle.std.proofs.Common.{◌≡◌, ℕ, ◌⊎◌, inl, inr, List, [], ◌∷◌, map, refl, sym, ◌∙◌, subst, Bool, true, false, filter_map, lit<}
 use Rattle.std.specs.List.{AllZip}
 use Rattle.lft_tag.specs.declared.Tag.{Tag}
+use Rattle.lft_lists.proofs.Members.{Mem, mem_from_filter, mem_contains, contains_mem}
 use Rattle.lft_flat.specs.declared.parts.Value.{Value}
 use Rattle.lft_flat.specs.declared.parts.Name.{Name}
 use Rattle.lft_flat.specs.declared.parts.Name.TheVariants.{Port, Action}
@@ -14,7 +15,6 @@ use Rattle.lft_model.specs.Runs.{steps_of, outcome_of, effects_of, answer_at}
 use Rattle.lft_model.specs.Breaches.{IsUndeclared, MaySchedule}
 use Rattle.lft_model.specs.OneWorker.{MayHave}
 use Rattle.lft_model.proofs.Places.{stable, dec_map, dec_both}
-use Rattle.lft_model.proofs.Members.{Mem, mem_from_filter, mem_contains, contains_mem}
 use Rattle.lft_model.proofs.Legality.{KeepsFour, keeps_four}
 use Rattle.lft_model.proofs.Steps.{RowOf, step_mem, scheduled_some}
 use Rattle.lft_model.proofs.Kept.{dec_mem}

@@ -6,6 +6,8 @@ use Rattle.std.proofs.lemmas.List.Elements.{filter_map-append}
 use Rattle.lft_tag.specs.declared.Tag.{Tag}
 use Rattle.lft_tag.specs.Tags.{Before, UpTo}
 use Rattle.lft_tag.proofs.Order.{UpTo-not}
+use Rattle.lft_lists.proofs.Members.{Mem, mem_get, get_mem, mem_contains, none_nil}
+use Rattle.lft_lists.proofs.Places.{get_left, get_append_cases}
 use Rattle.lft_flat.specs.Parts.{inputs}
 use Rattle.lft_flat.specs.declared.parts.Reaction.{Reaction}
 use Rattle.lft_flat.specs.declared.parts.Value.{Value}
@@ -21,14 +23,13 @@ use Rattle.lft_model.specs.Breaches.{IsOpen, IsOutOfOrder, IsUndeclared, WasRead
 use Rattle.lft_model.specs.OneWorker.{Ready, Path, NoClash, rows}
 use Rattle.lft_model.specs.Recorded.{SoFar, run_row, begun_rows}
 use Rattle.lft_model.proofs.Places.{slice_get_within}
-use Rattle.lft_model.proofs.Members.{Mem, mem_get, get_mem, mem_contains, none_nil}
 use Rattle.lft_model.proofs.Stops.{asker, stop_added}
 use Rattle.lft_model.proofs.Legality.{KeepsFour, in_time, ran_at}
 use Rattle.lft_model.proofs.Steps.{step_row, row_step}
 use Rattle.lft_model.proofs.RunSteps.{ReadOf, in_reads, mem_zip}
 use Rattle.lft_model.proofs.Agree.{no_steps}
-use Rattle.lft_model.proofs.Grown.{added_none, slice_get_more}
-use Rattle.lft_model.proofs.Blocks.{get_append, put_right, two_places, reads_one}
+use Rattle.lft_model.proofs.Grown.{added_none}
+use Rattle.lft_model.proofs.Blocks.{put_right, two_places, reads_one}
 use Rattle.lft_model.proofs.RowsLegal.{told, last_option, inputs_apart}
 use Rattle.lft_model.proofs.Added.{keeps_added, by_ends_added, so_far_added, AddedRow, added_row, added_in_time}
 
@@ -123,7 +124,7 @@ module _ (plan : PlanParts) (good : IsSoundPlan plan) (t : List Row) (so_far : S
   open_new j b = record { start = length t; before = omega arith; starts = put_right t new_rows 0 (start_row w g r) (length t) (omega arith) refl; not_ended = not_ended }
     where
       not_ended : (k : ℕ) → length t < k → k < length t + j → ¬ (slice_get (t ++ new_rows) k ≡ Some (end_row w g r))
-      not_ended k a c e = go (get_append t new_rows k (end_row w g r) e)
+      not_ended k a c e = go (get_append_cases t new_rows k (end_row w g r) e)
         where
           go : (slice_get t k ≡ Some (end_row w g r)) ⊎ ((i : ℕ) × (k ≡ length t + i) × (slice_get new_rows i ≡ Some (end_row w g r))) → ⊥
           go (inl q) = let l : k < length t = slice_get_within t k (end_row w g r) q in omega arith
@@ -131,7 +132,7 @@ module _ (plan : PlanParts) (good : IsSoundPlan plan) (t : List Row) (so_far : S
 
   -- no input has a second read row
   read_once : (i : ℕ) (n : Name) (v : Value) → slice_get (Start ∷ read_steps) i ≡ Some (Read n v) → ¬ WasRead (t ++ new_rows) (length t + i) g r n
-  read_once i n v f u = by_place (get_append t new_rows u.0 row u.4)
+  read_once i n v f u = by_place (get_append_cases t new_rows u.0 row u.4)
     where
       row : Row
       row = run_row u.1 g r (Read n u.2)
@@ -180,7 +181,7 @@ module _ (plan : PlanParts) (good : IsSoundPlan plan) (t : List Row) (so_far : S
       not_after q = UpTo-not g (stop plan t) early (subst (λ (h : Tag). Before (stop plan t) h) tag_is (subst (λ (h : Tag). Before h x.tag) same_stop q))
 
       earlier_old : (i : ℕ) (y : Row) → slice_get (t ++ new_rows) i ≡ Some y → i < length t + j → x.step ≡ Start → slice_get t i ≡ Some y
-      earlier_old i y f c s = at (get_append t new_rows i y f)
+      earlier_old i y f c s = at (get_append_cases t new_rows i y f)
         where
           at : (slice_get t i ≡ Some y) ⊎ ((m : ℕ) × (i ≡ length t + m) × (slice_get new_rows m ≡ Some y)) → slice_get t i ≡ Some y
           at (inl q) = q
@@ -192,7 +193,7 @@ module _ (plan : PlanParts) (good : IsSoundPlan plan) (t : List Row) (so_far : S
           let o = q.2 in
           let st : slice_get t o.start ≡ Some (start_row x.worker q.0 q.1) = earlier_old o.start (start_row x.worker q.0 q.1) o.starts o.before s in
           let v : x.worker ≡ w = ap (λ (y : Row). y.worker) (sym n.row_is) in
-          let m : IsOpen t (length t) x.worker q.0 q.1 = record { start = o.start; before = slice_get_within t o.start (start_row x.worker q.0 q.1) st; starts = st; not_ended = λ k a c f. o.not_ended k a (omega arith) (slice_get_more t new_rows k (end_row x.worker q.0 q.1) f) } in
+          let m : IsOpen t (length t) x.worker q.0 q.1 = record { start = o.start; before = slice_get_within t o.start (start_row x.worker q.0 q.1) st; starts = st; not_ended = λ k a c f. o.not_ended k a (omega arith) (get_left t new_rows k (end_row x.worker q.0 q.1) f) } in
           idle q.0 q.1 (subst (λ (d : ℕ). IsOpen t (length t) d q.0 q.1) v m)
       in_order (Read a d) s q = q (subst (λ (y : Row). IsOpen (t ++ new_rows) (length t + j) y.worker y.tag y.reaction) n.row_is (open_new j (later j (n.is_step ∙ ap Some s))))
         where

@@ -2,6 +2,9 @@
 use Rattle.std.proofs.Common.{◌≡◌, ℕ, zero, suc, ◌+◌, ◌<◌, ◌≤◌, ◌⊎◌, inl, inr, List, [], ◌∷◌, ◌++◌, length, length-append, take, map, refl, sym, ap, ◌∙◌, subst, arith, Option, Some, None, Bool, true, false, cond, ◌&&◌, ◌==◌, eq-eqb, eqb-true, slice_get, filter_map, flat_map, option_to_list, zip}
 use Rattle.std.specs.List.{cons_option}
 use Rattle.lft_tag.specs.Tags.{same_tag}
+use Rattle.lft_lists.proofs.Members.{Mem, mem_get, get_mem, mem_right, mem_cases, mem_from_map, none_nil, filter_map-map, filter_map-flat_map}
+use Rattle.lft_lists.proofs.Places.{get_append_cases, get_left}
+use Rattle.lft_lists.proofs.Mapped.{mapped, mapped_from}
 use Rattle.lft_flat.specs.Parts.{Parts}
 use Rattle.lft_flat.specs.declared.parts.Value.{Value}
 use Rattle.lft_flat.specs.declared.parts.Name.{Name}
@@ -10,40 +13,15 @@ use Rattle.lft_trace.specs.declared.row.Row.{Row}
 use Rattle.lft_trace.specs.declared.row.Step.{Step}
 use Rattle.lft_trace.specs.declared.row.Step.TheVariants.{Start, Read, Write, Schedule, Stop, End}
 use Rattle.lft_model.specs.Runs.{Run, inputs_of, read_step, same_name, value_read, step_of, closing_steps, steps_of_run, rows_of_run, rows_of}
-use Rattle.lft_model.proofs.Members.{Mem, mem_get, get_mem, mem_right, mem_cases, mem_from_map, none_nil, filter_map-map, filter_map-flat_map}
 use Rattle.lft_model.proofs.Steps.{both_true, same_tag_true, same_tag_refl}
 use Rattle.lft_model.proofs.Counted.{NamesApart}
 use Rattle.lft_model.proofs.RunSteps.{read_part, write_part, schedule_part, in_reads, in_writes, in_schedules, row_with, mem_zip}
 
 -- lists by place
-pub get_append : {X : Type 0} (xs ys : List X) (i : ℕ) (x : X) → slice_get (xs ++ ys) i ≡ Some x → (slice_get xs i ≡ Some x) ⊎ ((j : ℕ) × (i ≡ length xs + j) × (slice_get ys j ≡ Some x))
-get_append [] ys i x e = inr (i, omega arith, e)
-get_append (z ∷ xs) ys zero x e = inl e
-get_append {X} (z ∷ xs) ys (suc i) x e = go (get_append xs ys i x e)
-  where
-    go : (slice_get xs i ≡ Some x) ⊎ ((j : ℕ) × (i ≡ length xs + j) × (slice_get ys j ≡ Some x)) → (slice_get xs i ≡ Some x) ⊎ ((j : ℕ) × (suc i ≡ suc (length xs) + j) × (slice_get ys j ≡ Some x))
-    go (inl a) = inl a
-    go (inr r) = let q : i ≡ length xs + r.0 = r.1 in inr (r.0, omega arith, r.2)
-
-put_left : {X : Type 0} (xs ys : List X) (i : ℕ) (x : X) → slice_get xs i ≡ Some x → slice_get (xs ++ ys) i ≡ Some x
-put_left [] ys i x e = absurd (cc)
-put_left (z ∷ xs) ys zero x e = e
-put_left (z ∷ xs) ys (suc i) x e = put_left xs ys i x e
-
 pub put_right : {X : Type 0} (xs ys : List X) (j : ℕ) (x : X) (i : ℕ) → i ≡ length xs + j → slice_get ys j ≡ Some x → slice_get (xs ++ ys) i ≡ Some x
 put_right [] ys j x i q e = ap (λ k. slice_get ys k) (let z : i ≡ j = omega arith in z) ∙ e
 put_right (z ∷ xs) ys j x zero q e = absurd (omega arith)
 put_right (z ∷ xs) ys j x (suc i) q e = let p : i ≡ length xs + j = omega arith in put_right xs ys j x i p e
-
-pub get_map : {X Y : Type 0} (f : X → Y) (xs : List X) (i : ℕ) (y : Y) → slice_get (map f xs) i ≡ Some y → (x : X) × (slice_get xs i ≡ Some x) × (f x ≡ y)
-get_map f [] i y e = absurd (cc)
-get_map f (x ∷ xs) zero y e = (x, refl, cc)
-get_map f (x ∷ xs) (suc i) y e = get_map f xs i y e
-
-put_map : {X Y : Type 0} (f : X → Y) (xs : List X) (i : ℕ) (x : X) → slice_get xs i ≡ Some x → slice_get (map f xs) i ≡ Some (f x)
-put_map f [] i x e = absurd (cc)
-put_map f (z ∷ xs) zero x e = let q : z ≡ x = cc in ap (λ y. Some (f y)) q
-put_map f (z ∷ xs) (suc i) x e = put_map f xs i x e
 
 map_length : {X Y : Type 0} (f : X → Y) (xs : List X) → length (map f xs) ≡ length xs
 map_length f [] = refl
@@ -233,13 +211,13 @@ module _ (program : Parts) where
 
   pub placed : (l : List Run) (i : ℕ) (x : Row) → slice_get (rows_of program l) i ≡ Some x → Placed program l i x
   placed [] i x e = absurd (cc)
-  placed (u ∷ l) i x e = go (get_append (rows_of_run program u) (rows_of program l) i x e) (λ j q. placed l j x q)
+  placed (u ∷ l) i x e = go (get_append_cases (rows_of_run program u) (rows_of program l) i x e) (λ j q. placed l j x q)
     where
       first : ((s : Step) × (slice_get (steps_of_run program u) i ≡ Some s) × (row_with u s ≡ x)) → Placed program (u ∷ l) i x
       first r = let q : r.0 ≡ x.step = ap (λ (y : Row). y.step) r.2 in record { place = 0; run = u; inner = i; is_run = refl; is_step = r.1 ∙ ap Some q; row_is = ap (λ (s : Step). row_with u s) (sym q) ∙ r.2; stands = omega arith }
 
       go : (slice_get (rows_of_run program u) i ≡ Some x) ⊎ ((j : ℕ) × (i ≡ length (rows_of_run program u) + j) × (slice_get (rows_of program l) j ≡ Some x)) → ((j : ℕ) → slice_get (rows_of program l) j ≡ Some x → Placed program l j x) → Placed program (u ∷ l) i x
-      go (inl a) rest = first (get_map (row_with u) (steps_of_run program u) i x a)
+      go (inl a) rest = first (mapped_from (row_with u) (steps_of_run program u) i x a)
       go (inr r) rest =
           let p = rest r.0 r.2 in
           let a : i ≡ length (rows_of_run program u) + r.0 = r.1 in
@@ -252,7 +230,7 @@ module _ (program : Parts) where
   put_row (v ∷ l) zero u j s e f =
       let q : v ≡ u = cc in
       let z : j ≡ 0 + j = omega arith in
-      subst (λ (i : ℕ). slice_get (rows_of program (v ∷ l)) i ≡ Some (row_with u s)) z (subst (λ (w : Run). slice_get (rows_of program (w ∷ l)) j ≡ Some (row_with u s)) (sym q) (put_left (rows_of_run program u) (rows_of program l) j (row_with u s) (put_map (row_with u) (steps_of_run program u) j s f)))
+      subst (λ (i : ℕ). slice_get (rows_of program (v ∷ l)) i ≡ Some (row_with u s)) z (subst (λ (w : Run). slice_get (rows_of program (w ∷ l)) j ≡ Some (row_with u s)) (sym q) (get_left (rows_of_run program u) (rows_of program l) j (row_with u s) (mapped (row_with u) (steps_of_run program u) j s f)))
   put_row (v ∷ l) (suc k) u j s e f =
       let c : length (rows_of program (v ∷ take k l)) ≡ length (rows_of_run program v) + length (rows_of program (take k l)) = next_length v (take k l) in
       put_right (rows_of_run program v) (rows_of program l) (length (rows_of program (take k l)) + j) (row_with u s) (length (rows_of program (v ∷ take k l)) + j) (omega arith) (put_row l k u j s e f)

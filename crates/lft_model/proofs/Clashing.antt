@@ -3,6 +3,8 @@ use Rattle.std.proofs.Common.{◌≡◌, ℕ, ◌<◌, ◌≤◌, ◌⊎◌, inl
 use Rattle.std.proofs.lemmas.Bool.{false≢true}
 use Rattle.lft_tag.specs.declared.Tag.{Tag}
 use Rattle.lft_tag.specs.Tags.{same_tag}
+use Rattle.lft_lists.proofs.Members.{Mem, get_mem, mem_cases, mem_from_filter}
+use Rattle.lft_flat.proofs.Origins.{origin_within}
 use Rattle.lft_flat.specs.Parts.{Parts}
 use Rattle.lft_flat.specs.Origins.{Origin}
 use Rattle.lft_flat.specs.Origins.Origin.{itself, over}
@@ -17,15 +19,9 @@ use Rattle.lft_trace.specs.Fits.{ExternalsFit, StepFits}
 use Rattle.lft_model.specs.Fitting.{EachFits}
 use Rattle.lft_model.specs.Plans.{PlanParts}
 use Rattle.lft_model.specs.Presence.{scheduled, given, min_delay, events_of, PortClash, ClashesAt, Collision}
-use Rattle.lft_model.proofs.Members.{Mem, get_mem, mem_cases, mem_from_filter}
 use Rattle.lft_model.proofs.Places.{slice_get_within}
 use Rattle.lft_model.proofs.Steps.{cond_some, both_true, scheduled_some}
 use Rattle.lft_model.proofs.Ended.{Schedules, scheduled_by}
-
--- a port that has an origin is of the program
-origin_within : {program : Parts} {p o : ℕ} {ds : List ℕ} → Origin program p o ds → p < length program.ports
-origin_within {program} {p} (itself x e n) = slice_get_within program.ports p x e
-origin_within {program} {p} (over x s first e n way l) = slice_get_within program.ports p x e
 
 -- a step of the program that schedules an action names one of the program's
 step_within : (program : Parts) (s : Step) (a extra : ℕ) (v : Value) → StepFits program s → s ≡ Schedule (Action a) v extra → a < length program.actions

@@ -6,6 +6,8 @@ use native.Mathlib.Decide.{ℕ_discrete, dec_lt}
 use Rattle.lft_tag.specs.declared.Tag.{Tag}
 use Rattle.lft_tag.specs.Tags.{Before, UpTo, after}
 use Rattle.lft_tag.proofs.Order.{UpTo-not, UpTo-trans, UpTo-Before, Before-weaken, after_past}
+use Rattle.lft_lists.proofs.Members.{Mem, mem_get, mem_cases, mem_from_map, mem_from_filter, none_nil, last-append_nil}
+use Rattle.lft_lists.proofs.Places.{get_left, get_append_cases}
 use Rattle.lft_flat.specs.declared.parts.Value.{Value}
 use Rattle.lft_flat.specs.declared.parts.Name.{Name}
 use Rattle.lft_trace.specs.declared.row.Row.{Row}
@@ -18,15 +20,12 @@ use Rattle.lft_model.specs.Breaches.{IsOpen, IsOutOfOrder, IsUndeclared, BreaksR
 use Rattle.lft_model.specs.OneWorker.{Ready, Next, Path, NoClash, rows}
 use Rattle.lft_model.specs.Recorded.{SoFar, MayAnswer, run_row, committed_rows}
 use Rattle.lft_model.proofs.Places.{slice_get_within}
-use Rattle.lft_model.proofs.Members.{Mem, mem_get, mem_cases, mem_from_map, mem_from_filter, none_nil, last-append_nil}
 use Rattle.lft_model.proofs.Stops.{asker, stop_added}
 use Rattle.lft_model.proofs.Legality.{KeepsFour, in_time, opened, one_starter}
 use Rattle.lft_model.proofs.Steps.{step_row}
 use Rattle.lft_model.proofs.Ended.{all_ended, stop_down}
 use Rattle.lft_model.proofs.Law.{EndRow}
 use Rattle.lft_model.proofs.Answered.{answers_well}
-use Rattle.lft_model.proofs.Grown.{slice_get_more}
-use Rattle.lft_model.proofs.Blocks.{get_append}
 use Rattle.lft_model.proofs.Recording.{rows_up_to, open_ready_now, none_after_end}
 use Rattle.lft_model.proofs.Added.{keeps_added, by_ends_added, so_far_added, path_added, AddedRow, added_row, added_in_time}
 
@@ -42,7 +41,7 @@ module _ (plan : PlanParts) (good : IsSoundPlan plan) (t : List Row) (so_far : S
 
   -- each step of the new rows is one of these
   answer_or_end : (j : ℕ) (s : Step) → slice_get (steps ++ End ∷ []) j ≡ Some s → AnswerOrEnd j s
-  answer_or_end j s e = go (get_append steps (End ∷ []) j s e)
+  answer_or_end j s e = go (get_append_cases steps (End ∷ []) j s e)
     where
       last : (i : ℕ) → j ≡ length steps + i → slice_get (End ∷ []) i ≡ Some s → AnswerOrEnd j s
       last zero q f = inl ((let z : End ≡ s = cc in sym z), omega arith)
@@ -106,10 +105,10 @@ module _ (plan : PlanParts) (good : IsSoundPlan plan) (t : List Row) (so_far : S
 
   -- the run is open at each of its new rows
   open_there : (j : ℕ) → j ≤ length steps → IsOpen (t ++ new_rows) (length t + j) w g r
-  open_there j b = record { start = open_run.start; before = (let a : open_run.start < length t = open_run.before in omega arith); starts = slice_get_more t new_rows open_run.start (start_row w g r) open_run.starts; not_ended = none }
+  open_there j b = record { start = open_run.start; before = (let a : open_run.start < length t = open_run.before in omega arith); starts = get_left t new_rows open_run.start (start_row w g r) open_run.starts; not_ended = none }
     where
       none : (k : ℕ) → open_run.start < k → k < length t + j → ¬ (slice_get (t ++ new_rows) k ≡ Some (end_row w g r))
-      none k a c e = go (get_append t new_rows k (end_row w g r) e)
+      none k a c e = go (get_append_cases t new_rows k (end_row w g r) e)
         where
           go : (slice_get t k ≡ Some (end_row w g r)) ⊎ ((i : ℕ) × (k ≡ length t + i) × (slice_get new_rows i ≡ Some (end_row w g r))) → ⊥
           go (inl q) = open_run.not_ended k a (slice_get_within t k (end_row w g r) q) q

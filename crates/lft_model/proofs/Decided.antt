@@ -7,6 +7,7 @@ use native.Mathlib.Decide.{ℕ_discrete}
 use Rattle.lft_flat.proofs.Origins.{origin_unique}
 use Rattle.lft_tag.specs.declared.Tag.{Tag}
 use Rattle.lft_tag.specs.Tags.{after_all}
+use Rattle.lft_lists.proofs.Members.{Mem, mem_get, get_mem, last_mem, mem_from_filter, mem_contains, contains_mem}
 use Rattle.lft_flat.specs.Parts.{Parts, inputs}
 use Rattle.lft_flat.specs.Sound.{IsSound}
 use Rattle.lft_flat.specs.Origins.{Origin}
@@ -25,7 +26,6 @@ use Rattle.lft_model.specs.Plans.{PlanParts}
 use Rattle.lft_model.specs.Presence.{written, Fires, events_of, Last, At, IsPresent, Triggered, Occurs, Shows, Inputs, stop}
 use Rattle.lft_model.specs.Runs.{Ran, start_row}
 use Rattle.lft_model.proofs.Places.{dec_map, dec_both, dec_not, dec_below, tag_discrete, slice_get_within, dec_row, dec_start}
-use Rattle.lft_model.proofs.Members.{Mem, mem_get, get_mem, last_mem, mem_from_filter, mem_contains, contains_mem}
 use Rattle.lft_model.proofs.Ended.{written_by}
 
 pub value_discrete : (v w : Value) → Dec (v ≡ w)

@@ -4,6 +4,7 @@ use Rattle.std.specs.List.{AllZip}
 use Rattle.lft_flat.proofs.Origins.{origin_unique}
 use Rattle.lft_tag.specs.declared.Tag.{Tag}
 use Rattle.lft_tag.specs.Tags.{UpTo, same_tag}
+use Rattle.lft_lists.proofs.Members.{Mem, mem_get, get_mem, mem_left, mem_right, mem_cases, mem_filter, mem_from_filter, last_at, none_nil, mem_contains, contains_mem}
 use Rattle.lft_flat.specs.Parts.{inputs}
 use Rattle.lft_flat.specs.declared.parts.Value.{Value}
 use Rattle.lft_flat.specs.declared.parts.Name.{Name}
@@ -20,7 +21,6 @@ use Rattle.lft_model.specs.Breaches.{BreaksRow, BreaksTag, BreaksAt, IsUnended, 
 use Rattle.lft_model.specs.OneWorker.{HasRun, IsPending, rows}
 use Rattle.lft_model.specs.Recorded.{SoFar}
 use Rattle.lft_model.proofs.Places.{slice_get_within, filter_map_get}
-use Rattle.lft_model.proofs.Members.{Mem, mem_get, get_mem, mem_left, mem_right, mem_cases, mem_filter, mem_from_filter, last_at, none_nil, mem_contains, contains_mem}
 use Rattle.lft_model.specs.Recorded.{IsAnswer}
 use Rattle.lft_model.proofs.Legality.{KeepsRows, IsOrdered, Inside, told_all, ran_at}
 use Rattle.lft_model.proofs.Steps.{own_schedule, mem_step, scheduled_some, some_scheduled, both_true}

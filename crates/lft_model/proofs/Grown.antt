@@ -5,6 +5,8 @@ use Rattle.std.proofs.lemmas.Grind.{flat_map-append}
 use Rattle.lft_tag.specs.declared.Tag.{Tag}
 use Rattle.lft_tag.specs.Tags.{Before, UpTo, after, after_all}
 use Rattle.lft_tag.proofs.Order.{order_cases, UpTo-refl, UpTo-trans, UpTo-Before, UpTo_antisym, Before-weaken, UpTo-not, Before-irrefl, after_past, after_some_past}
+use Rattle.lft_lists.proofs.Members.{Mem, mem_get, none_nil, mem_contains}
+use Rattle.lft_lists.proofs.Places.{get_left}
 use Rattle.lft_flat.specs.Parts.{Parts, inputs}
 use Rattle.lft_flat.specs.Origins.{Origin}
 use Rattle.lft_flat.specs.declared.parts.Reaction.{Reaction}
@@ -22,7 +24,6 @@ use Rattle.lft_model.specs.Presence.{written, scheduled, given, min_delay, event
 use Rattle.lft_model.specs.Runs.{Run, effects_of, rows_of_run, rows_of}
 use Rattle.lft_model.specs.Runs.Outcome.{Written}
 use Rattle.lft_model.specs.OneWorker.{HasRun, IsPending, Ready, rows}
-use Rattle.lft_model.proofs.Members.{Mem, mem_get, none_nil, mem_contains}
 use Rattle.lft_model.proofs.Stops.{asker, stop_append, stop_added}
 use Rattle.lft_model.proofs.Steps.{written_some}
 use Rattle.lft_model.proofs.Ended.{written_by, scheduled_by, Schedules}
@@ -42,11 +43,6 @@ added_none {X} {Y} f (x ∷ xs) ys n = go (f x) (added_none f xs ys n)
     go : (o : Option Y) → filter_map f (xs ++ ys) ≡ filter_map f xs → cons_option o (filter_map f (xs ++ ys)) ≡ cons_option o (filter_map f xs)
     go None e = e
     go (Some v) e = ap (λ zs. v ∷ zs) e
-
-pub slice_get_more : {X : Type 0} (xs ys : List X) (i : ℕ) (x : X) → slice_get xs i ≡ Some x → slice_get (xs ++ ys) i ≡ Some x
-slice_get_more [] ys i x e = absurd (cc)
-slice_get_more (z ∷ xs) ys zero x e = e
-slice_get_more (z ∷ xs) ys (suc i) x e = slice_get_more xs ys i x e
 
 -- no run is at an earlier tag than g, or is at g of a reaction that precedes r
 abbrev pub Clear : PlanParts → List Run → Tag → ℕ → Type 0
@@ -188,7 +184,7 @@ module _ (plan : PlanParts) (runs later : List Run) (g : Tag) (r : ℕ) (clear :
   pending_back p = record {
     in_time = UpTo-trans g (stop plan (rows_of plan.program (runs ++ later))) (stop plan old) p.in_time stop_lower;
     triggered = triggered_back p.triggered;
-    no_run = λ h. p.no_run (record { place = h.place; run = h.run; is_run = slice_get_more runs later h.place h.run h.is_run; same_tag = h.same_tag; same_reaction = h.same_reaction });
+    no_run = λ h. p.no_run (record { place = h.place; run = h.run; is_run = get_left runs later h.place h.run h.is_run; same_tag = h.same_tag; same_reaction = h.same_reaction });
   }
 
 -- an open run stays as it is when another open run ends

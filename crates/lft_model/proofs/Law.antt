@@ -4,6 +4,7 @@ use Rattle.std.specs.List.{cons_option}
 use Rattle.lft_tag.specs.declared.Tag.{Tag}
 use Rattle.lft_tag.specs.Tags.{Before, UpTo}
 use Rattle.lft_tag.proofs.Order.{order_cases, UpTo-trans, UpTo-refl, Before-weaken}
+use Rattle.lft_lists.proofs.Members.{Mem, mem_get, get_mem, mem_filter, mem_from_filter}
 use Rattle.lft_flat.specs.declared.parts.Reaction.{Reaction}
 use Rattle.lft_flat.specs.declared.parts.Name.{Name}
 use Rattle.lft_flat.specs.declared.parts.Name.TheVariants.{Port, Action}
@@ -17,7 +18,6 @@ use Rattle.lft_model.specs.Runs.{Run, Ran, end_row, effects_of, reads_at, run_at
 use Rattle.lft_model.specs.Breaches.{Legal}
 use Rattle.lft_model.specs.OneWorker.{HasRun, IsPending, Ready, Next, Path, NoClash, OneWorker, rows}
 use Rattle.lft_model.proofs.Places.{slice_get_within, stable, slice_get_take, slice_get_taken, From, filter_map_get}
-use Rattle.lft_model.proofs.Members.{Mem, mem_get, get_mem, mem_filter, mem_from_filter}
 use Rattle.lft_model.proofs.Ended.{ended_before, all_ended, ended_some, row_is, written_down, stop_down}
 use Rattle.lft_model.proofs.Legality.{KeepsFour, four, ordered, opened, ended, one_end, keeps_at, ran_in_time, no_collision}
 use Rattle.lft_model.proofs.Reached.{triggered_down, triggered_up, all_stop, inputs_up, preceding_ended, earlier_ended}

@@ -5,6 +5,7 @@ use native.Mathlib.Decide.{ℕ_discrete, dec_lt}
 use Rattle.lft_tag.specs.declared.Tag.{Tag}
 use Rattle.lft_tag.specs.Tags.{Before, UpTo, after, after_all}
 use Rattle.lft_tag.proofs.Order.{UpTo_antisym, UpTo-not, Before-irrefl, after_past, after_some_past}
+use Rattle.lft_lists.proofs.Members.{Mem, get_mem, mem_left, mem_right, mem_cases, mem_filter, mem_from_filter, LastAt, last_at, mem_contains, contains_mem}
 use Rattle.lft_flat.specs.Parts.{inputs, named}
 use Rattle.lft_flat.specs.Origins.{Origin}
 use Rattle.lft_flat.specs.declared.parts.Reaction.{Reaction}
@@ -23,7 +24,6 @@ use Rattle.lft_model.specs.Presence.{written, scheduled, value_scheduled, given,
 use Rattle.lft_model.specs.Runs.{Ran, start_row, end_row, steps_of, effects_of, reads_at, rows_of}
 use Rattle.lft_model.specs.Breaches.{EndsBefore, IsUndeclared, MaySchedule}
 use Rattle.lft_model.proofs.Places.{stable, slice_get_within}
-use Rattle.lft_model.proofs.Members.{Mem, get_mem, mem_left, mem_right, mem_cases, mem_filter, mem_from_filter, LastAt, last_at, mem_contains, contains_mem}
 use Rattle.lft_model.proofs.Stops.{asker, stop_external, stop_asked, stop_cases}
 use Rattle.lft_model.proofs.Steps.{own_schedule, own_stop, mem_step, scheduled_some, some_scheduled}
 use Rattle.lft_model.proofs.Ended.{ended_before, row_own, scheduled_by, by_scheduled, Schedules, present_down, stop_down}

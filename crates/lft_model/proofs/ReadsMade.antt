@@ -2,6 +2,7 @@
 use Rattle.std.proofs.Common.{◌≡◌, ℕ, ◌+◌, List, [], ◌∷◌, ◌++◌, length, take, take_all, filter_map, append_assoc, append-nil, add-one, refl, sym, ap, ◌∙◌, subst, Option, Some, None, IfSome, IfNone, ◌≤◌, slice_get}
 use Rattle.std.specs.List.{AllZip}
 use Rattle.lft_tag.specs.declared.Tag.{Tag}
+use Rattle.lft_flat.proofs.Naming.{named_none}
 use Rattle.lft_flat.specs.Parts.{Parts, named}
 use Rattle.lft_flat.specs.declared.parts.Reaction.{Reaction}
 use Rattle.lft_flat.specs.declared.parts.Value.{Value}
@@ -18,13 +19,6 @@ use Rattle.lft_model.proofs.Paths.{take_next}
 -- one more element of a list
 taken : {X : Type 0} (xs : List X) (i : ℕ) (x : X) → slice_get xs i ≡ Some x → take (i + 1) xs ≡ take i xs ++ x ∷ []
 taken xs i x e = ap (λ n. take n xs) (add-one i) ∙ take_next xs i x e
-
--- a trigger that is no port and no action names none
-named_none : (x : Trigger) → ((n : Name) → ¬ (x ≡ On n)) → named x ≡ None
-named_none Startup other = refl
-named_none Shutdown other = refl
-named_none (Timer k) other = refl
-named_none (On n) other = absurd (other n refl)
 
 module _ (plan : PlanParts) (t : List Row) (g : Tag) where
   -- a value that was found of a name, or that none was, is what the name shows

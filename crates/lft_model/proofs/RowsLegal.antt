@@ -5,6 +5,7 @@ use native.Mathlib.Decide.{dec_lt}
 use Rattle.lft_tag.specs.declared.Tag.{Tag}
 use Rattle.lft_tag.specs.Tags.{Before, UpTo}
 use Rattle.lft_tag.proofs.Order.{UpTo-refl, UpTo-not}
+use Rattle.lft_lists.proofs.Members.{Mem, mem_get, mem_contains}
 use Rattle.lft_flat.specs.Parts.{inputs}
 use Rattle.lft_flat.specs.declared.parts.Reaction.{Reaction}
 use Rattle.lft_flat.specs.declared.parts.Value.{Value}
@@ -22,7 +23,6 @@ use Rattle.lft_model.specs.Runs.Outcome.{Written, Scheduled}
 use Rattle.lft_model.specs.Breaches.{IsOpen, IsLate, WasStarted, IsOutOfOrder, WasRead, MayWrite, MaySchedule, IsUndeclared, IsUnended, BreaksRow, RowBreach, BreaksTag, BreaksAt, TagBreach, IsTooEarly, Legal}
 use Rattle.lft_model.specs.OneWorker.{HasRun, MayHave, Path, OneWorker, rows}
 use Rattle.lft_model.proofs.Places.{slice_get_within}
-use Rattle.lft_model.proofs.Members.{Mem, mem_get, mem_contains}
 use Rattle.lft_model.proofs.Counted.{NamesApart, names_apart}
 use Rattle.lft_model.proofs.RunSteps.{StepOf, step_of_run, mem_zip}
 use Rattle.lft_model.proofs.RunSteps.StepOf.{starts, reads, writes, schedules, stops, ends}

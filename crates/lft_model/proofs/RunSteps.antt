@@ -1,5 +1,6 @@
 -- The steps of the rows of any run.
 use Rattle.std.proofs.Common.{◌≡◌, ℕ, ◌⊎◌, inl, inr, List, [], ◌∷◌, ◌++◌, sym, ap, subst, Option, Some, None, Bool, true, false, filter_map, flat_map, option_map, zip}
+use Rattle.lft_lists.proofs.Members.{Mem, mem_cases, mem_from_map, mem_from_filter, mem_from_flat}
 use Rattle.lft_flat.specs.Parts.{Parts}
 use Rattle.lft_flat.specs.declared.parts.Value.{Value}
 use Rattle.lft_flat.specs.declared.parts.Name.{Name}
@@ -8,7 +9,6 @@ use Rattle.lft_trace.specs.declared.row.Step.{Step}
 use Rattle.lft_trace.specs.declared.row.Step.TheVariants.{Start, Read, Write, Schedule, Stop, End}
 use Rattle.lft_model.specs.Runs.{Run, Outcome, inputs_of, effects_of, read_step, write_step, write_step_of, schedule_steps, schedule_steps_of, closing_steps, steps_of_run, rows_of_run, rows_of}
 use Rattle.lft_model.specs.Runs.Outcome.{Written, Scheduled}
-use Rattle.lft_model.proofs.Members.{Mem, mem_cases, mem_from_map, mem_from_filter, mem_from_flat}
 
 pub mem_zip : {X Y : Type 0} (x : X) (y : Y) (xs : List X) (ys : List Y) → Mem (x, y) (zip xs ys) → Mem x xs × Mem y ys
 mem_zip x y [] ys m = absurd m

@@ -4,6 +4,8 @@ use Rattle.std.specs.List.{last_or}
 use Rattle.lft_tag.specs.declared.Tag.{Tag}
 use Rattle.lft_tag.specs.Tags.{same_tag}
 use Rattle.lft_tag.proofs.Chains.{tag_of}
+use Rattle.lft_lists.proofs.Members.{Mem, mem_get, get_mem, mem_left, mem_right, mem_cases, mem_map, mem_from_map, mem_filter, mem_from_filter, mem_flat, mem_from_flat, zip-map}
+use Rattle.lft_lists.proofs.Mapped.{option_map_some}
 use Rattle.lft_flat.specs.Parts.{Parts}
 use Rattle.lft_flat.specs.declared.parts.Value.{Value}
 use Rattle.lft_flat.specs.declared.parts.Name.{Name}
@@ -13,7 +15,6 @@ use Rattle.lft_trace.specs.declared.row.Step.{Step}
 use Rattle.lft_trace.specs.declared.row.Step.TheVariants.{Start, Read, Write, Schedule, Stop, End}
 use Rattle.lft_model.specs.Presence.{value_written, value_scheduled}
 use Rattle.lft_model.specs.Runs.{Run, Outcome, step_of, steps_of, outcome_of, inputs_of, effects_of, read_step, write_step, schedule_steps, write_step_of, schedule_steps_of, closing_steps, request_of, steps_of_run}
-use Rattle.lft_model.proofs.Members.{Mem, mem_get, get_mem, mem_left, mem_right, mem_cases, mem_map, mem_from_map, mem_filter, mem_from_filter, mem_flat, mem_from_flat, zip-map}
 
 pub cond_some : {X : Type 0} (b : Bool) (x y : X) → cond b (Some x) None ≡ Some y → (b ≡ true) × (x ≡ y)
 cond_some true x y e = (refl, cc)
@@ -89,10 +90,6 @@ scheduled_some a End x e = absurd (cc)
 
 pub some_scheduled : (a d : ℕ) (v : Value) → value_scheduled a (Schedule (Action a) v d) ≡ Some (d, v)
 some_scheduled a d v = let b : (a == a) ≡ true = eq-eqb a a refl in rw b refl
-
-option_map_some : {X Y : Type 0} (f : X → Y) (o : Option X) (y : Y) → option_map f o ≡ Some y → (x : X) × (o ≡ Some x) × (f x ≡ y)
-option_map_some f None y e = absurd (cc)
-option_map_some f (Some x) y e = (x, refl, (cc))
 
 pub in_reads : (xs : List (Name × Option Value)) (s : Step) → Mem s (filter_map read_step xs) → (n : Name) × (v : Value) × (s ≡ Read n v)
 in_reads xs s m = let r = mem_from_filter read_step xs s m in let q = option_map_some (λ v. Read r.0.0 v) r.0.1 s r.2 in (r.0.0, q.0, sym q.2)

@@ -4,11 +4,11 @@ use native.Mathlib.Decide.{ℕ_discrete}
 use Rattle.lft_tag.specs.declared.Tag.{Tag}
 use Rattle.lft_tag.specs.Tags.{Before, UpTo, after}
 use Rattle.lft_tag.proofs.Order.{UpTo-refl, UpTo-trans, UpTo_antisym, Before-weaken}
+use Rattle.lft_lists.proofs.Members.{Mem, mem_get, get_mem}
 use Rattle.lft_trace.specs.declared.row.Row.{Row}
 use Rattle.lft_trace.specs.declared.row.Step.TheVariants.{Stop}
 use Rattle.lft_model.specs.Plans.{PlanParts}
 use Rattle.lft_model.specs.Presence.{stop, requests}
-use Rattle.lft_model.proofs.Members.{Mem, mem_get, get_mem}
 use Rattle.lft_model.proofs.Places.{slice_get_within}
 use Rattle.lft_model.proofs.Stops.{ask, asker, stop_external, stop_asked, stop_cases}
 

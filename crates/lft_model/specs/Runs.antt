@@ -42,10 +42,11 @@ pub record Ran (t : List Row) (g : Tag) (r : ℕ) : Type 0 where
   pub worker : ℕ
   pub starts : slice_get t place ≡ Some (start_row worker g r)
 
--- the steps of the run of r at g, in order
+-- the step of a row, where it is of r at g
 abbrev pub step_of : Tag → ℕ → Row → Option Step
 step_of g r row = cond (same_tag g row.tag && (r == row.reaction)) (Some row.step) None
 
+-- the steps of the run of r at g, in order
 abbrev pub steps_of : List Row → Tag → ℕ → List Step
 steps_of t g r = filter_map (step_of g r) t
 
@@ -70,7 +71,7 @@ abbrev pub outcome_of : List Step → Name → Outcome
 outcome_of steps (Port p) = Written (last_or None (filter_map (value_written p) steps))
 outcome_of steps (Action a) = Scheduled (filter_map (value_scheduled a) steps)
 
--- whether some steps request a stop
+-- the test of a step being a stop request
 abbrev pub is_stop : Step → Bool
 is_stop Stop = true
 is_stop Start = false
@@ -79,6 +80,7 @@ is_stop (Write n v) = false
 is_stop (Schedule n v d) = false
 is_stop End = false
 
+-- whether some steps request a stop
 abbrev pub request_of : List Step → Bool
 request_of [] = false
 request_of (s ∷ steps) = is_stop s || request_of steps
@@ -90,10 +92,11 @@ inputs_of program r = unwrap_or (option_map inputs (slice_get program.reactions 
 abbrev pub effects_of : Parts → ℕ → List Name
 effects_of program r = unwrap_or (option_map (λ x. x.effects) (slice_get program.reactions r)) []
 
--- the reads and the answer of r at g
+-- what r read at g: of each of its inputs in order its value, or that it is absent
 abbrev pub reads_at : PlanParts → List Row → Tag → ℕ → List (Option Value)
 reads_at plan t g r = map (read_of (steps_of t g r)) (inputs_of plan.program r)
 
+-- what r answered at g: the outcome for each of its effects in order, and whether it requested a stop
 abbrev pub answer_at : PlanParts → List Row → Tag → ℕ → Answer
 answer_at plan t g r = record { outcomes = map (outcome_of (steps_of t g r)) (effects_of plan.program r); stops = request_of (steps_of t g r) }
 

@@ -2,13 +2,14 @@
 use Rattle.std.proofs.Common.{◌≡◌, ℕ, List, sym, ap, ◌∙◌, Some, slice_get, map}
 use Rattle.std.specs.Option.{option_and_then, option_map}
 use Rattle.lft_tree.specs.Tree.{FileTree, ReactorTree, InstanceTree, reactors_of, instances_of}
+use Rattle.lft_lists.proofs.Mapped.{option_map_some}
 use Rattle.lft_instances.specs.Contents.{contained}
 use Rattle.lft_instances.specs.declared.walk.Contents.{Contents}
 use Rattle.lft_instances.proofs.Simulation.{Simulates}
 use Rattle.lft_scope.specs.Instances.{Inside, entered, given_in, reactor_named}
 use Rattle.lft_reactors.specs.Numbers.{AreContents}
 use Rattle.lft_nesting.proofs.Containing.{inner_at, number_at}
-use Rattle.lft_nesting.proofs.Zipping.{map_some, then_some}
+use Rattle.lft_nesting.proofs.Zipping.{then_some}
 
 -- the instance's reactor has this number
 abbrev pub HasNumber : List ReactorTree → Inside → ℕ → Type 0
@@ -29,7 +30,7 @@ pub record Enters (tree : FileTree) (x : Inside) (k : ℕ) (y : Inside) : Type 0
 pub entered_by : (tree : FileTree) (x : Inside) (k : ℕ) (y : Inside) → entered tree x k ≡ Some y → Enters tree x k y
 entered_by tree x k y e =
     let i = then_some (λ i. option_map (made_in x i) (reactor_named (reactors_of tree) i.reactor)) (slice_get (instances_of x.reactor) k) y e in
-    let r = map_some (made_in x i.0) (reactor_named (reactors_of tree) i.0.reactor) y i.2 in
+    let r = option_map_some (made_in x i.0) (reactor_named (reactors_of tree) i.0.reactor) y i.2 in
     record { i = i.0; r = r.0; is_instance = i.1; is_reactor = r.1; is_made = r.2 }
 
 pub enters : (tree : FileTree) (x : Inside) (k : ℕ) (i : InstanceTree) (r : ReactorTree) → slice_get (instances_of x.reactor) k ≡ Some i → reactor_named (reactors_of tree) i.reactor ≡ Some r → entered tree x k ≡ Some (made_in x i r)

@@ -6,7 +6,7 @@ use Rattle.std.proofs.lemmas.Bool.{cases_lt}
 use Rattle.std.proofs.lemmas.Bool.Decides.{eqb_tells}
 use Rattle.std.proofs.lemmas.Slice.Eq.{bytes_eq-Decides}
 use Rattle.lft_nesting.proofs.Delays.{kept_is}
-use Rattle.lft_lists.proofs.Mapped.{mapped}
+use Rattle.lft_lists.proofs.Mapped.{mapped, option_map_some}
 use Rattle.lft_tree.specs.Tree.{ReactorTree, ParameterTree, AssignmentTree, InstanceTree, TimeTree, Written, Named, nanoseconds, instances_of, ports_of, timers_of, actions_of, connections_of}
 use Rattle.lft_instances.specs.Values.{clock_in, value_in, values_in}
 use Rattle.lft_instances.specs.declared.settings.Clock.{Clock}
@@ -20,7 +20,6 @@ use Rattle.lft_reactors.specs.Sheets.{IsClock, IsGiven, kept}
 use Rattle.lft_scope.proofs.Somes.{Any-head, Any-left, Any-right, Any-tail}
 use Rattle.lft_scope.proofs.Twice.{Any-at, twice_left}
 use Rattle.lft_nesting.proofs.Counting.{flat_at}
-use Rattle.lft_nesting.proofs.Zipping.{map_some}
 
 -- ---- places of names that stand once
 
@@ -30,7 +29,7 @@ place_is q (t ∷ ts) k e = by (bytes_eq q t) refl (λ j f. place_is q ts j f) e
   where
     by : (b : Bool) → bytes_eq q t ≡ b → ((j : ℕ) → place q ts ≡ Some j → slice_get ts j ≡ Some q) → cond b (Some 0) (option_map suc (place q ts)) ≡ Some k → slice_get (t ∷ ts) k ≡ Some q
     by true f go e = let same : q ≡ t = (bytes_eq-Decides q t).0 f in let z : 0 ≡ k = cc in subst (λ k. slice_get (t ∷ ts) k ≡ Some q) z (ap Some (sym same))
-    by false f go e = let m = map_some suc (place q ts) k e in subst (λ k. slice_get (t ∷ ts) k ≡ Some q) m.2 (go m.0 m.1)
+    by false f go e = let m = option_map_some suc (place q ts) k e in subst (λ k. slice_get (t ∷ ts) k ≡ Some q) m.2 (go m.0 m.1)
 
 place_there : (q : List ℕ) (xs : List (List ℕ)) (k : ℕ) → slice_get xs k ≡ Some q → (j : ℕ) × (place q xs ≡ Some j)
 place_there q [] k e = absurd (cc)
@@ -94,7 +93,7 @@ value_is (p ∷ ps) (v ∷ vs) name k e = by (bytes_eq name p.name) (λ j f. val
   where
     by : (b : Bool) → ((j : ℕ) → place name (map (λ p. p.name) ps) ≡ Some j → value_of ps vs name ≡ unwrap_or (slice_get vs j) 0) → cond b (Some 0) (option_map suc (place name (map (λ p. p.name) ps))) ≡ Some k → cond b v (value_of ps vs name) ≡ unwrap_or (slice_get (v ∷ vs) k) 0
     by true go e = let z : 0 ≡ k = cc in subst (λ k. v ≡ unwrap_or (slice_get (v ∷ vs) k) 0) z refl
-    by false go e = let m = map_some suc (place name (map (λ p. p.name) ps)) k e in go m.0 m.1 ∙ ap (λ k. unwrap_or (slice_get (v ∷ vs) k) 0) m.2
+    by false go e = let m = option_map_some suc (place name (map (λ p. p.name) ps)) k e in go m.0 m.1 ∙ ap (λ k. unwrap_or (slice_get (v ∷ vs) k) 0) m.2
 
 pub time_is : (x : Inside) (t : TimeTree) (clock : Clock) → (IsLongTime t → ⊥) → IsClock x.reactor t clock → clock_in x.values clock ≡ time_in x t
 time_is x (Written t) (Fixed n) short c = c ∙ kept_is (nanoseconds t) short

@@ -2,7 +2,7 @@
 use Rattle.std.proofs.Common.{◌≡◌, ℕ, List, [], Any, inl, sym, ap, ◌∙◌, subst, Some, slice_get, map, option_map, option_and_then}
 use Rattle.std.specs.List.{AllZip}
 use Rattle.std.specs.Option.{option_map_or}
-use Rattle.lft_lists.proofs.Mapped.{mapped_from}
+use Rattle.lft_lists.proofs.Mapped.{mapped_from, option_map_some}
 use Rattle.lft_tree.specs.Tree.{FileTree, ReactorTree, InstanceTree, nanoseconds, reactors_of, instances_of}
 use Rattle.lft_instances.specs.Contents.{contained}
 use Rattle.lft_instances.specs.Values.{defaults_of, entered as entered_by_number, given_by, values_in}
@@ -17,7 +17,7 @@ use Rattle.lft_scope.proofs.Twice.{Any-at}
 use Rattle.lft_nesting.proofs.Containing.{inner_at}
 use Rattle.lft_nesting.proofs.Entering.{entered_by, enters, made_in, step_forth}
 use Rattle.lft_nesting.proofs.Giving.{defaults_short, given_short, parameters_once, values_given}
-use Rattle.lft_nesting.proofs.Zipping.{map_some, zip_at}
+use Rattle.lft_nesting.proofs.Zipping.{zip_at}
 
 -- the reactor's number and the values are those of the instance
 abbrev pub HasValues : List ReactorTree → Inside → ℕ × List ℕ → Type 0
@@ -62,7 +62,7 @@ module _ (tree : FileTree) (contents : List Contents) (table : List Parameters) 
   values_back : (x : Inside) (p : ℕ × List ℕ) (k : ℕ) (q : ℕ × List ℕ) → HasValues (reactors_of tree) x p → entered_by_number contents table p k ≡ Some q → (y : Inside) × (entered tree x k ≡ Some y) × HasValues (reactors_of tree) y q
   values_back x p k q has e =
       let step : ℕ → ℕ × List ℕ = λ r. (r, values_in p.1 (given_by table p.0 k) (defaults_of table r)) in
-      let m = map_some step (contained contents p.0 k) q e in
+      let m = option_map_some step (contained contents p.0 k) q e in
       let i = inner_at (reactors_of tree) contents are_contents p.0 k m.0 x.reactor has.0 m.1 in
       let is = valued (reactors_of tree) table are first short x p k m.0 i.0 i.2.0 has i.1 i.2.1 i.2.2 in
       (made_in x i.0 i.2.0, enters tree x k i.0 i.2.0 i.1 i.2.1, subst (HasValues (reactors_of tree) (made_in x i.0 i.2.0)) m.2 (i.2.2, is))

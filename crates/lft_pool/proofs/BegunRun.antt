@@ -4,6 +4,9 @@ use Rattle.std.specs.List.{cons_option}
 use Rattle.std.proofs.lemmas.List.Elements.{filter_map-append}
 use Rattle.lft_tag.specs.declared.Tag.{Tag}
 use Rattle.lft_tag.specs.Tags.{UpTo, IsRecorded}
+use Rattle.lft_lists.proofs.Members.{Mem, mem_get}
+use Rattle.lft_lists.proofs.Places.{get_append_cases, get_left}
+use Rattle.lft_lists.proofs.Mapped.{mapped_from}
 use Rattle.lft_flat.specs.Parts.{inputs}
 use Rattle.lft_flat.specs.declared.parts.Value.{Value}
 use Rattle.lft_flat.specs.declared.parts.Name.{Name}
@@ -18,10 +21,7 @@ use Rattle.lft_model.specs.Runs.{Run, Ran, end_row, read_step, steps_of, inputs_
 use Rattle.lft_model.specs.Breaches.{IsOpen}
 use Rattle.lft_model.specs.OneWorker.{rows}
 use Rattle.lft_model.specs.Recorded.{SoFar, Follows, IsAnswer, OnlyEndedAnswer, run_row, begun_rows, answered, answered_steps, instance_of, word_after}
-use Rattle.lft_model.proofs.Members.{Mem, mem_get}
 use Rattle.lft_model.proofs.Places.{slice_get_within}
-use Rattle.lft_model.proofs.Blocks.{get_append, get_map}
-use Rattle.lft_model.proofs.Grown.{slice_get_more}
 use Rattle.lft_model.proofs.RunSteps.{in_reads, mem_zip}
 use Rattle.lft_model.proofs.Begun.{begun_so_far, same_runs, steps_same}
 use Rattle.lft_model.proofs.Quiet.{pending_time}
@@ -84,13 +84,13 @@ module _ (holds : ℕ → Tag → ℤ → List (Option Value) → Done → Type 
   -- each new row is at g, of r, and a start or a read
   new_row : (j : ℕ) (x : Row) → slice_get (begun_rows plan w g r shown) j ≡ Some x → (x.tag ≡ g) × (x.reaction ≡ r) × StepFits plan.program x.step × ¬ IsAnswer x.step
   new_row j x e =
-      let q = get_map (run_row w g r) (Start ∷ filter_map read_step (zip (inputs_of plan.program r) shown)) j x e in
+      let q = mapped_from (run_row w g r) (Start ∷ filter_map read_step (zip (inputs_of plan.program r) shown)) j x e in
       let s = new_step q.0 (mem_get (Start ∷ filter_map read_step (zip (inputs_of plan.program r) shown)) j q.0 q.1) in
       let z : q.0 ≡ x.step = ap (λ (y : Row). y.step) q.2 in
       (ap (λ (y : Row). y.tag) (sym q.2), ap (λ (y : Row). y.reaction) (sym q.2), subst (λ (y : Step). StepFits plan.program y) z s.0, subst (λ (y : Step). ¬ IsAnswer y) z s.1)
 
   fit : IsRecorded g → length (t ++ begun_rows plan w g r shown) ≤ 4000000 → RowsFit plan.program (t ++ begun_rows plan w g r shown)
-  fit recorded few = record { few = few; each = λ i x e. go i x (get_append t (begun_rows plan w g r shown) i x e) }
+  fit recorded few = record { few = few; each = λ i x e. go i x (get_append_cases t (begun_rows plan w g r shown) i x e) }
     where
       go : (i : ℕ) (x : Row) → (slice_get t i ≡ Some x) ⊎ ((j : ℕ) × (i ≡ length t + j) × (slice_get (begun_rows plan w g r shown) j ≡ Some x)) → RowFits plan.program x
       go i x (inl e) = is.fit.each i x e
@@ -99,10 +99,10 @@ module _ (holds : ℕ → Tag → ℤ → List (Option Value) → Done → Type 
           record { recorded = subst (λ (h : Tag). IsRecorded h) (sym n.0) recorded; reaction = subst (λ (c : ℕ). c < length plan.program.reactions) (sym n.1) (slice_get_within plan.program.reactions r reads.reaction reads.is_reaction); step = n.2 }
 
   quiet : OnlyEndedAnswer (t ++ begun_rows plan w g r shown)
-  quiet i x e a = go (get_append t (begun_rows plan w g r shown) i x e)
+  quiet i x e a = go (get_append_cases t (begun_rows plan w g r shown) i x e)
     where
       go : (slice_get t i ≡ Some x) ⊎ ((j : ℕ) × (i ≡ length t + j) × (slice_get (begun_rows plan w g r shown) j ≡ Some x)) → (k : ℕ) × (i < k) × (slice_get (t ++ begun_rows plan w g r shown) k ≡ Some (end_row x.worker x.tag x.reaction))
-      go (inl f) = let q = is.quiet i x f a in (q.0, q.1, slice_get_more t (begun_rows plan w g r shown) q.0 (end_row x.worker x.tag x.reaction) q.2)
+      go (inl f) = let q = is.quiet i x f a in (q.0, q.1, get_left t (begun_rows plan w g r shown) q.0 (end_row x.worker x.tag x.reaction) q.2)
       go (inr f) = absurd ((new_row f.0 x f.2).3 a)
 
   pub begun_recording : IsRecorded g → length (t ++ begun_rows plan w g r shown) ≤ 4000000 → IsRecording holds plan (t ++ begun_rows plan w g r shown) states

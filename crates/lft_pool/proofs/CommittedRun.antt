@@ -6,6 +6,9 @@ use Rattle.std.proofs.lemmas.List.{take-append-le}
 use Rattle.std.proofs.lemmas.List.Elements.{filter_map-append}
 use Rattle.lft_tag.specs.declared.Tag.{Tag}
 use Rattle.lft_tag.specs.Tags.{UpTo, IsRecorded}
+use Rattle.lft_lists.proofs.Members.{Mem, mem_get, mem_cases, mem_from_map, none_nil, last-append_some}
+use Rattle.lft_lists.proofs.Places.{get_append_cases, get_left}
+use Rattle.lft_lists.proofs.Mapped.{mapped_from}
 use Rattle.lft_flat.specs.declared.parts.Value.{Value}
 use Rattle.lft_trace.specs.declared.row.Row.{Row}
 use Rattle.lft_trace.specs.declared.row.Step.{Step}
@@ -17,13 +20,11 @@ use Rattle.lft_model.specs.Runs.{Run, start_row, end_row, step_of, steps_of, rea
 use Rattle.lft_model.specs.Breaches.{IsOpen}
 use Rattle.lft_model.specs.OneWorker.{HasRun, NoClash, InOrderOfPrecedence}
 use Rattle.lft_model.specs.Recorded.{Follows, IsAnswer, OnlyEndedAnswer, MayAnswer, run_row, committed_rows, answered, answered_steps, instance_of, word_left, word_after}
-use Rattle.lft_model.proofs.Members.{Mem, mem_get, mem_cases, mem_from_map, none_nil, last-append_some}
 use Rattle.lft_model.proofs.Places.{slice_get_within}
 use Rattle.lft_model.proofs.Legality.{IsOrdered, IsInner, Inside, KeepsFour, opened}
 use Rattle.lft_model.proofs.Steps.{step_row, row_step, RowOf, step_mem}
 use Rattle.lft_model.proofs.Ended.{all_ended}
-use Rattle.lft_model.proofs.Blocks.{get_append, get_map}
-use Rattle.lft_model.proofs.Grown.{added_none, slice_get_more}
+use Rattle.lft_model.proofs.Grown.{added_none}
 use Rattle.lft_model.proofs.Law.{EndRow, end_of_run, collision_down}
 use Rattle.lft_model.proofs.Reached.{all_stop}
 use Rattle.lft_model.proofs.Recording.{recorded_in_order}
@@ -57,7 +58,7 @@ module _ (holds : ℕ → Tag → ℤ → List (Option Value) → Done → Type 
   -- each new row is of the run, and one of its steps or the end
   new_row : (j : ℕ) (x : Row) → slice_get (committed_rows w g r steps) j ≡ Some x → (x ≡ run_row w g r x.step) × (slice_get (steps ++ End ∷ []) j ≡ Some x.step)
   new_row j x e =
-      let q = get_map (run_row w g r) (steps ++ End ∷ []) j x e in
+      let q = mapped_from (run_row w g r) (steps ++ End ∷ []) j x e in
       let z : q.0 ≡ x.step = ap (λ (y : Row). y.step) q.2 in
       (sym q.2 ∙ ap (λ (s : Step). run_row w g r s) z, q.1 ∙ ap Some z)
 
@@ -87,7 +88,7 @@ module _ (holds : ℕ → Tag → ℤ → List (Option Value) → Done → Type 
       precedence : InOrderOfPrecedence plan (t ++ committed_rows w g r steps)
       precedence h a c p first second =
           let b = recorded_in_order plan good t is.so_far h a c p (ran_before plan good t w g r steps ending h a first) (ran_before plan good t w g r steps ending h c second) in
-          record { ended_at = b.ended_at; started_at = b.started_at; worker = b.worker; other = b.other; ends = slice_get_more t (committed_rows w g r steps) b.ended_at (end_row b.worker h a) b.ends; starts = slice_get_more t (committed_rows w g r steps) b.started_at (start_row b.other h c) b.starts; before = b.before }
+          record { ended_at = b.ended_at; started_at = b.started_at; worker = b.worker; other = b.other; ends = get_left t (committed_rows w g r steps) b.ended_at (end_row b.worker h a) b.ends; starts = get_left t (committed_rows w g r steps) b.started_at (start_row b.other h c) b.starts; before = b.before }
 
   -- rows without a collision up to their stop make none by their ended runs
   no_clash : ((h : Tag) → UpTo h (stop plan (t ++ committed_rows w g r steps)) → ¬ Collision plan (t ++ committed_rows w g r steps) h) → NoClash plan (by_ends plan t ++ run_at plan (t ++ committed_rows w g r steps) g r ∷ [])
@@ -156,7 +157,7 @@ module _ (holds : ℕ → Tag → ℤ → List (Option Value) → Done → Type 
 
   -- each row is of the program
   pub committed_each : ((s : Step) → Mem s steps → StepFits plan.program s) → (i : ℕ) (x : Row) → slice_get (t ++ committed_rows w g r steps) i ≡ Some x → RowFits plan.program x
-  committed_each fits i x e = go i x (get_append t (committed_rows w g r steps) i x e)
+  committed_each fits i x e = go i x (get_append_cases t (committed_rows w g r steps) i x e)
     where
       its : RowFits plan.program (start_row w g r)
       its = is.fit.each open_run.start (start_row w g r) open_run.starts
@@ -189,14 +190,14 @@ module _ (holds : ℕ → Tag → ℤ → List (Option Value) → Done → Type 
 
         -- the pair of words of the k-th of the runs
         words_old : (k : ℕ) (words : ℤ × ℤ) → k < length (by_ends plan t) → slice_get (states ++ (before, after) ∷ []) k ≡ Some words → slice_get states k ≡ Some words
-        words_old k words l e = go (get_append states ((before, after) ∷ []) k words e)
+        words_old k words l e = go (get_append_cases states ((before, after) ∷ []) k words e)
           where
             go : (slice_get states k ≡ Some words) ⊎ ((j : ℕ) × (k ≡ length states + j) × (slice_get ((before, after) ∷ []) j ≡ Some words)) → slice_get states k ≡ Some words
             go (inl f) = f
             go (inr f) = let z : k ≡ length states + f.0 = f.1 in let y : length states ≡ length (by_ends plan t) = lengths in absurd (omega arith)
 
         words_new : (k : ℕ) (words : ℤ × ℤ) → k ≡ length (by_ends plan t) → slice_get (states ++ (before, after) ∷ []) k ≡ Some words → (before, after) ≡ words
-        words_new k words q e = go (get_append states ((before, after) ∷ []) k words e)
+        words_new k words q e = go (get_append_cases states ((before, after) ∷ []) k words e)
           where
             at : (j : ℕ) → slice_get ((before, after) ∷ []) j ≡ Some words → (before, after) ≡ words
             at zero f = cc
@@ -208,7 +209,7 @@ module _ (holds : ℕ → Tag → ℤ → List (Option Value) → Done → Type 
 
         -- the runs: an old one, or the new one at their end
         old_or_new : (k : ℕ) (u : Run) → slice_get (by_ends plan t ++ run_at plan (t ++ committed_rows w g r steps) g r ∷ []) k ≡ Some u → (slice_get (by_ends plan t) k ≡ Some u) ⊎ ((k ≡ length (by_ends plan t)) × (run_at plan (t ++ committed_rows w g r steps) g r ≡ u))
-        old_or_new k u e = go (get_append (by_ends plan t) (run_at plan (t ++ committed_rows w g r steps) g r ∷ []) k u e)
+        old_or_new k u e = go (get_append_cases (by_ends plan t) (run_at plan (t ++ committed_rows w g r steps) g r ∷ []) k u e)
           where
             at : (j : ℕ) → k ≡ length (by_ends plan t) + j → slice_get (run_at plan (t ++ committed_rows w g r steps) g r ∷ []) j ≡ Some u → (k ≡ length (by_ends plan t)) × (run_at plan (t ++ committed_rows w g r steps) g r ≡ u)
             at zero q f = (omega arith, cc)

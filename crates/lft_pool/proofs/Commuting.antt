@@ -2,6 +2,7 @@
 use Rattle.std.proofs.Common.{◌≡◌, ℕ, List, [], ◌∷◌, ◌++◌, sym, ap, ◌∙◌, subst, Some}
 use Rattle.lft_tag.specs.declared.Tag.{Tag}
 use Rattle.lft_tag.proofs.Order.{UpTo_antisym}
+use Rattle.lft_lists.proofs.Members.{Mem, get_mem}
 use Rattle.lft_trace.specs.declared.row.Row.{Row}
 use Rattle.lft_trace.specs.declared.row.Step.{Step}
 use Rattle.lft_model.specs.Plans.{PlanParts, IsSoundPlan}
@@ -9,7 +10,6 @@ use Rattle.lft_model.specs.Presence.{Triggered, Inputs}
 use Rattle.lft_model.specs.Runs.{Run, run_at, start_row, by_ends}
 use Rattle.lft_model.specs.OneWorker.{Ready, rows}
 use Rattle.lft_model.specs.Recorded.{MayAnswer, committed_rows}
-use Rattle.lft_model.proofs.Members.{Mem, get_mem}
 use Rattle.lft_model.proofs.Legality.{one_starter}
 use Rattle.lft_model.proofs.Grown.{open_triggered, open_inputs}
 use Rattle.lft_model.proofs.Committed.{now, committed_runs}

@@ -2,6 +2,7 @@
 use Rattle.std.proofs.Common.{◌≡◌, ℕ, ◌<◌, ◌⊎◌, inl, inr, List, [], ◌∷◌, length, refl, ap, ◌∙◌, subst, arith, Option, Some, slice_get, filter_map, ℤ, zero, suc, replicate}
 use Rattle.std.specs.List.{AllZip}
 use Rattle.lft_tag.specs.declared.Tag.{Tag}
+use Rattle.lft_lists.proofs.Members.{Mem, mem_cases, mem_from_filter, mem_contains}
 use Rattle.lft_flat.specs.Parts.{Parts, inputs, named}
 use Rattle.lft_flat.specs.Sound.{IsSound, IsNameOf, IsTriggerOf}
 use Rattle.lft_flat.specs.declared.parts.Value.{Value}
@@ -15,7 +16,6 @@ use Rattle.lft_model.specs.Runs.{Run, Ran, end_row, by_ends}
 use Rattle.lft_model.specs.Breaches.{Legal}
 use Rattle.lft_model.specs.OneWorker.{HasRun}
 use Rattle.lft_model.specs.Recorded.{SoFar}
-use Rattle.lft_model.proofs.Members.{Mem, mem_cases, mem_from_filter, mem_contains}
 use Rattle.lft_model.proofs.Legality.{KeepsFour, opened, one_start, one_starter, ran_at}
 use Rattle.lft_model.proofs.Ended.{all_ended}
 use Rattle.lft_model.proofs.Law.{EndRow, end_of_run}

@@ -12,10 +12,10 @@ use Rattle.lft_trace.specs.declared.row.Step.TheVariants.{Start, Read, Write, Sc
 use Rattle.lft_trace.specs.Fits.{StepFits}
 use Rattle.lft_model.specs.Plans.{PlanParts}
 use Rattle.lft_tag.specs.declared.Tag.{Tag}
+use Rattle.lft_lists.proofs.Members.{Mem, get_mem}
 use Rattle.lft_model.specs.Recorded.{MayAnswer, SoFar, committed_rows}
 use Rattle.lft_agenda.specs.Agendas.{AgendaParts, IsAgenda, EndsWith}
 use Rattle.lft_recording.specs.Collisions.{IsClean}
-use Rattle.lft_model.proofs.Members.{Mem, get_mem}
 use Rattle.lft_bodies.specs.declared.done.Done.{Done}
 use Rattle.lft_bodies.specs.declared.ticket.Ticket.{Ticket}
 use Rattle.lft_pool.specs.declared.stop.Stop.{Stop}

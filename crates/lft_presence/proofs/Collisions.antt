@@ -6,6 +6,8 @@ use Rattle.lft_tag.specs.Tags.{Before, UpTo}
 use Rattle.lft_tag.specs.Shifts.{Folded, shifted}
 use Rattle.lft_tag.proofs.Order.{UpTo-trans, UpTo-not}
 use Rattle.lft_tag.proofs.Chains.{tag_of as tag_from}
+use Rattle.lft_lists.proofs.Places.{get_push_cases}
+use Rattle.lft_flat.proofs.Origins.{origin_within}
 use Rattle.lft_flat.specs.Parts.{Parts}
 use Rattle.lft_flat.specs.Origins.{Origin}
 use Rattle.lft_flat.specs.Origins.Origin.{itself, over}
@@ -22,7 +24,6 @@ use Rattle.lft_presence.specs.Causes.{tag_of, AreCauses, AreNear, IsNear}
 use Rattle.lft_presence.specs.Traces.{LeastTag, IsSooner}
 use Rattle.lft_presence.specs.Clashes.{Among, IsPair, IsFirstPair, AreDoubles, HasTwo, PortsClash, ActionsClash, IsClash}
 use Rattle.lft_presence.proofs.Positions.{shifted_mono}
-use Rattle.lft_presence.proofs.Lists.{get_cases}
 use Rattle.lft_presence.proofs.Leasts.{least_as, least_of_both}
 use Rattle.lft_presence.proofs.Presences.{ChainOf, port_from, port_cause_at}
 use Rattle.lft_presence.proofs.Twice.{IsTwo, two_causes, two_events}
@@ -125,7 +126,7 @@ pub doubles_begin : (causes : List Cause) → AreDoubles causes 0 []
 doubles_begin causes = record { as_long = refl; each = λ p o e. absurd (cc) }
 
 pub doubles_more : (causes : List Cause) (n : ℕ) (doubles : List (Option Cause)) (o : Option Cause) → IsFirstPair causes true n o → AreDoubles causes n doubles → AreDoubles causes (n + 1) (doubles ++ o ∷ [])
-doubles_more causes n doubles o h d = record { as_long = length-append doubles (o ∷ []) ∙ ap (λ k. k + 1) d.as_long; each = λ p x e. each p x (get_cases doubles o p x e) }
+doubles_more causes n doubles o h d = record { as_long = length-append doubles (o ∷ []) ∙ ap (λ k. k + 1) d.as_long; each = λ p x e. each p x (get_push_cases doubles o p x e) }
   where
     each : (p : ℕ) (x : Option Cause) → (slice_get doubles p ≡ Some x) ⊎ ((p ≡ length doubles) × (o ≡ x)) → IsFirstPair causes true p x
     each p x (inl e) = d.each p x e
@@ -134,11 +135,6 @@ doubles_more causes n doubles o h d = record { as_long = length-append doubles (
 -- a shift can be added to the tag of a pair's later cause
 pub pair_near : (causes : List Cause) → AreNear causes → (b : Bool) (name : ℕ) (c : Cause) → IsFirstPair causes b name (Some c) → IsNear (tag_of c)
 pair_near causes near b name c h = near h.0.2.0 c h.0.2.1
-
--- a port that has an origin is of the program
-port_known : {program : Parts} {p o : ℕ} {ds : List ℕ} → Origin program p o ds → p < length program.ports
-port_known {program} {p} (itself x e n) = slice_get_within program.ports p x e
-port_known {program} {p} (over x s first e n way l) = slice_get_within program.ports p x e
 
 -- the first collision is that of a port or of an action, up to the stop
 module _ (plan : PlanParts) (t : List Row) (o : Option Tag) (ports actions : Option Tag) (h : LeastTag (PortsClash plan t (length plan.program.ports)) ports) (k : LeastTag (ActionsClash plan t (length plan.program.actions)) actions) (e : IsSooner ports actions o) (known : (g : Tag) (a : ℕ) → HasTwo plan t g a → a < length plan.program.actions) where
@@ -150,7 +146,7 @@ module _ (plan : PlanParts) (t : List Row) (o : Option Tag) (ports actions : Opt
       to g (inr x) = (Action x.0, x.2)
 
       by : (g : Tag) (n : Name) → ClashesAt plan t g n → PortsClash plan t (length plan.program.ports) g ⊎ ActionsClash plan t (length plan.program.actions) g
-      by g (Port p) x = inl (p, port_known x.is_first.is_origin, x)
+      by g (Port p) x = inl (p, origin_within x.is_first.is_origin, x)
       by g (Action a) x = inr (a, known g a x, x)
 
       from : (g : Tag) → Collision plan t g → PortsClash plan t (length plan.program.ports) g ⊎ ActionsClash plan t (length plan.program.actions) g

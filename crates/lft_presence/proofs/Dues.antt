@@ -2,10 +2,10 @@
 use Rattle.std.proofs.Common.{◌≡◌, ℕ, ◌+◌, ◌<◌, ◌≤◌, ◌⊎◌, inl, inr, List, [], ◌∷◌, ◌++◌, length, sym, ap, ◌∙◌, subst, arith, Some, slice_get}
 use native.Mathlib.Decide.{ℕ_discrete}
 use Rattle.lft_tag.specs.declared.Tag.{Tag}
+use Rattle.lft_lists.proofs.Places.{get_left, get_last, get_push_cases}
 use Rattle.lft_model.specs.Presence.{Triggered}
 use Rattle.lft_model.proofs.Places.{slice_get_within}
 use Rattle.lft_presence.specs.Traces.{TraceParts, AreDue}
-use Rattle.lft_presence.proofs.Lists.{get_left, get_last, get_cases}
 
 -- the reactions below n that are due
 pub record AreDueTo (cut : TraceParts) (g : Tag) (n : ℕ) (due : List ℕ) : Type 0 where
@@ -26,7 +26,7 @@ module _ (cut : TraceParts) (g : Tag) (n : ℕ) (due : List ℕ) (so_far : AreDu
       go a l x (no e) = so_far.each a (omega arith) x
 
   pub due_more : Triggered cut.plan cut.rows g n → AreDueTo cut g (n + 1) (due ++ n ∷ [])
-  due_more h = record { ascending = λ j k a b l p q. up j k a b l (get_cases due n j a p) (get_cases due n k b q); triggered = λ k a e. has a (get_cases due n k a e); below = λ k a e. low a (get_cases due n k a e); each = λ a l x. go a l x (ℕ_discrete a n) }
+  due_more h = record { ascending = λ j k a b l p q. up j k a b l (get_push_cases due n j a p) (get_push_cases due n k b q); triggered = λ k a e. has a (get_push_cases due n k a e); below = λ k a e. low a (get_push_cases due n k a e); each = λ a l x. go a l x (ℕ_discrete a n) }
     where
       up : (j k a b : ℕ) → j < k → (slice_get due j ≡ Some a) ⊎ ((j ≡ length due) × (n ≡ a)) → (slice_get due k ≡ Some b) ⊎ ((k ≡ length due) × (n ≡ b)) → a < b
       up j k a b l (inl p) (inl q) = so_far.ascending j k a b l p q

@@ -3,12 +3,12 @@ use Rattle.std.proofs.Common.{◌≡◌, ℕ, ◌<◌, ◌⊎◌, inl, inr, List
 use Rattle.lft_tag.specs.declared.Tag.{Tag}
 use Rattle.lft_tag.specs.Tags.{UpTo}
 use Rattle.lft_tag.proofs.Order.{UpTo-trans, Before-weaken}
+use Rattle.lft_lists.proofs.Members.{mem_get, get_mem, mem_contains, contains_mem}
 use Rattle.lft_flat.specs.Parts.{Parts}
 use Rattle.lft_flat.specs.Sound.{IsSound, IsTriggerOf}
 use Rattle.lft_flat.specs.declared.parts.Trigger.{Trigger}
 use Rattle.lft_flat.specs.declared.parts.Reaction.{Reaction}
 use Rattle.lft_model.specs.Presence.{Occurs, Triggered}
-use Rattle.lft_model.proofs.Members.{mem_get, get_mem, mem_contains, contains_mem}
 use Rattle.lft_model.proofs.Places.{slice_get_within}
 use Rattle.lft_presence.specs.Traces.{TraceParts, LeastTag, IsSooner}
 

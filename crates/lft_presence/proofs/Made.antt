@@ -11,6 +11,8 @@ use native.Mathlib.Decide.{ℕ_discrete}
 use Rattle.lft_tag.specs.declared.Tag.{Tag}
 use Rattle.lft_tag.specs.Tags.{IsRecorded, after}
 use Rattle.lft_tag.proofs.Chains.{tag_of as tag_from}
+use Rattle.lft_lists.proofs.Members.{mem_get, get_mem, mem_contains, contains_mem}
+use Rattle.lft_lists.proofs.Places.{get_left, get_last, get_push_cases}
 use Rattle.lft_flat.specs.Parts.{Parts}
 use Rattle.lft_flat.specs.Sound.{IsSound}
 use Rattle.lft_flat.specs.declared.parts.Action.{Action as ActionOf}
@@ -22,11 +24,9 @@ use Rattle.lft_trace.specs.declared.externals.Event.{Event}
 use Rattle.lft_trace.specs.Fits.{RowsFit, StepFits}
 use Rattle.lft_model.specs.Plans.{PlanParts, IsSoundPlan}
 use Rattle.lft_model.specs.Presence.{min_delay}
-use Rattle.lft_model.proofs.Members.{mem_get, get_mem, mem_contains, contains_mem}
 use Rattle.lft_model.proofs.Places.{slice_get_within}
 use Rattle.lft_presence.specs.declared.causes.Cause.{Cause}
 use Rattle.lft_presence.specs.Causes.{tag_of, ComesUpTo, AreAscending, IsNear, AreNear, HasJust, IsRowCause, IsEventCause, IsCause, AreCauses, step_cause, event_cause}
-use Rattle.lft_presence.proofs.Lists.{get_left, get_last, get_cases}
 
 -- a list that has just one kind has just another that is the same
 pub just_as : (P Q : Cause → Type 0) (cs : List Cause) → HasJust P cs → ((c : Cause) → P c → Q c) → ((c : Cause) → Q c → P c) → HasJust Q cs
@@ -34,7 +34,7 @@ just_as P Q cs h to from = record { only = λ k c e. to c (h.only k c e); each =
 
 -- one more at the end
 pub just_more : (P Q : Cause → Type 0) (cs : List Cause) (x : Cause) → HasJust P cs → ((c : Cause) → P c → Q c) → Q x → ((c : Cause) → Q c → P c ⊎ (x ≡ c)) → HasJust Q (cs ++ x ∷ [])
-just_more P Q cs x h to here from = record { only = λ k c e. only c (get_cases cs x k c e); each = λ c q. each c (from c q) }
+just_more P Q cs x h to here from = record { only = λ k c e. only c (get_push_cases cs x k c e); each = λ c q. each c (from c q) }
   where
     only : (c : Cause) → {k : ℕ} → (slice_get cs k ≡ Some c) ⊎ ((k ≡ length cs) × (x ≡ c)) → Q c
     only c {k} (inl e) = to c (h.only k c e)

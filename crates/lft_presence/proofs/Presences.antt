@@ -3,12 +3,13 @@ use Rattle.std.proofs.Common.{◌≡◌, ℕ, ◌+◌, ◌-◌, ◌<◌, ◌≤�
 use Rattle.std.specs.List.{last_or}
 use Rattle.std.proofs.lemmas.Bool.{cases_lt, eq-eqb, and_from}
 use native.Mathlib.Decide.{ℕ_discrete}
-use Rattle.lft_flat.proofs.Origins.{origin_unique}
+use Rattle.lft_flat.proofs.Origins.{origin_unique, origin_inside}
 use Rattle.lft_tag.specs.declared.Tag.{Tag}
 use Rattle.lft_tag.specs.Tags.{Before, UpTo, after, after_all, same_tag}
 use Rattle.lft_tag.specs.Shifts.{Folded, shifted}
 use Rattle.lft_tag.proofs.Order.{UpTo-not, Before-irrefl}
 use Rattle.lft_tag.proofs.Chains.{tag_of as tag_from, shifted_chain}
+use Rattle.lft_lists.proofs.Members.{Mem, mem_get, get_mem, mem_contains, contains_mem, mem_filter, mem_from_filter, mem_left, mem_right, mem_cases, last_at, last_by_place, last_of_mem}
 use Rattle.lft_flat.specs.Parts.{Parts}
 use Rattle.lft_flat.specs.Origins.{Origin}
 use Rattle.lft_flat.specs.Sound.{IsSound}
@@ -24,7 +25,6 @@ use Rattle.lft_trace.specs.declared.externals.Event.{Event}
 use Rattle.lft_trace.specs.Fits.{RowsFit, StepFits}
 use Rattle.lft_model.specs.Plans.{PlanParts}
 use Rattle.lft_model.specs.Presence.{value_written, written, value_scheduled, scheduled, given, min_delay, events_of, IsWrittenFrom, At, IsPresent}
-use Rattle.lft_model.proofs.Members.{Mem, mem_get, get_mem, mem_contains, contains_mem, mem_filter, mem_from_filter, mem_left, mem_right, mem_cases, last_at, last_by_place, last_of_mem}
 use Rattle.lft_model.proofs.Places.{slice_get_within}
 use Rattle.lft_model.proofs.Ended.{Schedules, written_by, by_written, scheduled_by, by_scheduled}
 use Rattle.lft_model.proofs.Steps.{written_some, some_written, scheduled_some, some_scheduled, same_tag_refl, same_tag_true, cond_some, both_true}
@@ -167,7 +167,7 @@ step_carries program g i (Schedule n v d) c e f = absurd (cc)
 step_carries program g i Stop c e f = absurd (cc)
 step_carries program g i End c e f = absurd (cc)
 
-same_row : (t : List Row) (i j : ℕ) (x y : Row) → i ≡ j → slice_get t i ≡ Some x → slice_get t j ≡ Some y → x ≡ y
+pub same_row : (t : List Row) (i j : ℕ) (x y : Row) → i ≡ j → slice_get t i ≡ Some x → slice_get t j ≡ Some y → x ≡ y
 same_row t i j x y e p q = let a : Some x ≡ Some y = sym p ∙ ap (λ k. slice_get t k) e ∙ q in cc
 
 -- the row of a cause at whose place a row stands
@@ -192,10 +192,6 @@ pub value_from : (plan : PlanParts) (t : List Row) (name : ℕ) (s : Folded) (g 
 value_from plan t name s g c (Some v) last carries = (c, last, carries)
 value_from plan t name s g c None last (inl x) = absurd (step_carries plan.program x.0.tag c.place x.0.step c (row_of plan t c x.0 last.0 x.1) x.2)
 value_from plan t name s g c None last (inr x) = let e : None ≡ Some x.1.value = x.4 in absurd (cc)
-
-pub origin_known : {program : Parts} {p o : ℕ} {ds : List ℕ} → Origin program p o ds → o < length program.ports
-origin_known {program} {p} (itself x e n) = slice_get_within program.ports p x e
-origin_known (over x s first e n way l) = origin_known way
 
 -- each cause carries a value
 pub carrier : (plan : PlanParts) (t : List Row) (c : Cause) → IsCause plan t c → (v : Value) × Carries plan t c (Some v)
@@ -225,7 +221,7 @@ module _ (plan : PlanParts) (t : List Row) (g : Tag) (p : ℕ) (port : PortOf) (
   s = (port.shift.time, port.shift.steps)
 
   known : port.origin < length plan.program.ports
-  known = origin_known chain.is_origin
+  known = origin_inside chain.is_origin
 
   -- a row that writes the origin is a cause
   written_cause : (i : ℕ) (row : Row) (v : Value) → slice_get t i ≡ Some row → value_written port.origin row.step ≡ Some v → IsCause plan t (cause port.origin row.tag i)

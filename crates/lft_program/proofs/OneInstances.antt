@@ -3,11 +3,12 @@ use Rattle.std.proofs.Common.{◌≡◌, ℕ, suc, Bool, true, false, cond, List
 use Rattle.std.specs.Option.{option_map}
 use Rattle.lft_lists.proofs.Places.{Some_same}
 use Rattle.lft_tree.specs.Tree.{FileTree, ReactorTree, InstanceTree, reactors_of, instances_of}
+use Rattle.lft_lists.proofs.Mapped.{option_map_some}
 use Rattle.lft_instances.specs.Paths.{along, IsPreOrder}
 use Rattle.lft_instances.proofs.Unique.{pre_order_unique}
 use Rattle.lft_scope.specs.Instances.{Inside, IsInside, is_called, reactor_named, given_in, entered, main_of, main_instance}
 use Rattle.lft_nesting.specs.Located.{Located, AreLocated}
-use Rattle.lft_nesting.proofs.Zipping.{then_some, map_some}
+use Rattle.lft_nesting.proofs.Zipping.{then_some}
 
 -- what is found stands in the list
 found_in : {X : Type 0} (p : X → Bool) (xs : List X) (x : X) → find p xs ≡ Some x → (k : ℕ) × (slice_get xs k ≡ Some x)
@@ -28,7 +29,7 @@ pub enters : (tree : FileTree) (x : Inside) (k : ℕ) (y : Inside) → entered t
 enters tree x k y e =
     let made : InstanceTree → ReactorTree → Inside = λ i r. record { reactor = r; values = map (given_in x i.given) r.parameters } in
     let i = then_some (λ i. option_map (made i) (reactor_named (reactors_of tree) i.reactor)) (slice_get (instances_of x.reactor) k) y e in
-    let r = map_some (made i.0) (reactor_named (reactors_of tree) i.0.reactor) y i.2 in
+    let r = option_map_some (made i.0) (reactor_named (reactors_of tree) i.0.reactor) y i.2 in
     record { instance = i.0; there = i.1; named = r.1 ∙ ap (λ (z : Inside). Some z.reactor) r.2 }
 
 -- the reactor is one of the file

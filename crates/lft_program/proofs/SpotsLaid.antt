@@ -5,6 +5,7 @@ use Rattle.std.specs.List.{AllZip}
 use Rattle.std.proofs.lemmas.Option.{slice_get_within}
 use Rattle.std.proofs.lemmas.List.{length-map}
 use Rattle.lft_tree.specs.Tree.{FileTree, ReactorTree, ReactionTree, RefTree, TriggerTree, AtStartup, AtShutdown, OnRef, reactors_of, ports_of, timers_of, actions_of, reactions_of}
+use Rattle.lft_lists.proofs.Mapped.{option_map_some}
 use Rattle.lft_instances.specs.Joins.{port_at}
 use Rattle.lft_instances.specs.declared.numbering.Thing.{Thing}
 use Rattle.lft_scope.specs.Instances.{Thing as Spoken, thing_at, stands_inside, stands_for}
@@ -26,7 +27,7 @@ use Rattle.lft_nesting.proofs.Declared.{declared_from}
 use Rattle.lft_nesting.proofs.Ends.{place_at, standing}
 use Rattle.lft_nesting.proofs.Ports.{as_many, number_at, thing_forth}
 use Rattle.lft_nesting.proofs.Singles.{place_forth}
-use Rattle.lft_nesting.proofs.Zipping.{map_some, zip_at}
+use Rattle.lft_nesting.proofs.Zipping.{zip_at}
 use Rattle.lft_program.specs.Flattening.{IsName, IsReaction, IsTrigger}
 use Rattle.lft_program.specs.Laying.{Each, HasCues, HasName, HasTrigger, IsReactionAt, cues_at, name_at, trigger_at}
 use Rattle.lft_program.specs.OfTree.{AreOfTree}
@@ -128,7 +129,7 @@ module _ (tree : FileTree) (tables : Tables) (nest : Nest) (links : List Linked)
         let same : Timer t.0 ≡ x = (let e : Some (Timer t.0) ≡ Some x = sym (ap (option_map Timer) t.2) ∙ made in cc) in
         subst (IsTrigger all l (OnRef ref)) same (t.1, t.3, t.4)
     is_trigger (OnRef ref) (cues.On spot) x is made =
-        let n = map_some On (name_at nest k spot) x made in
+        let n = option_map_some On (name_at nest k spot) x made in
         subst (IsTrigger all l (OnRef ref)) n.2 (is_name ref spot n.0 is n.1)
 
     -- the same of all names of a reaction

@@ -3,6 +3,7 @@ use Rattle.std.proofs.Common.{◌≡◌, ℕ, zero, suc, ◌+◌, ◌<◌, List,
 use Rattle.std.proofs.lemmas.List.{map-append}
 use Rattle.std.proofs.lemmas.List.Elements.{filter_map-append}
 use Rattle.lft_tag.specs.declared.Tag.{Tag}
+use Rattle.lft_flat.proofs.Naming.{named_none}
 use Rattle.lft_flat.specs.declared.parts.Value.{Value}
 use Rattle.lft_flat.specs.declared.parts.Name.{Name}
 use Rattle.lft_flat.specs.Parts.{named}
@@ -26,10 +27,3 @@ read_more w g r names i n shown d e l =
     let ps = zip (take i names) shown in
     let a : zip (take (i + 1) names) shown ≡ ps ++ (n, get_or shown i d) ∷ [] = ap (λ k. zip (take k names) shown) (add-one i) ∙ zip_more names i n shown d e l in
     sym (ap (λ qs. map (run_row w g r) (Start ∷ filter_map read_step qs)) a ∙ ap (λ ss. map (run_row w g r) (Start ∷ ss)) (filter_map-append read_step ps ((n, get_or shown i d) ∷ [])) ∙ map-append (run_row w g r) (Start ∷ filter_map read_step ps) (filter_map read_step ((n, get_or shown i d) ∷ [])))
-
--- a trigger that is no port and no action names none
-pub named_none : (x : Trigger) → ((n : Name) → ¬ (x ≡ On n)) → named x ≡ None
-named_none Startup other = refl
-named_none Shutdown other = refl
-named_none (Timer k) other = refl
-named_none (On n) other = absurd (other n refl)

@@ -6,14 +6,13 @@ use Rattle.lft_tag.specs.Tags.{Before, UpTo}
 use Rattle.lft_tag.proofs.Order.{order_cases, UpTo_antisym}
 use Rattle.lft_trace.specs.declared.row.Row.{Row}
 use Rattle.lft_trace.specs.declared.row.Step.TheVariants.{Start}
-use Rattle.lft_lists.proofs.Places.{get_there, same_at, get_write_cases, get_unwritten, get_push, get_last, get_push_cases, length_written, get_same}
+use Rattle.lft_lists.proofs.Places.{get_there, same_at, get_write_cases, get_unwritten, get_push, get_last, get_push_cases, length_written, get_same, get_append_cases}
 use Rattle.lft_model.specs.Plans.{PlanParts}
 use Rattle.lft_model.specs.Presence.{Triggered}
 use Rattle.lft_model.specs.Runs.{start_row, Ran}
 use Rattle.lft_model.proofs.Ended.{row_is}
 use Rattle.lft_model.proofs.Legality.{four, rising, one_start}
 use Rattle.lft_model.proofs.Places.{slice_get_within, slice_get_take}
-use Rattle.lft_model.proofs.Blocks.{get_append}
 use Rattle.lft_flat.proofs.Ranges.{slice_get-drop}
 use Rattle.lft_presence.specs.Traces.{TraceParts, LeastTag}
 use Rattle.lft_presence.proofs.Leasts.{least_as}
@@ -162,7 +161,7 @@ vacant_of cut r gs o are h = least_as (Lacks cut gs r) (IsVacant cut r) o h (λ 
 
 -- where the front of a list is written over, an item is one of those or an old one
 written_over : (new old : List Bool) (n i : ℕ) → slice_get (take n (new ++ drop (length new) old)) i ≡ Some true → (slice_get new i ≡ Some true) ⊎ (slice_get old i ≡ Some true)
-written_over new old n i e = go (get_append new (drop (length new) old) i true (slice_get_take n (new ++ drop (length new) old) i true e).1)
+written_over new old n i e = go (get_append_cases new (drop (length new) old) i true (slice_get_take n (new ++ drop (length new) old) i true e).1)
   where
     go : (slice_get new i ≡ Some true) ⊎ ((j : ℕ) × (i ≡ length new + j) × (slice_get (drop (length new) old) j ≡ Some true)) → (slice_get new i ≡ Some true) ⊎ (slice_get old i ≡ Some true)
     go (inl p) = inl p

@@ -9,13 +9,12 @@ use Rattle.lft_flat.specs.declared.parts.Reaction.{Reaction}
 use Rattle.lft_flat.specs.declared.parts.Value.{Value}
 use Rattle.lft_trace.specs.declared.row.Row.{Row}
 use Rattle.lft_trace.specs.declared.row.Step.TheVariants.{Read}
-use Rattle.lft_lists.proofs.Places.{at_contains, contains_at, get_there, get_write_cases, get_push, get_last, length_written, same_some}
-use Rattle.lft_model.proofs.Members.{mem_get}
+use Rattle.lft_lists.proofs.Places.{at_contains, contains_at, get_there, get_write_cases, get_push, get_last, length_written, same_some, get_push_cases}
+use Rattle.lft_lists.proofs.Members.{mem_get}
 use Rattle.lft_model.proofs.Counted.{NamesApart, names_apart}
 use Rattle.lft_model.proofs.Places.{slice_get_within}
 use Rattle.lft_slices.specs.declared.marks.Marks.{Marks}
 use Rattle.lft_slices.specs.Marks.{width, HasSeat, AreLaid, IsLaid, Mark, IsMarkedBy, AreNoneFrom, ReadsFor, NoneReads, IsMark, AreBefore, AreMarks}
-use Rattle.lft_presence.proofs.Lists.{get_cases}
 
 -- a seat is one of the reaction's
 pub seat_within : (x : Reaction) (n : Name) (k : ℕ) → HasSeat x n k → k < width x
@@ -188,7 +187,7 @@ laid_more reactions n names firsts places more x ex h size none = record { many 
     size_is = size
 
     within : (r f : ℕ) (y : Reaction) → slice_get reactions r ≡ Some y → slice_get (firsts ++ length places ∷ []) r ≡ Some f → f + width y ≤ length more
-    within r f y ey ef = go (get_cases firsts (length places) r f ef)
+    within r f y ey ef = go (get_push_cases firsts (length places) r f ef)
       where
         go : (slice_get firsts r ≡ Some f) ⊎ ((r ≡ length firsts) × (length places ≡ f)) → f + width y ≤ length more
         go (inl e) = let a : f + width y ≤ length places = h.laid.within r f y ey e in omega arith
@@ -200,7 +199,7 @@ laid_more reactions n names firsts places more x ex h size none = record { many 
             omega arith
 
     apart : (r s f g : ℕ) (y : Reaction) → r < s → slice_get reactions r ≡ Some y → slice_get (firsts ++ length places ∷ []) r ≡ Some f → slice_get (firsts ++ length places ∷ []) s ≡ Some g → f + width y ≤ g
-    apart r s f g y l ey ef eg = go (get_cases firsts (length places) r f ef) (get_cases firsts (length places) s g eg)
+    apart r s f g y l ey ef eg = go (get_push_cases firsts (length places) r f ef) (get_push_cases firsts (length places) s g eg)
       where
         go : (slice_get firsts r ≡ Some f) ⊎ ((r ≡ length firsts) × (length places ≡ f)) → (slice_get firsts s ≡ Some g) ⊎ ((s ≡ length firsts) × (length places ≡ g)) → f + width y ≤ g
         go (inl d) (inl e) = h.laid.apart r s f g y l ey d e
@@ -218,7 +217,7 @@ none_written i places k m l up h j x e = go (get_write_cases places k j m x l e)
 
 -- one zero more
 pub none_pushed : (places : List ℕ) → AreNoneFrom 0 places → AreNoneFrom 0 (places ++ 0 ∷ [])
-none_pushed places h k m e = go (get_cases places 0 k m e)
+none_pushed places h k m e = go (get_push_cases places 0 k m e)
   where
     go : (slice_get places k ≡ Some m) ⊎ ((k ≡ length places) × (0 ≡ m)) → m ≤ 0
     go (inl q) = h k m q

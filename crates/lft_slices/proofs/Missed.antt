@@ -3,7 +3,7 @@ use Rattle.std.proofs.Common.{◌≡◌, ℕ, ◌+◌, ◌*◌, ◌<◌, ◌≤�
 use native.Mathlib.Decide.{ℕ_discrete}
 use Rattle.lft_tag.specs.declared.Tag.{Tag}
 use Rattle.lft_tag.specs.Tags.{Before, UpTo}
-use Rattle.lft_tag.proofs.Order.{UpTo-trans, UpTo_antisym, Before-weaken, order_cases, Before-UpTo}
+use Rattle.lft_tag.proofs.Order.{UpTo-trans, UpTo_antisym, Before-weaken, order_cases, Before-UpTo, split_up}
 use Rattle.lft_flat.specs.Parts.{Parts}
 use Rattle.lft_flat.specs.Sound.{IsSound, IsTriggerOf}
 use Rattle.lft_flat.specs.declared.parts.Trigger.{Trigger}
@@ -78,14 +78,6 @@ first_begin P g r l x = omega arith
 last_or_less : (a n : ℕ) → a < n + 1 → Dec (a ≡ n) → (a < n) ⊎ (a ≡ n)
 last_or_less a n l (yes e) = inr e
 last_or_less a n l (no m) = inl (omega arith)
-
--- g comes before h or is h
-split_up : (g h : Tag) → UpTo g h → Before g h ⊎ (g ≡ h)
-split_up g h u = go (order_cases g h)
-  where
-    go : Before g h ⊎ UpTo h g → Before g h ⊎ (g ≡ h)
-    go (inl b) = inl b
-    go (inr v) = inr (UpTo_antisym g h u v)
 
 pub first_more : (P : ℕ → Tag → Type 0) (n : ℕ) (x : Option (Tag × ℕ)) (o : Option Tag) (r : Option (Tag × ℕ)) → FirstBelow P n x → LeastTag (P n) o → IsFirstOf x o n r → FirstBelow P (n + 1) r
 first_more P n None None r h p e = subst (λ z. FirstBelow P (n + 1) z) (sym e) (λ g a l m. go g a m (last_or_less a n l (ℕ_discrete a n)))

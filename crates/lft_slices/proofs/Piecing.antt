@@ -18,15 +18,14 @@ use Rattle.lft_flat.proofs.Ranges.{range-get, range-within}
 use Rattle.lft_trace.specs.declared.row.Row.{Row}
 use Rattle.lft_trace.specs.declared.row.Step.{Step}
 use Rattle.lft_trace.specs.declared.row.Step.TheVariants.{Start, End}
-use Rattle.lft_lists.proofs.Places.{get_there, same_at, get_write_cases, get_written, get_unwritten, get_push, get_last, get_push_cases, length_written}
+use Rattle.lft_lists.proofs.Places.{get_there, same_at, get_write_cases, get_written, get_unwritten, get_push, get_last, get_push_cases, length_written, get_append_cases, get_left}
+use Rattle.lft_lists.proofs.Members.{mem_get, get_mem, mem_contains, contains_mem}
 use Rattle.lft_model.specs.Plans.{PlanParts}
 use Rattle.lft_model.specs.Runs.{start_row, end_row, Ran}
-use Rattle.lft_model.proofs.Blocks.{get_append, put_right}
+use Rattle.lft_model.proofs.Blocks.{put_right}
 use Rattle.lft_model.proofs.Ended.{row_is}
 use Rattle.lft_model.proofs.Legality.{four, one_start, one_end, ended, ran_at}
-use Rattle.lft_model.proofs.Members.{mem_get, get_mem, mem_contains, contains_mem}
 use Rattle.lft_model.proofs.Places.{slice_get_within}
-use Rattle.lft_presence.proofs.Lists.{get_left}
 use Rattle.lft_slices.specs.declared.slices.Slice.{Slice}
 use Rattle.lft_slices.specs.declared.pieces.Piece.{Piece}
 use Rattle.lft_slices.specs.Slices.{IsCuttable, IsSlice, AreSlices}
@@ -209,7 +208,7 @@ runs_kept : (t : List Row) (g : Tag) (xs ys : List Piece) (a b : ℕ) → AreRun
 runs_kept t g xs ys a b h = record { order = h.order; within = let l : b ≤ length xs = h.within in omega (arith, length-append xs ys); ascending = λ j k x y l m n p q. h.ascending j k x y l m n (old j x (omega arith) p) (old k y n q); is_run = λ k x l m e. h.is_run k x l m (old k x m e); each = λ r z. let y = h.each r z in (y.0, y.1, y.2, y.3, get_left xs ys y.0 y.1 y.4, y.5) }
   where
     old : (k : ℕ) (x : Piece) → k < b → slice_get (xs ++ ys) k ≡ Some x → slice_get xs k ≡ Some x
-    old k x l e = go (get_append xs ys k x e)
+    old k x l e = go (get_append_cases xs ys k x e)
       where
         go : (slice_get xs k ≡ Some x) ⊎ ((j : ℕ) × (k ≡ length xs + j) × (slice_get ys j ≡ Some x)) → slice_get xs k ≡ Some x
         go (inl q) = q
@@ -220,7 +219,7 @@ runs_last : (t : List Row) (g : Tag) (xs ys : List Piece) → AreRuns t g ys →
 runs_last t g xs ys h = record { order = omega (arith, length-append xs ys); within = omega arith; ascending = λ j k x y l m n p q. ascending j k x y l m (new j x l p) (new k y (omega arith) q); is_run = λ k x l m e. let j = new k x l e in h.is_run j.0 x j.2; each = each }
   where
     new : (k : ℕ) (x : Piece) → length xs ≤ k → slice_get (xs ++ ys) k ≡ Some x → (j : ℕ) × (k ≡ length xs + j) × (slice_get ys j ≡ Some x)
-    new k x l e = go (get_append xs ys k x e)
+    new k x l e = go (get_append_cases xs ys k x e)
       where
         go : (slice_get xs k ≡ Some x) ⊎ ((j : ℕ) × (k ≡ length xs + j) × (slice_get ys j ≡ Some x)) → (j : ℕ) × (k ≡ length xs + j) × (slice_get ys j ≡ Some x)
         go (inl q) = let m : k < length xs = slice_get_within xs k x q in absurd (omega arith)

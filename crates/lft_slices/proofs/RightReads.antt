@@ -16,10 +16,10 @@ use Rattle.lft_model.specs.Plans.{PlanParts}
 use Rattle.lft_model.specs.Presence.{At, IsPresent, Shows, Inputs, Collision, written, events_of}
 use Rattle.lft_model.specs.Runs.{read_of, steps_of, inputs_of, reads_at}
 use Rattle.lft_lists.proofs.Places.{same_at}
-use Rattle.lft_model.proofs.Members.{Mem, mem_get, get_mem, mem_cases, mem_from_filter, contains_mem, mem_contains}
+use Rattle.lft_lists.proofs.Members.{Mem, mem_get, get_mem, mem_cases, mem_from_filter, contains_mem, mem_contains}
+use Rattle.lft_flat.proofs.Naming.{named_on}
 use Rattle.lft_model.proofs.Places.{slice_get_within, tag_discrete}
 use Rattle.lft_slices.specs.Reads.{IsRight}
-use Rattle.lft_slices.proofs.Declares.{named_on}
 
 -- without a collision a name shows one thing
 module _ (plan : PlanParts) (t : List Row) (g : Tag) (no_clash : ¬ Collision plan t g) where

@@ -3,6 +3,7 @@ use Rattle.std.proofs.Common.{◌≡◌, ℕ, ◌+◌, ◌<◌, ◌≤◌, inl, 
 use Rattle.std.specs.List.{last_or}
 use Rattle.std.proofs.lemmas.Bool.{eq-eqb}
 use Rattle.lft_tag.specs.declared.Tag.{Tag}
+use Rattle.lft_lists.proofs.Members.{filter_map-filter_map, last_by_place, none_nil}
 use Rattle.lft_flat.specs.declared.parts.Value.{Value}
 use Rattle.lft_flat.specs.declared.parts.Name.{Name}
 use Rattle.lft_flat.specs.declared.parts.Name.TheVariants.{Port, Action}
@@ -10,7 +11,6 @@ use Rattle.lft_trace.specs.declared.row.Row.{Row}
 use Rattle.lft_trace.specs.declared.row.Step.{Step}
 use Rattle.lft_trace.specs.declared.row.Step.TheVariants.{Start, Read, Write, Schedule, Stop, End}
 use Rattle.lft_model.specs.Runs.{read_of, steps_of, step_of, value_read as read_by, same_name}
-use Rattle.lft_model.proofs.Members.{filter_map-filter_map, last_by_place, none_nil}
 use Rattle.lft_model.proofs.Steps.{step_row, row_step, cond_some}
 use Rattle.lft_slices.specs.declared.slices.Slice.{Slice}
 use Rattle.lft_slices.specs.Slices.{IsSlice}

@@ -1,12 +1,13 @@
 use Rattle.std.proofs.Common.{◌≡◌, ◌∷◌, [], ◌++◌, append-nil, Option, Some, None, filter_map, get_or, slice_get, take, map, refl, sym, ap, ◌∙◌, arith}
 use Rattle.std.proofs.lemmas.Option.{slice_get-get_or}
+use Rattle.lft_flat.proofs.Naming.{named_none}
 use Rattle.lft_flat.specs.Parts.{named}
 use Rattle.lft_flat.specs.declared.parts.Name.{Name}
 use Rattle.lft_flat.specs.declared.parts.Value.{Value}
 use Rattle.lft_flat.specs.declared.parts.Trigger.TheVariants.{Startup, On}
 use Rattle.lft_queue.specs.Pending.{value_of}
 use Rattle.lft_model.proofs.ActionEvents.{kept_more}
-use Rattle.lft_events.proofs.Given.{named_none, value_more}
+use Rattle.lft_events.proofs.Given.{value_more}
 use Rattle.lft_events.proofs.reading.read_inputs.Goals as goal
 use Rattle.lft_events.proofs.reading.read_inputs.Goals.{in-On+in_ok-push, in_default}
 

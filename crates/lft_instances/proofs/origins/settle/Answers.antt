@@ -1,11 +1,11 @@
 use Rattle.std.proofs.Common.{◌≡◌, ◌+◌, inl, length, [], ◌∷◌, ◌++◌, refl, ap, ◌∙◌, subst, arith, Some, slice_get, slice_set, length-append}
 use Rattle.std.proofs.lemmas.Option.{slice_get_within}
+use Rattle.lft_lists.proofs.Members.{mem_right}
 use Rattle.lft_instances.specs.declared.origins.Mark.TheVariants.{New, Open, Done}
 use Rattle.lft_instances.specs.declared.origins.Next.TheVariants.{First}
 use Rattle.lft_instances.specs.Marks.{IsNext, tally}
 use Rattle.lft_instances.proofs.Settling.{new_weight}
 use Rattle.lft_instances.proofs.Settling.{Settling, settling_start, settling_done, settling_first, settling_cycle, tally_below, tally_written}
-use Rattle.lft_instances.proofs.Members.{mem_right}
 use Rattle.lft_instances.proofs.origins.settle.Goals as goal
 use Rattle.lft_instances.proofs.origins.settle.Goals.{In-Some, In-First}
 

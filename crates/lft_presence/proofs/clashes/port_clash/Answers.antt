@@ -1,13 +1,14 @@
 use Rattle.std.proofs.Common.{◌≡◌, ◌<◌, true, length, Option, Some, None, slice_get, sym, ap, ◌∙◌, subst, arith}
 use Rattle.lft_tag.specs.declared.Tag.{Tag}
 use Rattle.lft_tag.specs.Shifts.{shifted}
+use Rattle.lft_flat.proofs.Origins.{origin_inside}
 use Rattle.lft_flat.specs.Parts.{Parts}
 use Rattle.lft_model.specs.Presence.{PortClash}
 use Rattle.lft_presence.specs.declared.causes.Cause.{Cause}
 use Rattle.lft_presence.specs.Causes.{IsNear, tag_of}
 use Rattle.lft_presence.specs.Traces.{LeastTag}
 use Rattle.lft_presence.specs.Clashes.{IsFirstPair}
-use Rattle.lft_presence.proofs.Presences.{chain_of, origin_known}
+use Rattle.lft_presence.proofs.Presences.{chain_of}
 use Rattle.lft_presence.proofs.Collisions.{no_port_clash, port_no_pair, port_pair, pair_near}
 use Rattle.lft_presence.proofs.clashes.port_clash.Goals as goal
 
@@ -23,7 +24,7 @@ double_at-requires c =
     let plan = c.args.plan.now in
     let port = c.port-port.result.now in
     let chain = chain_of plan.program c.program.ensures.sound.sound c.args.number port (subst (λ (p : Parts). slice_get p.ports c.args.number ≡ Some port) c.program.ensures.value c.port-port.ensures.value) in
-    let known : port.origin < length plan.program.ports = origin_known chain.is_origin in
+    let known : port.origin < length plan.program.ports = origin_inside chain.is_origin in
     let long : length c.args.doubles.now ≡ length plan.program.ports = c.requires.doubles.as_long in
     omega arith
 

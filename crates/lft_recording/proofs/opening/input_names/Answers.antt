@@ -1,10 +1,10 @@
 use Rattle.std.proofs.Common.{◌≡◌, ◌∷◌, [], ◌++◌, append-nil, List, Some, None, filter_map, get_or, slice_get, take, refl, sym, ap, ◌∙◌, arith}
 use Rattle.std.proofs.lemmas.Option.{slice_get-get_or}
+use Rattle.lft_flat.proofs.Naming.{named_none}
 use Rattle.lft_flat.specs.Parts.{named}
 use Rattle.lft_flat.specs.declared.parts.Name.{Name}
 use Rattle.lft_flat.specs.declared.parts.Trigger.TheVariants.{Startup, On}
 use Rattle.lft_model.proofs.ActionEvents.{kept_more}
-use Rattle.lft_recording.proofs.BegunRows.{named_none}
 use Rattle.lft_recording.proofs.opening.input_names.Goals as goal
 use Rattle.lft_recording.proofs.opening.input_names.Goals.{in-On+in_ok-push, in_default}
 

@@ -1,9 +1,9 @@
 use Rattle.std.proofs.Common.{◌∷◌, [], ◌++◌, append-nil, List, Some, None, filter_map, take, refl, sym, ap, ◌∙◌}
+use Rattle.lft_flat.proofs.Naming.{named_none}
 use Rattle.lft_flat.specs.Parts.{named}
 use Rattle.lft_flat.specs.declared.parts.Name.{Name}
 use Rattle.lft_flat.specs.declared.parts.Trigger.TheVariants.{On}
 use Rattle.lft_model.proofs.ActionEvents.{kept_more}
-use Rattle.lft_slices.proofs.Declares.{named_none}
 use Rattle.lft_slices.proofs.marks.inputs_of.Goals as goal
 use Rattle.lft_slices.proofs.marks.inputs_of.Goals.{in-On+in_ok-push, in_default}
 
