@@ -58,8 +58,3 @@ pub(crate) fn put(
 pub(crate) fn write(port: u32, value: i64) -> Step {
     Step::Write(Name::Port(port), Value::Int(value))
 }
-
-/// The step that schedules the first action after so many nanoseconds more.
-pub(crate) fn schedule(delay: u64) -> Step {
-    Step::Schedule(Name::Action(0), Value::Bare, delay)
-}

@@ -8,22 +8,17 @@ use crate::texts::{AT_ONCE, PIPE, TWO, is_table, plan};
 use lft_check::{NoWatch, Verdict, judge_alone};
 use lft_flat::Value;
 use lft_model::Plan;
-use lft_pool::{AnyAnswer, Begin, Bodies, Body, Book, Stop, Ticket};
+use lft_pool::{AnyAnswer, Begin, Bodies, Body, Book, Ticket};
 use lft_tag::Tag;
 use std::alloc::Global;
 use std::process::Abort;
 use std::test::Fail;
 
 /// A book of prepared bodies.
-pub(crate) type PreparedBook = Book<AnyAnswer, Prepared>;
+type PreparedBook = Book<AnyAnswer, Prepared>;
 
 /// A book of the plan, at most ten runs.
-pub(crate) fn book_of(
-    rt: &impl Abort,
-    alloc: Global,
-    plan: Plan,
-    bodies: PreparedBodies,
-) -> PreparedBook
+fn book_of(rt: &impl Abort, alloc: Global, plan: Plan, bodies: PreparedBodies) -> PreparedBook
     requires { length bodies ≡ length plan.program.reactions }
 {
     match Book::new(alloc, plan, bodies, 10) {
@@ -33,7 +28,7 @@ pub(crate) fn book_of(
 }
 
 /// The ticket and the body of the run that the worker begins.
-pub(crate) fn begun(
+fn begun(
     rt: &impl Abort,
     book: &mut PreparedBook,
     worker: u32,
@@ -130,25 +125,5 @@ fn books_two_in_either_order(rt: HostRuntime) -> Result<(), Fail> {
         let verdict = judge_alone(alloc, &closed.plan, &closed.rows, &NoWatch)?;
         assert!(rt; verdict == Verdict::Accepted { runs: 2, tags: 1 });
     }
-    Ok(())
-}
-
-#[test]
-fn answers_a_refusal_again(rt: HostRuntime) -> Result<(), Fail> {
-    let alloc = rt.alloc();
-    let plan = plan(alloc, TWO, AT_ONCE)?;
-    let mut bodies = Bodies::new(alloc, plan.program())?;
-    put(&mut bodies, 1, done(alloc, 0, &[]))?;
-    let mut book = book_of(&rt, alloc, plan, bodies);
-    for worker in [0, 1] {
-        assert!(rt;
-            matches!(book.begin(worker), Err(Stop::NoBody(0))),
-            "{worker}"
-        );
-    }
-    let closed = book.close();
-    assert!(rt; closed.reason == Some(Stop::NoBody(0)));
-    assert!(rt; closed.rows.as_slice().is_empty() && closed.states.as_slice().is_empty());
-    assert!(rt; closed.left.left(0) == 0 && closed.left.left(1) == 1);
     Ok(())
 }

@@ -8,15 +8,9 @@ mod answers;
 #[cfg(test)]
 mod books;
 #[cfg(test)]
-mod closures;
-#[cfg(test)]
 mod queues;
 #[cfg(test)]
 mod recordings;
-#[cfg(test)]
-mod stops;
-#[cfg(test)]
-mod strangers;
 #[cfg(test)]
 mod texts;
 #[cfg(test)]
