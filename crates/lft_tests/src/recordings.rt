@@ -1,5 +1,7 @@
 //! Recordings by several workers: what no clause says of them.
 
+ghost use Rattle.std.specs.Prelude.{◌≡◌, OnOk, length};
+
 use crate::answers::{done, put, write};
 use crate::texts::{AT_ONCE, PIPE, TWO, plan};
 use lft_check::{NoWatch, Verdict, judge_alone};
@@ -45,6 +47,20 @@ impl Code for Meeting {
     }
 }
 
+/// Puts the body behind the others of its reaction.
+fn put_meeting(
+    bodies: &mut Bodies<AnyAnswer, Meeting>,
+    reaction: u32,
+    meeting: Meeting,
+) -> Result<(), NoMemory>
+    ensures { OnOk result (length bodies.new ≡ length bodies.old) }
+{
+    match bodies.put(Body::new(reaction, meeting)) {
+        Ok(()) => return Ok(()),
+        Err(_) => return Err(NoMemory),
+    }
+}
+
 // no clause says that a body runs while no lock is held, or that there are two workers: with a lock
 // round the bodies, or one worker for all, the first one waits in vain
 #[test]
@@ -65,9 +81,9 @@ fn runs_two_bodies_at_once(rt: HostRuntime) -> Result<(), Fail> {
         mine: right,
         others: left,
     };
-    let mut bodies: Bodies<AnyAnswer, Meeting> = Bodies::new(alloc, plan.program())?;
-    assert!(rt; bodies.put(Body::new(0, p)).is_ok());
-    assert!(rt; bodies.put(Body::new(1, q)).is_ok());
+    let mut bodies = Bodies::new(alloc, plan.program())?;
+    put_meeting(&mut bodies, 0, p)?;
+    put_meeting(&mut bodies, 1, q)?;
     let Ok(recorded) = record_run(&rt, alloc, plan, bodies, 2, 10) else {
         panic!(rt; "stopped");
     };
