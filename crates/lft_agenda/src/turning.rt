@@ -6,6 +6,8 @@ ghost use Rattle.lft_turn.specs.declared.phase.Phase.TheVariants.{Waiting, Open,
 use lft_turn::{Phase, Turn};
 
 /// The run of the reaction starts, where it waits.
+// The agenda's clauses say what they need of the reaction only for the rows that it is of, so there is
+// no condition here that it is one of the turn's, and waits: the two tests stand in for it.
 pub(crate) fn start(turn: &mut Turn, reaction: u32)
     ensures graph { turn.new.graph ≡ turn.old.graph }
     ensures count { length turn.new.phases ≡ length turn.old.phases }
@@ -20,6 +22,7 @@ pub(crate) fn start(turn: &mut Turn, reaction: u32)
 }
 
 /// The run of the reaction has ended, where it was open.
+// Tested for the same reason.
 pub(crate) fn finish(turn: &mut Turn, reaction: u32)
     ensures graph { turn.new.graph ≡ turn.old.graph }
     ensures count { length turn.new.phases ≡ length turn.old.phases }

@@ -41,8 +41,8 @@ module _ (program : Parts) (n : ℕ) (port : PortOf) (here : slice_get program.p
       ascends o (inr f) = subst (λ (xs : List ℕ). AllPairs (λ p q. p < q) xs) (sym (at_unwritten lists port.origin o (list_at lists port.origin ++ n ∷ []) f)) (before.ascends o)
 
 -- the origin of a port is a port
-pub origin_within : (program : Parts) → IsSound program → (n : ℕ) (port : PortOf) → slice_get program.ports n ≡ Some port → port.origin < length program.ports
-origin_within program sound n port here = origin_inside (sound.origins n port here).1
+pub origin_known : (program : Parts) → IsSound program → (n : ℕ) (port : PortOf) → slice_get program.ports n ≡ Some port → port.origin < length program.ports
+origin_known program sound n port here = origin_inside (sound.origins n port here).1
 
 -- all ports
 pub all_arriving : (program : Parts) (n : ℕ) (lists : List (List ℕ)) → length program.ports ≤ n → AreArriving program n lists → AreArrivals program lists
