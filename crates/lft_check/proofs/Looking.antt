@@ -12,7 +12,7 @@ use Rattle.lft_model.proofs.Legality.{ended}
 use Rattle.lft_model.proofs.Places.{slice_get_within}
 use Rattle.lft_presence.specs.Traces.{TraceParts}
 use Rattle.lft_slices.specs.declared.slices.Slice.{Slice}
-use Rattle.lft_slices.specs.Marks.{AreNoneFrom}
+use Rattle.lft_rows.specs.Marks.{AreNoneFrom}
 use Rattle.lft_slices.specs.Pieces.{AreEndsTo}
 use Rattle.lft_slices.specs.Slices.{IsCuttable, IsSlice}
 use Rattle.lft_check.specs.declared.upstream.Upstream.{Upstream}

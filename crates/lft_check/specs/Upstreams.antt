@@ -2,7 +2,7 @@
 use Rattle.std.specs.Prelude.{◌≡◌, ℕ, ◌+◌, ◌<◌, ◌≤◌, List, [], ◌∷◌, length, Some, slice_get, Contains, cond, ◌==◌}
 use Rattle.lft_flat.specs.Parts.{Parts}
 use Rattle.lft_graph.specs.Graph.{GraphParts, IsGraphOf}
-use Rattle.lft_slices.specs.Marks.{AreNoneFrom}
+use Rattle.lft_rows.specs.Marks.{AreNoneFrom}
 use Rattle.lft_check.specs.declared.upstream.Upstream.{Upstream}
 
 -- the graph is that of a program of n reactions

@@ -9,7 +9,7 @@ ghost use Rattle.lft_check.specs.Shares.{share_start, IsLeastOfShare, AreShares,
 use crate::judging::{first_in, lesser};
 use crate::watch::Watch;
 use lft_model::Breach;
-use lft_slices::{Cut, Slice};
+use lft_slices::{Sliced, Slice};
 use lft_tag::{NoMemory, Tag};
 use std::alloc::Global;
 use std::thread;
@@ -30,48 +30,48 @@ fn share_begins(tags: usize, workers: usize, worker: usize) -> usize
 /// The first breach of the rules 8 to 10 in the share of a worker, before the first collision.
 fn examine_share<W: Watch>(
     alloc: Global,
-    cut: &Cut,
+    sliced: &Sliced,
     watch: &W,
     slices: &[Slice],
     bound: Option<Tag>,
     worker: usize,
     workers: usize,
 ) -> Found
-    requires slices { AreSlices cut.now.rows slices.now }
-    requires bound { IsClash cut.now bound }
+    requires slices { AreSlices sliced.now.rows slices.now }
+    requires bound { IsClash sliced.now bound }
     requires workers { (worker < workers) × (workers ≤ 64) }
-    ensures { IfOk result (IsLeastOfShare cut.now slices.now bound workers worker) }
+    ensures { IfOk result (IsLeastOfShare sliced.now slices.now bound workers worker) }
 {
-    // Asked for what every cut keeps: it has no more slices than rows.
-    cut.keeps();
+    // Asked for what sliced rows keep: they have no more slices than rows.
+    sliced.keeps();
     let low = share_begins(slices.len(), workers, worker);
     let high = share_begins(slices.len(), workers, worker + 1);
-    first_in(alloc, cut, watch, slices, bound, low, high)
+    first_in(alloc, sliced, watch, slices, bound, low, high)
 }
 
 /// What each of several workers found, each in a thread of its own.
 fn examine_shares<W: Watch, R: Threads + Sync>(
     rt: &R,
     alloc: Global,
-    cut: &Cut,
+    sliced: &Sliced,
     watch: &W,
     slices: &[Slice],
     bound: Option<Tag>,
     workers: usize,
 ) -> Result<Vec<Found>, NoMemory>
-    requires slices { AreSlices cut.now.rows slices.now }
-    requires bound { IsClash cut.now bound }
+    requires slices { AreSlices sliced.now.rows slices.now }
+    requires bound { IsClash sliced.now bound }
     requires workers { (1 < workers) × (workers ≤ 64) }
-    ensures { IfOk result (λ found. AreShares cut.now slices.now bound workers found.items) }
+    ensures { IfOk result (λ found. AreShares sliced.now slices.now bound workers found.items) }
 {
     let Ok(found) = thread::map_indices(
         rt,
         alloc,
         workers,
         &|worker: usize| -> Found
-            requires { AreSlices cut.now.rows slices.now × IsClash cut.now bound × (worker < workers) × (workers ≤ 64) }
-            ensures { IfOk result (IsLeastOfShare cut.entry.now slices.entry.now bound workers worker) }
-        { examine_share(alloc, cut, watch, slices, bound, worker, workers) },
+            requires { AreSlices sliced.now.rows slices.now × IsClash sliced.now bound × (worker < workers) × (workers ≤ 64) }
+            ensures { IfOk result (IsLeastOfShare sliced.entry.now slices.entry.now bound workers worker) }
+        { examine_share(alloc, sliced, watch, slices, bound, worker, workers) },
     ) else {
         return Err(NoMemory);
     };
@@ -105,18 +105,18 @@ fn least_found(found: &[Found]) -> Result<Option<Breach>, NoMemory>
 pub(crate) fn examine_shared<W: Watch, R: Threads + Sync>(
     rt: &R,
     alloc: Global,
-    cut: &Cut,
+    sliced: &Sliced,
     watch: &W,
     slices: &[Slice],
     bound: Option<Tag>,
     workers: usize,
 ) -> Result<Option<Breach>, NoMemory>
-    requires slices { AreSlices cut.now.rows slices.now }
-    requires bound { IsClash cut.now bound }
+    requires slices { AreSlices sliced.now.rows slices.now }
+    requires bound { IsClash sliced.now bound }
     requires workers { (1 < workers) × (workers ≤ 64) }
-    ensures { IfOk result (LeastOf (BreachIn cut.now slices.now bound 0 (length slices.now))) }
+    ensures { IfOk result (LeastOf (BreachIn sliced.now slices.now bound 0 (length slices.now))) }
 {
-    let found = examine_shares(rt, alloc, cut, watch, slices, bound, workers)?;
+    let found = examine_shares(rt, alloc, sliced, watch, slices, bound, workers)?;
     let least = least_found(found.as_slice())?;
     Ok(least)
 }

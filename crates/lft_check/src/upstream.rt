@@ -9,7 +9,7 @@ ghost use Rattle.lft_check.specs.Upstreams.{IsFresh, IsGraphFor, IsReached, IsQu
 use crate::carry::{is_late, number_at};
 use crate::ranks::least_end;
 use lft_graph::Graph;
-use lft_slices::{Cut, Slice, keep_ends};
+use lft_slices::{Sliced, Slice, keep_ends};
 use lft_tag::NoMemory;
 use lft_trace::{is_start, row_at};
 use std::alloc::Global;
@@ -120,15 +120,15 @@ impl Upstream {
     // What ended at the tag is of the least level or above it, so nothing that ended precedes a
     // reaction up to that level. Starts are asked in the order of their rows: what was looked at
     // for one start ended before it, and so before each later one.
-    pub(crate) fn keeps_order(&mut self, cut: &Cut, slice: Slice) -> Result<bool, NoMemory>
-        requires slice { IsSlice cut.now.rows slice }
-        requires fresh { IsFresh (length cut.now.plan.program.reactions) slice.first self.old }
-        ensures fresh { OnOk result (IsFresh (length cut.now.plan.program.reactions) slice.end self.new) }
-        ensures none { IfOk result (λ ok. IsTrue ok → (r : ℕ) → TooEarly cut.now slice.tag r → ⊥) }
+    pub(crate) fn keeps_order(&mut self, sliced: &Sliced, slice: Slice) -> Result<bool, NoMemory>
+        requires slice { IsSlice sliced.now.rows slice }
+        requires fresh { IsFresh (length sliced.now.plan.program.reactions) slice.first self.old }
+        ensures fresh { OnOk result (IsFresh (length sliced.now.plan.program.reactions) slice.end self.new) }
+        ensures none { IfOk result (λ ok. IsTrue ok → (r : ℕ) → TooEarly sliced.now slice.tag r → ⊥) }
     {
-        let rows = cut.rows();
-        let graph = cut.graph();
-        let least = least_end(cut, graph, slice);
+        let rows = sliced.rows();
+        let graph = sliced.graph();
+        let least = least_end(sliced, graph, slice);
         keep_ends(rows, slice, &mut self.ends);
         self.queue.clear();
         for place in slice.first..slice.end {

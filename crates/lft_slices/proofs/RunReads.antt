@@ -14,9 +14,9 @@ use Rattle.lft_model.specs.Runs.{read_of, steps_of, step_of, value_read as read_
 use Rattle.lft_model.proofs.Steps.{step_row, row_step, cond_some}
 use Rattle.lft_slices.specs.declared.slices.Slice.{Slice}
 use Rattle.lft_slices.specs.Slices.{IsSlice}
-use Rattle.lft_slices.specs.Marks.{ReadsFor, IsMark}
+use Rattle.lft_rows.specs.Marks.{ReadsFor, IsMark}
 use Rattle.lft_slices.specs.Reads.{value_read}
-use Rattle.lft_slices.proofs.Marked.{same_here}
+use Rattle.lft_rows.proofs.Marked.{same_here}
 
 -- what a row of the run of r at g reads of a name
 abbrev pub read_in : Tag → ℕ → Name → Row → Option Value

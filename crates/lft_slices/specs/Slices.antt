@@ -8,24 +8,16 @@ use Rattle.lft_trace.specs.Fits.{RowsFit}
 use Rattle.lft_model.specs.declared.breach.Breach.{Breach}
 use Rattle.lft_model.specs.Presence.{stop, Triggered}
 use Rattle.lft_model.specs.Runs.{Ran}
-use Rattle.lft_model.specs.Breaches.{RowBreach, RowOrder}
+use Rattle.lft_model.specs.Breaches.{RowBreach}
+use Rattle.lft_rows.specs.Firsts.{IsFirstOfRows}
 use Rattle.lft_presence.specs.Traces.{TraceParts}
 use Rattle.lft_slices.specs.declared.slices.Slice.{Slice}
-use Rattle.lft_slices.specs.declared.cuts.CutFault.{CutFault}
-use Rattle.lft_slices.specs.declared.cuts.CutFault.TheVariants.{Broken, NoMemory}
-
--- of the row breaches b is the first
-pub record IsFirstOfRows (plan : PlanParts) (t : List Row) (b : Breach) : Type 0 where
-  pub breaks : RowBreach plan t b
-  pub least : (c : Breach) → RowBreach plan t c → RowOrder b c
-
--- the first row that breaks one of the rules 1 to 5, with the least of these rules, if any
-abbrev pub FirstRow : PlanParts → List Row → Option Breach → Type 0
-FirstRow plan t o = MatchOption o ((c : Breach) → ¬ RowBreach plan t c) (IsFirstOfRows plan t)
+use Rattle.lft_slices.specs.declared.fault.CutFault.{CutFault}
+use Rattle.lft_slices.specs.declared.fault.CutFault.TheVariants.{Broken, NoMemory}
 
 -- rows can't be cut where one of them breaks a rule, or where a growth was refused
 abbrev pub IsCutFault : PlanParts → List Row → CutFault → Type 0
-IsCutFault plan t (Broken b) = IsFirstOfRows plan t b
+IsCutFault plan t (Broken b) = IsFirstOfRows (stop plan t) plan t b
 IsCutFault plan t NoMemory = Unit {0}
 
 -- no row breaks one of the rules 1 to 5

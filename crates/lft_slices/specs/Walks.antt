@@ -2,7 +2,7 @@
 use Rattle.std.specs.Prelude.{ℕ}
 use Rattle.lft_slices.specs.declared.slices.Slice.{Slice}
 use Rattle.lft_slices.specs.declared.walk.Walk.{Walk}
-use Rattle.lft_slices.specs.Marks.{AreBefore, AreMarks}
+use Rattle.lft_rows.specs.Marks.{AreBefore, AreMarks}
 use Rattle.lft_presence.specs.Traces.{TraceParts}
 
 -- the walk knows of none but rows before place i

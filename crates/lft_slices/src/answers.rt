@@ -20,7 +20,7 @@ impl<'a> Cut<'a> {
         requires { (g : TheTag) × IsPiece self.now.rows g piece }
         ensures { (g : TheTag) → IsPiece self.now.rows g piece → IfOk result (λ reads. reads ≡ reads_at self.now.plan self.now.rows g piece.reaction) }
     {
-        let rows = self.rows();
+        let rows = self.sliced().rows();
         let place = piece.start as usize;
         let start = row_at(rows, place);
         reads_of_run(alloc, self.presence().plan(), rows, place, start)
@@ -32,7 +32,7 @@ impl<'a> Cut<'a> {
         requires { (g : TheTag) × IsPiece self.now.rows g piece }
         ensures { (g : TheTag) → IsPiece self.now.rows g piece → IfOk result (λ answer. answer ≡ answer_at self.now.plan self.now.rows g piece.reaction) }
     {
-        let rows = self.rows();
+        let rows = self.sliced().rows();
         let place = piece.start as usize;
         let start = row_at(rows, place);
         answer_of_run(alloc, self.presence().plan(), rows, place, start)

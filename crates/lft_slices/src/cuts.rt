@@ -1,40 +1,28 @@
-//! A trace whose rows break no rule, cut by tag.
+//! The runs of a trace whose rows break no rule, by tag.
 
-ghost use Rattle.std.specs.Prelude.{◌≡◌, ◌<◌, ◌≤◌, ◌↔◌, List, length, Some, IsTrue, slice_get};
+ghost use Rattle.std.specs.Prelude.{◌≡◌, ◌<◌, List, Option, length, IfOk};
 ghost use Rattle.lft_tag.specs.declared.Tag.{Tag as TheTag};
-ghost use Rattle.lft_graph.specs.Graph.{IsGraphOf};
-ghost use Rattle.lft_trace.specs.declared.row.Row.{Row as TheRow};
-ghost use Rattle.lft_model.specs.Presence.{Triggered};
+ghost use Rattle.lft_flat.specs.declared.parts.Value.{Value as Carried};
+ghost use Rattle.lft_model.specs.Presence.{Collision, Inputs};
+ghost use Rattle.lft_presence.specs.Clashes.{IsClash};
+ghost use Rattle.lft_presence.specs.Traces.{AreDue};
 ghost use Rattle.lft_slices.specs.Pieces.{AreTags, IsTagAt, AreRuns};
-ghost use Rattle.lft_slices.specs.Slices.{AreSlices, IsCuttable, IsFirstMissing};
 
 use crate::pieces::{Piece, Pieces};
-use crate::slices::Slice;
-use lft_flat::Program;
-use lft_graph::Graph;
-use lft_model::Breach;
+use crate::sliced::Sliced;
+use lft_model::Reads;
 use lft_presence::Presence;
-use lft_tag::Tag;
-use lft_trace::{Row, row_at};
+use lft_tag::{NoMemory, Tag};
+use std::alloc::Global;
 use std::marker::Model;
 
-/// Why rows can't be cut.
-#[derive(Clone, Copy, PartialEq, Eq, Debug, Drop)]
-pub enum CutFault {
-    /// The first row that breaks one of the rules 1 to 5, and the least of these that it breaks.
-    Broken(Breach),
-    /// A growth of memory was refused.
-    NoMemory,
-}
-
-/// The rows of a plan's trace, cut by tag. None of them breaks one of the rules 1 to 5.
+/// The rows of a plan's trace, cut by tag, with the runs at each tag. None of the rows breaks one of
+/// the rules 1 to 5.
+// The judge does with the sliced rows alone: the runs by tag are for those who ask what ran.
 #[derive(Drop)]
 pub struct Cut<'a> {
-    presence: Presence<'a>,
-    slices: Vec<Slice>,
+    sliced: Sliced<'a>,
     pieces: Pieces,
-    missing: Option<(Tag, u32)>,
-    due: Vec<bool>,
 }
 
 impl<'a> Model for Cut<'a> {
@@ -42,87 +30,36 @@ impl<'a> Model for Cut<'a> {
 
     ghost Value = { TraceParts };
 
-    ghost view = { λ a. a.presence };
+    ghost view = { λ a. a.sliced };
 
-    ghost use Rattle.lft_slices.specs.Indexes.{IsIndexed};
+    ghost use Rattle.lft_slices.specs.Pieces.{ArePieces};
 
-    ghost invariant = { λ a. IsIndexed a.presence a.slices.items a.pieces a.missing a.due.items };
+    ghost invariant = { λ a. ArePieces a.sliced.rows a.pieces };
 }
 
 impl<'a> Cut<'a> {
-    ghost use Rattle.lft_slices.specs.Indexes.{IsIndexed};
+    ghost use Rattle.lft_slices.specs.Pieces.{ArePieces};
 
-    /// The cut of rows with what is kept beside them. It takes no memory.
-    pub(crate) fn from_parts(
-        presence: Presence<'a>,
-        slices: Vec<Slice>,
-        pieces: Pieces,
-        missing: Option<(Tag, u32)>,
-        due: Vec<bool>,
-    ) -> Cut<'a>
-        requires { IsIndexed presence slices.items pieces missing due.items }
-        ensures { result ≡ presence.entry }
+    /// The cut of sliced rows with their runs. It takes no memory.
+    pub(crate) fn from_parts(sliced: Sliced<'a>, pieces: Pieces) -> Cut<'a>
+        requires { ArePieces sliced.rows pieces }
+        ensures { result ≡ sliced.entry }
     {
-        Cut {
-            presence,
-            slices,
-            pieces,
-            missing,
-            due,
-        }
+        Cut { sliced, pieces }
     }
 
-    /// Does nothing. It is called for its clause, where code has the cut and a proof needs what
-    /// every cut keeps: its rows break none of the rules 1 to 5.
-    pub fn keeps(&self)
-        ensures rules { IsCuttable self.now }
+    /// The rows, sliced by tag.
+    pub fn sliced(&self) -> &Sliced<'a>
+        ensures { result.now ≡ self.now }
     {
-        let _ = &self.slices;
+        &self.sliced
     }
 
     /// The events of the rows, and what they cause.
-    pub fn presence(&self) -> &Presence<'a>
+    pub(crate) fn presence(&self) -> &Presence<'a>
         ensures { result.now ≡ self.now }
     {
-        &self.presence
-    }
-
-    /// The rows that were cut.
-    pub fn rows(&self) -> &[Row]
-        ensures value { result.now ≡ self.now.rows }
-        ensures rules { IsCuttable self.now }
-    {
-        self.presence.rows()
-    }
-
-    /// The rows at each tag that has some, ascending by tag.
-    pub fn slices(&self) -> &[Slice]
-        ensures { AreSlices self.now.rows result.now }
-    {
-        self.slices.as_slice()
-    }
-
-    /// The graph of the program.
-    pub fn graph(&self) -> &Graph
-        ensures { IsGraphOf self.now.plan.program result.now }
-    {
-        self.presence.plan().graph()
-    }
-
-    /// How many reactions the program has.
-    pub fn reactions(&self) -> usize
-        ensures count { result ≡ length self.now.plan.program.reactions }
-        ensures few { result ≤ 10000 }
-    {
-        self.presence.plan().program().reactions()
-    }
-
-    /// The flat program.
-    pub(crate) fn program(&self) -> &Program
-        ensures value { result.now ≡ self.now.plan.program }
-        ensures rules { IsCuttable self.now }
-    {
-        self.presence.plan().program()
+        self.sliced.presence()
     }
 
     /// The tags with a run, ascending.
@@ -140,33 +77,29 @@ impl<'a> Cut<'a> {
         self.pieces.at(k)
     }
 
-    /// The least tag up to the stop at which a reaction is triggered and has no run, and the least
-    /// such reaction.
-    pub fn missing(&self) -> Option<(Tag, u32)>
-        ensures { IsFirstMissing self.now result }
+    /// The least tag up to the stop at which two causes give a port or an action an event.
+    pub fn clash(&self) -> Option<Tag>
+        ensures { IsClash self.now result }
     {
-        self.missing
+        self.presence().clash()
     }
 
-    /// Whether the row at the place is known to be of a run whose reaction is triggered at its tag.
-    /// Where no run is missing, each start row of such a run is.
-    fn is_marked(&self, place: usize) -> bool
-        ensures { IsTrue result → (row : TheRow) → slice_get self.now.rows place ≡ Some row → Triggered self.now.plan self.now.rows row.tag row.reaction }
+    /// The reactions that are triggered at the tag, ascending. The tag may lie past the stop. Each
+    /// reaction is asked.
+    pub fn due(&self, alloc: Global, tag: Tag) -> Result<Vec<u32>, NoMemory>
+        ensures { IfOk result (λ due. AreDue self.now tag due.items) }
     {
-        place < self.due.len() && self.due[place]
+        self.presence().due(alloc, tag)
     }
 
-    /// Whether the reaction of the row at the place is triggered at the tag of the row.
-    pub fn is_due(&self, place: usize) -> bool
-        requires { place < length self.now.rows }
-        ensures { (row : TheRow) → slice_get self.now.rows place ≡ Some row → IsTrue result ↔ Triggered self.now.plan self.now.rows row.tag row.reaction }
+    /// What the reaction reads at the tag, where no port and no action has two causes: each of its
+    /// inputs in order, triggers before uses.
+    pub fn inputs(&self, alloc: Global, tag: Tag, reaction: u32) -> Result<Reads, NoMemory>
+        requires reaction { reaction < length self.now.plan.program.reactions }
+        requires no_clash { Collision self.now.plan self.now.rows tag → ⊥ }
+        ensures inputs { IfOk result (Inputs self.now.plan self.now.rows tag reaction) }
+        ensures only { IfOk result (λ reads. (other : List (Option Carried)) → Inputs self.now.plan self.now.rows tag reaction other → other ≡ reads) }
     {
-        if self.is_marked(place) {
-            return true;
-        }
-        // Asked for what every cut keeps: the reactions of its rows are the program's.
-        self.keeps();
-        let row = row_at(self.presence.rows(), place);
-        self.presence.triggered(row.tag, row.reaction)
+        self.presence().inputs(alloc, tag, reaction)
     }
 }

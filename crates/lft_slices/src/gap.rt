@@ -12,13 +12,14 @@ impl<'a> Cut<'a> {
     pub fn gap(&self) -> Option<(Tag, u32)>
         ensures { IsGap self.now result }
     {
-        // Asked for what every cut keeps: its plan is sound, and its rows are of its program.
-        self.keeps();
+        // Asked for what sliced rows keep: their plan is sound, and they are of its program.
+        self.sliced().keeps();
+        let presence = self.presence();
         let tags = self.tags();
         let mut first = None;
-        for reaction in 0..self.reactions() as u32 {
-            let triggers = self.program().reaction(reaction).triggers.as_slice();
-            let vacant = lacked(self.presence(), reaction, triggers, tags, &mut []);
+        for reaction in 0..presence.reactions() as u32 {
+            let triggers = presence.program().reaction(reaction).triggers.as_slice();
+            let vacant = lacked(presence, reaction, triggers, tags, &mut []);
             first = first_of(first, vacant, reaction);
         }
         first

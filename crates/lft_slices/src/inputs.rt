@@ -5,13 +5,13 @@ ghost use Rattle.lft_flat.specs.Sound.{IsNameOf};
 ghost use Rattle.lft_model.specs.Presence.{Collision, Inputs};
 ghost use Rattle.lft_model.specs.Runs.{reads_at};
 ghost use Rattle.lft_flat.specs.declared.parts.Reaction.{Reaction as TheReaction};
-ghost use Rattle.lft_slices.specs.Marks.{HasSeat};
+ghost use Rattle.lft_rows.specs.Marks.{HasSeat};
 ghost use Rattle.lft_slices.specs.Reads.{IsRight};
 ghost use Rattle.lft_slices.specs.Slices.{IsSlice};
 ghost use Rattle.lft_slices.specs.Walks.{HasWalked};
 
-use crate::cuts::Cut;
-use crate::declared::name_at;
+use crate::sliced::Sliced;
+use lft_rows::name_at;
 use crate::slices::Slice;
 use crate::walk::Walk;
 use lft_flat::{Name, Value};
@@ -40,7 +40,7 @@ fn same_value(a: Value, b: Value) -> bool
     }
 }
 
-impl<'a> Cut<'a> {
+impl<'a> Sliced<'a> {
     /// Whether the run of the reaction at the tag read of the input at the seat what is present
     /// there.
     fn reads_right(&self, walk: &Walk, slice: Slice, reaction: u32, seat: usize, name: Name) -> bool
@@ -51,7 +51,7 @@ impl<'a> Cut<'a> {
         requires no_clash { Collision self.now.plan self.now.rows slice.tag → ⊥ }
         ensures { IsTrue result ↔ IsRight self.now.plan self.now.rows slice.tag reaction name }
     {
-        // Asked for what every cut keeps: no run reads a name twice.
+        // Asked for what sliced rows keep: no run reads a name twice.
         self.keeps();
         let read = self.read_at(walk, slice, reaction, seat);
         same_values(read, self.value_at(slice.tag, name))

@@ -1,26 +1,29 @@
 #![tactic(auto)]
-//! The rows of a trace: the rules that are broken at a row, the stop, and the rows cut by tag.
+//! The rows of a trace, cut by tag, with what they cause.
 
 mod answers;
 mod cuts;
 mod cutting;
-mod declared;
-mod events;
+mod fault;
 mod gap;
 mod inputs;
 mod lists;
-mod marks;
 mod missing;
 mod needed;
-mod open;
-mod pass;
 mod pieces;
+mod sharing;
+mod sliced;
 mod slices;
+mod slicing;
 mod started;
 mod walk;
 
-pub use cuts::{Cut, CutFault};
+pub use cuts::Cut;
 pub use cutting::cut;
+pub use fault::CutFault;
 pub use pieces::{Piece, keep_ends};
+pub use sharing::slice_rows_shared;
+pub use sliced::Sliced;
 pub use slices::Slice;
+pub use slicing::slice_rows;
 pub use walk::Walk;

@@ -3,7 +3,7 @@
 ghost use Rattle.std.specs.Prelude.{◌≡◌, ◌++◌, ◌∷◌, [], ◌+◌, ◌<◌, ◌≤◌, length, Some, slice_get, slice_range, OnOk, IfOk};
 ghost use Rattle.lft_model.specs.Plans.{PlanParts};
 ghost use Rattle.lft_slices.specs.Slices.{IsCuttable, IsSlice, AreSlices};
-ghost use Rattle.lft_slices.specs.Marks.{AreNoneFrom};
+ghost use Rattle.lft_rows.specs.Marks.{AreNoneFrom};
 ghost use Rattle.lft_slices.specs.Pieces.{AreRuns, AreEndsTo, AreStartsTo, ArePieces};
 
 use crate::slices::{Slice, slice_at};

@@ -1,23 +1,23 @@
-//! A walk over the tags of a cut, in order: what the runs at a tag read.
+//! A walk over the tags of sliced rows, in order: what the runs at a tag read.
 
 ghost use Rattle.std.specs.Prelude.{◌≡◌, ◌<◌, IfOk, Some, slice_get};
 ghost use Rattle.lft_flat.specs.declared.parts.Reaction.{Reaction as TheReaction};
 ghost use Rattle.lft_flat.specs.declared.parts.Name.{Name as TheName};
 ghost use Rattle.lft_model.specs.Runs.{read_of, steps_of};
-ghost use Rattle.lft_slices.specs.Marks.{HasSeat, width};
+ghost use Rattle.lft_rows.specs.Marks.{HasSeat, width};
 ghost use Rattle.lft_slices.specs.Reads.{value_read as the_value_read};
 ghost use Rattle.lft_slices.specs.Slices.{IsSlice};
 ghost use Rattle.lft_slices.specs.Walks.{IsBefore, HasWalked};
 
-use crate::cuts::Cut;
-use crate::marks::Marks;
+use crate::sliced::Sliced;
+use lft_rows::Marks;
 use crate::slices::Slice;
 use lft_flat::Value;
 use lft_tag::NoMemory;
 use lft_trace::{Step, row_at};
 use std::alloc::Global;
 
-/// How far a walk over the tags of a cut has come.
+/// How far a walk over the tags of sliced rows has come.
 #[derive(Drop)]
 pub struct Walk {
     pub(crate) marks: Marks,
@@ -37,7 +37,7 @@ fn value_read(step: &Step) -> Option<Value>
     }
 }
 
-impl<'a> Cut<'a> {
+impl<'a> Sliced<'a> {
     /// A walk that hasn't begun.
     pub fn walk(&self, alloc: Global) -> Result<Walk, NoMemory>
         ensures { IfOk result (IsBefore self.now 0) }

@@ -1,9 +1,9 @@
 use Rattle.std.proofs.Common.{◌≡◌, ℕ, ◌+◌, ◌<◌, List, length, refl, sym, ap, ◌∙◌, subst, arith}
 use Rattle.lft_lists.proofs.Places.{length_written}
 use Rattle.lft_presence.proofs.Lists.{not_true}
-use Rattle.lft_slices.specs.Marks.{AreNoneFrom}
+use Rattle.lft_rows.specs.Marks.{AreNoneFrom}
 use Rattle.lft_slices.specs.Pieces.{AreEndsTo}
-use Rattle.lft_slices.proofs.Marked.{none_written}
+use Rattle.lft_rows.proofs.Marked.{none_written}
 use Rattle.lft_slices.proofs.Piecing.{ends_stay, ends_more}
 use Rattle.lft_slices.proofs.pieces.keep_ends.Goals as goal
 use Rattle.lft_slices.proofs.pieces.keep_ends.Goals.{then-is_end, else-is_end}

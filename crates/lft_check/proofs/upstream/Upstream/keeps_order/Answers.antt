@@ -10,7 +10,7 @@ use Rattle.lft_check.proofs.upstream.Upstream.keeps_order.Goals.{then-is_start+t
 
 pub loop-place-preserved : goal.loop-place-preserved
 loop-place-preserved c =
-    let cut = c.args.cut.now in
+    let cut = c.args.sliced.now in
     let n = length cut.plan.program.reactions in
     let s = c.args.slice in
     let graph = c.graph-graph.result.now in
@@ -49,4 +49,4 @@ returns-clause-none c t =
     let s = c.args.slice in
     let some : s.first < s.end = c.requires.slice.some in
     let e : c.loop-place.place ≡ s.end = omega arith in
-    none_early c.args.cut.now c.rows-rows.ensures.rules s c.requires.slice c.graph-graph.result.now c.graph-graph.ensures c.least_end-least.result c.least_end-least.ensures (subst (λ k. AreTimely c.args.cut.now s k) e c.loop-place.invariant.timely)
+    none_early c.args.sliced.now c.rows-rows.ensures.rules s c.requires.slice c.graph-graph.result.now c.graph-graph.ensures c.least_end-least.result c.least_end-least.ensures (subst (λ k. AreTimely c.args.sliced.now s k) e c.loop-place.invariant.timely)

@@ -5,4 +5,4 @@ use Rattle.lft_check.proofs.Looking.{AreTimely}
 use Rattle.lft_check.proofs.upstream.Upstream.keeps_order.Given as goal
 
 abbrev pub invariant-loop-place : goal.invariant-loop-place
-invariant-loop-place l = record { fresh : IsFresh (length l.cut.plan.program.reactions) l.fn.slice.end l.self; queued : IsQueued l.fn.slice.end l.self; ends : AreEndsTo l.cut.rows l.fn.slice l.fn.slice.end l.self.ends.items; looked : AreLooked l.graph l.least l.place l.fn.slice.end l.self; timely : AreTimely l.cut l.fn.slice l.place }
+invariant-loop-place l = record { fresh : IsFresh (length l.sliced.plan.program.reactions) l.fn.slice.end l.self; queued : IsQueued l.fn.slice.end l.self; ends : AreEndsTo l.sliced.rows l.fn.slice l.fn.slice.end l.self.ends.items; looked : AreLooked l.graph l.least l.place l.fn.slice.end l.self; timely : AreTimely l.sliced l.fn.slice l.place }

@@ -6,7 +6,7 @@ use Rattle.lft_slices.proofs.cuts.Cut.slice.Goals as goal
 use Rattle.lft_slices.proofs.cuts.Cut.slice.Goals.{After-self}
 
 pieced : (c : After-self) → ArePieces c.args.self.now.rows c.self.inside.pieces
-pieced c = subst (λ (z : TraceParts). ArePieces z.rows c.self.inside.pieces) c.self.view_is c.self.invariant.pieced
+pieced c = subst (λ (z : TraceParts). ArePieces z.rows c.self.inside.pieces) c.self.view_is c.self.invariant
 
 pub at-requires-clause-place : goal.at-requires-clause-place
 at-requires-clause-place c = tag_there c.args.self.now.rows c.self.inside.pieces (pieced ((goal.at.at-requires-clause-place c).After-self)) c.args.k c.requires.0 c.requires.1 c.requires.2

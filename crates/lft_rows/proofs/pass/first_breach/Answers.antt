@@ -1,0 +1,15 @@
+use Rattle.lft_model.proofs.Places.{slice_get_within}
+use Rattle.lft_rows.proofs.Whole.{unended_first, early_first, none_first}
+use Rattle.lft_rows.proofs.pass.first_breach.Goals as goal
+
+pub returns-in-Some : goal.returns-in-Some
+returns-in-Some c = unended_first c.args.stop c.args.plan.now c.args.rows.now c.in_ok-early.early.place c.in-Some.start c.breach.result c.in_ok-early.ensures.kept c.in-Some.ensures (record { rule = c.breach.ensures.rule; row = c.breach.ensures.row; tag = c.breach.ensures.tag; reaction = c.breach.ensures.reaction })
+
+pub breach-requires-in-Some-rule-clause-place : goal.breach-requires-in-Some-rule-clause-place
+breach-requires-in-Some-rule-clause-place c = let r = rw c.in-Some-rule.is at c.in_ok-early.ensures.rule in slice_get_within c.args.rows.now c.in_ok-early.early.place r.0 r.1
+
+pub returns-in-Some-rule : goal.returns-in-Some-rule
+returns-in-Some-rule c = early_first c.args.stop c.args.plan.now c.args.rows.now c.in_ok-early.early.place c.in-Some-rule.rule c.breach-in-Some-rule.result c.in_ok-early.ensures.kept c.in-None.ensures (rw c.in-Some-rule.is at c.in_ok-early.ensures.rule) (record { rule = c.breach-in-Some-rule.ensures.rule; row = c.breach-in-Some-rule.ensures.row; tag = c.breach-in-Some-rule.ensures.tag; reaction = c.breach-in-Some-rule.ensures.reaction })
+
+pub returns : goal.returns
+returns c = none_first c.args.stop c.args.plan.now c.args.rows.now c.in_ok-early.early.place (rw c.in-None-rule.is at c.in_ok-early.ensures.rule) c.in_ok-early.ensures.kept c.in-None.ensures

@@ -1,0 +1,16 @@
+-- The first row that breaks one of the rules 1 to 5.
+use Rattle.std.specs.Prelude.{List, Option, MatchOption}
+use Rattle.lft_tag.specs.declared.Tag.{Tag}
+use Rattle.lft_trace.specs.declared.row.Row.{Row}
+use Rattle.lft_model.specs.declared.breach.Breach.{Breach}
+use Rattle.lft_model.specs.Plans.{PlanParts}
+use Rattle.lft_model.specs.Breaches.{RowBreachUntil, RowOrder}
+
+-- of the row breaches b is the first, where the stop tag is last
+pub record IsFirstOfRows (last : Tag) (plan : PlanParts) (t : List Row) (b : Breach) : Type 0 where
+  pub breaks : RowBreachUntil last plan t b
+  pub least : (c : Breach) → RowBreachUntil last plan t c → RowOrder b c
+
+-- the first row that breaks one of the rules 1 to 5, with the least of these rules, if any, where the stop tag is last
+abbrev pub FirstRow : Tag → PlanParts → List Row → Option Breach → Type 0
+FirstRow last plan t o = MatchOption o ((c : Breach) → ¬ RowBreachUntil last plan t c) (IsFirstOfRows last plan t)

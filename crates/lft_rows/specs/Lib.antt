@@ -1,0 +1,5 @@
+pub mod Firsts
+pub mod Marks
+pub mod Parts
+pub mod Passes
+pub mod Places

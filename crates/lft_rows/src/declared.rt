@@ -1,0 +1,133 @@
+//! Rule 4: what a reaction declares, and what was read before.
+
+ghost use Rattle.std.specs.Prelude.{◌≡◌, ℕ, ◌+◌, ◌<◌, ◌≤◌, length, Some, IsTrue, ◌↔◌, slice_get, Contains};
+ghost use Rattle.lft_flat.specs.Sound.{IsNameOf};
+ghost use Rattle.lft_trace.specs.declared.row.Row.{Row as TheRow};
+ghost use Rattle.lft_trace.specs.Fits.{RowFits};
+ghost use Rattle.lft_model.specs.Breaches.{IsUndeclared, MayWrite, MaySchedule};
+ghost use Rattle.lft_model.specs.Runs.{effects_of};
+ghost use Rattle.lft_rows.specs.Marks.{AreMarks};
+ghost use Rattle.lft_rows.specs.Passes.{RisesTo, IsBadRead};
+
+use crate::marks::Marks;
+use lft_flat::{Name, Program};
+use lft_tag::Tag;
+use lft_trace::{Row, Step, row_at};
+
+/// Whether the row's step names what its reaction didn't declare for it, or reads a name again.
+pub(crate) fn is_undeclared(
+    program: &Program,
+    rows: &[Row],
+    place: usize,
+    row: Row,
+    marks: &Marks,
+) -> bool
+    requires known { RowFits program.now row }
+    requires place { slice_get rows.now place ≡ Some row }
+    requires rising { RisesTo rows.now place row.tag }
+    requires marks { AreMarks program.now rows.now 0 place marks.now }
+    ensures { IsTrue result ↔ IsUndeclared program.now rows.now place row row.step }
+{
+    match row.step {
+        Step::Read(name, _) => is_bad_read(program, rows, place, row, name, marks),
+        Step::Write(name, _) => !may_write(program, row.reaction, name),
+        Step::Schedule(name, _, _) => !may_schedule(program, row.reaction, name),
+        Step::Start => false,
+        Step::Stop => false,
+        Step::End => false,
+    }
+}
+
+/// Whether the name isn't among the inputs of the row's reaction, or was read before in its run.
+fn is_bad_read(
+    program: &Program,
+    rows: &[Row],
+    place: usize,
+    row: Row,
+    name: Name,
+    marks: &Marks,
+) -> bool
+    requires known { row.reaction < length program.now.reactions }
+    requires place { slice_get rows.now place ≡ Some row }
+    requires rising { RisesTo rows.now place row.tag }
+    requires marks { AreMarks program.now rows.now 0 place marks.now }
+    ensures { IsTrue result ↔ IsBadRead program.now rows.now place row name }
+{
+    match marks.seat(program, row.reaction, name) {
+        Some(seat) => was_at(rows, place, row.tag, marks.of(program, row.reaction, seat)),
+        None => true,
+    }
+}
+
+/// Whether the row before the place past it is at the tag, if it is one.
+fn was_at(rows: &[Row], place: usize, tag: Tag, mark: u32) -> bool
+    requires { (mark ≤ place) × (place < length rows.now) }
+    ensures { IsTrue result ↔ ((j : ℕ) × (row : TheRow) × (mark ≡ j + 1) × (slice_get rows.now j ≡ Some row) × (row.tag ≡ tag)) }
+{
+    mark > 0 && row_at(rows, mark as usize - 1).tag.is_same(tag)
+}
+
+/// Whether the name is a port among the reaction's effects.
+fn may_write(program: &Program, reaction: u32, name: Name) -> bool
+    requires { reaction < length program.now.reactions }
+    ensures { IsTrue result ↔ MayWrite program.now reaction name }
+{
+    match name {
+        Name::Port(port) => is_effect(program, reaction, Name::Port(port)),
+        Name::Action(_) => false,
+    }
+}
+
+/// Whether the name is a logical action among the reaction's effects.
+fn may_schedule(program: &Program, reaction: u32, name: Name) -> bool
+    requires known { reaction < length program.now.reactions }
+    requires named { IsNameOf program.now name }
+    ensures { IsTrue result ↔ MaySchedule program.now reaction name }
+{
+    match name {
+        Name::Port(_) => false,
+        Name::Action(action) => {
+            is_effect(program, reaction, Name::Action(action)) && !program.action(action).physical
+        }
+    }
+}
+
+/// Whether the name is among the reaction's effects.
+fn is_effect(program: &Program, reaction: u32, name: Name) -> bool
+    requires { reaction < length program.now.reactions }
+    ensures { IsTrue result ↔ Contains (effects_of program.now reaction) name }
+{
+    is_among(program.reaction(reaction).effects.as_slice(), name)
+}
+
+/// Whether the two are one name.
+pub(crate) fn is_same_name(a: Name, b: Name) -> bool
+    ensures { IsTrue result ↔ (a ≡ b) }
+{
+    match (a, b) {
+        (Name::Port(p), Name::Port(q)) => p == q,
+        (Name::Action(p), Name::Action(q)) => p == q,
+        (Name::Port(_), Name::Action(_)) => false,
+        (Name::Action(_), Name::Port(_)) => false,
+    }
+}
+
+/// The name at the place, counted from 0.
+pub fn name_at(names: &[Name], place: usize) -> Name
+    requires { place < length names.now }
+    ensures { slice_get names.now place ≡ Some result }
+{
+    names[place]
+}
+
+/// Whether the name is one of the names.
+fn is_among(names: &[Name], name: Name) -> bool
+    ensures { IsTrue result ↔ ((k : ℕ) × (slice_get names.now k ≡ Some name)) }
+{
+    for place in 0..names.len() {
+        if is_same_name(name_at(names, place), name) {
+            return true;
+        }
+    }
+    false
+}

@@ -1,0 +1,13 @@
+#![tactic(auto)]
+//! The rules 1 to 5, which rows break one by one.
+
+mod declared;
+mod marks;
+mod open;
+mod parts;
+mod pass;
+
+pub use declared::name_at;
+pub use marks::Marks;
+pub use parts::first_breach_shared;
+pub use pass::first_breach;

@@ -1,0 +1,168 @@
+//! Where each reaction read each of its inputs last.
+
+ghost use Rattle.std.specs.Prelude.{◌≡◌, ℕ, ◌+◌, ◌<◌, ◌≤◌, length, Some, IsTrue, IfOk, OnOk, MatchOption, slice_get};
+ghost use Rattle.lft_flat.specs.Parts.{inputs as the_inputs};
+ghost use Rattle.lft_flat.specs.declared.parts.Reaction.{Reaction as TheReaction};
+ghost use Rattle.lft_trace.specs.Fits.{RowsFit};
+ghost use Rattle.lft_rows.specs.Marks.{width, HasSeat, AreNoneFrom, IsLaid, Mark, IsMarkedBy, AreMarks, AreBefore};
+
+use crate::declared::{is_same_name, name_at};
+use lft_flat::{Name, Names, Program, Reaction, Trigger};
+use lft_presence::trigger_at;
+use lft_tag::NoMemory;
+use lft_trace::{Row, Step, row_at};
+use std::alloc::Global;
+
+/// For each input of each reaction the place past the row that read it last. Those of a reaction
+/// stand together, in the order of its inputs.
+#[derive(Drop)]
+pub struct Marks {
+    /// The inputs of each reaction. A timer is none, so that a reaction with many timers is asked
+    /// for its few inputs alone.
+    inputs: Vec<Names>,
+    firsts: Vec<usize>,
+    places: Vec<u32>,
+    /// Where the next input is looked for first: a run mostly reads its inputs in order.
+    guess: usize,
+}
+
+/// The inputs of the reaction: the ports and actions among its triggers, then its uses.
+fn inputs_of(alloc: Global, reaction: &Reaction) -> Result<Vec<Name>, NoMemory>
+    ensures { IfOk result (λ names. names.items ≡ the_inputs reaction.now) }
+{
+    let mut names = Vec::new(alloc);
+    let triggers = reaction.triggers.as_slice();
+    for place in 0..triggers.len() {
+        if let Trigger::On(name) = trigger_at(triggers, place) {
+            names.push(name)?;
+        }
+    }
+    names.extend_from_slice(reaction.uses.as_slice())?;
+    Ok(names)
+}
+
+/// The place of the name among the names, if it is one.
+fn name_seat(names: &[Name], name: Name) -> Option<usize>
+    ensures { MatchOption result ((k : ℕ) → ¬ (slice_get names.now k ≡ Some name)) (λ k. slice_get names.now k ≡ Some name) }
+{
+    for place in 0..names.len() {
+        if is_same_name(name_at(names, place), name) {
+            return Some(place);
+        }
+    }
+    None
+}
+
+/// The place of the name among the names, if it is one. The place that is guessed is asked first,
+/// and in place of one past the last that of the first name.
+fn seat_of(names: &[Name], name: Name, guess: usize) -> Option<usize>
+    ensures { MatchOption result ((k : ℕ) → ¬ (slice_get names.now k ≡ Some name)) (λ k. slice_get names.now k ≡ Some name) }
+{
+    let first = if guess < names.len() { guess } else { 0 };
+    if first < names.len() && is_same_name(name_at(names, first), name) {
+        return Some(first);
+    }
+    name_seat(names, name)
+}
+
+/// Adds marks that tell of no row.
+fn add_marks(places: &mut Vec<u32>, count: usize) -> Result<(), NoMemory>
+    requires { AreNoneFrom 0 places.old.items }
+    ensures none { OnOk result (AreNoneFrom 0 places.new.items) }
+    ensures count { OnOk result (length places.new.items ≡ length places.old.items + count) }
+{
+    for number in 0..count {
+        places.push(0)?;
+    }
+    Ok(())
+}
+
+impl Marks {
+    /// No row has read.
+    pub fn new(alloc: Global, program: &Program) -> Result<Marks, NoMemory>
+        ensures { IfOk result (AreBefore program.now 0) }
+    {
+        let mut inputs = Vec::new(alloc);
+        let mut firsts = Vec::new(alloc);
+        let mut places = Vec::new(alloc);
+        for number in 0..program.reactions() {
+            let names = inputs_of(alloc, program.reaction(number as u32))?;
+            firsts.push(places.len())?;
+            add_marks(&mut places, names.len())?;
+            inputs.push(Names::from_vec(names))?;
+        }
+        Ok(Marks {
+            inputs,
+            firsts,
+            places,
+            guess: 0,
+        })
+    }
+
+    /// The mark of the input that stands at the seat of the reaction.
+    pub fn of(&self, program: &Program, reaction: u32, seat: usize) -> u32
+        requires laid { IsLaid program.now self.now }
+        requires seat { (x : TheReaction) × (slice_get program.now.reactions reaction ≡ Some x) × (seat < width x) }
+        ensures { Mark self.now reaction seat result }
+    {
+        self.places[self.firsts[reaction as usize] + seat]
+    }
+
+    /// The inputs of the reaction, in order.
+    pub fn inputs(&self, program: &Program, reaction: u32) -> &[Name]
+        requires laid { IsLaid program.now self.now }
+        requires reaction { reaction < length program.now.reactions }
+        ensures { (x : TheReaction) × (slice_get program.now.reactions reaction ≡ Some x) × (result.now ≡ the_inputs x) }
+    {
+        self.inputs[reaction as usize].as_slice()
+    }
+
+    /// Where the name stands among the reaction's inputs, if it is one.
+    pub fn seat(&self, program: &Program, reaction: u32, name: Name) -> Option<usize>
+        requires laid { IsLaid program.now self.now }
+        requires reaction { reaction < length program.now.reactions }
+        ensures { (x : TheReaction) × (slice_get program.now.reactions reaction ≡ Some x) × MatchOption result ((k : ℕ) → ¬ HasSeat x name k) (HasSeat x name) }
+    {
+        seat_of(self.inputs(program, reaction), name, self.guess)
+    }
+
+    /// Sets the mark of the input that stands at the seat of the reaction.
+    fn set(&mut self, program: &Program, reaction: u32, seat: usize, mark: u32)
+        requires laid { IsLaid program.now self.old }
+        requires seat { (x : TheReaction) × (slice_get program.now.reactions reaction ≡ Some x) × (seat < width x) }
+        ensures { IsMarkedBy self.old reaction seat mark self.new }
+    {
+        let at = self.firsts[reaction as usize] + seat;
+        self.places[at] = mark;
+        self.guess = seat.wrapping_add(1);
+    }
+
+    /// Goes on past the row at the place.
+    pub fn pass(&mut self, program: &Program, rows: &[Row], place: usize)
+        requires fit { RowsFit program.now rows.now }
+        requires place { place < length rows.now }
+        requires marks { (low : ℕ) × (low ≤ place) × AreMarks program.now rows.now low place self.old }
+        ensures { (low : ℕ) → low ≤ place → AreMarks program.now rows.now low place self.old → AreMarks program.now rows.now low (place + 1) self.new }
+    {
+        // Asked for what every program keeps: no input stands twice in its reaction.
+        let _ = program.reactions();
+        let row = row_at(rows, place);
+        if let Step::Read(name, _) = row.step {
+            if let Some(seat) = self.seat(program, row.reaction, name) {
+                self.set(program, row.reaction, seat, place as u32 + 1);
+            }
+        }
+    }
+
+    /// Goes on past the rows from one place up to, without, another.
+    pub fn pass_all(&mut self, program: &Program, rows: &[Row], first: usize, end: usize)
+        requires fit { RowsFit program.now rows.now }
+        requires places { (first ≤ end) × (end ≤ length rows.now) }
+        requires before { AreBefore program.now first self.old }
+        ensures { AreMarks program.now rows.now first end self.new }
+    {
+        for place in first..end {
+            self.pass(program, rows, place);
+        }
+    }
+}

@@ -1,0 +1,234 @@
+//! The pass over the rows for the rules 1 to 5.
+
+ghost use Rattle.std.specs.Prelude.{◌≡◌, ℕ, List, ◌+◌, ◌<◌, ◌≤◌, length, Some, IsTrue, ◌↔◌, IfOk, OnOk, slice_get};
+ghost use Rattle.lft_tag.specs.declared.Tag.{Tag as TheTag};
+ghost use Rattle.lft_tag.specs.Tags.{UpTo};
+ghost use Rattle.lft_trace.specs.declared.row.Row.{Row as TheRow};
+ghost use Rattle.lft_trace.specs.Fits.{RowsFit};
+ghost use Rattle.lft_model.specs.Plans.{PlanParts};
+ghost use Rattle.lft_model.specs.Breaches.{IsOutOfOrder};
+ghost use Rattle.lft_rows.specs.Firsts.{FirstRow};
+ghost use Rattle.lft_rows.specs.Places.{last_of};
+ghost use Rattle.lft_rows.specs.Passes.{IsLatest, LastStart, Holds, HasOpen, IsKnown, FirstUnended, KeepsEarly, EarlyRule, IsEarly};
+
+use crate::declared::is_undeclared;
+use crate::marks::Marks;
+use crate::open::{LastStarts, OpenRuns};
+use lft_flat::Program;
+use lft_model::{Breach, Plan};
+use lft_tag::{NoMemory, Tag};
+use lft_trace::{Row, is_end, is_start, row_at};
+use std::alloc::Global;
+
+/// What a pass over the rows keeps.
+#[derive(Drop)]
+struct Known {
+    last: Tag,
+    starts: LastStarts,
+    runs: OpenRuns,
+    marks: Marks,
+}
+
+/// Where a pass ended, and why: the rule that the row at the place breaks, if any.
+#[derive(Drop)]
+struct Early {
+    place: usize,
+    rule: Option<u8>,
+    runs: OpenRuns,
+}
+
+/// Whether the open run of the row's worker is of the row's tag and reaction.
+fn has_open(rows: &[Row], row: Row, runs: &OpenRuns) -> bool
+    requires { (p i : ℕ) × Holds rows.now p i runs.now }
+    ensures { IsTrue result ↔ HasOpen rows.now runs.now row }
+{
+    match runs.of(row.worker) {
+        Some(start) => {
+            let first = row_at(rows, start);
+            first.tag.is_same(row.tag) && first.reaction == row.reaction
+        }
+        None => false,
+    }
+}
+
+/// Takes a run from the open ones where the row at the place ends it.
+fn close(rows: &[Row], place: usize, runs: &mut OpenRuns)
+    requires place { place < length rows.now }
+    requires held { (p : ℕ) × (p ≤ place) × Holds rows.now p place runs.old }
+    ensures { (p : ℕ) → p ≤ place → Holds rows.now p place runs.old → Holds rows.now p (place + 1) runs.new }
+{
+    let row = row_at(rows, place);
+    if is_end(&row.step) && has_open(rows, row, runs) {
+        runs.end(row.worker);
+    }
+}
+
+/// Takes the runs from the open ones that a row from the place on ends.
+fn close_rest(rows: &[Row], from: usize, runs: &mut OpenRuns)
+    requires from { from ≤ length rows.now }
+    requires held { Holds rows.now from from runs.old }
+    ensures { Holds rows.now from (length rows.now) runs.new }
+{
+    for place in from..rows.len() {
+        close(rows, place, runs);
+    }
+}
+
+/// Whether the row starts a run that was started before or whose worker has an open one, or stands
+/// outside the open run of its worker, tag and reaction.
+fn is_out_of_order(rows: &[Row], place: usize, row: Row, known: &Known) -> bool
+    requires latest { IsLatest rows.now place known.now.last }
+    requires started { (r : ℕ) → LastStart rows.now place r (last_of known.now.starts r) }
+    requires held { Holds rows.now place place known.now.runs }
+    requires in_time { UpTo known.now.last row.tag }
+    ensures { IsTrue result ↔ IsOutOfOrder rows.now place row row.step }
+{
+    if is_start(&row.step) {
+        if known.runs.of(row.worker).is_some() {
+            return true;
+        }
+        match known.starts.of(row.reaction) {
+            Some(tag) => tag.is_same(row.tag),
+            None => false,
+        }
+    } else {
+        !has_open(rows, row, &known.runs)
+    }
+}
+
+/// The first place before the end whose row starts a run that is still open.
+fn least_open(rows: &[Row], end: usize, runs: &OpenRuns) -> Option<usize>
+    requires end { end ≤ length rows.now }
+    requires held { Holds rows.now end (length rows.now) runs.now }
+    ensures { FirstUnended rows.now end result }
+{
+    for place in 0..end {
+        let row = row_at(rows, place);
+        if is_start(&row.step) && runs.of(row.worker) == Some(place) {
+            return Some(place);
+        }
+    }
+    None
+}
+
+impl Known {
+    /// What is known before the first row.
+    fn new(alloc: Global, program: &Program) -> Result<Known, NoMemory>
+        ensures { IfOk result (λ known. (t : List TheRow) → IsKnown program.now t 0 known) }
+    {
+        let marks = Marks::new(alloc, program)?;
+        let starts = LastStarts::new(alloc, program.reactions())?;
+        let runs = OpenRuns::new(alloc)?;
+        Ok(Known {
+            last: Tag { time: 0, micro: 0 },
+            starts,
+            runs,
+            marks,
+        })
+    }
+
+    /// The least of the rules 1 to 4 that the row at the place breaks.
+    fn rule(&self, plan: &Plan, stop: Tag, rows: &[Row], place: usize) -> Option<u8>
+        requires known { IsKnown plan.now.program rows.now place self.now }
+        requires fit { RowsFit plan.now.program rows.now }
+        requires place { place < length rows.now }
+        requires kept { KeepsEarly stop plan.now rows.now place }
+        ensures { (row : _) → slice_get rows.now place ≡ Some row → EarlyRule stop plan.now rows.now place row result }
+    {
+        let row = row_at(rows, place);
+        if row.tag.is_before(self.last) {
+            Some(1)
+        } else if stop.is_before(row.tag) {
+            Some(2)
+        } else if is_out_of_order(rows, place, row, self) {
+            Some(3)
+        } else if is_undeclared(plan.program(), rows, place, row, &self.marks) {
+            Some(4)
+        } else {
+            None
+        }
+    }
+
+    /// Goes on past the row at the place, which breaks none of the rules 1 to 4.
+    fn add(&mut self, program: &Program, rows: &[Row], place: usize) -> Result<(), NoMemory>
+        requires known { IsKnown program.now rows.now place self.old }
+        requires fit { RowsFit program.now rows.now }
+        requires place { place < length rows.now }
+        requires kept { (stop : TheTag) × (plan : PlanParts) × KeepsEarly stop plan rows.now (place + 1) }
+        ensures { OnOk result (IsKnown program.now rows.now (place + 1) self.new) }
+    {
+        let row = row_at(rows, place);
+        self.marks.pass(program, rows, place);
+        close(rows, place, &mut self.runs);
+        if is_start(&row.step) {
+            self.runs.begin(row.worker, place)?;
+            self.starts.begin(row.reaction, row.tag);
+        }
+        self.last = row.tag;
+        Ok(())
+    }
+}
+
+/// Goes over the rows up to the first that breaks one of the rules 1 to 4.
+fn early_rows(alloc: Global, plan: &Plan, stop: Tag, rows: &[Row]) -> Result<Early, NoMemory>
+    requires fit { RowsFit plan.now.program rows.now }
+    ensures { IfOk result (IsEarly stop plan.now rows.now) }
+{
+    let program = plan.program();
+    let mut known = Known::new(alloc, program)?;
+    for place in 0..rows.len() {
+        if let Some(rule) = known.rule(plan, stop, rows, place) {
+            return Ok(Early {
+                place,
+                rule: Some(rule),
+                runs: known.runs,
+            });
+        }
+        known.add(program, rows, place)?;
+    }
+    Ok(Early {
+        place: rows.len(),
+        rule: None,
+        runs: known.runs,
+    })
+}
+
+/// The first row that breaks one of the rules 1 to 5, and the least of these that it breaks, where
+/// the stop tag is this one: for a whole trace its own stop, for some rows of it that of the whole.
+pub fn first_breach(
+    alloc: Global,
+    plan: &Plan,
+    stop: Tag,
+    rows: &[Row],
+) -> Result<Option<Breach>, NoMemory>
+    requires fit { RowsFit plan.now.program rows.now }
+    ensures { IfOk result (FirstRow stop plan.now rows.now) }
+{
+    let mut early = early_rows(alloc, plan, stop, rows)?;
+    close_rest(rows, early.place, &mut early.runs);
+    match least_open(rows, early.place, &early.runs) {
+        Some(start) => Ok(Some(breach(rows, start, 5))),
+        None => match early.rule {
+            Some(rule) => Ok(Some(breach(rows, early.place, rule))),
+            None => Ok(None),
+        },
+    }
+}
+
+/// The breach of the rule by the row at the place.
+fn breach(rows: &[Row], place: usize, rule: u8) -> Breach
+    requires place { place < length rows.now }
+    requires few { length rows.now ≤ 4000000 }
+    ensures rule { result.rule ≡ rule }
+    ensures row { result.row ≡ place + 2 }
+    ensures tag { (row : _) → slice_get rows.now place ≡ Some row → result.tag ≡ row.tag }
+    ensures reaction { (row : _) → slice_get rows.now place ≡ Some row → result.reaction ≡ Some row.reaction }
+{
+    let row = row_at(rows, place);
+    Breach {
+        rule,
+        tag: row.tag,
+        reaction: Some(row.reaction),
+        row: place as u32 + 2,
+    }
+}
