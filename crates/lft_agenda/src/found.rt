@@ -3,7 +3,7 @@
 use lft_tag::Tag;
 
 /// What a recording so far allows.
-#[derive(Clone, Copy, Debug, Drop)]
+#[derive(Clone, Copy, Drop)]
 pub enum Found {
     /// The least reaction that may start, at the least unfinished tag.
     Ready(Tag, u32),

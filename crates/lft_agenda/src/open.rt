@@ -12,7 +12,7 @@ use lft_recording::same_reads;
 use lft_tag::Tag;
 
 /// A run that has started and hasn't ended, and what it read.
-#[derive(Debug, Drop)]
+#[derive(Drop)]
 pub struct OpenRun {
     pub worker: u32,
     pub tag: Tag,

@@ -7,14 +7,14 @@ use std::alloc::Global;
 use std::marker::Model;
 
 /// What a card writes or schedules: presence alone, or a number.
-#[derive(Debug, Drop)]
+#[derive(Drop)]
 pub enum Content {
     Bare,
     Int(Expression),
 }
 
 /// A step of a body. A schedule has the extra delay in nanoseconds.
-#[derive(Debug, Drop)]
+#[derive(Drop)]
 pub enum CardStep {
     Write(Name, Content),
     Schedule(Name, Content, u64),
@@ -22,7 +22,7 @@ pub enum CardStep {
 }
 
 /// The steps of a body in order.
-#[derive(Debug, Drop)]
+#[derive(Drop)]
 pub struct CardSteps {
     items: Vec<CardStep>,
 }
@@ -67,7 +67,7 @@ impl CardSteps {
 }
 
 /// What a card adds to the script of its reaction.
-#[derive(Debug, Drop)]
+#[derive(Drop)]
 pub(crate) enum Entry {
     Bodies(u32),
     Step(CardStep),
@@ -75,7 +75,7 @@ pub(crate) enum Entry {
 }
 
 /// A card: a reaction, and what is told of its bodies.
-#[derive(Debug, Drop)]
+#[derive(Drop)]
 pub(crate) struct Card {
     pub(crate) reaction: u32,
     pub(crate) entry: Entry,

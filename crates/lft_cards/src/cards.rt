@@ -12,7 +12,7 @@ use std::marker::Model;
 
 /// What the bodies of one reaction answer: how many there are, their steps, and the state word that
 /// each leaves. Where no number is given there are none, and where no word is given it is kept.
-#[derive(Debug, Drop)]
+#[derive(Drop)]
 pub struct Script {
     pub bodies: Option<u32>,
     pub steps: CardSteps,
@@ -56,7 +56,7 @@ impl Script {
 }
 
 /// A script for each reaction of a program.
-#[derive(Debug, Drop)]
+#[derive(Drop)]
 pub struct Cards {
     scripts: Vec<Script>,
 }

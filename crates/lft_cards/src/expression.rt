@@ -14,7 +14,7 @@ use std::alloc::Global;
 use std::marker::Model;
 
 /// One summand of an expression.
-#[derive(Clone, Copy, PartialEq, Eq, Debug, Drop)]
+#[derive(Clone, Copy, PartialEq, Eq, Drop)]
 pub enum Term {
     Number(i64),
     /// The state word before the run.
@@ -26,7 +26,7 @@ pub enum Term {
 }
 
 /// The terms that are added up, in order.
-#[derive(Debug, Drop)]
+#[derive(Drop)]
 pub struct Expression {
     terms: Vec<Term>,
 }

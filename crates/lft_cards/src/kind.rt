@@ -4,7 +4,7 @@ ghost use Rattle.std.specs.Prelude.{◌≡◌, ◌≢◌, IfSome, IfNone};
 ghost use Rattle.lft_cards.specs.CardTables.{has_delay, has_name, has_value, word};
 
 /// The kind of a record of a table of cards.
-#[derive(Clone, Copy, PartialEq, Eq, Debug, Drop)]
+#[derive(Clone, Copy, PartialEq, Eq, Drop)]
 pub(crate) enum CardKind {
     Bodies,
     Write,

@@ -17,7 +17,7 @@ use lft_tree::{
 use std::alloc::Global;
 
 /// A name with the role that it has.
-#[derive(Clone, Copy, Debug, Drop)]
+#[derive(Clone, Copy, Drop)]
 pub(crate) struct Use<'a> {
     pub(crate) role: Role,
     pub(crate) reference: &'a Reference,

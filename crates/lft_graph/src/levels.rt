@@ -13,7 +13,7 @@ use std::alloc::Global;
 
 /// How far a reaction is looked at: not yet, on the way with the first members of its list
 /// levelled, or to the end, with its level.
-#[derive(Clone, Copy, Debug, Drop)]
+#[derive(Clone, Copy, Drop)]
 pub(crate) enum Mark {
     New,
     Open(usize),
@@ -22,7 +22,7 @@ pub(crate) enum Mark {
 
 /// What comes next at a reaction: its level, a member of its list that is on the way, or the
 /// first member that isn't looked at, with its place.
-#[derive(Clone, Copy, Debug, Drop)]
+#[derive(Clone, Copy, Drop)]
 pub(crate) enum Next {
     Level(u32),
     Looped(u32),

@@ -16,14 +16,14 @@ use std::alloc::Global;
 
 /// An end of a connection in a reactor: a port of its own by its place, or the port at a place of
 /// the instance at a place.
-#[derive(Clone, Copy, PartialEq, Eq, Debug, Drop)]
+#[derive(Clone, Copy, PartialEq, Eq, Drop)]
 pub enum End {
     Own(u32),
     Inner { instance: usize, port: u32 },
 }
 
 /// What a connection of a reactor joins. A delay is read in the instance that has the connection.
-#[derive(Clone, Copy, PartialEq, Eq, Debug, Drop)]
+#[derive(Clone, Copy, PartialEq, Eq, Drop)]
 pub struct Join {
     pub from: End,
     pub to: End,
@@ -31,7 +31,7 @@ pub struct Join {
 }
 
 /// What a reactor joins, each port to one other.
-#[derive(Debug, Drop)]
+#[derive(Drop)]
 pub struct Connections {
     pub joins: Vec<Join>,
 }

@@ -12,7 +12,7 @@ use std::alloc::Global;
 
 /// What an instance declares, as a port, a timer, an action or a reaction: the number of the
 /// instance, and the place among those of its reactor, counted from 0.
-#[derive(Clone, Copy, PartialEq, Eq, Debug, Drop)]
+#[derive(Clone, Copy, PartialEq, Eq, Drop)]
 pub struct Thing {
     pub instance: u32,
     pub place: u32,

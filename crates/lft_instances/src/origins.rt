@@ -9,7 +9,7 @@ use lft_tag::Shift;
 use std::alloc::{AllocError, AllocFailed, Global};
 
 /// The port before, and the delay of the connection from it in nanoseconds, if it has one.
-#[derive(Clone, Copy, PartialEq, Eq, Debug, Drop)]
+#[derive(Clone, Copy, PartialEq, Eq, Drop)]
 pub struct Source {
     pub port: u32,
     pub delay: Option<u64>,
@@ -17,14 +17,14 @@ pub struct Source {
 
 /// The port where a chain begins, and the chain's delays folded; None where they sum to more than
 /// 10^18 nanoseconds.
-#[derive(Clone, Copy, PartialEq, Eq, Debug, Drop)]
+#[derive(Clone, Copy, PartialEq, Eq, Drop)]
 pub struct Reached {
     pub origin: u32,
     pub shift: Option<Shift>,
 }
 
 /// Why ports have no origins.
-#[derive(Clone, Copy, PartialEq, Eq, Debug, Drop)]
+#[derive(Clone, Copy, PartialEq, Eq, Drop)]
 pub enum OriginFault {
     /// The chain of some port comes back to it.
     Cycle,
@@ -55,7 +55,7 @@ impl<T: Drop> From<AllocFailed<T>> for OriginFault {
 }
 
 /// How far a port is looked at: not yet, on the way, or to the end of its chain.
-#[derive(Clone, Copy, Debug, Drop)]
+#[derive(Clone, Copy, Drop)]
 pub enum Mark {
     New,
     Open,
@@ -64,7 +64,7 @@ pub enum Mark {
 
 /// What comes next at a port on the way: its origin is known, its chain comes back, or the port
 /// before it is to be looked at first.
-#[derive(Clone, Copy, Debug, Drop)]
+#[derive(Clone, Copy, Drop)]
 pub enum Next {
     Known(Reached),
     Cycle,

@@ -12,7 +12,7 @@ use lft_tag::NoMemory;
 use std::alloc::Global;
 
 /// How far a reactor is explored: not yet, on the way, or with all that it contains.
-#[derive(Clone, Copy, Debug, Drop)]
+#[derive(Clone, Copy, Drop)]
 pub enum Stage {
     New,
     Open,
@@ -20,7 +20,7 @@ pub enum Stage {
 }
 
 /// A reactor on the way, and the place of the next of its instances to look at.
-#[derive(Clone, Copy, Debug, Drop)]
+#[derive(Clone, Copy, Drop)]
 pub struct Visit {
     pub reactor: usize,
     pub next: usize,
@@ -28,7 +28,7 @@ pub struct Visit {
 
 /// What comes next at a reactor on the way: it has no more instances, or the next one is of a
 /// reactor that is explored already, is on the way itself, or is to be explored first.
-#[derive(Clone, Copy, Debug, Drop)]
+#[derive(Clone, Copy, Drop)]
 pub enum Turn {
     Finished,
     Skipped,

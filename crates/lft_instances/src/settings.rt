@@ -11,7 +11,7 @@ use std::alloc::Global;
 use std::marker::Model;
 
 /// A time: fixed, in nanoseconds, or the value of the parameter at this place.
-#[derive(Clone, Copy, PartialEq, Eq, Debug, Drop)]
+#[derive(Clone, Copy, PartialEq, Eq, Drop)]
 pub enum Clock {
     Fixed(u64),
     Parameter(usize),
@@ -19,7 +19,7 @@ pub enum Clock {
 
 /// What the parameter at a place is given. The clock is read where the new instance stands, with
 /// the parameters of the instance that contains it.
-#[derive(Clone, Copy, PartialEq, Eq, Debug, Drop)]
+#[derive(Clone, Copy, PartialEq, Eq, Drop)]
 pub struct Given {
     pub place: usize,
     pub clock: Clock,
@@ -27,7 +27,7 @@ pub struct Given {
 
 /// The defaults of a reactor's parameters in nanoseconds, in order of declaration, and what it gives
 /// to each of its instances, by place.
-#[derive(Debug, Drop)]
+#[derive(Drop)]
 pub struct Parameters {
     pub defaults: Vec<u64>,
     pub given: Vec<Vec<Given>>,

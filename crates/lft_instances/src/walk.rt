@@ -10,14 +10,14 @@ use std::alloc::{AllocError, AllocFailed, Global};
 pub const MAX_INSTANCES: usize = 10_000;
 
 /// What a reactor contains: the numbers of the reactors of its instances, in order of declaration.
-#[derive(Debug, Drop)]
+#[derive(Drop)]
 pub struct Contents {
     pub instances: Vec<u32>,
 }
 
 /// An instance: the number of its reactor, the number of the instance that contains it, and its
 /// place among the instances there, counted from 0. The last two are 0 for the main instance.
-#[derive(Clone, Copy, PartialEq, Eq, Debug, Drop)]
+#[derive(Clone, Copy, PartialEq, Eq, Drop)]
 pub struct Instance {
     pub reactor: u32,
     pub parent: u32,
@@ -25,7 +25,7 @@ pub struct Instance {
 }
 
 /// Why there is no list of the instances.
-#[derive(Clone, Copy, PartialEq, Eq, Debug, Drop)]
+#[derive(Clone, Copy, PartialEq, Eq, Drop)]
 pub enum WalkFault {
     /// There are more than `MAX_INSTANCES`.
     TooMany,
@@ -57,7 +57,7 @@ impl<T: Drop> From<AllocFailed<T>> for WalkFault {
 
 /// An instance whose own instances are being made: its number, its reactor, and the place of the
 /// next one to make.
-#[derive(Clone, Copy, Debug, Drop)]
+#[derive(Clone, Copy, Drop)]
 pub struct Frame {
     pub number: u32,
     pub reactor: u32,

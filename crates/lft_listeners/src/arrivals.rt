@@ -11,7 +11,7 @@ use std::alloc::Global;
 use std::marker::Model;
 
 /// For each port of a program the ports at which a write of it arrives: those whose origin it is.
-#[derive(Debug, Drop)]
+#[derive(Drop)]
 pub struct Arrivals {
     lists: Lists,
 }

@@ -12,7 +12,7 @@ use std::alloc::Global;
 use std::marker::Model;
 
 /// A list of reactions for each trigger of a program.
-#[derive(Debug, Drop)]
+#[derive(Drop)]
 pub(crate) struct ByTrigger {
     startup: Vec<u32>,
     shutdown: Vec<u32>,

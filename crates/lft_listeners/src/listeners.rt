@@ -14,7 +14,7 @@ use std::alloc::Global;
 use std::marker::Model;
 
 /// The listeners of each trigger of a program: the reactions that it triggers.
-#[derive(Debug, Drop)]
+#[derive(Drop)]
 pub struct Listeners {
     by_trigger: ByTrigger,
     live_timers: Vec<u32>,

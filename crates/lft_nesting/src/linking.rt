@@ -19,7 +19,7 @@ use std::alloc::{AllocFailed, Global};
 
 /// How a port is reached: the port before it with the delay of the connection from it in
 /// nanoseconds, the origin of its chain of connections, and the delays of that chain.
-#[derive(Clone, Copy, PartialEq, Eq, Debug, Drop)]
+#[derive(Clone, Copy, PartialEq, Eq, Drop)]
 pub struct Linked {
     pub source: Option<Source>,
     pub origin: u32,
@@ -27,7 +27,7 @@ pub struct Linked {
 }
 
 /// Why ports have no origins, in the order in which the causes are answered.
-#[derive(Clone, Copy, PartialEq, Eq, Debug, Drop)]
+#[derive(Clone, Copy, PartialEq, Eq, Drop)]
 pub enum LinkFault {
     /// Connections alone form a cycle.
     ConnectionCycle,

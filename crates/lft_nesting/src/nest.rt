@@ -22,7 +22,7 @@ const MAX_THINGS: u32 = 100_000;
 
 /// How things of one kind are numbered: how many of them each reactor declares, by the reactor's
 /// number, and the number of each instance's first one, by the instance's number.
-#[derive(Debug, Drop)]
+#[derive(Drop)]
 pub struct Numbering {
     pub counts: Vec<u32>,
     pub firsts: Vec<u32>,
@@ -42,7 +42,7 @@ pub struct Nest {
 }
 
 /// Why there is no nest.
-#[derive(Clone, Copy, PartialEq, Eq, Debug, Drop)]
+#[derive(Clone, Copy, PartialEq, Eq, Drop)]
 pub enum NestFault {
     /// A limit on the number of instances, reactions, ports, single connections, actions or timers
     /// is passed.

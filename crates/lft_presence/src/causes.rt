@@ -10,7 +10,7 @@ use lft_tag::{Shift, Tag};
 /// A row that writes a port or schedules an action, or an external event of an action, as the cause
 /// of an event. Causes are ordered by their fields as these stand.
 // 24 bytes each: a cause tells where its value stands and not the value.
-#[derive(Clone, Copy, PartialEq, Eq, PartialOrd, Ord, Debug, Drop)]
+#[derive(Clone, Copy, PartialEq, Eq, PartialOrd, Ord, Drop)]
 pub struct Cause {
     /// The number of the port; for an action, the number of all ports and its own number.
     pub name: u32,

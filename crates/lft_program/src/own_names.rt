@@ -11,7 +11,7 @@ use lft_tree::{Member, Reactor};
 use std::alloc::Global;
 
 /// The kinds of members whose full names have a dot.
-#[derive(Clone, Copy, Debug, PartialEq, Eq, Drop)]
+#[derive(Clone, Copy, PartialEq, Eq, Drop)]
 pub(crate) enum Kind {
     Instance,
     Port,

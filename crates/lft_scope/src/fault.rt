@@ -7,7 +7,7 @@ use std::alloc::AllocFailed;
 
 /// Why a tree is refused for what stands in one of its reactors, in the order in which the causes
 /// are answered.
-#[derive(Clone, Copy, PartialEq, Eq, Debug, Drop)]
+#[derive(Clone, Copy, PartialEq, Eq, Drop)]
 pub enum ReactorFault {
     /// No reactor is the main one.
     NoMain,

@@ -4,7 +4,7 @@ ghost use Rattle.std.specs.Prelude.{◌≡◌};
 ghost use Rattle.lft_scope.specs.Kinds.{may_stand};
 
 /// What a name is: the reactor's own, or a port of a contained instance.
-#[derive(Clone, Copy, Debug, PartialEq, Eq, Drop)]
+#[derive(Clone, Copy, PartialEq, Eq, Drop)]
 pub enum Kind {
     OwnParameter,
     OwnInput,
@@ -18,7 +18,7 @@ pub enum Kind {
 
 /// Where a name stands: among a reaction's triggers and uses, its effects, or on a side of a
 /// connection.
-#[derive(Clone, Copy, Debug, PartialEq, Eq, Drop)]
+#[derive(Clone, Copy, PartialEq, Eq, Drop)]
 pub enum Role {
     Read,
     Effect,

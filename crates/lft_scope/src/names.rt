@@ -11,7 +11,7 @@ use lft_tree::{Member, Parameter, Reactor};
 use std::alloc::Global;
 
 /// The kinds of members that have names.
-#[derive(Clone, Copy, Debug, PartialEq, Eq, Drop)]
+#[derive(Clone, Copy, PartialEq, Eq, Drop)]
 pub enum Declared {
     Port,
     Timer,

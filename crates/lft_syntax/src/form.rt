@@ -4,7 +4,7 @@ ghost use Rattle.std.specs.Prelude.{◌≡◌};
 ghost use Rattle.lft_tree.specs.Bytes.{is_space, is_in_line, is_letter, is_digit, is_word, is_byte};
 
 /// What begins with a byte, by that byte and the one after it.
-#[derive(Clone, Copy, Debug, PartialEq, Eq)]
+#[derive(Clone, Copy, PartialEq, Eq)]
 pub enum Form {
     /// One byte of white space.
     Space,

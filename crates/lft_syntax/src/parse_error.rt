@@ -6,7 +6,7 @@ ghost use Rattle.lft_syntax.specs.declared.parse_error.ParseError.TheVariants.{M
 use std::alloc::{AllocError, AllocFailed};
 
 /// Why there is no tree.
-#[derive(Debug, Drop)]
+#[derive(Drop)]
 pub enum ParseError {
     /// Memory ran out.
     Memory,

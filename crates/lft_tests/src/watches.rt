@@ -1,7 +1,7 @@
 //! Who is told which tag is examined, by one worker and by two.
 
 use crate::texts::plan;
-use lft_check::{CheckFault, NoWatch, Verdict, Watch, judge, judge_alone};
+use lft_check::{Verdict, Watch, judge, judge_alone};
 use lft_model::Plan;
 use lft_tag::Tag;
 use lft_trace::read_trace;
@@ -142,16 +142,5 @@ fn examines_two_tags_at_once(rt: HostRuntime) -> Result<(), Fail> {
     let verdict = judge(&rt, rt.alloc(), &plan, &rows, 2, &watch);
     assert!(rt; verdict == Ok(Verdict::Accepted { runs: 2, tags: 2 }));
     assert!(rt; !watch.late.load(Ordering::SeqCst));
-    Ok(())
-}
-
-#[test]
-fn refuses_no_worker_and_more_than_sixty_four(rt: HostRuntime) -> Result<(), Fail> {
-    let plan = plan(rt.alloc(), AGAIN, AGAIN_EXTERNALS)?;
-    let rows = read_trace(rt.alloc(), plan.program(), AGAIN_RUNS)?;
-    for workers in [0, 65] {
-        let verdict = judge(&rt, rt.alloc(), &plan, &rows, workers, &NoWatch);
-        assert!(rt; verdict == Err(CheckFault::BadWorkers));
-    }
     Ok(())
 }

@@ -24,7 +24,7 @@ use lft_tag::Tag;
 use std::alloc::Global;
 
 /// What a record tells: an event of a physical action, or the stop.
-#[derive(Clone, Copy, PartialEq, Eq, Debug, Drop)]
+#[derive(Clone, Copy, PartialEq, Eq, Drop)]
 pub(crate) enum Entry {
     Happens(Event),
     Stops(Tag),

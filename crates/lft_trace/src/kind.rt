@@ -5,7 +5,7 @@ ghost use Rattle.lft_trace.specs.ExternalTables.{word as entry_word};
 ghost use Rattle.lft_trace.specs.Traces.{word, has_name, has_delay};
 
 /// The event of a record.
-#[derive(Clone, Copy, PartialEq, Eq, Debug, Drop)]
+#[derive(Clone, Copy, PartialEq, Eq, Drop)]
 pub(crate) enum RowKind {
     Start,
     Read,
@@ -54,7 +54,7 @@ impl RowKind {
 }
 
 /// The kind of a record of external inputs.
-#[derive(Clone, Copy, PartialEq, Eq, Debug, Drop)]
+#[derive(Clone, Copy, PartialEq, Eq, Drop)]
 pub(crate) enum EntryKind {
     Event,
     Stop,

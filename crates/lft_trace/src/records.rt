@@ -14,7 +14,7 @@ use std::alloc::Global;
 pub const LAST_LINE: u32 = 4_000_001;
 
 /// Why the records stop before their end.
-#[derive(Clone, Copy, Debug, PartialEq, Eq)]
+#[derive(Clone, Copy, PartialEq, Eq)]
 pub enum Stop {
     NotCsv,
     NoMemory,

@@ -26,7 +26,7 @@ use std::marker::Model;
 /// change goes on only to those reactions that become busy by it, or are no longer busy; so over
 /// a tag each step of the graph from a reaction that is busy at some time is taken twice, if none
 /// is triggered after it was idle again, and other reactions aren't looked at.
-#[derive(Debug, Drop)]
+#[derive(Drop)]
 pub struct Turn {
     graph: Graph,
     after: Vec<Members>,

@@ -37,7 +37,7 @@ Printed: port P origin=O after=TIME+STEPS for each port, then
 reaction X level=K before=Y Z for each reaction (status 0).";
 
 /// The words of `judge`: three paths, and how many workers, 1 to 64.
-#[derive(Clone, Copy, Debug, PartialEq, Eq)]
+#[derive(Clone, Copy)]
 pub struct JudgeWords<'a> {
     pub program: &'a str,
     pub externals: &'a str,
@@ -46,7 +46,7 @@ pub struct JudgeWords<'a> {
 }
 
 /// The words of `pair`: four paths, and how many workers, 1 to 64.
-#[derive(Clone, Copy, Debug, PartialEq, Eq)]
+#[derive(Clone, Copy)]
 pub struct PairWords<'a> {
     pub program: &'a str,
     pub externals: &'a str,
@@ -56,7 +56,7 @@ pub struct PairWords<'a> {
 }
 
 /// The words of `record`: three paths, how many workers, 1 to 64, and how many runs at most.
-#[derive(Clone, Copy, Debug, PartialEq, Eq)]
+#[derive(Clone, Copy)]
 pub struct RecordWords<'a> {
     pub program: &'a str,
     pub externals: &'a str,
@@ -66,7 +66,7 @@ pub struct RecordWords<'a> {
 }
 
 /// What the command line asks for.
-#[derive(Clone, Copy, Debug, PartialEq, Eq)]
+#[derive(Clone, Copy)]
 pub enum Job<'a> {
     /// To judge a bundle from standard input.
     Bundle,
