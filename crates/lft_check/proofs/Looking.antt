@@ -2,12 +2,14 @@
 use Rattle.std.proofs.Common.{◌≡◌, ◌≢◌, ℕ, zero, suc, ◌+◌, ◌<◌, ◌≤◌, ◌⊎◌, inl, inr, List, [], ◌∷◌, ◌++◌, length, length-append, replicate, refl, sym, ap, ◌∙◌, subst, arith, cond, ◌==◌, Some, slice_get, slice_set, Contains, ne_eqb}
 use Rattle.std.proofs.lemmas.Bool.{cases_lt, eq-eqb}
 use native.Mathlib.Decide.{ℕ_discrete}
+use Rattle.lft_flat.specs.Parts.{Parts}
 use Rattle.lft_graph.specs.Precedence.{Precedes}
 use Rattle.lft_graph.specs.Graph.{GraphParts, IsGraphOf}
 use Rattle.lft_lists.proofs.Places.{at_contains, contains_at, get_there, get_push, get_last, get_push_cases, get_same, get_written, get_unwritten, get_write_cases, length_written, same_at, same_some}
 use Rattle.lft_trace.specs.declared.row.Row.{Row}
 use Rattle.lft_trace.specs.declared.row.Step.TheVariants.{Start, End}
 use Rattle.lft_model.specs.Runs.{start_row, end_row}
+use Rattle.lft_model.proofs.Grown.{precedes_trans}
 use Rattle.lft_model.proofs.Legality.{ended}
 use Rattle.lft_model.proofs.Places.{slice_get_within}
 use Rattle.lft_presence.specs.Traces.{TraceParts}
@@ -17,7 +19,7 @@ use Rattle.lft_slices.specs.Pieces.{AreEndsTo}
 use Rattle.lft_slices.specs.Slices.{IsCuttable, IsSlice}
 use Rattle.lft_check.specs.declared.upstream.Upstream.{Upstream}
 use Rattle.lft_check.specs.Carries.{NoEndBelow}
-use Rattle.lft_check.specs.Upstreams.{IsGraphFor, IsFresh, IsReached, others, IsQueued, Grows, IsLooked, AreLookedTo, AreLooked}
+use Rattle.lft_check.specs.Upstreams.{IsGraphFor, IsFresh, IsReached, others, IsQueued, Grows, QueuesOnly, IsListed, ListedEndsPast, EndsPast, IsLooked, AreLookedTo, AreLooked}
 use Rattle.lft_check.specs.Verdicts.{TooEarly}
 use Rattle.lft_check.proofs.Carrying.{level_there, lower, member_known, precedes_known}
 
@@ -97,6 +99,60 @@ module _ (stamp r m : ℕ) (old new : Upstream) (is_m : slice_get old.reached.it
           let b : others stamp new.reached.items ≡ others stamp (slice_set old.reached.items r stamp) = ap (λ ms. others stamp ms) written in
           let c : others stamp (slice_set old.reached.items r stamp) + 1 ≡ others stamp old.reached.items = others_written stamp old.reached.items r m is_m differs in
           omega arith
+
+-- what the queue has anew
+pub only_not : (P : ℕ → Type 0) (up : Upstream) → QueuesOnly P up up
+only_not P up k r e = inl e
+
+pub only_on : (P : ℕ → Type 0) (a b c : Upstream) → QueuesOnly P a b → QueuesOnly P b c → QueuesOnly P a c
+only_on P a b c p q k r e = go (q k r e)
+  where
+    go : (slice_get b.queue.items k ≡ Some r) ⊎ P r → (slice_get a.queue.items k ≡ Some r) ⊎ P r
+    go (inl x) = p k r x
+    go (inr x) = inr x
+
+pub only_as : (P Q : ℕ → Type 0) (a b : Upstream) → ((r : ℕ) → P r → Q r) → QueuesOnly P a b → QueuesOnly Q a b
+only_as P Q a b f h k r e = go (h k r e)
+  where
+    go : (slice_get a.queue.items k ≡ Some r) ⊎ P r → (slice_get a.queue.items k ≡ Some r) ⊎ Q r
+    go (inl x) = inl x
+    go (inr x) = inr (f r x)
+
+pub only_one : (r : ℕ) (old new : Upstream) → new.queue.items ≡ old.queue.items ++ r ∷ [] → QueuesOnly (λ q. q ≡ r) old new
+only_one r old new pushed k q e = go (get_push_cases old.queue.items r k q (ap (λ qs. slice_get qs k) (sym pushed) ∙ e))
+  where
+    go : (slice_get old.queue.items k ≡ Some q) ⊎ ((k ≡ length old.queue.items) × (r ≡ q)) → (slice_get old.queue.items k ≡ Some q) ⊎ (q ≡ r)
+    go (inl x) = inl x
+    go (inr x) = inr (sym x.1)
+
+-- r is the reaction, or precedes it
+abbrev pub LeadsTo : GraphParts → ℕ → ℕ → Type 0
+LeadsTo graph reaction r = (program : Parts) → IsGraphOf program graph → (r ≡ reaction) ⊎ Precedes program r reaction
+
+-- what stands in the short list of what leads to a reaction precedes it
+listed_before : (graph : GraphParts) (reaction r a : ℕ) → LeadsTo graph reaction r → IsListed graph r a → (program : Parts) → IsGraphOf program graph → Precedes program a reaction
+listed_before graph reaction r a leads (list, is_list, c) program is = go (leads program is)
+  where
+    near : Precedes program a r
+    near = (is.chains a r list is_list).1 (a, c, inl refl)
+
+    go : (r ≡ reaction) ⊎ Precedes program r reaction → Precedes program a reaction
+    go (inl q) = subst (λ z. Precedes program a z) q near
+    go (inr p) = precedes_trans near p
+
+pub listed_leads : (graph : GraphParts) (reaction r a : ℕ) → LeadsTo graph reaction r → IsListed graph r a → LeadsTo graph reaction a
+listed_leads graph reaction r a leads l program is = inr (listed_before graph reaction r a leads l program is)
+
+pub ends_past : (graph : GraphParts) (reaction r place : ℕ) (up : Upstream) → LeadsTo graph reaction r → ListedEndsPast graph place up r → (program : Parts) → IsGraphOf program graph → EndsPast program place up reaction
+ends_past graph reaction r place up leads h program is = record { earlier = h.earlier; end = h.end; precedes = listed_before graph reaction r h.earlier leads h.listed program is; ends = h.ends; past = h.past }
+
+-- what stands past the queue's old end is new
+pub new_is : (P : ℕ → Type 0) (old new : Upstream) (k r : ℕ) → length old.queue.items ≤ k → slice_get new.queue.items k ≡ Some r → QueuesOnly P old new → P r
+new_is P old new k r l e h = go (h k r e)
+  where
+    go : (slice_get old.queue.items k ≡ Some r) ⊎ P r → P r
+    go (inl x) = let w : k < length old.queue.items = slice_get_within old.queue.items k r x in absurd (omega arith)
+    go (inr x) = x
 
 -- what was looked at stays so
 looked_on : (graph : GraphParts) (least place stamp : ℕ) (old new : Upstream) (r : ℕ) → Grows stamp old new → IsLooked graph least place stamp old r → IsLooked graph least place stamp new r

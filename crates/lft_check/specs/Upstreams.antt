@@ -1,6 +1,7 @@
 -- What a worker keeps to look at what precedes the runs at a tag. This serves the proof of rule 9 alone.
-use Rattle.std.specs.Prelude.{◌≡◌, ℕ, ◌+◌, ◌<◌, ◌≤◌, List, [], ◌∷◌, length, Some, slice_get, Contains, cond, ◌==◌}
+use Rattle.std.specs.Prelude.{◌≡◌, ℕ, ◌+◌, ◌<◌, ◌≤◌, ◌⊎◌, List, [], ◌∷◌, length, Some, slice_get, Contains, cond, ◌==◌}
 use Rattle.lft_flat.specs.Parts.{Parts}
+use Rattle.lft_graph.specs.Precedence.{Precedes}
 use Rattle.lft_graph.specs.Graph.{GraphParts, IsGraphOf}
 use Rattle.lft_rows.specs.Marks.{AreNoneFrom}
 use Rattle.lft_check.specs.declared.upstream.Upstream.{Upstream}
@@ -44,6 +45,30 @@ pub record Grows (stamp : ℕ) (old new : Upstream) : Type 0 where
 pub record IsLooked (graph : GraphParts) (least place stamp : ℕ) (up : Upstream) (r : ℕ) : Type 0 where
   pub ended : (b e : ℕ) (list : List ℕ) → slice_get graph.before r ≡ Some list → Contains list b → slice_get up.ends.items b ≡ Some e → e ≤ place
   pub reached : (b l : ℕ) (list : List ℕ) → slice_get graph.before r ≡ Some list → Contains list b → slice_get graph.levels b ≡ Some l → least < l → IsReached stamp up b
+
+-- what stands in the queue anew is of a kind
+abbrev pub QueuesOnly : (ℕ → Type 0) → Upstream → Upstream → Type 0
+QueuesOnly P old new = (k r : ℕ) → slice_get new.queue.items k ≡ Some r → (slice_get old.queue.items k ≡ Some r) ⊎ P r
+
+-- a stands in the short list of r
+abbrev pub IsListed : GraphParts → ℕ → ℕ → Type 0
+IsListed graph r a = (list : List ℕ) × (slice_get graph.before r ≡ Some list) × Contains list a
+
+-- one of the short list of r ended past the place
+pub record ListedEndsPast (graph : GraphParts) (place : ℕ) (up : Upstream) (r : ℕ) : Type 0 where
+  pub earlier : ℕ
+  pub end : ℕ
+  pub listed : IsListed graph r earlier
+  pub ends : slice_get up.ends.items earlier ≡ Some end
+  pub past : place < end
+
+-- something that precedes r ended past the place
+pub record EndsPast (program : Parts) (place : ℕ) (up : Upstream) (r : ℕ) : Type 0 where
+  pub earlier : ℕ
+  pub end : ℕ
+  pub precedes : Precedes program earlier r
+  pub ends : slice_get up.ends.items earlier ≡ Some end
+  pub past : place < end
 
 -- the first reactions of the queue are looked at
 abbrev pub AreLookedTo : GraphParts → ℕ → ℕ → ℕ → Upstream → ℕ → Type 0

@@ -1,10 +1,11 @@
 //! Whether runs that overlap out of the order of their levels keep the order of precedence.
 
-ghost use Rattle.std.specs.Prelude.{◌<◌, ℕ, length, IsTrue, IfOk, OnOk};
+ghost use Rattle.std.specs.Prelude.{◌≡◌, ◌<◌, ℕ, length, IsTrue, IfOk, OnOk};
+ghost use Rattle.lft_flat.specs.Parts.{Parts};
 ghost use Rattle.lft_graph.specs.Graph.{IsGraphOf};
 ghost use Rattle.lft_slices.specs.Slices.{IsSlice};
 ghost use Rattle.lft_check.specs.Verdicts.{TooEarly};
-ghost use Rattle.lft_check.specs.Upstreams.{IsFresh, IsGraphFor, IsReached, IsQueued, Grows, IsLooked, AreLooked};
+ghost use Rattle.lft_check.specs.Upstreams.{IsFresh, IsGraphFor, IsReached, IsQueued, Grows, QueuesOnly, IsListed, ListedEndsPast, EndsPast, IsLooked, AreLooked};
 
 use crate::carry::{is_late, number_at};
 use crate::ranks::least_end;
@@ -47,6 +48,7 @@ impl Upstream {
         requires { reaction < length self.old.reached.items }
         ensures grows { OnOk result (Grows stamp self.old self.new) }
         ensures reached { OnOk result (IsReached stamp self.new reaction) }
+        ensures only { OnOk result (QueuesOnly (λ r. r ≡ reaction) self.old self.new) }
     {
         if number_at(self.reached.as_slice(), reaction as usize) != stamp {
             self.reached[reaction as usize] = stamp;
@@ -70,6 +72,8 @@ impl Upstream {
         requires reaction { reaction < length graph.now.before }
         ensures grows { OnOk result (Grows stamp self.old self.new) }
         ensures looked { IfOk result (λ ok. IsTrue ok → IsLooked graph.now least place stamp self.new reaction) }
+        ensures only { OnOk result (QueuesOnly (IsListed graph.now reaction) self.old self.new) }
+        ensures late { IfOk result (λ ok. (IsTrue ok → ⊥) → ListedEndsPast graph.now place self.new reaction) }
     {
         let list = graph.before(reaction);
         for at in 0..list.len() {
@@ -102,6 +106,7 @@ impl Upstream {
         ensures grows { OnOk result (Grows stamp self.old self.new) }
         ensures reached { IfOk result (λ ok. IsTrue ok → IsReached stamp self.new reaction) }
         ensures looked { IfOk result (λ ok. IsTrue ok → AreLooked graph.now least place stamp self.new) }
+        ensures late { IfOk result (λ ok. (IsTrue ok → ⊥) → (program : Parts) → IsGraphOf program graph.now → EndsPast program place self.new reaction) }
     {
         let mut next = self.queue.len();
         self.reach(reaction, stamp)?;
@@ -125,6 +130,7 @@ impl Upstream {
         requires fresh { IsFresh (length sliced.now.plan.program.reactions) slice.first self.old }
         ensures fresh { OnOk result (IsFresh (length sliced.now.plan.program.reactions) slice.end self.new) }
         ensures none { IfOk result (λ ok. IsTrue ok → (r : ℕ) → TooEarly sliced.now slice.tag r → ⊥) }
+        ensures some { IfOk result (λ ok. (IsTrue ok → ⊥) → (r : ℕ) × TooEarly sliced.now slice.tag r) }
     {
         let rows = sliced.rows();
         let graph = sliced.graph();

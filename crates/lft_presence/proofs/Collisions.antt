@@ -8,9 +8,6 @@ use Rattle.lft_tag.proofs.Order.{UpTo-trans, UpTo-not}
 use Rattle.lft_tag.proofs.Chains.{tag_of as tag_from}
 use Rattle.lft_lists.proofs.Places.{get_push_cases}
 use Rattle.lft_flat.proofs.Origins.{origin_within}
-use Rattle.lft_flat.specs.Parts.{Parts}
-use Rattle.lft_flat.specs.Origins.{Origin}
-use Rattle.lft_flat.specs.Origins.Origin.{itself, over}
 use Rattle.lft_flat.specs.declared.parts.Port.{Port as PortOf}
 use Rattle.lft_flat.specs.declared.parts.Name.{Name}
 use Rattle.lft_flat.specs.declared.parts.Name.TheVariants.{Port, Action}
@@ -18,7 +15,6 @@ use Rattle.lft_trace.specs.declared.row.Row.{Row}
 use Rattle.lft_trace.specs.Fits.{RowsFit}
 use Rattle.lft_model.specs.Plans.{PlanParts}
 use Rattle.lft_model.specs.Presence.{stop, PortClash, ClashesAt, Collision}
-use Rattle.lft_model.proofs.Places.{slice_get_within}
 use Rattle.lft_presence.specs.declared.causes.Cause.{Cause}
 use Rattle.lft_presence.specs.Causes.{tag_of, AreCauses, AreNear, IsNear}
 use Rattle.lft_presence.specs.Traces.{LeastTag, IsSooner}

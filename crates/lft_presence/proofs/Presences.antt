@@ -13,7 +13,6 @@ use Rattle.lft_lists.proofs.Members.{Mem, mem_get, get_mem, mem_contains, contai
 use Rattle.lft_flat.specs.Parts.{Parts}
 use Rattle.lft_flat.specs.Origins.{Origin}
 use Rattle.lft_flat.specs.Sound.{IsSound}
-use Rattle.lft_flat.specs.Origins.Origin.{itself, over}
 use Rattle.lft_flat.specs.declared.parts.Port.{Port as PortOf}
 use Rattle.lft_flat.specs.declared.parts.Value.{Value}
 use Rattle.lft_flat.specs.declared.parts.Name.{Name}

@@ -36,26 +36,29 @@ names_up causes up j k x y l e f = go (ℕ_discrete j k)
 
 -- the next place
 module _ (causes : List Cause) (up : AreAscending causes) (name : ℕ) (s : Folded) (g : Tag) (place : ℕ) (here : Cause) (is_here : slice_get causes place ≡ Some here) (leads : Leads name s g here) where
-  pub skip_one : place + 1 ≤ length causes → IsSkip causes name s g place (place + 1)
-  skip_one w = record { further = omega arith; within = w; same = λ k c l m e q. ap (λ (z : Cause). shifted (tag_of z) s) (same_cause causes k place c here (omega arith) e is_here) ∙ leads.1 }
+  pub skip_one : place + 1 ≤ length causes → ((c : Cause) → slice_get causes (place + 1) ≡ Some c → ¬ Leads name s g c) → IsSkip causes name s g place (place + 1)
+  skip_one w other = record { further = omega arith; within = w; same = λ k c l m e. subst (λ (z : Cause). Leads name s g z) (sym (same_cause causes k place c here (omega arith) e is_here)) leads; other = other }
 
   pub skip_many : (n : ℕ) → IsPosition causes name s g true n → IsSkip causes name s g place n
-  skip_many n h = record { further = further (cases_lt place n); within = h.within; same = same }
+  skip_many n h = record { further = further (cases_lt place n); within = h.within; same = same; other = λ c e m. h.rest n c (omega arith) e (inr (m.0, inr (refl, m.1))) }
     where
       further : (place < n) ⊎ (n ≤ place) → place < n
       further (inl l) = l
       further (inr l) = absurd (h.rest place here l is_here (inr (leads.0, inr (refl, leads.1))))
 
-      same : (k : ℕ) (c : Cause) → place ≤ k → k < n → slice_get causes k ≡ Some c → c.name ≡ name → shifted (tag_of c) s ≡ g
-      same k c l m e q = go (h.below k c m e)
+      same : (k : ℕ) (c : Cause) → place ≤ k → k < n → slice_get causes k ≡ Some c → Leads name s g c
+      same k c l m e = go (h.below k c m e)
         where
-          not_before : ¬ Before (shifted (tag_of c) s) g
-          not_before b = UpTo-not g (shifted (tag_of c) s) (subst (λ (z : Tag). UpTo z (shifted (tag_of c) s)) leads.1 (leads_up causes up s place k here c l is_here e (leads.0 ∙ sym q))) b
+          not_before : c.name ≡ name → ¬ Before (shifted (tag_of c) s) g
+          not_before q b = UpTo-not g (shifted (tag_of c) s) (subst (λ (z : Tag). UpTo z (shifted (tag_of c) s)) leads.1 (leads_up causes up s place k here c l is_here e (leads.0 ∙ sym q))) b
 
-          go : LiesBelow name s g true c → shifted (tag_of c) s ≡ g
-          go (inl b) = let a : c.name < name = b in absurd (omega arith)
-          go (inr (b, inl d)) = absurd (not_before d)
-          go (inr (b, inr d)) = d.1
+          no_lesser : ¬ (c.name < name)
+          no_lesser b = let a : here.name ≤ c.name = names_up causes up place k here c l is_here e in let d : here.name ≡ name = leads.0 in absurd (omega arith)
+
+          go : LiesBelow name s g true c → Leads name s g c
+          go (inl b) = absurd (no_lesser b)
+          go (inr (b, inl d)) = absurd (not_before b d)
+          go (inr (b, inr d)) = (b, d.1)
 
 pub up_to_stop : (last g : Tag) → ¬ Before last g → UpTo g last
 up_to_stop last g n = go (order_cases last g)

@@ -125,8 +125,9 @@ Carries plan t c o = ((row : Row) × (slice_get t c.place ≡ Some row) × (o �
 abbrev pub IsValueFrom : PlanParts → List Row → ℕ → Folded → Tag → Option Value → Type 0
 IsValueFrom plan t name s g o = MatchOption o ((c : Cause) → IsCause plan t c → ¬ Leads name s g c) (λ v. (c : Cause) × IsLastCause plan t name s g (Some c) × Carries plan t c (Some v))
 
--- the causes of the name from one place up to, without, another lead to g
+-- the causes from one place up to, without, another lead to g, and the one at that other place, if any, doesn't
 pub record IsSkip (causes : List Cause) (name : ℕ) (s : Folded) (g : Tag) (place next : ℕ) : Type 0 where
   pub further : place < next
   pub within : next ≤ length causes
-  pub same : (k : ℕ) (c : Cause) → place ≤ k → k < next → slice_get causes k ≡ Some c → c.name ≡ name → shifted (tag_of c) s ≡ g
+  pub same : (k : ℕ) (c : Cause) → place ≤ k → k < next → slice_get causes k ≡ Some c → Leads name s g c
+  pub other : (c : Cause) → slice_get causes next ≡ Some c → ¬ Leads name s g c

@@ -80,7 +80,7 @@ module _ (cut : TraceParts) (causes : List Cause) (are : AreCauses cut.plan cut.
             where
               go : (k < place) ⊎ (place ≤ k) → HasTag tags (shifted (tag_of c) s)
               go (inl m) = h.ran k c m e q
-              go (inr m) = subst (λ (z : Tag). HasTag tags z) (sym (skip.same k c m l e q)) ran
+              go (inr m) = subst (λ (z : Tag). HasTag tags z) (sym ((skip.same k c m l e).1)) ran
 
 -- what is lacked of a name is what is lacked of its causes
 pub lacked_key : (cut : TraceParts) → IsSound cut.plan.program → RowsFit cut.plan.program cut.rows → (n : Name) (key : ℕ) (s : Folded) (tags : List Tag) (o : Option Tag) → IsKey cut.plan.program n key s → LeastTag (LacksCause cut key s tags) o → LeastTag (LacksTrigger cut (On n) tags) o

@@ -4,7 +4,7 @@ ghost use Rattle.std.specs.Prelude.{◌≡◌, ◌++◌, ◌∷◌, [], ◌+◌,
 ghost use Rattle.lft_model.specs.Plans.{PlanParts};
 ghost use Rattle.lft_slices.specs.Slices.{IsCuttable, IsSlice, AreSlices};
 ghost use Rattle.lft_rows.specs.Marks.{AreNoneFrom};
-ghost use Rattle.lft_slices.specs.Pieces.{AreRuns, AreEndsTo, AreStartsTo, ArePieces};
+ghost use Rattle.lft_slices.specs.Pieces.{AreRuns, AreEndsTo, AreEndsOver, AreStartsTo, ArePieces};
 
 use crate::slices::{Slice, slice_at};
 use lft_tag::{NoMemory, Tag};
@@ -32,12 +32,14 @@ pub(crate) struct Pieces {
     pub(crate) list: Vec<Piece>,
 }
 
-/// Keeps the place of each end row of the slice under its reaction.
+/// Keeps the place of each end row of the slice under its reaction. What ended nowhere in the slice
+/// keeps what it had.
 pub fn keep_ends(rows: &[Row], slice: Slice, ends: &mut Vec<u32>)
     requires rules { (plan : PlanParts) × IsCuttable (record { plan = plan; rows = rows.now }) × (length ends.old.items ≡ length plan.program.reactions) }
     requires slice { IsSlice rows.now slice }
     ensures count { length ends.new.items ≡ length ends.old.items }
     ensures ends { AreEndsTo rows.now slice slice.end ends.new.items }
+    ensures others { AreEndsOver rows.now slice slice.end ends.old.items ends.new.items }
     ensures none { AreNoneFrom slice.end ends.old.items → AreNoneFrom slice.end ends.new.items }
 {
     for place in slice.first..slice.end {

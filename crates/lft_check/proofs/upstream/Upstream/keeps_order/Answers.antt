@@ -1,8 +1,9 @@
-use Rattle.std.proofs.Common.{◌≡◌, ◌+◌, ◌<◌, ◌≤◌, ℕ, List, length, sym, subst, arith}
+use Rattle.std.proofs.Common.{◌≡◌, ◌∙◌, ◌+◌, ◌<◌, ◌≤◌, ℕ, List, length, refl, sym, subst, arith}
 use Rattle.lft_presence.proofs.Lists.{not_true}
-use Rattle.lft_slices.specs.Pieces.{AreEndsTo}
+use Rattle.lft_slices.specs.Pieces.{AreEndsTo, AreEndsOver}
 use Rattle.lft_check.specs.declared.upstream.Upstream.{Upstream}
 use Rattle.lft_check.specs.Upstreams.{IsFresh, IsQueued, AreLooked}
+use Rattle.lft_check.proofs.Early.{past_early}
 use Rattle.lft_check.proofs.LeastRows.{row_in}
 use Rattle.lft_check.proofs.Looking.{AreTimely, fresh_grown, looked_later, timely_other, timely_low, timely_reached, none_early}
 use Rattle.lft_check.proofs.upstream.Upstream.keeps_order.Goals as goal
@@ -29,17 +30,19 @@ loop-place-preserved c =
             fresh = subst (λ (z : Upstream). IsFresh n s.end z) (sym w.self-is) (fresh_grown n s.end up w.follow.new.self grown c.loop-place.invariant.fresh);
             queued = subst (λ (z : Upstream). IsQueued s.end z) (sym w.self-is) queued;
             ends = subst (λ (z : Upstream). AreEndsTo cut.rows s s.end z.ends.items) (sym w.self-is) ends;
+            others = subst (λ (z : Upstream). AreEndsOver cut.rows s s.end c.args.self.now.ends.items z.ends.items) (sym w.self-is) (subst (λ (ms : List ℕ). AreEndsOver cut.rows s s.end c.args.self.now.ends.items ms) (sym grown.ends) c.loop-place.invariant.others);
             looked = subst (λ (z : Upstream). AreLooked graph least (place + 1) s.end z) (sym w.self-is) (looked_later graph least place (place + 1) s.end w.follow.new.self (omega arith) looked);
-            timely = timely_reached cut c.rows-rows.ensures.rules s c.requires.slice graph c.graph-graph.ensures least c.least_end-least.ensures place row here c.loop-place.invariant.timely w.level.result s.end w.follow.new.self w.level.ensures ends queued looked (w.in_ok-ok.ensures.reached w.if-not-ok.false);
+            timely = timely_reached cut c.rows-rows.ensures.rules s c.requires.slice graph c.graph-graph.ensures least c.least_end-least.ensures.none_below place row here c.loop-place.invariant.timely w.level.result s.end w.follow.new.self w.level.ensures ends queued looked (w.in_ok-ok.ensures.reached w.if-not-ok.false);
           })
       | else-is_start w ↦ record {
         fresh = subst (λ (z : Upstream). IsFresh n s.end z) (sym w.self-is) c.loop-place.invariant.fresh;
         queued = subst (λ (z : Upstream). IsQueued s.end z) (sym w.self-is) c.loop-place.invariant.queued;
         ends = subst (λ (z : Upstream). AreEndsTo cut.rows s s.end z.ends.items) (sym w.self-is) c.loop-place.invariant.ends;
+        others = subst (λ (z : Upstream). AreEndsOver cut.rows s s.end c.args.self.now.ends.items z.ends.items) (sym w.self-is) c.loop-place.invariant.others;
         looked = subst (λ (z : Upstream). AreLooked graph least (place + 1) s.end z) (sym w.self-is) (looked_later graph least place (place + 1) s.end up (omega arith) c.loop-place.invariant.looked);
         timely = elim w.else-is_start.branch [
-          | else-is_start-via-then-is_start+else-level-least w' ↦ timely_low cut c.rows-rows.ensures.rules s c.requires.slice graph c.graph-graph.ensures least c.least_end-least.ensures place row here c.loop-place.invariant.timely w'.level.result w'.level.ensures (λ m. let low : w'.level.result ≤ least = w'.if-level-least.false in let high : least < w'.level.result = m in omega arith)
-          | else-is_start-via-else-is_start w' ↦ timely_other cut c.rows-rows.ensures.rules s c.requires.slice graph c.graph-graph.ensures least c.least_end-least.ensures place row here c.loop-place.invariant.timely (λ e. not_true (w'.if-is_start.ensures.1 e))
+          | else-is_start-via-then-is_start+else-level-least w' ↦ timely_low cut c.rows-rows.ensures.rules s c.requires.slice graph c.graph-graph.ensures least c.least_end-least.ensures.none_below place row here c.loop-place.invariant.timely w'.level.result w'.level.ensures (λ m. let low : w'.level.result ≤ least = w'.if-level-least.false in let high : least < w'.level.result = m in omega arith)
+          | else-is_start-via-else-is_start w' ↦ timely_other cut c.rows-rows.ensures.rules s c.requires.slice graph c.graph-graph.ensures least c.least_end-least.ensures.none_below place row here c.loop-place.invariant.timely (λ e. not_true (w'.if-is_start.ensures.1 e))
         ];
       }
     ]
@@ -49,4 +52,15 @@ returns-clause-none c t =
     let s = c.args.slice in
     let some : s.first < s.end = c.requires.slice.some in
     let e : c.loop-place.place ≡ s.end = omega arith in
-    none_early c.args.sliced.now c.rows-rows.ensures.rules s c.requires.slice c.graph-graph.result.now c.graph-graph.ensures c.least_end-least.result c.least_end-least.ensures (subst (λ k. AreTimely c.args.sliced.now s k) e c.loop-place.invariant.timely)
+    none_early c.args.sliced.now c.rows-rows.ensures.rules s c.requires.slice c.graph-graph.result.now c.graph-graph.ensures c.least_end-least.result c.least_end-least.ensures.none_below (subst (λ k. AreTimely c.args.sliced.now s k) e c.loop-place.invariant.timely)
+
+pub returns-then-not-ok-clause-some : goal.returns-then-not-ok-clause-some
+returns-then-not-ok-clause-some c n =
+    let cut = c.args.sliced.now in
+    let s = c.args.slice in
+    let place = c.loop-place.place in
+    let row = c.row_at-row.result in
+    let here = row_in c.rows-rows.result.now cut.rows place row c.rows-rows.ensures.value c.row_at-row.ensures in
+    let grown = c.in_ok-ok.ensures.grows in
+    let over = subst (λ (ms : List ℕ). AreEndsOver cut.rows s s.end c.args.self.now.ends.items ms) (sym grown.ends) c.loop-place.invariant.others in
+    past_early cut c.rows-rows.ensures.rules s c.requires.slice place row here (c.if-is_start.ensures.0 refl) (omega arith) (omega arith) c.args.self.now.ends.items c.follow.new.self c.requires.fresh.no_end over (c.in_ok-ok.ensures.late (λ t. not_true (sym c.if-not-ok.true ∙ t)) cut.plan.program c.graph-graph.ensures)

@@ -1,6 +1,6 @@
 use Rattle.std.proofs.Common.{◌≡◌, refl, subst, Some, slice_get, List, ℕ}
 use Rattle.std.specs.Vec.{with_item}
-use Rattle.lft_check.proofs.Looking.{grows_one, reached_one}
+use Rattle.lft_check.proofs.Looking.{grows_one, reached_one, only_one}
 use Rattle.lft_check.proofs.upstream.Upstream.reach.Goals as goal
 
 pub returns-in_ok-push-clause-grows : goal.returns-in_ok-push-clause-grows
@@ -14,3 +14,8 @@ returns-in_ok-push-clause-reached c =
     let old = c.args.self.now in
     let there = subst (λ (ms : List ℕ). slice_get ms c.args.reaction ≡ Some c.number_at.result) c.as_slice.ensures.value c.number_at.ensures in
     reached_one c.args.stamp c.args.reaction c.number_at.result old (record { ends = old.ends; reached = with_item old.reached c.args.reaction c.args.stamp; queue = c.push.new.self }) there c.if-number_at-stamp.true refl refl c.in_ok-push.ensures.items
+
+pub returns-in_ok-push-clause-only : goal.returns-in_ok-push-clause-only
+returns-in_ok-push-clause-only c =
+    let old = c.args.self.now in
+    only_one c.args.reaction old (record { ends = old.ends; reached = with_item old.reached c.args.reaction c.args.stamp; queue = c.push.new.self }) c.in_ok-push.ensures.items
