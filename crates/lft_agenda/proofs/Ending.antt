@@ -65,7 +65,7 @@ module _ (plan : PlanParts) (good : IsSoundPlan plan) (t : List Row) (w : ℕ) (
   begun_agenda its new its_is graph count opens = record {
     runs = begun_open plan good t w g r shown b a.runs its its_is is.runs;
     stop_is = is.stop_is ∙ sym (same_stop plan good t b.so_far w g r shown b.may.ready b.reads_are early b.may.fresh none_open);
-    of = record { listeners = is.of.listeners; arrivals = is.of.arrivals; phases = count ∙ is.of.phases; recorded = is.of.recorded };
+    of = record { listeners = is.of.listeners; arrivals = is.of.arrivals; phases = count ∙ is.of.phases; firings = is.of.firings; reached = is.of.reached; recorded = is.of.recorded };
     current = record {
       turn_is = subst (λ (k : Tag). IsTurnOf plan (t ++ begun_rows plan w g r shown) k new) here (begun_turn plan t w g r shown same b.may.ready.pending a.turn new turn_here graph (opens waiting) waiting);
       least = λ o. record { awaits = (least.awaits.0, subst (λ (us : List Run). IsPending plan us a.from least.awaits.0) (sym same) least.awaits.1); least = λ h c p. least.least h c (subst (λ (us : List Run). IsPending plan us h c) same p) };
@@ -118,8 +118,8 @@ module _ (plan : PlanParts) (good : IsSoundPlan plan) (t : List Row) (w : ℕ) (
     still : slice_get told.phases r ≡ Some Open
     still = telling.kept r Open (λ z. absurd (cc)) opened
 
-    pub ended_reached : IsReached plan (t ++ committed_rows w g r steps) g last new q
-    ended_reached = record {
+    reached : IsReached plan (t ++ committed_rows w g r steps) g last new q
+    reached = record {
       past = λ i x e. past i x (get_append_cases t (committed_rows w g r steps) i x e);
       least = λ h c p. rows_up_to plan good (t ++ committed_rows w g r steps) so_far h c p b.open_run.start (start_row w g r) (get_left t (committed_rows w g r steps) b.open_run.start (start_row w g r) b.open_run.starts);
       turn_is = ended_turn plan good t w g r steps b so_far a.turn told new turn_now telling graph (ends still) (slice_get_within told.phases r Open still);
@@ -130,13 +130,16 @@ module _ (plan : PlanParts) (good : IsSoundPlan plan) (t : List Row) (w : ℕ) (
         past i x (inl e) = up_to plan good t b.so_far w g r b.open_run steps may i x e
         past i x (inr e) = subst (λ (k : Tag). UpTo k g) (sym (its_row plan good t w g r steps b x (mem_get (committed_rows w g r steps) e.0 x e.2)).0) (UpTo-refl g)
 
+    pub ended_reached : IsReached plan (t ++ committed_rows w g r steps) a.from last new q
+    ended_reached = subst (λ (k : Tag). IsReached plan (t ++ committed_rows w g r steps) k last new q) here_run reached
+
     -- where no run is left the agenda may go on
     pub may_go_on : length (filter (λ o. not (is_run w g r o)) a.runs) ≡ 0 → MayAdvance plan (t ++ committed_rows w g r steps) last
     may_go_on none = record { so_far = so_far; quiet = quiet_more plan good t w g r steps b; stop_is = last_is; none_open = no_run plan (t ++ committed_rows w g r steps) (filter (λ o. not (is_run w g r o)) a.runs) open_left none }
 
     -- else it stays
-    pub stays_current : 0 < length (filter (λ o. not (is_run w g r o)) a.runs) → IsCurrent plan (t ++ committed_rows w g r steps) g last new q
-    stays_current some = open_current plan good (t ++ committed_rows w g r steps) so_far g last new q ended_reached (some_run plan (t ++ committed_rows w g r steps) (filter (λ o. not (is_run w g r o)) a.runs) open_left some)
+    pub stays_current : 0 < length (filter (λ o. not (is_run w g r o)) a.runs) → IsCurrent plan (t ++ committed_rows w g r steps) a.from last new q
+    stays_current some = open_current plan good (t ++ committed_rows w g r steps) so_far a.from last new q ended_reached (some_run plan (t ++ committed_rows w g r steps) (filter (λ o. not (is_run w g r o)) a.runs) open_left some)
 
   pub ended_agenda : (clash : Option Tag) (q : List Pending) (new : AgendaParts) → HasEvents plan (t ++ committed_rows w g r steps) g last clash q → new.runs ≡ filter (λ o. not (is_run w g r o)) a.runs → new.stop ≡ last → IsOf plan.program new → (clash ≡ None → SoFar plan (t ++ committed_rows w g r steps) → IsCurrent plan (t ++ committed_rows w g r steps) new.from new.stop new.turn new.queue) → EndsWith plan t w g r steps new clash
   ended_agenda (Some h) q new has runs stops of current =

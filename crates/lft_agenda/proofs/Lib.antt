@@ -5,6 +5,8 @@ pub mod Awaiting
 pub mod Told
 pub mod ToldTurns
 pub mod NextTags
+pub mod FirstFirings
+pub mod Taking
 pub mod Beginning
 pub mod Committed
 pub mod Turned

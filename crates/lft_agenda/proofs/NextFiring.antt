@@ -9,7 +9,7 @@ use Rattle.lft_tag.proofs.Chains.{tag_of}
 use Rattle.lft_flat.specs.declared.parts.Timer.{Timer as TimerOf}
 use Rattle.lft_model.specs.Presence.{Fires}
 use Rattle.lft_model.proofs.Firings.{firing, time_of}
-use Rattle.lft_agenda.specs.Waits.{IsNextFiring}
+use Rattle.lft_agenda.specs.Firings.{IsFirstFiring}
 
 at_zero : ℕ → Tag
 at_zero time = record { time = time; micro = 0 }
@@ -23,11 +23,18 @@ later_time g f m (inr b) = absurd (let k = b.1 in omega arith)
 up_to_time : (time : ℕ) (f : Tag) → f.micro ≡ 0 → time ≤ f.time → UpTo (record { time = time; micro = 0 }) f
 up_to_time time f m l = search arith
 
-pub first_firing : (timer : TimerOf) (g : Tag) → g.time < timer.offset → IsNextFiring timer g (record { time = timer.offset; micro = 0 })
+pub first_firing : (timer : TimerOf) (g : Tag) → g.time < timer.offset → IsFirstFiring timer (λ h. Before g h) (record { time = timer.offset; micro = 0 })
 first_firing timer g l = record {
   fires = (0, tag_of (omega arith) refl, λ p. refl);
-  later = inl l;
-  next = λ f fires b. (let e = time_of f (firing timer fires.0) fires.1 in up_to_time timer.offset f e.1 (let d : f.time ≡ timer.offset + fires.0 * timer.period = e.0 in omega arith));
+  holds = inl l;
+  least = λ f fires b. (let e = time_of f (firing timer fires.0) fires.1 in up_to_time timer.offset f e.1 (let d : f.time ≡ timer.offset + fires.0 * timer.period = e.0 in omega arith));
+}
+
+pub starts_at : (timer : TimerOf) → IsFirstFiring timer (λ h. UpTo (record { time = 0; micro = 0 }) h) (record { time = timer.offset; micro = 0 })
+starts_at timer = record {
+  fires = (0, tag_of (omega arith) refl, λ p. refl);
+  holds = search arith;
+  least = λ f fires u. (let e = time_of f (firing timer fires.0) fires.1 in up_to_time timer.offset f e.1 (let d : f.time ≡ timer.offset + fires.0 * timer.period = e.0 in omega arith));
 }
 
 pub no_more_firing : (timer : TimerOf) (g f : Tag) → timer.offset ≤ g.time → timer.period ≡ 0 → Fires timer f → ¬ Before g f
@@ -47,14 +54,14 @@ more_times k j period over time l b = go (dec_lt j (suc k))
     go (yes q) = absurd (let a : j ≤ k = omega arith in let m : j * period ≤ k * period = mul-le-mul_right period a in omega arith)
     go (no n) = let a : suc k ≤ j = omega arith in mul-le-mul_right period a
 
-pub next_of : (timer : TimerOf) (g : Tag) → timer.offset ≤ g.time → ¬ (timer.period ≡ 0) → IsNextFiring timer g (record { time = g.time - (g.time - timer.offset) % timer.period + timer.period; micro = 0 })
+pub next_of : (timer : TimerOf) (g : Tag) → timer.offset ≤ g.time → ¬ (timer.period ≡ 0) → IsFirstFiring timer (λ h. Before g h) (record { time = g.time - (g.time - timer.offset) % timer.period + timer.period; micro = 0 })
 next_of timer g l n = by ((g.time - timer.offset) / timer.period) ((g.time - timer.offset) % timer.period) (div-add-mod' (g.time - timer.offset) timer.period) (mod-lt (g.time - timer.offset) (omega arith))
   where
-    by : (k over : ℕ) → k * timer.period + over ≡ g.time - timer.offset → over < timer.period → IsNextFiring timer g (record { time = g.time - over + timer.period; micro = 0 })
+    by : (k over : ℕ) → k * timer.period + over ≡ g.time - timer.offset → over < timer.period → IsFirstFiring timer (λ h. Before g h) (record { time = g.time - over + timer.period; micro = 0 })
     by k over split small = record {
       fires = (suc k, tag_of time refl, λ p. absurd (n p));
-      later = inl (omega arith);
-      next = λ f fires b. next f fires b;
+      holds = inl (omega arith);
+      least = λ f fires b. least f fires b;
     }
       where
         one_more : suc k * timer.period ≡ k * timer.period + timer.period
@@ -63,8 +70,8 @@ next_of timer g l n = by ((g.time - timer.offset) / timer.period) ((g.time - tim
         time : g.time - over + timer.period ≡ timer.offset + suc k * timer.period
         time = let o = one_more in omega arith
 
-        next : (f : Tag) → Fires timer f → Before g f → UpTo (record { time = g.time - over + timer.period; micro = 0 }) f
-        next f fires b =
+        least : (f : Tag) → Fires timer f → Before g f → UpTo (record { time = g.time - over + timer.period; micro = 0 }) f
+        least f fires b =
             let e = time_of f (firing timer fires.0) fires.1 in
             let d : f.time ≡ timer.offset + fires.0 * timer.period = e.0 in
             let y : g.time < f.time = later_time g f e.1 b in

@@ -13,6 +13,7 @@ use Rattle.lft_flat.specs.declared.parts.Trigger.{Trigger}
 use Rattle.lft_flat.specs.declared.parts.Trigger.TheVariants.{Startup, Shutdown, Timer, On}
 use Rattle.lft_trace.specs.declared.row.Row.{Row}
 use Rattle.lft_queue.specs.Pending.{Pending, value_of, same_name, same_key, is_after}
+use Rattle.lft_queue.proofs.Tests.{test_before, before_test}
 use Rattle.lft_turn.specs.declared.phase.Phase.{Phase}
 use Rattle.lft_turn.specs.declared.phase.Phase.TheVariants.{Idle, Waiting, Open}
 use Rattle.lft_turn.specs.Turns.{TurnParts, NonePending}
@@ -36,13 +37,6 @@ use Rattle.lft_agenda.specs.Telling.{IsTold, FiresAt, OccursBy, TriggeredByQueue
 use Rattle.lft_agenda.specs.Agendas.{MayAdvance, IsReached, IsCurrent}
 use Rattle.lft_agenda.proofs.Opening.{filter_mem}
 use Rattle.lft_agenda.proofs.Told.{pending_back, none_waits, all_idle}
-
--- the test of tags
-pub true_before : (g h : Tag) → Before g h → is_before g h ≡ true
-true_before g h b = grind (arith, nat_tests)
-
-pub before_true : (g h : Tag) → is_before g h ≡ true → Before g h
-before_true g h e = grind (arith, nat_tests)
 
 -- no tag is before (0, 0)
 pub none_before_first : (g h : Tag) → h ≡ record { time = 0; micro = 0 } → ¬ Before g h
@@ -74,14 +68,14 @@ later_value g h n b (e ∷ q) = go (is_before g e.tag) refl (later_value g h n b
     other false s z = refl
     other true s z =
         let p : h ≡ e.tag = same_tag_true h e.tag (both_true (same_tag h e.tag) (same_name n e.name) z).0 in
-        absurd (false≢true (sym s ∙ true_before g e.tag (subst (λ (k : Tag). Before g k) p b)))
+        absurd (false≢true (sym s ∙ test_before g e.tag (subst (λ (k : Tag). Before g k) p b)))
 
     go : (k : Bool) → is_before g e.tag ≡ k → value_of h n (filter (λ d. is_after g d) q) ≡ value_of h n q → value_of h n (cond k (e ∷ filter (λ d. is_after g d) q) (filter (λ d. is_after g d) q)) ≡ cond (same_key h n e.tag e.name) (Some e.value) (value_of h n q)
     go true s rest = ap (λ (o : Option Value). cond (same_key h n e.tag e.name) (Some e.value) o) rest
     go false s rest = rest ∙ other (same_key h n e.tag e.name) s refl
 
 pub later_event : (g : Tag) (q : List Pending) (e : Pending) → Contains (filter (λ d. is_after g d) q) e → Before g e.tag
-later_event g q e c = before_true g e.tag (filter_mem (λ d. is_after g d) q e (contains_mem e (filter (λ d. is_after g d) q) c)).1
+later_event g q e c = before_test g e.tag (filter_mem (λ d. is_after g d) q e (contains_mem e (filter (λ d. is_after g d) q) c)).1
 
 -- the events from a later tag on, without those that are past
 pub dropped : (plan : PlanParts) (t : List Row) (from next last : Tag) (q : List Pending) → Before from next → HasEvents plan t from last None q → HasEvents plan t next last None (filter (λ e. is_after from e) q)
@@ -192,16 +186,6 @@ module _ (plan : PlanParts) (good : IsSoundPlan plan) (t : List Row) (last : Tag
         where
           past : (i : ℕ) (x : Row) → slice_get t i ≡ Some x → Before x.tag next
           past i x e = UpTo-Before x.tag from next (is.past i x e) between.0
-
--- what is covered by the stop, the queue's first tag and the next firings
-pub next_covers : (program : Parts) (q : List Pending) (last from : Tag) (a b found : Option Tag) → (Before from last → UpTo last last → IsCovered a last) → ((h : Tag) (n : Name) (v : Value) → value_of h n q ≡ Some v → UpTo h last → IsCovered b h) → ((h : Tag) → IsCovered a h → IsCovered b h) → ((h : Tag) (n : ℕ) → IsLive program n → FiresAt program h n → Before from h → UpTo h last → IsCovered found h) → ((h : Tag) → IsCovered b h → IsCovered found h) → (h : Tag) (r : ℕ) → TriggeredByQueue program q last h r → Before from h → UpTo h last → IsCovered found h
-next_covers program q last from a b found by_stop by_events more_events by_timers more h r o later u = go o.0 o.1 o.2
-  where
-    go : (x : Trigger) → OccursBy program q last h x → IsListener program x r → IsCovered found h
-    go Startup e l = absurd (none_before_first from h e later)
-    go Shutdown e l = subst (λ (k : Tag). IsCovered found k) (sym e) (more last (more_events last (by_stop (subst (λ (k : Tag). Before from k) e later) (UpTo-refl last))))
-    go (Timer n) e l = by_timers h n (r, l) e later u
-    go (On n) e l = let v = some_there (value_of h n q) e in more h (by_events h n v.0 v.1 u)
 
 -- the measure of a walk over tags up to the stop
 pub nearer : (from next last : Tag) → from.micro < 4294967296 → IsBetween from last next → 4294967296 * (last.time - next.time) + (4294967296 - next.micro) < 4294967296 * (last.time - from.time) + (4294967296 - from.micro)

@@ -1,7 +1,7 @@
 -- What is kept beside the rows of a recording, and what it is of them.
 use Rattle.std.specs.Prelude.{◌≡◌, ℕ, ◌≤◌, ◌++◌, List, Option, Some, None, length, slice_get}
 use Rattle.lft_tag.specs.declared.Tag.{Tag}
-use Rattle.lft_tag.specs.Tags.{UpTo}
+use Rattle.lft_tag.specs.Tags.{Before, UpTo}
 use Rattle.lft_flat.specs.Parts.{Parts}
 use Rattle.lft_flat.specs.declared.parts.Value.{Value}
 use Rattle.lft_trace.specs.declared.row.Row.{Row}
@@ -25,22 +25,27 @@ use Rattle.lft_agenda.specs.declared.found.Found.TheVariants.{Ready, Blocked, No
 use Rattle.lft_agenda.specs.declared.open.OpenRun.{OpenRun}
 use Rattle.lft_agenda.specs.OpenRuns.{AreOpen}
 use Rattle.lft_agenda.specs.Waits.{IsLeastTag, IsTurnOf}
+use Rattle.lft_agenda.specs.declared.firings.Firing.{Firing}
+use Rattle.lft_agenda.specs.Firings.{AreFirst}
 
--- the open runs, the events from a tag on up to the stop, how far each reaction is at that tag, that tag, the stop, and the program's tables
+-- the open runs, the events from a tag on up to the stop, the next firings of timers, how far each reaction is at that tag, that tag, the stop, and the program's tables
 pub record AgendaParts : Type 0 where
   pub runs : List OpenRun
   pub queue : List Pending
+  pub firings : List Firing
   pub turn : TurnParts
   pub from : Tag
   pub stop : Tag
   pub listeners : ListenerParts
   pub arrivals : List (List ℕ)
 
--- the tables are those of the program, the turn has a phase for each of its reactions, and the stop isn't past the times of a trace
+-- the tables are those of the program, the turn has a phase for each of its reactions, the firings are the first ones after the tag, and neither the tag nor the stop is past the times of a trace
 pub record IsOf (program : Parts) (a : AgendaParts) : Type 0 where
   pub listeners : AreListeners program a.listeners
   pub arrivals : AreArrivals program a.arrivals
   pub phases : length a.turn.phases ≡ length program.reactions
+  pub firings : AreFirst program (λ h. Before a.from h) a.firings
+  pub reached : a.from.time ≤ 1000000000000000000
   pub recorded : a.stop.time ≤ 1000000000000000000
 
 -- the turn is that of the tag; while something is left to run, the tag is the least at which a reaction is pending, and the queue has the events from there on up to the last tag

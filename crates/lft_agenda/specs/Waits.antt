@@ -2,14 +2,12 @@
 use Rattle.std.specs.Prelude.{◌≡◌, ℕ, List, Option, Some, slice_get, length}
 use Rattle.lft_tag.specs.declared.Tag.{Tag}
 use Rattle.lft_tag.specs.Tags.{Before, UpTo}
-use Rattle.lft_flat.specs.declared.parts.Timer.{Timer as TimerOf}
 use Rattle.lft_trace.specs.declared.row.Row.{Row}
 use Rattle.lft_graph.specs.Graph.{IsGraphOf}
 use Rattle.lft_turn.specs.declared.phase.Phase.{Phase}
 use Rattle.lft_turn.specs.declared.phase.Phase.TheVariants.{Idle, Waiting, Open}
 use Rattle.lft_turn.specs.Turns.{TurnParts}
 use Rattle.lft_model.specs.Plans.{PlanParts}
-use Rattle.lft_model.specs.Presence.{Fires}
 use Rattle.lft_model.specs.Runs.{Ran, by_ends}
 use Rattle.lft_model.specs.OneWorker.{IsPending}
 
@@ -21,12 +19,6 @@ Awaits plan t g = (r : ℕ) × IsPending plan (by_ends plan t) g r
 pub record IsLeastTag (plan : PlanParts) (t : List Row) (g : Tag) : Type 0 where
   pub awaits : Awaits plan t g
   pub least : (h : Tag) (a : ℕ) → IsPending plan (by_ends plan t) h a → UpTo g h
-
--- the first firing of a timer after a tag
-pub record IsNextFiring (timer : TimerOf) (g h : Tag) : Type 0 where
-  pub fires : Fires timer h
-  pub later : Before g h
-  pub next : (f : Tag) → Fires timer f → Before g f → UpTo h f
 
 -- the tag is after one and up to another
 abbrev pub IsBetween : Tag → Tag → Tag → Type 0

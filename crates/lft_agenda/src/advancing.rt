@@ -3,30 +3,33 @@
 ghost use Rattle.std.specs.Prelude.{◌≡◌, ◌≤◌, ◌<◌, length, Some, IfSome, List, Contains};
 ghost use Rattle.lft_tag.specs.declared.Tag.{Tag as TagOf};
 ghost use Rattle.lft_tag.specs.Tags.{Before, UpTo};
-ghost use Rattle.lft_flat.specs.declared.parts.Name.{Name as NameOf};
-ghost use Rattle.lft_flat.specs.declared.parts.Value.{Value as Carried};
+ghost use Rattle.lft_flat.specs.Parts.{Parts};
 ghost use Rattle.lft_trace.specs.declared.row.Row.{Row as RowOf};
-ghost use Rattle.lft_queue.specs.Pending.{Pending, value_of};
-ghost use Rattle.lft_listeners.specs.Listeners.{AreListeners, IsLive};
+ghost use Rattle.lft_queue.specs.Pending.{Pending};
+ghost use Rattle.lft_listeners.specs.Listeners.{AreListeners};
 ghost use Rattle.lft_agenda.specs.Waits.{IsBetween, IsCovered};
-ghost use Rattle.lft_agenda.specs.Telling.{FiresAt, TriggeredByQueue};
+ghost use Rattle.lft_agenda.specs.Telling.{TriggeredByQueue};
+ghost use Rattle.lft_agenda.specs.Firings.{AreFirst};
 ghost use Rattle.lft_agenda.specs.Agendas.{MayAdvance, IsReached, IsCurrent};
 
-use crate::firing::next_firing;
-use crate::telling::{number_at, tell};
+use crate::firings::Firings;
+use crate::telling::tell;
 use lft_listeners::Listeners;
 use lft_model::Plan;
 use lft_queue::Queue;
 use lft_tag::Tag;
 use lft_turn::Turn;
 
-// The lesser of the tag and the least so far, where the tag is after one and up to the stop.
-fn sooner(least: Option<Tag>, from: Tag, stop: Tag, tag: Tag) -> Option<Tag>
+// The lesser of the tag, if there is one after the first and up to the stop, and the least so far.
+fn sooner(least: Option<Tag>, from: Tag, stop: Tag, other: Option<Tag>) -> Option<Tag>
     requires between { IfSome least (IsBetween from stop) }
     ensures between { IfSome result (IsBetween from stop) }
-    ensures covers { Before from tag → UpTo tag stop → IsCovered result tag }
+    ensures covers { (g : TagOf) → other ≡ Some g → IsBetween from stop g → IsCovered result g }
     ensures more { (h : TagOf) → IsCovered least h → IsCovered result h }
 {
+    let Some(tag) = other else {
+        return least;
+    };
     if !from.is_before(tag) {
         return least;
     }
@@ -42,74 +45,17 @@ fn sooner(least: Option<Tag>, from: Tag, stop: Tag, tag: Tag) -> Option<Tag>
     Some(tag)
 }
 
-// The same with the next firing of a timer.
-fn with_timer(plan: &Plan, least: Option<Tag>, from: Tag, stop: Tag, number: u32) -> Option<Tag>
-    requires time { from.time ≤ 1000000000000000000 }
-    requires timer { number < length plan.now.program.timers }
-    requires between { IfSome least (IsBetween from stop) }
-    ensures between { IfSome result (IsBetween from stop) }
-    ensures covers { (h : TagOf) → FiresAt plan.now.program h number → Before from h → UpTo h stop → IsCovered result h }
-    ensures more { (h : TagOf) → IsCovered least h → IsCovered result h }
-{
-    let timer = plan.program().timer(number);
-    let Some(tag) = next_firing(timer, from) else {
-        return least;
-    };
-    sooner(least, from, stop, tag)
-}
-
-// The same with the next firing of each timer that triggers a reaction. All of them are looked at
-// for each next tag: programs have few. With many, a queue of next firings would be better.
-fn with_timers(
-    listeners: &Listeners,
-    plan: &Plan,
-    least: Option<Tag>,
-    from: Tag,
-    stop: Tag,
-) -> Option<Tag>
-    requires listeners { AreListeners plan.now.program listeners.now }
-    requires time { from.time ≤ 1000000000000000000 }
-    requires between { IfSome least (IsBetween from stop) }
-    ensures between { IfSome result (IsBetween from stop) }
-    ensures covers { (h : TagOf) (n : _) → IsLive plan.now.program n → FiresAt plan.now.program h n → Before from h → UpTo h stop → IsCovered result h }
-    ensures more { (h : TagOf) → IsCovered least h → IsCovered result h }
-{
-    // Asked for what every plan keeps: it is sound, so that these are timers of the program.
-    plan.keeps();
-    let timers = listeners.live_timers();
-    let mut found = least;
-    for at in 0..timers.len() {
-        found = with_timer(plan, found, from, stop, number_at(timers, at));
-    }
-    found
-}
-
-// The same with the least tag of the queue, whose events are all later.
-fn with_events(queue: &Queue, least: Option<Tag>, from: Tag, stop: Tag) -> Option<Tag>
-    requires later { (e : Pending) → Contains queue.now e → Before from e.tag }
-    requires between { IfSome least (IsBetween from stop) }
-    ensures between { IfSome result (IsBetween from stop) }
-    ensures covers { (h : TagOf) (n : NameOf) (v : Carried) → value_of h n queue.now ≡ Some v → UpTo h stop → IsCovered result h }
-    ensures more { (h : TagOf) → IsCovered least h → IsCovered result h }
-{
-    let Some(tag) = queue.first_tag() else {
-        return least;
-    };
-    sooner(least, from, stop, tag)
-}
-
 // A tag after this one and up to the stop, and none between the two has a reaction that is
-// triggered; None where none after this one has. The queue's events are all later than it.
-fn next_tag(listeners: &Listeners, plan: &Plan, queue: &Queue, from: Tag, stop: Tag) -> Option<Tag>
-    requires listeners { AreListeners plan.now.program listeners.now }
-    requires time { from.time ≤ 1000000000000000000 }
+// triggered; None where none after this one has. The events are all later than it, and the firings
+// are the first ones after it.
+fn next_tag(firings: &Firings, queue: &Queue, from: Tag, stop: Tag) -> Option<Tag>
     requires later { (e : Pending) → Contains queue.now e → Before from e.tag }
     ensures between { IfSome result (IsBetween from stop) }
-    ensures covers { (h : TagOf) (r : _) → TriggeredByQueue plan.now.program queue.now stop h r → Before from h → UpTo h stop → IsCovered result h }
+    ensures covers { (program : Parts) → AreFirst program (λ h. Before from h) firings.now → (h : TagOf) (r : _) → TriggeredByQueue program queue.now stop h r → Before from h → UpTo h stop → IsCovered result h }
 {
-    let by_stop = sooner(None, from, stop, stop);
-    let by_events = with_events(queue, by_stop, from, stop);
-    with_timers(listeners, plan, by_events, from, stop)
+    let by_stop = sooner(None, from, stop, Some(stop));
+    let by_events = sooner(by_stop, from, stop, queue.first_tag());
+    sooner(by_events, from, stop, firings.first_tag())
 }
 
 // The microstep of the tag.
@@ -126,6 +72,7 @@ fn micro_of(tag: Tag) -> u32
 pub(crate) fn advance(
     turn: &mut Turn,
     queue: &mut Queue,
+    firings: &mut Firings,
     listeners: &Listeners,
     plan: &Plan,
     from: Tag,
@@ -135,6 +82,9 @@ pub(crate) fn advance(
     requires phases { length turn.old.phases ≡ length plan.now.program.reactions }
     requires from { from.time ≤ 1000000000000000000 }
     requires stop { stop.time ≤ 1000000000000000000 }
+    requires firings { AreFirst plan.now.program (λ h. Before from h) firings.old }
+    ensures time { result.time ≤ 1000000000000000000 }
+    ensures firings { AreFirst plan.now.program (λ h. Before result h) firings.new }
     ensures phases { length turn.new.phases ≡ length turn.old.phases }
     ensures current { (t : List RowOf) → MayAdvance plan.now t stop → IsReached plan.now t from stop turn.old queue.old → IsCurrent plan.now t result stop turn.new queue.new }
 {
@@ -148,10 +98,10 @@ pub(crate) fn advance(
             return reached;
         }
         queue.drop_until(reached);
-        let Some(next) = next_tag(listeners, plan, queue, reached, stop) else {
+        let Some(next) = next_tag(firings, queue, reached, stop) else {
             return reached;
         };
         reached = next;
-        tell(turn, listeners, plan, queue, reached, stop);
+        tell(turn, firings, listeners, plan, queue, reached, stop);
     }
 }

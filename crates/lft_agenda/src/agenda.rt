@@ -13,6 +13,7 @@ ghost use Rattle.lft_agenda.specs.Agendas.{IsAgenda, IsOf, MayFind, Finds, MayBe
 ghost use Rattle.lft_agenda.specs.OpenRuns.{HasReads};
 
 use crate::advancing::advance;
+use crate::firings::Firings;
 use crate::found::Found;
 use crate::open::{OpenRun, has_reads, is_busy, take_out};
 use crate::stopping::stop_with;
@@ -41,6 +42,7 @@ pub struct Agenda {
     arrivals: Arrivals,
     runs: Vec<OpenRun>,
     queue: Queue,
+    firings: Firings,
     turn: Turn,
     from: Tag,
     stop: Tag,
@@ -51,7 +53,7 @@ impl Model for Agenda {
 
     ghost Value = { AgendaParts };
 
-    ghost view = { λ a. record { runs = a.runs.items; queue = a.queue; turn = a.turn; from = a.from; stop = a.stop; listeners = a.listeners; arrivals = a.arrivals } };
+    ghost view = { λ a. record { runs = a.runs.items; queue = a.queue; firings = a.firings; turn = a.turn; from = a.from; stop = a.stop; listeners = a.listeners; arrivals = a.arrivals } };
 }
 
 impl Agenda {
@@ -63,17 +65,35 @@ impl Agenda {
         let listeners = Listeners::new(alloc, program)?;
         let arrivals = Arrivals::new(alloc, program)?;
         let mut queue = first_events(alloc, plan)?;
+        let mut firings = Firings::new(alloc, &listeners, program)?;
         let mut turn = Turn::new(alloc, program, plan.graph())?;
         let stop = plan.externals().stop();
         let first = Tag { time: 0, micro: 0 };
-        tell(&mut turn, &listeners, plan, &queue, first, stop);
-        let from = advance(&mut turn, &mut queue, &listeners, plan, first, stop);
+        tell(
+            &mut turn,
+            &mut firings,
+            &listeners,
+            plan,
+            &queue,
+            first,
+            stop,
+        );
+        let from = advance(
+            &mut turn,
+            &mut queue,
+            &mut firings,
+            &listeners,
+            plan,
+            first,
+            stop,
+        );
         Ok(Agenda {
             alloc,
             listeners,
             arrivals,
             runs: Vec::new(alloc),
             queue,
+            firings,
             turn,
             from,
             stop,
@@ -176,15 +196,15 @@ impl Agenda {
             steps,
         );
         finish(&mut self.turn, reaction);
-        self.from = tag;
         self.stop = stop;
         if self.runs.is_empty() {
             self.from = advance(
                 &mut self.turn,
                 &mut self.queue,
+                &mut self.firings,
                 &self.listeners,
                 plan,
-                tag,
+                self.from,
                 stop,
             );
         }

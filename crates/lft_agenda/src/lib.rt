@@ -4,7 +4,7 @@
 
 mod advancing;
 mod agenda;
-mod firing;
+mod firings;
 mod found;
 mod open;
 mod stopping;

@@ -1,15 +1,18 @@
 //! The reactions that are triggered at a tag are told.
 
-ghost use Rattle.std.specs.Prelude.{◌≡◌, ◌<◌, length, slice_get, Some, IsSome, IsTrue};
+ghost use Rattle.std.specs.Prelude.{◌≡◌, ◌≤◌, ◌<◌, length, slice_get, Some, IsSome, IsTrue};
+ghost use Rattle.lft_tag.specs.Tags.{Before, UpTo};
 ghost use Rattle.lft_flat.specs.declared.parts.Name.{Name as NameOf};
 ghost use Rattle.lft_model.specs.Plans.{PlanParts};
 ghost use Rattle.lft_listeners.specs.Listeners.{IsListener, AreListeners};
 ghost use Rattle.lft_queue.specs.Pending.{value_of};
 ghost use Rattle.lft_agenda.specs.Telling.{IsTold, FiresAt, TriggeredByQueue};
+ghost use Rattle.lft_agenda.specs.Firings.{AreFirst};
 
+use crate::firings::Firings;
 use lft_flat::Trigger;
 use lft_listeners::Listeners;
-use lft_model::{Plan, fires};
+use lft_model::Plan;
 use lft_queue::Queue;
 use lft_tag::Tag;
 use lft_turn::Turn;
@@ -44,16 +47,18 @@ pub(crate) fn tell_of(
 }
 
 // Those that listen to a timer that fires at the tag.
-fn tell_timers(turn: &mut Turn, listeners: &Listeners, plan: &Plan, tag: Tag)
+fn tell_timers(turn: &mut Turn, firings: &mut Firings, listeners: &Listeners, plan: &Plan, tag: Tag)
     requires listeners { AreListeners plan.now.program listeners.now }
     requires phases { length turn.old.phases ≡ length plan.now.program.reactions }
-    ensures { IsTold (λ r. (n : _) × FiresAt plan.now.program tag n × IsListener plan.now.program (Trigger.Timer n) r) turn.old turn.new }
+    requires time { tag.time ≤ 1000000000000000000 }
+    requires firings { AreFirst plan.now.program (λ h. UpTo tag h) firings.old }
+    ensures told { IsTold (λ r. (n : _) × FiresAt plan.now.program tag n × IsListener plan.now.program (Trigger.Timer n) r) turn.old turn.new }
+    ensures firings { AreFirst plan.now.program (λ h. Before tag h) firings.new }
 {
-    let timers = listeners.live_timers();
-    for at in 0..timers.len() {
-        let number = number_at(timers, at);
-        let now = fires(plan.program().timer(number), tag);
-        tell_of(turn, listeners, plan, Trigger::Timer(number), now);
+    // Asked for what every plan keeps: it is sound, so that these are timers of the program.
+    plan.keeps();
+    'due: while let Some(timer) = firings.take(plan.program(), tag) {
+        tell_of(turn, listeners, plan, Trigger::Timer(timer), true);
     }
 }
 
@@ -68,9 +73,11 @@ fn tell_names(turn: &mut Turn, listeners: &Listeners, plan: &Plan, queue: &Queue
     }
 }
 
-/// The reactions that are triggered at the tag are told, by the events in the queue and the stop.
+/// The reactions that are triggered at the tag are told, by the events in the queue, the stop and
+/// the firings at the tag, which give way to the next ones.
 pub(crate) fn tell(
     turn: &mut Turn,
+    firings: &mut Firings,
     listeners: &Listeners,
     plan: &Plan,
     queue: &Queue,
@@ -79,12 +86,15 @@ pub(crate) fn tell(
 )
     requires listeners { AreListeners plan.now.program listeners.now }
     requires phases { length turn.old.phases ≡ length plan.now.program.reactions }
-    ensures { IsTold (TriggeredByQueue plan.now.program queue.now stop tag) turn.old turn.new }
+    requires time { tag.time ≤ 1000000000000000000 }
+    requires firings { AreFirst plan.now.program (λ h. UpTo tag h) firings.old }
+    ensures told { IsTold (TriggeredByQueue plan.now.program queue.now stop tag) turn.old turn.new }
+    ensures firings { AreFirst plan.now.program (λ h. Before tag h) firings.new }
 {
     let is_first = tag.is_same(Tag { time: 0, micro: 0 });
     tell_of(turn, listeners, plan, Trigger::Startup, is_first);
     let is_last = tag.is_same(stop);
     tell_of(turn, listeners, plan, Trigger::Shutdown, is_last);
-    tell_timers(turn, listeners, plan, tag);
+    tell_timers(turn, firings, listeners, plan, tag);
     tell_names(turn, listeners, plan, queue, tag);
 }

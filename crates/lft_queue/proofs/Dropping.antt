@@ -1,13 +1,18 @@
--- The events after a tag.
-use Rattle.std.proofs.Common.{◌≡◌, ◌∙◌, List, [], ◌∷◌, map, Some, slice_get, refl, sym, ap, subst, Bool, cond}
+-- The events after a tag, and those that aren't.
+use Rattle.std.proofs.Common.{◌≡◌, ◌∙◌, ℕ, ◌+◌, ◌-◌, ◌≤◌, ◌⊎◌, inl, inr, List, [], ◌∷◌, ◌++◌, length, length-append, map, Option, Some, None, IfSome, IfNone, arith, slice_get, refl, sym, ap, subst, Bool, true, false, not, cond, All}
+use Rattle.std.specs.Cmp.{nat_cmp_is}
+use Rattle.std.specs.Ordering.{is_lt, nat_cmp}
+use Rattle.std.proofs.lemmas.Bool.{false≢true}
+use Rattle.std.proofs.lemmas.List.Elements.{All-tail, All-head}
 use Rattle.std.specs.List.{AllByRecursion, filter}
 use Rattle.std.specs.List.Sorted.{IsStrictlySortedBy}
 use Rattle.std.specs.Map.{keys_of}
-use Rattle.std.specs.declared.cmp.Ordering.TheVariants.{Less}
+use Rattle.std.specs.declared.cmp.Ordering.TheVariants.{Less, Equal}
 use Rattle.lft_tag.specs.declared.Tag.{Tag}
-use Rattle.lft_tag.specs.Tags.{Before}
-use Rattle.lft_tag.proofs.Order.{Before-UpTo}
+use Rattle.lft_tag.specs.Tags.{Before, UpTo, is_before}
+use Rattle.lft_tag.proofs.Order.{Before-UpTo, UpTo-Before, order_cases}
 use Rattle.lft_flat.specs.declared.parts.Value.{Value}
+use Rattle.lft_lists.proofs.Places.{get_last, same_some}
 use Rattle.lft_queue.specs.Pending.{Pending, is_after}
 use Rattle.lft_queue.specs.Keys.{Key, tag_of, pending_at, key_cmp}
 use Rattle.lft_queue.proofs.Entries.{follows}
@@ -35,3 +40,45 @@ all_kept g (e ∷ es) k v f s b = stays e es first (later es s.0)
     later : (fs : List (Key × Value)) → AllByRecursion (λ y. key_cmp e.0 y ≡ Less) (keys_of fs) → map pending_at fs ≡ filter (λ x. is_after g x) (map pending_at fs)
     later [] a = refl
     later (x ∷ fs) a = stays x fs (Before-UpTo g (tag_of e.0) (tag_of x.0) first (follows e.0 x.0 a.0)) (later fs a.1)
+
+-- keys are in order where their tags are
+less_by_tag : (j k : Key) → Before (tag_of j) (tag_of k) → is_lt (key_cmp j k) ≡ true
+less_by_tag j k (inl l) = let e : nat_cmp j.0 k.0 ≡ Less = sym (nat_cmp_is j.0 k.0 Less l) in rw e refl
+less_by_tag j k (inr p) = let e : nat_cmp j.0 k.0 ≡ Equal = sym (nat_cmp_is j.0 k.0 Equal p.0) in let f : nat_cmp j.1 k.1 ≡ Less = sym (nat_cmp_is j.1 k.1 Less p.1) in rw (e, f) refl
+
+-- a last one that is after the tag doesn't stay
+pub last_dropped : (g : Tag) (e : Key × Value) (es : List (Key × Value)) → Before g (tag_of e.0) → filter (λ x. not (is_after g x)) (map pending_at (es ++ e ∷ [])) ≡ filter (λ x. not (is_after g x)) (map pending_at es)
+last_dropped g e [] b = ap (λ (t : Bool). cond (not t) (pending_at e ∷ []) []) (test_before g (tag_of e.0) b)
+last_dropped g e (x ∷ es) b = ap (λ (ys : List Pending). cond (not (is_before g (tag_of x.0))) (pending_at x ∷ ys) ys) (last_dropped g e es b)
+
+-- where a key that none is after isn't after the tag, all stay
+pub none_after : (g : Tag) (k : Key) (es : List (Key × Value)) → All (λ q. is_lt (key_cmp k q) ≡ false) (keys_of es) → ¬ Before g (tag_of k) → map pending_at es ≡ filter (λ x. not (is_after g x)) (map pending_at es)
+none_after g k [] all n = refl
+none_after g k (e ∷ es) all n = ap (λ (ys : List Pending). pending_at e ∷ ys) (none_after g k es (All-tail (λ q. is_lt (key_cmp k q) ≡ false) e.0 (keys_of es) all) n) ∙ sym (ap (λ (t : Bool). cond (not t) (pending_at e ∷ rest) rest) (not_before g (tag_of e.0) early))
+  where
+    rest : List Pending
+    rest = filter (λ x. not (is_after g x)) (map pending_at es)
+
+    up : Before g (tag_of k) ⊎ UpTo (tag_of k) g → UpTo (tag_of k) g
+    up (inl b) = absurd (n b)
+    up (inr u) = u
+
+    early : ¬ Before g (tag_of e.0)
+    early b = absurd (false≢true (sym (All-head (λ q. is_lt (key_cmp k q) ≡ false) e.0 (keys_of es) all) ∙ less_by_tag k e.0 (UpTo-Before (tag_of k) g (tag_of e.0) (up (order_cases g (tag_of k))) b)))
+
+-- where the last one is taken out and was after the tag, what is to stay is what was to stay
+pub last_taken : (g : Tag) (o : Option (Key × Value)) (old new : List (Key × Value)) (k : Key) (v : Value) → IfSome o (λ p. old ≡ new ++ p ∷ []) → IfNone o (new ≡ old) → slice_get old (length old - 1) ≡ Some (k, v) → Before g (tag_of k) → (filter (λ x. not (is_after g x)) (map pending_at new) ≡ filter (λ x. not (is_after g x)) (map pending_at old)) × (length new ≤ length old)
+last_taken g None old new k v some none last b = (ap (λ (es : List (Key × Value)). filter (λ x. not (is_after g x)) (map pending_at es)) none, let e = ap length none in omega arith)
+last_taken g (Some p) old new k v some none last b = (sym (last_dropped g p new at_p) ∙ ap (λ (es : List (Key × Value)). filter (λ x. not (is_after g x)) (map pending_at es)) (sym some), omega (arith, longer))
+  where
+    longer : length old ≡ length new + 1
+    longer = ap length some ∙ length-append new (p ∷ [])
+
+    there : slice_get old (length old - 1) ≡ Some p
+    there = ap (λ (n : ℕ). slice_get old n) (let e : length old - 1 ≡ length new = omega (arith, longer) in e) ∙ ap (λ (es : List (Key × Value)). slice_get es (length new)) some ∙ get_last new p
+
+    same : p ≡ (k, v)
+    same = same_some (slice_get old (length old - 1)) p (k, v) there last
+
+    at_p : Before g (tag_of p.0)
+    at_p = subst (λ (e : Key × Value). Before g (tag_of e.0)) (sym same) b

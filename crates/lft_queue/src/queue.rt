@@ -1,6 +1,6 @@
 //! The queue of pending events.
 
-ghost use Rattle.std.specs.Prelude.{◌≡◌, ◌↔◌, ◌+◌, ◌∷◌, [], List, length, map, filter, not, true, false, Some, None, IsSome, IfSome, IfNone, IfErr, OnOk, IsTrue, Contains, slice_get};
+ghost use Rattle.std.specs.Prelude.{◌≡◌, ◌↔◌, ◌+◌, ◌-◌, ◌∷◌, [], List, length, map, filter, not, true, false, Some, None, IsSome, IfSome, IfNone, IfErr, OnOk, IsTrue, Contains, slice_get};
 ghost use Rattle.lft_tag.specs.Tags.{Before, UpTo};
 ghost use Rattle.lft_flat.specs.declared.parts.Name.{Name as NameOf};
 ghost use Rattle.lft_flat.specs.declared.parts.Value.{Value as Carried};
@@ -49,6 +49,17 @@ fn begins_by(values: &BTreeMap<Key, Value>, tag: Tag) -> bool
     let _count = values.len();
     match values.first_key_value() {
         Some((key, _)) => return !tag.is_before(tag_of_key(*key)),
+        None => return false,
+    }
+}
+
+// Whether the last event is there and after the tag.
+fn ends_after(values: &BTreeMap<Key, Value>, tag: Tag) -> bool
+    ensures ends { IsTrue result → (k : KeyOf) × (v : Carried) × (slice_get values.now.entries (length values.now.entries - 1) ≡ Some (k, v)) × Before tag (tag_of k) }
+    ensures over { result ≡ false → map pending_at values.now.entries ≡ filter (λ e. not (is_after tag e)) (map pending_at values.now.entries) }
+{
+    match values.last_key_value() {
+        Some((key, _)) => return tag.is_before(tag_of_key(*key)),
         None => return false,
     }
 }
@@ -145,14 +156,16 @@ impl Queue {
         (before - self.values.len()) as u64
     }
 
-    /// Takes out all events after a tag, and gives how many there were. It takes no memory.
+    /// Takes out all events after a tag, and gives how many there were. It takes no memory, and costs
+    /// what it takes out.
     pub fn drop_after(&mut self, tag: Tag) -> u64
         ensures rest { self.new ≡ filter (λ e. not (is_after tag e)) self.old }
         ensures count { result + length self.new ≡ length self.old }
     {
         let before = self.values.len();
-        self.values
-            .retain(|key, _| !tag.is_before(tag_of_key(*key)));
+        'later: while ends_after(&self.values, tag) {
+            let _later = self.values.pop_last();
+        }
         (before - self.values.len()) as u64
     }
 }

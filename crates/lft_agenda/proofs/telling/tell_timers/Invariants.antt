@@ -1,8 +1,14 @@
-use Rattle.std.proofs.Common.{ℕ}
+use Rattle.std.proofs.Common.{◌≡◌, ℕ, List, length}
 use Rattle.lft_flat.specs.declared.parts.Trigger.TheVariants.{Timer}
+use Rattle.lft_lists.proofs.Members.{Mem}
 use Rattle.lft_listeners.specs.Listeners.{IsListener}
-use Rattle.lft_agenda.specs.Telling.{IsTold, OfFirst, FiresAt}
+use Rattle.lft_agenda.specs.Telling.{IsTold}
+use Rattle.lft_agenda.specs.Firings.{how_many_until}
+use Rattle.lft_agenda.proofs.Taking.{AreTaken}
 use Rattle.lft_agenda.proofs.telling.tell_timers.Given as goal
 
-abbrev pub invariant-loop-at : goal.invariant-loop-at
-invariant-loop-at l = IsTold (OfFirst (λ (n r : ℕ). FiresAt l.plan.program l.tag n × IsListener l.plan.program (Timer n) r) l.timers l.at) l.fn.turn l.turn
+abbrev pub invariant-due : goal.invariant-due
+invariant-due l = (taken : List ℕ) × AreTaken l.plan.program l.tag taken l.firings × IsTold (λ r. (n : ℕ) × Mem n taken × IsListener l.plan.program (Timer n) r) l.fn.turn l.turn
+
+abbrev pub decreases-due : goal.decreases-due
+decreases-due l = how_many_until l.tag l.firings

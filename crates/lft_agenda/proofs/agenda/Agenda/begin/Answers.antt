@@ -8,7 +8,7 @@ use Rattle.lft_agenda.proofs.agenda.Agenda.begin.Goals as goal
 
 pub returns-clause-ok : goal.returns-clause-ok
 returns-clause-ok c = λ plan t good is may.
-    let a : AgendaParts = record { runs = c.self.inside.runs.items; queue = c.self.inside.queue; turn = c.self.inside.turn; from = c.self.inside.from; stop = c.self.inside.stop; listeners = c.self.inside.listeners; arrivals = c.self.inside.arrivals } in
+    let a : AgendaParts = record { runs = c.self.inside.runs.items; queue = c.self.inside.queue; firings = c.self.inside.firings; turn = c.self.inside.turn; from = c.self.inside.from; stop = c.self.inside.stop; listeners = c.self.inside.listeners; arrivals = c.self.inside.arrivals } in
     let reads : c.from_vec-reads.result ≡ c.args.reads.now = c.from_vec-reads.ensures ∙ c.in-Ok.ensures.items ∙ c.as_slice.ensures in
     let its : OpenRun = record { worker = c.args.worker; tag = c.args.tag; reaction = c.args.reaction; reads = c.from_vec-reads.result } in
     let its_is : its ≡ record { worker = c.args.worker; tag = c.args.tag; reaction = c.args.reaction; reads = c.args.reads.now } = ap (λ (os : List (Option Value)). let o : OpenRun = record { worker = c.args.worker; tag = c.args.tag; reaction = c.args.reaction; reads = os } in o) reads in

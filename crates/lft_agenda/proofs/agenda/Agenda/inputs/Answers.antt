@@ -19,7 +19,7 @@ use Rattle.lft_agenda.proofs.agenda.Agenda.inputs.Goals as goal
 pub returns : goal.returns
 returns c = λ t is so_far quiet may.
     let plan = c.args.plan.now in
-    let a : AgendaParts = record { runs = c.self.inside.runs.items; queue = c.self.inside.queue; turn = c.self.inside.turn; from = c.self.inside.from; stop = c.self.inside.stop; listeners = c.self.inside.listeners; arrivals = c.self.inside.arrivals } in
+    let a : AgendaParts = record { runs = c.self.inside.runs.items; queue = c.self.inside.queue; firings = c.self.inside.firings; turn = c.self.inside.turn; from = c.self.inside.from; stop = c.self.inside.stop; listeners = c.self.inside.listeners; arrivals = c.self.inside.arrivals } in
     let its : IsAgenda plan t a = subst (λ (x : AgendaParts). IsAgenda plan t x) (sym c.self.view_is) is in
     let x = get_there plan.program.reactions c.args.reaction c.requires in
     let names : inputs_of plan.program c.args.reaction ≡ inputs x.0 = ap (λ (o : Option Reaction). unwrap_or (option_map inputs o) []) x.1 in
