@@ -1,6 +1,6 @@
 //! The tags of a trace, shared out among workers.
 
-ghost use Rattle.std.specs.Prelude.{◌≡◌, ◌<◌, ◌≤◌, length, Some, IfOk, OnOk, slice_get};
+ghost use Rattle.std.specs.Prelude.{◌≡◌, ℕ, ◌<◌, ◌≤◌, length, Some, Err, IfOk, IfErr, OnOk, slice_get};
 ghost use Rattle.lft_presence.specs.Clashes.{IsClash};
 ghost use Rattle.lft_slices.specs.Slices.{AreSlices};
 ghost use Rattle.lft_check.specs.Verdicts.{LeastOf, BreachIn};
@@ -90,6 +90,7 @@ fn found_at(found: &[Found], place: usize) -> Found
 fn least_found(found: &[Found]) -> Result<Option<Breach>, NoMemory>
     ensures least { IfOk result (LeastOf (IsFound found.now (length found.now))) }
     ensures all { OnOk result (AreOk found.now (length found.now)) }
+    ensures memory { IfErr result (λ _. (k : ℕ) × (x : _) × (slice_get found.now k ≡ Some (Err x))) }
 {
     let mut least = None;
     for place in 0..found.len() {

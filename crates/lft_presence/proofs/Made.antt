@@ -1,12 +1,15 @@
 -- The causes, one row and one event after another, and in order.
-use Rattle.std.proofs.Common.{◌≡◌, ℕ, zero, suc, ◌+◌, ◌<◌, ◌≤◌, ◌⊎◌, inl, inr, List, [], ◌∷◌, ◌++◌, length, refl, sym, ap, ◌∙◌, subst, arith, Option, Some, None, slice_get, false, slice_index_or}
+use Rattle.std.proofs.Common.{◌≡◌, ℕ, zero, suc, ◌+◌, ◌<◌, ◌≤◌, ◌⊎◌, inl, inr, List, [], ◌∷◌, ◌++◌, length, refl, sym, ap, ◌∙◌, subst, arith, Bool, ◌==◌, Option, Some, None, slice_get, false, slice_index_or, ne_eqb}
+use Rattle.std.specs.List.{IsDistinct}
 use Rattle.std.specs.List.Sorted.{IsPermutation, IsSorted}
 use Rattle.std.specs.Ordering.{nat_cmp, ordering_then, is_lt}
 use Rattle.std.specs.Cmp.{IsTotalOrder}
 use Rattle.std.proofs.lemmas.Cmp.{nat_cmp_total, then_total, on_total}
 use Rattle.std.proofs.lemmas.List.Sorted.{IsPermutation-sym, Contains-permutation, sorted_far, ranks_by}
 use Rattle.std.proofs.lemmas.Bool.Decides.{nat_tests}
-use Rattle.std.proofs.lemmas.Option.{get_or_from_slice_get}
+use Rattle.std.proofs.lemmas.Bool.{cases_lt, eq-eqb}
+use Rattle.std.proofs.lemmas.Map.Keys.{IsDistinct-IsPermutation, IsDistinct-from_apart, apart_from_distinct}
+use Rattle.std.proofs.lemmas.Option.{get_or_from_slice_get, slice_get-get_or}
 use native.Mathlib.Decide.{ℕ_discrete}
 use Rattle.lft_tag.specs.declared.Tag.{Tag}
 use Rattle.lft_tag.specs.Tags.{IsRecorded, after}
@@ -27,15 +30,23 @@ use Rattle.lft_model.specs.Presence.{min_delay}
 use Rattle.lft_model.proofs.Places.{slice_get_within}
 use Rattle.lft_presence.specs.declared.causes.Cause.{Cause}
 use Rattle.lft_presence.specs.Causes.{tag_of, ComesUpTo, AreAscending, IsNear, AreNear, HasJust, IsRowCause, IsEventCause, IsCause, AreCauses, step_cause, event_cause}
+use Rattle.lft_presence.proofs.Lists.{not_true}
+use Rattle.lft_presence.proofs.Presences.{step_place, event_place}
 
 -- a list that has just one kind has just another that is the same
 pub just_as : (P Q : Cause → Type 0) (cs : List Cause) → HasJust P cs → ((c : Cause) → P c → Q c) → ((c : Cause) → Q c → P c) → HasJust Q cs
-just_as P Q cs h to from = record { only = λ k c e. to c (h.only k c e); each = λ c q. h.each c (from c q) }
+just_as P Q cs h to from = record { only = λ k c e. to c (h.only k c e); each = λ c q. h.each c (from c q); once = h.once }
 
 -- one more at the end
-pub just_more : (P Q : Cause → Type 0) (cs : List Cause) (x : Cause) → HasJust P cs → ((c : Cause) → P c → Q c) → Q x → ((c : Cause) → Q c → P c ⊎ (x ≡ c)) → HasJust Q (cs ++ x ∷ [])
-just_more P Q cs x h to here from = record { only = λ k c e. only c (get_push_cases cs x k c e); each = λ c q. each c (from c q) }
+pub just_more : (P Q : Cause → Type 0) (cs : List Cause) (x : Cause) → HasJust P cs → ((c : Cause) → P c → Q c) → Q x → ((c : Cause) → P c → ¬ (c.place ≡ x.place)) → ((c : Cause) → Q c → P c ⊎ (x ≡ c)) → HasJust Q (cs ++ x ∷ [])
+just_more P Q cs x h to here new from = record { only = λ k c e. only c (get_push_cases cs x k c e); each = λ c q. each c (from c q); once = λ j k c d p q e. once j k c d e (get_push_cases cs x j c p) (get_push_cases cs x k d q) }
   where
+    once : (j k : ℕ) (c d : Cause) → c.place ≡ d.place → (slice_get cs j ≡ Some c) ⊎ ((j ≡ length cs) × (x ≡ c)) → (slice_get cs k ≡ Some d) ⊎ ((k ≡ length cs) × (x ≡ d)) → j ≡ k
+    once j k c d e (inl p) (inl q) = h.once j k c d p q e
+    once j k c d e (inl p) (inr q) = absurd (new c (h.only j c p) (e ∙ ap (λ (z : Cause). z.place) (sym q.1)))
+    once j k c d e (inr p) (inl q) = absurd (new d (h.only k d q) (sym e ∙ ap (λ (z : Cause). z.place) (sym p.1)))
+    once j k c d e (inr p) (inr q) = p.0 ∙ sym q.0
+
     only : (c : Cause) → {k : ℕ} → (slice_get cs k ≡ Some c) ⊎ ((k ≡ length cs) × (x ≡ c)) → Q c
     only c {k} (inl e) = to c (h.only k c e)
     only c {k} (inr e) = subst Q e.1 here
@@ -49,7 +60,7 @@ abbrev pub IsRowCauseTo : Parts → List Row → ℕ → Cause → Type 0
 IsRowCauseTo program t i c = (x : IsRowCause program t c) × (x.place < i)
 
 pub rows_begin : (program : Parts) (t : List Row) → HasJust (IsRowCauseTo program t 0) []
-rows_begin program t = record { only = λ k c e. absurd (cc); each = λ c x. let l : x.0.place < 0 = x.1 in absurd (omega arith) }
+rows_begin program t = record { only = λ k c e. absurd (cc); once = λ j k c d e. absurd (cc); each = λ c x. let l : x.0.place < 0 = x.1 in absurd (omega arith) }
 
 module _ (program : Parts) (t : List Row) (i : ℕ) (row : Row) (is_row : slice_get t i ≡ Some row) where
   -- a cause up to this row is this row or one before it
@@ -74,8 +85,15 @@ module _ (program : Parts) (t : List Row) (i : ℕ) (row : Row) (is_row : slice_
       from c (inr q) = absurd (cc)
 
   pub row_is_one : (cs : List Cause) (x : Cause) → Some x ≡ step_cause program row.tag i row.step → HasJust (IsRowCauseTo program t i) cs → HasJust (IsRowCauseTo program t (i + 1)) (cs ++ x ∷ [])
-  row_is_one cs x e h = just_more (IsRowCauseTo program t i) (IsRowCauseTo program t (i + 1)) cs x h further (record { place = i; row = row; is_row = is_row; gives = sym e }, omega arith) (λ c y. from c (last (Some x) e c y))
+  row_is_one cs x e h = just_more (IsRowCauseTo program t i) (IsRowCauseTo program t (i + 1)) cs x h further (record { place = i; row = row; is_row = is_row; gives = sym e }, omega arith) new (λ c y. from c (last (Some x) e c y))
     where
+      new : (c : Cause) → IsRowCauseTo program t i c → ¬ (c.place ≡ x.place)
+      new c y q =
+          let a : c.place ≡ y.0.place = step_place program y.0.row.tag y.0.place y.0.row.step c y.0.gives in
+          let b : x.place ≡ i = step_place program row.tag i row.step x (sym e) in
+          let l : y.0.place < i = y.1 in
+          absurd (omega arith)
+
       from : (c : Cause) → IsRowCauseTo program t i c ⊎ (Some x ≡ Some c) → IsRowCauseTo program t i c ⊎ (x ≡ c)
       from c (inl y) = inl y
       from c (inr q) = let r : x ≡ c = cc in inr r
@@ -95,8 +113,20 @@ events_begin program t events cs h = just_as (IsRowCause program t) (IsCauseTo p
     from c (inr x) = let l : x.0.place < 0 = x.1 in absurd (omega arith)
 
 pub event_more : (program : Parts) (t : List Row) (events : List Event) (i : ℕ) (event : Event) (x : Cause) (cs : List Cause) → slice_get events i ≡ Some event → x ≡ event_cause program (length t + i) event → HasJust (IsCauseTo program t events i) cs → HasJust (IsCauseTo program t events (i + 1)) (cs ++ x ∷ [])
-event_more program t events i event x cs is_event e h = just_more (IsCauseTo program t events i) (IsCauseTo program t events (i + 1)) cs x h to (inr (record { place = i; event = event; is_event = is_event; gives = sym e }, omega arith)) from
+event_more program t events i event x cs is_event e h = just_more (IsCauseTo program t events i) (IsCauseTo program t events (i + 1)) cs x h to (inr (record { place = i; event = event; is_event = is_event; gives = sym e }, omega arith)) new from
   where
+    new : (c : Cause) → IsCauseTo program t events i c → ¬ (c.place ≡ x.place)
+    new c (inl y) q =
+        let a : c.place ≡ y.place = step_place program y.row.tag y.place y.row.step c y.gives in
+        let l : y.place < length t = slice_get_within t y.place y.row y.is_row in
+        let b : x.place ≡ length t + i = event_place program (length t + i) event x (sym e) in
+        absurd (omega arith)
+    new c (inr y) q =
+        let a : c.place ≡ length t + y.0.place = event_place program (length t + y.0.place) y.0.event c y.0.gives in
+        let l : y.0.place < i = y.1 in
+        let b : x.place ≡ length t + i = event_place program (length t + i) event x (sym e) in
+        absurd (omega arith)
+
     to : (c : Cause) → IsCauseTo program t events i c → IsCauseTo program t events (i + 1) c
     to c (inl y) = inl y
     to c (inr y) = let l : y.0.place < i = y.1 in inr (y.0, omega arith)
@@ -144,9 +174,42 @@ sorted_up cs up j k x y l e f =
     let b = get_or_from_slice_get cs k y x f in
     comes_up x y (numbers_up x.name x.time x.micro x.place y.name y.time y.micro y.place (subst (λ (v : Cause). lt y v ≡ false) a (subst (λ (u : Cause). lt u (slice_index_or cs j x) ≡ false) b far)))
 
+abbrev same_place : Cause → Cause → Bool
+same_place x y = x.place == y.place
+
+same_place-flips : (x y : Cause) → same_place x y ≡ same_place y x
+same_place-flips x y = go (ℕ_discrete x.place y.place)
+  where
+    go : Dec (x.place ≡ y.place) → same_place x y ≡ same_place y x
+    go (yes e) = eq-eqb x.place y.place e ∙ sym (eq-eqb y.place x.place (sym e))
+    go (no n) = ne_eqb x.place y.place n ∙ sym (ne_eqb y.place x.place (λ e. n (sym e)))
+
+-- what stands at places of their own does so in another order
+once_sorted : (xs ys : List Cause) → IsPermutation xs ys → ((j k : ℕ) (x y : Cause) → slice_get xs j ≡ Some x → slice_get xs k ≡ Some y → x.place ≡ y.place → j ≡ k) → (j k : ℕ) (x y : Cause) → slice_get ys j ≡ Some x → slice_get ys k ≡ Some y → x.place ≡ y.place → j ≡ k
+once_sorted xs ys moves once j k x y p q e = go (cases_lt j k) (cases_lt k j)
+  where
+    differ : (i l : ℕ) (d : Cause) → i < l → l < length xs → same_place (slice_index_or xs i d) (slice_index_or xs l d) ≡ false
+    differ i l d m n = ne_eqb (slice_index_or xs i d).place (slice_index_or xs l d).place (λ f. let s : i ≡ l = once i l (slice_index_or xs i d) (slice_index_or xs l d) (slice_get-get_or xs i d (omega arith)) (slice_get-get_or xs l d n) f in absurd (omega arith))
+
+    distinct : IsDistinct same_place ys
+    distinct = IsDistinct-IsPermutation same_place same_place-flips xs ys moves (IsDistinct-from_apart same_place xs differ)
+
+    apart : (i l : ℕ) (u v : Cause) → i < l → slice_get ys i ≡ Some u → slice_get ys l ≡ Some v → u.place ≡ v.place → ⊥
+    apart i l u v m f g s =
+        let a : same_place (slice_index_or ys i u) (slice_index_or ys l u) ≡ false = apart_from_distinct same_place ys i l u distinct m (slice_get_within ys l v g) in
+        let b : slice_index_or ys i u ≡ u = get_or_from_slice_get ys i u u f in
+        let c : slice_index_or ys l u ≡ v = get_or_from_slice_get ys l v u g in
+        let d : same_place u v ≡ false = subst (λ (z : Cause). same_place u z ≡ false) c (subst (λ (z : Cause). same_place z (slice_index_or ys l u) ≡ false) b a) in
+        not_true (sym d ∙ eq-eqb u.place v.place s)
+
+    go : (j < k) ⊎ (k ≤ j) → (k < j) ⊎ (j ≤ k) → j ≡ k
+    go (inl l) o = absurd (apart j k x y l p q e)
+    go (inr l) (inl m) = absurd (apart k j y x m q p (sym e))
+    go (inr l) (inr m) = omega arith
+
 -- a list in another order has the same
 pub just_sorted : (P : Cause → Type 0) (xs ys : List Cause) → IsPermutation xs ys → HasJust P xs → HasJust P ys
-just_sorted P xs ys moves h = record { only = only; each = each }
+just_sorted P xs ys moves h = record { only = only; each = each; once = once_sorted xs ys moves h.once }
   where
     only : (k : ℕ) (c : Cause) → slice_get ys k ≡ Some c → P c
     only k c e = let m = get_mem c xs (contains_mem c xs (Contains-permutation ys xs c (IsPermutation-sym xs ys moves) (mem_contains c ys (mem_get ys k c e)))) in h.only m.0 c m.1

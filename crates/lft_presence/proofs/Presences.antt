@@ -88,7 +88,7 @@ schedule_place : (program : Parts) (g : Tag) (i extra : ℕ) (n : Name) (c : Cau
 schedule_place program g i extra (Port p) c e = absurd (cc)
 schedule_place program g i extra (Action a) c e = let x : cause (length program.ports + a) (after g (min_delay program a + extra)) i ≡ c = cc in ap (λ (z : Cause). z.place) (sym x)
 
-step_place : (program : Parts) (g : Tag) (i : ℕ) (s : Step) (c : Cause) → step_cause program g i s ≡ Some c → c.place ≡ i
+pub step_place : (program : Parts) (g : Tag) (i : ℕ) (s : Step) (c : Cause) → step_cause program g i s ≡ Some c → c.place ≡ i
 step_place program g i Start c e = absurd (cc)
 step_place program g i (Read n v) c e = absurd (cc)
 step_place program g i (Write n v) c e = write_place g i n c e
@@ -96,7 +96,7 @@ step_place program g i (Schedule n v d) c e = schedule_place program g i d n c e
 step_place program g i Stop c e = absurd (cc)
 step_place program g i End c e = absurd (cc)
 
-event_place : (program : Parts) (i : ℕ) (event : Event) (c : Cause) → event_cause program i event ≡ c → c.place ≡ i
+pub event_place : (program : Parts) (i : ℕ) (event : Event) (c : Cause) → event_cause program i event ≡ c → c.place ≡ i
 event_place program i event c e = ap (λ (z : Cause). z.place) (sym e)
 
 -- where the place of a cause is that of a row it is the row, else an external event

@@ -89,12 +89,13 @@ pub record IsEventCause (program : Parts) (t : List Row) (events : List Event) (
 abbrev pub IsCause : PlanParts → List Row → Cause → Type 0
 IsCause plan t c = IsRowCause plan.program t c ⊎ IsEventCause plan.program t plan.externals.events c
 
--- the list has just what is of a kind
+-- the list has just what is of a kind, each at a place of its own
 pub record HasJust (P : Cause → Type 0) (causes : List Cause) : Type 0 where
   pub only : (k : ℕ) (c : Cause) → slice_get causes k ≡ Some c → P c
   pub each : (c : Cause) → P c → (k : ℕ) × (slice_get causes k ≡ Some c)
+  pub once : (j k : ℕ) (x y : Cause) → slice_get causes j ≡ Some x → slice_get causes k ≡ Some y → x.place ≡ y.place → j ≡ k
 
--- the list has each cause of events, in order
+-- the list has each cause of events once, in order
 pub record AreCauses (plan : PlanParts) (t : List Row) (causes : List Cause) : Type 0 where
   pub just : HasJust (IsCause plan t) causes
   pub ascending : AreAscending causes

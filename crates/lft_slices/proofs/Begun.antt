@@ -6,7 +6,7 @@ use Rattle.lft_tag.specs.Tags.{Before, UpTo}
 use Rattle.lft_tag.proofs.Order.{order_cases, UpTo_antisym}
 use Rattle.lft_trace.specs.declared.row.Row.{Row}
 use Rattle.lft_trace.specs.declared.row.Step.TheVariants.{Start}
-use Rattle.lft_lists.proofs.Places.{get_there, same_at, get_write_cases, get_unwritten, get_push, get_last, get_push_cases, length_written, get_same, get_append_cases}
+use Rattle.lft_lists.proofs.Places.{get_there, same_at, get_write_cases, get_written, get_unwritten, get_push, get_last, get_push_cases, length_written, get_same, get_append_cases}
 use Rattle.lft_model.specs.Plans.{PlanParts}
 use Rattle.lft_model.specs.Presence.{Triggered}
 use Rattle.lft_model.specs.Runs.{start_row, Ran}
@@ -20,7 +20,7 @@ use Rattle.lft_slices.specs.declared.started.Started.{Started}
 use Rattle.lft_slices.specs.Pieces.{AreTags}
 use Rattle.lft_slices.specs.Slices.{IsCuttable, IsMissing, IsVacant}
 use Rattle.lft_slices.specs.Least.{HasTag, AreTriggered, Lacks}
-use Rattle.lft_slices.specs.Indexes.{AreStartsOf, HasRunsTo, HasRuns, AreDue}
+use Rattle.lft_slices.specs.Indexes.{AreStartsOf, HasRunsTo, HasRuns, AreDue, AreMarkedTo}
 
 pub starts_begin : (t : List Row) (n : ℕ) (tags : List (List Tag)) (places : List (List ℕ)) → length tags ≡ n → length places ≡ n → ((r : ℕ) (gs : List Tag) → slice_get tags r ≡ Some gs → gs ≡ []) → ((r : ℕ) (ps : List ℕ) → slice_get places r ≡ Some ps → ps ≡ []) → HasRunsTo t 0 n tags places
 starts_begin t n tags places c d none none_too = record { many_tags = c; many_places = d; starts = λ r gs ps p q. subst (λ (xs : List Tag). AreStartsOf t 0 r xs ps) (sym (none r gs p)) (subst (λ (xs : List ℕ). AreStartsOf t 0 r [] xs) (sym (none_too r ps q)) (empty r)) }
@@ -141,6 +141,35 @@ due_more cut r gs ps known starts triggered k p e q due new is so_far i row ther
     go : Dec (i ≡ p) → Triggered cut.plan cut.rows row.tag row.reaction
     go (yes x) = let same : start_row at.0 tag.0 r ≡ row = same_at cut.rows p i (start_row at.0 tag.0 r) row at.1 is_row (sym x) in subst (λ (z : Row). Triggered cut.plan cut.rows z.tag z.reaction) same (triggered k tag.0 e tag.1)
     go (no n) = so_far i row (sym (get_unwritten due p i true n) ∙ ap (λ bs. slice_get bs i) (sym is) ∙ there) is_row
+
+-- the marks, one run more
+module _ (places : List ℕ) (known : List Bool) (k : ℕ) (old due : List Bool) where
+  pub marked_begin : AreMarkedTo places known 0 old old
+  marked_begin = record { as_long = refl; kept = λ i e. e; marked = λ j p l e q w. absurd (omega arith) }
+
+  pub marked_more : (new : List Bool) (p : ℕ) → slice_get places k ≡ Some p → new ≡ slice_set due p true → AreMarkedTo places known k old due → AreMarkedTo places known (k + 1) old new
+  marked_more new p is e h = record { as_long = ap length e ∙ length_written due p true ∙ h.as_long; kept = λ i q. stays i (h.kept i q); marked = λ j r l q s w. marked j r q s w (ℕ_discrete j k) l }
+    where
+      stays : (i : ℕ) → slice_get due i ≡ Some true → slice_get new i ≡ Some true
+      stays i q = go (ℕ_discrete i p)
+        where
+          go : Dec (i ≡ p) → slice_get new i ≡ Some true
+          go (yes d) = ap (λ bs. slice_get bs i) e ∙ ap (λ z. slice_get (slice_set due p true) z) d ∙ get_written due p true (subst (λ z. z < length due) d (slice_get_within due i true q))
+          go (no d) = ap (λ bs. slice_get bs i) e ∙ get_unwritten due p i true d ∙ q
+
+      marked : (j r : ℕ) → slice_get known j ≡ Some true → slice_get places j ≡ Some r → r < length old → Dec (j ≡ k) → j < k + 1 → slice_get new r ≡ Some true
+      marked j r q s w (no d) l = stays r (h.marked j r (omega arith) q s w)
+      marked j r q s w (yes d) l =
+          let a : p ≡ r = same_at places k j p r is s (sym d) in
+          let long : length due ≡ length old = h.as_long in
+          ap (λ bs. slice_get bs r) e ∙ ap (λ z. slice_get (slice_set due p true) z) (sym a) ∙ get_written due p true (omega arith)
+
+  pub marked_stay : ((p : ℕ) → slice_get known k ≡ Some true → ¬ (slice_get places k ≡ Some p)) → AreMarkedTo places known k old due → AreMarkedTo places known (k + 1) old due
+  marked_stay none h = record { as_long = h.as_long; kept = h.kept; marked = λ j r l q s w. marked j r q s w (ℕ_discrete j k) l }
+    where
+      marked : (j r : ℕ) → slice_get known j ≡ Some true → slice_get places j ≡ Some r → r < length old → Dec (j ≡ k) → j < k + 1 → slice_get due r ≡ Some true
+      marked j r q s w (no d) l = h.marked j r (omega arith) q s w
+      marked j r q s w (yes d) l = absurd (none r (ap (λ z. slice_get known z) (sym d) ∙ q) (ap (λ z. slice_get places z) (sym d) ∙ s))
 
 -- the starts of one reaction
 pub starts_of : (t : List Row) (n : ℕ) (started : Started) → HasRuns t n started → (r : ℕ) (gs : List Tag) → slice_get started.tags r ≡ Some gs → (ps : List ℕ) × (slice_get started.places r ≡ Some ps) × AreStartsOf t (length t) r gs ps

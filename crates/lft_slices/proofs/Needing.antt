@@ -2,7 +2,7 @@
 use Rattle.std.proofs.Common.{◌≡◌, ℕ, ◌+◌, ◌-◌, ◌*◌, ◌/◌, ◌%◌, ◌<◌, ◌≤◌, ◌⊎◌, inl, inr, List, ◌∷◌, [], ◌++◌, length, refl, sym, ap, ◌∙◌, subst, arith, Option, Some, None, slice_get}
 use Rattle.std.specs.List.Sorted.{IsPermutation}
 use Rattle.std.proofs.lemmas.List.Sorted.{IsPermutation-sym, Contains-permutation}
-use Rattle.std.proofs.lemmas.Nat.{div-add-mod'}
+use Rattle.std.proofs.lemmas.Nat.{div-add-mod', mod-mul-add}
 use native.Mathlib.Decide.{ℕ_discrete}
 use Rattle.lft_tag.specs.declared.Tag.{Tag}
 use Rattle.lft_tag.proofs.Chains.{tag_of}
@@ -69,11 +69,26 @@ multiple_of time period n e =
     let split : time / period * period + time % period ≡ time = div-add-mod' time period in
     (time / period, omega arith, λ z. absurd (n z))
 
+pub multiple_zero : (time period : ℕ) → IsMultiple time period → period ≡ 0 → time ≡ 0
+multiple_zero time period (n, e, once) p = let z : n * period ≡ 0 * period = ap (λ k. k * period) (once p) in omega arith
+
+pub multiple_rest : (time period : ℕ) → IsMultiple time period → ¬ (period ≡ 0) → time % period ≡ 0
+multiple_rest time period (n, e, once) p = let z : time ≡ n * period + 0 = omega arith in ap (λ t. t % period) z ∙ mod-mul-add n period 0 (omega arith)
+
 pub in_step : (a b : Beat) → a.period ≡ b.period → a.offset ≤ b.offset → IsMultiple (b.offset - a.offset) b.period → InStep a b
 in_step a b e l (n, q, once) =
     let same : n * b.period ≡ n * a.period = ap (λ k. n * k) (sym e) in
     let gap : b.offset - a.offset ≡ n * b.period = q in
     record { same = e; count = n; later = omega arith; once = λ z. once (sym e ∙ z) }
+
+pub step_offset : (a b : Beat) → InStep a b → a.offset ≤ b.offset
+step_offset a b h = let l : b.offset ≡ a.offset + h.count * a.period = h.later in omega arith
+
+pub step_multiple : (a b : Beat) → InStep a b → IsMultiple (b.offset - a.offset) b.period
+step_multiple a b h =
+    let l : b.offset ≡ a.offset + h.count * a.period = h.later in
+    let same : h.count * a.period ≡ h.count * b.period = ap (λ k. h.count * k) h.same in
+    (h.count, omega arith, λ z. h.once (h.same ∙ z))
 
 -- the triggers before place k are parted into timers, as beats, and others
 pub record AreParted (program : Parts) (xs : List Trigger) (k : ℕ) (beats : List Beat) (ys : List Trigger) : Type 0 where

@@ -8,7 +8,7 @@ ghost use Rattle.lft_model.specs.Presence.{Fires, IsPresent, Occurs, Triggered};
 ghost use Rattle.lft_presence.specs.Causes.{IsCause, Leads};
 ghost use Rattle.lft_presence.specs.Traces.{LeastTag};
 ghost use Rattle.lft_slices.specs.Needed.{AreNeededOf};
-ghost use Rattle.lft_slices.specs.Indexes.{AreStartsOf, HasRuns, AreDue};
+ghost use Rattle.lft_slices.specs.Indexes.{AreStartsOf, HasRuns, AreDue, AreMarkedTo};
 ghost use Rattle.lft_slices.specs.Slices.{IsCuttable, IsFirstMissing};
 ghost use Rattle.lft_slices.specs.Least.{AreUp, HasTag, AreTriggered, IsFirstOf, LacksAt, LacksFiring, LacksCause, LacksTrigger, Lacks};
 
@@ -283,7 +283,7 @@ pub(crate) fn lacked(
 
 /// Where the run of this number starts, if it is marked.
 fn marked_start(places: &[u32], known: &[bool], number: usize) -> Option<usize>
-    ensures { IfSome result (λ p. (slice_get known.now number ≡ Some true) × (slice_get places.now number ≡ Some p)) }
+    ensures { MatchOption result ((p : ℕ) → slice_get known.now number ≡ Some true → ¬ (slice_get places.now number ≡ Some p)) (λ p. (slice_get known.now number ≡ Some true) × (slice_get places.now number ≡ Some p)) }
 {
     if number < known.len() && number < places.len() && known[number] {
         Some(places[number] as usize)
@@ -304,7 +304,8 @@ fn keep_due(
     requires starts { AreStartsOf presence.now.rows (length presence.now.rows) reaction tags.now places.now }
     requires known { AreTriggered presence.now reaction tags.now known.now }
     requires due { AreDue presence.now due.old }
-    ensures { AreDue presence.now due.new }
+    ensures due { AreDue presence.now due.new }
+    ensures marked { AreMarkedTo places.now known.now (length known.now) due.old due.new }
 {
     for number in 0..known.len() {
         if let Some(place) = marked_start(places, known, number) {

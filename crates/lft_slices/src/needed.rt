@@ -1,6 +1,6 @@
 //! The triggers of a reaction without the timers whose firings are those of another one.
 
-ghost use Rattle.std.specs.Prelude.{◌≡◌, ℕ, ◌<◌, ◌*◌, length, Some, IsTrue, IfOk, OnOk, slice_get};
+ghost use Rattle.std.specs.Prelude.{◌≡◌, ◌↔◌, ℕ, ◌<◌, ◌*◌, length, Some, IsTrue, IfOk, OnOk, slice_get};
 ghost use Rattle.lft_flat.specs.Sound.{IsTriggerOf};
 ghost use Rattle.lft_flat.specs.declared.parts.Trigger.{Trigger as TheTrigger};
 ghost use Rattle.lft_slices.specs.declared.needed.Beat.{Beat as TheBeat};
@@ -50,7 +50,7 @@ fn beat_at(beats: &[Beat], place: usize) -> Beat
 
 /// Whether the time is a whole number of periods.
 fn is_multiple(time: u64, period: u64) -> bool
-    ensures { IsTrue result → IsMultiple time period }
+    ensures { IsTrue result ↔ IsMultiple time period }
 {
     if period == 0 {
         time == 0
@@ -59,9 +59,10 @@ fn is_multiple(time: u64, period: u64) -> bool
     }
 }
 
-/// Whether there is an earlier beat, and it makes all firings of the later one.
+/// Whether there is an earlier beat, and the later one is in step with it: of one period, and begun
+/// some periods after it.
 fn is_covered(earlier: Option<Beat>, later: Beat) -> bool
-    ensures { IsTrue result → (first : TheBeat) × (earlier ≡ Some first) × InStep first later }
+    ensures { IsTrue result ↔ ((first : TheBeat) × (earlier ≡ Some first) × InStep first later) }
 {
     match earlier {
         Some(first) => {

@@ -19,7 +19,7 @@ loop-reaction-preserved c =
     let r = c.loop-reaction.reaction in
     let s = starts_of cut.rows (length cut.plan.program.reactions) c.args.started.now c.requires.started r c.at-tags.result.now c.at-tags.ensures in
     record {
-      due = c.keep_due.ensures;
+      due = c.keep_due.ensures.due;
       first = first_more (IsMissing cut) r c.loop-reaction.first c.lacked-missed.result c.first_of-first.result c.loop-reaction.invariant.first (missing_of cut r c.at-tags.result.now s.0 c.lacked-missed.result s.2 c.lacked-missed.ensures.least) c.first_of-first.ensures;
     }
 
