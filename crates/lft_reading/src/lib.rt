@@ -1,5 +1,5 @@
 #![tactic(auto)]
-//! Trace tables read in parts by several workers. No command calls it yet.
+//! Trace tables read in parts by several workers.
 
 mod lines;
 mod shared;
