@@ -1,15 +1,19 @@
 -- What a last answer of a book says.
-use Rattle.std.proofs.Common.{◌≡◌, ◌≢◌, ◌⊎◌, inl, inr, ℕ, List, Result, Ok, Err, IfOk, IfErr, is_ok, Bool, true, false, subst, sym, ap, Option, Some, None, IfSome, ◌∙◌}
+use Rattle.std.proofs.Common.{◌≡◌, ◌≢◌, ◌⊎◌, ◌<◌, ◌≤◌, inl, inr, ℕ, ℤ, List, Result, Ok, Err, IfOk, IfErr, is_ok, Bool, true, false, subst, sym, ap, Option, Some, None, IfSome, ◌∙◌, refl}
 use Rattle.lft_pool.specs.declared.book.Begin.{Begin}
 use Rattle.lft_pool.specs.declared.book.Begin.TheVariants.{Run, Wait, Finished}
-use Rattle.lft_trace.specs.declared.row.Row.{Row}
-use Rattle.lft_model.specs.Plans.{PlanParts}
 use Rattle.lft_pool.specs.declared.stop.Stop.{Stop}
-use Rattle.lft_pool.specs.declared.stop.Stop.TheVariants.{NoBody, NoWorker, PlanChanged, BadWorkers}
+use Rattle.lft_pool.specs.declared.stop.Stop.TheVariants.{NoBody, Collision, UndeclaredEffect, TooManyRuns, Stranger, BodyNoMemory, NoMemory, NoWorker, PlanChanged, BadWorkers, TooManyRows, LimitTag}
 use Rattle.lft_bodies.specs.declared.ticket.Ticket.{Ticket}
 use Rattle.lft_pool.specs.Begun.{MatchBegin}
-use Rattle.lft_pool.specs.Books.{BookParts, LacksBody, StopHolds, ReasonHolds}
-use Rattle.lft_pool.specs.Endings.{IsUnfinished, ReasonIs}
+use Rattle.lft_tag.specs.declared.Tag.{Tag}
+use Rattle.lft_flat.specs.declared.parts.Value.{Value}
+use Rattle.lft_bodies.specs.declared.done.Done.{Done}
+use Rattle.lft_recording.specs.Starts.{SomethingLeft, started_count}
+use Rattle.lft_pool.specs.Books.{BookParts, LacksBody}
+use Rattle.lft_pool.specs.Reasons.{StopHolds, ReasonHolds}
+use Rattle.lft_pool.specs.Reasons.StopHolds.{by_begin, by_commit}
+use Rattle.lft_pool.specs.Endings.{IsUnfinished, ReasonIs, WhyStopped}
 
 -- an answer that is neither a run nor a wait nor a refusal says what a finished one says
 pub finished_says : {L C : Type 0} (last : Result (Begin L C) Stop) (run : Ticket → ℕ → Type 0) (wait P : Type 0) → IfOk last (λ b. MatchBegin b (λ _ _. ⊥) ⊥ (Unit {0})) → is_ok last ≡ true → IfOk last (λ b. MatchBegin b run wait P) → P
@@ -36,36 +40,89 @@ if_some None x P e h = absurd (cc)
 if_some (Some y) x P e h = let q : y ≡ x = cc in subst P q h
 
 -- a book that keeps the reason of its last answer keeps what it says
-pub own_reason : {L C : Type 0} (last : Result (Begin L C) Stop) (old new : BookParts) → IfErr last (λ s. new ≡ record old { reason = Some s }) → ReasonHolds new.plan new.rows new.left new.reason → IfErr last (λ s. StopHolds new.plan new.rows new.left s)
-own_reason (Ok b) old new e why = e
-own_reason (Err s) old new e why = subst (λ (o : Option Stop). ReasonHolds new.plan new.rows new.left o) (ap (λ (b : BookParts). b.reason) e) why
+pub own_reason : {L C : Type 0} (law : ℕ → Tag → ℤ → List (Option Value) → Done → Type 0) (last : Result (Begin L C) Stop) (old new : BookParts) → IfErr last (λ s. new ≡ record old { reason = Some s }) → ReasonHolds law (record new { reason = None }) new.reason → IfErr last (λ s. StopHolds law (record new { reason = None }) s)
+own_reason law (Ok b) old new e why = e
+own_reason law (Err s) old new e why = subst (λ (o : Option Stop). ReasonHolds law (record new { reason = None }) o) (ap (λ (b : BookParts). b.reason) e) why
+
+-- what single reasons say of a book
+module _ (law : ℕ → Tag → ℤ → List (Option Value) → Done → Type 0) (b : BookParts) where
+  bad_workers : StopHolds law b BadWorkers → ⊥
+  bad_workers (by_begin w (inl e)) = absurd (cc)
+  bad_workers (by_begin w (inr h)) = absurd h.1.3
+  bad_workers (by_commit t answer lawful h) = absurd h
+
+  plan_changed : StopHolds law b PlanChanged → ⊥
+  plan_changed (by_begin w (inl e)) = absurd (cc)
+  plan_changed (by_begin w (inr h)) = absurd h.1.3
+  plan_changed (by_commit t answer lawful h) = absurd h
+
+  no_body : (r : ℕ) → StopHolds law b (NoBody r) → LacksBody b.plan b.rows b.left r
+  no_body r (by_begin w (inl e)) = absurd (cc)
+  no_body r (by_begin w (inr (idle, (g, a, first, (recorded, room, q, none))))) = subst (λ (x : ℕ). LacksBody b.plan b.rows b.left x) (sym q) ((g, first.may), none)
+  no_body r (by_commit t answer lawful h) = absurd h
+
+  too_many_runs : StopHolds law b TooManyRuns → SomethingLeft b.plan b.rows
+  too_many_runs (by_begin w (inl e)) = absurd (cc)
+  too_many_runs (by_begin w (inr (idle, (g, a, first, h)))) = (g, a, first.may.ready.pending)
+  too_many_runs (by_commit t answer lawful h) = absurd h
+
+  -- a book's own reason tells why a recording stopped
+  of_book : (max : ℕ) (s : Stop) → StopHolds law b s → (s ≡ TooManyRuns → (max ≤ started_count b.rows) ⊎ (1000000 ≤ started_count b.rows)) → WhyStopped law (record b { max_runs = max }) s
+  of_book max TooManyRuns h full = inl (full refl, too_many_runs h)
+  of_book max (NoBody r) h full = (b.max_runs, h)
+  of_book max (Collision g) h full = (b.max_runs, h)
+  of_book max (UndeclaredEffect r) h full = (b.max_runs, h)
+  of_book max BodyNoMemory h full = (b.max_runs, h)
+  of_book max TooManyRows h full = (b.max_runs, h)
+  of_book max LimitTag h full = (b.max_runs, h)
+  of_book max Stranger h full = tt
+  of_book max NoMemory h full = tt
+  of_book max NoWorker h full = tt
+  of_book max PlanChanged h full = tt
+  of_book max BadWorkers h full = tt
 
 -- what the reason says, where the book's own reasons say what they keep
-module _ {L C : Type 0} (same : Bool) (last : Result (Begin L C) Stop) (s : Stop) (is : ReasonIs same last s) (plan : PlanParts) (t : List Row) (left : List ℕ) (holds : IfErr last (λ e. StopHolds plan t left e)) where
-  own : last ≡ Err s → StopHolds plan t left s
-  own e = stop_says last s (λ x. StopHolds plan t left x) e holds
+module _ {L C : Type 0} (same : Bool) (started max : ℕ) (last : Result (Begin L C) Stop) (s : Stop) (is : ReasonIs same started max last s) (law : ℕ → Tag → ℤ → List (Option Value) → Done → Type 0) (b : BookParts) (holds : IfErr last (λ e. StopHolds law b e)) where
+  own : (x : Stop) → last ≡ Err x → StopHolds law b x
+  own x e = stop_says last x (λ y. StopHolds law b y) e holds
 
   pub never_bad : s ≢ BadWorkers
-  never_bad b = go is
+  never_bad q = go is
     where
-      go : ReasonIs same last s → ⊥
-      go (inl h) = let e : PlanChanged ≡ BadWorkers = sym h.0 ∙ b in absurd (cc)
-      go (inr (inl h)) = let e : NoWorker ≡ BadWorkers = sym h ∙ b in absurd (cc)
-      go (inr (inr h)) = subst (λ (x : Stop). StopHolds plan t left x) b (own h)
+      go : ReasonIs same started max last s → ⊥
+      go (inl h) = let e : PlanChanged ≡ BadWorkers = sym h.0 ∙ q in absurd (cc)
+      go (inr (inl h)) = let e : TooManyRuns ≡ BadWorkers = sym h.0 ∙ q in absurd (cc)
+      go (inr (inr (inl h))) = let e : NoWorker ≡ BadWorkers = sym h ∙ q in absurd (cc)
+      go (inr (inr (inr h))) = bad_workers law b (subst (λ (x : Stop). StopHolds law b x) q (own s h.0))
 
-  pub lacks_body : (r : ℕ) → s ≡ NoBody r → LacksBody plan t left r
-  lacks_body r b = go is
+  pub lacks_body : (r : ℕ) → s ≡ NoBody r → LacksBody b.plan b.rows b.left r
+  lacks_body r q = go is
     where
-      go : ReasonIs same last s → LacksBody plan t left r
-      go (inl h) = let e : PlanChanged ≡ NoBody r = sym h.0 ∙ b in absurd (cc)
-      go (inr (inl h)) = let e : NoWorker ≡ NoBody r = sym h ∙ b in absurd (cc)
-      go (inr (inr h)) = subst (λ (x : Stop). StopHolds plan t left x) b (own h)
+      go : ReasonIs same started max last s → LacksBody b.plan b.rows b.left r
+      go (inl h) = let e : PlanChanged ≡ NoBody r = sym h.0 ∙ q in absurd (cc)
+      go (inr (inl h)) = let e : TooManyRuns ≡ NoBody r = sym h.0 ∙ q in absurd (cc)
+      go (inr (inr (inl h))) = let e : NoWorker ≡ NoBody r = sym h ∙ q in absurd (cc)
+      go (inr (inr (inr h))) = no_body law b r (subst (λ (x : Stop). StopHolds law b x) q (own s h.0))
 
-  pub why_changed : (P : Type 0) → IfOk last (λ b. MatchBegin b (λ _ _. P) P (Unit {0})) → s ≡ PlanChanged → (same ≡ false) ⊎ P
-  why_changed P says b = go is
+  pub why_changed : IfOk last (λ x. MatchBegin x (λ _ _. SomethingLeft b.plan b.rows) (SomethingLeft b.plan b.rows) (Unit {0})) → s ≡ PlanChanged → (same ≡ false) ⊎ SomethingLeft b.plan b.rows
+  why_changed says q = go is
     where
-      go : ReasonIs same last s → (same ≡ false) ⊎ P
+      go : ReasonIs same started max last s → (same ≡ false) ⊎ SomethingLeft b.plan b.rows
       go (inl (e, inl f)) = inl f
-      go (inl (e, inr u)) = inr (unfinished_says last P u says)
-      go (inr (inl h)) = let e : NoWorker ≡ PlanChanged = sym h ∙ b in absurd (cc)
-      go (inr (inr h)) = absurd (subst (λ (x : Stop). StopHolds plan t left x) b (own h))
+      go (inl (e, inr (inl u))) = inr (unfinished_says last (SomethingLeft b.plan b.rows) u says)
+      go (inl (e, inr (inr m))) = inr (too_many_runs law b (own TooManyRuns m))
+      go (inr (inl h)) = let e : TooManyRuns ≡ PlanChanged = sym h.0 ∙ q in absurd (cc)
+      go (inr (inr (inl h))) = let e : NoWorker ≡ PlanChanged = sym h ∙ q in absurd (cc)
+      go (inr (inr (inr h))) = absurd (plan_changed law b (subst (λ (x : Stop). StopHolds law b x) q (own s h.0)))
+
+  pub why_stopped : started ≡ started_count b.rows → WhyStopped law (record b { max_runs = max }) s
+  why_stopped n = go is
+    where
+      to : (x : Stop) → s ≡ x → WhyStopped law (record b { max_runs = max }) x → WhyStopped law (record b { max_runs = max }) s
+      to x e h = subst (λ (y : Stop). WhyStopped law (record b { max_runs = max }) y) (sym e) h
+
+      go : ReasonIs same started max last s → WhyStopped law (record b { max_runs = max }) s
+      go (inl h) = to PlanChanged h.0 tt
+      go (inr (inl h)) = to TooManyRuns h.0 (inr (subst (λ (k : ℕ). max < k) n h.1))
+      go (inr (inr (inl h))) = to NoWorker h tt
+      go (inr (inr (inr h))) = of_book law b max s (own s h.0) (subst (λ (k : ℕ). s ≡ TooManyRuns → (max ≤ k) ⊎ (1000000 ≤ k)) n h.1)

@@ -1,5 +1,5 @@
 -- Causes of refusal, from one another.
-use Rattle.std.proofs.Common.{◌≡◌, ℕ, ℤ, ◌<◌, zero, suc, List, [], ◌∷◌, ◌++◌, length, refl, sym, ap, ◌∙◌, subst, arith, Option, Some, None, slice_get, slice_set, cond, ◌==◌, Bool, false, IsTrue, Ok, Err, Result, IsErr, IfErr, Contains, unwrap_or, option_map, rules}
+use Rattle.std.proofs.Common.{◌≡◌, inl, inr, ℕ, ℤ, ◌<◌, zero, suc, List, [], ◌∷◌, ◌++◌, length, refl, sym, ap, ◌∙◌, subst, arith, Option, Some, None, slice_get, slice_set, cond, ◌==◌, Bool, false, IsTrue, Ok, Err, Result, IsErr, IfErr, Contains, unwrap_or, option_map, rules}
 use Rattle.std.specs.Bool.{Decides}
 use Rattle.std.proofs.lemmas.Bool.Decides.{nat_tests}
 use Rattle.lft_flat.specs.Sound.{IsSound}
@@ -20,24 +20,14 @@ use Rattle.lft_bodies.specs.declared.done.Done.{Done}
 use Rattle.lft_bodies.specs.declared.ticket.Ticket.{Ticket}
 use Rattle.lft_pool.specs.declared.stop.Stop.{Stop}
 use Rattle.lft_pool.specs.declared.stop.Stop.TheVariants.{NoBody, Collision, UndeclaredEffect, TooManyRuns, Stranger, BodyNoMemory, NoMemory, NoWorker, PlanChanged, BadWorkers, TooManyRows, LimitTag}
-use Rattle.lft_pool.specs.Books.{BookParts, StopHolds}
+use Rattle.lft_pool.specs.Books.{BookParts}
+use Rattle.lft_pool.specs.Causes.{StartCause}
+use Rattle.lft_pool.specs.Reasons.{StopHolds}
+use Rattle.lft_pool.specs.Reasons.StopHolds.{by_begin, by_commit}
+use Rattle.lft_recording.specs.Starts.{IsBusy, MayStartFirst}
+use Rattle.lft_flat.specs.declared.parts.Value.{Value}
 use Rattle.lft_recording.specs.Answering.{MayAll, IsLong, HasLongDelay}
 use Rattle.lft_pool.specs.Answers.{HasTicket, HasClash, with_answer, RefusalCause, EndCause, CommitCause}
-
--- a refusal of an answer says nothing of bodies
-pub refusal_holds : (plan : PlanParts) (t u : List Row) (left : List ℕ) (s : Stop) → RefusalCause plan t s → StopHolds plan u left s
-refusal_holds plan t u left (NoBody r) h = absurd h
-refusal_holds plan t u left (Collision g) h = tt
-refusal_holds plan t u left (UndeclaredEffect r) h = tt
-refusal_holds plan t u left TooManyRuns h = tt
-refusal_holds plan t u left Stranger h = tt
-refusal_holds plan t u left BodyNoMemory h = tt
-refusal_holds plan t u left NoMemory h = tt
-refusal_holds plan t u left NoWorker h = absurd h
-refusal_holds plan t u left PlanChanged h = absurd h
-refusal_holds plan t u left BadWorkers h = absurd h
-refusal_holds plan t u left TooManyRows h = tt
-refusal_holds plan t u left LimitTag h = tt
 
 -- steps that may be made without a long delay, and rows that are refused
 pub end_cause : (b : BookParts) (t : Ticket) (d : Done) (s : Stop) → MayAll b.plan t.reaction d.steps → ¬ HasLongDelay d.steps → RefusalCause b.plan (with_answer b t d) s → EndCause b t d s
@@ -68,6 +58,22 @@ commit_cause b t d PlanChanged k h = h
 commit_cause b t d BadWorkers k h = h
 commit_cause b t d TooManyRows k h = (k, h)
 commit_cause b t d LimitTag k h = (k, h)
+
+-- an open run whose answer isn't committed, as a reason
+pub holds_by_end : (law : ℕ → Tag → ℤ → List (Option Value) → Done → Type 0) (b : BookParts) (t : Ticket) (d : Done) (s : Stop) → law t.reaction t.tag t.state t.reads d → HasTicket b t → EndCause b t d s → StopHolds law b s
+holds_by_end law b t d s lawful k h = by_commit t (Ok d) lawful (commit_cause b t d s k h)
+
+-- a run that isn't begun, as a reason
+pub holds_by_start : (law : ℕ → Tag → ℤ → List (Option Value) → Done → Type 0) (b : BookParts) (w : ℕ) (g : Tag) (r : ℕ) (s : Stop) → ¬ IsBusy b.rows w → MayStartFirst b.plan b.rows g r → StartCause b w g r s → StopHolds law b s
+holds_by_start law b w g r s idle first h = by_begin w (inr (idle, (g, r, first, h)))
+
+-- want of memory is a reason of each book
+pub memory_holds : (law : ℕ → Tag → ℤ → List (Option Value) → Done → Type 0) (b : BookParts) → StopHolds law b NoMemory
+memory_holds law b = by_begin 0 (inl refl)
+
+-- a book that goes on has no reason yet
+pub before_it : (law : ℕ → Tag → ℤ → List (Option Value) → Done → Type 0) (b : BookParts) (s : Stop) → b.reason ≡ None → StopHolds law b s → StopHolds law (record b { reason = None }) s
+before_it law b s e h = subst (λ (o : Option Stop). StopHolds law (record b { reason = o }) s) e h
 
 pub may_mem : (plan : PlanParts) (r : ℕ) (steps : List Step) → MayAll plan r steps → (s : Step) → Mem s steps → MayAnswer plan r s
 may_mem plan r steps may s m = let p = get_mem s steps m in may p.0 s p.1

@@ -1,5 +1,5 @@
 -- What contracts see of a book, and what holds of every book.
-use Rattle.std.specs.Prelude.{◌≡◌, ℕ, ℤ, List, length, Option, Some, None, slice_get, slice_index}
+use Rattle.std.specs.Prelude.{◌≡◌, ◌≤◌, ℕ, ℤ, List, length, Option, Some, None, slice_get, slice_index}
 use Rattle.lft_tag.specs.declared.Tag.{Tag}
 use Rattle.lft_flat.specs.declared.parts.Value.{Value}
 use Rattle.lft_flat.specs.declared.parts.Reaction.{Reaction}
@@ -10,7 +10,6 @@ use Rattle.lft_model.specs.Runs.{by_ends}
 use Rattle.lft_model.specs.Recorded.{SoFar, Follows, BodyLaw, OnlyEndedAnswer, instance_of, word_after}
 use Rattle.lft_bodies.specs.declared.done.Done.{Done}
 use Rattle.lft_pool.specs.declared.stop.Stop.{Stop}
-use Rattle.lft_pool.specs.declared.stop.Stop.TheVariants.{NoBody, Collision, UndeclaredEffect, TooManyRuns, Stranger, BodyNoMemory, NoMemory, NoWorker, PlanChanged, BadWorkers, TooManyRows, LimitTag}
 use Rattle.lft_recording.specs.Starts.{MayStart, started_count}
 use Rattle.lft_agenda.specs.Agendas.{AgendaParts, IsAgenda}
 
@@ -35,26 +34,6 @@ word_now plan t states r = word_after plan.program (instance_of plan.program r) 
 abbrev pub LacksBody : PlanParts → List Row → List ℕ → ℕ → Type 0
 LacksBody plan t left r = ((g : Tag) × MayStart plan t g r) × (slice_index left r ≡ 0)
 
--- what a kept reason says for good: what `NoBody` says, and that it is none of the reasons that no book has
-abbrev pub StopHolds : PlanParts → List Row → List ℕ → Stop → Type 0
-StopHolds plan t left (NoBody r) = LacksBody plan t left r
-StopHolds plan t left (Collision g) = Unit {0}
-StopHolds plan t left (UndeclaredEffect r) = Unit {0}
-StopHolds plan t left TooManyRuns = Unit {0}
-StopHolds plan t left Stranger = Unit {0}
-StopHolds plan t left BodyNoMemory = Unit {0}
-StopHolds plan t left NoMemory = Unit {0}
-StopHolds plan t left NoWorker = ⊥
-StopHolds plan t left PlanChanged = ⊥
-StopHolds plan t left BadWorkers = ⊥
-StopHolds plan t left TooManyRows = Unit {0}
-StopHolds plan t left LimitTag = Unit {0}
-
--- what it says where there is one
-abbrev pub ReasonHolds : PlanParts → List Row → List ℕ → Option Stop → Type 0
-ReasonHolds plan t left None = Unit {0}
-ReasonHolds plan t left (Some s) = StopHolds plan t left s
-
 -- what holds of the rows of every book
 pub record IsRecording (law : ℕ → Tag → ℤ → List (Option Value) → Done → Type 0) (plan : PlanParts) (t : List Row) (states : List (ℤ × ℤ)) : Type 0 where
   pub so_far : SoFar plan t
@@ -63,11 +42,11 @@ pub record IsRecording (law : ℕ → Tag → ℤ → List (Option Value) → Do
   pub quiet : OnlyEndedAnswer t
 
 -- what is kept beside them: the words of the instances, the number of started runs, a list of bodies for each reaction
-pub record IsKept (plan : PlanParts) (t : List Row) (states : List (ℤ × ℤ)) (words : List ℤ) (started : ℕ) (left : List ℕ) (reason : Option Stop) : Type 0 where
+pub record IsKept (plan : PlanParts) (t : List Row) (states : List (ℤ × ℤ)) (words : List ℤ) (started : ℕ) (left : List ℕ) : Type 0 where
   pub words_are : (r : ℕ) (x : Reaction) → slice_get plan.program.reactions r ≡ Some x → slice_get words x.instance ≡ Some (word_after plan.program x.instance (by_ends plan t) states)
   pub started_is : started ≡ started_count t
+  pub few_runs : started ≤ 1000000
   pub lists : length left ≡ length plan.program.reactions
-  pub why : ReasonHolds plan t left reason
 
 -- the agenda is that of the rows, until the book stops
 abbrev pub AgendaHolds : Option Stop → PlanParts → List Row → AgendaParts → Type 0

@@ -2,4 +2,5 @@ pub mod Books
 pub mod Begun
 pub mod Causes
 pub mod Answers
+pub mod Reasons
 pub mod Endings

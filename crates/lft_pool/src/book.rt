@@ -3,12 +3,13 @@
 ghost use Rattle.std.specs.Prelude.{◌≡◌, ◌<◌, ◌+◌, ◌-◌, [], length, Some, None, Err, IfOk, IfErr, IfSome, IfNone, OnOk, IsOk, IsTrue, ◌↔◌, ◌≤◌, ◌⊎◌, slice_get};
 ghost use Rattle.lft_model.specs.Plans.{PlanParts};
 ghost use Rattle.lft_model.specs.Breaches.{Legal};
-ghost use Rattle.lft_pool.specs.Books.{BookParts, IsRecording, ReasonHolds, StopHolds};
+ghost use Rattle.lft_pool.specs.Books.{BookParts, IsRecording};
+ghost use Rattle.lft_pool.specs.Reasons.{ReasonHolds, StopHolds};
 ghost use Rattle.lft_pool.specs.Begun.{MatchBegin, Started};
 ghost use Rattle.lft_pool.specs.Causes.{BeginCause, StartCause};
 ghost use Rattle.lft_recording.specs.Collisions.{CollidesFirst, IsClean};
 ghost use Rattle.lft_pool.specs.Answers.{HasTicket, HasClash, KeepsOpenRuns, Committed, CommitCause, EndCause, RefusalCause};
-ghost use Rattle.lft_recording.specs.Starts.{IsAnyOpen, IsBusy, MayStartFirst, NoneMayStart, NothingLeft, SomethingLeft};
+ghost use Rattle.lft_recording.specs.Starts.{IsAnyOpen, IsBusy, MayStartFirst, NoneMayStart, NothingLeft, SomethingLeft, started_count};
 
 use crate::states::States;
 use crate::stop::Stop;
@@ -30,8 +31,11 @@ pub const MAX_ROWS: usize = 4_000_000;
 /// What a worker is to do next.
 #[derive(Drop)]
 pub enum Begin<L: Law, C: Code + Drop = BoxedCode> {
+    /// To call the body with the ticket, outside of any lock, and to commit what comes of it.
     Run(Ticket, Body<L, C>),
+    /// To ask again once some run has ended: its own, if it has one open, else any.
     Wait,
+    /// Nothing: no reaction is left to run up to the stop.
     Finished,
 }
 
@@ -51,16 +55,18 @@ pub struct Book<L: Law, C: Code + Drop = BoxedCode> {
 }
 
 impl<L: Law, C: Code + Drop> Model for Book<L, C> {
+    ghost use Rattle.std.specs.Prelude.{None};
     ghost use Rattle.lft_pool.specs.Books.{BookParts, IsRecording, IsKept, AgendaHolds};
+    ghost use Rattle.lft_pool.specs.Reasons.{ReasonHolds};
 
     ghost Value = { BookParts };
 
     ghost view = { λ b. record { plan = b.plan; rows = b.rows; states = b.states; left = b.bodies; max_runs = b.max_runs; reason = b.reason } };
 
-    ghost invariant = { λ b. IsRecording L.holds b.plan b.rows b.states × IsKept b.plan b.rows b.states b.words.items b.started b.bodies b.reason × AgendaHolds b.reason b.plan b.rows b.agenda };
+    ghost invariant = { λ b. IsRecording L.holds b.plan b.rows b.states × IsKept b.plan b.rows b.states b.words.items b.started b.bodies × AgendaHolds b.reason b.plan b.rows b.agenda × ReasonHolds L.holds (record { plan = b.plan; rows = b.rows; states = b.states; left = b.bodies; max_runs = b.max_runs; reason = None }) b.reason };
 }
 
-/// What a book hands back.
+/// What a book hands back; `started` is how many runs have started.
 #[derive(Drop)]
 pub struct Closed<L: Law, C: Code + Drop = BoxedCode> {
     pub reason: Option<Stop>,
@@ -68,9 +74,11 @@ pub struct Closed<L: Law, C: Code + Drop = BoxedCode> {
     pub rows: Rows,
     pub states: States,
     pub left: Bodies<L, C>,
+    pub started: u32,
 }
 
-/// A recording that stopped.
+/// A recording that stopped: its plan, the rows so far, the words before and after each ended run,
+/// and the bodies that weren't taken.
 #[derive(Drop)]
 pub struct Stopped<L: Law, C: Code + Drop = BoxedCode> {
     pub reason: Stop,
@@ -288,7 +296,8 @@ impl<L: Law, C: Code + Drop> Book<L, C> {
 
     // Keeps the reason, and gives it.
     fn stop(&mut self, reason: Stop) -> Stop
-        requires { StopHolds self.old.plan self.old.rows self.old.left reason }
+        requires going { self.old.reason ≡ None }
+        requires holds { StopHolds L.holds self.old reason }
         ensures same { result ≡ reason }
         ensures kept { self.new ≡ record self.old { reason = Some reason } }
     {
@@ -301,7 +310,9 @@ impl<L: Law, C: Code + Drop> Book<L, C> {
         ensures same { (result.plan ≡ self.plan) × (result.rows ≡ self.rows) × (result.states ≡ self.states) × (result.left ≡ self.left) × (result.reason ≡ self.reason) }
         ensures recording { IsRecording L.holds self.plan self.rows self.states }
         ensures lists { length self.left ≡ length self.plan.program.reactions }
-        ensures why { ReasonHolds self.plan self.rows self.left self.reason }
+        ensures started { result.started ≡ started_count self.rows }
+        ensures few_runs { started_count self.rows ≤ 1000000 }
+        ensures why { ReasonHolds L.holds (record self { reason = None }) self.reason }
     {
         let Book {
             alloc: _,
@@ -310,7 +321,7 @@ impl<L: Law, C: Code + Drop> Book<L, C> {
             states,
             words: _,
             bodies,
-            started: _,
+            started,
             max_runs: _,
             reason,
             agenda: _,
@@ -321,6 +332,7 @@ impl<L: Law, C: Code + Drop> Book<L, C> {
             rows,
             states,
             left: bodies,
+            started,
         }
     }
 }

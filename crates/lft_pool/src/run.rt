@@ -1,14 +1,14 @@
 //! Many workers over one book.
 
-ghost use Rattle.std.specs.Prelude.{◌≡◌, ◌≢◌, ◌↔◌, ◌⊎◌, [], length, IfOk, IfErr, IfNone, IfSome, IsTrue, true, false, Some, is_ok};
+ghost use Rattle.std.specs.Prelude.{◌≡◌, ◌≢◌, ◌↔◌, ◌⊎◌, ◌≤◌, [], length, IfOk, IfErr, IfNone, IfSome, IsTrue, true, false, Some, None, is_ok};
 ghost use Rattle.lft_model.specs.Breaches.{Legal};
-ghost use Rattle.lft_recording.specs.Starts.{SomethingLeft};
+ghost use Rattle.lft_recording.specs.Starts.{SomethingLeft, started_count};
 ghost use Rattle.lft_pool.specs.Books.{IsRecording, LacksBody};
 ghost use Rattle.lft_pool.specs.Begun.{MatchBegin};
 ghost use Rattle.lft_model.specs.Workers.{IsWorkers};
-ghost use Rattle.lft_pool.specs.Endings.{ReasonIs};
+ghost use Rattle.lft_pool.specs.Endings.{ReasonIs, WhyStopped};
 
-use crate::book::{Begin, Book, Closed, Stopped};
+use crate::book::{Begin, Book, Closed, MAX_RUNS, Stopped};
 use crate::states::States;
 use crate::stop::Stop;
 use lft_bodies::{Bodies, BoxedCode, Code, Law};
@@ -22,7 +22,8 @@ use std::thread::Threads;
 /// The greatest number of workers.
 pub const MAX_WORKERS: u32 = 64;
 
-/// A recording that was finished.
+/// A recording that came to its stop: its plan, the rows, the words before and after each ended run,
+/// and the bodies that weren't taken.
 #[derive(Drop)]
 pub struct Recorded<L: Law, C: Code + Drop = BoxedCode> {
     pub plan: Plan,
@@ -89,24 +90,34 @@ fn work_all<L: Law + Send, C: Code + Drop + Send, R: Threads + Wait + Sync>(
     })
 }
 
-// Why the recording isn't finished, if it isn't: another plan, a thread that could not be started,
-// the book's own reason.
+// Why the recording isn't finished, if it isn't: another plan, too many runs, a thread that could not
+// be started, the book's own reason.
 fn reason_of<L: Law, C: Code + Drop>(
     same: bool,
     all: bool,
+    started: u32,
+    max_runs: u32,
     last: Result<Begin<L, C>, Stop>,
 ) -> Option<Stop>
     ensures none { IfNone result ((same ≡ true) × (all ≡ true) × IfOk last (λ b. MatchBegin b (λ _ _. ⊥) ⊥ (Unit {0})) × (is_ok last ≡ true)) }
+    ensures few { IfNone result (started ≤ max_runs) }
+    ensures few_stopped { IfSome result (λ s. s ≢ Stop.PlanChanged → s ≢ Stop.TooManyRuns → started ≤ max_runs) }
     ensures changed { same ≡ false → result ≡ Some Stop.PlanChanged }
-    ensures some { IfSome result (λ s. ReasonIs same last s) }
+    ensures some { IfSome result (λ s. ReasonIs same started max_runs last s) }
 {
     if !same {
         return Some(Stop::PlanChanged);
+    }
+    if started > max_runs {
+        return Some(Stop::TooManyRuns);
     }
     if !all {
         return Some(Stop::NoWorker);
     }
     match last {
+        Err(Stop::TooManyRuns) if started < max_runs && started < MAX_RUNS => {
+            Some(Stop::PlanChanged)
+        }
         Err(stop) => Some(stop),
         Ok(Begin::Finished) => None,
         Ok(_) => Some(Stop::PlanChanged),
@@ -143,7 +154,8 @@ fn is_workers(workers: u32) -> bool
     1 <= workers && workers <= MAX_WORKERS
 }
 
-/// Records the plan with so many workers, at most so many runs, if it returns.
+/// Records the plan with so many workers, 1 to 64, and at most so many runs. The caller is worker 0,
+/// and each other worker has a thread of its own. It doesn't return while a body doesn't.
 pub fn record_run<L: Law + Send, C: Code + Drop + Send, R: Threads + Wait + Sync>(
     rt: &R,
     alloc: Global,
@@ -164,6 +176,9 @@ pub fn record_run<L: Law + Send, C: Code + Drop + Send, R: Threads + Wait + Sync
     ensures no_body { IfErr result (λ s. (r : _) → s.reason ≡ Stop.NoBody r → LacksBody s.plan s.rows s.left r) }
     ensures workers { IfOk result (λ r. IsWorkers workers) }
     ensures bad { IfErr result (λ s. (IsWorkers workers → ⊥) → s.reason ≡ Stop.BadWorkers) }
+    ensures few { IfOk result (λ r. (started_count r.rows ≤ max_runs) × (started_count r.rows ≤ 1000000)) }
+    ensures few_stopped { IfErr result (λ s. s.reason ≢ Stop.PlanChanged → s.reason ≢ Stop.TooManyRuns → started_count s.rows ≤ max_runs) }
+    ensures why { IfErr result (λ s. WhyStopped L.holds (record { plan = s.plan; rows = s.rows; states = s.states; left = s.left; max_runs = max_runs; reason = None }) s.reason) }
     ensures unbegun { IfErr result (λ s. s.reason ≡ Stop.BadWorkers → (IsWorkers workers → ⊥) × (s.rows ≡ []) × (s.states ≡ []) × (s.left ≡ bodies)) }
 {
     if !is_workers(workers) {
@@ -195,9 +210,10 @@ pub fn record_run<L: Law + Send, C: Code + Drop + Send, R: Threads + Wait + Sync
         rows,
         states,
         left,
+        started,
     } = book.close();
     let same = kept.same(&plan);
-    match reason_of(same, all, last) {
+    match reason_of(same, all, started, max_runs, last) {
         None => Ok(Recorded {
             plan,
             rows,

@@ -19,16 +19,16 @@ abbrev pub any_answer : AnswerLaw
 any_answer r g word reads done = Unit {0}
 
 -- the one plan of the first two texts was recorded to its stop, with the cards of the third
-pub record IsAnswer (program externals cards : List ℕ) (workers : ℕ) (old new : Option (List ℕ)) : Type 0 where
+pub record IsAnswer (program externals cards : List ℕ) (workers max_runs : ℕ) (old new : Option (List ℕ)) : Type 0 where
   pub plan : PlanParts
   pub scripts : List Script
   pub is_plan : IsOnly (IsPlanOf program externals) plan
   pub are_cards : CardTable plan.program (records_of cards) scripts
-  pub recorded : IsRecorded any_answer plan workers old new
+  pub recorded : IsRecorded any_answer plan workers max_runs old new
 
 -- the three texts weren't recorded: the first two have no plan, the third is no table of cards, a growth was refused, or the recording of the plan ended before
-pub data AnswerRefusal (program externals cards : List ℕ) (workers : ℕ) (old new : Option (List ℕ)) (f : Fault) : Type 0 where
-  by_load : LoadRefusal program externals f → Keeps old new → AnswerRefusal program externals cards workers old new f
-  by_cards : (e : CardFault) (plan : PlanParts) → f.part ≡ part.Cards → f.number ≡ card_number e → IsPlanOf program externals plan → (is_told e ≡ true → CardsFail plan.program (records_of cards) e) → Keeps old new → AnswerRefusal program externals cards workers old new f
-  by_growth : f.part ≡ part.Memory → f.number ≡ 1 → Keeps old new → AnswerRefusal program externals cards workers old new f
-  by_recording : (plan : PlanParts) (scripts : List Script) → IsOnly (IsPlanOf program externals) plan → CardTable plan.program (records_of cards) scripts → RecordRefusal any_answer plan workers old new f → AnswerRefusal program externals cards workers old new f
+pub data AnswerRefusal (program externals cards : List ℕ) (workers max_runs : ℕ) (old new : Option (List ℕ)) (f : Fault) : Type 0 where
+  by_load : LoadRefusal program externals f → Keeps old new → AnswerRefusal program externals cards workers max_runs old new f
+  by_cards : (e : CardFault) (plan : PlanParts) → f.part ≡ part.Cards → f.number ≡ card_number e → IsPlanOf program externals plan → (is_told e ≡ true → CardsFail plan.program (records_of cards) e) → Keeps old new → AnswerRefusal program externals cards workers max_runs old new f
+  by_growth : f.part ≡ part.Memory → f.number ≡ 1 → Keeps old new → AnswerRefusal program externals cards workers max_runs old new f
+  by_recording : (plan : PlanParts) (scripts : List Script) → IsOnly (IsPlanOf program externals) plan → CardTable plan.program (records_of cards) scripts → RecordRefusal any_answer plan workers max_runs old new f → AnswerRefusal program externals cards workers max_runs old new f

@@ -1,5 +1,5 @@
 -- What a recording writes, and why it ends before its plan.
-use Rattle.std.specs.Prelude.{◌≡◌, ◌≢◌, ◌⊎◌, ℕ, ℤ, List, [], Option}
+use Rattle.std.specs.Prelude.{◌≡◌, ◌≢◌, ◌≤◌, ◌⊎◌, ℕ, ℤ, List, [], Option, None}
 use Rattle.std.specs.Io.KnownBytes.{Appends, Keeps}
 use Rattle.lft_tag.specs.declared.Tag.{Tag}
 use Rattle.lft_flat.specs.Parts.{Parts}
@@ -12,8 +12,9 @@ use Rattle.lft_model.specs.Breaches.{Legal}
 use Rattle.lft_model.specs.Plans.{PlanParts}
 use Rattle.lft_model.specs.Workers.{IsWorkers}
 use Rattle.lft_bodies.specs.declared.done.Done.{Done}
-use Rattle.lft_recording.specs.Starts.{SomethingLeft}
+use Rattle.lft_recording.specs.Starts.{SomethingLeft, started_count}
 use Rattle.lft_pool.specs.Books.{IsRecording, LacksBody}
+use Rattle.lft_pool.specs.Endings.{WhyStopped}
 use Rattle.lft_pool.specs.declared.stop.Stop.{Stop}
 use Rattle.lft_pool.specs.declared.stop.Stop.TheVariants as stop
 use Rattle.lft_load.specs.Written.{AppendsFront}
@@ -37,17 +38,22 @@ pub data TableRefusal (program : Parts) (rows : List Row) (old new : Option (Lis
   by_growth : f.part ≡ part.Memory → f.number ≡ 1 → Keeps old new → TableRefusal program rows old new f
   by_writer : f.part ≡ part.Write → f.number ≡ 1 → AppendsFront old new (table_text program rows) → TableRefusal program rows old new f
 
--- the plan was recorded to its stop by a lawful number of workers: the table of legal rows was written, whose ended runs follow the law
-pub record IsRecorded (law : AnswerLaw) (plan : PlanParts) (workers : ℕ) (old new : Option (List ℕ)) : Type 0 where
-  pub rows : List Row
+-- the plan was recorded to its stop as legal rows by a lawful number of workers, in no more runs than are allowed, and the ended runs follow the law
+pub record IsWhole (law : AnswerLaw) (plan : PlanParts) (workers max_runs : ℕ) (rows : List Row) : Type 0 where
   pub states : List (ℤ × ℤ)
   pub workers_are : IsWorkers workers
   pub legal : Legal plan rows
   pub recording : IsRecording law plan rows states
+  pub few : started_count rows ≤ max_runs
+
+-- the plan was recorded to its stop, and the table of the rows was written
+pub record IsRecorded (law : AnswerLaw) (plan : PlanParts) (workers max_runs : ℕ) (old new : Option (List ℕ)) : Type 0 where
+  pub rows : List Row
+  pub whole : IsWhole law plan workers max_runs rows
   pub written : Writes plan.program rows old new
 
--- the recording stopped at these rows, for this reason, with so many bodies of each reaction left; the rows are of the plan unless the reason is that it isn't the one given, and there are none where the number of workers isn't lawful, which is told exactly then; a reaction that has no body left may start
-pub record StopsAt (law : AnswerLaw) (plan : PlanParts) (workers : ℕ) (reason : Stop) (end : PlanParts) (rows : List Row) : Type 0 where
+-- the recording stopped at these rows, for this reason, with so many bodies of each reaction left; the rows are of the plan unless the reason is that it isn't the one given, and there are none where the number of workers isn't lawful, which is told exactly then; a reaction that has no body left may start, and other reasons hold as well
+pub record StopsAt (law : AnswerLaw) (plan : PlanParts) (workers max_runs : ℕ) (reason : Stop) (end : PlanParts) (rows : List Row) : Type 0 where
   pub states : List (ℤ × ℤ)
   pub left : List ℕ
   pub recording : IsRecording law end rows states
@@ -56,9 +62,12 @@ pub record StopsAt (law : AnswerLaw) (plan : PlanParts) (workers : ℕ) (reason 
   pub unbegun : reason ≡ stop.BadWorkers → (IsWorkers workers → ⊥) × (rows ≡ [])
   pub no_body : (r : ℕ) → reason ≡ stop.NoBody r → LacksBody end rows left r
   pub changed : reason ≡ stop.PlanChanged → (end ≢ plan) ⊎ SomethingLeft end rows
+  pub few : reason ≢ stop.PlanChanged → reason ≢ stop.TooManyRuns → started_count rows ≤ max_runs
+  pub why : WhyStopped law (record { plan = end; rows = rows; states = states; left = left; max_runs = max_runs; reason = None }) reason
 
--- the plan wasn't recorded to its stop: the recording stopped and the table of its rows so far was written, or a table wasn't written
-pub data RecordRefusal (law : AnswerLaw) (plan : PlanParts) (workers : ℕ) (old new : Option (List ℕ)) (f : Fault) : Type 0 where
-  by_stop : (reason : Stop) (end : PlanParts) (rows : List Row) → f.part ≡ part.Pool → f.number ≡ stop_number reason → StopsAt law plan workers reason end rows → Writes end.program rows old new → RecordRefusal law plan workers old new f
-  by_growth : f.part ≡ part.Memory → f.number ≡ 1 → Keeps old new → RecordRefusal law plan workers old new f
-  by_writer : (end : PlanParts) (rows : List Row) (states : List (ℤ × ℤ)) → f.part ≡ part.Write → f.number ≡ 1 → IsRecording law end rows states → AppendsFront old new (table_text end.program rows) → RecordRefusal law plan workers old new f
+-- the plan wasn't recorded to its stop, or its table wasn't written: the recording stopped and the table of its rows so far was written, or a growth was refused and nothing was, or the writer failed, and took a front of the table of the whole recording or of the rows so far
+pub data RecordRefusal (law : AnswerLaw) (plan : PlanParts) (workers max_runs : ℕ) (old new : Option (List ℕ)) (f : Fault) : Type 0 where
+  by_stop : (reason : Stop) (end : PlanParts) (rows : List Row) → f.part ≡ part.Pool → f.number ≡ stop_number reason → StopsAt law plan workers max_runs reason end rows → Writes end.program rows old new → RecordRefusal law plan workers max_runs old new f
+  by_growth : f.part ≡ part.Memory → f.number ≡ 1 → Keeps old new → RecordRefusal law plan workers max_runs old new f
+  by_writer : (rows : List Row) → f.part ≡ part.Write → f.number ≡ 1 → IsWhole law plan workers max_runs rows → AppendsFront old new (table_text plan.program rows) → RecordRefusal law plan workers max_runs old new f
+  by_stop_and_writer : (reason : Stop) (end : PlanParts) (rows : List Row) → f.part ≡ part.Write → f.number ≡ 1 → StopsAt law plan workers max_runs reason end rows → AppendsFront old new (table_text end.program rows) → RecordRefusal law plan workers max_runs old new f

@@ -27,8 +27,8 @@ pub fn record_answer<R: Threads + Wait + Sync, W: Write>(
     out: &mut W,
 ) -> Result<bool, Fault>
     ensures yes { IfOk result (λ recorded. recorded ≡ true) }
-    ensures recorded { IfOk result (λ recorded. IsAnswer program.now externals.now cards.now workers (W.contents out.old) (W.contents out.new)) }
-    ensures refused { IfErr result (AnswerRefusal program.now externals.now cards.now workers (W.contents out.old) (W.contents out.new)) }
+    ensures recorded { IfOk result (λ recorded. IsAnswer program.now externals.now cards.now workers max_runs (W.contents out.old) (W.contents out.new)) }
+    ensures refused { IfErr result (AnswerRefusal program.now externals.now cards.now workers max_runs (W.contents out.old) (W.contents out.new)) }
 {
     let plan = match load(alloc, program, externals) {
         Ok(plan) => plan,

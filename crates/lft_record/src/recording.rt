@@ -28,8 +28,8 @@ pub fn record_to<L: Law + Send, C: Code + Drop + Send, R: Threads + Wait + Sync,
     out: &mut W,
 ) -> Result<(), Fault>
     requires { length bodies ≡ length plan.program.reactions }
-    ensures recorded { OnOk result (IsRecorded L.holds plan workers (W.contents out.old) (W.contents out.new)) }
-    ensures refused { IfErr result (RecordRefusal L.holds plan workers (W.contents out.old) (W.contents out.new)) }
+    ensures recorded { OnOk result (IsRecorded L.holds plan workers max_runs (W.contents out.old) (W.contents out.new)) }
+    ensures refused { IfErr result (RecordRefusal L.holds plan workers max_runs (W.contents out.old) (W.contents out.new)) }
 {
     match record_run(rt, alloc, plan, bodies, workers, max_runs) {
         Ok(recorded) => write_rows(alloc, &recorded.plan, &recorded.rows, out),

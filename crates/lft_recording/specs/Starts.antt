@@ -39,7 +39,7 @@ IsBusy t w = (g : Tag) × (r : ℕ) × IsOpen t (length t) w g r
 abbrev pub IsAnyOpen : List Row → Type 0
 IsAnyOpen t = (w : ℕ) × IsBusy t w
 
--- how many runs have started
+-- the step, where it is that of a start row
 abbrev pub started_row : Step → Option Step
 started_row Start = Some Start
 started_row (Read n v) = None
@@ -48,5 +48,6 @@ started_row (Schedule n v d) = None
 started_row Stop = None
 started_row End = None
 
+-- how many runs have started
 abbrev pub started_count : List Row → ℕ
 started_count t = length (filter_map (λ row. started_row row.step) t)

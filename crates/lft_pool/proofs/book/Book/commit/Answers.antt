@@ -5,6 +5,7 @@ use Rattle.lft_bodies.specs.declared.done.Done.{Done}
 use Rattle.lft_pool.specs.declared.stop.Stop.{Stop}
 use Rattle.lft_bodies.specs.declared.ticket.Ticket.{Ticket}
 use Rattle.lft_pool.specs.Answers.{HasTicket, EndCause, CommitCause}
+use Rattle.lft_pool.specs.Reasons.StopHolds.{by_commit}
 use Rattle.lft_pool.proofs.Refusals.{commit_cause, if_err, is_err_of}
 use Rattle.lft_pool.proofs.book.Book.commit.Goals as goal
 
@@ -30,3 +31,16 @@ returns-clause-cause g c =
     let iff : IsTrue c.has_ticket.result ↔ HasTicket c.args.self.now k = search rules in
     let has : HasTicket c.args.self.now k = iff.0 (search rules) in
     if_err c.end.result (λ s. EndCause c.args.self.now k c.in-Ok.done s) (λ s. c.args.self.now.reason ≡ None → CommitCause c.args.self.now c.args.answered.0 c.args.answered.1 s) (λ s h going. subst (λ (p : Ticket × Result Done NoMemory). CommitCause c.args.self.now p.0 p.1 s) c.into_parts-ticket.ensures.same (subst (λ (r : Result Done NoMemory). CommitCause c.args.self.now k r s) (sym c.in-Ok.is) (commit_cause c.args.self.now k c.in-Ok.done s has h))) (search rules)
+
+pub stop-requires-clause-holds : goal.stop-requires-clause-holds
+stop-requires-clause-holds g c =
+    let k = c.into_parts-ticket.result.0 in
+    let iff : IsTrue c.has_ticket.result ↔ HasTicket c.args.self.now k = search rules in
+    by_commit k c.into_parts-ticket.result.1 c.into_parts-ticket.ensures.lawful (λ h. false≢true (sym c.if-not-has_ticket.true ∙ iff.1 h))
+
+pub stop-requires-in_default-answer-clause-holds : goal.stop-requires-in_default-answer-clause-holds
+stop-requires-in_default-answer-clause-holds g c =
+    let k = c.into_parts-ticket.result.0 in
+    let iff : IsTrue c.has_ticket.result ↔ HasTicket c.args.self.now k = search rules in
+    let has : HasTicket c.args.self.now k = iff.0 (search rules) in
+    by_commit k c.into_parts-ticket.result.1 c.into_parts-ticket.ensures.lawful (has, is_err_of c.into_parts-ticket.result.1 c.in_default-answer.not-Ok)

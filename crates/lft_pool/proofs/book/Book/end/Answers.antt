@@ -1,4 +1,4 @@
-use Rattle.std.proofs.Common.{◌≡◌, ◌∙◌, ◌<◌, ◌≤◌, ◌++◌, ◌∷◌, [], ℕ, ℤ, List, Option, Some, None, length, take, slice_get, slice_set, sym, ap, subst, rules, unwrap_or, option_map, cond, ◌==◌}
+use Rattle.std.proofs.Common.{◌≡◌, ◌∙◌, ◌<◌, ◌≤◌, ◌++◌, ◌∷◌, [], ℕ, ℤ, List, Option, Some, None, length, take, slice_get, slice_set, refl, sym, ap, subst, rules, unwrap_or, option_map, cond, ◌==◌}
 use Rattle.std.proofs.Math.Seq.{take-append_seam}
 use Rattle.lft_lists.proofs.Members.{mem_get}
 use Rattle.lft_trace.specs.declared.row.Row.{Row}
@@ -10,12 +10,13 @@ use Rattle.lft_model.specs.Runs.{by_ends, reads_at}
 use Rattle.lft_model.specs.Recorded.{committed_rows, instance_of, word_after}
 use Rattle.lft_model.proofs.Places.{slice_get_within}
 use Rattle.lft_pool.specs.declared.stop.Stop.{Stop}
-use Rattle.lft_pool.specs.declared.stop.Stop.TheVariants.{NoMemory}
-use Rattle.lft_pool.specs.Books.{BookParts, IsRecording, IsKept, StopHolds, AgendaHolds}
+use Rattle.lft_pool.specs.declared.stop.Stop.TheVariants.{NoMemory, UndeclaredEffect, LimitTag}
+use Rattle.lft_pool.specs.Books.{BookParts, IsRecording, IsKept, AgendaHolds}
+use Rattle.lft_pool.specs.Reasons.{StopHolds, ReasonHolds}
 use Rattle.lft_recording.specs.Answering.{MayAll, HasLongDelay}
 use Rattle.lft_recording.specs.Collisions.{IsClean}
 use Rattle.lft_pool.specs.Answers.{HasTicket, HasClash, KeepsOpenRuns, RefusalCause, EndCause, Committed, with_answer}
-use Rattle.lft_pool.proofs.Refusals.{refusal_holds, end_cause, may_mem, short_mem, answer_fits, set_words, ends_clash, ends_clean}
+use Rattle.lft_pool.proofs.Refusals.{memory_holds, before_it, holds_by_end, end_cause, may_mem, short_mem, answer_fits, set_words, ends_clash, ends_clean}
 use Rattle.lft_pool.proofs.Finishing.{if_some}
 use Rattle.lft_pool.proofs.Commuting.{keeps_open_runs}
 use Rattle.lft_pool.proofs.CommittedRun.{committed_recording, word_more, committed_count}
@@ -54,8 +55,9 @@ invariant_of-self-in_default-end g c =
     let t = c.self.inside.rows in
     let more : c.append.new.self ≡ t ++ c.as_slice.result.now = search rules in
     let back : c.truncate.new.self ≡ t = c.truncate.ensures ∙ ap (λ (xs : List Row). take (length xs) c.append.new.self) c.as_slice-before.ensures ∙ ap (λ (xs : List Row). take (length t) xs) more ∙ take-append_seam t c.as_slice.result.now in
-    let kept : IsKept plan t c.self.inside.states c.self.inside.words.items c.self.inside.started c.self.inside.bodies (Some NoMemory) = record { words_are = c.self.invariant.1.words_are; started_is = c.self.invariant.1.started_is; lists = c.self.invariant.1.lists; why = tt } in
-    subst (λ (ts : List Row). IsRecording g.L.Law.holds plan ts c.self.inside.states × IsKept plan ts c.self.inside.states c.self.inside.words.items c.self.inside.started c.self.inside.bodies (Some NoMemory) × Unit {0}) (sym back) (c.self.invariant.0, kept, tt)
+    let kept : IsKept plan t c.self.inside.states c.self.inside.words.items c.self.inside.started c.self.inside.bodies = record { words_are = c.self.invariant.1.words_are; started_is = c.self.invariant.1.started_is; few_runs = c.self.invariant.1.few_runs; lists = c.self.invariant.1.lists } in
+    let book : List Row → List (ℤ × ℤ) → BookParts = λ ts us. record { plan = plan; rows = ts; states = us; left = c.self.inside.bodies; max_runs = c.self.inside.max_runs; reason = None } in
+    subst (λ (ts : List Row). IsRecording g.L.Law.holds plan ts c.self.inside.states × IsKept plan ts c.self.inside.states c.self.inside.words.items c.self.inside.started c.self.inside.bodies × Unit {0} × StopHolds g.L.Law.holds (book ts c.self.inside.states) NoMemory) (sym back) (c.self.invariant.0, kept, tt, memory_holds g.L.Law.holds (book t c.self.inside.states))
 
 pub invariant_of-self-in-Some : goal.invariant_of-self-in-Some
 invariant_of-self-in-Some g c =
@@ -83,9 +85,13 @@ invariant_of-self-in-Some g c =
     let clash : HasClash plan c.append.new.self c.in-Ok-end.clash = subst (λ (ts : List Row). HasClash plan ts c.in-Ok-end.clash) (sym grown0) (ends_clash plan t k.worker k.tag k.reaction ss c.end.new.self c.in-Ok-end.clash ending) in
     let cause0 : RefusalCause plan c.append.new.self c.in-Some.reason = if_some c.refusal.result c.in-Some.reason (λ s. RefusalCause plan c.append.new.self s) c.in-Some.is (c.refusal.ensures.some plan clash) in
     let back : c.truncate-in-Some.new.self ≡ t = c.truncate-in-Some.ensures ∙ ap (λ (xs : List Row). take (length xs) c.append.new.self) c.as_slice-before.ensures ∙ ap (λ (xs : List Row). take (length t) xs) more ∙ take-append_seam t c.as_slice.result.now in
-    let why : StopHolds plan t c.self.inside.bodies c.in-Some.reason = refusal_holds plan c.append.new.self t c.self.inside.bodies c.in-Some.reason cause0 in
-    let kept : IsKept plan t states c.self.inside.words.items c.self.inside.started c.self.inside.bodies (Some c.in-Some.reason) = record { words_are = c.self.invariant.1.words_are; started_is = c.self.invariant.1.started_is; lists = c.self.invariant.1.lists; why = why } in
-    subst (λ (ts : List Row). IsRecording g.L.Law.holds plan ts states × IsKept plan ts states c.self.inside.words.items c.self.inside.started c.self.inside.bodies (Some c.in-Some.reason) × Unit {0}) (sym back) (c.self.invariant.0, kept, tt)
+    let may : MayAll plan k.reaction d.steps = subst (λ (us : List Step). MayAll plan k.reaction us) st may0 in
+    let short : ¬ HasLongDelay d.steps = subst (λ (us : List Step). ¬ HasLongDelay us) st short0 in
+    let cause : RefusalCause plan (with_answer old k d) c.in-Some.reason = subst (λ (ts : List Row). RefusalCause plan ts c.in-Some.reason) grown cause0 in
+    let book : List Row → BookParts = λ ts. record { plan = plan; rows = ts; states = states; left = c.self.inside.bodies; max_runs = c.self.inside.max_runs; reason = None } in
+    let why : StopHolds g.L.Law.holds (book t) c.in-Some.reason = before_it g.L.Law.holds old c.in-Some.reason none (holds_by_end g.L.Law.holds old k d c.in-Some.reason c.requires.lawful has (end_cause old k d c.in-Some.reason may short cause)) in
+    let kept : IsKept plan t states c.self.inside.words.items c.self.inside.started c.self.inside.bodies = record { words_are = c.self.invariant.1.words_are; started_is = c.self.invariant.1.started_is; few_runs = c.self.invariant.1.few_runs; lists = c.self.invariant.1.lists } in
+    subst (λ (ts : List Row). IsRecording g.L.Law.holds plan ts states × IsKept plan ts states c.self.inside.words.items c.self.inside.started c.self.inside.bodies × Unit {0} × StopHolds g.L.Law.holds (book ts) c.in-Some.reason) (sym back) (c.self.invariant.0, kept, tt, why)
 
 pub returns-in-Some-clause-cause : goal.returns-in-Some-clause-cause
 returns-in-Some-clause-cause g c =
@@ -124,8 +130,9 @@ invariant_of-self-in_default-push g c =
     let more : c.append.new.self ≡ t ++ c.as_slice.result.now = search rules in
     let back : c.truncate-in_default-push.new.self ≡ t = c.truncate-in_default-push.ensures ∙ ap (λ (xs : List Row). take (length xs) c.append.new.self) c.as_slice-before.ensures ∙ ap (λ (xs : List Row). take (length t) xs) more ∙ take-append_seam t c.as_slice.result.now in
     let same : c.push.new.self ≡ c.self.inside.states = search rules in
-    let kept : IsKept plan t c.self.inside.states c.self.inside.words.items c.self.inside.started c.self.inside.bodies (Some NoMemory) = record { words_are = c.self.invariant.1.words_are; started_is = c.self.invariant.1.started_is; lists = c.self.invariant.1.lists; why = tt } in
-    subst (λ (ws : List (ℤ × ℤ)). IsRecording g.L.Law.holds plan c.truncate-in_default-push.new.self ws × IsKept plan c.truncate-in_default-push.new.self ws c.self.inside.words.items c.self.inside.started c.self.inside.bodies (Some NoMemory) × Unit {0}) (sym same) (subst (λ (ts : List Row). IsRecording g.L.Law.holds plan ts c.self.inside.states × IsKept plan ts c.self.inside.states c.self.inside.words.items c.self.inside.started c.self.inside.bodies (Some NoMemory) × Unit {0}) (sym back) (c.self.invariant.0, kept, tt))
+    let kept : IsKept plan t c.self.inside.states c.self.inside.words.items c.self.inside.started c.self.inside.bodies = record { words_are = c.self.invariant.1.words_are; started_is = c.self.invariant.1.started_is; few_runs = c.self.invariant.1.few_runs; lists = c.self.invariant.1.lists } in
+    let book : List Row → List (ℤ × ℤ) → BookParts = λ ts us. record { plan = plan; rows = ts; states = us; left = c.self.inside.bodies; max_runs = c.self.inside.max_runs; reason = None } in
+    subst (λ (ws : List (ℤ × ℤ)). IsRecording g.L.Law.holds plan c.truncate-in_default-push.new.self ws × IsKept plan c.truncate-in_default-push.new.self ws c.self.inside.words.items c.self.inside.started c.self.inside.bodies × Unit {0} × StopHolds g.L.Law.holds (book c.truncate-in_default-push.new.self ws) NoMemory) (sym same) (subst (λ (ts : List Row). IsRecording g.L.Law.holds plan ts c.self.inside.states × IsKept plan ts c.self.inside.states c.self.inside.words.items c.self.inside.started c.self.inside.bodies × Unit {0} × StopHolds g.L.Law.holds (book ts c.self.inside.states) NoMemory) (sym back) (c.self.invariant.0, kept, tt, memory_holds g.L.Law.holds (book t c.self.inside.states)))
 
 pub set_word-requires : goal.set_word-requires
 set_word-requires g c =
@@ -173,16 +180,17 @@ invariant_of-self-2 g c =
     let place : instance_of plan.program k.reaction ≡ x.instance = ap (λ (o : Option Reaction). unwrap_or (option_map (λ u. u.instance) o) 0) of in
     let l : x.instance < length c.self.inside.words.items = slice_get_within c.self.inside.words.items x.instance (word_after plan.program x.instance (by_ends plan t) states) (c.self.invariant.1.words_are k.reaction x of) in
     let words : c.set_word.new.words.items ≡ slice_set c.self.inside.words.items x.instance d.state = search rules in
-    let kept : IsKept plan (t ++ committed_rows k.worker k.tag k.reaction d.steps) (states ++ (k.state, d.state) ∷ []) (slice_set c.self.inside.words.items x.instance d.state) c.self.inside.started c.self.inside.bodies None = record {
+    let kept : IsKept plan (t ++ committed_rows k.worker k.tag k.reaction d.steps) (states ++ (k.state, d.state) ∷ []) (slice_set c.self.inside.words.items x.instance d.state) c.self.inside.started c.self.inside.bodies = record {
       words_are = λ r y e. set_words c.self.inside.words.items x.instance y.instance d.state (word_after plan.program y.instance (by_ends plan t) states) l (c.self.invariant.1.words_are r y e) ∙ ap (λ (i : ℕ). Some (cond (i == y.instance) d.state (word_after plan.program y.instance (by_ends plan t) states))) (sym place) ∙ ap (λ z. Some z) (sym (word_more g.L.Law.holds plan good t states c.self.invariant.0 k.worker k.tag k.reaction has.open_run d.steps (may_mem plan k.reaction d.steps may) k.state d.state has.word_is lawful y.instance));
       started_is = c.self.invariant.1.started_is ∙ sym (committed_count plan t k.worker k.tag k.reaction d.steps (may_mem plan k.reaction d.steps may));
+      few_runs = c.self.invariant.1.few_runs;
       lists = c.self.invariant.1.lists;
-      why = tt;
     } in
-    subst (λ (o : Option Stop). IsRecording g.L.Law.holds plan c.append.new.self c.push.new.self × IsKept plan c.append.new.self c.push.new.self c.set_word.new.words.items c.self.inside.started c.self.inside.bodies o × AgendaHolds o plan c.append.new.self c.end.new.self) (sym none)
-    (subst (λ (ws : List ℤ). IsRecording g.L.Law.holds plan c.append.new.self c.push.new.self × IsKept plan c.append.new.self c.push.new.self ws c.self.inside.started c.self.inside.bodies None × IsAgenda plan c.append.new.self c.end.new.self) (sym words)
-    (subst (λ (us : List (ℤ × ℤ)). IsRecording g.L.Law.holds plan c.append.new.self us × IsKept plan c.append.new.self us (slice_set c.self.inside.words.items x.instance d.state) c.self.inside.started c.self.inside.bodies None × IsAgenda plan c.append.new.self c.end.new.self) (sym pushed)
-    (subst (λ (ts : List Row). IsRecording g.L.Law.holds plan ts (states ++ (k.state, d.state) ∷ []) × IsKept plan ts (states ++ (k.state, d.state) ∷ []) (slice_set c.self.inside.words.items x.instance d.state) c.self.inside.started c.self.inside.bodies None × IsAgenda plan ts c.end.new.self) (sym grown) (all, kept, ended.1 all.so_far))))
+    let book : List Row → List (ℤ × ℤ) → BookParts = λ ts us. record { plan = plan; rows = ts; states = us; left = c.self.inside.bodies; max_runs = c.self.inside.max_runs; reason = None } in
+    subst (λ (o : Option Stop). IsRecording g.L.Law.holds plan c.append.new.self c.push.new.self × IsKept plan c.append.new.self c.push.new.self c.set_word.new.words.items c.self.inside.started c.self.inside.bodies × AgendaHolds o plan c.append.new.self c.end.new.self × ReasonHolds g.L.Law.holds (book c.append.new.self c.push.new.self) o) (sym none)
+    (subst (λ (ws : List ℤ). IsRecording g.L.Law.holds plan c.append.new.self c.push.new.self × IsKept plan c.append.new.self c.push.new.self ws c.self.inside.started c.self.inside.bodies × IsAgenda plan c.append.new.self c.end.new.self × Unit {0}) (sym words)
+    (subst (λ (us : List (ℤ × ℤ)). IsRecording g.L.Law.holds plan c.append.new.self us × IsKept plan c.append.new.self us (slice_set c.self.inside.words.items x.instance d.state) c.self.inside.started c.self.inside.bodies × IsAgenda plan c.append.new.self c.end.new.self × Unit {0}) (sym pushed)
+    (subst (λ (ts : List Row). IsRecording g.L.Law.holds plan ts (states ++ (k.state, d.state) ∷ []) × IsKept plan ts (states ++ (k.state, d.state) ∷ []) (slice_set c.self.inside.words.items x.instance d.state) c.self.inside.started c.self.inside.bodies × IsAgenda plan ts c.end.new.self × Unit {0}) (sym grown) (all, kept, ended.1 all.so_far, tt))))
 
 pub returns-clause-ok : goal.returns-clause-ok
 returns-clause-ok g c =
@@ -231,3 +239,27 @@ returns-clause-commuting g c =
     let grown : c.append.new.self ≡ with_answer old k d = more ∙ ap (λ (xs : List Row). t ++ xs) (part ∙ its ∙ ap (λ (us : List Step). committed_rows k.worker k.tag k.reaction us) st) in
     let kept : KeepsOpenRuns plan t (t ++ committed_rows k.worker k.tag k.reaction d.steps) = keeps_open_runs plan good t k.worker k.tag k.reaction d.steps (record { so_far = c.self.invariant.0.so_far; quiet = c.self.invariant.0.quiet; open_run = has.open_run; may = may }) in
     subst (λ (b : BookParts). KeepsOpenRuns b.plan b.rows c.append.new.self) v (subst (λ (ts : List Row). KeepsOpenRuns plan t ts) (sym grown) kept)
+
+pub stop-requires-clause-holds : goal.stop-requires-clause-holds
+stop-requires-clause-holds g c =
+    let k = c.args.ticket in
+    let d = c.args.done in
+    let never : ¬ MayAll c.args.self.now.plan k.reaction d.steps = search rules in
+    holds_by_end g.L.Law.holds c.args.self.now k d (UndeclaredEffect k.reaction) c.requires.lawful c.requires.ticket (refl, never)
+
+pub stop-requires-then-has_long_delay-clause-holds : goal.stop-requires-then-has_long_delay-clause-holds
+stop-requires-then-has_long_delay-clause-holds g c =
+    let k = c.args.ticket in
+    let d = c.args.done in
+    let may : MayAll c.args.self.now.plan k.reaction d.steps = search rules in
+    let long : HasLongDelay d.steps = search rules in
+    holds_by_end g.L.Law.holds c.args.self.now k d LimitTag c.requires.lawful c.requires.ticket (may, long)
+
+pub stop-requires-in_default-clause-holds : goal.stop-requires-in_default-clause-holds
+stop-requires-in_default-clause-holds g c = memory_holds g.L.Law.holds c.args.self.now
+
+pub invariant_of-self : goal.invariant_of-self
+invariant_of-self g c =
+    let same : c.append.new.self ≡ c.self.inside.rows = search rules in
+    let book : List Row → BookParts = λ ts. record { plan = c.self.inside.plan; rows = ts; states = c.self.inside.states; left = c.self.inside.bodies; max_runs = c.self.inside.max_runs; reason = None } in
+    subst (λ (ts : List Row). IsRecording g.L.Law.holds c.self.inside.plan ts c.self.inside.states × IsKept c.self.inside.plan ts c.self.inside.states c.self.inside.words.items c.self.inside.started c.self.inside.bodies × Unit {0} × StopHolds g.L.Law.holds (book ts) NoMemory) (sym same) (c.self.invariant.0, c.self.invariant.1, tt, memory_holds g.L.Law.holds (book c.self.inside.rows))

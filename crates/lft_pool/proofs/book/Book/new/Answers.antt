@@ -1,4 +1,4 @@
-use Rattle.std.proofs.Common.{◌≡◌, ◌∙◌, [], ℕ, ℤ, pos, List, Some, None, slice_get, refl, sym, subst, rules}
+use Rattle.std.proofs.Common.{◌≡◌, arith, ◌∙◌, [], ℕ, ℤ, pos, List, Some, slice_get, refl, sym, subst, rules}
 use Rattle.lft_flat.specs.Parts.{Parts}
 use Rattle.lft_flat.specs.declared.parts.Reaction.{Reaction}
 use Rattle.lft_trace.specs.declared.row.Row.{Row}
@@ -14,6 +14,6 @@ invariant_of-result g c =
     let s : c.new-states.result ≡ [] = c.new-states.ensures in
     let w0 : (r : ℕ) (x : Reaction) → slice_get c.program.result.now.reactions r ≡ Some x → slice_get c.in-Ok-Ok.words.items x.instance ≡ Some (pos 0) = search rules in
     let w : (r : ℕ) (x : Reaction) → slice_get plan.program.reactions r ≡ Some x → slice_get c.in-Ok-Ok.words.items x.instance ≡ Some (pos 0) = subst (λ (p : Parts). (r : ℕ) (x : Reaction) → slice_get p.reactions r ≡ Some x → slice_get c.in-Ok-Ok.words.items x.instance ≡ Some (pos 0)) c.program.ensures.value w0 in
-    let kept : IsKept plan [] [] c.in-Ok-Ok.words.items 0 c.args.bodies None = record { words_are = w; started_is = refl; lists = c.requires; why = tt } in
+    let kept : IsKept plan [] [] c.in-Ok-Ok.words.items 0 c.args.bodies = record { words_are = w; started_is = refl; few_runs = omega arith; lists = c.requires } in
     let agenda : IsAgenda plan [] c.in-Ok-Ok.agenda = search rules in
-    subst (λ (ts : List Row). IsRecording g.L.Law.holds plan ts c.new-states.result × IsKept plan ts c.new-states.result c.in-Ok-Ok.words.items 0 c.args.bodies None × IsAgenda plan ts c.in-Ok-Ok.agenda) (sym r) (subst (λ (ss : List (ℤ × ℤ)). IsRecording g.L.Law.holds plan [] ss × IsKept plan [] ss c.in-Ok-Ok.words.items 0 c.args.bodies None × IsAgenda plan [] c.in-Ok-Ok.agenda) (sym s) (empty_recording g.L.Law.holds plan c.program.ensures.sound, kept, agenda))
+    subst (λ (ts : List Row). IsRecording g.L.Law.holds plan ts c.new-states.result × IsKept plan ts c.new-states.result c.in-Ok-Ok.words.items 0 c.args.bodies × IsAgenda plan ts c.in-Ok-Ok.agenda × Unit {0}) (sym r) (subst (λ (ss : List (ℤ × ℤ)). IsRecording g.L.Law.holds plan [] ss × IsKept plan [] ss c.in-Ok-Ok.words.items 0 c.args.bodies × IsAgenda plan [] c.in-Ok-Ok.agenda × Unit {0}) (sym s) (empty_recording g.L.Law.holds plan c.program.ensures.sound, kept, agenda, tt))

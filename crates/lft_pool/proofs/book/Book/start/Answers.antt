@@ -17,7 +17,10 @@ use Rattle.lft_pool.specs.Begun.{Started}
 use Rattle.lft_pool.specs.Causes.{HasAllRuns, HasNoRoom, StartCause}
 use Rattle.lft_agenda.specs.Agendas.{IsAgenda}
 use Rattle.lft_pool.specs.Books.{BookParts, IsRecording, IsKept, AgendaHolds}
+use Rattle.lft_pool.specs.Reasons.{StopHolds, ReasonHolds}
+use Rattle.lft_pool.specs.declared.stop.Stop.TheVariants.{NoBody, TooManyRuns, NoMemory, TooManyRows, LimitTag}
 use Rattle.lft_pool.proofs.Known.{zipped_length}
+use Rattle.lft_pool.proofs.Refusals.{memory_holds, holds_by_start}
 use Rattle.lft_pool.proofs.BegunRun.{same, begun_recording, begun_count}
 use Rattle.lft_pool.proofs.book.Book.start.Goals as goal
 
@@ -53,13 +56,14 @@ invariant_of-self-2 g c =
     let none : c.self.inside.reason ≡ None = ap (λ (b : BookParts). b.reason) c.self.view_is ∙ c.requires.going in
     let agenda : IsAgenda plan t c.self.inside.agenda = subst (λ (o : Option Stop). AgendaHolds o plan t c.self.inside.agenda) none c.self.invariant.2 in
     let now : IsAgenda plan (t ++ begun_rows plan c.args.worker c.args.tag c.args.reaction c.in-Ok.reads) c.begin.new.self = c.in-Ok-begin.ensures.ok plan t c.program.ensures.sound agenda (record { so_far = c.self.invariant.0.so_far; quiet = c.self.invariant.0.quiet; may = first.may; reads_are = reads; idle = idle }) in
-    let kept : IsKept plan (t ++ begun_rows plan c.args.worker c.args.tag c.args.reaction c.in-Ok.reads) c.self.inside.states c.self.inside.words.items (c.self.inside.started + 1) c.take-body.new.self None = record {
+    let book : List Row → BookParts = λ ts. record { plan = plan; rows = ts; states = c.self.inside.states; left = c.take-body.new.self; max_runs = c.self.inside.max_runs; reason = None } in
+    let kept : IsKept plan (t ++ begun_rows plan c.args.worker c.args.tag c.args.reaction c.in-Ok.reads) c.self.inside.states c.self.inside.words.items (c.self.inside.started + 1) c.take-body.new.self = record {
       words_are = λ r x e. subst (λ (us : List Run). slice_get c.self.inside.words.items x.instance ≡ Some (word_after plan.program x.instance us c.self.inside.states)) (sym (same g.L.Law.holds plan c.program.ensures.sound t c.self.inside.states c.self.invariant.0 c.args.worker c.args.tag c.args.reaction c.in-Ok.reads first.may reads idle)) (c.self.invariant.1.words_are r x e);
       started_is = ap (λ (n : ℕ). n + 1) c.self.invariant.1.started_is ∙ sym (begun_count plan t c.args.worker c.args.tag c.args.reaction c.in-Ok.reads);
       lists = let e = ap length c.take-body.ensures.fewer in let k = c.self.invariant.1.lists in search (rules, length-set);
-      why = tt;
+      few_runs = omega arith;
     } in
-    subst (λ (ts : List Row). IsRecording g.L.Law.holds plan ts c.self.inside.states × IsKept plan ts c.self.inside.states c.self.inside.words.items (c.self.inside.started + 1) c.take-body.new.self c.self.inside.reason × AgendaHolds c.self.inside.reason plan ts c.begin.new.self) (sym grown) (subst (λ (o : Option Stop). IsRecording g.L.Law.holds plan (t ++ begun_rows plan c.args.worker c.args.tag c.args.reaction c.in-Ok.reads) c.self.inside.states × IsKept plan (t ++ begun_rows plan c.args.worker c.args.tag c.args.reaction c.in-Ok.reads) c.self.inside.states c.self.inside.words.items (c.self.inside.started + 1) c.take-body.new.self o × AgendaHolds o plan (t ++ begun_rows plan c.args.worker c.args.tag c.args.reaction c.in-Ok.reads) c.begin.new.self) (sym none) (all, kept, now))
+    subst (λ (ts : List Row). IsRecording g.L.Law.holds plan ts c.self.inside.states × IsKept plan ts c.self.inside.states c.self.inside.words.items (c.self.inside.started + 1) c.take-body.new.self × AgendaHolds c.self.inside.reason plan ts c.begin.new.self × ReasonHolds g.L.Law.holds (book ts) c.self.inside.reason) (sym grown) (subst (λ (o : Option Stop). IsRecording g.L.Law.holds plan (t ++ begun_rows plan c.args.worker c.args.tag c.args.reaction c.in-Ok.reads) c.self.inside.states × IsKept plan (t ++ begun_rows plan c.args.worker c.args.tag c.args.reaction c.in-Ok.reads) c.self.inside.states c.self.inside.words.items (c.self.inside.started + 1) c.take-body.new.self × AgendaHolds o plan (t ++ begun_rows plan c.args.worker c.args.tag c.args.reaction c.in-Ok.reads) c.begin.new.self × ReasonHolds g.L.Law.holds (book (t ++ begun_rows plan c.args.worker c.args.tag c.args.reaction c.in-Ok.reads)) o) (sym none) (all, kept, now, tt))
 
 pub returns-clause-ok : goal.returns-clause-ok
 returns-clause-ok g c =
@@ -127,3 +131,70 @@ returns-clause-left g c =
     let grown : c.append.new.self ≡ t ++ begun_rows plan c.args.worker c.args.tag c.args.reaction c.in-Ok.reads = more ∙ ap (λ (xs : List Row). t ++ xs) (part ∙ its) in
     let e = same g.L.Law.holds plan c.program.ensures.sound t c.self.inside.states c.self.invariant.0 c.args.worker c.args.tag c.args.reaction c.in-Ok.reads first.may reads idle in
     (c.args.tag, c.args.reaction, subst (λ (ts : List Row). IsPending plan (by_ends plan ts) c.args.tag c.args.reaction) (sym grown) (subst (λ (us : List Run). IsPending plan us c.args.tag c.args.reaction) (sym e) first.may.ready.pending))
+
+pub stop-requires-clause-holds : goal.stop-requires-clause-holds
+stop-requires-clause-holds g c =
+    let cause : ¬ IsRecorded c.args.tag = search rules in
+    holds_by_start g.L.Law.holds c.args.self.now c.args.worker c.args.tag c.args.reaction LimitTag c.requires.idle c.requires.first cause
+
+pub stop-requires-then-self-clause-holds : goal.stop-requires-then-self-clause-holds
+stop-requires-then-self-clause-holds g c =
+    let recorded : IsRecorded c.args.tag = search rules in
+    let full : HasAllRuns c.args.self.now = search rules in
+    holds_by_start g.L.Law.holds c.args.self.now c.args.worker c.args.tag c.args.reaction TooManyRuns c.requires.idle c.requires.first (recorded, full)
+
+pub stop-requires-then-left-eq0-clause-holds : goal.stop-requires-then-left-eq0-clause-holds
+stop-requires-then-left-eq0-clause-holds g c =
+    let recorded : IsRecorded c.args.tag = search rules in
+    let going : ¬ HasAllRuns c.args.self.now = search rules in
+    let x = c.reaction.result.now in
+    let of : slice_get c.self.inside.plan.program.reactions c.args.reaction ≡ Some x = search rules in
+    let n : c.args.reaction < length c.self.inside.plan.program.reactions = slice_get_within c.self.inside.plan.program.reactions c.args.reaction x of in
+    let lists : length c.self.inside.bodies ≡ length c.self.inside.plan.program.reactions = c.self.invariant.1.lists in
+    let there : c.left.result ≡ slice_index c.self.inside.bodies c.args.reaction = c.left.ensures.there (omega arith) in
+    let zero : c.left.result ≡ 0 = search rules in
+    let none : slice_index c.args.self.now.left c.args.reaction ≡ 0 = subst (λ (b : BookParts). slice_index b.left c.args.reaction ≡ 0) c.self.view_is (sym there ∙ zero) in
+    holds_by_start g.L.Law.holds c.args.self.now c.args.worker c.args.tag c.args.reaction (NoBody c.args.reaction) c.requires.idle c.requires.first (recorded, going, refl, none)
+
+pub returns-then-left-eq0-clause-cause : goal.returns-then-left-eq0-clause-cause
+returns-then-left-eq0-clause-cause g c =
+    let recorded : IsRecorded c.args.tag = search rules in
+    let going : ¬ HasAllRuns c.args.self.now = search rules in
+    let x = c.reaction.result.now in
+    let of : slice_get c.self.inside.plan.program.reactions c.args.reaction ≡ Some x = search rules in
+    let n : c.args.reaction < length c.self.inside.plan.program.reactions = slice_get_within c.self.inside.plan.program.reactions c.args.reaction x of in
+    let lists : length c.self.inside.bodies ≡ length c.self.inside.plan.program.reactions = c.self.invariant.1.lists in
+    let there : c.left.result ≡ slice_index c.self.inside.bodies c.args.reaction = c.left.ensures.there (omega arith) in
+    let zero : c.left.result ≡ 0 = search rules in
+    let none : slice_index c.args.self.now.left c.args.reaction ≡ 0 = subst (λ (b : BookParts). slice_index b.left c.args.reaction ≡ 0) c.self.view_is (sym there ∙ zero) in
+    subst (λ (s : Stop). StartCause c.args.self.now c.args.worker c.args.tag c.args.reaction s) (sym c.stop-then-left-eq0.ensures.same) (recorded, going, refl, none)
+
+pub stop-requires-in_default-clause-holds : goal.stop-requires-in_default-clause-holds
+stop-requires-in_default-clause-holds g c = memory_holds g.L.Law.holds c.args.self.now
+
+pub stop-requires-in_default-begun-clause-holds : goal.stop-requires-in_default-begun-clause-holds
+stop-requires-in_default-begun-clause-holds g c = memory_holds g.L.Law.holds c.args.self.now
+
+pub stop-requires-then-as_slice-len-gt-MAX_ROWS-clause-holds : goal.stop-requires-then-as_slice-len-gt-MAX_ROWS-clause-holds
+stop-requires-then-as_slice-len-gt-MAX_ROWS-clause-holds g c =
+    let plan = c.self.inside.plan in
+    let t = c.self.inside.rows in
+    let i : Inputs plan t c.args.tag c.args.reaction c.in-Ok.reads = search rules in
+    let reads : Inputs plan (rows plan (by_ends plan t)) c.args.tag c.args.reaction c.in-Ok.reads = inputs_to_ended plan c.program.ensures.sound t c.self.invariant.0.so_far c.self.invariant.0.quiet c.args.tag c.args.reaction c.in-Ok.reads i in
+    let its : c.in-Ok-begun.added.items ≡ begun_rows plan c.args.worker c.args.tag c.args.reaction c.in-Ok.reads = search rules in
+    let sum : 4000000 < length t + length c.in-Ok-begun.added.items = search rules in
+    let many : 4000000 < length (t ++ begun_rows plan c.args.worker c.args.tag c.args.reaction c.in-Ok.reads) = subst (λ (xs : List Row). 4000000 < length (t ++ xs)) its (omega (arith, length-append t c.in-Ok-begun.added.items)) in
+    let room : HasNoRoom c.args.self.now c.args.worker c.args.tag c.args.reaction = subst (λ (b : BookParts). HasNoRoom b c.args.worker c.args.tag c.args.reaction) c.self.view_is (c.in-Ok.reads, reads, many) in
+    let recorded : IsRecorded c.args.tag = search rules in
+    let going : ¬ HasAllRuns c.args.self.now = search rules in
+    let some : 0 < slice_index c.args.self.now.left c.args.reaction = search rules in
+    holds_by_start g.L.Law.holds c.args.self.now c.args.worker c.args.tag c.args.reaction TooManyRows c.requires.idle c.requires.first (recorded, going, some, room)
+
+pub invariant_of-self : goal.invariant_of-self
+invariant_of-self g c = (c.self.invariant.0, c.self.invariant.1, tt, memory_holds g.L.Law.holds (record { plan = c.self.inside.plan; rows = c.self.inside.rows; states = c.self.inside.states; left = c.self.inside.bodies; max_runs = c.self.inside.max_runs; reason = None }))
+
+pub invariant_of-self-in_default-append : goal.invariant_of-self-in_default-append
+invariant_of-self-in_default-append g c =
+    let same : c.append.new.self ≡ c.self.inside.rows = search rules in
+    let book : List Row → BookParts = λ ts. record { plan = c.self.inside.plan; rows = ts; states = c.self.inside.states; left = c.self.inside.bodies; max_runs = c.self.inside.max_runs; reason = None } in
+    subst (λ (ts : List Row). IsRecording g.L.Law.holds c.self.inside.plan ts c.self.inside.states × IsKept c.self.inside.plan ts c.self.inside.states c.self.inside.words.items c.self.inside.started c.self.inside.bodies × Unit {0} × StopHolds g.L.Law.holds (book ts) NoMemory) (sym same) (c.self.invariant.0, c.self.invariant.1, tt, memory_holds g.L.Law.holds (book c.self.inside.rows))
