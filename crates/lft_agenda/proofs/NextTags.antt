@@ -1,12 +1,10 @@
 -- What is triggered at a tag by the queue, and what the agenda is at the next tag.
 use Rattle.std.proofs.Common.{◌≡◌, ◌↔◌, ℕ, suc, ◌+◌, ◌-◌, ◌*◌, ◌<◌, ◌⊎◌, inl, inr, List, [], ◌∷◌, length, refl, sym, ap, ◌∙◌, subst, arith, Option, Some, None, is_some, slice_get, Bool, true, false, cond, Contains}
 use Rattle.std.specs.List.{filter}
-use Rattle.std.proofs.lemmas.Bool.Decides.{nat_tests}
 use Rattle.std.proofs.lemmas.Bool.{false≢true}
 use Rattle.lft_tag.specs.declared.Tag.{Tag}
 use Rattle.lft_tag.specs.Tags.{Before, UpTo, is_before, same_tag}
 use Rattle.lft_tag.proofs.Order.{Before-irrefl, Before-UpTo, Before-weaken, UpTo-refl, UpTo-trans, UpTo_antisym, order_cases, UpTo-Before}
-use Rattle.lft_flat.specs.Parts.{Parts}
 use Rattle.lft_flat.specs.declared.parts.Name.{Name}
 use Rattle.lft_flat.specs.declared.parts.Value.{Value}
 use Rattle.lft_flat.specs.declared.parts.Trigger.{Trigger}
@@ -32,8 +30,7 @@ use Rattle.lft_events.specs.Events.{HasEvents}
 use Rattle.lft_events.proofs.Fed.{some_there}
 use Rattle.lft_recording.specs.Starts.{SomethingLeft}
 use Rattle.lft_agenda.specs.Waits.{IsBetween, IsCovered, PhaseIs, IsTurnOf}
-use Rattle.lft_listeners.specs.Listeners.{IsListener, IsLive}
-use Rattle.lft_agenda.specs.Telling.{IsTold, FiresAt, OccursBy, TriggeredByQueue}
+use Rattle.lft_agenda.specs.Telling.{IsTold, OccursBy, TriggeredByQueue}
 use Rattle.lft_agenda.specs.Agendas.{MayAdvance, IsReached, IsCurrent}
 use Rattle.lft_agenda.proofs.Opening.{filter_mem}
 use Rattle.lft_agenda.proofs.Told.{pending_back, none_waits, all_idle}

@@ -1,4 +1,4 @@
-use Rattle.std.proofs.Common.{◌≡◌, ℕ, Some, refl, sym, subst, Contains}
+use Rattle.std.proofs.Common.{ℕ, refl, sym, subst}
 use Rattle.lft_tag.specs.declared.Tag.{Tag}
 use Rattle.lft_tag.specs.Tags.{Before, UpTo}
 use Rattle.lft_tag.proofs.Order.{UpTo-refl}
@@ -8,7 +8,6 @@ use Rattle.lft_flat.specs.declared.parts.Trigger.TheVariants.{Startup, Shutdown,
 use Rattle.lft_events.proofs.Fed.{some_there}
 use Rattle.lft_queue.specs.Pending.{Pending, value_of}
 use Rattle.lft_listeners.specs.Listeners.{IsListener}
-use Rattle.lft_agenda.specs.declared.firings.Firing.{Firing}
 use Rattle.lft_agenda.specs.Waits.{IsCovered}
 use Rattle.lft_agenda.specs.Telling.{OccursBy}
 use Rattle.lft_agenda.specs.Firings.{tag_of_firing, AreFirst}

@@ -1,4 +1,4 @@
-use Rattle.std.proofs.Common.{◌≡◌, ℕ, ◌<◌, ◌∷◌, [], List, IsTrue, true, refl, sym, subst, length}
+use Rattle.std.proofs.Common.{◌<◌, ◌∷◌, [], List, IsTrue, true, refl, sym, subst, length}
 use Rattle.lft_tag.specs.Tags.{Before}
 use Rattle.lft_flat.specs.Parts.{Parts}
 use Rattle.lft_flat.specs.declared.parts.Trigger.TheVariants.{Timer}

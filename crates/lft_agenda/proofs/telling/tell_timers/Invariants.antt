@@ -1,4 +1,4 @@
-use Rattle.std.proofs.Common.{◌≡◌, ℕ, List, length}
+use Rattle.std.proofs.Common.{ℕ, List}
 use Rattle.lft_flat.specs.declared.parts.Trigger.TheVariants.{Timer}
 use Rattle.lft_lists.proofs.Members.{Mem}
 use Rattle.lft_listeners.specs.Listeners.{IsListener}

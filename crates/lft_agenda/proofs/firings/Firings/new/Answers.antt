@@ -1,4 +1,4 @@
-use Rattle.std.proofs.Common.{◌≡◌, ◌+◌, List, subst, sym, arith}
+use Rattle.std.proofs.Common.{◌+◌, List, subst, sym, arith}
 use Rattle.std.specs.declared.cmp.Reverse.{Reverse}
 use Rattle.lft_tag.specs.Tags.{UpTo}
 use Rattle.lft_lists.proofs.Places.{contains_at}

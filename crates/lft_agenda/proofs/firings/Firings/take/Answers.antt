@@ -1,4 +1,4 @@
-use Rattle.std.proofs.Common.{◌≡◌, ◌+◌, ◌<◌, ◌≤◌, ◌∷◌, List, map, length, refl, sym, ap, subst, arith, rules, Some, slice_get, Contains}
+use Rattle.std.proofs.Common.{◌≡◌, ◌∷◌, List, map, refl, sym, ap, subst, arith, rules, slice_get, Contains}
 use Rattle.std.specs.List.Sorted.{IsPermutation}
 use Rattle.std.specs.declared.cmp.Reverse.{Reverse}
 use Rattle.std.proofs.lemmas.List.Sorted.{IsPermutation-map}
