@@ -9,7 +9,7 @@ ghost use Rattle.lft_check.specs.Shares.{share_start, IsLeastOfShare, AreShares,
 use crate::judging::{first_in, lesser};
 use crate::watch::Watch;
 use lft_model::Breach;
-use lft_slices::{Sliced, Slice};
+use lft_slices::{Slice, Sliced};
 use lft_tag::{NoMemory, Tag};
 use std::alloc::Global;
 use std::thread;

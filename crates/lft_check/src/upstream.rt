@@ -10,7 +10,7 @@ ghost use Rattle.lft_check.specs.Upstreams.{IsFresh, IsGraphFor, IsReached, IsQu
 use crate::carry::{is_late, number_at};
 use crate::ranks::least_end;
 use lft_graph::Graph;
-use lft_slices::{Sliced, Slice, keep_ends};
+use lft_slices::{Slice, Sliced, keep_ends};
 use lft_tag::NoMemory;
 use lft_trace::{is_start, row_at};
 use std::alloc::Global;

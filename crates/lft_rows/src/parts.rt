@@ -24,7 +24,11 @@ fn rises_at(rows: &[Row], place: usize) -> bool
     requires { place < length rows.now }
     ensures { IsTrue result → (k : ℕ) × (x y : TheRow) × (place ≡ k + 1) × (slice_get rows.now k ≡ Some x) × (slice_get rows.now place ≡ Some y) × Before x.tag y.tag }
 {
-    place > 0 && row_at(rows, place - 1).tag.is_before(row_at(rows, place).tag)
+    if place == 0 {
+        return false;
+    }
+    let before = row_at(rows, place - 1).tag;
+    before.is_before(row_at(rows, place).tag)
 }
 
 /// The rows in two parts, cut at the first place from this one on where the tag rises.

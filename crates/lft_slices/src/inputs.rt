@@ -11,10 +11,10 @@ ghost use Rattle.lft_slices.specs.Slices.{IsSlice};
 ghost use Rattle.lft_slices.specs.Walks.{HasWalked};
 
 use crate::sliced::Sliced;
-use lft_rows::name_at;
 use crate::slices::Slice;
 use crate::walk::Walk;
 use lft_flat::{Name, Value};
+use lft_rows::name_at;
 
 /// Whether the two are one value, or both none.
 fn same_values(a: Option<Value>, b: Option<Value>) -> bool

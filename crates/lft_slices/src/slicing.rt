@@ -19,11 +19,7 @@ use lft_trace::{Row, Rows};
 use std::alloc::Global;
 
 /// Slices the rows by tag.
-pub fn slice_rows<'a>(
-    alloc: Global,
-    plan: &'a Plan,
-    rows: &'a Rows,
-) -> Result<Sliced<'a>, CutFault>
+pub fn slice_rows<'a>(alloc: Global, plan: &'a Plan, rows: &'a Rows) -> Result<Sliced<'a>, CutFault>
     requires { RowsFit plan.now.program rows.now }
     ensures sliced { IfOk result (λ s. s ≡ record { plan = plan.now; rows = rows.now }) }
     ensures fault { IfErr result (IsCutFault plan.now rows.now) }

@@ -10,9 +10,9 @@ ghost use Rattle.lft_slices.specs.Slices.{IsSlice};
 ghost use Rattle.lft_slices.specs.Walks.{IsBefore, HasWalked};
 
 use crate::sliced::Sliced;
-use lft_rows::Marks;
 use crate::slices::Slice;
 use lft_flat::Value;
+use lft_rows::Marks;
 use lft_tag::NoMemory;
 use lft_trace::{Step, row_at};
 use std::alloc::Global;
