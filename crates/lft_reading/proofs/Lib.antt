@@ -1,3 +1,4 @@
 pub mod Joining
 pub mod Cutting
 pub mod Together
+pub mod Behind

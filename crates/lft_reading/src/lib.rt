@@ -1,6 +1,7 @@
 #![tactic(auto)]
 //! Trace tables read in parts by several workers.
 
+mod batches;
 mod lines;
 mod shared;
 mod workers;

@@ -6,24 +6,22 @@ ghost use Rattle.lft_trace.specs.Fits.{RowsFit};
 ghost use Rattle.lft_trace.specs.Records.{records_of};
 ghost use Rattle.lft_trace.specs.Traces.{Table, TraceFails};
 
+use crate::batches::read_batches;
 use crate::lines::below_header;
-use crate::workers::{is_one_part, read_parts};
+use crate::workers::is_one_part;
 use lft_flat::Program;
 use lft_trace::{Row, Rows, TraceFault, read_trace};
 use std::alloc::Global;
 use std::thread::Threads;
-
-/// The greatest number of rows of a table.
-const MAX_ROWS: u32 = 4_000_000;
 
 /// The rows of a trace table, read by so many workers at a time: what `read_trace` gives.
 ///
 /// It is read in one part, by `read_trace`, with one worker or none, where the text has under
 /// 1 MiB, and where anything about it is odd: a header in other bytes than its own and a line feed,
 /// a quotation mark, a record that is no row, want of memory. So the faults are those of
-/// `read_trace`, and a table with a fault is read twice. While parts are put together, rows take up
-/// to three times the memory of those of the greatest table. Where no thread can be started, the
-/// parts are read one after another.
+/// `read_trace`, and a table with a fault is read twice. Beside the rows so far, those of two
+/// batches are held, of 4 MiB of text a worker each. Where no thread can be started, the parts are
+/// read one after another.
 pub fn read_trace_shared<R: Threads + Sync>(
     rt: &R,
     alloc: Global,
@@ -58,12 +56,5 @@ fn read_in_parts<R: Threads + Sync>(
         return None;
     }
     let rest = below_header(text)?;
-    // A table of too many rows is known only once its parts are read: so none may have many more
-    // than its share.
-    let most = MAX_ROWS / workers * 2;
-    let rows = read_parts(rt, alloc, program, rest, workers, most)?;
-    if rows.len() > MAX_ROWS as usize {
-        return None;
-    }
-    Some(rows)
+    read_batches(rt, alloc, program, rest, workers)
 }

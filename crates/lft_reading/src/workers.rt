@@ -1,6 +1,6 @@
-//! The rows of a text without a header, read in parts.
+//! The rows of a text without a header, read in parts beside each other.
 
-ghost use Rattle.std.specs.Prelude.{◌≡◌, ◌≤◌, ◌++◌, IfSome, false};
+ghost use Rattle.std.specs.Prelude.{◌≡◌, ◌≤◌, ◌++◌, length, IfSome, false};
 ghost use Rattle.std.specs.Thread.{IsSync};
 ghost use Rattle.lft_reading.specs.Parts.{HoldsRows};
 
@@ -10,6 +10,9 @@ use lft_trace::{Row, read_part};
 use memchr::memchr;
 use std::alloc::Global;
 use std::thread::{Threads, join};
+
+/// The greatest number of rows of a table.
+const MAX_ROWS: u32 = 4_000_000;
 
 /// Texts of fewer bytes are read in one part: of them a thread costs more than it brings.
 const SHORT: usize = 1 << 20;
@@ -21,7 +24,7 @@ pub(crate) fn is_one_part(text: &[u8], workers: u32) -> bool
     workers < 2 || text.len() < SHORT
 }
 
-/// The rows of a text without a quotation mark, at most so many a part.
+/// The rows of a text without a quotation mark.
 // Text and workers are divided in two, in the same proportion, until a part has one worker.
 #[cycle(parts)]
 pub(crate) fn read_parts<R: Threads + Sync>(
@@ -30,50 +33,51 @@ pub(crate) fn read_parts<R: Threads + Sync>(
     program: &Program,
     text: &[u8],
     workers: u32,
-    most: u32,
 ) -> Option<Vec<Row>>
     ensures { IfSome result (λ rows. HoldsRows program.now text.now rows.items) }
 {
     if is_one_part(text, workers) {
-        return read_plain(alloc, program, text, most);
+        return read_plain(alloc, program, text);
     }
     let low = workers / 2;
     let high = workers - low;
     // The share of the low workers is no longer than the text, since they are fewer than all.
     let share = text.len() / workers as usize;
     let Some((first, second)) = cut_behind(text, share * low as usize) else {
-        return read_plain(alloc, program, text, most);
+        return read_plain(alloc, program, text);
     };
     let front = move || -> Option<Vec<Row>>
         requires { IsSync R.row }
         ensures { IfSome result (λ rows. HoldsRows program.entry.now first.entry.now rows.items) }
-    { read_parts(rt, alloc, program, first, low, most) };
+    { read_parts(rt, alloc, program, first, low) };
     let back = move || -> Option<Vec<Row>>
         requires { IsSync R.row }
         ensures { IfSome result (λ rows. HoldsRows program.entry.now second.entry.now rows.items) }
-    { read_parts(rt, alloc, program, second, high, most) };
+    { read_parts(rt, alloc, program, second, high) };
     let (rows, more) = join(rt, front, back);
     put_together(rows?, more?)
 }
 
 // The rows of a text, by one worker. A line may end within quotes: no place of such a text is known
 // to be one where a record begins.
-fn read_plain(alloc: Global, program: &Program, text: &[u8], most: u32) -> Option<Vec<Row>>
+fn read_plain(alloc: Global, program: &Program, text: &[u8]) -> Option<Vec<Row>>
     ensures { IfSome result (λ rows. HoldsRows program.now text.now rows.items) }
 {
     if memchr(b'"', text).is_some() {
         return None;
     }
-    read_part(alloc, program, text, most)
+    read_part(alloc, program, text, MAX_ROWS)
 }
 
-fn put_together(rows: Vec<Row>, more: Vec<Row>) -> Option<Vec<Row>>
-    ensures { IfSome result (λ all. all.items ≡ rows.items ++ more.items) }
+/// The rows, and more of them behind, where a table may have as many.
+pub(crate) fn put_together(rows: Vec<Row>, more: Vec<Row>) -> Option<Vec<Row>>
+    ensures rows { IfSome result (λ all. all.items ≡ rows.items ++ more.items) }
+    ensures few { IfSome result (λ all. length all.items ≤ 4000000) }
 {
-    let mut all = rows;
-    if all.reserve_exact(more.len()).is_err() {
+    if rows.len() + more.len() > MAX_ROWS as usize {
         return None;
     }
+    let mut all = rows;
     if all.extend_from_slice(more.as_slice()).is_err() {
         return None;
     }

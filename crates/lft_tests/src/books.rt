@@ -1,15 +1,12 @@
 //! Books driven by hand: what a ticket has, what rows a book has in the end, and that judging accepts
 //! them.
 
-ghost use Rattle.std.specs.Prelude.{◌≡◌, length};
-
 use crate::answers::{Prepared, PreparedBodies, done, put, write};
 use crate::texts::{AT_ONCE, PIPE, TWO, is_table, plan};
 use lft_check::{NoWatch, Verdict, judge_alone};
 use lft_flat::Value;
-use lft_model::Plan;
-use lft_pool::{AnyAnswer, Begin, Bodies, Body, Book, Ticket};
-use lft_tag::Tag;
+use lft_pool::{Answered, AnyAnswer, Begin, Bodies, Book, Done, States};
+use lft_tag::{NoMemory, Tag};
 use std::alloc::Global;
 use std::process::Abort;
 use std::test::Fail;
@@ -17,31 +14,65 @@ use std::test::Fail;
 /// A book of prepared bodies.
 type PreparedBook = Book<AnyAnswer, Prepared>;
 
-/// A book of the plan, at most ten runs.
-fn book_of(rt: &impl Abort, alloc: Global, plan: Plan, bodies: PreparedBodies) -> PreparedBook
-    requires { length bodies ≡ length plan.program.reactions }
-{
+const FIRST: Tag = Tag { time: 0, micro: 0 };
+
+/// The book of a program of two reactions, each with one body of this answer: at most ten runs.
+fn book_of(
+    rt: &impl Abort,
+    alloc: Global,
+    program: &[u8],
+    first: Result<Done, NoMemory>,
+    second: Result<Done, NoMemory>,
+) -> Result<PreparedBook, Fail> {
+    let plan = plan(alloc, program, AT_ONCE)?;
+    let mut bodies = Bodies::new(alloc, plan.program())?;
+    put(&mut bodies, 0, first)?;
+    put(&mut bodies, 1, second)?;
     match Book::new(alloc, plan, bodies, 10) {
-        Ok(book) => book,
+        Ok(book) => Ok(book),
         Err(_) => panic!(rt; "there is no book"),
     }
 }
 
-/// The ticket and the body of the run that the worker begins.
-fn begun(
+/// What the body answers to the run that the worker begins: at the first tag, of this reaction, with
+/// these reads.
+fn answered(
     rt: &impl Abort,
+    alloc: Global,
     book: &mut PreparedBook,
     worker: u32,
-) -> (Ticket, Body<AnyAnswer, Prepared>)
-    ensures { result.0.reaction ≡ result.1 }
-{
-    match book.begin(worker) {
-        Ok(Begin::Run(ticket, body)) => (ticket, body),
-        _ => panic!(rt; "worker {worker} begins no run"),
-    }
+    reaction: u32,
+    reads: &[Option<Value>],
+) -> Answered<AnyAnswer> {
+    let Ok(Begin::Run(ticket, body)) = book.begin(worker) else {
+        panic!(rt; "worker {worker} begins no run");
+    };
+    assert!(rt; ticket.worker == worker && ticket.tag == FIRST && ticket.reaction == reaction);
+    assert!(rt; ticket.state == 0 && ticket.reads.as_slice() == reads);
+    body.call(alloc, ticket)
 }
 
-const FIRST: Tag = Tag { time: 0, micro: 0 };
+/// Whether the worker has to wait.
+fn waits(book: &mut PreparedBook, worker: u32) -> bool {
+    matches!(book.begin(worker), Ok(Begin::Wait))
+}
+
+/// Closes a book of which nothing is left: its rows are this table, and judging accepts them as two
+/// runs at one tag. The state words before and after each run are answered.
+fn close(
+    rt: &impl Abort,
+    alloc: Global,
+    mut book: PreparedBook,
+    table: &[u8],
+) -> Result<States, Fail> {
+    assert!(rt; matches!(book.begin(0), Ok(Begin::Finished)));
+    let closed = book.close();
+    assert!(rt; closed.reason.is_none());
+    assert!(rt; is_table(alloc, &closed.plan, &closed.rows, table)?);
+    let verdict = judge_alone(alloc, &closed.plan, &closed.rows, &NoWatch)?;
+    assert!(rt; verdict == Verdict::Accepted { runs: 2, tags: 1 });
+    Ok(closed.states)
+}
 
 const PIPE_TABLE: &[u8] = b"event,worker,time,microstep,reaction,name,value,delay
 start,0,0,0,main.a#1,,,
@@ -55,29 +86,15 @@ end,1,0,0,main.b#1,,,
 #[test]
 fn books_a_pipe(rt: HostRuntime) -> Result<(), Fail> {
     let alloc = rt.alloc();
-    let plan = plan(alloc, PIPE, AT_ONCE)?;
-    let mut bodies = Bodies::new(alloc, plan.program())?;
-    put(&mut bodies, 0, done(alloc, 5, &[write(0, 1)]))?;
-    put(&mut bodies, 1, done(alloc, 6, &[]))?;
-    let mut book = book_of(&rt, alloc, plan, bodies);
-    let (ticket, body) = begun(&rt, &mut book, 0);
-    assert!(rt; ticket.worker == 0 && ticket.tag == FIRST && ticket.reaction == 0);
-    assert!(rt; ticket.state == 0 && ticket.reads.as_slice().is_empty());
-    assert!(rt; matches!(book.begin(0), Ok(Begin::Wait)));
-    assert!(rt; matches!(book.begin(1), Ok(Begin::Wait)));
-    assert!(rt; book.commit(body.call(alloc, ticket)).is_ok());
-    let (ticket, body) = begun(&rt, &mut book, 1);
-    assert!(rt; ticket.worker == 1 && ticket.tag == FIRST && ticket.reaction == 1);
-    assert!(rt; ticket.state == 0);
-    assert!(rt; ticket.reads.as_slice() == [Some(Value::Int(1))].as_slice());
-    assert!(rt; book.commit(body.call(alloc, ticket)).is_ok());
-    assert!(rt; matches!(book.begin(0), Ok(Begin::Finished)));
-    let closed = book.close();
-    assert!(rt; closed.reason.is_none());
-    assert!(rt; is_table(alloc, &closed.plan, &closed.rows, PIPE_TABLE)?);
-    assert!(rt; closed.states.as_slice() == [(0, 5), (0, 6)].as_slice());
-    let verdict = judge_alone(alloc, &closed.plan, &closed.rows, &NoWatch)?;
-    assert!(rt; verdict == Verdict::Accepted { runs: 2, tags: 1 });
+    let (first, second) = (done(alloc, 5, &[write(0, 1)]), done(alloc, 6, &[]));
+    let mut book = book_of(&rt, alloc, PIPE, first, second)?;
+    let first = answered(&rt, alloc, &mut book, 0, 0, &[]);
+    assert!(rt; waits(&mut book, 0) && waits(&mut book, 1));
+    assert!(rt; book.commit(first).is_ok());
+    let second = answered(&rt, alloc, &mut book, 1, 1, &[Some(Value::Int(1))]);
+    assert!(rt; book.commit(second).is_ok());
+    let states = close(&rt, alloc, book, PIPE_TABLE)?;
+    assert!(rt; states.as_slice() == [(0, 5), (0, 6)].as_slice());
     Ok(())
 }
 
@@ -105,25 +122,17 @@ end,0,0,0,main.p#1,,,
 fn books_two_in_either_order(rt: HostRuntime) -> Result<(), Fail> {
     let alloc = rt.alloc();
     for (turned, table) in [(false, IN_ORDER), (true, TURNED)] {
-        let plan = plan(alloc, TWO, AT_ONCE)?;
-        let mut bodies = Bodies::new(alloc, plan.program())?;
-        put(&mut bodies, 0, done(alloc, 0, &[write(0, 1)]))?;
-        put(&mut bodies, 1, done(alloc, 0, &[write(1, 1)]))?;
-        let mut book = book_of(&rt, alloc, plan, bodies);
-        let (ticket, body) = begun(&rt, &mut book, 0);
-        assert!(rt; ticket.reaction == 0);
-        let p = body.call(alloc, ticket);
-        let (ticket, body) = begun(&rt, &mut book, 1);
-        assert!(rt; ticket.reaction == 1);
-        let q = body.call(alloc, ticket);
-        assert!(rt; matches!(book.begin(2), Ok(Begin::Wait)));
+        let (p, q) = (
+            done(alloc, 0, &[write(0, 1)]),
+            done(alloc, 0, &[write(1, 1)]),
+        );
+        let mut book = book_of(&rt, alloc, TWO, p, q)?;
+        let p = answered(&rt, alloc, &mut book, 0, 0, &[]);
+        let q = answered(&rt, alloc, &mut book, 1, 1, &[]);
+        assert!(rt; waits(&mut book, 2));
         let (first, second) = if turned { (q, p) } else { (p, q) };
         assert!(rt; book.commit(first).is_ok() && book.commit(second).is_ok());
-        assert!(rt; matches!(book.begin(2), Ok(Begin::Finished)));
-        let closed = book.close();
-        assert!(rt; is_table(alloc, &closed.plan, &closed.rows, table)?);
-        let verdict = judge_alone(alloc, &closed.plan, &closed.rows, &NoWatch)?;
-        assert!(rt; verdict == Verdict::Accepted { runs: 2, tags: 1 });
+        let _ = close(&rt, alloc, book, table)?;
     }
     Ok(())
 }

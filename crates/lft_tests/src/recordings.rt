@@ -1,11 +1,11 @@
 //! Recordings by several workers: what no clause says of them.
 
-ghost use Rattle.std.specs.Prelude.{◌≡◌, OnOk, length};
+ghost use Rattle.std.specs.Prelude.{◌≡◌, IfOk, OnOk, length};
 
 use crate::answers::{done, put, write};
 use crate::texts::{AT_ONCE, PIPE, TWO, plan};
 use lft_check::{NoWatch, Verdict, judge_alone};
-use lft_model::Reads;
+use lft_model::{Plan, Reads};
 use lft_pool::{AnyAnswer, Bodies, Body, Code, Done, record_run};
 use lft_tag::{NoMemory, Tag};
 use std::alloc::Global;
@@ -61,12 +61,10 @@ fn put_meeting(
     }
 }
 
-// no clause says that a body runs while no lock is held, or that there are two workers: with a lock
-// round the bodies, or one worker for all, the first one waits in vain
-#[test]
-fn runs_two_bodies_at_once(rt: HostRuntime) -> Result<(), Fail> {
-    let alloc = rt.alloc();
-    let plan = plan(alloc, TWO, AT_ONCE)?;
+/// A body for each of the two reactions of `TWO`, each of which waits for the other one.
+fn meeting_bodies(alloc: Global, plan: &Plan) -> Result<Bodies<AnyAnswer, Meeting>, Fail>
+    ensures { IfOk result (λ bodies. length bodies ≡ length plan.now.program.reactions) }
+{
     let left = Arc::new(alloc, AtomicBool::new(false))?;
     let right = Arc::new(alloc, AtomicBool::new(false))?;
     let p = Meeting {
@@ -84,6 +82,16 @@ fn runs_two_bodies_at_once(rt: HostRuntime) -> Result<(), Fail> {
     let mut bodies = Bodies::new(alloc, plan.program())?;
     put_meeting(&mut bodies, 0, p)?;
     put_meeting(&mut bodies, 1, q)?;
+    Ok(bodies)
+}
+
+// no clause says that a body runs while no lock is held, or that there are two workers: with a lock
+// round the bodies, or one worker for all, the first one waits in vain
+#[test]
+fn runs_two_bodies_at_once(rt: HostRuntime) -> Result<(), Fail> {
+    let alloc = rt.alloc();
+    let plan = plan(alloc, TWO, AT_ONCE)?;
+    let bodies = meeting_bodies(alloc, &plan)?;
     let Ok(recorded) = record_run(&rt, alloc, plan, bodies, 2, 10) else {
         panic!(rt; "stopped");
     };

@@ -10,4 +10,4 @@ returns g t c =
     let one = at_some (λ rows. HoldsRows program c.in-Some.first.now rows.items) c.join-rows.result.0 c.in_ok-rows.field-0 c.in_ok-rows.was c.join-rows.ensures.first in
     let other = at_some (λ rows. HoldsRows program c.in-Some.second.now rows.items) c.join-rows.result.1 c.in_ok-more.field-0 c.in_ok-more.was c.join-rows.ensures.second in
     let both = holds_both program c.args.text.now c.in-Some.first.now c.in-Some.second.now c.in_ok-rows.field-0.items c.in_ok-more.field-0.items cut.0 cut.1 cut.2 one other in
-    IfSome_then c.put_together.result c.put_together.ensures (λ all is. rw is both)
+    IfSome_then c.put_together.result c.put_together.ensures.rows (λ all is. rw is both)
