@@ -2,7 +2,6 @@
 //! The verdict on a trace.
 
 mod carry;
-mod count;
 mod examine;
 mod fault;
 mod judging;

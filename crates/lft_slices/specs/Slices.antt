@@ -1,9 +1,12 @@
--- What a cut of a trace tells: the rows at each tag, the first missing run, and the first tag without any run.
-use Rattle.std.specs.Prelude.{◌≡◌, ℕ, ◌<◌, ◌≤◌, ◌⊎◌, List, length, Option, Some, MatchOption, slice_get}
+-- What a cut of a trace tells: the rows at each tag, how many runs there are, the first missing run, and the first tag without any run.
+use Rattle.std.specs.Prelude.{◌≡◌, ℕ, ◌<◌, ◌≤◌, ◌⊎◌, Bool, true, false, List, length, Option, Some, MatchOption, slice_get}
+use Rattle.std.specs.List.{count_by}
 use Rattle.lft_tag.specs.declared.Tag.{Tag}
 use Rattle.lft_tag.specs.Tags.{Before, UpTo}
 use Rattle.lft_model.specs.Plans.{PlanParts, IsSoundPlan}
 use Rattle.lft_trace.specs.declared.row.Row.{Row}
+use Rattle.lft_trace.specs.declared.row.Step.{Step}
+use Rattle.lft_trace.specs.declared.row.Step.TheVariants.{Start, Read, Write, Schedule, Stop, End}
 use Rattle.lft_trace.specs.Fits.{RowsFit}
 use Rattle.lft_model.specs.declared.breach.Breach.{Breach}
 use Rattle.lft_model.specs.Presence.{stop, Triggered}
@@ -14,6 +17,19 @@ use Rattle.lft_presence.specs.Traces.{TraceParts}
 use Rattle.lft_slices.specs.declared.slices.Slice.{Slice}
 use Rattle.lft_slices.specs.declared.fault.CutFault.{CutFault}
 use Rattle.lft_slices.specs.declared.fault.CutFault.TheVariants.{Broken, NoMemory}
+
+-- the test of a start
+abbrev pub begins : Step → Bool
+begins Start = true
+begins (Read n v) = false
+begins (Write n v) = false
+begins (Schedule n v d) = false
+begins Stop = false
+begins End = false
+
+-- the number of runs: of start rows
+abbrev pub runs_in : List Row → ℕ
+runs_in t = count_by (λ (row : Row). begins row.step) t
 
 -- rows can't be cut where one of them breaks a rule, or where a growth was refused
 abbrev pub IsCutFault : PlanParts → List Row → CutFault → Type 0

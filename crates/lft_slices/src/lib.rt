@@ -16,6 +16,7 @@ mod sliced;
 mod slices;
 mod slicing;
 mod started;
+mod stops;
 mod walk;
 
 pub use cuts::Cut;

@@ -12,7 +12,8 @@ use crate::sliced::Sliced;
 use crate::slices::{Slice, slices_of};
 use crate::slicing::{Caused, caused_by};
 use crate::started::{Started, started_of};
-use lft_model::{Plan, trace_stop};
+use crate::stops::trace_stop_shared;
+use lft_model::Plan;
 use lft_presence::{Presence, presence_of};
 use lft_rows::first_breach_shared;
 use lft_tag::{NoMemory, Tag};
@@ -20,8 +21,8 @@ use lft_trace::{Row, Rows};
 use std::alloc::Global;
 use std::thread::{Threads, join};
 
-/// What `slice_rows` gives, by so many workers at a time: the rules 1 to 5 in as many parts, then
-/// the slices, the runs by reaction and the events side by side.
+/// What `slice_rows` gives, by so many workers at a time: the stop and the rules 1 to 5 in as many
+/// parts, then the slices, the runs by reaction and the events side by side.
 pub fn slice_rows_shared<'a, R: Threads + Sync>(
     rt: &R,
     alloc: Global,
@@ -36,7 +37,7 @@ pub fn slice_rows_shared<'a, R: Threads + Sync>(
     // Asked for what every plan keeps: it is sound, which sliced rows are read with.
     plan.keeps();
     let rows = rows.as_slice();
-    let stop = trace_stop(plan, rows);
+    let stop = trace_stop_shared(rt, plan, rows, workers);
     match first_breach_shared(rt, alloc, plan, stop, rows, workers) {
         Ok(Some(breach)) => return Err(CutFault::Broken(breach)),
         Ok(None) => {}

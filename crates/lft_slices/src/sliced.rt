@@ -6,7 +6,7 @@ ghost use Rattle.lft_graph.specs.Graph.{IsGraphOf};
 ghost use Rattle.lft_trace.specs.declared.row.Row.{Row as TheRow};
 ghost use Rattle.lft_model.specs.Presence.{At, IsPresent, Triggered};
 ghost use Rattle.lft_presence.specs.Clashes.{IsClash};
-ghost use Rattle.lft_slices.specs.Slices.{AreSlices, IsCuttable, IsFirstMissing};
+ghost use Rattle.lft_slices.specs.Slices.{AreSlices, IsCuttable, IsFirstMissing, runs_in};
 
 use crate::slices::Slice;
 use crate::slicing::Caused;
@@ -25,6 +25,7 @@ pub struct Sliced<'a> {
     slices: Vec<Slice>,
     missing: Option<(Tag, u32)>,
     due: Vec<bool>,
+    runs: u32,
 }
 
 impl<'a> Model for Sliced<'a> {
@@ -36,7 +37,7 @@ impl<'a> Model for Sliced<'a> {
 
     ghost use Rattle.lft_slices.specs.Indexes.{IsIndexed};
 
-    ghost invariant = { λ a. IsIndexed a.presence a.slices.items a.missing a.due.items };
+    ghost invariant = { λ a. IsIndexed a.presence a.slices.items a.missing a.due.items a.runs };
 }
 
 impl<'a> Sliced<'a> {
@@ -54,6 +55,7 @@ impl<'a> Sliced<'a> {
             slices,
             missing: caused.missing,
             due: caused.due,
+            runs: caused.runs,
         }
     }
 
@@ -100,6 +102,13 @@ impl<'a> Sliced<'a> {
         ensures few { result ≤ 10000 }
     {
         self.presence.plan().program().reactions()
+    }
+
+    /// How many runs the rows have.
+    pub fn runs(&self) -> u32
+        ensures { result ≡ runs_in self.now.rows }
+    {
+        self.runs
     }
 
     /// The flat program.

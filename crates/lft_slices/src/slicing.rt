@@ -39,12 +39,13 @@ pub fn slice_rows<'a>(alloc: Global, plan: &'a Plan, rows: &'a Rows) -> Result<S
     }
 }
 
-/// What rows cause, beside their slices.
+/// What rows cause, and how many runs they have, beside their slices.
 #[derive(Drop)]
 pub(crate) struct Caused<'a> {
     pub(crate) presence: Presence<'a>,
     pub(crate) missing: Option<(Tag, u32)>,
     pub(crate) due: Vec<bool>,
+    pub(crate) runs: u32,
 }
 
 /// What is caused by rows of which presence and runs are known.
@@ -63,6 +64,7 @@ pub(crate) fn caused_by<'a>(
         presence,
         missing,
         due,
+        runs: started.runs,
     })
 }
 

@@ -9,4 +9,4 @@ pub index_shared-requires-clause-rules : goal.index_shared-requires-clause-rules
 index_shared-requires-clause-rules g c κs within =
     let plan = c.args.plan.now in
     let rows = c.as_slice-rows.result.now in
-    cuttable plan rows c.keeps.ensures.sound (subst (λ (t : List Row). RowsFit plan.program t) (sym c.as_slice-rows.ensures) c.requires) (subst (λ s. FirstRow s plan rows None) c.trace_stop-stop.ensures (subst (λ o. FirstRow c.trace_stop-stop.result plan rows o) c.in-Ok-None.field-0-is c.in-Ok-None.ensures))
+    cuttable plan rows c.keeps.ensures.sound (subst (λ (t : List Row). RowsFit plan.program t) (sym c.as_slice-rows.ensures) c.requires) (subst (λ s. FirstRow s plan rows None) c.trace_stop_shared-stop.ensures (subst (λ o. FirstRow c.trace_stop_shared-stop.result plan rows o) c.in-Ok-None.field-0-is c.in-Ok-None.ensures))
