@@ -3,13 +3,14 @@
 
 BUILT has the program record_speed; texts and tables are made in FOLDER. From the environment:
 WORKERS ("1 4") and TURNS (3). The shapes are a pipeline of five reactions, one firing of a timer five
-runs, and 1,000 reactors that know nothing of each other, each with a timer.
+runs; 1,000 reactors that know nothing of each other, each with a timer; and one reaction with 9,000
+timers, of which another one fires at each tag.
 
 The first table is of `lftrace record` by cards, the whole process: `ms` its wall time, `runs/s` the
 runs by that, `writing` the milliseconds that `write_trace` alone takes for the table, `peak MB` the
 most memory. What it writes is judged. The second is of bodies that compute for 20 microseconds each, a
-hundredth of the runs, by `record_run` alone: `bodies alone` is what the bodies take one after another,
-`by first` the time divided by that of the first number of workers.
+hundredth of the runs, by `record_run` alone, of the first two shapes: `bodies alone` is what the bodies
+take one after another, `by first` the time divided by that of the first number of workers.
 """
 import os, re, subprocess, sys, time
 
@@ -18,6 +19,7 @@ LEAST_SPEED = 500_000
 
 PIPELINE = 5
 REACTORS = 1_000
+TIMERS = 9_000
 # With bodies that compute, a hundredth of the runs is recorded: 20 microseconds each.
 BODIES_PART = 100
 
@@ -45,7 +47,15 @@ def independent(runs):
     return text, tags, [f"main.p{k}#1" for k in range(REACTORS)], cards
 
 
-SHAPES = {"pipeline": pipeline, "independent": independent}
+def timers(runs):
+    """One reaction with 9,000 timers, of which another one fires at each microsecond."""
+    parts = "".join(f"timer t{k}({k} us, {TIMERS} us)\n" for k in range(TIMERS))
+    triggers = ", ".join(f"t{k}" for k in range(TIMERS))
+    text = f"main reactor {{\n{parts}reaction({triggers}) {{= =}}\n}}\n"
+    return text, max(1, runs), ["main#1"], ["state,main#1,,,state+1\n"]
+
+
+SHAPES = {"pipeline": pipeline, "independent": independent, "timers": timers}
 
 
 def write(folder, name, text):
@@ -116,7 +126,7 @@ def record_all(lftrace, speed, folder, runs, all_workers, turns):
 def bodies_all(speed, folder, runs, all_workers, turns):
     form = "{:12} {:>8} {:>8} {:>8} {:>12} {:>10}"
     print(form.format("20 us a body", "workers", "runs", "ms", "bodies alone", "by first"))
-    for shape in SHAPES:
+    for shape in ["pipeline", "independent"]:
         texts = Texts(folder, shape, max(1, runs // BODIES_PART))
         first = None
         for workers in all_workers:
