@@ -1,6 +1,7 @@
 -- Texts that can be cut: at the end of a line, where no quote stands before.
-use Rattle.std.specs.Prelude.{◌≡◌, ◌≢◌, ℕ, List, [], ◌∷◌, ◌++◌, Some, slice_get}
-use Rattle.std.specs.List.{AllZip}
+use Rattle.std.specs.Prelude.{◌≡◌, ◌≢◌, ℕ, List, [], ◌∷◌, ◌++◌, Some, Vec, slice_get}
+use Rattle.std.specs.List.{AllZip, flat_map}
+use Rattle.std.specs.declared.alloc.Global.{Global}
 use Rattle.lft_flat.specs.Parts.{Parts}
 use Rattle.lft_trace.specs.Records.{records_of}
 use Rattle.lft_trace.specs.Traces.{IsRow}
@@ -21,3 +22,7 @@ BeginsPlain text = slice_get text 0 ≢ Some 239
 -- the text has no quotation mark, and its records are those of the rows, one by one
 abbrev pub HoldsRows : Parts → List ℕ → List Row → Type 0
 HoldsRows program text rows = HasNoQuote text × AllZip (IsRow program) (records_of text) rows
+
+-- the rows of lists of rows, one list after another
+abbrev pub rows_of : List (Vec Row Global) → List Row
+rows_of parts = flat_map (λ (part : Vec Row Global). part.items) parts

@@ -2,10 +2,10 @@
 
 ghost use Rattle.std.specs.Prelude.{◌≡◌, ◌≤◌, ◌++◌, length, IfSome};
 ghost use Rattle.std.specs.Thread.{IsSync};
-ghost use Rattle.lft_reading.specs.Parts.{HoldsRows};
+ghost use Rattle.lft_reading.specs.Parts.{HoldsRows, rows_of};
 
 use crate::lines::cut_behind;
-use crate::workers::{put_together, read_parts};
+use crate::workers::{MAX_ROWS, read_parts};
 use lft_flat::Program;
 use lft_trace::Row;
 use std::alloc::Global;
@@ -40,25 +40,42 @@ pub(crate) fn read_batches<R: Threads + Sync>(
     put_together(put, last)
 }
 
-/// The rows so far with those that were read behind them, and the rows of a batch.
+/// The rows so far with those that were read behind them, and the parts of a batch.
 fn read_beside<R: Threads + Sync>(
     rt: &R,
     alloc: Global,
     program: &Program,
     all: Vec<Row>,
-    read: Vec<Row>,
+    read: Vec<Vec<Row>>,
     batch: &[u8],
     workers: u32,
-) -> Option<(Vec<Row>, Vec<Row>)>
-    ensures { IfSome result (λ p. (p.0.items ≡ all.items ++ read.items) × HoldsRows program.now batch.now p.1.items) }
+) -> Option<(Vec<Row>, Vec<Vec<Row>>)>
+    ensures { IfSome result (λ p. (p.0.items ≡ all.items ++ rows_of read.items) × HoldsRows program.now batch.now (rows_of p.1.items)) }
 {
     let putting = move || -> Option<Vec<Row>>
-        ensures { IfSome result (λ rows. rows.items ≡ all.items ++ read.items) }
+        ensures { IfSome result (λ rows. rows.items ≡ all.items ++ rows_of read.items) }
     { put_together(all, read) };
-    let reading = move || -> Option<Vec<Row>>
+    let reading = move || -> Option<Vec<Vec<Row>>>
         requires { IsSync R.row }
-        ensures { IfSome result (λ rows. HoldsRows program.entry.now batch.entry.now rows.items) }
+        ensures { IfSome result (λ parts. HoldsRows program.entry.now batch.entry.now (rows_of parts.items)) }
     { read_parts(rt, alloc, program, batch, workers) };
     let (rows, more) = join(rt, putting, reading);
     Some((rows?, more?))
+}
+
+/// The rows, and behind them those of the parts, where a table may have as many.
+fn put_together(rows: Vec<Row>, parts: Vec<Vec<Row>>) -> Option<Vec<Row>>
+    ensures rows { IfSome result (λ all. all.items ≡ rows.items ++ rows_of parts.items) }
+    ensures few { IfSome result (λ all. length all.items ≤ 4000000) }
+{
+    let mut all = rows;
+    for place in 0..parts.len() {
+        if all.extend_from_slice(parts[place].as_slice()).is_err() {
+            return None;
+        }
+    }
+    if all.len() > MAX_ROWS as usize {
+        return None;
+    }
+    Some(all)
 }

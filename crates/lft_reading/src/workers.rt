@@ -2,7 +2,7 @@
 
 ghost use Rattle.std.specs.Prelude.{◌≡◌, ◌≤◌, ◌++◌, length, IfSome, false};
 ghost use Rattle.std.specs.Thread.{IsSync};
-ghost use Rattle.lft_reading.specs.Parts.{HoldsRows};
+ghost use Rattle.lft_reading.specs.Parts.{HoldsRows, rows_of};
 
 use crate::lines::cut_behind;
 use lft_flat::Program;
@@ -12,7 +12,7 @@ use std::alloc::Global;
 use std::thread::{Threads, join};
 
 /// The greatest number of rows of a table.
-const MAX_ROWS: u32 = 4_000_000;
+pub(crate) const MAX_ROWS: u32 = 4_000_000;
 
 /// Texts of fewer bytes are read in one part: of them a thread costs more than it brings.
 const SHORT: usize = 1 << 20;
@@ -24,7 +24,7 @@ pub(crate) fn is_one_part(text: &[u8], workers: u32) -> bool
     workers < 2 || text.len() < SHORT
 }
 
-/// The rows of a text without a quotation mark.
+/// The rows of a text without a quotation mark, those of each part in a list of its own.
 // Text and workers are divided in two, in the same proportion, until a part has one worker.
 #[cycle(parts)]
 pub(crate) fn read_parts<R: Threads + Sync>(
@@ -33,29 +33,36 @@ pub(crate) fn read_parts<R: Threads + Sync>(
     program: &Program,
     text: &[u8],
     workers: u32,
-) -> Option<Vec<Row>>
-    ensures { IfSome result (λ rows. HoldsRows program.now text.now rows.items) }
+) -> Option<Vec<Vec<Row>>>
+    ensures { IfSome result (λ parts. HoldsRows program.now text.now (rows_of parts.items)) }
 {
     if is_one_part(text, workers) {
-        return read_plain(alloc, program, text);
+        return read_alone(alloc, program, text);
     }
     let low = workers / 2;
     let high = workers - low;
     // The share of the low workers is no longer than the text, since they are fewer than all.
     let share = text.len() / workers as usize;
     let Some((first, second)) = cut_behind(text, share * low as usize) else {
-        return read_plain(alloc, program, text);
+        return read_alone(alloc, program, text);
     };
-    let front = move || -> Option<Vec<Row>>
+    let front = move || -> Option<Vec<Vec<Row>>>
         requires { IsSync R.row }
-        ensures { IfSome result (λ rows. HoldsRows program.entry.now first.entry.now rows.items) }
+        ensures { IfSome result (λ parts. HoldsRows program.entry.now first.entry.now (rows_of parts.items)) }
     { read_parts(rt, alloc, program, first, low) };
-    let back = move || -> Option<Vec<Row>>
+    let back = move || -> Option<Vec<Vec<Row>>>
         requires { IsSync R.row }
-        ensures { IfSome result (λ rows. HoldsRows program.entry.now second.entry.now rows.items) }
+        ensures { IfSome result (λ parts. HoldsRows program.entry.now second.entry.now (rows_of parts.items)) }
     { read_parts(rt, alloc, program, second, high) };
-    let (rows, more) = join(rt, front, back);
-    put_together(rows?, more?)
+    let (parts, more) = join(rt, front, back);
+    append(parts?, more?)
+}
+
+// The rows of a text as one part.
+fn read_alone(alloc: Global, program: &Program, text: &[u8]) -> Option<Vec<Vec<Row>>>
+    ensures { IfSome result (λ parts. HoldsRows program.now text.now (rows_of parts.items)) }
+{
+    one_part(alloc, read_plain(alloc, program, text)?)
 }
 
 // The rows of a text, by one worker. A line may end within quotes: no place of such a text is known
@@ -69,16 +76,24 @@ fn read_plain(alloc: Global, program: &Program, text: &[u8]) -> Option<Vec<Row>>
     read_part(alloc, program, text, MAX_ROWS)
 }
 
-/// The rows, and more of them behind, where a table may have as many.
-pub(crate) fn put_together(rows: Vec<Row>, more: Vec<Row>) -> Option<Vec<Row>>
-    ensures rows { IfSome result (λ all. all.items ≡ rows.items ++ more.items) }
-    ensures few { IfSome result (λ all. length all.items ≤ 4000000) }
+// The rows as the only part.
+fn one_part(alloc: Global, rows: Vec<Row>) -> Option<Vec<Vec<Row>>>
+    ensures { IfSome result (λ parts. rows_of parts.items ≡ rows.items) }
 {
-    if rows.len() + more.len() > MAX_ROWS as usize {
+    let mut parts = Vec::new(alloc);
+    if parts.push(rows).is_err() {
         return None;
     }
-    let mut all = rows;
-    if all.extend_from_slice(more.as_slice()).is_err() {
+    Some(parts)
+}
+
+// The parts, and more of them behind.
+fn append(parts: Vec<Vec<Row>>, more: Vec<Vec<Row>>) -> Option<Vec<Vec<Row>>>
+    ensures { IfSome result (λ all. all.items ≡ parts.items ++ more.items) }
+{
+    let mut all = parts;
+    let mut more = more;
+    if all.append(&mut more).is_err() {
         return None;
     }
     Some(all)

@@ -1,9 +1,10 @@
 use Rattle.std.proofs.Common.{◌++◌, length}
+use Rattle.lft_reading.specs.Parts.{rows_of}
 use Rattle.lft_reading.proofs.Behind.{GoesOn}
 use Rattle.lft_reading.proofs.batches.read_batches.Given as goal
 
 abbrev pub invariant-loop-batch : goal.invariant-loop-batch
-invariant-loop-batch g l = GoesOn l.program l.text (l.all.items ++ l.read.items) l.rest
+invariant-loop-batch g l = GoesOn l.program l.text (l.all.items ++ rows_of l.read.items) l.rest
 
 abbrev pub decreases-loop-batch : goal.decreases-loop-batch
 decreases-loop-batch g l = length l.rest

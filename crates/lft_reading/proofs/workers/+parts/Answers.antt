@@ -1,5 +1,9 @@
+use Rattle.std.proofs.Common.{Vec}
+use Rattle.std.proofs.lemmas.Grind.{flat_map-append}
 use Rattle.std.proofs.lemmas.Option.{IfSome_then}
-use Rattle.lft_reading.specs.Parts.{HoldsRows}
+use Rattle.std.specs.declared.alloc.Global.{Global}
+use Rattle.lft_trace.specs.declared.row.Row.{Row}
+use Rattle.lft_reading.specs.Parts.{HoldsRows, rows_of}
 use Rattle.lft_reading.proofs.Together.{at_some, holds_both}
 use Rattle.lft_reading.proofs.workers.+parts.Goals as goal
 
@@ -7,7 +11,7 @@ pub returns : goal.returns
 returns g t c =
     let program = c.args.program.now in
     let cut = c.in-Some.ensures in
-    let one = at_some (λ rows. HoldsRows program c.in-Some.first.now rows.items) c.join-rows.result.0 c.in_ok-rows.field-0 c.in_ok-rows.was c.join-rows.ensures.first in
-    let other = at_some (λ rows. HoldsRows program c.in-Some.second.now rows.items) c.join-rows.result.1 c.in_ok-more.field-0 c.in_ok-more.was c.join-rows.ensures.second in
-    let both = holds_both program c.args.text.now c.in-Some.first.now c.in-Some.second.now c.in_ok-rows.field-0.items c.in_ok-more.field-0.items cut.0 cut.1 cut.2 one other in
-    IfSome_then c.put_together.result c.put_together.ensures.rows (λ all is. rw is both)
+    let one = at_some (λ parts. HoldsRows program c.in-Some.first.now (rows_of parts.items)) c.join-parts.result.0 c.in_ok-parts.field-0 c.in_ok-parts.was c.join-parts.ensures.first in
+    let other = at_some (λ parts. HoldsRows program c.in-Some.second.now (rows_of parts.items)) c.join-parts.result.1 c.in_ok-more.field-0 c.in_ok-more.was c.join-parts.ensures.second in
+    let both = holds_both program c.args.text.now c.in-Some.first.now c.in-Some.second.now (rows_of c.in_ok-parts.field-0.items) (rows_of c.in_ok-more.field-0.items) cut.0 cut.1 cut.2 one other in
+    IfSome_then c.append.result c.append.ensures (λ all is. rw (is, flat_map-append (λ (part : Vec Row Global). part.items) c.in_ok-parts.field-0.items c.in_ok-more.field-0.items) both)
