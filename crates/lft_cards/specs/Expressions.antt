@@ -1,5 +1,5 @@
 -- Expressions of cards: the texts that spell them, and the numbers that they give.
-use Rattle.std.specs.Prelude.{◌≡◌, ◌≢◌, ◌==◌, ℕ, ℤ, ◌+ℤ◌, pos, List, [], ◌∷◌, codes, map, slice_get, unwrap_or, Option, Some, None}
+use Rattle.std.specs.Prelude.{◌≡◌, ◌==◌, ℕ, ℤ, ◌+ℤ◌, pos, List, [], ◌∷◌, codes, map, slice_get, unwrap_or, Option, Some, None}
 use Rattle.std.specs.List.{AllZip, slice_split}
 use Rattle.std.specs.Int.{int_wrap, w64}
 use Rattle.lft_tag.specs.declared.Tag.{Tag}

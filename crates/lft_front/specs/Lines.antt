@@ -1,5 +1,5 @@
 -- The lines that are printed.
-use Rattle.std.specs.Prelude.{ℕ, ◌<◌, List, [], ◌∷◌, ◌++◌, Option, Some, None, length, slice_get, unwrap_or, codes, decimal, flat_map, nat_eq, if◌then◌else◌}
+use Rattle.std.specs.Prelude.{ℕ, ◌<◌, List, [], ◌++◌, Option, Some, None, length, codes, nat_eq, if◌then◌else◌}
 use Rattle.lft_flat.specs.Parts.{Parts}
 use Rattle.lft_model.specs.declared.breach.Breach.{Breach}
 use Rattle.lft_check.specs.declared.verdict.Verdict.{Verdict}

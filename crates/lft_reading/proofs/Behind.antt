@@ -1,9 +1,9 @@
 -- A text whose batches are read one after another.
 use Rattle.std.proofs.Common.{◌≡◌, ◌++◌, ℕ, List}
+use Rattle.std.proofs.lemmas.List.{append_assoc}
 use Rattle.lft_flat.specs.Parts.{Parts}
 use Rattle.lft_trace.specs.declared.row.Row.{Row}
 use Rattle.lft_reading.specs.Parts.{EndsLine, BeginsPlain, HoldsRows}
-use Rattle.std.proofs.lemmas.List.{append_assoc}
 use Rattle.lft_reading.proofs.Together.{holds_both}
 
 -- the text holds these rows and behind them those of its rest, whichever they are

@@ -62,7 +62,7 @@ pub(crate) fn read_parts<R: Threads + Sync>(
 fn read_alone(alloc: Global, program: &Program, text: &[u8]) -> Option<Vec<Vec<Row>>>
     ensures { IfSome result (λ parts. HoldsRows program.now text.now (rows_of parts.items)) }
 {
-    one_part(alloc, read_plain(alloc, program, text)?)
+    only_part(alloc, read_plain(alloc, program, text)?)
 }
 
 // The rows of a text, by one worker. A line may end within quotes: no place of such a text is known
@@ -77,7 +77,7 @@ fn read_plain(alloc: Global, program: &Program, text: &[u8]) -> Option<Vec<Row>>
 }
 
 // The rows as the only part.
-fn one_part(alloc: Global, rows: Vec<Row>) -> Option<Vec<Vec<Row>>>
+fn only_part(alloc: Global, rows: Vec<Row>) -> Option<Vec<Vec<Row>>>
     ensures { IfSome result (λ parts. rows_of parts.items ≡ rows.items) }
 {
     let mut parts = Vec::new(alloc);

@@ -175,10 +175,10 @@ module _ (places : List ℕ) (known : List Bool) (k : ℕ) (old due : List Bool)
 pub starts_of : (t : List Row) (n : ℕ) (started : Started) → HasRuns t n started → (r : ℕ) (gs : List Tag) → slice_get started.tags r ≡ Some gs → (ps : List ℕ) × (slice_get started.places r ≡ Some ps) × AreStartsOf t (length t) r gs ps
 starts_of t n started h r gs e =
     let l : r < length started.tags = slice_get_within started.tags r gs e in
-    let a : length started.tags ≡ n = h.has.many_tags in
-    let b : length started.places ≡ n = h.has.many_places in
+    let a : length started.tags ≡ n = h.lists.many_tags in
+    let b : length started.places ≡ n = h.lists.many_places in
     let p : (ps : List ℕ) × (slice_get started.places r ≡ Some ps) = get_there started.places r (omega arith) in
-    (p.0, p.1, h.has.starts r gs p.0 e p.1)
+    (p.0, p.1, h.lists.starts r gs p.0 e p.1)
 
 -- what is lacked of the tags of its runs is missing
 pub missing_of : (cut : TraceParts) (r : ℕ) (gs : List Tag) (ps : List ℕ) (o : Option Tag) → AreStartsOf cut.rows (length cut.rows) r gs ps → LeastTag (Lacks cut gs r) o → LeastTag (IsMissing cut r) o

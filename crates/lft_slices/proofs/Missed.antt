@@ -3,7 +3,7 @@ use Rattle.std.proofs.Common.{◌≡◌, ℕ, ◌+◌, ◌*◌, ◌<◌, ◌≤�
 use native.Mathlib.Decide.{ℕ_discrete}
 use Rattle.lft_tag.specs.declared.Tag.{Tag}
 use Rattle.lft_tag.specs.Tags.{Before, UpTo}
-use Rattle.lft_tag.proofs.Order.{UpTo-trans, UpTo_antisym, Before-weaken, order_cases, Before-UpTo, split_up}
+use Rattle.lft_tag.proofs.Order.{UpTo-trans, Before-weaken, Before-UpTo, split_up}
 use Rattle.lft_flat.specs.Parts.{Parts}
 use Rattle.lft_flat.specs.Sound.{IsSound, IsTriggerOf}
 use Rattle.lft_flat.specs.declared.parts.Trigger.{Trigger}

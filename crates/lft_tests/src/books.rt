@@ -132,7 +132,8 @@ fn books_two_in_either_order(rt: HostRuntime) -> Result<(), Fail> {
         assert!(rt; waits(&mut book, 2));
         let (first, second) = if turned { (q, p) } else { (p, q) };
         assert!(rt; book.commit(first).is_ok() && book.commit(second).is_ok());
-        let _ = close(&rt, alloc, book, table)?;
+        let states = close(&rt, alloc, book, table)?;
+        assert!(rt; states.as_slice() == [(0, 0), (0, 0)].as_slice());
     }
     Ok(())
 }

@@ -1,4 +1,4 @@
-use Rattle.std.proofs.Common.{List, Bool, ◌+◌, refl, sym, ◌∙◌, subst}
+use Rattle.std.proofs.Common.{List, Bool, ◌+◌, sym, ◌∙◌, subst}
 use Rattle.lft_slices.specs.Indexes.{AreDue, AreMarkedTo}
 use Rattle.lft_slices.proofs.Begun.{due_more, marked_more, marked_stay}
 use Rattle.lft_slices.proofs.missing.keep_due.Goals as goal
