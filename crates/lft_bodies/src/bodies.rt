@@ -52,6 +52,7 @@ impl<L: Law, C: Code + Drop> Bodies<L, C> {
     /// Puts a body behind the others of its reaction; where it can't it hands the body back, and
     /// all lists stay as they were.
     pub fn put(&mut self, body: Body<L, C>) -> Result<(), (Body<L, C>, PutFault)>
+        ensures there { OnOk result (body < length self.old) }
         ensures ok { OnOk result (self.new ≡ slice_set self.old body (slice_index self.old body + 1)) }
         ensures err { IfErr result (λ e. (self.new ≡ self.old) × (e.0 ≡ body)) }
         ensures no_reaction { IfErr result (λ e. e.1 ≡ PutFault.NoReaction → length self.old ≤ body) }

@@ -5,7 +5,8 @@ ghost use Rattle.std.specs.Prelude.{◌≡◌};
 use lft_model::Reads;
 use lft_tag::Tag;
 
-/// Which run is begun, by which worker, and what its body is given. It can't be copied.
+/// Which run is begun, by which worker, and what its body is given. Anyone may make one: a book takes
+/// an answer only to a ticket that one of its open runs has.
 #[derive(Drop)]
 pub struct Ticket {
     pub worker: u32,

@@ -11,6 +11,7 @@ use Rattle.lft_load.specs.Faults.{table_number}
 use Rattle.lft_check.specs.declared.verdict.Verdict.{Verdict}
 use Rattle.lft_model.specs.Workers.{IsWorkers}
 use Rattle.lft_check.specs.Verdicts.{IsVerdict}
+use Rattle.lft_front.specs.Bundles.{IsBundle}
 use Rattle.lft_front.specs.Lines.{line_of}
 use Rattle.lft_load.specs.Meaning.{IsProgramOf, IsPlanOf}
 use Rattle.lft_front.specs.Meaning.{IsMeaning}
@@ -21,7 +22,7 @@ use Rattle.lft_load.specs.declared.fault.Fault.{Fault}
 use Rattle.lft_load.specs.declared.fault.Part.TheVariants as part
 use Rattle.lft_load.specs.Refusals.{LoadRefusal, ProgramRefusal, GraphRefusal}
 
--- a growth of the checker or of the program itself was refused
+-- a growth of the checker or of `lftrace` itself was refused
 abbrev pub IsRefusedGrowth : Fault → Type 0
 IsRefusedGrowth f = (f.part ≡ part.Check) × (f.number ≡ 3) ⊎ (f.part ≡ part.Memory) × (f.number ≡ 1)
 
@@ -51,3 +52,8 @@ pub data ShowRefusal (text : List ℕ) (old new : Option (List ℕ)) (f : Fault)
   by_graph : (parts : Parts) → IsProgramOf text parts → GraphRefusal parts f → ShowRefusal text old new f
   by_growth : f.part ≡ part.Memory → f.number ≡ 1 → ShowRefusal text old new f
   by_writer : (parts : Parts) (g : GraphParts) → f.part ≡ part.Write → f.number ≡ 1 → IsProgramOf text parts → IsGraphOf parts g → AppendsFront old new (show_words parts g) → ShowRefusal text old new f
+
+-- a bundle gets no verdict: the text is no bundle, or its three texts get none by one worker
+pub data BundleRefusal (text : List ℕ) (old new : Option (List ℕ)) (f : Fault) : Type 0 where
+  by_bundle : f.part ≡ part.Bundle → f.number ≡ 1 → ((program externals trace : List ℕ) → IsBundle text program externals trace → ⊥) → BundleRefusal text old new f
+  by_judging : (program externals trace : List ℕ) → IsBundle text program externals trace → JudgeRefusal program externals trace 1 old new f → BundleRefusal text old new f

@@ -46,6 +46,7 @@ fn verdict_of(alloc: Global, plan: &Plan, rows: &Rows) -> Result<Verdict, Fault>
     ensures one_worker { IfOk result (AcceptedRuns plan.now rows.now) }
     ensures growth { IfErr result IsRefusedGrowth }
 {
+    // Called for its clause: of an accepted trace it says that the runs are an execution.
     law_one_worker(plan);
     match judge_alone(alloc, plan, rows, &NoWatch) {
         Ok(verdict) => Ok(verdict),

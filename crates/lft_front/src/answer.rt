@@ -4,7 +4,7 @@ ghost use Rattle.std.specs.Prelude.{◌≡◌, ◌↔◌, true, IsTrue, IfOk, If
 ghost use Rattle.lft_front.specs.Judged.{IsAccepted, IsBundleAccepted};
 ghost use Rattle.lft_front.specs.PairRefusals.{PairRefusal};
 ghost use Rattle.lft_front.specs.Pairs.{IsSameAnswer, SaysSame};
-ghost use Rattle.lft_front.specs.Refusals.{JudgeRefusal};
+ghost use Rattle.lft_front.specs.Refusals.{JudgeRefusal, BundleRefusal, ShowRefusal};
 ghost use Rattle.lft_front.specs.Shown.{IsShown};
 ghost use Rattle.lft_front.specs.Judged.{Accepts};
 
@@ -73,19 +73,23 @@ pub fn pair_answer<W: Write, R: Threads + Sync>(
 /// Whether the trace of a bundle is accepted, whose verdict's line is written. A text that is no
 /// bundle is refused as `bundle 1 BadBundle`.
 pub fn bundle_answer<W: Write>(alloc: Global, text: &[u8], out: &mut W) -> Result<bool, Fault>
-    ensures { IfOk result (IsBundleAccepted text.now (W.contents out.old) (W.contents out.new)) }
+    ensures accepted { IfOk result (IsBundleAccepted text.now (W.contents out.old) (W.contents out.new)) }
+    ensures refused { IfErr result (BundleRefusal text.now (W.contents out.old) (W.contents out.new)) }
 {
     let Some(bundle) = split_bundle(text) else {
         return Err(Fault::plain(Part::Bundle, 1, "BadBundle"));
     };
-    let verdict = judge_texts_alone(alloc, bundle.program, bundle.externals, bundle.trace, out)?;
-    Ok(is_accepted(verdict))
+    match judge_texts_alone(alloc, bundle.program, bundle.externals, bundle.trace, out) {
+        Ok(verdict) => Ok(is_accepted(verdict)),
+        Err(fault) => Err(fault),
+    }
 }
 
 /// True, once the lines of the program are written.
 pub fn show_answer<W: Write>(alloc: Global, program: &[u8], out: &mut W) -> Result<bool, Fault>
     ensures yes { IfOk result (λ shown. shown ≡ true) }
     ensures shown { IfOk result (λ shown. IsShown program.now (W.contents out.old) (W.contents out.new)) }
+    ensures refused { IfErr result (ShowRefusal program.now (W.contents out.old) (W.contents out.new)) }
 {
     show_text(alloc, program, out)?;
     Ok(true)

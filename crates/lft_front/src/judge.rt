@@ -75,6 +75,7 @@ pub(crate) fn verdict_of<R: Threads + Sync>(
     ensures workers { OnOk result (IsWorkers workers) }
     ensures fault { IfErr result (CheckRefusal workers) }
 {
+    // Called for its clause: of an accepted trace it says that the runs are an execution.
     law_one_worker(plan);
     match judge(rt, alloc, plan, rows, workers, &NoWatch) {
         Ok(verdict) => Ok(verdict),

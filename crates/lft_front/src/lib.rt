@@ -1,6 +1,6 @@
 #![tactic(auto)]
 //! From texts to a verdict, to the comparison of two traces, or to the lines of a program. It hands
-//! on the faults of `lft_load`.
+//! on what a command begins and ends with: faults, `load`, `read_input` and `finish` of `lft_load`.
 
 mod alone;
 mod answer;

@@ -43,7 +43,7 @@ HasClash plan t None = IsClean plan t
 abbrev pub RefusalCause : PlanParts → List Row → Stop → Type 0
 RefusalCause plan t (Collision g) = CollidesFirst plan t g
 RefusalCause plan t TooManyRows = IsClean plan t × (4000000 < length t)
-RefusalCause plan t NoMemory = Unit {0}
+RefusalCause plan t NoMemory = ⊥
 RefusalCause plan t LimitTag = ⊥
 RefusalCause plan t (UndeclaredEffect r) = ⊥
 RefusalCause plan t (NoBody r) = ⊥
