@@ -4,11 +4,12 @@
 //! remark, and `== end` stands last. In these lines `\HH` is the byte of that hexadecimal number, and
 //! a backslash at the end of a line takes the line's end away. The kinds are told where they are
 //! answered: what is given to other cases, texts, programs, traces, external inputs, presence, the
-//! runs of a trace, texts as a whole, two traces beside one another, recordings, and the words of
+//! runs of a trace and what else a cut tells, texts as a whole, two traces beside one another, recordings, and the words of
 //! faults. `title` and some words are written as they are.
 #![tactic(auto)]
 
 mod case_text;
+mod cuts;
 mod external_tables;
 mod faults;
 mod given;
@@ -59,6 +60,7 @@ fn tell<R: Threads + Wait + Sync>(
         "read-externals-text" => external_tables::read_text(alloc, given, text, told),
         "ask" => presence::ask(alloc, given, text, told),
         "pieces" => pieces::pieces(alloc, given, text, told),
+        "cut" => cuts::cuts(alloc, given, text, told),
         "show" => whole::show(alloc, text, told),
         "judge" => whole::judge(rt, alloc, given, text, words, told),
         "judge-text" => whole::judge_text(rt, alloc, given, text, words, told),

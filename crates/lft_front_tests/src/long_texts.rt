@@ -42,7 +42,14 @@ fn reads_long_texts(rt: HostRuntime) -> Result<(), Fail> {
             none,
             "fault syntax 1 Unexpected token=500007\n",
         ),
-        (STATE, b"(", b")", 500_000, b"}", ""),
+        (
+            STATE,
+            b"(",
+            b")",
+            500_000,
+            b" reaction(startup) {= =} }",
+            "reaction main#1 level=0 before=-\n",
+        ),
         (
             b"main reactor { ",
             b"timer t ",

@@ -7,6 +7,7 @@ use std::thread::Threads;
 /// What was written, and after it the line of the fault, where there is one.
 pub(crate) fn with_fault(mut out: Vec<u8>, fault: Option<Fault>) -> Vec<u8> {
     if let Some(fault) = fault {
+        // The status is asked in `writers.rt`.
         let _ = finish(Err(fault), &mut out);
     }
     out

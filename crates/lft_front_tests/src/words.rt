@@ -30,6 +30,7 @@ fn tells_want_of_memory_and_what_is_no_records(rt: HostRuntime) {
     ];
     let mut lines = Vec::new(rt.alloc());
     for fault in faults {
+        // The status is asked in `writers.rt`.
         let _ = finish(Err(fault), &mut lines);
     }
     assert!(rt; lines.as_slice() == LINES);

@@ -5,7 +5,10 @@ use crate::answers::{Prepared, PreparedBodies, done, put, write};
 use crate::texts::{AT_ONCE, PIPE, TWO, is_table, plan};
 use lft_check::{NoWatch, Verdict, judge_alone};
 use lft_flat::Value;
-use lft_pool::{Answered, AnyAnswer, Begin, Bodies, Book, Done, States};
+use lft_model::Reads;
+use lft_pool::{
+    Answered, AnyAnswer, Begin, Bodies, Body, Book, Done, PutFault, States, Stop, Ticket,
+};
 use lft_tag::{NoMemory, Tag};
 use std::alloc::Global;
 use std::process::Abort;
@@ -135,5 +138,61 @@ fn books_two_in_either_order(rt: HostRuntime) -> Result<(), Fail> {
         let states = close(&rt, alloc, book, table)?;
         assert!(rt; states.as_slice() == [(0, 0), (0, 0)].as_slice());
     }
+    Ok(())
+}
+
+/// An answer to a ticket that no book gave, for the second reaction by the second worker.
+fn strange(alloc: Global) -> Answered<AnyAnswer> {
+    let reads = Reads::from_vec(Vec::new(alloc));
+    let ticket = Ticket {
+        worker: 1,
+        tag: FIRST,
+        reaction: 1,
+        state: 0,
+        reads,
+    };
+    Body::new(1, Prepared::new(done(alloc, 0, &[]))).call(alloc, ticket)
+}
+
+// what a book has stopped for is answered to all that comes after it
+#[test]
+fn refuses_a_strange_answer(rt: HostRuntime) -> Result<(), Fail> {
+    let alloc = rt.alloc();
+    let (first, second) = (done(alloc, 0, &[]), done(alloc, 0, &[]));
+    let mut book = book_of(&rt, alloc, PIPE, first, second)?;
+    let first = answered(&rt, alloc, &mut book, 0, 0, &[]);
+    assert!(rt; book.commit(strange(alloc)) == Err(Stop::Stranger));
+    assert!(rt; matches!(book.begin(1), Err(Stop::Stranger)));
+    assert!(rt; book.commit(first) == Err(Stop::Stranger));
+    Ok(())
+}
+
+#[test]
+fn closes_without_a_run_where_a_body_is_missing(rt: HostRuntime) -> Result<(), Fail> {
+    let alloc = rt.alloc();
+    let plan = plan(alloc, TWO, AT_ONCE)?;
+    let mut bodies = PreparedBodies::new(alloc, plan.program())?;
+    put(&mut bodies, 1, done(alloc, 0, &[]))?;
+    let Ok(mut book) = Book::new(alloc, plan, bodies, 10) else {
+        panic!(rt; "there is no book");
+    };
+    assert!(rt; matches!(book.begin(0), Err(Stop::NoBody(0))));
+    assert!(rt; matches!(book.begin(1), Err(Stop::NoBody(0))));
+    let closed = book.close();
+    assert!(rt; closed.reason == Some(Stop::NoBody(0)) && closed.rows.as_slice().is_empty());
+    assert!(rt; closed.left.left(0) == 0 && closed.left.left(1) == 1);
+    Ok(())
+}
+
+#[test]
+fn hands_a_body_without_a_list_back(rt: HostRuntime) -> Result<(), Fail> {
+    let alloc = rt.alloc();
+    let plan = plan(alloc, TWO, AT_ONCE)?;
+    let mut bodies = PreparedBodies::new(alloc, plan.program())?;
+    let body = Body::new(2, Prepared::new(done(alloc, 0, &[])));
+    let Err((body, PutFault::NoReaction)) = bodies.put(body) else {
+        panic!(rt; "there is a third list");
+    };
+    assert!(rt; body.reaction() == 2 && bodies.left(0) == 0 && bodies.left(1) == 0);
     Ok(())
 }

@@ -12,6 +12,8 @@ mod queues;
 #[cfg(test)]
 mod recordings;
 #[cfg(test)]
+mod stops;
+#[cfg(test)]
 mod texts;
 #[cfg(test)]
 mod watches;

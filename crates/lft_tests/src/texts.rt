@@ -21,6 +21,10 @@ pub(crate) const TWO: &[u8] = b"reactor S { output o: int  reaction(startup) -> 
 main reactor { p = new S()  q = new S() }
 ";
 
+/// A reaction schedules an action, and another one reads it.
+pub(crate) const AGAIN: &[u8] =
+    b"main reactor { logical action n reaction(startup) -> n {= =} reaction(n) {= =} }";
+
 /// The execution is stopped at its first tag.
 pub(crate) const AT_ONCE: &[u8] = b"kind,time,microstep,name,value\nstop,0,0,,\n";
 

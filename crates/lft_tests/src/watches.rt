@@ -1,6 +1,6 @@
 //! Who is told which tag is examined, by one worker and by two.
 
-use crate::texts::plan;
+use crate::texts::{AGAIN, plan};
 use lft_check::{Verdict, Watch, judge, judge_alone};
 use lft_model::Plan;
 use lft_tag::Tag;
@@ -76,6 +76,7 @@ fn told(alloc: Global, plan: &Plan, table: &[u8]) -> Result<u64, Fail> {
     let watch = Digits {
         told: AtomicU64::new(0),
     };
+    // Who is told is asked, and not the verdict.
     let _ = judge_alone(alloc, plan, &rows, &watch)?;
     Ok(watch.told.load(Ordering::SeqCst))
 }
@@ -114,9 +115,6 @@ impl Watch for Hold {
         self.late.store(true, Ordering::SeqCst);
     }
 }
-
-const AGAIN: &[u8] =
-    b"main reactor { logical action n reaction(startup) -> n {= =} reaction(n) {= =} }";
 
 const AGAIN_EXTERNALS: &[u8] = b"kind,time,microstep,name,value\nstop,0,1,,\n";
 
