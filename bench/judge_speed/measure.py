@@ -1,9 +1,9 @@
 #!/usr/bin/env python3
-"""measure.py judge|pair LFTRACE BUILT FOLDER ROWS: measures what `bench/run judge` and
-`bench/run pair` built, and prints a table of ratios. bench/README.md tells what they mean.
+"""measure.py judge|pair|workers LFTRACE BUILT FOLDER ROWS: measures what `bench/run` with that
+word built, and prints a table of ratios. bench/README.md tells what they mean.
 
 BUILT has the programs shapes, plain and csv; the tables are made in FOLDER once. From the
-environment: SHAPES (some of them, by name), TURNS (5) and WORKERS (1).
+environment: SHAPES (some of them, by name), TURNS (5) and WORKERS (1; not asked by `workers`).
 """
 import hashlib, os, re, subprocess, sys, time
 
@@ -15,6 +15,9 @@ CORNERS = {
 }
 MOST_BY_CSV, MOST_BY_TENTH, MOST_BYTES, MOST_BY_ORDINARY = 2.5, 12, 110, 5
 MOST_BY_DENSE = {"timers": 3, "equal": 3}
+
+# The rows of a small table.
+SMALL = 9_000
 
 # A run that took so many ms isn't repeated.
 LONG = 20_000
@@ -173,6 +176,32 @@ def pair_all(options):
             f"{(both.peak * 1024 - sum(tables.bytes)) / 2 / tables.rows:.0f}"), flush=True)
 
 
+def workers_all(options):
+    """The ordinary shapes with 1, 2 and 4 workers in turn, and tables of 9,000 rows with 1 and 4."""
+    form = "{:10} {:>8} {:>8} {:>8} {:>8} {:>6} {:>6} {:>9} {:>9}"
+    print(form.format("shape", "rows", "1 ms", "2 ms", "4 ms", "2 by 1", "4 by 1", "small 1",
+                      "small 4"))
+    missed = []
+    for shape in [shape for shape in options.shapes if shape in ORDINARY]:
+        tables, few = (Tables(options, rows, shape) for rows in (options.rows, SMALL))
+        words = [options.lftrace, "judge"]
+        one, two, four = (Run(words + tables.paths + ["--workers", n]) for n in "124")
+        alone, beside = (Run(words + few.paths + ["--workers", n]) for n in "14")
+        take_turns([one, two, four] + 10 * [alone, beside], options.turns)
+        if not one.said == two.said == four.said or alone.said != beside.said:
+            print(f"{shape}: the workers differ")
+        by_two, by_four = two.wall / one.wall, four.wall / one.wall
+        print(form.format(
+            shape, tables.rows, f"{one.wall:.0f}", f"{two.wall:.0f}", f"{four.wall:.0f}",
+            f"{by_two:.2f}", f"{by_four:.2f}", f"{alone.wall:.2f}", f"{beside.wall:.2f}"),
+            flush=True)
+        goals = [("2 by 1", by_two, 0.65), ("4 by 1", by_four, 0.45),
+                 ("ms more", beside.wall - alone.wall, 2)]
+        missed += [f"{shape}: {what} {value:.2f}, at most {most}"
+                   for what, value, most in goals if value > most]
+    print("goals missed:" if missed else "no goal missed", *missed, sep="\n  ")
+
+
 class Options:
     def __init__(self, words):
         self.what, self.lftrace, self.built, self.folder = words[:4]
@@ -180,15 +209,16 @@ class Options:
         all_shapes = ORDINARY + list(CORNERS)
         self.shapes = re.findall(r"\w+", os.environ.get("SHAPES", "")) or all_shapes
         self.turns = int(os.environ.get("TURNS", "5"))
-        self.workers = os.environ.get("WORKERS", "1")
+        self.workers = "1, 2, 4" if self.what == "workers" else os.environ.get("WORKERS", "1")
 
 
 def main():
-    if len(sys.argv) != 6 or sys.argv[1] not in ("judge", "pair"):
+    measures = {"judge": judge_all, "pair": pair_all, "workers": workers_all}
+    if len(sys.argv) != 6 or sys.argv[1] not in measures:
         sys.exit(__doc__)
     options = Options(sys.argv[1:])
     say_program(options.lftrace, options.workers, options.turns)
-    (judge_all if options.what == "judge" else pair_all)(options)
+    measures[options.what](options)
 
 
 main()
