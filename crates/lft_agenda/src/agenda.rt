@@ -167,7 +167,8 @@ impl Agenda {
     }
 
     /// The run of the reaction at the tag is ended by the worker, with these steps. Gives the
-    /// least tag up to the stop at which two causes then give one port or action an event.
+    /// least tag up to the stop at which two causes then give one port or action an event. With such a
+    /// tag, and where memory is refused, it is the agenda of no rows any more.
     pub fn end(
         &mut self,
         plan: &Plan,

@@ -33,6 +33,7 @@ fn next_firing(timer: &Timer, tag: Tag) -> Option<Tag>
     if timer.period == 0 {
         return None;
     }
+    // Both are at most 10^18, so the sum fits.
     let over = (tag.time - timer.offset) % timer.period;
     Some(Tag {
         time: tag.time - over + timer.period,
@@ -134,6 +135,7 @@ impl Firings {
             return None;
         };
         if let Some(next) = next_firing(program.timer(firing.timer), tag) {
+            // One was taken out, so there is room.
             let _fits = self.heap.push(Reverse(Firing {
                 time: next.time,
                 timer: firing.timer,

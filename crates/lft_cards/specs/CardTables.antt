@@ -30,9 +30,11 @@ pub record CardFields : Type 0 where
   pub delay : List ℕ
   pub value : List ℕ
 
+-- the fields in the order of the columns
 abbrev pub in_order : CardFields → List (List ℕ)
 in_order c = c.kind ∷ c.reaction ∷ c.name ∷ c.delay ∷ c.value ∷ []
 
+-- the first record
 abbrev pub header : List (List ℕ)
 header = codes "kind" ∷ codes "reaction" ∷ codes "name" ∷ codes "delay" ∷ codes "value" ∷ []
 
@@ -44,7 +46,7 @@ word kind.Schedule = codes "schedule"
 word kind.Stop = codes "stop"
 word kind.State = codes "state"
 
--- whether records of a kind name a port or an action, and whether they have a delay and a value
+-- whether records of a kind name a port or an action
 abbrev pub has_name : CardKind → Bool
 has_name kind.Bodies = false
 has_name kind.Write = true
@@ -52,6 +54,7 @@ has_name kind.Schedule = true
 has_name kind.Stop = false
 has_name kind.State = false
 
+-- whether records of a kind have a delay
 abbrev pub has_delay : CardKind → Bool
 has_delay kind.Bodies = false
 has_delay kind.Write = false
@@ -59,6 +62,7 @@ has_delay kind.Schedule = true
 has_delay kind.Stop = false
 has_delay kind.State = false
 
+-- whether records of a kind have a value
 abbrev pub has_value : CardKind → Bool
 has_value kind.Bodies = true
 has_value kind.Write = true
@@ -88,26 +92,29 @@ pub record IsCard (program : Parts) (fields : List (List ℕ)) (card : Card) : T
   pub reaction : IsNamed program.names (found.Reaction card.reaction) columns.reaction
   pub entry : IsOfKind program kind columns card.reaction card.entry
 
--- the number of bodies, the step or the word that a card gives reaction r
+-- the number of bodies that a card gives, if it gives one
 abbrev pub entry_bodies : Entry → Option ℕ
 entry_bodies (entry.Bodies n) = Some n
 entry_bodies (entry.Step s) = None
 entry_bodies (entry.State terms) = None
 
+-- the step that a card gives, if it gives one
 abbrev pub entry_step : Entry → Option CardStep
 entry_step (entry.Bodies n) = None
 entry_step (entry.Step s) = Some s
 entry_step (entry.State terms) = None
 
+-- the word that a card gives, if it gives one
 abbrev pub entry_state : Entry → Option (List Term)
 entry_state (entry.Bodies n) = None
 entry_state (entry.Step s) = None
 entry_state (entry.State terms) = Some terms
 
--- the entries of a reaction's cards, in order
+-- what the card tells, if it is one of reaction r
 abbrev pub entry_of : ℕ → Card → Option Entry
 entry_of r card = cond (r == card.reaction) (Some card.entry) None
 
+-- what the cards of reaction r tell, in order
 abbrev pub entries_of : ℕ → List Card → List Entry
 entries_of r cards = filter_map (entry_of r) cards
 

@@ -48,6 +48,7 @@ abbrev pub content_value : Tag → ℤ → List (Option Value) → Content → V
 content_value g word reads content.Bare = Bare
 content_value g word reads (content.Int terms) = Int (expression_value g word reads terms)
 
+-- a step in such a run, with its value
 abbrev pub step_done : Tag → ℤ → List (Option Value) → CardStep → Step
 step_done g word reads (step.Write n v) = row.Write n (content_value g word reads v)
 step_done g word reads (step.Schedule n v d) = row.Schedule n (content_value g word reads v) d

@@ -10,6 +10,7 @@ use Rattle.lft_cards.specs.declared.fault.CardFault.TheVariants as fault
 use Rattle.lft_cards.specs.declared.fields.CardFields.{CardFields as FieldsHeld}
 use Rattle.lft_cards.specs.declared.kind.CardKind.{CardKind}
 
+-- the fields of a record, by their names
 abbrev pub card_fields : FieldsHeld → CardFields
 card_fields c = record { kind = c.kind.now; reaction = c.reaction.now; name = c.name.now; delay = c.delay.now; value = c.value.now }
 

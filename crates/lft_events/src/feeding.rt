@@ -55,7 +55,7 @@ fn port_at(ports: &[u32], place: usize) -> u32
 }
 
 // Puts the event of a port in, at which a write of its origin at the tag arrives. Where the origin
-// was written at the tag before, its event takes another value.
+// was written already at this tag, its event takes another value.
 fn feed_port(
     queue: &mut Queue,
     plan: &Plan,
@@ -72,6 +72,7 @@ fn feed_port(
 {
     let at = tag.plus(plan.program().port(number).shift);
     if again {
+        // What the earlier write put there; nothing where that was past the last tag or the collision.
         let _replaced = queue.remove(at, Name::Port(number));
     }
     put(queue, last, clash, at, Name::Port(number), value)

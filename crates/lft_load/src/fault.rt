@@ -135,7 +135,7 @@ impl Fault {
         }
     }
 
-    /// A growth of the program itself was refused. It takes no memory.
+    /// A growth of `lftrace` itself was refused. It takes no memory.
     pub fn no_memory() -> Fault
         ensures part { result.part ≡ part.Memory }
         ensures number { result.number ≡ 1 }

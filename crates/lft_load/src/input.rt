@@ -15,7 +15,8 @@ const MOST_BYTES: usize = 1 << 30;
 const MOST_READS: u32 = 1 << 24;
 
 /// All bytes of a reader up to its end. `read` 1 `Failed` comes only where the reader failed, and
-/// `read` 2 `TooLarge` past 2^30 bytes or 2^24 calls; the path is for the fault alone.
+/// `read` 2 `TooLarge` past 2^30 bytes or 2^24 calls, and `memory` 1 where the bytes or the path can't
+/// be kept; the path is for the fault alone.
 pub fn read_input<R: Read>(alloc: Global, path: &str, reader: &mut R) -> Result<Vec<u8>, Fault>
     ensures bytes { IfOk result (λ v. IfSome (R.remaining reader.old) (λ xs. v.items ≡ xs)) }
     ensures limit { IfOk result (λ v. length v.items ≤ 2 ^ 30) }

@@ -35,6 +35,7 @@ pub record IsDifference (plan : PlanParts) (t s : List Row) (g : Tag) (r : ℕ) 
   pub other_answer : answer_at plan t g r ≢ answer_at plan s g r
   pub same_before : (h : Tag) (a : ℕ) → ComesFirst graph.levels h a g r → IsSameRun plan t s h a
 
+-- same: they have the same runs; differ: the run of that tag and reaction is the difference
 abbrev pub IsPair : PlanParts → List Row → List Row → Pair → Type 0
 IsPair plan t s Same = SameRuns plan t s
 IsPair plan t s (Differ g r) = IsDifference plan t s g r
@@ -59,5 +60,6 @@ pub record IsFirstOdd (plan : PlanParts) (levels : List ℕ) (t s : List Row) (x
   pub odd : ¬ Agrees plan t s x.0 x.1
   pub before : (h : Tag) (a : ℕ) → Ran t h a → ComesFirst levels h a x.0 x.1 → Agrees plan t s h a
 
+-- that run, or that there is none
 abbrev pub FirstOdd : PlanParts → List ℕ → List Row → List Row → Option (Tag × ℕ) → Type 0
 FirstOdd plan levels t s o = MatchOption o ((h : Tag) (a : ℕ) → Ran t h a → Agrees plan t s h a) (IsFirstOdd plan levels t s)

@@ -181,6 +181,8 @@ impl<L: Law, C: Code + Drop> Book<L, C> {
         if self.rows.as_slice().len() + added.len() > MAX_ROWS {
             return Err(self.stop(Stop::TooManyRows));
         }
+        // From here on agenda and rows don't agree until both have the run, so where one of them
+        // refuses the reason is kept at once: the invariant asks nothing of a stopped book's agenda.
         let Ok(()) = self.agenda.begin(worker, tag, reaction, &reads) else {
             self.reason = Some(Stop::NoMemory);
             return Err(Stop::NoMemory);
@@ -271,6 +273,7 @@ impl<L: Law, C: Code + Drop> Book<L, C> {
         };
         let place = program.reaction(reaction).instance;
         let before = self.rows.as_slice().len();
+        // From here on rows and agenda don't agree until both have the answer, as in `start`.
         let Ok(()) = self.rows.append(added.as_slice()) else {
             self.reason = Some(Stop::NoMemory);
             return Err(Stop::NoMemory);

@@ -90,8 +90,8 @@ fn work_all<L: Law + Send, C: Code + Drop + Send, R: Threads + Wait + Sync>(
     })
 }
 
-// Why the recording isn't finished, if it isn't: another plan, too many runs, a thread that could not
-// be started, the book's own reason.
+// Why the recording isn't handed back as finished, if it isn't: another plan, too many runs, a thread
+// that could not be started (also where the other workers ran all), the book's own reason.
 fn reason_of<L: Law, C: Code + Drop>(
     same: bool,
     all: bool,
@@ -155,7 +155,9 @@ fn is_workers(workers: u32) -> bool
 }
 
 /// Records the plan with so many workers, 1 to 64, and at most so many runs. The caller is worker 0,
-/// and each other worker has a thread of its own. It doesn't return while a body doesn't.
+/// and each other worker has a thread of its own. It doesn't return while a body doesn't. Of several
+/// reasons to stop the first is told of `BadWorkers`, `NoMemory` for the copy of the plan,
+/// `PlanChanged`, more runs than are allowed, `NoWorker`, and what the book itself has kept.
 pub fn record_run<L: Law + Send, C: Code + Drop + Send, R: Threads + Wait + Sync>(
     rt: &R,
     alloc: Global,

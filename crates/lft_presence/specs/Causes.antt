@@ -86,6 +86,7 @@ pub record IsEventCause (program : Parts) (t : List Row) (events : List Event) (
   pub is_event : slice_get events place ≡ Some event
   pub gives : event_cause program (length t + place) event ≡ c
 
+-- a row or an external event is the cause
 abbrev pub IsCause : PlanParts → List Row → Cause → Type 0
 IsCause plan t c = IsRowCause plan.program t c ⊎ IsEventCause plan.program t plan.externals.events c
 

@@ -9,6 +9,7 @@ use Rattle.lft_presence.specs.declared.causes.Cause.{Cause}
 use Rattle.lft_presence.specs.Causes.{tag_of}
 use Rattle.lft_presence.specs.Traces.{TraceParts, LeastTag}
 
+-- the cause is one of these
 abbrev pub Among : List Cause → Cause → Type 0
 Among causes c = (k : ℕ) × (slice_get causes k ≡ Some c)
 

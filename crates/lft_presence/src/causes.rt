@@ -106,6 +106,7 @@ pub fn skip(causes: &[Cause], place: usize, name: u32, shift: Shift, tag: Tag) -
     requires here { (c : TheCause) × (slice_get causes.now place ≡ Some c) × Leads name (shift.time, shift.steps) tag c }
     ensures { IsSkip causes.now name (shift.time, shift.steps) tag place result }
 {
+    // Read for its clause that the place is one of the list, so that the next is a number.
     let _here = causes[place];
     let next = place + 1;
     if next < causes.len() && leads(cause_at(causes, next), name, shift, tag) {

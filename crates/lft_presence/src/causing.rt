@@ -108,6 +108,7 @@ fn add_events(plan: &Plan, rows: &[Row], causes: &mut Vec<Cause>) -> Result<(), 
     let program = plan.program();
     let events = plan.externals().events();
     for place in 0..events.len() {
+        // There are 4,000,000 rows and as many events at most, so the sum fits.
         let at = (rows.len() + place) as u32;
         causes.push(of_event(program, at, event_at(events, place)))?;
     }

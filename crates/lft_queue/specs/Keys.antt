@@ -16,13 +16,16 @@ use Rattle.lft_queue.specs.Pending.{Pending}
 abbrev pub Key : Type 0
 Key = ℕ × ℕ × Bool × ℕ
 
+-- where the event of a name at a tag stands
 abbrev pub key_of : Tag → Name → Key
 key_of g (Port p) = (g.time, g.micro, false, p)
 key_of g (Action a) = (g.time, g.micro, true, a)
 
+-- the tag of a key
 abbrev pub tag_of : Key → Tag
 tag_of k = record { time = k.0; micro = k.1 }
 
+-- the name of a key: of an action, or of a port
 abbrev pub name_of : Bool → ℕ → Name
 name_of true a = Action a
 name_of false p = Port p

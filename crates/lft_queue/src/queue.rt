@@ -122,6 +122,7 @@ impl Queue {
         ensures none { IfNone result (self.now ≡ []) }
         ensures once { IsMap self.now }
     {
+        // Asked for its clause that the keys ascend.
         let _count = self.values.len();
         match self.values.first_key_value() {
             Some((key, _)) => return Some(tag_of_key(*key)),

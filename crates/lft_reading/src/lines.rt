@@ -12,7 +12,8 @@ const HEADER: &[u8] = b"event,worker,time,microstep,reaction,name,value,delay\n"
 /// nowhere else.
 const MARK: u8 = 239;
 
-/// What comes below the header, where the text begins with just these bytes.
+/// What comes below the header, where the text begins with just these bytes and no byte order mark
+/// may stand below them.
 pub(crate) fn below_header(text: &[u8]) -> Option<&[u8]>
     ensures { IfSome result (λ rest. records_of text.now ≡ header ∷ records_of rest.now) }
 {
@@ -24,7 +25,7 @@ pub(crate) fn below_header(text: &[u8]) -> Option<&[u8]>
 }
 
 /// The text in two parts: up to the first end of a line at or behind this place, and what comes
-/// behind it.
+/// behind it. None where no line ends there, or where a byte order mark may stand behind it.
 pub(crate) fn cut_behind(text: &[u8], from: usize) -> Option<(&[u8], &[u8])>
     ensures { IfSome result (λ p. (text.now ≡ p.0.now ++ p.1.now) × EndsLine p.0.now × BeginsPlain p.1.now) }
 {
@@ -40,6 +41,7 @@ pub(crate) fn cut_behind(text: &[u8], from: usize) -> Option<(&[u8], &[u8])>
     None
 }
 
+// Whether the text begins as a byte order mark does.
 fn may_begin_with_mark(text: &[u8]) -> bool
     ensures { result ≡ false → BeginsPlain text.now }
 {

@@ -18,7 +18,8 @@ use std::thread::Threads;
 ///
 /// It is read in one part, by `read_trace`, with one worker or none, where the text has under
 /// 1 MiB, and where anything about it is odd: a header in other bytes than its own and a line feed,
-/// a quotation mark, a record that is no row, want of memory. So the faults are those of
+/// a quotation mark, a part that may begin with a byte order mark, a record that is no row, too many
+/// rows, want of memory. So the faults are those of
 /// `read_trace`, and a table with a fault is read twice. Beside the rows so far, those of two
 /// batches are held, of 4 MiB of text a worker each. Where no thread can be started, the parts are
 /// read one after another.

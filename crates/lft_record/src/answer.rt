@@ -15,7 +15,8 @@ use std::thread::Threads;
 
 /// True, once the program under its external inputs is recorded with the bodies of the cards, and the
 /// trace table is written. The fault is that of the first layer that refuses, in the order lex,
-/// syntax, program, externals, graph, cards, pool, write.
+/// syntax, program, externals, graph, cards; then `write` where the table couldn't be written, else
+/// `pool` where the recording stopped. `memory` 1 may come in place of any from the cards on.
 pub fn record_answer<R: Threads + Wait + Sync, W: Write>(
     rt: &R,
     alloc: Global,

@@ -17,7 +17,8 @@ use std::thread::Threads;
 /// Records the plan with so many workers, at most so many runs, and writes the trace table. Where the
 /// recording stops, the table of its rows so far is written, and then the fault is part `pool` with
 /// the number of the reason. Where that table or the fault's words can't be made for want of memory,
-/// the fault is `memory` 1 and nothing is written.
+/// the fault is `memory` 1 and nothing is written. Where the writer fails its fault is told, and not
+/// why the recording stopped.
 pub fn record_to<L: Law + Send, C: Code + Drop + Send, R: Threads + Wait + Sync, W: Write>(
     rt: &R,
     alloc: Global,

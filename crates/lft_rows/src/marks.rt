@@ -134,6 +134,7 @@ impl Marks {
     {
         let at = self.firsts[reaction as usize] + seat;
         self.places[at] = mark;
+        // Any number may be guessed.
         self.guess = seat.wrapping_add(1);
     }
 
@@ -149,6 +150,7 @@ impl Marks {
         let row = row_at(rows, place);
         if let Step::Read(name, _) = row.step {
             if let Some(seat) = self.seat(program, row.reaction, name) {
+                // There are 4,000,000 rows at most, so the place fits.
                 self.set(program, row.reaction, seat, place as u32 + 1);
             }
         }

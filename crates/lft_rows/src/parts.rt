@@ -58,7 +58,7 @@ fn keeps(alloc: Global, plan: &Plan, stop: Tag, rows: &[Row]) -> bool
 }
 
 /// The same of rows and workers that are divided in two, in the same proportion, until a part has
-/// one worker. A run has one tag, so it is in one part, as what is read before in it.
+/// one worker. A run has one tag, so it lies in one part, with all that it read before.
 #[cycle(parts)]
 fn keep_parts<R: Threads + Sync>(
     rt: &R,

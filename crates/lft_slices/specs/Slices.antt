@@ -1,4 +1,4 @@
--- What a cut of a trace tells: the rows at each tag, how many runs there are, the first missing run, and the first tag without any run.
+-- What sliced rows and a cut tell: the rows at each tag, how many runs there are, the first missing run, and the first tag without any run.
 use Rattle.std.specs.Prelude.{◌≡◌, ℕ, ◌<◌, ◌≤◌, ◌⊎◌, Bool, true, false, List, length, Option, Some, MatchOption, slice_get}
 use Rattle.std.specs.List.{count_by}
 use Rattle.lft_tag.specs.declared.Tag.{Tag}
@@ -31,7 +31,7 @@ begins End = false
 abbrev pub runs_in : List Row → ℕ
 runs_in t = count_by (λ (row : Row). begins row.step) t
 
--- rows can't be cut where one of them breaks a rule, or where a growth was refused
+-- rows can't be sliced where one of them breaks one of the rules 1 to 5, or where a growth was refused
 abbrev pub IsCutFault : PlanParts → List Row → CutFault → Type 0
 IsCutFault plan t (Broken b) = IsFirstOfRows (stop plan t) plan t b
 IsCutFault plan t NoMemory = Unit {0}
@@ -40,7 +40,7 @@ IsCutFault plan t NoMemory = Unit {0}
 abbrev pub KeepsRows : TraceParts → Type 0
 KeepsRows cut = (b : Breach) → ¬ RowBreach cut.plan cut.rows b
 
--- the rows that a cut is made of are of its program, and none breaks one of the rules 1 to 5
+-- the rows that are sliced are of the plan's program, and none breaks one of the rules 1 to 5
 pub record IsCuttable (cut : TraceParts) : Type 0 where
   pub sound : IsSoundPlan cut.plan
   pub fit : RowsFit cut.plan.program cut.rows

@@ -1,4 +1,4 @@
--- How far a walk over the tags of a cut has come.
+-- How far a walk over the tags of sliced rows has come.
 use Rattle.std.specs.Prelude.{ℕ}
 use Rattle.lft_slices.specs.declared.slices.Slice.{Slice}
 use Rattle.lft_slices.specs.declared.walk.Walk.{Walk}

@@ -1,4 +1,4 @@
-//! The runs of a trace whose rows break no rule, by tag.
+//! The runs of sliced rows, by tag.
 
 ghost use Rattle.std.specs.Prelude.{◌≡◌, ◌<◌, List, Option, length, IfOk};
 ghost use Rattle.lft_tag.specs.declared.Tag.{Tag as TheTag};

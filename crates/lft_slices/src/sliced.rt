@@ -1,4 +1,4 @@
-//! A trace whose rows break no rule, sliced by tag.
+//! Rows that break none of the rules 1 to 5, sliced by tag.
 
 ghost use Rattle.std.specs.Prelude.{◌≡◌, ◌<◌, ◌≤◌, ◌↔◌, length, Some, IsTrue, IfSome, IfNone, slice_get};
 ghost use Rattle.lft_flat.specs.Sound.{IsNameOf};

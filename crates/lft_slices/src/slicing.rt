@@ -18,7 +18,8 @@ use lft_tag::{NoMemory, Tag};
 use lft_trace::{Row, Rows};
 use std::alloc::Global;
 
-/// Slices the rows by tag.
+/// Slices the rows by tag. `Broken` has the first breach where a row breaks one of the rules 1 to 5,
+/// and `NoMemory` comes where a growth was refused.
 pub fn slice_rows<'a>(alloc: Global, plan: &'a Plan, rows: &'a Rows) -> Result<Sliced<'a>, CutFault>
     requires { RowsFit plan.now.program rows.now }
     ensures sliced { IfOk result (λ s. s ≡ record { plan = plan.now; rows = rows.now }) }
