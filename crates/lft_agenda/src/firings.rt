@@ -33,7 +33,7 @@ fn next_firing(timer: &Timer, tag: Tag) -> Option<Tag>
     if timer.period == 0 {
         return None;
     }
-    // Both are at most 10^18, so the sum fits.
+    // The tag's time and the period are at most 10^18 each, so their sum below fits.
     let over = (tag.time - timer.offset) % timer.period;
     Some(Tag {
         time: tag.time - over + timer.period,

@@ -4,8 +4,8 @@
 //! remark, and `== end` stands last. In these lines `\HH` is the byte of that hexadecimal number, and
 //! a backslash at the end of a line takes the line's end away. The kinds are told where they are
 //! answered: what is given to other cases, texts, programs, traces, external inputs, presence, the
-//! runs of a trace and what else a cut tells, texts as a whole, two traces beside one another, recordings, and the words of
-//! faults. `title` and some words are written as they are.
+//! runs of a trace and what else a cut tells, texts as a whole, two traces beside one another,
+//! recordings, and the words of faults. `title` and some words are written as they are.
 #![tactic(auto)]
 
 mod case_text;
