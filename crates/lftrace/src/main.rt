@@ -25,6 +25,14 @@ fn read_file<F: Files>(rt: &F, alloc: Global, path: &str) -> Result<Vec<u8>, Fau
     }
 }
 
+/// A trace of fewer bytes is judged by one worker: of it a thread costs more than it brings.
+const SHORT: usize = 1 << 20;
+
+/// How many of so many workers judge traces of so many bytes.
+fn workers_for(workers: u32, bytes: usize) -> u32 {
+    if bytes < SHORT { 1 } else { workers }
+}
+
 /// Judges the trace of three files, all of which are read first.
 fn judge_files<F: Files + Threads + Sync, W: Write>(
     rt: &F,
@@ -41,7 +49,7 @@ fn judge_files<F: Files + Threads + Sync, W: Write>(
         program.as_slice(),
         externals.as_slice(),
         trace.as_slice(),
-        words.workers,
+        workers_for(words.workers, trace.len()),
         out,
     )
 }
@@ -64,7 +72,7 @@ fn pair_files<F: Files + Threads + Sync, W: Write>(
         externals.as_slice(),
         first.as_slice(),
         second.as_slice(),
-        words.workers,
+        workers_for(words.workers, first.len().max(second.len())),
         out,
     )
 }
