@@ -85,7 +85,7 @@ fn path<'a>(alloc: Global, id: &'a str, help: &'a str) -> Arg<'a> {
 }
 
 /// The help of `--workers` of what judges.
-const JUDGES: &str = "how many workers read and judge, 1 to 64; the answer is the same";
+const JUDGES: &str = "how many workers read and judge at most, 1 to 64; the answer is the same";
 
 fn workers<'a>(alloc: Global, help: &'a str) -> Arg<'a> {
     Arg::new(alloc, "workers")
