@@ -7,9 +7,9 @@ ghost use Rattle.lft_listeners.specs.Listeners.{AreListeners};
 ghost use Rattle.lft_agenda.specs.declared.firings.Firing.{Firing as FiringOf};
 ghost use Rattle.lft_agenda.specs.Firings.{tag_of_firing, IsFirstFiring, AreFirst, IsMoved};
 
-use crate::telling::number_at;
 use lft_flat::{Program, Timer};
 use lft_listeners::Listeners;
+use lft_lists::item_at;
 use lft_tag::{NoMemory, Tag};
 use std::alloc::Global;
 use std::cmp::Reverse;
@@ -93,7 +93,7 @@ impl Firings {
         let timers = listeners.live_timers();
         let mut firings = Vec::new(alloc);
         for at in 0..timers.len() {
-            let timer = number_at(timers, at);
+            let timer = item_at(timers, at);
             firings.push(Reverse(Firing {
                 time: program.timer(timer).offset,
                 timer,

@@ -1,9 +1,8 @@
 //! The reactions that are triggered at a tag are told.
 
-ghost use Rattle.std.specs.Prelude.{◌≡◌, ◌≤◌, ◌<◌, length, slice_get, Some, IsSome, IsTrue};
+ghost use Rattle.std.specs.Prelude.{◌≡◌, ◌≤◌, length, IsSome, IsTrue};
 ghost use Rattle.lft_tag.specs.Tags.{Before, UpTo};
 ghost use Rattle.lft_flat.specs.declared.parts.Name.{Name as NameOf};
-ghost use Rattle.lft_model.specs.Plans.{PlanParts};
 ghost use Rattle.lft_listeners.specs.Listeners.{IsListener, AreListeners};
 ghost use Rattle.lft_queue.specs.Pending.{value_of};
 ghost use Rattle.lft_agenda.specs.Telling.{IsTold, FiresAt, TriggeredByQueue};
@@ -12,18 +11,11 @@ ghost use Rattle.lft_agenda.specs.Firings.{AreFirst};
 use crate::firings::Firings;
 use lft_flat::Trigger;
 use lft_listeners::Listeners;
+use lft_lists::item_at;
 use lft_model::Plan;
 use lft_queue::Queue;
 use lft_tag::Tag;
 use lft_turn::Turn;
-
-/// The number at a place.
-pub(crate) fn number_at(numbers: &[u32], place: usize) -> u32
-    requires { place < length numbers.now }
-    ensures { slice_get numbers.now place ≡ Some result }
-{
-    numbers[place]
-}
 
 /// Where the trigger is present, the reactions that listen to it are told.
 pub(crate) fn tell_of(
@@ -42,7 +34,7 @@ pub(crate) fn tell_of(
     }
     let reactions = listeners.of(trigger);
     for at in 0..reactions.len() {
-        turn.trigger(number_at(reactions, at));
+        turn.trigger(item_at(reactions, at));
     }
 }
 

@@ -1,14 +1,15 @@
 //! The reactions that the writes of a run trigger at its own tag are told.
 
-ghost use Rattle.std.specs.Prelude.{◌≡◌, ◌<◌, length, slice_get, Some};
+ghost use Rattle.std.specs.Prelude.{◌≡◌, length};
 ghost use Rattle.lft_tag.specs.Tags.{IsRecorded};
 ghost use Rattle.lft_flat.specs.declared.parts.Name.{Name as NameOf};
 ghost use Rattle.lft_listeners.specs.Listeners.{IsListener, AreListeners, AreArrivals};
 ghost use Rattle.lft_agenda.specs.Telling.{IsTold, ArrivesAtOnce, TriggeredByWrites};
 
-use crate::telling::{number_at, tell_of};
+use crate::telling::tell_of;
 use lft_flat::{Name, Trigger};
 use lft_listeners::{Arrivals, Listeners};
+use lft_lists::item_at;
 use lft_model::Plan;
 use lft_tag::Tag;
 use lft_trace::Step;
@@ -31,7 +32,7 @@ fn tell_write(
 {
     let ports = arrivals.of(origin);
     for at in 0..ports.len() {
-        let number = number_at(ports, at);
+        let number = item_at(ports, at);
         let arrives = tag.plus(plan.program().port(number).shift);
         let at_once = arrives.is_same(tag);
         tell_of(
@@ -72,14 +73,6 @@ fn tell_step(
     }
 }
 
-// The step at a place.
-fn step_at(steps: &[Step], place: usize) -> Step
-    requires { place < length steps.now }
-    ensures { slice_get steps.now place ≡ Some result }
-{
-    steps[place]
-}
-
 /// The reactions that listen to a port where what the steps write at the tag arrives at once are
 /// told.
 pub(crate) fn tell_writes(
@@ -97,6 +90,6 @@ pub(crate) fn tell_writes(
     ensures { IsTold (TriggeredByWrites plan.now.program tag steps.now) turn.old turn.new }
 {
     for at in 0..steps.len() {
-        tell_step(turn, listeners, arrivals, plan, tag, step_at(steps, at));
+        tell_step(turn, listeners, arrivals, plan, tag, item_at(steps, at));
     }
 }

@@ -7,8 +7,8 @@ ghost use Rattle.lft_model.specs.Runs.{outcome_of, request_of};
 ghost use Rattle.lft_answers.specs.Answers.{as_outcome, answer_of};
 
 use crate::outcomes::{Answer, Outcome, Schedulings};
-use crate::steps::step_at;
 use lft_flat::{Name, Value};
+use lft_lists::item_at;
 use lft_tag::NoMemory;
 use lft_trace::{Step, is_stop};
 use std::alloc::Global;
@@ -47,7 +47,7 @@ pub fn last_written(steps: &[Step], port: u32) -> Option<Value>
 {
     let mut last = None;
     for place in 0..steps.len() {
-        let value = value_written(step_at(steps, place), port);
+        let value = value_written(item_at(steps, place), port);
         if value.is_some() {
             last = value;
         }
@@ -65,7 +65,7 @@ pub fn all_scheduled(
 {
     let mut list = Vec::new(alloc);
     for place in 0..steps.len() {
-        if let Some(value) = value_scheduled(step_at(steps, place), action) {
+        if let Some(value) = value_scheduled(item_at(steps, place), action) {
             list.push(value)?;
         }
     }
@@ -77,7 +77,7 @@ pub fn requests_stop(steps: &[Step]) -> bool
     ensures { result ≡ request_of steps.now }
 {
     for place in 0..steps.len() {
-        if is_stop(&step_at(steps, place)) {
+        if is_stop(&item_at(steps, place)) {
             return true;
         }
     }

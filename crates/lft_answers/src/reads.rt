@@ -1,12 +1,13 @@
 //! What a run read, by its steps.
 
 ghost use Rattle.std.specs.Prelude.{◌≡◌, IfOk};
-ghost use Rattle.lft_flat.specs.Parts.{inputs, named};
+ghost use Rattle.lft_flat.specs.Parts.{inputs};
+ghost use Rattle.lft_flat.specs.Naming.{named};
 ghost use Rattle.lft_model.specs.Runs.{same_name as are_same_name, value_read as the_value_read, read_of};
 ghost use Rattle.lft_answers.specs.Answers.{reads_of};
 
-use crate::steps::step_at;
 use lft_flat::{Name, Reaction, Trigger, Value};
+use lft_lists::item_at;
 use lft_model::Reads;
 use lft_tag::NoMemory;
 use lft_trace::Step;
@@ -45,7 +46,7 @@ fn last_read(steps: &[Step], name: Name) -> Option<Value>
 {
     let mut last = None;
     for place in 0..steps.len() {
-        let value = value_read(step_at(steps, place), name);
+        let value = value_read(item_at(steps, place), name);
         if value.is_some() {
             last = value;
         }

@@ -1,6 +1,6 @@
 //! The steps of one run.
 
-ghost use Rattle.std.specs.Prelude.{◌≡◌, ◌↔◌, ◌<◌, length, Some, slice_get, OnOk, IsTrue};
+ghost use Rattle.std.specs.Prelude.{◌≡◌, ◌↔◌, Some, slice_get, OnOk, IsTrue};
 ghost use Rattle.lft_trace.specs.declared.row.Step.TheVariants.{Start};
 ghost use Rattle.lft_model.specs.Plans.{PlanParts};
 ghost use Rattle.lft_model.specs.Runs.{steps_of};
@@ -8,14 +8,6 @@ ghost use Rattle.lft_answers.specs.Answers.{KeepsRows};
 
 use lft_tag::NoMemory;
 use lft_trace::{Row, Step, is_end, row_at};
-
-/// The step at the place, counted from 0.
-pub(crate) fn step_at(steps: &[Step], place: usize) -> Step
-    requires { place < length steps.now }
-    ensures { slice_get steps.now place ≡ Some result }
-{
-    steps[place]
-}
 
 /// Whether the two rows are of one tag and reaction.
 fn is_of_run(row: Row, start: Row) -> bool

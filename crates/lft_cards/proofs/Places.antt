@@ -1,10 +1,11 @@
 -- Where a name stands among the inputs of a reaction.
 use Rattle.std.proofs.Common.{◌≡◌, ◌≢◌, ◌∙◌, ◌⊎◌, inl, inr, ◌+◌, ◌<◌, ◌≤◌, ℕ, zero, suc, List, [], ◌∷◌, ◌++◌, length, take, filter_map, Option, Some, None, slice_get, refl, sym, ap, subst, arith, append-nil, length-append}
-use Rattle.lft_model.proofs.ActionEvents.{kept_more}
+use Rattle.lft_lists.proofs.Picked.{kept_more}
 use Rattle.std.proofs.lemmas.Bool.{cases_lt}
 use Rattle.std.proofs.lemmas.List.{take_all}
 use Rattle.std.proofs.lemmas.Option.{slice_get_within}
-use Rattle.lft_flat.specs.Parts.{inputs, named}
+use Rattle.lft_flat.specs.Parts.{inputs}
+use Rattle.lft_flat.specs.Naming.{named}
 use Rattle.lft_flat.specs.declared.parts.Name.{Name}
 use Rattle.lft_flat.specs.declared.parts.Reaction.{Reaction}
 use Rattle.lft_flat.specs.declared.parts.Trigger.{Trigger}

@@ -6,7 +6,7 @@ use Rattle.std.proofs.Math.Nat.{mod-eq_of_lt}
 use Rattle.std.proofs.lemmas.List.{map-append}
 use Rattle.std.specs.Int.{int_wrap, cast_signed, cast_unsigned, w64}
 use Rattle.std.proofs.lemmas.Int.{int_wrap-add_left, int_wrap-add_right, wrapping_add_onto}
-use Rattle.lft_model.proofs.Paths.{take_next}
+use Rattle.lft_lists.proofs.Picked.{take_next}
 use Rattle.lft_cards.specs.Expressions.{total}
 use Rattle.lft_cards.specs.declared.expression.Term.{Term}
 

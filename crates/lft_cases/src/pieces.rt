@@ -5,13 +5,13 @@
 //!
 //! Where the rows can't be cut, the fault is the one line that is written.
 
-ghost use Rattle.std.specs.Prelude.{◌≡◌, ◌<◌, length, Some, slice_get};
 ghost use Rattle.lft_tag.specs.declared.Tag.{Tag as TheTag};
 ghost use Rattle.lft_slices.specs.Pieces.{IsPiece};
 
 use crate::given::{Given, trace_table};
 use crate::presence::recorded;
 use lft_answers::Answer;
+use lft_lists::item_at;
 use lft_model::Reads;
 use lft_slices::{Cut, Piece, cut};
 use lft_tag::{NoMemory, Tag};
@@ -45,30 +45,14 @@ fn write_piece(
     }
 }
 
-/// The tag at the place, counted from 0.
-fn tag_at(tags: &[Tag], place: usize) -> Tag
-    requires { place < length tags.now }
-    ensures { slice_get tags.now place ≡ Some result }
-{
-    tags[place]
-}
-
-/// The run at the place, counted from 0.
-fn piece_at(pieces: &[Piece], place: usize) -> Piece
-    requires { place < length pieces.now }
-    ensures { slice_get pieces.now place ≡ Some result }
-{
-    pieces[place]
-}
-
 /// Writes the lines of all runs, by tag and then by reaction.
 fn write_pieces(alloc: Global, cut: &Cut, told: &mut Vec<u8>) -> io::Result<()> {
     let tags = cut.tags();
     for place in 0..tags.len() {
-        let tag = tag_at(tags, place);
+        let tag = item_at(tags, place);
         let pieces = cut.slice(place);
         for number in 0..pieces.len() {
-            write_piece(alloc, cut, tag, piece_at(pieces, number), told)?;
+            write_piece(alloc, cut, tag, item_at(pieces, number), told)?;
         }
     }
     Ok(())

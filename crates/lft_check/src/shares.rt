@@ -8,6 +8,7 @@ ghost use Rattle.lft_check.specs.Shares.{share_start, IsLeastOfShare, AreShares,
 
 use crate::judging::{first_in, lesser};
 use crate::watch::Watch;
+use lft_lists::item_at;
 use lft_model::Breach;
 use lft_slices::{Slice, Sliced};
 use lft_tag::{NoMemory, Tag};
@@ -78,14 +79,6 @@ fn examine_shares<W: Watch, R: Threads + Sync>(
     Ok(found)
 }
 
-/// What the worker at the place found, counted from 0.
-fn found_at(found: &[Found], place: usize) -> Found
-    requires { place < length found.now }
-    ensures { slice_get found.now place ≡ Some result }
-{
-    found[place]
-}
-
 /// The least of the breaches that workers found, of those that are.
 fn least_found(found: &[Found]) -> Result<Option<Breach>, NoMemory>
     ensures least { IfOk result (LeastOf (IsFound found.now (length found.now))) }
@@ -94,7 +87,7 @@ fn least_found(found: &[Found]) -> Result<Option<Breach>, NoMemory>
 {
     let mut least = None;
     for place in 0..found.len() {
-        match found_at(found, place) {
+        match item_at(found, place) {
             Ok(breach) => least = lesser(least, breach),
             Err(_) => return Err(NoMemory),
         }

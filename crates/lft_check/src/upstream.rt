@@ -7,9 +7,10 @@ ghost use Rattle.lft_slices.specs.Slices.{IsSlice};
 ghost use Rattle.lft_check.specs.Verdicts.{TooEarly};
 ghost use Rattle.lft_check.specs.Upstreams.{IsFresh, IsGraphFor, IsReached, IsQueued, Grows, QueuesOnly, IsListed, ListedEndsPast, EndsPast, IsLooked, AreLooked};
 
-use crate::carry::{is_late, number_at};
+use crate::carry::is_late;
 use crate::ranks::least_end;
 use lft_graph::Graph;
+use lft_lists::item_at;
 use lft_slices::{Slice, Sliced, keep_ends};
 use lft_tag::NoMemory;
 use lft_trace::{is_start, row_at};
@@ -50,7 +51,7 @@ impl Upstream {
         ensures reached { OnOk result (IsReached stamp self.new reaction) }
         ensures only { OnOk result (QueuesOnly (λ r. r ≡ reaction) self.old self.new) }
     {
-        if number_at(self.reached.as_slice(), reaction as usize) != stamp {
+        if item_at(self.reached.as_slice(), reaction as usize) != stamp {
             self.reached[reaction as usize] = stamp;
             self.queue.push(reaction)?;
         }
@@ -77,7 +78,7 @@ impl Upstream {
     {
         let list = graph.before(reaction);
         for at in 0..list.len() {
-            let member = number_at(list, at);
+            let member = item_at(list, at);
             if is_late(self.ends.as_slice(), member, place) {
                 return Ok(false);
             }
@@ -111,7 +112,7 @@ impl Upstream {
         let mut next = self.queue.len();
         self.reach(reaction, stamp)?;
         while next < self.queue.len() {
-            let other = number_at(self.queue.as_slice(), next);
+            let other = item_at(self.queue.as_slice(), next);
             let ok = self.look(graph, other, place, least, stamp)?;
             if !ok {
                 return Ok(false);

@@ -6,7 +6,8 @@ use native.Mathlib.Decide.{dec_lt}
 use Rattle.lft_tag.specs.declared.Tag.{Tag}
 use Rattle.lft_tag.specs.Tags.{Before, UpTo, same_tag}
 use Rattle.lft_tag.proofs.Order.{Before-irrefl, UpTo-not, order_cases}
-use Rattle.lft_flat.specs.Parts.{inputs, named}
+use Rattle.lft_flat.specs.Parts.{inputs}
+use Rattle.lft_flat.specs.Naming.{named}
 use Rattle.lft_flat.specs.declared.parts.Trigger.{Trigger}
 use Rattle.lft_flat.specs.declared.parts.Trigger.TheVariants.{Startup, Shutdown, Timer, On}
 use Rattle.std.proofs.lemmas.List.{map-append}
@@ -151,10 +152,6 @@ inputs_read plan t from last q is g a b r x e = record { reaction = x; is_reacti
     all : (ns : List Name) → AllZip (Shows plan t g) ns (map (λ n. value_of g n q) ns)
     all [] = tt
     all (n ∷ ns) = (shown n (value_of g n q) refl, all ns)
-
--- one value more
-pub value_more : {X : Type 0} (f : X → Option Value) (xs ys : List X) (y : X) (os now : List (Option Value)) → os ≡ map f xs → now ≡ os ++ f y ∷ [] → ys ≡ xs ++ y ∷ [] → now ≡ map f ys
-value_more f xs ys y os now e a b = a ∙ ap (λ (zs : List (Option Value)). zs ++ f y ∷ []) e ∙ sym (map-append f xs (y ∷ [])) ∙ ap (map f) (sym b)
 
 -- nothing is given by no events
 pub none_begun : (events : List Event) (q : List Pending) → q ≡ [] → (h : Tag) (n : Name) (v : Value) → (value_of h n q ≡ Some v) ↔ IsGiven events 0 h n v

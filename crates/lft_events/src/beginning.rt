@@ -1,22 +1,15 @@
 //! The events of the external inputs.
 
-ghost use Rattle.std.specs.Prelude.{◌≡◌, ◌<◌, [], length, slice_get, Some, None, IfOk};
+ghost use Rattle.std.specs.Prelude.{[], None, IfOk};
 ghost use Rattle.lft_events.specs.Events.{HasEvents};
 
 use lft_flat::Name;
+use lft_lists::item_at;
 use lft_model::Plan;
 use lft_queue::{Queue, QueueFault};
 use lft_tag::NoMemory;
 use lft_trace::Event;
 use std::alloc::Global;
-
-// The event at a place.
-fn event_at(events: &[Event], place: usize) -> Event
-    requires { place < length events.now }
-    ensures { slice_get events.now place ≡ Some result }
-{
-    events[place]
-}
 
 /// The events of the external inputs up to the stop: those of no rows.
 pub fn first_events(alloc: Global, plan: &Plan) -> Result<Queue, NoMemory>
@@ -29,7 +22,7 @@ pub fn first_events(alloc: Global, plan: &Plan) -> Result<Queue, NoMemory>
     let events = externals.events();
     let mut queue = Queue::new(alloc);
     for at in 0..events.len() {
-        let event = event_at(events, at);
+        let event = item_at(events, at);
         if !stop.is_before(event.tag) {
             if let Err(QueueFault::NoMemory) = queue.put(
                 event.tag,

@@ -1,19 +1,17 @@
 //! The events of a run's steps go into the queue.
 
-ghost use Rattle.std.specs.Prelude.{◌≡◌, ◌<◌, ◌≤◌, ◌↔◌, ◌+◌, ◌++◌, ◌∷◌, [], ℕ, List, length, map, slice_get, Some, None, IfOk, IsTrue, Contains};
+ghost use Rattle.std.specs.Prelude.{◌≡◌, ◌<◌, ◌≤◌, ◌+◌, ◌++◌, ◌∷◌, [], ℕ, List, length, slice_get, Some, None, IfOk, Contains};
 ghost use Rattle.lft_tag.specs.Tags.{UpTo, IsRecorded};
-ghost use Rattle.lft_flat.specs.declared.parts.Value.{Value as Carried};
 ghost use Rattle.lft_listeners.specs.Listeners.{IsArrival, AreArrivals};
 ghost use Rattle.lft_trace.specs.declared.row.Row.{Row as RowOf};
 ghost use Rattle.lft_trace.specs.Fits.{StepFits};
-ghost use Rattle.lft_flat.specs.declared.parts.Port.{Port as PortOf};
-ghost use Rattle.lft_model.specs.Presence.{Last};
 ghost use Rattle.lft_model.specs.Recorded.{run_row, committed_rows};
 ghost use Rattle.lft_trace.specs.declared.row.Step.{Step as StepOf};
 ghost use Rattle.lft_events.specs.Events.{HasEvents, IsPut, IsFedTo, KnowsAgain};
 
 use lft_flat::{Name, Value};
 use lft_listeners::Arrivals;
+use lft_lists::item_at;
 use lft_model::Plan;
 use lft_queue::{Queue, QueueFault};
 use lft_tag::{NoMemory, Tag};
@@ -44,14 +42,6 @@ fn put(
         Err(QueueFault::Collision) => return Ok(Some(tag)),
         Err(QueueFault::NoMemory) => return Err(NoMemory),
     }
-}
-
-// The port at a place.
-fn port_at(ports: &[u32], place: usize) -> u32
-    requires { place < length ports.now }
-    ensures { slice_get ports.now place ≡ Some result }
-{
-    ports[place]
 }
 
 // Puts the event of a port in, at which a write of its origin at the tag arrives. Where the origin
@@ -105,7 +95,7 @@ fn feed_write(
             last,
             found,
             tag,
-            port_at(ports, place),
+            item_at(ports, place),
             value,
             again,
         )?;
@@ -166,14 +156,6 @@ fn feed_step(
     }
 }
 
-// The step at a place.
-fn step_at(steps: &[Step], place: usize) -> Step
-    requires { place < length steps.now }
-    ensures { slice_get steps.now place ≡ Some result }
-{
-    steps[place]
-}
-
 /// Puts the events of the steps of a run at the tag in, as far as they are up to the last tag.
 /// Gives the least tag at which two causes give one port or action an event, if there is one. The
 /// arrivals are those of the plan's program; it costs what the steps' ports and actions are.
@@ -192,7 +174,7 @@ pub fn feed(
 {
     let mut found = None;
     for at in 0..steps.len() {
-        found = feed_step(queue, plan, arrivals, last, found, tag, step_at(steps, at))?;
+        found = feed_step(queue, plan, arrivals, last, found, tag, item_at(steps, at))?;
     }
     Ok(found)
 }

@@ -1,14 +1,29 @@
 //! What a reaction reads at a tag, from the queue.
 
-ghost use Rattle.std.specs.Prelude.{◌≡◌, ◌<◌, length, map, IfOk};
+ghost use Rattle.std.specs.Prelude.{◌≡◌, ◌<◌, ◌++◌, length, map, IfOk, OnOk};
 ghost use Rattle.lft_queue.specs.Pending.{value_of};
 ghost use Rattle.lft_model.specs.Runs.{inputs_of};
 
-use lft_flat::Trigger;
+use lft_flat::{Name, Value};
 use lft_model::{Plan, Reads};
 use lft_queue::Queue;
 use lft_tag::{NoMemory, Tag};
 use std::alloc::Global;
+
+// Puts what the queue has at the tag for each name behind the values.
+fn push_values(
+    values: &mut Vec<Option<Value>>,
+    queue: &Queue,
+    tag: Tag,
+    names: &[Name],
+) -> Result<(), NoMemory>
+    ensures { OnOk result (values.new.items ≡ values.old.items ++ map (λ n. value_of tag n queue.now) names.now) }
+{
+    for place in 0..names.len() {
+        values.push(queue.get(tag, names[place]))?;
+    }
+    Ok(())
+}
 
 /// The values that the queue has at the tag for the inputs of the reaction, triggers before uses.
 pub fn read_inputs(
@@ -23,15 +38,7 @@ pub fn read_inputs(
 {
     let reaction = plan.program().reaction(reaction);
     let mut values = Vec::new(alloc);
-    let triggers = reaction.triggers.as_slice();
-    for place in 0..triggers.len() {
-        if let Trigger::On(name) = triggers[place] {
-            values.push(queue.get(tag, name))?;
-        }
-    }
-    let uses = reaction.uses.as_slice();
-    for place in 0..uses.len() {
-        values.push(queue.get(tag, uses[place]))?;
-    }
+    push_values(&mut values, queue, tag, reaction.triggers.names())?;
+    push_values(&mut values, queue, tag, reaction.uses.as_slice())?;
     Ok(Reads::from_vec(values))
 }

@@ -1,6 +1,6 @@
 -- Which triggers name a port or an action.
 use Rattle.std.proofs.Common.{◌≡◌, refl, ap, Some, None}
-use Rattle.lft_flat.specs.Parts.{named}
+use Rattle.lft_flat.specs.Naming.{named}
 use Rattle.lft_flat.specs.declared.parts.Name.{Name}
 use Rattle.lft_flat.specs.declared.parts.Trigger.{Trigger}
 use Rattle.lft_flat.specs.declared.parts.Trigger.TheVariants.{Startup, Shutdown, Timer, On}

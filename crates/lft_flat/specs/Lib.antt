@@ -1,4 +1,5 @@
 pub mod Names
+pub mod Naming
 pub mod Origins
 pub mod Parts
 pub mod Places

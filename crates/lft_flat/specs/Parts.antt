@@ -1,13 +1,12 @@
 -- What contracts see of a program: its parts as lists, each part known by its place.
-use Rattle.std.specs.Prelude.{List, ◌++◌, filter_map, Option, Some, None}
+use Rattle.std.specs.Prelude.{List, ◌++◌, filter_map}
 use Rattle.lft_flat.specs.declared.parts.Port.{Port as PortOf}
 use Rattle.lft_flat.specs.declared.parts.Action.{Action as ActionOf}
 use Rattle.lft_flat.specs.declared.parts.Timer.{Timer as TimerOf}
 use Rattle.lft_flat.specs.declared.parts.Reaction.{Reaction}
 use Rattle.lft_flat.specs.declared.parts.Name.{Name}
-use Rattle.lft_flat.specs.declared.parts.Trigger.{Trigger}
-use Rattle.lft_flat.specs.declared.parts.Trigger.TheVariants.{Startup, Shutdown, Timer, On}
 use Rattle.lft_flat.specs.Names.{ThingNames}
+use Rattle.lft_flat.specs.Naming.{named}
 
 -- a flat program: what its instances declare, by instance and then by declaration, and the names
 pub record Parts : Type 0 where
@@ -16,13 +15,6 @@ pub record Parts : Type 0 where
   pub timers : List TimerOf
   pub reactions : List Reaction
   pub names : ThingNames
-
--- the port or action that a trigger names
-abbrev pub named : Trigger → Option Name
-named Startup = None
-named Shutdown = None
-named (Timer t) = None
-named (On n) = Some n
 
 -- a reaction's inputs: the ports and actions among its triggers, then its uses (handbook)
 abbrev pub inputs : Reaction → List Name

@@ -1,11 +1,12 @@
 //! The parts of a flat program. Each port, action, timer and reaction is known by its number among
 //! its kind, and each instance by its number in pre-order.
 
-ghost use Rattle.std.specs.Prelude.{◌≡◌, ◌<◌, length, slice_get, Some};
+ghost use Rattle.std.specs.Prelude.{◌≡◌, IfOk};
+ghost use Rattle.lft_flat.specs.Parts.{inputs};
 
 use crate::lists::{Names, Triggers};
-use lft_tag::Shift;
-use std::marker::Model;
+use lft_tag::{NoMemory, Shift};
+use std::alloc::Global;
 
 /// What a port or an action carries: nothing beside its presence, or a number.
 #[derive(Clone, Copy, PartialEq, Eq, Debug, Drop)]
@@ -73,4 +74,15 @@ pub struct Reaction {
     pub triggers: Triggers,
     pub uses: Names,
     pub effects: Names,
+}
+
+impl Reaction {
+    /// The ports and actions that it reads, triggers before uses.
+    pub fn inputs(&self, alloc: Global) -> Result<Vec<Name>, NoMemory>
+        ensures { IfOk result (λ names. names.items ≡ inputs self.now) }
+    {
+        let mut names = Vec::from_slice(alloc, self.triggers.names())?;
+        names.extend_from_slice(self.uses.as_slice())?;
+        Ok(names)
+    }
 }

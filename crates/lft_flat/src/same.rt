@@ -6,22 +6,12 @@ ghost use Rattle.std.specs.Bool.{Decides};
 use crate::parts::{Action, Name, Port, Reaction, Source, Timer, Trigger};
 use lft_tag::Shift;
 
-fn same_delay(a: Option<u64>, b: Option<u64>) -> bool
-    ensures { Decides result (a ≡ b) }
-{
-    match (a, b) {
-        (None, None) => true,
-        (Some(x), Some(y)) => x == y,
-        (None, Some(_)) | (Some(_), None) => false,
-    }
-}
-
 fn same_source(a: Option<Source>, b: Option<Source>) -> bool
     ensures { Decides result (a ≡ b) }
 {
     match (a, b) {
         (None, None) => true,
-        (Some(x), Some(y)) => x.port == y.port && same_delay(x.delay, y.delay),
+        (Some(x), Some(y)) => x.port == y.port && x.delay == y.delay,
         (None, Some(_)) | (Some(_), None) => false,
     }
 }
@@ -52,33 +42,6 @@ fn same_timer(a: &Timer, b: &Timer) -> bool
     ensures { Decides result (a.now ≡ b.now) }
 {
     a.instance == b.instance && a.offset == b.offset && a.period == b.period
-}
-
-fn same_name(a: &Name, b: &Name) -> bool
-    ensures { Decides result (a.now ≡ b.now) }
-{
-    match (*a, *b) {
-        (Name::Port(x), Name::Port(y)) => x == y,
-        (Name::Action(x), Name::Action(y)) => x == y,
-        (Name::Port(_), Name::Action(_)) | (Name::Action(_), Name::Port(_)) => false,
-    }
-}
-
-fn same_trigger(a: &Trigger, b: &Trigger) -> bool
-    ensures { Decides result (a.now ≡ b.now) }
-{
-    match *a {
-        Trigger::Startup => matches!(*b, Trigger::Startup),
-        Trigger::Shutdown => matches!(*b, Trigger::Shutdown),
-        Trigger::Timer(x) => match *b {
-            Trigger::Timer(y) => x == y,
-            _ => false,
-        },
-        Trigger::On(x) => match *b {
-            Trigger::On(y) => same_name(&x, &y),
-            _ => false,
-        },
-    }
 }
 
 fn same_reaction(a: &Reaction, b: &Reaction) -> bool
@@ -140,7 +103,7 @@ fn same_names(a: &[Name], b: &[Name]) -> bool
         return false;
     }
     for i in 0..a.len() {
-        if !same_name(&a[i], &b[i]) {
+        if a[i] != b[i] {
             return false;
         }
     }
@@ -154,7 +117,7 @@ fn same_triggers(a: &[Trigger], b: &[Trigger]) -> bool
         return false;
     }
     for i in 0..a.len() {
-        if !same_trigger(&a[i], &b[i]) {
+        if a[i] != b[i] {
             return false;
         }
     }

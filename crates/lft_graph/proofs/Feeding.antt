@@ -5,7 +5,8 @@ use Rattle.std.proofs.lemmas.List.Elements.{Contains-push, Contains-push_cases, 
 use Rattle.std.proofs.lemmas.Bool.{cases_lt, cases_eq}
 use Rattle.lft_tag.specs.Shifts.{none, join_all}
 use Rattle.lft_tag.proofs.Chains.{undelayed}
-use Rattle.lft_flat.specs.Parts.{Parts, named, inputs}
+use Rattle.lft_flat.specs.Parts.{Parts, inputs}
+use Rattle.lft_flat.specs.Naming.{named}
 use Rattle.lft_flat.specs.Sound.{IsSound}
 use Rattle.lft_flat.specs.Origins.{Origin}
 use Rattle.lft_flat.proofs.Origins.{origin_unique, origin_inside}

@@ -3,7 +3,6 @@
 ghost use Rattle.std.specs.Prelude.{◌≡◌, ◌↔◌, ℕ, ◌<◌, length, slice_get, Some, IfOk, OnOk, Contains, AllPairs};
 ghost use Rattle.lft_flat.specs.Sound.{IsNameOf, IsSound};
 ghost use Rattle.lft_flat.specs.declared.parts.Trigger.TheVariants.{On};
-ghost use Rattle.lft_flat.specs.Parts.{inputs};
 ghost use Rattle.lft_flat.specs.declared.parts.Name.{Name};
 ghost use Rattle.lft_graph.specs.Before.{Writes, IsLastWriter, IsBefore};
 ghost use Rattle.lft_graph.specs.Walks.{KnowsWriters, IsUndelayed, IsFeeder, NotesBelow, Covers, HasLists};
@@ -11,6 +10,7 @@ ghost use Rattle.lft_graph.specs.Walks.{KnowsWriters, IsUndelayed, IsFeeder, Not
 use crate::members::Members;
 use crate::writers::last_writers;
 use lft_flat::{Name, Program, Trigger};
+use lft_lists::item_at;
 use lft_tag::NoMemory;
 use std::alloc::Global;
 
@@ -34,22 +34,6 @@ fn feeder(program: &Program, writers: &[Option<u32>], name: Name) -> Option<u32>
     }
 }
 
-// the name at a place
-fn name_at(names: &[Name], place: usize) -> Name
-    requires { place < length names.now }
-    ensures { slice_get names.now place ≡ Some result }
-{
-    names[place]
-}
-
-// the trigger at a place
-fn trigger_at(triggers: &[Trigger], place: usize) -> Trigger
-    requires { place < length triggers.now }
-    ensures { slice_get triggers.now place ≡ Some result }
-{
-    triggers[place]
-}
-
 // adds the feeders of the uses
 fn note_uses(
     program: &Program,
@@ -62,7 +46,7 @@ fn note_uses(
     ensures { OnOk result (NotesBelow program.now (λ i n. slice_get uses.now i ≡ Some n) (length uses.now) found.old.items found.new.items) }
 {
     'uses: for place in 0..uses.len() {
-        if let Some(writer) = feeder(program, writers, name_at(uses, place)) {
+        if let Some(writer) = feeder(program, writers, item_at(uses, place)) {
             found.push(writer)?;
         }
     }
@@ -81,7 +65,7 @@ fn note_triggers(
     ensures { OnOk result (NotesBelow program.now (λ i n. slice_get triggers.now i ≡ Some (On n)) (length triggers.now) found.old.items found.new.items) }
 {
     'triggers: for place in 0..triggers.len() {
-        if let Trigger::On(name) = trigger_at(triggers, place) {
+        if let Trigger::On(name) = item_at(triggers, place) {
             if let Some(writer) = feeder(program, writers, name) {
                 found.push(writer)?;
             }

@@ -1,14 +1,15 @@
 //! Levels by a walk along the short lists, or a loop.
 
-ghost use Rattle.std.specs.Prelude.{◌≡◌, ◌≢◌, ℕ, List, ◌+◌, ◌<◌, ◌≤◌, length, slice_get, Some, Err, IfOk, OnOk};
+ghost use Rattle.std.specs.Prelude.{◌≡◌, ◌≢◌, ℕ, List, ◌<◌, ◌≤◌, length, slice_get, Some, Err, IfOk, OnOk};
 ghost use Rattle.lft_graph.specs.Graph.{AreLevels};
 ghost use Rattle.lft_graph.specs.Loops.{IsLoopOf};
 ghost use Rattle.lft_graph.specs.Walks.{AreInside, IsStep, AreDone, IsLevelOf, AreSmall, IsSettled, NoneOpen, IsNext, KeepsLooked, tally, done_weight};
 ghost use Rattle.lft_graph.specs.declared.levels.Mark.TheVariants.{New, Open, Done};
 
 use crate::fault::GraphFault;
-use crate::loops::{cut_loop, number_at};
+use crate::loops::cut_loop;
 use crate::members::Members;
+use lft_lists::item_at;
 use std::alloc::Global;
 
 /// How far a reaction is looked at: not yet, on the way with the first members of its list
@@ -65,7 +66,7 @@ fn level_of(list: &[u32], marks: &[Mark]) -> u32
 {
     let mut level = 0;
     'members: for place in 0..list.len() {
-        if let Mark::Done(below) = mark_at(marks, number_at(list, place)) {
+        if let Mark::Done(below) = mark_at(marks, item_at(list, place)) {
             if below >= level {
                 level = below + 1;
             }
@@ -86,7 +87,7 @@ fn look(before: &[Members], marks: &[Mark], reaction: u32, from: usize) -> Next
 {
     let list = list_at(before, reaction);
     'members: for place in from..list.len() {
-        let member = number_at(list, place);
+        let member = item_at(list, place);
         match mark_at(marks, member) {
             Mark::New => return Next::First(place, member),
             Mark::Open(_) => return Next::Looped(member),

@@ -1,19 +1,12 @@
 //! A loop, cut out of a walk.
 
-ghost use Rattle.std.specs.Prelude.{◌≡◌, ℕ, ◌+◌, ◌<◌, ◌≤◌, ◌^◌, length, slice_get, Some, IfOk, Contains};
+ghost use Rattle.std.specs.Prelude.{◌≡◌, ℕ, ◌+◌, ◌<◌, ◌≤◌, length, slice_get, Some, IfOk, Contains};
 ghost use Rattle.lft_graph.specs.Walks.{turned, IsCut};
 
 use crate::lists::Loop;
+use lft_lists::item_at;
 use lft_tag::NoMemory;
 use std::alloc::Global;
-
-// the number at a place
-pub(crate) fn number_at(numbers: &[u32], place: usize) -> u32
-    requires { place < length numbers.now }
-    ensures { slice_get numbers.now place ≡ Some result }
-{
-    numbers[place]
-}
 
 // the first place of a number
 fn place_of(stack: &[u32], member: u32) -> usize
@@ -21,7 +14,7 @@ fn place_of(stack: &[u32], member: u32) -> usize
     ensures { slice_get stack.now result ≡ Some member }
 {
     let mut place = 0;
-    'places: while number_at(stack, place) != member {
+    'places: while item_at(stack, place) != member {
         place += 1;
     }
     place
@@ -36,7 +29,7 @@ fn least_place(stack: &[u32], start: usize) -> usize
 {
     let mut least = start;
     'places: for place in start..stack.len() {
-        if number_at(stack, place) < number_at(stack, least) {
+        if item_at(stack, place) < item_at(stack, least) {
             least = place;
         }
     }
@@ -69,7 +62,7 @@ pub(crate) fn cut_loop(alloc: Global, stack: &[u32], member: u32) -> Result<Loop
     let mut items = Vec::new(alloc);
     'steps: for step in 0..stack.len() - start {
         let next = turned_place(start, place, stack.len(), step);
-        items.push(number_at(stack, next))?;
+        items.push(item_at(stack, next))?;
     }
     Ok(Loop::from_vec(items))
 }

@@ -5,16 +5,9 @@ ghost use Rattle.lft_flat.specs.declared.parts.Name.TheVariants.{Port};
 ghost use Rattle.lft_graph.specs.Walks.{KnowsWriters};
 
 use lft_flat::{Name, Program};
+use lft_lists::item_at;
 use lft_tag::NoMemory;
 use std::alloc::Global;
-
-// the effect at a place
-fn effect_at(effects: &[Name], place: usize) -> Name
-    requires { place < length effects.now }
-    ensures { slice_get effects.now place ≡ Some result }
-{
-    effects[place]
-}
 
 // the reaction is kept for each port among its effects
 fn note_effects(effects: &[Name], reaction: u32, writers: &mut [Option<u32>])
@@ -23,7 +16,7 @@ fn note_effects(effects: &[Name], reaction: u32, writers: &mut [Option<u32>])
     ensures others { (p : ℕ) → (slice_get writers.new p ≡ slice_get writers.old p) ⊎ (Contains effects.now (Port p) × (slice_get writers.new p ≡ Some (Some reaction))) }
 {
     'effects: for place in 0..effects.len() {
-        if let Name::Port(port) = effect_at(effects, place) {
+        if let Name::Port(port) = item_at(effects, place) {
             writers[port as usize] = Some(reaction);
         }
     }

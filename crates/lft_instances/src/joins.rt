@@ -1,6 +1,6 @@
 //! Which connection leads into each port.
 
-ghost use Rattle.std.specs.Prelude.{◌≡◌, ℕ, ◌+◌, ◌<◌, ◌≤◌, [], Some, length, slice_get, unwrap_or, option_map, IfOk};
+ghost use Rattle.std.specs.Prelude.{◌≡◌, ℕ, ◌≤◌, [], Some, length, slice_get, unwrap_or, option_map, IfOk};
 ghost use Rattle.lft_instances.specs.Joins.{AreSources, JoinPorts, LeadApart, joins_of, port_at, port_of};
 ghost use Rattle.lft_instances.specs.Numbers.{AreFirst, things};
 ghost use Rattle.lft_instances.specs.Sources.{AreInside};
@@ -10,7 +10,8 @@ use crate::nesting::Children;
 use crate::numbering::count_things;
 use crate::origins::Source;
 use crate::settings::{Clock, Values};
-use crate::walk::{Instance, instance_at};
+use crate::walk::Instance;
+use lft_lists::item_at;
 use lft_tag::NoMemory;
 use std::alloc::Global;
 
@@ -81,14 +82,6 @@ pub(crate) fn joins_of(table: &[Connections], reactor: u32) -> &[Join]
     }
 }
 
-// the join at a place
-pub(crate) fn join_at(joins: &[Join], place: usize) -> Join
-    requires { place < length joins.now }
-    ensures { slice_get joins.now place ≡ Some result }
-{
-    joins[place]
-}
-
 /// The source of each port, in order, with the delay of the connection from it in nanoseconds. The
 /// table has what each reactor joins, by number; a number past its end stands for a reactor without
 /// connections. The counts say how many ports each reactor declares, and the other lists are those
@@ -113,9 +106,9 @@ pub fn find_sources(
     let mut sources = vec![in alloc; None; count_things(counts, instances)]?;
     'instances: for number in 0..instances.len() {
         let instance = number as u32;
-        let joins = joins_of(table, instance_at(instances, number).reactor);
+        let joins = joins_of(table, item_at(instances, number).reactor);
         'joins: for place in 0..joins.len() {
-            let join = join_at(joins, place);
+            let join = item_at(joins, place);
             let port = port_of(firsts, children, instance, join.from);
             let to = port_of(firsts, children, instance, join.to);
             let delay = delay_in(values, instance, join.delay);

@@ -1,10 +1,11 @@
 //! The instances that each instance contains, by place.
 
-ghost use Rattle.std.specs.Prelude.{◌≡◌, ℕ, ◌<◌, ◌≤◌, List, length, map, IfOk};
+ghost use Rattle.std.specs.Prelude.{◌≡◌, ℕ, ◌≤◌, List, length, map, IfOk};
 ghost use Rattle.lft_instances.specs.Contents.{AreWalked};
 ghost use Rattle.lft_instances.specs.Children.{AreChildren, child_of};
 
-use crate::walk::{Instance, instance_at};
+use crate::walk::Instance;
+use lft_lists::item_at;
 use lft_tag::NoMemory;
 use std::alloc::Global;
 use std::marker::Model;
@@ -33,7 +34,7 @@ impl Children {
         rows.push(Vec::new(alloc))?;
         'instances: for number in 1..instances.len() {
             rows.push(Vec::new(alloc))?;
-            let parent = instance_at(instances, number).parent as usize;
+            let parent = item_at(instances, number).parent as usize;
             rows[parent].push(number as u32)?;
         }
         Ok(Children { rows })

@@ -6,7 +6,8 @@ ghost use Rattle.lft_instances.specs.Listing.{AreListed};
 ghost use Rattle.lft_instances.specs.Numbers.{AreFirst, HasMoreThings, count_of, things};
 ghost use Rattle.lft_instances.specs.declared.walk.Contents.{Contents};
 
-use crate::walk::{Instance, instance_at};
+use crate::walk::Instance;
+use lft_lists::item_at;
 use lft_tag::NoMemory;
 use std::alloc::Global;
 
@@ -32,7 +33,7 @@ pub(crate) fn count_things(counts: &[u32], instances: &[Instance]) -> usize
 {
     let mut total = 0;
     'instances: for number in 0..instances.len() {
-        total += count_at(counts, instance_at(instances, number).reactor) as usize;
+        total += count_at(counts, item_at(instances, number).reactor) as usize;
     }
     total
 }
@@ -59,7 +60,7 @@ pub fn first_numbers(
     let mut firsts = Vec::new(alloc);
     let mut total = 0;
     'instances: for number in 0..instances.len() {
-        let count = count_at(counts, instance_at(instances, number).reactor);
+        let count = count_at(counts, item_at(instances, number).reactor);
         if count > limit - total {
             return Ok(None);
         }
@@ -81,7 +82,7 @@ pub fn list_things(
 {
     let mut all = Vec::new(alloc);
     'instances: for number in 0..instances.len() {
-        let reactor = instance_at(instances, number).reactor;
+        let reactor = item_at(instances, number).reactor;
         'things: for place in 0..count_at(counts, reactor) {
             all.push(Thing {
                 instance: number as u32,

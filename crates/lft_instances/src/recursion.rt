@@ -8,6 +8,7 @@ ghost use Rattle.lft_instances.specs.declared.recursion.Stage.TheVariants.{New};
 ghost use Rattle.lft_instances.specs.declared.recursion.Turn.TheVariants.{Skipped};
 
 use crate::walk::{Contents, child};
+use lft_lists::item_at;
 use lft_tag::NoMemory;
 use std::alloc::Global;
 
@@ -36,14 +37,6 @@ pub enum Turn {
     Enter(usize),
 }
 
-// the stage of a reactor
-fn stage_at(stages: &[Stage], reactor: usize) -> Stage
-    requires { reactor < length stages.now }
-    ensures { slice_get stages.now reactor ≡ Some result }
-{
-    stages[reactor]
-}
-
 // what comes next at a reactor on the way
 fn look(reactors: &[Contents], stages: &[Stage], visit: Visit) -> Turn
     ensures turn { IsTurn reactors.now stages.now visit result }
@@ -56,7 +49,7 @@ fn look(reactors: &[Contents], stages: &[Stage], visit: Visit) -> Turn
             if inner >= stages.len() {
                 return Turn::Skipped;
             }
-            match stage_at(stages, inner) {
+            match item_at(stages, inner) {
                 Stage::New => Turn::Enter(inner),
                 Stage::Open => Turn::Recursive,
                 Stage::Done => Turn::Skipped,
@@ -82,7 +75,7 @@ fn explore(
     ensures looked { IfOk result (λ b. OnFalse b (slice_get stages.new start ≢ Some New)) }
     ensures kept { KeepsExplored stages.old stages.new }
 {
-    match stage_at(stages, start) {
+    match item_at(stages, start) {
         Stage::New => {}
         _ => return Ok(false),
     }

@@ -5,7 +5,8 @@ ghost use Rattle.lft_instances.specs.Contents.{AreWalked};
 ghost use Rattle.lft_instances.specs.declared.walk.Contents.{Contents};
 ghost use Rattle.lft_instances.specs.Values.{HaveValues, LeadToValues, clock_in, defaults_of, given_by, values_in};
 
-use crate::walk::{Instance, instance_at};
+use crate::walk::Instance;
+use lft_lists::item_at;
 use lft_tag::NoMemory;
 use std::alloc::Global;
 use std::marker::Model;
@@ -55,20 +56,12 @@ fn read(clock: Clock, values: &[u64]) -> u64
     }
 }
 
-// what is given at this place of the list
-fn nth_given(given: &[Given], number: usize) -> Given
-    requires { number < length given.now }
-    ensures { slice_get given.now number ≡ Some result }
-{
-    given[number]
-}
-
 // writes what is given over the defaults; from the last on, so that the first given stays
 fn give(own: &mut [u64], given: &[Given], outer: &[u64])
     ensures { own.new ≡ values_in outer.now given.now own.old }
 {
     'given: for number in (0..given.len()).rev() {
-        let one = nth_given(given, number);
+        let one = item_at(given, number);
         if one.place < own.len() {
             own[one.place] = read(one.clock, outer);
         }
@@ -114,11 +107,11 @@ impl Values {
     {
         let mut rows: Vec<Vec<u64>> = Vec::new(alloc);
         'instances: for number in 0..instances.len() {
-            let instance = instance_at(instances, number);
+            let instance = item_at(instances, number);
             let mut own = copy_defaults(alloc, table, instance.reactor)?;
             if number > 0 {
                 let parent = instance.parent as usize;
-                let above = instance_at(instances, parent).reactor;
+                let above = item_at(instances, parent).reactor;
                 give(
                     &mut own,
                     given_to(table, above, instance.place),

@@ -1,6 +1,6 @@
 //! The instances, in pre-order, by an explicit stack.
 
-ghost use Rattle.std.specs.Prelude.{◌≡◌, ℕ, ◌+◌, ◌<◌, ◌≤◌, ◌^◌, length, slice_get, Some, IfOk, IfSome, OnOk, Err};
+ghost use Rattle.std.specs.Prelude.{◌≡◌, ◌+◌, ◌<◌, ◌≤◌, ◌^◌, length, IfOk, IfSome, OnOk, Err};
 ghost use Rattle.lft_instances.specs.Contents.{IsWalk, contained};
 ghost use Rattle.lft_instances.specs.Paths.{Exists, IsMoreThan};
 
@@ -79,14 +79,6 @@ pub(crate) fn child(reactors: &[Contents], reactor: usize, place: usize) -> Opti
     } else {
         None
     }
-}
-
-// the instance of this number
-pub(crate) fn instance_at(instances: &[Instance], number: usize) -> Instance
-    requires { number < length instances.now }
-    ensures { slice_get instances.now number ≡ Some result }
-{
-    instances[number]
 }
 
 /// All instances of the main reactor in pre-order, of which the main one is the first. The table

@@ -1,6 +1,6 @@
 //! The listeners of a program.
 
-ghost use Rattle.std.specs.Prelude.{◌≡◌, ◌≢◌, ◌↔◌, ◌<◌, ℕ, [], length, slice_get, Some, Contains, IfOk, OnOk};
+ghost use Rattle.std.specs.Prelude.{◌≢◌, ◌↔◌, ◌<◌, ℕ, [], length, Contains, IfOk, OnOk};
 ghost use Rattle.lft_flat.specs.Parts.{Parts};
 ghost use Rattle.lft_flat.specs.declared.parts.Trigger.{Trigger as TriggerOf};
 ghost use Rattle.lft_listeners.specs.Listeners.{IsListener, IsLive, AreListeners};
@@ -9,6 +9,7 @@ ghost use Rattle.lft_listeners.specs.Filling.{AreListed};
 
 use crate::by_trigger::ByTrigger;
 use lft_flat::{Program, Trigger};
+use lft_lists::item_at;
 use lft_tag::NoMemory;
 use std::alloc::Global;
 use std::marker::Model;
@@ -28,21 +29,13 @@ impl Model for Listeners {
     ghost view = { λ a. record { by_trigger = a.by_trigger; live_timers = a.live_timers.items } };
 }
 
-// the trigger at a place
-fn trigger_at(triggers: &[Trigger], place: usize) -> Trigger
-    requires { place < length triggers.now }
-    ensures { slice_get triggers.now place ≡ Some result }
-{
-    triggers[place]
-}
-
 // the reaction is put into the list of each of its triggers
 fn push_all(lists: &mut ByTrigger, triggers: &[Trigger], reaction: u32) -> Result<(), NoMemory>
     requires { (t : TriggerOf) → Contains triggers.now t → HasList lists.old t }
     ensures { OnOk result (ArePushed triggers.now reaction lists.old lists.new) }
 {
     'triggers: for place in 0..triggers.len() {
-        lists.push(trigger_at(triggers, place), reaction)?;
+        lists.push(item_at(triggers, place), reaction)?;
     }
     Ok(())
 }

@@ -1,9 +1,19 @@
 -- Loops that pick what they want from a list, and loops that make one item of each.
-use Rattle.std.proofs.Common.{◌≡◌, ℕ, ◌+◌, ◌<◌, List, [], ◌∷◌, ◌++◌, map, filter_map, take, length, get_or, Option, Some, None, append-nil, append_assoc, option_map, refl, sym, ap, ◌∙◌, arith}
+use Rattle.std.proofs.Common.{◌≡◌, ℕ, zero, suc, ◌+◌, ◌<◌, List, [], ◌∷◌, ◌++◌, map, filter_map, take, length, get_or, slice_get, Option, Some, None, append-nil, append_assoc, option_map, add-one, refl, sym, ap, ◌∙◌, arith}
 use Rattle.std.specs.List.{cons_option}
 use Rattle.std.proofs.lemmas.Grind.{common_steps}
 use Rattle.std.proofs.lemmas.List.{map-append}
 use Rattle.std.proofs.lemmas.List.Elements.{filter_map-append}
+
+-- one more item of a list
+pub take_next : {X : Type 0} (xs : List X) (k : ℕ) (u : X) → slice_get xs k ≡ Some u → take (suc k) xs ≡ take k xs ++ u ∷ []
+take_next [] k u e = absurd (cc)
+take_next (x ∷ xs) zero u e = let q : x ≡ u = cc in ap (λ y. y ∷ []) q
+take_next (x ∷ xs) (suc k) u e = ap (λ ys. x ∷ ys) (take_next xs k u e)
+
+-- what a filter keeps of one more item
+pub kept_more : {X Y : Type 0} (h : X → Option Y) (xs : List X) (i : ℕ) (x : X) (o : Option Y) → slice_get xs i ≡ Some x → o ≡ h x → filter_map h (take (i + 1) xs) ≡ filter_map h (take i xs) ++ cons_option o []
+kept_more h xs i x o e r = rw (add-one, take_next xs i x e, r) (filter_map-append h (take i xs) (x ∷ []))
 
 -- one more element of a list
 pub take_one_more : {X : Type 0} (xs : List X) (i : ℕ) (x : X) → i < length xs → get_or xs i x ≡ x → take (i + 1) xs ≡ take i xs ++ x ∷ []

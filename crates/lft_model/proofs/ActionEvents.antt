@@ -3,6 +3,7 @@ use Rattle.std.proofs.Common.{◌≡◌, ℕ, suc, ◌+◌, ◌≤◌, List, [],
 use Rattle.std.specs.List.{cons_option}
 use Rattle.std.proofs.lemmas.List.Elements.{filter_map-append}
 use Rattle.lft_tag.specs.declared.Tag.{Tag}
+use Rattle.lft_lists.proofs.Picked.{kept_more}
 use Rattle.lft_lists.proofs.Members.{mem_get, mem_filter, mem_contains, mem_left, mem_right}
 use Rattle.lft_flat.specs.declared.parts.Value.{Value}
 use Rattle.lft_flat.specs.declared.parts.Name.TheVariants.{Action}
@@ -10,7 +11,6 @@ use Rattle.lft_trace.specs.declared.row.Row.{Row}
 use Rattle.lft_trace.specs.declared.externals.Event.{Event}
 use Rattle.lft_model.specs.Plans.{PlanParts}
 use Rattle.lft_model.specs.Presence.{At, events_of, given, min_delay, scheduled}
-use Rattle.lft_model.proofs.Paths.{take_next}
 
 -- a filter keeps at most as many items as there are
 pub length-filter_map : {X Y : Type 0} (h : X → Option Y) (xs : List X) → length (filter_map h xs) ≤ length xs
@@ -20,10 +20,6 @@ length-filter_map {X} {Y} h (x ∷ xs) = over (h x) (length-filter_map h xs)
     over : (o : Option Y) → length (filter_map h xs) ≤ length xs → length (cons_option o (filter_map h xs)) ≤ suc (length xs)
     over None l = omega arith
     over (Some y) l = omega arith
-
--- what a filter keeps of one more item
-pub kept_more : {X Y : Type 0} (h : X → Option Y) (xs : List X) (i : ℕ) (x : X) (o : Option Y) → slice_get xs i ≡ Some x → o ≡ h x → filter_map h (take (i + 1) xs) ≡ filter_map h (take i xs) ++ cons_option o []
-kept_more h xs i x o e r = rw (add-one, take_next xs i x e, r) (filter_map-append h (take i xs) (x ∷ []))
 
 -- one more item of which a filter keeps nothing, where it kept none before
 pub none_more : {X Y : Type 0} (h : X → Option Y) (xs : List X) (i : ℕ) (x : X) (o : Option Y) → slice_get xs i ≡ Some x → o ≡ h x → is_some o ≡ false → filter_map h (take i xs) ≡ [] → filter_map h (take (i + 1) xs) ≡ []

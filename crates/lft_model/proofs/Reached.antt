@@ -6,7 +6,8 @@ use Rattle.lft_tag.specs.declared.Tag.{Tag}
 use Rattle.lft_tag.specs.Tags.{Before, UpTo, after, after_all}
 use Rattle.lft_tag.proofs.Order.{UpTo_antisym, UpTo-not, Before-irrefl, after_past, after_some_past}
 use Rattle.lft_lists.proofs.Members.{Mem, get_mem, mem_left, mem_right, mem_cases, mem_filter, mem_from_filter, LastAt, last_at, mem_contains, contains_mem}
-use Rattle.lft_flat.specs.Parts.{inputs, named}
+use Rattle.lft_flat.specs.Parts.{inputs}
+use Rattle.lft_flat.specs.Naming.{named}
 use Rattle.lft_flat.specs.Origins.{Origin}
 use Rattle.lft_flat.specs.declared.parts.Reaction.{Reaction}
 use Rattle.lft_flat.specs.declared.parts.Value.{Value}

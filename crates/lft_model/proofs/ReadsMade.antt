@@ -3,7 +3,8 @@ use Rattle.std.proofs.Common.{◌≡◌, ℕ, ◌+◌, List, [], ◌∷◌, ◌+
 use Rattle.std.specs.List.{AllZip}
 use Rattle.lft_tag.specs.declared.Tag.{Tag}
 use Rattle.lft_flat.proofs.Naming.{named_none}
-use Rattle.lft_flat.specs.Parts.{Parts, named}
+use Rattle.lft_flat.specs.Parts.{Parts}
+use Rattle.lft_flat.specs.Naming.{named}
 use Rattle.lft_flat.specs.declared.parts.Reaction.{Reaction}
 use Rattle.lft_flat.specs.declared.parts.Value.{Value}
 use Rattle.lft_flat.specs.declared.parts.Name.{Name}
@@ -13,8 +14,7 @@ use Rattle.lft_trace.specs.declared.row.Row.{Row}
 use Rattle.lft_trace.proofs.Zips.{pushed}
 use Rattle.lft_model.specs.Plans.{PlanParts}
 use Rattle.lft_model.specs.Presence.{At, IsPresent, Shows, Inputs}
-use Rattle.lft_model.proofs.ActionEvents.{kept_more}
-use Rattle.lft_model.proofs.Paths.{take_next}
+use Rattle.lft_lists.proofs.Picked.{kept_more, take_next}
 
 -- one more element of a list
 taken : {X : Type 0} (xs : List X) (i : ℕ) (x : X) → slice_get xs i ≡ Some x → take (i + 1) xs ≡ take i xs ++ x ∷ []

@@ -10,6 +10,7 @@ mod reads;
 mod slow;
 mod stop;
 mod timers;
+mod workers;
 
 pub use breach::Breach;
 pub use plan::Plan;
@@ -17,3 +18,4 @@ pub use reads::Reads;
 pub use slow::{clash_slow, inputs_slow, present_slow, triggered_slow};
 pub use stop::trace_stop;
 pub use timers::fires;
+pub use workers::is_workers;

@@ -1,7 +1,7 @@
 -- Two maps of one list that are the same so far.
 use Rattle.std.proofs.Common.{◌≡◌, ℕ, zero, suc, ◌+◌, List, [], ◌∷◌, ◌++◌, map, take, sym, ap, ◌∙◌, add-one, Some, slice_get}
 use Rattle.std.proofs.lemmas.List.{map-append}
-use Rattle.lft_model.proofs.Paths.{take_next}
+use Rattle.lft_lists.proofs.Picked.{take_next}
 
 -- equal maps of equal lengths have equal items
 pub map_get : {X Y : Type 0} (f h : X → Y) (xs : List X) (i : ℕ) (x : X) → map f xs ≡ map h xs → slice_get xs i ≡ Some x → f x ≡ h x

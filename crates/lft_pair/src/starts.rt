@@ -1,6 +1,6 @@
 //! Where the runs of a trace start, as its rows are read one tag after another.
 
-ghost use Rattle.std.specs.Prelude.{◌≡◌, ◌↔◌, ◌<◌, length, List, Some, slice_get, IsTrue, MatchOption, IfOk};
+ghost use Rattle.std.specs.Prelude.{◌≡◌, ◌↔◌, ◌<◌, length, List, IsTrue, MatchOption, IfOk};
 ghost use Rattle.lft_flat.specs.Parts.{Parts};
 ghost use Rattle.lft_trace.specs.declared.row.Row.{Row as TheRow};
 ghost use Rattle.lft_trace.specs.Fits.{RowsFit};
@@ -9,6 +9,7 @@ ghost use Rattle.lft_model.specs.Breaches.{Legal};
 ghost use Rattle.lft_model.specs.Runs.{Ran};
 ghost use Rattle.lft_pair.specs.Places.{StartsAt, AreLastStarts, AreUpTo, AreAfter};
 
+use lft_lists::item_at;
 use lft_tag::{NoMemory, Tag};
 use lft_trace::{Row, is_start, row_at};
 use std::alloc::Global;
@@ -19,14 +20,6 @@ use std::alloc::Global;
 pub(crate) struct Starts {
     pub read: usize,
     pub places: Vec<usize>,
-}
-
-/// The place at the index.
-fn place_of(places: &[usize], index: usize) -> usize
-    requires { index < length places.now }
-    ensures { slice_get places.now index ≡ Some result }
-{
-    places[index]
 }
 
 /// Whether the row at the place starts the reaction's run at the tag.
@@ -88,7 +81,7 @@ impl Starts {
         ensures found { MatchOption result (¬ Ran rows.now tag reaction) (StartsAt rows.now tag reaction) }
     {
         self.read_to(rows, tag);
-        let place = place_of(self.places.as_slice(), reaction as usize);
+        let place = item_at(self.places.as_slice(), reaction as usize);
         if is_start_at(rows, tag, reaction, place) {
             Some(place)
         } else {

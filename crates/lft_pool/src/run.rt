@@ -12,15 +12,12 @@ use crate::book::{Begin, Book, Closed, MAX_RUNS, Stopped};
 use crate::states::States;
 use crate::stop::Stop;
 use lft_bodies::{Bodies, BoxedCode, Code, Law};
-use lft_model::Plan;
+use lft_model::{Plan, is_workers};
 use lft_trace::Rows;
 use std::alloc::Global;
 use std::sync::{Condvar, Mutex, Wait};
 use std::thread;
 use std::thread::Threads;
-
-/// The greatest number of workers.
-pub const MAX_WORKERS: u32 = 64;
 
 /// A recording that came to its stop: its plan, the rows, the words before and after each ended run,
 /// and the bodies that weren't taken.
@@ -145,13 +142,6 @@ fn unbegun<L: Law, C: Code + Drop>(
         states,
         left,
     }
-}
-
-// Whether recording takes this number of workers: 1 to 64.
-fn is_workers(workers: u32) -> bool
-    ensures { IsTrue result ↔ IsWorkers workers }
-{
-    1 <= workers && workers <= MAX_WORKERS
 }
 
 /// Records the plan with so many workers, 1 to 64, and at most so many runs. The caller is worker 0,

@@ -1,10 +1,11 @@
 //! The causes of events in one list, which is searched by name and tag.
 
-ghost use Rattle.std.specs.Prelude.{◌≡◌, ℕ, ◌<◌, length, Some, IsTrue, ◌↔◌, slice_get};
+ghost use Rattle.std.specs.Prelude.{◌≡◌, Some, IsTrue, ◌↔◌, slice_get};
 ghost use Rattle.lft_tag.specs.Shifts.{shifted};
 ghost use Rattle.lft_presence.specs.declared.causes.Cause.{Cause as TheCause};
 ghost use Rattle.lft_presence.specs.Causes.{IsNear, AreNear, AreAscending, LiesBelow, IsPosition, IsSkip, Leads, tag_of};
 
+use lft_lists::item_at;
 use lft_tag::{Shift, Tag};
 
 /// A row that writes a port or schedules an action, or an external event of an action, as the cause
@@ -19,14 +20,6 @@ pub struct Cause {
     pub micro: u32,
     /// The place of the row; for an external event, the number of all rows and its own place.
     pub place: u32,
-}
-
-/// The cause at the place, counted from 0.
-pub fn cause_at(causes: &[Cause], place: usize) -> Cause
-    requires { place < length causes.now }
-    ensures { slice_get causes.now place ≡ Some result }
-{
-    causes[place]
 }
 
 /// The tag at which the cause stands.
@@ -89,7 +82,7 @@ pub fn position(causes: &[Cause], name: u32, shift: Shift, tag: Tag, past: bool)
     let mut high = causes.len();
     while low < high {
         let middle = low + (high - low) / 2;
-        if lies_below(cause_at(causes, middle), name, shift, tag, past) {
+        if lies_below(item_at(causes, middle), name, shift, tag, past) {
             low = middle + 1;
         } else {
             high = middle;
@@ -109,7 +102,7 @@ pub fn skip(causes: &[Cause], place: usize, name: u32, shift: Shift, tag: Tag) -
     // Read for its clause that the place is one of the list, so that the next is a number.
     let _here = causes[place];
     let next = place + 1;
-    if next < causes.len() && leads(cause_at(causes, next), name, shift, tag) {
+    if next < causes.len() && leads(item_at(causes, next), name, shift, tag) {
         position(causes, name, shift, tag, true)
     } else {
         next

@@ -1,6 +1,6 @@
 //! The causes of events that a trace and the external inputs have.
 
-ghost use Rattle.std.specs.Prelude.{◌≡◌, ◌+◌, ◌<◌, ◌≤◌, length, Some, IfOk, OnOk, slice_get};
+ghost use Rattle.std.specs.Prelude.{◌≡◌, ◌≤◌, IfOk, OnOk};
 ghost use Rattle.lft_tag.specs.Tags.{IsRecorded};
 ghost use Rattle.lft_flat.specs.Sound.{IsNameOf};
 ghost use Rattle.lft_trace.specs.Fits.{RowFits, RowsFit, EventFits};
@@ -8,6 +8,7 @@ ghost use Rattle.lft_presence.specs.Causes.{HasJust, IsRowCause, IsCause, AreCau
 
 use crate::causes::Cause;
 use lft_flat::{Name, Program};
+use lft_lists::item_at;
 use lft_model::Plan;
 use lft_tag::{NoMemory, Tag};
 use lft_trace::{Event, Row, Step, row_at};
@@ -77,14 +78,6 @@ fn of_event(program: &Program, place: u32, event: Event) -> Cause
     }
 }
 
-/// The event at the place, counted from 0.
-pub(crate) fn event_at(events: &[Event], place: usize) -> Event
-    requires { place < length events.now }
-    ensures { slice_get events.now place ≡ Some result }
-{
-    events[place]
-}
-
 /// The causes that rows are, in order of the rows.
 fn of_rows(alloc: Global, program: &Program, rows: &[Row]) -> Result<Vec<Cause>, NoMemory>
     requires { RowsFit program.now rows.now }
@@ -110,7 +103,7 @@ fn add_events(plan: &Plan, rows: &[Row], causes: &mut Vec<Cause>) -> Result<(), 
     for place in 0..events.len() {
         // There are 4,000,000 rows and as many events at most, so the sum fits.
         let at = (rows.len() + place) as u32;
-        causes.push(of_event(program, at, event_at(events, place)))?;
+        causes.push(of_event(program, at, item_at(events, place)))?;
     }
     Ok(())
 }

@@ -1,6 +1,6 @@
 //! The first collision.
 
-ghost use Rattle.std.specs.Prelude.{◌≡◌, ◌<◌, length, IfOk, Some, slice_get};
+ghost use Rattle.std.specs.Prelude.{◌≡◌, ◌<◌, length, IfOk};
 ghost use Rattle.lft_trace.specs.Fits.{RowsFit};
 ghost use Rattle.lft_model.specs.Presence.{stop as the_stop, PortClash};
 ghost use Rattle.lft_presence.specs.Causes.{AreCauses};
@@ -9,6 +9,7 @@ ghost use Rattle.lft_presence.specs.Traces.{LeastTag, IsSooner};
 
 use crate::causes::{Cause, cause_tag, moved};
 use crate::pairs::first_pair;
+use lft_lists::item_at;
 use lft_model::Plan;
 use lft_tag::{NoMemory, Tag};
 use lft_trace::Row;
@@ -42,14 +43,6 @@ fn doubles_of(
     Ok(doubles)
 }
 
-/// The pair of the port of this number.
-fn double_at(doubles: &[Option<Cause>], place: usize) -> Option<Cause>
-    requires { place < length doubles.now }
-    ensures { slice_get doubles.now place ≡ Some result }
-{
-    doubles[place]
-}
-
 /// The first tag at which two causes give the port an event: two tags of one time at which its
 /// origin is written, where its delays have a time.
 fn port_clash(
@@ -68,7 +61,7 @@ fn port_clash(
     if port.shift.time == 0 {
         return None;
     }
-    match double_at(doubles, port.origin as usize) {
+    match item_at(doubles, port.origin as usize) {
         Some(cause) => Some(moved(cause_tag(cause), port.shift)),
         None => None,
     }

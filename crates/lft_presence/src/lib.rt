@@ -12,7 +12,6 @@ mod pairs;
 mod present;
 mod triggered;
 
-pub use causes::{Cause, cause_at, cause_tag, moved, position, skip};
+pub use causes::{Cause, cause_tag, moved, position, skip};
 pub use clashes::sooner;
 pub use events::{Presence, presence_of};
-pub use triggered::trigger_at;

@@ -5,7 +5,8 @@ ghost use Rattle.std.specs.Prelude.{IsTrue, ◌↔◌};
 ghost use Rattle.lft_presence.specs.Causes.{AreAscending, AreNear};
 ghost use Rattle.lft_presence.specs.Clashes.{IsPair, IsFirstPair};
 
-use crate::causes::{Cause, cause_at, position};
+use crate::causes::{Cause, position};
+use lft_lists::item_at;
 use lft_tag::{Shift, Tag};
 
 /// Whether the two are causes of the name that lead to one tag: of a port two tags of one time, of
@@ -32,11 +33,11 @@ pub(crate) fn first_pair(causes: &[Cause], name: u32, ports: bool) -> Option<Cau
     let first = Tag { time: 0, micro: 0 };
     let mut place = position(causes, name, Shift::none(), first, false);
     while place + 1 < causes.len() {
-        let next = cause_at(causes, place + 1);
+        let next = item_at(causes, place + 1);
         if next.name != name {
             return None;
         }
-        if is_pair(cause_at(causes, place), next, name, ports) {
+        if is_pair(item_at(causes, place), next, name, ports) {
             return Some(next);
         }
         place += 1;

@@ -5,10 +5,10 @@ ghost use Rattle.lft_flat.specs.Sound.{IsNameOf};
 ghost use Rattle.lft_model.specs.Presence.{At, IsPresent};
 ghost use Rattle.lft_presence.specs.Causes.{IsCause, IsLastCause, IsValueFrom, Carries, value_of as the_value_of};
 
-use crate::causes::{Cause, cause_at, leads, position};
-use crate::causing::event_at;
+use crate::causes::{Cause, leads, position};
 use crate::events::Presence;
 use lft_flat::{Name, Value};
+use lft_lists::item_at;
 use lft_tag::{Shift, Tag};
 use lft_trace::{Step, row_at};
 
@@ -36,7 +36,7 @@ impl<'a> Presence<'a> {
         if end == 0 {
             return None;
         }
-        let last = cause_at(causes, end - 1);
+        let last = item_at(causes, end - 1);
         if leads(last, name, shift, tag) {
             Some(last)
         } else {
@@ -55,7 +55,7 @@ impl<'a> Presence<'a> {
             let row = row_at(rows, place);
             value_of(&row.step)
         } else {
-            Some(event_at(self.events(), place - rows.len()).value)
+            Some(item_at(self.events(), place - rows.len()).value)
         }
     }
 

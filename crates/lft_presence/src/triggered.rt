@@ -1,21 +1,14 @@
 //! Which triggers are present at a tag, and which reactions are triggered there.
 
-ghost use Rattle.std.specs.Prelude.{◌≡◌, ◌<◌, length, Some, IsTrue, ◌↔◌, slice_get};
+ghost use Rattle.std.specs.Prelude.{◌<◌, length, IsTrue, ◌↔◌};
 ghost use Rattle.lft_flat.specs.Sound.{IsTriggerOf};
 ghost use Rattle.lft_model.specs.Presence.{Occurs, Triggered};
 
 use crate::events::Presence;
 use lft_flat::Trigger;
+use lft_lists::item_at;
 use lft_model::fires;
 use lft_tag::Tag;
-
-/// The trigger at the place, counted from 0.
-pub fn trigger_at(triggers: &[Trigger], place: usize) -> Trigger
-    requires { place < length triggers.now }
-    ensures { slice_get triggers.now place ≡ Some result }
-{
-    triggers[place]
-}
 
 impl<'a> Presence<'a> {
     /// Whether the trigger is present at the tag.
@@ -40,7 +33,7 @@ impl<'a> Presence<'a> {
         let program = self.program();
         let triggers = program.reaction(reaction).triggers.as_slice();
         for place in 0..triggers.len() {
-            if self.occurs(tag, trigger_at(triggers, place)) {
+            if self.occurs(tag, item_at(triggers, place)) {
                 return true;
             }
         }

@@ -15,7 +15,8 @@ use Rattle.lft_nesting.specs.Tables.{IsLawful}
 use Rattle.lft_nesting.proofs.Placed.{declared_from, thing_from, path_once}
 use Rattle.lft_program.specs.Flattening.{Flat, IsPort, IsAction, IsTimer, IsReaction, IsName, IsTrigger, name_of_thing, name_of_reaction}
 use Rattle.lft_flat.specs.Names.{AreDistinct, AreWords}
-use Rattle.lft_flat.specs.Parts.{Parts, named, inputs}
+use Rattle.lft_flat.specs.Parts.{Parts, inputs}
+use Rattle.lft_flat.specs.Naming.{named}
 use Rattle.lft_flat.specs.Sound.{IsSound, HasOneWriter, HasDistinct, IsNameOf, IsTriggerOf, NamesParts, IsWithinLimits, HasTimes, IsWellNamed}
 use Rattle.lft_flat.specs.declared.parts.Name.{Name}
 use Rattle.lft_flat.specs.declared.parts.Name.TheVariants.{Port, Action}

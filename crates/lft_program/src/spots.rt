@@ -92,5 +92,6 @@ pub(crate) fn triggers(
     for cue in cues {
         triggers.push(trigger(nest, instance, *cue))?;
     }
-    Ok(Triggers::from_vec(triggers))
+    let triggers = Triggers::new(alloc, triggers)?;
+    Ok(triggers)
 }

@@ -6,7 +6,7 @@ use Rattle.lft_tag.specs.declared.Tag.{Tag}
 use Rattle.lft_flat.proofs.Naming.{named_none}
 use Rattle.lft_flat.specs.declared.parts.Value.{Value}
 use Rattle.lft_flat.specs.declared.parts.Name.{Name}
-use Rattle.lft_flat.specs.Parts.{named}
+use Rattle.lft_flat.specs.Naming.{named}
 use Rattle.lft_flat.specs.declared.parts.Trigger.{Trigger}
 use Rattle.lft_flat.specs.declared.parts.Trigger.TheVariants.{Startup, Shutdown, Timer, On}
 use Rattle.lft_trace.specs.declared.row.Step.TheVariants.{Start}

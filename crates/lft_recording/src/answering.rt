@@ -1,10 +1,9 @@
 //! The steps of an answer: whether they may be made, and their rows.
 
-ghost use Rattle.std.specs.Prelude.{◌≡◌, ◌↔◌, ◌<◌, length, Some, slice_get, Contains, IsTrue, IfOk};
+ghost use Rattle.std.specs.Prelude.{◌≡◌, ◌↔◌, ◌<◌, length, Contains, IsTrue, IfOk};
 ghost use Rattle.lft_model.specs.Recorded.{MayAnswer, committed_rows};
 ghost use Rattle.lft_recording.specs.Answering.{MayAll, HasLongDelay, IsLong};
 
-use crate::same::same_name;
 use lft_flat::Name;
 use lft_model::Plan;
 use lft_tag::{MAX_TIME, NoMemory, Tag};
@@ -16,7 +15,7 @@ fn has_name(names: &[Name], name: Name) -> bool
     ensures { IsTrue result ↔ Contains names.now name }
 {
     for at in 0..names.len() {
-        if same_name(names[at], name) {
+        if names[at] == name {
             return true;
         }
     }

@@ -1,30 +1,14 @@
 //! The rows of a run that is begun.
 
 ghost use Rattle.std.specs.Prelude.{◌≡◌, ◌<◌, ◌++◌, ◌∷◌, [], length, map, filter_map, IfOk, OnOk};
-ghost use Rattle.lft_flat.specs.Parts.{inputs};
 ghost use Rattle.lft_model.specs.Recorded.{begun_rows, run_row};
 ghost use Rattle.lft_model.specs.Runs.{inputs_of, read_step};
 
-use lft_flat::{Name, Reaction, Trigger, Value};
+use lft_flat::{Name, Value};
 use lft_model::{Plan, Reads};
 use lft_tag::{NoMemory, Tag};
 use lft_trace::{Row, Step};
 use std::alloc::Global;
-
-// The ports and actions that the reaction reads, triggers before uses.
-fn input_names(alloc: Global, reaction: &Reaction) -> Result<Vec<Name>, NoMemory>
-    ensures { IfOk result (λ names. names.items ≡ inputs reaction.now) }
-{
-    let mut names = Vec::new(alloc);
-    let triggers = reaction.triggers.as_slice();
-    for at in 0..triggers.len() {
-        if let Trigger::On(name) = triggers[at] {
-            names.push(name)?;
-        }
-    }
-    names.extend_from_slice(reaction.uses.as_slice())?;
-    Ok(names)
-}
 
 /// A start row, and a read row for each input that is present.
 pub fn begun(
@@ -39,7 +23,7 @@ pub fn begun(
     requires reads { length reads.now ≡ length (inputs_of plan.now.program reaction) }
     ensures { IfOk result (λ rows. rows.items ≡ begun_rows plan.now worker tag reaction reads.now) }
 {
-    let names = input_names(alloc, plan.program().reaction(reaction))?;
+    let names = plan.program().reaction(reaction).inputs(alloc)?;
     let names = names.as_slice();
     let shown = reads.as_slice();
     let mut rows = Vec::new(alloc);

@@ -11,6 +11,7 @@ ghost use Rattle.lft_rows.specs.Passes.{RisesTo, IsBadRead};
 
 use crate::marks::Marks;
 use lft_flat::{Name, Program};
+use lft_lists::item_at;
 use lft_tag::Tag;
 use lft_trace::{Row, Step, row_at};
 
@@ -100,32 +101,12 @@ fn is_effect(program: &Program, reaction: u32, name: Name) -> bool
     is_among(program.reaction(reaction).effects.as_slice(), name)
 }
 
-/// Whether the two are one name.
-pub(crate) fn is_same_name(a: Name, b: Name) -> bool
-    ensures { IsTrue result ↔ (a ≡ b) }
-{
-    match (a, b) {
-        (Name::Port(p), Name::Port(q)) => p == q,
-        (Name::Action(p), Name::Action(q)) => p == q,
-        (Name::Port(_), Name::Action(_)) => false,
-        (Name::Action(_), Name::Port(_)) => false,
-    }
-}
-
-/// The name at the place, counted from 0.
-pub fn name_at(names: &[Name], place: usize) -> Name
-    requires { place < length names.now }
-    ensures { slice_get names.now place ≡ Some result }
-{
-    names[place]
-}
-
 /// Whether the name is one of the names.
 fn is_among(names: &[Name], name: Name) -> bool
     ensures { IsTrue result ↔ ((k : ℕ) × (slice_get names.now k ≡ Some name)) }
 {
     for place in 0..names.len() {
-        if is_same_name(name_at(names, place), name) {
+        if item_at(names, place) == name {
             return true;
         }
     }

@@ -7,7 +7,6 @@ mod open;
 mod parts;
 mod pass;
 
-pub use declared::name_at;
 pub use marks::Marks;
 pub use parts::first_breach_shared;
 pub use pass::first_breach;

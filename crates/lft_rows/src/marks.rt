@@ -1,14 +1,13 @@
 //! Where each reaction read each of its inputs last.
 
-ghost use Rattle.std.specs.Prelude.{◌≡◌, ℕ, ◌+◌, ◌<◌, ◌≤◌, length, Some, IsTrue, IfOk, OnOk, MatchOption, slice_get};
+ghost use Rattle.std.specs.Prelude.{◌≡◌, ℕ, ◌+◌, ◌<◌, ◌≤◌, length, Some, IfOk, OnOk, MatchOption, slice_get};
 ghost use Rattle.lft_flat.specs.Parts.{inputs as the_inputs};
 ghost use Rattle.lft_flat.specs.declared.parts.Reaction.{Reaction as TheReaction};
 ghost use Rattle.lft_trace.specs.Fits.{RowsFit};
 ghost use Rattle.lft_rows.specs.Marks.{width, HasSeat, AreNoneFrom, IsLaid, Mark, IsMarkedBy, AreMarks, AreBefore};
 
-use crate::declared::{is_same_name, name_at};
-use lft_flat::{Name, Names, Program, Reaction, Trigger};
-use lft_presence::trigger_at;
+use lft_flat::{Name, Names, Program};
+use lft_lists::item_at;
 use lft_tag::NoMemory;
 use lft_trace::{Row, Step, row_at};
 use std::alloc::Global;
@@ -26,27 +25,12 @@ pub struct Marks {
     guess: usize,
 }
 
-/// The inputs of the reaction: the ports and actions among its triggers, then its uses.
-fn inputs_of(alloc: Global, reaction: &Reaction) -> Result<Vec<Name>, NoMemory>
-    ensures { IfOk result (λ names. names.items ≡ the_inputs reaction.now) }
-{
-    let mut names = Vec::new(alloc);
-    let triggers = reaction.triggers.as_slice();
-    for place in 0..triggers.len() {
-        if let Trigger::On(name) = trigger_at(triggers, place) {
-            names.push(name)?;
-        }
-    }
-    names.extend_from_slice(reaction.uses.as_slice())?;
-    Ok(names)
-}
-
 /// The place of the name among the names, if it is one.
 fn name_seat(names: &[Name], name: Name) -> Option<usize>
     ensures { MatchOption result ((k : ℕ) → ¬ (slice_get names.now k ≡ Some name)) (λ k. slice_get names.now k ≡ Some name) }
 {
     for place in 0..names.len() {
-        if is_same_name(name_at(names, place), name) {
+        if item_at(names, place) == name {
             return Some(place);
         }
     }
@@ -59,7 +43,7 @@ fn seat_of(names: &[Name], name: Name, guess: usize) -> Option<usize>
     ensures { MatchOption result ((k : ℕ) → ¬ (slice_get names.now k ≡ Some name)) (λ k. slice_get names.now k ≡ Some name) }
 {
     let first = if guess < names.len() { guess } else { 0 };
-    if first < names.len() && is_same_name(name_at(names, first), name) {
+    if first < names.len() && item_at(names, first) == name {
         return Some(first);
     }
     name_seat(names, name)
@@ -86,7 +70,7 @@ impl Marks {
         let mut firsts = Vec::new(alloc);
         let mut places = Vec::new(alloc);
         for number in 0..program.reactions() {
-            let names = inputs_of(alloc, program.reaction(number as u32))?;
+            let names = program.reaction(number as u32).inputs(alloc)?;
             firsts.push(places.len())?;
             add_marks(&mut places, names.len())?;
             inputs.push(Names::from_vec(names))?;

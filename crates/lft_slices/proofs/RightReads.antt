@@ -4,7 +4,8 @@ use Rattle.std.specs.List.{last_or, AllZip}
 use native.Mathlib.Decide.{ℕ_discrete}
 use Rattle.lft_flat.proofs.Origins.{origin_unique}
 use Rattle.lft_tag.specs.declared.Tag.{Tag}
-use Rattle.lft_flat.specs.Parts.{Parts, inputs, named}
+use Rattle.lft_flat.specs.Parts.{Parts, inputs}
+use Rattle.lft_flat.specs.Naming.{named}
 use Rattle.lft_flat.specs.Sound.{IsSound, IsNameOf, IsTriggerOf}
 use Rattle.lft_flat.specs.declared.parts.Value.{Value}
 use Rattle.lft_flat.specs.declared.parts.Name.{Name}

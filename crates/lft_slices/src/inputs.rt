@@ -1,6 +1,6 @@
 //! Whether a run read what is present.
 
-ghost use Rattle.std.specs.Prelude.{◌≡◌, ◌<◌, ◌↔◌, List, Option, Some, length, IsTrue, IfOk, slice_get};
+ghost use Rattle.std.specs.Prelude.{◌≡◌, ◌<◌, ◌↔◌, Some, length, IsTrue, slice_get};
 ghost use Rattle.lft_flat.specs.Sound.{IsNameOf};
 ghost use Rattle.lft_model.specs.Presence.{Collision, Inputs};
 ghost use Rattle.lft_model.specs.Runs.{reads_at};
@@ -14,30 +14,13 @@ use crate::sliced::Sliced;
 use crate::slices::Slice;
 use crate::walk::Walk;
 use lft_flat::{Name, Value};
-use lft_rows::name_at;
+use lft_lists::item_at;
 
 /// Whether the two are one value, or both none.
 fn same_values(a: Option<Value>, b: Option<Value>) -> bool
     ensures { IsTrue result ↔ (a ≡ b) }
 {
-    match (a, b) {
-        (Some(x), Some(y)) => same_value(x, y),
-        (None, None) => true,
-        (Some(_), None) => false,
-        (None, Some(_)) => false,
-    }
-}
-
-/// Whether the two are one value.
-fn same_value(a: Value, b: Value) -> bool
-    ensures { IsTrue result ↔ (a ≡ b) }
-{
-    match (a, b) {
-        (Value::Bare, Value::Bare) => true,
-        (Value::Int(x), Value::Int(y)) => x == y,
-        (Value::Bare, Value::Int(_)) => false,
-        (Value::Int(_), Value::Bare) => false,
-    }
+    a == b
 }
 
 impl<'a> Sliced<'a> {
@@ -68,7 +51,7 @@ impl<'a> Sliced<'a> {
     {
         let names = walk.marks.inputs(self.program(), reaction);
         for seat in 0..names.len() {
-            let name = name_at(names, seat);
+            let name = item_at(names, seat);
             if !self.reads_right(walk, slice, reaction, seat, name) {
                 return false;
             }

@@ -1,6 +1,6 @@
 //! The first missing run, found from what makes reactions run and not from the tags.
 
-ghost use Rattle.std.specs.Prelude.{◌≡◌, ℕ, ◌<◌, ◌≤◌, length, true, Some, MatchOption, IfSome, IfOk, OnOk, IsTrue, slice_get, slice_set};
+ghost use Rattle.std.specs.Prelude.{◌≡◌, ℕ, ◌<◌, ◌≤◌, length, true, Some, MatchOption, IfSome, IfOk, OnOk, slice_get, slice_set};
 ghost use Rattle.lft_tag.specs.declared.Tag.{Tag as TheTag};
 ghost use Rattle.lft_flat.specs.Sound.{IsNameOf, IsTriggerOf};
 ghost use Rattle.lft_flat.specs.declared.parts.Trigger.TheVariants.{On};
@@ -15,7 +15,8 @@ ghost use Rattle.lft_slices.specs.Least.{AreUp, HasTag, AreTriggered, IsFirstOf,
 use crate::needed::needed_of;
 use crate::started::Started;
 use lft_flat::{Name, Timer, Trigger};
-use lft_presence::{Presence, cause_at, cause_tag, moved, position, skip, sooner, trigger_at};
+use lft_lists::item_at;
+use lft_presence::{Presence, cause_tag, moved, position, skip, sooner};
 use lft_tag::{NoMemory, Shift, Tag};
 use std::alloc::Global;
 
@@ -41,14 +42,6 @@ pub(crate) fn first_of(
     }
 }
 
-/// The tag at the place, counted from 0.
-fn tag_at(tags: &[Tag], place: usize) -> Tag
-    requires { place < length tags.now }
-    ensures { slice_get tags.now place ≡ Some result }
-{
-    tags[place]
-}
-
 /// The place of the tag among ascending ones, if it is one. It is looked for at the hint first, and
 /// then behind it, where the one at the hint is earlier.
 fn find_tag(tags: &[Tag], tag: Tag, hint: usize) -> Option<usize>
@@ -58,7 +51,7 @@ fn find_tag(tags: &[Tag], tag: Tag, hint: usize) -> Option<usize>
 {
     let mut low = 0;
     if hint < tags.len() {
-        let there = tag_at(tags, hint);
+        let there = item_at(tags, hint);
         if there.is_same(tag) {
             return Some(hint);
         }
@@ -69,13 +62,13 @@ fn find_tag(tags: &[Tag], tag: Tag, hint: usize) -> Option<usize>
     let mut high = tags.len();
     while low < high {
         let middle = low + (high - low) / 2;
-        if tag_at(tags, middle).is_before(tag) {
+        if item_at(tags, middle).is_before(tag) {
             low = middle + 1;
         } else {
             high = middle;
         }
     }
-    if low < tags.len() && tag_at(tags, low).is_same(tag) {
+    if low < tags.len() && item_at(tags, low).is_same(tag) {
         Some(low)
     } else {
         None
@@ -174,7 +167,7 @@ fn lacked_cause(
     let mut hint = 0;
     let mut place = position(causes, name, Shift::none(), first, false);
     while place < causes.len() {
-        let cause = cause_at(causes, place);
+        let cause = item_at(causes, place);
         if cause.name != name {
             return None;
         }
@@ -272,7 +265,7 @@ pub(crate) fn lacked(
     let _ = presence.program();
     let mut least = None;
     for place in 0..triggers.len() {
-        let trigger = trigger_at(triggers, place);
+        let trigger = item_at(triggers, place);
         least = sooner(
             least,
             lacked_trigger(presence, trigger, reaction, tags, known),

@@ -1,13 +1,13 @@
 //! The triggers of a reaction without the timers whose firings are those of another one.
 
-ghost use Rattle.std.specs.Prelude.{◌≡◌, ◌↔◌, ℕ, ◌<◌, ◌*◌, length, Some, IsTrue, IfOk, OnOk, slice_get};
+ghost use Rattle.std.specs.Prelude.{◌≡◌, ◌↔◌, ℕ, ◌<◌, length, Some, IsTrue, IfOk, OnOk, slice_get};
 ghost use Rattle.lft_flat.specs.Sound.{IsTriggerOf};
 ghost use Rattle.lft_flat.specs.declared.parts.Trigger.{Trigger as TheTrigger};
 ghost use Rattle.lft_slices.specs.declared.needed.Beat.{Beat as TheBeat};
 ghost use Rattle.lft_slices.specs.Needed.{AreNeeded, AreNeededOf, IsMultiple, InStep, IsBeatOf, AreAdded};
 
 use lft_flat::{Program, Trigger};
-use lft_presence::trigger_at;
+use lft_lists::item_at;
 use lft_tag::NoMemory;
 use std::alloc::Global;
 
@@ -38,14 +38,6 @@ fn beat_of(program: &Program, number: u32) -> Beat
         offset,
         number,
     }
-}
-
-/// The beat at the place, counted from 0.
-fn beat_at(beats: &[Beat], place: usize) -> Beat
-    requires { place < length beats.now }
-    ensures { slice_get beats.now place ≡ Some result }
-{
-    beats[place]
 }
 
 /// Whether the time is a whole number of periods.
@@ -80,7 +72,7 @@ fn add_timers(beats: &[Beat], needed: &mut Vec<Trigger>) -> Result<(), NoMemory>
 {
     let mut last = None;
     for place in 0..beats.len() {
-        let beat = beat_at(beats, place);
+        let beat = item_at(beats, place);
         if !is_covered(last, beat) {
             needed.push(Trigger::Timer(beat.number))?;
             last = Some(beat);
@@ -102,7 +94,7 @@ fn needed_triggers(
     let mut beats = Vec::new(alloc);
     let mut needed = Vec::new(alloc);
     for place in 0..triggers.len() {
-        let trigger = trigger_at(triggers, place);
+        let trigger = item_at(triggers, place);
         if let Trigger::Timer(number) = trigger {
             beats.push(beat_of(program, number))?;
         } else {

@@ -6,7 +6,8 @@ ghost use Rattle.lft_slices.specs.Slices.{IsCuttable, IsSlice, AreSlices};
 ghost use Rattle.lft_rows.specs.Marks.{AreNoneFrom};
 ghost use Rattle.lft_slices.specs.Pieces.{AreRuns, AreEndsTo, AreEndsOver, AreStartsTo, ArePieces};
 
-use crate::slices::{Slice, slice_at};
+use crate::slices::Slice;
+use lft_lists::item_at;
 use lft_tag::{NoMemory, Tag};
 use lft_trace::{Row, is_end, is_start, row_at};
 use std::alloc::Global;
@@ -124,18 +125,10 @@ impl Pieces {
         requires range { (a b : _) → slice_get self.now.firsts.items place ≡ Some a → slice_get self.now.firsts.items (place + 1) ≡ Some b → (a ≤ b) × (b ≤ length self.now.list.items) }
         ensures { (a b : _) → slice_get self.now.firsts.items place ≡ Some a → slice_get self.now.firsts.items (place + 1) ≡ Some b → result.now ≡ slice_range self.now.list.items a b }
     {
-        let first = first_at(self.firsts.as_slice(), place);
-        let end = first_at(self.firsts.as_slice(), place + 1);
+        let first = item_at(self.firsts.as_slice(), place);
+        let end = item_at(self.firsts.as_slice(), place + 1);
         &self.list[first..end]
     }
-}
-
-/// The number at the place, counted from 0.
-fn first_at(firsts: &[usize], place: usize) -> usize
-    requires { place < length firsts.now }
-    ensures { slice_get firsts.now place ≡ Some result }
-{
-    firsts[place]
 }
 
 /// The runs of the rows, slice by slice.
@@ -157,7 +150,7 @@ pub(crate) fn pieces_of(
         list: Vec::new(alloc),
     };
     for place in 0..slices.len() {
-        let slice = slice_at(slices, place);
+        let slice = item_at(slices, place);
         find_runs(rows, slice, &mut ends, &mut found)?;
         pieces.add(slice.tag, found.as_slice())?;
     }

@@ -4,22 +4,11 @@ ghost use Rattle.std.specs.Prelude.{◌≡◌};
 ghost use Rattle.std.specs.Bool.{Decides};
 
 use crate::externals::Event;
-use lft_flat::Value;
-
-fn same_value(a: Value, b: Value) -> bool
-    ensures { Decides result (a ≡ b) }
-{
-    match (a, b) {
-        (Value::Bare, Value::Bare) => true,
-        (Value::Int(x), Value::Int(y)) => x == y,
-        (Value::Bare, Value::Int(_)) | (Value::Int(_), Value::Bare) => false,
-    }
-}
 
 fn same_event(a: &Event, b: &Event) -> bool
     ensures { Decides result (a.now ≡ b.now) }
 {
-    a.tag.is_same(b.tag) && a.action == b.action && same_value(a.value, b.value)
+    a.tag.is_same(b.tag) && a.action == b.action && a.value == b.value
 }
 
 pub fn same_events(a: &[Event], b: &[Event]) -> bool

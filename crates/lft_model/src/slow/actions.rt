@@ -1,6 +1,6 @@
 //! What rows schedule, and what the external inputs give, for an action.
 
-ghost use Rattle.std.specs.Prelude.{◌≡◌, ◌<◌, ◌≤◌, ◌↔◌, length, filter_map, slice_get, Some, IsTrue, IfSome, IfNone};
+ghost use Rattle.std.specs.Prelude.{◌≡◌, ◌<◌, ◌≤◌, ◌↔◌, length, filter_map, IsTrue, IfSome, IfNone};
 ghost use Rattle.lft_flat.specs.declared.parts.Name.TheVariants.{Action as TheAction};
 ghost use Rattle.lft_trace.specs.Fits.{RowFits, RowsFit};
 ghost use Rattle.lft_model.specs.Fitting.{EachFits};
@@ -8,6 +8,7 @@ ghost use Rattle.lft_model.specs.Presence.{At, IsPresent, events_of, given as th
 
 use crate::plan::Plan;
 use lft_flat::{Name, Value};
+use lft_lists::item_at;
 use lft_tag::Tag;
 use lft_trace::{Event, Row, Step, row_at};
 
@@ -28,14 +29,6 @@ fn value_scheduled(plan: &Plan, row: Row, tag: Tag, action: u32) -> Option<Value
         }
         _ => None,
     }
-}
-
-// The event at the place, counted from 0.
-fn event_at(events: &[Event], place: usize) -> Event
-    requires { place < length events.now }
-    ensures { slice_get events.now place ≡ Some result }
-{
-    events[place]
 }
 
 // The value that an external event gives the action at the tag, if it does.
@@ -65,7 +58,7 @@ pub(crate) fn action_value(plan: &Plan, rows: &[Row], tag: Tag, action: u32) -> 
     }
     let events = plan.externals().events();
     for place in 0..events.len() {
-        let value = value_given(event_at(events, place), tag, action);
+        let value = value_given(item_at(events, place), tag, action);
         if value.is_some() {
             return value;
         }
@@ -94,7 +87,7 @@ fn count_given(events: &[Event], tag: Tag, action: u32) -> usize
 {
     let mut count = 0;
     for place in 0..events.len() {
-        if value_given(event_at(events, place), tag, action).is_some() {
+        if value_given(item_at(events, place), tag, action).is_some() {
             count += 1;
         }
     }

@@ -14,19 +14,19 @@ loop-at-init c = told_begun (λ (x k : ℕ). k ≡ x) c.of-reactions.result.now 
 
 pub trigger-requires : goal.trigger-requires
 trigger-requires c =
-    let its : IsListener c.args.plan.now.program c.args.trigger c.number_at.result = (c.of-reactions.ensures c.args.plan.now.program c.requires.listeners c.number_at.result).0 (contains_at c.of-reactions.result.now c.loop-at.at c.number_at.result c.number_at.ensures) in
-    let l : c.number_at.result < length c.args.plan.now.program.reactions = slice_get_within c.args.plan.now.program.reactions c.number_at.result its.0 its.1 in
+    let its : IsListener c.args.plan.now.program c.args.trigger c.item_at.result = (c.of-reactions.ensures c.args.plan.now.program c.requires.listeners c.item_at.result).0 (contains_at c.of-reactions.result.now c.loop-at.at c.item_at.result c.item_at.ensures) in
+    let l : c.item_at.result < length c.args.plan.now.program.reactions = slice_get_within c.args.plan.now.program.reactions c.item_at.result its.0 its.1 in
     let e = c.requires.phases in
     let k = c.loop-at.invariant.count in
     omega arith
 
 pub loop-at-preserved : goal.loop-at-preserved
 loop-at-preserved c =
-    let its : IsListener c.args.plan.now.program c.args.trigger c.number_at.result = (c.of-reactions.ensures c.args.plan.now.program c.requires.listeners c.number_at.result).0 (contains_at c.of-reactions.result.now c.loop-at.at c.number_at.result c.number_at.ensures) in
-    let l : c.number_at.result < length c.args.plan.now.program.reactions = slice_get_within c.args.plan.now.program.reactions c.number_at.result its.0 its.1 in
+    let its : IsListener c.args.plan.now.program c.args.trigger c.item_at.result = (c.of-reactions.ensures c.args.plan.now.program c.requires.listeners c.item_at.result).0 (contains_at c.of-reactions.result.now c.loop-at.at c.item_at.result c.item_at.ensures) in
+    let l : c.item_at.result < length c.args.plan.now.program.reactions = slice_get_within c.args.plan.now.program.reactions c.item_at.result its.0 its.1 in
     let e = c.requires.phases in
     let k = c.loop-at.invariant.count in
-    told_next (λ (x r : ℕ). r ≡ x) c.of-reactions.result.now c.loop-at.at c.number_at.result c.args.turn.now c.loop-at.turn c.trigger.new.self c.number_at.ensures c.loop-at.invariant (told_one c.loop-at.turn c.trigger.new.self c.number_at.result (omega arith) c.trigger.ensures.graph c.trigger.ensures.idle c.trigger.ensures.pending)
+    told_next (λ (x r : ℕ). r ≡ x) c.of-reactions.result.now c.loop-at.at c.item_at.result c.args.turn.now c.loop-at.turn c.trigger.new.self c.item_at.ensures c.loop-at.invariant (told_one c.loop-at.turn c.trigger.new.self c.item_at.result (omega arith) c.trigger.ensures.graph c.trigger.ensures.idle c.trigger.ensures.pending)
 
 pub returns : goal.returns
 returns c =

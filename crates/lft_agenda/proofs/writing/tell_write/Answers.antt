@@ -18,8 +18,8 @@ loop-at-init c = λ v. told_begun (λ (p r : ℕ). ArrivesAtOnce c.args.plan.now
 
 pub port-requires : goal.port-requires
 port-requires c =
-    let n = c.number_at-number.result in
-    let its : IsArrival c.args.plan.now.program c.args.origin n = (c.of-ports.ensures.each c.args.plan.now.program c.requires.arrivals n).0 (contains_at c.of-ports.result.now c.loop-at.at n c.number_at-number.ensures) in
+    let n = c.item_at-number.result in
+    let its : IsArrival c.args.plan.now.program c.args.origin n = (c.of-ports.ensures.each c.args.plan.now.program c.requires.arrivals n).0 (contains_at c.of-ports.result.now c.loop-at.at n c.item_at-number.ensures) in
     let l : n < length c.args.plan.now.program.ports = slice_get_within c.args.plan.now.program.ports n its.0 its.1 in
     subst (λ (p : Parts). n < length p.ports) (sym c.program.ensures.value) l
 
@@ -27,12 +27,12 @@ pub loop-at-preserved : goal.loop-at-preserved
 loop-at-preserved c = λ v.
     let program = c.args.plan.now.program in
     let g = c.args.tag in
-    let n = c.number_at-number.result in
+    let n = c.item_at-number.result in
     let port = c.port.result.now in
-    let its : IsArrival program c.args.origin n = (c.of-ports.ensures.each program c.requires.arrivals n).0 (contains_at c.of-ports.result.now c.loop-at.at n c.number_at-number.ensures) in
+    let its : IsArrival program c.args.origin n = (c.of-ports.ensures.each program c.requires.arrivals n).0 (contains_at c.of-ports.result.now c.loop-at.at n c.item_at-number.ensures) in
     let is_port : slice_get program.ports n ≡ Some port = ap (λ (p : Parts). slice_get p.ports n) (sym c.program.ensures.value) ∙ c.port.ensures.value in
     let origin : port.origin ≡ c.args.origin = ap (λ (x : PortOf). x.origin) (same_some (slice_get program.ports n) port its.0 is_port its.1) ∙ its.2 in
-    told_next (λ (p r : ℕ). ArrivesAtOnce program g (Write (Port c.args.origin) v) p × IsListener program (On (Port p)) r) c.of-ports.result.now c.loop-at.at n c.args.turn.now c.loop-at.turn c.tell_of.new.turn c.number_at-number.ensures (c.loop-at.invariant v)
+    told_next (λ (p r : ℕ). ArrivesAtOnce program g (Write (Port c.args.origin) v) p × IsListener program (On (Port p)) r) c.of-ports.result.now c.loop-at.at n c.args.turn.now c.loop-at.turn c.tell_of.new.turn c.item_at-number.ensures (c.loop-at.invariant v)
     (told_as (λ r. IsTrue c.is_same-at_once.result × IsListener program (On (Port n)) r) (λ r. ArrivesAtOnce program g (Write (Port c.args.origin) v) n × IsListener program (On (Port n)) r) c.loop-at.turn c.tell_of.new.turn
     (λ r p. ((port, is_port, origin, sym c.plus-arrives.ensures.folded ∙ c.is_same-at_once.ensures.0 p.0), p.1))
     (λ r p. (c.is_same-at_once.ensures.1 (c.plus-arrives.ensures.folded ∙ subst (λ (x : PortOf). shifted g (x.shift.time, x.shift.steps) ≡ g) (same_some (slice_get program.ports n) p.0.0 port p.0.1 is_port) p.0.3), p.1))

@@ -11,7 +11,7 @@ pub loop-at-init : goal.loop-at-init
 loop-at-init c = told_begun (λ (s : Step) (r : ℕ). (p : ℕ) × ArrivesAtOnce c.args.plan.now.program c.args.tag s p × IsListener c.args.plan.now.program (On (Port p)) r) c.args.steps.now c.args.turn.now
 
 pub loop-at-preserved : goal.loop-at-preserved
-loop-at-preserved c = told_next (λ (s : Step) (r : ℕ). (p : ℕ) × ArrivesAtOnce c.args.plan.now.program c.args.tag s p × IsListener c.args.plan.now.program (On (Port p)) r) c.args.steps.now c.loop-at.at c.step_at.result c.args.turn.now c.loop-at.turn c.tell_step.new.turn c.step_at.ensures c.loop-at.invariant c.tell_step.ensures
+loop-at-preserved c = told_next (λ (s : Step) (r : ℕ). (p : ℕ) × ArrivesAtOnce c.args.plan.now.program c.args.tag s p × IsListener c.args.plan.now.program (On (Port p)) r) c.args.steps.now c.loop-at.at c.item_at.result c.args.turn.now c.loop-at.turn c.tell_step.new.turn c.item_at.ensures c.loop-at.invariant c.tell_step.ensures
 
 pub returns : goal.returns
 returns c = told_each (λ (s : Step) (r : ℕ). (p : ℕ) × ArrivesAtOnce c.args.plan.now.program c.args.tag s p × IsListener c.args.plan.now.program (On (Port p)) r) c.args.steps.now (TriggeredByWrites c.args.plan.now.program c.args.tag c.args.steps.now) c.loop-at.at c.args.turn.now c.loop-at.turn (let z = c.loop-at-test.false in omega arith)

@@ -9,6 +9,6 @@ loop-place-preserved c =
     let h = value_read c.args.name in
     let now = c.value_read-value in
     elim c.if-is_some.branch [
-      | then-is_some w ↦ w.last-is ∙ last_changes h c.args.steps.now c.loop-place.place c.step_at.result now.result c.step_at.ensures now.ensures (sym c.is_some.ensures ∙ w.if-is_some.true)
-      | else-is_some w ↦ w.last-is ∙ last_stays h c.args.steps.now c.loop-place.place c.step_at.result c.loop-place.last now.result c.step_at.ensures now.ensures (sym c.is_some.ensures ∙ w.if-is_some.false) c.loop-place.invariant
+      | then-is_some w ↦ w.last-is ∙ last_changes h c.args.steps.now c.loop-place.place c.item_at.result now.result c.item_at.ensures now.ensures (sym c.is_some.ensures ∙ w.if-is_some.true)
+      | else-is_some w ↦ w.last-is ∙ last_stays h c.args.steps.now c.loop-place.place c.item_at.result c.loop-place.last now.result c.item_at.ensures now.ensures (sym c.is_some.ensures ∙ w.if-is_some.false) c.loop-place.invariant
     ]

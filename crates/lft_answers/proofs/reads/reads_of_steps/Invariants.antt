@@ -1,5 +1,5 @@
 use Rattle.std.proofs.Common.{◌≡◌, ◌++◌, map, take, filter_map}
-use Rattle.lft_flat.specs.Parts.{named}
+use Rattle.lft_flat.specs.Naming.{named}
 use Rattle.lft_model.specs.Runs.{read_of}
 use Rattle.lft_answers.proofs.reads.reads_of_steps.Given as goal
 

@@ -17,21 +17,21 @@ loop-at-init c = λ h n v u. none_begun c.events-events.result.now c.new-queue.r
 pub loop-at-preserved : goal.loop-at-preserved
 loop-at-preserved c =
     let events = c.events-events.result.now in
-    let event = c.event_at-event.result in
+    let event = c.item_at-event.result in
     let stop = c.stop-stop.result in
     let i = c.loop-at.at in
     elim c.if-not-is_before.branch [
       | then-not-is_before+in-Err+in-Collision-1 w ↦
           let not : ¬ Before stop event.tag = search rules in
           let s : IsSome (value_of event.tag (Action event.action) c.loop-at.queue) = search rules in
-          absurd (none_given events i event c.event_at-event.ensures stop (subst (λ (es : List Event). InOrder es) (sym c.events-events.ensures.value) c.events-events.ensures.order) c.loop-at.queue (up_to event.tag stop not) c.loop-at.invariant s)
+          absurd (none_given events i event c.item_at-event.ensures stop (subst (λ (es : List Event). InOrder es) (sym c.events-events.ensures.value) c.events-events.ensures.order) c.loop-at.queue (up_to event.tag stop not) c.loop-at.invariant s)
       | then-not-is_before+in-Ok-1 w ↦
           let becomes : Becomes c.loop-at.queue w.put.new.self event.tag (Action event.action) (Some event.value) = search rules in
           let none : value_of event.tag (Action event.action) c.loop-at.queue ≡ None = search rules in
-          subst (λ (q : List Pending). (h : Tag) (n : Name) (v : Value) → UpTo h stop → (value_of h n q ≡ Some v) ↔ IsGiven events (i + 1) h n v) (sym w.queue-is) (given_put events i event c.event_at-event.ensures stop c.loop-at.queue w.put.new.self becomes none c.loop-at.invariant)
+          subst (λ (q : List Pending). (h : Tag) (n : Name) (v : Value) → UpTo h stop → (value_of h n q ≡ Some v) ↔ IsGiven events (i + 1) h n v) (sym w.queue-is) (given_put events i event c.item_at-event.ensures stop c.loop-at.queue w.put.new.self becomes none c.loop-at.invariant)
       | else-not-is_before w ↦
           let late : Before stop event.tag = search rules in
-          subst (λ (q : List Pending). (h : Tag) (n : Name) (v : Value) → UpTo h stop → (value_of h n q ≡ Some v) ↔ IsGiven events (i + 1) h n v) (sym w.queue-is) (given_late events i event c.event_at-event.ensures stop c.loop-at.queue late c.loop-at.invariant)
+          subst (λ (q : List Pending). (h : Tag) (n : Name) (v : Value) → UpTo h stop → (value_of h n q ≡ Some v) ↔ IsGiven events (i + 1) h n v) (sym w.queue-is) (given_late events i event c.item_at-event.ensures stop c.loop-at.queue late c.loop-at.invariant)
     ]
 
 pub returns : goal.returns

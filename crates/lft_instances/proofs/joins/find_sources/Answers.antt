@@ -3,22 +3,22 @@ use Rattle.lft_instances.specs.Numbers.{things}
 use Rattle.lft_instances.specs.Joins.{HasJoin}
 use Rattle.lft_instances.proofs.Joining.{port_number, sourced_more, sourced_next, sourced_end, sources_inside}
 use Rattle.lft_instances.proofs.joins.find_sources.Goals as goal
-use Rattle.lft_instances.proofs.joins.find_sources.Goals.{After-join_at-join, After-port_of-to}
+use Rattle.lft_instances.proofs.joins.find_sources.Goals.{After-item_at-join, After-port_of-to}
 
 -- the join is one of this instance
-has : (c : goal.After-join_at-join) → HasJoin c.args.table.now c.args.instances.now c.instances.number c.joins.place c.join_at-join.result
-has c = (c.instance_at.result, c.instance_at.ensures, subst (λ l. slice_get l c.joins.place ≡ Some c.join_at-join.result) c.joins_of-joins.ensures c.join_at-join.ensures)
+has : (c : goal.After-item_at-join) → HasJoin c.args.table.now c.args.instances.now c.instances.number c.joins.place c.item_at-join.result
+has c = (c.item_at.result, c.item_at.ensures, subst (λ l. slice_get l c.joins.place ≡ Some c.item_at-join.result) c.joins_of-joins.ensures c.item_at-join.ensures)
 
 pub port_of-port-requires : goal.port_of-port-requires
 port_of-port-requires c =
-    let r = port_number c.args.counts.now c.args.instances.now c.args.firsts.now c.args.children.now c.requires.numbered c.instances.number c.join_at-join.result.from (c.requires.ports c.instances.number c.joins.place c.join_at-join.result (has ((goal.at.port_of-port-requires c).After-join_at-join))).0 in
+    let r = port_number c.args.counts.now c.args.instances.now c.args.firsts.now c.args.children.now c.requires.numbered c.instances.number c.item_at-join.result.from (c.requires.ports c.instances.number c.joins.place c.item_at-join.result (has ((goal.at.port_of-port-requires c).After-item_at-join))).0 in
     let few : things c.args.counts.now c.args.instances.now ≤ 100000 = c.requires.few_ports in
     let low : r.0 < things c.args.counts.now c.args.instances.now = r.2 in
     (r.0, r.1, omega arith)
 
 pub port_of-to-requires : goal.port_of-to-requires
 port_of-to-requires c =
-    let r = port_number c.args.counts.now c.args.instances.now c.args.firsts.now c.args.children.now c.requires.numbered c.instances.number c.join_at-join.result.to (c.requires.ports c.instances.number c.joins.place c.join_at-join.result (has ((goal.at.port_of-to-requires c).After-join_at-join))).1 in
+    let r = port_number c.args.counts.now c.args.instances.now c.args.firsts.now c.args.children.now c.requires.numbered c.instances.number c.item_at-join.result.to (c.requires.ports c.instances.number c.joins.place c.item_at-join.result (has ((goal.at.port_of-to-requires c).After-item_at-join))).1 in
     let few : things c.args.counts.now c.args.instances.now ≤ 100000 = c.requires.few_ports in
     let low : r.0 < things c.args.counts.now c.args.instances.now = r.2 in
     (r.0, r.1, omega arith)
@@ -26,7 +26,7 @@ port_of-to-requires c =
 -- the destination is a port
 low : (c : goal.After-port_of-to) → c.port_of-to.result < things c.args.counts.now c.args.instances.now
 low c =
-    let r = port_number c.args.counts.now c.args.instances.now c.args.firsts.now c.args.children.now c.requires.numbered c.instances.number c.join_at-join.result.to (c.requires.ports c.instances.number c.joins.place c.join_at-join.result (has ((goal.at.After-port_of-to c).After-join_at-join))).1 in
+    let r = port_number c.args.counts.now c.args.instances.now c.args.firsts.now c.args.children.now c.requires.numbered c.instances.number c.item_at-join.result.to (c.requires.ports c.instances.number c.joins.place c.item_at-join.result (has ((goal.at.After-port_of-to c).After-item_at-join))).1 in
     let below : r.0 < things c.args.counts.now c.args.instances.now = r.2 in
     let same : Some r.0 ≡ Some c.port_of-to.result = sym r.1 ∙ c.port_of-to.ensures in
     let q : r.0 ≡ c.port_of-to.result = cc in
@@ -40,10 +40,10 @@ index_mut-requires c =
     omega arith
 
 pub joins-preserved : goal.joins-preserved
-joins-preserved c = sourced_more c.args.counts.now c.args.table.now c.args.instances.now c.args.firsts.now c.args.children.now c.args.values.now c.requires.apart c.instances.number c.joins.place c.joins.sources.items c.join_at-join.result c.port_of-to.result (record { port = c.port_of-port.result; delay = c.delay_in-delay.result }) c.joins.invariant (has ((goal.at.joins-preserved c).After-join_at-join)) c.port_of-port.ensures c.port_of-to.ensures c.delay_in-delay.ensures (low ((goal.at.joins-preserved c).After-port_of-to))
+joins-preserved c = sourced_more c.args.counts.now c.args.table.now c.args.instances.now c.args.firsts.now c.args.children.now c.args.values.now c.requires.apart c.instances.number c.joins.place c.joins.sources.items c.item_at-join.result c.port_of-to.result (record { port = c.port_of-port.result; delay = c.delay_in-delay.result }) c.joins.invariant (has ((goal.at.joins-preserved c).After-item_at-join)) c.port_of-port.ensures c.port_of-to.ensures c.delay_in-delay.ensures (low ((goal.at.joins-preserved c).After-port_of-to))
 
 pub instances-preserved : goal.instances-preserved
-instances-preserved c = sourced_next c.args.counts.now c.args.table.now c.args.instances.now c.args.firsts.now c.args.children.now c.args.values.now c.instances.number c.joins.place c.joins.sources.items c.instance_at.result c.joins.invariant c.instance_at.ensures (subst (λ l. length l ≤ c.joins.place) c.joins_of-joins.ensures c.joins-test.false)
+instances-preserved c = sourced_next c.args.counts.now c.args.table.now c.args.instances.now c.args.firsts.now c.args.children.now c.args.values.now c.instances.number c.joins.place c.joins.sources.items c.item_at.result c.joins.invariant c.item_at.ensures (subst (λ l. length l ≤ c.joins.place) c.joins_of-joins.ensures c.joins-test.false)
 
 pub returns-clause-sources : goal.returns-clause-sources
 returns-clause-sources c = sourced_end c.args.counts.now c.args.table.now c.args.instances.now c.args.firsts.now c.args.children.now c.args.values.now c.instances.number 0 c.instances.sources.items c.instances.invariant c.instances-test.false

@@ -5,7 +5,7 @@ use Rattle.lft_instances.proofs.numbering.count_things.Goals as goal
 use Rattle.lft_instances.proofs.numbering.count_things.Goals.{After-count_at}
 
 more : (c : goal.After-count_at) → things c.args.counts.now (take (c.instances.number + 1) c.args.instances.now) ≡ c.instances.total + c.count_at.result
-more c = things_more c.args.counts.now c.args.instances.now c.instances.number c.instance_at.result c.instance_at.ensures ∙ ap (λ k. k + count_of c.args.counts.now c.instance_at.result.reactor) (sym c.instances.invariant) ∙ ap (λ k. c.instances.total + k) (sym c.count_at.ensures)
+more c = things_more c.args.counts.now c.args.instances.now c.instances.number c.item_at.result c.item_at.ensures ∙ ap (λ k. k + count_of c.args.counts.now c.item_at.result.reactor) (sym c.instances.invariant) ∙ ap (λ k. c.instances.total + k) (sym c.count_at.ensures)
 
 pub overflow_add-total : goal.overflow_add-total
 overflow_add-total c =

@@ -7,9 +7,9 @@ use Rattle.lft_instances.proofs.numbering.first_numbers.Goals.{Then-count-limit}
 -- the instance whose things pass the limit
 passes : (c : goal.Then-count-limit) → c.args.limit < things c.args.counts.now c.args.instances.now
 passes c =
-    let n : c.count_at-count.result ≡ count_of c.args.counts.now c.instance_at.result.reactor = c.count_at-count.ensures in
+    let n : c.count_at-count.result ≡ count_of c.args.counts.now c.item_at.result.reactor = c.count_at-count.ensures in
     let t : c.args.limit < c.instances.total + c.count_at-count.result = omega arith in
-    numbering_passed c.args.counts.now c.args.instances.now c.instances.firsts.items c.instances.number c.instances.total c.args.limit c.instance_at.result c.instances.invariant.0 c.instance_at.ensures (omega arith)
+    numbering_passed c.args.counts.now c.args.instances.now c.instances.firsts.items c.instances.number c.instances.total c.args.limit c.item_at.result c.instances.invariant.0 c.item_at.ensures (omega arith)
 
 pub returns-then-count-limit-clause-passed : goal.returns-then-count-limit-clause-passed
 returns-then-count-limit-clause-passed c = passes ((goal.at.returns-then-count-limit-clause-passed c).Then-count-limit)
@@ -19,8 +19,8 @@ returns-then-count-limit-clause-tree c table main w = walk_more_things c.args.co
 
 pub instances-preserved : goal.instances-preserved
 instances-preserved c =
-    let n : c.count_at-count.result ≡ count_of c.args.counts.now c.instance_at.result.reactor = c.count_at-count.ensures in
-    (rw (c.in_ok-push.ensures.items, n) (numbering_more c.args.counts.now c.args.instances.now c.instances.firsts.items c.instances.number c.instances.total c.instance_at.result c.instances.invariant.0 c.instance_at.ensures), omega arith)
+    let n : c.count_at-count.result ≡ count_of c.args.counts.now c.item_at.result.reactor = c.count_at-count.ensures in
+    (rw (c.in_ok-push.ensures.items, n) (numbering_more c.args.counts.now c.args.instances.now c.instances.firsts.items c.instances.number c.instances.total c.item_at.result c.instances.invariant.0 c.item_at.ensures), omega arith)
 
 pub returns-clause-tree : goal.returns-clause-tree
 returns-clause-tree c table main w =

@@ -10,7 +10,7 @@ instances-preserved c =
     let low : c.count_at-place-end.result ≤ c.things.place = c.things-test.false in
     let high : c.things.place ≤ c.count_at-place-end.result = c.things.auto.place-end in
     let all : c.things.place ≡ c.count_at-place-end.result = omega arith in
-    listing_next c.args.counts.now c.args.instances.now c.instances.number c.things.place c.things.all.items c.instance_at-reactor.result c.things.invariant c.instance_at-reactor.ensures (all ∙ c.count_at-place-end.ensures)
+    listing_next c.args.counts.now c.args.instances.now c.instances.number c.things.place c.things.all.items c.item_at-reactor.result c.things.invariant c.item_at-reactor.ensures (all ∙ c.count_at-place-end.ensures)
 
 pub returns : goal.returns
 returns c =

@@ -19,8 +19,8 @@ returns-then-port-eq0 c =
     let chain = chain_of plan.program c.program.ensures.sound.sound c.args.number port (subst (λ (p : Parts). slice_get p.ports c.args.number ≡ Some port) c.program.ensures.value c.port-port.ensures.value) in
     no_port_clash plan c.args.rows.now c.args.causes.now c.requires.causes c.args.number port chain c.if-port-eq0.true
 
-pub double_at-requires : goal.double_at-requires
-double_at-requires c =
+pub item_at-requires : goal.item_at-requires
+item_at-requires c =
     let plan = c.args.plan.now in
     let port = c.port-port.result.now in
     let chain = chain_of plan.program c.program.ensures.sound.sound c.args.number port (subst (λ (p : Parts). slice_get p.ports c.args.number ≡ Some port) c.program.ensures.value c.port-port.ensures.value) in
@@ -31,7 +31,7 @@ double_at-requires c =
 pub moved-requires : goal.moved-requires
 moved-requires c =
     let port = c.port-port.result.now in
-    let pair : IsFirstPair c.args.causes.now true port.origin (Some c.in-Some.cause) = subst (λ (z : Option Cause). IsFirstPair c.args.causes.now true port.origin z) c.in-Some.is (c.requires.doubles.each port.origin c.double_at.result c.double_at.ensures) in
+    let pair : IsFirstPair c.args.causes.now true port.origin (Some c.in-Some.cause) = subst (λ (z : Option Cause). IsFirstPair c.args.causes.now true port.origin z) c.in-Some.is (c.requires.doubles.each port.origin c.item_at.result c.item_at.ensures) in
     subst (λ (z : Tag). IsNear z) (sym c.cause_tag.ensures) (pair_near c.args.causes.now c.requires.causes.near true port.origin c.in-Some.cause pair)
 
 pub returns-in-Some : goal.returns-in-Some
@@ -39,7 +39,7 @@ returns-in-Some c =
     let plan = c.args.plan.now in
     let port = c.port-port.result.now in
     let chain = chain_of plan.program c.program.ensures.sound.sound c.args.number port (subst (λ (p : Parts). slice_get p.ports c.args.number ≡ Some port) c.program.ensures.value c.port-port.ensures.value) in
-    let pair : IsFirstPair c.args.causes.now true port.origin (Some c.in-Some.cause) = subst (λ (z : Option Cause). IsFirstPair c.args.causes.now true port.origin z) c.in-Some.is (c.requires.doubles.each port.origin c.double_at.result c.double_at.ensures) in
+    let pair : IsFirstPair c.args.causes.now true port.origin (Some c.in-Some.cause) = subst (λ (z : Option Cause). IsFirstPair c.args.causes.now true port.origin z) c.in-Some.is (c.requires.doubles.each port.origin c.item_at.result c.item_at.ensures) in
     let to : c.moved.result ≡ shifted (tag_of c.in-Some.cause) (port.shift.time, port.shift.steps) = c.moved.ensures ∙ ap (λ (z : Tag). shifted z (port.shift.time, port.shift.steps)) c.cause_tag.ensures in
     subst (λ (z : Tag). LeastTag (λ g. PortClash plan c.args.rows.now g c.args.number) (Some z)) (sym to) (port_pair plan c.args.rows.now c.args.causes.now c.requires.causes c.args.number port chain c.in-Some.cause (omega arith) pair)
 
@@ -48,5 +48,5 @@ returns-in-None c =
     let plan = c.args.plan.now in
     let port = c.port-port.result.now in
     let chain = chain_of plan.program c.program.ensures.sound.sound c.args.number port (subst (λ (p : Parts). slice_get p.ports c.args.number ≡ Some port) c.program.ensures.value c.port-port.ensures.value) in
-    let pair : IsFirstPair c.args.causes.now true port.origin None = subst (λ (z : Option Cause). IsFirstPair c.args.causes.now true port.origin z) c.in-None.is (c.requires.doubles.each port.origin c.double_at.result c.double_at.ensures) in
+    let pair : IsFirstPair c.args.causes.now true port.origin None = subst (λ (z : Option Cause). IsFirstPair c.args.causes.now true port.origin z) c.in-None.is (c.requires.doubles.each port.origin c.item_at.result c.item_at.ensures) in
     port_no_pair plan c.args.rows.now c.args.causes.now c.requires.causes c.args.number port chain pair

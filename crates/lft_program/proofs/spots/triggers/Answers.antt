@@ -20,4 +20,4 @@ loop-cue-preserved c =
 pub returns : goal.returns
 returns c =
     let all : length c.loop-cue.triggers.items ≡ length c.args.cues.now = grind (arith, common_steps) in
-    rw c.from_vec.ensures (made_all (λ x y. trigger_at c.args.nest.now c.args.instance x ≡ Some y) c.args.cues.now c.loop-cue.triggers.items all c.loop-cue.invariant.1)
+    rw c.in_ok-triggers.ensures (made_all (λ x y. trigger_at c.args.nest.now c.args.instance x ≡ Some y) c.args.cues.now c.loop-cue.triggers.items all c.loop-cue.invariant.1)

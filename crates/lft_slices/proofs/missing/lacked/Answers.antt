@@ -3,16 +3,16 @@ use Rattle.lft_slices.proofs.Missed.{needed_known, needed_triggers, lacked_more,
 use Rattle.lft_slices.proofs.missing.lacked.Goals as goal
 
 pub lacked_trigger-requires-clause-trigger : goal.lacked_trigger-requires-clause-trigger
-lacked_trigger-requires-clause-trigger c = needed_known c.args.presence.now.plan.program c.program.ensures.fits.sound.sound c.args.reaction c.loop-place.place c.args.triggers.now c.trigger_at-trigger.result c.requires.triggers c.trigger_at-trigger.ensures
+lacked_trigger-requires-clause-trigger c = needed_known c.args.presence.now.plan.program c.program.ensures.fits.sound.sound c.args.reaction c.loop-place.place c.args.triggers.now c.item_at-trigger.result c.requires.triggers c.item_at-trigger.ensures
 
 pub lacked_trigger-requires-clause-triggers : goal.lacked_trigger-requires-clause-triggers
-lacked_trigger-requires-clause-triggers c g occurs = needed_triggers c.args.presence.now g c.args.reaction c.loop-place.place c.args.triggers.now c.trigger_at-trigger.result c.requires.triggers c.trigger_at-trigger.ensures occurs
+lacked_trigger-requires-clause-triggers c g occurs = needed_triggers c.args.presence.now g c.args.reaction c.loop-place.place c.args.triggers.now c.item_at-trigger.result c.requires.triggers c.item_at-trigger.ensures occurs
 
 pub loop-place-preserved : goal.loop-place-preserved
 loop-place-preserved c =
     record {
       known = c.lacked_trigger.ensures.known;
-      least = lacked_more c.args.presence.now c.args.triggers.now c.loop-place.place c.args.tags.now c.trigger_at-trigger.result c.loop-place.least c.lacked_trigger.result c.sooner-least.result c.trigger_at-trigger.ensures c.loop-place.invariant.least c.lacked_trigger.ensures.least c.sooner-least.ensures;
+      least = lacked_more c.args.presence.now c.args.triggers.now c.loop-place.place c.args.tags.now c.item_at-trigger.result c.loop-place.least c.lacked_trigger.result c.sooner-least.result c.item_at-trigger.ensures c.loop-place.invariant.least c.lacked_trigger.ensures.least c.sooner-least.ensures;
     }
 
 pub returns-clause-least : goal.returns-clause-least

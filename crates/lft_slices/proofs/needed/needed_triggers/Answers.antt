@@ -14,10 +14,10 @@ loop-place-preserved c =
     let k = c.loop-place.place in
     let beats = c.loop-place.beats.items in
     let ys = c.loop-place.needed.items in
-    let x = c.trigger_at-trigger.result in
+    let x = c.item_at-trigger.result in
     elim c.match-trigger.branch [
-      | in-Timer+in_ok-push w ↦ subst (λ (bs : List Beat). AreParted program xs (k + 1) bs c.match-trigger.needed.items) (sym (ap (λ v. v.items) w.beats-is ∙ w.in_ok-push.ensures.items)) (subst (λ (zs : List Trigger). AreParted program xs (k + 1) (beats ++ w.beat_of.result ∷ []) zs) (sym (ap (λ v. v.items) w.needed-is)) (parted_timer program xs k beats ys c.loop-place.invariant x c.trigger_at-trigger.ensures w.beat_of.result (w.in-Timer.is ∙ ap Timer (sym w.beat_of.ensures.number)) w.beat_of.ensures.beat))
-      | in_default+in_ok-push-2 w ↦ subst (λ (bs : List Beat). AreParted program xs (k + 1) bs c.match-trigger.needed.items) (sym (ap (λ v. v.items) w.beats-is)) (subst (λ (zs : List Trigger). AreParted program xs (k + 1) beats zs) (sym (ap (λ v. v.items) w.needed-is ∙ w.in_ok-push-2.ensures.items)) (parted_other program xs k beats ys c.loop-place.invariant x c.trigger_at-trigger.ensures))
+      | in-Timer+in_ok-push w ↦ subst (λ (bs : List Beat). AreParted program xs (k + 1) bs c.match-trigger.needed.items) (sym (ap (λ v. v.items) w.beats-is ∙ w.in_ok-push.ensures.items)) (subst (λ (zs : List Trigger). AreParted program xs (k + 1) (beats ++ w.beat_of.result ∷ []) zs) (sym (ap (λ v. v.items) w.needed-is)) (parted_timer program xs k beats ys c.loop-place.invariant x c.item_at-trigger.ensures w.beat_of.result (w.in-Timer.is ∙ ap Timer (sym w.beat_of.ensures.number)) w.beat_of.ensures.beat))
+      | in_default+in_ok-push-2 w ↦ subst (λ (bs : List Beat). AreParted program xs (k + 1) bs c.match-trigger.needed.items) (sym (ap (λ v. v.items) w.beats-is)) (subst (λ (zs : List Trigger). AreParted program xs (k + 1) beats zs) (sym (ap (λ v. v.items) w.needed-is ∙ w.in_ok-push-2.ensures.items)) (parted_other program xs k beats ys c.loop-place.invariant x c.item_at-trigger.ensures))
     ]
 
 pub returns : goal.returns

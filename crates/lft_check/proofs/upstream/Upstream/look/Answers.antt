@@ -10,14 +10,14 @@ use Rattle.lft_check.proofs.upstream.Upstream.look.Goals.{then-level-least+in_ok
 pub is_late-requires : goal.is_late-requires
 is_late-requires c =
     let n = length c.args.self.now.ends.items in
-    let l : c.number_at-member.result < n = listed_known n c.args.reaction c.number_at-member.result c.loop-at.at c.args.graph.now c.before-list.result.now c.requires.graph c.before-list.ensures c.number_at-member.ensures in
+    let l : c.item_at-member.result < n = listed_known n c.args.reaction c.item_at-member.result c.loop-at.at c.args.graph.now c.before-list.result.now c.requires.graph c.before-list.ensures c.item_at-member.ensures in
     let same : length c.as_slice.result.now ≡ n = ap length (c.as_slice.ensures.value ∙ c.loop-at.invariant.grows.ends) in
     omega arith
 
 pub level-requires : goal.level-requires
 level-requires c =
     let n = length c.args.self.now.ends.items in
-    let l : c.number_at-member.result < n = listed_known n c.args.reaction c.number_at-member.result c.loop-at.at c.args.graph.now c.before-list.result.now c.requires.graph c.before-list.ensures c.number_at-member.ensures in
+    let l : c.item_at-member.result < n = listed_known n c.args.reaction c.item_at-member.result c.loop-at.at c.args.graph.now c.before-list.result.now c.requires.graph c.before-list.ensures c.item_at-member.ensures in
     let many : n ≡ length c.requires.graph.0.reactions = c.requires.graph.2 in
     let long : length c.args.graph.now.before ≡ length c.requires.graph.0.reactions = c.requires.graph.1.as_long in
     omega arith
@@ -25,7 +25,7 @@ level-requires c =
 pub reach-requires : goal.reach-requires
 reach-requires c =
     let n = length c.args.self.now.ends.items in
-    let l : c.number_at-member.result < n = listed_known n c.args.reaction c.number_at-member.result c.loop-at.at c.args.graph.now c.before-list.result.now c.requires.graph c.before-list.ensures c.number_at-member.ensures in
+    let l : c.item_at-member.result < n = listed_known n c.args.reaction c.item_at-member.result c.loop-at.at c.args.graph.now c.before-list.result.now c.requires.graph c.before-list.ensures c.item_at-member.ensures in
     let long : length c.loop-at.self.reached.items ≡ length c.args.self.now.reached.items = c.loop-at.invariant.grows.as_long in
     let same : length c.args.self.now.reached.items ≡ n = c.requires.fresh.reached_long in
     omega arith
@@ -36,19 +36,19 @@ loop-at-preserved c =
     let list = c.before-list.result.now in
     let at = c.loop-at.at in
     let old = c.loop-at.self in
-    let member = c.number_at-member.result in
-    let listed : IsListed graph c.args.reaction member = (list, c.before-list.ensures, contains_at list at member c.number_at-member.ensures) in
+    let member = c.item_at-member.result in
+    let listed : IsListed graph c.args.reaction member = (list, c.before-list.ensures, contains_at list at member c.item_at-member.ensures) in
     let ended = not_late c.as_slice.result.now old.ends.items member c.args.place c.as_slice.ensures.value (λ z. not_true (c.if-is_late.ensures.1 z)) in
     elim c.if-level-least.branch [
       | then-level-least+in_ok-reach w ↦ record {
         grows = subst (λ (z : Upstream). Grows c.args.stamp c.args.self.now z) (sym w.self-is) (grows_on c.args.stamp c.args.self.now old w.reach.new.self c.loop-at.invariant.grows w.in_ok-reach.ensures.grows);
         only = subst (λ (z : Upstream). QueuesOnly (IsListed graph c.args.reaction) c.args.self.now z) (sym w.self-is) (only_on (IsListed graph c.args.reaction) c.args.self.now old w.reach.new.self c.loop-at.invariant.only (only_as (λ q. q ≡ member) (IsListed graph c.args.reaction) old w.reach.new.self (λ q e. subst (λ z. IsListed graph c.args.reaction z) (sym e) listed) w.in_ok-reach.ensures.only));
-        seen = subst (λ (z : Upstream). AreSeen graph c.args.least c.args.place c.args.stamp z list (at + 1)) (sym w.self-is) (seen_more graph c.args.least c.args.place c.args.stamp list at member old w.reach.new.self c.number_at-member.ensures w.in_ok-reach.ensures.grows (λ e q. ended e (ap (λ (ms : List ℕ). slice_get ms member) (sym w.in_ok-reach.ensures.grows.ends) ∙ q)) (λ l q m. w.in_ok-reach.ensures.reached) c.loop-at.invariant.seen);
+        seen = subst (λ (z : Upstream). AreSeen graph c.args.least c.args.place c.args.stamp z list (at + 1)) (sym w.self-is) (seen_more graph c.args.least c.args.place c.args.stamp list at member old w.reach.new.self c.item_at-member.ensures w.in_ok-reach.ensures.grows (λ e q. ended e (ap (λ (ms : List ℕ). slice_get ms member) (sym w.in_ok-reach.ensures.grows.ends) ∙ q)) (λ l q m. w.in_ok-reach.ensures.reached) c.loop-at.invariant.seen);
       }
       | else-level-least w ↦ record {
         grows = subst (λ (z : Upstream). Grows c.args.stamp c.args.self.now z) (sym w.self-is) c.loop-at.invariant.grows;
         only = subst (λ (z : Upstream). QueuesOnly (IsListed graph c.args.reaction) c.args.self.now z) (sym w.self-is) c.loop-at.invariant.only;
-        seen = subst (λ (z : Upstream). AreSeen graph c.args.least c.args.place c.args.stamp z list (at + 1)) (sym w.self-is) (seen_more graph c.args.least c.args.place c.args.stamp list at member old old c.number_at-member.ensures (grows_not c.args.stamp old) ended (λ l q m. let s : l ≡ c.level.result = same_some (slice_get graph.levels member) l c.level.result q c.level.ensures in let low : c.level.result ≤ c.args.least = w.if-level-least.false in absurd (omega arith)) c.loop-at.invariant.seen);
+        seen = subst (λ (z : Upstream). AreSeen graph c.args.least c.args.place c.args.stamp z list (at + 1)) (sym w.self-is) (seen_more graph c.args.least c.args.place c.args.stamp list at member old old c.item_at-member.ensures (grows_not c.args.stamp old) ended (λ l q m. let s : l ≡ c.level.result = same_some (slice_get graph.levels member) l c.level.result q c.level.ensures in let low : c.level.result ≤ c.args.least = w.if-level-least.false in absurd (omega arith)) c.loop-at.invariant.seen);
       }
     ]
 
@@ -58,12 +58,12 @@ returns-clause-looked c t = seen_all c.args.graph.now c.args.least c.args.place 
 pub returns-then-is_late-clause-late : goal.returns-then-is_late-clause-late
 returns-then-is_late-clause-late c n =
     let list = c.before-list.result.now in
-    let member = c.number_at-member.result in
+    let member = c.item_at-member.result in
     let m = c.if-is_late.ensures.0 refl in
     record {
       earlier = member;
       end = m.0;
-      listed = (list, c.before-list.ensures, contains_at list c.loop-at.at member c.number_at-member.ensures);
+      listed = (list, c.before-list.ensures, contains_at list c.loop-at.at member c.item_at-member.ensures);
       ends = subst (λ (ms : List ℕ). slice_get ms member ≡ Some m.0) c.as_slice.ensures.value m.1;
       past = m.2;
     }

@@ -15,10 +15,10 @@ returns-then-is_some-2-clause-some c =
     let plan = c.args.plan.now in
     let i = c.loop-place-2.place in
     let same = c.events-events.ensures.value ∙ ap (λ (x : ExternalInputs). x.events) c.externals.ensures.value in
-    at_event plan c.args.rows.now c.args.tag c.args.action i c.event_at.result _ (rw same at c.event_at.ensures) c.value_given-value.ensures
+    at_event plan c.args.rows.now c.args.tag c.args.action i c.item_at.result _ (rw same at c.item_at.ensures) c.value_given-value.ensures
 
 pub loop-place-2-preserved : goal.loop-place-2-preserved
 loop-place-2-preserved c = record {
   rows = c.loop-place-2.invariant.rows;
-  events = none_more (given c.args.tag c.args.action) c.events-events.result.now c.loop-place-2.place c.event_at.result _ c.event_at.ensures c.value_given-value.ensures (sym c.is_some-in-loop-place-2.ensures ∙ c.if-is_some-2.false) c.loop-place-2.invariant.events;
+  events = none_more (given c.args.tag c.args.action) c.events-events.result.now c.loop-place-2.place c.item_at.result _ c.item_at.ensures c.value_given-value.ensures (sym c.is_some-in-loop-place-2.ensures ∙ c.if-is_some-2.false) c.loop-place-2.invariant.events;
 }

@@ -6,6 +6,6 @@ use Rattle.lft_model.proofs.slow.actions.count_given.Goals.{then-is_some, else-i
 pub loop-place-preserved : goal.loop-place-preserved
 loop-place-preserved c =
     elim c.if-is_some.branch [
-      | then-is_some w ↦ count_one _ _ _ _ _ _ _ c.event_at.ensures c.value_given.ensures (sym c.is_some.ensures ∙ w.if-is_some.true) w.count-is c.loop-place.invariant
-      | else-is_some w ↦ count_none _ _ _ _ _ _ _ c.event_at.ensures c.value_given.ensures (sym c.is_some.ensures ∙ w.if-is_some.false) w.count-is c.loop-place.invariant
+      | then-is_some w ↦ count_one _ _ _ _ _ _ _ c.item_at.ensures c.value_given.ensures (sym c.is_some.ensures ∙ w.if-is_some.true) w.count-is c.loop-place.invariant
+      | else-is_some w ↦ count_none _ _ _ _ _ _ _ c.item_at.ensures c.value_given.ensures (sym c.is_some.ensures ∙ w.if-is_some.false) w.count-is c.loop-place.invariant
     ]

@@ -1,6 +1,6 @@
 use Rattle.std.proofs.Common.{◌≡◌, ◌++◌, Some, take, filter_map, slice_get}
 use Rattle.std.specs.List.{AllZip}
-use Rattle.lft_flat.specs.Parts.{named}
+use Rattle.lft_flat.specs.Naming.{named}
 use Rattle.lft_flat.specs.declared.parts.Reaction.{Reaction}
 use Rattle.lft_model.specs.Presence.{Shows}
 use Rattle.lft_presence.proofs.events.Presence.inputs.Given as goal
