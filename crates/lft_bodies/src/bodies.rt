@@ -4,10 +4,11 @@ ghost use Rattle.std.specs.Prelude.{◌≡◌, ◌<◌, ◌≤◌, ◌+◌, ◌-
 
 use crate::body::{Body, BoxedCode, Code};
 use crate::law::Law;
+use crate::line::Line;
+use crate::same::SameBodies;
 use lft_flat::Program;
 use lft_tag::NoMemory;
 use std::alloc::Global;
-use std::collections::VecDeque;
 use std::marker::Model;
 
 /// Why a body is handed back.
@@ -22,17 +23,17 @@ pub enum PutFault {
 /// The bodies that are left, in lists by reaction. Contracts see the lengths.
 #[derive(Drop)]
 pub struct Bodies<L: Law, C: Code + Drop = BoxedCode> {
-    lists: Vec<VecDeque<Body<L, C>>>,
+    lists: Vec<Line<L, C>>,
 }
 
 impl<L: Law, C: Code + Drop> Model for Bodies<L, C> {
-    ghost use Rattle.std.specs.Prelude.{◌≡◌, ◌<◌, ℕ, List, map, length, slice_index_or, All};
+    ghost use Rattle.std.specs.Prelude.{◌≡◌, ◌<◌, ℕ, List, map, length, slice_index_or};
 
     ghost Value = { List ℕ };
 
-    ghost view = { λ b. map (λ q. length q.items) b.lists.items };
+    ghost view = { λ b. map (λ q. q.1) b.lists.items };
 
-    ghost invariant = { λ b. (r : ℕ) (d : _) → r < length b.lists.items → All (λ x. x ≡ r) (slice_index_or b.lists.items r d).items };
+    ghost invariant = { λ b. (r : ℕ) (d : _) → r < length b.lists.items → (slice_index_or b.lists.items r d).0 ≡ r };
 }
 
 impl<L: Law, C: Code + Drop> Bodies<L, C> {
@@ -42,9 +43,9 @@ impl<L: Law, C: Code + Drop> Bodies<L, C> {
         ensures empty { IfOk result (λ b. All (λ n. n ≡ 0) b) }
     {
         let mut lists = Vec::new(alloc);
-        for _ in 0..program.reactions() {
+        for reaction in 0..program.reactions() {
             lists.reserve(1)?;
-            lists.push_reserved(VecDeque::new(alloc));
+            lists.push_reserved(Line::new(alloc, reaction as u32));
         }
         Ok(Bodies { lists })
     }
@@ -61,9 +62,33 @@ impl<L: Law, C: Code + Drop> Bodies<L, C> {
         if place >= self.lists.len() {
             return Err((body, PutFault::NoReaction));
         }
-        match self.lists[place].push_back(body) {
+        match self.lists[place].put(SameBodies::one(body)) {
             Ok(()) => return Ok(()),
-            Err(refused) => return Err((refused.value, PutFault::NoMemory)),
+            Err(same) => return Err((same.into_body(), PutFault::NoMemory)),
+        }
+    }
+
+    /// Puts so many bodies with the same code behind the others of the reaction, in the memory of
+    /// one; where it can't, all lists stay as they were.
+    pub fn put_many(&mut self, reaction: u32, code: C, count: u64) -> Result<(), PutFault>
+        requires callable { C.can_run code }
+        requires lawful { (tag : _) (state : _) (reads : _) (answer : _) → C.gives code tag state reads answer → IfOk answer (λ d. L.holds reaction tag state reads d) }
+        requires repeats { C.repeats code }
+        ensures there { OnOk result (reaction < length self.old) }
+        ensures ok { OnOk result (self.new ≡ slice_set self.old reaction (slice_index self.old reaction + count)) }
+        ensures err { IfErr result (λ _. self.new ≡ self.old) }
+        ensures no_reaction { IfErr result (λ e. e ≡ PutFault.NoReaction → length self.old ≤ reaction) }
+    {
+        let place = reaction as usize;
+        if place >= self.lists.len() {
+            return Err(PutFault::NoReaction);
+        }
+        if count == 0 {
+            return Ok(());
+        }
+        match self.lists[place].put(SameBodies::new(reaction, code, count)) {
+            Ok(()) => return Ok(()),
+            Err(_) => return Err(PutFault::NoMemory),
         }
     }
 
@@ -73,7 +98,7 @@ impl<L: Law, C: Code + Drop> Bodies<L, C> {
         ensures none { length self.now ≤ reaction → result ≡ 0 }
     {
         match self.lists.get(reaction as usize) {
-            Some(list) => list.len() as u64,
+            Some(list) => list.left(),
             None => 0,
         }
     }
@@ -85,6 +110,6 @@ impl<L: Law, C: Code + Drop> Bodies<L, C> {
         ensures body { result ≡ reaction }
         ensures fewer { self.new ≡ slice_set self.old reaction (slice_index self.old reaction - 1) }
     {
-        self.lists[reaction as usize].pop_front().unwrap()
+        self.lists[reaction as usize].take()
     }
 }

@@ -17,7 +17,7 @@ pub type BoxedCode = Box<dyn FnOnce(Tag, i64, Reads) -> Result<Done, NoMemory> +
 /// What can be run once, by value. A body stands on this and not on a closure itself, since a
 /// fact on a law can't stand beside a `dyn` value.
 pub trait Code {
-    ghost use Rattle.std.specs.Prelude.{ℤ, List, Option, Result};
+    ghost use Rattle.std.specs.Prelude.{◌≡◌, ℤ, List, Option, Result, IfSome, IsSome};
     ghost use Rattle.lft_tag.specs.declared.Tag.{Tag};
     ghost use Rattle.lft_tag.specs.declared.NoMemory.{NoMemory};
     ghost use Rattle.lft_flat.specs.declared.parts.Value.{Value};
@@ -29,9 +29,17 @@ pub trait Code {
     /// A run of it may give this answer.
     ghost gives: { Self → Tag → ℤ → List (Option Value) → Result Done NoMemory → Type 0 };
 
+    /// The same code can be had again, as often as it is asked for.
+    ghost repeats: { Self → Type 0 } = { λ _. ⊥ };
+
     fn run(self, tag: Tag, state: i64, reads: Reads) -> Result<Done, NoMemory>
         requires { can_run self }
         ensures { gives self tag state reads result };
+
+    /// The same code once more, where it can be had. It takes no memory.
+    fn again(&self) -> Option<Self>
+        ensures same { IfSome result (λ code. code ≡ self.now) }
+        ensures some { repeats self.now → IsSome result };
 }
 
 impl Code for BoxedCode {
@@ -41,6 +49,11 @@ impl Code for BoxedCode {
 
     fn run(self, tag: Tag, state: i64, reads: Reads) -> Result<Done, NoMemory> {
         self(tag, state, reads)
+    }
+
+    // A closure that is called once can't be had again.
+    fn again(&self) -> Option<BoxedCode> {
+        None
     }
 }
 
@@ -82,6 +95,20 @@ impl<L: Law, C: Code + Drop> Body<L, C> {
         ensures { result ≡ self.now }
     {
         self.reaction
+    }
+
+    /// The reaction and the code. It takes no memory.
+    pub(crate) fn into_parts(self) -> (u32, C)
+        ensures reaction { result.0 ≡ self }
+        ensures callable { C.can_run result.1 }
+        ensures lawful { (tag : _) (state : _) (reads : _) (answer : _) → C.gives result.1 tag state reads answer → IfOk answer (λ d. L.holds result.0 tag state reads d) }
+    {
+        let Body {
+            reaction,
+            code,
+            law: _,
+        } = self;
+        (reaction, code)
     }
 
     /// Runs the code once, with a copy of the ticket's reads. Where the copy is refused the answer

@@ -6,6 +6,8 @@ mod bodies;
 mod body;
 mod done;
 mod law;
+mod line;
+mod same;
 mod ticket;
 
 pub use answered::Answered;

@@ -101,6 +101,11 @@ impl Code for Task {
             steps: Steps::from_vec(steps),
         })
     }
+
+    // Each body has its own code here. Where many have the same, `Bodies::put_many` keeps it once.
+    fn again(&self) -> Option<Self> {
+        None
+    }
 }
 
 /// For each reaction a body for each of its runs. The body that is put first is taken first.

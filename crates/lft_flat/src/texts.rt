@@ -6,12 +6,38 @@ ghost use Rattle.std.specs.Bool.{Decides};
 use indexmap::IndexSet;
 use lft_tag::NoMemory;
 use std::alloc::Global;
+use std::hash::{BuildHasher, FoldHasher, Hasher};
 use std::marker::Model;
+
+/// Makes the hashers of texts, all in one state, which a seed decides.
+#[derive(Clone, Copy, Debug)]
+struct SeededHash {
+    first: FoldHasher,
+}
+
+impl SeededHash {
+    fn new(seed: u64) -> SeededHash {
+        let mut first = FoldHasher::default();
+        first.write_u64(seed);
+        SeededHash { first }
+    }
+}
+
+impl BuildHasher for SeededHash {
+    type Hasher = FoldHasher;
+
+    ghost build_hasher = { λ s. s.first };
+
+    fn build_hasher(&self) -> FoldHasher {
+        self.first
+    }
+}
 
 /// Texts by number, in the order in which they came. None stands there twice.
 #[derive(Debug, Drop)]
 pub struct Texts {
-    set: IndexSet<String>,
+    hash: SeededHash,
+    set: IndexSet<String, SeededHash>,
 }
 
 impl Model for Texts {
@@ -30,12 +56,15 @@ impl Texts {
     ghost use Rattle.lft_flat.specs.Names.{HasNoTwice};
     ghost use Rattle.lft_flat.specs.Places.{AreUtf8};
 
-    /// No texts.
-    pub fn new(alloc: Global) -> Texts
+    /// No texts. The seed decides how they hash, and no answer: one that depends on all the texts to
+    /// come keeps whoever writes them from choosing ones whose hashes collide.
+    pub fn new(alloc: Global, seed: u64) -> Texts
         ensures { result ≡ [] }
     {
+        let hash = SeededHash::new(seed);
         Texts {
-            set: IndexSet::new(alloc),
+            hash,
+            set: IndexSet::with_hasher(alloc, hash),
         }
     }
 
@@ -115,7 +144,11 @@ impl Texts {
     pub fn copy(&self, alloc: Global) -> Result<Texts, NoMemory>
         ensures { IfOk result (λ copy. copy ≡ self.now) }
     {
-        let mut copy = Texts::new(alloc);
+        let hash = self.hash;
+        let mut copy = Texts {
+            hash,
+            set: IndexSet::with_hasher(alloc, hash),
+        };
         for number in 0..self.len() {
             let text = String::from_str(alloc, self.get(number))?;
             copy.push_new(text)?;

@@ -8,6 +8,7 @@ ghost use Rattle.lft_flat.specs.Names.{ThingNames, HasNoTwice, AreDistinct, AreW
 use lft_flat::{NameTable, Starts, Texts};
 use lft_tag::NoMemory;
 use std::alloc::Global;
+use std::hash::{DefaultHasher, Hasher};
 
 /// A thing that an instance declares under a name of its own: an instance, port, action or timer.
 #[derive(Clone, Copy)]
@@ -71,13 +72,37 @@ fn add_placed(alloc: Global, texts: &mut Texts, reactions: &[Placed]) -> Result<
     Ok(())
 }
 
-/// The name of the main instance.
-fn main_name(alloc: Global) -> Result<Texts, NoMemory>
+/// The name of the main instance. The seed decides how the texts hash.
+fn main_name(alloc: Global, seed: u64) -> Result<Texts, NoMemory>
     ensures { IfOk result (λ r. r ≡ codes "main" ∷ []) }
 {
-    let mut texts = Texts::new(alloc);
+    let mut texts = Texts::new(alloc, seed);
     texts.push_new(String::from_str(alloc, "main")?)?;
     Ok(texts)
+}
+
+/// Goes on past the things' names and containers.
+fn add_to_seed(hasher: &mut DefaultHasher, things: &[Declared<'_>]) {
+    for thing in things {
+        hasher.write_u32(thing.instance);
+        hasher.write(thing.name.as_bytes());
+    }
+}
+
+/// A number that depends on all names: whoever looks for names whose hashes collide under it changes
+/// it with each try.
+fn seed_of(
+    instances: &[Declared<'_>],
+    ports: &[Declared<'_>],
+    actions: &[Declared<'_>],
+    timers: &[Declared<'_>],
+) -> u64 {
+    let mut hasher = DefaultHasher::new();
+    add_to_seed(&mut hasher, instances);
+    add_to_seed(&mut hasher, ports);
+    add_to_seed(&mut hasher, actions);
+    add_to_seed(&mut hasher, timers);
+    hasher.finish()
 }
 
 /// The names of these things, one kind after another.
@@ -93,7 +118,7 @@ fn all_names(
     requires few { AreFew instances.now ports.now actions.now timers.now reactions.now }
     ensures { IfOk result (λ r. r ≡ extended (codes "main" ∷ []) (endings instances.now ports.now actions.now timers.now reactions.now)) }
 {
-    let mut texts = main_name(alloc)?;
+    let mut texts = main_name(alloc, seed_of(instances, ports, actions, timers))?;
     add_declared(alloc, &mut texts, &instances[1..])?;
     add_declared(alloc, &mut texts, ports)?;
     add_declared(alloc, &mut texts, actions)?;

@@ -39,7 +39,7 @@ pub fn record_answer<R: Threads + Wait + Sync, W: Write>(
         Ok(cards) => cards,
         Err(fault) => return Err(cards_fault(fault)),
     };
-    let bodies = match card_bodies(alloc, plan.program(), cards, max_runs) {
+    let bodies = match card_bodies(alloc, plan.program(), &cards, max_runs) {
         Ok(bodies) => bodies,
         Err(_) => return Err(Fault::no_memory()),
     };

@@ -1,6 +1,7 @@
 -- What the small tables of the pass hold, as functions of their keys.
-use Rattle.std.specs.Prelude.{ℕ, Option, None, nat_eq, slice_get, unwrap_or}
-use Rattle.std.specs.HashMap as hash
+use Rattle.std.specs.Prelude.{ℕ, Option, None, slice_get, unwrap_or}
+use Rattle.std.specs.BTreeMap as map
+use Rattle.std.specs.Ordering.{nat_cmp}
 use Rattle.lft_tag.specs.declared.Tag.{Tag}
 use Rattle.lft_rows.specs.declared.open.FarRuns.{FarRuns}
 use Rattle.lft_rows.specs.declared.open.OpenRuns.{OpenRuns}
@@ -8,7 +9,7 @@ use Rattle.lft_rows.specs.declared.open.LastStarts.{LastStarts}
 
 -- the place of the start row of a worker's open run, by the map
 abbrev pub far_place_of : FarRuns → ℕ → Option ℕ
-far_place_of runs w = hash.get nat_eq runs.places w
+far_place_of runs w = map.get nat_cmp runs.places w
 
 -- the place of the start row of a worker's open run: by the list, and past its end by the map
 abbrev pub place_of : OpenRuns → ℕ → Option ℕ

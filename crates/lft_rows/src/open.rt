@@ -5,15 +5,16 @@ ghost use Rattle.lft_rows.specs.Places.{far_place_of, place_of, last_of};
 
 use lft_tag::{NoMemory, Tag};
 use std::alloc::Global;
-use std::collections::HashMap;
+use std::collections::BTreeMap;
 
 /// So many workers, those with the least numbers, have their places in a list.
 const NEAR: usize = 1_024;
 
-/// The place of the start row of each worker's open run, by the worker's number in a map.
+/// The place of the start row of each worker's open run, by the worker's number in a map. The numbers
+/// come from the trace: in a map by hashes whoever writes it could make them collide.
 #[derive(Drop)]
 pub(crate) struct FarRuns {
-    places: HashMap<u32, usize>,
+    places: BTreeMap<u32, usize>,
 }
 
 impl FarRuns {
@@ -56,7 +57,7 @@ impl OpenRuns {
         ensures { IfOk result (λ runs. (w : ℕ) → place_of runs w ≡ None) }
     {
         let near = vec![in alloc; None; NEAR]?;
-        let places = HashMap::new(alloc);
+        let places = BTreeMap::new(alloc);
         Ok(OpenRuns {
             near,
             far: FarRuns { places },

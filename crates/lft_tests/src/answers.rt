@@ -29,6 +29,10 @@ impl Code for Prepared {
     fn run(self, _tag: Tag, _state: i64, _reads: Reads) -> Result<Done, NoMemory> {
         self.answer
     }
+
+    fn again(&self) -> Option<Self> {
+        None
+    }
 }
 
 /// Bodies of whose answers nothing is asked.

@@ -1,13 +1,11 @@
 use Rattle.std.proofs.Common.{◌≡◌, ◌<◌, ◌≤◌, ℕ, length}
 use Rattle.std.specs.Prelude.{min, slice_index}
-use Rattle.std.specs.Arc.{arc_value}
 use Rattle.lft_cards.specs.Scripts.{bodies_at}
 use Rattle.lft_record.proofs.bodies.card_bodies.Given as goal
 
 abbrev pub invariant-loop-reaction : goal.invariant-loop-reaction
 invariant-loop-reaction l = record {
   long : length l.bodies ≡ length l.program.reactions;
-  same : arc_value l.cards ≡ l.fn.cards;
-  done : (r : ℕ) → r < l.reaction → slice_index l.bodies r ≡ min (bodies_at l.fn.cards r) l.fn.max_runs;
+  done : (r : ℕ) → r < l.reaction → slice_index l.bodies r ≡ min (bodies_at l.cards r) l.fn.max_runs;
   none : (r : ℕ) → l.reaction ≤ r → r < length l.bodies → slice_index l.bodies r ≡ 0;
 }

@@ -1,4 +1,4 @@
-use Rattle.std.proofs.Common.{rules, arith, length, ◌∙◌}
+use Rattle.std.proofs.Common.{rules, arith, ◌∙◌}
 use Rattle.std.proofs.lemmas.Grind.{common_steps}
 use Rattle.std.proofs.lemmas.List.{map-set, get_or-map}
 use Rattle.std.proofs.Math.Seq.{map-set_same}
@@ -9,6 +9,6 @@ returns-in-Ok-clause-ok g c = grind (arith, common_steps, map-set, get_or-map)
 
 pub returns-in-Err-clause-err : goal.returns-in-Err-clause-err
 returns-in-Err-clause-err g c = (
-  map-set_same (λ q. length q.items) c.self.inside.lists.items c.reaction-place.result c.push_back.new.self c.index_mut.result.now (search rules) ∙ c.self.view_is,
+  map-set_same (λ q. q.1) c.self.inside.lists.items c.reaction-place.result c.put.new.self c.index_mut.result.now (search rules) ∙ c.self.view_is,
   search rules,
 )
