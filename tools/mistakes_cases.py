@@ -275,6 +275,7 @@ def files():
     case("a program to show that isn't there", ["show", "no.lf"], fault("read 1 Failed no.lf"))
     case("a folder for the trace", ["judge", "blink.lf", "externals.csv", "/"], fault("read 1 Failed /"))
     case("a path under a file", ["judge", "blink.lf", "blink.lf/x", "trace.csv"], fault("read 1 Failed blink.lf/x"))
+    case("a line feed in a path", ["judge", "blink.lf", "externals.csv", "no\nwhere.csv"], fault("read 1 Failed no\\nwhere.csv"))
     case("a dash for standard input", ["judge", "blink.lf", "externals.csv", "-"], fault("read 1 Failed -"), stdin=ROWS)
     case("a folder as standard input", [], fault("read 1 Failed -"), where="folder")
     case("standard input closed", [], fault("read 1 Failed -"), where="no input")

@@ -88,6 +88,22 @@ impl fmt::Display for Detail {
     }
 }
 
+/// The path in one line: a control character, as a line feed, is told by its escape, so that a fault
+/// stays one line.
+fn one_line(alloc: Global, path: &str) -> Result<String, AllocError> {
+    let mut line = String::new(alloc);
+    for letter in path.chars() {
+        if letter.is_control() {
+            for sign in letter.escape_default() {
+                line.push(sign)?;
+            }
+        } else {
+            line.push(letter)?;
+        }
+    }
+    Ok(line)
+}
+
 /// The names of a loop's reactions, with a space between two.
 fn loop_words(alloc: Global, program: &Program, reactions: &[u32]) -> Result<String, AllocError>
     requires { (i r : ℕ) → slice_get reactions.now i ≡ Some r → r < length program.now.reactions }
@@ -147,7 +163,7 @@ impl Fault {
     pub fn of_path(alloc: Global, part: Part, number: u32, name: &'static str, path: &str) -> Fault
         ensures { IsFault result part number }
     {
-        match String::from_str(alloc, path) {
+        match one_line(alloc, path) {
             Ok(words) => Fault {
                 detail: Detail::Words(words),
                 ..Fault::plain(part, number, name)

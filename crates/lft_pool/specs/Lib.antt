@@ -1,4 +1,5 @@
 pub mod Books
+pub mod PendingEvents
 pub mod Begun
 pub mod Causes
 pub mod Answers

@@ -4,6 +4,7 @@ ghost use Rattle.std.specs.Prelude.{◌≡◌, ◌<◌, ◌+◌, ◌-◌, [], le
 ghost use Rattle.lft_model.specs.Plans.{PlanParts};
 ghost use Rattle.lft_model.specs.Breaches.{Legal};
 ghost use Rattle.lft_pool.specs.Books.{BookParts, IsRecording};
+ghost use Rattle.lft_pool.specs.PendingEvents.{SamePending};
 ghost use Rattle.lft_pool.specs.Reasons.{ReasonHolds, StopHolds};
 ghost use Rattle.lft_pool.specs.Begun.{MatchBegin, Started};
 ghost use Rattle.lft_pool.specs.Causes.{BeginCause, StartCause};
@@ -134,6 +135,7 @@ impl<L: Law, C: Code + Drop> Book<L, C> {
         ensures left { IfOk result (λ b. MatchBegin b (λ _ _. SomethingLeft self.new.plan self.new.rows) (SomethingLeft self.new.plan self.new.rows) (Unit {0})) }
         ensures legal { IfOk result (λ b. MatchBegin b (λ _ _. Unit {0}) (Unit {0}) (Legal self.old.plan self.old.rows)) }
         ensures err { IfErr result (λ s. self.new ≡ record self.old { reason = Some s }) }
+        ensures pending { IfErr result (λ _. SamePending self.old self.new) }
         ensures cause { IfErr result (λ s. self.old.reason ≡ None → BeginCause self.old worker s) }
         ensures kept { IfSome self.old.reason (λ s. result ≡ Err s) }
     {
@@ -204,6 +206,7 @@ impl<L: Law, C: Code + Drop> Book<L, C> {
         ensures ok { OnOk result (IfOk answered.1 (λ d. Committed self.old self.new answered.0 d) × IsOk answered.1) }
         ensures commuting { OnOk result (KeepsOpenRuns self.old.plan self.old.rows self.new.rows) }
         ensures err { IfErr result (λ s. self.new ≡ record self.old { reason = Some s }) }
+        ensures pending { IfErr result (λ _. SamePending self.old self.new) }
         ensures cause { IfErr result (λ s. self.old.reason ≡ None → CommitCause self.old answered.0 answered.1 s) }
         ensures kept { IfSome self.old.reason (λ s. result ≡ Err s) }
     {

@@ -10,7 +10,7 @@ use lft_front::{
 use lft_record::record_answer;
 use std::alloc::Global;
 use std::fs::File;
-use std::io::{IsTerminal, Read, Write};
+use std::io::{BufWriter, IsTerminal, Read, Write};
 use std::process::ExitCode;
 use std::rt::Files;
 use std::sync::Wait;
@@ -120,6 +120,19 @@ fn judge_bundle<R: Read, W: Write>(
     bundle_answer(alloc, text.as_slice(), out)
 }
 
+/// The status of the answer. The line of a fault goes out in one write, where there is memory to put
+/// it together: other processes may write to the same standard error.
+fn end(rt: &HostRuntime, alloc: Global, answer: Result<bool, Fault>) -> u8 {
+    match BufWriter::new(alloc, rt.stderr()) {
+        Ok(mut errors) => {
+            let status = finish(answer, &mut errors);
+            let _ = errors.flush();
+            status
+        }
+        Err(_) => finish(answer, &mut rt.stderr()),
+    }
+}
+
 fn main(rt: HostRuntime) -> ExitCode {
     let alloc = rt.alloc();
     let words: Vec<String> = match env::args(&rt) {
@@ -158,5 +171,5 @@ fn main(rt: HostRuntime) -> ExitCode {
         Job::Record(words) => record_files(&rt, alloc, words, &mut out),
         Job::Show(path) => show_file(&rt, alloc, path, &mut out),
     };
-    ExitCode::from(finish(answer, &mut rt.stderr()))
+    ExitCode::from(end(&rt, alloc, answer))
 }
