@@ -1,5 +1,5 @@
 -- Rows in two parts, where those of the first are at earlier tags than those of the second: no row breaks a rule where none does in its part.
-use Rattle.std.proofs.Common.{◌≡◌, ℕ, ◌+◌, ◌-◌, ◌<◌, ◌≤◌, ◌⊎◌, inl, inr, List, ◌++◌, length, length-append, refl, sym, ap, ◌∙◌, subst, arith, Option, Some, None, slice_get}
+use Rattle.std.proofs.Common.{◌≡◌, ℕ, ◌+◌, ◌-◌, ◌<◌, ◌≤◌, ◌⊎◌, inl, inr, List, ◌++◌, length, length-append, refl, sym, ap, ◌∙◌, subst, arith, Some, None, slice_get}
 use Rattle.lft_tag.specs.declared.Tag.{Tag}
 use native.Mathlib.Decide.{ℕ_discrete}
 use Rattle.lft_tag.specs.Tags.{Before, UpTo}
@@ -10,10 +10,9 @@ use Rattle.lft_trace.specs.declared.row.Row.{Row}
 use Rattle.lft_trace.specs.Fits.{RowsFit}
 use Rattle.lft_trace.specs.declared.row.Step.{Step}
 use Rattle.lft_trace.specs.declared.row.Step.TheVariants.{Start, Read, Write, Schedule, Stop, End}
-use Rattle.lft_model.specs.declared.breach.Breach.{Breach}
 use Rattle.lft_model.specs.Plans.{PlanParts}
 use Rattle.lft_model.specs.Runs.{start_row, end_row}
-use Rattle.lft_model.specs.Breaches.{IsOpen, IsLate, WasStarted, WasRead, IsOutOfOrder, IsUndeclared, IsUnended, BreaksRowUntil, RowBreachUntil}
+use Rattle.lft_model.specs.Breaches.{IsOpen, IsLate, IsOutOfOrder, IsUndeclared, BreaksRowUntil}
 use Rattle.lft_model.proofs.Places.{slice_get_within}
 use Rattle.lft_rows.specs.Firsts.{FirstRow}
 use Rattle.lft_rows.specs.Parts.{RisesBetween, AreEarlier}
