@@ -1,3 +1,4 @@
+pub mod Effects
 pub mod Firsts
 pub mod Marks
 pub mod Parts

@@ -1,17 +1,17 @@
 //! Rule 4: what a reaction declares, and what was read before.
 
-ghost use Rattle.std.specs.Prelude.{◌≡◌, ℕ, ◌+◌, ◌<◌, ◌≤◌, length, Some, IsTrue, ◌↔◌, slice_get, Contains};
+ghost use Rattle.std.specs.Prelude.{◌≡◌, ℕ, ◌+◌, ◌<◌, ◌≤◌, length, Some, IsTrue, ◌↔◌, slice_get};
 ghost use Rattle.lft_flat.specs.Sound.{IsNameOf};
 ghost use Rattle.lft_trace.specs.declared.row.Row.{Row as TheRow};
 ghost use Rattle.lft_trace.specs.Fits.{RowFits};
 ghost use Rattle.lft_model.specs.Breaches.{IsUndeclared, MayWrite, MaySchedule};
-ghost use Rattle.lft_model.specs.Runs.{effects_of};
+ghost use Rattle.lft_rows.specs.Effects.{AreEffects};
 ghost use Rattle.lft_rows.specs.Marks.{AreMarks};
 ghost use Rattle.lft_rows.specs.Passes.{RisesTo, IsBadRead};
 
+use crate::effects::Effects;
 use crate::marks::Marks;
 use lft_flat::{Name, Program};
-use lft_lists::item_at;
 use lft_tag::Tag;
 use lft_trace::{Row, Step, row_at};
 
@@ -22,17 +22,19 @@ pub(crate) fn is_undeclared(
     place: usize,
     row: Row,
     marks: &Marks,
+    effects: &Effects,
 ) -> bool
     requires known { RowFits program.now row }
     requires place { slice_get rows.now place ≡ Some row }
     requires rising { RisesTo rows.now place row.tag }
     requires marks { AreMarks program.now rows.now 0 place marks.now }
+    requires effects { AreEffects program.now effects.now }
     ensures { IsTrue result ↔ IsUndeclared program.now rows.now place row row.step }
 {
     match row.step {
         Step::Read(name, _) => is_bad_read(program, rows, place, row, name, marks),
-        Step::Write(name, _) => !may_write(program, row.reaction, name),
-        Step::Schedule(name, _, _) => !may_schedule(program, row.reaction, name),
+        Step::Write(name, _) => !may_write(program, effects, row.reaction, name),
+        Step::Schedule(name, _, _) => !may_schedule(program, effects, row.reaction, name),
         Step::Start => false,
         Step::Stop => false,
         Step::End => false,
@@ -69,18 +71,20 @@ fn was_at(rows: &[Row], place: usize, tag: Tag, mark: u32) -> bool
 }
 
 /// Whether the name is a port among the reaction's effects.
-fn may_write(program: &Program, reaction: u32, name: Name) -> bool
-    requires { reaction < length program.now.reactions }
+fn may_write(program: &Program, effects: &Effects, reaction: u32, name: Name) -> bool
+    requires effects { AreEffects program.now effects.now }
+    requires known { reaction < length program.now.reactions }
     ensures { IsTrue result ↔ MayWrite program.now reaction name }
 {
     match name {
-        Name::Port(port) => is_effect(program, reaction, Name::Port(port)),
+        Name::Port(port) => effects.writes(program, reaction, port),
         Name::Action(_) => false,
     }
 }
 
 /// Whether the name is a logical action among the reaction's effects.
-fn may_schedule(program: &Program, reaction: u32, name: Name) -> bool
+fn may_schedule(program: &Program, effects: &Effects, reaction: u32, name: Name) -> bool
+    requires effects { AreEffects program.now effects.now }
     requires known { reaction < length program.now.reactions }
     requires named { IsNameOf program.now name }
     ensures { IsTrue result ↔ MaySchedule program.now reaction name }
@@ -88,27 +92,7 @@ fn may_schedule(program: &Program, reaction: u32, name: Name) -> bool
     match name {
         Name::Port(_) => false,
         Name::Action(action) => {
-            is_effect(program, reaction, Name::Action(action)) && !program.action(action).physical
+            effects.schedules(program, reaction, action) && !program.action(action).physical
         }
     }
-}
-
-/// Whether the name is among the reaction's effects.
-fn is_effect(program: &Program, reaction: u32, name: Name) -> bool
-    requires { reaction < length program.now.reactions }
-    ensures { IsTrue result ↔ Contains (effects_of program.now reaction) name }
-{
-    is_among(program.reaction(reaction).effects.as_slice(), name)
-}
-
-/// Whether the name is one of the names.
-fn is_among(names: &[Name], name: Name) -> bool
-    ensures { IsTrue result ↔ ((k : ℕ) × (slice_get names.now k ≡ Some name)) }
-{
-    for place in 0..names.len() {
-        if item_at(names, place) == name {
-            return true;
-        }
-    }
-    false
 }

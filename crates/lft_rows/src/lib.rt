@@ -2,6 +2,7 @@
 //! The rules 1 to 5, which rows break one by one.
 
 mod declared;
+mod effects;
 mod marks;
 mod open;
 mod parts;

@@ -7,11 +7,13 @@ ghost use Rattle.lft_trace.specs.declared.row.Row.{Row as TheRow};
 ghost use Rattle.lft_trace.specs.Fits.{RowsFit};
 ghost use Rattle.lft_model.specs.Plans.{PlanParts};
 ghost use Rattle.lft_model.specs.Breaches.{IsOutOfOrder};
+ghost use Rattle.lft_rows.specs.Effects.{AreEffects};
 ghost use Rattle.lft_rows.specs.Firsts.{FirstRow};
 ghost use Rattle.lft_rows.specs.Places.{last_of};
 ghost use Rattle.lft_rows.specs.Passes.{IsLatest, LastStart, Holds, HasOpen, IsKnown, FirstUnended, KeepsEarly, EarlyRule, IsEarly};
 
 use crate::declared::is_undeclared;
+use crate::effects::Effects;
 use crate::marks::Marks;
 use crate::open::{LastStarts, OpenRuns};
 use lft_flat::Program;
@@ -128,7 +130,15 @@ impl Known {
     }
 
     /// The least of the rules 1 to 4 that the row at the place breaks.
-    fn rule(&self, plan: &Plan, stop: Tag, rows: &[Row], place: usize) -> Option<u8>
+    fn rule(
+        &self,
+        plan: &Plan,
+        effects: &Effects,
+        stop: Tag,
+        rows: &[Row],
+        place: usize,
+    ) -> Option<u8>
+        requires effects { AreEffects plan.now.program effects.now }
         requires known { IsKnown plan.now.program rows.now place self.now }
         requires fit { RowsFit plan.now.program rows.now }
         requires place { place < length rows.now }
@@ -142,7 +152,7 @@ impl Known {
             Some(2)
         } else if is_out_of_order(rows, place, row, self) {
             Some(3)
-        } else if is_undeclared(plan.program(), rows, place, row, &self.marks) {
+        } else if is_undeclared(plan.program(), rows, place, row, &self.marks, effects) {
             Some(4)
         } else {
             None
@@ -175,9 +185,10 @@ fn early_rows(alloc: Global, plan: &Plan, stop: Tag, rows: &[Row]) -> Result<Ear
     ensures { IfOk result (IsEarly stop plan.now rows.now) }
 {
     let program = plan.program();
+    let effects = Effects::new(alloc, program)?;
     let mut known = Known::new(alloc, program)?;
     for place in 0..rows.len() {
-        if let Some(rule) = known.rule(plan, stop, rows, place) {
+        if let Some(rule) = known.rule(plan, &effects, stop, rows, place) {
             return Ok(Early {
                 place,
                 rule: Some(rule),

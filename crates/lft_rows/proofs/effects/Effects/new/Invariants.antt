@@ -1,0 +1,5 @@
+use Rattle.lft_rows.specs.Effects.{AreFirst}
+use Rattle.lft_rows.proofs.effects.Effects.new.Given as goal
+
+abbrev pub invariant-loop-number : goal.invariant-loop-number
+invariant-loop-number l = AreFirst l.number l.program l.sets.items
