@@ -23,6 +23,6 @@ _lftrace() {
         return
     fi
     compopt +o default 2> /dev/null
-    COMPREPLY=($(compgen -W "$choice" -- "$word"))
+    mapfile -t COMPREPLY < <(compgen -W "$choice" -- "$word")
 }
 complete -o default -F _lftrace lftrace
