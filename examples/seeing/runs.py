@@ -1,0 +1,150 @@
+"""What the scripts of this folder read: a trace table, a line of lftrace, the output of `lftrace show`."""
+import csv
+import dataclasses
+import re
+import sys
+
+HEADER = "event,worker,time,microstep,reaction,name,value,delay".split(",")
+LINE = re.compile(
+    r"(?:rule=(?P<rule>\d+) (?P<name>\S+) )?(?:line=(?P<line>\d+) )?"
+    r"time=(?P<time>\d+) microstep=(?P<microstep>\d+)(?: reaction=(?P<reaction>\S+))?"
+)
+
+
+@dataclasses.dataclass(slots=True)
+class Row:
+    line: int
+    event: str
+    name: str
+    value: str
+    delay: str
+
+    def text(self):
+        """The step in words, as `read main.b.speed = 30`."""
+        words = [self.event, self.name] if self.name else [self.event]
+        if self.event in ("read", "write", "schedule"):
+            words += ["=", self.value or "bare"]
+        if self.delay:
+            words += ["delay", self.delay]
+        return " ".join(words)
+
+
+@dataclasses.dataclass(slots=True)
+class Run:
+    worker: int
+    tag: tuple[int, int]
+    reaction: str
+    rows: list[Row]
+
+    @property
+    def first(self):
+        return self.rows[0].line
+
+    @property
+    def last(self):
+        return self.rows[-1].line
+
+    @property
+    def is_whole(self):
+        return self.rows[0].event == "start" and self.rows[-1].event == "end"
+
+
+@dataclasses.dataclass(slots=True)
+class Breach:
+    """What a line names: a row of the table, or a reaction at a tag; `differ` has no rule."""
+
+    text: str
+    rule: int | None
+    line: int | None
+    tag: tuple[int, int]
+    reaction: str | None
+
+    def names(self, run):
+        if self.line is not None:
+            return any(row.line == self.line for row in run.rows)
+        return (run.tag, run.reaction) == (self.tag, self.reaction)
+
+
+def read_breach(text):
+    """The breach that a line of lftrace names, or None: an accepted trace has none."""
+    found = LINE.search(text)
+    if not found:
+        return None
+    number = {word: int(found[word]) if found[word] else None for word in ("rule", "line", "time", "microstep")}
+    tag = number["time"], number["microstep"]
+    return Breach(text.strip(), number["rule"], number["line"], tag, found["reaction"])
+
+
+def tag_text(tag):
+    return f"time={tag[0]} microstep={tag[1]}"
+
+
+def read_runs(path):
+    """The runs of a trace table, in the order of their last rows.
+
+    A broken table is read too: a run without an end row has the rows that it has, and a row that
+    belongs to no open run is a run of its own.
+    """
+    open_runs = {}
+    for worker, tag, reaction, row in read_rows(path):
+        run = open_runs.get(worker)
+        if row.event == "start":
+            if run:
+                yield run
+            open_runs[worker] = Run(worker, tag, reaction, [row])
+        elif run and (run.tag, run.reaction) == (tag, reaction):
+            run.rows.append(row)
+            if row.event == "end":
+                yield open_runs.pop(worker)
+        else:
+            yield Run(worker, tag, reaction, [row])
+    yield from open_runs.values()
+
+
+def read_rows(path):
+    """Worker, tag, reaction and row of each record; lines count as those of lftrace do."""
+    with open(path, newline="", encoding="utf-8-sig", errors="replace") as table:
+        records = filter(None, csv.reader(table))
+        if next(records, None) != HEADER:
+            raise ValueError(f"{path}: the header is to be {','.join(HEADER)}")
+        for line, record in enumerate(records, 2):
+            try:
+                event, worker, time, microstep, reaction, name, value, delay = record
+                yield int(worker), (int(time), int(microstep)), reaction, Row(line, event, name, value, delay)
+            except ValueError as fault:
+                raise ValueError(f"{path}: record {line} is no row of a trace: {','.join(record)}") from fault
+
+
+def read_shown(path):
+    """Level and direct predecessors of each reaction, from the output of `lftrace show`."""
+    found = {}
+    with open(path, encoding="utf-8") as shown:
+        for words in map(str.split, shown):
+            if words[:1] == ["reaction"]:
+                before = [words[3].removeprefix("before="), *words[4:]]
+                found[words[1]] = int(words[2].removeprefix("level=")), [] if before == ["-"] else before
+    return found
+
+
+def preceding(shown, reaction):
+    """All reactions that precede one: those before it, and what precedes them."""
+    found, left = set(), [reaction]
+    while left:
+        for before in shown.get(left.pop(), (0, []))[1]:
+            if before not in found:
+                found.add(before)
+                left.append(before)
+    return found
+
+
+def call(main, usage, least, most):
+    """Calls main with the words of the command line. Status 2: the wrong number of them, or a file that can't be read."""
+    words = sys.argv[1:]
+    if not least <= len(words) <= most:
+        print(usage, file=sys.stderr)
+        sys.exit(2)
+    try:
+        main(*words)
+    except (OSError, ValueError) as fault:
+        print(f"{sys.argv[0]}: {fault}", file=sys.stderr)
+        sys.exit(2)
