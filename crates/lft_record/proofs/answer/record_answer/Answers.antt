@@ -19,7 +19,7 @@ returns-in-Err-read_cards-clause-refused g c =
     let fails = λ (told : is_told c.in-Err-read_cards.fault ≡ true). subst (λ (p : Parts). CardsFail p (records_of c.args.cards.now) c.in-Err-read_cards.fault) c.program.ensures.value (c.in-Err-read_cards.ensures.fault told).0 in
     by_cards c.in-Err-read_cards.fault c.in-Ok.plan c.cards_fault.ensures.part c.cards_fault.ensures.number c.in-Ok.ensures.plan.is fails (unchanged (g.W.Write.contents c.args.out.now))
 
-pub returns-in-Err-record_to-clause-refused : goal.returns-in-Err-record_to-clause-refused
-returns-in-Err-record_to-clause-refused g c =
+pub returns-clause-refused : goal.returns-clause-refused
+returns-clause-refused g c =
     let table = subst (λ (p : Parts). CardTable p (records_of c.args.cards.now) c.in-Ok-read_cards.cards) c.program.ensures.value c.in-Ok-read_cards.ensures.table in
     by_recording c.in-Ok.plan c.in-Ok-read_cards.cards c.in-Ok.ensures.plan table c.in-Err-record_to.ensures.refused
