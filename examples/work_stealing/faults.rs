@@ -70,14 +70,14 @@ impl Random {
         self.below(times) == 0
     }
 
-    /// Takes the time of code: up to 20 microseconds, and now and then the worker gives up its processor.
+    /// Takes the time of code: up to 20 microseconds, and now and then the worker loses its processor.
     pub fn work(&mut self) {
         let (begun, time) = (Instant::now(), Duration::from_nanos(self.below(20_000)));
         while begun.elapsed() < time {
             std::hint::spin_loop();
         }
         if self.once_in(16) {
-            thread::yield_now();
+            thread::sleep(Duration::from_micros(20));
         }
     }
 }

@@ -126,7 +126,7 @@ impl<'p> Runtime<'p> {
         while !self.over.load(SeqCst) {
             match self.take(me, &mut random) {
                 Some(taken) => self.run_reaction(me, taken, &mut recorder, &mut random),
-                None => thread::yield_now(),
+                None => thread::sleep(Duration::from_micros(20)),
             }
         }
         recorder
