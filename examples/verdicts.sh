@@ -24,9 +24,9 @@ needs() {
   command -v "$1" > /dev/null || { echo "run: there is no $2 ($1)" >&2; exit 3; }
 }
 
-# limited WORDS..: runs a command, and ends it after 20 seconds.
+# limited WORDS..: runs a command, and ends it if it hangs.
 limited() {
-  timeout -k 2 20 "$@"
+  timeout -k 2 30 "$@"
   status=$?
   case $status in 124 | 137) echo "hangs: $*" ;; esac
   return $status
@@ -55,13 +55,13 @@ line() {
     once "$@" || { echo "no verdict"; break; }
     made=$((made + 1))
   done > verdicts.txt
-  counts=$(sed -E 's/^(second )?broken rule=([0-9]+) ([a-z-]+) .*/rule \2 \3/; s/^(accepted|same|differ) .*/\1/' verdicts.txt |
+  counts=$(sed -E 's/^(second )?broken rule=([0-9]+ [a-z-]+) .*/rule \2/; s/^(accepted|same|differ) .*/\1/' verdicts.txt |
     sort | uniq -c | sort -rn | awk '{ n = $1; $1 = ""; printf "%s%s%s", (NR > 1 ? ", " : ""), n, $0 }')
   printf '| %-20s | %4d | %s |\n' "$name" "$made" "$counts"
   found=$(grep -cE "$expected" verdicts.txt)
   other=$(grep -vE "^(accepted|same) |$expected" verdicts.txt | head -n 1)
   if [ -n "$other" ]; then fails "$name: $other"
-  elif [ "$how" = always ] && [ "$found" -lt "$runs" ]; then fails "$name: only $found of $runs verdicts are as expected"
-  elif [ "$runs" -ge 20 ] && [ "$found" -eq 0 ]; then fails "$name: none of $runs verdicts is as expected"
+  elif [ "$how" = always ] && [ "$found" -lt "$runs" ]; then fails "$name: only $found of $runs as expected"
+  elif [ "$runs" -ge 20 ] && [ "$found" -eq 0 ]; then fails "$name: none of $runs as expected"
   fi
 }

@@ -151,7 +151,8 @@ static int limited(bool ignored) {
 int main(void) {
   record();
   order_of_rows();
-  for (int mistake = 0; mistake < MISTAKES; mistake++) expect(!strcmp(mistaken(mistake), whys[mistake]), whys[mistake]);
+  for (int mistake = 0; mistake < MISTAKES; mistake++)
+    expect(!strcmp(mistaken(mistake), whys[mistake]), whys[mistake]);
 
   allocations = 0;
   mistaken(RIGHT);

@@ -267,14 +267,17 @@ static inline void lft_print(lft_log *log, FILE *trace, FILE *externals, unsigne
   static const char *const words[] = {"start", "read", "write", "schedule", "stop", "end"};
   char value[24] = "", delay[24] = "";
   if (!row->bare) snprintf(value, sizeof value, "%" PRId64, row->number);
+  const char *name = log->names[row->name];
   if (row->kind == LFT_EVENT) {
-    fprintf(externals, "event,%" PRIu64 ",%" PRIu32 ",%s,%s\n", row->time, row->microstep, log->names[row->name], value);
+    fprintf(externals, "event,%" PRIu64 ",%" PRIu32 ",%s,%s\n", row->time, row->microstep, name, value);
     return;
   }
   lft_row *run = &log->slots[worker].run;
-  if (row->kind == LFT_START) *run = *row;
+  if (row->kind == LFT_START) {
+    *run = *row;
+    name = "";
+  }
   if (row->kind == LFT_SCHEDULE && row->time) snprintf(delay, sizeof delay, "%" PRIu64, row->time);
-  const char *name = row->kind == LFT_START ? "" : log->names[row->name];
   fprintf(trace, "%s,%u,%" PRIu64 ",%" PRIu32 ",%s,%s,%s,%s\n", words[row->kind], worker, run->time, run->microstep,
           log->names[run->name], name, value, delay);
 }

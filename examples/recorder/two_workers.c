@@ -4,7 +4,7 @@
    ./two_workers trace.csv externals.csv
    ./two_workers trace.csv externals.csv careless     no reaction waits for those that precede it
    ./two_workers trace.csv externals.csv late-end     the end row is written after the other worker knows
-   ./two_workers trace.csv externals.csv wrong-port   a write row names the port that is connected, not the one that is set
+   ./two_workers trace.csv externals.csv wrong-port   a write row names the port that receives the value
    lftrace judge two_workers.lf externals.csv trace.csv */
 #include "lftrace.h"
 #include <pthread.h>
@@ -87,6 +87,28 @@ static int64_t code(unsigned worker, int reaction, int64_t reading, int64_t y) {
   return out;
 }
 
+/* The reaction has run. `out` is what it wrote. */
+static void settle(int reaction, int64_t out) {
+  runtime.open &= ~(1u << reaction);
+  runtime.done |= 1u << reaction;
+  switch (reaction) {
+    case SENSOR:
+      runtime.reading = out;
+      runtime.triggered |= 1u << FILTER_X;
+      break;
+    case FILTER_X:
+      runtime.y = out;
+      runtime.triggered |= 1u << ALARM_Y;
+      break;
+    case ALARM_Y:
+      if (runtime.y < 8) break;
+      runtime.stop_time = runtime.time;
+      runtime.stop_microstep = runtime.microstep + 1;
+      break;
+  }
+  pthread_cond_broadcast(&runtime.change);
+}
+
 /* Called with the lock, which it gives up while the code runs. */
 static void run(unsigned worker, int reaction) {
   int64_t reading = runtime.reading, y = runtime.y;
@@ -98,12 +120,7 @@ static void run(unsigned worker, int reaction) {
   int64_t out = code(worker, reaction, reading, y);
   pthread_mutex_lock(&runtime.lock);
   if (!late_end) lft_end(lft, worker); /* before the other worker knows */
-  runtime.open &= ~(1u << reaction);
-  runtime.done |= 1u << reaction;
-  if (reaction == SENSOR) { runtime.reading = out; runtime.triggered |= 1u << FILTER_X; }
-  if (reaction == FILTER_X) { runtime.y = out; runtime.triggered |= 1u << ALARM_Y; }
-  if (reaction == ALARM_Y && y >= 8) { runtime.stop_time = runtime.time; runtime.stop_microstep = runtime.microstep + 1; }
-  pthread_cond_broadcast(&runtime.change);
+  settle(reaction, out);
   if (late_end) {
     pthread_mutex_unlock(&runtime.lock);
     take_time(50);

@@ -55,6 +55,8 @@ def main(program_path, trace_path, folder):
         out.write(with_own_triggers(program.read()))
     with open(trace_path, newline="") as table:
         rows = [row for row in csv.DictReader(table) if row["event"] in ("start", "end")]
+    if not rows:
+        sys.exit(f"{trace_path} has no start and no end")
     with open(f"{folder}/trace.csv", "w") as trace, open(f"{folder}/externals.csv", "w") as externals:
         write_tables(rows, trace, externals)
 
