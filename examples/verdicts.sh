@@ -55,8 +55,9 @@ line() {
     once "$@" || { echo "no verdict"; break; }
     made=$((made + 1))
   done > verdicts.txt
-  counts=$(sed -E 's/^(second )?broken rule=([0-9]+ [a-z-]+) .*/rule \2/; s/^(accepted|same|differ) .*/\1/' verdicts.txt |
-    sort | uniq -c | sort -rn | awk '{ n = $1; $1 = ""; printf "%s%s%s", (NR > 1 ? ", " : ""), n, $0 }')
+  counts=$(sed -E -e 's/^(second )?broken rule=([0-9]+) ([a-z-]+) .*/\3 (rule \2)/' \
+    -e 's/^(accepted|same|differ) .*/\1/' verdicts.txt | sort | uniq -c | sort -rn |
+    awk '{ n = $1; $1 = ""; printf "%s%s%s", (NR > 1 ? ", " : ""), n, $0 }')
   printf '| %-20s | %4d | %s |\n' "$name" "$made" "$counts"
   found=$(grep -cE "$expected" verdicts.txt)
   other=$(grep -vE "^(accepted|same) |$expected" verdicts.txt | head -n 1)
