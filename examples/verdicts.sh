@@ -1,0 +1,68 @@
+# Sourced by the `run` scripts: finds the program, judges many recordings, prints a table of the verdicts.
+# The script has set `here`, its folder, and `runs`, the number of recordings for each line of the table.
+
+top=$(cd "$here/../.." && pwd)
+lftrace=${LFTRACE:-crates/lftrace/out/lftrace}
+lftrace=$(cd "$top" && command -v "$lftrace") || { echo "run: there is no program $lftrace" >&2; exit 3; }
+case $lftrace in /*) ;; *) lftrace=$top/$lftrace ;; esac
+case $runs in '' | 0* | *[!0-9]*) echo "run: $runs is no number of runs" >&2; exit 2 ;; esac
+
+folder=$(mktemp -d) || exit 2
+trap 'rm -rf "$folder"' EXIT
+trap 'exit 2' HUP INT TERM
+cd "$folder" || exit 2
+failed=0
+
+# fails WHY: the script goes on, and ends with status 1.
+fails() {
+  echo "run: $*" >&2
+  failed=1
+}
+
+# needs COMMAND WHAT: ends the script if there is no such command.
+needs() {
+  command -v "$1" > /dev/null || { echo "run: there is no $2 ($1)" >&2; exit 3; }
+}
+
+# limited WORDS..: runs a command, and ends it if it hangs.
+limited() {
+  timeout -k 2 30 "$@"
+  status=$?
+  case $status in 124 | 137) echo "hangs: $*" ;; esac
+  return $status
+}
+
+# judge PROGRAM EXTERNALS TRACE, pair PROGRAM EXTERNALS FIRST SECOND: prints the verdict. False: there is none.
+judge() { verdict judge "$@"; }
+pair() { verdict pair "$@"; }
+verdict() {
+  limited "$lftrace" "$@" 2>&1
+  [ $status -le 1 ]
+}
+
+# begin_table NAME
+begin_table() {
+  printf '| %-20s | runs | verdicts |\n|---|---|---|\n' "$1"
+}
+
+# line NAME HOW EXPECTED WORDS..: a line of the table. `once WORDS..` records a run and prints the verdict.
+# EXPECTED is a pattern. HOW is `always` if each verdict must match it. It is `often` if the other verdicts must
+# be `accepted` or `same`, and not all of 20 or more.
+line() {
+  name=$1 how=$2 expected=$3 made=0
+  shift 3
+  while [ "$made" -lt "$runs" ]; do
+    once "$@" || { echo "no verdict"; break; }
+    made=$((made + 1))
+  done > verdicts.txt
+  counts=$(sed -E -e 's/^(second )?broken rule=([0-9]+) ([a-z-]+) .*/\3 (rule \2)/' \
+    -e 's/^(accepted|same|differ) .*/\1/' verdicts.txt | sort | uniq -c | sort -rn |
+    awk '{ n = $1; $1 = ""; printf "%s%s%s", (NR > 1 ? ", " : ""), n, $0 }')
+  printf '| %-20s | %4d | %s |\n' "$name" "$made" "$counts"
+  found=$(grep -cE "$expected" verdicts.txt)
+  other=$(grep -vE "^(accepted|same) |$expected" verdicts.txt | head -n 1)
+  if [ -n "$other" ]; then fails "$name: $other"
+  elif [ "$how" = always ] && [ "$found" -lt "$runs" ]; then fails "$name: only $found of $runs as expected"
+  elif [ "$runs" -ge 20 ] && [ "$found" -eq 0 ]; then fails "$name: none of $runs as expected"
+  fi
+}
