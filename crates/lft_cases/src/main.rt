@@ -5,13 +5,15 @@
 //! a backslash at the end of a line takes the line's end away. The kinds are told where they are
 //! answered: what is given to other cases, texts, programs, traces, external inputs, presence, the
 //! runs of a trace and what else a cut tells, texts as a whole, two traces beside one another,
-//! recordings, and the words of faults. `title` and some words are written as they are.
+//! recordings, texts that are cut short, and the words of faults. `title` and some words are written
+//! as they are.
 #![tactic(auto)]
 
 mod case_text;
 mod cuts;
 mod external_tables;
 mod faults;
+mod fronts;
 mod given;
 mod pairs;
 mod pieces;
@@ -72,6 +74,7 @@ fn tell<R: Threads + Wait + Sync>(
         "card-faults" => faults::cards(told),
         "pool-faults" => faults::pool(alloc, given, told),
         "bundle" => whole::bundle(alloc, text, told),
+        "fronts" => fronts::fronts(rt, alloc, given, text, words, told),
         _ => writeln!(told, "no such kind of case: {kind}"),
     }
 }
