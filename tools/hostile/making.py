@@ -22,6 +22,8 @@ class Making:
     def time(self, parameters=()):
         if parameters and self.rng.random() < 0.3:
             return self.rng.choice(list(parameters))
+        if self.rng.random() < 0.01:
+            return self.rng.choice([LONGEST, LONGEST - self.unit, 4 * 10**17])
         return self.rng.choice([0, 0, 1, 1, 2, 3, 5]) * self.unit
 
     def timer(self, parameters):
@@ -73,11 +75,12 @@ class Making:
         return [*below, self.reactor("Main", below, True)]
 
     def program(self):
-        """Reactors that flatten to a program with reactions, mostly without a loop."""
+        """Reactors that flatten to a lawful program with reactions, often without a loop."""
         while True:
             reactors = self.reactors()
             flat = Flat(reactors)
-            if 0 < len(flat.reactions) <= MOST_REACTIONS and None not in flat.ports.values() and (not flat.has_loop() or self.rng.random() < 0.1):
+            is_lawful = all(origin and sum(origin[1]) <= LONGEST for origin in flat.ports.values())
+            if is_lawful and 0 < len(flat.reactions) <= MOST_REACTIONS and (not flat.has_loop() or self.rng.random() < 0.3):
                 return reactors, flat
 
     def tag(self):

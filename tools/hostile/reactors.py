@@ -62,8 +62,9 @@ def spelled_member(kind, name, member, rng):
         return [*rng.choice([[], [], ["mutable"]]), "input", name, *spelled_type(rng)] if member else ["output", name, *spelled_type(rng)]
     if kind == "timers":
         times = [spelled_time(time, rng) for time in member]
-        if member[1] == 0 and rng.random() < 0.5:
-            times = times[:1] if member[0] != 0 or rng.random() < 0.5 else []
+        # Zeros at the end may be left out.
+        while times and member[len(times) - 1] == 0 and rng.random() < 0.5:
+            times.pop()
         return ["timer", name, *(["(", *listed(times), ")"] if times else rng.choice([[], ["(", ")"]]))]
     if kind == "actions":
         physical, minimum = member
@@ -162,7 +163,7 @@ class Flat:
 
     @functools.cached_property
     def ports(self):
-        """The origin and the delays of each port, or nothing of one whose connections form a cycle."""
+        """The origin and the delays of each port; nothing for one whose connections form a cycle."""
         return {port: self.origin(port) for port in self.is_port}
 
     def origin(self, port):
@@ -177,12 +178,9 @@ class Flat:
 
     def is_direct(self, a, b):
         """Whether reaction a directly precedes reaction b."""
-        if self.reactions[a].instance == self.reactions[b].instance:
-            return a < b or self.feeds(a, b)
-        return self.feeds(a, b)
-
-    def feeds(self, a, b):
-        return any(self.ports.get(name) == (effect, []) for effect in self.reactions[a].effects for name in self.reactions[b].inputs)
+        first, second = self.reactions[a], self.reactions[b]
+        feeds = any(self.ports.get(name) == (effect, []) for effect in first.effects for name in second.inputs)
+        return feeds or (first.instance == second.instance and a < b)
 
     @functools.cached_property
     def preceding(self):
