@@ -183,10 +183,11 @@ impl<'a> Names<'a> {
             .iter()
             .map(|reaction| reaction.name.as_bytes());
         let things = program.things.iter().map(|thing| thing.name.as_bytes());
+        let first = program.reactions.first();
         Names {
             reactions: reactions.zip(0..).collect(),
             things: things.zip(0..).collect(),
-            last: (b"", 0),
+            last: (first.map_or(b"", |reaction| reaction.name.as_bytes()), 0),
         }
     }
 

@@ -25,7 +25,7 @@ def stopping_at(tag):
 
 
 def large_texts(rng, record):
-    """A program, its reactors, external inputs, and what `record` answers: a table over 1 MiB up to the end of a tag."""
+    """A flat program, the texts for a recording up to the end of a tag, and what `record` answers to them, over 1 MiB."""
     while True:
         reactors, flat, cards = goes_on(rng)
         texts = {"program.lf": joined(spelled(reactors, rng), rng) + b"\n", "externals.csv": stopping_at((LONGEST, 0)), "cards.csv": cards}
@@ -33,7 +33,7 @@ def large_texts(rng, record):
         if len(written) > LEAST_BYTES:
             last = written[:LEAST_BYTES].split(b"\n")[-2].split(b",")
             texts["externals.csv"] = stopping_at((int(last[2]), int(last[3])))
-            return flat, texts["program.lf"], texts["externals.csv"], record(texts, "--workers", rng.choice([1, 2, 4, 64]))
+            return flat, texts, record(texts, "--workers", rng.choice([1, 2, 4, 64]))
 
 
 def broken_part(rng, text):

@@ -7,12 +7,6 @@ MOST_REACTIONS, MOST_RUNS = 24, 40
 VALUES = ["0", "1", "7", "-3", str(2**63 - 1), str(-2**63)]
 
 
-def some_of(rng, items, most):
-    """Some of the items, each once, in any order."""
-    items = list(items)
-    return rng.sample(items, min(len(items), rng.randint(0, most)))
-
-
 class Making:
     """One program; its times are small multiples of one unit, so that events often meet."""
 
@@ -22,6 +16,8 @@ class Making:
     def time(self, parameters=()):
         if parameters and self.rng.random() < 0.3:
             return self.rng.choice(list(parameters))
+        if self.rng.random() < 0.01:
+            return self.rng.choice([LONGEST, LONGEST - self.unit, 4 * 10**17])
         return self.rng.choice([0, 0, 1, 1, 2, 3, 5]) * self.unit
 
     def timer(self, parameters):
@@ -36,12 +32,14 @@ class Making:
             made.ports = {f"x{at}": rng.random() < 0.5 for at in range(rng.randint(0, 4))}
         made.timers = {f"t{at}": self.timer(made.parameters) for at in range(rng.choice([0, 1, 1, 2]))}
         made.actions = {f"a{at}": (rng.random() < 0.3, self.time(made.parameters)) for at in range(rng.choice([0, 1, 1, 2]))}
-        for at in range(rng.randint(1, 4) if is_main else rng.choice([0, 0, 1, 2])) if below else ():
+        for at in range((rng.randint(1, 4) if is_main else rng.choice([0, 0, 1, 2])) if below else 0):
             of = rng.choice(below)
             made.instances[f"b{at}"] = (of.name, {parameter: self.time(made.parameters) for parameter in of.parameters if rng.random() < 0.5})
-        contained = {f"{name}.{port}": is_input for name, (of, _) in made.instances.items() for port, is_input in {one.name: one for one in below}[of].ports.items()}
-        sources = [port for port, is_input in made.ports.items() if is_input] + [port for port, is_input in contained.items() if not is_input]
-        ends = [port for port, is_input in made.ports.items() if not is_input] + [port for port, is_input in contained.items() if is_input]
+        ports_of = {one.name: one.ports for one in below}
+        contained = {f"{name}.{port}": is_input for name, (of, _) in made.instances.items() for port, is_input in ports_of[of].items()}
+        # What an input of its own is to it, an output of an instance in it is too.
+        is_source = made.ports | {name: not is_input for name, is_input in contained.items()}
+        sources, ends = ([name for name, is_one in is_source.items() if is_one == wanted] for wanted in (True, False))
         joined = self.connect(made, sources, ends)
         triggers = ["startup", "shutdown", *made.timers, *made.actions, *sources]
         effects = [end for end in ends if end not in joined] + list(made.actions)
@@ -64,7 +62,7 @@ class Making:
         names = self.rng.sample(triggers, min(len(triggers), self.rng.randint(1, 4)))
         at = self.rng.randint(1, len(names))
         uses = [name for name in names[at:] if name not in ("startup", "shutdown")]
-        return Reaction(names[:at], uses, some_of(self.rng, effects, 3))
+        return Reaction(names[:at], uses, self.rng.sample(effects, min(len(effects), self.rng.randint(0, 3))))
 
     def reactors(self):
         below = []
@@ -73,11 +71,12 @@ class Making:
         return [*below, self.reactor("Main", below, True)]
 
     def program(self):
-        """Reactors that flatten to a program with reactions, mostly without a loop."""
+        """Reactors that flatten to a lawful program with reactions, often without a loop."""
         while True:
             reactors = self.reactors()
             flat = Flat(reactors)
-            if 0 < len(flat.reactions) <= MOST_REACTIONS and None not in flat.ports.values() and (not flat.has_loop() or self.rng.random() < 0.1):
+            is_lawful = all(origin and sum(origin[1]) <= LONGEST for origin in flat.ports.values())
+            if is_lawful and 0 < len(flat.reactions) <= MOST_REACTIONS and (not flat.has_loop() or self.rng.random() < 0.3):
                 return reactors, flat
 
     def tag(self):
@@ -108,8 +107,8 @@ class Making:
                       for name in actions if rng.random() < (0.3 if sparing else 0.6)]
             if rng.random() < (0 if sparing else 0.08):
                 steps.append(["stop", reaction.name, "", "", ""])
-            if flat.is_port and rng.random() < (0 if sparing else 0.03):
-                steps.append(["write", reaction.name, rng.choice(list(flat.is_port)), "", "1"])
+            if flat.port_names and rng.random() < (0 if sparing else 0.03):
+                steps.append(["write", reaction.name, rng.choice(flat.port_names), "", "1"])
             if rng.random() < 0.5:
                 steps.append(["state", reaction.name, "", "", self.expression(reaction)])
             records += rng.sample(steps, len(steps))

@@ -15,7 +15,7 @@ def built(folder):
     return path
 
 
-def disagrees(answer, plain):
+def differs(answer, plain):
     """Whether two answers to three texts differ. The plain judge takes programs that aren't lawful, ends with
     status 2 where a table has a fault, and has no fault lines."""
     if answer.status != 2:

@@ -43,6 +43,11 @@ def spelled_time(time, rng):
     return [str(time // UNITS[unit]), unit]
 
 
+def spelled_value(time, rng):
+    """The tokens that give a parameter its value."""
+    return rng.choice([["=", *spelled_time(time, rng)], ["(", *spelled_time(time, rng), ")"]])
+
+
 def listed(parts):
     """The lists of tokens, with commas between them."""
     return [token for part in parts for token in [",", *part]][1:]
@@ -59,19 +64,20 @@ def spelled_type(rng):
 def spelled_member(kind, name, member, rng):
     """The tokens of one member."""
     if kind == "ports":
-        return [*rng.choice([[], [], ["mutable"]]), "input", name, *spelled_type(rng)] if member else ["output", name, *spelled_type(rng)]
+        words = [*rng.choice([[], [], ["mutable"]]), "input"] if member else ["output"]
+        return [*words, name, *spelled_type(rng)]
     if kind == "timers":
         times = [spelled_time(time, rng) for time in member]
-        if member[1] == 0 and rng.random() < 0.5:
-            times = times[:1] if member[0] != 0 or rng.random() < 0.5 else []
+        # Zeros at the end may be left out.
+        while times and member[len(times) - 1] == 0 and rng.random() < 0.5:
+            times.pop()
         return ["timer", name, *(["(", *listed(times), ")"] if times else rng.choice([[], ["(", ")"]]))]
     if kind == "actions":
         physical, minimum = member
         delay = [] if minimum == 0 and rng.random() < 0.5 else ["(", *spelled_time(minimum, rng), ")"]
         return ["physical" if physical else "logical", "action", name, *delay, *spelled_type(rng)]
     if kind == "instances":
-        given = [[parameter, *rng.choice([["=", *time], ["(", *time, ")"]])] for parameter, time in
-                 ((parameter, spelled_time(time, rng)) for parameter, time in member[1].items())]
+        given = [[parameter, *spelled_value(time, rng)] for parameter, time in member[1].items()]
         return [name, "=", "new", member[0], "(", *listed(given), ")"]
     if kind == "connections":
         sources, destinations, delay = member
@@ -105,8 +111,7 @@ def spelled(reactors, rng):
     tokens = rng.choice([[], ["target", "C"], ["target", "Cpp", "{", "timeout", ":", "{", "3", "}", "}"]])
     for reactor in reactors:
         head = ["main", "reactor", *rng.choice([[], [reactor.name]])] if reactor is reactors[-1] else ["reactor", reactor.name]
-        parameters = [[name, ":", "time", *rng.choice([["=", *time], ["(", *time, ")"]])] for name, time in
-                      ((name, spelled_time(time, rng)) for name, time in reactor.parameters.items())]
+        parameters = [[name, ":", "time", *spelled_value(time, rng)] for name, time in reactor.parameters.items()]
         tokens += [*head, *(["(", *listed(parameters), ")"] if parameters else []), "{", *spelled_body(reactor, rng), "}"]
     return tokens
 
@@ -133,18 +138,18 @@ class Flat:
 
     def __init__(self, reactors):
         self.classes = {reactor.name: reactor for reactor in reactors}
-        self.instances, self.sources, self.actions, self.timers, self.reactions = [], {}, {}, {}, []
-        self.is_port = {}
+        self.instances, self.port_names, self.sources, self.actions, self.timers, self.reactions = [], [], {}, {}, {}, []
         main = reactors[-1]
         self.add("main", main, dict(main.parameters))
         for path, reactor, times in self.instances:
             self.connect(path, reactor, times)
 
     def add(self, path, reactor, times):
+        """Adds an instance and all in it. `times` are the values of its parameters."""
         def value(time):
             return times[time] if isinstance(time, str) else time
         self.instances.append((path, reactor, times))
-        self.is_port |= {f"{path}.{name}": True for name in reactor.ports}
+        self.port_names += [f"{path}.{name}" for name in reactor.ports]
         self.actions |= {f"{path}.{name}": (physical, value(minimum)) for name, (physical, minimum) in reactor.actions.items()}
         self.timers |= {f"{path}.{name}": (value(offset), value(period)) for name, (offset, period) in reactor.timers.items()}
         for at, reaction in enumerate(reactor.reactions, 1):
@@ -153,7 +158,8 @@ class Flat:
             inputs = [name for name in triggers + uses if name not in ("startup", "shutdown") and name not in self.timers]
             self.reactions.append(FlatReaction(f"{path}#{at}", path, triggers, inputs, effects))
         for name, (of, given) in reactor.instances.items():
-            self.add(f"{path}.{name}", self.classes[of], self.classes[of].parameters | {parameter: value(time) for parameter, time in given.items()})
+            values = {parameter: value(time) for parameter, time in given.items()}
+            self.add(f"{path}.{name}", self.classes[of], self.classes[of].parameters | values)
 
     def connect(self, path, reactor, times):
         for sources, destinations, delay in reactor.connections:
@@ -162,8 +168,8 @@ class Flat:
 
     @functools.cached_property
     def ports(self):
-        """The origin and the delays of each port, or nothing of one whose connections form a cycle."""
-        return {port: self.origin(port) for port in self.is_port}
+        """The origin and the delays of each port; nothing for one whose connections form a cycle."""
+        return {port: self.origin(port) for port in self.port_names}
 
     def origin(self, port):
         delays, seen = [], set()
@@ -177,12 +183,9 @@ class Flat:
 
     def is_direct(self, a, b):
         """Whether reaction a directly precedes reaction b."""
-        if self.reactions[a].instance == self.reactions[b].instance:
-            return a < b or self.feeds(a, b)
-        return self.feeds(a, b)
-
-    def feeds(self, a, b):
-        return any(self.ports.get(name) == (effect, []) for effect in self.reactions[a].effects for name in self.reactions[b].inputs)
+        first, second = self.reactions[a], self.reactions[b]
+        feeds = any(self.ports.get(name) == (effect, []) for effect in first.effects for name in second.inputs)
+        return feeds or (first.instance == second.instance and a < b)
 
     @functools.cached_property
     def preceding(self):

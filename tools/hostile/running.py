@@ -69,8 +69,8 @@ class Refusing:
         Each kind that is named has the numbers of the first and the last call to refuse, and for read
         and write how. Standard output has room for so many bytes, or for all.
         """
-        wanted = [[*refused.get(kind, (0, 0)), 0][:3] + [room] for kind in KINDS]
-        self.counts.write_bytes(b"".join(RECORD.pack(*kind, 0, 0) for kind in wanted))
+        wanted = [(*refused.get(kind, (0, 0)), 0)[:3] for kind in KINDS]
+        self.counts.write_bytes(b"".join(RECORD.pack(*first_last_how, room, 0, 0) for first_last_how in wanted))
         answer = self.runs.run(command, folder, stdin, self.environment)
-        told = list(RECORD.iter_unpack(self.counts.read_bytes()))
-        return answer, {kind: told[at][4] for at, kind in enumerate(KINDS)}, {kind: told[at][5] for at, kind in enumerate(KINDS)}
+        told = dict(zip(KINDS, RECORD.iter_unpack(self.counts.read_bytes())))
+        return answer, {kind: record[4] for kind, record in told.items()}, {kind: record[5] for kind, record in told.items()}

@@ -108,7 +108,7 @@ def read_table(part, text, take):
 def read_trace(flat, text):
     rows = []
     reactions = {reaction.name: number for number, reaction in enumerate(flat.reactions)}
-    things = {*flat.is_port, *flat.actions}
+    things = {*flat.port_names, *flat.actions}
 
     def take(event, worker, time, microstep, reaction, name, given, delay):
         if event not in (b"start", b"end", b"stop", b"read", b"write", b"schedule"):
@@ -153,7 +153,7 @@ def read_externals(flat, text):
 def read_cards(flat, text):
     """A card for each reaction."""
     reactions = {reaction.name: number for number, reaction in enumerate(flat.reactions)}
-    things = {*flat.is_port, *flat.actions}
+    things = {*flat.port_names, *flat.actions}
     bodies, states, steps = {}, {}, [[] for _ in flat.reactions]
 
     def expression(field, reaction, may_be_bare):
