@@ -1,7 +1,7 @@
 #![tactic(auto)]
-//! The tests below the calls on texts that need code: who is told of a tag, by a copy of a plan and
-//! by two workers at a time; queues, books driven by hand, and recordings. What is data is a case of
-//! `lft_cases`.
+//! The tests below the calls on texts that need code: tags; who is told of a tag, by a copy of a plan
+//! and by two workers at a time; queues, books driven by hand, and recordings. What is data is a case
+//! of `lft_cases`.
 
 #[cfg(test)]
 mod answers;
@@ -13,6 +13,8 @@ mod queues;
 mod recordings;
 #[cfg(test)]
 mod stops;
+#[cfg(test)]
+mod tags;
 #[cfg(test)]
 mod texts;
 #[cfg(test)]
