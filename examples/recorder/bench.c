@@ -7,7 +7,7 @@
 #include <pthread.h>
 #include <time.h>
 
-enum { RUNS = 100000, ROWS = 4 * RUNS, TURNS = 9 }; /* rows of each thread; the least of so many times counts */
+enum { RUNS = 25000, ROWS = 4 * RUNS, TURNS = 40 }; /* rows of each thread; the least of so many times counts */
 static const char trace_path[] = "bench_trace.csv", externals_path[] = "bench_externals.csv";
 static lft_log *lft;
 static FILE *file;
