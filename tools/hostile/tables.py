@@ -3,6 +3,7 @@ meaning is `Refused` with what its fault line says."""
 import functools
 import re
 
+from hostile.answers import FAULTS
 from hostile.machine import MOST_MICROSTEPS, Card, Row
 from hostile.reactors import LONGEST
 
@@ -11,14 +12,10 @@ HEADERS = {
     "externals": "kind,time,microstep,name,value",
     "cards": "kind,reaction,name,delay,value",
 }
-# The numbers and names of the faults of a table.
-BAD_HEADER, FIELD_COUNT, KIND, NUMBER, NAME, IN_PLACE, VALUE, TWICE, TWO_STOPS = range(1, 10)
-NAMES = {
-    "trace": {1: "BadHeader", 2: "BadFieldCount", 3: "BadEvent", 4: "BadNumber", 5: "UnknownName", 6: "FieldInPlace"},
-    "externals": {1: "BadHeader", 2: "BadFieldCount", 3: "BadEvent", 4: "BadNumber", 5: "UnknownName", 6: "FieldInPlace", 7: "DuplicateExternal", 9: "TwoStops"},
-    "cards": {1: "BadHeader", 2: "BadFieldCount", 3: "BadKind", 4: "BadNumber", 5: "UnknownName", 6: "FieldInPlace", 7: "BadValue", 8: "GivenTwice"},
-}
-DUPLICATE = 7
+# The numbers of the faults of a record: of all tables, of cards, of external inputs.
+FIELD_COUNT, KIND, NUMBER, NAME, IN_PLACE = range(2, 7)
+VALUE, TWICE = 7, 8
+DUPLICATE, TWO_STOPS = 7, 9
 MARK = b"\xef\xbb\xbf"
 
 
@@ -93,7 +90,7 @@ def is_empty(*fields):
 def read_table(part, text, take):
     """Gives each record below the header to `take`."""
     lines = records(text)
-    if not lines or b",".join(lines[0]) != HEADERS[part].encode() or len(lines[0]) != HEADERS[part].count(",") + 1:
+    if not lines or lines[0] != HEADERS[part].encode().split(b","):
         raise Refused(f"{part} 1 BadHeader")
     for line, fields in enumerate(lines[1:], 2):
         try:
@@ -101,7 +98,8 @@ def read_table(part, text, take):
                 raise BadField(FIELD_COUNT)
             take(*fields)
         except BadField as fault:
-            raise Refused(f"{part} {fault.args[0]} {NAMES[part][fault.args[0]]} line={line}") from None
+            number, = fault.args
+            raise Refused(f"{part} {number} {FAULTS[part][number].replace('NUMBER', str(line))}") from None
 
 
 @functools.lru_cache(4)
