@@ -340,8 +340,9 @@ static inline char *lft_part(const char *path) {
   return part;
 }
 
-/* Writes both tables, and gives NULL; or writes none, and gives why not. The stop is the last tag at which
-   the execution may end: the timeout, or any later tag if the program ends itself.
+/* Writes both tables, and gives NULL; or writes none, and gives why not. The stop is the last tag that
+   the execution may have: its timeout; the tag at which it ended, if no event was left; any later tag, if
+   the code asked for the end.
    Each table is written beside its place and then moved there, the trace last. So no reader finds half a
    table, or a trace with the external inputs of another run. */
 static inline const char *lft_save(lft_log *log, const char *trace_path, const char *externals_path,

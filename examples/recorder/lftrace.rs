@@ -56,8 +56,8 @@ impl Log {
         Worker { log: self, number, rows: Vec::new() }
     }
 
-    /// Writes both tables, or none. The stop is the last tag at which the execution may end: the timeout, or any
-    /// later tag if the program ends itself.
+    /// Writes both tables, or none. The stop is the last tag that the execution may have: its timeout; the tag at
+    /// which it ended, if no event was left; any later tag, if the code asked for the end.
     ///
     /// Each table is written beside its place and then moved there, the trace last. So no reader finds half a table,
     /// or a trace with the external inputs of another run.
