@@ -122,3 +122,63 @@ fn takes_bodies_in_the_order_in_which_they_were_put(rt: HostRuntime) -> Result<(
     assert!(rt; recorded.states.as_slice() == [(0, 1), (1, 2), (2, 3)].as_slice());
     Ok(())
 }
+
+/// Code that leaves its word, and can be had again.
+#[derive(Drop)]
+struct Leaving {
+    alloc: Global,
+    word: i64,
+}
+
+impl Code for Leaving {
+    ghost can_run = { λ _. Unit {0} };
+
+    ghost gives = { λ _ _ _ _ _. Unit {0} };
+
+    ghost repeats = { λ _. Unit {0} };
+
+    fn run(self, _tag: Tag, _state: i64, _reads: Reads) -> Result<Done, NoMemory> {
+        done(self.alloc, self.word, &[])
+    }
+
+    fn again(&self) -> Option<Self> {
+        Some(Leaving {
+            alloc: self.alloc,
+            word: self.word,
+        })
+    }
+}
+
+/// Puts so many bodies that leave this word behind the others of the first reaction.
+fn put_leaving(
+    bodies: &mut Bodies<AnyAnswer, Leaving>,
+    code: Leaving,
+    count: u64,
+) -> Result<(), NoMemory>
+    ensures { OnOk result (length bodies.new ≡ length bodies.old) }
+{
+    match bodies.put_many(0, code, count) {
+        Ok(()) => return Ok(()),
+        Err(_) => return Err(NoMemory),
+    }
+}
+
+const TO_40_MS: &[u8] = b"kind,time,microstep,name,value\nstop,40000000,0,,\n";
+
+// no clause says where among a reaction's bodies those stand that are kept by their count
+#[test]
+fn takes_many_bodies_in_their_place(rt: HostRuntime) -> Result<(), Fail> {
+    let alloc = rt.alloc();
+    let plan = plan(alloc, PIPE, TO_40_MS)?;
+    let mut bodies = Bodies::new(alloc, plan.program())?;
+    put_leaving(&mut bodies, Leaving { alloc, word: 1 }, 1)?;
+    put_leaving(&mut bodies, Leaving { alloc, word: 9 }, 0)?;
+    put_leaving(&mut bodies, Leaving { alloc, word: 2 }, 3)?;
+    put_leaving(&mut bodies, Leaving { alloc, word: 3 }, 7)?;
+    let Ok(recorded) = record_run(&rt, alloc, plan, bodies, 1, 10) else {
+        panic!(rt; "stopped");
+    };
+    assert!(rt; recorded.states.as_slice() == [(0, 1), (1, 2), (2, 2), (2, 2), (2, 3)].as_slice());
+    assert!(rt; recorded.left.left(0) == 6);
+    Ok(())
+}
