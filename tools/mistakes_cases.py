@@ -24,6 +24,13 @@ end,1,10000000,0,main#2,,,
 HEADER, BODY = ROWS.split("\n", 1)
 EARLY = ROWS.replace("end,0,5000000,0,main#1,,,\nstart,1,5000000,0,main#2,,,\n", "start,1,5000000,0,main#2,,,\nend,0,5000000,0,main#1,,,\n")
 ACCEPTED = "accepted runs=6 tags=3\n"
+EXPLAINED = """broken rule=9 too-early time=5000000 microstep=0 reaction=main#2
+
+main#2 starts at (5 ms, 0) in line 7, before main#1 ends in line 8.
+
+  main#1 precedes main#2:
+    main#1 before main#2: declared first
+"""
 SHOWN = "reaction main#1 level=0 before=-\nreaction main#2 level=1 before=main#1\n"
 CLOCK = """reactor Clock { output now: int  timer t(0, 10 ms)  reaction(t) -> now {= lf_set(now, clock_now()); =} }
 reactor Log { input now: int  reaction(now) {= store(now->value); =} }
@@ -110,6 +117,10 @@ def right_things():
     case("a bundle", [], prints(ACCEPTED), stdin=bundle())
     case("the stored bundle", [], prints((CRATE / "stdout").read_text()), stdin=(CRATE / "stdin").read_bytes())
     case("a bundle with a broken trace", [], prints("broken rule=9 too-early time=5000000 microstep=0 reaction=main#2\n", 1), stdin=bundle(trace=EARLY))
+    case("a trace that is right, explained", ["explain", *USUAL], prints(ACCEPTED))
+    case("a broken trace, explained", ["explain", *USUAL], prints(EXPLAINED, 1), files={"trace.csv": EARLY})
+    case("a broken trace, explained with four workers", ["explain", *USUAL, "--workers", "4"], prints(EXPLAINED, 1), files={"trace.csv": EARLY})
+    case("a bundle with a broken trace, explained", ["explain"], prints(EXPLAINED, 1), stdin=bundle(trace=EARLY))
     case("standard input by its path", ["judge", "blink.lf", "externals.csv", "/dev/stdin"], prints(ACCEPTED), stdin=ROWS)
 
 
@@ -183,6 +194,8 @@ def words():
     case("the external inputs first", ["judge", "externals.csv", "blink.lf", "trace.csv"], fault("syntax 1 Unexpected token=1"))
     case("no words after `judge`", ["judge"], refused("error: the following required arguments were not provided:\n  <PROGRAM>\n  <EXTERNALS>\n  <TRACE>\n"))
     case("two words after `judge`", ["judge", "blink.lf", "trace.csv"], refused("error: the following required arguments were not provided:\n  <TRACE>\n"))
+    case("two words after `explain`", ["explain", "blink.lf", "trace.csv"], refused("error: the following required arguments were not provided:\n  <TRACE>\n"))
+    case("no bundle for `explain`", ["explain"], fault("bundle 1 BadBundle"), stdin=ROWS)
     case("a bundle as a file", ["judge", "bundle.txt"], refused("error: the following required arguments were not provided:\n  <EXTERNALS>\n  <TRACE>\n"), files={"bundle.txt": bundle()})
     case("a file without a command", ["blink.lf"], refused("error: unrecognized subcommand 'blink.lf'\n"))
     case("three files without a command", USUAL, refused("error: unrecognized subcommand 'blink.lf'\n"))

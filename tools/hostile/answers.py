@@ -28,6 +28,7 @@ FAULTS = {
 JUDGING = ("lex", "syntax", "program", "externals", "graph", "trace", "check", "write", "read", "memory")
 PARTS = {
     "judge": JUDGING,
+    "explain": JUDGING,
     "pair": JUDGING,
     "bundle": (*JUDGING, "bundle"),
     "show": ("lex", "syntax", "program", "graph", "write", "read", "memory"),
@@ -48,11 +49,14 @@ BROKEN = "|".join(pattern(f"broken rule={rule} {RULES[rule]}{LINED if rule <= 5 
                   for rule in range(1, 11))
 LINES = {
     "judge": {0: r"accepted runs=\d+ tags=\d+\n", 1: f"({BROKEN})\n"},
+    "explain": {0: r"accepted runs=\d+ tags=\d+\n", 1: f"({BROKEN})\n\n([^\n]+\n|\n)+"},
     "pair": {0: r"same runs=\d+ tags=\d+\n", 1: f"((first|second) ({BROKEN})|{pattern('differ TAG reaction=NAME')})\n"},
     "show": {0: f"({pattern('port NAME origin=NAME after=NUMBER+NUMBER')}\n)*({pattern('reaction NAME level=NUMBER before=NAMES')}\n)*"},
     "record": {0: r"event,worker,time,microstep,reaction,name,value,delay\n([a-z]+,\d+,\d+,\d+,[^\n,]+,[^\n,]*,(-?\d+)?,\d*\n)*"},
 }
 LINES["bundle"] = LINES["judge"]
+# Why a text is refused, as `explain` tells it: the text, and what is wrong there; then quoted lines and help.
+REASON = re.compile("(Program|External inputs|Trace)(, line [0-9]+| has|: )([^\n]+\n|\n)*")
 LINES = {command: {status: re.compile(form) for status, form in lines.items()} for command, lines in LINES.items()}
 
 
@@ -79,4 +83,6 @@ def unlike(command, answer):
         return "no fault line of this command"
     if fault[0] == "pool":
         return "" if LINES["record"][0].fullmatch(out) else "rows so far that are no table"
+    if command == "explain" and REASON.fullmatch(out):
+        return ""
     return "words on standard output before a fault" if out and fault[0] != "write" else ""

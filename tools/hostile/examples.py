@@ -91,6 +91,13 @@ FLAT = {
 ROUNDS = 5000
 WRONG_READ = PIPE_ROWS.replace("b.x,1", "b.x,2")
 AT_ZERO = "time=0 microstep=0"
+WHY_WRONG_READ = f"""broken rule=10 wrong-read {AT_ZERO} reaction=main.b#1
+
+main.b#1 runs at (0, 0), from line 5 on.
+
+  input main.b.x: read 2, present 1
+  main.b.x gets 1 at (0, 0):
+    line 3 is the last write of main.a.out at (0, 0)"""
 
 
 @dataclasses.dataclass
@@ -154,6 +161,7 @@ def all_judged():
     for command in ("judge", "bundle"):
         judged("pipe accepted", PIPE, stop(0, 0), PIPE_ROWS, "accepted runs=2 tags=1", command=command)
     judged("pipe wrong read", PIPE, stop(0, 0), WRONG_READ, f"broken rule=10 wrong-read {AT_ZERO} reaction=main.b#1", 1)
+    judged("pipe wrong read, explained", PIPE, stop(0, 0), WRONG_READ, WHY_WRONG_READ, 1, command="explain")
     lines = PIPE_ROWS.splitlines(True)
     overlapping = "".join([*lines[:2], *lines[3:], lines[2]])
     judged("pipe overlapping", PIPE, stop(0, 0), overlapping, f"broken rule=9 too-early {AT_ZERO} reaction=main.b#1", 1)

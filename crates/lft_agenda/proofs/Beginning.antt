@@ -44,6 +44,6 @@ pub first_reached : (plan : PlanParts) (good : IsSoundPlan plan) (q : List Pendi
 first_reached plan good q old new has graph idle told = record {
   past = λ i x e. absurd (no_row i x e);
   least = λ h c p. from_first h;
-  turn_is = told_turn plan good [] (empty_so_far plan good) quiet plan.externals.stop refl q (record { time = 0; micro = 0 }) (from_first plan.externals.stop) (λ n v. has.values (record { time = 0; micro = 0 }) n v (from_first (record { time = 0; micro = 0 })) (from_first plan.externals.stop) tt) (λ i x e. absurd (no_row i x e)) old new graph (ap length idle ∙ length_same (length plan.program.reactions) Idle) (λ r x e. get_same (length plan.program.reactions) r Idle x (subst (λ (ps : List Phase). slice_get ps r ≡ Some x) idle e)) told;
+  turn_is = told_turn plan good [] (empty_so_far plan good) quiet plan.externals.stop refl q (record { time = 0; micro = 0 }) (from_first plan.externals.stop) (λ n v w. has.values (record { time = 0; micro = 0 }) n v w (from_first (record { time = 0; micro = 0 })) (from_first plan.externals.stop) tt) (λ i x e. absurd (no_row i x e)) old new graph (ap length idle ∙ length_same (length plan.program.reactions) Idle) (λ r x e. get_same (length plan.program.reactions) r Idle x (subst (λ (ps : List Phase). slice_get ps r ≡ Some x) idle e)) told;
   events = has;
 }

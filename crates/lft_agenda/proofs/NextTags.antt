@@ -26,7 +26,9 @@ use Rattle.lft_lists.proofs.Members.{contains_mem}
 use Rattle.lft_model.proofs.Places.{slice_get_within}
 use Rattle.lft_model.proofs.Steps.{both_true, same_tag_true}
 use Rattle.lft_model.proofs.Quiet.{pending_now, pending_time, pending_triggered}
-use Rattle.lft_events.specs.Events.{HasEvents}
+use Rattle.lft_events.specs.Events.{IsWatchedName, HasEvents}
+use Rattle.lft_events.proofs.Given.{listened_watched}
+use Rattle.lft_listeners.specs.Listeners.{IsListener}
 use Rattle.lft_events.proofs.Fed.{some_there}
 use Rattle.lft_recording.specs.Starts.{SomethingLeft}
 use Rattle.lft_agenda.specs.Waits.{IsBetween, IsCovered, PhaseIs, IsTurnOf}
@@ -77,33 +79,33 @@ later_event g q e c = before_test g e.tag (filter_mem (λ d. is_after g d) q e (
 -- the events from a later tag on, without those that are past
 pub dropped : (plan : PlanParts) (t : List Row) (from next last : Tag) (q : List Pending) → Before from next → HasEvents plan t from last None q → HasEvents plan t next last None (filter (λ e. is_after from e) q)
 dropped plan t from next last q b is = record {
-  values = λ h n v c d e. subst (λ (o : Option Value). (o ≡ Some v) ↔ At plan t h n v) (sym (later_value from h n (Before-UpTo from next h b c) q)) (is.values h n v (Before-weaken from h (Before-UpTo from next h b c)) d e);
+  values = λ h n v w c d e. subst (λ (o : Option Value). (o ≡ Some v) ↔ At plan t h n v) (sym (later_value from h n (Before-UpTo from next h b c) q)) (is.values h n v w (Before-weaken from h (Before-UpTo from next h b c)) d e);
   clean = λ h n d e. is.clean h n d e;
   found = λ c e. absurd (cc);
 }
 
 -- what occurs by the queue is what occurs by the rows
-module _ (plan : PlanParts) (t : List Row) (last : Tag) (stop_is : last ≡ stop plan t) (q : List Pending) (h : Tag) (values : (n : Name) (v : Value) → (value_of h n q ≡ Some v) ↔ At plan t h n v) where
+module _ (plan : PlanParts) (t : List Row) (last : Tag) (stop_is : last ≡ stop plan t) (q : List Pending) (h : Tag) (values : (n : Name) (v : Value) → IsWatchedName plan.program n → (value_of h n q ≡ Some v) ↔ At plan t h n v) where
   pub called : (r : ℕ) → Triggered plan t h r → TriggeredByQueue plan.program q last h r
-  called r o = (o.trigger, go o.trigger o.occurs, (o.reaction, o.is_reaction, o.is_trigger))
+  called r o = (o.trigger, go o.trigger (o.reaction, o.is_reaction, o.is_trigger) o.occurs, (o.reaction, o.is_reaction, o.is_trigger))
     where
-      go : (x : Trigger) → Occurs plan t h x → OccursBy plan.program q last h x
-      go Startup e = e
-      go Shutdown e = e ∙ sym stop_is
-      go (Timer n) e = e
-      go (On n) e = ap is_some ((values n e.0).1 e.1)
+      go : (x : Trigger) → IsListener plan.program x r → Occurs plan t h x → OccursBy plan.program q last h x
+      go Startup l e = e
+      go Shutdown l e = e ∙ sym stop_is
+      go (Timer n) l e = e
+      go (On n) l e = ap is_some ((values n e.0 (listened_watched plan.program n r l)).1 e.1)
 
   pub triggered : (r : ℕ) → TriggeredByQueue plan.program q last h r → Triggered plan t h r
-  triggered r o = record { reaction = o.2.0; trigger = o.0; is_reaction = o.2.1; is_trigger = o.2.2; occurs = go o.0 o.1 }
+  triggered r o = record { reaction = o.2.0; trigger = o.0; is_reaction = o.2.1; is_trigger = o.2.2; occurs = go o.0 o.2 o.1 }
     where
-      go : (x : Trigger) → OccursBy plan.program q last h x → Occurs plan t h x
-      go Startup e = e
-      go Shutdown e = e ∙ stop_is
-      go (Timer n) e = e
-      go (On n) e = let v = some_there (value_of h n q) e in (v.0, (values n v.0).0 v.1)
+      go : (x : Trigger) → IsListener plan.program x r → OccursBy plan.program q last h x → Occurs plan t h x
+      go Startup l e = e
+      go Shutdown l e = e ∙ stop_is
+      go (Timer n) l e = e
+      go (On n) l e = let v = some_there (value_of h n q) e in (v.0, (values n v.0 (listened_watched plan.program n r l)).0 v.1)
 
 -- the tag after which no row is, at which those that are triggered have been told, where all were idle
-pub told_turn : (plan : PlanParts) (good : IsSoundPlan plan) (t : List Row) (so_far : SoFar plan t) (quiet : OnlyEndedAnswer t) (last : Tag) (stop_is : last ≡ stop plan t) (q : List Pending) (h : Tag) (u : UpTo h last) (values : (n : Name) (v : Value) → (value_of h n q ≡ Some v) ↔ At plan t h n v) (none : (i : ℕ) (x : Row) → slice_get t i ≡ Some x → Before x.tag h) (old new : TurnParts) → IsGraphOf plan.program old.graph → length old.phases ≡ length plan.program.reactions → ((r : ℕ) (x : Phase) → slice_get old.phases r ≡ Some x → x ≡ Idle) → IsTold (TriggeredByQueue plan.program q last h) old new → IsTurnOf plan t h new
+pub told_turn : (plan : PlanParts) (good : IsSoundPlan plan) (t : List Row) (so_far : SoFar plan t) (quiet : OnlyEndedAnswer t) (last : Tag) (stop_is : last ≡ stop plan t) (q : List Pending) (h : Tag) (u : UpTo h last) (values : (n : Name) (v : Value) → IsWatchedName plan.program n → (value_of h n q ≡ Some v) ↔ At plan t h n v) (none : (i : ℕ) (x : Row) → slice_get t i ≡ Some x → Before x.tag h) (old new : TurnParts) → IsGraphOf plan.program old.graph → length old.phases ≡ length plan.program.reactions → ((r : ℕ) (x : Phase) → slice_get old.phases r ≡ Some x → x ≡ Idle) → IsTold (TriggeredByQueue plan.program q last h) old new → IsTurnOf plan t h new
 told_turn plan good t so_far quiet last stop_is q h u values none old new graph count idle told = record { graph = subst (λ (k : GraphParts). IsGraphOf plan.program k) (sym told.graph) graph; count = told.count ∙ count; phases = phases }
   where
     open_here : (r : ℕ) → Triggered plan t h r → IsPending plan (by_ends plan t) h r
@@ -159,7 +161,7 @@ module _ (plan : PlanParts) (good : IsSoundPlan plan) (t : List Row) (last : Tag
 
     -- and call what is pending
     pending_called : (h : Tag) (r : ℕ) → IsPending plan (by_ends plan t) h r → TriggeredByQueue plan.program rest last h r
-    pending_called h r p = called plan t last may.stop_is rest h (λ n v. (has_rest h (all_later h r p)).values h n v (UpTo-refl h) (early h r p) tt) r (pending_triggered plan good t may.so_far may.quiet h r p)
+    pending_called h r p = called plan t last may.stop_is rest h (λ n v w. (has_rest h (all_later h r p)).values h n v w (UpTo-refl h) (early h r p) tt) r (pending_triggered plan good t may.so_far may.quiet h r p)
 
     module _ (found : Option Tag) (covers : (h : Tag) (r : ℕ) → TriggeredByQueue plan.program rest last h r → Before from h → UpTo h last → IsCovered found h) where
       pending_covered : (h : Tag) (r : ℕ) → IsPending plan (by_ends plan t) h r → IsCovered found h
@@ -177,7 +179,7 @@ module _ (plan : PlanParts) (good : IsSoundPlan plan) (t : List Row) (last : Tag
       moved_on next new some between told = record {
         past = λ i x e. Before-weaken x.tag next (past i x e);
         least = λ h r p. (let k = pending_covered h r p in let z : Some next ≡ Some k.0 = sym some ∙ k.1 in let y : k.0 ≡ next = cc in subst (λ (g : Tag). UpTo g h) y k.2);
-        turn_is = told_turn plan good t may.so_far may.quiet last may.stop_is rest next between.1 (λ n v. (has_rest next between.0).values next n v (UpTo-refl next) between.1 tt) past turn new is.turn_is.graph is.turn_is.count (all_idle plan good t may.so_far may.quiet from turn is.turn_is over) told;
+        turn_is = told_turn plan good t may.so_far may.quiet last may.stop_is rest next between.1 (λ n v w. (has_rest next between.0).values next n v w (UpTo-refl next) between.1 tt) past turn new is.turn_is.graph is.turn_is.count (all_idle plan good t may.so_far may.quiet from turn is.turn_is over) told;
         events = has_rest next between.0;
       }
         where

@@ -4,13 +4,14 @@
 //! remark, and `== end` stands last. In these lines `\HH` is the byte of that hexadecimal number, and
 //! a backslash at the end of a line takes the line's end away. The kinds are told where they are
 //! answered: what is given to other cases, texts, programs, traces, external inputs, presence, the
-//! runs of a trace and what else a cut tells, texts as a whole, two traces beside one another,
-//! recordings, texts that are cut short, and the words of faults. `title` and some words are written
-//! as they are.
+//! runs of a trace and what else a cut tells, texts as a whole, what explains a verdict, two traces
+//! beside one another, recordings, texts that are cut short, and the words of faults. `title` and some
+//! words are written as they are.
 #![tactic(auto)]
 
 mod case_text;
 mod cuts;
+mod explanations;
 mod external_tables;
 mod faults;
 mod fronts;
@@ -66,6 +67,11 @@ fn tell<R: Threads + Wait + Sync>(
         "show" => whole::show(alloc, text, told),
         "judge" => whole::judge(rt, alloc, given, text, words, told),
         "judge-text" => whole::judge_text(rt, alloc, given, text, words, told),
+        "explain" => explanations::explain(rt, alloc, given, text, told),
+        "explain-bundle" => explanations::bundle(rt, alloc, text, told),
+        "refused" => explanations::refused(alloc, text, told),
+        "refused-externals" => explanations::refused_externals(alloc, given, text, told),
+        "refused-trace" => explanations::refused_trace(alloc, given, text, told),
         "pair" => pairs::pair(rt, alloc, given, text, words, told),
         "pair-text" => pairs::pair_text(rt, alloc, given, text, words, told),
         "record" => recordings::record(rt, alloc, given, text, words, told),

@@ -21,7 +21,7 @@ use std::io::Write;
 use std::thread::Threads;
 
 /// Writes the line of a fault, if there is one, and the status.
-fn end(answer: Result<bool, Fault>, told: &mut Vec<u8>) -> io::Result<()> {
+pub(crate) fn end(answer: Result<bool, Fault>, told: &mut Vec<u8>) -> io::Result<()> {
     let status = finish(answer, told);
     writeln!(told, "status {status}")
 }

@@ -24,6 +24,7 @@ use Rattle.lft_model.specs.Plans.{PlanParts, IsSoundPlan}
 use Rattle.lft_model.specs.Presence.{Last, IsWrittenFrom, At, PortClash, ClashesAt}
 use Rattle.lft_model.proofs.Places.{tag_discrete}
 use Rattle.lft_model.proofs.Steps.{same_tag_refl}
+use Rattle.lft_listeners.specs.Listeners.{IsWatched}
 use Rattle.lft_events.specs.Events.{IsWanted, IsPut, seen_by, IsFedTo, WasWritten}
 use Rattle.lft_events.proofs.Heard.{heard}
 use Rattle.lft_events.proofs.Written.{shifts_on, from_written, to_written, elsewhere_at, elsewhere_clash, more_clash, one_event, two_events}
@@ -70,14 +71,14 @@ pub some_there : (o : Option Value) → IsSome o → (u : Value) × (o ≡ Some 
 some_there None s = absurd (cc)
 some_there (Some u) s = (u, refl)
 
--- a port that hasn't heard of a write of its origin hears of it
-module _ (plan : PlanParts) (good : IsSoundPlan plan) (t : List Row) (x : Row) (o : ℕ) (v : Value) (writes : x.step ≡ Write (Port o) v) (p : ℕ) (port : PortOf) (is_port : slice_get plan.program.ports p ≡ Some port) (last : Tag) (ports : List ℕ) (unmet : ¬ Contains ports p) (clash : Option Tag) (q0 : List Pending) (is : IsFedTo plan t x last ports clash q0) where
+-- a watched port that hasn't heard of a write of its origin hears of it
+module _ (plan : PlanParts) (good : IsSoundPlan plan) (t : List Row) (x : Row) (o : ℕ) (v : Value) (writes : x.step ≡ Write (Port o) v) (p : ℕ) (port : PortOf) (is_port : slice_get plan.program.ports p ≡ Some port) (watched : IsWatched plan.program p) (last : Tag) (ports : List ℕ) (unmet : ¬ Contains ports p) (clash : Option Tag) (q0 : List Pending) (is : IsFedTo plan t x last ports clash q0) where
   module _ (its : port.origin ≡ o) (q1 q2 : List Pending) (found : Option Tag) (put : IsPut last clash (shifted x.tag (port.shift.time, port.shift.steps)) (Port p) v q1 q2 found) where
     clean_old : IsWanted last clash (shifted x.tag (port.shift.time, port.shift.steps)) → ¬ PortClash plan t (shifted x.tag (port.shift.time, port.shift.steps)) p
     clean_old w = subst (λ (s : List Row). ¬ ClashesAt plan s (shifted x.tag (port.shift.time, port.shift.steps)) (Port p)) (among_old (t ++ x ∷ []) t ports p unmet) (is.clean (shifted x.tag (port.shift.time, port.shift.steps)) (Port p) w.0 w.1)
 
     value_old : IsWanted last clash (shifted x.tag (port.shift.time, port.shift.steps)) → (u : Value) → (value_of (shifted x.tag (port.shift.time, port.shift.steps)) (Port p) q0 ≡ Some u) ↔ At plan t (shifted x.tag (port.shift.time, port.shift.steps)) (Port p) u
-    value_old w u = subst (λ (s : List Row). (value_of (shifted x.tag (port.shift.time, port.shift.steps)) (Port p) q0 ≡ Some u) ↔ At plan s (shifted x.tag (port.shift.time, port.shift.steps)) (Port p) u) (among_old (t ++ x ∷ []) t ports p unmet) (is.values (shifted x.tag (port.shift.time, port.shift.steps)) (Port p) u (shifts_on plan good p port is_port x.tag) w.0 w.1)
+    value_old w u = subst (λ (s : List Row). (value_of (shifted x.tag (port.shift.time, port.shift.steps)) (Port p) q0 ≡ Some u) ↔ At plan s (shifted x.tag (port.shift.time, port.shift.steps)) (Port p) u) (among_old (t ++ x ∷ []) t ports p unmet) (is.values (shifted x.tag (port.shift.time, port.shift.steps)) (Port p) u watched (shifts_on plan good p port is_port x.tag) w.0 w.1)
 
     abbrev One : Type 0
     One = ((u : Value) → At plan (t ++ x ∷ []) (shifted x.tag (port.shift.time, port.shift.steps)) (Port p) u ↔ (u ≡ v)) × ¬ ClashesAt plan (t ++ x ∷ []) (shifted x.tag (port.shift.time, port.shift.steps)) (Port p)

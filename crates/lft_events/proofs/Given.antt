@@ -1,18 +1,14 @@
 -- The events of the external inputs in the queue.
-use Rattle.std.proofs.Common.{◌≡◌, ◌↔◌, ℕ, ◌+◌, ◌<◌, ◌≤◌, ◌⊎◌, inl, inr, List, [], ◌∷◌, ◌++◌, length, refl, sym, ap, ◌∙◌, subst, arith, Option, Some, None, IsSome, Bool, true, false, cond, ◌&&◌, ◌==◌, eq-eqb, eqb-true, slice_get, slice_index_or, filter_map, map}
+use Rattle.std.proofs.Common.{◌≡◌, ◌↔◌, ℕ, ◌+◌, ◌<◌, ◌≤◌, ◌⊎◌, inl, inr, List, [], ◌∷◌, length, refl, sym, ap, ◌∙◌, subst, arith, Option, Some, None, IsSome, Bool, true, false, cond, ◌&&◌, ◌==◌, eq-eqb, eqb-true, slice_get, slice_index_or, filter_map, map, Contains}
 use Rattle.std.specs.List.{AllZip}
 use Rattle.std.proofs.lemmas.Bool.{false≢true}
 use native.Mathlib.Decide.{dec_lt}
 use Rattle.lft_tag.specs.declared.Tag.{Tag}
 use Rattle.lft_tag.specs.Tags.{Before, UpTo, same_tag}
 use Rattle.lft_tag.proofs.Order.{Before-irrefl, UpTo-not, order_cases}
-use Rattle.lft_flat.specs.Parts.{inputs}
-use Rattle.lft_flat.specs.Naming.{named}
-use Rattle.lft_flat.specs.declared.parts.Trigger.{Trigger}
-use Rattle.lft_flat.specs.declared.parts.Trigger.TheVariants.{Startup, Shutdown, Timer, On}
-use Rattle.std.proofs.lemmas.List.{map-append}
-use Rattle.lft_lists.proofs.Members.{mem_get, get_mem, mem_filter, mem_from_filter, mem_contains, contains_mem}
-use Rattle.lft_flat.proofs.Naming.{named_none}
+use Rattle.lft_flat.specs.Parts.{Parts, inputs}
+use Rattle.lft_flat.specs.declared.parts.Trigger.TheVariants.{On}
+use Rattle.lft_lists.proofs.Members.{Mem, mem_get, get_mem, mem_filter, mem_from_filter, mem_contains, contains_mem}
 use Rattle.lft_flat.specs.declared.parts.Reaction.{Reaction}
 use Rattle.lft_flat.specs.declared.parts.Value.{Value}
 use Rattle.lft_flat.specs.declared.parts.Name.{Name}
@@ -27,8 +23,10 @@ use Rattle.lft_model.specs.Presence.{given, At, Shows, Inputs}
 use Rattle.lft_model.proofs.Places.{slice_get_within}
 use Rattle.lft_model.proofs.Counted.{get_or_get}
 use Rattle.lft_model.proofs.Steps.{both_true, same_tag_true, same_tag_refl, cond_some}
+use Rattle.lft_model.proofs.Reached.{input_of_trigger}
 use Rattle.lft_model.proofs.Empty.{empty_so_far}
-use Rattle.lft_events.specs.Events.{HasEvents}
+use Rattle.lft_listeners.specs.Listeners.{IsListener}
+use Rattle.lft_events.specs.Events.{IsWatchedName, HasEvents}
 use Rattle.lft_events.proofs.Fed.{none_there, some_there}
 
 -- one of the first i events is of the action at the tag, with the value
@@ -117,7 +115,7 @@ module _ (events : List Event) (i : ℕ) (event : Event) (is_event : slice_get e
 
 -- after all of them they are the events of no rows
 pub all_given : (plan : PlanParts) (good : IsSoundPlan plan) (i : ℕ) (q : List Pending) → length plan.externals.events ≤ i → ((h : Tag) (n : Name) (v : Value) → UpTo h plan.externals.stop → (value_of h n q ≡ Some v) ↔ IsGiven plan.externals.events i h n v) → HasEvents plan [] (record { time = 0; micro = 0 }) plan.externals.stop None q
-all_given plan good i q enough is = record { values = λ h n v a b e. values h n v b; clean = λ h n b e c. (empty_so_far plan good).no_clash h b (n, c); found = λ c e. absurd (cc) }
+all_given plan good i q enough is = record { values = λ h n v w a b e. values h n v b; clean = λ h n b e c. (empty_so_far plan good).no_clash h b (n, c); found = λ c e. absurd (cc) }
   where
     values : (h : Tag) (n : Name) (v : Value) → UpTo h plan.externals.stop → (value_of h n q ≡ Some v) ↔ At plan [] h n v
     values h (Port p) v b = (λ e. (let k = (is h (Port p) v b).0 e in let z : Action k.event.action ≡ Port p = k.name_is in absurd (cc)), λ a. (let l : None ≡ Some v = a.1.is_last in absurd (cc)))
@@ -141,17 +139,26 @@ all_given plan good i q enough is = record { values = λ h n v a b e. values h n
             let p = get_mem m.0 plan.externals.events m.1 in
             (is h (Action a) v b).1 (record { place = p.0; event = m.0; before = (let l : p.0 < length plan.externals.events = slice_get_within plan.externals.events p.0 m.0 p.1 in omega arith); is_event = p.1; tag_is = sym (same_tag_true h m.0.tag t.0); name_is = ap Action (sym (eqb-true a m.0.action t.1)); value_is = f.1 })
 
+-- what a reaction reads is watched
+pub input_watched : (program : Parts) (r : ℕ) (x : Reaction) → slice_get program.reactions r ≡ Some x → (n : Name) → Contains (inputs x) n → IsWatchedName program n
+input_watched program r x e (Port p) c = inl (r, (x, e, c))
+input_watched program r x e (Action a) c = tt
+
+-- so is what it listens to
+pub listened_watched : (program : Parts) (n : Name) (r : ℕ) → IsListener program (On n) r → IsWatchedName program n
+listened_watched program n r l = input_watched program r l.0 l.1 n (input_of_trigger l.0 n l.2)
+
 -- what the queue has at a tag for the inputs of a reaction is what it reads there
 pub inputs_read : (plan : PlanParts) (t : List Row) (from last : Tag) (q : List Pending) → HasEvents plan t from last None q → (g : Tag) → UpTo from g → UpTo g last → (r : ℕ) (x : Reaction) → slice_get plan.program.reactions r ≡ Some x → Inputs plan t g r (map (λ n. value_of g n q) (inputs x))
-inputs_read plan t from last q is g a b r x e = record { reaction = x; is_reaction = e; each = all (inputs x) }
+inputs_read plan t from last q is g a b r x e = record { reaction = x; is_reaction = e; each = all (inputs x) (λ n m. input_watched plan.program r x e n (mem_contains n (inputs x) m)) }
   where
-    shown : (n : Name) (o : Option Value) → value_of g n q ≡ o → Shows plan t g n o
-    shown n None z = λ p. none_there (value_of g n q) p.0 z ((is.values g n p.0 a b tt).1 p.1)
-    shown n (Some v) z = (is.values g n v a b tt).0 z
+    shown : (n : Name) (o : Option Value) → IsWatchedName plan.program n → value_of g n q ≡ o → Shows plan t g n o
+    shown n None w z = λ p. none_there (value_of g n q) p.0 z ((is.values g n p.0 w a b tt).1 p.1)
+    shown n (Some v) w z = (is.values g n v w a b tt).0 z
 
-    all : (ns : List Name) → AllZip (Shows plan t g) ns (map (λ n. value_of g n q) ns)
-    all [] = tt
-    all (n ∷ ns) = (shown n (value_of g n q) refl, all ns)
+    all : (ns : List Name) → ((n : Name) → Mem n ns → IsWatchedName plan.program n) → AllZip (Shows plan t g) ns (map (λ n. value_of g n q) ns)
+    all [] w = tt
+    all (n ∷ ns) w = (shown n (value_of g n q) (w n (inl refl)) refl, all ns (λ m k. w m (inr k)))
 
 -- nothing is given by no events
 pub none_begun : (events : List Event) (q : List Pending) → q ≡ [] → (h : Tag) (n : Name) (v : Value) → (value_of h n q ≡ Some v) ↔ IsGiven events 0 h n v

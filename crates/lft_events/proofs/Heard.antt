@@ -11,7 +11,7 @@ use Rattle.lft_queue.proofs.Tests.{name_same, name_refl}
 use Rattle.lft_model.specs.Plans.{PlanParts}
 use Rattle.lft_model.specs.Presence.{At, ClashesAt}
 use Rattle.lft_model.proofs.Steps.{both_true, same_tag_true, same_tag_refl}
-use Rattle.lft_events.specs.Events.{IsEarlier, IsWanted, IsPut, HasEventsOf}
+use Rattle.lft_events.specs.Events.{IsEarlier, IsWanted, IsPut, IsWatchedName, HasEventsOf}
 
 pub iff_trans : {A B C : Type 0} → A ↔ B → B ↔ C → A ↔ C
 iff_trans f g = (λ a. g.0 (f.0 a), λ c. f.1 (g.1 c))
@@ -27,7 +27,7 @@ earlier_down (Some c) h k e b = Before-trans k h c b e
 -- the events stay where each port and action has the events from its new rows that it had from its old ones
 pub unheard : (plan : PlanParts) (seen now : Name → List Row) (from last : Tag) (clash : Option Tag) (q : List Pending) → ((n : Name) (k : Tag) (u : Value) → At plan (now n) k n u ↔ At plan (seen n) k n u) → ((n : Name) (k : Tag) → ClashesAt plan (now n) k n ↔ ClashesAt plan (seen n) k n) → HasEventsOf plan seen from last clash q → HasEventsOf plan now from last clash q
 unheard plan seen now from last clash q ats clashes is = record {
-  values = λ h n v a b e. iff_trans (is.values h n v a b e) (iff_sym (ats n h v));
+  values = λ h n v w a b e. iff_trans (is.values h n v w a b e) (iff_sym (ats n h v));
   clean = λ h n b e c. is.clean h n b e ((clashes n h).0 c);
   found = λ c e. (let f = is.found c e in (f.0, f.1, (f.2.0, (clashes f.2.0 c).1 f.2.1)));
 }
@@ -122,8 +122,8 @@ module _ (plan : PlanParts) (seen now : Name → List Row) (from last : Tag) (cl
   pub heard : HasEventsOf plan now from last found q2
   heard = record { values = values; clean = clean; found = founds }
     where
-      values : (k : Tag) (m : Name) (u : Value) → UpTo from k → UpTo k last → IsEarlier found k → (value_of k m q2 ≡ Some u) ↔ At plan (now m) k m u
-      values k m u a b e = go (same_key h n k m) refl
+      values : (k : Tag) (m : Name) (u : Value) → IsWatchedName plan.program m → UpTo from k → UpTo k last → IsEarlier found k → (value_of k m q2 ≡ Some u) ↔ At plan (now m) k m u
+      values k m u w a b e = go (same_key h n k m) refl
         where
           go : (x : Bool) → same_key h n k m ≡ x → (value_of k m q2 ≡ Some u) ↔ At plan (now m) k m u
           go true q =
@@ -132,7 +132,7 @@ module _ (plan : PlanParts) (seen now : Name → List Row) (from last : Tag) (cl
               subst (λ (y : Name). (value_of k y q2 ≡ Some u) ↔ At plan (now y) k y u) (name_same n m z.1) (subst (λ (g : Tag). (value_of g n q2 ≡ Some u) ↔ At plan (now n) g n u) same (at_event u (subst (λ (g : Tag). UpTo g last) (sym same) b) (subst (λ (g : Tag). IsEarlier found g) (sym same) e)))
           go false q =
               let o = queue_other k m q e in
-              subst (λ (y : Option Value). (y ≡ Some u) ↔ At plan (now m) k m u) (sym o.0) (iff_trans (is.values k m u a b o.1) (iff_sym (at_other k m u q)))
+              subst (λ (y : Option Value). (y ≡ Some u) ↔ At plan (now m) k m u) (sym o.0) (iff_trans (is.values k m u w a b o.1) (iff_sym (at_other k m u q)))
 
       clean : (k : Tag) (m : Name) → UpTo k last → IsEarlier found k → ¬ ClashesAt plan (now m) k m
       clean k m b e = go (same_key h n k m) refl

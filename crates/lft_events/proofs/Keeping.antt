@@ -21,7 +21,7 @@ use Rattle.lft_events.proofs.Steps.{inert}
 -- from a later tag on, up to an earlier one
 pub narrowed : (plan : PlanParts) (t : List Row) (from later last sooner : Tag) (q : List Pending) → UpTo from later → UpTo sooner last → HasEvents plan t from last None q → HasEvents plan t later sooner None q
 narrowed plan t from later last sooner q a b is = record {
-  values = λ h n v c d e. is.values h n v (UpTo-trans from later h a c) (UpTo-trans h sooner last d b) e;
+  values = λ h n v w c d e. is.values h n v w (UpTo-trans from later h a c) (UpTo-trans h sooner last d b) e;
   clean = λ h n d e. is.clean h n (UpTo-trans h sooner last d b) e;
   found = λ c e. absurd (cc);
 }

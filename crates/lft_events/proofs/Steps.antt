@@ -1,14 +1,16 @@
 -- The events in the queue, when a step of a run is fed to it.
-use Rattle.std.proofs.Common.{◌≡◌, ◌↔◌, ℕ, zero, suc, ◌+◌, ◌<◌, ◌≤◌, inl, inr, List, [], ◌∷◌, ◌++◌, length, length-append, map, take, refl, sym, ap, ◌∙◌, subst, arith, Option, Some, None, IsSome, is_some, IsTrue, Bool, true, false, cond, nat_eq, ◌==◌, slice_get, filter_map, Contains, eq-eqb}
+use Rattle.std.proofs.Common.{◌≡◌, ◌↔◌, ℕ, zero, suc, ◌+◌, ◌<◌, ◌≤◌, ◌⊎◌, inl, inr, List, [], ◌∷◌, ◌++◌, length, length-append, map, take, refl, sym, ap, ◌∙◌, subst, arith, Option, Some, None, IsSome, is_some, IsTrue, Bool, true, false, cond, nat_eq, ◌==◌, slice_get, filter_map, Contains, eq-eqb}
 use Rattle.std.specs.Cmp.{nat_eq_equiv}
 use Rattle.std.specs.List.{cons_option, last_or, list_any}
-use Rattle.std.proofs.lemmas.Bool.{false≢true}
+use Rattle.std.proofs.lemmas.Bool.{false≢true, cases_eq}
 use Rattle.std.proofs.lemmas.List.Elements.{filter_map-append}
 use Rattle.std.proofs.lemmas.Map.Views.{list_any-from_Contains}
 use Rattle.lft_tag.specs.declared.Tag.{Tag}
 use Rattle.lft_tag.specs.Tags.{Before, UpTo, after}
-use Rattle.lft_tag.proofs.Order.{UpTo-refl, Before-weaken, after_past}
+use Rattle.lft_tag.proofs.Order.{UpTo-refl, UpTo-trans, Before-weaken, after_past}
+use Rattle.lft_lists.proofs.Places.{same_some}
 use Rattle.lft_lists.proofs.Members.{Mem, mem_contains, contains_mem, nil_of_none, mem_left, mem_right}
+use Rattle.lft_flat.proofs.Origins.{port_of}
 use Rattle.lft_flat.specs.declared.parts.Port.{Port as PortOf}
 use Rattle.lft_flat.specs.declared.parts.Value.{Value}
 use Rattle.lft_flat.specs.declared.parts.Name.{Name}
@@ -18,17 +20,18 @@ use Rattle.lft_trace.specs.declared.row.Step.{Step}
 use Rattle.lft_trace.specs.declared.row.Step.TheVariants.{Write, Schedule, End}
 use Rattle.lft_queue.specs.Pending.{Pending, value_of, same_name}
 use Rattle.lft_queue.proofs.Tests.{name_refl}
-use Rattle.lft_listeners.specs.Listeners.{IsArrival}
+use Rattle.lft_listeners.specs.Listeners.{IsArrival, IsWatched}
 use Rattle.lft_model.specs.Plans.{PlanParts, IsSoundPlan}
 use Rattle.lft_model.specs.Presence.{written, value_scheduled, scheduled, given, min_delay, events_of, Last, IsWrittenFrom, At, PortClash, ClashesAt}
 use Rattle.lft_model.specs.Recorded.{run_row, committed_rows}
 use Rattle.lft_model.proofs.Steps.{written_some, scheduled_some, some_scheduled}
 use Rattle.lft_model.proofs.Ended.{written_by, scheduled_by, by_scheduled}
 use Rattle.lft_model.proofs.Grown.{added_none}
-use Rattle.lft_events.specs.Events.{IsEarlier, IsWanted, IsPut, HasEvents, HasEventsOf, seen_by, IsFedTo, WasWritten, KnowsAgain}
-use Rattle.lft_events.proofs.Heard.{heard, unheard, iff_trans}
-use Rattle.lft_events.proofs.Written.{origin_at, unheard_at, unheard_clash}
-use Rattle.lft_events.proofs.Fed.{none_there, some_there}
+use Rattle.lft_events.specs.Events.{IsEarlier, IsWanted, IsPut, IsWatchedName, HasEvents, HasEventsOf, seen_by, IsFedTo, WasWritten, KnowsAgain}
+use Rattle.lft_events.proofs.Heard.{heard, unheard, iff_trans, iff_sym}
+use Rattle.lft_events.proofs.Written.{origin_at, its_origin, unheard_at, unheard_clash, more_clash}
+use Rattle.lft_events.proofs.Carried.{carried, earlier_up}
+use Rattle.lft_events.proofs.Fed.{none_there, some_there, among_new}
 
 -- a row that schedules nothing for an action
 pub none_scheduled : (plan : PlanParts) (t : List Row) (x : Row) (k : Tag) (a : ℕ) → scheduled k a (min_delay plan.program a) x ≡ None → events_of plan (t ++ x ∷ []) k a ≡ events_of plan t k a
@@ -99,31 +102,67 @@ inert plan t x no_write no_schedule from last clash q is = unheard plan (λ n. t
     clashes (Port p) k = port_clash plan t x no_write p k
     clashes (Action a) k = action_clash plan (t ++ x ∷ []) t k a (none_scheduled plan t x k a (not_scheduled x k a (min_delay plan.program a) (λ v d e q. no_schedule a d v e)))
 
--- all ports of the origin have heard of a write
-pub write_fed : (plan : PlanParts) (good : IsSoundPlan plan) (t : List Row) (x : Row) (o : ℕ) (v : Value) → x.step ≡ Write (Port o) v → (last : Tag) (clash : Option Tag) (q : List Pending) (ports : List ℕ) → ((p : ℕ) → IsArrival plan.program o p → Contains ports p) → IsFedTo plan t x last ports clash q → HasEvents plan (t ++ x ∷ []) x.tag last clash q
-write_fed plan good t x o v writes last clash q ports all is = unheard plan (seen_by ports (t ++ x ∷ []) t) (λ n. t ++ x ∷ []) x.tag last clash q ats clashes is
-  where
-    no_schedule : (k : Tag) (a : ℕ) → scheduled k a (min_delay plan.program a) x ≡ None
-    no_schedule k a = not_scheduled x k a (min_delay plan.program a) (λ u d e z. let y : Write (Port o) v ≡ Schedule (Action a) u d = sym writes ∙ e in absurd (cc))
+-- all watched ports of the origin have heard of a write
+module _ (plan : PlanParts) (good : IsSoundPlan plan) (t : List Row) (x : Row) (o : ℕ) (v : Value) (writes : x.step ≡ Write (Port o) v) (last : Tag) (clash : Option Tag) (q : List Pending) (ports : List ℕ) (all : (p : ℕ) → IsArrival plan.program o p → IsWatched plan.program p → Contains ports p) (is : IsFedTo plan t x last ports clash q) where
+  abbrev seen : Name → List Row
+  seen = seen_by ports (t ++ x ∷ []) t
 
-    no_port : (p : ℕ) → list_any (nat_eq p) ports ≡ false → (port : PortOf) → slice_get plan.program.ports p ≡ Some port → ¬ (port.origin ≡ o)
-    no_port p f port e z = false≢true (sym f ∙ list_any-from_Contains nat_eq_equiv p ports (all p (port, e, z)))
+  no_schedule : (k : Tag) (a : ℕ) → scheduled k a (min_delay plan.program a) x ≡ None
+  no_schedule k a = not_scheduled x k a (min_delay plan.program a) (λ u d e z. let y : Write (Port o) v ≡ Schedule (Action a) u d = sym writes ∙ e in absurd (cc))
 
-    ats : (n : Name) (k : Tag) (u : Value) → At plan (t ++ x ∷ []) k n u ↔ At plan (seen_by ports (t ++ x ∷ []) t n) k n u
-    ats (Port p) k u = go (list_any (nat_eq p) ports) refl
-      where
-        go : (b : Bool) → list_any (nat_eq p) ports ≡ b → At plan (t ++ x ∷ []) k (Port p) u ↔ At plan (cond b (t ++ x ∷ []) t) k (Port p) u
-        go true e = (λ a. a, λ a. a)
-        go false e = unheard_at plan good t x o v writes p (no_port p e) k u
-    ats (Action a) k u = action_at plan (t ++ x ∷ []) t k a (none_scheduled plan t x k a (no_schedule k a)) u
+  no_port : (p : ℕ) → IsWatched plan.program p → list_any (nat_eq p) ports ≡ false → (port : PortOf) → slice_get plan.program.ports p ≡ Some port → ¬ (port.origin ≡ o)
+  no_port p w f port e z = false≢true (sym f ∙ list_any-from_Contains nat_eq_equiv p ports (all p (port, e, z) w))
 
-    clashes : (n : Name) (k : Tag) → ClashesAt plan (t ++ x ∷ []) k n ↔ ClashesAt plan (seen_by ports (t ++ x ∷ []) t n) k n
-    clashes (Port p) k = go (list_any (nat_eq p) ports) refl
-      where
-        go : (b : Bool) → list_any (nat_eq p) ports ≡ b → ClashesAt plan (t ++ x ∷ []) k (Port p) ↔ ClashesAt plan (cond b (t ++ x ∷ []) t) k (Port p)
-        go true e = (λ a. a, λ a. a)
-        go false e = unheard_clash plan good t x o v writes p (no_port p e) k
-    clashes (Action a) k = action_clash plan (t ++ x ∷ []) t k a (none_scheduled plan t x k a (no_schedule k a))
+  ats : (n : Name) → IsWatchedName plan.program n → (k : Tag) (u : Value) → At plan (t ++ x ∷ []) k n u ↔ At plan (seen n) k n u
+  ats (Port p) w k u = go (list_any (nat_eq p) ports) refl
+    where
+      go : (b : Bool) → list_any (nat_eq p) ports ≡ b → At plan (t ++ x ∷ []) k (Port p) u ↔ At plan (cond b (t ++ x ∷ []) t) k (Port p) u
+      go true e = (λ a. a, λ a. a)
+      go false e = unheard_at plan good t x o v writes p (no_port p w e) k u
+  ats (Action a) w k u = action_at plan (t ++ x ∷ []) t k a (none_scheduled plan t x k a (no_schedule k a)) u
+
+  -- a port of another origin has what it had
+  other_port : (p : ℕ) (port : PortOf) → slice_get plan.program.ports p ≡ Some port → (port.origin ≡ o → ⊥) → (k : Tag) → ClashesAt plan (t ++ x ∷ []) k (Port p) ↔ ClashesAt plan (seen (Port p)) k (Port p)
+  other_port p port there other k = go (list_any (nat_eq p) ports)
+    where
+      go : (b : Bool) → ClashesAt plan (t ++ x ∷ []) k (Port p) ↔ ClashesAt plan (cond b (t ++ x ∷ []) t) k (Port p)
+      go true = (λ c. c, λ c. c)
+      go false = unheard_clash plan good t x o v writes p (λ z e f. other (ap (λ (y : PortOf). y.origin) (same_some (slice_get plan.program.ports p) port z there e) ∙ f)) k
+
+  -- a port of the origin collides where a watched one does
+  own_port : (p : ℕ) (port : PortOf) → slice_get plan.program.ports p ≡ Some port → port.origin ≡ o → (k : Tag) → UpTo k last → IsEarlier clash k → ¬ PortClash plan (t ++ x ∷ []) k p
+  own_port p port there its k b e c =
+      let f = carried plan good (t ++ x ∷ []) p port there k c in
+      let heard : Contains ports f.port = all f.port (subst (λ (z : ℕ). IsArrival plan.program z f.port) its f.arrives) f.watched in
+      is.clean f.tag (Port f.port) (UpTo-trans f.tag k last f.sooner b) (earlier_up clash f.tag k f.sooner e) (subst (λ (rows : List Row). PortClash plan rows f.tag f.port) (sym (among_new (t ++ x ∷ []) t ports f.port heard)) f.collides)
+
+  clean : (k : Tag) (n : Name) → UpTo k last → IsEarlier clash k → ¬ ClashesAt plan (t ++ x ∷ []) k n
+  clean k (Action a) b e c = is.clean k (Action a) b e ((action_clash plan (t ++ x ∷ []) t k a (none_scheduled plan t x k a (no_schedule k a))).0 c)
+  clean k (Port p) b e c = let port = port_of c.is_first.is_origin in go port.0 port.1 (cases_eq port.0.origin o)
+    where
+      go : (port : PortOf) → slice_get plan.program.ports p ≡ Some port → (port.origin ≡ o) ⊎ (port.origin ≡ o → ⊥) → ⊥
+      go port there (inl its) = own_port p port there its k b e c
+      go port there (inr other) = is.clean k (Port p) b e ((other_port p port there other k).0 c)
+
+  -- what collided does so still
+  collides : (n : Name) (k : Tag) → ClashesAt plan (seen n) k n → ClashesAt plan (t ++ x ∷ []) k n
+  collides (Action a) k c = (action_clash plan (t ++ x ∷ []) t k a (none_scheduled plan t x k a (no_schedule k a))).1 c
+  collides (Port p) k c = go (list_any (nat_eq p) ports) c
+    where
+      by : (port : PortOf) → slice_get plan.program.ports p ≡ Some port → (port.origin ≡ o) ⊎ (port.origin ≡ o → ⊥) → PortClash plan t k p → PortClash plan (t ++ x ∷ []) k p
+      by port there (inl its) d = more_clash plan good t x o v writes p port there its k d
+      by port there (inr other) d = (unheard_clash plan good t x o v writes p (λ z e f. other (ap (λ (y : PortOf). y.origin) (same_some (slice_get plan.program.ports p) port z there e) ∙ f)) k).1 d
+
+      go : (b : Bool) → PortClash plan (cond b (t ++ x ∷ []) t) k p → PortClash plan (t ++ x ∷ []) k p
+      go true d = d
+      go false d = let port = port_of d.is_first.is_origin in by port.0 port.1 (cases_eq port.0.origin o) d
+
+  pub write_fed : HasEvents plan (t ++ x ∷ []) x.tag last clash q
+  write_fed = record {
+    values = λ h n u w a b e. iff_trans (is.values h n u w a b e) (iff_sym (ats n w h u));
+    clean = clean;
+    found = λ c e. (let f = is.found c e in (f.0, f.1, (f.2.0, collides f.2.0 c f.2.1)));
+  }
 
 -- no port has heard of it yet
 pub none_fed : (plan : PlanParts) (t : List Row) (x : Row) (last : Tag) (clash : Option Tag) (q : List Pending) → HasEvents plan t x.tag last clash q → IsFedTo plan t x last [] clash q
@@ -147,7 +186,7 @@ pub knows_again : (plan : PlanParts) (good : IsSoundPlan plan) (t : List Row) (g
 knows_again plan good t g last clash q o b u is e p port is_port its = (to, from)
   where
     values : (w : Value) → (value_of g (Port o) q ≡ Some w) ↔ Last t g o w
-    values w = subst (λ (c : ℕ). (value_of g (Port c) q ≡ Some w) ↔ Last t g c w) its (iff_trans (is.values g (Port port.origin) w (UpTo-refl g) u (found_later plan t g last clash q is)) (origin_at plan good p port is_port t g w))
+    values w = subst (λ (c : ℕ). (value_of g (Port c) q ≡ Some w) ↔ Last t g c w) its (iff_trans (is.values g (Port port.origin) w (inr (inl (its_origin plan good p port is_port))) (UpTo-refl g) u (found_later plan t g last clash q is)) (origin_at plan good p port is_port t g w))
 
     to : IsTrue b → WasWritten t g o
     to x = let s = some_there (value_of g (Port o) q) (sym e ∙ x) in (s.0, (values s.0).0 s.1)
@@ -191,7 +230,7 @@ module _ (plan : PlanParts) (t : List Row) (x : Row) (a d : ℕ) (v : Value) (sc
     one_heard = heard plan (λ n. t) (λ m. cond (same_name (Action a) m) (t ++ x ∷ []) t) x.tag last clash found q0 q0 q2 is (Action a) (after x.tag (min_delay plan.program a + d)) v (λ m e. ap (λ (b : Bool). cond b (t ++ x ∷ []) t) e) t (t ++ x ∷ []) refl (ap (λ (b : Bool). cond b (t ++ x ∷ []) t) (name_refl (Action a))) (λ k u n. action_at plan (t ++ x ∷ []) t k a (same_events k a (λ z. n (sym z.1))) u) (λ k n. (action_clash plan (t ++ x ∷ []) t k a (same_events k a (λ z. n (sym z.1)))).0) (λ k c. (let l : 2 ≤ length (events_of plan t k a) = c in let m = grown k in omega arith)) (λ k m e. refl) put fresh twice
       where
         value_old : IsWanted last clash (after x.tag (min_delay plan.program a + d)) → (u : Value) → (value_of (after x.tag (min_delay plan.program a + d)) (Action a) q0 ≡ Some u) ↔ At plan t (after x.tag (min_delay plan.program a + d)) (Action a) u
-        value_old w u = is.values (after x.tag (min_delay plan.program a + d)) (Action a) u (Before-weaken x.tag (after x.tag (min_delay plan.program a + d)) (after_past x.tag (min_delay plan.program a + d))) w.0 w.1
+        value_old w u = is.values (after x.tag (min_delay plan.program a + d)) (Action a) u tt (Before-weaken x.tag (after x.tag (min_delay plan.program a + d)) (after_past x.tag (min_delay plan.program a + d))) w.0 w.1
 
         fresh : IsWanted last clash (after x.tag (min_delay plan.program a + d)) → value_of (after x.tag (min_delay plan.program a + d)) (Action a) q0 ≡ None → ((u : Value) → At plan (t ++ x ∷ []) (after x.tag (min_delay plan.program a + d)) (Action a) u ↔ (u ≡ v)) × ¬ ClashesAt plan (t ++ x ∷ []) (after x.tag (min_delay plan.program a + d)) (Action a)
         fresh w e = (λ u. (λ c. its u (subst (λ (vs : List Value). Contains vs u) one c), λ q. subst (λ (vs : List Value). Contains vs u) (sym one) (mem_contains u (v ∷ []) (inl (sym q)))), λ c. two (subst (λ (vs : List Value). 2 ≤ length vs) one c))

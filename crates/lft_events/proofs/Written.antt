@@ -17,6 +17,7 @@ use Rattle.lft_flat.specs.declared.parts.Name.TheVariants.{Port}
 use Rattle.lft_trace.specs.declared.row.Row.{Row}
 use Rattle.lft_trace.specs.declared.row.Step.{Step}
 use Rattle.lft_trace.specs.declared.row.Step.TheVariants.{Write}
+use Rattle.lft_listeners.specs.Listeners.{IsArrival}
 use Rattle.lft_model.specs.Plans.{PlanParts, IsSoundPlan}
 use Rattle.lft_model.specs.Presence.{value_written, written, Last, IsWrittenFrom, At, PortClash, ClashesAt}
 use Rattle.lft_model.proofs.Places.{tag_discrete}
@@ -53,7 +54,14 @@ module _ (plan : PlanParts) (good : IsSoundPlan plan) (p : ℕ) (port : PortOf) 
   pub to_written : (t : List Row) (k h : Tag) (u : Value) → shifted h (port.shift.time, port.shift.steps) ≡ k → Last t h port.origin u → IsWrittenFrom plan t k p h u
   to_written t k h u e l = record { origin = port.origin; delays = (good.sound.origins p port is_port).0; is_origin = (good.sound.origins p port is_port).1; arrives = sym (leads h) ∙ e; is_last = l }
 
-  -- the origin itself has an event at a tag where it was written there
+  -- the origin is a port, and its own origin
+  pub its_origin : IsArrival plan.program port.origin port.origin
+  its_origin =
+      let way = own_origin (good.sound.origins p port is_port).1 in
+      let o = port_of way in
+      (o.0, o.1, (origin_unique (good.sound.origins port.origin o.0 o.1).1 way).0)
+
+  -- it has an event itself at a tag where it was written there
   pub origin_at : (t : List Row) (g : Tag) (u : Value) → At plan t g (Port port.origin) u ↔ Last t g port.origin u
   origin_at t g u = (to, from)
     where

@@ -3,11 +3,13 @@ use Rattle.std.specs.Prelude.{◌≡◌, ◌↔◌, ◌⊎◌, ℕ, Bool, cond, 
 use Rattle.std.specs.List.{list_any}
 use Rattle.lft_tag.specs.declared.Tag.{Tag}
 use Rattle.lft_tag.specs.Tags.{Before, UpTo}
+use Rattle.lft_flat.specs.Parts.{Parts}
 use Rattle.lft_flat.specs.declared.parts.Port.{Port as PortOf}
 use Rattle.lft_flat.specs.declared.parts.Value.{Value}
 use Rattle.lft_flat.specs.declared.parts.Name.{Name}
 use Rattle.lft_flat.specs.declared.parts.Name.TheVariants.{Port, Action}
 use Rattle.lft_trace.specs.declared.row.Row.{Row}
+use Rattle.lft_listeners.specs.Listeners.{IsWatched}
 use Rattle.lft_queue.specs.Pending.{Pending, value_of, Becomes}
 use Rattle.lft_model.specs.Plans.{PlanParts}
 use Rattle.lft_model.specs.Presence.{At, ClashesAt, Last}
@@ -17,13 +19,18 @@ abbrev pub IsEarlier : Option Tag → Tag → Type 0
 IsEarlier None h = Unit {0}
 IsEarlier (Some c) h = Before h c
 
--- the queue has the events that the rows make from a tag on up to another, and two causes give one port or action an event at the tag that was found and at no earlier tag; each port and action has rows of its own
+-- the events of the name are watched, as those of each action are
+abbrev pub IsWatchedName : Parts → Name → Type 0
+IsWatchedName program (Port p) = IsWatched program p
+IsWatchedName program (Action a) = Unit {0}
+
+-- the queue has the watched events that the rows make from a tag on up to another, and two causes give one port or action an event at the tag that was found and at no earlier tag; each port and action has rows of its own
 pub record HasEventsOf (plan : PlanParts) (seen : Name → List Row) (from last : Tag) (clash : Option Tag) (q : List Pending) : Type 0 where
-  pub values : (h : Tag) (n : Name) (v : Value) → UpTo from h → UpTo h last → IsEarlier clash h → (value_of h n q ≡ Some v) ↔ At plan (seen n) h n v
+  pub values : (h : Tag) (n : Name) (v : Value) → IsWatchedName plan.program n → UpTo from h → UpTo h last → IsEarlier clash h → (value_of h n q ≡ Some v) ↔ At plan (seen n) h n v
   pub clean : (h : Tag) (n : Name) → UpTo h last → IsEarlier clash h → ¬ ClashesAt plan (seen n) h n
   pub found : (c : Tag) → clash ≡ Some c → Before from c × UpTo c last × ((n : Name) × ClashesAt plan (seen n) c n)
 
--- the queue has, from a tag on up to a last one, for each port and action the value of its event by the rows; a tag that was found is the least at which they collide, and it is right up to there
+-- the queue has, from a tag on up to a last one, for each action and watched port the value of its event by the rows; a tag that was found is the least at which events collide, watched or not, and the queue is right up to there
 abbrev pub HasEvents : PlanParts → List Row → Tag → Tag → Option Tag → List Pending → Type 0
 HasEvents plan t from last clash q = HasEventsOf plan (λ n. t) from last clash q
 

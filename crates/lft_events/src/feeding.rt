@@ -2,7 +2,7 @@
 
 ghost use Rattle.std.specs.Prelude.{◌≡◌, ◌<◌, ◌≤◌, ◌+◌, ◌++◌, ◌∷◌, [], ℕ, List, length, slice_get, Some, None, IfOk, Contains};
 ghost use Rattle.lft_tag.specs.Tags.{UpTo, IsRecorded};
-ghost use Rattle.lft_listeners.specs.Listeners.{IsArrival, AreArrivals};
+ghost use Rattle.lft_listeners.specs.Listeners.{IsArrival, IsWatched, AreArrivals};
 ghost use Rattle.lft_trace.specs.declared.row.Row.{Row as RowOf};
 ghost use Rattle.lft_trace.specs.Fits.{StepFits};
 ghost use Rattle.lft_model.specs.Recorded.{run_row, committed_rows};
@@ -44,7 +44,7 @@ fn put(
     }
 }
 
-// Puts the event of a port in, at which a write of its origin at the tag arrives. Where the origin
+// Puts the event of a watched port in, at which a write of its origin at the tag arrives. Where the origin
 // was written already at this tag, its event takes another value.
 fn feed_port(
     queue: &mut Queue,
@@ -58,7 +58,7 @@ fn feed_port(
 ) -> Result<Option<Tag>, NoMemory>
     requires recorded { IsRecorded tag }
     requires number { number < length plan.now.program.ports }
-    ensures { (t : List RowOf) (w r o : ℕ) (ports : List ℕ) → IsArrival plan.now.program o number → ¬ Contains ports number → IsFedTo plan.now t (run_row w tag r (Step.Write (Name.Port o) value)) last ports clash queue.old → KnowsAgain plan.now t tag o again → IfOk result (λ found. IsFedTo plan.now t (run_row w tag r (Step.Write (Name.Port o) value)) last (ports ++ number ∷ []) found queue.new) }
+    ensures { (t : List RowOf) (w r o : ℕ) (ports : List ℕ) → IsArrival plan.now.program o number → IsWatched plan.now.program number → ¬ Contains ports number → IsFedTo plan.now t (run_row w tag r (Step.Write (Name.Port o) value)) last ports clash queue.old → KnowsAgain plan.now t tag o again → IfOk result (λ found. IsFedTo plan.now t (run_row w tag r (Step.Write (Name.Port o) value)) last (ports ++ number ∷ []) found queue.new) }
 {
     let at = tag.plus(plan.program().port(number).shift);
     if again {
@@ -68,7 +68,7 @@ fn feed_port(
     put(queue, last, clash, at, Name::Port(number), value)
 }
 
-// Puts the events of a write of the origin at the tag in.
+// Puts the events of a write of the origin at the tag in, at the ports that are watched.
 fn feed_write(
     queue: &mut Queue,
     plan: &Plan,
@@ -156,9 +156,9 @@ fn feed_step(
     }
 }
 
-/// Puts the events of the steps of a run at the tag in, as far as they are up to the last tag.
+/// Puts the watched events of the steps of a run at the tag in, as far as they are up to the last tag.
 /// Gives the least tag at which two causes give one port or action an event, if there is one. The
-/// arrivals are those of the plan's program; it costs what the steps' ports and actions are.
+/// arrivals are those of the plan's program; it costs what the steps' watched ports and actions are.
 pub fn feed(
     queue: &mut Queue,
     plan: &Plan,

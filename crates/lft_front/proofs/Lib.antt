@@ -2,3 +2,4 @@ pub mod Texts
 pub mod Judging
 pub mod Listed
 pub mod Pairing
+pub mod Explaining

@@ -6,3 +6,4 @@ pub mod Judged
 pub mod Shown
 pub mod Pairs
 pub mod PairRefusals
+pub mod Explained

@@ -1,6 +1,7 @@
 //! What a command answers: true where it found nothing wrong, and the exit status is 0.
 
 ghost use Rattle.std.specs.Prelude.{◌≡◌, ◌↔◌, true, IsTrue, IfOk, IfErr};
+ghost use Rattle.lft_front.specs.Explained.{ExplainBundleRefusal, ExplainRefusal, IsExplainedAnswer, IsExplainedBundle};
 ghost use Rattle.lft_front.specs.Judged.{IsAccepted, IsBundleAccepted};
 ghost use Rattle.lft_front.specs.PairRefusals.{PairRefusal};
 ghost use Rattle.lft_front.specs.Pairs.{IsSameAnswer, SaysSame};
@@ -10,6 +11,7 @@ ghost use Rattle.lft_front.specs.Judged.{Accepts};
 
 use crate::alone::judge_texts_alone;
 use crate::bundle::split_bundle;
+use crate::explain::explain_texts;
 use crate::judge::judge_texts;
 use crate::pair::pair_texts;
 use crate::paired::Paired;
@@ -81,6 +83,52 @@ pub fn bundle_answer<W: Write>(alloc: Global, text: &[u8], out: &mut W) -> Resul
     };
     match judge_texts_alone(alloc, bundle.program, bundle.externals, bundle.trace, out) {
         Ok(verdict) => Ok(is_accepted(verdict)),
+        Err(fault) => Err(fault),
+    }
+}
+
+/// Whether the trace of three texts is accepted, whose verdict's line is written, with what explains
+/// it.
+pub fn explain_answer<W: Write, R: Threads + Sync>(
+    rt: &R,
+    alloc: Global,
+    program: &[u8],
+    externals: &[u8],
+    trace: &[u8],
+    workers: u32,
+    out: &mut W,
+) -> Result<bool, Fault>
+    ensures accepted { IfOk result (IsExplainedAnswer program.now externals.now trace.now (W.contents out.old) (W.contents out.new)) }
+    ensures refused { IfErr result (ExplainRefusal program.now externals.now trace.now workers (W.contents out.old) (W.contents out.new)) }
+{
+    let verdict = explain_texts(rt, alloc, program, externals, trace, workers, out)?;
+    Ok(is_accepted(verdict))
+}
+
+/// Whether the trace of a bundle is accepted, whose verdict's line is written, with what explains
+/// it. A text that is no bundle is refused as `bundle 1 BadBundle`.
+pub fn explain_bundle_answer<W: Write, R: Threads + Sync>(
+    rt: &R,
+    alloc: Global,
+    text: &[u8],
+    out: &mut W,
+) -> Result<bool, Fault>
+    ensures accepted { IfOk result (IsExplainedBundle text.now (W.contents out.old) (W.contents out.new)) }
+    ensures refused { IfErr result (ExplainBundleRefusal text.now (W.contents out.old) (W.contents out.new)) }
+{
+    let Some(bundle) = split_bundle(text) else {
+        return Err(Fault::plain(Part::Bundle, 1, "BadBundle"));
+    };
+    match explain_answer(
+        rt,
+        alloc,
+        bundle.program,
+        bundle.externals,
+        bundle.trace,
+        1,
+        out,
+    ) {
+        Ok(answer) => Ok(answer),
         Err(fault) => Err(fault),
     }
 }

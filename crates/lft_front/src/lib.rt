@@ -5,17 +5,23 @@
 mod alone;
 mod answer;
 mod bundle;
+mod explain;
 mod judge;
 mod line;
 mod pair;
 mod paired;
+mod refused;
 mod show;
 
 pub use alone::judge_texts_alone;
-pub use answer::{bundle_answer, judge_answer, pair_answer, show_answer};
+pub use answer::{
+    bundle_answer, explain_answer, explain_bundle_answer, judge_answer, pair_answer, show_answer,
+};
 pub use bundle::{Bundle, split_bundle};
+pub use explain::explain_texts;
 pub use judge::judge_texts;
 pub use lft_load::{Fault, Part, finish, load, read_input};
 pub use pair::pair_texts;
 pub use paired::Paired;
+pub use refused::refusal_of_texts;
 pub use show::show_text;

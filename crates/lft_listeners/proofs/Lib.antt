@@ -1,3 +1,4 @@
 pub mod Pushing
 pub mod Filling
 pub mod Arriving
+pub mod Watching

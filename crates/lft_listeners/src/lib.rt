@@ -5,6 +5,7 @@ mod arrivals;
 mod by_trigger;
 mod listeners;
 mod lists;
+mod watched;
 
 pub use arrivals::Arrivals;
 pub use listeners::Listeners;

@@ -1,29 +1,27 @@
 -- The first run that isn't in both traces with an equal answer.
-use Rattle.std.proofs.Common.{◌≡◌, ℕ, ◌+◌, ◌<◌, ◌≤◌, ◌⊎◌, inl, inr, List, [], length, refl, sym, ap, ◌∙◌, subst, arith, Option, Some, None, MatchOption, IsSomeAnd, slice_get, Bool, unwrap_or, option_map}
+use Rattle.std.proofs.Common.{◌≡◌, ℕ, ◌+◌, ◌<◌, ◌≤◌, ◌⊎◌, inl, inr, List, length, refl, sym, ap, ◌∙◌, subst, arith, Option, Some, None, MatchOption, IsSomeAnd, slice_get, Bool}
 use Rattle.std.specs.Bool.{Decides}
 use native.Mathlib.Decide.{dec_lt, ℕ_discrete}
 use Rattle.lft_tag.specs.declared.Tag.{Tag}
 use Rattle.lft_tag.specs.Tags.{Before, UpTo}
 use Rattle.lft_tag.proofs.Order.{Before-irrefl, Before-trans, Before-weaken, Before-UpTo, order_cases, UpTo-refl, UpTo-trans, UpTo-not, UpTo_antisym}
-use Rattle.lft_flat.specs.declared.parts.Name.{Name}
-use Rattle.lft_flat.specs.declared.parts.Reaction.{Reaction}
-use Rattle.lft_flat.specs.Parts.{Parts}
 use Rattle.lft_trace.specs.declared.row.Row.{Row}
 use Rattle.lft_trace.specs.declared.row.Step.{Step}
 use Rattle.lft_trace.specs.declared.row.Step.TheVariants.{Start}
 use Rattle.lft_trace.specs.Fits.{RowsFit}
 use Rattle.lft_graph.specs.Graph.{GraphParts, IsGraphOf}
 use Rattle.lft_lists.proofs.Places.{get_there}
-use Rattle.lft_model.specs.Plans.{PlanParts}
+use Rattle.lft_model.specs.Plans.{PlanParts, IsSoundPlan}
 use Rattle.lft_model.specs.Breaches.{Legal}
 use Rattle.lft_model.specs.Runs.{Ran, start_row, steps_of, effects_of}
 use Rattle.lft_model.proofs.Legality.{four, rising}
 use Rattle.lft_model.proofs.Places.{slice_get_within}
 use Rattle.lft_model.proofs.Ended.{row_is}
-use Rattle.lft_answers.specs.Answers.{answer_of}
+use Rattle.lft_pair.specs.Answering.{SameAnswers}
 use Rattle.lft_pair.specs.Places.{StartsAt, AreLastStarts, AreUpTo}
 use Rattle.lft_pair.specs.Pairs.{ComesFirst, Agrees, FirstOdd}
 use Rattle.lft_pair.proofs.Kept.{start_is}
+use Rattle.lft_pair.proofs.Answering.{same_effects, same_from_effects}
 
 -- the order of runs
 module _ (levels : List ℕ) where
@@ -71,22 +69,19 @@ module _ (levels : List ℕ) where
       by_tag (inr x) (inl y) = absurd (n (inl y))
       by_tag (inr x) (inr y) = at_tag (UpTo_antisym g h x y) (dec_lt k.0 l.0) (dec_lt l.0 k.0) (dec_lt a b) (dec_lt b a)
 
-pub own_effects : (program parts : Parts) (r : ℕ) (x : Reaction) (names : List Name) → parts ≡ program → slice_get parts.reactions r ≡ Some x → names ≡ x.effects → names ≡ effects_of program r
-own_effects program parts r x names e f n = n ∙ sym (ap (λ (o : Option Reaction). unwrap_or (option_map (λ y. y.effects) o) []) (ap (λ (p : Parts). slice_get p.reactions r) (sym e) ∙ f))
-
 -- what the comparison of two runs' steps tells
 module _ (plan : PlanParts) (t s : List Row) (g : Tag) (r p : ℕ) (other : Row) (at : StartsAt s g r p) (is_other : slice_get s p ≡ Some other) where
   same_row : other ≡ start_row at.0 g r
   same_row = let z : Some other ≡ Some (start_row at.0 g r) = sym is_other ∙ at.1 in cc
 
-  pub agrees_by : (effects : List Name) (mine theirs : List Step) (b : Bool) → effects ≡ effects_of plan.program r → mine ≡ steps_of t g r → theirs ≡ steps_of s other.tag other.reaction → Decides b (answer_of effects mine ≡ answer_of effects theirs) → Decides b (Agrees plan t s g r)
-  agrees_by effects mine theirs b f m h d = (λ q. (record { place = p; worker = at.0; starts = at.1 }, all.0 q), λ a. all.1 a.1)
+  pub agrees_by : IsSoundPlan plan → Legal plan t → Legal plan s → (mine theirs : List Step) (b : Bool) → mine ≡ steps_of t g r → theirs ≡ steps_of s other.tag other.reaction → Decides b (SameAnswers mine theirs) → Decides b (Agrees plan t s g r)
+  agrees_by good first second mine theirs b m h d = (λ q. (record { place = p; worker = at.0; starts = at.1 }, same_effects (effects_of plan.program r) (steps_of t g r) (steps_of s g r) (all.0 q)), λ a. all.1 (same_from_effects plan good t s first second g r a.1))
     where
       last : theirs ≡ steps_of s g r
       last = h ∙ ap (λ (x : Row). steps_of s x.tag x.reaction) same_row
 
-      all : Decides b (answer_of (effects_of plan.program r) (steps_of t g r) ≡ answer_of (effects_of plan.program r) (steps_of s g r))
-      all = subst (λ (zs : List Step). Decides b (answer_of (effects_of plan.program r) (steps_of t g r) ≡ answer_of (effects_of plan.program r) zs)) last (subst (λ (ys : List Step). Decides b (answer_of (effects_of plan.program r) ys ≡ answer_of (effects_of plan.program r) theirs)) m (subst (λ (es : List Name). Decides b (answer_of es mine ≡ answer_of es theirs)) f d))
+      all : Decides b (SameAnswers (steps_of t g r) (steps_of s g r))
+      all = subst (λ (zs : List Step). Decides b (SameAnswers (steps_of t g r) zs)) last (subst (λ (ys : List Step). Decides b (SameAnswers ys theirs)) m d)
 
 -- a start row of r at g stands before place i
 abbrev pub StartedTo : List Row → ℕ → Tag → ℕ → Type 0

@@ -11,7 +11,7 @@ ghost use Rattle.lft_pair.specs.Pairs.{ComesFirst, Agrees, FirstOdd};
 ghost use Rattle.lft_pair.specs.Places.{AreLastStarts, AreUpTo};
 ghost use Rattle.lft_flat.specs.Parts.{Parts};
 
-use crate::answers::same_answer;
+use crate::answers::same_answers;
 use crate::starts::{Starts, no_starts};
 use lft_answers::read_steps;
 use lft_graph::Graph;
@@ -58,8 +58,9 @@ fn agrees(
         Some(other) => {
             read_steps(&mut kept.mine, rows, place, row)?;
             read_steps(&mut kept.theirs, others, other, row_at(others, other))?;
-            let effects = plan.program().reaction(row.reaction).effects.as_slice();
-            let same = same_answer(alloc, effects, kept.mine.as_slice(), kept.theirs.as_slice())?;
+            // Asked for what every plan keeps: it is sound, and legal rows of it answer for effects alone.
+            plan.keeps();
+            let same = same_answers(alloc, kept.mine.as_slice(), kept.theirs.as_slice())?;
             Ok(same)
         }
         None => Ok(false),

@@ -4,3 +4,4 @@ pub mod Marks
 pub mod Parts
 pub mod Passes
 pub mod Places
+pub mod Seats

@@ -7,6 +7,7 @@ mod marks;
 mod open;
 mod parts;
 mod pass;
+mod seats;
 
 pub use marks::Marks;
 pub use parts::first_breach_shared;

@@ -6,8 +6,8 @@ ghost use Rattle.lft_flat.specs.declared.parts.Reaction.{Reaction as TheReaction
 ghost use Rattle.lft_trace.specs.Fits.{RowsFit};
 ghost use Rattle.lft_rows.specs.Marks.{width, HasSeat, AreNoneFrom, IsLaid, Mark, IsMarkedBy, AreMarks, AreBefore};
 
+use crate::seats::Inputs;
 use lft_flat::{Name, Names, Program};
-use lft_lists::item_at;
 use lft_tag::NoMemory;
 use lft_trace::{Row, Step, row_at};
 use std::alloc::Global;
@@ -18,35 +18,11 @@ use std::alloc::Global;
 pub struct Marks {
     /// The inputs of each reaction. A timer is none, so that a reaction with many timers is asked
     /// for its few inputs alone.
-    inputs: Vec<Names>,
+    inputs: Vec<Inputs>,
     firsts: Vec<usize>,
     places: Vec<u32>,
     /// Where the next input is looked for first: a run mostly reads its inputs in order.
     guess: usize,
-}
-
-/// The place of the name among the names, if it is one.
-fn name_seat(names: &[Name], name: Name) -> Option<usize>
-    ensures { MatchOption result ((k : ℕ) → ¬ (slice_get names.now k ≡ Some name)) (λ k. slice_get names.now k ≡ Some name) }
-{
-    for place in 0..names.len() {
-        if item_at(names, place) == name {
-            return Some(place);
-        }
-    }
-    None
-}
-
-/// The place of the name among the names, if it is one. The place that is guessed is asked first,
-/// and in place of one past the last that of the first name.
-fn seat_of(names: &[Name], name: Name, guess: usize) -> Option<usize>
-    ensures { MatchOption result ((k : ℕ) → ¬ (slice_get names.now k ≡ Some name)) (λ k. slice_get names.now k ≡ Some name) }
-{
-    let first = if guess < names.len() { guess } else { 0 };
-    if first < names.len() && item_at(names, first) == name {
-        return Some(first);
-    }
-    name_seat(names, name)
 }
 
 /// Adds marks that tell of no row.
@@ -73,7 +49,7 @@ impl Marks {
             let names = program.reaction(number as u32).inputs(alloc)?;
             firsts.push(places.len())?;
             add_marks(&mut places, names.len())?;
-            inputs.push(Names::from_vec(names))?;
+            inputs.push(Inputs::new(alloc, Names::from_vec(names))?)?;
         }
         Ok(Marks {
             inputs,
@@ -92,13 +68,22 @@ impl Marks {
         self.places[self.firsts[reaction as usize] + seat]
     }
 
+    /// The inputs of the reaction, with their seats.
+    fn known(&self, program: &Program, reaction: u32) -> &Inputs
+        requires laid { IsLaid program.now self.now }
+        requires reaction { reaction < length program.now.reactions }
+        ensures { (x : TheReaction) × (slice_get program.now.reactions reaction ≡ Some x) × (result.now ≡ the_inputs x) }
+    {
+        &self.inputs[reaction as usize]
+    }
+
     /// The inputs of the reaction, in order.
     pub fn inputs(&self, program: &Program, reaction: u32) -> &[Name]
         requires laid { IsLaid program.now self.now }
         requires reaction { reaction < length program.now.reactions }
         ensures { (x : TheReaction) × (slice_get program.now.reactions reaction ≡ Some x) × (result.now ≡ the_inputs x) }
     {
-        self.inputs[reaction as usize].as_slice()
+        self.known(program, reaction).as_slice()
     }
 
     /// Where the name stands among the reaction's inputs, if it is one.
@@ -107,7 +92,7 @@ impl Marks {
         requires reaction { reaction < length program.now.reactions }
         ensures { (x : TheReaction) × (slice_get program.now.reactions reaction ≡ Some x) × MatchOption result ((k : ℕ) → ¬ HasSeat x name k) (HasSeat x name) }
     {
-        seat_of(self.inputs(program, reaction), name, self.guess)
+        self.known(program, reaction).seat(name, self.guess)
     }
 
     /// Sets the mark of the input that stands at the seat of the reaction.

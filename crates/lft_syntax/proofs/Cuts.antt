@@ -7,7 +7,7 @@ use Rattle.lft_syntax.specs.declared.form.Form.{Form}
 use Rattle.lft_syntax.specs.declared.form.Form.TheVariants.{StarComment, Code, Text, Digits}
 use Rattle.lft_syntax.specs.declared.fault.LexFault.{LexFault}
 use Rattle.lft_syntax.specs.declared.fault.LexFault.TheVariants as faults
-use Rattle.lft_syntax.specs.Lexes.{Piece, Cut, done, piece, Lexes, IsFault, FaultAt, Faults, LexFails}
+use Rattle.lft_syntax.specs.Lexes.{Piece, Cut, done, piece, Lexes, IsFault, FaultAt, Faults, IsRefusedAt, LexFails}
 use Rattle.lft_syntax.proofs.Once.{cut_once, fault_or_cut, fault_once}
 
 -- the text up to i is cut into these tokens, whatever follows
@@ -22,6 +22,14 @@ front_blank t i m kind tokens e p front = record { onto = λ rest j cut. front.o
 
 pub front_token : (t : List ℕ) (i m : ℕ) (kind : TokenKind) (tokens : List Token) → Piece t i (Some kind) m → Front t i tokens → Front t m (tokens ++ (record { kind = kind; start = i; end = m } ∷ []))
 front_token t i m kind tokens p front = record { onto = λ rest j cut. rw append_assoc (front.onto (record { kind = kind; start = i; end = m } ∷ rest) j (piece p cut)) }
+
+-- the tokens with one more piece behind them
+pub front_piece : (t : List ℕ) (i m : ℕ) (kind : Option TokenKind) (tokens : List Token) → Piece t i kind m → Front t i tokens → (more : List Token) × Front t m more
+front_piece t i m None tokens p front = (tokens, front_blank t i m None tokens refl p front)
+front_piece t i m (Some kind) tokens p front = (tokens ++ (record { kind = kind; start = i; end = m } ∷ []), front_token t i m kind tokens p front)
+
+pub front_refused : (t : List ℕ) (i : ℕ) (tokens : List Token) (fault : LexFault) → Front t i tokens → FaultAt t i fault → IsRefusedAt t i
+front_refused t i tokens fault front at = (fault, tokens ++ [], front.onto [] i done, at)
 
 -- the whole text is cut
 pub front_whole : (t : List ℕ) (i : ℕ) (tokens : List Token) → i ≡ length t → Front t i tokens → Lexes t tokens × ((other : List Token) → Lexes t other → other ≡ tokens)

@@ -108,6 +108,10 @@ Lexes t tokens = Cut t 0 tokens (length t)
 abbrev pub Faults : List ℕ → LexFault → Type 0
 Faults t fault = (i : ℕ) × (tokens : List Token) × Cut t 0 tokens i × FaultAt t i fault
 
+-- The text up to i is cut, and what begins there has a fault.
+abbrev pub IsRefusedAt : List ℕ → ℕ → Type 0
+IsRefusedAt t i = (fault : LexFault) × (tokens : List Token) × Cut t 0 tokens i × FaultAt t i fault
+
 -- Why a text is refused: its length, or, where that is within the limit, its one first fault, and then it has no tokens. Want of memory says nothing of it.
 abbrev pub LexFails : List ℕ → LexFault → Type 0
 LexFails t faults.TooLong = 1048576 < length t

@@ -1,9 +1,9 @@
 //! The tokens of a text.
 
-ghost use Rattle.std.specs.Prelude.{◌≡◌, ◌<◌, ◌≤◌, List, length, IfOk, IfErr, OnOk, Err};
+ghost use Rattle.std.specs.Prelude.{◌≡◌, ◌<◌, ◌≤◌, ◌⊎◌, List, length, IfOk, IfErr, IfSome, IfNone, OnOk, Err};
 ghost use Rattle.lft_syntax.specs.declared.token.Token.{Token};
 ghost use Rattle.lft_syntax.specs.declared.fault.LexFault.TheVariants.{TooLong};
-ghost use Rattle.lft_syntax.specs.Lexes.{Lexes, LexFails};
+ghost use Rattle.lft_syntax.specs.Lexes.{Lexes, LexFails, IsRefusedAt};
 
 use crate::fault::LexFault;
 use crate::piece::piece;
@@ -38,4 +38,24 @@ pub fn lex(alloc: Global, text: &[u8]) -> Result<Tokens, LexFault>
         at = end;
     }
     Ok(Tokens::from_vec(tokens))
+}
+
+/// Where a text stops being tokens, if it does: the byte that begins none, the first digit of a number
+/// that is too large, or the first of the bytes that open what isn't closed. A text of more than
+/// `MAX_LENGTH` bytes is refused as a whole, and so nowhere.
+pub fn refused_at(text: &[u8]) -> Option<usize>
+    ensures some { IfSome result (IsRefusedAt text.now) }
+    ensures none { IfNone result ((1048576 < length text.now) ⊎ ((tokens : List Token) × Lexes text.now tokens)) }
+{
+    if MAX_LENGTH < text.len() {
+        return None;
+    }
+    let mut at = 0;
+    'pieces: while at < text.len() {
+        match piece(text, at) {
+            Ok((_, end)) => at = end,
+            Err(_) => return Some(at),
+        }
+    }
+    None
 }

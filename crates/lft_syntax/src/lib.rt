@@ -11,7 +11,7 @@ mod piece;
 mod token;
 
 pub use fault::{LexFault, SyntaxFault};
-pub use lexer::{MAX_LENGTH, lex};
+pub use lexer::{MAX_LENGTH, lex, refused_at};
 pub use lft_tree::{
     Action, Assignment, Ast, Connection, Instance, Item, Member, Parameter, Port, Reaction,
     Reactor, Reference, Time, TimeExpression, TimeUnit, Timer, TokenRange, Trigger,

@@ -5,7 +5,8 @@ mod words;
 
 use crate::words::{Job, JudgeWords, PairWords, RecordWords, read_words};
 use lft_front::{
-    Fault, Part, bundle_answer, finish, judge_answer, pair_answer, read_input, show_answer,
+    Fault, Part, bundle_answer, explain_answer, explain_bundle_answer, finish, judge_answer,
+    pair_answer, read_input, refusal_of_texts, show_answer, split_bundle,
 };
 use lft_record::record_answer;
 use std::alloc::Global;
@@ -52,6 +53,47 @@ fn judge_files<F: Files + Threads + Sync, W: Write>(
         workers_for(words.workers, trace.len()),
         out,
     )
+}
+
+/// Writes why the first of three texts that is refused is, where it can be told. This is help alone: where
+/// it can't be written, the line of the fault comes all the same.
+fn write_refusal<W: Write>(
+    alloc: Global,
+    program: &[u8],
+    externals: &[u8],
+    trace: &[u8],
+    out: &mut W,
+) {
+    if let Ok(Some(told)) = refusal_of_texts(alloc, program, externals, trace) {
+        let _ = out.write_all(told.as_bytes());
+    }
+}
+
+/// Judges the trace of three files, all of which are read first, and explains the verdict, or why a text
+/// is refused.
+fn explain_files<F: Files + Threads + Sync, W: Write>(
+    rt: &F,
+    alloc: Global,
+    words: JudgeWords<'_>,
+    out: &mut W,
+) -> Result<bool, Fault> {
+    let program = read_file(rt, alloc, words.program)?;
+    let externals = read_file(rt, alloc, words.externals)?;
+    let trace = read_file(rt, alloc, words.trace)?;
+    let answer = explain_answer(
+        rt,
+        alloc,
+        program.as_slice(),
+        externals.as_slice(),
+        trace.as_slice(),
+        workers_for(words.workers, trace.len()),
+        out,
+    );
+    if answer.is_err() {
+        let (program, externals) = (program.as_slice(), externals.as_slice());
+        write_refusal(alloc, program, externals, trace.as_slice(), out);
+    }
+    answer
 }
 
 /// Compares the two traces of four files, all of which are read first.
@@ -120,6 +162,32 @@ fn judge_bundle<R: Read, W: Write>(
     bundle_answer(alloc, text.as_slice(), out)
 }
 
+/// Judges the bundle that a reader gives, and explains the verdict, or why a text is refused.
+fn explain_bundle<T: Threads + Sync, R: Read, W: Write>(
+    rt: &T,
+    alloc: Global,
+    reader: &mut R,
+    out: &mut W,
+) -> Result<bool, Fault> {
+    let text = read_input(alloc, "-", reader)?;
+    let answer = explain_bundle_answer(rt, alloc, text.as_slice(), out);
+    if answer.is_err() {
+        if let Some(bundle) = split_bundle(text.as_slice()) {
+            write_refusal(alloc, bundle.program, bundle.externals, bundle.trace, out);
+        }
+    }
+    answer
+}
+
+/// Says at a terminal that a bundle is awaited.
+fn await_bundle(rt: &HostRuntime) {
+    if rt.stdin().is_terminal() {
+        let _ = eprintln!(rt;
+            "lftrace: reading a bundle from standard input; `lftrace --help` tells more"
+        );
+    }
+}
+
 /// The status of the answer. The line of a fault goes out in one write, where there is memory to put
 /// it together: other processes may write to the same standard error.
 fn end(rt: &HostRuntime, alloc: Global, answer: Result<bool, Fault>) -> u8 {
@@ -159,14 +227,15 @@ fn main(rt: HostRuntime) -> ExitCode {
     let mut out = io::writer(&rt);
     let answer = match job {
         Job::Bundle => {
-            if rt.stdin().is_terminal() {
-                let _ = eprintln!(rt;
-                    "lftrace: reading a bundle from standard input; `lftrace --help` tells more"
-                );
-            }
+            await_bundle(&rt);
             judge_bundle(alloc, &mut rt.stdin(), &mut out)
         }
         Job::Judge(words) => judge_files(&rt, alloc, words, &mut out),
+        Job::Explain(words) => explain_files(&rt, alloc, words, &mut out),
+        Job::ExplainBundle => {
+            await_bundle(&rt);
+            explain_bundle(&rt, alloc, &mut rt.stdin(), &mut out)
+        }
         Job::Pair(words) => pair_files(&rt, alloc, words, &mut out),
         Job::Record(words) => record_files(&rt, alloc, words, &mut out),
         Job::Show(path) => show_file(&rt, alloc, path, &mut out),

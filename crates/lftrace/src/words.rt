@@ -15,6 +15,14 @@ TRACE has the header      event,worker,time,microstep,reaction,name,value,delay
 Times are in nanoseconds. Words are paths of files; /dev/stdin is standard input.
 Printed: accepted runs=R tags=G (status 0), or broken rule=N .. (status 1).";
 
+const EXPLAIN_HELP: &str = "\
+EXTERNALS has the header  kind,time,microstep,name,value
+TRACE has the header      event,worker,time,microstep,reaction,name,value,delay
+Times are in nanoseconds. Words are paths of files; /dev/stdin is standard input.
+Without words it explains a bundle from standard input.
+Printed: the line of judge, with its status; behind broken rule=N .. an empty line
+and the facts that show it.";
+
 const PAIR_HELP: &str = "\
 EXTERNALS has the header          kind,time,microstep,name,value
 FIRST and SECOND have the header  event,worker,time,microstep,reaction,name,value,delay
@@ -36,7 +44,7 @@ PROGRAM is the path of a file; /dev/stdin is standard input.
 Printed: port P origin=O after=TIME+STEPS for each port, then
 reaction X level=K before=Y Z for each reaction (status 0).";
 
-/// The words of `judge`: three paths, and how many workers, 1 to 64.
+/// The words of `judge` and of `explain`: three paths, and how many workers, 1 to 64.
 #[derive(Clone, Copy)]
 pub struct JudgeWords<'a> {
     pub program: &'a str,
@@ -71,6 +79,10 @@ pub enum Job<'a> {
     /// To judge a bundle from standard input.
     Bundle,
     Judge(JudgeWords<'a>),
+    /// To judge, and to tell the facts behind a broken rule.
+    Explain(JudgeWords<'a>),
+    /// The same of a bundle from standard input.
+    ExplainBundle,
     Pair(PairWords<'a>),
     Record(RecordWords<'a>),
     /// To show the ports and the precedence of the program at a path.
@@ -104,6 +116,21 @@ fn judge_command<'a>(alloc: Global) -> Result<Command<'a>, Error> {
         .arg(path(alloc, "TRACE", "the trace table"))?
         .arg(workers(alloc, JUDGES))?
         .after_help(JUDGE_HELP);
+    Ok(command)
+}
+
+fn explain_command<'a>(alloc: Global) -> Result<Command<'a>, Error> {
+    let program = path(alloc, "PROGRAM", "the program's text")
+        .required(false)
+        .requires_arg("EXTERNALS")?
+        .requires_arg("TRACE")?;
+    let command = Command::new(alloc, "explain")
+        .about("Judges a recorded trace, and tells the facts behind the first rule that it breaks")
+        .arg(program)?
+        .arg(path(alloc, "EXTERNALS", "the table of external inputs").required(false))?
+        .arg(path(alloc, "TRACE", "the trace table").required(false))?
+        .arg(workers(alloc, JUDGES))?
+        .after_help(EXPLAIN_HELP);
     Ok(command)
 }
 
@@ -154,6 +181,7 @@ fn root_command<'a>(alloc: Global) -> Result<Command<'a>, Error> {
             "Checks recorded executions of reactor programs, and records them. Without a command it judges a bundle from standard input.",
         )
         .subcommand(judge_command(alloc)?)?
+        .subcommand(explain_command(alloc)?)?
         .subcommand(pair_command(alloc)?)?
         .subcommand(record_command(alloc)?)?
         .subcommand(show_command(alloc)?)?
@@ -170,18 +198,30 @@ fn number(matches: &ArgMatches<'_>, id: &str, otherwise: u32) -> u32 {
     matches.get_one::<u32>(id).unwrap_or(otherwise)
 }
 
+/// The words of a command that judges one trace.
+fn judge_words<'a>(matches: &ArgMatches<'a>) -> JudgeWords<'a> {
+    JudgeWords {
+        program: text(matches, "PROGRAM"),
+        externals: text(matches, "EXTERNALS"),
+        trace: text(matches, "TRACE"),
+        workers: number(matches, "workers", 1),
+    }
+}
+
 /// What the words ask for, the first being the program's own name. The error is the command line's:
 /// a refusal, or the help that was asked for.
 pub fn read_words<'a>(alloc: Global, words: &'a [String]) -> Result<Job<'a>, Error> {
     let command = root_command(alloc)?;
     let matches = command.try_get_matches_from(words)?;
     match matches.subcommand() {
-        Some(("judge", judge)) => Ok(Job::Judge(JudgeWords {
-            program: text(judge, "PROGRAM"),
-            externals: text(judge, "EXTERNALS"),
-            trace: text(judge, "TRACE"),
-            workers: number(judge, "workers", 1),
-        })),
+        Some(("judge", judge)) => Ok(Job::Judge(judge_words(judge))),
+        Some(("explain", explain)) => {
+            if explain.contains_id("PROGRAM") {
+                Ok(Job::Explain(judge_words(explain)))
+            } else {
+                Ok(Job::ExplainBundle)
+            }
+        }
         Some(("pair", pair)) => Ok(Job::Pair(PairWords {
             program: text(pair, "PROGRAM"),
             externals: text(pair, "EXTERNALS"),

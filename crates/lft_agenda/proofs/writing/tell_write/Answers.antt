@@ -9,6 +9,7 @@ use Rattle.lft_trace.specs.declared.row.Step.TheVariants.{Write}
 use Rattle.lft_lists.proofs.Places.{contains_at, at_contains, same_some}
 use Rattle.lft_model.proofs.Places.{slice_get_within}
 use Rattle.lft_listeners.specs.Listeners.{IsListener, IsArrival}
+use Rattle.lft_events.proofs.Given.{listened_watched}
 use Rattle.lft_agenda.specs.Telling.{ArrivesAtOnce}
 use Rattle.lft_agenda.proofs.ToldTurns.{told_as, told_begun, told_next, told_each}
 use Rattle.lft_agenda.proofs.writing.tell_write.Goals as goal
@@ -19,7 +20,7 @@ loop-at-init c = λ v. told_begun (λ (p r : ℕ). ArrivesAtOnce c.args.plan.now
 pub port-requires : goal.port-requires
 port-requires c =
     let n = c.item_at-number.result in
-    let its : IsArrival c.args.plan.now.program c.args.origin n = (c.of-ports.ensures.each c.args.plan.now.program c.requires.arrivals n).0 (contains_at c.of-ports.result.now c.loop-at.at n c.item_at-number.ensures) in
+    let its : IsArrival c.args.plan.now.program c.args.origin n = ((c.of-ports.ensures.each c.args.plan.now.program c.requires.arrivals n).0 (contains_at c.of-ports.result.now c.loop-at.at n c.item_at-number.ensures)).0 in
     let l : n < length c.args.plan.now.program.ports = slice_get_within c.args.plan.now.program.ports n its.0 its.1 in
     subst (λ (p : Parts). n < length p.ports) (sym c.program.ensures.value) l
 
@@ -29,7 +30,7 @@ loop-at-preserved c = λ v.
     let g = c.args.tag in
     let n = c.item_at-number.result in
     let port = c.port.result.now in
-    let its : IsArrival program c.args.origin n = (c.of-ports.ensures.each program c.requires.arrivals n).0 (contains_at c.of-ports.result.now c.loop-at.at n c.item_at-number.ensures) in
+    let its : IsArrival program c.args.origin n = ((c.of-ports.ensures.each program c.requires.arrivals n).0 (contains_at c.of-ports.result.now c.loop-at.at n c.item_at-number.ensures)).0 in
     let is_port : slice_get program.ports n ≡ Some port = ap (λ (p : Parts). slice_get p.ports n) (sym c.program.ensures.value) ∙ c.port.ensures.value in
     let origin : port.origin ≡ c.args.origin = ap (λ (x : PortOf). x.origin) (same_some (slice_get program.ports n) port its.0 is_port its.1) ∙ its.2 in
     told_next (λ (p r : ℕ). ArrivesAtOnce program g (Write (Port c.args.origin) v) p × IsListener program (On (Port p)) r) c.of-ports.result.now c.loop-at.at n c.args.turn.now c.loop-at.turn c.tell_of.new.turn c.item_at-number.ensures (c.loop-at.invariant v)
@@ -44,7 +45,7 @@ returns c = λ v.
     let g = c.args.tag in
     told_each (λ (p r : ℕ). ArrivesAtOnce program g (Write (Port c.args.origin) v) p × IsListener program (On (Port p)) r) c.of-ports.result.now (λ r. (p : ℕ) × ArrivesAtOnce program g (Write (Port c.args.origin) v) p × IsListener program (On (Port p)) r) c.loop-at.at c.args.turn.now c.loop-at.turn (let z = c.loop-at-test.false in omega arith)
     (λ r k p e q. (p, q.0, q.1))
-    (λ r q. (let k = at_contains c.of-ports.result.now q.0 ((c.of-ports.ensures.each program c.requires.arrivals q.0).1 (q.1.0, q.1.1, q.1.2)) in (k.0, q.0, k.1, (q.1, q.2))))
+    (λ r q. (let k = at_contains c.of-ports.result.now q.0 ((c.of-ports.ensures.each program c.requires.arrivals q.0).1 ((q.1.0, q.1.1, q.1.2), listened_watched program (Port q.0) r q.2)) in (k.0, q.0, k.1, (q.1, q.2))))
     (c.loop-at.invariant v)
 
 pub tell_of-requires-clause-phases : goal.tell_of-requires-clause-phases

@@ -15,7 +15,7 @@ use Rattle.lft_events.proofs.feeding.feed_port.Goals as goal
 use Rattle.lft_events.proofs.feeding.feed_port.Goals.{then-again, else-again}
 
 pub returns : goal.returns
-returns c = λ t w r o ports arrives unmet is was.
+returns c = λ t w r o ports arrives watched unmet is was.
     let plan = c.args.plan.now in
     let port = c.port.result.now in
     let there : slice_get plan.program.ports c.args.number ≡ Some port = ap (λ (z : Parts). slice_get z.ports c.args.number) (sym c.program.ensures.value) ∙ c.port.ensures.value in
@@ -27,6 +27,6 @@ returns c = λ t w r o ports arrives unmet is was.
     elim c.if-again.branch [
       | then-again k ↦
           let out0 : Becomes c.args.queue.now c.if-again.queue c.plus-at.result (Port c.args.number) None = subst (λ (q : List Pending). Becomes c.args.queue.now q c.plus-at.result (Port c.args.number) None) (sym k.queue-is) k.remove-replaced.ensures.removed in
-          again_fed plan c.program.ensures.sound t x o c.args.value refl c.args.number port there c.args.last ports unmet c.args.clash c.args.queue.now is its c.if-again.queue c.put.new.queue found put ((was c.args.number port there its).0 k.if-again.true) (subst (λ (g : Tag). Becomes c.args.queue.now c.if-again.queue g (Port c.args.number) None) at out0)
-      | else-again k ↦ first_fed plan c.program.ensures.sound t x o c.args.value refl c.args.number port there c.args.last ports unmet c.args.clash c.args.queue.now is its c.if-again.queue c.put.new.queue found put (λ y. false≢true (sym k.if-again.false ∙ (was c.args.number port there its).1 y)) k.queue-is
+          again_fed plan c.program.ensures.sound t x o c.args.value refl c.args.number port there watched c.args.last ports unmet c.args.clash c.args.queue.now is its c.if-again.queue c.put.new.queue found put ((was c.args.number port there its).0 k.if-again.true) (subst (λ (g : Tag). Becomes c.args.queue.now c.if-again.queue g (Port c.args.number) None) at out0)
+      | else-again k ↦ first_fed plan c.program.ensures.sound t x o c.args.value refl c.args.number port there watched c.args.last ports unmet c.args.clash c.args.queue.now is its c.if-again.queue c.put.new.queue found put (λ y. false≢true (sym k.if-again.false ∙ (was c.args.number port there its).1 y)) k.queue-is
     ]) c.put.ensures

@@ -1,7 +1,7 @@
 use Rattle.std.proofs.Common.{◌∙◌}
 use Rattle.lft_model.specs.Runs.{start_row}
 use Rattle.lft_model.proofs.Places.{slice_get_within}
-use Rattle.lft_pair.proofs.Odd.{own_effects, agrees_by}
+use Rattle.lft_pair.proofs.Odd.{agrees_by}
 use Rattle.lft_pair.proofs.difference.agrees.Goals as goal
 
 pub read_steps-requires-clause-rules : goal.read_steps-requires-clause-rules
@@ -16,5 +16,4 @@ read_steps-requires-in-Some-clause-rules c = (c.args.plan.now, c.requires.others
 pub returns-in_ok-same-in-Some-clause-same : goal.returns-in_ok-same-in-Some-clause-same
 returns-in_ok-same-in-Some-clause-same c =
     let row = c.args.row in
-    let effects = own_effects c.args.plan.now.program c.program.result.now row.reaction c.reaction.result.now c.as_slice-effects.result.now c.program.ensures.value c.reaction.ensures.value c.as_slice-effects.ensures in
-    agrees_by c.args.plan.now c.args.rows.now c.args.others.now row.tag row.reaction c.in-Some.other c.row_at.result c.in-Some.ensures.found c.row_at.ensures c.as_slice-effects.result.now c.as_slice.result.now c.as_slice-in-Some.result.now c.in_ok-same-in-Some.same effects (c.as_slice.ensures.value ∙ c.in_ok-read_steps-in-Some.ensures) (c.as_slice-in-Some.ensures.value ∙ c.in_ok-read_steps-in-Some-2.ensures) c.in_ok-same-in-Some.ensures
+    agrees_by c.args.plan.now c.args.rows.now c.args.others.now row.tag row.reaction c.in-Some.other c.row_at.result c.in-Some.ensures.found c.row_at.ensures c.keeps.ensures.sound c.requires.legal c.requires.others c.as_slice.result.now c.as_slice-in-Some.result.now c.in_ok-same-in-Some.same (c.as_slice.ensures.value ∙ c.in_ok-read_steps-in-Some.ensures) (c.as_slice-in-Some.ensures.value ∙ c.in_ok-read_steps-in-Some-2.ensures) c.in_ok-same-in-Some.ensures

@@ -17,7 +17,7 @@ loop-number-preserved c =
     let seats : c.len-in-loop-number.result ≡ length (inputs x) = omega (arith, c.len-in-loop-number.ensures, c.in_ok-names.names.ok.0, ap length own) in
     let count : length c.add_marks.new.places.items ≡ length places + length (inputs x) = c.in_ok-add_marks.ensures.count ∙ ap (λ k. length places + k) seats in
     let more = laid_more program.reactions n names firsts places c.add_marks.new.places.items x c.reaction.ensures.value c.loop-number.invariant count c.in_ok-add_marks.ensures.none in
-    subst (λ (ns : List (List Name)). AreLaidTo program.reactions (n + 1) ns c.push.new.self.items c.add_marks.new.places.items) (sym (c.in_ok-push-2.ensures.items ∙ ap (λ (z : List Name). names ++ z ∷ []) (c.from_vec.ensures ∙ own))) (subst (λ (fs : List ℕ). AreLaidTo program.reactions (n + 1) (names ++ inputs x ∷ []) fs c.add_marks.new.places.items) (sym (c.in_ok-push.ensures.items ∙ ap (λ k. firsts ++ k ∷ []) first)) more)
+    subst (λ (ns : List (List Name)). AreLaidTo program.reactions (n + 1) ns c.push.new.self.items c.add_marks.new.places.items) (sym (c.in_ok-push-2.ensures.items ∙ ap (λ (z : List Name). names ++ z ∷ []) (c.in_ok-new.ensures ∙ c.from_vec.ensures ∙ own))) (subst (λ (fs : List ℕ). AreLaidTo program.reactions (n + 1) (names ++ inputs x ∷ []) fs c.add_marks.new.places.items) (sym (c.in_ok-push.ensures.items ∙ ap (λ k. firsts ++ k ∷ []) first)) more)
 
 pub returns : goal.returns
 returns c = laid_all c.args.program.now c.loop-number.number (record { inputs = c.loop-number.inputs; firsts = c.loop-number.firsts; places = c.loop-number.places; guess = 0 }) (let n = c.reactions-number-end.ensures.count in let t = c.loop-number-test.false in omega arith) (let n = c.reactions-number-end.ensures.count in let t = c.loop-number.auto.number-end in omega arith) c.loop-number.invariant

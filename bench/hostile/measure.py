@@ -1,0 +1,344 @@
+#!/usr/bin/env python3
+"""measure.py LFTRACE FOLDER: measures inputs that ask for much, each beside an ordinary one.
+
+A shape is a lawful input that has two lengths, as the writes of a run and the effects of its
+reaction. A program that looks through one for each of the other takes their product. Beside each
+shape stands an ordinary input of the same command with as many rows: one reaction and one timer.
+
+`seconds` and `MB` are the processor time and the most memory of `lftrace`, `by ordinary` the time
+divided by that of the ordinary input, `bytes` the memory by each byte of input and output.
+Texts are made in FOLDER, from SEED. From the environment: SEED (1), SHAPES (some of them, by
+name), TURNS (3), SECONDS (120, after which a run is stopped).
+"""
+import multiprocessing, os, random, re, subprocess, sys, threading
+
+MOST_BY_ORDINARY = 20
+# A time below this can't be told from that of starting a process.
+LEAST_SECONDS = 0.01
+
+TRACE = "event,worker,time,microstep,reaction,name,value,delay\n"
+EXTERNALS = "kind,time,microstep,name,value\n"
+CARDS = "kind,reaction,name,delay,value\n"
+TICK = "main reactor { timer t(0, 1 ns)  reaction(t) {= =} }\n"
+WEEK = "1 week"
+
+
+class Input:
+    """The words of a command, the texts that it reads, and how many rows it judges or writes."""
+
+    def __init__(self, command, rows, *texts, words=()):
+        self.command, self.rows, self.texts, self.words = command, rows, texts, list(words)
+
+    def write(self, folder):
+        """Writes the texts; the words of the command, and the number of bytes."""
+        paths, size = [], 0
+        for number, text in enumerate(self.texts):
+            paths.append(os.path.join(folder, f"text{number}"))
+            with open(paths[-1], "w") as file:
+                size += file.write(text)
+        return [self.command, *paths, *self.words], size
+
+
+def stop(time, microstep=0):
+    return f"{EXTERNALS}stop,{time},{microstep},,\n"
+
+
+def each(numbers, form, between=","):
+    return between.join(form.format(number) for number in numbers)
+
+
+def run(time, reaction, steps="", worker=0):
+    """The rows of a run: its steps stand between its start and its end."""
+    return (f"start,{worker},{time},0,{reaction},,,\n{steps}"
+            f"end,{worker},{time},0,{reaction},,,\n")
+
+
+def ticks(count):
+    return TRACE + "".join(run(time, "main#1") for time in range(count))
+
+
+def bodies(reaction, count=1_000_000):
+    return f"bodies,{reaction},,,{count}\n"
+
+
+def ordinary(command, rows):
+    """One reaction and one timer, with so many rows."""
+    count = max(1, rows // 2)
+    if command == "record":
+        return Input(command, rows, TICK, stop(count - 1), CARDS + bodies("main#1"))
+    tables = [ticks(count)] * (2 if command == "pair" else 1)
+    return Input(command, rows, TICK, stop(count - 1), *tables)
+
+
+# Programs, by their number of ports.
+
+def ports(kind, count):
+    return each(range(count), kind + " p{}", " ")
+
+
+def writer(count):
+    """A reaction that may write each of so many ports."""
+    return (f"reactor A {{ {ports('output', count)}\n"
+            f"reaction(startup) -> {each(range(count), 'p{}')} {{= =}} }}\n"
+            "main reactor { a = new A() }\n")
+
+
+def reader(count):
+    """A reaction that writes so many ports, and one that reads them."""
+    return (f"reactor A {{ {ports('output', count)}\n"
+            f"reaction(startup) -> {each(range(count), 'p{}')} {{= =}} }}\n"
+            f"main reactor {{ a = new A()  reaction({each(range(count), 'a.p{}')}) {{= =}} }}\n")
+
+
+def absent(count):
+    """A reaction with a timer that may read so many ports. Nobody writes them."""
+    return (f"reactor A {{ {ports('output', count)} }}\n"
+            "main reactor { timer t(0, 1 ns)  a = new A()\n"
+            f"reaction(t) {each(range(count), 'a.p{}')} {{= =}} }}\n")
+
+
+def upstream(count):
+    """As many reactions of one instance, each with as many uses. All precede the last one. Another
+    reaction runs beside it."""
+    uses = each(range(count), "i{}")
+    return ("reactor W { output o  reaction(shutdown) -> o {= =} }\n"
+            f"reactor Q {{ timer t(0, 1 ns)  {each(range(count), 'input i{}', ' ')}\n"
+            + f"reaction(shutdown) {uses} {{= =}}\n" * (count - 1) + "reaction(t) {= =} }\n"
+            "reactor Y { timer t(0, 1 ns)  reaction(t) {= =} }\n"
+            f"main reactor {{ {each(range(count), 'w{0} = new W()', ' ')}\n"
+            "q = new Q()  y = new Y()\n"
+            f"{each(range(count), 'w{}.o')} -> {each(range(count), 'q.i{}')} }}\n")
+
+
+def fan(count, delay):
+    """So many ports that nobody reads, behind one that is written at each tag."""
+    return ("reactor S { output o  timer t(0, 1 ns)  reaction(t) -> o {= =} }\n"
+            f"reactor Q {{ {ports('input', count)} }}\n"
+            "main reactor { s = new S()  q = new Q()\n"
+            f"{','.join(['s.o'] * count)} -> {each(range(count), 'q.p{}')} after {delay} }}\n")
+
+
+def chain(count):
+    """So many ports that nobody reads, each a nanosecond behind the one before it."""
+    return ("reactor C { input x  output y  x -> y after 1 ns }\n"
+            "reactor S { output o  timer t(0, 1 ns)  reaction(t) -> o {= =} }\n"
+            f"main reactor {{ s = new S()  {each(range(count), 'c{0} = new C()', ' ')}\n"
+            "s.o -> c0.x\n"
+            + "".join(f"c{k}.y -> c{k + 1}.x\n" for k in range(count - 1)) + "}\n")
+
+
+# Shapes of `judge`.
+
+def shuffled(count, chance):
+    numbers = list(range(count))
+    chance.shuffle(numbers)
+    return numbers
+
+
+def far_workers(chance):
+    """400,000 runs that never end, each by a worker of its own"""
+    count = 400_000
+    workers = chance.sample(range(1_024, 2**32), count)
+    table = TRACE + "".join(f"start,{worker},{time},0,main#1,,,\n"
+                            for time, worker in enumerate(workers))
+    return Input("judge", count, TICK, stop(count - 1), table)
+
+
+def names(chance):
+    """60,000 ports, 200,000 writes"""
+    ports, count = 60_000, 200_000
+    program = (f"reactor A {{ {each(range(ports), 'input p{}', ' ')} }}\n"
+               "main reactor { a = new A()  reaction(startup) {= =} }\n")
+    table = TRACE + "start,0,0,0,main#1,,,\n" + "".join(
+        f"write,0,0,0,main#1,main.a.p{chance.randrange(ports)},1,\n" for _ in range(count))
+    return Input("judge", count, program, stop(0), table)
+
+
+def writes(chance):
+    """1,000,000 writes by a reaction with 20,000 effects"""
+    effects, count = 20_000, 1_000_000
+    steps = "".join(f"write,0,0,0,main.a#1,main.a.p{chance.randrange(effects)},1,\n"
+                    for _ in range(count))
+    return Input("judge", count, writer(effects), stop(0), TRACE + run(0, "main.a#1", steps))
+
+
+def read_table(count, order):
+    writes = each(range(count), "write,0,0,0,main.a#1,main.a.p{},1,\n", "")
+    reads = each(order, "read,0,0,0,main#1,main.a.p{},1,\n", "")
+    return TRACE + run(0, "main.a#1", writes) + run(0, "main#1", reads)
+
+
+def reads(chance):
+    """a run that reads its 20,000 inputs in another order"""
+    count = 20_000
+    table = read_table(count, shuffled(count, chance))
+    return Input("judge", 2 * count, reader(count), stop(0), table)
+
+
+def absent_inputs(_):
+    """80,000 runs of a reaction with 20,000 inputs, none of them present"""
+    count = 80_000
+    return Input("judge", 2 * count, absent(20_000), stop(count - 1), ticks(count))
+
+
+def precedence(_):
+    """40,000 tags with two runs, and 160,000 pairs that precede the first"""
+    count = 40_000
+    table = TRACE + "".join(run(time, "main.q#400") + run(time, "main.y#1")
+                            for time in range(count))
+    return Input("judge", 4 * count, upstream(400), stop(count - 1, 1), table)
+
+
+# Shapes of `pair`.
+
+def pair_effects(_):
+    """10,000 runs of a reaction with 10,000 effects"""
+    count = 10_000
+    program = (f"reactor A {{ {ports('input', count)} }}\n"
+               "main reactor { timer t(0, 1 ns)  a = new A()\n"
+               f"reaction(t) -> {each(range(count), 'a.p{}')} {{= =}} }}\n")
+    table = ticks(count)
+    return Input("pair", 2 * count, program, stop(count - 1), table, table)
+
+
+def pair_writes(chance):
+    """a run that writes its 20,000 effects, each time in another order"""
+    count = 20_000
+    tables = [TRACE + run(0, "main.a#1", each(
+        shuffled(count, chance), "write,0,0,0,main.a#1,main.a.p{},1,\n", "")) for _ in range(2)]
+    return Input("pair", count, writer(count), stop(0), *tables)
+
+
+def pair_reads(chance):
+    """a run that reads its 10,000 inputs, each time in another order"""
+    count = 10_000
+    tables = [read_table(count, shuffled(count, chance)) for _ in range(2)]
+    return Input("pair", 2 * count, reader(count), stop(0), *tables)
+
+
+# Shapes of `record`.
+
+def many_bodies(_):
+    """2,500 reactions with a million bodies each"""
+    count = 2_500
+    program = "main reactor { " + "reaction(startup) {= =}\n" * count + "}\n"
+    cards = CARDS + "".join(bodies(f"main#{number + 1}") for number in range(count))
+    return Input("record", 2 * count, program, stop(0), cards)
+
+
+def unread(program, count, last, *words):
+    cards = CARDS + bodies("main.s#1") + "write,main.s#1,main.s.o,,1\n"
+    return Input("record", 3 * count, program, stop(last), cards, words=words)
+
+
+def unread_ports(_):
+    """4,000 runs, 4,000 ports that nobody reads, a delay of 1 ns"""
+    return unread(fan(4_000, "1 ns"), 4_000, 3_999)
+
+
+def unread_week(_):
+    """4,000 runs, 4,000 ports that nobody reads, a delay of a week"""
+    return unread(fan(4_000, WEEK), 4_000, 10**18, "--max-runs", "4000")
+
+
+def unread_chain(_):
+    """2,000 runs, a chain of 2,000 ports that nobody reads"""
+    return unread(chain(2_000), 2_000, 1_999)
+
+
+def dense_timers(_):
+    """10,000 runs of a reaction with 10,000 timers, each of which fires at each tag"""
+    count = 10_000
+    program = (f"main reactor {{ {each(range(count), 'timer t{}(0, 1 ns)', ' ')}\n"
+               f"reaction({each(range(count), 't{}')}) {{= =}} }}\n")
+    return Input("record", 2 * count, program, stop(count - 1), CARDS + bodies("main#1"))
+
+
+def record_absent(_):
+    """10,000 runs of a reaction with 10,000 inputs, none of them present"""
+    count = 10_000
+    return Input("record", 2 * count, absent(count), stop(count - 1), CARDS + bodies("main#1"))
+
+
+def terms(chance):
+    """a card with 10,000 terms, in another order than the inputs"""
+    count = 10_000
+    cards = (CARDS + bodies("main.a#1", 1) + bodies("main#1", 1)
+             + each(range(count), "write,main.a#1,main.a.p{},,1\n", "")
+             + f"state,main#1,,,{each(shuffled(count, chance), 'main.a.p{}', '+')}\n")
+    return Input("record", 2 * count, reader(count), stop(0), cards)
+
+
+SHAPES = [far_workers, names, writes, reads, absent_inputs, precedence, pair_effects, pair_writes,
+          pair_reads, many_bodies, unread_ports, unread_week, unread_chain, dense_timers,
+          record_absent, terms]
+
+
+class Figures:
+    """The least processor time and the greatest peak of memory of some runs of a command."""
+
+    def __init__(self, words, turns, most):
+        self.seconds, self.peak, self.size, self.status = float("inf"), 0, 0, None
+        for _ in range(turns):
+            self.turn(words, most)
+            if self.seconds > 5:
+                break
+
+    def turn(self, words, most):
+        child = subprocess.Popen(words, stdout=subprocess.PIPE, stderr=subprocess.DEVNULL)
+        clock = threading.Timer(most, child.kill)
+        clock.start()
+        self.size = sum(len(part) for part in iter(lambda: child.stdout.read(1 << 20), b""))
+        _, status, used = os.wait4(child.pid, 0)
+        clock.cancel()
+        child.returncode = self.status = os.waitstatus_to_exitcode(status)
+        self.seconds = min(self.seconds, used.ru_utime + used.ru_stime)
+        self.peak = max(self.peak, used.ru_maxrss)
+
+
+FORM = "{:14} {:>8} {:>7} {:>9} {:>9} {:>7} {:>6}  {}"
+
+
+def texts_of(shape, folder):
+    """Writes the texts of a shape and of the ordinary input beside it: the command, the rows, the
+    words of both, and the number of bytes."""
+    chance = random.Random(f"{os.environ.get('SEED', '1')} {shape.__name__}")
+    asked = shape(chance)
+    words, size = asked.write(folder)
+    beside, _ = ordinary(asked.command, asked.rows).write(os.path.join(folder, "ordinary"))
+    return asked.rows, words, beside, size
+
+
+def measure(lftrace, folder, shape, turns, most):
+    """Prints the row of a shape, and gives how many times as long as an ordinary input it takes."""
+    # A process of its own makes the texts: what this one holds counts as memory of those that it starts.
+    with multiprocessing.Pool(1) as pool:
+        rows, words, beside, size = pool.apply(texts_of, (shape, folder))
+    much = Figures([lftrace, *words], turns, most)
+    plain = Figures([lftrace, *beside], turns, most)
+    times = much.seconds / max(plain.seconds, LEAST_SECONDS)
+    print(FORM.format(
+        shape.__name__, rows, f"{size / 1e6:.1f}", f"{much.seconds:.2f}", f"{times:.1f}",
+        f"{much.peak / 1e3:.0f}", f"{much.peak * 1024 / (size + much.size):.0f}",
+        f"status {much.status}: {shape.__doc__}"), flush=True)
+    return times
+
+
+def main():
+    if len(sys.argv) != 3:
+        sys.exit(__doc__)
+    lftrace, folder = os.path.abspath(sys.argv[1]), sys.argv[2]
+    os.makedirs(os.path.join(folder, "ordinary"), exist_ok=True)
+    wanted = re.findall(r"\w+", os.environ.get("SHAPES", ""))
+    turns, most = int(os.environ.get("TURNS", "3")), float(os.environ.get("SECONDS", "120"))
+    load = ", ".join(f"{load:.1f}" for load in os.getloadavg())
+    print(f"program   {lftrace}\nmachine   {os.cpu_count()} processors, load {load}")
+    print(FORM.format("shape", "rows", "MB in", "seconds", "by ordin.", "MB", "bytes", ""))
+    missed = [f"{shape.__name__}: {times:.1f}, at most {MOST_BY_ORDINARY}"
+              for shape in SHAPES if not wanted or shape.__name__ in wanted
+              for times in [measure(lftrace, folder, shape, turns, most)]
+              if times > MOST_BY_ORDINARY]
+    print("goals missed:" if missed else "no goal missed", *missed, sep="\n  ")
+
+
+main()

@@ -1,0 +1,25 @@
+//! Why a trace breaks a rule.
+
+ghost use Rattle.std.specs.Prelude.{IfOk, string_bytes};
+ghost use Rattle.lft_trace.specs.Fits.{RowsFit};
+ghost use Rattle.lft_model.specs.Breaches.{First};
+ghost use Rattle.lft_explain.specs.Explained.{Explains};
+
+use crate::telling::tell;
+use lft_facts::find;
+use lft_model::{Breach, Plan};
+use lft_tag::NoMemory;
+use lft_trace::Rows;
+use std::alloc::Global;
+
+/// The text of facts behind the first breach of a trace. It looks at all rows some times for each
+/// trigger or input that the facts name, and for rule 6 once for each port and action.
+pub fn explain(alloc: Global, plan: &Plan, rows: &Rows, breach: Breach) -> Result<String, NoMemory>
+    requires fit { RowsFit plan.now.program rows.now }
+    requires first { First plan.now rows.now breach }
+    ensures { IfOk result (λ text. Explains plan.now rows.now breach (string_bytes text)) }
+{
+    let facts = find(alloc, plan, rows, breach)?;
+    let text = tell(alloc, plan.program(), rows, &facts)?;
+    Ok(text)
+}

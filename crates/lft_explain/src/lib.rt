@@ -1,0 +1,14 @@
+#![tactic(auto)]
+//! Why a trace breaks a rule, as text: facts that a reader can believe one by one.
+
+mod causes;
+mod explaining;
+mod lines;
+mod orders;
+mod rows;
+mod runs;
+mod telling;
+mod words;
+
+pub use explaining::explain;
+pub use telling::tell;

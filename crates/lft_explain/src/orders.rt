@@ -1,0 +1,89 @@
+//! The text of which reaction precedes which.
+
+ghost use Rattle.std.specs.Prelude.{◌≡◌, ◌++◌, OnOk, string_bytes};
+ghost use Rattle.lft_explain.specs.Orders.{origin_of, early_words, declared_words, feeds_words};
+
+use crate::lines::push_line;
+use crate::words::{push_port, push_reaction, push_tag};
+use lft_flat::Program;
+use lft_tag::Tag;
+use std::alloc::AllocError;
+
+/// The origin of the port; a number that is of no port is its own.
+pub(crate) fn origin(program: &Program, port: u32) -> u32
+    ensures { result ≡ origin_of program.now port }
+{
+    if (port as usize) < program.ports() {
+        program.port(port).origin
+    } else {
+        port
+    }
+}
+
+/// Puts that a reaction starts before another one has ended at the end of the text.
+pub(crate) fn push_early(
+    text: &mut String,
+    program: &Program,
+    tag: Tag,
+    earlier: u32,
+    later: u32,
+    start: u32,
+    end: u32,
+) -> Result<(), AllocError>
+    ensures { OnOk result (string_bytes text.new ≡ string_bytes text.old ++ early_words program.now tag earlier later start end) }
+{
+    push_reaction(text, program, later)?;
+    text.push_str(" starts at ")?;
+    push_tag(text, tag)?;
+    text.push_str(" in ")?;
+    push_line(text, start)?;
+    text.push_str(", before ")?;
+    push_reaction(text, program, earlier)?;
+    text.push_str(" ends in ")?;
+    push_line(text, end)?;
+    text.push_str(".\n\n  ")?;
+    push_reaction(text, program, earlier)?;
+    text.push_str(" precedes ")?;
+    push_reaction(text, program, later)?;
+    text.push_str(":\n")?;
+    Ok(())
+}
+
+/// Puts that a reaction is declared before another one at the end of the text.
+pub(crate) fn push_declared(
+    text: &mut String,
+    program: &Program,
+    first: u32,
+    second: u32,
+) -> Result<(), AllocError>
+    ensures { OnOk result (string_bytes text.new ≡ string_bytes text.old ++ declared_words program.now first second) }
+{
+    text.push_str("    ")?;
+    push_reaction(text, program, first)?;
+    text.push_str(" before ")?;
+    push_reaction(text, program, second)?;
+    text.push_str(": declared first\n")?;
+    Ok(())
+}
+
+/// Puts that a reaction may write what another one reads at the end of the text.
+pub(crate) fn push_feeds(
+    text: &mut String,
+    program: &Program,
+    writer: u32,
+    reader: u32,
+    port: u32,
+) -> Result<(), AllocError>
+    ensures { OnOk result (string_bytes text.new ≡ string_bytes text.old ++ feeds_words program.now writer reader port) }
+{
+    text.push_str("    ")?;
+    push_reaction(text, program, writer)?;
+    text.push_str(" before ")?;
+    push_reaction(text, program, reader)?;
+    text.push_str(": may write ")?;
+    push_port(text, program, origin(program, port))?;
+    text.push_str(" --> ")?;
+    push_port(text, program, port)?;
+    text.push_str("\n")?;
+    Ok(())
+}

@@ -1,0 +1,120 @@
+-- Facts of the right forms give the breaches of the rules 7 to 10.
+use Rattle.std.proofs.Common.{◌≡◌, ℕ, ◌<◌, inl, inr, List, [], ◌∷◌, ◌++◌, length, refl, sym, ap, ◌∙◌, subst, arith, Option, Some, slice_get, Contains}
+use native.Mathlib.Decide.{ℕ_discrete, dec_lt}
+use Rattle.std.proofs.lemmas.List.Elements.{All-head, All-tail, All-cons, All-nil, All-contains}
+use Rattle.lft_lists.proofs.Places.{get_there, same_at, at_contains}
+use Rattle.lft_tag.specs.declared.Tag.{Tag}
+use Rattle.lft_flat.specs.declared.parts.Trigger.{Trigger}
+use Rattle.lft_flat.specs.declared.parts.Reaction.{Reaction}
+use Rattle.lft_trace.specs.declared.row.Row.{Row}
+use Rattle.lft_trace.specs.declared.row.Step.TheVariants.{Start, End}
+use Rattle.lft_graph.specs.Precedence.{Precedes}
+use Rattle.lft_model.specs.Plans.{PlanParts}
+use Rattle.lft_model.specs.Presence.{Triggered, Occurs}
+use Rattle.lft_model.specs.Runs.{Ran, start_row, end_row}
+use Rattle.lft_model.specs.Breaches.{EndsBefore, IsTooEarly}
+use Rattle.lft_model.proofs.Places.{slice_get_within}
+use Rattle.lft_model.proofs.Legality.{four, ran_at, one_start, one_end, ended}
+use Rattle.lft_answers.specs.Answers.{KeepsRows}
+use Rattle.lft_facts.specs.declared.facts.Fact.{Fact}
+use Rattle.lft_facts.specs.declared.facts.Cause.{Cause}
+use Rattle.lft_facts.specs.declared.facts.Fact.TheVariants as fact
+use Rattle.lft_facts.specs.Facts.{IsFact, IsCause, AreFacts, StartsAt, EndsAt, IsEarlyStart, IsTriggerOf, HasTriggers, IsUntriggered}
+use Rattle.lft_facts.specs.Enough.{Gives, GivesChain, GivesTrigger}
+use Rattle.lft_facts.specs.Ways.{IsMarked, EndsMarked}
+use Rattle.lft_facts.proofs.Lists.{all_right}
+
+-- a start row of r at g makes a run
+pub ran_there : (t : List Row) (g : Tag) (r p : ℕ) → StartsAt t g r p → Ran t g r
+ran_there t g r p s = record { place = p; worker = s.0; starts = s.1 }
+
+-- rule 9: a start before an end, and a chain from the one to the other
+pub late_gives : (g : Tag) (a r start end : ℕ) (steps facts : List Fact) → facts ≡ (fact.StartsEarly g a r start end ∷ []) ++ steps → GivesChain steps a r → Gives facts g (Some r) 9
+late_gives g a r start end steps facts is chain plan t all kept = inr (inr (inl (refl, ran_there t g r start early.starts, early_run)))
+  where
+    each : AreFacts plan t ((fact.StartsEarly g a r start end ∷ []) ++ steps)
+    each = subst (λ (fs : List Fact). AreFacts plan t fs) is all
+
+    early : IsEarlyStart t g a r start end
+    early = All-head (IsFact plan t) (fact.StartsEarly g a r start end) steps each
+
+    not_ended : ¬ EndsBefore t g a r
+    not_ended q =
+        let e : q.ended_at ≡ end = one_end plan t (four plan t kept) q.ended_at end q.worker early.ends.0 g a q.ends early.ends.1 in
+        let s : q.started_at ≡ start = one_start plan t (four plan t kept) q.started_at start q.other early.starts.0 g r q.starts early.starts.1 in
+        let b : q.ended_at < q.started_at = q.before in
+        let l : start < end = early.before in
+        absurd (omega arith)
+
+    early_run : IsTooEarly plan t g r
+    early_run = record { earlier = a; precedes = chain plan t (all_right (IsFact plan t) (fact.StartsEarly g a r start end ∷ []) steps each); earlier_ran = ran_at plan t (four plan t kept) end (end_row early.ends.0 g a) g a early.ends.1 refl refl; not_ended = not_ended }
+
+-- a run that started too early did so before the end of a run from which a way leads to it
+pub late_there : (plan : PlanParts) (t : List Row) → KeepsRows plan t → (g : Tag) (r start : ℕ) → StartsAt t g r start → IsTooEarly plan t g r → (next : List (Option ℕ)) → ((a : ℕ) → Precedes plan.program a r → IsMarked next a) → (i : ℕ) × (start < i) × EndsMarked t g next i
+late_there plan t kept g r start starts early next marked = (e.0, after (dec_lt e.0 start) (ℕ_discrete e.0 start), (early.earlier, (early.earlier_ran.worker, e.2), marked early.earlier early.precedes))
+  where
+    e : (k : ℕ) × (early.earlier_ran.place < k) × (slice_get t k ≡ Some (end_row early.earlier_ran.worker g early.earlier))
+    e = ended plan t kept early.earlier_ran.place early.earlier_ran.worker g early.earlier early.earlier_ran.starts
+
+    after : Dec (e.0 < start) → Dec (e.0 ≡ start) → start < e.0
+    after (yes l) d = absurd (early.not_ended (record { ended_at = e.0; started_at = start; worker = early.earlier_ran.worker; other = starts.0; ends = e.2; starts = starts.1; before = l }))
+    after (no n) (yes q) = let z : Some (end_row early.earlier_ran.worker g early.earlier) ≡ Some (start_row starts.0 g r) = sym e.2 ∙ ap (slice_get t) q ∙ starts.1 in let y : end_row early.earlier_ran.worker g early.earlier ≡ start_row starts.0 g r = cc in let s : End ≡ Start = ap (λ (x : Row). x.step) y in absurd (cc)
+    after (no n) (no m) = omega arith
+
+-- the facts of rule 9 hold
+pub late_holds : (plan : PlanParts) (t : List Row) (g : Tag) (a r start end : ℕ) (steps facts : List Fact) → facts ≡ (fact.StartsEarly g a r start end ∷ []) ++ steps → StartsAt t g r start → EndsAt t g a end → start < end → AreFacts plan t steps → AreFacts plan t facts
+late_holds plan t g a r start end steps facts is starts ends l each = subst (λ (fs : List Fact). AreFacts plan t fs) (sym is) (All-cons (IsFact plan t) (fact.StartsEarly g a r start end) steps (record { starts = starts; ends = ends; before = l }) each)
+
+-- rule 7: no run, a trigger, and why it is present
+pub not_run_gives : (g : Tag) (r : ℕ) (x : Trigger) (c : Cause) (facts : List Fact) → facts ≡ fact.NoRun g r ∷ fact.HasTrigger r x ∷ fact.Cause c ∷ [] → GivesTrigger c g x → Gives facts g (Some r) 7
+not_run_gives g r x c facts is gives plan t all kept = inl (refl, record { reaction = has.reaction; trigger = x; is_reaction = has.is_reaction; is_trigger = has.is_trigger; occurs = gives plan t why }, none)
+  where
+    each : AreFacts plan t (fact.NoRun g r ∷ fact.HasTrigger r x ∷ fact.Cause c ∷ [])
+    each = subst (λ (fs : List Fact). AreFacts plan t fs) is all
+
+    none : ¬ Ran t g r
+    none = All-head (IsFact plan t) (fact.NoRun g r) (fact.HasTrigger r x ∷ fact.Cause c ∷ []) each
+
+    rest : AreFacts plan t (fact.HasTrigger r x ∷ fact.Cause c ∷ [])
+    rest = All-tail (IsFact plan t) (fact.NoRun g r) (fact.HasTrigger r x ∷ fact.Cause c ∷ []) each
+
+    has : IsTriggerOf plan.program r x
+    has = All-head (IsFact plan t) (fact.HasTrigger r x) (fact.Cause c ∷ []) rest
+
+    why : IsCause plan t c
+    why = All-head (IsFact plan t) (fact.Cause c) [] (All-tail (IsFact plan t) (fact.HasTrigger r x) (fact.Cause c ∷ []) rest)
+
+-- the facts of rule 7 hold
+pub not_run_holds : (plan : PlanParts) (t : List Row) (g : Tag) (r : ℕ) (x : Trigger) (c : Cause) (facts : List Fact) → facts ≡ fact.NoRun g r ∷ fact.HasTrigger r x ∷ fact.Cause c ∷ [] → ¬ Ran t g r → IsTriggerOf plan.program r x → IsCause plan t c → AreFacts plan t facts
+not_run_holds plan t g r x c facts is none has why = subst (λ (fs : List Fact). AreFacts plan t fs) (sym is) (All-cons (IsFact plan t) (fact.NoRun g r) (fact.HasTrigger r x ∷ fact.Cause c ∷ []) none (All-cons (IsFact plan t) (fact.HasTrigger r x) (fact.Cause c ∷ []) has (All-cons (IsFact plan t) (fact.Cause c) [] why (All-nil (IsFact plan t)))))
+
+-- a reaction of this number is one
+pub same_reaction : (xs : List Reaction) (r : ℕ) (x y : Reaction) → slice_get xs r ≡ Some x → slice_get xs r ≡ Some y → x ≡ y
+same_reaction xs r x y e f = same_at xs r r x y e f refl
+
+-- rule 8: a run, how many triggers there are, and that each of them is absent
+pub not_triggered_gives : (g : Tag) (r start : ℕ) (xs : List Trigger) (facts : List Fact) → Contains facts (fact.Runs g r start) → Contains facts (fact.TriggerCount r (length xs)) → ((k : ℕ) (x : Trigger) → slice_get xs k ≡ Some x → Contains facts (fact.Untriggered g r k x)) → Gives facts g (Some r) 8
+not_triggered_gives g r start xs facts runs counts each plan t all kept = inr (inl (refl, ran_there t g r start (All-contains (IsFact plan t) facts (fact.Runs g r start) all runs), none))
+  where
+    has : HasTriggers plan.program r (length xs)
+    has = All-contains (IsFact plan t) facts (fact.TriggerCount r (length xs)) all counts
+
+    none : ¬ Triggered plan t g r
+    none o =
+        let i = at_contains o.reaction.triggers o.trigger o.is_trigger in
+        let same : has.reaction ≡ o.reaction = same_reaction plan.program.reactions r has.reaction o.reaction has.is_reaction o.is_reaction in
+        let l : i.0 < length o.reaction.triggers = slice_get_within o.reaction.triggers i.0 o.trigger i.1 in
+        let m : length o.reaction.triggers ≡ length xs = ap (λ (x : Reaction). length x.triggers) (sym same) ∙ has.as_many in
+        let x = get_there xs i.0 (omega arith) in
+        let f : IsUntriggered plan t g r i.0 x.0 = All-contains (IsFact plan t) facts (fact.Untriggered g r i.0 x.0) all (each i.0 x.0 x.1) in
+        let is : f.reaction ≡ o.reaction = same_reaction plan.program.reactions r f.reaction o.reaction f.is_reaction o.is_reaction in
+        let z : Some x.0 ≡ Some o.trigger = sym f.is_trigger ∙ ap (λ (y : Reaction). slice_get y.triggers i.0) is ∙ i.1 in
+        let q : x.0 ≡ o.trigger = cc in
+        f.absent (subst (λ (y : Trigger). Occurs plan t g y) (sym q) o.occurs)
+
+-- the row that ends a marked run is of a marked reaction
+pub marked_here : (t : List Row) (g : Tag) (next : List (Option ℕ)) (i : ℕ) (row : Row) → slice_get t i ≡ Some row → EndsMarked t g next i → IsMarked next row.reaction
+marked_here t g next i row is m =
+    let z : Some (end_row m.1.0 g m.0) ≡ Some row = sym m.1.1 ∙ is in
+    let y : end_row m.1.0 g m.0 ≡ row = cc in
+    subst (λ (a : ℕ). IsMarked next a) (ap (λ (x : Row). x.reaction) y) m.2

@@ -1,0 +1,11 @@
+pub mod Lists
+pub mod Upstream
+pub mod Causes
+pub mod Giving
+pub mod Fed
+pub mod Untriggered
+pub mod WrongReads
+pub mod Found
+pub mod Added
+pub mod Clashes
+pub mod RowGiving

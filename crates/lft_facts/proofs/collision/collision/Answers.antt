@@ -1,0 +1,6 @@
+use Rattle.std.proofs.Common.{rules}
+use Rattle.lft_facts.proofs.Clashes.{clash_gives}
+use Rattle.lft_facts.proofs.collision.collision.Goals as goal
+
+pub returns-clause-enough : goal.returns-clause-enough
+returns-clause-enough c = clash_gives c.args.tag c.two_causes-first.result.0 c.two_causes-first.result.1 c.push-2.new.self.items (search rules) c.two_causes-first.ensures.gives

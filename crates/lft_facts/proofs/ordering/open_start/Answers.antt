@@ -1,0 +1,14 @@
+use Rattle.std.proofs.Common.{◌≡◌, Bool, false, true, sym, ◌∙◌, arith, below_more}
+use Rattle.lft_facts.specs.Facts.{IsOpenSince}
+use Rattle.lft_facts.proofs.RowGiving.{open_since}
+use Rattle.lft_facts.proofs.ordering.open_start.Goals as goal
+
+pub loop-start-preserved : goal.loop-start-preserved
+loop-start-preserved c = below_more (λ k. ¬ IsOpenSince c.args.rows.now c.args.place c.args.worker k) c.loop-start.start c.loop-start.invariant (λ s. let z : ◌≡◌ {A = Bool} false true = sym c.if-is_open_since.false ∙ c.is_open_since.ensures.1 s in absurd (cc))
+
+pub unreachable-requires : goal.unreachable-requires
+unreachable-requires c =
+    let o = c.requires.open in
+    let n = c.loop-start-test.false in
+    let l = o.2.before in
+    c.loop-start.invariant o.2.start (omega arith) (open_since c.args.rows.now c.args.place c.args.worker o.0 o.1 o.2)

@@ -1,0 +1,4 @@
+pub mod Facts
+pub mod Enough
+pub mod Ways
+pub mod Causes

@@ -1,0 +1,150 @@
+//! Facts about a trace.
+
+use lft_flat::{Name, Trigger, Value};
+use lft_tag::Tag;
+use std::marker::Model;
+
+/// Why a trigger or an input is present at a tag.
+#[derive(Clone, Copy, PartialEq, Eq, Debug, Drop)]
+pub enum Cause {
+    /// The tag is the first of all.
+    AtStartup { tag: Tag },
+    /// The tag is the stop.
+    AtShutdown { tag: Tag },
+    /// A timer fires at the tag, so many periods after its offset.
+    Fires { tag: Tag, timer: u32, count: u64 },
+    /// A port has an event at the tag, from the last write of its origin, in this row.
+    Written { tag: Tag, port: u32, row: u32 },
+    /// An action has an event at the tag, from the schedule in this row.
+    Scheduled { tag: Tag, action: u32, row: u32 },
+    /// An action has an event at the tag, from this event of the external inputs.
+    Given { tag: Tag, action: u32, event: u32 },
+}
+
+/// What is wrong with a row, by one of the rules 1 to 5.
+#[derive(Clone, Copy, PartialEq, Eq, Debug, Drop)]
+pub enum RowFact {
+    /// It is at a lesser tag than a row before it.
+    Late { row: u32, earlier: u32 },
+    /// It is at a tag after the stop.
+    AfterStop { row: u32 },
+    /// It starts a run that a row before it started too.
+    StartsAgain { row: u32, first: u32 },
+    /// It starts a run while its worker has one open, which it started in another row.
+    Busy { row: u32, start: u32 },
+    /// It is of a run that its worker has not open.
+    NotOpen { row: u32 },
+    /// It reads what is not among the inputs of its reaction.
+    NotInput { row: u32 },
+    /// It reads what a row before it, of the same run, read too.
+    ReadAgain { row: u32, first: u32 },
+    /// It writes or schedules what its reaction may not.
+    NotEffect { row: u32 },
+    /// It starts a run that has no end row.
+    Unended { row: u32 },
+}
+
+/// A statement about a plan and the rows of a trace. Rows and events are named by their places,
+/// counted from 0; the row at place 0 stands in line 2 of the table.
+#[derive(Clone, Copy, PartialEq, Eq, Debug, Drop)]
+pub enum Fact {
+    /// The tag and the reaction of a row.
+    RowIs {
+        tag: Tag,
+        reaction: u32,
+        row: u32,
+    },
+    /// What is wrong with a row.
+    Row(RowFact),
+    /// Why something is present.
+    Cause(Cause),
+    /// A reaction has no run at the tag.
+    NoRun {
+        tag: Tag,
+        reaction: u32,
+    },
+    /// One of the triggers of a reaction.
+    HasTrigger {
+        reaction: u32,
+        trigger: Trigger,
+    },
+    /// A reaction starts at the tag, in this row.
+    Runs {
+        tag: Tag,
+        reaction: u32,
+        start: u32,
+    },
+    /// How many triggers a reaction has.
+    TriggerCount {
+        reaction: u32,
+        count: usize,
+    },
+    /// The trigger of a reaction at this place among its triggers is absent at the tag.
+    Untriggered {
+        tag: Tag,
+        reaction: u32,
+        place: usize,
+        trigger: Trigger,
+    },
+    /// A reaction starts at the tag before another one has ended there.
+    StartsEarly {
+        tag: Tag,
+        earlier: u32,
+        later: u32,
+        start: u32,
+        end: u32,
+    },
+    /// Two reactions of one instance, in the order of their declaration.
+    DeclaredFirst {
+        first: u32,
+        second: u32,
+    },
+    /// A reaction may write what an input port of another one shows at once.
+    Feeds {
+        writer: u32,
+        reader: u32,
+        port: u32,
+    },
+    /// What a run read of the input at this place among its inputs, and what is present there.
+    Reads {
+        tag: Tag,
+        reaction: u32,
+        place: usize,
+        name: Name,
+        read: Option<Value>,
+        present: Option<Value>,
+    },
+}
+
+/// Facts in the order in which they are told.
+#[derive(Debug, Drop)]
+pub struct Facts {
+    items: Vec<Fact>,
+}
+
+impl Model for Facts {
+    ghost use Rattle.std.specs.Prelude.{List};
+    ghost use Rattle.lft_facts.specs.declared.facts.Fact.{Fact};
+
+    ghost Value = { List Fact };
+
+    ghost view = { λ a. a.items.items };
+}
+
+impl Facts {
+    ghost use Rattle.std.specs.Prelude.{◌≡◌};
+
+    /// The facts of the list. It takes no memory.
+    pub(crate) fn from_vec(items: Vec<Fact>) -> Facts
+        ensures { result ≡ items.items }
+    {
+        Facts { items }
+    }
+
+    /// The facts in order.
+    pub fn as_slice(&self) -> &[Fact]
+        ensures { result.now ≡ self.now }
+    {
+        self.items.as_slice()
+    }
+}

@@ -1,0 +1,20 @@
+#![tactic(auto)]
+//! Facts behind the first breach of a trace: each of them is true, and together they give the breach.
+
+mod cause;
+mod chain;
+mod collision;
+mod early;
+mod facts;
+mod feeding;
+mod finding;
+mod ordering;
+mod reads;
+mod reasons;
+mod rows;
+mod runs;
+mod triggers;
+mod ways;
+
+pub use facts::{Cause, Fact, Facts, RowFact};
+pub use finding::find;

@@ -1,0 +1,88 @@
+//! Rules 1 to 5: a row that breaks a rule.
+
+ghost use Rattle.std.specs.Prelude.{◌≡◌, Some, slice_get, IfOk};
+ghost use Rattle.lft_flat.specs.Parts.{Parts};
+ghost use Rattle.lft_model.specs.Plans.{PlanParts};
+ghost use Rattle.lft_model.specs.Breaches.{BreaksRow, IsOutOfOrder, IsUndeclared, RowBreach};
+ghost use Rattle.lft_facts.specs.Facts.{IsRowFact, AreFacts};
+ghost use Rattle.lft_facts.specs.Enough.{GivesRow, ProvesRow};
+
+use crate::facts::{Fact, RowFact};
+use crate::ordering::{first_read, first_start, greater_row, open_start};
+use lft_model::Breach;
+use lft_tag::NoMemory;
+use lft_trace::{Row, Step, is_start, row_at};
+use std::alloc::Global;
+
+/// The fact that gives the breach of rule 3 by the row at the place.
+fn order_fact(rows: &[Row], place: u32, row: Row) -> RowFact
+    requires row { slice_get rows.now place ≡ Some row }
+    requires breaks { IsOutOfOrder rows.now place row row.step }
+    ensures holds { (plan : PlanParts) → IsRowFact plan rows.now result }
+    ensures gives { GivesRow result place 3 }
+{
+    if !is_start(&row.step) {
+        return RowFact::NotOpen { row: place };
+    }
+    match first_start(rows, place, row.tag, row.reaction) {
+        Some(first) => RowFact::StartsAgain { row: place, first },
+        None => RowFact::Busy {
+            row: place,
+            start: open_start(rows, place, row.worker),
+        },
+    }
+}
+
+/// The fact that gives the breach of rule 4 by the row at the place.
+fn undeclared_fact(rows: &[Row], place: u32, row: Row) -> RowFact
+    requires row { slice_get rows.now place ≡ Some row }
+    requires breaks { (program : Parts) × IsUndeclared program rows.now place row row.step }
+    ensures holds { (plan : PlanParts) → IsUndeclared plan.program rows.now place row row.step → IsRowFact plan rows.now result }
+    ensures gives { GivesRow result place 4 }
+{
+    match row.step {
+        Step::Read(name, _) => match first_read(rows, place, row.tag, row.reaction, name) {
+            Some(first) => RowFact::ReadAgain { row: place, first },
+            None => RowFact::NotInput { row: place },
+        },
+        _ => RowFact::NotEffect { row: place },
+    }
+}
+
+/// The fact that gives the breach of one of the rules 1 to 5 by the row at the place.
+fn row_fact(rows: &[Row], rule: u8, place: u32, row: Row) -> RowFact
+    requires row { slice_get rows.now place ≡ Some row }
+    requires breaks { (plan : PlanParts) × BreaksRow plan rows.now place row rule }
+    ensures holds { (plan : PlanParts) → BreaksRow plan rows.now place row rule → IsRowFact plan rows.now result }
+    ensures gives { GivesRow result place rule }
+{
+    match rule {
+        1 => RowFact::Late {
+            row: place,
+            earlier: greater_row(rows, place, row),
+        },
+        2 => RowFact::AfterStop { row: place },
+        3 => order_fact(rows, place, row),
+        4 => undeclared_fact(rows, place, row),
+        _ => RowFact::Unended { row: place },
+    }
+}
+
+/// The facts that give the breach of one of the rules 1 to 5.
+pub(crate) fn of_row(alloc: Global, rows: &[Row], breach: Breach) -> Result<Vec<Fact>, NoMemory>
+    requires breach { (plan : PlanParts) × RowBreach plan rows.now breach }
+    ensures holds { IfOk result (λ facts. (plan : PlanParts) → RowBreach plan rows.now breach → AreFacts plan rows.now facts.items) }
+    ensures enough { IfOk result (λ facts. ProvesRow facts.items breach) }
+{
+    let place = breach.row - 2;
+    let row = row_at(rows, place as usize);
+    let fact = row_fact(rows, breach.rule, place, row);
+    let mut facts = Vec::new(alloc);
+    facts.push(Fact::RowIs {
+        tag: row.tag,
+        reaction: row.reaction,
+        row: place,
+    })?;
+    facts.push(Fact::Row(fact))?;
+    Ok(facts)
+}

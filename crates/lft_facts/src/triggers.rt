@@ -1,0 +1,95 @@
+//! Rules 7 and 8: a reaction that is triggered and has no run, and a run that isn't triggered.
+
+ghost use Rattle.std.specs.Prelude.{◌≡◌, ◌<◌, ◌≤◌, Some, length, IfOk};
+ghost use Rattle.lft_trace.specs.Fits.{RowsFit};
+ghost use Rattle.lft_model.specs.Presence.{Triggered};
+ghost use Rattle.lft_model.specs.Runs.{Ran};
+ghost use Rattle.lft_facts.specs.Facts.{IsCause, AreFacts, IsTriggerOf};
+ghost use Rattle.lft_facts.specs.Enough.{Gives, GivesTrigger};
+
+use crate::cause::trigger_cause;
+use crate::facts::{Cause, Fact};
+use crate::runs::start_of;
+use lft_flat::Trigger;
+use lft_lists::item_at;
+use lft_model::{Plan, trace_stop};
+use lft_tag::{NoMemory, Tag};
+use lft_trace::Row;
+use std::alloc::Global;
+
+/// The first trigger of the reaction that is present at the tag, and why it is.
+fn first_cause(plan: &Plan, rows: &[Row], tag: Tag, reaction: u32) -> (Trigger, Cause)
+    requires fit { RowsFit plan.now.program rows.now }
+    requires triggered { Triggered plan.now rows.now tag reaction }
+    ensures trigger { IsTriggerOf plan.now.program reaction result.0 }
+    ensures holds { IsCause plan.now rows.now result.1 }
+    ensures gives { GivesTrigger result.1 tag result.0 }
+{
+    let stop = trace_stop(plan, rows);
+    let triggers = plan.program().reaction(reaction).triggers.as_slice();
+    for place in 0..triggers.len() {
+        let trigger = item_at(triggers, place);
+        if let Some(cause) = trigger_cause(plan, rows, stop, tag, trigger) {
+            return (trigger, cause);
+        }
+    }
+    unreachable!()
+}
+
+/// The facts that give the breach of rule 7 by the reaction at the tag.
+pub(crate) fn not_run(
+    alloc: Global,
+    plan: &Plan,
+    rows: &[Row],
+    tag: Tag,
+    reaction: u32,
+) -> Result<Vec<Fact>, NoMemory>
+    requires fit { RowsFit plan.now.program rows.now }
+    requires triggered { Triggered plan.now rows.now tag reaction }
+    requires none { ¬ Ran rows.now tag reaction }
+    ensures holds { IfOk result (λ facts. AreFacts plan.now rows.now facts.items) }
+    ensures enough { IfOk result (λ facts. Gives facts.items tag (Some reaction) 7) }
+{
+    let (trigger, cause) = first_cause(plan, rows, tag, reaction);
+    let mut facts = Vec::new(alloc);
+    facts.push(Fact::NoRun { tag, reaction })?;
+    facts.push(Fact::HasTrigger { reaction, trigger })?;
+    facts.push(Fact::Cause(cause))?;
+    Ok(facts)
+}
+
+/// The facts that give the breach of rule 8 by the reaction's run at the tag.
+pub(crate) fn not_triggered(
+    alloc: Global,
+    plan: &Plan,
+    rows: &[Row],
+    tag: Tag,
+    reaction: u32,
+) -> Result<Vec<Fact>, NoMemory>
+    requires few { length rows.now ≤ 4000000 }
+    requires known { reaction < length plan.now.program.reactions }
+    requires ran { Ran rows.now tag reaction }
+    requires none { ¬ Triggered plan.now rows.now tag reaction }
+    ensures holds { IfOk result (λ facts. AreFacts plan.now rows.now facts.items) }
+    ensures enough { IfOk result (λ facts. Gives facts.items tag (Some reaction) 8) }
+{
+    let start = start_of(rows, tag, reaction);
+    let triggers = plan.program().reaction(reaction).triggers.as_slice();
+    let count = triggers.len();
+    let mut facts = Vec::new(alloc);
+    facts.push(Fact::Runs {
+        tag,
+        reaction,
+        start,
+    })?;
+    facts.push(Fact::TriggerCount { reaction, count })?;
+    for place in 0..count {
+        facts.push(Fact::Untriggered {
+            tag,
+            reaction,
+            place,
+            trigger: item_at(triggers, place),
+        })?;
+    }
+    Ok(facts)
+}

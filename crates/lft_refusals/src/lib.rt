@@ -1,0 +1,18 @@
+#![tactic(auto)]
+//! Why a text is refused, for people: where in it, the line or the record with a mark, what is wanted
+//! there, and what to write in place of what the language has and `lftrace` leaves out.
+
+mod candidates;
+mod fields;
+mod foreign;
+mod place;
+mod program_text;
+mod record;
+mod refusal;
+mod tables;
+mod ways;
+mod words;
+
+pub use place::{Place, place_of};
+pub use program_text::tell_program;
+pub use tables::{tell_externals, tell_trace};

@@ -1,0 +1,199 @@
+//! Why a program's text is refused, for people.
+
+ghost use Rattle.std.specs.Prelude.{◌≤◌, ◌⊎◌, length, IfOk, IfSome, IfNone};
+ghost use Rattle.lft_refusals.specs.declared.refusal.Refusal.{Refusal as TheRefusal};
+ghost use Rattle.lft_refusals.specs.Places.{IsPlace};
+ghost use Rattle.lft_refusals.specs.Refusals.{IsLong, HasTree, IsRefusal};
+
+use crate::candidates::Candidates;
+use crate::place::{Place, place_of};
+use crate::refusal::{Refusal, Why, refusal_of};
+use crate::ways::{last_word, of_candidates, of_fault, of_token, of_word};
+use crate::words::{
+    push_blank_margin, push_blanks, push_bytes, push_margin, push_marks, push_number, push_way,
+};
+use lft_syntax::{LexFault, TokenKind};
+use lft_tag::NoMemory;
+use std::alloc::Global;
+
+/// A line of more bytes isn't quoted, nor a token.
+const LONGEST_LINE: usize = 200;
+
+const LONGEST_TOKEN: usize = 40;
+/// Where more could stand, it isn't said what.
+const MOST_CANDIDATES: usize = 6;
+
+/// Puts the line and the column behind the text.
+fn push_place(out: &mut String, place: Place) -> Result<(), NoMemory> {
+    out.push_str("Program, line ")?;
+    push_number(out, place.line)?;
+    out.push_str(", column ")?;
+    push_number(out, place.column)?;
+    out.push_str(": ")?;
+    Ok(())
+}
+
+/// What a fault of tokens says of the place.
+fn lex_words(fault: LexFault) -> &'static str {
+    match fault {
+        LexFault::BadChar(_) => "no token begins so.",
+        LexFault::OpenComment => "this comment is never closed.",
+        LexFault::OpenCode => "this code is never closed.",
+        LexFault::OpenString => "this string is never closed.",
+        LexFault::NumberTooLarge(_) => "this number is too large.",
+        LexFault::TooLong => "the text is too long.",
+        LexFault::NoMemory => "memory was refused.",
+    }
+}
+
+/// Puts the token behind the text: its spelling, or what it is.
+fn push_token(
+    alloc: Global,
+    out: &mut String,
+    kind: TokenKind,
+    spelling: &[u8],
+) -> Result<(), NoMemory> {
+    match kind {
+        TokenKind::Code => out.push_str("this code")?,
+        TokenKind::Text => out.push_str("this string")?,
+        TokenKind::Name | TokenKind::Number(_) | TokenKind::Arrow | TokenKind::Symbol(_) => {
+            if spelling.len() > LONGEST_TOKEN {
+                out.push_str("this")?;
+            } else {
+                out.push_str("`")?;
+                push_bytes(alloc, out, spelling)?;
+                out.push_str("`")?;
+            }
+        }
+    }
+    out.push_str(" can't stand here.")?;
+    Ok(())
+}
+
+/// Puts what is wrong behind the text.
+fn push_sentence(
+    alloc: Global,
+    out: &mut String,
+    text: &[u8],
+    refusal: Refusal,
+) -> Result<(), NoMemory>
+    requires { (refusal.start ≤ refusal.end) × (refusal.end ≤ length text.now) }
+{
+    match refusal.why {
+        Why::Lex(fault) => out.push_str(lex_words(fault))?,
+        Why::End(_) => out.push_str("the text ends too soon.")?,
+        Why::Token(_, kind) => {
+            push_token(alloc, out, kind, &text[refusal.start..refusal.end])?;
+        }
+    }
+    out.push_str("\n")?;
+    Ok(())
+}
+
+/// Puts the line behind the text, and below it a mark at the bytes that are refused. A long line isn't
+/// quoted.
+fn push_line(
+    alloc: Global,
+    out: &mut String,
+    text: &[u8],
+    place: Place,
+    refusal: Refusal,
+) -> Result<(), NoMemory>
+    requires place { IsPlace text.now refusal.start place }
+    requires inside { (refusal.start ≤ refusal.end) × (refusal.end ≤ length text.now) }
+{
+    let line = &text[place.start..place.end];
+    if line.len() > LONGEST_LINE {
+        return Ok(());
+    }
+    push_margin(out, place.line)?;
+    push_bytes(alloc, out, line.trim_ascii_end())?;
+    push_blank_margin(out, place.line)?;
+    push_blanks(out, &text[place.start..refusal.start])?;
+    let end = if refusal.end < place.end {
+        refusal.end
+    } else {
+        place.end
+    };
+    push_marks(out, &text[refusal.start..end])?;
+    out.push_str("\n")?;
+    Ok(())
+}
+
+/// Puts what could stand there behind the text, where that is few things.
+fn push_candidates(out: &mut String, found: &[&'static str]) -> Result<(), NoMemory> {
+    if found.is_empty() || found.len() > MOST_CANDIDATES {
+        return Ok(());
+    }
+    out.push_str("  There could stand: ")?;
+    for at in 0..found.len() {
+        if at > 0 {
+            out.push_str(", ")?;
+        }
+        out.push_str(found[at])?;
+    }
+    out.push_str(".\n")?;
+    Ok(())
+}
+
+/// Puts what to write in place of the token behind the text, or else what could stand there.
+fn push_help_at_token(
+    alloc: Global,
+    out: &mut String,
+    before: &[u8],
+    number: usize,
+    kind: TokenKind,
+    spelling: &[u8],
+) -> Result<(), NoMemory> {
+    let way = of_token(kind, spelling).or(of_word(last_word(before)));
+    if way.is_some() {
+        return push_way(out, way);
+    }
+    let candidates = Candidates::of(alloc, before, number)?;
+    push_candidates(out, candidates.found())?;
+    push_way(out, of_candidates(kind, candidates.found()))
+}
+
+/// Puts what to write at the place behind the text.
+fn push_help(alloc: Global, out: &mut String, text: &[u8], refusal: Refusal) -> Result<(), NoMemory>
+    requires { (refusal.start ≤ refusal.end) × (refusal.end ≤ length text.now) }
+{
+    let before = &text[..refusal.start];
+    match refusal.why {
+        Why::Lex(fault) => push_way(out, of_fault(fault, &text[refusal.start..])),
+        Why::End(number) => {
+            let candidates = Candidates::of(alloc, before, number)?;
+            push_candidates(out, candidates.found())
+        }
+        Why::Token(number, kind) => push_help_at_token(
+            alloc,
+            out,
+            before,
+            number,
+            kind,
+            &text[refusal.start..refusal.end],
+        ),
+    }
+}
+
+/// Where and why a program's text has no tree, in lines that end with a line feed: the place, what is
+/// wrong there, the line itself with a mark, what could stand there, and what to write in place of what
+/// the language has and `lftrace` leaves out. None where the text has a tree, and where it has more
+/// than `lft_syntax::MAX_LENGTH` bytes.
+///
+/// What could stand there is found by trying: the text before the place is read once for each thing.
+pub fn tell_program(alloc: Global, text: &[u8]) -> Result<Option<String>, NoMemory>
+    ensures some { IfOk result (λ told. IfSome told (λ words. (refusal : TheRefusal) × IsRefusal text.now refusal)) }
+    ensures none { IfOk result (λ told. IfNone told (IsLong text.now ⊎ HasTree text.now)) }
+{
+    let Some(refusal) = refusal_of(alloc, text)? else {
+        return Ok(None);
+    };
+    let place = place_of(text, refusal.start);
+    let mut out = String::new(alloc);
+    push_place(&mut out, place)?;
+    push_sentence(alloc, &mut out, text, refusal)?;
+    push_line(alloc, &mut out, text, place, refusal)?;
+    push_help(alloc, &mut out, text, refusal)?;
+    Ok(Some(out))
+}

@@ -1,0 +1,85 @@
+//! One record of a table, with a mark below a field.
+
+use crate::words::{push_blank_margin, push_blanks, push_bytes, push_margin, push_marks};
+use csv::ByteRecord;
+use lft_tag::NoMemory;
+use lft_trace::records::{open, read_next};
+use std::alloc::Global;
+
+/// A record of more bytes isn't quoted.
+const LONGEST: usize = 200;
+
+/// The record of a table with that number, if there is one. The first is number 1.
+pub(crate) fn record_of(
+    alloc: Global,
+    text: &[u8],
+    number: u32,
+) -> Result<Option<ByteRecord>, NoMemory> {
+    let mut reader = open(alloc, text);
+    let mut fields = ByteRecord::new(alloc);
+    for _before in 0..number {
+        match read_next(&mut reader, &mut fields) {
+            Ok(true) => {}
+            Ok(false) => return Ok(None),
+            Err(_) => return Ok(None),
+        }
+    }
+    Ok(Some(fields))
+}
+
+/// The bytes of the record, its fields joined by commas.
+fn joined(alloc: Global, fields: &ByteRecord) -> Result<Vec<u8>, NoMemory> {
+    let mut bytes = Vec::new(alloc);
+    for at in 0..fields.len() {
+        if at > 0 {
+            bytes.push(b',')?;
+        }
+        bytes.extend_from_slice(field(fields, at))?;
+    }
+    Ok(bytes)
+}
+
+/// The field at a place, counted from 0; nothing where there is none.
+pub(crate) fn field(fields: &ByteRecord, at: usize) -> &[u8] {
+    match fields.get(at) {
+        Some(field) => field,
+        None => &[],
+    }
+}
+
+/// Whether the bytes can be quoted in a line: there are few, and none of them ends a line.
+fn is_short(bytes: &[u8]) -> bool {
+    if bytes.len() > LONGEST {
+        return false;
+    }
+    for byte in bytes {
+        if *byte == b'\n' || *byte == b'\r' {
+            return false;
+        }
+    }
+    true
+}
+
+/// Puts the record behind the text, and below it a mark at the field.
+pub(crate) fn push_record(
+    alloc: Global,
+    out: &mut String,
+    number: u32,
+    fields: &ByteRecord,
+    at: usize,
+) -> Result<(), NoMemory> {
+    let bytes = joined(alloc, fields)?;
+    if !is_short(bytes.as_slice()) {
+        return Ok(());
+    }
+    push_margin(out, number as usize)?;
+    push_bytes(alloc, out, bytes.as_slice())?;
+    push_blank_margin(out, number as usize)?;
+    for before in 0..at {
+        push_blanks(out, field(fields, before))?;
+        out.push_str(" ")?;
+    }
+    push_marks(out, field(fields, at))?;
+    out.push_str("\n")?;
+    Ok(())
+}

@@ -1,0 +1,120 @@
+//! What to write in place of what the language has and `lftrace` leaves out.
+
+use crate::candidates::{A_NAME, A_UNIT, CODE, THE_TYPE_TIME};
+use lft_syntax::{LexFault, TokenKind};
+
+/// The word at the end of the text, if it ends with one; else nothing.
+pub(crate) fn last_word(text: &[u8]) -> &[u8] {
+    let text = text.trim_ascii_end();
+    for at in (0..text.len()).rev() {
+        if !text[at].is_ascii_alphabetic() {
+            return &text[at + 1..];
+        }
+    }
+    text
+}
+
+/// What to write in place of a word that is left out.
+pub(crate) fn of_word(word: &[u8]) -> Option<&'static str> {
+    match word {
+        b"import" => Some("`lftrace` reads one text: write the imported reactors into it."),
+        b"extends" => Some("Inheritance is left out: write the members once more."),
+        b"federated" => Some("Federation is left out. A main reactor is judged."),
+        b"mode" | b"modal" | b"reset" => Some("Modes are left out, and nothing stands for them."),
+        b"deadline"
+        | b"STP"
+        | b"STAA"
+        | b"watchdog"
+        | b"method"
+        | b"realtime"
+        | b"mutation"
+        | b"const" => Some("That is left out: write nothing in its place."),
+        b"serializer" => Some("Serializers are left out: write nothing in their place."),
+        b"interleaved" => Some(
+            "Banks and multiports are left out: write each connection by itself.",
+        ),
+        _ => None,
+    }
+}
+
+/// What to write in place of a sign that is left out.
+fn of_sign(sign: u8) -> Option<&'static str> {
+    match sign {
+        b'[' => Some(
+            "Banks and multiports are left out: write each port, instance and connection by itself.",
+        ),
+        b'<' => Some("Type arguments are left out: write the type as code, {= list<int> =}."),
+        b'@' => Some("Attributes are left out: write nothing in their place."),
+        b'~' => Some("Physical connections are left out: write a physical action of the receiver."),
+        b'+' => Some("Broadcasts are left out: write each connection by itself."),
+        b'\'' => Some("Remarks begin with `//` or `#`, or stand between `/*` and `*/`."),
+        _ => None,
+    }
+}
+
+/// What to write in place of the token, by its spelling.
+pub(crate) fn of_token(kind: TokenKind, spelling: &[u8]) -> Option<&'static str> {
+    match kind {
+        TokenKind::Name => of_word(spelling),
+        TokenKind::Symbol(sign) => of_sign(sign),
+        TokenKind::Code | TokenKind::Text | TokenKind::Number(_) | TokenKind::Arrow => None,
+    }
+}
+
+/// Whether the words are among those that were found.
+fn is_among(found: &[&'static str], words: &str) -> bool {
+    for other in found {
+        if *other == words {
+            return true;
+        }
+    }
+    false
+}
+
+/// What helps where these could stand in place of a token of this kind.
+pub(crate) fn of_candidates(kind: TokenKind, found: &[&'static str]) -> Option<&'static str> {
+    if is_among(found, THE_TYPE_TIME) {
+        return Some("Parameters of other types are left out: write neither them nor their values.");
+    }
+    if is_among(found, A_UNIT) {
+        return Some("A time is a whole number with a unit. Only 0 has none.");
+    }
+    if is_among(found, CODE) {
+        return Some("A reaction without code is left out: write {= =} behind it.");
+    }
+    if is_among(found, A_NAME) && kind == TokenKind::Name {
+        return Some("That is a word of the language, and no name.");
+    }
+    None
+}
+
+/// What helps where a text has no tokens.
+pub(crate) fn of_fault(fault: LexFault, rest: &[u8]) -> Option<&'static str> {
+    match fault {
+        LexFault::OpenComment => Some("`*/` closes it."),
+        LexFault::OpenCode => Some("`=}` closes it."),
+        LexFault::OpenString => Some(
+            "A quote closes it. The first `=}` ends code, also in a string or a remark of the code.",
+        ),
+        LexFault::NumberTooLarge(_) => Some("The greatest number is 18446744073709551615."),
+        LexFault::BadChar(_) => of_bytes(rest),
+        LexFault::TooLong | LexFault::NoMemory => None,
+    }
+}
+
+/// What helps where no token begins with the bytes.
+fn of_bytes(rest: &[u8]) -> Option<&'static str> {
+    if rest.starts_with(b"\xef\xbb\xbf") {
+        return Some("That is a byte order mark: save the text without it.");
+    }
+    if rest.starts_with(b"\xc2\xb5") || rest.starts_with(b"\xce\xbc") {
+        return Some("Microseconds are written us.");
+    }
+    if rest.starts_with(b"\xff\xfe") || rest.starts_with(b"\xfe\xff") {
+        return Some("That is UTF-16: save the text as UTF-8.");
+    }
+    if rest.starts_with(b"\x1f\x8b") {
+        return Some("That is compressed by gzip: unpack it.");
+    }
+    None
+}
