@@ -1,0 +1,87 @@
+-- What each hint says of a plan, the rows of a trace and a breach. A guess is no statement, and stands in the words alone.
+use Rattle.std.specs.Prelude.{◌≡◌, ◌≢◌, ℕ, ◌+◌, ◌*◌, ◌<◌, List, Some, slice_get, Contains}
+use Rattle.lft_tag.specs.declared.Tag.{Tag}
+use Rattle.lft_tag.specs.Tags.{Before}
+use Rattle.lft_flat.specs.Parts.{Parts}
+use Rattle.lft_flat.specs.declared.parts.Name.{Name}
+use Rattle.lft_flat.specs.declared.parts.Name.TheVariants.{Action}
+use Rattle.lft_flat.specs.declared.parts.Reaction.{Reaction}
+use Rattle.lft_flat.specs.declared.parts.Trigger.{Trigger}
+use Rattle.lft_flat.specs.declared.parts.Trigger.TheVariants.{Shutdown, On}
+use Rattle.lft_flat.specs.declared.parts.Value.{Value}
+use Rattle.lft_trace.specs.declared.row.Row.{Row}
+use Rattle.lft_trace.specs.declared.row.Step.TheVariants.{Read, Write, Schedule}
+use Rattle.lft_model.specs.declared.breach.Breach.{Breach}
+use Rattle.lft_model.specs.Plans.{PlanParts}
+use Rattle.lft_model.specs.Presence.{Triggered}
+use Rattle.lft_hints.specs.declared.hint.Hint.{Hint}
+use Rattle.lft_hints.specs.declared.hint.Hint.TheVariants as hint
+
+-- no row before the one at place i is of its worker
+pub record IsFirstOfWorker (t : List Row) (i : ℕ) : Type 0 where
+  pub row : Row
+  pub is_row : slice_get t i ≡ Some row
+  pub first : (j : ℕ) (other : Row) → j < i → slice_get t j ≡ Some other → other.worker ≢ row.worker
+
+-- all rows are before g
+abbrev pub AllBefore : List Row → Tag → Type 0
+AllBefore t g = (i : ℕ) (row : Row) → slice_get t i ≡ Some row → Before row.tag g
+
+-- no row reads
+abbrev pub NoneReads : List Row → Type 0
+NoneReads t = (i : ℕ) (row : Row) (n : Name) (v : Value) → slice_get t i ≡ Some row → row.step ≢ Read n v
+
+-- no row writes
+abbrev pub NoneWrites : List Row → Type 0
+NoneWrites t = (i : ℕ) (row : Row) (n : Name) (v : Value) → slice_get t i ≡ Some row → row.step ≢ Write n v
+
+-- x is one of the triggers of r
+pub record HasTrigger (program : Parts) (r : ℕ) (x : Trigger) : Type 0 where
+  pub reaction : Reaction
+  pub is_reaction : slice_get program.reactions r ≡ Some reaction
+  pub is_trigger : Contains reaction.triggers x
+
+-- r is triggered at a thousand times the time of g, which isn't 0
+pub record IsThousandfold (plan : PlanParts) (t : List Row) (g : Tag) (r : ℕ) : Type 0 where
+  pub later : 0 < g.time
+  pub triggered : Triggered plan t (record { time = g.time * 1000; micro = g.micro }) r
+
+-- the row schedules an action that triggers r, and its tag and its extra delay alone lead to g
+pub record SchedulesWhole (program : Parts) (g : Tag) (r : ℕ) (row : Row) : Type 0 where
+  pub action : ℕ
+  pub value : Value
+  pub extra : ℕ
+  pub schedules : row.step ≡ Schedule (Action action) value extra
+  pub later : 0 < extra
+  pub arrives : g ≡ record { time = row.tag.time + extra; micro = 0 }
+  pub triggers : HasTrigger program r (On (Action action))
+
+-- the row at place i is such a row
+abbrev pub HasWholeDelay : Parts → List Row → Tag → ℕ → ℕ → Type 0
+HasWholeDelay program t g r i = (row : Row) × (slice_get t i ≡ Some row) × SchedulesWhole program g r row
+
+-- what a hint says of a run of r at g that nothing triggers
+abbrev pub IsUntriggeredHint : PlanParts → List Row → Tag → ℕ → Hint → Type 0
+IsUntriggeredHint plan t g r hint.Thousandfold = IsThousandfold plan t g r
+IsUntriggeredHint plan t g r (hint.WholeDelay i) = HasWholeDelay plan.program t g r i
+IsUntriggeredHint plan t g r hint.RunsAtStop = HasTrigger plan.program r Shutdown
+IsUntriggeredHint plan t g r hint.NoWrites = NoneWrites t
+IsUntriggeredHint plan t g r hint.FirstOfWorker = ⊥
+IsUntriggeredHint plan t g r hint.FirstRow = ⊥
+IsUntriggeredHint plan t g r hint.TraceEnds = ⊥
+IsUntriggeredHint plan t g r hint.NoReads = ⊥
+
+-- what a hint says of the run that rule 8 names
+abbrev pub OfRule8 : PlanParts → List Row → Breach → Hint → Type 0
+OfRule8 plan t b h = (b.rule ≡ 8) × ((r : ℕ) × (b.reaction ≡ Some r) × IsUntriggeredHint plan t b.tag r h)
+
+-- what a hint says of a breach
+abbrev pub IsHint : PlanParts → List Row → Breach → Hint → Type 0
+IsHint plan t b hint.FirstOfWorker = (b.rule ≡ 1) × ((i : ℕ) × (b.row ≡ i + 2) × IsFirstOfWorker t i)
+IsHint plan t b hint.FirstRow = (b.rule ≡ 3) × (b.row ≡ 2)
+IsHint plan t b hint.TraceEnds = (b.rule ≡ 7) × AllBefore t b.tag
+IsHint plan t b hint.NoReads = (b.rule ≡ 10) × NoneReads t
+IsHint plan t b hint.Thousandfold = OfRule8 plan t b hint.Thousandfold
+IsHint plan t b (hint.WholeDelay i) = OfRule8 plan t b (hint.WholeDelay i)
+IsHint plan t b hint.RunsAtStop = OfRule8 plan t b hint.RunsAtStop
+IsHint plan t b hint.NoWrites = OfRule8 plan t b hint.NoWrites

@@ -1,0 +1,69 @@
+//! Hints, and their words.
+
+ghost use Rattle.std.specs.Prelude.{◌≡◌, IfOk, string_bytes};
+ghost use Rattle.lft_hints.specs.Words.{hint_words};
+ghost use Rattle.lft_hints.specs.declared.hint.Hint.TheVariants.{WholeDelay};
+
+use itoa::Buffer;
+use std::alloc::{AllocError, Global};
+
+/// A condition under which a breach has a usual cause. Rows are named by their places, counted from 0.
+#[derive(Clone, Copy, PartialEq, Eq, Debug)]
+pub enum Hint {
+    /// The breach of rule 1 is at the first row of its worker.
+    FirstOfWorker,
+    /// The breach of rule 3 is at the first row of all.
+    FirstRow,
+    /// All rows are before the tag of a breach of rule 7.
+    TraceEnds,
+    /// The reaction of a breach of rule 8 is triggered at a thousand times the time of its run.
+    Thousandfold,
+    /// A row schedules for the tag of a breach of rule 8, if its delay is taken for the whole one.
+    WholeDelay { row: u32 },
+    /// The reaction of a breach of rule 8 has `shutdown` among its triggers.
+    RunsAtStop,
+    /// No row writes, and the breach is of rule 8.
+    NoWrites,
+    /// No row reads, and the breach is of rule 10.
+    NoReads,
+}
+
+/// What to look at where a row schedules with the whole delay.
+fn tell_whole_delay(alloc: Global, row: u32) -> Result<String, AllocError>
+    ensures { IfOk result (λ text. string_bytes text ≡ hint_words (WholeDelay row)) }
+{
+    let mut text = String::from_str(alloc, "  A guess: line ")?;
+    let mut buffer = Buffer::new();
+    text.push_str(buffer.format(u64::from(row) + 2))?;
+    text.push_str(
+        " gives the whole delay. The field delay is what comes on top of the least delay of the action.\n",
+    )?;
+    Ok(text)
+}
+
+/// The line of a hint, with its line feed: what holds, and what to look at.
+pub fn tell_hint(alloc: Global, hint: Hint) -> Result<String, AllocError>
+    ensures { IfOk result (λ text. string_bytes text ≡ hint_words hint) }
+{
+    let words = match hint {
+        Hint::FirstOfWorker => {
+            "  A guess: that is the first row of its worker. Were the rows of workers put one after another? They stand in the order in which they happened.\n"
+        }
+        Hint::FirstRow => {
+            "  A guess: that is the first row. Were the rows sorted? They stand in the order in which they happened.\n"
+        }
+        Hint::TraceEnds => {
+            "  A guess: no row is so late. If the execution ended before, the stop of the external inputs is too late.\n"
+        }
+        Hint::Thousandfold => {
+            "  A guess: at a thousand times that time it is triggered. Are the times in microseconds? They are wanted in nanoseconds.\n"
+        }
+        Hint::WholeDelay { row } => return tell_whole_delay(alloc, row),
+        Hint::RunsAtStop => {
+            "  A guess: it is triggered by shutdown. Is the stop of the external inputs the tag at which the execution ended?\n"
+        }
+        Hint::NoWrites => "  A guess: no row of the trace writes. Are writes recorded?\n",
+        Hint::NoReads => "  A guess: no row of the trace reads. Are reads recorded?\n",
+    };
+    String::from_str(alloc, words)
+}

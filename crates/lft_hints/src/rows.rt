@@ -1,0 +1,57 @@
+//! Conditions on rows.
+
+ghost use Rattle.std.specs.Prelude.{◌↔◌, ◌<◌, length, IsTrue};
+ghost use Rattle.lft_hints.specs.Hints.{AllBefore, IsFirstOfWorker, NoneReads, NoneWrites};
+
+use lft_tag::Tag;
+use lft_trace::{Row, Step, row_at};
+
+/// Whether no row before the place is of the worker of the row there.
+pub(crate) fn is_first_of_worker(rows: &[Row], place: usize) -> bool
+    requires { place < length rows.now }
+    ensures { IsTrue result ↔ IsFirstOfWorker rows.now place }
+{
+    let worker = row_at(rows, place).worker;
+    for before in 0..place {
+        if row_at(rows, before).worker == worker {
+            return false;
+        }
+    }
+    true
+}
+
+/// Whether all rows are before the tag.
+pub(crate) fn all_before(rows: &[Row], tag: Tag) -> bool
+    ensures { IsTrue result ↔ AllBefore rows.now tag }
+{
+    for place in 0..rows.len() {
+        if !row_at(rows, place).tag.is_before(tag) {
+            return false;
+        }
+    }
+    true
+}
+
+/// Whether no row reads.
+pub(crate) fn none_reads(rows: &[Row]) -> bool
+    ensures { IsTrue result ↔ NoneReads rows.now }
+{
+    for place in 0..rows.len() {
+        if matches!(row_at(rows, place).step, Step::Read(_, _)) {
+            return false;
+        }
+    }
+    true
+}
+
+/// Whether no row writes.
+pub(crate) fn none_writes(rows: &[Row]) -> bool
+    ensures { IsTrue result ↔ NoneWrites rows.now }
+{
+    for place in 0..rows.len() {
+        if matches!(row_at(rows, place).step, Step::Write(_, _)) {
+            return false;
+        }
+    }
+    true
+}
