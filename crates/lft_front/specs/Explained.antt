@@ -1,12 +1,16 @@
 -- A verdict on three texts with what explains it, and why texts get none.
-use Rattle.std.specs.Prelude.{◌≡◌, ◌↔◌, ℕ, Bool, IsTrue, List, ◌++◌, Option, codes}
+use Rattle.std.specs.Prelude.{◌≡◌, ◌↔◌, ◌⊎◌, ℕ, Bool, IsTrue, List, [], ◌++◌, Option, codes}
 use Rattle.std.specs.Io.KnownBytes.{Appends}
 use Rattle.lft_trace.specs.declared.row.Row.{Row}
+use Rattle.lft_model.specs.declared.breach.Breach.{Breach}
 use Rattle.lft_model.specs.Plans.{PlanParts}
 use Rattle.lft_check.specs.declared.verdict.Verdict.{Verdict}
 use Rattle.lft_check.specs.declared.verdict.Verdict.TheVariants.{Accepted, Broken}
 use Rattle.lft_check.specs.Verdicts.{IsVerdict}
 use Rattle.lft_explain.specs.Explained.{Explains}
+use Rattle.lft_hints.specs.declared.hint.Hint.{Hint}
+use Rattle.lft_hints.specs.Hints.{IsHint}
+use Rattle.lft_hints.specs.Words.{hint_words}
 use Rattle.lft_load.specs.Written.{AppendsFront}
 use Rattle.lft_load.specs.declared.fault.Fault.{Fault}
 use Rattle.lft_load.specs.declared.fault.Part.TheVariants as part
@@ -16,10 +20,22 @@ use Rattle.lft_front.specs.Lines.{line_of}
 use Rattle.lft_front.specs.Meaning.{IsMeaning}
 use Rattle.lft_front.specs.Refusals.{CheckRefusal, TextsRefusal}
 
+-- the line of a hint that holds of the breach
+abbrev pub IsGuess : PlanParts → List Row → Breach → List ℕ → Type 0
+IsGuess plan rows b guess = (hint : Hint) × IsHint plan rows b hint × (guess ≡ hint_words hint)
+
+-- the text tells the facts behind the breach, and behind them a guess or none
+pub record Tells (plan : PlanParts) (rows : List Row) (b : Breach) (text : List ℕ) : Type 0 where
+  pub why : List ℕ
+  pub guess : List ℕ
+  pub explains : Explains plan rows b why
+  pub is_guess : (guess ≡ []) ⊎ IsGuess plan rows b guess
+  pub is_text : text ≡ why ++ guess
+
 -- the text is the line of the verdict, and for a broken rule an empty line and what explains the breach
 abbrev pub IsExplanation : PlanParts → List Row → Verdict → List ℕ → Type 0
 IsExplanation plan rows (Accepted runs tags) text = text ≡ line_of plan.program (Accepted runs tags)
-IsExplanation plan rows (Broken b) text = (why : List ℕ) × Explains plan rows b why × (text ≡ line_of plan.program (Broken b) ++ (codes "\n" ++ why))
+IsExplanation plan rows (Broken b) text = (why : List ℕ) × Tells plan rows b why × (text ≡ line_of plan.program (Broken b) ++ (codes "\n" ++ why))
 
 -- such a text was written
 abbrev pub WritesExplanation : PlanParts → List Row → Option (List ℕ) → Option (List ℕ) → Verdict → Type 0

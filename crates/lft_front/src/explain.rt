@@ -4,12 +4,13 @@ ghost use Rattle.std.specs.Prelude.{◌≡◌, ◌≢◌, true, OnOk, IfOk, IfEr
 ghost use Rattle.std.specs.Io.KnownBytes.{Keeps};
 ghost use Rattle.lft_trace.specs.Fits.{RowsFit};
 ghost use Rattle.lft_trace.specs.declared.row.Row.{Row};
+ghost use Rattle.lft_model.specs.Breaches.{First};
 ghost use Rattle.lft_model.specs.Plans.{PlanParts};
 ghost use Rattle.lft_model.specs.Workers.{IsWorkers};
 ghost use Rattle.lft_check.specs.Verdicts.{IsVerdict};
 ghost use Rattle.lft_front.specs.Meaning.{Mean};
 ghost use Rattle.lft_front.specs.Judged.{AcceptedRuns};
-ghost use Rattle.lft_front.specs.Explained.{IsExplanation, WritesExplanation, IsExplained, ExplainingRefusal, ExplainRefusal};
+ghost use Rattle.lft_front.specs.Explained.{IsExplanation, Tells, WritesExplanation, IsExplained, ExplainingRefusal, ExplainRefusal};
 ghost use Rattle.lft_load.specs.Refusals.{is_of_text};
 ghost use Rattle.lft_load.specs.declared.fault.Part.TheVariants as part;
 
@@ -17,15 +18,35 @@ use crate::judge::{read_texts, verdict_of};
 use crate::line::verdict_line;
 use lft_check::Verdict;
 use lft_explain::explain;
+use lft_hints::{hint_of, tell_hint};
 use lft_load::{Fault, write_text};
-use lft_model::Plan;
+use lft_model::{Breach, Plan};
 use lft_tag::NoMemory;
 use lft_trace::Rows;
 use std::alloc::Global;
 use std::io::Write;
 use std::thread::Threads;
 
-/// The line of a verdict, and for a broken rule an empty line and the facts behind it.
+/// The facts behind a breach, and behind them what may be the cause, if it is a usual one.
+pub(crate) fn reasons(
+    alloc: Global,
+    plan: &Plan,
+    rows: &Rows,
+    breach: Breach,
+) -> Result<String, NoMemory>
+    requires fit { RowsFit plan.now.program rows.now }
+    requires first { First plan.now rows.now breach }
+    ensures { IfOk result (λ text. Tells plan.now rows.now breach (string_bytes text)) }
+{
+    let mut text = explain(alloc, plan, rows, breach)?;
+    if let Some(hint) = hint_of(plan, rows, breach) {
+        let guess = tell_hint(alloc, hint)?;
+        text.push_str(guess.as_str())?;
+    }
+    Ok(text)
+}
+
+/// The line of a verdict, and for a broken rule an empty line and the reasons.
 fn explanation(
     alloc: Global,
     plan: &Plan,
@@ -40,7 +61,7 @@ fn explanation(
     match verdict {
         Verdict::Accepted { .. } => Ok(text),
         Verdict::Broken(breach) => {
-            let why = explain(alloc, plan, rows, breach)?;
+            let why = reasons(alloc, plan, rows, breach)?;
             text.push_str("\n")?;
             text.push_str(why.as_str())?;
             Ok(text)

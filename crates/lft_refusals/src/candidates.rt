@@ -10,6 +10,8 @@ pub(crate) const A_UNIT: &str = "a unit of time (ns us ms s min h d week)";
 
 pub(crate) const THE_TYPE_TIME: &str = "the type `time`";
 
+pub(crate) const A_COLON: &str = "`:`";
+
 pub(crate) const CODE: &str = "code, {= .. =}";
 
 /// The text before a token, and what was found that could stand behind it.
@@ -88,7 +90,7 @@ impl<'a> Candidates<'a> {
         self.ask("{", "`{`")?;
         self.ask("}", "`}`")?;
         self.ask(",", "`,`")?;
-        self.ask(":", "`:`")?;
+        self.ask(":", A_COLON)?;
         self.ask("=", "`=`")?;
         self.ask(".", "`.`")?;
         self.ask("->", "`->`")?;

@@ -11,6 +11,9 @@ pub(crate) fn of_text(text: &[u8], first: &str) -> Option<&'static str> {
     if text.starts_with(b"\xff\xfe") || text.starts_with(b"\xfe\xff") {
         return Some("That is UTF-16: save the table as UTF-8.");
     }
+    if text.contains(&0) {
+        return Some("That is no text. A table is text, a record a line.");
+    }
     of_header(first)
 }
 
@@ -28,7 +31,13 @@ fn of_header(first: &str) -> Option<&'static str> {
     if first.starts_with("{") || first.starts_with("[") {
         return Some("That is JSON. A table has a record a line, its fields joined by commas.");
     }
-    if first.contains(';') || first.contains('\t') {
+    if first.starts_with("start,") || first.starts_with("event,0") || first.starts_with("stop,") {
+        return Some("The table has no header. Its first line is the header.");
+    }
+    if first.starts_with("EVENT") || first.starts_with("KIND") || first.starts_with("Kind") {
+        return Some("The header is written in small letters.");
+    }
+    if first.contains(';') || first.contains('\t') || first.contains(", ") {
         return Some("Fields are joined by commas, without blanks.");
     }
     None

@@ -266,6 +266,10 @@ fn push_found(alloc: Global, out: &mut String, found: &[u8]) -> Result<(), NoMem
         out.push_str("what stands there ")?;
         return Ok(());
     }
+    if found.is_empty() {
+        out.push_str("the empty field ")?;
+        return Ok(());
+    }
     out.push_str("`")?;
     push_bytes(alloc, out, found)?;
     out.push_str("` ")?;

@@ -1,6 +1,6 @@
 //! What to write in place of what the language has and `lftrace` leaves out.
 
-use crate::candidates::{A_NAME, A_UNIT, CODE, THE_TYPE_TIME};
+use crate::candidates::{A_COLON, A_NAME, A_UNIT, CODE, THE_TYPE_TIME};
 use lft_syntax::{LexFault, TokenKind};
 
 /// The word at the end of the text, if it ends with one; else nothing.
@@ -21,14 +21,14 @@ pub(crate) fn of_word(word: &[u8]) -> Option<&'static str> {
         b"extends" => Some("Inheritance is left out: write the members once more."),
         b"federated" => Some("Federation is left out. A main reactor is judged."),
         b"mode" | b"modal" | b"reset" => Some("Modes are left out, and nothing stands for them."),
-        b"deadline"
-        | b"STP"
-        | b"STAA"
-        | b"watchdog"
-        | b"method"
-        | b"realtime"
-        | b"mutation"
-        | b"const" => Some("That is left out: write nothing in its place."),
+        b"deadline" => Some("Deadlines are left out: write nothing in their place."),
+        b"STP" | b"STAA" | b"tardy" => Some(
+            "What handles tardiness is left out: write nothing in its place.",
+        ),
+        b"watchdog" => Some("Watchdogs are left out: write nothing in their place."),
+        b"method" | b"const" => Some("Methods are left out: write nothing in their place."),
+        b"realtime" => Some("`realtime` is left out: write `reactor` alone."),
+        b"mutation" => Some("Mutations are left out, and nothing stands for them."),
         b"serializer" => Some("Serializers are left out: write nothing in their place."),
         b"interleaved" => Some(
             "Banks and multiports are left out: write each connection by itself.",
@@ -75,6 +75,11 @@ fn is_among(found: &[&'static str], words: &str) -> bool {
 pub(crate) fn of_candidates(kind: TokenKind, found: &[&'static str]) -> Option<&'static str> {
     if is_among(found, THE_TYPE_TIME) {
         return Some("Parameters of other types are left out: write neither them nor their values.");
+    }
+    if found.len() == 1 && is_among(found, A_COLON) {
+        return Some(
+            "A parameter is a name and its type, as period: time = 5 ms. Those of other types are left out.",
+        );
     }
     if is_among(found, A_UNIT) {
         return Some("A time is a whole number with a unit. Only 0 has none.");

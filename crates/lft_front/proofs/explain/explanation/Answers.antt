@@ -8,5 +8,5 @@ use Rattle.lft_front.proofs.explain.explanation.Goals as goal
 pub verdict_line-requires : goal.verdict_line-requires
 verdict_line-requires c = λ b e. subst (λ (p : Parts). HasReaction p b.reaction) (sym c.program.ensures.value) (has_reaction c.args.plan.now c.args.rows.now c.requires.fit c.args.verdict c.requires.verdict b e)
 
-pub explain-requires-clause-first : goal.explain-requires-clause-first
-explain-requires-clause-first c = subst (λ v. IsVerdict c.args.plan.now c.args.rows.now v) c.in-Broken.is c.requires.verdict
+pub reasons-requires-clause-first : goal.reasons-requires-clause-first
+reasons-requires-clause-first c = subst (λ v. IsVerdict c.args.plan.now c.args.rows.now v) c.in-Broken.is c.requires.verdict
