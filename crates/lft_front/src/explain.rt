@@ -10,7 +10,7 @@ ghost use Rattle.lft_model.specs.Workers.{IsWorkers};
 ghost use Rattle.lft_check.specs.Verdicts.{IsVerdict};
 ghost use Rattle.lft_front.specs.Meaning.{Mean};
 ghost use Rattle.lft_front.specs.Judged.{AcceptedRuns};
-ghost use Rattle.lft_front.specs.Explained.{IsExplanation, Tells, WritesExplanation, IsExplained, ExplainingRefusal, ExplainRefusal};
+ghost use Rattle.lft_front.specs.Explained.{IsExplanation, MayGuess, Tells, WritesExplanation, IsExplained, ExplainingRefusal, ExplainRefusal};
 ghost use Rattle.lft_load.specs.Refusals.{is_of_text};
 ghost use Rattle.lft_load.specs.declared.fault.Part.TheVariants as part;
 
@@ -27,7 +27,21 @@ use std::alloc::Global;
 use std::io::Write;
 use std::thread::Threads;
 
-/// The facts behind a breach, and behind them what may be the cause, if it is a usual one.
+/// What a breach usually comes of, as a guess; nothing where no hint holds.
+fn guess(alloc: Global, plan: &Plan, rows: &Rows, breach: Breach) -> Result<String, NoMemory>
+    requires fit { RowsFit plan.now.program rows.now }
+    ensures { IfOk result (λ text. MayGuess plan.now rows.now breach (string_bytes text)) }
+{
+    match hint_of(plan, rows, breach) {
+        Some(hint) => {
+            let text = tell_hint(alloc, hint)?;
+            Ok(text)
+        }
+        None => Ok(String::new(alloc)),
+    }
+}
+
+/// The facts behind a breach, and behind them a guess.
 pub(crate) fn reasons(
     alloc: Global,
     plan: &Plan,
@@ -39,10 +53,8 @@ pub(crate) fn reasons(
     ensures { IfOk result (λ text. Tells plan.now rows.now breach (string_bytes text)) }
 {
     let mut text = explain(alloc, plan, rows, breach)?;
-    if let Some(hint) = hint_of(plan, rows, breach) {
-        let guess = tell_hint(alloc, hint)?;
-        text.push_str(guess.as_str())?;
-    }
+    let guess = guess(alloc, plan, rows, breach)?;
+    text.push_str(guess.as_str())?;
     Ok(text)
 }
 
