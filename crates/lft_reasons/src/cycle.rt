@@ -267,9 +267,9 @@ impl<'a> Refused<'a> {
             return Ok(None);
         };
         let words = wiring.words(self.alloc, port)?;
-        let reason = Reason::of(self.alloc, &["connections alone form a loop"])?;
-        let reason = reason.way(&[words.as_str()])?;
+        let reason = Reason::of(self.alloc, "connections alone form a loop")?;
+        let reason = reason.way(words.as_str())?;
         let way = "No delay breaks such a loop: a reaction has to stand in it.";
-        Ok(Some(reason.way(&[way])?))
+        Ok(Some(reason.way(way)?))
     }
 }

@@ -62,21 +62,19 @@ impl<'a> Refused<'a> {
         let (owner, owner_name) = reactor_words(site.reactor);
         let (point, port) = port_words(name);
         let is = kind_words(kind);
-        let pieces = [
-            "in ",
-            owner,
-            owner_name,
-            " ",
-            name.head.as_str(),
-            point,
-            port,
-            " is ",
-            is,
-            ", and ",
-            role_words(role),
-        ];
-        let reason = Reason::of(self.alloc, &pieces)?.at(spot);
-        Ok(Some(reason.way(&[role_way(role)])?))
+        let reason = Reason::of(self.alloc, "in ")?
+            .say(owner)?
+            .say(owner_name)?
+            .say(" ")?
+            .say(name.head.as_str())?
+            .say(point)?
+            .say(port)?
+            .say(" is ")?
+            .say(is)?
+            .say(", and ")?
+            .say(role_words(role))?
+            .at(spot);
+        Ok(Some(reason.way(role_way(role))?))
     }
 
     /// A time names what is no parameter.
@@ -91,19 +89,17 @@ impl<'a> Refused<'a> {
         };
         let (owner, owner_name) = reactor_words(site.reactor);
         let is = kind_words(kind);
-        let pieces = [
-            "in ",
-            owner,
-            owner_name,
-            " ",
-            name.as_str(),
-            " is ",
-            is,
-            ", and no time",
-        ];
-        let reason = Reason::of(self.alloc, &pieces)?.at(spot);
+        let reason = Reason::of(self.alloc, "in ")?
+            .say(owner)?
+            .say(owner_name)?
+            .say(" ")?
+            .say(name.as_str())?
+            .say(" is ")?
+            .say(is)?
+            .say(", and no time")?
+            .at(spot);
         let way = "A time is a number with a unit, or a parameter of the reactor.";
-        Ok(Some(reason.way(&[way])?))
+        Ok(Some(reason.way(way)?))
     }
 
     /// The main reactor has a port.
@@ -112,10 +108,10 @@ impl<'a> Refused<'a> {
             return Ok(None);
         };
         let at = self.source.declared(site.member, site.start);
-        let reason = Reason::of(self.alloc, &["the main reactor has a port, ", name])?;
+        let reason = Reason::of(self.alloc, "the main reactor has a port, ")?.say(name)?;
         let reason = reason.at(self.source.name_spot(at, name));
         let way = "A main reactor has no ports. What comes from outside is a physical action.";
-        Ok(Some(reason.way(&[way])?))
+        Ok(Some(reason.way(way)?))
     }
 
     /// The two lists of a connection differ in length.
@@ -124,29 +120,27 @@ impl<'a> Refused<'a> {
         let (mut from, mut to) = (Buffer::new(), Buffer::new());
         let from = from.format(connection.sources.len() as u64);
         let to = to.format(connection.destinations.len() as u64);
-        let pieces = [
-            "in ",
-            owner,
-            name,
-            " a connection joins ",
-            from,
-            " names to ",
-            to,
-        ];
         let arrow = self.source.arrow_from(site.start);
-        let reason = Reason::of(self.alloc, &pieces)?.at(self.source.spot(arrow, 1));
-        reason.way(&["Write as many names behind the arrow as before it."])
+        let reason = Reason::of(self.alloc, "in ")?
+            .say(owner)?
+            .say(name)?
+            .say(" a connection joins ")?
+            .say(from)?
+            .say(" names to ")?
+            .say(to)?
+            .at(self.source.spot(arrow, 1));
+        reason.way("Write as many names behind the arrow as before it.")
     }
 
     /// A reaction has no trigger.
     fn no_trigger(&self, site: Site<'a>) -> Result<Reason, NoMemory> {
         let (owner, name) = reactor_words(site.reactor);
-        let reason = Reason::of(
-            self.alloc,
-            &["a reaction of ", owner, name, " has no trigger"],
-        )?;
+        let reason = Reason::of(self.alloc, "a reaction of ")?
+            .say(owner)?
+            .say(name)?
+            .say(" has no trigger")?;
         let reason = reason.at(self.source.spot(site.start, 1));
-        reason.way(&["Write one between the parentheses, as `startup`."])
+        reason.way("Write one between the parentheses, as `startup`.")
     }
 
     /// A name stands twice in one role of a reaction.
@@ -169,18 +163,17 @@ impl<'a> Refused<'a> {
             Role::Read => " twice among what it reads",
             _ => " twice among its effects",
         };
-        let pieces = [
-            "a reaction of ",
-            owner,
-            owner_name,
-            " names ",
-            name.head.as_str(),
-            point,
-            port,
-            what,
-        ];
-        let reason = Reason::of(self.alloc, &pieces)?.at(spot).before(before);
-        Ok(Some(reason.way(&["Write it once. A trigger is read too."])?))
+        let reason = Reason::of(self.alloc, "a reaction of ")?
+            .say(owner)?
+            .say(owner_name)?
+            .say(" names ")?
+            .say(name.head.as_str())?
+            .say(point)?
+            .say(port)?
+            .say(what)?
+            .at(spot)
+            .before(before);
+        Ok(Some(reason.way("Write it once. A trigger is read too.")?))
     }
 
     /// An instance gives a parameter two values.
@@ -197,14 +190,11 @@ impl<'a> Refused<'a> {
             return Ok(None);
         }
         let name = instance.given[second].name.as_str();
-        let pieces = [
-            "the instance ",
-            instance.name.as_str(),
-            " gives the parameter ",
-            name,
-            " two values",
-        ];
-        let reason = Reason::of(self.alloc, &pieces)?;
+        let reason = Reason::of(self.alloc, "the instance ")?
+            .say(instance.name.as_str())?
+            .say(" gives the parameter ")?
+            .say(name)?
+            .say(" two values")?;
         let reason = reason.at(self.value_spot(site, second, name));
         Ok(Some(reason.before(self.value_spot(site, first, name))))
     }
@@ -221,9 +211,12 @@ impl<'a> Refused<'a> {
             return Ok(None);
         };
         let (owner, name) = reactor_words(site.reactor);
-        let pieces = ["a time of ", owner, name, " is past 10^18 nanoseconds"];
-        let reason = Reason::of(self.alloc, &pieces)?.at(spot);
-        Ok(Some(reason.way(&["That is some 31 years. No time may be longer."])?))
+        let reason = Reason::of(self.alloc, "a time of ")?
+            .say(owner)?
+            .say(name)?
+            .say(" is past 10^18 nanoseconds")?
+            .at(spot);
+        Ok(Some(reason.way("That is some 31 years. No time may be longer.")?))
     }
 
     /// What is said of the finding.

@@ -26,16 +26,23 @@ pub(crate) fn push_pieces(out: &mut String, pieces: &[&str]) -> Result<(), NoMem
 }
 
 impl Reason {
-    /// The sentence that the pieces make.
-    pub(crate) fn of(alloc: Global, pieces: &[&str]) -> Result<Reason, NoMemory> {
+    /// The sentence that begins so.
+    pub(crate) fn of(alloc: Global, words: &str) -> Result<Reason, NoMemory> {
         let mut said = String::new(alloc);
-        push_pieces(&mut said, pieces)?;
+        said.push_str(words)?;
         Ok(Reason {
             said,
             at: None,
             before: None,
             ways: String::new(alloc),
         })
+    }
+
+    /// The same with these words behind the sentence.
+    pub(crate) fn say(self, words: &str) -> Result<Reason, NoMemory> {
+        let mut reason = self;
+        reason.said.push_str(words)?;
+        Ok(reason)
     }
 
     /// The same with that place.
@@ -51,12 +58,34 @@ impl Reason {
         }
     }
 
-    /// The same with what the pieces say to write.
-    pub(crate) fn way(self, pieces: &[&str]) -> Result<Reason, NoMemory> {
+    /// The same with what to write.
+    pub(crate) fn way(self, words: &str) -> Result<Reason, NoMemory> {
         let mut reason = self;
         reason.ways.push_str("  ")?;
-        push_pieces(&mut reason.ways, pieces)?;
+        reason.ways.push_str(words)?;
         reason.ways.push_str("\n")?;
+        Ok(reason)
+    }
+
+    /// The same with the question whether a name was meant.
+    pub(crate) fn ask(self, head: &str, point: &str, name: &str) -> Result<Reason, NoMemory> {
+        let mut reason = self;
+        reason.ways.push_str("  Is it `")?;
+        reason.ways.push_str(head)?;
+        reason.ways.push_str(point)?;
+        reason.ways.push_str(name)?;
+        reason.ways.push_str("`?\n")?;
+        Ok(reason)
+    }
+
+    /// The same with what one reactor contains.
+    pub(crate) fn link(self, outer: &str, inner: &str) -> Result<Reason, NoMemory> {
+        let mut reason = self;
+        reason.ways.push_str("  ")?;
+        reason.ways.push_str(outer)?;
+        reason.ways.push_str(" has an instance of ")?;
+        reason.ways.push_str(inner)?;
+        reason.ways.push_str(".\n")?;
         Ok(reason)
     }
 }

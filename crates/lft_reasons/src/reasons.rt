@@ -10,11 +10,11 @@ use lft_witnesses::{Naming, Witness};
 impl<'a> Refused<'a> {
     /// Two reactors are main ones.
     fn two_mains(&self, first: usize, second: usize) -> Result<Reason, NoMemory> {
-        let reason = Reason::of(self.alloc, &["two reactors are main ones"])?;
+        let reason = Reason::of(self.alloc, "two reactors are main ones")?;
         let reason = reason
             .at(self.reactor_spot(second))
             .before(self.reactor_spot(first));
-        reason.way(&["Take `main` from one of them."])
+        reason.way("Take `main` from one of them.")
     }
 
     /// Two reactors have one name.
@@ -27,11 +27,11 @@ impl<'a> Refused<'a> {
             return Ok(None);
         };
         let (_, name) = reactor_words(reactor);
-        let reason = Reason::of(self.alloc, &["two reactors are named ", name])?;
+        let reason = Reason::of(self.alloc, "two reactors are named ")?.say(name)?;
         let reason = reason
             .at(self.reactor_spot(second))
             .before(self.reactor_spot(first));
-        Ok(Some(reason.way(&["Give one of them another name."])?))
+        Ok(Some(reason.way("Give one of them another name.")?))
     }
 
     /// A reactor declares two things of one name.
@@ -49,9 +49,13 @@ impl<'a> Refused<'a> {
             return Ok(None);
         };
         let (owner, owner_name) = reactor_words(reactor);
-        let pieces = [owner, owner_name, " has two things named ", name];
-        let reason = Reason::of(self.alloc, &pieces)?.at(spot).before(before);
-        Ok(Some(reason.way(&["Give one of them another name."])?))
+        let reason = Reason::of(self.alloc, owner)?
+            .say(owner_name)?
+            .say(" has two things named ")?
+            .say(name)?
+            .at(spot)
+            .before(before);
+        Ok(Some(reason.way("Give one of them another name.")?))
     }
 
     /// A port is written at two places.
@@ -79,19 +83,18 @@ impl<'a> Refused<'a> {
             (Role::Destination, Role::Destination) => " is the end of two connections",
             _ => " is the end of a connection and an effect",
         };
-        let pieces = [
-            "in ",
-            owner,
-            owner_name,
-            " ",
-            name.head.as_str(),
-            point,
-            port,
-            what,
-        ];
-        let reason = Reason::of(self.alloc, &pieces)?.at(spot).before(before);
+        let reason = Reason::of(self.alloc, "in ")?
+            .say(owner)?
+            .say(owner_name)?
+            .say(" ")?
+            .say(name.head.as_str())?
+            .say(point)?
+            .say(port)?
+            .say(what)?
+            .at(spot)
+            .before(before);
         let way = "One connection may end at a port, or reactions of one reactor write it.";
-        Ok(Some(reason.way(&[way])?))
+        Ok(Some(reason.way(way)?))
     }
 
     /// The default of a parameter is too long.
@@ -103,16 +106,14 @@ impl<'a> Refused<'a> {
             return Ok(None);
         };
         let (owner, owner_name) = reactor_words(reactor);
-        let pieces = [
-            "the default of ",
-            name,
-            " in ",
-            owner,
-            owner_name,
-            " is past 10^18 nanoseconds",
-        ];
-        let reason = Reason::of(self.alloc, &pieces)?.at(spot);
-        Ok(Some(reason.way(&["That is some 31 years. No time may be longer."])?))
+        let reason = Reason::of(self.alloc, "the default of ")?
+            .say(name)?
+            .say(" in ")?
+            .say(owner)?
+            .say(owner_name)?
+            .say(" is past 10^18 nanoseconds")?
+            .at(spot);
+        Ok(Some(reason.way("That is some 31 years. No time may be longer.")?))
     }
 
     /// What is said of the witness.
@@ -147,9 +148,9 @@ impl<'a> Refused<'a> {
         let Some(said) = cause_words(cause) else {
             return Ok(None);
         };
-        let reason = Reason::of(self.alloc, &[said])?;
+        let reason = Reason::of(self.alloc, said)?;
         match cause_way(cause) {
-            Some(way) => Ok(Some(reason.way(&[way])?)),
+            Some(way) => Ok(Some(reason.way(way)?)),
             None => Ok(Some(reason)),
         }
     }

@@ -42,7 +42,7 @@ impl<'a> Refused<'a> {
         };
         let (_, from) = reactor_words(outer);
         let (_, to) = reactor_words(inner);
-        reason.way(&[from, " has an instance of ", to, "."])
+        reason.link(from, to)
     }
 
     /// A reactor contains itself.
@@ -56,7 +56,9 @@ impl<'a> Refused<'a> {
             return Ok(None);
         };
         let (owner, name) = reactor_words(reactor);
-        let mut reason = Reason::of(self.alloc, &[owner, name, " contains itself"])?;
+        let mut reason = Reason::of(self.alloc, owner)?
+            .say(name)?
+            .say(" contains itself")?;
         let second = if circle.len() > 1 { circle[1] } else { first };
         reason = self.at_instance(reason, first, second);
         for place in 0..circle.len() {

@@ -49,7 +49,8 @@ impl<'a> Refused<'a> {
     pub(crate) fn place_of_named(&self, number: usize) -> Option<usize> {
         let mut before: usize = 0;
         for place in 0..self.reactors.len() {
-            if self.reactors[place].name.is_some() {
+            let reactor = self.reactors[place];
+            if reactor.name.is_some() {
                 if before == number {
                     return Some(place);
                 }

@@ -19,7 +19,7 @@ pub(crate) fn instance_of(member: &Member) -> Option<&Instance> {
 /// The reason with a question, where some name was probably meant.
 fn meant(reason: Reason, near: Option<&str>) -> Result<Reason, NoMemory> {
     match near {
-        Some(name) => reason.way(&["Is it `", name, "`?"]),
+        Some(name) => reason.ask("", "", name),
         None => Ok(reason),
     }
 }
@@ -32,21 +32,16 @@ impl<'a> Refused<'a> {
         };
         let wanted = instance.reactor.as_str();
         let (owner, name) = reactor_words(site.reactor);
-        let reason = Reason::of(
-            self.alloc,
-            &[
-                owner,
-                name,
-                " has an instance of ",
-                wanted,
-                ", which is no reactor of the text",
-            ],
-        )?;
+        let reason = Reason::of(self.alloc, owner)?
+            .say(name)?
+            .say(" has an instance of ")?
+            .say(wanted)?
+            .say(", which is no reactor of the text")?;
         let spot = self.source.name_spot(site.start.saturating_add(3), wanted);
         let reason = meant(reason.at(spot), self.near_reactor(wanted)?)?;
         if self.has_code_with(b"reaction") {
             let way = "Some code has the word `reaction`: is the `=}` before that missing?";
-            return Ok(Some(reason.way(&[way])?));
+            return Ok(Some(reason.way(way)?));
         }
         Ok(Some(reason))
     }
@@ -54,13 +49,14 @@ impl<'a> Refused<'a> {
     /// A plain name is nothing.
     fn unknown_plain(&self, site: Site<'a>, wanted: &str) -> Result<Reason, NoMemory> {
         let (owner, name) = reactor_words(site.reactor);
-        let reason = Reason::of(
-            self.alloc,
-            &["nothing in ", owner, name, " is named ", wanted],
-        )?;
+        let reason = Reason::of(self.alloc, "nothing in ")?
+            .say(owner)?
+            .say(name)?
+            .say(" is named ")?
+            .say(wanted)?;
         let reason = meant(reason, self.near_declared(site.reactor, wanted)?)?;
         match self.with_that_port(site.reactor, wanted)? {
-            Some(instance) => reason.way(&["Is it `", instance, ".", wanted, "`?"]),
+            Some(instance) => reason.ask(instance, ".", wanted),
             None => Ok(reason),
         }
     }
@@ -69,33 +65,30 @@ impl<'a> Refused<'a> {
     fn unknown_port(&self, site: Site<'a>, head: &str, wanted: &str) -> Result<Reason, NoMemory> {
         let (owner, name) = reactor_words(site.reactor);
         let Some(instance) = self.instance(site, head) else {
-            let pieces = [owner, name, " has no instance named ", head];
-            let reason = Reason::of(self.alloc, &pieces)?;
+            let reason = Reason::of(self.alloc, owner)?
+                .say(name)?
+                .say(" has no instance named ")?
+                .say(head)?;
             return match self.near_member(site.reactor, Declared::Instance, head)? {
-                Some(near) => reason.way(&["Is it `", near, ".", wanted, "`?"]),
+                Some(near) => reason.ask(near, ".", wanted),
                 None => Ok(reason),
             };
         };
         let inner = instance.reactor.as_str();
-        let reason = Reason::of(
-            self.alloc,
-            &[
-                "in ",
-                owner,
-                name,
-                " ",
-                head,
-                " is an instance of ",
-                inner,
-                ", which has no port named ",
-                wanted,
-            ],
-        )?;
+        let reason = Reason::of(self.alloc, "in ")?
+            .say(owner)?
+            .say(name)?
+            .say(" ")?
+            .say(head)?
+            .say(" is an instance of ")?
+            .say(inner)?
+            .say(", which has no port named ")?
+            .say(wanted)?;
         let Some(reactor) = self.named(inner) else {
             return Ok(reason);
         };
         match self.near_member(reactor, Declared::Port, wanted)? {
-            Some(near) => reason.way(&["Is it `", head, ".", near, "`?"]),
+            Some(near) => reason.ask(head, ".", near),
             None => Ok(reason),
         }
     }
@@ -134,10 +127,14 @@ impl<'a> Refused<'a> {
         spot: Option<Spot>,
     ) -> Result<Reason, NoMemory> {
         let (owner, name) = reactor_words(site.reactor);
-        let pieces = ["nothing in ", owner, name, " is named ", wanted];
-        let reason = Reason::of(self.alloc, &pieces)?.at(spot);
+        let reason = Reason::of(self.alloc, "nothing in ")?
+            .say(owner)?
+            .say(name)?
+            .say(" is named ")?
+            .say(wanted)?
+            .at(spot);
         let reason = meant(reason, self.near_parameter(site.reactor, wanted)?)?;
-        reason.way(&["A time is a number with a unit, or a parameter of the reactor."])
+        reason.way("A time is a number with a unit, or a parameter of the reactor.")
     }
 
     /// A value is for what isn't a parameter.
@@ -157,16 +154,13 @@ impl<'a> Refused<'a> {
             instance.reactor.as_str(),
         );
         let (owner, owner_name) = reactor_words(site.reactor);
-        let pieces = [
-            owner,
-            owner_name,
-            " gives an instance of ",
-            inner,
-            " a value for ",
-            wanted,
-            ", which is no parameter of it",
-        ];
-        let reason = Reason::of(self.alloc, &pieces)?;
+        let reason = Reason::of(self.alloc, owner)?
+            .say(owner_name)?
+            .say(" gives an instance of ")?
+            .say(inner)?
+            .say(" a value for ")?
+            .say(wanted)?
+            .say(", which is no parameter of it")?;
         let reason = match self.source.value(site.start, value) {
             Some(at) => reason.at(self.source.name_spot(at, wanted)),
             None => reason,
