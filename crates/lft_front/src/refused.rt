@@ -1,13 +1,35 @@
 //! Why texts are refused, for people.
 
 use lft_flat::Program;
-use lft_load::read_program;
+use lft_graph::{Graph, GraphFault};
+use lft_load::{Fault, Part, read_program};
+use lft_reasons::{tell_cause, tell_loop};
 use lft_refusals::{tell_externals, tell_program, tell_trace};
 use lft_tag::NoMemory;
 use lft_trace::{read_externals, read_trace};
 use std::alloc::Global;
 
-/// Why one of the tables of a program is refused, the external inputs before the trace.
+/// Why a program that has a tree has no flat program.
+fn of_program(alloc: Global, program: &[u8], fault: &Fault) -> Result<Option<String>, NoMemory> {
+    match fault.part {
+        Part::Program => tell_cause(alloc, program, fault.number),
+        _ => Ok(None),
+    }
+}
+
+/// Why the reactions of a program have no order, if they have none.
+fn of_graph(alloc: Global, program: &Program) -> Result<Option<String>, NoMemory> {
+    match Graph::build(alloc, program) {
+        Ok(_) => Ok(None),
+        Err(GraphFault::CausalityLoop(reactions)) => {
+            Ok(Some(tell_loop(alloc, program, reactions.as_slice())?))
+        }
+        Err(GraphFault::NoMemory) => Err(NoMemory),
+    }
+}
+
+/// Why one of the tables of a program is refused, or the program for its order: the external inputs, the
+/// program, the trace.
 fn of_tables(
     alloc: Global,
     program: &Program,
@@ -17,6 +39,10 @@ fn of_tables(
     if let Err(fault) = read_externals(alloc, program, externals) {
         return Ok(Some(tell_externals(alloc, program, externals, fault)?));
     }
+    let told = of_graph(alloc, program)?;
+    if told.is_some() {
+        return Ok(told);
+    }
     if let Err(fault) = read_trace(alloc, program, trace) {
         return Ok(Some(tell_trace(alloc, program, trace, fault)?));
     }
@@ -24,8 +50,7 @@ fn of_tables(
 }
 
 /// Why the first of three texts that is refused is: where, the line with a mark, and what helps, in lines
-/// that end with a line feed. None where all three are read, and where a program has a tree and is
-/// refused all the same, by its names or a loop.
+/// that end with a line feed. None where all three are read.
 ///
 /// It reads the texts again, so it costs what they do.
 pub fn refusal_of_texts(
@@ -40,6 +65,6 @@ pub fn refusal_of_texts(
     }
     match read_program(alloc, program) {
         Ok(flat) => of_tables(alloc, &flat, externals, trace),
-        Err(_) => Ok(None),
+        Err(fault) => of_program(alloc, program, &fault),
     }
 }

@@ -7,12 +7,14 @@ mod fields;
 mod foreign;
 mod place;
 mod program_text;
+mod quoting;
 mod record;
 mod refusal;
 mod tables;
 mod ways;
-mod words;
+pub mod words;
 
 pub use place::{Place, place_of};
 pub use program_text::tell_program;
+pub use quoting::{push_line, push_place};
 pub use tables::{tell_externals, tell_trace};

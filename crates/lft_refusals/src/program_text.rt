@@ -2,36 +2,23 @@
 
 ghost use Rattle.std.specs.Prelude.{◌≤◌, ◌⊎◌, length, IfOk, IfSome, IfNone};
 ghost use Rattle.lft_refusals.specs.declared.refusal.Refusal.{Refusal as TheRefusal};
-ghost use Rattle.lft_refusals.specs.Places.{IsPlace};
 ghost use Rattle.lft_refusals.specs.Refusals.{IsLong, HasTree, IsRefusal};
 
 use crate::candidates::Candidates;
-use crate::place::{Place, place_of};
+use crate::place::place_of;
+use crate::quoting::{push_line, push_place};
 use crate::refusal::{Refusal, Why, refusal_of};
 use crate::ways::{last_word, of_candidates, of_fault, of_token, of_word};
-use crate::words::{
-    push_blank_margin, push_blanks, push_bytes, push_margin, push_marks, push_number, push_way,
-};
+use crate::words::{push_bytes, push_way};
 use lft_syntax::{LexFault, TokenKind};
 use lft_tag::NoMemory;
 use std::alloc::Global;
 
-/// A line of more bytes isn't quoted, nor a token.
-const LONGEST_LINE: usize = 200;
-
+/// A token of more bytes isn't quoted.
 const LONGEST_TOKEN: usize = 40;
+
 /// Where more could stand, it isn't said what.
 const MOST_CANDIDATES: usize = 6;
-
-/// Puts the line and the column behind the text.
-fn push_place(out: &mut String, place: Place) -> Result<(), NoMemory> {
-    out.push_str("Program, line ")?;
-    push_number(out, place.line)?;
-    out.push_str(", column ")?;
-    push_number(out, place.column)?;
-    out.push_str(": ")?;
-    Ok(())
-}
 
 /// What a fault of tokens says of the place.
 fn lex_words(fault: LexFault) -> &'static str {
@@ -86,36 +73,6 @@ fn push_sentence(
             push_token(alloc, out, kind, &text[refusal.start..refusal.end])?;
         }
     }
-    out.push_str("\n")?;
-    Ok(())
-}
-
-/// Puts the line behind the text, and below it a mark at the bytes that are refused. A long line isn't
-/// quoted.
-fn push_line(
-    alloc: Global,
-    out: &mut String,
-    text: &[u8],
-    place: Place,
-    refusal: Refusal,
-) -> Result<(), NoMemory>
-    requires place { IsPlace text.now refusal.start place }
-    requires inside { (refusal.start ≤ refusal.end) × (refusal.end ≤ length text.now) }
-{
-    let line = &text[place.start..place.end];
-    if line.len() > LONGEST_LINE {
-        return Ok(());
-    }
-    push_margin(out, place.line)?;
-    push_bytes(alloc, out, line.trim_ascii_end())?;
-    push_blank_margin(out, place.line)?;
-    push_blanks(out, &text[place.start..refusal.start])?;
-    let end = if refusal.end < place.end {
-        refusal.end
-    } else {
-        place.end
-    };
-    push_marks(out, &text[refusal.start..end])?;
     out.push_str("\n")?;
     Ok(())
 }
@@ -193,7 +150,7 @@ pub fn tell_program(alloc: Global, text: &[u8]) -> Result<Option<String>, NoMemo
     let mut out = String::new(alloc);
     push_place(&mut out, place)?;
     push_sentence(alloc, &mut out, text, refusal)?;
-    push_line(alloc, &mut out, text, place, refusal)?;
+    push_line(alloc, &mut out, text, place, refusal.start, refusal.end)?;
     push_help(alloc, &mut out, text, refusal)?;
     Ok(Some(out))
 }

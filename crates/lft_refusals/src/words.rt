@@ -6,7 +6,7 @@ use lft_tag::NoMemory;
 use std::alloc::Global;
 
 /// Puts a number behind the text.
-pub(crate) fn push_number(out: &mut String, number: usize) -> Result<(), NoMemory> {
+pub fn push_number(out: &mut String, number: usize) -> Result<(), NoMemory> {
     let mut buffer = Buffer::new();
     out.push_str(buffer.format(number as u64))?;
     Ok(())
@@ -14,7 +14,7 @@ pub(crate) fn push_number(out: &mut String, number: usize) -> Result<(), NoMemor
 
 /// Puts bytes of a text behind it. What is no UTF-8, and control characters but tabs, are replaced, so
 /// that a quoted text can't speak to a terminal.
-pub(crate) fn push_bytes(alloc: Global, out: &mut String, bytes: &[u8]) -> Result<(), NoMemory> {
+pub fn push_bytes(alloc: Global, out: &mut String, bytes: &[u8]) -> Result<(), NoMemory> {
     let words = String::from_utf8_lossy(alloc, bytes)?;
     for letter in words.chars() {
         if letter.is_control() && letter != '\t' {
@@ -28,7 +28,7 @@ pub(crate) fn push_bytes(alloc: Global, out: &mut String, bytes: &[u8]) -> Resul
 
 /// Puts a blank for each letter of the bytes behind the text, and a tab for a tab, so that what follows
 /// stands below what follows the bytes.
-pub(crate) fn push_blanks(out: &mut String, bytes: &[u8]) -> Result<(), NoMemory> {
+pub fn push_blanks(out: &mut String, bytes: &[u8]) -> Result<(), NoMemory> {
     for byte in bytes {
         if *byte == b'\t' {
             out.push_str("\t")?;
@@ -40,7 +40,7 @@ pub(crate) fn push_blanks(out: &mut String, bytes: &[u8]) -> Result<(), NoMemory
 }
 
 /// Puts a mark for each letter of the bytes behind the text, and one at least.
-pub(crate) fn push_marks(out: &mut String, bytes: &[u8]) -> Result<(), NoMemory> {
+pub fn push_marks(out: &mut String, bytes: &[u8]) -> Result<(), NoMemory> {
     let mut is_marked = false;
     for byte in bytes {
         if begins_letter(*byte) {
@@ -55,7 +55,7 @@ pub(crate) fn push_marks(out: &mut String, bytes: &[u8]) -> Result<(), NoMemory>
 }
 
 /// Puts what stands before a quoted line behind the text: the number of the line.
-pub(crate) fn push_margin(out: &mut String, line: usize) -> Result<(), NoMemory> {
+pub fn push_margin(out: &mut String, line: usize) -> Result<(), NoMemory> {
     out.push_str("\n  ")?;
     push_number(out, line)?;
     out.push_str(" | ")?;
@@ -63,7 +63,7 @@ pub(crate) fn push_margin(out: &mut String, line: usize) -> Result<(), NoMemory>
 }
 
 /// Puts as many blanks behind the text as the margin of that line has letters.
-pub(crate) fn push_blank_margin(out: &mut String, line: usize) -> Result<(), NoMemory> {
+pub fn push_blank_margin(out: &mut String, line: usize) -> Result<(), NoMemory> {
     out.push_str("\n     ")?;
     let mut buffer = Buffer::new();
     for _digit in buffer.format(line as u64).as_bytes() {
@@ -73,7 +73,7 @@ pub(crate) fn push_blank_margin(out: &mut String, line: usize) -> Result<(), NoM
 }
 
 /// Puts a way out behind the text, where there is one.
-pub(crate) fn push_way(out: &mut String, way: Option<&'static str>) -> Result<(), NoMemory> {
+pub fn push_way(out: &mut String, way: Option<&'static str>) -> Result<(), NoMemory> {
     if let Some(words) = way {
         out.push_str("  ")?;
         out.push_str(words)?;

@@ -1,0 +1,258 @@
+//! What is said of a finding in one member of a reactor.
+
+use crate::places::Spot;
+use crate::reason::Reason;
+use crate::refused::{Refused, Site};
+use crate::unknown::instance_of;
+use crate::words::{kind_words, port_words, reactor_words, role_way, role_words};
+use itoa::Buffer;
+use lft_scope::kinds::{Kind, Role};
+use lft_tag::NoMemory;
+use lft_tree::{Connection, Member, Reference, TimeExpression};
+use lft_witnesses::names::{names_of, times_of};
+use lft_witnesses::{Finding, declared_name};
+
+impl<'a> Refused<'a> {
+    /// The name with that role and place in the member, and where it stands.
+    pub(crate) fn name(
+        &self,
+        site: Site<'a>,
+        role: Role,
+        place: usize,
+    ) -> Result<Option<(&'a Reference, Option<Spot>)>, NoMemory> {
+        let names = names_of(self.alloc, site.member, role)?;
+        if place >= names.len() {
+            return Ok(None);
+        }
+        let name = names[place];
+        match self.source.name(site.member, site.start, role, place) {
+            Some(at) => Ok(Some((name, self.source.reference_spot(at, name)))),
+            None => Ok(Some((name, None))),
+        }
+    }
+
+    /// The time with that place in the member, and where it stands.
+    fn time(
+        &self,
+        site: Site<'a>,
+        place: usize,
+    ) -> Result<Option<(&'a TimeExpression, Option<Spot>)>, NoMemory> {
+        let times = times_of(self.alloc, site.member)?;
+        if place >= times.len() {
+            return Ok(None);
+        }
+        let time = times[place];
+        match self.source.time(site.member, site.start, place) {
+            Some(at) => Ok(Some((time, self.source.time_spot(at, time)))),
+            None => Ok(Some((time, None))),
+        }
+    }
+
+    /// A name may not stand there.
+    fn wrong_place(
+        &self,
+        site: Site<'a>,
+        role: Role,
+        place: usize,
+        kind: Kind,
+    ) -> Result<Option<Reason>, NoMemory> {
+        let Some((name, spot)) = self.name(site, role, place)? else {
+            return Ok(None);
+        };
+        let (owner, owner_name) = reactor_words(site.reactor);
+        let (point, port) = port_words(name);
+        let is = kind_words(kind);
+        let reason = Reason::of(self.alloc, "in ")?
+            .say(owner)?
+            .say(owner_name)?
+            .say(" ")?
+            .say(name.head.as_str())?
+            .say(point)?
+            .say(port)?
+            .say(" is ")?
+            .say(is)?
+            .say(", and ")?
+            .say(role_words(role))?
+            .at(spot);
+        Ok(Some(reason.way(role_way(role))?))
+    }
+
+    /// A time names what is no parameter.
+    fn wrong_time(
+        &self,
+        site: Site<'a>,
+        place: usize,
+        kind: Kind,
+    ) -> Result<Option<Reason>, NoMemory> {
+        let Some((TimeExpression::Parameter(name), spot)) = self.time(site, place)? else {
+            return Ok(None);
+        };
+        let (owner, owner_name) = reactor_words(site.reactor);
+        let is = kind_words(kind);
+        let reason = Reason::of(self.alloc, "in ")?
+            .say(owner)?
+            .say(owner_name)?
+            .say(" ")?
+            .say(name.as_str())?
+            .say(" is ")?
+            .say(is)?
+            .say(", and no time")?
+            .at(spot);
+        let way = "A time is a number with a unit, or a parameter of the reactor.";
+        Ok(Some(reason.way(way)?))
+    }
+
+    /// The main reactor has a port.
+    fn main_port(&self, site: Site<'a>) -> Result<Option<Reason>, NoMemory> {
+        let Some(name) = declared_name(site.member) else {
+            return Ok(None);
+        };
+        let at = self.source.declared(site.member, site.start);
+        let reason = Reason::of(self.alloc, "the main reactor has a port, ")?.say(name)?;
+        let reason = reason.at(self.source.name_spot(at, name));
+        let way = "A main reactor has no ports. What comes from outside is a physical action.";
+        Ok(Some(reason.way(way)?))
+    }
+
+    /// The two lists of a connection differ in length.
+    fn width(&self, site: Site<'a>, connection: &Connection) -> Result<Reason, NoMemory> {
+        let (owner, name) = reactor_words(site.reactor);
+        let (mut from, mut to) = (Buffer::new(), Buffer::new());
+        let from = from.format(connection.sources.len() as u64);
+        let to = to.format(connection.destinations.len() as u64);
+        let arrow = self.source.arrow_from(site.start);
+        let reason = Reason::of(self.alloc, "in ")?
+            .say(owner)?
+            .say(name)?
+            .say(" a connection joins ")?
+            .say(from)?
+            .say(" names to ")?
+            .say(to)?
+            .at(self.source.spot(arrow, 1));
+        reason.way("Write as many names behind the arrow as before it.")
+    }
+
+    /// A reaction has no trigger.
+    fn no_trigger(&self, site: Site<'a>) -> Result<Reason, NoMemory> {
+        let (owner, name) = reactor_words(site.reactor);
+        let reason = Reason::of(self.alloc, "a reaction of ")?
+            .say(owner)?
+            .say(name)?
+            .say(" has no trigger")?;
+        let reason = reason.at(self.source.spot(site.start, 1));
+        reason.way("Write one between the parentheses, as `startup`.")
+    }
+
+    /// A name stands twice in one role of a reaction.
+    fn named_twice(
+        &self,
+        site: Site<'a>,
+        role: Role,
+        first: usize,
+        second: usize,
+    ) -> Result<Option<Reason>, NoMemory> {
+        let Some((_, before)) = self.name(site, role, first)? else {
+            return Ok(None);
+        };
+        let Some((name, spot)) = self.name(site, role, second)? else {
+            return Ok(None);
+        };
+        let (owner, owner_name) = reactor_words(site.reactor);
+        let (point, port) = port_words(name);
+        let what = match role {
+            Role::Read => " twice among what it reads",
+            _ => " twice among its effects",
+        };
+        let reason = Reason::of(self.alloc, "a reaction of ")?
+            .say(owner)?
+            .say(owner_name)?
+            .say(" names ")?
+            .say(name.head.as_str())?
+            .say(point)?
+            .say(port)?
+            .say(what)?
+            .at(spot)
+            .before(before);
+        Ok(Some(reason.way("Write it once. A trigger is read too.")?))
+    }
+
+    /// An instance gives a parameter two values.
+    fn given_twice(
+        &self,
+        site: Site<'a>,
+        first: usize,
+        second: usize,
+    ) -> Result<Option<Reason>, NoMemory> {
+        let Some(instance) = instance_of(site.member) else {
+            return Ok(None);
+        };
+        if second >= instance.given.len() {
+            return Ok(None);
+        }
+        let name = instance.given[second].name.as_str();
+        let reason = Reason::of(self.alloc, "the instance ")?
+            .say(instance.name.as_str())?
+            .say(" gives the parameter ")?
+            .say(name)?
+            .say(" two values")?;
+        let reason = reason.at(self.value_spot(site, second, name));
+        Ok(Some(reason.before(self.value_spot(site, first, name))))
+    }
+
+    /// Where the name of a parameter stands that gets a value.
+    fn value_spot(&self, site: Site<'a>, place: usize, name: &str) -> Option<Spot> {
+        self.source
+            .name_spot(self.source.value(site.start, place)?, name)
+    }
+
+    /// A time is too long.
+    fn long_time(&self, site: Site<'a>, place: usize) -> Result<Option<Reason>, NoMemory> {
+        let Some((_, spot)) = self.time(site, place)? else {
+            return Ok(None);
+        };
+        let (owner, name) = reactor_words(site.reactor);
+        let reason = Reason::of(self.alloc, "a time of ")?
+            .say(owner)?
+            .say(name)?
+            .say(" is past 10^18 nanoseconds")?
+            .at(spot);
+        Ok(Some(reason.way("That is some 31 years. No time may be longer.")?))
+    }
+
+    /// What is said of the finding.
+    pub(crate) fn of_finding(
+        &self,
+        site: Site<'a>,
+        finding: Finding,
+    ) -> Result<Option<Reason>, NoMemory> {
+        match finding {
+            Finding::GivenTwice { first, second } => self.given_twice(site, first, second),
+            Finding::UnknownReactor => self.unknown_reactor(site),
+            Finding::UnknownName { role, name } => match self.name(site, role, name)? {
+                Some((name, spot)) => Ok(Some(self.unknown_name(site, name, spot)?)),
+                None => Ok(None),
+            },
+            Finding::UnknownTime { time } => match self.time(site, time)? {
+                Some((TimeExpression::Parameter(name), spot)) => {
+                    Ok(Some(self.unknown_time(site, name.as_str(), spot)?))
+                }
+                _ => Ok(None),
+            },
+            Finding::UnknownParameter { value } => self.unknown_parameter(site, value),
+            Finding::WrongPlace { role, name, kind } => self.wrong_place(site, role, name, kind),
+            Finding::WrongTime { time, kind } => self.wrong_time(site, time, kind),
+            Finding::MainHasPort => self.main_port(site),
+            Finding::WidthMismatch => match site.member {
+                Member::Connection(connection) => Ok(Some(self.width(site, connection)?)),
+                _ => Ok(None),
+            },
+            Finding::NoTrigger => Ok(Some(self.no_trigger(site)?)),
+            Finding::NamedTwice {
+                role,
+                first,
+                second,
+            } => { self.named_twice(site, role, first, second) }
+            Finding::LongTime { time } => self.long_time(site, time),
+        }
+    }
+}

@@ -1,0 +1,21 @@
+#![tactic(auto)]
+//! Why a program that has a tree is refused, for people: what shows the cause, where in the text it stands,
+//! and what to write.
+
+mod candidates;
+mod cycle;
+mod findings;
+mod loops;
+mod near;
+mod places;
+mod reason;
+mod reasons;
+mod recursion;
+mod refused;
+mod source;
+mod tell;
+mod unknown;
+mod words;
+
+pub use loops::tell_loop;
+pub use tell::tell_cause;

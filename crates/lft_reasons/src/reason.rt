@@ -1,0 +1,91 @@
+//! Why a program is refused: a sentence, the places that it speaks of, and what to write.
+
+use crate::places::Spot;
+use lft_tag::NoMemory;
+use std::alloc::Global;
+
+/// Why a program is refused.
+#[derive(Drop)]
+pub(crate) struct Reason {
+    /// What is wrong, without the point at the end.
+    pub said: String,
+    /// Where that is.
+    pub at: Option<Spot>,
+    /// What stands there twice, or is written from there too.
+    pub before: Option<Spot>,
+    /// What to write, a sentence a line.
+    pub ways: String,
+}
+
+/// Puts the pieces behind the text.
+pub(crate) fn push_pieces(out: &mut String, pieces: &[&str]) -> Result<(), NoMemory> {
+    for piece in pieces {
+        out.push_str(*piece)?;
+    }
+    Ok(())
+}
+
+impl Reason {
+    /// The sentence that begins so.
+    pub(crate) fn of(alloc: Global, words: &str) -> Result<Reason, NoMemory> {
+        let mut said = String::new(alloc);
+        said.push_str(words)?;
+        Ok(Reason {
+            said,
+            at: None,
+            before: None,
+            ways: String::new(alloc),
+        })
+    }
+
+    /// The same with these words behind the sentence.
+    pub(crate) fn say(self, words: &str) -> Result<Reason, NoMemory> {
+        let mut reason = self;
+        reason.said.push_str(words)?;
+        Ok(reason)
+    }
+
+    /// The same with that place.
+    pub(crate) fn at(self, spot: Option<Spot>) -> Reason {
+        Reason { at: spot, ..self }
+    }
+
+    /// The same with that place before.
+    pub(crate) fn before(self, spot: Option<Spot>) -> Reason {
+        Reason {
+            before: spot,
+            ..self
+        }
+    }
+
+    /// The same with what to write.
+    pub(crate) fn way(self, words: &str) -> Result<Reason, NoMemory> {
+        let mut reason = self;
+        reason.ways.push_str("  ")?;
+        reason.ways.push_str(words)?;
+        reason.ways.push_str("\n")?;
+        Ok(reason)
+    }
+
+    /// The same with the question whether a name was meant.
+    pub(crate) fn ask(self, head: &str, point: &str, name: &str) -> Result<Reason, NoMemory> {
+        let mut reason = self;
+        reason.ways.push_str("  Is it `")?;
+        reason.ways.push_str(head)?;
+        reason.ways.push_str(point)?;
+        reason.ways.push_str(name)?;
+        reason.ways.push_str("`?\n")?;
+        Ok(reason)
+    }
+
+    /// The same with what one reactor contains.
+    pub(crate) fn link(self, outer: &str, inner: &str) -> Result<Reason, NoMemory> {
+        let mut reason = self;
+        reason.ways.push_str("  ")?;
+        reason.ways.push_str(outer)?;
+        reason.ways.push_str(" has an instance of ")?;
+        reason.ways.push_str(inner)?;
+        reason.ways.push_str(".\n")?;
+        Ok(reason)
+    }
+}

@@ -1,0 +1,114 @@
+//! A program that has a tree and is refused, and where the parts of its tree stand in its text.
+
+use crate::places::Spot;
+use crate::source::Source;
+use lft_tree::{Ast, Member, Reactor};
+use lft_witnesses::declared_name;
+use std::alloc::Global;
+
+/// A program that has a tree, with its reactors in the order of the file.
+#[derive(Clone, Copy)]
+pub(crate) struct Refused<'a> {
+    pub alloc: Global,
+    pub source: Source<'a>,
+    pub ast: &'a Ast,
+    pub reactors: &'a [&'a Reactor],
+}
+
+/// A member of a reactor, with where it stands: its reactor, its place there, and its first token.
+#[derive(Clone, Copy)]
+pub(crate) struct Site<'a> {
+    pub reactor: &'a Reactor,
+    pub member: &'a Member,
+    pub start: usize,
+}
+
+impl<'a> Refused<'a> {
+    /// The reactor with that place in the file.
+    pub(crate) fn reactor(&self, place: usize) -> Option<&'a Reactor> {
+        if place < self.reactors.len() {
+            Some(self.reactors[place])
+        } else {
+            None
+        }
+    }
+
+    /// The first reactor of that name.
+    pub(crate) fn named(&self, name: &str) -> Option<&'a Reactor> {
+        for reactor in self.reactors {
+            if let Some(other) = &reactor.name {
+                if other.as_str() == name {
+                    return Some(*reactor);
+                }
+            }
+        }
+        None
+    }
+
+    /// The place in the file of the reactor with that number among those that have a name.
+    pub(crate) fn place_of_named(&self, number: usize) -> Option<usize> {
+        let mut before: usize = 0;
+        for place in 0..self.reactors.len() {
+            let reactor = self.reactors[place];
+            if reactor.name.is_some() {
+                if before == number {
+                    return Some(place);
+                }
+                before = before.saturating_add(1);
+            }
+        }
+        None
+    }
+
+    /// The member with that place in the reactor with that place.
+    pub(crate) fn site(&self, reactor: usize, member: usize) -> Option<Site<'a>> {
+        let owner = self.reactor(reactor)?;
+        if member >= owner.members.len() {
+            return None;
+        }
+        let start = self.source.reactor_start(self.ast, reactor);
+        Some(Site {
+            reactor: owner,
+            member: &owner.members[member],
+            start: self.source.member_start(owner, start, member),
+        })
+    }
+
+    /// Where the name of a reactor stands, or `main reactor` where it has none.
+    pub(crate) fn reactor_spot(&self, place: usize) -> Option<Spot> {
+        let reactor = self.reactor(place)?;
+        let start = self.source.reactor_start(self.ast, place);
+        let at = self.source.reactor_name(reactor, start);
+        match &reactor.name {
+            Some(name) => self.source.name_spot(at, name.as_str()),
+            None => self.source.spot(at, 2),
+        }
+    }
+
+    /// The name of what a reactor declares with that number, parameters first, and where it stands.
+    pub(crate) fn declaration(
+        &self,
+        place: usize,
+        number: usize,
+    ) -> Option<(&'a str, Option<Spot>)> {
+        let reactor = self.reactor(place)?;
+        let start = self.source.reactor_start(self.ast, place);
+        if number < reactor.parameters.len() {
+            let name = reactor.parameters[number].name.as_str();
+            let at = self.source.parameter(reactor, start, number)?;
+            return Some((name, self.source.name_spot(at, name)));
+        }
+        let mut before = reactor.parameters.len();
+        for member in 0..reactor.members.len() {
+            if let Some(name) = declared_name(&reactor.members[member]) {
+                if before == number {
+                    let at = self.source.member_start(reactor, start, member);
+                    let at = self.source.declared(&reactor.members[member], at);
+                    return Some((name, self.source.name_spot(at, name)));
+                }
+                before = before.saturating_add(1);
+            }
+        }
+        None
+    }
+}

@@ -1,0 +1,183 @@
+//! What is said of names that are nothing.
+
+use crate::places::Spot;
+use crate::reason::Reason;
+use crate::refused::{Refused, Site};
+use crate::words::reactor_words;
+use lft_scope::names::Declared;
+use lft_tag::NoMemory;
+use lft_tree::{Instance, Member, Reference};
+
+/// The instance that the member is, if it is one.
+pub(crate) fn instance_of(member: &Member) -> Option<&Instance> {
+    match member {
+        Member::Instance(instance) => Some(instance),
+        _ => None,
+    }
+}
+
+/// The reason with a question, where some name was probably meant.
+fn meant(reason: Reason, near: Option<&str>) -> Result<Reason, NoMemory> {
+    match near {
+        Some(name) => reason.ask("", "", name),
+        None => Ok(reason),
+    }
+}
+
+impl<'a> Refused<'a> {
+    /// An instance is of a reactor that isn't there.
+    pub(crate) fn unknown_reactor(&self, site: Site<'a>) -> Result<Option<Reason>, NoMemory> {
+        let Some(instance) = instance_of(site.member) else {
+            return Ok(None);
+        };
+        let wanted = instance.reactor.as_str();
+        let (owner, name) = reactor_words(site.reactor);
+        let reason = Reason::of(self.alloc, owner)?
+            .say(name)?
+            .say(" has an instance of ")?
+            .say(wanted)?
+            .say(", which is no reactor of the text")?;
+        let spot = self.source.name_spot(site.start.saturating_add(3), wanted);
+        let reason = meant(reason.at(spot), self.near_reactor(wanted)?)?;
+        if self.has_code_with(b"reaction") {
+            let way = "Some code has the word `reaction`: is the `=}` before that missing?";
+            return Ok(Some(reason.way(way)?));
+        }
+        Ok(Some(reason))
+    }
+
+    /// A plain name is nothing.
+    fn unknown_plain(&self, site: Site<'a>, wanted: &str) -> Result<Reason, NoMemory> {
+        let (owner, name) = reactor_words(site.reactor);
+        let reason = Reason::of(self.alloc, "nothing in ")?
+            .say(owner)?
+            .say(name)?
+            .say(" is named ")?
+            .say(wanted)?;
+        let reason = meant(reason, self.near_declared(site.reactor, wanted)?)?;
+        match self.with_that_port(site.reactor, wanted)? {
+            Some(instance) => reason.ask(instance, ".", wanted),
+            None => Ok(reason),
+        }
+    }
+
+    /// A port of an instance is nothing.
+    fn unknown_port(&self, site: Site<'a>, head: &str, wanted: &str) -> Result<Reason, NoMemory> {
+        let (owner, name) = reactor_words(site.reactor);
+        let Some(instance) = self.instance(site, head) else {
+            let reason = Reason::of(self.alloc, owner)?
+                .say(name)?
+                .say(" has no instance named ")?
+                .say(head)?;
+            return match self.near_member(site.reactor, Declared::Instance, head)? {
+                Some(near) => reason.ask(near, ".", wanted),
+                None => Ok(reason),
+            };
+        };
+        let inner = instance.reactor.as_str();
+        let reason = Reason::of(self.alloc, "in ")?
+            .say(owner)?
+            .say(name)?
+            .say(" ")?
+            .say(head)?
+            .say(" is an instance of ")?
+            .say(inner)?
+            .say(", which has no port named ")?
+            .say(wanted)?;
+        let Some(reactor) = self.named(inner) else {
+            return Ok(reason);
+        };
+        match self.near_member(reactor, Declared::Port, wanted)? {
+            Some(near) => reason.ask(head, ".", near),
+            None => Ok(reason),
+        }
+    }
+
+    /// The instance of that name in the reactor of the site.
+    fn instance(&self, site: Site<'a>, wanted: &str) -> Option<&'a Instance> {
+        for member in &site.reactor.members {
+            if let Member::Instance(instance) = member {
+                if instance.name.as_str() == wanted {
+                    return Some(instance);
+                }
+            }
+        }
+        None
+    }
+
+    /// A name is nothing.
+    pub(crate) fn unknown_name(
+        &self,
+        site: Site<'a>,
+        name: &Reference,
+        spot: Option<Spot>,
+    ) -> Result<Reason, NoMemory> {
+        let reason = match &name.port {
+            None => self.unknown_plain(site, name.head.as_str())?,
+            Some(port) => self.unknown_port(site, name.head.as_str(), port.as_str())?,
+        };
+        Ok(reason.at(spot))
+    }
+
+    /// A time names nothing.
+    pub(crate) fn unknown_time(
+        &self,
+        site: Site<'a>,
+        wanted: &str,
+        spot: Option<Spot>,
+    ) -> Result<Reason, NoMemory> {
+        let (owner, name) = reactor_words(site.reactor);
+        let reason = Reason::of(self.alloc, "nothing in ")?
+            .say(owner)?
+            .say(name)?
+            .say(" is named ")?
+            .say(wanted)?
+            .at(spot);
+        let reason = meant(reason, self.near_parameter(site.reactor, wanted)?)?;
+        reason.way("A time is a number with a unit, or a parameter of the reactor.")
+    }
+
+    /// A value is for what isn't a parameter.
+    pub(crate) fn unknown_parameter(
+        &self,
+        site: Site<'a>,
+        value: usize,
+    ) -> Result<Option<Reason>, NoMemory> {
+        let Some(instance) = instance_of(site.member) else {
+            return Ok(None);
+        };
+        if value >= instance.given.len() {
+            return Ok(None);
+        }
+        let (wanted, inner) = (
+            instance.given[value].name.as_str(),
+            instance.reactor.as_str(),
+        );
+        let (owner, owner_name) = reactor_words(site.reactor);
+        let reason = Reason::of(self.alloc, owner)?
+            .say(owner_name)?
+            .say(" gives an instance of ")?
+            .say(inner)?
+            .say(" a value for ")?
+            .say(wanted)?
+            .say(", which is no parameter of it")?;
+        let reason = match self.source.value(site.start, value) {
+            Some(at) => reason.at(self.source.name_spot(at, wanted)),
+            None => reason,
+        };
+        match self.named(inner) {
+            Some(reactor) => Ok(Some(meant(reason, self.near_parameter(reactor, wanted)?)?)),
+            None => Ok(Some(reason)),
+        }
+    }
+
+    /// Whether some code of the text has those bytes.
+    fn has_code_with(&self, word: &[u8]) -> bool {
+        for at in 0..self.source.tokens.len() {
+            if self.source.is_code(at) && self.source.has(at, word) {
+                return true;
+            }
+        }
+        false
+    }
+}

@@ -1,0 +1,56 @@
+-- What each witness shows of the reactors of a file.
+use Rattle.std.specs.Prelude.{◌≡◌, ◌≢◌, ℕ, ◌+◌, ◌<◌, ◌⊎◌, List, Some, true, length, slice_get, filter_map, IsSomeAnd}
+use Rattle.lft_tree.specs.Tree.{ReactorTree, RefTree, nanoseconds}
+use Rattle.lft_scope.specs.Causes.{Holds, longest}
+use Rattle.lft_scope.specs.declared.kinds.Role.TheVariants.{Destination}
+use Rattle.lft_witnesses.specs.Members.{names_of, declarations}
+use Rattle.lft_witnesses.specs.Findings.{IsFinding, IsTwiceAt}
+use Rattle.lft_witnesses.specs.declared.finding.Finding.{Finding}
+use Rattle.lft_witnesses.specs.declared.witness.Naming.{Naming}
+use Rattle.lft_witnesses.specs.declared.witness.Witness.{Witness}
+use Rattle.lft_witnesses.specs.declared.witness.Witness.TheVariants as witness
+
+-- the finding is true of the reactor's member at that place
+abbrev pub HasFinding : List ReactorTree → ReactorTree → ℕ → Finding → Type 0
+HasFinding reactors r n f = IsSomeAnd (slice_get r.members n) (λ m. IsFinding reactors r m f)
+
+-- the name stands there in the reactor
+abbrev pub IsNamedAt : ReactorTree → Naming → RefTree → Type 0
+IsNamedAt r place name = IsSomeAnd (slice_get r.members place.member) (λ m. slice_get (names_of place.role m) place.name ≡ Some name)
+
+-- one name stands at both places of the reactor, which aren't one, and a connection ends at one of them
+pub record IsWrittenTwice (r : ReactorTree) (first second : Naming) : Type 0 where
+  pub name : RefTree
+  pub at_first : IsNamedAt r first name
+  pub at_second : IsNamedAt r second name
+  pub apart : first ≢ second
+  pub connected : (first.role ≡ Destination) ⊎ (second.role ≡ Destination)
+
+-- what the witness shows of a file that has these reactors
+abbrev pub Shows : List ReactorTree → Witness → Type 0
+Shows reactors (witness.TwoMains first second) = (first < second) × IsSomeAnd (slice_get reactors first) (λ r. r.is_main ≡ true) × IsSomeAnd (slice_get reactors second) (λ r. r.is_main ≡ true)
+Shows reactors (witness.SameReactors first second) = IsTwiceAt (filter_map (λ r. r.name) reactors) first second
+Shows reactors (witness.DeclaredTwice reactor first second) = IsSomeAnd (slice_get reactors reactor) (λ r. IsTwiceAt (declarations r) first second)
+Shows reactors (witness.Member reactor member f) = IsSomeAnd (slice_get reactors reactor) (λ r. HasFinding reactors r member f)
+Shows reactors (witness.TwoSources reactor first second) = IsSomeAnd (slice_get reactors reactor) (λ r. IsWrittenTwice r first second)
+Shows reactors (witness.LongDefault reactor parameter) = IsSomeAnd (slice_get reactors reactor) (λ r. IsSomeAnd (slice_get r.parameters parameter) (λ p. longest < nanoseconds p.default))
+
+-- the reactor with the first place has an instance of that with the second
+pub record HoldsAt (reactors : List ReactorTree) (a b : ℕ) : Type 0 where
+  pub outer : ReactorTree
+  pub inner : ReactorTree
+  pub is_outer : slice_get reactors a ≡ Some outer
+  pub is_inner : slice_get reactors b ≡ Some inner
+  pub holds : Holds reactors outer inner
+
+-- each of the reactors has an instance of the next
+abbrev pub LeadsOn : List ReactorTree → List ℕ → Type 0
+LeadsOn reactors places = (i a b : ℕ) → slice_get places i ≡ Some a → slice_get places (i + 1) ≡ Some b → HoldsAt reactors a b
+
+-- the last of the reactors has an instance of the first
+abbrev pub Closes : List ReactorTree → List ℕ → Type 0
+Closes reactors places = (i a b : ℕ) → i + 1 ≡ length places → slice_get places i ≡ Some a → slice_get places 0 ≡ Some b → HoldsAt reactors a b
+
+-- each of the reactors has an instance of the next, and the last of the first
+abbrev pub IsCircle : List ReactorTree → List ℕ → Type 0
+IsCircle reactors places = LeadsOn reactors places × Closes reactors places

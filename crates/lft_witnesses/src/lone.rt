@@ -1,0 +1,95 @@
+//! What one member shows without the names around it.
+
+ghost use Rattle.std.specs.Prelude.{◌≡◌, List, None, IfOk, IfSome, IsTrue, IsSomeAnd, slice_get};
+ghost use Rattle.lft_tree.specs.Tree.{ReactorTree};
+ghost use Rattle.lft_tree.specs.View.{member_view, reactor_view, time_view};
+ghost use Rattle.lft_scope.specs.Causes.{IsLongTime};
+ghost use Rattle.lft_scope.specs.Tables.{IsFile};
+ghost use Rattle.lft_witnesses.specs.Members.{time_trees};
+ghost use Rattle.lft_witnesses.specs.Findings.{IsFinding};
+
+use crate::finding::Finding;
+use crate::names::times_of;
+use lft_scope::file::File;
+use lft_scope::times::nanoseconds;
+use lft_tag::NoMemory;
+use lft_tree::{Member, Reactor, TimeExpression};
+use std::alloc::Global;
+
+/// Whether the member is an instance of a reactor that isn't in the file.
+pub(crate) fn unknown_reactor(file: &File, member: &Member) -> Option<Finding>
+    ensures { (rs : List ReactorTree) (r : ReactorTree) → IsFile rs file.now → IfSome result (IsFinding rs r (member_view member.now)) }
+{
+    match member {
+        Member::Instance(instance) if file.reactor(instance.reactor.as_str()).is_none() => {
+            Some(Finding::UnknownReactor)
+        }
+        _ => None,
+    }
+}
+
+/// Whether the member is a port of a main reactor.
+pub(crate) fn main_port(reactor: &Reactor, member: &Member) -> Option<Finding>
+    ensures { (rs : List ReactorTree) → IfSome result (IsFinding rs (reactor_view reactor.now) (member_view member.now)) }
+{
+    match member {
+        Member::Port(_) if reactor.is_main => Some(Finding::MainHasPort),
+        _ => None,
+    }
+}
+
+/// Whether the member is a connection whose two lists differ in length.
+pub(crate) fn width(member: &Member) -> Option<Finding>
+    ensures { (rs : List ReactorTree) (r : ReactorTree) → IfSome result (IsFinding rs r (member_view member.now)) }
+{
+    match member {
+        Member::Connection(connection)
+            if connection.sources.len() != connection.destinations.len() => {
+            Some(Finding::WidthMismatch)
+        }
+        _ => None,
+    }
+}
+
+/// Whether the member is a reaction without a trigger.
+pub(crate) fn no_trigger(member: &Member) -> Option<Finding>
+    ensures { (rs : List ReactorTree) (r : ReactorTree) → IfSome result (IsFinding rs r (member_view member.now)) }
+{
+    match member {
+        Member::Reaction(reaction) if reaction.triggers.is_empty() => Some(Finding::NoTrigger),
+        _ => None,
+    }
+}
+
+/// Whether the time is written and past the greatest.
+fn is_long(time: &TimeExpression) -> bool
+    ensures { IsTrue result → IsLongTime (time_view time.now) }
+{
+    match time {
+        TimeExpression::Written(written) => nanoseconds(*written).is_none(),
+        TimeExpression::Parameter(_) => false,
+    }
+}
+
+/// The first of the times that is past the greatest.
+fn first_long(times: &[&TimeExpression]) -> Option<usize>
+    ensures { IfSome result (λ n. IsSomeAnd (slice_get (time_trees times.now) n) IsLongTime) }
+{
+    for time in 0..times.len() {
+        if is_long(times[time]) {
+            return Some(time);
+        }
+    }
+    None
+}
+
+/// The first time of the member that is past the greatest.
+pub(crate) fn long_time(alloc: Global, member: &Member) -> Result<Option<Finding>, NoMemory>
+    ensures { IfOk result (λ found. (rs : List ReactorTree) (r : ReactorTree) → IfSome found (IsFinding rs r (member_view member.now))) }
+{
+    let times = times_of(alloc, member)?;
+    match first_long(&times) {
+        Some(time) => Ok(Some(Finding::LongTime { time })),
+        None => Ok(None),
+    }
+}

@@ -1,0 +1,61 @@
+//! Main reactors, and parameters with long defaults.
+
+ghost use Rattle.std.specs.Prelude.{◌≡◌, ◌<◌, ℕ, Some, IfSome, IsSomeAnd, IsTrue, map, slice_get, true};
+ghost use Rattle.lft_tree.specs.Tree.{nanoseconds};
+ghost use Rattle.lft_tree.specs.View.{parameter_view, reactor_view};
+ghost use Rattle.lft_scope.specs.Causes.{longest};
+ghost use Rattle.lft_scope.specs.References.{reactor_trees};
+ghost use Rattle.lft_witnesses.specs.Witnesses.{Shows};
+
+use crate::witness::Witness;
+use lft_scope::times::nanoseconds;
+use lft_tree::{Parameter, Reactor};
+
+/// The first main reactor at or behind the place.
+fn main_from(reactors: &[&Reactor], start: usize) -> Option<usize>
+    ensures { IfSome result (λ n. IsSomeAnd (slice_get (reactor_trees reactors.now) n) (λ r. r.is_main ≡ true)) }
+{
+    for place in start..reactors.len() {
+        if reactors[place].is_main {
+            return Some(place);
+        }
+    }
+    None
+}
+
+/// Two main reactors.
+pub(crate) fn two_mains(reactors: &[&Reactor]) -> Option<Witness>
+    ensures { IfSome result (Shows (reactor_trees reactors.now)) }
+{
+    let first = main_from(reactors, 0)?;
+    let second = main_from(reactors, first + 1)?;
+    if first < second {
+        Some(Witness::TwoMains { first, second })
+    } else {
+        None
+    }
+}
+
+/// The first of the parameters whose default is past the greatest time.
+fn long_default_in(parameters: &[Parameter]) -> Option<usize>
+    ensures { IfSome result (λ n. IsSomeAnd (slice_get (map parameter_view parameters.now) n) (λ p. longest < nanoseconds p.default)) }
+{
+    for place in 0..parameters.len() {
+        if nanoseconds(parameters[place].default).is_none() {
+            return Some(place);
+        }
+    }
+    None
+}
+
+/// The first parameter of the file whose default is past the greatest time.
+pub(crate) fn long_default(reactors: &[&Reactor]) -> Option<Witness>
+    ensures { IfSome result (Shows (reactor_trees reactors.now)) }
+{
+    for reactor in 0..reactors.len() {
+        if let Some(parameter) = long_default_in(&reactors[reactor].parameters) {
+            return Some(Witness::LongDefault { reactor, parameter });
+        }
+    }
+    None
+}
