@@ -1,21 +1,31 @@
 -- The text of facts, one after another.
-use Rattle.std.proofs.Common.{◌≡◌, ℕ, zero, suc, ◌+◌, ◌≤◌, List, [], ◌∷◌, ◌++◌, length, take, take_all, add-one, append-nil, append_assoc, sym, ap, ◌∙◌, Some, slice_get, flat_map}
+use Rattle.std.proofs.Common.{◌≡◌, ℕ, zero, suc, ◌+◌, ◌≤◌, List, [], ◌∷◌, ◌++◌, length, take, take_all, append_assoc, refl, ap, ◌∙◌, Some, slice_get, flat_map}
 use Rattle.lft_flat.specs.Parts.{Parts}
-use Rattle.lft_trace.specs.declared.row.Row.{Row}
 use Rattle.lft_facts.specs.declared.facts.Fact.{Fact}
-use Rattle.lft_explain.specs.Told.{fact_words, told}
+use Rattle.lft_trace.specs.declared.row.Row.{Row}
+use Rattle.lft_quotes.specs.Quoted.{quoted}
+use Rattle.lft_explain.specs.Sentences.{first_words, opening, sentence}
+use Rattle.lft_explain.specs.Told.{details, part, told}
+use Rattle.lft_quotes.proofs.Steps.{flat_more}
 
--- a text of one more item
-pub flat_next : {X : Type 0} (f : X → List ℕ) (xs : List X) (i : ℕ) (x : X) → slice_get xs i ≡ Some x → flat_map f (take (suc i) xs) ≡ flat_map f (take i xs) ++ f x
-flat_next f [] i x e = absurd (cc)
-flat_next f (y ∷ ys) zero x e = let q : y ≡ x = cc in append-nil (f y) ∙ ap f q
-flat_next f (y ∷ ys) (suc i) x e = ap (λ zs. f y ++ zs) (flat_next f ys i x e) ∙ sym (append_assoc (f y) (flat_map f (take i ys)) (f x))
+-- what is said of each item of a list behind a text: one more, and all
+pub said_more : {X : Type 0} (f : X → List ℕ) (xs : List X) (i : ℕ) (x : X) (s old new : List ℕ) → slice_get xs i ≡ Some x → old ≡ s ++ flat_map f (take i xs) → new ≡ old ++ f x → new ≡ s ++ flat_map f (take (i + 1) xs)
+said_more f xs i x s old new e so_far is =
+    is ∙ ap (λ zs. zs ++ f x) so_far
+    ∙ append_assoc s (flat_map f (take i xs)) (f x)
+    ∙ ap (λ zs. s ++ zs) (flat_more f xs i x (flat_map f (take i xs)) (flat_map f (take i xs) ++ f x) e refl refl)
 
-pub told_next : (program : Parts) (t : List Row) (facts : List Fact) (i : ℕ) (f : Fact) (old new : List ℕ) → slice_get facts i ≡ Some f → old ≡ told program t (take i facts) → new ≡ old ++ fact_words program t f → new ≡ told program t (take (i + 1) facts)
-told_next program t facts i f old new e so_far is = is ∙ ap (λ s. s ++ fact_words program t f) so_far ∙ sym (flat_next (fact_words program t) facts i f e) ∙ ap (λ n. told program t (take n facts)) (sym (add-one i))
+pub said_all : {X : Type 0} (f : X → List ℕ) (xs : List X) (i : ℕ) (s text : List ℕ) → length xs ≤ i → text ≡ s ++ flat_map f (take i xs) → text ≡ s ++ flat_map f xs
+said_all f xs i s text l so_far = so_far ∙ ap (λ zs. s ++ flat_map f zs) (take_all i xs l)
 
-pub told_end : (program : Parts) (t rows : List Row) (facts all : List Fact) (i : ℕ) (text : List ℕ) → t ≡ rows → facts ≡ all → length facts ≤ i → text ≡ told program t (take i facts) → text ≡ told program rows all
-told_end program t rows facts all i text q r l so_far = so_far ∙ ap (λ fs. told program t fs) (take_all i facts l ∙ r) ∙ ap (λ ts. told program ts all) q
+-- what the first of some facts says
+pub opening_none : (program : Parts) (facts : List Fact) → length facts ≡ 0 → opening program facts ≡ []
+opening_none program [] e = refl
+opening_none program (f ∷ fs) e = absurd (cc)
+
+pub opening_first : (program : Parts) (facts : List Fact) (f : Fact) → slice_get facts 0 ≡ Some f → opening program facts ≡ first_words program f
+opening_first program [] f e = absurd (cc)
+opening_first program (g ∷ gs) f e = let q : g ≡ f = cc in ap (first_words program) q
 
 -- one more piece behind a text
 pub also : (s0 s1 s2 a b : List ℕ) → s1 ≡ s0 ++ a → s2 ≡ s1 ++ b → s2 ≡ s0 ++ (a ++ b)
@@ -24,3 +34,12 @@ also s0 s1 s2 a b e f = f ∙ ap (λ s. s ++ b) e ∙ append_assoc s0 a b
 -- five pieces behind a text
 pub five : (s0 s1 s2 s3 s4 s5 a b c d e : List ℕ) → s1 ≡ s0 ++ a → s2 ≡ s1 ++ b → s3 ≡ s2 ++ c → s4 ≡ s3 ++ d → s5 ≡ s4 ++ e → s5 ≡ s0 ++ (a ++ b ++ c ++ d ++ e)
 five s0 s1 s2 s3 s4 s5 a b c d e p q r s t = rw (t, s, r, q, p) (simp append_assoc)
+
+-- the parts of a text
+pub told_parts : (program : Parts) (t rows : List Row) (facts all : List Fact) (s0 s1 s2 q r d e : List ℕ) → t ≡ rows → facts ≡ all → s0 ≡ sentence program t facts → q ≡ quoted program t facts → d ≡ details program t facts → r ≡ q → e ≡ d → s1 ≡ s0 ++ part r → s2 ≡ s1 ++ part e → s2 ≡ told program rows all
+told_parts program t rows facts all s0 s1 s2 q r d e same_t same_f is_s is_q is_d same_q same_d one two =
+    two
+    ∙ ap (λ z. s1 ++ part z) (same_d ∙ is_d)
+    ∙ ap (λ z. z ++ part (details program t facts)) (one ∙ ap (λ z. z ++ part r) is_s ∙ ap (λ z. sentence program t facts ++ part z) (same_q ∙ is_q))
+    ∙ ap (λ z. told program z facts) same_t
+    ∙ ap (λ z. told program rows z) same_f

@@ -4,5 +4,6 @@ pub mod Orders
 pub mod Causes
 pub mod Rows
 pub mod Runs
+pub mod Sentences
 pub mod Told
 pub mod Explained

@@ -13,8 +13,11 @@ origin_of program p = unwrap_or (option_map (λ x. x.origin) (slice_get program.
 abbrev pub early_words : Parts → Tag → ℕ → ℕ → ℕ → ℕ → List ℕ
 early_words program g a r start end =
     reaction_words program r ++ codes " starts at " ++ tag_words g ++ codes " in " ++ line_words start
-    ++ codes ", before " ++ reaction_words program a ++ codes " ends in " ++ line_words end ++ codes ".\n\n  "
-    ++ reaction_words program a ++ codes " precedes " ++ reaction_words program r ++ codes ":\n"
+    ++ codes ", before " ++ reaction_words program a ++ codes " ends in " ++ line_words end ++ codes ".\n"
+
+-- `Y precedes X:`
+abbrev pub precedes_words : Parts → ℕ → ℕ → List ℕ
+precedes_words program a r = codes "  " ++ reaction_words program a ++ codes " precedes " ++ reaction_words program r ++ codes ":\n"
 
 -- `X before Y: declared first`
 abbrev pub declared_words : Parts → ℕ → ℕ → List ℕ

@@ -1,29 +1,39 @@
 -- The text of facts.
-use Rattle.std.specs.Prelude.{ℕ, List, flat_map}
+use Rattle.std.specs.Prelude.{ℕ, List, [], ◌∷◌, ◌++◌, flat_map}
 use Rattle.lft_flat.specs.Parts.{Parts}
 use Rattle.lft_trace.specs.declared.row.Row.{Row}
 use Rattle.lft_facts.specs.declared.facts.Fact.{Fact}
 use Rattle.lft_facts.specs.declared.facts.Fact.TheVariants as fact
+use Rattle.lft_quotes.specs.Quoted.{quoted}
 use Rattle.lft_explain.specs.Causes.{cause_words}
-use Rattle.lft_explain.specs.Rows.{row_is_words, row_words}
-use Rattle.lft_explain.specs.Runs.{no_run_words, runs_words, trigger_of_words, count_words, absent_words, reads_words}
-use Rattle.lft_explain.specs.Orders.{early_words, declared_words, feeds_words}
+use Rattle.lft_explain.specs.Runs.{trigger_of_words, count_words, absent_words, reads_words}
+use Rattle.lft_explain.specs.Orders.{precedes_words, declared_words, feeds_words}
+use Rattle.lft_explain.specs.Sentences.{sentence}
 
--- the text of a fact
+-- what a fact says beside what is wrong
 abbrev pub fact_words : Parts → List Row → Fact → List ℕ
-fact_words program t (fact.StartsEarly g a r start end) = early_words program g a r start end
+fact_words program t (fact.StartsEarly g a r start end) = precedes_words program a r
 fact_words program t (fact.DeclaredFirst a b) = declared_words program a b
 fact_words program t (fact.Feeds a b p) = feeds_words program a b p
-fact_words program t (fact.NoRun g r) = no_run_words program g r
-fact_words program t (fact.Runs g r start) = runs_words program g r start
+fact_words program t (fact.NoRun g r) = []
+fact_words program t (fact.Runs g r start) = []
 fact_words program t (fact.HasTrigger r x) = trigger_of_words program r x
 fact_words program t (fact.TriggerCount r count) = count_words program r count
 fact_words program t (fact.Untriggered g r k x) = absent_words program g x
-fact_words program t (fact.RowIs g r i) = row_is_words program g r i
-fact_words program t (fact.Row f) = row_words t f
+fact_words program t (fact.RowIs g r i) = []
+fact_words program t (fact.Row f) = []
 fact_words program t (fact.Cause c) = cause_words program t c
 fact_words program t (fact.Reads g r k n read present) = reads_words program n read present
 
--- the text of facts, one after another
+-- what the facts say beside what is wrong, one after another
+abbrev pub details : Parts → List Row → List Fact → List ℕ
+details program t facts = flat_map (fact_words program t) facts
+
+-- a part of the text behind an empty line, where there is such a part
+abbrev pub part : List ℕ → List ℕ
+part [] = []
+part (byte ∷ bytes) = 10 ∷ byte ∷ bytes
+
+-- the text of facts: what is wrong, the rows that they name, and what else they say
 abbrev pub told : Parts → List Row → List Fact → List ℕ
-told program t facts = flat_map (fact_words program t) facts
+told program t facts = sentence program t facts ++ part (quoted program t facts) ++ part (details program t facts)

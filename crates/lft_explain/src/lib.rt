@@ -7,6 +7,7 @@ mod lines;
 mod orders;
 mod rows;
 mod runs;
+mod sentences;
 mod telling;
 mod words;
 

@@ -1,7 +1,7 @@
 //! The text of which reaction precedes which.
 
 ghost use Rattle.std.specs.Prelude.{◌≡◌, ◌++◌, OnOk, string_bytes};
-ghost use Rattle.lft_explain.specs.Orders.{origin_of, early_words, declared_words, feeds_words};
+ghost use Rattle.lft_explain.specs.Orders.{origin_of, early_words, precedes_words, declared_words, feeds_words};
 
 use crate::lines::push_line;
 use crate::words::{push_port, push_reaction, push_tag};
@@ -41,7 +41,20 @@ pub(crate) fn push_early(
     push_reaction(text, program, earlier)?;
     text.push_str(" ends in ")?;
     push_line(text, end)?;
-    text.push_str(".\n\n  ")?;
+    text.push_str(".\n")?;
+    Ok(())
+}
+
+/// Puts that a reaction precedes another one at the end of the text.
+pub(crate) fn push_precedes(
+    text: &mut String,
+    program: &Program,
+    earlier: u32,
+    later: u32,
+) -> Result<(), AllocError>
+    ensures { OnOk result (string_bytes text.new ≡ string_bytes text.old ++ precedes_words program.now earlier later) }
+{
+    text.push_str("  ")?;
     push_reaction(text, program, earlier)?;
     text.push_str(" precedes ")?;
     push_reaction(text, program, later)?;

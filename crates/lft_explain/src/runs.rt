@@ -23,7 +23,7 @@ pub(crate) fn push_no_run(
     push_reaction(text, program, reaction)?;
     text.push_str(" is triggered at ")?;
     push_tag(text, tag)?;
-    text.push_str(" and has no run there.\n\n")?;
+    text.push_str(" and has no run there.\n")?;
     Ok(())
 }
 
@@ -42,7 +42,7 @@ pub(crate) fn push_runs(
     push_tag(text, tag)?;
     text.push_str(", from ")?;
     push_line(text, start)?;
-    text.push_str(" on.\n\n")?;
+    text.push_str(" on.\n")?;
     Ok(())
 }
 

@@ -1,15 +1,17 @@
 //! The text of facts.
 
 ghost use Rattle.std.specs.Prelude.{◌≡◌, ◌++◌, IfOk, OnOk, string_bytes};
-ghost use Rattle.lft_explain.specs.Told.{fact_words, told};
+ghost use Rattle.lft_trace.specs.Fits.{RowsFit};
+ghost use Rattle.lft_explain.specs.Told.{fact_words, details as the_details, part, told};
 
 use crate::causes::push_cause;
-use crate::orders::{push_declared, push_early, push_feeds};
-use crate::rows::{push_row_fact, push_row_is};
-use crate::runs::{push_absent, push_count, push_no_run, push_reads, push_runs, push_trigger_of};
+use crate::orders::{push_declared, push_feeds, push_precedes};
+use crate::runs::{push_absent, push_count, push_reads, push_trigger_of};
+use crate::sentences::sentence;
 use lft_facts::{Fact, Facts};
 use lft_flat::Program;
 use lft_lists::item_at;
+use lft_quotes::quote;
 use lft_trace::{Row, Rows};
 use std::alloc::{AllocError, Global};
 
@@ -23,25 +25,12 @@ fn push_fact(
     ensures { OnOk result (string_bytes text.new ≡ string_bytes text.old ++ fact_words program.now rows.now fact) }
 {
     match fact {
-        Fact::RowIs { tag, reaction, row } => push_row_is(text, program, tag, reaction, row),
-        Fact::Row(fact) => push_row_fact(text, rows, fact),
+        Fact::RowIs { .. } | Fact::Row(_) | Fact::NoRun { .. } | Fact::Runs { .. } => Ok(()),
         Fact::Cause(cause) => push_cause(text, program, rows, cause),
-        Fact::NoRun { tag, reaction } => push_no_run(text, program, tag, reaction),
         Fact::HasTrigger { reaction, trigger } => push_trigger_of(text, program, reaction, trigger),
-        Fact::Runs {
-            tag,
-            reaction,
-            start,
-        } => push_runs(text, program, tag, reaction, start),
         Fact::TriggerCount { reaction, count } => push_count(text, program, reaction, count),
         Fact::Untriggered { tag, trigger, .. } => push_absent(text, program, tag, trigger),
-        Fact::StartsEarly {
-            tag,
-            earlier,
-            later,
-            start,
-            end,
-        } => push_early(text, program, tag, earlier, later, start, end),
+        Fact::StartsEarly { earlier, later, .. } => push_precedes(text, program, earlier, later),
         Fact::DeclaredFirst { first, second } => push_declared(text, program, first, second),
         Fact::Feeds {
             writer,
@@ -57,21 +46,50 @@ fn push_fact(
     }
 }
 
-/// The text of the facts, one after another. Names that are of nothing are written as nothing, so it
-/// asks for no facts that are true.
+/// What the facts say beside what is wrong, one after another.
+fn details(
+    alloc: Global,
+    program: &Program,
+    rows: &[Row],
+    facts: &[Fact],
+) -> Result<String, AllocError>
+    ensures { IfOk result (λ text. string_bytes text ≡ the_details program.now rows.now facts.now) }
+{
+    let mut text = String::new(alloc);
+    for place in 0..facts.len() {
+        push_fact(&mut text, program, rows, item_at(facts, place))?;
+    }
+    Ok(text)
+}
+
+/// Puts an empty line and a part at the end of the text, where there is such a part.
+fn push_part(text: &mut String, bytes: &str) -> Result<(), AllocError>
+    ensures { OnOk result (string_bytes text.new ≡ string_bytes text.old ++ part bytes.now) }
+{
+    if !bytes.is_empty() {
+        text.push_str("\n")?;
+        text.push_str(bytes)?;
+    }
+    Ok(())
+}
+
+/// The text of the facts: what is wrong, the rows that they name, and what else they say. Names that
+/// are of nothing are written as nothing, so it asks for no facts that are true.
 pub fn tell(
     alloc: Global,
     program: &Program,
     rows: &Rows,
     facts: &Facts,
 ) -> Result<String, AllocError>
+    requires { RowsFit program.now rows.now }
     ensures { IfOk result (λ text. string_bytes text ≡ told program.now rows.now facts.now) }
 {
     let rows = rows.as_slice();
     let facts = facts.as_slice();
-    let mut text = String::new(alloc);
-    for place in 0..facts.len() {
-        push_fact(&mut text, program, rows, item_at(facts, place))?;
-    }
+    let mut text = sentence(alloc, program, rows, facts)?;
+    let quotes = quote(alloc, program, rows, facts)?;
+    push_part(&mut text, quotes.as_str())?;
+    let details = details(alloc, program, rows, facts)?;
+    push_part(&mut text, details.as_str())?;
     Ok(text)
 }

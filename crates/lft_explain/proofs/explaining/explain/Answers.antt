@@ -1,0 +1,11 @@
+use Rattle.std.proofs.Common.{ap, ◌∙◌}
+use Rattle.lft_explain.specs.Told.{told}
+use Rattle.lft_explain.proofs.explaining.explain.Goals as goal
+
+pub returns : goal.returns
+returns c = record {
+  facts = c.in_ok-facts.facts;
+  holds = c.in_ok-facts.ensures.holds;
+  enough = c.in_ok-facts.ensures.enough;
+  is_told = c.in_ok-text.ensures ∙ ap (λ p. told p c.args.rows.now c.in_ok-facts.facts) c.program.ensures.value;
+}

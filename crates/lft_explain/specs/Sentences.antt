@@ -1,0 +1,54 @@
+-- What is wrong, in a sentence.
+use Rattle.std.specs.Prelude.{ℕ, List, [], ◌∷◌, ◌++◌, flat_map, codes}
+use Rattle.lft_tag.specs.declared.Tag.{Tag}
+use Rattle.lft_flat.specs.Parts.{Parts}
+use Rattle.lft_trace.specs.declared.row.Row.{Row}
+use Rattle.lft_facts.specs.declared.facts.Cause.{Cause}
+use Rattle.lft_facts.specs.declared.facts.Cause.TheVariants as cause
+use Rattle.lft_facts.specs.declared.facts.Fact.{Fact}
+use Rattle.lft_facts.specs.declared.facts.Fact.TheVariants as fact
+use Rattle.lft_explain.specs.Words.{tag_words, port_words, action_words}
+use Rattle.lft_explain.specs.Rows.{row_words}
+use Rattle.lft_explain.specs.Runs.{no_run_words, runs_words}
+use Rattle.lft_explain.specs.Orders.{early_words}
+
+-- ` has more than one event at G, which is outside the profile.`
+abbrev pub more_words : Tag → List ℕ
+more_words g = codes " has more than one event at " ++ tag_words g ++ codes ", which is outside the profile.\n"
+
+-- the same behind the name of a port or an action
+abbrev pub port_more_words : Parts → Tag → ℕ → List ℕ
+port_more_words program g p = port_words program p ++ more_words g
+
+abbrev pub action_more_words : Parts → Tag → ℕ → List ℕ
+action_more_words program g a = action_words program a ++ more_words g
+
+-- what a cause says of two events where another one follows it
+abbrev pub clash_words : Parts → Cause → List ℕ
+clash_words program (cause.Written g p i) = port_more_words program g p
+clash_words program (cause.Scheduled g a i) = action_more_words program g a
+clash_words program (cause.Given g a i) = action_more_words program g a
+clash_words program (cause.AtStartup g) = []
+clash_words program (cause.AtShutdown g) = []
+clash_words program (cause.Fires g n count) = []
+
+-- facts that begin with a cause are of two events
+abbrev pub first_words : Parts → Fact → List ℕ
+first_words program (fact.Cause c) = clash_words program c
+first_words program _ = []
+
+abbrev pub opening : Parts → List Fact → List ℕ
+opening program [] = []
+opening program (f ∷ fs) = first_words program f
+
+-- what a fact says of what is wrong
+abbrev pub head_words : Parts → List Row → Fact → List ℕ
+head_words program t (fact.Row f) = row_words program t f
+head_words program t (fact.NoRun g r) = no_run_words program g r
+head_words program t (fact.Runs g r start) = runs_words program g r start
+head_words program t (fact.StartsEarly g a r start end) = early_words program g a r start end
+head_words program t _ = []
+
+-- what the facts say of what is wrong
+abbrev pub sentence : Parts → List Row → List Fact → List ℕ
+sentence program t facts = opening program facts ++ flat_map (head_words program t) facts

@@ -1,0 +1,4 @@
+pub mod Steps
+mod Placed
+mod Joined
+mod Lines

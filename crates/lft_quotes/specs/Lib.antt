@@ -1,0 +1,3 @@
+pub mod Marks
+pub mod Picked
+pub mod Quoted

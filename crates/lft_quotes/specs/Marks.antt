@@ -1,0 +1,55 @@
+-- Which rows facts name, and what each is to them.
+use Rattle.std.specs.Prelude.{ℕ, List, [], ◌∷◌, codes}
+use Rattle.lft_facts.specs.declared.facts.Cause.{Cause}
+use Rattle.lft_facts.specs.declared.facts.Cause.TheVariants as cause
+use Rattle.lft_facts.specs.declared.facts.Fact.{Fact}
+use Rattle.lft_facts.specs.declared.facts.Fact.TheVariants as fact
+use Rattle.lft_facts.specs.declared.facts.RowFact.{RowFact}
+use Rattle.lft_facts.specs.declared.facts.RowFact.TheVariants as row_fact
+use Rattle.lft_quotes.specs.declared.marks.Mark.{Mark}
+use Rattle.lft_quotes.specs.declared.marks.Mark.TheVariants as mark
+use Rattle.lft_quotes.specs.declared.marks.Quote.{Quote}
+
+-- the row at a place, with a mark
+abbrev pub marked : ℕ → Mark → List Quote
+marked i m = (record { row = i; mark = m }) ∷ []
+
+-- the row that makes something present
+abbrev pub cause_names : Cause → List Quote
+cause_names (cause.Written g p i) = marked i mark.Cause
+cause_names (cause.Scheduled g a i) = marked i mark.Cause
+cause_names (cause.AtStartup g) = []
+cause_names (cause.AtShutdown g) = []
+cause_names (cause.Fires g n count) = []
+cause_names (cause.Given g a i) = []
+
+-- the rows beside one that is wrong
+abbrev pub row_fact_names : RowFact → List Quote
+row_fact_names (row_fact.Late i j) = marked j mark.Greater
+row_fact_names (row_fact.StartsAgain i j) = marked j mark.FirstStart
+row_fact_names (row_fact.Busy i j) = marked j mark.OpenStart
+row_fact_names (row_fact.ReadAgain i j) = marked j mark.FirstRead
+row_fact_names (row_fact.AfterStop i) = []
+row_fact_names (row_fact.NotOpen i) = []
+row_fact_names (row_fact.NotInput i) = []
+row_fact_names (row_fact.NotEffect i) = []
+row_fact_names (row_fact.Unended i) = []
+
+-- the rows that a fact names
+abbrev pub names : Fact → List Quote
+names (fact.RowIs g r i) = marked i mark.Here
+names (fact.Row f) = row_fact_names f
+names (fact.Cause c) = cause_names c
+names (fact.Runs g r start) = marked start mark.Here
+names (fact.StartsEarly g a r start end) = (record { row = start; mark = mark.Here }) ∷ marked end mark.LateEnd
+names _ = []
+
+-- what stands behind a row
+abbrev pub mark_words : Mark → List ℕ
+mark_words mark.Here = codes "<- here"
+mark_words mark.Greater = codes "already at a greater tag"
+mark_words mark.FirstStart = codes "its first start"
+mark_words mark.OpenStart = codes "the run that is open"
+mark_words mark.FirstRead = codes "its first read"
+mark_words mark.Cause = codes "a cause"
+mark_words mark.LateEnd = codes "has to end first"
