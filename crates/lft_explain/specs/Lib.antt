@@ -1,6 +1,7 @@
 pub mod Words
 pub mod Lines
 pub mod Orders
+pub mod Ways
 pub mod Causes
 pub mod Rows
 pub mod Runs

@@ -7,6 +7,7 @@ use Rattle.lft_facts.specs.declared.facts.Fact.TheVariants as fact
 use Rattle.lft_explain.specs.Causes.{cause_words}
 use Rattle.lft_explain.specs.Rows.{row_is_words, row_words}
 use Rattle.lft_explain.specs.Runs.{no_run_words, runs_words, trigger_of_words, count_words, absent_words, reads_words}
+use Rattle.lft_explain.specs.Ways.{hop_words, nearest_words}
 use Rattle.lft_explain.specs.Orders.{early_words, declared_words, feeds_words}
 
 -- the text of a fact
@@ -22,6 +23,8 @@ fact_words program t (fact.Untriggered g r k x) = absent_words program g x
 fact_words program t (fact.RowIs g r i) = row_is_words program g r i
 fact_words program t (fact.Row f) = row_words t f
 fact_words program t (fact.Cause c) = cause_words program t c
+fact_words program t (fact.Hop hop) = hop_words program hop
+fact_words program t (fact.Nearest g x h) = nearest_words g h
 fact_words program t (fact.Reads g r k n read present) = reads_words program n read present
 
 -- the text of facts, one after another

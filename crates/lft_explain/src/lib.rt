@@ -8,6 +8,7 @@ mod orders;
 mod rows;
 mod runs;
 mod telling;
+mod ways;
 mod words;
 
 pub use explaining::explain;

@@ -7,6 +7,7 @@ use crate::causes::push_cause;
 use crate::orders::{push_declared, push_early, push_feeds};
 use crate::rows::{push_row_fact, push_row_is};
 use crate::runs::{push_absent, push_count, push_no_run, push_reads, push_runs, push_trigger_of};
+use crate::ways::{push_hop, push_nearest};
 use lft_facts::{Fact, Facts};
 use lft_flat::Program;
 use lft_lists::item_at;
@@ -26,6 +27,8 @@ fn push_fact(
         Fact::RowIs { tag, reaction, row } => push_row_is(text, program, tag, reaction, row),
         Fact::Row(fact) => push_row_fact(text, rows, fact),
         Fact::Cause(cause) => push_cause(text, program, rows, cause),
+        Fact::Hop(hop) => push_hop(text, program, hop),
+        Fact::Nearest { tag, at, .. } => push_nearest(text, tag, at),
         Fact::NoRun { tag, reaction } => push_no_run(text, program, tag, reaction),
         Fact::HasTrigger { reaction, trigger } => push_trigger_of(text, program, reaction, trigger),
         Fact::Runs {

@@ -44,6 +44,16 @@ pub enum RowFact {
     Unended { row: u32 },
 }
 
+/// A connection between two ports, and where its delay leads: from the tag before it to the one
+/// after it.
+#[derive(Clone, Copy, PartialEq, Eq, Debug, Drop)]
+pub struct Hop {
+    pub from: u32,
+    pub to: u32,
+    pub before: Tag,
+    pub after: Tag,
+}
+
 /// A statement about a plan and the rows of a trace. Rows and events are named by their places,
 /// counted from 0; the row at place 0 stands in line 2 of the table.
 #[derive(Clone, Copy, PartialEq, Eq, Debug, Drop)]
@@ -58,6 +68,14 @@ pub enum Fact {
     Row(RowFact),
     /// Why something is present.
     Cause(Cause),
+    /// A connection on the way of an event.
+    Hop(Hop),
+    /// The trigger is present at another tag, and nowhere between the two tags.
+    Nearest {
+        tag: Tag,
+        trigger: Trigger,
+        at: Tag,
+    },
     /// A reaction has no run at the tag.
     NoRun {
         tag: Tag,

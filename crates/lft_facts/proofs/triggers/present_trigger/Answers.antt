@@ -1,6 +1,6 @@
 use Rattle.std.proofs.Common.{◌<◌, length, arith}
 use Rattle.lft_facts.proofs.Fed.{any_trigger_known, is_trigger_of, triggered_at}
-use Rattle.lft_facts.proofs.triggers.first_cause.Goals as goal
+use Rattle.lft_facts.proofs.triggers.present_trigger.Goals as goal
 
 pub trigger_cause-requires-clause-trigger : goal.trigger_cause-requires-clause-trigger
 trigger_cause-requires-clause-trigger c = any_trigger_known c.args.plan.now.program c.program.result.now c.program.ensures.value c.reaction.ensures.sound c.args.reaction c.reaction.result.now c.reaction.ensures.value c.as_slice-triggers.result.now c.as_slice-triggers.ensures c.loop-place.place c.item_at-trigger.result c.item_at-trigger.ensures
