@@ -5,5 +5,6 @@ pub mod Ways
 pub mod Causes
 pub mod Rows
 pub mod Runs
+pub mod Neighbours
 pub mod Told
 pub mod Explained

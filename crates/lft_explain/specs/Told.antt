@@ -7,6 +7,7 @@ use Rattle.lft_facts.specs.declared.facts.Fact.TheVariants as fact
 use Rattle.lft_explain.specs.Causes.{cause_words}
 use Rattle.lft_explain.specs.Rows.{row_is_words, row_words}
 use Rattle.lft_explain.specs.Runs.{no_run_words, runs_words, trigger_of_words, count_words, absent_words, reads_words}
+use Rattle.lft_explain.specs.Neighbours.{never_words, run_before_words, run_after_words, last_row_words}
 use Rattle.lft_explain.specs.Ways.{hop_words, nearest_words}
 use Rattle.lft_explain.specs.Orders.{early_words, declared_words, feeds_words}
 
@@ -16,6 +17,10 @@ fact_words program t (fact.StartsEarly g a r start end) = early_words program g 
 fact_words program t (fact.DeclaredFirst a b) = declared_words program a b
 fact_words program t (fact.Feeds a b p) = feeds_words program a b p
 fact_words program t (fact.NoRun g r) = no_run_words program g r
+fact_words program t (fact.NeverRuns r) = never_words program r
+fact_words program t (fact.RunBefore g r h start) = run_before_words h start
+fact_words program t (fact.RunAfter g r h start) = run_after_words h start
+fact_words program t (fact.LastRow i g) = last_row_words i g
 fact_words program t (fact.Runs g r start) = runs_words program g r start
 fact_words program t (fact.HasTrigger r x) = trigger_of_words program r x
 fact_words program t (fact.TriggerCount r count) = count_words program r count

@@ -4,6 +4,7 @@
 mod causes;
 mod explaining;
 mod lines;
+mod neighbours;
 mod orders;
 mod rows;
 mod runs;

@@ -4,6 +4,7 @@ ghost use Rattle.std.specs.Prelude.{◌≡◌, ◌++◌, IfOk, OnOk, string_byte
 ghost use Rattle.lft_explain.specs.Told.{fact_words, told};
 
 use crate::causes::push_cause;
+use crate::neighbours::{push_last_row, push_never, push_run_after, push_run_before};
 use crate::orders::{push_declared, push_early, push_feeds};
 use crate::rows::{push_row_fact, push_row_is};
 use crate::runs::{push_absent, push_count, push_no_run, push_reads, push_runs, push_trigger_of};
@@ -30,6 +31,10 @@ fn push_fact(
         Fact::Hop(hop) => push_hop(text, program, hop),
         Fact::Nearest { tag, at, .. } => push_nearest(text, tag, at),
         Fact::NoRun { tag, reaction } => push_no_run(text, program, tag, reaction),
+        Fact::NeverRuns { reaction } => push_never(text, program, reaction),
+        Fact::RunBefore { at, start, .. } => push_run_before(text, at, start),
+        Fact::RunAfter { at, start, .. } => push_run_after(text, at, start),
+        Fact::LastRow { row, tag } => push_last_row(text, row, tag),
         Fact::HasTrigger { reaction, trigger } => push_trigger_of(text, program, reaction, trigger),
         Fact::Runs {
             tag,

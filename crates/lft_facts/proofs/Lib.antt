@@ -8,6 +8,7 @@ pub mod Untriggered
 pub mod WrongReads
 pub mod Found
 pub mod Near
+pub mod Beside
 pub mod Added
 pub mod Clashes
 pub mod RowGiving

@@ -228,6 +228,25 @@ pub record IsNearest (plan : PlanParts) (t : List Row) (g : Tag) (x : Trigger) (
   pub none_before : (k : Tag) → Before h k → Before k g → ¬ Occurs plan t k x
   pub none_after : (k : Tag) → Before g k → Before k h → ¬ Occurs plan t k x
 
+-- of the runs of r at tags before g the last is at h, and starts in the row at place p
+pub record IsRunBefore (t : List Row) (g : Tag) (r : ℕ) (h : Tag) (p : ℕ) : Type 0 where
+  pub starts : StartsAt t h r p
+  pub before : Before h g
+  pub none_between : (k : Tag) → Before h k → Before k g → ¬ Ran t k r
+
+-- of the runs of r at tags after g the first is at h, and starts in the row at place p
+pub record IsRunAfter (t : List Row) (g : Tag) (r : ℕ) (h : Tag) (p : ℕ) : Type 0 where
+  pub starts : StartsAt t h r p
+  pub after : Before g h
+  pub none_between : (k : Tag) → Before g k → Before k h → ¬ Ran t k r
+
+-- the row at place i is the last of all, and is at g
+pub record IsLastRow (t : List Row) (i : ℕ) (g : Tag) : Type 0 where
+  pub row : Row
+  pub is_row : slice_get t i ≡ Some row
+  pub last : length t ≡ i + 1
+  pub tag_is : row.tag ≡ g
+
 -- what makes something present is so in the plan and the rows
 abbrev pub IsCause : PlanParts → List Row → Cause → Type 0
 IsCause plan t (cause.AtStartup g) = g ≡ record { time = 0; micro = 0 }
@@ -255,6 +274,10 @@ IsFact plan t (fact.StartsEarly g a r start end) = IsEarlyStart t g a r start en
 IsFact plan t (fact.DeclaredFirst a b) = IsDeclaredFirst plan.program a b
 IsFact plan t (fact.Feeds a b p) = FeedsBy plan.program a b p
 IsFact plan t (fact.NoRun g r) = ¬ Ran t g r
+IsFact plan t (fact.NeverRuns r) = (g : Tag) → ¬ Ran t g r
+IsFact plan t (fact.RunBefore g r h p) = IsRunBefore t g r h p
+IsFact plan t (fact.RunAfter g r h p) = IsRunAfter t g r h p
+IsFact plan t (fact.LastRow i g) = IsLastRow t i g
 IsFact plan t (fact.Runs g r start) = StartsAt t g r start
 IsFact plan t (fact.HasTrigger r x) = IsTriggerOf plan.program r x
 IsFact plan t (fact.TriggerCount r count) = HasTriggers plan.program r count

@@ -81,6 +81,29 @@ pub enum Fact {
         tag: Tag,
         reaction: u32,
     },
+    /// A reaction has no run at all.
+    NeverRuns {
+        reaction: u32,
+    },
+    /// The last run of a reaction before the tag is at another one, and starts in this row.
+    RunBefore {
+        tag: Tag,
+        reaction: u32,
+        at: Tag,
+        start: u32,
+    },
+    /// The first run of a reaction after the tag is at another one, and starts in this row.
+    RunAfter {
+        tag: Tag,
+        reaction: u32,
+        at: Tag,
+        start: u32,
+    },
+    /// The last row of all, and its tag.
+    LastRow {
+        row: u32,
+        tag: Tag,
+    },
     /// One of the triggers of a reaction.
     HasTrigger {
         reaction: u32,

@@ -11,6 +11,7 @@ mod finding;
 mod hops;
 mod lookup;
 mod nearest;
+mod neighbours;
 mod ordering;
 mod reads;
 mod reasons;

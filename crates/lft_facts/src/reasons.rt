@@ -13,6 +13,7 @@ use crate::cause::name_cause;
 use crate::facts::{Cause, Fact, Facts};
 use crate::hops::add_hops;
 use crate::nearest::{event_after, event_before};
+use crate::neighbours::{add_last_row, add_runs};
 use lft_flat::{Name, Trigger};
 use lft_lists::item_at;
 use lft_model::Plan;
@@ -144,9 +145,10 @@ fn add_details(
     }
 }
 
-/// Puts why an input was to be read otherwise behind the facts: why it is present, or the events that
-/// are nearest to it.
-fn add_input(
+/// Puts the reasons of a fact that stand behind all others behind the facts. Of an input that was to be
+/// read otherwise: why it is present, or the events that are nearest to it. Of a run that is missing:
+/// the runs that are nearest to it, and where the trace ends.
+fn add_reasons(
     alloc: Global,
     plan: &Plan,
     rows: &[Row],
@@ -177,12 +179,17 @@ fn add_input(
                 add_near(alloc, plan, rows, causes, tag, name, facts)
             }
         }
+        Fact::NoRun { tag, reaction } => {
+            add_runs(rows, tag, reaction, facts)?;
+            add_last_row(rows, tag, facts)?;
+            Ok(())
+        }
         _ => Ok(()),
     }
 }
 
-/// The facts, each with its details right behind it, and at the end the reasons of all inputs. So
-/// the inputs of a run stand together.
+/// The facts, each with its details right behind it, and at the end the reasons of all. So the
+/// inputs of a run stand together.
 pub(crate) fn with_reasons(
     alloc: Global,
     plan: &Plan,
@@ -203,7 +210,7 @@ pub(crate) fn with_reasons(
     }
     for place in 0..facts.len() {
         let fact = item_at(facts.as_slice(), place);
-        add_input(alloc, plan, rows, causes, fact, &mut all)?;
+        add_reasons(alloc, plan, rows, causes, fact, &mut all)?;
     }
     Ok(Facts::from_vec(all))
 }

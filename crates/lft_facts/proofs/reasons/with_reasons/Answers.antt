@@ -19,4 +19,4 @@ pub loop-place-2-init : goal.loop-place-2-init
 loop-place-2-init c = extends_all c.args.plan.now c.args.rows.now c.args.facts.items c.loop-place.place c.loop-place.all.items (let n = c.loop-place-test.false in let e = c.len-place-end.ensures in omega arith) c.loop-place.invariant
 
 pub loop-place-2-preserved : goal.loop-place-2-preserved
-loop-place-2-preserved c = extends_further c.args.plan.now c.args.rows.now c.args.facts.items c.loop-place-2.all.items c.add_input.new.facts.items c.loop-place-2.invariant c.in_ok-add_input.ensures
+loop-place-2-preserved c = extends_further c.args.plan.now c.args.rows.now c.args.facts.items c.loop-place-2.all.items c.add_reasons.new.facts.items c.loop-place-2.invariant c.in_ok-add_reasons.ensures
