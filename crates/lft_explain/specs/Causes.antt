@@ -8,6 +8,7 @@ use Rattle.lft_facts.specs.declared.facts.Cause.TheVariants as cause
 use Rattle.lft_explain.specs.Words.{time_words, tag_words, port_words, action_words, timer_words}
 use Rattle.lft_explain.specs.Lines.{line_words, tag_at, value_at}
 use Rattle.lft_explain.specs.Orders.{origin_of}
+use Rattle.lft_explain.specs.Ways.{delays_words}
 
 -- `startup is present at (0, 0).`
 abbrev pub startup_words : Tag → List ℕ
@@ -48,9 +49,9 @@ written_words program t g p i = codes "  " ++ port_words program p ++ gets_words
 abbrev pub schedules_words : List Row → ℕ → List ℕ
 schedules_words t i = line_words i ++ codes " schedules it at " ++ tag_at t i ++ codes "\n"
 
--- `A gets V at G:`, and the line that schedules it
+-- `A gets V at G:`, the line that schedules it, and the delays that lead there
 abbrev pub scheduled_words : Parts → List Row → Tag → ℕ → ℕ → List ℕ
-scheduled_words program t g a i = codes "  " ++ action_words program a ++ gets_words t g i ++ schedules_words t i
+scheduled_words program t g a i = codes "  " ++ action_words program a ++ gets_words t g i ++ schedules_words t i ++ delays_words program t g a i
 
 -- `A has an event at G, from the external inputs.`
 abbrev pub given_words : Parts → Tag → ℕ → List ℕ

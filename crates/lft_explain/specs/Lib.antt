@@ -1,9 +1,11 @@
 pub mod Words
 pub mod Lines
 pub mod Orders
+pub mod Ways
 pub mod Causes
 pub mod Rows
 pub mod Runs
 pub mod Sentences
+pub mod Neighbours
 pub mod Told
 pub mod Explained

@@ -27,10 +27,10 @@ count_words program r count = codes "  Triggers of " ++ reaction_words program r
 
 -- a trigger that is absent at G
 abbrev pub absent_words : Parts → Tag → Trigger → List ℕ
-absent_words program g Startup = codes "    startup is present at (0, 0) alone.\n"
-absent_words program g Shutdown = codes "    shutdown is present at the stop alone.\n"
-absent_words program g (Timer n) = codes "    timer " ++ timer_words program n ++ codes " does not fire at " ++ tag_words g ++ codes ".\n"
-absent_words program g (On n) = codes "    " ++ name_words program n ++ codes " has no event at " ++ tag_words g ++ codes ".\n"
+absent_words program g Startup = codes "  startup is present at (0, 0) alone.\n"
+absent_words program g Shutdown = codes "  shutdown is present at the stop alone.\n"
+absent_words program g (Timer n) = codes "  timer " ++ timer_words program n ++ codes " does not fire at " ++ tag_words g ++ codes ".\n"
+absent_words program g (On n) = codes "  " ++ name_words program n ++ codes " has no event at " ++ tag_words g ++ codes ".\n"
 
 -- `input N: read V, present W`
 abbrev pub reads_words : Parts → Name → Option Value → Option Value → List ℕ

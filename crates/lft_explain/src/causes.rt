@@ -5,6 +5,7 @@ ghost use Rattle.lft_explain.specs.Causes.{startup_words, shutdown_words, offset
 
 use crate::lines::{push_line, push_tag_at, push_value_at};
 use crate::orders::origin;
+use crate::ways::push_delays;
 use crate::words::{push_action, push_number, push_port, push_tag, push_time, push_timer};
 use lft_facts::Cause;
 use lft_flat::Program;
@@ -143,7 +144,7 @@ fn push_schedules(text: &mut String, rows: &[Row], row: u32) -> Result<(), Alloc
     Ok(())
 }
 
-/// Puts which row gives an action an event at the end of the text.
+/// Puts which row gives an action an event, and by which delays, at the end of the text.
 fn push_scheduled(
     text: &mut String,
     program: &Program,
@@ -158,6 +159,7 @@ fn push_scheduled(
     push_action(text, program, action)?;
     push_gets(text, rows, tag, row)?;
     push_schedules(text, rows, row)?;
+    push_delays(text, program, rows, tag, action, row)?;
     Ok(())
 }
 

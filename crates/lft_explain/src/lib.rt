@@ -4,11 +4,13 @@
 mod causes;
 mod explaining;
 mod lines;
+mod neighbours;
 mod orders;
 mod rows;
 mod runs;
 mod sentences;
 mod telling;
+mod ways;
 mod words;
 
 pub use explaining::explain;

@@ -90,17 +90,17 @@ pub(crate) fn push_absent(
     ensures { OnOk result (string_bytes text.new ≡ string_bytes text.old ++ absent_words program.now tag trigger) }
 {
     match trigger {
-        Trigger::Startup => text.push_str("    startup is present at (0, 0) alone.\n")?,
-        Trigger::Shutdown => text.push_str("    shutdown is present at the stop alone.\n")?,
+        Trigger::Startup => text.push_str("  startup is present at (0, 0) alone.\n")?,
+        Trigger::Shutdown => text.push_str("  shutdown is present at the stop alone.\n")?,
         Trigger::Timer(number) => {
-            text.push_str("    timer ")?;
+            text.push_str("  timer ")?;
             push_timer(text, program, number)?;
             text.push_str(" does not fire at ")?;
             push_tag(text, tag)?;
             text.push_str(".\n")?;
         }
         Trigger::On(name) => {
-            text.push_str("    ")?;
+            text.push_str("  ")?;
             push_name(text, program, name)?;
             text.push_str(" has no event at ")?;
             push_tag(text, tag)?;

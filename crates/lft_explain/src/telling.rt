@@ -5,9 +5,11 @@ ghost use Rattle.lft_trace.specs.Fits.{RowsFit};
 ghost use Rattle.lft_explain.specs.Told.{fact_words, details as the_details, part, told};
 
 use crate::causes::push_cause;
+use crate::neighbours::{push_last_row, push_never, push_run_after, push_run_before};
 use crate::orders::{push_declared, push_feeds, push_precedes};
 use crate::runs::{push_absent, push_count, push_reads, push_trigger_of};
 use crate::sentences::sentence;
+use crate::ways::{push_hop, push_nearest};
 use lft_facts::{Fact, Facts};
 use lft_flat::Program;
 use lft_lists::item_at;
@@ -27,6 +29,12 @@ fn push_fact(
     match fact {
         Fact::RowIs { .. } | Fact::Row(_) | Fact::NoRun { .. } | Fact::Runs { .. } => Ok(()),
         Fact::Cause(cause) => push_cause(text, program, rows, cause),
+        Fact::Hop(hop) => push_hop(text, program, hop),
+        Fact::Nearest { tag, at, .. } => push_nearest(text, tag, at),
+        Fact::NeverRuns { reaction } => push_never(text, program, reaction),
+        Fact::RunBefore { at, start, .. } => push_run_before(text, at, start),
+        Fact::RunAfter { at, start, .. } => push_run_after(text, at, start),
+        Fact::LastRow { row, tag } => push_last_row(text, row, tag),
         Fact::HasTrigger { reaction, trigger } => push_trigger_of(text, program, reaction, trigger),
         Fact::TriggerCount { reaction, count } => push_count(text, program, reaction, count),
         Fact::Untriggered { tag, trigger, .. } => push_absent(text, program, tag, trigger),

@@ -1,7 +1,9 @@
 -- Facts that are put behind others.
-use Rattle.std.proofs.Common.{◌≡◌, ◌⊎◌, inl, inr, ℕ, Contains, filter_map, List, [], ◌∷◌, ◌++◌, append-nil, append_assoc, length, length-append, ◌+◌, ◌≤◌, arith, sym, ap, ◌∙◌, subst, Option}
-use Rattle.std.proofs.lemmas.List.Elements.{All-nil, All-cons, All-append, Contains-append_cases}
-use Rattle.lft_lists.proofs.Places.{contains_at}
+use Rattle.std.proofs.Common.{◌≡◌, ◌⊎◌, inl, inr, ℕ, Contains, filter_map, List, [], ◌∷◌, ◌++◌, append-nil, append_assoc, length, length-append, ◌+◌, ◌<◌, ◌≤◌, arith, refl, Some, slice_get, sym, ap, ◌∙◌, subst, Option}
+use Rattle.std.proofs.lemmas.List.Elements.{All-nil, All-cons, All-append, All-weaker, All-contains, All-contains_itself, Contains-append_cases, Contains-append_left, Contains-append_right}
+use native.Mathlib.Decide.{ℕ_discrete}
+use Rattle.lft_lists.proofs.Places.{contains_at, at_contains, same_at}
+use Rattle.lft_model.proofs.Places.{slice_get_within}
 use Rattle.lft_tag.specs.declared.Tag.{Tag}
 use Rattle.lft_flat.specs.Parts.{inputs}
 use Rattle.lft_flat.specs.Naming.{named}
@@ -16,8 +18,7 @@ use Rattle.lft_model.specs.declared.breach.Breach.{Breach}
 use Rattle.lft_model.specs.Plans.{PlanParts}
 use Rattle.lft_facts.specs.declared.facts.Fact.{Fact}
 use Rattle.lft_facts.specs.Facts.{IsFact, AreFacts, IsRead, IsUntriggered}
-use Rattle.lft_facts.specs.Enough.{Adds, Proves}
-use Rattle.lft_facts.proofs.Lists.{all_left}
+use Rattle.lft_facts.specs.Enough.{Adds, Extends, ProvesTag}
 
 module _ (plan : PlanParts) (t : List Row) where
   pub adds_none : (facts : List Fact) → Adds plan t facts facts
@@ -39,11 +40,34 @@ module _ (plan : PlanParts) (t : List Row) where
   pub adds_holds : (old new : List Fact) → Adds plan t old new → AreFacts plan t old → AreFacts plan t new
   adds_holds old new a all = subst (λ (fs : List Fact). AreFacts plan t fs) (sym a.is) (All-append (IsFact plan t) old a.more all a.holds)
 
-  pub adds_proves : (old new : List Fact) (b : Breach) → Adds plan t old new → Proves old b → Proves new b
-  adds_proves old new b a proves = record { row = λ l other s all. proves.row l other s (before other s all); tag = λ e other s all kept up. proves.tag e other s (before other s all) kept up }
+-- facts so far, among them the first of some others
+pub record ExtendsTo (plan : PlanParts) (t : List Row) (old : List Fact) (n : ℕ) (new : List Fact) : Type 0 where
+  pub holds : AreFacts plan t new
+  pub kept : (k : ℕ) (f : Fact) → k < n → slice_get old k ≡ Some f → Contains new f
+
+module _ (plan : PlanParts) (t : List Row) (old : List Fact) where
+  pub extends_begin : (new : List Fact) → new ≡ [] → ExtendsTo plan t old 0 new
+  extends_begin new e = record { holds = subst (λ (fs : List Fact). AreFacts plan t fs) (sym e) (All-nil (IsFact plan t)); kept = λ k f l. absurd (omega arith) }
+
+  pub extends_more : (n : ℕ) (new last : List Fact) → ExtendsTo plan t old n new → Adds plan t new last → ExtendsTo plan t old n last
+  extends_more n new last h a = record { holds = adds_holds plan t new last a h.holds; kept = λ k f l e. subst (λ (fs : List Fact). Contains fs f) (sym a.is) (Contains-append_left new a.more f (h.kept k f l e)) }
+
+  pub extends_next : (n : ℕ) (new next : List Fact) (f : Fact) → slice_get old n ≡ Some f → IsFact plan t f → next ≡ new ++ f ∷ [] → ExtendsTo plan t old n new → ExtendsTo plan t old (n + 1) next
+  extends_next n new next f is holds e h = record { holds = adds_holds plan t new next (adds_one plan t new next f e holds) h.holds; kept = λ k x l q. subst (λ (fs : List Fact). Contains fs x) (sym e) (go k x l q (ℕ_discrete k n)) }
     where
-      before : (other : PlanParts) (s : List Row) → AreFacts other s new → AreFacts other s old
-      before other s all = all_left (IsFact other s) old a.more (subst (λ (fs : List Fact). AreFacts other s fs) a.is all)
+      go : (k : ℕ) (x : Fact) → k < n + 1 → slice_get old k ≡ Some x → Dec (k ≡ n) → Contains (new ++ f ∷ []) x
+      go k x l q (yes p) = Contains-append_right new (f ∷ []) x (subst (λ (z : Fact). Contains (f ∷ []) z) (same_at old n k f x is q (sym p)) (contains_at (f ∷ []) 0 f refl))
+      go k x l q (no d) = Contains-append_left new (f ∷ []) x (h.kept k x (omega arith) q)
+
+  pub extends_all : (n : ℕ) (new : List Fact) → length old ≤ n → ExtendsTo plan t old n new → Extends plan t old new
+  extends_all n new l h = record { holds = h.holds; kept = All-weaker (Contains old) (Contains new) (λ f c. let i = at_contains old f c in let m : i.0 < length old = slice_get_within old i.0 f i.1 in h.kept i.0 f (omega arith) i.1) old (All-contains_itself old) }
+
+  pub extends_further : (new last : List Fact) → Extends plan t old new → Adds plan t new last → Extends plan t old last
+  extends_further new last x a = record { holds = adds_holds plan t new last a x.holds; kept = All-weaker (Contains new) (Contains last) (λ f c. subst (λ (fs : List Fact). Contains fs f) (sym a.is) (Contains-append_left new a.more f c)) old x.kept }
+
+  -- more facts give as much
+  pub extends_proves : (new : List Fact) (b : Breach) → Extends plan t old new → ProvesTag old b → ProvesTag new b
+  extends_proves new b x proves other s all kept up = proves other s (All-weaker (Contains new) (IsFact other s) (λ f c. All-contains (IsFact other s) new f all c) old x.kept) kept up
 
 -- what a fact names is of the program
 pub read_known : (plan : PlanParts) (sound : IsSound plan.program) (t : List Row) (g : Tag) (r k : ℕ) (n : Name) (read present : Option Value) → IsRead plan t g r k n read present → IsNameOf plan.program n

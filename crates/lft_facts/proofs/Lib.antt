@@ -1,3 +1,4 @@
+pub mod Lookups
 pub mod Lists
 pub mod Upstream
 pub mod Causes
@@ -6,6 +7,8 @@ pub mod Fed
 pub mod Untriggered
 pub mod WrongReads
 pub mod Found
+pub mod Near
+pub mod Beside
 pub mod Added
 pub mod Clashes
 pub mod RowGiving

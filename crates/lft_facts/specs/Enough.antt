@@ -1,5 +1,5 @@
 -- What some facts give, of whatever plan and rows they hold.
-use Rattle.std.specs.Prelude.{◌≡◌, ℕ, ◌<◌, List, ◌++◌, Option, Some, slice_get}
+use Rattle.std.specs.Prelude.{◌≡◌, ℕ, ◌<◌, List, ◌++◌, Option, Some, slice_get, Contains, All}
 use Rattle.lft_tag.specs.declared.Tag.{Tag}
 use Rattle.lft_tag.specs.Tags.{UpTo}
 use Rattle.lft_flat.specs.declared.parts.Trigger.{Trigger}
@@ -24,6 +24,11 @@ pub record Adds (plan : PlanParts) (t : List Row) (old new : List Fact) : Type 0
   pub more : List Fact
   pub is : new ≡ old ++ more
   pub holds : AreFacts plan t more
+
+-- facts that hold, and among them each of the old ones
+pub record Extends (plan : PlanParts) (t : List Row) (old new : List Fact) : Type 0 where
+  pub holds : AreFacts plan t new
+  pub kept : All (Contains new) old
 
 -- of whatever plan and rows the facts hold, they give the breach of a rule by a row
 abbrev pub ProvesRow : List Fact → Breach → Type 0

@@ -1,140 +1,126 @@
 //! Why a trigger or an input is present.
 
-ghost use Rattle.std.specs.Prelude.{◌≡◌, ◌<◌, ◌≤◌, ℕ, length, Some, IsTrue, ◌↔◌, IfSome, IfNone, slice_get};
-ghost use Rattle.lft_tag.specs.Tags.{IsRecorded};
+ghost use Rattle.std.specs.Prelude.{◌≡◌, ◌<◌, ◌≤◌, ◌-◌, ℕ, length, IfSome, IfNone};
 ghost use Rattle.lft_flat.specs.Sound.{IsNameOf, IsTriggerOf as IsKnown};
 ghost use Rattle.lft_flat.specs.declared.parts.Name.TheVariants.{Port as ThePort, Action as TheAction};
 ghost use Rattle.lft_flat.specs.declared.parts.Trigger.TheVariants.{On as TheName};
-ghost use Rattle.lft_trace.specs.Fits.{RowFits, RowsFit};
-ghost use Rattle.lft_model.specs.Presence.{stop as the_stop, min_delay, IsPresent, Occurs};
-ghost use Rattle.lft_facts.specs.Facts.{IsCause, IsWrittenIn, IsScheduledIn, IsGiven, FiresAfter};
+ghost use Rattle.lft_trace.specs.Fits.{RowsFit};
+ghost use Rattle.lft_model.specs.Presence.{stop as the_stop, IsPresent, Occurs};
+ghost use Rattle.lft_presence.specs.Causes.{AreCauses};
+ghost use Rattle.lft_facts.specs.Facts.{IsCause, IsWrittenIn, FiresAfter};
 ghost use Rattle.lft_facts.specs.Enough.{GivesTrigger};
-ghost use Rattle.lft_facts.specs.Causes.{Arrives, Schedules};
 
 use crate::facts::Cause;
-use lft_flat::{Name, Port, Trigger};
-use lft_lists::item_at;
+use crate::lookup::last_cause;
+use lft_flat::{Name, Trigger};
 use lft_model::{Plan, fires};
-use lft_tag::Tag;
-use lft_trace::{Event, Row, Step, row_at};
-
-/// Whether the row writes the origin of the port at a tag from which its delays lead to this one.
-pub(crate) fn arrives(row: Row, port: &Port, tag: Tag) -> bool
-    requires { IsRecorded row.tag }
-    ensures { IsTrue result ↔ Arrives port.now tag row }
-{
-    match row.step {
-        Step::Write(Name::Port(number), _) => {
-            number == port.origin && row.tag.plus(port.shift).is_same(tag)
-        }
-        _ => false,
-    }
-}
+use lft_presence::Cause as EventCause;
+use lft_tag::{Shift, Tag};
+use lft_trace::Row;
 
 /// The place of the last row that gives the port an event at the tag.
-pub(crate) fn writing_row(plan: &Plan, rows: &[Row], tag: Tag, port: u32) -> Option<u32>
-    requires fit { RowsFit plan.now.program rows.now }
+pub(crate) fn writing_row(
+    plan: &Plan,
+    rows: &[Row],
+    causes: &[EventCause],
+    tag: Tag,
+    port: u32,
+) -> Option<u32>
+    requires causes { AreCauses plan.now rows.now causes.now }
     requires port { port < length plan.now.program.ports }
     ensures some { IfSome result (λ i. IsWrittenIn plan.now rows.now tag port i) }
     ensures none { IfNone result (¬ IsPresent plan.now rows.now tag (ThePort port)) }
 {
     let port = plan.program().port(port);
-    let mut last = None;
-    for place in 0..rows.len() {
-        if arrives(row_at(rows, place), port, tag) {
-            last = Some(place as u32);
-        }
-    }
-    last
-}
-
-/// Whether the row schedules the action for the tag.
-pub(crate) fn schedules(plan: &Plan, row: Row, tag: Tag, action: u32) -> bool
-    requires fit { RowFits plan.now.program row }
-    requires action { action < length plan.now.program.actions }
-    ensures { IsTrue result ↔ Schedules (min_delay plan.now.program action) tag action row }
-{
-    match row.step {
-        Step::Schedule(Name::Action(number), _, extra) => {
-            let min_delay = plan.program().action(action).min_delay;
-            number == action && row.tag.after(min_delay, extra).is_same(tag)
-        }
-        _ => false,
+    match last_cause(causes, port.origin, port.shift, tag) {
+        Some(cause) => Some(cause.place),
+        None => None,
     }
 }
 
-/// The place of the first row that schedules the action for the tag.
-pub(crate) fn scheduling_row(plan: &Plan, rows: &[Row], tag: Tag, action: u32) -> Option<u32>
-    requires fit { RowsFit plan.now.program rows.now }
-    requires action { action < length plan.now.program.actions }
-    ensures some { IfSome result (λ i. IsScheduledIn plan.now rows.now tag action i) }
-    ensures none { IfNone result ((i : ℕ) → ¬ IsScheduledIn plan.now rows.now tag action i) }
+/// Which cause of an event of the action at the tag stands at the place: a row, or past the rows an
+/// external event.
+pub(crate) fn of_action(rows: &[Row], tag: Tag, action: u32, place: u32) -> Cause
+    requires few { length rows.now ≤ 4000000 }
+    ensures row { place < length rows.now → result ≡ Cause.Scheduled tag action place }
+    ensures event { length rows.now ≤ place → result ≡ Cause.Given tag action (place - length rows.now) }
 {
-    for place in 0..rows.len() {
-        if schedules(plan, row_at(rows, place), tag, action) {
-            return Some(place as u32);
+    let count = rows.len() as u32;
+    if place < count {
+        Cause::Scheduled {
+            tag,
+            action,
+            row: place,
+        }
+    } else {
+        Cause::Given {
+            tag,
+            action,
+            event: place - count,
         }
     }
-    None
-}
-
-/// The place of the external event of the action at the tag.
-pub(crate) fn giving_event(plan: &Plan, tag: Tag, action: u32) -> Option<u32>
-    ensures some { IfSome result (λ i. IsGiven plan.now tag action i) }
-    ensures none { IfNone result ((i : ℕ) → ¬ IsGiven plan.now tag action i) }
-{
-    let events = plan.externals().events();
-    for place in 0..events.len() {
-        let event = item_at(events, place);
-        if event.action == action && event.tag.is_same(tag) {
-            return Some(place as u32);
-        }
-    }
-    None
 }
 
 /// Why the action has an event at the tag, if it has one.
-fn action_cause(plan: &Plan, rows: &[Row], tag: Tag, action: u32) -> Option<Cause>
+fn action_cause(
+    plan: &Plan,
+    rows: &[Row],
+    causes: &[EventCause],
+    tag: Tag,
+    action: u32,
+) -> Option<Cause>
     requires fit { RowsFit plan.now.program rows.now }
+    requires causes { AreCauses plan.now rows.now causes.now }
     requires action { action < length plan.now.program.actions }
     ensures holds { IfSome result (IsCause plan.now rows.now) }
     ensures gives { IfSome result (λ c. GivesTrigger c tag (TheName (TheAction action))) }
     ensures none { IfNone result (¬ IsPresent plan.now rows.now tag (TheAction action)) }
 {
-    match scheduling_row(plan, rows, tag, action) {
-        Some(row) => Some(Cause::Scheduled { tag, action, row }),
-        None => match giving_event(plan, tag, action) {
-            Some(event) => Some(Cause::Given { tag, action, event }),
-            None => None,
-        },
+    let key = plan.program().ports() as u32 + action;
+    match last_cause(causes, key, Shift::none(), tag) {
+        Some(cause) => Some(of_action(rows, tag, action, cause.place)),
+        None => None,
     }
 }
 
 /// Why the port has an event at the tag, if it has one.
-fn port_cause(plan: &Plan, rows: &[Row], tag: Tag, port: u32) -> Option<Cause>
-    requires fit { RowsFit plan.now.program rows.now }
+fn port_cause(
+    plan: &Plan,
+    rows: &[Row],
+    causes: &[EventCause],
+    tag: Tag,
+    port: u32,
+) -> Option<Cause>
+    requires causes { AreCauses plan.now rows.now causes.now }
     requires port { port < length plan.now.program.ports }
     ensures holds { IfSome result (IsCause plan.now rows.now) }
     ensures gives { IfSome result (λ c. GivesTrigger c tag (TheName (ThePort port))) }
     ensures none { IfNone result (¬ IsPresent plan.now rows.now tag (ThePort port)) }
 {
-    match writing_row(plan, rows, tag, port) {
+    match writing_row(plan, rows, causes, tag, port) {
         Some(row) => Some(Cause::Written { tag, port, row }),
         None => None,
     }
 }
 
 /// Why the port or action has an event at the tag, if it has one.
-pub(crate) fn name_cause(plan: &Plan, rows: &[Row], tag: Tag, name: Name) -> Option<Cause>
+pub(crate) fn name_cause(
+    plan: &Plan,
+    rows: &[Row],
+    causes: &[EventCause],
+    tag: Tag,
+    name: Name,
+) -> Option<Cause>
     requires fit { RowsFit plan.now.program rows.now }
+    requires causes { AreCauses plan.now rows.now causes.now }
     requires name { IsNameOf plan.now.program name }
     ensures holds { IfSome result (IsCause plan.now rows.now) }
     ensures gives { IfSome result (λ c. GivesTrigger c tag (TheName name)) }
     ensures none { IfNone result (¬ IsPresent plan.now rows.now tag name) }
 {
     match name {
-        Name::Port(port) => port_cause(plan, rows, tag, port),
-        Name::Action(action) => action_cause(plan, rows, tag, action),
+        Name::Port(port) => port_cause(plan, rows, causes, tag, port),
+        Name::Action(action) => action_cause(plan, rows, causes, tag, action),
     }
 }
 
@@ -159,11 +145,13 @@ fn timer_cause(plan: &Plan, tag: Tag, number: u32) -> Option<u64>
 pub(crate) fn trigger_cause(
     plan: &Plan,
     rows: &[Row],
+    causes: &[EventCause],
     stop: Tag,
     tag: Tag,
     trigger: Trigger,
 ) -> Option<Cause>
     requires fit { RowsFit plan.now.program rows.now }
+    requires causes { AreCauses plan.now rows.now causes.now }
     requires trigger { IsKnown plan.now.program trigger }
     requires stop { stop ≡ the_stop plan.now rows.now }
     ensures holds { IfSome result (IsCause plan.now rows.now) }
@@ -189,6 +177,6 @@ pub(crate) fn trigger_cause(
             Some(count) => Some(Cause::Fires { tag, timer, count }),
             None => None,
         },
-        Trigger::On(name) => name_cause(plan, rows, tag, name),
+        Trigger::On(name) => name_cause(plan, rows, causes, tag, name),
     }
 }

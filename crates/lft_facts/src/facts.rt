@@ -44,6 +44,16 @@ pub enum RowFact {
     Unended { row: u32 },
 }
 
+/// A connection between two ports, and where its delay leads: from the tag before it to the one
+/// after it.
+#[derive(Clone, Copy, PartialEq, Eq, Debug, Drop)]
+pub struct Hop {
+    pub from: u32,
+    pub to: u32,
+    pub before: Tag,
+    pub after: Tag,
+}
+
 /// A statement about a plan and the rows of a trace. Rows and events are named by their places,
 /// counted from 0; the row at place 0 stands in line 2 of the table.
 #[derive(Clone, Copy, PartialEq, Eq, Debug, Drop)]
@@ -58,10 +68,41 @@ pub enum Fact {
     Row(RowFact),
     /// Why something is present.
     Cause(Cause),
+    /// A connection on the way of an event.
+    Hop(Hop),
+    /// The trigger is present at another tag, and nowhere between the two tags.
+    Nearest {
+        tag: Tag,
+        trigger: Trigger,
+        at: Tag,
+    },
     /// A reaction has no run at the tag.
     NoRun {
         tag: Tag,
         reaction: u32,
+    },
+    /// A reaction has no run at all.
+    NeverRuns {
+        reaction: u32,
+    },
+    /// The last run of a reaction before the tag is at another one, and starts in this row.
+    RunBefore {
+        tag: Tag,
+        reaction: u32,
+        at: Tag,
+        start: u32,
+    },
+    /// The first run of a reaction after the tag is at another one, and starts in this row.
+    RunAfter {
+        tag: Tag,
+        reaction: u32,
+        at: Tag,
+        start: u32,
+    },
+    /// The last row of all, and its tag.
+    LastRow {
+        row: u32,
+        tag: Tag,
     },
     /// One of the triggers of a reaction.
     HasTrigger {

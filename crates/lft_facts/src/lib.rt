@@ -8,6 +8,10 @@ mod early;
 mod facts;
 mod feeding;
 mod finding;
+mod hops;
+mod lookup;
+mod nearest;
+mod neighbours;
 mod ordering;
 mod reads;
 mod reasons;
@@ -16,5 +20,5 @@ mod runs;
 mod triggers;
 mod ways;
 
-pub use facts::{Cause, Fact, Facts, RowFact};
+pub use facts::{Cause, Fact, Facts, Hop, RowFact};
 pub use finding::find;

@@ -14,9 +14,10 @@ use crate::runs::start_of;
 use lft_answers::reads_of_run;
 use lft_flat::Value;
 use lft_lists::item_at;
-use lft_model::{Plan, Reads, inputs_slow};
+use lft_model::{Plan, Reads};
+use lft_presence::Presence;
 use lft_tag::{NoMemory, Tag};
-use lft_trace::{Row, Rows, row_at};
+use lft_trace::{Row, row_at};
 use std::alloc::Global;
 
 /// What the run that starts in the row at the place read of its inputs.
@@ -83,11 +84,13 @@ fn read_facts(
 pub(crate) fn wrong_read(
     alloc: Global,
     plan: &Plan,
-    rows: &Rows,
+    rows: &[Row],
+    presence: &Presence,
     tag: Tag,
     reaction: u32,
 ) -> Result<Vec<Fact>, NoMemory>
     requires fit { RowsFit plan.now.program rows.now }
+    requires same { presence.now ≡ record { plan = plan.now; rows = rows.now } }
     requires kept { KeepsRows plan.now rows.now }
     requires ran { Ran rows.now tag reaction }
     requires no_clash { ¬ Collision plan.now rows.now tag }
@@ -95,13 +98,6 @@ pub(crate) fn wrong_read(
     ensures holds { IfOk result (λ facts. AreFacts plan.now rows.now facts.items) }
     ensures enough { IfOk result (λ facts. Gives facts.items tag (Some reaction) 10) }
 {
-    let present = inputs_slow(alloc, plan, rows, tag, reaction)?;
-    read_facts(
-        alloc,
-        plan,
-        rows.as_slice(),
-        tag,
-        reaction,
-        present.as_slice(),
-    )
+    let present = presence.inputs(alloc, tag, reaction)?;
+    read_facts(alloc, plan, rows, tag, reaction, present.as_slice())
 }

@@ -1,181 +1,163 @@
-//! Facts beside those that are enough: causes of what is present, and what is nearest.
+//! Facts beside those that are enough: the way of an event, causes of what is present, and what is
+//! nearest to what is absent.
 
-ghost use Rattle.std.specs.Prelude.{◌<◌, length, IfOk, OnOk};
+ghost use Rattle.std.specs.Prelude.{IfOk, IfSome, OnOk};
 ghost use Rattle.lft_flat.specs.Sound.{IsNameOf};
+ghost use Rattle.lft_flat.specs.declared.parts.Trigger.TheVariants.{On as TheName};
 ghost use Rattle.lft_trace.specs.Fits.{RowsFit};
-ghost use Rattle.lft_facts.specs.Facts.{IsFact, AreFacts};
-ghost use Rattle.lft_facts.specs.Enough.{Adds};
+ghost use Rattle.lft_presence.specs.Causes.{AreCauses};
+ghost use Rattle.lft_facts.specs.Facts.{IsFact, IsCause, IsNearest, AreFacts};
+ghost use Rattle.lft_facts.specs.Enough.{Adds, Extends};
 
 use crate::cause::name_cause;
-use crate::facts::{Fact, Facts};
-use lft_flat::{Name, Trigger, Value};
+use crate::facts::{Cause, Fact, Facts};
+use crate::hops::add_hops;
+use crate::nearest::{event_after, event_before};
+use crate::neighbours::{add_last_row, add_runs};
+use lft_flat::{Name, Trigger};
 use lft_lists::item_at;
 use lft_model::Plan;
+use lft_presence::Cause as EventCause;
 use lft_tag::{NoMemory, Tag};
-use lft_trace::{Row, Step, row_at};
+use lft_trace::{Row, row_at};
+use std::alloc::Global;
 
-/// Of some tags the last before one and the first after it.
-#[derive(Clone, Copy, Drop)]
-struct Near {
-    before: Option<Tag>,
-    after: Option<Tag>,
-}
-
-/// The two with one more tag.
-fn see(near: Near, tag: Tag, other: Tag) -> Near {
-    let mut seen = near;
-    if other.is_before(tag) {
-        match near.before {
-            Some(last) if !last.is_before(other) => {}
-            _ => seen.before = Some(other),
-        }
-    }
-    if tag.is_before(other) {
-        match near.after {
-            Some(first) if !other.is_before(first) => {}
-            _ => seen.after = Some(other),
-        }
-    }
-    seen
-}
-
-/// The tags of the events of the port that are nearest to the tag.
-fn port_near(plan: &Plan, rows: &[Row], tag: Tag, port: u32) -> Near
-    requires fit { RowsFit plan.now.program rows.now }
-    requires port { port < length plan.now.program.ports }
+/// Puts the way on which the event came behind the facts, where it is of a port.
+fn add_way(
+    alloc: Global,
+    plan: &Plan,
+    rows: &[Row],
+    cause: Cause,
+    facts: &mut Vec<Fact>,
+) -> Result<(), NoMemory>
+    requires { IsCause plan.now rows.now cause }
+    ensures { OnOk result (Adds plan.now rows.now facts.old.items facts.new.items) }
 {
-    let port = plan.program().port(port);
-    let mut near = Near {
-        before: None,
-        after: None,
-    };
-    for place in 0..rows.len() {
-        let row = row_at(rows, place);
-        if let Step::Write(Name::Port(number), _) = row.step {
-            if number == port.origin {
-                near = see(near, tag, row.tag.plus(port.shift));
-            }
+    match cause {
+        Cause::Written { port, row, .. } => {
+            let from = row_at(rows, row as usize).tag;
+            add_hops(alloc, plan.program(), from, port, facts)
         }
-    }
-    near
-}
-
-/// The tags of the events of the action that are nearest to the tag.
-fn action_near(plan: &Plan, rows: &[Row], tag: Tag, action: u32) -> Near
-    requires fit { RowsFit plan.now.program rows.now }
-    requires action { action < length plan.now.program.actions }
-{
-    let min_delay = plan.program().action(action).min_delay;
-    let mut near = Near {
-        before: None,
-        after: None,
-    };
-    for place in 0..rows.len() {
-        let row = row_at(rows, place);
-        if let Step::Schedule(Name::Action(number), _, extra) = row.step {
-            if number == action {
-                near = see(near, tag, row.tag.after(min_delay, extra));
-            }
-        }
-    }
-    for event in plan.externals().events() {
-        if event.action == action {
-            near = see(near, tag, event.tag);
-        }
-    }
-    near
-}
-
-/// The tags of the events of the port or action that are nearest to the tag.
-fn name_near(plan: &Plan, rows: &[Row], tag: Tag, name: Name) -> Near
-    requires fit { RowsFit plan.now.program rows.now }
-    requires name { IsNameOf plan.now.program name }
-{
-    match name {
-        Name::Port(port) => port_near(plan, rows, tag, port),
-        Name::Action(action) => action_near(plan, rows, tag, action),
+        _ => Ok(()),
     }
 }
 
 /// Puts why the port or action has an event at the tag behind the facts, if it has one.
-fn add_cause(
+fn add_event(
+    alloc: Global,
     plan: &Plan,
     rows: &[Row],
+    causes: &[EventCause],
     tag: Tag,
     name: Name,
     facts: &mut Vec<Fact>,
 ) -> Result<(), NoMemory>
     requires fit { RowsFit plan.now.program rows.now }
+    requires causes { AreCauses plan.now rows.now causes.now }
     requires name { IsNameOf plan.now.program name }
     ensures { OnOk result (Adds plan.now rows.now facts.old.items facts.new.items) }
 {
-    if let Some(cause) = name_cause(plan, rows, tag, name) {
-        facts.push(Fact::Cause(cause))?;
-    }
-    Ok(())
-}
-
-/// Puts why the port or action has an event at the tag, if there is one, behind the facts.
-fn add_cause_at(
-    plan: &Plan,
-    rows: &[Row],
-    tag: Option<Tag>,
-    name: Name,
-    facts: &mut Vec<Fact>,
-) -> Result<(), NoMemory>
-    requires fit { RowsFit plan.now.program rows.now }
-    requires name { IsNameOf plan.now.program name }
-    ensures { OnOk result (Adds plan.now rows.now facts.old.items facts.new.items) }
-{
-    match tag {
-        Some(tag) => add_cause(plan, rows, tag, name, facts),
+    match name_cause(plan, rows, causes, tag, name) {
+        Some(cause) => {
+            facts.push(Fact::Cause(cause))?;
+            add_way(alloc, plan, rows, cause, facts)
+        }
         None => Ok(()),
     }
 }
 
-/// Puts the causes of the nearest events of the port or action behind the facts.
-fn add_near(
+/// Puts that an event of the port or action is nearest to the tag behind the facts, and its cause.
+fn add_nearest(
+    alloc: Global,
     plan: &Plan,
     rows: &[Row],
+    causes: &[EventCause],
     tag: Tag,
     name: Name,
+    at: Option<Tag>,
     facts: &mut Vec<Fact>,
 ) -> Result<(), NoMemory>
     requires fit { RowsFit plan.now.program rows.now }
+    requires causes { AreCauses plan.now rows.now causes.now }
     requires name { IsNameOf plan.now.program name }
+    requires nearest { IfSome at (IsNearest plan.now rows.now tag (TheName name)) }
     ensures { OnOk result (Adds plan.now rows.now facts.old.items facts.new.items) }
 {
-    let near = name_near(plan, rows, tag, name);
-    add_cause_at(plan, rows, near.before, name, facts)?;
-    add_cause_at(plan, rows, near.after, name, facts)?;
-    Ok(())
-}
-
-/// Puts why the port or action is present at the tag behind the facts, or where it is absent the
-/// causes of its nearest events.
-fn add_reason(
-    plan: &Plan,
-    rows: &[Row],
-    tag: Tag,
-    name: Name,
-    present: Option<Value>,
-    facts: &mut Vec<Fact>,
-) -> Result<(), NoMemory>
-    requires fit { RowsFit plan.now.program rows.now }
-    requires name { IsNameOf plan.now.program name }
-    ensures { OnOk result (Adds plan.now rows.now facts.old.items facts.new.items) }
-{
-    if present.is_some() {
-        add_cause(plan, rows, tag, name, facts)
-    } else {
-        add_near(plan, rows, tag, name, facts)
+    match at {
+        Some(at) => {
+            facts.push(Fact::Nearest {
+                tag,
+                trigger: Trigger::On(name),
+                at,
+            })?;
+            add_event(alloc, plan, rows, causes, at, name, facts)
+        }
+        None => Ok(()),
     }
 }
 
-/// Puts the reasons behind a fact behind the others: the causes of what a run should have read, and
-/// for what is absent the causes of its nearest events.
-fn add_reasons(plan: &Plan, rows: &[Row], fact: Fact, facts: &mut Vec<Fact>) -> Result<(), NoMemory>
+/// Puts the events of the port or action that are nearest to the tag behind the facts.
+fn add_near(
+    alloc: Global,
+    plan: &Plan,
+    rows: &[Row],
+    causes: &[EventCause],
+    tag: Tag,
+    name: Name,
+    facts: &mut Vec<Fact>,
+) -> Result<(), NoMemory>
     requires fit { RowsFit plan.now.program rows.now }
+    requires causes { AreCauses plan.now rows.now causes.now }
+    requires name { IsNameOf plan.now.program name }
+    ensures { OnOk result (Adds plan.now rows.now facts.old.items facts.new.items) }
+{
+    let before = event_before(plan, rows, causes, tag, name);
+    add_nearest(alloc, plan, rows, causes, tag, name, before, facts)?;
+    let after = event_after(plan, rows, causes, tag, name);
+    add_nearest(alloc, plan, rows, causes, tag, name, after, facts)?;
+    Ok(())
+}
+
+/// Puts what stands right behind the fact behind the others: the way of an event, and the events
+/// that are nearest to a trigger that is absent.
+fn add_details(
+    alloc: Global,
+    plan: &Plan,
+    rows: &[Row],
+    causes: &[EventCause],
+    fact: Fact,
+    facts: &mut Vec<Fact>,
+) -> Result<(), NoMemory>
+    requires fit { RowsFit plan.now.program rows.now }
+    requires causes { AreCauses plan.now rows.now causes.now }
+    requires fact { IsFact plan.now rows.now fact }
+    ensures { OnOk result (Adds plan.now rows.now facts.old.items facts.new.items) }
+{
+    // Asked for what every plan keeps: what its reactions name is of its program.
+    plan.keeps();
+    match fact {
+        Fact::Cause(cause) => add_way(alloc, plan, rows, cause, facts),
+        Fact::Untriggered { tag, trigger, .. } => match trigger {
+            Trigger::On(name) => add_near(alloc, plan, rows, causes, tag, name, facts),
+            _ => Ok(()),
+        },
+        _ => Ok(()),
+    }
+}
+
+/// Puts the reasons of a fact that stand behind all others behind the facts. Of an input that was to be
+/// read otherwise: why it is present, or the events that are nearest to it. Of a run that is missing:
+/// the runs that are nearest to it, and where the trace ends.
+fn add_reasons(
+    alloc: Global,
+    plan: &Plan,
+    rows: &[Row],
+    causes: &[EventCause],
+    fact: Fact,
+    facts: &mut Vec<Fact>,
+) -> Result<(), NoMemory>
+    requires fit { RowsFit plan.now.program rows.now }
+    requires causes { AreCauses plan.now rows.now causes.now }
     requires fact { IsFact plan.now rows.now fact }
     ensures { OnOk result (Adds plan.now rows.now facts.old.items facts.new.items) }
 {
@@ -191,28 +173,44 @@ fn add_reasons(plan: &Plan, rows: &[Row], fact: Fact, facts: &mut Vec<Fact>) -> 
         } => {
             if read == present {
                 Ok(())
+            } else if present.is_some() {
+                add_event(alloc, plan, rows, causes, tag, name, facts)
             } else {
-                add_reason(plan, rows, tag, name, present, facts)
+                add_near(alloc, plan, rows, causes, tag, name, facts)
             }
         }
-        Fact::Untriggered { tag, trigger, .. } => match trigger {
-            Trigger::On(name) => add_near(plan, rows, tag, name, facts),
-            _ => Ok(()),
-        },
+        Fact::NoRun { tag, reaction } => {
+            add_runs(rows, tag, reaction, facts)?;
+            add_last_row(rows, tag, facts)?;
+            Ok(())
+        }
         _ => Ok(()),
     }
 }
 
-/// The facts with the reasons behind them.
-pub(crate) fn with_reasons(plan: &Plan, rows: &[Row], facts: Vec<Fact>) -> Result<Facts, NoMemory>
+/// The facts, each with its details right behind it, and at the end the reasons of all. So the
+/// inputs of a run stand together.
+pub(crate) fn with_reasons(
+    alloc: Global,
+    plan: &Plan,
+    rows: &[Row],
+    causes: &[EventCause],
+    facts: Vec<Fact>,
+) -> Result<Facts, NoMemory>
     requires fit { RowsFit plan.now.program rows.now }
+    requires causes { AreCauses plan.now rows.now causes.now }
     requires holds { AreFacts plan.now rows.now facts.items }
-    ensures { IfOk result (Adds plan.now rows.now facts.items) }
+    ensures { IfOk result (Extends plan.now rows.now facts.items) }
 {
-    let mut all = facts;
-    for place in 0..all.len() {
-        let fact = item_at(all.as_slice(), place);
-        add_reasons(plan, rows, fact, &mut all)?;
+    let mut all = Vec::new(alloc);
+    for place in 0..facts.len() {
+        let fact = item_at(facts.as_slice(), place);
+        all.push(fact)?;
+        add_details(alloc, plan, rows, causes, fact, &mut all)?;
+    }
+    for place in 0..facts.len() {
+        let fact = item_at(facts.as_slice(), place);
+        add_reasons(alloc, plan, rows, causes, fact, &mut all)?;
     }
     Ok(Facts::from_vec(all))
 }

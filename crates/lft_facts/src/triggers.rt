@@ -4,6 +4,7 @@ ghost use Rattle.std.specs.Prelude.{◌≡◌, ◌<◌, ◌≤◌, Some, length,
 ghost use Rattle.lft_trace.specs.Fits.{RowsFit};
 ghost use Rattle.lft_model.specs.Presence.{Triggered};
 ghost use Rattle.lft_model.specs.Runs.{Ran};
+ghost use Rattle.lft_presence.specs.Causes.{AreCauses};
 ghost use Rattle.lft_facts.specs.Facts.{IsCause, AreFacts, IsTriggerOf};
 ghost use Rattle.lft_facts.specs.Enough.{Gives, GivesTrigger};
 
@@ -13,13 +14,21 @@ use crate::runs::start_of;
 use lft_flat::Trigger;
 use lft_lists::item_at;
 use lft_model::{Plan, trace_stop};
+use lft_presence::Cause as EventCause;
 use lft_tag::{NoMemory, Tag};
 use lft_trace::Row;
 use std::alloc::Global;
 
 /// The first trigger of the reaction that is present at the tag, and why it is.
-fn first_cause(plan: &Plan, rows: &[Row], tag: Tag, reaction: u32) -> (Trigger, Cause)
+fn present_trigger(
+    plan: &Plan,
+    rows: &[Row],
+    causes: &[EventCause],
+    tag: Tag,
+    reaction: u32,
+) -> (Trigger, Cause)
     requires fit { RowsFit plan.now.program rows.now }
+    requires causes { AreCauses plan.now rows.now causes.now }
     requires triggered { Triggered plan.now rows.now tag reaction }
     ensures trigger { IsTriggerOf plan.now.program reaction result.0 }
     ensures holds { IsCause plan.now rows.now result.1 }
@@ -29,7 +38,7 @@ fn first_cause(plan: &Plan, rows: &[Row], tag: Tag, reaction: u32) -> (Trigger, 
     let triggers = plan.program().reaction(reaction).triggers.as_slice();
     for place in 0..triggers.len() {
         let trigger = item_at(triggers, place);
-        if let Some(cause) = trigger_cause(plan, rows, stop, tag, trigger) {
+        if let Some(cause) = trigger_cause(plan, rows, causes, stop, tag, trigger) {
             return (trigger, cause);
         }
     }
@@ -41,16 +50,18 @@ pub(crate) fn not_run(
     alloc: Global,
     plan: &Plan,
     rows: &[Row],
+    causes: &[EventCause],
     tag: Tag,
     reaction: u32,
 ) -> Result<Vec<Fact>, NoMemory>
     requires fit { RowsFit plan.now.program rows.now }
+    requires causes { AreCauses plan.now rows.now causes.now }
     requires triggered { Triggered plan.now rows.now tag reaction }
     requires none { ¬ Ran rows.now tag reaction }
     ensures holds { IfOk result (λ facts. AreFacts plan.now rows.now facts.items) }
     ensures enough { IfOk result (λ facts. Gives facts.items tag (Some reaction) 7) }
 {
-    let (trigger, cause) = first_cause(plan, rows, tag, reaction);
+    let (trigger, cause) = present_trigger(plan, rows, causes, tag, reaction);
     let mut facts = Vec::new(alloc);
     facts.push(Fact::NoRun { tag, reaction })?;
     facts.push(Fact::HasTrigger { reaction, trigger })?;

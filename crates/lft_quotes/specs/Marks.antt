@@ -42,6 +42,7 @@ names (fact.Row f) = row_fact_names f
 names (fact.Cause c) = cause_names c
 names (fact.Runs g r start) = marked start mark.Here
 names (fact.StartsEarly g a r start end) = (record { row = start; mark = mark.Here }) ∷ marked end mark.LateEnd
+names (fact.LastRow i g) = marked i mark.LastRow
 names _ = []
 
 -- what stands behind a row
@@ -53,3 +54,4 @@ mark_words mark.OpenStart = codes "the run that is open"
 mark_words mark.FirstRead = codes "its first read"
 mark_words mark.Cause = codes "a cause"
 mark_words mark.LateEnd = codes "has to end first"
+mark_words mark.LastRow = codes "the last row"

@@ -23,6 +23,8 @@ pub enum Mark {
     Cause,
     /// It ends a run that has to end first.
     LateEnd,
+    /// No row stands behind it.
+    LastRow,
 }
 
 /// A row, by its place, and what it is to the facts.
@@ -45,6 +47,7 @@ impl Mark {
             Mark::FirstRead => "its first read",
             Mark::Cause => "a cause",
             Mark::LateEnd => "has to end first",
+            Mark::LastRow => "the last row",
         }
     }
 }

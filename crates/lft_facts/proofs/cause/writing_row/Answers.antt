@@ -1,9 +1,19 @@
-use Rattle.std.proofs.Common.{arith}
-use Rattle.lft_facts.proofs.Causes.{written_if_some, absent_if_none}
+use Rattle.std.proofs.Common.{◌≡◌, Some, slice_get, subst}
+use Rattle.lft_flat.specs.Parts.{Parts}
+use Rattle.lft_presence.proofs.Presences.{chain_of}
+use Rattle.lft_facts.proofs.Causes.{last_written, none_written}
 use Rattle.lft_facts.proofs.cause.writing_row.Goals as goal
 
-pub returns-clause-some : goal.returns-clause-some
-returns-clause-some c = written_if_some c.args.plan.now c.program.result.now c.program.ensures.value c.program.ensures.sound.sound c.args.rows.now c.args.tag c.args.port c.port-port.result.now c.port-port.ensures.value c.loop-place.place c.loop-place.last (omega arith) c.loop-place.invariant
+pub returns-in-Some-clause-some : goal.returns-in-Some-clause-some
+returns-in-Some-clause-some c =
+    let plan = c.args.plan.now in
+    let port = c.port-port.result.now in
+    let chain = chain_of plan.program c.program.ensures.sound.sound c.args.port port (subst (λ (p : Parts). slice_get p.ports c.args.port ≡ Some port) c.program.ensures.value c.port-port.ensures.value) in
+    last_written plan c.args.rows.now c.args.tag c.args.port port chain c.in-Some.cause (c.in-Some.ensures plan c.args.rows.now c.requires.causes)
 
-pub returns-clause-none : goal.returns-clause-none
-returns-clause-none c = absent_if_none c.args.plan.now c.program.result.now c.program.ensures.value c.program.ensures.sound.sound c.args.rows.now c.args.tag c.args.port c.port-port.result.now c.port-port.ensures.value c.loop-place.place c.loop-place.last (omega arith) c.loop-place.invariant
+pub returns-in-None-clause-none : goal.returns-in-None-clause-none
+returns-in-None-clause-none c =
+    let plan = c.args.plan.now in
+    let port = c.port-port.result.now in
+    let chain = chain_of plan.program c.program.ensures.sound.sound c.args.port port (subst (λ (p : Parts). slice_get p.ports c.args.port ≡ Some port) c.program.ensures.value c.port-port.ensures.value) in
+    none_written plan c.args.rows.now c.args.tag c.args.port port chain (c.in-None.ensures plan c.args.rows.now c.requires.causes)

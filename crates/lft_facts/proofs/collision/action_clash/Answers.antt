@@ -1,15 +1,51 @@
-use Rattle.std.proofs.Common.{sym}
-use Rattle.lft_facts.proofs.Clashes.{two_scheduled, scheduled_given, no_row_clash, one_row_clash}
+use Rattle.std.proofs.Common.{◌≡◌, ◌+◌, ℕ, length, ap, ◌∙◌, subst, arith, Option, Some}
+use Rattle.lft_tag.specs.Shifts.{Folded}
+use Rattle.lft_flat.specs.Parts.{Parts}
+use Rattle.lft_presence.specs.declared.causes.Cause.{Cause as Event}
+use Rattle.lft_presence.specs.Causes.{IsLastCause}
+use Rattle.lft_facts.specs.Causes.{IsFirstCause}
+use Rattle.lft_facts.proofs.Causes.{action_holds}
+use Rattle.lft_facts.proofs.Clashes.{no_first_events, no_last_events, one_place_events, places_clash}
 use Rattle.lft_facts.proofs.collision.action_clash.Goals as goal
 
-pub returns-in-Some-other_scheduling-clause-gives : goal.returns-in-Some-other_scheduling-clause-gives
-returns-in-Some-other_scheduling-clause-gives c = two_scheduled c.args.tag c.args.action c.in-Some.row c.in-Some-other_scheduling.other (λ e. c.in-Some-other_scheduling.ensures.other (sym e))
+pub returns-in_default-clause-none : goal.returns-in_default-clause-none
+returns-in_default-clause-none c =
+    let plan = c.args.plan.now in
+    let t = c.args.rows.now in
+    let many : c.ports.result ≡ length plan.program.ports = c.ports.ensures.count ∙ ap (λ (p : Parts). length p.ports) c.program.ensures.value in
+    no_first_events plan t c.requires.fit c.args.tag c.args.action (subst (λ (o : Option Event). IsFirstCause plan t (length plan.program.ports + c.args.action) (0, 0) c.args.tag o) c.in_default.is (subst (λ (s : Folded). IsFirstCause plan t (length plan.program.ports + c.args.action) s c.args.tag c.first_cause.result) c.none.ensures (subst (λ (n : ℕ). IsFirstCause plan t (n + c.args.action) (c.none.result.time, c.none.result.steps) c.args.tag c.first_cause.result) many (c.first_cause.ensures plan t c.requires.causes))))
 
-pub returns-in-Some-giving_event-clause-gives : goal.returns-in-Some-giving_event-clause-gives
-returns-in-Some-giving_event-clause-gives c = scheduled_given c.args.tag c.args.action c.in-Some.row c.in-Some-giving_event.event
+pub returns-in_default-last_cause-clause-none : goal.returns-in_default-last_cause-clause-none
+returns-in_default-last_cause-clause-none c =
+    let plan = c.args.plan.now in
+    let t = c.args.rows.now in
+    let many : c.ports.result ≡ length plan.program.ports = c.ports.ensures.count ∙ ap (λ (p : Parts). length p.ports) c.program.ensures.value in
+    no_last_events plan t c.requires.fit c.args.tag c.args.action (subst (λ (o : Option Event). IsLastCause plan t (length plan.program.ports + c.args.action) (0, 0) c.args.tag o) c.in_default-last_cause.is (subst (λ (s : Folded). IsLastCause plan t (length plan.program.ports + c.args.action) s c.args.tag c.last_cause.result) c.none-2.ensures (subst (λ (n : ℕ). IsLastCause plan t (n + c.args.action) (c.none-2.result.time, c.none-2.result.steps) c.args.tag c.last_cause.result) many (c.last_cause.ensures plan t c.requires.causes))))
 
-pub returns-in-None-giving_event-clause-none : goal.returns-in-None-giving_event-clause-none
-returns-in-None-giving_event-clause-none c = one_row_clash c.args.plan.now c.keeps.ensures.sound.in_order c.args.rows.now c.args.tag c.args.action c.in-Some.row c.in-None-other_scheduling.ensures.none c.in-None-giving_event.ensures.none
+pub returns-then-first-last-clause-none : goal.returns-then-first-last-clause-none
+returns-then-first-last-clause-none c =
+    let plan = c.args.plan.now in
+    let t = c.args.rows.now in
+    let many : c.ports.result ≡ length plan.program.ports = c.ports.ensures.count ∙ ap (λ (p : Parts). length p.ports) c.program.ensures.value in
+    let first : IsFirstCause plan t (length plan.program.ports + c.args.action) (0, 0) c.args.tag (Some c.in-Some.first) = subst (λ (s : Folded). IsFirstCause plan t (length plan.program.ports + c.args.action) s c.args.tag (Some c.in-Some.first)) c.none.ensures (subst (λ (n : ℕ). IsFirstCause plan t (n + c.args.action) (c.none.result.time, c.none.result.steps) c.args.tag (Some c.in-Some.first)) many (c.in-Some.ensures plan t c.requires.causes)) in
+    let last : IsLastCause plan t (length plan.program.ports + c.args.action) (0, 0) c.args.tag (Some c.in-Some-last_cause.last) = subst (λ (s : Folded). IsLastCause plan t (length plan.program.ports + c.args.action) s c.args.tag (Some c.in-Some-last_cause.last)) c.none-2.ensures (subst (λ (n : ℕ). IsLastCause plan t (n + c.args.action) (c.none-2.result.time, c.none-2.result.steps) c.args.tag (Some c.in-Some-last_cause.last)) many (c.in-Some-last_cause.ensures plan t c.requires.causes)) in
+    one_place_events plan t c.requires.fit c.args.tag c.args.action c.in-Some.first c.in-Some-last_cause.last first last (omega arith)
 
-pub returns-in-None-clause-none : goal.returns-in-None-clause-none
-returns-in-None-clause-none c = no_row_clash c.args.plan.now c.keeps.ensures.sound.in_order c.args.rows.now c.args.tag c.args.action c.in-None.ensures.none
+pub returns-clause-first : goal.returns-clause-first
+returns-clause-first c =
+    let plan = c.args.plan.now in
+    let t = c.args.rows.now in
+    let many : c.ports.result ≡ length plan.program.ports = c.ports.ensures.count ∙ ap (λ (p : Parts). length p.ports) c.program.ensures.value in
+    let first : IsFirstCause plan t (length plan.program.ports + c.args.action) (0, 0) c.args.tag (Some c.in-Some.first) = subst (λ (s : Folded). IsFirstCause plan t (length plan.program.ports + c.args.action) s c.args.tag (Some c.in-Some.first)) c.none.ensures (subst (λ (n : ℕ). IsFirstCause plan t (n + c.args.action) (c.none.result.time, c.none.result.steps) c.args.tag (Some c.in-Some.first)) many (c.in-Some.ensures plan t c.requires.causes)) in
+    action_holds plan t c.requires.fit c.args.tag c.args.action c.in-Some.first first.0 first.1 c.of_action.result c.of_action.ensures.row c.of_action.ensures.event
+
+pub returns-clause-second : goal.returns-clause-second
+returns-clause-second c =
+    let plan = c.args.plan.now in
+    let t = c.args.rows.now in
+    let many : c.ports.result ≡ length plan.program.ports = c.ports.ensures.count ∙ ap (λ (p : Parts). length p.ports) c.program.ensures.value in
+    let last : IsLastCause plan t (length plan.program.ports + c.args.action) (0, 0) c.args.tag (Some c.in-Some-last_cause.last) = subst (λ (s : Folded). IsLastCause plan t (length plan.program.ports + c.args.action) s c.args.tag (Some c.in-Some-last_cause.last)) c.none-2.ensures (subst (λ (n : ℕ). IsLastCause plan t (n + c.args.action) (c.none-2.result.time, c.none-2.result.steps) c.args.tag (Some c.in-Some-last_cause.last)) many (c.in-Some-last_cause.ensures plan t c.requires.causes)) in
+    action_holds plan t c.requires.fit c.args.tag c.args.action c.in-Some-last_cause.last last.0 last.1 c.of_action-2.result c.of_action-2.ensures.row c.of_action-2.ensures.event
+
+pub returns-clause-gives : goal.returns-clause-gives
+returns-clause-gives c = places_clash (length c.args.rows.now) c.args.tag c.args.action c.in-Some.first.place c.in-Some-last_cause.last.place c.of_action.result c.of_action-2.result c.of_action.ensures.row c.of_action.ensures.event c.of_action-2.ensures.row c.of_action-2.ensures.event (λ e. let n = c.if-first-last.false in omega arith)

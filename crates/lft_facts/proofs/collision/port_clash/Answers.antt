@@ -1,13 +1,58 @@
-use Rattle.std.proofs.Common.{ap}
-use Rattle.lft_lists.proofs.Places.{same_at}
-use Rattle.lft_trace.specs.declared.row.Row.{Row}
-use Rattle.lft_facts.proofs.Clashes.{two_written, no_port_clash}
+use Rattle.std.proofs.Common.{◌≡◌, Some, slice_get, subst, sym, ◌∙◌, refl, Option}
+use Rattle.lft_tag.specs.declared.Tag.{Tag}
+use Rattle.lft_tag.specs.Shifts.{Folded}
+use Rattle.lft_flat.specs.Parts.{Parts}
+use Rattle.lft_presence.specs.declared.causes.Cause.{Cause as Event}
+use Rattle.lft_presence.specs.Causes.{tag_of, IsLastCause}
+use Rattle.lft_presence.proofs.Presences.{chain_of}
+use Rattle.lft_presence.proofs.Lists.{not_true}
+use Rattle.lft_facts.specs.Causes.{IsFirstCause}
+use Rattle.lft_facts.proofs.Causes.{last_written}
+use Rattle.lft_facts.proofs.Clashes.{no_last_clash, no_first_clash, one_tag_clash, other_written, other_gives}
 use Rattle.lft_facts.proofs.collision.port_clash.Goals as goal
 
-pub returns-in-Some-other_row-clause-gives : goal.returns-in-Some-other_row-clause-gives
-returns-in-Some-other_row-clause-gives c =
-    let o = c.in-Some-other_row.ensures.other in
-    two_written c.args.tag c.args.port c.in-Some-other_row.other c.in-Some.row (λ e. o.1.1 (ap (λ (x : Row). x.tag) (same_at c.args.rows.now c.in-Some-other_row.other c.in-Some.row o.0 c.row_at.result o.1.0 c.row_at.ensures e)))
+pub returns-in_default-clause-none : goal.returns-in_default-clause-none
+returns-in_default-clause-none c =
+    let plan = c.args.plan.now in
+    let port = c.port-flat.result.now in
+    let chain = chain_of plan.program c.program.ensures.sound.sound c.args.port port (subst (λ (p : Parts). slice_get p.ports c.args.port ≡ Some port) c.program.ensures.value c.port-flat.ensures.value) in
+    no_last_clash plan c.args.rows.now c.args.tag c.args.port port chain (subst (λ (o : Option Event). IsLastCause plan c.args.rows.now port.origin (port.shift.time, port.shift.steps) c.args.tag o) c.in_default.is (c.last_cause.ensures plan c.args.rows.now c.requires.causes))
 
-pub returns-in-None-other_row-clause-none : goal.returns-in-None-other_row-clause-none
-returns-in-None-other_row-clause-none c = no_port_clash c.args.plan.now c.args.rows.now c.args.tag c.args.port c.row_at.result.tag c.in-None-other_row.ensures.none
+pub returns-in_default-first_cause-clause-none : goal.returns-in_default-first_cause-clause-none
+returns-in_default-first_cause-clause-none c =
+    let plan = c.args.plan.now in
+    let port = c.port-flat.result.now in
+    let chain = chain_of plan.program c.program.ensures.sound.sound c.args.port port (subst (λ (p : Parts). slice_get p.ports c.args.port ≡ Some port) c.program.ensures.value c.port-flat.ensures.value) in
+    no_first_clash plan c.args.rows.now c.args.tag c.args.port port chain (subst (λ (o : Option Event). IsFirstCause plan c.args.rows.now port.origin (port.shift.time, port.shift.steps) c.args.tag o) c.in_default-first_cause.is (c.first_cause.ensures plan c.args.rows.now c.requires.causes))
+
+pub returns-then-is_same-clause-none : goal.returns-then-is_same-clause-none
+returns-then-is_same-clause-none c =
+    let plan = c.args.plan.now in
+    let port = c.port-flat.result.now in
+    let chain = chain_of plan.program c.program.ensures.sound.sound c.args.port port (subst (λ (p : Parts). slice_get p.ports c.args.port ≡ Some port) c.program.ensures.value c.port-flat.ensures.value) in
+    one_tag_clash plan c.args.rows.now c.args.tag c.args.port port chain c.in-Some-first_cause.first c.in-Some.last (c.in-Some-first_cause.ensures plan c.args.rows.now c.requires.causes) (c.in-Some.ensures plan c.args.rows.now c.requires.causes) (sym c.cause_tag.ensures ∙ c.if-is_same.ensures.0 refl ∙ c.cause_tag-2.ensures)
+
+pub returns-clause-first : goal.returns-clause-first
+returns-clause-first c =
+    let plan = c.args.plan.now in
+    let t = c.args.rows.now in
+    let port = c.port-flat.result.now in
+    let chain = chain_of plan.program c.program.ensures.sound.sound c.args.port port (subst (λ (p : Parts). slice_get p.ports c.args.port ≡ Some port) c.program.ensures.value c.port-flat.ensures.value) in
+    let other : IsLastCause plan t port.origin (0, 0) (tag_of c.in-Some-first_cause.first) (Some c.in-Some-last_cause.other) = subst (λ (s : Folded). IsLastCause plan t port.origin s (tag_of c.in-Some-first_cause.first) (Some c.in-Some-last_cause.other)) c.none.ensures (subst (λ (g : Tag). IsLastCause plan t port.origin (c.none.result.time, c.none.result.steps) g (Some c.in-Some-last_cause.other)) c.cause_tag-3.ensures (c.in-Some-last_cause.ensures plan t c.requires.causes)) in
+    other_written plan t c.args.tag c.args.port port chain c.in-Some-first_cause.first c.in-Some.last (c.in-Some-first_cause.ensures plan t c.requires.causes) (c.in-Some.ensures plan t c.requires.causes) c.in-Some-last_cause.other other
+
+pub returns-clause-second : goal.returns-clause-second
+returns-clause-second c =
+    let plan = c.args.plan.now in
+    let port = c.port-flat.result.now in
+    let chain = chain_of plan.program c.program.ensures.sound.sound c.args.port port (subst (λ (p : Parts). slice_get p.ports c.args.port ≡ Some port) c.program.ensures.value c.port-flat.ensures.value) in
+    last_written plan c.args.rows.now c.args.tag c.args.port port chain c.in-Some.last (c.in-Some.ensures plan c.args.rows.now c.requires.causes)
+
+pub returns-clause-gives : goal.returns-clause-gives
+returns-clause-gives c =
+    let plan = c.args.plan.now in
+    let t = c.args.rows.now in
+    let port = c.port-flat.result.now in
+    let chain = chain_of plan.program c.program.ensures.sound.sound c.args.port port (subst (λ (p : Parts). slice_get p.ports c.args.port ≡ Some port) c.program.ensures.value c.port-flat.ensures.value) in
+    let other : IsLastCause plan t port.origin (0, 0) (tag_of c.in-Some-first_cause.first) (Some c.in-Some-last_cause.other) = subst (λ (s : Folded). IsLastCause plan t port.origin s (tag_of c.in-Some-first_cause.first) (Some c.in-Some-last_cause.other)) c.none.ensures (subst (λ (g : Tag). IsLastCause plan t port.origin (c.none.result.time, c.none.result.steps) g (Some c.in-Some-last_cause.other)) c.cause_tag-3.ensures (c.in-Some-last_cause.ensures plan t c.requires.causes)) in
+    other_gives plan t c.args.tag c.args.port port chain c.in-Some-first_cause.first c.in-Some.last (c.in-Some-first_cause.ensures plan t c.requires.causes) (c.in-Some.ensures plan t c.requires.causes) c.in-Some-last_cause.other other c.args.causes.now c.requires.causes (λ e. not_true (c.if-is_same.ensures.1 (c.cause_tag.ensures ∙ e ∙ sym c.cause_tag-2.ensures)))

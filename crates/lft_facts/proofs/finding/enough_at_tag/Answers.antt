@@ -1,13 +1,11 @@
-use Rattle.std.proofs.Common.{List, sym, subst, arith, rules}
+use Rattle.std.proofs.Common.{arith, rules}
 use Rattle.std.proofs.Common.{Some, None}
-use Rattle.lft_trace.specs.declared.row.Row.{Row}
-use Rattle.lft_answers.specs.Answers.{KeepsRows}
 use Rattle.lft_facts.specs.Enough.{Gives, ProvesTag}
 use Rattle.lft_facts.proofs.Found.{of_tag, no_clash, proves, clash_proves, is_tenth, if_ok}
 use Rattle.lft_facts.proofs.finding.enough_at_tag.Goals as goal
 
 pub too_early-requires-clause-kept : goal.too_early-requires-clause-kept
-too_early-requires-clause-kept c = subst (λ (t : List Row). KeepsRows c.args.plan.now t) (sym c.as_slice-all.ensures) (of_tag c.args.plan.now c.args.rows.now c.args.breach c.requires.first c.requires.tag).kept
+too_early-requires-clause-kept c = (of_tag c.args.plan.now c.args.rows.now c.args.breach c.requires.first c.requires.tag).kept
 
 pub wrong_read-requires-clause-kept : goal.wrong_read-requires-clause-kept
 wrong_read-requires-clause-kept c = (of_tag c.args.plan.now c.args.rows.now c.args.breach c.requires.first c.requires.tag).kept

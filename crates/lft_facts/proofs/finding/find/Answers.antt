@@ -1,7 +1,7 @@
-use Rattle.lft_facts.specs.Enough.{Adds, Proves}
-use Rattle.lft_facts.proofs.Added.{adds_proves}
-use Rattle.lft_facts.proofs.Found.{if_ok}
+use Rattle.std.proofs.Common.{List, sym, subst}
+use Rattle.lft_trace.specs.declared.row.Row.{Row}
+use Rattle.lft_model.specs.Breaches.{First}
 use Rattle.lft_facts.proofs.finding.find.Goals as goal
 
-pub returns-clause-enough : goal.returns-clause-enough
-returns-clause-enough c = if_ok c.with_reasons.result (Adds c.args.plan.now c.as_slice.result.now c.in_ok-facts.facts.items) (λ fs. Proves fs c.args.breach) (λ fs a. adds_proves c.args.plan.now c.as_slice.result.now c.in_ok-facts.facts.items fs c.args.breach a c.in_ok-facts.ensures.enough) c.with_reasons.ensures
+pub at_tag-requires-clause-first : goal.at_tag-requires-clause-first
+at_tag-requires-clause-first c = subst (λ (t : List Row). First c.args.plan.now t c.args.breach) (sym c.as_slice.ensures) c.requires.first

@@ -3,4 +3,4 @@ use Rattle.lft_facts.proofs.Giving.{not_run_gives}
 use Rattle.lft_facts.proofs.triggers.not_run.Goals as goal
 
 pub returns-clause-enough : goal.returns-clause-enough
-returns-clause-enough c = not_run_gives c.args.tag c.args.reaction c.first_cause-trigger.result.0 c.first_cause-trigger.result.1 c.push-3.new.self.items (search rules) c.first_cause-trigger.ensures.gives
+returns-clause-enough c = not_run_gives c.args.tag c.args.reaction c.present_trigger-trigger.result.0 c.present_trigger-trigger.result.1 c.push-3.new.self.items (search rules) c.present_trigger-trigger.ensures.gives

@@ -1,0 +1,137 @@
+//! The text of where delays lead, and of what is nearest.
+
+ghost use Rattle.std.specs.Prelude.{◌≡◌, ◌++◌, OnOk, string_bytes};
+ghost use Rattle.lft_explain.specs.Ways.{delay_into as the_delay_into, arrow_words, hop_words, least_delay as the_least_delay, extra_of as the_extra_of, extra_at as the_extra_at, delays_words, side_words, nearest_words};
+
+use crate::words::{push_port, push_tag, push_time};
+use lft_facts::Hop;
+use lft_flat::Program;
+use lft_tag::Tag;
+use lft_trace::{Row, Step, row_at};
+use std::alloc::AllocError;
+
+/// The delay of the connection into the port, if there is one that has one.
+fn delay_into(program: &Program, port: u32) -> Option<u64>
+    ensures { result ≡ the_delay_into program.now port }
+{
+    if (port as usize) < program.ports() {
+        match program.port(port).source {
+            Some(source) => source.delay,
+            None => None,
+        }
+    } else {
+        None
+    }
+}
+
+/// Puts the arrow of a connection at the end of the text.
+fn push_arrow(text: &mut String, delay: Option<u64>) -> Result<(), AllocError>
+    ensures { OnOk result (string_bytes text.new ≡ string_bytes text.old ++ arrow_words delay) }
+{
+    match delay {
+        None => text.push_str(" --> ")?,
+        Some(delay) => {
+            text.push_str(" --")?;
+            push_time(text, delay)?;
+            text.push_str("--> ")?;
+        }
+    }
+    Ok(())
+}
+
+/// Puts a connection, with the tags before and after it, at the end of the text.
+pub(crate) fn push_hop(text: &mut String, program: &Program, hop: Hop) -> Result<(), AllocError>
+    ensures { OnOk result (string_bytes text.new ≡ string_bytes text.old ++ hop_words program.now hop) }
+{
+    text.push_str("    ")?;
+    push_port(text, program, hop.from)?;
+    text.push_str(" ")?;
+    push_tag(text, hop.before)?;
+    push_arrow(text, delay_into(program, hop.to))?;
+    push_port(text, program, hop.to)?;
+    text.push_str(" ")?;
+    push_tag(text, hop.after)?;
+    text.push_str("\n")?;
+    Ok(())
+}
+
+/// The least delay of the action; 0 for a number that is of none.
+fn least_delay(program: &Program, action: u32) -> u64
+    ensures { result ≡ the_least_delay program.now action }
+{
+    if (action as usize) < program.actions() {
+        program.action(action).min_delay
+    } else {
+        0
+    }
+}
+
+/// The extra delay of the step; 0 for one that schedules nothing.
+fn extra_of(step: Step) -> u64
+    ensures { result ≡ the_extra_of step }
+{
+    match step {
+        Step::Schedule(_, _, extra) => extra,
+        _ => 0,
+    }
+}
+
+/// The extra delay in the row at the place.
+fn extra_at(rows: &[Row], place: u32) -> u64
+    ensures { result ≡ the_extra_at rows.now place }
+{
+    if (place as usize) < rows.len() {
+        extra_of(row_at(rows, place as usize).step)
+    } else {
+        0
+    }
+}
+
+/// Puts the delays of a scheduling, and the tag to which they lead, at the end of the text.
+pub(crate) fn push_delays(
+    text: &mut String,
+    program: &Program,
+    rows: &[Row],
+    tag: Tag,
+    action: u32,
+    row: u32,
+) -> Result<(), AllocError>
+    ensures { OnOk result (string_bytes text.new ≡ string_bytes text.old ++ delays_words program.now rows.now tag action row) }
+{
+    text.push_str("    least delay ")?;
+    push_time(text, least_delay(program, action))?;
+    text.push_str(" + extra delay ")?;
+    push_time(text, extra_at(rows, row))?;
+    text.push_str(" --> ")?;
+    push_tag(text, tag)?;
+    text.push_str("\n")?;
+    Ok(())
+}
+
+/// Puts on which side of the tag the other one is at the end of the text.
+fn push_side(text: &mut String, tag: Tag, other: Tag) -> Result<(), AllocError>
+    ensures { OnOk result (string_bytes text.new ≡ string_bytes text.old ++ side_words tag other) }
+{
+    if other.time < tag.time {
+        text.push_str("before")?;
+    } else if tag.time < other.time {
+        text.push_str("after")?;
+    } else if other.micro < tag.micro {
+        text.push_str("before")?;
+    } else {
+        text.push_str("after")?;
+    }
+    Ok(())
+}
+
+/// Puts where something is nearest to the tag at the end of the text.
+pub(crate) fn push_nearest(text: &mut String, tag: Tag, at: Tag) -> Result<(), AllocError>
+    ensures { OnOk result (string_bytes text.new ≡ string_bytes text.old ++ nearest_words tag at) }
+{
+    text.push_str("    The nearest ")?;
+    push_side(text, tag, at)?;
+    text.push_str(" it is at ")?;
+    push_tag(text, at)?;
+    text.push_str(".\n")?;
+    Ok(())
+}

@@ -1,0 +1,7 @@
+use Rattle.lft_tag.specs.declared.Tag.{Tag}
+use Rattle.lft_tag.specs.Tags.{Before, UpTo}
+use Rattle.lft_facts.specs.Neighbours.{IsNearestStart}
+use Rattle.lft_facts.proofs.neighbours.run_before.Given as goal
+
+abbrev pub invariant-loop-place : goal.invariant-loop-place
+invariant-loop-place l = IsNearestStart (λ (k : Tag). Before k l.tag) UpTo l.rows l.reaction l.place l.run

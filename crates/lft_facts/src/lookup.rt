@@ -1,0 +1,105 @@
+//! Causes of events, looked up by a key and a tag. The key is the origin of a port, or the number of
+//! all ports and that of an action.
+
+ghost use Rattle.std.specs.Prelude.{◌↔◌, List, IsTrue};
+ghost use Rattle.lft_tag.specs.Shifts.{shifted};
+ghost use Rattle.lft_trace.specs.declared.row.Row.{Row as TheRow};
+ghost use Rattle.lft_model.specs.Plans.{PlanParts};
+ghost use Rattle.lft_presence.specs.Causes.{tag_of, IsNear, AreAscending, AreNear, AreCauses, Leads, IsLastCause};
+ghost use Rattle.lft_facts.specs.Causes.{IsFirstCause, IsLastBefore, IsFirstAfter};
+
+use lft_lists::item_at;
+use lft_presence::{Cause as EventCause, cause_tag, moved, position};
+use lft_tag::{Shift, Tag};
+
+/// Whether the cause is of the key and the shift leads from its tag to this one.
+fn leads(cause: EventCause, key: u32, shift: Shift, tag: Tag) -> bool
+    requires { IsNear (tag_of cause) }
+    ensures { IsTrue result ↔ Leads key (shift.time, shift.steps) tag cause }
+{
+    cause.name == key && moved(cause_tag(cause), shift).is_same(tag)
+}
+
+/// Of the causes of the key from whose tags the shift leads to the tag the first.
+pub(crate) fn first_cause(
+    causes: &[EventCause],
+    key: u32,
+    shift: Shift,
+    tag: Tag,
+) -> Option<EventCause>
+    requires ascending { AreAscending causes.now }
+    requires near { AreNear causes.now }
+    ensures { (plan : PlanParts) (t : List TheRow) → AreCauses plan t causes.now → IsFirstCause plan t key (shift.time, shift.steps) tag result }
+{
+    let place = position(causes, key, shift, tag, false);
+    if place == causes.len() {
+        return None;
+    }
+    let first = item_at(causes, place);
+    if leads(first, key, shift, tag) {
+        Some(first)
+    } else {
+        None
+    }
+}
+
+/// Of the causes of the key from whose tags the shift leads to the tag the last.
+pub(crate) fn last_cause(
+    causes: &[EventCause],
+    key: u32,
+    shift: Shift,
+    tag: Tag,
+) -> Option<EventCause>
+    requires ascending { AreAscending causes.now }
+    requires near { AreNear causes.now }
+    ensures { (plan : PlanParts) (t : List TheRow) → AreCauses plan t causes.now → IsLastCause plan t key (shift.time, shift.steps) tag result }
+{
+    let end = position(causes, key, shift, tag, true);
+    if end == 0 {
+        return None;
+    }
+    let last = item_at(causes, end - 1);
+    if leads(last, key, shift, tag) {
+        Some(last)
+    } else {
+        None
+    }
+}
+
+/// Of the causes of the key from whose tags the shift leads to an earlier tag the last.
+pub(crate) fn last_before(
+    causes: &[EventCause],
+    key: u32,
+    shift: Shift,
+    tag: Tag,
+) -> Option<EventCause>
+    requires ascending { AreAscending causes.now }
+    requires near { AreNear causes.now }
+    ensures { (plan : PlanParts) (t : List TheRow) → AreCauses plan t causes.now → IsLastBefore plan t key (shift.time, shift.steps) tag result }
+{
+    let end = position(causes, key, shift, tag, false);
+    if end == 0 {
+        return None;
+    }
+    let last = item_at(causes, end - 1);
+    if last.name == key { Some(last) } else { None }
+}
+
+/// Of the causes of the key from whose tags the shift leads to a later tag the first.
+pub(crate) fn first_after(
+    causes: &[EventCause],
+    key: u32,
+    shift: Shift,
+    tag: Tag,
+) -> Option<EventCause>
+    requires ascending { AreAscending causes.now }
+    requires near { AreNear causes.now }
+    ensures { (plan : PlanParts) (t : List TheRow) → AreCauses plan t causes.now → IsFirstAfter plan t key (shift.time, shift.steps) tag result }
+{
+    let place = position(causes, key, shift, tag, true);
+    if place == causes.len() {
+        return None;
+    }
+    let first = item_at(causes, place);
+    if first.name == key { Some(first) } else { None }
+}

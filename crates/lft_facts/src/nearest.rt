@@ -1,0 +1,71 @@
+//! The nearest events of a port or an action.
+
+ghost use Rattle.std.specs.Prelude.{◌≡◌, IfSome};
+ghost use Rattle.lft_flat.specs.Sound.{IsNameOf};
+ghost use Rattle.lft_flat.specs.declared.parts.Trigger.TheVariants.{On as TheName};
+ghost use Rattle.lft_trace.specs.Fits.{RowsFit};
+ghost use Rattle.lft_presence.specs.Causes.{AreCauses};
+ghost use Rattle.lft_facts.specs.Facts.{IsNearest};
+ghost use Rattle.lft_facts.specs.Causes.{StandsFor};
+
+use crate::lookup::{first_after, last_before};
+use lft_flat::{Name, Program};
+use lft_model::Plan;
+use lft_presence::{Cause as EventCause, cause_tag, moved};
+use lft_tag::{Shift, Tag};
+use lft_trace::Row;
+
+/// The key of the port or action, and the shift that leads from the tags of its causes to those of
+/// its events.
+fn key_of(program: &Program, name: Name) -> (u32, Shift)
+    requires { IsNameOf program.now name }
+    ensures { StandsFor program.now name result.0 (result.1.time, result.1.steps) }
+{
+    match name {
+        Name::Port(number) => {
+            let port = program.port(number);
+            (port.origin, port.shift)
+        }
+        Name::Action(number) => (program.ports() as u32 + number, Shift::none()),
+    }
+}
+
+/// The tag of the last event of the port or action before the tag.
+pub(crate) fn event_before(
+    plan: &Plan,
+    rows: &[Row],
+    causes: &[EventCause],
+    tag: Tag,
+    name: Name,
+) -> Option<Tag>
+    requires fit { RowsFit plan.now.program rows.now }
+    requires causes { AreCauses plan.now rows.now causes.now }
+    requires name { IsNameOf plan.now.program name }
+    ensures { IfSome result (IsNearest plan.now rows.now tag (TheName name)) }
+{
+    let (key, shift) = key_of(plan.program(), name);
+    match last_before(causes, key, shift, tag) {
+        Some(cause) => Some(moved(cause_tag(cause), shift)),
+        None => None,
+    }
+}
+
+/// The tag of the first event of the port or action after the tag.
+pub(crate) fn event_after(
+    plan: &Plan,
+    rows: &[Row],
+    causes: &[EventCause],
+    tag: Tag,
+    name: Name,
+) -> Option<Tag>
+    requires fit { RowsFit plan.now.program rows.now }
+    requires causes { AreCauses plan.now rows.now causes.now }
+    requires name { IsNameOf plan.now.program name }
+    ensures { IfSome result (IsNearest plan.now rows.now tag (TheName name)) }
+{
+    let (key, shift) = key_of(plan.program(), name);
+    match first_after(causes, key, shift, tag) {
+        Some(cause) => Some(moved(cause_tag(cause), shift)),
+        None => None,
+    }
+}
