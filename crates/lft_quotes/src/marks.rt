@@ -105,6 +105,7 @@ pub(crate) fn push_named(quotes: &mut Vec<Quote>, fact: Fact) -> Result<(), Allo
             push(quotes, start, Mark::Here)?;
             push(quotes, end, Mark::LateEnd)
         }
+        Fact::LastRow { row, .. } => push(quotes, row, Mark::LastRow),
         _ => Ok(()),
     }
 }
