@@ -5,5 +5,6 @@ pub mod Causes
 pub mod Rows
 pub mod Runs
 pub mod Sentences
+pub mod Clues
 pub mod Told
 pub mod Explained

@@ -9,3 +9,4 @@ pub mod Found
 pub mod Added
 pub mod Clashes
 pub mod RowGiving
+mod Asking

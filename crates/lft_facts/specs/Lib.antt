@@ -2,3 +2,4 @@ pub mod Facts
 pub mod Enough
 pub mod Ways
 pub mod Causes
+pub mod Clues

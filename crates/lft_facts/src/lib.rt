@@ -3,6 +3,7 @@
 
 mod cause;
 mod chain;
+mod clues;
 mod collision;
 mod early;
 mod facts;
@@ -16,5 +17,6 @@ mod runs;
 mod triggers;
 mod ways;
 
+pub use clues::{Clue, find_clues};
 pub use facts::{Cause, Fact, Facts, RowFact};
 pub use finding::find;
