@@ -235,7 +235,8 @@ fn add_of_order(rows: &[Row], row: u32, clues: &mut Vec<Clue>) -> Result<(), NoM
     add(clues, ended_before(rows, row))?;
     add(clues, own_open(rows, row))?;
     add(clues, open_elsewhere(rows, row))?;
-    add(clues, later_start(rows, row))
+    add(clues, later_start(rows, row))?;
+    Ok(())
 }
 
 /// Puts the effects of a reaction, and what is odd of the name that it wrote or scheduled, behind the
@@ -254,7 +255,8 @@ fn add_of_effects(
     let reaction = own.reaction;
     add(clues, Some(Clue::Effects { reaction }))?;
     add(clues, kind_clue(plan.program(), own.step))?;
-    add(clues, named_feed(plan.program(), own.step))
+    add(clues, named_feed(plan.program(), own.step))?;
+    Ok(())
 }
 
 /// Puts where else a run of the reaction is ended, and the last row of the worker, behind the clues.
@@ -264,7 +266,8 @@ fn add_of_end(rows: &[Row], row: u32, clues: &mut Vec<Clue>) -> Result<(), NoMem
     ensures { OnOk result ((plan : PlanParts) → All (IsClue plan rows.now) clues.old.items → All (IsClue plan rows.now) clues.new.items) }
 {
     add(clues, other_end(rows, row))?;
-    add(clues, last_row(rows, row))
+    add(clues, last_row(rows, row))?;
+    Ok(())
 }
 
 /// Puts what a reader of a wrong row asks next behind the clues.
