@@ -1,22 +1,12 @@
--- The text of facts, one after another.
-use Rattle.std.proofs.Common.{◌≡◌, ℕ, zero, suc, ◌+◌, ◌≤◌, List, [], ◌∷◌, ◌++◌, length, take, take_all, append_assoc, refl, ap, ◌∙◌, Some, slice_get, flat_map}
+-- Pieces of a text, and what the first of some facts says.
+use Rattle.std.proofs.Common.{◌≡◌, ℕ, List, [], ◌∷◌, ◌++◌, length, append_assoc, refl, ap, ◌∙◌, Some, slice_get}
 use Rattle.lft_flat.specs.Parts.{Parts}
+use Rattle.lft_facts.specs.declared.clues.Clue.{Clue}
 use Rattle.lft_facts.specs.declared.facts.Fact.{Fact}
 use Rattle.lft_trace.specs.declared.row.Row.{Row}
 use Rattle.lft_quotes.specs.Quoted.{quoted}
 use Rattle.lft_explain.specs.Sentences.{first_words, opening, sentence}
-use Rattle.lft_explain.specs.Told.{details, part, told}
-use Rattle.lft_quotes.proofs.Steps.{flat_more}
-
--- what is said of each item of a list behind a text: one more, and all
-pub said_more : {X : Type 0} (f : X → List ℕ) (xs : List X) (i : ℕ) (x : X) (s old new : List ℕ) → slice_get xs i ≡ Some x → old ≡ s ++ flat_map f (take i xs) → new ≡ old ++ f x → new ≡ s ++ flat_map f (take (i + 1) xs)
-said_more f xs i x s old new e so_far is =
-    is ∙ ap (λ zs. zs ++ f x) so_far
-    ∙ append_assoc s (flat_map f (take i xs)) (f x)
-    ∙ ap (λ zs. s ++ zs) (flat_more f xs i x (flat_map f (take i xs)) (flat_map f (take i xs) ++ f x) e refl refl)
-
-pub said_all : {X : Type 0} (f : X → List ℕ) (xs : List X) (i : ℕ) (s text : List ℕ) → length xs ≤ i → text ≡ s ++ flat_map f (take i xs) → text ≡ s ++ flat_map f xs
-said_all f xs i s text l so_far = so_far ∙ ap (λ zs. s ++ flat_map f zs) (take_all i xs l)
+use Rattle.lft_explain.specs.Told.{all_details, part, told}
 
 -- what the first of some facts says
 pub opening_none : (program : Parts) (facts : List Fact) → length facts ≡ 0 → opening program facts ≡ []
@@ -36,10 +26,10 @@ pub five : (s0 s1 s2 s3 s4 s5 a b c d e : List ℕ) → s1 ≡ s0 ++ a → s2 �
 five s0 s1 s2 s3 s4 s5 a b c d e p q r s t = rw (t, s, r, q, p) (simp append_assoc)
 
 -- the parts of a text
-pub told_parts : (program : Parts) (t rows : List Row) (facts all : List Fact) (s0 s1 s2 q r d e : List ℕ) → t ≡ rows → facts ≡ all → s0 ≡ sentence program t facts → q ≡ quoted program t facts → d ≡ details program t facts → r ≡ q → e ≡ d → s1 ≡ s0 ++ part r → s2 ≡ s1 ++ part e → s2 ≡ told program rows all
-told_parts program t rows facts all s0 s1 s2 q r d e same_t same_f is_s is_q is_d same_q same_d one two =
+pub told_parts : (program : Parts) (t rows : List Row) (facts all : List Fact) (clues : List Clue) (s0 s1 s2 q r d e : List ℕ) → t ≡ rows → facts ≡ all → s0 ≡ sentence program t facts → q ≡ quoted program t facts clues → d ≡ all_details program t facts clues → r ≡ q → e ≡ d → s1 ≡ s0 ++ part r → s2 ≡ s1 ++ part e → s2 ≡ told program rows all clues
+told_parts program t rows facts all clues s0 s1 s2 q r d e same_t same_f is_s is_q is_d same_q same_d one two =
     two
     ∙ ap (λ z. s1 ++ part z) (same_d ∙ is_d)
-    ∙ ap (λ z. z ++ part (details program t facts)) (one ∙ ap (λ z. z ++ part r) is_s ∙ ap (λ z. sentence program t facts ++ part z) (same_q ∙ is_q))
-    ∙ ap (λ z. told program z facts) same_t
-    ∙ ap (λ z. told program rows z) same_f
+    ∙ ap (λ z. z ++ part (all_details program t facts clues)) (one ∙ ap (λ z. z ++ part r) is_s ∙ ap (λ z. sentence program t facts ++ part z) (same_q ∙ is_q))
+    ∙ ap (λ z. told program z facts clues) same_t
+    ∙ ap (λ z. told program rows z clues) same_f

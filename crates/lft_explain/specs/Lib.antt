@@ -7,5 +7,6 @@ pub mod Rows
 pub mod Runs
 pub mod Sentences
 pub mod Neighbours
+pub mod Clues
 pub mod Told
 pub mod Explained

@@ -2,10 +2,12 @@
 use Rattle.std.specs.Prelude.{ℕ, List, [], ◌∷◌, ◌++◌, flat_map}
 use Rattle.lft_flat.specs.Parts.{Parts}
 use Rattle.lft_trace.specs.declared.row.Row.{Row}
+use Rattle.lft_facts.specs.declared.clues.Clue.{Clue}
 use Rattle.lft_facts.specs.declared.facts.Fact.{Fact}
 use Rattle.lft_facts.specs.declared.facts.Fact.TheVariants as fact
 use Rattle.lft_quotes.specs.Quoted.{quoted}
 use Rattle.lft_explain.specs.Causes.{cause_words}
+use Rattle.lft_explain.specs.Clues.{clue_words}
 use Rattle.lft_explain.specs.Runs.{trigger_of_words, count_words, absent_words, reads_words}
 use Rattle.lft_explain.specs.Neighbours.{never_words, run_before_words, run_after_words, last_row_words}
 use Rattle.lft_explain.specs.Ways.{hop_words, nearest_words}
@@ -42,6 +44,10 @@ abbrev pub part : List ℕ → List ℕ
 part [] = []
 part (byte ∷ bytes) = 10 ∷ byte ∷ bytes
 
--- the text of facts: what is wrong, the rows that they name, and what else they say
-abbrev pub told : Parts → List Row → List Fact → List ℕ
-told program t facts = sentence program t facts ++ part (quoted program t facts) ++ part (details program t facts)
+-- what facts say beside what is wrong, and then clues
+abbrev pub all_details : Parts → List Row → List Fact → List Clue → List ℕ
+all_details program t facts clues = details program t facts ++ flat_map (clue_words program t) clues
+
+-- the text of facts and clues: what is wrong, the rows that they name, and what else they say
+abbrev pub told : Parts → List Row → List Fact → List Clue → List ℕ
+told program t facts clues = sentence program t facts ++ part (quoted program t facts clues) ++ part (all_details program t facts clues)

@@ -2,6 +2,7 @@
 //! Why a trace breaks a rule, as text: facts that a reader can believe one by one.
 
 mod causes;
+mod clues;
 mod explaining;
 mod lines;
 mod neighbours;

@@ -60,7 +60,12 @@ fn push_again(
 }
 
 /// Puts the run of a row at the end of the text.
-fn push_run(text: &mut String, program: &Program, rows: &[Row], row: u32) -> Result<(), AllocError>
+pub(crate) fn push_run(
+    text: &mut String,
+    program: &Program,
+    rows: &[Row],
+    row: u32,
+) -> Result<(), AllocError>
     ensures { OnOk result (string_bytes text.new ≡ string_bytes text.old ++ run_words program.now rows.now row) }
 {
     push_reaction_at(text, program, rows, row)?;

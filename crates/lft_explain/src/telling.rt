@@ -1,19 +1,22 @@
 //! The text of facts.
 
-ghost use Rattle.std.specs.Prelude.{◌≡◌, ◌++◌, IfOk, OnOk, string_bytes};
+ghost use Rattle.std.specs.Prelude.{◌≡◌, ◌++◌, flat_map, IfOk, OnOk, string_bytes};
 ghost use Rattle.lft_trace.specs.Fits.{RowsFit};
+ghost use Rattle.lft_explain.specs.Clues.{clue_words};
 ghost use Rattle.lft_explain.specs.Told.{fact_words, details as the_details, part, told};
 
 use crate::causes::push_cause;
+use crate::clues::push_clue;
 use crate::neighbours::{push_last_row, push_never, push_run_after, push_run_before};
 use crate::orders::{push_declared, push_feeds, push_precedes};
 use crate::runs::{push_absent, push_count, push_reads, push_trigger_of};
 use crate::sentences::sentence;
 use crate::ways::{push_hop, push_nearest};
-use lft_facts::{Fact, Facts};
+use lft_facts::{Clue, Fact, Facts};
 use lft_flat::Program;
 use lft_lists::item_at;
 use lft_quotes::quote;
+use lft_tag::NoMemory;
 use lft_trace::{Row, Rows};
 use std::alloc::{AllocError, Global};
 
@@ -70,6 +73,22 @@ fn details(
     Ok(text)
 }
 
+/// Puts the clues, one after another, at the end of the text.
+fn push_clues(
+    alloc: Global,
+    text: &mut String,
+    program: &Program,
+    rows: &[Row],
+    clues: &[Clue],
+) -> Result<(), NoMemory>
+    ensures { OnOk result (string_bytes text.new ≡ string_bytes text.old ++ flat_map (clue_words program.now rows.now) clues.now) }
+{
+    for place in 0..clues.len() {
+        push_clue(alloc, text, program, rows, item_at(clues, place))?;
+    }
+    Ok(())
+}
+
 /// Puts an empty line and a part at the end of the text, where there is such a part.
 fn push_part(text: &mut String, bytes: &str) -> Result<(), AllocError>
     ensures { OnOk result (string_bytes text.new ≡ string_bytes text.old ++ part bytes.now) }
@@ -81,23 +100,25 @@ fn push_part(text: &mut String, bytes: &str) -> Result<(), AllocError>
     Ok(())
 }
 
-/// The text of the facts: what is wrong, the rows that they name, and what else they say. Names that
+/// The text of facts and clues: what is wrong, the rows that they name, and what else they say. Names that
 /// are of nothing are written as nothing, so it asks for no facts that are true.
 pub fn tell(
     alloc: Global,
     program: &Program,
     rows: &Rows,
     facts: &Facts,
-) -> Result<String, AllocError>
+    clues: &[Clue],
+) -> Result<String, NoMemory>
     requires { RowsFit program.now rows.now }
-    ensures { IfOk result (λ text. string_bytes text ≡ told program.now rows.now facts.now) }
+    ensures { IfOk result (λ text. string_bytes text ≡ told program.now rows.now facts.now clues.now) }
 {
     let rows = rows.as_slice();
     let facts = facts.as_slice();
     let mut text = sentence(alloc, program, rows, facts)?;
-    let quotes = quote(alloc, program, rows, facts)?;
+    let quotes = quote(alloc, program, rows, facts, clues)?;
     push_part(&mut text, quotes.as_str())?;
-    let details = details(alloc, program, rows, facts)?;
+    let mut details = details(alloc, program, rows, facts)?;
+    push_clues(alloc, &mut details, program, rows, clues)?;
     push_part(&mut text, details.as_str())?;
     Ok(text)
 }

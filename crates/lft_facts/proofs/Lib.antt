@@ -12,3 +12,4 @@ pub mod Beside
 pub mod Added
 pub mod Clashes
 pub mod RowGiving
+mod Asking

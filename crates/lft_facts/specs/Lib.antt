@@ -3,3 +3,4 @@ pub mod Enough
 pub mod Ways
 pub mod Causes
 pub mod Neighbours
+pub mod Clues

@@ -3,6 +3,7 @@
 
 mod cause;
 mod chain;
+mod clues;
 mod collision;
 mod early;
 mod facts;
@@ -20,5 +21,6 @@ mod runs;
 mod triggers;
 mod ways;
 
+pub use clues::{Clue, find_clues};
 pub use facts::{Cause, Fact, Facts, Hop, RowFact};
 pub use finding::find;

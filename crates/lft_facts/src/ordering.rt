@@ -14,14 +14,15 @@ use lft_flat::Name;
 use lft_tag::Tag;
 use lft_trace::{Row, Step, is_end, is_start, row_at};
 
-/// The place of the first row before this one that is at a greater tag.
+/// The place of the last row before this one that is at a greater tag.
 pub(crate) fn greater_row(rows: &[Row], place: u32, row: Row) -> u32
     requires place { place < length rows.now }
     requires late { IsLate rows.now place row }
     ensures before { result < place }
     ensures greater { (earlier : TheRow) × (slice_get rows.now result ≡ Some earlier) × Before row.tag earlier.tag }
 {
-    for other in 0..place {
+    for back in 0..place {
+        let other = place - 1 - back;
         if row.tag.is_before(row_at(rows, other as usize).tag) {
             return other;
         }
@@ -45,7 +46,7 @@ pub(crate) fn first_start(rows: &[Row], place: u32, tag: Tag, reaction: u32) -> 
 }
 
 /// Whether the row at the place ends the worker's run of the reaction at the tag.
-fn is_end_at(rows: &[Row], worker: u32, tag: Tag, reaction: u32, place: u32) -> bool
+pub(crate) fn is_end_at(rows: &[Row], worker: u32, tag: Tag, reaction: u32, place: u32) -> bool
     requires { place < length rows.now }
     ensures { IsTrue result ↔ (slice_get rows.now place ≡ Some (end_row worker tag reaction)) }
 {
@@ -68,7 +69,7 @@ fn is_ended(rows: &[Row], start: u32, place: u32, worker: u32, tag: Tag, reactio
 }
 
 /// Whether the row at the first place starts a run of the worker that is open before the other.
-fn is_open_since(rows: &[Row], start: u32, place: u32, worker: u32) -> bool
+pub(crate) fn is_open_since(rows: &[Row], start: u32, place: u32, worker: u32) -> bool
     requires start { start < place }
     requires place { place < length rows.now }
     ensures { IsTrue result ↔ IsOpenSince rows.now place worker start }

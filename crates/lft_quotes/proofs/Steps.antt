@@ -1,5 +1,5 @@
 -- One more item of a list, as loops take it.
-use Rattle.std.proofs.Common.{◌≡◌, ℕ, zero, suc, ◌+◌, ◌∷◌, [], List, ◌++◌, take, drop, add-one, append-nil, append_assoc, sym, ap, ◌∙◌, refl, Some, slice_get, flat_map, fold}
+use Rattle.std.proofs.Common.{◌≡◌, ℕ, zero, suc, ◌+◌, ◌≤◌, ◌∷◌, [], List, ◌++◌, length, take, take_all, drop, add-one, append-nil, append_assoc, sym, ap, ◌∙◌, refl, Some, slice_get, flat_map, fold}
 
 -- what is left from a place on begins with the item there
 pub drop_next : {X : Type 0} (xs : List X) (i : ℕ) (x : X) → slice_get xs i ≡ Some x → drop i xs ≡ x ∷ drop (suc i) xs
@@ -19,9 +19,17 @@ fold_next f a [] i x e = absurd (cc)
 fold_next f a (y ∷ ys) zero x e = let q : y ≡ x = cc in ap (f a) q
 fold_next f a (y ∷ ys) (suc i) x e = fold_next f (f a y) ys i x e
 
--- the same where a loop counts
-pub flat_more : {X Y : Type 0} (f : X → List Y) (xs : List X) (i : ℕ) (x : X) (old new : List Y) → slice_get xs i ≡ Some x → old ≡ flat_map f (take i xs) → new ≡ old ++ f x → new ≡ flat_map f (take (i + 1) xs)
-flat_more f xs i x old new e so_far is = is ∙ ap (λ s. s ++ f x) so_far ∙ sym (flat_next f xs i x e) ∙ ap (λ n. flat_map f (take n xs)) (sym (add-one i))
+-- what is put behind a list for each item of another: one more, and all
+pub said_more : {X Y : Type 0} (f : X → List Y) (xs : List X) (i : ℕ) (x : X) (s old new : List Y) → slice_get xs i ≡ Some x → old ≡ s ++ flat_map f (take i xs) → new ≡ old ++ f x → new ≡ s ++ flat_map f (take (i + 1) xs)
+said_more f xs i x s old new e so_far is =
+    is ∙ ap (λ zs. zs ++ f x) so_far
+    ∙ append_assoc s (flat_map f (take i xs)) (f x)
+    ∙ ap (λ zs. s ++ zs) (sym (flat_next f xs i x e))
+    ∙ ap (λ n. s ++ flat_map f (take n xs)) (sym (add-one i))
 
+pub said_all : {X Y : Type 0} (f : X → List Y) (xs : List X) (i : ℕ) (s all : List Y) → length xs ≤ i → all ≡ s ++ flat_map f (take i xs) → all ≡ s ++ flat_map f xs
+said_all f xs i s all l so_far = so_far ∙ ap (λ zs. s ++ flat_map f zs) (take_all i xs l)
+
+-- a fold of one more item, where a loop counts
 pub fold_more : {X Y : Type 0} (f : Y → X → Y) (a : Y) (xs : List X) (i : ℕ) (x : X) (old new : Y) → slice_get xs i ≡ Some x → old ≡ fold f a (take i xs) → new ≡ f old x → new ≡ fold f a (take (i + 1) xs)
 fold_more f a xs i x old new e so_far is = is ∙ ap (λ b. f b x) so_far ∙ sym (fold_next f a xs i x e) ∙ ap (λ n. fold f a (take n xs)) (sym (add-one i))

@@ -1,7 +1,9 @@
--- Which rows facts name, and what each is to them.
+-- Which rows facts and clues name, and what each is to them.
 use Rattle.std.specs.Prelude.{ℕ, List, [], ◌∷◌, codes}
 use Rattle.lft_facts.specs.declared.facts.Cause.{Cause}
 use Rattle.lft_facts.specs.declared.facts.Cause.TheVariants as cause
+use Rattle.lft_facts.specs.declared.clues.Clue.{Clue}
+use Rattle.lft_facts.specs.declared.clues.Clue.TheVariants as clue
 use Rattle.lft_facts.specs.declared.facts.Fact.{Fact}
 use Rattle.lft_facts.specs.declared.facts.Fact.TheVariants as fact
 use Rattle.lft_facts.specs.declared.facts.RowFact.{RowFact}
@@ -42,8 +44,23 @@ names (fact.Row f) = row_fact_names f
 names (fact.Cause c) = cause_names c
 names (fact.Runs g r start) = marked start mark.Here
 names (fact.StartsEarly g a r start end) = (record { row = start; mark = mark.Here }) ∷ marked end mark.LateEnd
-names (fact.LastRow i g) = marked i mark.LastRow
+names (fact.LastRow i g) = marked i mark.TraceEnd
 names _ = []
+
+-- the rows that a clue names
+abbrev pub clue_names : Clue → List Quote
+clue_names (clue.StopGiven g) = []
+clue_names (clue.StopAsked g i) = marked i mark.AsksStop
+clue_names (clue.EndedIn i k) = marked k mark.EarlierEnd
+clue_names (clue.HasOpen i j) = marked j mark.OpenStart
+clue_names (clue.OpenOn i j) = marked j mark.OpenStart
+clue_names (clue.StartsIn i j) = marked j mark.LaterStart
+clue_names (clue.Inputs r) = []
+clue_names (clue.Effects r) = []
+clue_names (clue.KindOf n) = []
+clue_names (clue.FedBy p o) = []
+clue_names (clue.EndsOther i k) = marked k mark.OtherEnd
+clue_names (clue.LastRow i k) = marked k mark.LastRow
 
 -- what stands behind a row
 abbrev pub mark_words : Mark → List ℕ
@@ -54,4 +71,9 @@ mark_words mark.OpenStart = codes "the run that is open"
 mark_words mark.FirstRead = codes "its first read"
 mark_words mark.Cause = codes "a cause"
 mark_words mark.LateEnd = codes "has to end first"
-mark_words mark.LastRow = codes "the last row"
+mark_words mark.TraceEnd = codes "the last row"
+mark_words mark.AsksStop = codes "asks for the stop"
+mark_words mark.EarlierEnd = codes "ends that run"
+mark_words mark.LaterStart = codes "starts that run"
+mark_words mark.OtherEnd = codes "another end"
+mark_words mark.LastRow = codes "the last row of its worker"

@@ -4,6 +4,7 @@ use Rattle.std.specs.List.{join_with_byte}
 use Rattle.lft_flat.specs.Parts.{Parts}
 use Rattle.lft_trace.specs.declared.row.Row.{Row}
 use Rattle.lft_trace.specs.Written.{row_fields}
+use Rattle.lft_facts.specs.declared.clues.Clue.{Clue}
 use Rattle.lft_facts.specs.declared.facts.Fact.{Fact}
 use Rattle.lft_quotes.specs.declared.marks.Mark.{Mark}
 use Rattle.lft_quotes.specs.declared.marks.Quote.{Quote}
@@ -60,6 +61,6 @@ abbrev pub lines : Parts → List Row → Widths → Option Quote → List Quote
 lines program t w before [] = []
 lines program t w before (q ∷ qs) = gap_words w before q ++ quote_words program t w q ++ lines program t w (Some q) qs
 
--- the rows that the facts name, a line each
-abbrev pub quoted : Parts → List Row → List Fact → List ℕ
-quoted program t facts = lines program t (widths_of program t (quotes_of facts)) None (quotes_of facts)
+-- the rows that facts and clues name, a line each
+abbrev pub quoted : Parts → List Row → List Fact → List Clue → List ℕ
+quoted program t facts clues = lines program t (widths_of program t (quotes_of facts clues)) None (quotes_of facts clues)

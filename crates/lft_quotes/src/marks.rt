@@ -1,9 +1,9 @@
-//! Which rows a fact names, and what they are to it.
+//! Which rows a fact or a clue names, and what they are to it.
 
 ghost use Rattle.std.specs.Prelude.{◌≡◌, ◌++◌, ◌∷◌, [], OnOk};
-ghost use Rattle.lft_quotes.specs.Marks.{cause_names, row_fact_names, names, mark_words};
+ghost use Rattle.lft_quotes.specs.Marks.{cause_names, row_fact_names, names, clue_names, mark_words};
 
-use lft_facts::{Cause, Fact, RowFact};
+use lft_facts::{Cause, Clue, Fact, RowFact};
 use std::alloc::AllocError;
 
 /// What a row is to the facts.
@@ -24,6 +24,16 @@ pub enum Mark {
     /// It ends a run that has to end first.
     LateEnd,
     /// No row stands behind it.
+    TraceEnd,
+    /// It asks for the stop.
+    AsksStop,
+    /// It ends that run before.
+    EarlierEnd,
+    /// It starts that run later.
+    LaterStart,
+    /// It ends another run of that reaction, or the run by another worker.
+    OtherEnd,
+    /// No later row is of its worker.
     LastRow,
 }
 
@@ -47,7 +57,12 @@ impl Mark {
             Mark::FirstRead => "its first read",
             Mark::Cause => "a cause",
             Mark::LateEnd => "has to end first",
-            Mark::LastRow => "the last row",
+            Mark::TraceEnd => "the last row",
+            Mark::AsksStop => "asks for the stop",
+            Mark::EarlierEnd => "ends that run",
+            Mark::LaterStart => "starts that run",
+            Mark::OtherEnd => "another end",
+            Mark::LastRow => "the last row of its worker",
         }
     }
 }
@@ -105,7 +120,28 @@ pub(crate) fn push_named(quotes: &mut Vec<Quote>, fact: Fact) -> Result<(), Allo
             push(quotes, start, Mark::Here)?;
             push(quotes, end, Mark::LateEnd)
         }
-        Fact::LastRow { row, .. } => push(quotes, row, Mark::LastRow),
+        Fact::LastRow { row, .. } => push(quotes, row, Mark::TraceEnd),
         _ => Ok(()),
+    }
+}
+
+/// Puts the rows that the clue names behind the quotes.
+pub(crate) fn push_clue(quotes: &mut Vec<Quote>, clue: Clue) -> Result<(), AllocError>
+    ensures { OnOk result (quotes.new.items ≡ quotes.old.items ++ clue_names clue) }
+{
+    match clue {
+        Clue::StopAsked { row, .. } => push(quotes, row, Mark::AsksStop),
+        Clue::EndedIn { end, .. } => push(quotes, end, Mark::EarlierEnd),
+        Clue::HasOpen { start, .. } | Clue::OpenOn { start, .. } => {
+            push(quotes, start, Mark::OpenStart)
+        }
+        Clue::StartsIn { start, .. } => push(quotes, start, Mark::LaterStart),
+        Clue::EndsOther { end, .. } => push(quotes, end, Mark::OtherEnd),
+        Clue::LastRow { last, .. } => push(quotes, last, Mark::LastRow),
+        Clue::StopGiven { .. }
+        | Clue::Inputs { .. }
+        | Clue::Effects { .. }
+        | Clue::KindOf { .. }
+        | Clue::FedBy { .. } => Ok(()),
     }
 }

@@ -5,10 +5,10 @@ ghost use Rattle.lft_trace.specs.Fits.{RowsFit};
 ghost use Rattle.lft_quotes.specs.Quoted.{line_number, blanks, width_of as the_width_of, widened, widths_of, line_of, quote_words, gap_words, lines, quoted};
 
 use crate::marks::{Mark, Quote};
-use crate::picking::quotes_of_facts;
+use crate::picking::pick;
 use crate::rows::row_text;
 use itoa::Buffer;
-use lft_facts::Fact;
+use lft_facts::{Clue, Fact};
 use lft_flat::Program;
 use lft_lists::item_at;
 use lft_trace::Row;
@@ -170,17 +170,18 @@ fn lines_of(
     Ok(text)
 }
 
-/// The rows that the facts name, a line each, in order. It takes time for each two of them.
+/// The rows that facts and clues name, a line each, in order. It takes time for each two of them.
 pub fn quote(
     alloc: Global,
     program: &Program,
     rows: &[Row],
     facts: &[Fact],
+    clues: &[Clue],
 ) -> Result<String, AllocError>
     requires { RowsFit program.now rows.now }
-    ensures { IfOk result (λ text. string_bytes text ≡ quoted program.now rows.now facts.now) }
+    ensures { IfOk result (λ text. string_bytes text ≡ quoted program.now rows.now facts.now clues.now) }
 {
-    let quotes = quotes_of_facts(alloc, facts)?;
+    let quotes = pick(alloc, facts, clues)?;
     let widths = greatest(alloc, program, rows, quotes.as_slice())?;
     lines_of(alloc, program, rows, widths, quotes.as_slice())
 }

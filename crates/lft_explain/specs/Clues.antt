@@ -1,0 +1,86 @@
+-- The text of what a reader of a wrong row asks next.
+use Rattle.std.specs.Prelude.{ℕ, List, [], ◌∷◌, ◌++◌, Bool, false, slice_get, option_map, unwrap_or, flat_map, codes, if◌then◌else◌}
+use Rattle.lft_tag.specs.declared.Tag.{Tag}
+use Rattle.lft_flat.specs.Parts.{Parts}
+use Rattle.lft_flat.specs.declared.parts.Name.{Name}
+use Rattle.lft_flat.specs.declared.parts.Name.TheVariants.{Port, Action}
+use Rattle.lft_trace.specs.declared.row.Row.{Row}
+use Rattle.lft_model.specs.Runs.{inputs_of, effects_of}
+use Rattle.lft_facts.specs.declared.clues.Clue.{Clue}
+use Rattle.lft_facts.specs.declared.clues.Clue.TheVariants as clue
+use Rattle.lft_explain.specs.Words.{tag_words, port_words, reaction_words, name_words}
+use Rattle.lft_explain.specs.Lines.{line_words, tag_at, worker_at}
+use Rattle.lft_explain.specs.Rows.{run_words}
+
+-- `The stop is G, as the external inputs say.`
+abbrev pub given_stop_words : Tag → List ℕ
+given_stop_words g = codes "  The stop is " ++ tag_words g ++ codes ", as the external inputs say.\n"
+
+-- `The stop is G: line L asks for it at H, one microstep before.`
+abbrev pub asked_stop_words : List Row → Tag → ℕ → List ℕ
+asked_stop_words t g i = codes "  The stop is " ++ tag_words g ++ codes ": " ++ line_words i ++ codes " asks for it at " ++ tag_at t i ++ codes ", one microstep before.\n"
+
+-- `Worker W ..`, the worker of the row at place i, with the line of the one at place j
+abbrev pub in_line_words : List Row → ℕ → List ℕ → ℕ → List ℕ
+in_line_words t i does j = codes "  Worker " ++ worker_at t i ++ does ++ line_words j ++ codes ".\n"
+
+-- `Worker W has its run of X at G open since line L.`
+abbrev pub has_open_words : Parts → List Row → ℕ → List ℕ
+has_open_words program t j = codes "  Worker " ++ worker_at t j ++ codes " has its run of " ++ run_words program t j ++ codes " open since " ++ line_words j ++ codes ".\n"
+
+-- names, each behind a blank
+abbrev pub spaced : Parts → Name → List ℕ
+spaced program n = codes " " ++ name_words program n
+
+abbrev pub listed : Parts → List Name → List ℕ
+listed program [] = codes " none"
+listed program (n ∷ ns) = flat_map (spaced program) (n ∷ ns)
+
+-- `Inputs of X: N M`
+abbrev pub inputs_words : Parts → ℕ → List ℕ
+inputs_words program r = codes "  Inputs of " ++ reaction_words program r ++ codes ":" ++ listed program (inputs_of program r) ++ codes "\n"
+
+-- `Effects of X: N M`
+abbrev pub effects_words : Parts → ℕ → List ℕ
+effects_words program r = codes "  Effects of " ++ reaction_words program r ++ codes ":" ++ listed program (effects_of program r) ++ codes "\n"
+
+-- whether an action is a physical one
+abbrev pub is_physical : Parts → ℕ → Bool
+is_physical program a = unwrap_or (option_map (λ x. x.physical) (slice_get program.actions a)) false
+
+-- what a thing of that name is, and what is done with it
+abbrev pub kind_words : Parts → Name → List ℕ
+kind_words program (Port p) = codes " is a port: it is written, and not scheduled.\n"
+kind_words program (Action a) =
+    if is_physical program a then codes " is a physical action: its events are external inputs.\n"
+    else codes " is a logical action: it is scheduled, and not written.\n"
+
+abbrev pub named_kind_words : Parts → Name → List ℕ
+named_kind_words program n = codes "  " ++ name_words program n ++ kind_words program n
+
+-- `P is fed by Q: a write names that.`
+abbrev pub fed_words : Parts → ℕ → ℕ → List ℕ
+fed_words program p o = codes "  " ++ port_words program p ++ codes " is fed by " ++ port_words program o ++ codes ": a write names that.\n"
+
+-- `Worker W ends X at G in line L.`
+abbrev pub ends_other_words : Parts → List Row → ℕ → List ℕ
+ends_other_words program t k = codes "  Worker " ++ worker_at t k ++ codes " ends " ++ run_words program t k ++ codes " in " ++ line_words k ++ codes ".\n"
+
+-- `The last row of worker W is line L.`
+abbrev pub last_row_words : List Row → ℕ → ℕ → List ℕ
+last_row_words t i k = codes "  The last row of worker " ++ worker_at t i ++ codes " is " ++ line_words k ++ codes ".\n"
+
+-- the text of a clue
+abbrev pub clue_words : Parts → List Row → Clue → List ℕ
+clue_words program t (clue.StopGiven g) = given_stop_words g
+clue_words program t (clue.StopAsked g i) = asked_stop_words t g i
+clue_words program t (clue.EndedIn i k) = in_line_words t i (codes " ended that run in ") k
+clue_words program t (clue.HasOpen i j) = has_open_words program t j
+clue_words program t (clue.OpenOn i j) = in_line_words t j (codes " has that run open since ") j
+clue_words program t (clue.StartsIn i j) = in_line_words t j (codes " starts that run later, in ") j
+clue_words program t (clue.Inputs r) = inputs_words program r
+clue_words program t (clue.Effects r) = effects_words program r
+clue_words program t (clue.KindOf n) = named_kind_words program n
+clue_words program t (clue.FedBy p o) = fed_words program p o
+clue_words program t (clue.EndsOther i k) = ends_other_words program t k
+clue_words program t (clue.LastRow i k) = last_row_words t i k
