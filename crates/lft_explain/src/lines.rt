@@ -9,7 +9,7 @@ use lft_trace::{Row, Step, row_at};
 use std::alloc::AllocError;
 
 /// Puts the line of the row at the place at the end of the text.
-pub(crate) fn push_line(text: &mut String, place: u32) -> Result<(), AllocError>
+pub fn push_line(text: &mut String, place: u32) -> Result<(), AllocError>
     ensures { OnOk result (string_bytes text.new ≡ string_bytes text.old ++ line_words place) }
 {
     text.push_str("line ")?;
