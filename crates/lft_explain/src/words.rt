@@ -83,11 +83,7 @@ pub fn push_port(text: &mut String, program: &Program, number: u32) -> Result<()
 }
 
 /// Puts the name of an action at the end of the text.
-pub fn push_action(
-    text: &mut String,
-    program: &Program,
-    number: u32,
-) -> Result<(), AllocError>
+pub fn push_action(text: &mut String, program: &Program, number: u32) -> Result<(), AllocError>
     ensures { OnOk result (string_bytes text.new ≡ string_bytes text.old ++ action_words program.now number) }
 {
     if (number as usize) < program.actions() {
@@ -111,11 +107,7 @@ pub(crate) fn push_timer(
 }
 
 /// Puts the name of a reaction at the end of the text.
-pub fn push_reaction(
-    text: &mut String,
-    program: &Program,
-    number: u32,
-) -> Result<(), AllocError>
+pub fn push_reaction(text: &mut String, program: &Program, number: u32) -> Result<(), AllocError>
     ensures { OnOk result (string_bytes text.new ≡ string_bytes text.old ++ reaction_words program.now number) }
 {
     if (number as usize) < program.reactions() {
