@@ -44,6 +44,17 @@ start,1,0,0,main.l#1,,,
 read,1,0,0,main.l#1,main.l.now,1760000000000,
 end,1,0,0,main.l#1,,,
 """
+DIFFERENCE = """differ time=0 microstep=0 reaction=main.c#1
+
+main.c#1 at (0, 0) answers otherwise in the two traces.
+
+  effect      first                    second
+  main.c.now  1760000000000 in line 3  1760000047210 in line 3
+
+  It starts in line 2 of the first trace and in line 2 of the second.
+  Earlier runs of main.c, with equal inputs in both: 0
+  Runs at earlier tags, the same in both: 0
+"""
 CARDS = """kind,reaction,name,delay,value
 bodies,main#1,,,3
 bodies,main#2,,,3
@@ -121,6 +132,10 @@ def right_things():
     case("a broken trace, explained", ["explain", *USUAL], prints(EXPLAINED, 1), files={"trace.csv": EARLY})
     case("a broken trace, explained with four workers", ["explain", *USUAL, "--workers", "4"], prints(EXPLAINED, 1), files={"trace.csv": EARLY})
     case("a bundle with a broken trace, explained", ["explain"], prints(EXPLAINED, 1), stdin=bundle(trace=EARLY))
+    case("one trace twice, explained", ["explain", *USUAL, "trace.csv"], prints("same runs=6 tags=3\n"))
+    case("a broken second trace, explained", ["explain", *USUAL, "second.csv", "--workers", "4"], prints("second " + EXPLAINED, 1), files={"second.csv": EARLY})
+    case("a broken first trace, explained", ["explain", *USUAL, "second.csv"], prints("first " + EXPLAINED, 1), files={"trace.csv": EARLY, "second.csv": ROWS})
+    case("a reaction that reads a clock, explained", ["explain", "clock.lf", "zero.csv", "trace.csv", "second.csv"], prints(DIFFERENCE, 1), files={"clock.lf": CLOCK, "zero.csv": STOP.replace("10000000", "0"), "trace.csv": CLOCKED, "second.csv": CLOCKED.replace("1760000000000", "1760000047210")})
     case("standard input by its path", ["judge", "blink.lf", "externals.csv", "/dev/stdin"], prints(ACCEPTED), stdin=ROWS)
 
 
@@ -194,6 +209,8 @@ def words():
     case("the external inputs first", ["judge", "externals.csv", "blink.lf", "trace.csv"], fault("syntax 1 Unexpected token=1"))
     case("no words after `judge`", ["judge"], refused("error: the following required arguments were not provided:\n  <PROGRAM>\n  <EXTERNALS>\n  <TRACE>\n"))
     case("two words after `judge`", ["judge", "blink.lf", "trace.csv"], refused("error: the following required arguments were not provided:\n  <TRACE>\n"))
+    case("external inputs as the second trace, explained", ["explain", *USUAL, "externals.csv"], {"status": 2, "has": ["Second trace, line 1: this isn't the header.", "  found   kind,time,microstep,name,value"], "err": "fault trace 1 BadHeader\n"})
+    case("five files after `explain`", ["explain", *USUAL, "trace.csv", "trace.csv"], refused("error: unexpected argument 'trace.csv' found\n"))
     case("two words after `explain`", ["explain", "blink.lf", "trace.csv"], refused("error: the following required arguments were not provided:\n  <TRACE>\n"))
     case("no bundle for `explain`", ["explain"], fault("bundle 1 BadBundle"), stdin=ROWS)
     case("a bundle as a file", ["judge", "bundle.txt"], refused("error: the following required arguments were not provided:\n  <EXTERNALS>\n  <TRACE>\n"), files={"bundle.txt": bundle()})

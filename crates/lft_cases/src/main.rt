@@ -74,6 +74,7 @@ fn tell<R: Threads + Wait + Sync>(
         "refused-trace" => explanations::refused_trace(alloc, given, text, told),
         "pair" => pairs::pair(rt, alloc, given, text, words, told),
         "pair-text" => pairs::pair_text(rt, alloc, given, text, words, told),
+        "explain-pair" => pairs::explain_pair(rt, alloc, given, text, told),
         "record" => recordings::record(rt, alloc, given, text, words, told),
         "record-text" => recordings::record_text(rt, alloc, given, text, words, told),
         "recordings" => recordings::recordings(rt, alloc, given, text, words, told),

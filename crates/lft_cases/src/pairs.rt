@@ -5,11 +5,12 @@
 //!   workers. Where none stands there, it is told by one worker, and what 2, 3 and 64 say only where
 //!   it is something else.
 //! - `pair-text`: the same of a whole second table.
+//! - `explain-pair`: of such rows, what they show and what explains it; where a text is refused, why.
 //!
 //! A line that tells the status is written at the end.
 
 use crate::given::{Given, trace_table};
-use lft_front::{finish, pair_answer};
+use lft_front::{explain_pair_answer, finish, pair_answer, refusal_of_pair_texts};
 use std::alloc::Global;
 use std::io;
 use std::io::Write;
@@ -74,4 +75,28 @@ pub(crate) fn pair<R: Threads + Sync>(
 ) -> io::Result<()> {
     let second = trace_table(alloc, rows)?;
     pair_text(rt, alloc, given, second.as_slice(), workers, told)
+}
+
+/// A case `explain-pair`.
+pub(crate) fn explain_pair<R: Threads + Sync>(
+    rt: &R,
+    alloc: Global,
+    given: &Given,
+    rows: &[u8],
+    told: &mut Vec<u8>,
+) -> io::Result<()> {
+    let table = trace_table(alloc, rows)?;
+    let program = given.program.as_slice();
+    let externals = given.externals.as_slice();
+    let (first, second) = (given.trace.as_slice(), table.as_slice());
+    let answer = explain_pair_answer(rt, alloc, program, externals, first, second, 1, told);
+    if answer.is_err() {
+        match refusal_of_pair_texts(alloc, program, externals, first, second) {
+            Ok(Some(words)) => told.write_all(words.as_bytes())?,
+            Ok(None) => writeln!(told, "nothing is told")?,
+            Err(_) => writeln!(told, "NoMemory")?,
+        }
+    }
+    let status = finish(answer, told);
+    writeln!(told, "status {status}")
 }

@@ -15,4 +15,8 @@ mod ways;
 mod words;
 
 pub use explaining::explain;
+pub use lines::push_line;
 pub use telling::tell;
+pub use words::{
+    push_action, push_name, push_number, push_port, push_reaction, push_tag, push_time, push_value,
+};

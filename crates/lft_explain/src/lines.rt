@@ -16,7 +16,7 @@ fn push_line_number(text: &mut String, place: u32) -> Result<(), AllocError>
 }
 
 /// Puts the line of the row at the place at the end of the text.
-pub(crate) fn push_line(text: &mut String, place: u32) -> Result<(), AllocError>
+pub fn push_line(text: &mut String, place: u32) -> Result<(), AllocError>
     ensures { OnOk result (string_bytes text.new ≡ string_bytes text.old ++ line_words place) }
 {
     text.push_str("line ")?;

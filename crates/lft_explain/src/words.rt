@@ -10,7 +10,7 @@ use lft_tag::Tag;
 use std::alloc::AllocError;
 
 /// Puts a number at the end of the text.
-pub(crate) fn push_number(text: &mut String, number: u64) -> Result<(), AllocError>
+pub fn push_number(text: &mut String, number: u64) -> Result<(), AllocError>
     ensures { OnOk result (string_bytes text.new ≡ string_bytes text.old ++ decimal number) }
 {
     let mut buffer = Buffer::new();
@@ -28,7 +28,7 @@ fn push_unit(text: &mut String, number: u64, unit: &str) -> Result<(), AllocErro
 }
 
 /// Puts a time of so many nanoseconds at the end of the text, in the greatest unit that divides it.
-pub(crate) fn push_time(text: &mut String, time: u64) -> Result<(), AllocError>
+pub fn push_time(text: &mut String, time: u64) -> Result<(), AllocError>
     ensures { OnOk result (string_bytes text.new ≡ string_bytes text.old ++ time_words time) }
 {
     if time == 0 {
@@ -46,7 +46,7 @@ pub(crate) fn push_time(text: &mut String, time: u64) -> Result<(), AllocError>
 }
 
 /// Puts a tag at the end of the text.
-pub(crate) fn push_tag(text: &mut String, tag: Tag) -> Result<(), AllocError>
+pub fn push_tag(text: &mut String, tag: Tag) -> Result<(), AllocError>
     ensures { OnOk result (string_bytes text.new ≡ string_bytes text.old ++ tag_words tag) }
 {
     text.push_str("(")?;
@@ -58,7 +58,7 @@ pub(crate) fn push_tag(text: &mut String, tag: Tag) -> Result<(), AllocError>
 }
 
 /// Puts a value, or that there is none, at the end of the text.
-pub(crate) fn push_value(text: &mut String, value: Option<Value>) -> Result<(), AllocError>
+pub fn push_value(text: &mut String, value: Option<Value>) -> Result<(), AllocError>
     ensures { OnOk result (string_bytes text.new ≡ string_bytes text.old ++ value_words value) }
 {
     match value {
@@ -73,7 +73,7 @@ pub(crate) fn push_value(text: &mut String, value: Option<Value>) -> Result<(), 
 }
 
 /// Puts the name of a port at the end of the text.
-pub(crate) fn push_port(text: &mut String, program: &Program, number: u32) -> Result<(), AllocError>
+pub fn push_port(text: &mut String, program: &Program, number: u32) -> Result<(), AllocError>
     ensures { OnOk result (string_bytes text.new ≡ string_bytes text.old ++ port_words program.now number) }
 {
     if (number as usize) < program.ports() {
@@ -83,11 +83,7 @@ pub(crate) fn push_port(text: &mut String, program: &Program, number: u32) -> Re
 }
 
 /// Puts the name of an action at the end of the text.
-pub(crate) fn push_action(
-    text: &mut String,
-    program: &Program,
-    number: u32,
-) -> Result<(), AllocError>
+pub fn push_action(text: &mut String, program: &Program, number: u32) -> Result<(), AllocError>
     ensures { OnOk result (string_bytes text.new ≡ string_bytes text.old ++ action_words program.now number) }
 {
     if (number as usize) < program.actions() {
@@ -111,11 +107,7 @@ pub(crate) fn push_timer(
 }
 
 /// Puts the name of a reaction at the end of the text.
-pub(crate) fn push_reaction(
-    text: &mut String,
-    program: &Program,
-    number: u32,
-) -> Result<(), AllocError>
+pub fn push_reaction(text: &mut String, program: &Program, number: u32) -> Result<(), AllocError>
     ensures { OnOk result (string_bytes text.new ≡ string_bytes text.old ++ reaction_words program.now number) }
 {
     if (number as usize) < program.reactions() {
@@ -125,7 +117,7 @@ pub(crate) fn push_reaction(
 }
 
 /// Puts the name of a port or action at the end of the text.
-pub(crate) fn push_name(text: &mut String, program: &Program, name: Name) -> Result<(), AllocError>
+pub fn push_name(text: &mut String, program: &Program, name: Name) -> Result<(), AllocError>
     ensures { OnOk result (string_bytes text.new ≡ string_bytes text.old ++ name_words program.now name) }
 {
     match name {

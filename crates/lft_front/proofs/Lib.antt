@@ -3,3 +3,4 @@ pub mod Judging
 pub mod Listed
 pub mod Pairing
 pub mod Explaining
+pub mod PairExplaining

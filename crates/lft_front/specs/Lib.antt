@@ -7,3 +7,4 @@ pub mod Shown
 pub mod Pairs
 pub mod PairRefusals
 pub mod Explained
+pub mod PairExplained

@@ -3,6 +3,7 @@
 ghost use Rattle.std.specs.Prelude.{◌≡◌, ◌↔◌, true, IsTrue, IfOk, IfErr};
 ghost use Rattle.lft_front.specs.Explained.{ExplainBundleRefusal, ExplainRefusal, IsExplainedAnswer, IsExplainedBundle};
 ghost use Rattle.lft_front.specs.Judged.{IsAccepted, IsBundleAccepted};
+ghost use Rattle.lft_front.specs.PairExplained.{IsPairExplainedAnswer, PairExplainRefusal};
 ghost use Rattle.lft_front.specs.PairRefusals.{PairRefusal};
 ghost use Rattle.lft_front.specs.Pairs.{IsSameAnswer, SaysSame};
 ghost use Rattle.lft_front.specs.Refusals.{JudgeRefusal, BundleRefusal, ShowRefusal};
@@ -12,6 +13,7 @@ ghost use Rattle.lft_front.specs.Judged.{Accepts};
 use crate::alone::judge_texts_alone;
 use crate::bundle::split_bundle;
 use crate::explain::explain_texts;
+use crate::explain_pair::explain_pair_texts;
 use crate::judge::judge_texts;
 use crate::pair::pair_texts;
 use crate::paired::Paired;
@@ -103,6 +105,25 @@ pub fn explain_answer<W: Write, R: Threads + Sync>(
 {
     let verdict = explain_texts(rt, alloc, program, externals, trace, workers, out)?;
     Ok(is_accepted(verdict))
+}
+
+/// Whether the two traces of four texts are accepted and have the same runs, of which a line is
+/// written, with what explains it.
+pub fn explain_pair_answer<W: Write, R: Threads + Sync>(
+    rt: &R,
+    alloc: Global,
+    program: &[u8],
+    externals: &[u8],
+    first: &[u8],
+    second: &[u8],
+    workers: u32,
+    out: &mut W,
+) -> Result<bool, Fault>
+    ensures same { IfOk result (IsPairExplainedAnswer program.now externals.now first.now second.now (W.contents out.old) (W.contents out.new)) }
+    ensures refused { IfErr result (PairExplainRefusal program.now externals.now first.now second.now workers (W.contents out.old) (W.contents out.new)) }
+{
+    let paired = explain_pair_texts(rt, alloc, program, externals, first, second, workers, out)?;
+    Ok(is_same(paired))
 }
 
 /// Whether the trace of a bundle is accepted, whose verdict's line is written, with what explains

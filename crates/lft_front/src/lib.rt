@@ -6,6 +6,7 @@ mod alone;
 mod answer;
 mod bundle;
 mod explain;
+mod explain_pair;
 mod judge;
 mod line;
 mod pair;
@@ -15,13 +16,15 @@ mod show;
 
 pub use alone::judge_texts_alone;
 pub use answer::{
-    bundle_answer, explain_answer, explain_bundle_answer, judge_answer, pair_answer, show_answer,
+    bundle_answer, explain_answer, explain_bundle_answer, explain_pair_answer, judge_answer,
+    pair_answer, show_answer,
 };
 pub use bundle::{Bundle, split_bundle};
 pub use explain::explain_texts;
+pub use explain_pair::explain_pair_texts;
 pub use judge::judge_texts;
 pub use lft_load::{Fault, Part, finish, load, read_input};
 pub use pair::pair_texts;
 pub use paired::Paired;
-pub use refused::refusal_of_texts;
+pub use refused::{refusal_of_pair_texts, refusal_of_texts};
 pub use show::show_text;

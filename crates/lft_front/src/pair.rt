@@ -31,14 +31,14 @@ use std::thread::Threads;
 
 /// What three texts gave, and the rows of a second trace.
 #[derive(Drop)]
-struct Both {
-    given: Given,
-    second: Rows,
+pub(crate) struct Both {
+    pub given: Given,
+    pub second: Rows,
 }
 
 /// The plan and the rows of four texts, else the fault of the first layer that refuses. Both tables
 /// are read before either is judged.
-fn read_both<R: Threads + Sync>(
+pub(crate) fn read_both<R: Threads + Sync>(
     rt: &R,
     alloc: Global,
     program: &[u8],
@@ -122,7 +122,7 @@ fn judge_second<R: Threads + Sync>(
 }
 
 /// Judges the first trace, then the second, and then compares the two.
-fn judge_both<R: Threads + Sync>(
+pub(crate) fn judge_both<R: Threads + Sync>(
     rt: &R,
     alloc: Global,
     plan: &Plan,

@@ -29,12 +29,12 @@ fn of_graph(alloc: Global, program: &Program) -> Result<Option<String>, NoMemory
 }
 
 /// Why one of the tables of a program is refused, or the program for its order: the external inputs, the
-/// program, the trace.
+/// program, the traces. Each trace comes with its name.
 fn of_tables(
     alloc: Global,
     program: &Program,
     externals: &[u8],
-    trace: &[u8],
+    traces: &[(&[u8], &str)],
 ) -> Result<Option<String>, NoMemory> {
     if let Err(fault) = read_externals(alloc, program, externals) {
         return Ok(Some(tell_externals(alloc, program, externals, fault)?));
@@ -43,10 +43,30 @@ fn of_tables(
     if told.is_some() {
         return Ok(told);
     }
-    if let Err(fault) = read_trace(alloc, program, trace) {
-        return Ok(Some(tell_trace(alloc, program, trace, fault)?));
+    for place in 0..traces.len() {
+        let (text, name) = traces[place];
+        if let Err(fault) = read_trace(alloc, program, text) {
+            return Ok(Some(tell_trace(alloc, program, text, fault, name)?));
+        }
     }
     Ok(None)
+}
+
+/// Why the first of a program, its external inputs and some traces is refused.
+fn of_texts(
+    alloc: Global,
+    program: &[u8],
+    externals: &[u8],
+    traces: &[(&[u8], &str)],
+) -> Result<Option<String>, NoMemory> {
+    let told = tell_program(alloc, program)?;
+    if told.is_some() {
+        return Ok(told);
+    }
+    match read_program(alloc, program) {
+        Ok(flat) => of_tables(alloc, &flat, externals, traces),
+        Err(fault) => of_program(alloc, program, &fault),
+    }
 }
 
 /// Why the first of three texts that is refused is: where, the line with a mark, and what helps, in lines
@@ -59,12 +79,18 @@ pub fn refusal_of_texts(
     externals: &[u8],
     trace: &[u8],
 ) -> Result<Option<String>, NoMemory> {
-    let told = tell_program(alloc, program)?;
-    if told.is_some() {
-        return Ok(told);
-    }
-    match read_program(alloc, program) {
-        Ok(flat) => of_tables(alloc, &flat, externals, trace),
-        Err(fault) => of_program(alloc, program, &fault),
-    }
+    let traces = [(trace, "Trace")];
+    of_texts(alloc, program, externals, traces.as_slice())
+}
+
+/// The same of four texts: a program, its external inputs and two traces.
+pub fn refusal_of_pair_texts(
+    alloc: Global,
+    program: &[u8],
+    externals: &[u8],
+    first: &[u8],
+    second: &[u8],
+) -> Result<Option<String>, NoMemory> {
+    let traces = [(first, "First trace"), (second, "Second trace")];
+    of_texts(alloc, program, externals, traces.as_slice())
 }

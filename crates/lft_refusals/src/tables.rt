@@ -13,24 +13,24 @@ use lft_tag::NoMemory;
 use lft_trace::TraceFault;
 use std::alloc::Global;
 
-/// The table that was read.
-#[derive(Clone, Copy, PartialEq, Eq)]
+/// The table that was read. A trace is called by a word, since there may be two.
+#[derive(Clone, Copy)]
 enum Table {
-    Trace,
+    Trace(&'static str),
     Externals,
 }
 
 impl Table {
     fn word(self) -> &'static str {
         match self {
-            Table::Trace => "Trace",
+            Table::Trace(word) => word,
             Table::Externals => "External inputs",
         }
     }
 
     fn header(self) -> &'static str {
         match self {
-            Table::Trace => TRACE,
+            Table::Trace(_) => TRACE,
             Table::Externals => EXTERNALS,
         }
     }
@@ -38,21 +38,23 @@ impl Table {
     /// How many fields a record has, in words.
     fn count(self) -> &'static str {
         match self {
-            Table::Trace => "8",
+            Table::Trace(_) => "8",
             Table::Externals => "5",
         }
     }
 }
 
 /// Why a trace table is refused with this fault, in lines that end with a line feed: the record, its
-/// field, what may stand there. Nothing where the fault is none of the text.
+/// field, what may stand there. Nothing where the fault is none of the text. The table is called by the
+/// word.
 pub fn tell_trace(
     alloc: Global,
     program: &Program,
     text: &[u8],
     fault: TraceFault,
+    word: &'static str,
 ) -> Result<String, NoMemory> {
-    tell(alloc, program, text, fault, Table::Trace)
+    tell(alloc, program, text, fault, Table::Trace(word))
 }
 
 /// The same of a table of external inputs.
@@ -163,13 +165,13 @@ fn wrong_field(
     table: Table,
 ) -> Option<Wrong> {
     match (fault, table) {
-        (TraceFault::BadEvent(_), Table::Trace) => Some(EVENT),
+        (TraceFault::BadEvent(_), Table::Trace(_)) => Some(EVENT),
         (TraceFault::BadEvent(_), Table::Externals) => Some(KIND),
-        (TraceFault::BadNumber(_), Table::Trace) => number_of_trace(fields),
+        (TraceFault::BadNumber(_), Table::Trace(_)) => number_of_trace(fields),
         (TraceFault::BadNumber(_), Table::Externals) => number_of_externals(fields),
-        (TraceFault::UnknownName(_), Table::Trace) => Some(name_of_trace(program, fields)),
+        (TraceFault::UnknownName(_), Table::Trace(_)) => Some(name_of_trace(program, fields)),
         (TraceFault::UnknownName(_), Table::Externals) => Some(name_of_externals(program, fields)),
-        (TraceFault::FieldInPlace(_), Table::Trace) => Some(filled_of_trace(fields)),
+        (TraceFault::FieldInPlace(_), Table::Trace(_)) => Some(filled_of_trace(fields)),
         (TraceFault::FieldInPlace(_), Table::Externals) => Some(filled_of_externals(fields)),
         _ => None,
     }

@@ -5,10 +5,12 @@ mod words;
 
 use crate::words::{Job, JudgeWords, PairWords, RecordWords, read_words};
 use lft_front::{
-    Fault, Part, bundle_answer, explain_answer, explain_bundle_answer, finish, judge_answer,
-    pair_answer, read_input, refusal_of_texts, show_answer, split_bundle,
+    Fault, Part, bundle_answer, explain_answer, explain_bundle_answer, explain_pair_answer, finish,
+    judge_answer, pair_answer, read_input, refusal_of_pair_texts, refusal_of_texts, show_answer,
+    split_bundle,
 };
 use lft_record::record_answer;
+use lft_tag::NoMemory;
 use std::alloc::Global;
 use std::fs::File;
 use std::io::{BufWriter, IsTerminal, Read, Write};
@@ -55,8 +57,15 @@ fn judge_files<F: Files + Threads + Sync, W: Write>(
     )
 }
 
-/// Writes why the first of three texts that is refused is, where it can be told. This is help alone: where
-/// it can't be written, the line of the fault comes all the same.
+/// Writes why a text is refused, where it can be told. This is help alone: where it can't be written, the
+/// line of the fault comes all the same.
+fn write_told<W: Write>(told: Result<Option<String>, NoMemory>, out: &mut W) {
+    if let Ok(Some(told)) = told {
+        let _ = out.write_all(told.as_bytes());
+    }
+}
+
+/// Writes why the first of three texts that is refused is, where it can be told.
 fn write_refusal<W: Write>(
     alloc: Global,
     program: &[u8],
@@ -64,9 +73,7 @@ fn write_refusal<W: Write>(
     trace: &[u8],
     out: &mut W,
 ) {
-    if let Ok(Some(told)) = refusal_of_texts(alloc, program, externals, trace) {
-        let _ = out.write_all(told.as_bytes());
-    }
+    write_told(refusal_of_texts(alloc, program, externals, trace), out);
 }
 
 /// Judges the trace of three files, all of which are read first, and explains the verdict, or why a text
@@ -117,6 +124,29 @@ fn pair_files<F: Files + Threads + Sync, W: Write>(
         workers_for(words.workers, first.len().max(second.len())),
         out,
     )
+}
+
+/// Compares the two traces of four files, all of which are read first, and explains what they show, or
+/// why a text is refused.
+fn explain_pair_files<F: Files + Threads + Sync, W: Write>(
+    rt: &F,
+    alloc: Global,
+    words: PairWords<'_>,
+    out: &mut W,
+) -> Result<bool, Fault> {
+    let program = read_file(rt, alloc, words.program)?;
+    let externals = read_file(rt, alloc, words.externals)?;
+    let first = read_file(rt, alloc, words.first)?;
+    let second = read_file(rt, alloc, words.second)?;
+    let (program, externals) = (program.as_slice(), externals.as_slice());
+    let (first, second) = (first.as_slice(), second.as_slice());
+    let workers = workers_for(words.workers, first.len().max(second.len()));
+    let answer = explain_pair_answer(rt, alloc, program, externals, first, second, workers, out);
+    if answer.is_err() {
+        let told = refusal_of_pair_texts(alloc, program, externals, first, second);
+        write_told(told, out);
+    }
+    answer
 }
 
 /// Records the program of three files, all of which are read first.
@@ -236,6 +266,7 @@ fn main(rt: HostRuntime) -> ExitCode {
             await_bundle(&rt);
             explain_bundle(&rt, alloc, &mut rt.stdin(), &mut out)
         }
+        Job::ExplainPair(words) => explain_pair_files(&rt, alloc, words, &mut out),
         Job::Pair(words) => pair_files(&rt, alloc, words, &mut out),
         Job::Record(words) => record_files(&rt, alloc, words, &mut out),
         Job::Show(path) => show_file(&rt, alloc, path, &mut out),

@@ -21,7 +21,8 @@ TRACE has the header      event,worker,time,microstep,reaction,name,value,delay
 Times are in nanoseconds. Words are paths of files; /dev/stdin is standard input.
 Without words it explains a bundle from standard input.
 Printed: the line of judge, with its status; behind broken rule=N .. an empty line
-and the facts that show it.";
+and the facts that show it. With two traces the line of pair, with its status;
+behind differ .. an empty line and both answers.";
 
 const PAIR_HELP: &str = "\
 EXTERNALS has the header          kind,time,microstep,name,value
@@ -53,7 +54,7 @@ pub struct JudgeWords<'a> {
     pub workers: u32,
 }
 
-/// The words of `pair`: four paths, and how many workers, 1 to 64.
+/// The words of `pair`, and of `explain` with two traces: four paths, and how many workers, 1 to 64.
 #[derive(Clone, Copy)]
 pub struct PairWords<'a> {
     pub program: &'a str,
@@ -83,6 +84,8 @@ pub enum Job<'a> {
     Explain(JudgeWords<'a>),
     /// The same of a bundle from standard input.
     ExplainBundle,
+    /// To compare two traces, and to tell where they differ or why one of them breaks a rule.
+    ExplainPair(PairWords<'a>),
     Pair(PairWords<'a>),
     Record(RecordWords<'a>),
     /// To show the ports and the precedence of the program at a path.
@@ -125,10 +128,13 @@ fn explain_command<'a>(alloc: Global) -> Result<Command<'a>, Error> {
         .requires_arg("EXTERNALS")?
         .requires_arg("TRACE")?;
     let command = Command::new(alloc, "explain")
-        .about("Judges a recorded trace, and tells the facts behind the first rule that it breaks")
+        .about(
+            "Judges a recorded trace, and tells the facts behind the first rule that it breaks; compares two, and tells where they differ",
+        )
         .arg(program)?
         .arg(path(alloc, "EXTERNALS", "the table of external inputs").required(false))?
         .arg(path(alloc, "TRACE", "the trace table").required(false))?
+        .arg(path(alloc, "SECOND", "another trace table").required(false))?
         .arg(workers(alloc, JUDGES))?
         .after_help(EXPLAIN_HELP);
     Ok(command)
@@ -208,6 +214,17 @@ fn judge_words<'a>(matches: &ArgMatches<'a>) -> JudgeWords<'a> {
     }
 }
 
+/// The words of a command that compares two traces, the first of which has the name.
+fn pair_words<'a>(matches: &ArgMatches<'a>, first: &str) -> PairWords<'a> {
+    PairWords {
+        program: text(matches, "PROGRAM"),
+        externals: text(matches, "EXTERNALS"),
+        first: text(matches, first),
+        second: text(matches, "SECOND"),
+        workers: number(matches, "workers", 1),
+    }
+}
+
 /// What the words ask for, the first being the program's own name. The error is the command line's:
 /// a refusal, or the help that was asked for.
 pub fn read_words<'a>(alloc: Global, words: &'a [String]) -> Result<Job<'a>, Error> {
@@ -216,19 +233,15 @@ pub fn read_words<'a>(alloc: Global, words: &'a [String]) -> Result<Job<'a>, Err
     match matches.subcommand() {
         Some(("judge", judge)) => Ok(Job::Judge(judge_words(judge))),
         Some(("explain", explain)) => {
-            if explain.contains_id("PROGRAM") {
+            if explain.contains_id("SECOND") {
+                Ok(Job::ExplainPair(pair_words(explain, "TRACE")))
+            } else if explain.contains_id("PROGRAM") {
                 Ok(Job::Explain(judge_words(explain)))
             } else {
                 Ok(Job::ExplainBundle)
             }
         }
-        Some(("pair", pair)) => Ok(Job::Pair(PairWords {
-            program: text(pair, "PROGRAM"),
-            externals: text(pair, "EXTERNALS"),
-            first: text(pair, "FIRST"),
-            second: text(pair, "SECOND"),
-            workers: number(pair, "workers", 1),
-        })),
+        Some(("pair", pair)) => Ok(Job::Pair(pair_words(pair, "FIRST"))),
         Some(("record", record)) => Ok(Job::Record(RecordWords {
             program: text(record, "PROGRAM"),
             externals: text(record, "EXTERNALS"),

@@ -1,0 +1,7 @@
+pub mod Placing
+pub mod Outcomes
+pub mod Differing
+pub mod Counting
+pub mod Added
+pub mod Giving
+pub mod Texts

@@ -1,0 +1,67 @@
+-- What a run answered, by its steps with their places.
+use Rattle.std.proofs.Common.{◌≡◌, ℕ, ◌||◌, List, [], ◌∷◌, map, filter_map, sym, ap, ◌∙◌, refl, Option, Some, None, option_map, is_some, Bool, true, false}
+use Rattle.std.specs.List.{last_or, cons_option}
+use Rattle.lft_lists.proofs.Members.{filter_map-map}
+use Rattle.lft_lists.proofs.Picked.{map-filter_map}
+use Rattle.lft_flat.specs.declared.parts.Name.TheVariants.{Port, Action}
+use Rattle.lft_flat.specs.declared.parts.Value.{Value}
+use Rattle.lft_trace.specs.declared.row.Step.{Step}
+use Rattle.lft_trace.specs.declared.row.Step.TheVariants.{Start, Read, Write, Schedule, Stop, End}
+use Rattle.lft_model.specs.Presence.{value_written, value_scheduled}
+use Rattle.lft_model.specs.Runs.{outcome_of, request_of, is_stop}
+use Rattle.lft_model.specs.Runs.Outcome.{Written, Scheduled}
+use Rattle.lft_contrast.specs.declared.contrasts.Placed.{Placed}
+use Rattle.lft_contrast.specs.declared.contrasts.LastWrite.{LastWrite}
+use Rattle.lft_contrast.specs.declared.contrasts.Scheduling.{Scheduling}
+use Rattle.lft_contrast.specs.Runs.{write, write_of, last_write, scheduling, scheduling_of, schedulings, request_at, request_of as placed_request, last_request}
+use Rattle.lft_contrast.specs.Contrasts.{value_of}
+use Rattle.lft_contrast.specs.Enough.{steps}
+
+same_filter : {X Y : Type 0} (f h : X → Option Y) (xs : List X) → ((x : X) → f x ≡ h x) → filter_map f xs ≡ filter_map h xs
+same_filter f h [] e = refl
+same_filter f h (x ∷ xs) e = ap (λ o. cons_option o (filter_map f xs)) (e x) ∙ ap (λ l. cons_option (h x) l) (same_filter f h xs e)
+
+last_map : {X Y : Type 0} (f : X → Y) (o : Option X) (xs : List X) → last_or (option_map f o) (map f xs) ≡ option_map f (last_or o xs)
+last_map f o [] = refl
+last_map f o (x ∷ xs) = last_map f (Some x) xs
+
+written_as : (i : ℕ) (o : Option Value) → option_map (λ (w : LastWrite). w.value) (option_map (write i) o) ≡ o
+written_as i None = refl
+written_as i (Some v) = refl
+
+pub write_outcome : (run : List Placed) (p : ℕ) → outcome_of (steps run) (Port p) ≡ Written (value_of (last_write run p))
+write_outcome run p = ap Written (ap (λ l. last_or None l) values ∙ last_map (λ (w : LastWrite). w.value) None (filter_map (write_of p) run))
+  where
+    values : filter_map (value_written p) (steps run) ≡ map (λ (w : LastWrite). w.value) (filter_map (write_of p) run)
+    values = filter_map-map (λ (x : Placed). x.step) (value_written p) run ∙ sym (map-filter_map (λ (w : LastWrite). w.value) (write_of p) run ∙ same_filter (λ (x : Placed). option_map (λ (w : LastWrite). w.value) (write_of p x)) (λ (x : Placed). value_written p x.step) run (λ x. written_as x.row (value_written p x.step)))
+
+scheduled_as : (i : ℕ) (o : Option (ℕ × Value)) → option_map (λ (y : Scheduling). (y.delay, y.value)) (option_map (scheduling i) o) ≡ o
+scheduled_as i None = refl
+scheduled_as i (Some y) = refl
+
+pub schedule_outcome : (run : List Placed) (a : ℕ) → outcome_of (steps run) (Action a) ≡ Scheduled (map (λ (y : Scheduling). (y.delay, y.value)) (schedulings run a))
+schedule_outcome run a = ap Scheduled (filter_map-map (λ (x : Placed). x.step) (value_scheduled a) run ∙ sym (map-filter_map (λ (y : Scheduling). (y.delay, y.value)) (scheduling_of a) run ∙ same_filter (λ (x : Placed). option_map (λ (y : Scheduling). (y.delay, y.value)) (scheduling_of a x)) (λ (x : Placed). value_scheduled a x.step) run (λ x. scheduled_as x.row (value_scheduled a x.step))))
+
+or_false : (b : Bool) → b ≡ (b || false)
+or_false true = refl
+or_false false = refl
+
+or_true : (b : Bool) → true ≡ (b || true)
+or_true true = refl
+or_true false = refl
+
+-- a stop was requested where there is a last request
+requested_from : (o : Option ℕ) (run : List Placed) → is_some (last_or o (filter_map placed_request run)) ≡ (is_some o || request_of (steps run))
+requested_from o [] = or_false (is_some o)
+requested_from o (x ∷ xs) = by x.row x.step (λ p. requested_from p xs)
+  where
+    by : (i : ℕ) (s : Step) → ((p : Option ℕ) → is_some (last_or p (filter_map placed_request xs)) ≡ (is_some p || request_of (steps xs))) → is_some (last_or o (cons_option (request_at i s) (filter_map placed_request xs))) ≡ (is_some o || (is_stop s || request_of (steps xs)))
+    by i Stop rest = rest (Some i) ∙ or_true (is_some o)
+    by i Start rest = rest o
+    by i (Read n v) rest = rest o
+    by i (Write n v) rest = rest o
+    by i (Schedule n v d) rest = rest o
+    by i End rest = rest o
+
+pub request_outcome : (run : List Placed) → request_of (steps run) ≡ is_some (last_request run)
+request_outcome run = sym (requested_from None run)

@@ -1,0 +1,21 @@
+use Rattle.std.proofs.Common.{List, ◌+◌, ap, ◌∙◌, sym, subst, arith}
+use Rattle.lft_contrast.specs.declared.contrasts.Contrast.{Contrast}
+use Rattle.lft_contrast.specs.Enough.{HaveSameOutcome, TellsOf}
+use Rattle.lft_contrast.proofs.Differing.{ToldTo, told_none, told_same, told_other, told_end, of_some, of_none}
+use Rattle.lft_contrast.proofs.effects.effect_contrasts.Goals as goal
+use Rattle.lft_contrast.proofs.effects.effect_contrasts.Goals.{in-Some+in_ok-push, in_default}
+
+pub loop-place-init : goal.loop-place-init
+loop-place-init c = told_none c.args.tag c.args.reaction c.args.effects.now c.args.mine.now c.args.theirs.now c.new-told.result.items c.new-told.ensures.items
+
+pub loop-place-preserved : goal.loop-place-preserved
+loop-place-preserved c =
+    let i = c.loop-place.place in
+    let told = c.loop-place.told.items in
+    elim c.match-branch-2.branch [
+      | in-Some+in_ok-push w ↦ told_other c.args.tag c.args.reaction c.args.effects.now c.args.mine.now c.args.theirs.now i c.item_at.result c.item_at.ensures told c.match-branch-2.told.items w.in-Some.contrast (of_some (HaveSameOutcome c.args.mine.now c.args.theirs.now c.item_at.result) (TellsOf c.args.tag c.args.reaction c.args.mine.now c.args.theirs.now c.item_at.result) c.in_ok-contrast.field-0 w.in-Some.contrast w.in-Some.is c.in_ok-contrast.ensures) (ap (λ v. v.items) w.told-is ∙ w.in_ok-push.ensures.items) c.loop-place.invariant
+      | in_default w ↦ subst (λ (cs : List Contrast). ToldTo c.args.tag c.args.reaction c.args.effects.now c.args.mine.now c.args.theirs.now (i + 1) cs) (sym (ap (λ v. v.items) w.told-is)) (told_same c.args.tag c.args.reaction c.args.effects.now c.args.mine.now c.args.theirs.now i c.item_at.result c.item_at.ensures told (of_none (HaveSameOutcome c.args.mine.now c.args.theirs.now c.item_at.result) (TellsOf c.args.tag c.args.reaction c.args.mine.now c.args.theirs.now c.item_at.result) c.in_ok-contrast.field-0 w.in_default.is c.in_ok-contrast.ensures) c.loop-place.invariant)
+    ]
+
+pub returns-clause-all : goal.returns-clause-all
+returns-clause-all c = told_end c.args.tag c.args.reaction c.args.effects.now c.args.mine.now c.args.theirs.now c.loop-place.place c.loop-place.told.items (let p = c.loop-place-test.false in omega arith) c.loop-place.invariant

@@ -1,0 +1,7 @@
+pub mod Runs
+pub mod Counts
+pub mod Contrasts
+pub mod Enough
+pub mod Words
+pub mod Told
+pub mod Shown

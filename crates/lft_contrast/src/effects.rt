@@ -1,0 +1,187 @@
+//! For which effects two runs answered otherwise.
+
+ghost use Rattle.std.specs.Prelude.{◌≡◌, ◌↔◌, All, Contains, IsTrue, MatchOption, IfOk, slice_get, is_some};
+ghost use Rattle.lft_flat.specs.declared.parts.Name.{Name as TheName};
+ghost use Rattle.lft_flat.specs.declared.parts.Name.TheVariants.{Port, Action};
+ghost use Rattle.lft_contrast.specs.Runs.{last_write as the_last_write, schedulings as the_schedulings, last_request as the_last_request};
+ghost use Rattle.lft_contrast.specs.Contrasts.{value_of as the_value_of, event_of as the_event_of, events};
+ghost use Rattle.lft_contrast.specs.Enough.{HaveSameOutcome, TellsOf, TellsStop, IsToldOf, IsOfEffect};
+
+use crate::answers::{last_request, last_write, schedulings};
+use crate::contrasts::{Contrast, LastWrite, Placed, Scheduling};
+use lft_flat::{Name, Value};
+use lft_lists::item_at;
+use lft_tag::{NoMemory, Tag};
+use std::alloc::Global;
+
+/// The value of the write, if there is one.
+fn value_of(write: Option<LastWrite>) -> Option<Value>
+    ensures { result ≡ the_value_of write }
+{
+    match write {
+        Some(write) => Some(write.value),
+        None => None,
+    }
+}
+
+/// Whether two writes have one value, or both are none.
+fn is_same_value(first: Option<LastWrite>, second: Option<LastWrite>) -> bool
+    ensures { IsTrue result ↔ (the_value_of first ≡ the_value_of second) }
+{
+    match (value_of(first), value_of(second)) {
+        (Some(a), Some(b)) => a == b,
+        (None, None) => true,
+        (Some(_), None) | (None, Some(_)) => false,
+    }
+}
+
+/// What two runs wrote last to the port, where it isn't one value.
+fn written(
+    tag: Tag,
+    reaction: u32,
+    port: u32,
+    mine: &[Placed],
+    theirs: &[Placed],
+) -> Option<Contrast>
+    ensures { MatchOption result (the_value_of (the_last_write mine.now port) ≡ the_value_of (the_last_write theirs.now port)) (TellsOf tag reaction mine.now theirs.now (Port port)) }
+{
+    let first = last_write(mine, port);
+    let second = last_write(theirs, port);
+    if is_same_value(first, second) {
+        return None;
+    }
+    Some(Contrast::Written {
+        tag,
+        reaction,
+        port,
+        first,
+        second,
+    })
+}
+
+/// Whether two schedulings have one extra delay and one value, or both are none.
+fn is_same_event(first: Option<Scheduling>, second: Option<Scheduling>) -> bool
+    ensures { IsTrue result ↔ (the_event_of first ≡ the_event_of second) }
+{
+    match (first, second) {
+        (Some(a), Some(b)) => a.delay == b.delay && a.value == b.value,
+        (None, None) => true,
+        (Some(_), None) | (None, Some(_)) => false,
+    }
+}
+
+/// The scheduling at the place, if there is one.
+fn scheduling_at(list: &[Scheduling], place: usize) -> Option<Scheduling>
+    ensures { result ≡ slice_get list.now place }
+{
+    if place < list.len() {
+        Some(item_at(list, place))
+    } else {
+        None
+    }
+}
+
+/// The first place at which two lists of schedulings aren't the same.
+fn first_other(mine: &[Scheduling], theirs: &[Scheduling]) -> Option<usize>
+    ensures { MatchOption result (events mine.now ≡ events theirs.now) (λ k. ¬ (the_event_of (slice_get mine.now k) ≡ the_event_of (slice_get theirs.now k))) }
+{
+    for place in 0..mine.len().max(theirs.len()) {
+        if !is_same_event(scheduling_at(mine, place), scheduling_at(theirs, place)) {
+            return Some(place);
+        }
+    }
+    None
+}
+
+/// The first scheduling of the action that isn't the same in two runs.
+fn scheduled(
+    alloc: Global,
+    tag: Tag,
+    reaction: u32,
+    action: u32,
+    mine: &[Placed],
+    theirs: &[Placed],
+) -> Result<Option<Contrast>, NoMemory>
+    ensures { IfOk result (λ told. MatchOption told (events (the_schedulings mine.now action) ≡ events (the_schedulings theirs.now action)) (TellsOf tag reaction mine.now theirs.now (Action action))) }
+{
+    let all = schedulings(alloc, mine, action)?;
+    let others = schedulings(alloc, theirs, action)?;
+    let Some(place) = first_other(all.as_slice(), others.as_slice()) else {
+        return Ok(None);
+    };
+    Ok(Some(Contrast::Scheduled {
+        tag,
+        reaction,
+        action,
+        place,
+        first: scheduling_at(all.as_slice(), place),
+        second: scheduling_at(others.as_slice(), place),
+    }))
+}
+
+/// What two runs answered for the effect, where it isn't the same.
+fn effect(
+    alloc: Global,
+    tag: Tag,
+    reaction: u32,
+    effect: Name,
+    mine: &[Placed],
+    theirs: &[Placed],
+) -> Result<Option<Contrast>, NoMemory>
+    ensures { IfOk result (λ told. MatchOption told (HaveSameOutcome mine.now theirs.now effect) (TellsOf tag reaction mine.now theirs.now effect)) }
+{
+    match effect {
+        Name::Port(port) => Ok(written(tag, reaction, port, mine, theirs)),
+        Name::Action(action) => scheduled(alloc, tag, reaction, action, mine, theirs),
+    }
+}
+
+/// Of each effect for which two runs answered otherwise, what they answered, in order.
+pub(crate) fn effect_contrasts(
+    alloc: Global,
+    tag: Tag,
+    reaction: u32,
+    effects: &[Name],
+    mine: &[Placed],
+    theirs: &[Placed],
+) -> Result<Vec<Contrast>, NoMemory>
+    ensures right { IfOk result (λ list. All (IsOfEffect tag reaction effects.now mine.now theirs.now) list.items) }
+    ensures all { IfOk result (λ list. (n : TheName) → Contains effects.now n → IsToldOf tag reaction mine.now theirs.now list.items n) }
+{
+    let mut told = Vec::new(alloc);
+    for place in 0..effects.len() {
+        if let Some(contrast) = effect(
+            alloc,
+            tag,
+            reaction,
+            item_at(effects, place),
+            mine,
+            theirs,
+        )? {
+            told.push(contrast)?;
+        }
+    }
+    Ok(told)
+}
+
+/// Where two runs requested a stop, if one of them did not.
+pub(crate) fn stop_contrast(
+    tag: Tag,
+    reaction: u32,
+    mine: &[Placed],
+    theirs: &[Placed],
+) -> Option<Contrast>
+    ensures { MatchOption result (is_some (the_last_request mine.now) ≡ is_some (the_last_request theirs.now)) (TellsStop tag reaction mine.now theirs.now) }
+{
+    let first = last_request(mine);
+    let second = last_request(theirs);
+    if first.is_some() == second.is_some() {
+        return None;
+    }
+    Some(Contrast::Requested {
+        tag,
+        reaction,
+        first,
+        second,
+    })
+}

@@ -1,0 +1,66 @@
+//! The rows of one run.
+
+ghost use Rattle.std.specs.Prelude.{◌≡◌, ◌↔◌, ◌<◌, ◌≤◌, length, IfOk, IsTrue};
+ghost use Rattle.lft_model.specs.Runs.{Ran, step_of as the_step_of};
+ghost use Rattle.lft_contrast.specs.Runs.{placed_steps as the_placed_steps, StartsAt};
+
+use crate::contrasts::Placed;
+use lft_tag::{NoMemory, Tag};
+use lft_trace::{Row, Step, is_start, row_at};
+use std::alloc::Global;
+
+/// The step of the row, where it is of the reaction at the tag.
+fn step_of(row: Row, tag: Tag, reaction: u32) -> Option<Step>
+    ensures { result ≡ the_step_of tag reaction row }
+{
+    if tag.time == row.tag.time && tag.micro == row.tag.micro && reaction == row.reaction {
+        Some(row.step)
+    } else {
+        None
+    }
+}
+
+/// The steps of the reaction's run at the tag, in order, with the places of their rows.
+pub(crate) fn placed_steps(
+    alloc: Global,
+    rows: &[Row],
+    tag: Tag,
+    reaction: u32,
+) -> Result<Vec<Placed>, NoMemory>
+    requires few { length rows.now ≤ 4000000 }
+    ensures { IfOk result (λ steps. steps.items ≡ the_placed_steps rows.now tag reaction) }
+{
+    let mut steps = Vec::new(alloc);
+    for place in 0..rows.len() {
+        if let Some(step) = step_of(row_at(rows, place), tag, reaction) {
+            steps.push(Placed {
+                row: place as u32,
+                step,
+            })?;
+        }
+    }
+    Ok(steps)
+}
+
+/// Whether the row at the place starts the reaction's run at the tag.
+fn is_start_at(rows: &[Row], tag: Tag, reaction: u32, place: usize) -> bool
+    requires { place < length rows.now }
+    ensures { IsTrue result ↔ StartsAt rows.now tag reaction place }
+{
+    let row = row_at(rows, place);
+    is_start(&row.step) && row.tag.is_same(tag) && row.reaction == reaction
+}
+
+/// The place of the row that starts the reaction's run at the tag.
+pub(crate) fn start_of(rows: &[Row], tag: Tag, reaction: u32) -> u32
+    requires few { length rows.now ≤ 4000000 }
+    requires ran { Ran rows.now tag reaction }
+    ensures { StartsAt rows.now tag reaction result }
+{
+    for place in 0..rows.len() {
+        if is_start_at(rows, tag, reaction, place) {
+            return place as u32;
+        }
+    }
+    unreachable!()
+}
