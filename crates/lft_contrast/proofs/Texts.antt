@@ -3,7 +3,7 @@ use Rattle.std.proofs.Common.{◌≡◌, ℕ, zero, suc, ◌+◌, ◌-◌, ◌�
 use Rattle.lft_lists.proofs.Picked.{take_next}
 use Rattle.lft_tag.specs.declared.Tag.{Tag}
 use Rattle.lft_flat.specs.Parts.{Parts}
-use Rattle.lft_explain.proofs.Texts.{flat_next}
+use Rattle.lft_words.proofs.Steps.{flat_next}
 use Rattle.lft_contrast.specs.declared.contrasts.Contrast.{Contrast}
 use Rattle.lft_contrast.specs.Told.{widest, padded, contrast_words, heading_words, told_in}
 

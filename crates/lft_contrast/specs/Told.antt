@@ -4,8 +4,8 @@ use Rattle.lft_tag.specs.declared.Tag.{Tag}
 use Rattle.lft_flat.specs.Parts.{Parts}
 use Rattle.lft_flat.specs.declared.parts.Name.{Name}
 use Rattle.lft_flat.specs.declared.parts.Value.{Value}
-use Rattle.lft_explain.specs.Words.{tag_words, value_words, reaction_words, name_words}
-use Rattle.lft_explain.specs.Lines.{line_words}
+use Rattle.lft_words.specs.Words.{tag_words, value_words, reaction_words, name_words}
+use Rattle.lft_words.specs.Lines.{line_words}
 use Rattle.lft_contrast.specs.declared.contrasts.Contrast.{Contrast}
 use Rattle.lft_contrast.specs.declared.contrasts.Contrast.TheVariants as contrast
 use Rattle.lft_contrast.specs.Words.{instance_words, effect_words, first_words, second_words}

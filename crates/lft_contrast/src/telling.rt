@@ -6,10 +6,10 @@ ghost use Rattle.lft_contrast.specs.Told.{starts_words, read_words, earlier_word
 
 use crate::contrasts::{Contrast, Contrasts};
 use crate::table::{Widths, push_padded, push_row, widths_of};
-use lft_explain::{push_line, push_name, push_number, push_reaction, push_tag, push_value};
 use lft_flat::{Name, Program, Value};
 use lft_lists::item_at;
 use lft_tag::Tag;
+use lft_words::{push_line, push_name, push_number, push_reaction, push_tag, push_value};
 use std::alloc::{AllocError, Global};
 
 /// Puts where a run starts at the end of the text.

@@ -5,8 +5,8 @@ use Rattle.lft_flat.specs.Parts.{Parts}
 use Rattle.lft_trace.specs.declared.row.Row.{Row}
 use Rattle.lft_facts.specs.declared.facts.Cause.{Cause}
 use Rattle.lft_facts.specs.declared.facts.Cause.TheVariants as cause
-use Rattle.lft_explain.specs.Words.{time_words, tag_words, port_words, action_words, timer_words}
-use Rattle.lft_explain.specs.Lines.{line_words, tag_at, value_at}
+use Rattle.lft_words.specs.Words.{time_words, tag_words, port_words, action_words, timer_words}
+use Rattle.lft_words.specs.Lines.{line_words, tag_at, value_at}
 use Rattle.lft_explain.specs.Orders.{origin_of}
 use Rattle.lft_explain.specs.Ways.{delays_words}
 

@@ -8,8 +8,8 @@ use Rattle.lft_trace.specs.declared.row.Row.{Row}
 use Rattle.lft_model.specs.Runs.{inputs_of, effects_of}
 use Rattle.lft_facts.specs.declared.clues.Clue.{Clue}
 use Rattle.lft_facts.specs.declared.clues.Clue.TheVariants as clue
-use Rattle.lft_explain.specs.Words.{tag_words, port_words, reaction_words, name_words}
-use Rattle.lft_explain.specs.Lines.{line_words, tag_at, worker_at}
+use Rattle.lft_words.specs.Words.{tag_words, port_words, reaction_words, name_words}
+use Rattle.lft_words.specs.Lines.{line_words, tag_at, worker_at}
 use Rattle.lft_explain.specs.Rows.{run_words}
 
 -- `The stop is G, as the external inputs say.`

@@ -1,5 +1,3 @@
-pub mod Words
-pub mod Lines
 pub mod Orders
 pub mod Ways
 pub mod Causes

@@ -2,8 +2,8 @@
 use Rattle.std.specs.Prelude.{ℕ, List, ◌++◌, codes}
 use Rattle.lft_tag.specs.declared.Tag.{Tag}
 use Rattle.lft_flat.specs.Parts.{Parts}
-use Rattle.lft_explain.specs.Words.{tag_words, reaction_words}
-use Rattle.lft_explain.specs.Lines.{line_words}
+use Rattle.lft_words.specs.Words.{tag_words, reaction_words}
+use Rattle.lft_words.specs.Lines.{line_words}
 
 -- `X has no run in the trace.`
 abbrev pub never_words : Parts → ℕ → List ℕ

@@ -2,8 +2,8 @@
 use Rattle.std.specs.Prelude.{ℕ, List, ◌++◌, slice_get, unwrap_or, option_map, codes}
 use Rattle.lft_tag.specs.declared.Tag.{Tag}
 use Rattle.lft_flat.specs.Parts.{Parts}
-use Rattle.lft_explain.specs.Words.{tag_words, port_words, reaction_words}
-use Rattle.lft_explain.specs.Lines.{line_words}
+use Rattle.lft_words.specs.Words.{tag_words, port_words, reaction_words}
+use Rattle.lft_words.specs.Lines.{line_words}
 
 -- the origin of a port
 abbrev pub origin_of : Parts → ℕ → ℕ

@@ -6,7 +6,7 @@ use Rattle.lft_trace.specs.declared.row.Step.{Step}
 use Rattle.lft_trace.specs.declared.row.Step.TheVariants.{Start, Read, Write, Schedule, Stop, End}
 use Rattle.lft_facts.specs.declared.facts.RowFact.{RowFact}
 use Rattle.lft_facts.specs.declared.facts.RowFact.TheVariants as row_fact
-use Rattle.lft_explain.specs.Lines.{line_words, capital_line_words, tag_at, reaction_at, worker_at, name_at}
+use Rattle.lft_words.specs.Lines.{line_words, capital_line_words, tag_at, reaction_at, worker_at, name_at}
 
 -- `Line L is at G`
 abbrev pub line_is_words : List Row → ℕ → List ℕ

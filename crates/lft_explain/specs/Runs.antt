@@ -6,8 +6,8 @@ use Rattle.lft_flat.specs.declared.parts.Name.{Name}
 use Rattle.lft_flat.specs.declared.parts.Trigger.{Trigger}
 use Rattle.lft_flat.specs.declared.parts.Trigger.TheVariants.{Startup, Shutdown, Timer, On}
 use Rattle.lft_flat.specs.declared.parts.Value.{Value}
-use Rattle.lft_explain.specs.Words.{tag_words, value_words, timer_words, reaction_words, name_words, trigger_words}
-use Rattle.lft_explain.specs.Lines.{line_words}
+use Rattle.lft_words.specs.Words.{tag_words, value_words, timer_words, reaction_words, name_words, trigger_words}
+use Rattle.lft_words.specs.Lines.{line_words}
 
 -- `X is triggered at G and has no run there.`
 abbrev pub no_run_words : Parts → Tag → ℕ → List ℕ

@@ -7,7 +7,7 @@ use Rattle.lft_facts.specs.declared.facts.Cause.{Cause}
 use Rattle.lft_facts.specs.declared.facts.Cause.TheVariants as cause
 use Rattle.lft_facts.specs.declared.facts.Fact.{Fact}
 use Rattle.lft_facts.specs.declared.facts.Fact.TheVariants as fact
-use Rattle.lft_explain.specs.Words.{tag_words, port_words, action_words}
+use Rattle.lft_words.specs.Words.{tag_words, port_words, action_words}
 use Rattle.lft_explain.specs.Rows.{row_words}
 use Rattle.lft_explain.specs.Runs.{no_run_words, runs_words}
 use Rattle.lft_explain.specs.Orders.{early_words}

@@ -7,7 +7,7 @@ use Rattle.lft_trace.specs.declared.row.Row.{Row}
 use Rattle.lft_trace.specs.declared.row.Step.{Step}
 use Rattle.lft_trace.specs.declared.row.Step.TheVariants.{Start, Read, Write, Schedule, Stop, End}
 use Rattle.lft_facts.specs.declared.facts.Hop.{Hop}
-use Rattle.lft_explain.specs.Words.{time_words, tag_words, port_words}
+use Rattle.lft_words.specs.Words.{time_words, tag_words, port_words}
 
 -- the delay of the connection into a port, if it has one
 abbrev pub delay_into : Parts → ℕ → Option ℕ

@@ -3,14 +3,16 @@
 ghost use Rattle.std.specs.Prelude.{◌≡◌, ◌++◌, OnOk, string_bytes};
 ghost use Rattle.lft_explain.specs.Causes.{startup_words, shutdown_words, offset_of, period_of, periods_words, fires_words, gets_words, last_write_words, written_words, schedules_words, scheduled_words, given_words, cause_words};
 
-use crate::lines::{push_line, push_tag_at, push_value_at};
 use crate::orders::origin;
 use crate::ways::push_delays;
-use crate::words::{push_action, push_number, push_port, push_tag, push_time, push_timer};
 use lft_facts::Cause;
 use lft_flat::Program;
 use lft_tag::Tag;
 use lft_trace::Row;
+use lft_words::{
+    push_action, push_line, push_number, push_port, push_tag, push_tag_at, push_time, push_timer,
+    push_value_at,
+};
 use std::alloc::AllocError;
 
 /// Puts that startup is present at the end of the text.

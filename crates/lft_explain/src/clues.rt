@@ -4,14 +4,15 @@ ghost use Rattle.std.specs.Prelude.{◌≡◌, ◌++◌, OnOk, flat_map, string_
 ghost use Rattle.lft_model.specs.Runs.{inputs_of, effects_of};
 ghost use Rattle.lft_explain.specs.Clues.{given_stop_words, asked_stop_words, in_line_words, has_open_words, spaced, listed, inputs_words, effects_words, kind_words, named_kind_words, fed_words, ends_other_words, last_row_words, clue_words};
 
-use crate::lines::{push_line, push_tag_at, push_worker_at};
 use crate::rows::push_run;
-use crate::words::{push_name, push_port, push_reaction, push_tag};
 use lft_facts::Clue;
 use lft_flat::{Name, Program};
 use lft_lists::item_at;
 use lft_tag::{NoMemory, Tag};
 use lft_trace::Row;
+use lft_words::{
+    push_line, push_name, push_port, push_reaction, push_tag, push_tag_at, push_worker_at,
+};
 use std::alloc::{AllocError, Global};
 
 /// Puts that the external inputs say the stop at the end of the text.

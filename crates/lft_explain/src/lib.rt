@@ -4,7 +4,6 @@
 mod causes;
 mod clues;
 mod explaining;
-mod lines;
 mod neighbours;
 mod orders;
 mod rows;
@@ -12,11 +11,6 @@ mod runs;
 mod sentences;
 mod telling;
 mod ways;
-mod words;
 
 pub use explaining::explain;
-pub use lines::push_line;
 pub use telling::tell;
-pub use words::{
-    push_action, push_name, push_number, push_port, push_reaction, push_tag, push_time, push_value,
-};

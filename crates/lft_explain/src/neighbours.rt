@@ -3,10 +3,9 @@
 ghost use Rattle.std.specs.Prelude.{◌≡◌, ◌++◌, OnOk, string_bytes};
 ghost use Rattle.lft_explain.specs.Neighbours.{never_words, run_before_words, run_after_words, last_row_words};
 
-use crate::lines::push_line;
-use crate::words::{push_reaction, push_tag};
 use lft_flat::Program;
 use lft_tag::Tag;
+use lft_words::{push_line, push_reaction, push_tag};
 use std::alloc::AllocError;
 
 /// Puts that a reaction has no run at all at the end of the text.

@@ -3,10 +3,9 @@
 ghost use Rattle.std.specs.Prelude.{◌≡◌, ◌++◌, OnOk, string_bytes};
 ghost use Rattle.lft_explain.specs.Orders.{origin_of, early_words, precedes_words, declared_words, feeds_words};
 
-use crate::lines::push_line;
-use crate::words::{push_port, push_reaction, push_tag};
 use lft_flat::Program;
 use lft_tag::Tag;
+use lft_words::{push_line, push_port, push_reaction, push_tag};
 use std::alloc::AllocError;
 
 /// The origin of the port; a number that is of no port is its own.

@@ -3,12 +3,12 @@
 ghost use Rattle.std.specs.Prelude.{◌≡◌, ◌++◌, OnOk, string_bytes};
 ghost use Rattle.lft_explain.specs.Rows.{line_is_words, late_words, after_stop_words, again_words, run_words, starts_words, busy_words, not_open_words, verb as the_verb, verb_at, does_words, done_words, unended_words, row_words};
 
-use crate::lines::{
-    push_capital_line, push_line, push_name_at, push_reaction_at, push_tag_at, push_worker_at,
-};
 use lft_facts::RowFact;
 use lft_flat::Program;
 use lft_trace::{Row, Step, row_at};
+use lft_words::{
+    push_capital_line, push_line, push_name_at, push_reaction_at, push_tag_at, push_worker_at,
+};
 use std::alloc::AllocError;
 
 /// Puts the line and the tag of a row at the end of the text.

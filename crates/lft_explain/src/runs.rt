@@ -3,12 +3,12 @@
 ghost use Rattle.std.specs.Prelude.{◌≡◌, ◌++◌, OnOk, string_bytes};
 ghost use Rattle.lft_explain.specs.Runs.{no_run_words, runs_words, trigger_of_words, count_words, absent_words, reads_words};
 
-use crate::lines::push_line;
-use crate::words::{
-    push_name, push_number, push_reaction, push_tag, push_timer, push_trigger, push_value,
-};
 use lft_flat::{Name, Program, Trigger, Value};
 use lft_tag::Tag;
+use lft_words::{
+    push_line, push_name, push_number, push_reaction, push_tag, push_timer, push_trigger,
+    push_value,
+};
 use std::alloc::AllocError;
 
 /// Puts that a reaction has no run at the end of the text.

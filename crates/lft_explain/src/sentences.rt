@@ -6,12 +6,12 @@ ghost use Rattle.lft_explain.specs.Sentences.{more_words, port_more_words, actio
 use crate::orders::push_early;
 use crate::rows::push_row_fact;
 use crate::runs::{push_no_run, push_runs};
-use crate::words::{push_action, push_port, push_tag};
 use lft_facts::{Cause, Fact};
 use lft_flat::Program;
 use lft_lists::item_at;
 use lft_tag::Tag;
 use lft_trace::Row;
+use lft_words::{push_action, push_port, push_tag};
 use std::alloc::{AllocError, Global};
 
 /// Puts that something has more than one event at the end of the text.

@@ -3,11 +3,11 @@
 ghost use Rattle.std.specs.Prelude.{◌≡◌, ◌++◌, OnOk, string_bytes};
 ghost use Rattle.lft_explain.specs.Ways.{delay_into as the_delay_into, arrow_words, hop_words, least_delay as the_least_delay, extra_of as the_extra_of, extra_at as the_extra_at, delays_words, side_words, nearest_words};
 
-use crate::words::{push_port, push_tag, push_time};
 use lft_facts::Hop;
 use lft_flat::Program;
 use lft_tag::Tag;
 use lft_trace::{Row, Step, row_at};
+use lft_words::{push_port, push_tag, push_time};
 use std::alloc::AllocError;
 
 /// The delay of the connection into the port, if there is one that has one.

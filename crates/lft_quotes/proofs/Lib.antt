@@ -1,4 +1,3 @@
-pub mod Steps
 mod Placed
 mod Joined
 mod Lines

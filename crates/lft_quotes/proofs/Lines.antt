@@ -6,7 +6,7 @@ use Rattle.lft_trace.specs.declared.row.Row.{Row}
 use Rattle.lft_quotes.specs.declared.marks.Quote.{Quote}
 use Rattle.lft_quotes.specs.declared.quoting.Widths.{Widths}
 use Rattle.lft_quotes.specs.Quoted.{quote_words, gap_words, lines}
-use Rattle.lft_quotes.proofs.Steps.{drop_next}
+use Rattle.lft_words.proofs.Steps.{drop_next}
 
 -- one more piece behind a text
 pub also : (s0 s1 s2 a b : List ℕ) → s1 ≡ s0 ++ a → s2 ≡ s1 ++ b → s2 ≡ s0 ++ (a ++ b)

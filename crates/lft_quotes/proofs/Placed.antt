@@ -5,7 +5,7 @@ use Rattle.std.proofs.lemmas.Bool.Decides.{nat_tests}
 use Rattle.lft_lists.proofs.Picked.{take_next}
 use Rattle.lft_quotes.specs.declared.marks.Quote.{Quote}
 use Rattle.lft_quotes.specs.Picked.{inserted}
-use Rattle.lft_quotes.proofs.Steps.{drop_next}
+use Rattle.lft_words.proofs.Steps.{drop_next}
 
 pub inserted_before : (q x : Quote) (xs : List Quote) → q.row < x.row → inserted (x ∷ xs) q ≡ q ∷ x ∷ xs
 inserted_before q x xs l = grind (arith, nat_tests)

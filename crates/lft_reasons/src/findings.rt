@@ -1,11 +1,11 @@
 //! What is said of a finding in one member of a reactor.
 
-use crate::places::Spot;
 use crate::reason::Reason;
 use crate::refused::{Refused, Site};
 use crate::unknown::instance_of;
 use crate::words::{kind_words, port_words, reactor_words, role_way, role_words};
 use itoa::Buffer;
+use lft_places::Spot;
 use lft_scope::kinds::{Kind, Role};
 use lft_tag::NoMemory;
 use lft_tree::{Connection, Member, Reference, TimeExpression};

@@ -1,7 +1,6 @@
 //! A program that has a tree and is refused, and where the parts of its tree stand in its text.
 
-use crate::places::Spot;
-use crate::source::Source;
+use lft_places::{Source, Spot};
 use lft_tree::{Ast, Member, Reactor};
 use lft_witnesses::declared_name;
 use std::alloc::Global;

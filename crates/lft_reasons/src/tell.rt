@@ -1,9 +1,8 @@
 //! Why a program with a tree is refused, for people.
 
-use crate::places::Spot;
 use crate::reason::Reason;
 use crate::refused::Refused;
-use crate::source::Source;
+use lft_places::{Source, Spot};
 use lft_refusals::{place_of, push_line, push_place};
 use lft_scope::members;
 use lft_syntax::{LexFault, SyntaxFault, Tokens, lex, parse};

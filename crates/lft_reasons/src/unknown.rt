@@ -1,9 +1,9 @@
 //! What is said of names that are nothing.
 
-use crate::places::Spot;
 use crate::reason::Reason;
 use crate::refused::{Refused, Site};
 use crate::words::reactor_words;
+use lft_places::Spot;
 use lft_scope::names::Declared;
 use lft_tag::NoMemory;
 use lft_tree::{Instance, Member, Reference};

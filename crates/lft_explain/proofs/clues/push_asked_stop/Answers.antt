@@ -1,6 +1,6 @@
 use Rattle.std.proofs.Common.{◌++◌, codes}
-use Rattle.lft_explain.specs.Lines.{line_words, tag_at}
-use Rattle.lft_explain.specs.Words.{tag_words}
+use Rattle.lft_words.specs.Lines.{line_words, tag_at}
+use Rattle.lft_words.specs.Words.{tag_words}
 use Rattle.lft_explain.proofs.Texts.{also}
 use Rattle.lft_explain.proofs.clues.push_asked_stop.Goals as goal
 

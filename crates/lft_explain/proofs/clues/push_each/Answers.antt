@@ -1,7 +1,7 @@
 use Rattle.std.proofs.Common.{string_bytes, append_assoc, arith, ap, ◌∙◌}
 use Rattle.lft_explain.specs.Clues.{spaced}
 use Rattle.lft_explain.proofs.Texts.{also}
-use Rattle.lft_quotes.proofs.Steps.{said_more, said_all}
+use Rattle.lft_words.proofs.Steps.{said_more, said_all}
 use Rattle.lft_explain.proofs.clues.push_each.Goals as goal
 
 pub loop-place-preserved : goal.loop-place-preserved

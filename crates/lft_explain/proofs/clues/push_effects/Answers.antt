@@ -1,7 +1,7 @@
 use Rattle.std.proofs.Common.{◌++◌, codes}
 use Rattle.lft_model.specs.Runs.{effects_of}
 use Rattle.lft_explain.specs.Clues.{listed}
-use Rattle.lft_explain.specs.Words.{reaction_words}
+use Rattle.lft_words.specs.Words.{reaction_words}
 use Rattle.lft_explain.proofs.Texts.{also}
 use Rattle.lft_explain.proofs.clues.push_effects.Goals as goal
 

@@ -1,5 +1,5 @@
 use Rattle.std.proofs.Common.{◌++◌, codes}
-use Rattle.lft_explain.specs.Words.{port_words}
+use Rattle.lft_words.specs.Words.{port_words}
 use Rattle.lft_explain.proofs.Texts.{also}
 use Rattle.lft_explain.proofs.clues.push_fed.Goals as goal
 

@@ -1,6 +1,6 @@
 use Rattle.std.proofs.Common.{codes}
-use Rattle.lft_explain.specs.Words.{tag_words}
-use Rattle.lft_explain.specs.Lines.{line_words}
+use Rattle.lft_words.specs.Words.{tag_words}
+use Rattle.lft_words.specs.Lines.{line_words}
 use Rattle.lft_explain.proofs.Texts.{five}
 use Rattle.lft_explain.proofs.neighbours.push_run_after.Goals as goal
 

@@ -1,6 +1,6 @@
 use Rattle.std.proofs.Common.{◌≡◌, ◌++◌, codes, string_bytes, sym, subst}
 use Rattle.lft_flat.specs.declared.parts.Trigger.{Trigger}
-use Rattle.lft_explain.specs.Words.{tag_words, timer_words}
+use Rattle.lft_words.specs.Words.{tag_words, timer_words}
 use Rattle.lft_explain.specs.Runs.{absent_words}
 use Rattle.lft_explain.proofs.Texts.{five}
 use Rattle.lft_explain.proofs.runs.push_absent.Goals as goal

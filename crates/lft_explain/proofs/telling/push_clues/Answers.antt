@@ -1,6 +1,6 @@
 use Rattle.std.proofs.Common.{string_bytes, arith}
 use Rattle.lft_explain.specs.Clues.{clue_words}
-use Rattle.lft_quotes.proofs.Steps.{said_more, said_all}
+use Rattle.lft_words.proofs.Steps.{said_more, said_all}
 use Rattle.lft_explain.proofs.telling.push_clues.Goals as goal
 
 pub loop-place-preserved : goal.loop-place-preserved

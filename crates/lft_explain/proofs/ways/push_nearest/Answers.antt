@@ -1,5 +1,5 @@
 use Rattle.std.proofs.Common.{codes}
-use Rattle.lft_explain.specs.Words.{tag_words}
+use Rattle.lft_words.specs.Words.{tag_words}
 use Rattle.lft_explain.specs.Ways.{side_words}
 use Rattle.lft_explain.proofs.Texts.{five}
 use Rattle.lft_explain.proofs.ways.push_nearest.Goals as goal

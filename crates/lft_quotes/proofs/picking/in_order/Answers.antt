@@ -1,6 +1,6 @@
 use Rattle.std.proofs.Common.{[]}
 use Rattle.lft_quotes.specs.Picked.{inserted}
-use Rattle.lft_quotes.proofs.Steps.{fold_more}
+use Rattle.lft_words.proofs.Steps.{fold_more}
 use Rattle.lft_quotes.proofs.picking.in_order.Goals as goal
 
 pub loop-place-preserved : goal.loop-place-preserved

@@ -1,6 +1,6 @@
 use Rattle.std.proofs.Common.{[]}
 use Rattle.lft_quotes.specs.Marks.{names}
-use Rattle.lft_quotes.proofs.Steps.{said_more}
+use Rattle.lft_words.proofs.Steps.{said_more}
 use Rattle.lft_quotes.proofs.picking.named.Goals as goal
 
 pub loop-place-preserved : goal.loop-place-preserved

@@ -1,6 +1,6 @@
 use Rattle.std.proofs.Common.{append-nil, sym, arith}
 use Rattle.lft_quotes.specs.Marks.{clue_names}
-use Rattle.lft_quotes.proofs.Steps.{said_more, said_all}
+use Rattle.lft_words.proofs.Steps.{said_more, said_all}
 use Rattle.lft_quotes.proofs.picking.push_clues.Goals as goal
 
 pub loop-place-preserved : goal.loop-place-preserved

@@ -1,5 +1,5 @@
 use Rattle.lft_quotes.specs.Quoted.{widened}
-use Rattle.lft_quotes.proofs.Steps.{fold_more}
+use Rattle.lft_words.proofs.Steps.{fold_more}
 use Rattle.lft_quotes.proofs.quoting.greatest.Goals as goal
 
 pub loop-place-preserved : goal.loop-place-preserved

@@ -2,7 +2,7 @@
 
 ghost use Rattle.std.specs.Prelude.{◌≡◌, ◌++◌, OnOk, decimal, string_bytes};
 ghost use Rattle.std.specs.Fmt.{signed_decimal};
-ghost use Rattle.lft_explain.specs.Words.{time_words, tag_words, value_words, port_words, action_words, timer_words, reaction_words, name_words, trigger_words};
+ghost use Rattle.lft_words.specs.Words.{time_words, tag_words, value_words, port_words, action_words, timer_words, reaction_words, name_words, trigger_words};
 
 use itoa::Buffer;
 use lft_flat::{Name, Program, Trigger, Value};
@@ -93,11 +93,7 @@ pub fn push_action(text: &mut String, program: &Program, number: u32) -> Result<
 }
 
 /// Puts the name of a timer at the end of the text.
-pub(crate) fn push_timer(
-    text: &mut String,
-    program: &Program,
-    number: u32,
-) -> Result<(), AllocError>
+pub fn push_timer(text: &mut String, program: &Program, number: u32) -> Result<(), AllocError>
     ensures { OnOk result (string_bytes text.new ≡ string_bytes text.old ++ timer_words program.now number) }
 {
     if (number as usize) < program.timers() {
@@ -127,7 +123,7 @@ pub fn push_name(text: &mut String, program: &Program, name: Name) -> Result<(),
 }
 
 /// Puts a trigger at the end of the text.
-pub(crate) fn push_trigger(
+pub fn push_trigger(
     text: &mut String,
     program: &Program,
     trigger: Trigger,

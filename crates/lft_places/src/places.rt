@@ -11,14 +11,14 @@ use lft_tree::{Ast, Connection, Item, Member, Reactor, Reference, TimeExpression
 
 /// Bytes of a text, from the start up to the end.
 #[derive(Clone, Copy)]
-pub(crate) struct Spot {
+pub struct Spot {
     pub start: usize,
     pub end: usize,
 }
 
 impl<'a> Source<'a> {
     /// The bytes of the token, if it spells the name.
-    pub(crate) fn name_spot(&self, at: usize, name: &str) -> Option<Spot>
+    pub fn name_spot(&self, at: usize, name: &str) -> Option<Spot>
         ensures { IfSome result (λ s. slice_range self.now.text.now s.start s.end ≡ name.now) }
     {
         if at >= self.tokens.len() {
@@ -35,7 +35,7 @@ impl<'a> Source<'a> {
     }
 
     /// The bytes of so many tokens from that one on.
-    pub(crate) fn spot(&self, at: usize, count: usize) -> Option<Spot> {
+    pub fn spot(&self, at: usize, count: usize) -> Option<Spot> {
         let last = at.saturating_add(count.saturating_sub(1));
         if at >= self.tokens.len() || last >= self.tokens.len() {
             return None;
@@ -47,7 +47,7 @@ impl<'a> Source<'a> {
     }
 
     /// The bytes of a name, of which that is the first token.
-    pub(crate) fn reference_spot(&self, at: usize, name: &Reference) -> Option<Spot> {
+    pub fn reference_spot(&self, at: usize, name: &Reference) -> Option<Spot> {
         match &name.port {
             None => self.name_spot(at, name.head.as_str()),
             Some(_) => self.spot(at, 3),
@@ -55,7 +55,7 @@ impl<'a> Source<'a> {
     }
 
     /// The bytes of a time, of which that is the first token.
-    pub(crate) fn time_spot(&self, at: usize, time: &TimeExpression) -> Option<Spot> {
+    pub fn time_spot(&self, at: usize, time: &TimeExpression) -> Option<Spot> {
         match time {
             TimeExpression::Parameter(name) => self.name_spot(at, name.as_str()),
             TimeExpression::Written(_) => self.spot(at, 2),
@@ -78,7 +78,7 @@ impl<'a> Source<'a> {
     }
 
     /// The token of the name that the member declares, or its first one.
-    pub(crate) fn declared(&self, member: &Member, start: usize) -> usize {
+    pub fn declared(&self, member: &Member, start: usize) -> usize {
         match member {
             Member::Port(_) if self.is_word(start, b"mutable") => start.saturating_add(2),
             Member::Port(_) | Member::Timer(_) => start.saturating_add(1),
@@ -104,7 +104,7 @@ impl<'a> Source<'a> {
     }
 
     /// The token of a reactor's name, or its first one.
-    pub(crate) fn reactor_name(&self, reactor: &Reactor, start: usize) -> usize {
+    pub fn reactor_name(&self, reactor: &Reactor, start: usize) -> usize {
         match &reactor.name {
             Some(_) if reactor.is_main => start.saturating_add(2),
             Some(_) => start.saturating_add(1),
@@ -121,7 +121,7 @@ impl<'a> Source<'a> {
     }
 
     /// The first token of the member with that place in the reactor, or of what is behind all of them.
-    pub(crate) fn member_start(&self, reactor: &Reactor, start: usize, place: usize) -> usize {
+    pub fn member_start(&self, reactor: &Reactor, start: usize, place: usize) -> usize {
         let body = self.group_end(self.head_end(reactor, start));
         let mut at = body.saturating_add(1);
         for before in 0..reactor.members.len() {
@@ -134,7 +134,7 @@ impl<'a> Source<'a> {
     }
 
     /// The first token of the reactor with that place in the file.
-    pub(crate) fn reactor_start(&self, ast: &Ast, place: usize) -> usize {
+    pub fn reactor_start(&self, ast: &Ast, place: usize) -> usize {
         let mut at = match ast.target {
             Some(range) => range.end,
             None => 0,
@@ -181,13 +181,7 @@ impl<'a> Source<'a> {
     }
 
     /// The first token of a name of the member that begins there, by its role and place.
-    pub(crate) fn name(
-        &self,
-        member: &Member,
-        start: usize,
-        role: Role,
-        place: usize,
-    ) -> Option<usize> {
+    pub fn name(&self, member: &Member, start: usize, role: Role, place: usize) -> Option<usize> {
         let code = self.code_from(start);
         let arrow = self.arrow_from(start);
         match (member, role) {
@@ -214,7 +208,7 @@ impl<'a> Source<'a> {
     }
 
     /// The first token of a value of the instance that begins there: that of the parameter's name.
-    pub(crate) fn value(&self, start: usize, place: usize) -> Option<usize> {
+    pub fn value(&self, start: usize, place: usize) -> Option<usize> {
         let open = start.saturating_add(4);
         let mut before: usize = 0;
         for at in open..self.group_end(open) {
@@ -231,7 +225,7 @@ impl<'a> Source<'a> {
     }
 
     /// The first token of a time of the member that begins there.
-    pub(crate) fn time(&self, member: &Member, start: usize, place: usize) -> Option<usize> {
+    pub fn time(&self, member: &Member, start: usize, place: usize) -> Option<usize> {
         match member {
             Member::Timer(_) if place == 0 => Some(start.saturating_add(3)),
             Member::Timer(_) => self.behind_comma(start),
@@ -253,7 +247,7 @@ impl<'a> Source<'a> {
     }
 
     /// The token of a parameter's name in the reactor that begins there.
-    pub(crate) fn parameter(&self, reactor: &Reactor, start: usize, place: usize) -> Option<usize> {
+    pub fn parameter(&self, reactor: &Reactor, start: usize, place: usize) -> Option<usize> {
         let open = self.head_end(reactor, start);
         let mut before: usize = 0;
         for at in open..self.group_end(open) {

@@ -8,7 +8,7 @@ use lft_syntax::{Token, TokenKind};
 
 /// A program's text with its tokens.
 #[derive(Clone, Copy)]
-pub(crate) struct Source<'a> {
+pub struct Source<'a> {
     pub text: &'a [u8],
     pub tokens: &'a [Token],
 }
@@ -55,7 +55,7 @@ impl<'a> Source<'a> {
     }
 
     /// Whether the token is code.
-    pub(crate) fn is_code(&self, at: usize) -> bool {
+    pub fn is_code(&self, at: usize) -> bool {
         self.kind(at) == Some(TokenKind::Code)
     }
 
@@ -76,7 +76,7 @@ impl<'a> Source<'a> {
     }
 
     /// Whether the bytes stand in the token.
-    pub(crate) fn has(&self, at: usize, bytes: &[u8]) -> bool {
+    pub fn has(&self, at: usize, bytes: &[u8]) -> bool {
         if at >= self.tokens.len() {
             return false;
         }
@@ -141,7 +141,7 @@ impl<'a> Source<'a> {
     }
 
     /// The first arrow at or behind the token, else the number of tokens.
-    pub(crate) fn arrow_from(&self, start: usize) -> usize {
+    pub fn arrow_from(&self, start: usize) -> usize {
         for at in start..self.tokens.len() {
             if self.is_arrow(at) {
                 return at;

@@ -5,7 +5,7 @@ use Rattle.lft_flat.specs.declared.parts.Value.{Value}
 use Rattle.lft_trace.specs.declared.row.Row.{Row}
 use Rattle.lft_trace.specs.declared.row.Step.{Step}
 use Rattle.lft_trace.specs.declared.row.Step.TheVariants.{Start, Read, Write, Schedule, Stop, End}
-use Rattle.lft_explain.specs.Words.{tag_words, value_words, reaction_words, name_words}
+use Rattle.lft_words.specs.Words.{tag_words, value_words, reaction_words, name_words}
 
 -- the line of the table in which the row at a place stands: line 1 is the header
 abbrev pub line_words : ℕ → List ℕ

@@ -1,7 +1,7 @@
 //! Words of rows: their line, their tag and their value.
 
 ghost use Rattle.std.specs.Prelude.{◌≡◌, ◌+◌, ◌++◌, OnOk, decimal, string_bytes};
-ghost use Rattle.lft_explain.specs.Lines.{line_words, capital_line_words, tag_at, value_of as the_value_of, value_at, reaction_at, worker_at, name_of, name_at};
+ghost use Rattle.lft_words.specs.Lines.{line_words, capital_line_words, tag_at, value_of as the_value_of, value_at, reaction_at, worker_at, name_of, name_at};
 
 use crate::words::{push_name, push_number, push_reaction, push_tag, push_value};
 use lft_flat::{Program, Value};
@@ -24,7 +24,7 @@ pub fn push_line(text: &mut String, place: u32) -> Result<(), AllocError>
 }
 
 /// Puts the line of the row at the place, at the head of a sentence, at the end of the text.
-pub(crate) fn push_capital_line(text: &mut String, place: u32) -> Result<(), AllocError>
+pub fn push_capital_line(text: &mut String, place: u32) -> Result<(), AllocError>
     ensures { OnOk result (string_bytes text.new ≡ string_bytes text.old ++ capital_line_words place) }
 {
     text.push_str("Line ")?;
@@ -42,7 +42,7 @@ fn value_of(step: Step) -> Option<Value>
 }
 
 /// Puts the value of the row at the place at the end of the text.
-pub(crate) fn push_value_at(text: &mut String, rows: &[Row], place: u32) -> Result<(), AllocError>
+pub fn push_value_at(text: &mut String, rows: &[Row], place: u32) -> Result<(), AllocError>
     ensures { OnOk result (string_bytes text.new ≡ string_bytes text.old ++ value_at rows.now place) }
 {
     if (place as usize) < rows.len() {
@@ -52,7 +52,7 @@ pub(crate) fn push_value_at(text: &mut String, rows: &[Row], place: u32) -> Resu
 }
 
 /// Puts the tag of the row at the place at the end of the text.
-pub(crate) fn push_tag_at(text: &mut String, rows: &[Row], place: u32) -> Result<(), AllocError>
+pub fn push_tag_at(text: &mut String, rows: &[Row], place: u32) -> Result<(), AllocError>
     ensures { OnOk result (string_bytes text.new ≡ string_bytes text.old ++ tag_at rows.now place) }
 {
     if (place as usize) < rows.len() {
@@ -62,7 +62,7 @@ pub(crate) fn push_tag_at(text: &mut String, rows: &[Row], place: u32) -> Result
 }
 
 /// Puts the reaction of the row at the place at the end of the text.
-pub(crate) fn push_reaction_at(
+pub fn push_reaction_at(
     text: &mut String,
     program: &Program,
     rows: &[Row],
@@ -77,7 +77,7 @@ pub(crate) fn push_reaction_at(
 }
 
 /// Puts the worker of the row at the place at the end of the text.
-pub(crate) fn push_worker_at(text: &mut String, rows: &[Row], place: u32) -> Result<(), AllocError>
+pub fn push_worker_at(text: &mut String, rows: &[Row], place: u32) -> Result<(), AllocError>
     ensures { OnOk result (string_bytes text.new ≡ string_bytes text.old ++ worker_at rows.now place) }
 {
     if (place as usize) < rows.len() {
@@ -99,7 +99,7 @@ fn push_name_of(text: &mut String, program: &Program, step: Step) -> Result<(), 
 }
 
 /// Puts the name in the row at the place at the end of the text.
-pub(crate) fn push_name_at(
+pub fn push_name_at(
     text: &mut String,
     program: &Program,
     rows: &[Row],
