@@ -34,7 +34,7 @@ fn of_tables(
     alloc: Global,
     program: &Program,
     externals: &[u8],
-    traces: &[(&[u8], &str)],
+    traces: &[(&[u8], &'static str)],
 ) -> Result<Option<String>, NoMemory> {
     if let Err(fault) = read_externals(alloc, program, externals) {
         return Ok(Some(tell_externals(alloc, program, externals, fault)?));
@@ -57,7 +57,7 @@ fn of_texts(
     alloc: Global,
     program: &[u8],
     externals: &[u8],
-    traces: &[(&[u8], &str)],
+    traces: &[(&[u8], &'static str)],
 ) -> Result<Option<String>, NoMemory> {
     let told = tell_program(alloc, program)?;
     if told.is_some() {
