@@ -121,7 +121,7 @@ pub fn hint_of(plan: &Plan, rows: &Rows, breach: Breach) -> Option<Hint>
         } else {
             None
         },
-        (7, _) => if all_before(all, breach.tag) {
+        (7, _) => if !all.is_empty() && all_before(all, breach.tag) {
             Some(Hint::TraceEnds)
         } else {
             None

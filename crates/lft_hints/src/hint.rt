@@ -32,7 +32,7 @@ pub enum Hint {
 fn tell_whole_delay(alloc: Global, row: u32) -> Result<String, AllocError>
     ensures { IfOk result (λ text. string_bytes text ≡ hint_words (WholeDelay row)) }
 {
-    let mut text = String::from_str(alloc, "  A guess: line ")?;
+    let mut text = String::from_str(alloc, "\n  A guess: line ")?;
     let mut buffer = Buffer::new();
     text.push_str(buffer.format(u64::from(row) + 2))?;
     text.push_str(
@@ -47,23 +47,23 @@ pub fn tell_hint(alloc: Global, hint: Hint) -> Result<String, AllocError>
 {
     let words = match hint {
         Hint::FirstOfWorker => {
-            "  A guess: that is the first row of its worker. Were the rows of workers put one after another? They stand in the order in which they happened.\n"
+            "\n  A guess: that is the first row of its worker. Were the rows of workers put one after another? They stand in the order in which they happened.\n"
         }
         Hint::FirstRow => {
-            "  A guess: that is the first row. Were the rows sorted? They stand in the order in which they happened.\n"
+            "\n  A guess: that is the first row. Were the rows sorted? They stand in the order in which they happened.\n"
         }
         Hint::TraceEnds => {
-            "  A guess: no row is so late. If the execution ended before, the stop of the external inputs is too late.\n"
+            "\n  A guess: no row is so late. If the execution ended before, the stop of the external inputs is too late.\n"
         }
         Hint::Thousandfold => {
-            "  A guess: at a thousand times that time it is triggered. Are the times in microseconds? They are wanted in nanoseconds.\n"
+            "\n  A guess: at a thousand times that time it is triggered. Are the times in microseconds? They are wanted in nanoseconds.\n"
         }
         Hint::WholeDelay { row } => return tell_whole_delay(alloc, row),
         Hint::RunsAtStop => {
-            "  A guess: it is triggered by shutdown. Is the stop of the external inputs the tag at which the execution ended?\n"
+            "\n  A guess: it is triggered by shutdown. Is the stop of the external inputs the tag at which the execution ended?\n"
         }
-        Hint::NoWrites => "  A guess: no row of the trace writes. Are writes recorded?\n",
-        Hint::NoReads => "  A guess: no row of the trace reads. Are reads recorded?\n",
+        Hint::NoWrites => "\n  A guess: no row of the trace writes. Are writes recorded?\n",
+        Hint::NoReads => "\n  A guess: no row of the trace reads. Are reads recorded?\n",
     };
     String::from_str(alloc, words)
 }

@@ -218,6 +218,25 @@ fn await_bundle(rt: &HostRuntime) {
     }
 }
 
+/// Whether `explain` tells more than the line of the answer: of a broken rule, a difference, or a text that
+/// is refused.
+fn has_more(answer: &Result<bool, Fault>) -> bool {
+    match answer {
+        Ok(is_right) => !*is_right,
+        Err(fault) => matches!(
+            fault.part,
+            Part::Lex | Part::Syntax | Part::Program | Part::Graph | Part::Externals | Part::Trace
+        ),
+    }
+}
+
+/// Says at a terminal that `explain` tells why.
+fn point_to_explain(rt: &HostRuntime) {
+    if rt.stderr().is_terminal() {
+        let _ = eprintln!(rt; "lftrace: `lftrace explain` with the same texts tells why");
+    }
+}
+
 /// The status of the answer. The line of a fault goes out in one write, where there is memory to put
 /// it together: other processes may write to the same standard error.
 fn end(rt: &HostRuntime, alloc: Global, answer: Result<bool, Fault>) -> u8 {
@@ -228,6 +247,31 @@ fn end(rt: &HostRuntime, alloc: Global, answer: Result<bool, Fault>) -> u8 {
             status
         }
         Err(_) => finish(answer, &mut rt.stderr()),
+    }
+}
+
+/// The answer of the command. Its text is written.
+fn answer_of<W: Write>(
+    rt: &HostRuntime,
+    alloc: Global,
+    job: Job<'_>,
+    out: &mut W,
+) -> Result<bool, Fault> {
+    match job {
+        Job::Bundle => {
+            await_bundle(rt);
+            judge_bundle(alloc, &mut rt.stdin(), out)
+        }
+        Job::Judge(words) => judge_files(rt, alloc, words, out),
+        Job::Explain(words) => explain_files(rt, alloc, words, out),
+        Job::ExplainBundle => {
+            await_bundle(rt);
+            explain_bundle(rt, alloc, &mut rt.stdin(), out)
+        }
+        Job::ExplainPair(words) => explain_pair_files(rt, alloc, words, out),
+        Job::Pair(words) => pair_files(rt, alloc, words, out),
+        Job::Record(words) => record_files(rt, alloc, words, out),
+        Job::Show(path) => show_file(rt, alloc, path, out),
     }
 }
 
@@ -255,21 +299,12 @@ fn main(rt: HostRuntime) -> ExitCode {
         }
     };
     let mut out = io::writer(&rt);
-    let answer = match job {
-        Job::Bundle => {
-            await_bundle(&rt);
-            judge_bundle(alloc, &mut rt.stdin(), &mut out)
-        }
-        Job::Judge(words) => judge_files(&rt, alloc, words, &mut out),
-        Job::Explain(words) => explain_files(&rt, alloc, words, &mut out),
-        Job::ExplainBundle => {
-            await_bundle(&rt);
-            explain_bundle(&rt, alloc, &mut rt.stdin(), &mut out)
-        }
-        Job::ExplainPair(words) => explain_pair_files(&rt, alloc, words, &mut out),
-        Job::Pair(words) => pair_files(&rt, alloc, words, &mut out),
-        Job::Record(words) => record_files(&rt, alloc, words, &mut out),
-        Job::Show(path) => show_file(&rt, alloc, path, &mut out),
-    };
-    ExitCode::from(end(&rt, alloc, answer))
+    let answer = answer_of(&rt, alloc, job, &mut out);
+    let is_judged = matches!(job, Job::Bundle | Job::Judge(_) | Job::Pair(_));
+    let is_pointed = is_judged && has_more(&answer);
+    let status = end(&rt, alloc, answer);
+    if is_pointed {
+        point_to_explain(&rt);
+    }
+    ExitCode::from(status)
 }
