@@ -32,7 +32,7 @@ fact_words program t (fact.RowIs g r i) = []
 fact_words program t (fact.Row f) = []
 fact_words program t (fact.Cause c) = cause_words program t c
 fact_words program t (fact.Hop hop) = hop_words program hop
-fact_words program t (fact.Nearest g x h) = nearest_words g h
+fact_words program t (fact.Nearest g x h) = nearest_words program x g h
 fact_words program t (fact.Reads g r k n read present) = reads_words program n read present
 
 -- what the facts say beside what is wrong, one after another

@@ -3,11 +3,12 @@ use Rattle.std.specs.Prelude.{ℕ, List, ◌++◌, Option, Some, None, slice_get
 use Rattle.lft_tag.specs.declared.Tag.{Tag}
 use Rattle.lft_flat.specs.Parts.{Parts}
 use Rattle.lft_flat.specs.declared.parts.Port.{Port as PortOf}
+use Rattle.lft_flat.specs.declared.parts.Trigger.{Trigger}
 use Rattle.lft_trace.specs.declared.row.Row.{Row}
 use Rattle.lft_trace.specs.declared.row.Step.{Step}
 use Rattle.lft_trace.specs.declared.row.Step.TheVariants.{Start, Read, Write, Schedule, Stop, End}
 use Rattle.lft_facts.specs.declared.facts.Hop.{Hop}
-use Rattle.lft_words.specs.Words.{time_words, tag_words, port_words}
+use Rattle.lft_words.specs.Words.{time_words, tag_words, port_words, trigger_words}
 
 -- the delay of the connection into a port, if it has one
 abbrev pub delay_into : Parts → ℕ → Option ℕ
@@ -51,6 +52,10 @@ side_words g h =
     else if nat_lt h.micro g.micro then codes "before"
     else codes "after"
 
--- `The nearest before it is at H.`
-abbrev pub nearest_words : Tag → Tag → List ℕ
-nearest_words g h = codes "    The nearest " ++ side_words g h ++ codes " it is at " ++ tag_words h ++ codes ".\n"
+-- `The nearest event of X `
+abbrev pub nearest_of : Parts → Trigger → List ℕ
+nearest_of program x = codes "    The nearest event of " ++ trigger_words program x ++ codes " "
+
+-- `The nearest event of X before it is at H.`
+abbrev pub nearest_words : Parts → Trigger → Tag → Tag → List ℕ
+nearest_words program x g h = nearest_of program x ++ side_words g h ++ codes " it is at " ++ tag_words h ++ codes ".\n"

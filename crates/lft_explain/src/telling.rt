@@ -33,7 +33,7 @@ fn push_fact(
         Fact::RowIs { .. } | Fact::Row(_) | Fact::NoRun { .. } | Fact::Runs { .. } => Ok(()),
         Fact::Cause(cause) => push_cause(text, program, rows, cause),
         Fact::Hop(hop) => push_hop(text, program, hop),
-        Fact::Nearest { tag, at, .. } => push_nearest(text, tag, at),
+        Fact::Nearest { tag, trigger, at } => push_nearest(text, program, trigger, tag, at),
         Fact::NeverRuns { reaction } => push_never(text, program, reaction),
         Fact::RunBefore { at, start, .. } => push_run_before(text, at, start),
         Fact::RunAfter { at, start, .. } => push_run_after(text, at, start),

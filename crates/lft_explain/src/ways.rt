@@ -1,13 +1,13 @@
 //! The text of where delays lead, and of what is nearest.
 
 ghost use Rattle.std.specs.Prelude.{◌≡◌, ◌++◌, OnOk, string_bytes};
-ghost use Rattle.lft_explain.specs.Ways.{delay_into as the_delay_into, arrow_words, hop_words, least_delay as the_least_delay, extra_of as the_extra_of, extra_at as the_extra_at, delays_words, side_words, nearest_words};
+ghost use Rattle.lft_explain.specs.Ways.{delay_into as the_delay_into, arrow_words, hop_words, least_delay as the_least_delay, extra_of as the_extra_of, extra_at as the_extra_at, delays_words, side_words, nearest_of, nearest_words};
 
 use lft_facts::Hop;
-use lft_flat::Program;
+use lft_flat::{Program, Trigger};
 use lft_tag::Tag;
 use lft_trace::{Row, Step, row_at};
-use lft_words::{push_port, push_tag, push_time};
+use lft_words::{push_port, push_tag, push_time, push_trigger};
 use std::alloc::AllocError;
 
 /// The delay of the connection into the port, if there is one that has one.
@@ -124,11 +124,27 @@ fn push_side(text: &mut String, tag: Tag, other: Tag) -> Result<(), AllocError>
     Ok(())
 }
 
-/// Puts where something is nearest to the tag at the end of the text.
-pub(crate) fn push_nearest(text: &mut String, tag: Tag, at: Tag) -> Result<(), AllocError>
-    ensures { OnOk result (string_bytes text.new ≡ string_bytes text.old ++ nearest_words tag at) }
+/// Puts of what an event is the nearest at the end of the text.
+fn push_nearest_of(text: &mut String, program: &Program, trigger: Trigger) -> Result<(), AllocError>
+    ensures { OnOk result (string_bytes text.new ≡ string_bytes text.old ++ nearest_of program.now trigger) }
 {
-    text.push_str("    The nearest ")?;
+    text.push_str("    The nearest event of ")?;
+    push_trigger(text, program, trigger)?;
+    text.push_str(" ")?;
+    Ok(())
+}
+
+/// Puts where the event of something that is nearest to the tag is at the end of the text.
+pub(crate) fn push_nearest(
+    text: &mut String,
+    program: &Program,
+    trigger: Trigger,
+    tag: Tag,
+    at: Tag,
+) -> Result<(), AllocError>
+    ensures { OnOk result (string_bytes text.new ≡ string_bytes text.old ++ nearest_words program.now trigger tag at) }
+{
+    push_nearest_of(text, program, trigger)?;
     push_side(text, tag, at)?;
     text.push_str(" it is at ")?;
     push_tag(text, at)?;

@@ -19,7 +19,7 @@ capital_line_words place = codes "Line " ++ decimal (place + 2)
 abbrev pub tag_at : List Row → ℕ → List ℕ
 tag_at t i = unwrap_or (option_map (λ row. tag_words row.tag) (slice_get t i)) []
 
--- the value that a step writes or schedules
+-- the value that a step has
 abbrev pub value_of : Step → Option Value
 value_of (Write n v) = Some v
 value_of (Schedule n v d) = Some v
@@ -28,6 +28,7 @@ value_of Start = None
 value_of Stop = None
 value_of End = None
 
+-- the value in the row at a place
 abbrev pub value_at : List Row → ℕ → List ℕ
 value_at t i = unwrap_or (option_map (λ row. value_words (value_of row.step)) (slice_get t i)) []
 

@@ -29,19 +29,23 @@ value_words None = codes "nothing"
 value_words (Some Bare) = codes "bare"
 value_words (Some (Int n)) = signed_decimal n
 
--- the names of things; a number that names none is written as nothing
+-- the name of a port; nothing where the number names none
 abbrev pub port_words : Parts → ℕ → List ℕ
 port_words program p = unwrap_or (slice_get program.names.ports p) []
 
+-- the name of an action; nothing where the number names none
 abbrev pub action_words : Parts → ℕ → List ℕ
 action_words program a = unwrap_or (slice_get program.names.actions a) []
 
+-- the name of a timer; nothing where the number names none
 abbrev pub timer_words : Parts → ℕ → List ℕ
 timer_words program n = unwrap_or (slice_get program.names.timers n) []
 
+-- the name of a reaction; nothing where the number names none
 abbrev pub reaction_words : Parts → ℕ → List ℕ
 reaction_words program r = unwrap_or (slice_get program.names.reactions r) []
 
+-- the name of a port or action
 abbrev pub name_words : Parts → Name → List ℕ
 name_words program (Port p) = port_words program p
 name_words program (Action a) = action_words program a
