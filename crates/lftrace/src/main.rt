@@ -250,31 +250,6 @@ fn end(rt: &HostRuntime, alloc: Global, answer: Result<bool, Fault>) -> u8 {
     }
 }
 
-/// The answer of the command. Its text is written.
-fn answer_of<W: Write>(
-    rt: &HostRuntime,
-    alloc: Global,
-    job: Job<'_>,
-    out: &mut W,
-) -> Result<bool, Fault> {
-    match job {
-        Job::Bundle => {
-            await_bundle(rt);
-            judge_bundle(alloc, &mut rt.stdin(), out)
-        }
-        Job::Judge(words) => judge_files(rt, alloc, words, out),
-        Job::Explain(words) => explain_files(rt, alloc, words, out),
-        Job::ExplainBundle => {
-            await_bundle(rt);
-            explain_bundle(rt, alloc, &mut rt.stdin(), out)
-        }
-        Job::ExplainPair(words) => explain_pair_files(rt, alloc, words, out),
-        Job::Pair(words) => pair_files(rt, alloc, words, out),
-        Job::Record(words) => record_files(rt, alloc, words, out),
-        Job::Show(path) => show_file(rt, alloc, path, out),
-    }
-}
-
 fn main(rt: HostRuntime) -> ExitCode {
     let alloc = rt.alloc();
     let words: Vec<String> = match env::args(&rt) {
@@ -299,7 +274,22 @@ fn main(rt: HostRuntime) -> ExitCode {
         }
     };
     let mut out = io::writer(&rt);
-    let answer = answer_of(&rt, alloc, job, &mut out);
+    let answer = match job {
+        Job::Bundle => {
+            await_bundle(&rt);
+            judge_bundle(alloc, &mut rt.stdin(), &mut out)
+        }
+        Job::Judge(words) => judge_files(&rt, alloc, words, &mut out),
+        Job::Explain(words) => explain_files(&rt, alloc, words, &mut out),
+        Job::ExplainBundle => {
+            await_bundle(&rt);
+            explain_bundle(&rt, alloc, &mut rt.stdin(), &mut out)
+        }
+        Job::ExplainPair(words) => explain_pair_files(&rt, alloc, words, &mut out),
+        Job::Pair(words) => pair_files(&rt, alloc, words, &mut out),
+        Job::Record(words) => record_files(&rt, alloc, words, &mut out),
+        Job::Show(path) => show_file(&rt, alloc, path, &mut out),
+    };
     let is_judged = matches!(job, Job::Bundle | Job::Judge(_) | Job::Pair(_));
     let is_pointed = is_judged && has_more(&answer);
     let status = end(&rt, alloc, answer);
