@@ -1,4 +1,5 @@
 pub mod Bundles
+pub mod Markers
 pub mod Lines
 pub mod Meaning
 pub mod Refusals
@@ -8,3 +9,4 @@ pub mod Pairs
 pub mod PairRefusals
 pub mod Explained
 pub mod PairExplained
+pub mod Told

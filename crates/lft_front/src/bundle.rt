@@ -1,7 +1,8 @@
 //! The three texts of a bundle.
 
-ghost use Rattle.std.specs.Prelude.{◌≡◌, ◌<◌, ◌↔◌, ℕ, IsTrue, IfSome, IfNone, List, length, take, drop};
+ghost use Rattle.std.specs.Prelude.{◌≡◌, ◌<◌, ◌↔◌, ℕ, IsTrue, IfErr, IfOk, IfSome, IfNone, List, length, take, drop};
 ghost use Rattle.lft_front.specs.Bundles.{BeginsLine, IsBundle, IsCut, IsLine};
+ghost use Rattle.lft_front.specs.Markers.{IsMissing};
 
 const PROGRAM: &[u8] = b"--- program\n";
 
@@ -54,6 +55,49 @@ fn cut<'a>(text: &'a [u8], marker: &[u8]) -> Option<(&'a [u8], &'a [u8])>
     None
 }
 
+/// A marker of a bundle.
+#[derive(Clone, Copy, Debug, PartialEq, Eq)]
+pub(crate) enum Marker {
+    Program,
+    Externals,
+    Trace,
+}
+
+/// Whether some marker stands in the text with a carriage return behind it.
+pub(crate) fn has_returned_marker(text: &[u8]) -> bool {
+    for place in 0..text.len() {
+        let rest = &text[place..];
+        if rest.starts_with(b"--- program\r")
+            || rest.starts_with(b"--- externals\r")
+            || rest.starts_with(b"--- trace\r")
+        {
+            return true;
+        }
+    }
+    false
+}
+
+/// The texts of a bundle, else the first marker that is missing.
+pub(crate) fn read_bundle(text: &[u8]) -> Result<Bundle<'_>, Marker>
+    ensures bundle { IfOk result (λ b. IsBundle text.now b.program.now b.externals.now b.trace.now) }
+    ensures missing { IfErr result (IsMissing text.now) }
+{
+    let Some(rest) = text.strip_prefix(PROGRAM) else {
+        return Err(Marker::Program);
+    };
+    let Some((program, others)) = cut(rest, EXTERNALS) else {
+        return Err(Marker::Externals);
+    };
+    let Some((externals, trace)) = cut(others, TRACE) else {
+        return Err(Marker::Trace);
+    };
+    Ok(Bundle {
+        program,
+        externals,
+        trace,
+    })
+}
+
 /// The texts of a bundle: the lines after a first line `--- program` up to a line `--- externals`,
 /// those after it up to a line `--- trace`, and all that follows. None where a marker is missing.
 /// It takes no memory.
@@ -61,18 +105,8 @@ pub fn split_bundle(text: &[u8]) -> Option<Bundle<'_>>
     ensures some { IfSome result (λ b. IsBundle text.now b.program.now b.externals.now b.trace.now) }
     ensures none { IfNone result ((program externals trace : List ℕ) → IsBundle text.now program externals trace → ⊥) }
 {
-    let Some(rest) = text.strip_prefix(PROGRAM) else {
-        return None;
-    };
-    let Some((program, others)) = cut(rest, EXTERNALS) else {
-        return None;
-    };
-    let Some((externals, trace)) = cut(others, TRACE) else {
-        return None;
-    };
-    Some(Bundle {
-        program,
-        externals,
-        trace,
-    })
+    match read_bundle(text) {
+        Ok(bundle) => Some(bundle),
+        Err(_) => None,
+    }
 }

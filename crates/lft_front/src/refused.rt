@@ -1,71 +1,122 @@
-//! Why texts are refused, for people.
+//! Why texts are refused, for people. Something is told only of texts that have no meaning.
 
+ghost use Rattle.std.specs.Prelude.{◌≡◌, ◌++◌, ◌⊎◌, ℕ, List, true, IfOk, IfSome, string_bytes};
+ghost use Rattle.lft_graph.specs.Precedence.{HasNoLoop};
+ghost use Rattle.lft_load.specs.Meaning.{IsOnly, IsProgramOf};
+ghost use Rattle.lft_load.specs.Refusals.{is_of_text};
+ghost use Rattle.lft_front.specs.Told.{Gives, HaveNoMeaning, HaveNoMeaningBoth, IsBundleRefusal, IsNoTable, IsNoTrace, missing_words};
+
+use crate::bundle::{Marker, has_returned_marker, read_bundle};
 use lft_flat::Program;
 use lft_graph::{Graph, GraphFault};
 use lft_load::{Fault, Part, read_program};
 use lft_reasons::{tell_cause, tell_loop};
 use lft_refusals::{tell_externals, tell_program, tell_trace};
 use lft_tag::NoMemory;
-use lft_trace::{read_externals, read_trace};
+use lft_trace::{TraceFault, read_externals, read_trace};
 use std::alloc::Global;
 
+/// What a program's text and that of its external inputs give: the program, or why one of them is refused.
+/// Nothing is told of a text that is refused for no reason of its own.
+#[derive(Drop)]
+enum Start {
+    Program(Program),
+    Refused(String),
+    Untold,
+}
+
+/// `NoMemory` as a number of the part `program`.
+const NO_MEMORY: u32 = 16;
+
 /// Why a program that has a tree has no flat program.
-fn of_program(alloc: Global, program: &[u8], fault: &Fault) -> Result<Option<String>, NoMemory> {
+fn of_program(alloc: Global, program: &[u8], fault: &Fault) -> Result<Option<String>, NoMemory>
+    ensures { IfOk result (λ told. IfSome told (λ _. is_of_text fault.now.part fault.now.number ≡ true)) }
+{
     match fault.part {
-        Part::Program => tell_cause(alloc, program, fault.number),
+        Part::Program if fault.number != NO_MEMORY => tell_cause(alloc, program, fault.number),
         _ => Ok(None),
     }
 }
 
+/// Why a text is no table of external inputs, if it isn't.
+fn of_externals(
+    alloc: Global,
+    program: &Program,
+    externals: &[u8],
+) -> Result<Option<String>, NoMemory>
+    ensures { IfOk result (λ told. IfSome told (λ _. IsNoTable program.now externals.now)) }
+{
+    match read_externals(alloc, program, externals) {
+        Ok(_) | Err(TraceFault::NotCsv) => Ok(None),
+        Err(TraceFault::NoMemory) => Err(NoMemory),
+        Err(fault) => {
+            let words = tell_externals(alloc, program, externals, fault)?;
+            Ok(Some(words))
+        }
+    }
+}
+
+/// Why a text is no trace table, if it isn't. The table is called by the word.
+fn of_trace(
+    alloc: Global,
+    program: &Program,
+    trace: &[u8],
+    word: &'static str,
+) -> Result<Option<String>, NoMemory>
+    ensures { IfOk result (λ told. IfSome told (λ _. IsNoTrace program.now trace.now)) }
+{
+    match read_trace(alloc, program, trace) {
+        Ok(_) | Err(TraceFault::NotCsv) => Ok(None),
+        Err(TraceFault::NoMemory) => Err(NoMemory),
+        Err(fault) => {
+            let words = tell_trace(alloc, program, trace, fault, word)?;
+            Ok(Some(words))
+        }
+    }
+}
+
 /// Why the reactions of a program have no order, if they have none.
-fn of_graph(alloc: Global, program: &Program) -> Result<Option<String>, NoMemory> {
+fn of_graph(alloc: Global, program: &Program) -> Result<Option<String>, NoMemory>
+    ensures { IfOk result (λ told. IfSome told (λ _. HasNoLoop program.now → ⊥)) }
+{
     match Graph::build(alloc, program) {
         Ok(_) => Ok(None),
         Err(GraphFault::CausalityLoop(reactions)) => {
-            Ok(Some(tell_loop(alloc, program, reactions.as_slice())?))
+            let words = tell_loop(alloc, program, reactions.as_slice())?;
+            Ok(Some(words))
         }
         Err(GraphFault::NoMemory) => Err(NoMemory),
     }
 }
 
-/// Why one of the tables of a program is refused, or the program for its order: the external inputs, the
-/// program, the traces. Each trace comes with its name.
-fn of_tables(
-    alloc: Global,
-    program: &Program,
-    externals: &[u8],
-    traces: &[(&[u8], &'static str)],
-) -> Result<Option<String>, NoMemory> {
-    if let Err(fault) = read_externals(alloc, program, externals) {
-        return Ok(Some(tell_externals(alloc, program, externals, fault)?));
+/// Why a program has no plan under some external inputs, if it has none.
+fn of_plan(alloc: Global, program: Program, externals: &[u8]) -> Result<Start, NoMemory>
+    ensures { (text : List ℕ) → IsOnly (IsProgramOf text) program → IfOk result (Gives text externals.now) }
+{
+    match of_externals(alloc, &program, externals)? {
+        Some(words) => return Ok(Start::Refused(words)),
+        None => {}
     }
-    let told = of_graph(alloc, program)?;
-    if told.is_some() {
-        return Ok(told);
+    match of_graph(alloc, &program)? {
+        Some(words) => Ok(Start::Refused(words)),
+        None => Ok(Start::Program(program)),
     }
-    for place in 0..traces.len() {
-        let (text, name) = traces[place];
-        if let Err(fault) = read_trace(alloc, program, text) {
-            return Ok(Some(tell_trace(alloc, program, text, fault, name)?));
-        }
-    }
-    Ok(None)
 }
 
-/// Why the first of a program, its external inputs and some traces is refused.
-fn of_texts(
-    alloc: Global,
-    program: &[u8],
-    externals: &[u8],
-    traces: &[(&[u8], &'static str)],
-) -> Result<Option<String>, NoMemory> {
-    let told = tell_program(alloc, program)?;
-    if told.is_some() {
-        return Ok(told);
+/// What a program's text and that of its external inputs give.
+fn start_of(alloc: Global, program: &[u8], externals: &[u8]) -> Result<Start, NoMemory>
+    ensures { IfOk result (Gives program.now externals.now) }
+{
+    match tell_program(alloc, program)? {
+        Some(words) => return Ok(Start::Refused(words)),
+        None => {}
     }
     match read_program(alloc, program) {
-        Ok(flat) => of_tables(alloc, &flat, externals, traces),
-        Err(fault) => of_program(alloc, program, &fault),
+        Ok(flat) => of_plan(alloc, flat, externals),
+        Err(fault) => match of_program(alloc, program, &fault)? {
+            Some(words) => Ok(Start::Refused(words)),
+            None => Ok(Start::Untold),
+        },
     }
 }
 
@@ -78,9 +129,29 @@ pub fn refusal_of_texts(
     program: &[u8],
     externals: &[u8],
     trace: &[u8],
-) -> Result<Option<String>, NoMemory> {
-    let traces = [(trace, "Trace")];
-    of_texts(alloc, program, externals, traces.as_slice())
+) -> Result<Option<String>, NoMemory>
+    ensures { IfOk result (λ told. IfSome told (λ _. HaveNoMeaning program.now externals.now trace.now)) }
+{
+    match start_of(alloc, program, externals)? {
+        Start::Program(flat) => of_trace(alloc, &flat, trace, "Trace"),
+        Start::Refused(words) => Ok(Some(words)),
+        Start::Untold => Ok(None),
+    }
+}
+
+/// Why the first of two trace tables that isn't one is none.
+fn of_traces(
+    alloc: Global,
+    program: &Program,
+    first: &[u8],
+    second: &[u8],
+) -> Result<Option<String>, NoMemory>
+    ensures { IfOk result (λ told. IfSome told (λ _. IsNoTrace program.now first.now ⊎ IsNoTrace program.now second.now)) }
+{
+    match of_trace(alloc, program, first, "First trace")? {
+        Some(words) => Ok(Some(words)),
+        None => of_trace(alloc, program, second, "Second trace"),
+    }
 }
 
 /// The same of four texts: a program, its external inputs and two traces.
@@ -90,7 +161,53 @@ pub fn refusal_of_pair_texts(
     externals: &[u8],
     first: &[u8],
     second: &[u8],
-) -> Result<Option<String>, NoMemory> {
-    let traces = [(first, "First trace"), (second, "Second trace")];
-    of_texts(alloc, program, externals, traces.as_slice())
+) -> Result<Option<String>, NoMemory>
+    ensures { IfOk result (λ told. IfSome told (λ _. HaveNoMeaningBoth program.now externals.now first.now second.now)) }
+{
+    match start_of(alloc, program, externals)? {
+        Start::Program(flat) => of_traces(alloc, &flat, first, second),
+        Start::Refused(words) => Ok(Some(words)),
+        Start::Untold => Ok(None),
+    }
+}
+
+/// The sentence on a marker that is missing.
+fn marker_words(marker: Marker) -> &'static str
+    ensures { result.now ≡ missing_words marker }
+{
+    match marker {
+        Marker::Program => "Bundle: its first line isn't `--- program`.\n",
+        Marker::Externals => "Bundle: behind the program no line is `--- externals`.\n",
+        Marker::Trace => "Bundle: behind the external inputs no line is `--- trace`.\n",
+    }
+}
+
+/// Which marker of a bundle is missing, and what a bundle is.
+fn tell_marker(alloc: Global, text: &[u8], marker: Marker) -> Result<String, NoMemory>
+    ensures { IfOk result (λ words. (rest : List ℕ) × (string_bytes words ≡ missing_words marker ++ rest)) }
+{
+    let mut out = String::from_str(alloc, marker_words(marker))?;
+    if has_returned_marker(text) {
+        out.push_str(
+            "  A line of a marker ends with a line feed alone, and not with a carriage return before it.\n",
+        )?;
+    }
+    out.push_str(
+        "  A bundle is the lines `--- program`, `--- externals` and `--- trace`, each with its text behind it.\n",
+    )?;
+    Ok(out)
+}
+
+/// Why a bundle is refused: the first marker that is missing, or why the first of its texts that is refused
+/// is. None where all are read.
+pub fn refusal_of_bundle(alloc: Global, text: &[u8]) -> Result<Option<String>, NoMemory>
+    ensures { IfOk result (λ told. IfSome told (λ words. IsBundleRefusal text.now (string_bytes words))) }
+{
+    match read_bundle(text) {
+        Ok(bundle) => refusal_of_texts(alloc, bundle.program, bundle.externals, bundle.trace),
+        Err(marker) => {
+            let words = tell_marker(alloc, text, marker)?;
+            Ok(Some(words))
+        }
+    }
 }

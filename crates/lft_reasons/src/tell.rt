@@ -25,17 +25,13 @@ fn reason_of(
         source: Source {
             text,
             tokens: tokens.as_slice(),
+            ast,
         },
-        ast,
         reactors: &reactors,
     };
-    let shown = match cause {
-        5 => refused.recursive()?,
-        10 => refused.cycle()?,
-        _ => match witness_of(alloc, &reactors, cause)? {
-            Some(witness) => refused.of_witness(witness)?,
-            None => None,
-        },
+    let shown = match witness_of(alloc, &reactors, cause)? {
+        Some(witness) => refused.of_witness(witness)?,
+        None => refused.of_whole(cause)?,
     };
     match shown {
         Some(reason) => Ok(Some(reason)),

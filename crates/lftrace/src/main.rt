@@ -6,8 +6,8 @@ mod words;
 use crate::words::{Job, JudgeWords, PairWords, RecordWords, read_words};
 use lft_front::{
     Fault, Part, bundle_answer, explain_answer, explain_bundle_answer, explain_pair_answer, finish,
-    judge_answer, pair_answer, read_input, refusal_of_pair_texts, refusal_of_texts, show_answer,
-    split_bundle,
+    judge_answer, pair_answer, read_input, refusal_of_bundle, refusal_of_pair_texts,
+    refusal_of_texts, show_answer,
 };
 use lft_record::record_answer;
 use lft_tag::NoMemory;
@@ -65,17 +65,6 @@ fn write_told<W: Write>(told: Result<Option<String>, NoMemory>, out: &mut W) {
     }
 }
 
-/// Writes why the first of three texts that is refused is, where it can be told.
-fn write_refusal<W: Write>(
-    alloc: Global,
-    program: &[u8],
-    externals: &[u8],
-    trace: &[u8],
-    out: &mut W,
-) {
-    write_told(refusal_of_texts(alloc, program, externals, trace), out);
-}
-
 /// Judges the trace of three files, all of which are read first, and explains the verdict, or why a text
 /// is refused.
 fn explain_files<F: Files + Threads + Sync, W: Write>(
@@ -98,7 +87,10 @@ fn explain_files<F: Files + Threads + Sync, W: Write>(
     );
     if answer.is_err() {
         let (program, externals) = (program.as_slice(), externals.as_slice());
-        write_refusal(alloc, program, externals, trace.as_slice(), out);
+        write_told(
+            refusal_of_texts(alloc, program, externals, trace.as_slice()),
+            out,
+        );
     }
     answer
 }
@@ -202,9 +194,7 @@ fn explain_bundle<T: Threads + Sync, R: Read, W: Write>(
     let text = read_input(alloc, "-", reader)?;
     let answer = explain_bundle_answer(rt, alloc, text.as_slice(), out);
     if answer.is_err() {
-        if let Some(bundle) = split_bundle(text.as_slice()) {
-            write_refusal(alloc, bundle.program, bundle.externals, bundle.trace, out);
-        }
+        write_told(refusal_of_bundle(alloc, text.as_slice()), out);
     }
     answer
 }
@@ -225,7 +215,13 @@ fn has_more(answer: &Result<bool, Fault>) -> bool {
         Ok(is_right) => !*is_right,
         Err(fault) => matches!(
             fault.part,
-            Part::Lex | Part::Syntax | Part::Program | Part::Graph | Part::Externals | Part::Trace
+            Part::Lex
+                | Part::Syntax
+                | Part::Program
+                | Part::Graph
+                | Part::Externals
+                | Part::Trace
+                | Part::Bundle
         ),
     }
 }
