@@ -119,6 +119,18 @@ def bundle(program=BLINK, externals=STOP, trace=ROWS):
     return f"--- program\n{program}--- externals\n{externals}--- trace\n{trace}"
 
 
+def no_bundle(why, more=""):
+    """What `explain` says of a text that is no bundle."""
+    what = "  A bundle is the lines `--- program`, `--- externals` and `--- trace`, each with its text behind it.\n"
+    return {"status": 2, "out": f"Bundle: {why}.\n{more}{what}", "err": "fault bundle 1 BadBundle\n"}
+
+
+def nested(depth):
+    """A program of reactors of which each has ten instances of the next."""
+    reactors = "".join(f"reactor A{i} {{ {' '.join(f'a{j} = new A{i + 1}()' for j in range(10))} }}\n" for i in range(depth))
+    return f"{reactors}reactor A{depth} {{ }}\nmain reactor {{ a = new A0() }}\n"
+
+
 def right_things():
     judged("three texts that are right", prints(ACCEPTED))
     judged("a reaction that starts before the one declared before it has ended", prints("broken rule=9 too-early time=5000000 microstep=0 reaction=main#2\n", 1), trace=EARLY)
@@ -215,7 +227,11 @@ def words():
     case("external inputs as the second trace, explained", ["explain", *USUAL, "externals.csv"], {"status": 2, "has": ["Second trace, line 1: this isn't the header.", "  found   kind,time,microstep,name,value"], "err": "fault trace 1 BadHeader\n"})
     case("five files after `explain`", ["explain", *USUAL, "trace.csv", "trace.csv"], refused("error: unexpected argument 'trace.csv' found\n"))
     case("two words after `explain`", ["explain", "blink.lf", "trace.csv"], refused("error: the following required arguments were not provided:\n  <TRACE>\n"))
-    case("no bundle for `explain`", ["explain"], fault("bundle 1 BadBundle"), stdin=ROWS)
+    case("no bundle for `explain`", ["explain"], no_bundle("its first line isn't `--- program`"), stdin=ROWS)
+    case("a bundle without external inputs, explained", ["explain"], no_bundle("behind the program no line is `--- externals`"), stdin=bundle().replace("--- externals\n", ""))
+    case("a bundle without a trace, explained", ["explain"], no_bundle("behind the external inputs no line is `--- trace`"), stdin=bundle().replace("--- trace\n", ""))
+    case("a bundle with lines that end with CR LF, explained", ["explain"], no_bundle("its first line isn't `--- program`", "  A line of a marker ends with a line feed alone, and not with a carriage return before it.\n"), stdin=bundle().replace("\n", "\r\n"))
+    case("a program of a million instances, explained", ["explain", *USUAL], {"status": 2, "out": "Program: the program has more than 1000000 instances, and may have 10000.\n", "err": "fault program 15 TooMany\n"}, files={"blink.lf": nested(7)})
     case("a bundle as a file", ["judge", "bundle.txt"], refused("error: the following required arguments were not provided:\n  <EXTERNALS>\n  <TRACE>\n"), files={"bundle.txt": bundle()})
     case("a file without a command", ["blink.lf"], refused("error: unrecognized subcommand 'blink.lf'\n"))
     case("three files without a command", USUAL, refused("error: unrecognized subcommand 'blink.lf'\n"))

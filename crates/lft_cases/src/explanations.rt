@@ -6,10 +6,12 @@
 //! - `explain-bundle`: the same of a bundle.
 //! - `refused`: why the text of a program is refused, for people.
 //! - `refused-externals`, `refused-trace`: the same of a table of the given program, header and all.
+//! - `refused-bundle`: the same of a bundle.
 
 use crate::given::{Given, trace_table};
 use crate::whole::end;
-use lft_front::{explain_answer, explain_bundle_answer, refusal_of_texts};
+use lft_front::{explain_answer, explain_bundle_answer, refusal_of_bundle, refusal_of_texts};
+use lft_tag::NoMemory;
 use std::alloc::Global;
 use std::io;
 use std::io::Write;
@@ -61,6 +63,15 @@ pub(crate) fn bundle<R: Threads + Sync>(
     end(answer, told)
 }
 
+/// Writes what is told of a refusal.
+fn push_told(refusal: Result<Option<String>, NoMemory>, told: &mut Vec<u8>) -> io::Result<()> {
+    match refusal {
+        Ok(Some(words)) => told.write_all(words.as_bytes()),
+        Ok(None) => writeln!(told, "nothing is told"),
+        Err(_) => writeln!(told, "NoMemory"),
+    }
+}
+
 /// Writes why the first of three texts that is refused is.
 fn push_refusal(
     alloc: Global,
@@ -69,11 +80,7 @@ fn push_refusal(
     trace: &[u8],
     told: &mut Vec<u8>,
 ) -> io::Result<()> {
-    match refusal_of_texts(alloc, program, externals, trace) {
-        Ok(Some(words)) => told.write_all(words.as_bytes()),
-        Ok(None) => writeln!(told, "nothing is told"),
-        Err(_) => writeln!(told, "NoMemory"),
-    }
+    push_told(refusal_of_texts(alloc, program, externals, trace), told)
 }
 
 /// A case `refused`.
@@ -100,4 +107,9 @@ pub(crate) fn refused_trace(
 ) -> io::Result<()> {
     let (program, externals) = (given.program.as_slice(), given.externals.as_slice());
     push_refusal(alloc, program, externals, text, told)
+}
+
+/// A case `refused-bundle`.
+pub(crate) fn refused_bundle(alloc: Global, text: &[u8], told: &mut Vec<u8>) -> io::Result<()> {
+    push_told(refusal_of_bundle(alloc, text), told)
 }

@@ -72,6 +72,7 @@ fn tell<R: Threads + Wait + Sync>(
         "refused" => explanations::refused(alloc, text, told),
         "refused-externals" => explanations::refused_externals(alloc, given, text, told),
         "refused-trace" => explanations::refused_trace(alloc, given, text, told),
+        "refused-bundle" => explanations::refused_bundle(alloc, text, told),
         "pair" => pairs::pair(rt, alloc, given, text, words, told),
         "pair-text" => pairs::pair_text(rt, alloc, given, text, words, told),
         "explain-pair" => pairs::explain_pair(rt, alloc, given, text, told),

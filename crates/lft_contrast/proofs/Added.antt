@@ -1,7 +1,9 @@
 -- Contrasts that are put behind others.
 use Rattle.std.proofs.Common.{◌≡◌, ℕ, zero, suc, ◌+◌, ◌<◌, ◌≤◌, List, [], ◌∷◌, ◌++◌, All, Contains, append-nil, append_assoc, length, map, sym, ap, ◌∙◌, refl, subst, arith, Option, Some, slice_get, option_map, unwrap_or}
+use Rattle.std.proofs.lemmas.List.{length-map}
 use Rattle.std.proofs.lemmas.List.Elements.{All-nil, All-cons, All-append, Contains-append_left, Contains-append_right}
 use native.Mathlib.Decide.{ℕ_discrete}
+use Rattle.lft_lists.proofs.Mapped.{mapped}
 use Rattle.lft_tag.specs.declared.Tag.{Tag}
 use Rattle.lft_flat.specs.Parts.{inputs}
 use Rattle.lft_flat.specs.declared.parts.Name.{Name}
@@ -38,17 +40,8 @@ module _ (plan : PlanParts) (t s : List Row) where
 pub last_contained : (told new : List Contrast) (c : Contrast) → new ≡ told ++ c ∷ [] → Contains new c
 last_contained told new c e = subst (λ (cs : List Contrast). Contains cs c) (sym e) (Contains-append_right told (c ∷ []) c (0, omega arith, refl))
 
-map_long : {X Y : Type 0} (f : X → Y) (xs : List X) → length (map f xs) ≡ length xs
-map_long f [] = refl
-map_long f (x ∷ xs) = ap suc (map_long f xs)
-
-map_at : {X Y : Type 0} (f : X → Y) (xs : List X) (k : ℕ) (x : X) → slice_get xs k ≡ Some x → slice_get (map f xs) k ≡ Some (f x)
-map_at f [] k x e = absurd (cc)
-map_at f (y ∷ ys) zero x e = let q : y ≡ x = cc in ap (λ z. Some (f z)) q
-map_at f (y ∷ ys) (suc k) x e = map_at f ys k x e
-
 same_at : {X : Type 0} (f h : Name → X) (ns : List Name) (k : ℕ) (n : Name) → map f ns ≡ map h ns → slice_get ns k ≡ Some n → f n ≡ h n
-same_at f h ns k n e at = let z : Some (f n) ≡ Some (h n) = sym (map_at f ns k n at) ∙ ap (λ l. slice_get l k) e ∙ map_at h ns k n at in cc
+same_at f h ns k n e at = let z : Some (f n) ≡ Some (h n) = sym (mapped f ns k n at) ∙ ap (λ l. slice_get l k) e ∙ mapped h ns k n at in cc
 
 -- what two runs read of the first inputs is told
 pub record ReadTo (plan : PlanParts) (t s : List Row) (g : Tag) (r : ℕ) (names : List Name) (old : List Contrast) (place : ℕ) (new : List Contrast) : Type 0 where
@@ -63,7 +56,7 @@ module _ (plan : PlanParts) (t s : List Row) (g : Tag) (r : ℕ) (x : Reaction) 
   reads_are = was_read ∙ ap (λ ns. map (read_of (steps_of t g r)) ns) own
 
   pub read_long : length read ≡ length names
-  read_long = ap length reads_are ∙ map_long (read_of (steps_of t g r)) names
+  read_long = ap length reads_are ∙ length-map names (read_of (steps_of t g r))
 
   pub read_none : ReadTo plan t s g r names old 0 old
   read_none = record { adds = adds_none plan t s old; each = λ k n l. absurd (omega arith) }
@@ -72,7 +65,7 @@ module _ (plan : PlanParts) (t s : List Row) (g : Tag) (r : ℕ) (x : Reaction) 
   is_read k n o e f = record { is_input = ap (λ (ns : List Name). slice_get ns k) own ∙ e; first = one; second = sym (same_at (read_of (steps_of t g r)) (read_of (steps_of s g r)) (inputs_of plan.program r) k n same (ap (λ (ns : List Name). slice_get ns k) own ∙ e)) ∙ one }
     where
       one : read_of (steps_of t g r) n ≡ o
-      one = let z : Some (read_of (steps_of t g r) n) ≡ Some o = sym (map_at (read_of (steps_of t g r)) names k n e) ∙ ap (λ (os : List (Option Value)). slice_get os k) (sym reads_are) ∙ f in cc
+      one = let z : Some (read_of (steps_of t g r) n) ≡ Some o = sym (mapped (read_of (steps_of t g r)) names k n e) ∙ ap (λ (os : List (Option Value)). slice_get os k) (sym reads_are) ∙ f in cc
 
   pub read_more : (place : ℕ) (told new : List Contrast) (n : Name) (o : Option Value) → ReadTo plan t s g r names old place told → slice_get names place ≡ Some n → slice_get read place ≡ Some o → new ≡ told ++ contrast.Read g r place n o ∷ [] → ReadTo plan t s g r names old (place + 1) new
   read_more place told new n o so_far e f is = record { adds = adds_both plan t s old told new so_far.adds one; each = λ k m l q. go k m l q (ℕ_discrete k place) }

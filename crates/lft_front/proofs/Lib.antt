@@ -4,3 +4,4 @@ pub mod Listed
 pub mod Pairing
 pub mod Explaining
 pub mod PairExplaining
+pub mod Telling

@@ -4,6 +4,7 @@ ghost use Rattle.std.specs.Prelude.{◌≡◌, ◌++◌, ◌⊎◌, ℕ, List, t
 ghost use Rattle.lft_graph.specs.Precedence.{HasNoLoop};
 ghost use Rattle.lft_load.specs.Meaning.{IsOnly, IsProgramOf};
 ghost use Rattle.lft_load.specs.Refusals.{is_of_text};
+ghost use Rattle.lft_trace.specs.Faults.{is_told};
 ghost use Rattle.lft_front.specs.Told.{Gives, HaveNoMeaning, HaveNoMeaningBoth, IsBundleRefusal, IsNoTable, IsNoTrace, missing_words};
 
 use crate::bundle::{Marker, has_returned_marker, read_bundle};
@@ -33,9 +34,21 @@ fn of_program(alloc: Global, program: &[u8], fault: &Fault) -> Result<Option<Str
     ensures { IfOk result (λ told. IfSome told (λ _. is_of_text fault.now.part fault.now.number ≡ true)) }
 {
     match fault.part {
-        Part::Program if fault.number != NO_MEMORY => tell_cause(alloc, program, fault.number),
+        Part::Program if fault.number != NO_MEMORY => {
+            match tell_cause(alloc, program, fault.number)? {
+                Some(words) => Ok(Some(words)),
+                None => Ok(None),
+            }
+        }
         _ => Ok(None),
     }
+}
+
+/// Whether the fault tells something of the table.
+fn is_told(fault: TraceFault) -> bool
+    ensures { result ≡ is_told fault }
+{
+    !matches!(fault, TraceFault::NotCsv | TraceFault::NoMemory)
 }
 
 /// Why a text is no table of external inputs, if it isn't.
@@ -47,12 +60,11 @@ fn of_externals(
     ensures { IfOk result (λ told. IfSome told (λ _. IsNoTable program.now externals.now)) }
 {
     match read_externals(alloc, program, externals) {
-        Ok(_) | Err(TraceFault::NotCsv) => Ok(None),
-        Err(TraceFault::NoMemory) => Err(NoMemory),
-        Err(fault) => {
+        Err(fault) if is_told(fault) => {
             let words = tell_externals(alloc, program, externals, fault)?;
             Ok(Some(words))
         }
+        _ => Ok(None),
     }
 }
 
@@ -66,12 +78,11 @@ fn of_trace(
     ensures { IfOk result (λ told. IfSome told (λ _. IsNoTrace program.now trace.now)) }
 {
     match read_trace(alloc, program, trace) {
-        Ok(_) | Err(TraceFault::NotCsv) => Ok(None),
-        Err(TraceFault::NoMemory) => Err(NoMemory),
-        Err(fault) => {
+        Err(fault) if is_told(fault) => {
             let words = tell_trace(alloc, program, trace, fault, word)?;
             Ok(Some(words))
         }
+        _ => Ok(None),
     }
 }
 

@@ -1,9 +1,12 @@
 //! Why a program with a tree is refused, for people.
 
+ghost use Rattle.std.specs.Prelude.{IfOk, IfSome};
+ghost use Rattle.lft_refusals.specs.Refusals.{HasTree};
+
 use crate::reason::Reason;
 use crate::refused::Refused;
 use lft_places::{Source, Spot};
-use lft_refusals::{place_of, push_line, push_place};
+use lft_refusals::{place_of, push_place, quoted_line};
 use lft_scope::members;
 use lft_syntax::{LexFault, SyntaxFault, Tokens, lex, parse};
 use lft_tag::NoMemory;
@@ -49,7 +52,9 @@ fn push_spot(
     match spot {
         Some(spot) if spot.start <= spot.end && spot.end <= text.len() => {
             let place = place_of(text, spot.start);
-            push_line(alloc, out, text, place, spot.start, spot.end)
+            let line = quoted_line(alloc, text, place, spot.start, spot.end)?;
+            out.push_str(line.as_str())?;
+            Ok(())
         }
         _ => Ok(()),
     }
@@ -79,7 +84,9 @@ fn lines(alloc: Global, text: &[u8], reason: &Reason) -> Result<String, NoMemory
 /// feed: the place, what is wrong there, the line with a mark, and what to write. Where something stands
 /// twice, both lines. Of several places the first in the text. None where the text has no tree, and where no
 /// cause has that number.
-pub fn tell_cause(alloc: Global, text: &[u8], cause: u32) -> Result<Option<String>, NoMemory> {
+pub fn tell_cause(alloc: Global, text: &[u8], cause: u32) -> Result<Option<String>, NoMemory>
+    ensures { IfOk result (λ told. IfSome told (λ _. HasTree text.now)) }
+{
     let tokens = match lex(alloc, text) {
         Ok(tokens) => tokens,
         Err(LexFault::NoMemory) => return Err(NoMemory),
@@ -91,7 +98,10 @@ pub fn tell_cause(alloc: Global, text: &[u8], cause: u32) -> Result<Option<Strin
         Err(_) => return Ok(None),
     };
     match reason_of(alloc, text, &tokens, &ast, cause)? {
-        Some(reason) => Ok(Some(lines(alloc, text, &reason)?)),
+        Some(reason) => {
+            let words = lines(alloc, text, &reason)?;
+            Ok(Some(words))
+        }
         None => Ok(None),
     }
 }
