@@ -1,5 +1,5 @@
 -- What stands at a spot of a program's text.
-use Rattle.std.specs.Prelude.{◌≡◌, ℕ, ◌≤◌, List, Option, Some, None, Contains, length, take, drop, slice_range, codes}
+use Rattle.std.specs.Prelude.{◌≡◌, ℕ, ◌+◌, ◌≤◌, List, Option, Some, None, Contains, length, slice_range}
 use Rattle.lft_tree.specs.Tree.{RefTree, TimeTree, Written, Named}
 use Rattle.lft_syntax.specs.declared.token.Token.{Token}
 use Rattle.lft_syntax.specs.declared.token.TokenKind.TheVariants.{Code, Number}
@@ -37,4 +37,4 @@ pub record HasCodeWith (t : List ℕ) (tokens : List Token) (word : List ℕ) : 
   pub is_among : Contains tokens code
   pub is_code : code.kind ≡ Code
   pub place : ℕ
-  pub there : take (length word) (drop place (slice_range t code.start code.end)) ≡ word
+  pub there : slice_range (slice_range t code.start code.end) place (place + length word) ≡ word

@@ -2,7 +2,7 @@
 //!
 //! The text has a tree. So what begins at a token is known from the tree, and only its end is looked for.
 
-ghost use Rattle.std.specs.Prelude.{◌≡◌, ℕ, IfSome, IsTrue, drop, length, slice_range, take};
+ghost use Rattle.std.specs.Prelude.{◌≡◌, ◌<◌, ◌+◌, ℕ, IfSome, IsTrue, length, slice_range};
 
 use lft_syntax::{Token, TokenKind};
 use lft_tree::Ast;
@@ -26,12 +26,24 @@ pub(crate) fn spelling(text: &[u8], token: Token) -> Option<&[u8]>
     }
 }
 
+/// Whether the bytes stand in the text at the place.
+fn stands_at(text: &[u8], bytes: &[u8], place: usize) -> bool
+    requires { place < length text.now }
+    ensures { IsTrue result → slice_range text.now place (place + length bytes.now) ≡ bytes.now }
+{
+    if text.len() - place < bytes.len() {
+        return false;
+    }
+    let there = &text[place..place + bytes.len()];
+    there == bytes
+}
+
 /// Whether the bytes stand somewhere in the text.
 pub(crate) fn holds(text: &[u8], bytes: &[u8]) -> bool
-    ensures { IsTrue result → (place : ℕ) × (take (length bytes.now) (drop place text.now) ≡ bytes.now) }
+    ensures { IsTrue result → (place : ℕ) × (slice_range text.now place (place + length bytes.now) ≡ bytes.now) }
 {
     for start in 0..text.len() {
-        if text[start..].starts_with(bytes) {
+        if stands_at(text, bytes, start) {
             return true;
         }
     }

@@ -23,6 +23,7 @@ shown bytes = shown_text (utf8_lossy bytes)
 abbrev pub blank : ℕ → List ℕ
 blank b = if b == 9 then b ∷ [] else if begins_letter b then 32 ∷ [] else []
 
+-- what stands below bytes that aren't marked
 abbrev pub blanks : List ℕ → List ℕ
 blanks bytes = flat_map blank bytes
 
