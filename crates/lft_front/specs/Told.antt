@@ -13,7 +13,7 @@ use Rattle.lft_front.specs.Markers.{IsMissing}
 use Rattle.lft_front.specs.Meaning.{Mean}
 use Rattle.lft_front.specs.Pairs.{MeanBoth}
 use Rattle.lft_front.specs.declared.bundle.Marker.{Marker}
-use Rattle.lft_front.specs.declared.bundle.Marker.TheVariants as marker
+use Rattle.lft_front.specs.declared.bundle.Marker.TheVariants as markers
 use Rattle.lft_front.specs.declared.refused.Start.{Start}
 use Rattle.lft_front.specs.declared.refused.Start.TheVariants as start
 
@@ -45,9 +45,9 @@ Gives program externals start.Untold = Unit {0}
 
 -- the sentence on a missing marker
 abbrev pub missing_words : Marker → List ℕ
-missing_words marker.Program = codes "Bundle: its first line isn't `--- program`.\n"
-missing_words marker.Externals = codes "Bundle: behind the program no line is `--- externals`.\n"
-missing_words marker.Trace = codes "Bundle: behind the external inputs no line is `--- trace`.\n"
+missing_words markers.Program = codes "Bundle: its first line isn't `--- program`.\n"
+missing_words markers.Externals = codes "Bundle: behind the program no line is `--- externals`.\n"
+missing_words markers.Trace = codes "Bundle: behind the external inputs no line is `--- trace`.\n"
 
 -- the words begin with the sentence on the first marker that the text lacks
 pub record TellsMissing (text words : List ℕ) : Type 0 where

@@ -193,11 +193,9 @@ fn marker_words(marker: Marker) -> &'static str
     }
 }
 
-/// Which marker of a bundle is missing, and what a bundle is.
-fn tell_marker(alloc: Global, text: &[u8], marker: Marker) -> Result<String, NoMemory>
-    ensures { IfOk result (λ words. (rest : List ℕ) × (string_bytes words ≡ missing_words marker ++ rest)) }
-{
-    let mut out = String::from_str(alloc, marker_words(marker))?;
+/// What a bundle is.
+fn bundle_words(alloc: Global, text: &[u8]) -> Result<String, NoMemory> {
+    let mut out = String::new(alloc);
     if has_returned_marker(text) {
         out.push_str(
             "  A line of a marker ends with a line feed alone, and not with a carriage return before it.\n",
@@ -206,6 +204,17 @@ fn tell_marker(alloc: Global, text: &[u8], marker: Marker) -> Result<String, NoM
     out.push_str(
         "  A bundle is the lines `--- program`, `--- externals` and `--- trace`, each with its text behind it.\n",
     )?;
+    Ok(out)
+}
+
+/// Which marker of a bundle is missing, and what a bundle is.
+fn tell_marker(alloc: Global, text: &[u8], marker: Marker) -> Result<String, NoMemory>
+    ensures { IfOk result (λ words. (rest : List ℕ) × (string_bytes words ≡ missing_words marker ++ rest)) }
+{
+    let help = bundle_words(alloc, text)?;
+    let mut out = String::new(alloc);
+    out.push_str(marker_words(marker))?;
+    out.push_str(help.as_str())?;
     Ok(out)
 }
 

@@ -28,46 +28,21 @@ struct Census {
 }
 
 impl Census {
-    /// One member of an instance more.
-    fn add_member(&mut self, member: &Member) {
-        match member {
-            Member::Port(_) => self.ports = self.ports.saturating_add(1),
-            Member::Timer(_) => self.timers = self.timers.saturating_add(1),
-            Member::Action(_) => self.actions = self.actions.saturating_add(1),
-            Member::Reaction(_) => self.reactions = self.reactions.saturating_add(1),
-            Member::Connection(connection) => {
-                let joins = connection.sources.len() as u64;
-                self.connections = self.connections.saturating_add(joins);
-            }
-            Member::Instance(_) | Member::State(_) | Member::Preamble(_) => {}
-        }
-    }
-
-    /// What one instance of the reactor declares.
-    fn of_one(reactor: &Reactor) -> Census {
-        let mut census = Census {
-            instances: 1,
-            reactions: 0,
-            ports: 0,
-            connections: 0,
-            actions: 0,
-            timers: 0,
-        };
+    /// One instance of the reactor more, with what it declares.
+    fn add(&mut self, reactor: &Reactor) {
+        self.instances = self.instances.saturating_add(1);
         for member in &reactor.members {
-            census.add_member(member);
-        }
-        census
-    }
-
-    /// Both together.
-    fn with(self, more: Census) -> Census {
-        Census {
-            instances: self.instances.saturating_add(more.instances),
-            reactions: self.reactions.saturating_add(more.reactions),
-            ports: self.ports.saturating_add(more.ports),
-            connections: self.connections.saturating_add(more.connections),
-            actions: self.actions.saturating_add(more.actions),
-            timers: self.timers.saturating_add(more.timers),
+            match member {
+                Member::Port(_) => self.ports = self.ports.saturating_add(1),
+                Member::Timer(_) => self.timers = self.timers.saturating_add(1),
+                Member::Action(_) => self.actions = self.actions.saturating_add(1),
+                Member::Reaction(_) => self.reactions = self.reactions.saturating_add(1),
+                Member::Connection(connection) => {
+                    let joins = connection.sources.len() as u64;
+                    self.connections = self.connections.saturating_add(joins);
+                }
+                Member::Instance(_) | Member::State(_) | Member::Preamble(_) => {}
+            }
         }
     }
 
@@ -117,24 +92,24 @@ impl<'a> Refused<'a> {
     /// The census of the program. None where it has too many instances to be counted.
     fn census(&self, main: usize) -> Result<Option<Census>, NoMemory> {
         let contained = self.contained()?;
-        let mut each = Vec::new(self.alloc);
-        for reactor in self.reactors {
-            each.push(Census::of_one(*reactor))?;
-        }
-        let mut census: Option<Census> = None;
+        let mut census = Census {
+            instances: 0,
+            reactions: 0,
+            ports: 0,
+            connections: 0,
+            actions: 0,
+            timers: 0,
+        };
         let mut left = Vec::new(self.alloc);
         left.push(main)?;
         for counted in 0..MOST_COUNTED {
             let Some(number) = left.pop() else {
-                return Ok(census);
+                return Ok(Some(census));
             };
-            if number >= each.len() || number >= contained.len() {
+            if number >= self.reactors.len() || number >= contained.len() {
                 return Ok(None);
             }
-            census = match census {
-                Some(before) => Some(before.with(each[number])),
-                None => Some(each[number]),
-            };
+            census.add(self.reactors[number]);
             if counted.saturating_add(left.len()) > MOST_COUNTED {
                 return Ok(None);
             }
