@@ -6,7 +6,7 @@ ghost use Rattle.lft_refusals.specs.Refusals.{HasTree};
 use crate::reason::Reason;
 use crate::refused::Refused;
 use lft_places::{Source, Spot};
-use lft_refusals::{place_of, push_place, quoted_line};
+use lft_refusals::{place_of, push_line, push_place};
 use lft_scope::members;
 use lft_syntax::{LexFault, SyntaxFault, Tokens, lex, parse};
 use lft_tag::NoMemory;
@@ -52,9 +52,7 @@ fn push_spot(
     match spot {
         Some(spot) if spot.start <= spot.end && spot.end <= text.len() => {
             let place = place_of(text, spot.start);
-            let line = quoted_line(alloc, text, place, spot.start, spot.end)?;
-            out.push_str(line.as_str())?;
-            Ok(())
+            push_line(alloc, out, text, place, spot.start, spot.end)
         }
         _ => Ok(()),
     }

@@ -12,9 +12,9 @@ mod record;
 mod refusal;
 mod tables;
 mod ways;
-mod words;
+pub mod words;
 
 pub use place::{Place, place_of};
 pub use program_text::tell_program;
-pub use quoting::{push_place, quoted_line};
+pub use quoting::{push_line, push_place};
 pub use tables::{tell_externals, tell_trace};

@@ -1,12 +1,12 @@
 //! Why a program's text is refused, for people.
 
-ghost use Rattle.std.specs.Prelude.{◌≤◌, ◌⊎◌, length, IfOk, IfSome, IfNone, string_bytes};
-ghost use Rattle.lft_refusals.specs.Refusals.{IsLong, HasTree};
-ghost use Rattle.lft_refusals.specs.Told.{TellsRefusal};
+ghost use Rattle.std.specs.Prelude.{◌≤◌, ◌⊎◌, length, IfOk, IfSome, IfNone};
+ghost use Rattle.lft_refusals.specs.declared.refusal.Refusal.{Refusal as TheRefusal};
+ghost use Rattle.lft_refusals.specs.Refusals.{IsLong, HasTree, IsRefusal};
 
 use crate::candidates::Candidates;
 use crate::place::place_of;
-use crate::quoting::{push_place, quoted_line};
+use crate::quoting::{push_line, push_place};
 use crate::refusal::{Refusal, Why, refusal_of};
 use crate::ways::{last_word, of_candidates, of_fault, of_token, of_word};
 use crate::words::{push_bytes, push_way};
@@ -57,20 +57,24 @@ fn push_token(
     Ok(())
 }
 
-/// What is wrong.
-fn sentence(alloc: Global, text: &[u8], refusal: Refusal) -> Result<String, NoMemory>
+/// Puts what is wrong behind the text.
+fn push_sentence(
+    alloc: Global,
+    out: &mut String,
+    text: &[u8],
+    refusal: Refusal,
+) -> Result<(), NoMemory>
     requires { (refusal.start ≤ refusal.end) × (refusal.end ≤ length text.now) }
 {
-    let mut out = String::new(alloc);
     match refusal.why {
         Why::Lex(fault) => out.push_str(lex_words(fault))?,
         Why::End(_) => out.push_str("the text ends too soon.")?,
         Why::Token(_, kind) => {
-            push_token(alloc, &mut out, kind, &text[refusal.start..refusal.end])?;
+            push_token(alloc, out, kind, &text[refusal.start..refusal.end])?;
         }
     }
     out.push_str("\n")?;
-    Ok(out)
+    Ok(())
 }
 
 /// Puts what could stand there behind the text, where that is few things.
@@ -129,15 +133,6 @@ fn push_help(alloc: Global, out: &mut String, text: &[u8], refusal: Refusal) -> 
     }
 }
 
-/// What to write at the place.
-fn help(alloc: Global, text: &[u8], refusal: Refusal) -> Result<String, NoMemory>
-    requires { (refusal.start ≤ refusal.end) × (refusal.end ≤ length text.now) }
-{
-    let mut out = String::new(alloc);
-    push_help(alloc, &mut out, text, refusal)?;
-    Ok(out)
-}
-
 /// Where and why a program's text has no tree, in lines that end with a line feed: the place, what is
 /// wrong there, the line itself with a mark, what could stand there, and what to write in place of what
 /// the language has and `lftrace` leaves out. None where the text has a tree, and where it has more
@@ -145,21 +140,17 @@ fn help(alloc: Global, text: &[u8], refusal: Refusal) -> Result<String, NoMemory
 ///
 /// What could stand there is found by trying: the text before the place is read once for each thing.
 pub fn tell_program(alloc: Global, text: &[u8]) -> Result<Option<String>, NoMemory>
-    ensures some { IfOk result (λ told. IfSome told (λ words. TellsRefusal text.now (string_bytes words))) }
-    ensures treeless { IfOk result (λ told. IfSome told (λ _. HasTree text.now → ⊥)) }
+    ensures some { IfOk result (λ told. IfSome told (λ words. (refusal : TheRefusal) × IsRefusal text.now refusal)) }
     ensures none { IfOk result (λ told. IfNone told (IsLong text.now ⊎ HasTree text.now)) }
 {
     let Some(refusal) = refusal_of(alloc, text)? else {
         return Ok(None);
     };
     let place = place_of(text, refusal.start);
-    let sentence = sentence(alloc, text, refusal)?;
-    let line = quoted_line(alloc, text, place, refusal.start, refusal.end)?;
-    let help = help(alloc, text, refusal)?;
     let mut out = String::new(alloc);
     push_place(&mut out, place)?;
-    out.push_str(sentence.as_str())?;
-    out.push_str(line.as_str())?;
-    out.push_str(help.as_str())?;
+    push_sentence(alloc, &mut out, text, refusal)?;
+    push_line(alloc, &mut out, text, place, refusal.start, refusal.end)?;
+    push_help(alloc, &mut out, text, refusal)?;
     Ok(Some(out))
 }

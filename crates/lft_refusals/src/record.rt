@@ -79,7 +79,7 @@ pub(crate) fn push_record(
         push_blanks(out, field(fields, before))?;
         out.push_str(" ")?;
     }
-    push_marks(alloc, out, field(fields, at))?;
+    push_marks(out, field(fields, at))?;
     out.push_str("\n")?;
     Ok(())
 }

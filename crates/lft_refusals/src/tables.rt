@@ -1,8 +1,5 @@
 //! Why a table is refused, for people.
 
-ghost use Rattle.std.specs.Prelude.{◌≡◌, ◌++◌, IfOk, codes, decimal, string_bytes};
-ghost use Rattle.lft_refusals.specs.Tables.{BeginsWith, TellsLine, line_of, word_of};
-
 use crate::fields::{
     Wrong, filled_of_externals, filled_of_trace, name_of_externals, name_of_trace,
     number_of_externals, number_of_trace,
@@ -24,9 +21,7 @@ enum Table {
 }
 
 impl Table {
-    fn word(self) -> &'static str
-        ensures { result.now ≡ word_of self }
-    {
+    fn word(self) -> &'static str {
         match self {
             Table::Trace(word) => word,
             Table::Externals => "External inputs",
@@ -58,9 +53,7 @@ pub fn tell_trace(
     text: &[u8],
     fault: TraceFault,
     word: &'static str,
-) -> Result<String, NoMemory>
-    ensures { IfOk result (λ words. TellsLine word.now fault (string_bytes words)) }
-{
+) -> Result<String, NoMemory> {
     tell(alloc, program, text, fault, Table::Trace(word))
 }
 
@@ -70,30 +63,8 @@ pub fn tell_externals(
     program: &Program,
     text: &[u8],
     fault: TraceFault,
-) -> Result<String, NoMemory>
-    ensures { IfOk result (λ words. TellsLine (codes "External inputs") fault (string_bytes words)) }
-{
+) -> Result<String, NoMemory> {
     tell(alloc, program, text, fault, Table::Externals)
-}
-
-/// The line that the fault is about.
-fn line_of(fault: TraceFault) -> Option<u32>
-    ensures { result ≡ line_of fault }
-{
-    match fault {
-        TraceFault::BadHeader => Some(1),
-        TraceFault::BadFieldCount(line) => Some(line),
-        TraceFault::BadEvent(line) => Some(line),
-        TraceFault::BadNumber(line) => Some(line),
-        TraceFault::UnknownName(line) => Some(line),
-        TraceFault::FieldInPlace(line) => Some(line),
-        TraceFault::DuplicateExternal(line) => Some(line),
-        TraceFault::TwoStops(line) => Some(line),
-        TraceFault::NoStop => None,
-        TraceFault::TooManyRows => None,
-        TraceFault::NotCsv => None,
-        TraceFault::NoMemory => None,
-    }
 }
 
 fn tell(
@@ -102,43 +73,10 @@ fn tell(
     text: &[u8],
     fault: TraceFault,
     table: Table,
-) -> Result<String, NoMemory>
-    ensures { IfOk result (λ words. TellsLine (word_of table) fault (string_bytes words)) }
-{
-    match line_of(fault) {
-        Some(line) => {
-            let rest = at_line(alloc, program, text, line, fault, table)?;
-            begun(alloc, table.word(), line, rest)
-        }
-        None => without_line(alloc, fault, table),
-    }
-}
-
-/// The table and the line, and behind them the rest. Nothing, where there is no rest.
-fn begun(alloc: Global, word: &str, line: u32, rest: Option<String>) -> Result<String, NoMemory>
-    ensures { IfOk result (λ words. BeginsWith word.now line (string_bytes words)) }
-{
-    match rest {
-        Some(rest) => with_line(alloc, word, line, rest.as_str()),
-        None => Ok(String::new(alloc)),
-    }
-}
-
-/// The table and the line, and behind them the rest.
-fn with_line(alloc: Global, word: &str, line: u32, rest: &str) -> Result<String, NoMemory>
-    ensures { IfOk result (λ words. string_bytes words ≡ word.now ++ (codes ", line " ++ (decimal line ++ rest.now))) }
-{
-    let mut out = String::from_str(alloc, word)?;
-    out.push_str(", line ")?;
-    push_number(&mut out, line as usize)?;
-    out.push_str(rest)?;
-    Ok(out)
-}
-
-/// What is told of a fault that is about no line.
-fn without_line(alloc: Global, fault: TraceFault, table: Table) -> Result<String, NoMemory> {
+) -> Result<String, NoMemory> {
     let mut out = String::new(alloc);
     match fault {
+        TraceFault::BadHeader => push_header(alloc, &mut out, text, table)?,
         TraceFault::NoStop => {
             out.push_str("External inputs: there is no record stop,TIME,MICROSTEP,,\n")?;
         }
@@ -146,37 +84,26 @@ fn without_line(alloc: Global, fault: TraceFault, table: Table) -> Result<String
             out.push_str(table.word())?;
             out.push_str(": a table has at most 4,000,000 records.\n")?;
         }
-        _ => {}
+        TraceFault::NotCsv | TraceFault::NoMemory => {}
+        TraceFault::BadFieldCount(line)
+        | TraceFault::BadEvent(line)
+        | TraceFault::BadNumber(line)
+        | TraceFault::UnknownName(line)
+        | TraceFault::FieldInPlace(line)
+        | TraceFault::DuplicateExternal(line)
+        | TraceFault::TwoStops(line) => {
+            if let Some(fields) = record_of(alloc, text, line)? {
+                push_fault(alloc, &mut out, program, line, &fields, fault, table)?;
+            }
+        }
     }
     Ok(out)
-}
-
-/// What is told of a line, behind its number.
-fn at_line(
-    alloc: Global,
-    program: &Program,
-    text: &[u8],
-    line: u32,
-    fault: TraceFault,
-    table: Table,
-) -> Result<Option<String>, NoMemory> {
-    let mut out = String::new(alloc);
-    if fault == TraceFault::BadHeader {
-        push_header(alloc, &mut out, text, table)?;
-        return Ok(Some(out));
-    }
-    match record_of(alloc, text, line)? {
-        Some(fields) => {
-            push_fault(alloc, &mut out, program, line, &fields, fault, table)?;
-            Ok(Some(out))
-        }
-        None => Ok(None),
-    }
 }
 
 /// Puts behind the text that the table begins with another record than its header.
 fn push_header(alloc: Global, out: &mut String, text: &[u8], table: Table) -> Result<(), NoMemory> {
     let first = first_line(text);
+    push_line(out, 1, table)?;
     out.push_str(": this isn't the header.\n\n  wanted  ")?;
     out.push_str(table.header())?;
     out.push_str("\n  found   ")?;
@@ -217,14 +144,14 @@ fn push_fault(
         TraceFault::BadFieldCount(_) => push_count(alloc, out, line, fields, table),
         TraceFault::DuplicateExternal(_) => {
             let words = "that action has an event at that tag already.";
-            push_whole(alloc, out, line, fields, words)
+            push_whole(alloc, out, line, fields, table, words)
         }
         TraceFault::TwoStops(_) => {
             let words = "a stop stands before it already.";
-            push_whole(alloc, out, line, fields, words)
+            push_whole(alloc, out, line, fields, table, words)
         }
         _ => match wrong_field(program, fields, fault, table) {
-            Some(wrong) => push_wrong(alloc, out, line, fields, wrong),
+            Some(wrong) => push_wrong(alloc, out, line, fields, table, wrong),
             None => Ok(()),
         },
     }
@@ -264,6 +191,13 @@ const KIND: Wrong = Wrong {
     help: None,
 };
 
+/// Puts the table and the line of a record behind the text.
+fn push_line(out: &mut String, line: u32, table: Table) -> Result<(), NoMemory> {
+    out.push_str(table.word())?;
+    out.push_str(", line ")?;
+    push_number(out, line as usize)
+}
+
 /// Puts behind the text that a record has another number of fields.
 fn push_count(
     alloc: Global,
@@ -272,6 +206,7 @@ fn push_count(
     fields: &ByteRecord,
     table: Table,
 ) -> Result<(), NoMemory> {
+    push_line(out, line, table)?;
     out.push_str(" has ")?;
     push_number(out, fields.len())?;
     out.push_str(" fields, and ")?;
@@ -295,8 +230,10 @@ fn push_whole(
     out: &mut String,
     line: u32,
     fields: &ByteRecord,
+    table: Table,
     words: &str,
 ) -> Result<(), NoMemory> {
+    push_line(out, line, table)?;
     out.push_str(": ")?;
     out.push_str(words)?;
     out.push_str("\n")?;
@@ -309,8 +246,10 @@ fn push_wrong(
     out: &mut String,
     line: u32,
     fields: &ByteRecord,
+    table: Table,
     wrong: Wrong,
 ) -> Result<(), NoMemory> {
+    push_line(out, line, table)?;
     out.push_str(", field ")?;
     push_number(out, wrong.at as usize + 1)?;
     out.push_str(" (")?;
