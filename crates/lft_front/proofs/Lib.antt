@@ -5,3 +5,4 @@ pub mod Pairing
 pub mod Explaining
 pub mod PairExplaining
 pub mod Telling
+pub mod Missing

@@ -70,7 +70,8 @@ impl<'a> Refused<'a> {
     fn contained(&self) -> Result<Vec<Vec<usize>>, NoMemory> {
         let mut numbers: HashMap<&str, usize> = HashMap::new(self.alloc);
         for place in 0..self.reactors.len() {
-            if let Some(name) = &self.reactors[place].name {
+            let reactor = self.reactors[place];
+            if let Some(name) = &reactor.name {
                 numbers.insert(name.as_str(), place)?;
             }
         }
