@@ -15,7 +15,7 @@ use Rattle.lft_listeners.specs.Lists.{TriggerLists, list_at, list_of}
 abbrev pub IsListener : Parts → Trigger → ℕ → Type 0
 IsListener program trigger r = (x : Reaction) × (slice_get program.reactions r ≡ Some x) × Contains x.triggers trigger
 
--- the beat of a timer: its period, and how far its offset goes past whole periods; of two timers with one beat, what the later one has of firings the earlier one has too
+-- the beat of a timer: its period, and how far its offset goes past whole periods. Of two timers with one beat, the one that starts first fires whenever the other does
 abbrev pub beat : TimerOf → ℕ × ℕ
 beat timer = (timer.period, timer.offset % timer.period)
 
