@@ -119,6 +119,12 @@ def bundle(program=BLINK, externals=STOP, trace=ROWS):
     return f"--- program\n{program}--- externals\n{externals}--- trace\n{trace}"
 
 
+def nested(depth):
+    """A program of reactors of which each has ten instances of the next."""
+    reactors = "".join(f"reactor A{i} {{ {' '.join(f'a{j} = new A{i + 1}()' for j in range(10))} }}\n" for i in range(depth))
+    return f"{reactors}reactor A{depth} {{ }}\nmain reactor {{ a = new A0() }}\n"
+
+
 def right_things():
     judged("three texts that are right", prints(ACCEPTED))
     judged("a reaction that starts before the one declared before it has ended", prints("broken rule=9 too-early time=5000000 microstep=0 reaction=main#2\n", 1), trace=EARLY)
@@ -216,6 +222,7 @@ def words():
     case("five files after `explain`", ["explain", *USUAL, "trace.csv", "trace.csv"], refused("error: unexpected argument 'trace.csv' found\n"))
     case("two words after `explain`", ["explain", "blink.lf", "trace.csv"], refused("error: the following required arguments were not provided:\n  <TRACE>\n"))
     case("no bundle for `explain`", ["explain"], fault("bundle 1 BadBundle"), stdin=ROWS)
+    case("a program of a million instances, explained", ["explain", *USUAL], {"status": 2, "out": "Program: the program has more than 1000000 instances, and may have 10000.\n", "err": "fault program 15 TooMany\n"}, files={"blink.lf": nested(7)})
     case("a bundle as a file", ["judge", "bundle.txt"], refused("error: the following required arguments were not provided:\n  <EXTERNALS>\n  <TRACE>\n"), files={"bundle.txt": bundle()})
     case("a file without a command", ["blink.lf"], refused("error: unrecognized subcommand 'blink.lf'\n"))
     case("three files without a command", USUAL, refused("error: unrecognized subcommand 'blink.lf'\n"))

@@ -3,6 +3,7 @@
 
 mod places;
 mod source;
+mod spots;
 
-pub use places::Spot;
 pub use source::Source;
+pub use spots::{MemberPlace, Spot};

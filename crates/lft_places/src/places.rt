@@ -3,65 +3,12 @@
 //! The tree is walked in step with the tokens, so a place is never one of another member, of a type, of a
 //! state variable or of a target's block.
 
-ghost use Rattle.std.specs.Prelude.{◌≡◌, IfSome, slice_range};
-
-use crate::source::{Source, spelling};
+use crate::source::Source;
+use crate::spots::MemberPlace;
 use lft_scope::kinds::Role;
-use lft_tree::{Ast, Connection, Item, Member, Reactor, Reference, TimeExpression};
-
-/// Bytes of a text, from the start up to the end.
-#[derive(Clone, Copy)]
-pub struct Spot {
-    pub start: usize,
-    pub end: usize,
-}
+use lft_tree::{Connection, Item, Member, Reactor, TimeExpression};
 
 impl<'a> Source<'a> {
-    /// The bytes of the token, if it spells the name.
-    pub fn name_spot(&self, at: usize, name: &str) -> Option<Spot>
-        ensures { IfSome result (λ s. slice_range self.now.text.now s.start s.end ≡ name.now) }
-    {
-        if at >= self.tokens.len() {
-            return None;
-        }
-        let token = self.tokens[at];
-        match spelling(self.text, token) {
-            Some(bytes) if bytes == name.as_bytes() => Some(Spot {
-                start: token.start,
-                end: token.end,
-            }),
-            _ => None,
-        }
-    }
-
-    /// The bytes of so many tokens from that one on.
-    pub fn spot(&self, at: usize, count: usize) -> Option<Spot> {
-        let last = at.saturating_add(count.saturating_sub(1));
-        if at >= self.tokens.len() || last >= self.tokens.len() {
-            return None;
-        }
-        Some(Spot {
-            start: self.tokens[at].start,
-            end: self.tokens[last].end,
-        })
-    }
-
-    /// The bytes of a name, of which that is the first token.
-    pub fn reference_spot(&self, at: usize, name: &Reference) -> Option<Spot> {
-        match &name.port {
-            None => self.name_spot(at, name.head.as_str()),
-            Some(_) => self.spot(at, 3),
-        }
-    }
-
-    /// The bytes of a time, of which that is the first token.
-    pub fn time_spot(&self, at: usize, time: &TimeExpression) -> Option<Spot> {
-        match time {
-            TimeExpression::Parameter(name) => self.name_spot(at, name.as_str()),
-            TimeExpression::Written(_) => self.spot(at, 2),
-        }
-    }
-
     /// The token behind the delay of a connection whose names end there.
     fn delay_end(&self, connection: &Connection, at: usize) -> usize {
         match &connection.delay {
@@ -78,7 +25,7 @@ impl<'a> Source<'a> {
     }
 
     /// The token of the name that the member declares, or its first one.
-    pub fn declared(&self, member: &Member, start: usize) -> usize {
+    pub(crate) fn declared(&self, member: &Member, start: usize) -> usize {
         match member {
             Member::Port(_) if self.is_word(start, b"mutable") => start.saturating_add(2),
             Member::Port(_) | Member::Timer(_) => start.saturating_add(1),
@@ -104,7 +51,7 @@ impl<'a> Source<'a> {
     }
 
     /// The token of a reactor's name, or its first one.
-    pub fn reactor_name(&self, reactor: &Reactor, start: usize) -> usize {
+    pub(crate) fn reactor_name(&self, reactor: &Reactor, start: usize) -> usize {
         match &reactor.name {
             Some(_) if reactor.is_main => start.saturating_add(2),
             Some(_) => start.saturating_add(1),
@@ -121,7 +68,7 @@ impl<'a> Source<'a> {
     }
 
     /// The first token of the member with that place in the reactor, or of what is behind all of them.
-    pub fn member_start(&self, reactor: &Reactor, start: usize, place: usize) -> usize {
+    fn member_start(&self, reactor: &Reactor, start: usize, place: usize) -> usize {
         let body = self.group_end(self.head_end(reactor, start));
         let mut at = body.saturating_add(1);
         for before in 0..reactor.members.len() {
@@ -133,19 +80,19 @@ impl<'a> Source<'a> {
         at
     }
 
-    /// The first token of the reactor with that place in the file.
-    pub fn reactor_start(&self, ast: &Ast, place: usize) -> usize {
-        let mut at = match ast.target {
+    /// The reactor with that place in the file, and its first token.
+    pub(crate) fn reactor(&self, place: usize) -> Option<(&'a Reactor, usize)> {
+        let mut at = match self.ast.target {
             Some(range) => range.end,
             None => 0,
         };
         let mut before: usize = 0;
-        for item in &ast.items {
+        for item in &self.ast.items {
             match item {
                 Item::Preamble(range) => at = range.end,
                 Item::Reactor(reactor) => {
                     if before == place {
-                        return at;
+                        return Some((reactor, at));
                     }
                     before = before.saturating_add(1);
                     at = self
@@ -154,7 +101,18 @@ impl<'a> Source<'a> {
                 }
             }
         }
-        at
+        None
+    }
+
+    /// The member, and its first token.
+    pub(crate) fn member(&self, place: MemberPlace) -> Option<(&'a Member, usize)> {
+        let (reactor, start) = self.reactor(place.reactor)?;
+        if place.member < reactor.members.len() {
+            let at = self.member_start(reactor, start, place.member);
+            Some((&reactor.members[place.member], at))
+        } else {
+            None
+        }
     }
 
     /// The token at which a name begins in a list of names, if one does.
@@ -181,7 +139,13 @@ impl<'a> Source<'a> {
     }
 
     /// The first token of a name of the member that begins there, by its role and place.
-    pub fn name(&self, member: &Member, start: usize, role: Role, place: usize) -> Option<usize> {
+    pub(crate) fn name(
+        &self,
+        member: &Member,
+        start: usize,
+        role: Role,
+        place: usize,
+    ) -> Option<usize> {
         let code = self.code_from(start);
         let arrow = self.arrow_from(start);
         match (member, role) {
@@ -208,7 +172,7 @@ impl<'a> Source<'a> {
     }
 
     /// The first token of a value of the instance that begins there: that of the parameter's name.
-    pub fn value(&self, start: usize, place: usize) -> Option<usize> {
+    pub(crate) fn value(&self, start: usize, place: usize) -> Option<usize> {
         let open = start.saturating_add(4);
         let mut before: usize = 0;
         for at in open..self.group_end(open) {
@@ -225,7 +189,7 @@ impl<'a> Source<'a> {
     }
 
     /// The first token of a time of the member that begins there.
-    pub fn time(&self, member: &Member, start: usize, place: usize) -> Option<usize> {
+    pub(crate) fn time_start(&self, member: &Member, start: usize, place: usize) -> Option<usize> {
         match member {
             Member::Timer(_) if place == 0 => Some(start.saturating_add(3)),
             Member::Timer(_) => self.behind_comma(start),
@@ -247,7 +211,7 @@ impl<'a> Source<'a> {
     }
 
     /// The token of a parameter's name in the reactor that begins there.
-    pub fn parameter(&self, reactor: &Reactor, start: usize, place: usize) -> Option<usize> {
+    pub(crate) fn parameter(&self, reactor: &Reactor, start: usize, place: usize) -> Option<usize> {
         let open = self.head_end(reactor, start);
         let mut before: usize = 0;
         for at in open..self.group_end(open) {

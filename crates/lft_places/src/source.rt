@@ -2,15 +2,17 @@
 //!
 //! The text has a tree. So what begins at a token is known from the tree, and only its end is looked for.
 
-ghost use Rattle.std.specs.Prelude.{◌≡◌, IfSome, slice_range};
+ghost use Rattle.std.specs.Prelude.{◌≡◌, ◌<◌, ◌+◌, ℕ, IfSome, IsTrue, length, slice_range};
 
 use lft_syntax::{Token, TokenKind};
+use lft_tree::Ast;
 
-/// A program's text with its tokens.
+/// A program's text with its tokens and its tree.
 #[derive(Clone, Copy)]
 pub struct Source<'a> {
     pub text: &'a [u8],
     pub tokens: &'a [Token],
+    pub ast: &'a Ast,
 }
 
 /// The bytes of a token.
@@ -24,10 +26,24 @@ pub(crate) fn spelling(text: &[u8], token: Token) -> Option<&[u8]>
     }
 }
 
-/// Whether the bytes stand in the text.
-fn holds(text: &[u8], bytes: &[u8]) -> bool {
+/// Whether the bytes stand in the text at the place.
+fn stands_at(text: &[u8], bytes: &[u8], place: usize) -> bool
+    requires { place < length text.now }
+    ensures { IsTrue result → slice_range text.now place (place + length bytes.now) ≡ bytes.now }
+{
+    if text.len() - place < bytes.len() {
+        return false;
+    }
+    let there = &text[place..place + bytes.len()];
+    there == bytes
+}
+
+/// Whether the bytes stand somewhere in the text.
+pub(crate) fn holds(text: &[u8], bytes: &[u8]) -> bool
+    ensures { IsTrue result → (place : ℕ) × (slice_range text.now place (place + length bytes.now) ≡ bytes.now) }
+{
     for start in 0..text.len() {
-        if text[start..].starts_with(bytes) {
+        if stands_at(text, bytes, start) {
             return true;
         }
     }
@@ -55,12 +71,12 @@ impl<'a> Source<'a> {
     }
 
     /// Whether the token is code.
-    pub fn is_code(&self, at: usize) -> bool {
+    fn is_code(&self, at: usize) -> bool {
         self.kind(at) == Some(TokenKind::Code)
     }
 
     /// Whether the token is an arrow.
-    pub(crate) fn is_arrow(&self, at: usize) -> bool {
+    fn is_arrow(&self, at: usize) -> bool {
         self.kind(at) == Some(TokenKind::Arrow)
     }
 
@@ -71,17 +87,6 @@ impl<'a> Source<'a> {
         }
         match spelling(self.text, self.tokens[at]) {
             Some(bytes) => bytes == word,
-            None => false,
-        }
-    }
-
-    /// Whether the bytes stand in the token.
-    pub fn has(&self, at: usize, bytes: &[u8]) -> bool {
-        if at >= self.tokens.len() {
-            return false;
-        }
-        match spelling(self.text, self.tokens[at]) {
-            Some(spelled) => holds(spelled, bytes),
             None => false,
         }
     }
@@ -141,7 +146,7 @@ impl<'a> Source<'a> {
     }
 
     /// The first arrow at or behind the token, else the number of tokens.
-    pub fn arrow_from(&self, start: usize) -> usize {
+    pub(crate) fn arrow_from(&self, start: usize) -> usize {
         for at in start..self.tokens.len() {
             if self.is_arrow(at) {
                 return at;

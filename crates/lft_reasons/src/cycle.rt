@@ -1,139 +1,23 @@
-//! What is said of connections that alone form a loop.
-//!
-//! The instances are listed as they are walked, and for each port at which a connection ends the port where
-//! it begins. A loop is found by going back from port to port.
+//! What is said of connections that alone form a loop. It is found by going back from port to port.
 
 use crate::reason::Reason;
 use crate::refused::Refused;
+use crate::wiring::{Named, Placed, Wiring};
+use lft_scope::kinds::Role;
 use lft_tag::NoMemory;
-use lft_tree::{Connection, Member, Reactor, Reference};
 use std::alloc::Global;
 use std::collections::HashMap;
 
-/// More instances than a program may have aren't walked.
-const MOST_INSTANCES: usize = 10_000;
 /// More ports of a loop aren't named.
 const MOST_NAMES: usize = 12;
 
-/// An instance: its reactor, its name, and the number of the one that contains it.
-#[derive(Clone, Copy)]
-struct Inside<'a> {
-    reactor: &'a Reactor,
-    name: &'a str,
-    parent: usize,
-}
-
-/// All instances, by what contains them and their names too, and the source of each port that has one. A
-/// port is the number of its instance and its name there.
-#[derive(Drop)]
-struct Wiring<'a> {
-    instances: Vec<Inside<'a>>,
-    children: HashMap<(usize, &'a str), usize>,
-    sources: HashMap<(usize, &'a str), (usize, &'a str)>,
-    ends: Vec<(usize, &'a str)>,
-}
-
 impl<'a> Wiring<'a> {
-    /// The wiring of the main reactor alone.
-    fn new(alloc: Global, main: &'a Reactor) -> Result<Wiring<'a>, NoMemory> {
-        let mut instances = Vec::new(alloc);
-        instances.push(Inside {
-            reactor: main,
-            name: "main",
-            parent: 0,
-        })?;
-        Ok(Wiring {
-            instances,
-            children: HashMap::new(alloc),
-            sources: HashMap::new(alloc),
-            ends: Vec::new(alloc),
-        })
-    }
-
-    /// Lists the instances that an instance contains.
-    fn add_children(
-        &mut self,
-        named: &HashMap<&'a str, &'a Reactor>,
-        number: usize,
-        members: &'a [Member],
-    ) -> Result<(), NoMemory> {
-        for member in members {
-            if let Member::Instance(instance) = member {
-                if let Some(reactor) = named.get(instance.reactor.as_str()).copied() {
-                    let name = instance.name.as_str();
-                    self.children.insert((number, name), self.instances.len())?;
-                    self.instances.push(Inside {
-                        reactor,
-                        name,
-                        parent: number,
-                    })?;
-                }
-            }
-        }
-        Ok(())
-    }
-
-    /// Lists all instances.
-    fn add_instances(&mut self, named: &HashMap<&'a str, &'a Reactor>) -> Result<(), NoMemory> {
-        for number in 0..MOST_INSTANCES {
-            if number >= self.instances.len() {
-                return Ok(());
-            }
-            let reactor = self.instances[number].reactor;
-            self.add_children(named, number, &reactor.members)?;
-        }
-        Ok(())
-    }
-
-    /// The port that a name is in an instance.
-    fn port(&self, number: usize, name: &'a Reference) -> Option<(usize, &'a str)> {
-        match &name.port {
-            None => Some((number, name.head.as_str())),
-            Some(port) => match self.children.get(&(number, name.head.as_str())).copied() {
-                Some(child) => Some((child, port.as_str())),
-                None => None,
-            },
-        }
-    }
-
-    /// Keeps the sources of the ports at which a connection in an instance ends.
-    fn connect(&mut self, number: usize, connection: &'a Connection) -> Result<(), NoMemory> {
-        for place in 0..connection.destinations.len() {
-            if place < connection.sources.len() {
-                let from = self.port(number, &connection.sources[place]);
-                let to = self.port(number, &connection.destinations[place]);
-                if let (Some(from), Some(to)) = (from, to) {
-                    self.sources.insert(to, from)?;
-                    self.ends.push(to)?;
-                }
-            }
-        }
-        Ok(())
-    }
-
-    /// Keeps the sources of all ports.
-    fn connect_all(&mut self) -> Result<(), NoMemory> {
-        for number in 0..self.instances.len() {
-            let reactor = if number < self.instances.len() {
-                self.instances[number].reactor
-            } else {
-                return Ok(());
-            };
-            for member in &reactor.members {
-                if let Member::Connection(connection) = member {
-                    self.connect(number, connection)?;
-                }
-            }
-        }
-        Ok(())
-    }
-
     /// Goes back from a port. A port of a loop, if that leads into one that isn't known.
     fn back_from(
         &self,
-        seen: &mut HashMap<(usize, &'a str), usize>,
+        seen: &mut HashMap<Named<'a>, usize>,
         start: usize,
-    ) -> Result<Option<(usize, &'a str)>, NoMemory> {
+    ) -> Result<Option<Named<'a>>, NoMemory> {
         if start >= self.ends.len() {
             return Ok(None);
         }
@@ -144,8 +28,8 @@ impl<'a> Wiring<'a> {
                 Some(_) => return Ok(None),
                 None => {}
             }
-            match self.sources.get(&at).copied() {
-                Some(from) => at = from,
+            match self.joined(at) {
+                Some(join) => at = join.from,
                 None => return Ok(None),
             }
         }
@@ -153,7 +37,7 @@ impl<'a> Wiring<'a> {
     }
 
     /// A port of a loop.
-    fn looped(&self, alloc: Global) -> Result<Option<(usize, &'a str)>, NoMemory> {
+    fn looped(&self, alloc: Global) -> Result<Option<Named<'a>>, NoMemory> {
         let mut seen = HashMap::new(alloc);
         for start in 0..self.ends.len() {
             let found = self.back_from(&mut seen, start)?;
@@ -165,58 +49,21 @@ impl<'a> Wiring<'a> {
     }
 
     /// The ports of the loop on which the port lies, back from it.
-    fn circle(
-        &self,
-        alloc: Global,
-        first: (usize, &'a str),
-    ) -> Result<Vec<(usize, &'a str)>, NoMemory> {
+    fn circle(&self, alloc: Global, first: Named<'a>) -> Result<Vec<Named<'a>>, NoMemory> {
         let mut found = Vec::new(alloc);
         let mut at = first;
         for _step in 0..self.ends.len() {
             found.push(at)?;
-            match self.sources.get(&at).copied() {
-                Some(from) if from != first => at = from,
+            match self.joined(at) {
+                Some(join) if join.from != first => at = join.from,
                 _ => return Ok(found),
             }
         }
         Ok(found)
     }
 
-    /// The names of the instances around a port, from its own up to `main`.
-    fn path(&self, alloc: Global, number: usize) -> Result<Vec<&'a str>, NoMemory> {
-        let mut names = Vec::new(alloc);
-        let mut at = number;
-        for _step in 0..MOST_INSTANCES {
-            if at >= self.instances.len() {
-                return Ok(names);
-            }
-            names.push(self.instances[at].name)?;
-            if at == 0 {
-                return Ok(names);
-            }
-            at = self.instances[at].parent;
-        }
-        Ok(names)
-    }
-
-    /// Puts the full name of a port behind the text.
-    fn push_port(
-        &self,
-        alloc: Global,
-        out: &mut String,
-        port: (usize, &'a str),
-    ) -> Result<(), NoMemory> {
-        let names = self.path(alloc, port.0)?;
-        for name in names.iter().rev() {
-            out.push_str(*name)?;
-            out.push_str(".")?;
-        }
-        out.push_str(port.1)?;
-        Ok(())
-    }
-
     /// The ports of the loop on which the port lies, in the direction of the connections.
-    fn words(&self, alloc: Global, first: (usize, &'a str)) -> Result<String, NoMemory> {
+    fn words(&self, alloc: Global, first: Named<'a>) -> Result<String, NoMemory> {
         let ports = self.circle(alloc, first)?;
         let mut out = String::new(alloc);
         self.push_port(alloc, &mut out, first)?;
@@ -234,41 +81,53 @@ impl<'a> Wiring<'a> {
 
 impl<'a> Refused<'a> {
     /// The reactors that have a name, by name.
-    fn by_name(&self) -> Result<HashMap<&'a str, &'a Reactor>, NoMemory> {
+    fn by_name(&self) -> Result<HashMap<&'a str, Placed<'a>>, NoMemory> {
         let mut named = HashMap::new(self.alloc);
-        for reactor in self.reactors {
+        for place in 0..self.reactors.len() {
+            let reactor = self.reactors[place];
             if let Some(name) = &reactor.name {
-                named.insert(name.as_str(), *reactor)?;
+                named.insert(name.as_str(), Placed { reactor, place })?;
             }
         }
         Ok(named)
     }
 
     /// The first main reactor.
-    fn main(&self) -> Option<&'a Reactor> {
-        for reactor in self.reactors {
+    pub(crate) fn main(&self) -> Option<Placed<'a>> {
+        for place in 0..self.reactors.len() {
+            let reactor = self.reactors[place];
             if reactor.is_main {
-                return Some(*reactor);
+                return Some(Placed { reactor, place });
             }
         }
         None
     }
 
-    /// Connections alone form a loop.
-    pub(crate) fn cycle(&self) -> Result<Option<Reason>, NoMemory> {
+    /// The instances of the program and its connections, if it has a main reactor.
+    pub(crate) fn wiring(&self) -> Result<Option<Wiring<'a>>, NoMemory> {
         let Some(main) = self.main() else {
             return Ok(None);
         };
         let named = self.by_name()?;
-        let mut wiring = Wiring::new(self.alloc, main)?;
-        wiring.add_instances(&named)?;
-        wiring.connect_all()?;
+        Ok(Some(Wiring::of(self.alloc, main, &named)?))
+    }
+
+    /// Connections alone form a loop. The place is the end of one of them.
+    pub(crate) fn cycle(&self) -> Result<Option<Reason>, NoMemory> {
+        let Some(wiring) = self.wiring()? else {
+            return Ok(None);
+        };
         let Some(port) = wiring.looped(self.alloc)? else {
             return Ok(None);
         };
+        let Some(join) = wiring.joined(port) else {
+            return Ok(None);
+        };
+        let (role, place, name) = (Role::Destination, join.place, join.destination);
         let words = wiring.words(self.alloc, port)?;
-        let reason = Reason::of(self.alloc, "connections alone form a loop")?;
-        let reason = reason.way(words.as_str())?;
+        let reason = Reason::of(self.alloc, "connections alone form a loop")?
+            .at(self.source.name_spot(join.at, role, place, name))
+            .way(words.as_str())?;
         let way = "No delay breaks such a loop: a reaction has to stand in it.";
         Ok(Some(reason.way(way)?))
     }

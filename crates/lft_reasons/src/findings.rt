@@ -25,10 +25,7 @@ impl<'a> Refused<'a> {
             return Ok(None);
         }
         let name = names[place];
-        match self.source.name(site.member, site.start, role, place) {
-            Some(at) => Ok(Some((name, self.source.reference_spot(at, name)))),
-            None => Ok(Some((name, None))),
-        }
+        Ok(Some((name, self.source.name_spot(site.at, role, place, name))))
     }
 
     /// The time with that place in the member, and where it stands.
@@ -42,10 +39,7 @@ impl<'a> Refused<'a> {
             return Ok(None);
         }
         let time = times[place];
-        match self.source.time(site.member, site.start, place) {
-            Some(at) => Ok(Some((time, self.source.time_spot(at, time)))),
-            None => Ok(Some((time, None))),
-        }
+        Ok(Some((time, self.source.time_spot(site.at, place, time))))
     }
 
     /// A name may not stand there.
@@ -107,9 +101,8 @@ impl<'a> Refused<'a> {
         let Some(name) = declared_name(site.member) else {
             return Ok(None);
         };
-        let at = self.source.declared(site.member, site.start);
         let reason = Reason::of(self.alloc, "the main reactor has a port, ")?.say(name)?;
-        let reason = reason.at(self.source.name_spot(at, name));
+        let reason = reason.at(self.source.declared_spot(site.at, name));
         let way = "A main reactor has no ports. What comes from outside is a physical action.";
         Ok(Some(reason.way(way)?))
     }
@@ -120,7 +113,6 @@ impl<'a> Refused<'a> {
         let (mut from, mut to) = (Buffer::new(), Buffer::new());
         let from = from.format(connection.sources.len() as u64);
         let to = to.format(connection.destinations.len() as u64);
-        let arrow = self.source.arrow_from(site.start);
         let reason = Reason::of(self.alloc, "in ")?
             .say(owner)?
             .say(name)?
@@ -128,7 +120,7 @@ impl<'a> Refused<'a> {
             .say(from)?
             .say(" names to ")?
             .say(to)?
-            .at(self.source.spot(arrow, 1));
+            .at(self.source.arrow_spot(site.at));
         reason.way("Write as many names behind the arrow as before it.")
     }
 
@@ -139,7 +131,7 @@ impl<'a> Refused<'a> {
             .say(owner)?
             .say(name)?
             .say(" has no trigger")?;
-        let reason = reason.at(self.source.spot(site.start, 1));
+        let reason = reason.at(self.source.reaction_spot(site.at));
         reason.way("Write one between the parentheses, as `startup`.")
     }
 
@@ -195,14 +187,8 @@ impl<'a> Refused<'a> {
             .say(" gives the parameter ")?
             .say(name)?
             .say(" two values")?;
-        let reason = reason.at(self.value_spot(site, second, name));
-        Ok(Some(reason.before(self.value_spot(site, first, name))))
-    }
-
-    /// Where the name of a parameter stands that gets a value.
-    fn value_spot(&self, site: Site<'a>, place: usize, name: &str) -> Option<Spot> {
-        self.source
-            .name_spot(self.source.value(site.start, place)?, name)
+        let reason = reason.at(self.source.value_spot(site.at, second, name));
+        Ok(Some(reason.before(self.source.value_spot(site.at, first, name))))
     }
 
     /// A time is too long.

@@ -3,7 +3,9 @@
 //! and what to write.
 
 mod candidates;
+mod census;
 mod cycle;
+mod delays;
 mod findings;
 mod loops;
 mod near;
@@ -13,6 +15,7 @@ mod recursion;
 mod refused;
 mod tell;
 mod unknown;
+mod wiring;
 mod words;
 
 pub use loops::tell_loop;

@@ -143,7 +143,19 @@ impl<'a> Refused<'a> {
         }
     }
 
-    /// What is said of a cause that has no witness.
+    /// What is said of a cause that no single place shows: a circle of reactors, connections that form a
+    /// loop, a chain of delays, a number of things.
+    pub(crate) fn of_whole(&self, cause: u32) -> Result<Option<Reason>, NoMemory> {
+        match cause {
+            5 => self.recursive(),
+            10 => self.cycle(),
+            14 => self.long_chain(),
+            15 => self.too_many(),
+            _ => Ok(None),
+        }
+    }
+
+    /// What is said of a cause that nothing shows.
     pub(crate) fn of_cause(&self, cause: u32) -> Result<Option<Reason>, NoMemory> {
         let Some(said) = cause_words(cause) else {
             return Ok(None);

@@ -30,7 +30,7 @@ impl<'a> Refused<'a> {
             return reason;
         };
         match self.site(first, place) {
-            Some(site) => reason.at(self.source.name_spot(site.start.saturating_add(3), name)),
+            Some(site) => reason.at(self.source.instance_spot(site.at, name)),
             None => reason,
         }
     }
@@ -47,7 +47,7 @@ impl<'a> Refused<'a> {
 
     /// A reactor contains itself.
     pub(crate) fn recursive(&self) -> Result<Option<Reason>, NoMemory> {
-        let circle = circle_of(self.alloc, self.ast)?;
+        let circle = circle_of(self.alloc, self.source.ast)?;
         if circle.is_empty() {
             return Ok(None);
         }

@@ -1,7 +1,7 @@
 //! A program that has a tree and is refused, and where the parts of its tree stand in its text.
 
-use lft_places::{Source, Spot};
-use lft_tree::{Ast, Member, Reactor};
+use lft_places::{MemberPlace, Source, Spot};
+use lft_tree::{Member, Reactor};
 use lft_witnesses::declared_name;
 use std::alloc::Global;
 
@@ -10,16 +10,15 @@ use std::alloc::Global;
 pub(crate) struct Refused<'a> {
     pub alloc: Global,
     pub source: Source<'a>,
-    pub ast: &'a Ast,
     pub reactors: &'a [&'a Reactor],
 }
 
-/// A member of a reactor, with where it stands: its reactor, its place there, and its first token.
+/// A member of a reactor, and which one it is.
 #[derive(Clone, Copy)]
 pub(crate) struct Site<'a> {
     pub reactor: &'a Reactor,
     pub member: &'a Member,
-    pub start: usize,
+    pub at: MemberPlace,
 }
 
 impl<'a> Refused<'a> {
@@ -65,22 +64,19 @@ impl<'a> Refused<'a> {
         if member >= owner.members.len() {
             return None;
         }
-        let start = self.source.reactor_start(self.ast, reactor);
         Some(Site {
             reactor: owner,
             member: &owner.members[member],
-            start: self.source.member_start(owner, start, member),
+            at: MemberPlace { reactor, member },
         })
     }
 
     /// Where the name of a reactor stands, or `main reactor` where it has none.
     pub(crate) fn reactor_spot(&self, place: usize) -> Option<Spot> {
         let reactor = self.reactor(place)?;
-        let start = self.source.reactor_start(self.ast, place);
-        let at = self.source.reactor_name(reactor, start);
         match &reactor.name {
-            Some(name) => self.source.name_spot(at, name.as_str()),
-            None => self.source.spot(at, 2),
+            Some(name) => self.source.reactor_spot(place, name.as_str()),
+            None => self.source.main_spot(place),
         }
     }
 
@@ -91,19 +87,19 @@ impl<'a> Refused<'a> {
         number: usize,
     ) -> Option<(&'a str, Option<Spot>)> {
         let reactor = self.reactor(place)?;
-        let start = self.source.reactor_start(self.ast, place);
         if number < reactor.parameters.len() {
             let name = reactor.parameters[number].name.as_str();
-            let at = self.source.parameter(reactor, start, number)?;
-            return Some((name, self.source.name_spot(at, name)));
+            return Some((name, self.source.parameter_spot(place, number, name)));
         }
         let mut before = reactor.parameters.len();
         for member in 0..reactor.members.len() {
             if let Some(name) = declared_name(&reactor.members[member]) {
                 if before == number {
-                    let at = self.source.member_start(reactor, start, member);
-                    let at = self.source.declared(&reactor.members[member], at);
-                    return Some((name, self.source.name_spot(at, name)));
+                    let at = MemberPlace {
+                        reactor: place,
+                        member,
+                    };
+                    return Some((name, self.source.declared_spot(at, name)));
                 }
                 before = before.saturating_add(1);
             }

@@ -1,5 +1,8 @@
 //! Why a program with a tree is refused, for people.
 
+ghost use Rattle.std.specs.Prelude.{IfOk, IfSome};
+ghost use Rattle.lft_refusals.specs.Refusals.{HasTree};
+
 use crate::reason::Reason;
 use crate::refused::Refused;
 use lft_places::{Source, Spot};
@@ -25,17 +28,13 @@ fn reason_of(
         source: Source {
             text,
             tokens: tokens.as_slice(),
+            ast,
         },
-        ast,
         reactors: &reactors,
     };
-    let shown = match cause {
-        5 => refused.recursive()?,
-        10 => refused.cycle()?,
-        _ => match witness_of(alloc, &reactors, cause)? {
-            Some(witness) => refused.of_witness(witness)?,
-            None => None,
-        },
+    let shown = match witness_of(alloc, &reactors, cause)? {
+        Some(witness) => refused.of_witness(witness)?,
+        None => refused.of_whole(cause)?,
     };
     match shown {
         Some(reason) => Ok(Some(reason)),
@@ -83,7 +82,9 @@ fn lines(alloc: Global, text: &[u8], reason: &Reason) -> Result<String, NoMemory
 /// feed: the place, what is wrong there, the line with a mark, and what to write. Where something stands
 /// twice, both lines. Of several places the first in the text. None where the text has no tree, and where no
 /// cause has that number.
-pub fn tell_cause(alloc: Global, text: &[u8], cause: u32) -> Result<Option<String>, NoMemory> {
+pub fn tell_cause(alloc: Global, text: &[u8], cause: u32) -> Result<Option<String>, NoMemory>
+    ensures { IfOk result (λ told. IfSome told (λ _. HasTree text.now)) }
+{
     let tokens = match lex(alloc, text) {
         Ok(tokens) => tokens,
         Err(LexFault::NoMemory) => return Err(NoMemory),
@@ -95,7 +96,10 @@ pub fn tell_cause(alloc: Global, text: &[u8], cause: u32) -> Result<Option<Strin
         Err(_) => return Ok(None),
     };
     match reason_of(alloc, text, &tokens, &ast, cause)? {
-        Some(reason) => Ok(Some(lines(alloc, text, &reason)?)),
+        Some(reason) => {
+            let words = lines(alloc, text, &reason)?;
+            Ok(Some(words))
+        }
         None => Ok(None),
     }
 }

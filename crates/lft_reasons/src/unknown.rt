@@ -37,9 +37,9 @@ impl<'a> Refused<'a> {
             .say(" has an instance of ")?
             .say(wanted)?
             .say(", which is no reactor of the text")?;
-        let spot = self.source.name_spot(site.start.saturating_add(3), wanted);
+        let spot = self.source.instance_spot(site.at, wanted);
         let reason = meant(reason.at(spot), self.near_reactor(wanted)?)?;
-        if self.has_code_with(b"reaction") {
+        if self.source.has_code_with(b"reaction") {
             let way = "Some code has the word `reaction`: is the `=}` before that missing?";
             return Ok(Some(reason.way(way)?));
         }
@@ -161,23 +161,10 @@ impl<'a> Refused<'a> {
             .say(" a value for ")?
             .say(wanted)?
             .say(", which is no parameter of it")?;
-        let reason = match self.source.value(site.start, value) {
-            Some(at) => reason.at(self.source.name_spot(at, wanted)),
-            None => reason,
-        };
+        let reason = reason.at(self.source.value_spot(site.at, value, wanted));
         match self.named(inner) {
             Some(reactor) => Ok(Some(meant(reason, self.near_parameter(reactor, wanted)?)?)),
             None => Ok(Some(reason)),
         }
-    }
-
-    /// Whether some code of the text has those bytes.
-    fn has_code_with(&self, word: &[u8]) -> bool {
-        for at in 0..self.source.tokens.len() {
-            if self.source.is_code(at) && self.source.has(at, word) {
-                return true;
-            }
-        }
-        false
     }
 }

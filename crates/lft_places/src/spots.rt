@@ -1,0 +1,237 @@
+//! Spots of a program's text, and what stands there.
+//!
+//! Each part is looked for where the tree and the tokens have it. What is found there is compared with the
+//! name that is wanted, so a spot is never one of something else.
+
+ghost use Rattle.std.specs.Prelude.{◌≡◌, ◌≤◌, Contains, IfSome, IsTrue, codes};
+ghost use Rattle.lft_syntax.specs.declared.token.Token.{Token as TheToken};
+ghost use Rattle.lft_syntax.specs.declared.token.TokenKind.TheVariants.{Number};
+ghost use Rattle.lft_tree.specs.View.{ref_view, time_view};
+ghost use Rattle.lft_places.specs.Spots.{HasCodeWith, NameStandsAt, StandAt, StandsAt, TimeStandsAt};
+
+use crate::source::{Source, holds, spelling};
+use lft_scope::kinds::Role;
+use lft_syntax::{Token, TokenKind};
+use lft_tree::{Reference, Time, TimeExpression};
+
+/// Bytes of a text, from the start up to the end.
+#[derive(Clone, Copy)]
+pub struct Spot {
+    pub start: usize,
+    pub end: usize,
+}
+
+/// Which member: the place of its reactor in the file, and its own place there.
+#[derive(Clone, Copy)]
+pub struct MemberPlace {
+    pub reactor: usize,
+    pub member: usize,
+}
+
+impl Spot {
+    /// From the start of one spot to the end of another one behind it.
+    fn up_to(self, last: Spot) -> Option<Spot>
+        ensures { IfSome result (λ s. (s.start ≡ self.start) × (self.end ≤ last.start) × (s.end ≡ last.end)) }
+    {
+        if self.end <= last.start {
+            Some(Spot {
+                start: self.start,
+                end: last.end,
+            })
+        } else {
+            None
+        }
+    }
+}
+
+impl<'a> Source<'a> {
+    /// The bytes of the token, if it spells the word.
+    fn word(&self, at: usize, word: &str) -> Option<Spot>
+        ensures { IfSome result (λ s. StandsAt self.now.text.now s word.now) }
+    {
+        if at >= self.tokens.len() {
+            return None;
+        }
+        let token = self.tokens[at];
+        match spelling(self.text, token) {
+            Some(bytes) if bytes == word.as_bytes() => Some(Spot {
+                start: token.start,
+                end: token.end,
+            }),
+            _ => None,
+        }
+    }
+
+    /// The bytes from one token up to another, if they spell these words.
+    fn words(&self, first: usize, word: &str, last: usize, other: &str) -> Option<Spot>
+        ensures { IfSome result (λ s. StandAt self.now.text.now s word.now other.now) }
+    {
+        match (self.word(first, word), self.word(last, other)) {
+            (Some(one), Some(other)) => one.up_to(other),
+            _ => None,
+        }
+    }
+
+    /// The bytes of a name, of which that is the first token.
+    fn reference(&self, at: usize, name: &Reference) -> Option<Spot>
+        ensures { IfSome result (λ s. NameStandsAt self.now.text.now s (ref_view name.now)) }
+    {
+        match &name.port {
+            None => self.word(at, name.head.as_str()),
+            Some(port) => {
+                let last = at.saturating_add(2);
+                self.words(at, name.head.as_str(), last, port.as_str())
+            }
+        }
+    }
+
+    /// The end of the token behind a number, if the number has a unit.
+    fn unit_end(&self, number: Token, at: usize, time: Time) -> usize {
+        let unit = at.saturating_add(1);
+        if time.unit.is_some() && unit < self.tokens.len() {
+            self.tokens[unit].end
+        } else {
+            number.end
+        }
+    }
+
+    /// The bytes of a time that is written, of which that is the first token.
+    fn written(&self, at: usize, time: Time) -> Option<Spot>
+        ensures { IfSome result (λ s. (token : TheToken) × Contains self.now.tokens.now token × (token.start ≡ s.start) × (token.kind ≡ Number time.count)) }
+    {
+        if at >= self.tokens.len() {
+            return None;
+        }
+        let token = self.tokens[at];
+        if token.kind == TokenKind::Number(time.count) {
+            Some(Spot {
+                start: token.start,
+                end: self.unit_end(token, at, time),
+            })
+        } else {
+            None
+        }
+    }
+
+    /// The bytes of a time, of which that is the first token.
+    fn time(&self, at: usize, time: &TimeExpression) -> Option<Spot>
+        ensures { IfSome result (λ s. TimeStandsAt self.now.text.now self.now.tokens.now s (time_view time.now)) }
+    {
+        match time {
+            TimeExpression::Parameter(name) => self.word(at, name.as_str()),
+            TimeExpression::Written(time) => self.written(at, *time),
+        }
+    }
+
+    /// The name of a reactor.
+    pub fn reactor_spot(&self, reactor: usize, name: &str) -> Option<Spot>
+        ensures { IfSome result (λ s. StandsAt self.now.text.now s name.now) }
+    {
+        let (reactor, start) = self.reactor(reactor)?;
+        self.word(self.reactor_name(reactor, start), name)
+    }
+
+    /// The words `main reactor`.
+    pub fn main_spot(&self, reactor: usize) -> Option<Spot>
+        ensures { IfSome result (λ s. StandAt self.now.text.now s (codes "main") (codes "reactor")) }
+    {
+        let (_, start) = self.reactor(reactor)?;
+        self.words(start, "main", start.saturating_add(1), "reactor")
+    }
+
+    /// The name of a parameter where its reactor declares it.
+    pub fn parameter_spot(&self, reactor: usize, parameter: usize, name: &str) -> Option<Spot>
+        ensures { IfSome result (λ s. StandsAt self.now.text.now s name.now) }
+    {
+        let (reactor, start) = self.reactor(reactor)?;
+        self.word(self.parameter(reactor, start, parameter)?, name)
+    }
+
+    /// The name that a member declares.
+    pub fn declared_spot(&self, at: MemberPlace, name: &str) -> Option<Spot>
+        ensures { IfSome result (λ s. StandsAt self.now.text.now s name.now) }
+    {
+        let (member, start) = self.member(at)?;
+        self.word(self.declared(member, start), name)
+    }
+
+    /// A name of a member, by its role and its place there.
+    pub fn name_spot(
+        &self,
+        at: MemberPlace,
+        role: Role,
+        place: usize,
+        name: &Reference,
+    ) -> Option<Spot>
+        ensures { IfSome result (λ s. NameStandsAt self.now.text.now s (ref_view name.now)) }
+    {
+        let (member, start) = self.member(at)?;
+        self.reference(self.name(member, start, role, place)?, name)
+    }
+
+    /// A time of a member, by its place there.
+    pub fn time_spot(&self, at: MemberPlace, place: usize, time: &TimeExpression) -> Option<Spot>
+        ensures { IfSome result (λ s. TimeStandsAt self.now.text.now self.now.tokens.now s (time_view time.now)) }
+    {
+        let (member, start) = self.member(at)?;
+        self.time(self.time_start(member, start, place)?, time)
+    }
+
+    /// The name of the parameter to which an instance gives a value, by the place of the value.
+    pub fn value_spot(&self, at: MemberPlace, place: usize, name: &str) -> Option<Spot>
+        ensures { IfSome result (λ s. StandsAt self.now.text.now s name.now) }
+    {
+        let (_, start) = self.member(at)?;
+        self.word(self.value(start, place)?, name)
+    }
+
+    /// The name of the reactor of which a member is an instance.
+    pub fn instance_spot(&self, at: MemberPlace, name: &str) -> Option<Spot>
+        ensures { IfSome result (λ s. StandsAt self.now.text.now s name.now) }
+    {
+        let (_, start) = self.member(at)?;
+        self.word(start.saturating_add(3), name)
+    }
+
+    /// The arrow of a connection.
+    pub fn arrow_spot(&self, at: MemberPlace) -> Option<Spot>
+        ensures { IfSome result (λ s. StandsAt self.now.text.now s (codes "->")) }
+    {
+        let (_, start) = self.member(at)?;
+        self.word(self.arrow_from(start), "->")
+    }
+
+    /// The word with which a reaction begins.
+    pub fn reaction_spot(&self, at: MemberPlace) -> Option<Spot>
+        ensures { IfSome result (λ s. StandsAt self.now.text.now s (codes "reaction")) }
+    {
+        let (_, start) = self.member(at)?;
+        self.word(start, "reaction")
+    }
+
+    /// Whether the bytes stand in the token, which is code.
+    fn is_code_with(&self, at: usize, word: &[u8]) -> bool
+        ensures { IsTrue result → HasCodeWith self.now.text.now self.now.tokens.now word.now }
+    {
+        if at >= self.tokens.len() {
+            return false;
+        }
+        let token = self.tokens[at];
+        match spelling(self.text, token) {
+            Some(spelled) => token.kind == TokenKind::Code && holds(spelled, word),
+            None => false,
+        }
+    }
+
+    /// Whether some code of the text has those bytes.
+    pub fn has_code_with(&self, word: &[u8]) -> bool
+        ensures { IsTrue result → HasCodeWith self.now.text.now self.now.tokens.now word.now }
+    {
+        for at in 0..self.tokens.len() {
+            if self.is_code_with(at, word) {
+                return true;
+            }
+        }
+        false
+    }
+}
