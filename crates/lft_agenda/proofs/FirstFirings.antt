@@ -53,7 +53,7 @@ none_skipped program q last from next fs are u covers f c = go (order_cases last
     go : Before last (tag_of_firing f) ⊎ UpTo (tag_of_firing f) last → UpTo next (tag_of_firing f)
     go (inl b) = Before-weaken next (tag_of_firing f) (UpTo-Before next last (tag_of_firing f) u b)
     go (inr v) =
-        let k = covers (tag_of_firing f) o.0.0 (Timer f.timer, (o.1.0, o.1.1, o.1.2.fires), o.0.1) o.1.2.holds v in
+        let k = covers (tag_of_firing f) o.0.0 (Timer f.timer, (o.1.0, o.1.1, o.1.2.fires), (o.0.1, o.0.2, o.0.3.there)) o.1.2.holds v in
         let e : next ≡ k.0 = same_some (Some next) next k.0 refl k.1 in
         subst (λ (g : Tag). UpTo g (tag_of_firing f)) (sym e) k.2
 

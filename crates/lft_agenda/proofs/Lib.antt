@@ -1,5 +1,6 @@
 pub mod Opening
 pub mod Stops
+pub mod LedFirings
 pub mod NextFiring
 pub mod Awaiting
 pub mod Told

@@ -16,6 +16,7 @@ use Rattle.lft_agenda.specs.declared.firings.Firing.{Firing}
 use Rattle.lft_agenda.specs.Telling.{IsTold, FiresAt}
 use Rattle.lft_agenda.specs.Firings.{tag_of_firing, IsFirstOf, AreFirst, IsMoved, how_many_until}
 use Rattle.lft_agenda.proofs.ToldTurns.{told_none, told_as, told_more}
+use Rattle.lft_agenda.proofs.LedFirings.{live_fires}
 use Rattle.lft_agenda.proofs.FirstFirings.{first_up_to, first_after}
 
 -- what was taken out was there
@@ -137,7 +138,7 @@ module _ (program : Parts) (g : Tag) where
     left_taken n (inr q) = absurd (UpTo-not (tag_of_firing q.0) g q.3 (over q.0 q.1))
 
     pub told_taken : (a b : TurnParts) → IsTold (λ r. (n : ℕ) × Mem n taken × IsListener program (Timer n) r) a b → IsTold (λ r. (n : ℕ) × FiresAt program g n × IsListener program (Timer n) r) a b
-    told_taken a b = told_as (λ r. (n : ℕ) × Mem n taken × IsListener program (Timer n) r) (λ r. (n : ℕ) × FiresAt program g n × IsListener program (Timer n) r) a b (λ r q. (q.0, are.fired q.0 q.1, q.2)) (λ r q. (q.0, left_taken q.0 (are.left q.0 (r, q.2) q.1), q.2))
+    told_taken a b = told_as (λ r. (n : ℕ) × Mem n taken × IsListener program (Timer n) r) (λ r. (n : ℕ) × FiresAt program g n × IsListener program (Timer n) r) a b (λ r q. (q.0, are.fired q.0 q.1, q.2)) (λ r q. (let l = live_fires program g r q.0 q.1 q.2 in (l.0, left_taken l.0 (are.left l.0 l.1 l.3), l.2)))
 
 -- nobody is told as long as none is taken, and then those that listen to one more timer
 pub told_at_first : (program : Parts) (a : TurnParts) → IsTold (λ r. (n : ℕ) × Mem n [] × IsListener program (Timer n) r) a a

@@ -138,9 +138,9 @@ module _ {X : Type 0} (P : X → ℕ → Type 0) (xs : List X) where
   pub told_each : (Q : ℕ → Type 0) (i : ℕ) (a b : TurnParts) → length xs ≤ i → ((r : ℕ) (k : ℕ) (x : X) → slice_get xs k ≡ Some x → P x r → Q r) → ((r : ℕ) → Q r → (k : ℕ) × (x : X) × (slice_get xs k ≡ Some x) × P x r) → IsTold (OfFirst P xs i) a b → IsTold Q a b
   told_each Q i a b enough to from is = told_as (OfFirst P xs i) Q a b (λ r q. to r q.0 q.1 q.3 q.4) (λ r q. (let k = from r q in let l : k.0 < length xs = slice_get_within xs k.0 k.1 k.2 in (k.0, k.1, omega arith, k.2, k.3))) is
 
--- a timer that triggers a reaction is one of the program
-pub live_within : (program : Parts) → IsSound program → (n : ℕ) → IsLive program n → n < length program.timers
-live_within program sound n o = (sound.exist o.0 o.1.0 o.1.1).triggers (Timer n) o.1.2
+-- a live timer is one of the program
+pub live_within : (program : Parts) (n : ℕ) → IsLive program n → n < length program.timers
+live_within program n o = slice_get_within program.timers n o.3.timer o.3.is_timer
 
 -- the first of what is left of a list
 pub drop_head : {X : Type 0} (xs : List X) (k : ℕ) (x : X) (ys : List X) → drop k xs ≡ x ∷ ys → (slice_get xs k ≡ Some x) × (drop (suc k) xs ≡ ys)

@@ -28,7 +28,7 @@ use Rattle.lft_agenda.specs.Waits.{IsLeastTag, IsTurnOf}
 use Rattle.lft_agenda.specs.declared.firings.Firing.{Firing}
 use Rattle.lft_agenda.specs.Firings.{AreFirst}
 
--- the open runs, the events from a tag on up to the stop, the next firings of timers, how far each reaction is at that tag, that tag, the stop, and the program's tables
+-- the open runs, the watched events from a tag on up to the stop, the next firings of timers, how far each reaction is at that tag, that tag, the stop, and the program's tables
 pub record AgendaParts : Type 0 where
   pub runs : List OpenRun
   pub queue : List Pending
@@ -48,7 +48,7 @@ pub record IsOf (program : Parts) (a : AgendaParts) : Type 0 where
   pub reached : a.from.time ≤ 1000000000000000000
   pub recorded : a.stop.time ≤ 1000000000000000000
 
--- the turn is that of the tag; while something is left to run, the tag is the least at which a reaction is pending, and the queue has the events from there on up to the last tag
+-- the turn is that of the tag; while something is left to run, the tag is the least at which a reaction is pending, and the queue has the watched events from there on up to the last tag
 pub record IsCurrent (plan : PlanParts) (t : List Row) (from last : Tag) (turn : TurnParts) (q : List Pending) : Type 0 where
   pub turn_is : IsTurnOf plan t from turn
   pub least : SomethingLeft plan t → IsLeastTag plan t from
@@ -61,7 +61,7 @@ pub record IsAgenda (plan : PlanParts) (t : List Row) (a : AgendaParts) : Type 0
   pub of : IsOf plan.program a
   pub current : IsCurrent plan t a.from a.stop a.turn a.queue
 
--- no row is after the tag, no reaction is pending before it, the turn is that of the tag, and the queue has the events from there on up to the last tag
+-- no row is after the tag, no reaction is pending before it, the turn is that of the tag, and the queue has the watched events from there on up to the last tag
 pub record IsReached (plan : PlanParts) (t : List Row) (from last : Tag) (turn : TurnParts) (q : List Pending) : Type 0 where
   pub past : (i : ℕ) (x : Row) → slice_get t i ≡ Some x → UpTo x.tag from
   pub least : (h : Tag) (c : ℕ) → IsPending plan (by_ends plan t) h c → UpTo from h

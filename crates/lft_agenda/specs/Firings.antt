@@ -1,4 +1,4 @@
--- The next firings of the timers that trigger a reaction.
+-- The next firings of the live timers.
 use Rattle.std.specs.Prelude.{◌≡◌, ◌⊎◌, ℕ, ◌<◌, cond, List, Some, Contains, slice_get}
 use Rattle.std.specs.List.{sum_by}
 use Rattle.std.specs.declared.cmp.Ordering.{Ordering}
@@ -31,7 +31,7 @@ pub record IsFirstFiring (timer : TimerOf) (P : Tag → Type 0) (h : Tag) : Type
 abbrev pub IsFirstOf : Parts → (Tag → Type 0) → Firing → Type 0
 IsFirstOf program P f = (timer : TimerOf) × (slice_get program.timers f.timer ≡ Some timer) × IsFirstFiring timer P (tag_of_firing f)
 
--- each timer that triggers a reaction has its first firing with a property, where it has one, and nothing else is kept
+-- each live timer has its first firing with a property, where it has one, and nothing else is kept
 pub record AreFirst (program : Parts) (P : Tag → Type 0) (fs : List Firing) : Type 0 where
   pub all : (n : ℕ) (h : Tag) → IsLive program n → FiresAt program h n → P h → (f : Firing) × Contains fs f × (f.timer ≡ n)
   pub only : (f : Firing) → Contains fs f → IsLive program f.timer × IsFirstOf program P f

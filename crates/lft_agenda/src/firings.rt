@@ -1,4 +1,4 @@
-//! The next firings of the timers that trigger a reaction.
+//! The next firings of the live timers: of those that trigger a reaction and beat alike, the first.
 
 ghost use Rattle.std.specs.Prelude.{◌≡◌, ◌≤◌, ◌<◌, [], length, IfOk, IfSome, IfNone, Contains};
 ghost use Rattle.lft_tag.specs.Tags.{Before, UpTo};
@@ -59,7 +59,7 @@ impl Firing {
     }
 }
 
-/// One firing of each timer that triggers a reaction, where it has one left; the first stands first.
+/// One firing of each live timer, where it has one left; the first stands first.
 #[derive(Drop)]
 pub(crate) struct Firings {
     heap: BinaryHeap<Reverse<Firing>>,

@@ -1,14 +1,13 @@
 -- Lists by trigger on the way to those of a program.
-use Rattle.std.proofs.Common.{◌≡◌, ◌≢◌, ◌↔◌, ◌⊎◌, inl, inr, ◌<◌, ◌+◌, ℕ, List, [], ◌∷◌, ◌++◌, length, take, refl, sym, ap, ◌∙◌, subst, arith, Some, slice_get, Contains, ◌==◌, true, false, eqb-true, eq-eqb}
-use Rattle.std.proofs.lemmas.Bool.{cases_eq, false≢true}
+use Rattle.std.proofs.Common.{◌≡◌, ◌↔◌, ◌⊎◌, inl, inr, ◌<◌, ◌+◌, ℕ, List, [], ◌∷◌, ◌++◌, length, take, sym, subst, arith, Some, slice_get, Contains}
+use Rattle.std.proofs.lemmas.Bool.{cases_eq}
 use Rattle.std.proofs.lemmas.Option.{slice_get_within, get_or_from_slice_get}
 use Rattle.lft_flat.specs.Parts.{Parts}
-use Rattle.lft_flat.specs.Sound.{IsSound, IsTriggerOf}
+use Rattle.lft_flat.specs.Sound.{IsTriggerOf}
 use Rattle.lft_flat.specs.declared.parts.Reaction.{Reaction}
 use Rattle.lft_flat.specs.declared.parts.Trigger.{Trigger}
-use Rattle.lft_flat.specs.declared.parts.Trigger.TheVariants.{Timer}
 use Rattle.lft_lists.proofs.Picked.{take_one_more}
-use Rattle.lft_lists.proofs.Places.{contains_at, same_at}
+use Rattle.lft_lists.proofs.Places.{same_at}
 use Rattle.lft_listeners.specs.Listeners.{IsListener, IsLive, ListenerParts, AreListeners}
 use Rattle.lft_listeners.specs.Lists.{TriggerLists, list_of, HasList, IsPushed, ArePushed}
 use Rattle.lft_listeners.specs.Filling.{AreListed}
@@ -73,47 +72,9 @@ listed_more program n x old new here before pushed = record { room = λ t i. pus
     from t r p (inl e) = (pushed.each t r).1 (inr (subst (λ (y : Reaction). Contains y.triggers t) (same_at program.reactions r n p.1.0 x p.1.1 here e) p.1.2, e))
     from t r p (inr d) = (pushed.each t r).1 (inl ((before.each t r).1 ((let l : r < n + 1 = p.0 in omega arith), p.1)))
 
--- a list that isn't empty has a member
-some_member : (xs : List ℕ) → xs ≢ [] → (x : ℕ) × Contains xs x
-some_member [] n = absurd (n refl)
-some_member (x ∷ xs) n = (x, contains_at (x ∷ xs) 0 x refl)
-
--- all reactions, and the timers that have one
-pub all_listed : (program : Parts) → IsSound program → (listeners : ListenerParts) → AreListed program (length program.reactions) listeners.by_trigger → ((n : ℕ) → Contains listeners.live_timers n ↔ ((n < length program.timers) × (list_of listeners.by_trigger (Timer n) ≢ []))) → AreListeners program listeners
-all_listed program sound listeners listed live = record { each = each; live = λ n. (λ c. alive n ((live n).0 c), λ l. (live n).1 (kept n l)) }
+-- all reactions, and the timers that lead
+pub all_listed : (program : Parts) (listeners : ListenerParts) → AreListed program (length program.reactions) listeners.by_trigger → ((n : ℕ) → Contains listeners.live_timers n ↔ IsLive program n) → AreListeners program listeners
+all_listed program listeners listed live = record { each = each; live = live }
   where
     each : (t : Trigger) (r : ℕ) → Contains (list_of listeners.by_trigger t) r ↔ IsListener program t r
     each t r = (λ c. ((listed.each t r).0 c).1, λ p. (listed.each t r).1 (slice_get_within program.reactions r p.0 p.1, p))
-
-    alive : (n : ℕ) → (n < length program.timers) × (list_of listeners.by_trigger (Timer n) ≢ []) → IsLive program n
-    alive n p = let m = some_member (list_of listeners.by_trigger (Timer n)) p.1 in (m.0, (each (Timer n) m.0).0 m.1)
-
-    kept : (n : ℕ) → IsLive program n → (n < length program.timers) × (list_of listeners.by_trigger (Timer n) ≢ [])
-    kept n l = ((sound.exist l.0 l.1.0 l.1.1).triggers (Timer n) l.1.2, λ e. empty_contained (list_of listeners.by_trigger (Timer n)) l.0 e ((each (Timer n) l.0).1 l.1))
-
--- the test of a list being empty
-pub empty_list : (xs : List ℕ) → (length xs == 0) ≡ true → xs ≡ []
-empty_list [] e = refl
-empty_list (x ∷ xs) e = let l : length (x ∷ xs) ≡ 0 = eqb-true (length (x ∷ xs)) 0 e in absurd (omega arith)
-
-pub some_list : (xs : List ℕ) → (length xs == 0) ≡ false → xs ≢ []
-some_list xs e q = false≢true (sym e ∙ eq-eqb (length xs) 0 (ap length q))
-
--- one timer more is looked at
-pub live_more : (n : ℕ) (live : List ℕ) (lists : TriggerLists) → ((m : ℕ) → Contains live m ↔ ((m < n) × (list_of lists (Timer m) ≢ []))) → (list_of lists (Timer n) ≢ []) → (m : ℕ) → Contains (live ++ n ∷ []) m ↔ ((m < n + 1) × (list_of lists (Timer m) ≢ []))
-live_more n live lists is some m = (λ c. to ((contains_pushed live n m).0 c), λ p. (contains_pushed live n m).1 (from p (cases_eq m n)))
-  where
-    to : Contains live m ⊎ (m ≡ n) → (m < n + 1) × (list_of lists (Timer m) ≢ [])
-    to (inl c) = let p = (is m).0 c in let l : m < n = p.0 in (omega arith, p.1)
-    to (inr e) = (omega (arith, e), subst (λ (i : ℕ). list_of lists (Timer i) ≢ []) (sym e) some)
-
-    from : (m < n + 1) × (list_of lists (Timer m) ≢ []) → (m ≡ n) ⊎ (m ≡ n → ⊥) → Contains live m ⊎ (m ≡ n)
-    from p (inl e) = inr e
-    from p (inr d) = inl ((is m).1 ((let l : m < n + 1 = p.0 in omega arith), p.1))
-
-pub live_same : (n : ℕ) (live : List ℕ) (lists : TriggerLists) → ((m : ℕ) → Contains live m ↔ ((m < n) × (list_of lists (Timer m) ≢ []))) → list_of lists (Timer n) ≡ [] → (m : ℕ) → Contains live m ↔ ((m < n + 1) × (list_of lists (Timer m) ≢ []))
-live_same n live lists is none m = (λ c. (let p = (is m).0 c in let l : m < n = p.0 in (omega arith, p.1)), λ p. from p (cases_eq m n))
-  where
-    from : (m < n + 1) × (list_of lists (Timer m) ≢ []) → (m ≡ n) ⊎ (m ≡ n → ⊥) → Contains live m
-    from p (inl e) = absurd (p.1 (subst (λ (i : ℕ). list_of lists (Timer i) ≡ []) (sym e) none))
-    from p (inr d) = (is m).1 ((let l : m < n + 1 = p.0 in omega arith), p.1)

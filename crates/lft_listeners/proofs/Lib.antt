@@ -1,4 +1,6 @@
 pub mod Pushing
 pub mod Filling
+pub mod Leaders
+pub mod Led
 pub mod Arriving
 pub mod Watching

@@ -1,12 +1,22 @@
 -- How far lists by trigger and by origin are filled. The contracts of private functions alone need this file.
-use Rattle.std.specs.Prelude.{◌≡◌, ◌↔◌, ◌<◌, ℕ, Bool, true, List, Option, Some, None, Contains, AllPairs, length, slice_get}
+use Rattle.std.specs.Prelude.{◌≡◌, ◌↔◌, ◌⊎◌, ◌<◌, ℕ, Bool, true, List, Option, Some, None, Contains, AllPairs, length, slice_get}
+use Rattle.std.specs.BTreeMap.{BTreeMap, get}
+use Rattle.std.specs.Ordering.{nat_cmp, ordering_then}
+use Rattle.std.specs.declared.cmp.Ordering.{Ordering}
 use Rattle.lft_tag.specs.Tags.{Before}
 use Rattle.lft_flat.specs.Parts.{Parts}
 use Rattle.lft_flat.specs.Sound.{IsTriggerOf}
 use Rattle.lft_flat.specs.declared.parts.Port.{Port as PortOf}
+use Rattle.lft_flat.specs.declared.parts.Reaction.{Reaction}
+use Rattle.lft_flat.specs.declared.parts.Timer.{Timer as TimerOf}
 use Rattle.lft_flat.specs.declared.parts.Trigger.{Trigger}
-use Rattle.lft_listeners.specs.Listeners.{IsListener, IsArrival, IsWatched, Reads, arrival, IsDelayed, IsFirstDelayed}
+use Rattle.lft_flat.specs.declared.parts.Trigger.TheVariants.{Timer}
+use Rattle.lft_listeners.specs.Listeners.{beat, IsLeader, IsListener, IsArrival, IsWatched, Reads, arrival, IsDelayed, IsFirstDelayed}
 use Rattle.lft_listeners.specs.Lists.{TriggerLists, list_at, list_of, HasList}
+
+-- beats by the period, then by the rest
+abbrev pub beat_cmp : ℕ × ℕ → ℕ × ℕ → Ordering
+beat_cmp x y = ordering_then (nat_cmp x.0 y.0) (nat_cmp x.1 y.1)
 
 -- each trigger of the program has those of its listeners that are below a number
 pub record AreListed (program : Parts) (below : ℕ) (lists : TriggerLists) : Type 0 where
@@ -48,3 +58,18 @@ pub record WatchedParts : Type 0 where
 pub record AreWatched (program : Parts) (watched : WatchedParts) : Type 0 where
   pub read : AreMarked program (length program.reactions) watched.read
   pub firsts : AreFirst program (length program.ports) watched.firsts
+
+-- timer n starts before the other one, if there is one, or as soon and has the lesser number
+abbrev pub StartsBefore : Parts → ℕ → Option ℕ → Type 0
+StartsBefore program n None = Unit {0}
+StartsBefore program n (Some m) = (timer other : TimerOf) → slice_get program.timers n ≡ Some timer → slice_get program.timers m ≡ Some other → (timer.offset < other.offset) ⊎ ((timer.offset ≡ other.offset) × (n < m))
+
+-- the map has the leader of each beat of the timers among the triggers
+pub record HaveLeaders (program : Parts) (triggers : List Trigger) (map : BTreeMap (ℕ × ℕ) ℕ) : Type 0 where
+  pub each : (b : ℕ × ℕ) (n : ℕ) → get beat_cmp map b ≡ Some n → (leader : IsLeader program triggers n) × (beat leader.timer ≡ b)
+  pub all : (n : ℕ) (timer : TimerOf) → Contains triggers (Timer n) → slice_get program.timers n ≡ Some timer → (m : ℕ) × (get beat_cmp map (beat timer) ≡ Some m)
+
+-- the timers that lead among the triggers of a reaction below a number are marked, and no others
+pub record AreLeading (program : Parts) (below : ℕ) (marked : List Bool) : Type 0 where
+  pub as_long : length marked ≡ length program.timers
+  pub each : (n : ℕ) → (slice_get marked n ≡ Some true) ↔ ((r : ℕ) × (r < below) × (x : Reaction) × (slice_get program.reactions r ≡ Some x) × IsLeader program x.triggers n)

@@ -1,11 +1,12 @@
 -- Who listens to a trigger, and where a write arrives.
-use Rattle.std.specs.Prelude.{◌≡◌, ◌≢◌, ◌↔◌, ◌⊎◌, ◌<◌, ◌≤◌, ℕ, List, Some, Contains, AllPairs, slice_get, length}
+use Rattle.std.specs.Prelude.{◌≡◌, ◌≢◌, ◌↔◌, ◌⊎◌, ◌<◌, ◌≤◌, ◌%◌, ℕ, List, Some, Contains, AllPairs, slice_get, length}
 use Rattle.lft_tag.specs.declared.Tag.{Tag}
 use Rattle.lft_tag.specs.Tags.{UpTo}
 use Rattle.lft_flat.specs.Parts.{Parts, inputs}
 use Rattle.lft_flat.specs.declared.parts.Name.TheVariants.{Port}
 use Rattle.lft_flat.specs.declared.parts.Port.{Port as PortOf}
 use Rattle.lft_flat.specs.declared.parts.Reaction.{Reaction}
+use Rattle.lft_flat.specs.declared.parts.Timer.{Timer as TimerOf}
 use Rattle.lft_flat.specs.declared.parts.Trigger.{Trigger}
 use Rattle.lft_flat.specs.declared.parts.Trigger.TheVariants.{Timer}
 use Rattle.lft_listeners.specs.Lists.{TriggerLists, list_at, list_of}
@@ -14,9 +15,20 @@ use Rattle.lft_listeners.specs.Lists.{TriggerLists, list_at, list_of}
 abbrev pub IsListener : Parts → Trigger → ℕ → Type 0
 IsListener program trigger r = (x : Reaction) × (slice_get program.reactions r ≡ Some x) × Contains x.triggers trigger
 
--- timer n triggers a reaction
+-- the beat of a timer: its period, and how far its offset goes past whole periods. Of two timers with one beat, the one that starts first fires whenever the other does
+abbrev pub beat : TimerOf → ℕ × ℕ
+beat timer = (timer.period, timer.offset % timer.period)
+
+-- of the timers with its beat among the triggers, timer n starts first; of those that start as soon, it has the least number
+pub record IsLeader (program : Parts) (triggers : List Trigger) (n : ℕ) : Type 0 where
+  pub timer : TimerOf
+  pub is_timer : slice_get program.timers n ≡ Some timer
+  pub there : Contains triggers (Timer n)
+  pub first : (m : ℕ) (other : TimerOf) → Contains triggers (Timer m) → slice_get program.timers m ≡ Some other → beat other ≡ beat timer → (timer.offset < other.offset) ⊎ ((timer.offset ≡ other.offset) × (n ≤ m))
+
+-- timer n leads among the triggers of a reaction
 abbrev pub IsLive : Parts → ℕ → Type 0
-IsLive program n = (r : ℕ) × IsListener program (Timer n) r
+IsLive program n = (r : ℕ) × (x : Reaction) × (slice_get program.reactions r ≡ Some x) × IsLeader program x.triggers n
 
 -- a write of the origin arrives at port p
 abbrev pub IsArrival : Parts → ℕ → ℕ → Type 0
@@ -47,7 +59,7 @@ pub record IsFirstDelayed (program : Parts) (below origin p : ℕ) : Type 0 wher
 abbrev pub IsWatched : Parts → ℕ → Type 0
 IsWatched program p = ((r : ℕ) × Reads program r p) ⊎ IsArrival program p p ⊎ ((o : ℕ) × IsFirstDelayed program (length program.ports) o p)
 
--- what is kept of the listeners of a program: a list for each trigger, and the timers whose list isn't empty
+-- what is kept of the listeners of a program: a list for each trigger, and the timers that lead
 pub record ListenerParts : Type 0 where
   pub by_trigger : TriggerLists
   pub live_timers : List ℕ

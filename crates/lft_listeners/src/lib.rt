@@ -3,6 +3,7 @@
 
 mod arrivals;
 mod by_trigger;
+mod leading;
 mod listeners;
 mod lists;
 mod watched;

@@ -1,6 +1,6 @@
 //! The listeners of a program.
 
-ghost use Rattle.std.specs.Prelude.{◌≢◌, ◌↔◌, ◌<◌, ℕ, [], length, Contains, IfOk, OnOk};
+ghost use Rattle.std.specs.Prelude.{◌↔◌, ℕ, length, Contains, IfOk, OnOk};
 ghost use Rattle.lft_flat.specs.Parts.{Parts};
 ghost use Rattle.lft_flat.specs.declared.parts.Trigger.{Trigger as TriggerOf};
 ghost use Rattle.lft_listeners.specs.Listeners.{IsListener, IsLive, AreListeners};
@@ -8,6 +8,7 @@ ghost use Rattle.lft_listeners.specs.Lists.{list_of, HasList, ArePushed};
 ghost use Rattle.lft_listeners.specs.Filling.{AreListed};
 
 use crate::by_trigger::ByTrigger;
+use crate::leading::live_timers;
 use lft_flat::{Program, Trigger};
 use lft_lists::item_at;
 use lft_tag::NoMemory;
@@ -52,19 +53,6 @@ fn by_trigger(alloc: Global, program: &Program) -> Result<ByTrigger, NoMemory>
     Ok(lists)
 }
 
-// the timers whose list isn't empty
-fn live_timers(alloc: Global, program: &Program, lists: &ByTrigger) -> Result<Vec<u32>, NoMemory>
-    ensures { IfOk result (λ live. (n : ℕ) → Contains live.items n ↔ ((n < length program.now.timers) × (list_of lists.now (Trigger.Timer n) ≢ []))) }
-{
-    let mut live = Vec::new(alloc);
-    'timers: for number in 0..program.timers() {
-        if !lists.at(Trigger::Timer(number as u32)).is_empty() {
-            live.push(number as u32)?;
-        }
-    }
-    Ok(live)
-}
-
 impl Listeners {
     /// The listeners of the program. It costs what the program's triggers, timers, ports and
     /// actions are.
@@ -74,7 +62,7 @@ impl Listeners {
         // Asked for what every program keeps: a timer that a reaction names is one of the program.
         program.keeps();
         let by_trigger = by_trigger(alloc, program)?;
-        let live_timers = live_timers(alloc, program, &by_trigger)?;
+        let live_timers = live_timers(alloc, program)?;
         Ok(Listeners {
             by_trigger,
             live_timers,
@@ -88,7 +76,8 @@ impl Listeners {
         self.by_trigger.at(trigger)
     }
 
-    /// The timers that trigger a reaction.
+    /// The timers that trigger a reaction and lead there: where others among its triggers fire only
+    /// when one of them does, that one alone.
     pub fn live_timers(&self) -> &[u32]
         ensures { (program : Parts) → AreListeners program self.now → (n : ℕ) → Contains result.now n ↔ IsLive program n }
     {

@@ -1,5 +1,5 @@
 -- Whether a run read its inputs, one after another.
-use Rattle.std.proofs.Common.{◌≡◌, ℕ, ◌+◌, ◌<◌, ◌≤◌, ◌⊎◌, inl, inr, List, [], ◌∷◌, length, refl, sym, ap, ◌∙◌, subst, arith, Bool, true, false, ◌↔◌, Option, Some, None, IfSome, IfNone, slice_get, filter_map, map, unwrap_or, option_map}
+use Rattle.std.proofs.Common.{◌≡◌, ℕ, ◌+◌, ◌<◌, ◌≤◌, ◌⊎◌, inl, inr, List, [], ◌∷◌, length, refl, sym, ap, ◌∙◌, subst, arith, Bool, true, false, ◌↔◌, Option, Some, None, IfSome, IfNone, slice_get, filter_map, map, unwrap_or, option_map, not}
 use Rattle.std.specs.List.{last_or, AllZip}
 use native.Mathlib.Decide.{ℕ_discrete}
 use Rattle.lft_flat.proofs.Origins.{origin_unique}
@@ -20,7 +20,8 @@ use Rattle.lft_lists.proofs.Places.{same_at}
 use Rattle.lft_lists.proofs.Members.{Mem, mem_get, get_mem, mem_cases, mem_from_filter, contains_mem, mem_contains}
 use Rattle.lft_flat.proofs.Naming.{named_on}
 use Rattle.lft_model.proofs.Places.{slice_get_within, tag_discrete}
-use Rattle.lft_slices.specs.Reads.{IsRight}
+use Rattle.lft_trace.specs.declared.row.Step.TheVariants.{Start, Read}
+use Rattle.lft_slices.specs.Reads.{IsRight, MissesInput, TellsWrongRead}
 
 -- without a collision a name shows one thing
 module _ (plan : PlanParts) (t : List Row) (g : Tag) (no_clash : ¬ Collision plan t g) where
@@ -80,7 +81,7 @@ module _ (plan : PlanParts) (t : List Row) (g : Tag) (r : ℕ) (names : List Nam
       go (yes d) = subst (λ z. IsRight plan t g r z) (same_at names k j n m e q (sym d)) h
       go (no d) = so_far j m (omega arith) q
 
-  own_inputs : inputs_of plan.program r ≡ inputs x
+  pub own_inputs : inputs_of plan.program r ≡ inputs x
   own_inputs = ap (λ (o : Option Reaction). unwrap_or (option_map inputs o) []) is_reaction
 
   pub all_right : (k : ℕ) → length names ≤ k → AreRight plan t g r names k → Inputs plan t g r (reads_at plan t g r)
@@ -91,6 +92,17 @@ module _ (plan : PlanParts) (t : List Row) (g : Tag) (r : ℕ) (names : List Nam
           let p = get_mem n names (subst (λ xs. Mem n xs) (sym own) e) in
           let w : p.0 < length names = slice_get_within names p.0 n p.1 in
           h p.0 n (omega arith) p.1
+
+  not_each : (ns : List Name) → ((n : Name) → Mem n ns → ¬ ¬ Shows plan t g n (read_of (steps_of t g r) n)) → ¬ ¬ AllZip (Shows plan t g) ns (map (read_of (steps_of t g r)) ns)
+  not_each [] h none = none tt
+  not_each (n ∷ ns) h none = h n (inl refl) (λ p. not_each ns (λ m e. h m (inr e)) (λ ps. none (p, ps)))
+
+  -- where no input is read wrongly, all are read rightly, as far as what follows from it is false
+  pub not_all_right : ((k : ℕ) (n : Name) → slice_get names k ≡ Some n → ¬ ¬ IsRight plan t g r n) → ¬ ¬ Inputs plan t g r (reads_at plan t g r)
+  not_all_right h none = not_each (inputs x) each (λ ps. none (record { reaction = x; is_reaction = is_reaction; each = subst (λ (ns : List Name). AllZip (Shows plan t g) (inputs x) (map (read_of (steps_of t g r)) ns)) (sym own_inputs) ps }))
+    where
+      each : (n : Name) → Mem n (inputs x) → ¬ ¬ Shows plan t g n (read_of (steps_of t g r) n)
+      each n e = let p = get_mem n names (subst (λ xs. Mem n xs) (sym own) e) in h p.0 n p.1
 
   pub wrong_read : (k : ℕ) (n : Name) → slice_get names k ≡ Some n → ¬ IsRight plan t g r n → ¬ Inputs plan t g r (reads_at plan t g r)
   wrong_read k n e d o =
@@ -115,3 +127,30 @@ input_at program sound r x e names own k n q = input_known program sound r x e n
 
 pub not_false : (b : Bool) → b ≡ false → b ≡ true → ⊥
 not_false b e q = let z : false ≡ true = sym e ∙ q in absurd (cc)
+
+-- a row that starts a run tells of a wrong read where its run misses an input
+pub tells_start : (plan : PlanParts) (t : List Row) (g : Tag) (row : Row) (b : Bool) → row.step ≡ Start → (b ≡ true) ↔ MissesInput plan t g row.reaction → (b ≡ true) ↔ TellsWrongRead plan t g row
+tells_start plan t g row b start misses = (λ e. inl (start, misses.0 e), back)
+  where
+    back : TellsWrongRead plan t g row → b ≡ true
+    back (inl p) = misses.1 p.1
+    back (inr p) = let z : Start ≡ Read p.0 p.1 = sym start ∙ p.2 in absurd (cc)
+
+-- a row that reads tells of one where it reads what isn't present
+pub tells_read : (plan : PlanParts) (t : List Row) (g : Tag) → ¬ Collision plan t g → (row : Row) (n : Name) (v : Value) (found : Option Value) (b : Bool) → row.step ≡ Read n v → (b ≡ true) ↔ (Some v ≡ found) → IfSome found (λ w. At plan t g n w) → IfNone found (¬ IsPresent plan t g n) → (not b ≡ true) ↔ TellsWrongRead plan t g row
+tells_read plan t g no_clash row n v found b reads same some none = (λ e. inr (n, v, reads, λ a. to b e (same.1 ((right_same plan t g no_clash n (Some v) found some none).1 a))), λ w. from b refl w)
+  where
+    to : (c : Bool) → not c ≡ true → c ≡ true → ⊥
+    to true e f = absurd (cc)
+    to false e f = absurd (cc)
+
+    its : (m : Name) (w : Value) → row.step ≡ Read m w → (n ≡ m) × (v ≡ w)
+    its m w e = let z : Read n v ≡ Read m w = sym reads ∙ e in (cc, cc)
+
+    from : (c : Bool) → b ≡ c → TellsWrongRead plan t g row → not b ≡ true
+    from false e w = ap not e
+    from true e (inl p) = let z : Start ≡ Read n v = sym p.0 ∙ reads in absurd (cc)
+    from true e (inr p) =
+        let q = its p.0 p.1 p.2 in
+        let at : At plan t g n v = (right_same plan t g no_clash n (Some v) found some none).0 (same.0 e) in
+        absurd (p.3 (subst (λ (w : Value). At plan t g p.0 w) q.1 (subst (λ (m : Name). At plan t g m v) q.0 at)))

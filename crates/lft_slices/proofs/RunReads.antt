@@ -1,9 +1,9 @@
 -- What a run read, by the mark of an input.
-use Rattle.std.proofs.Common.{◌≡◌, ℕ, ◌+◌, ◌<◌, ◌≤◌, inl, inr, List, [], refl, sym, ap, ◌∙◌, arith, true, cond, Option, Some, None, slice_get, filter_map, option_and_then, eqb-true}
+use Rattle.std.proofs.Common.{◌≡◌, ℕ, ◌+◌, ◌<◌, ◌≤◌, ◌⊎◌, inl, inr, List, [], ◌∷◌, refl, sym, ap, ◌∙◌, subst, arith, lit<, true, cond, Option, Some, None, slice_get, filter_map, option_and_then, eqb-true}
 use Rattle.std.specs.List.{last_or}
 use Rattle.std.proofs.lemmas.Bool.{eq-eqb}
 use Rattle.lft_tag.specs.declared.Tag.{Tag}
-use Rattle.lft_lists.proofs.Members.{filter_map-filter_map, last_by_place, none_nil}
+use Rattle.lft_lists.proofs.Members.{filter_map-filter_map, Mem, get_mem, mem_from_filter, last_by_place, none_nil}
 use Rattle.lft_flat.specs.declared.parts.Value.{Value}
 use Rattle.lft_flat.specs.declared.parts.Name.{Name}
 use Rattle.lft_flat.specs.declared.parts.Name.TheVariants.{Port, Action}
@@ -11,6 +11,10 @@ use Rattle.lft_trace.specs.declared.row.Row.{Row}
 use Rattle.lft_trace.specs.declared.row.Step.{Step}
 use Rattle.lft_trace.specs.declared.row.Step.TheVariants.{Start, Read, Write, Schedule, Stop, End}
 use Rattle.lft_model.specs.Runs.{read_of, steps_of, step_of, value_read as read_by, same_name}
+use Rattle.lft_model.specs.Plans.{PlanParts}
+use Rattle.lft_model.specs.Breaches.{WasRead, IsUndeclared}
+use Rattle.lft_model.proofs.Legality.{KeepsFour, keeps_four}
+use Rattle.lft_rows.proofs.Steps.{row_eq}
 use Rattle.lft_model.proofs.Steps.{step_row, row_step, cond_some}
 use Rattle.lft_slices.specs.declared.slices.Slice.{Slice}
 use Rattle.lft_slices.specs.Slices.{IsSlice}
@@ -100,3 +104,37 @@ module _ (t : List Row) (s : Slice) (is_slice : IsSlice t s) (r : ℕ) (n : Name
           none : (k : ℕ) (z : Row) → j < k → slice_get t k ≡ Some z → (o : Option Value) → read_in s.tag r n z ≡ o → read_in s.tag r n z ≡ None
           none k z u f None h = h
           none k z u f (Some w) h = let y = in_slice k z w f (of_read_in s.tag r n w z h) in absurd (last.none_after k z (omega arith) y.1 f y.2)
+
+-- where no row breaks a rule, what a row reads is what its run read
+pub reads_value : (plan : PlanParts) (t : List Row) → KeepsFour plan t → (g : Tag) (r : ℕ) (n : Name) (v : Value) (j : ℕ) (row : Row) → slice_get t j ≡ Some row → row.tag ≡ g → row.reaction ≡ r → row.step ≡ Read n v → read_of (steps_of t g r) n ≡ Some v
+reads_value plan t keeps g r n v j row e tag reaction step = read_over t g r n ∙ last_by_place (read_in g r n) t v (record { place = j; item = row; is_item = e; gives = to_read_in g r n v row (record { tag_is = tag; reaction_is = reaction; step_is = step }); none_after = λ k z l f. none k z l f (read_in g r n z) refl })
+  where
+    none : (k : ℕ) (z : Row) → j < k → slice_get t k ≡ Some z → (o : Option Value) → read_in g r n z ≡ o → read_in g r n z ≡ None
+    none k z l f None h = h
+    none k z l f (Some w) h =
+        let y = of_read_in g r n w z h in
+        let again : WasRead t k z.tag z.reaction n = (j, row.worker, v, l, e ∙ ap Some (row_eq row (Read n v) step ∙ same (tag ∙ sym y.tag_is) (reaction ∙ sym y.reaction_is))) in
+        absurd (keeps_four plan t keeps k z 4 (lit< tt) f (inr (inr (inr (inl (refl, subst (λ (s : Step). IsUndeclared plan.program t k z s) (sym y.step_is) (inr again)))))))
+      where
+        same : {h k : Tag} {a b : ℕ} → h ≡ k → a ≡ b → (let x : Row = record { worker = row.worker; tag = h; reaction = a; step = Read n v } in let y : Row = record { worker = row.worker; tag = k; reaction = b; step = Read n v } in x ≡ y)
+        same p q = cc
+
+-- what a run read, some row of it reads
+some_last : (xs : List Value) (o : Option Value) (v : Value) → last_or o xs ≡ Some v → (o ≡ Some v) ⊎ Mem v xs
+some_last [] o v e = inl e
+some_last (x ∷ xs) o v e = go (some_last xs (Some x) v e)
+  where
+    go : (Some x ≡ Some v) ⊎ Mem v xs → (o ≡ Some v) ⊎ Mem v (x ∷ xs)
+    go (inl q) = inr (inl (let z : x ≡ v = cc in z))
+    go (inr m) = inr (inr m)
+
+pub read_there : (t : List Row) (g : Tag) (r : ℕ) (n : Name) (v : Value) → read_of (steps_of t g r) n ≡ Some v → (j : ℕ) × (row : Row) × (slice_get t j ≡ Some row) × (row.tag ≡ g) × (row.reaction ≡ r) × (row.step ≡ Read n v)
+read_there t g r n v e = go (some_last (filter_map (read_in g r n) t) None v (sym (read_over t g r n) ∙ e))
+  where
+    go : (None ≡ Some v) ⊎ Mem v (filter_map (read_in g r n) t) → (j : ℕ) × (row : Row) × (slice_get t j ≡ Some row) × (row.tag ≡ g) × (row.reaction ≡ r) × (row.step ≡ Read n v)
+    go (inl q) = absurd (cc)
+    go (inr m) =
+        let f = mem_from_filter (read_in g r n) t v m in
+        let p = get_mem f.0 t f.1 in
+        let y = of_read_in g r n v f.0 f.2 in
+        (p.0, f.0, p.1, y.tag_is, y.reaction_is, y.step_is)

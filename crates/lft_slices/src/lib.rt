@@ -1,6 +1,7 @@
 #![tactic(auto)]
 //! The rows of a trace, cut by tag, with what they cause.
 
+mod absences;
 mod answers;
 mod cuts;
 mod cutting;

@@ -9,6 +9,7 @@ ghost use Rattle.lft_slices.specs.Reads.{value_read as the_value_read};
 ghost use Rattle.lft_slices.specs.Slices.{IsSlice};
 ghost use Rattle.lft_slices.specs.Walks.{IsBefore, HasWalked};
 
+use crate::absences::{Absences, absences_of};
 use crate::sliced::Sliced;
 use crate::slices::Slice;
 use lft_flat::Value;
@@ -21,6 +22,7 @@ use std::alloc::Global;
 #[derive(Drop)]
 pub struct Walk {
     pub(crate) marks: Marks,
+    pub(crate) absences: Vec<Absences>,
 }
 
 /// The value that a step reads, if it reads one.
@@ -43,7 +45,8 @@ impl<'a> Sliced<'a> {
         ensures { IfOk result (IsBefore self.now 0) }
     {
         let marks = Marks::new(alloc, self.program())?;
-        Ok(Walk { marks })
+        let absences = absences_of(alloc, self.program())?;
+        Ok(Walk { marks, absences })
     }
 
     /// Goes over the rows at one more tag.

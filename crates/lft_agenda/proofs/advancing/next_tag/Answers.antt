@@ -13,6 +13,7 @@ use Rattle.lft_agenda.specs.Telling.{OccursBy}
 use Rattle.lft_agenda.specs.Firings.{tag_of_firing, AreFirst}
 use Rattle.lft_agenda.proofs.NextTags.{none_before_first, value_there}
 use Rattle.lft_agenda.proofs.FirstFirings.{first_up_to, least_covers}
+use Rattle.lft_agenda.proofs.LedFirings.{live_fires}
 use Rattle.lft_agenda.proofs.advancing.next_tag.Goals as goal
 
 pub returns-clause-covers : goal.returns-clause-covers
@@ -22,8 +23,9 @@ returns-clause-covers c = λ program are h r o later u. by program are h r later
     by program are h r later u Startup e l = absurd (none_before_first c.args.from h e later)
     by program are h r later u Shutdown e l = c.sooner.ensures.more h (c.sooner-by_events.ensures.more h (subst (λ (k : Tag). IsCovered c.sooner-by_stop.result k) (sym e) (c.sooner-by_stop.ensures.covers c.args.stop refl (subst (λ (k : Tag). Before c.args.from k) e later, UpTo-refl c.args.stop))))
     by program are h r later u (Timer n) e l =
-        let k = are.all n h (r, l) e later in
-        least_covers tag_of_firing c.args.firings.now c.first_tag-2.result c.sooner.result c.args.from c.args.stop h k.0 c.first_tag-2.ensures.some c.first_tag-2.ensures.least c.first_tag-2.ensures.none (λ f m. (are.only f m).1.2.holds) c.sooner.ensures.covers k.1 (first_up_to program (λ h. Before c.args.from h) k.0 n h (are.only k.0 k.1).1 k.2 e later) u
+        let live = live_fires program h r n e l in
+        let k = are.all live.0 h live.1 live.3 later in
+        least_covers tag_of_firing c.args.firings.now c.first_tag-2.result c.sooner.result c.args.from c.args.stop h k.0 c.first_tag-2.ensures.some c.first_tag-2.ensures.least c.first_tag-2.ensures.none (λ f m. (are.only f m).1.2.holds) c.sooner.ensures.covers k.1 (first_up_to program (λ h. Before c.args.from h) k.0 live.0 h (are.only k.0 k.1).1 k.2 live.3 later) u
     by program are h r later u (On n) e l =
         let v = some_there (value_of h n c.args.queue.now) e in
         let k = value_there h n v.0 c.args.queue.now v.1 in

@@ -13,7 +13,7 @@ pub due-init : goal.due-init
 due-init c = ([], none_taken c.args.plan.now.program c.args.tag c.args.firings.now c.requires.firings, told_at_first c.args.plan.now.program c.args.turn.now)
 
 pub take-requires-clause-timers : goal.take-requires-clause-timers
-take-requires-clause-timers c = λ f k. subst (λ (p : Parts). f.timer < length p.timers) (sym c.program.ensures.value) (live_within c.args.plan.now.program c.keeps.ensures.sound.sound f.timer (c.due.invariant.1.only f k).0)
+take-requires-clause-timers c = λ f k. subst (λ (p : Parts). f.timer < length p.timers) (sym c.program.ensures.value) (live_within c.args.plan.now.program f.timer (c.due.invariant.1.only f k).0)
 
 pub due-preserved : goal.due-preserved
 due-preserved c =

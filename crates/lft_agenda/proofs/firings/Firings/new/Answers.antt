@@ -14,7 +14,7 @@ loop-at-init c = subst (λ (fs : List (Reverse Firing)). AreFirstOf c.args.progr
 pub timer-requires : goal.timer-requires
 timer-requires c =
     let n = c.item_at-timer.result in
-    live_within c.args.program.now c.keeps.ensures.sound n ((c.live_timers-timers.ensures c.args.program.now c.requires n).0 (contains_at c.live_timers-timers.result.now c.loop-at.at n c.item_at-timer.ensures))
+    live_within c.args.program.now n ((c.live_timers-timers.ensures c.args.program.now c.requires n).0 (contains_at c.live_timers-timers.result.now c.loop-at.at n c.item_at-timer.ensures))
 
 pub loop-at-preserved : goal.loop-at-preserved
 loop-at-preserved c =
