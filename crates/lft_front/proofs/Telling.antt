@@ -1,39 +1,32 @@
 -- What is told of texts is told of such as have no meaning.
-use Rattle.std.proofs.Common.{◌≡◌, ℕ, ◌⊎◌, List, take, inl, inr, refl, ap, subst, Option, Some, None, Result, Ok, Err, IfOk, IfSome}
-use Rattle.lft_tree.specs.Tree.{FileTree}
+use Rattle.std.proofs.Common.{◌≡◌, ℕ, ◌⊎◌, List, inl, inr, subst, Option, Some, IfSome}
 use Rattle.lft_flat.specs.Parts.{Parts}
 use Rattle.lft_trace.specs.Records.{records_of}
 use Rattle.lft_trace.specs.Traces.{Table}
 use Rattle.lft_graph.specs.Precedence.{HasNoLoop}
-use Rattle.lft_syntax.specs.View.{lexemes}
-use Rattle.lft_syntax.specs.declared.token.Token.{Token}
-use Rattle.lft_syntax.proofs.Once.{cut_once, fault_or_cut}
-use Rattle.lft_refusals.specs.declared.refusal.Refusal.{Refusal}
-use Rattle.lft_refusals.specs.declared.refusal.Why.{Why}
-use Rattle.lft_refusals.specs.declared.refusal.Why.TheVariants.{Lex, Token as AtToken, End}
-use Rattle.lft_refusals.specs.Refusals.{HasNoTree, IsRefusal, Tells}
-use Rattle.lft_load.specs.Meaning.{IsTreeOf, IsProgramOf, IsPlanOf, IsOnly}
+use Rattle.lft_graph.specs.Loops.{IsLoop}
+use Rattle.lft_graph.proofs.Cycles.{is_cycle}
+use Rattle.lft_load.specs.Meaning.{IsProgramOf, IsPlanOf, IsOnly}
 use Rattle.lft_load.proofs.Loading.{table_of, no_loop_of}
 use Rattle.lft_front.specs.Told.{HaveNoMeaning, HaveNoMeaningBoth, HaveNoPlan, IsNoTable, IsNoTrace}
 
--- what is told where one thing holds is told where another one does, which follows
-pub told_so : {X E : Type 0} (r : Result (Option X) E) (P : Type 0) (Q : X → Type 0) → ((x : X) → P → Q x) → IfOk r (λ o. IfSome o (λ _. P)) → IfOk r (λ o. IfSome o Q)
-told_so (Ok (Some x)) P Q f h = f x h
-told_so (Ok None) P Q f h = tt
-told_so (Err e) P Q f h = tt
+-- what holds where something is told holds of what is told
+pub some_so : {X : Type 0} (o : Option X) (x : X) (P : Type 0) → o ≡ Some x → IfSome o (λ _. P) → P
+some_so o x P e h = subst (λ z. IfSome z (λ _. P)) e h
 
--- a text that is refused has no tree: no tree begins with so many of its tokens
-treeless_at : (t : List ℕ) (tokens : List Token) (number : ℕ) → HasNoTree t tokens number → (tree : FileTree) → IsTreeOf t tree → ⊥
-treeless_at t tokens number h tree x = h.none (lexemes t x.tokens) tree (ap (λ ts. take number (lexemes t ts)) (cut_once t x.lexed refl h.lexes refl)) x.spelled
+-- a loop of reactions is one that there must not be
+pub looped : (parts : Parts) (loop : List ℕ) → IsLoop parts loop → HasNoLoop parts → ⊥
+looped parts loop is none = let cycle = is_cycle parts loop is in none cycle.0 cycle.1
 
-treeless : (t : List ℕ) (start end : ℕ) (why : Why) → Tells t start end why → (tree : FileTree) → IsTreeOf t tree → ⊥
-treeless t start end (Lex fault) h tree x = let at = h.0 in fault_or_cut t at.0 x.tokens (start, at.1, at.2, at.3) x.lexed
-treeless t start end (AtToken number kind) h tree x = treeless_at t h.0 number h.1 tree x
-treeless t start end (End number) h tree x = treeless_at t h.0 number h.1 tree x
+-- a text without a program has no plan, and where there is no plan, texts have no meaning
+pub none_by_program : (program externals : List ℕ) → ((parts : Parts) → IsProgramOf program parts → ⊥) → HaveNoPlan program externals
+none_by_program program externals h plan x = h plan.program x.is_program
 
--- and so it has no plan
-pub none_by_tree : (program externals : List ℕ) → (refusal : Refusal) × IsRefusal program refusal → HaveNoPlan program externals
-none_by_tree program externals r plan x = treeless program r.0.start r.0.end r.0.why r.1 x.is_program.tree x.is_program.is_tree
+pub none_by_plan : (program externals trace : List ℕ) → HaveNoPlan program externals → HaveNoMeaning program externals trace
+none_by_plan program externals trace h plan rows m = h plan m.is_plan
+
+pub none_of_both : (program externals first second : List ℕ) → HaveNoPlan program externals → HaveNoMeaningBoth program externals first second
+none_of_both program externals first second h plan rows others m = h plan m.is_first.is_plan
 
 module _ (program externals : List ℕ) (parts : Parts) (only : IsOnly (IsProgramOf program) parts) where
   pub none_by_table : IsNoTable parts externals → HaveNoPlan program externals

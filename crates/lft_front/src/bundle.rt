@@ -1,6 +1,6 @@
 //! The three texts of a bundle.
 
-ghost use Rattle.std.specs.Prelude.{◌≡◌, ◌<◌, ◌↔◌, ℕ, IsTrue, IfErr, IfOk, IfSome, IfNone, List, length, take, drop};
+ghost use Rattle.std.specs.Prelude.{◌≡◌, ◌≢◌, ◌<◌, ◌↔◌, ◌++◌, ℕ, IsTrue, IfErr, IfOk, IfSome, IfNone, List, length, take, drop, codes};
 ghost use Rattle.lft_front.specs.Bundles.{BeginsLine, IsBundle, IsCut, IsLine};
 ghost use Rattle.lft_front.specs.Markers.{IsMissing};
 
@@ -77,12 +77,20 @@ pub(crate) fn has_returned_marker(text: &[u8]) -> bool {
     false
 }
 
+/// What follows the first line, if that is the marker of the program.
+fn behind_program(text: &[u8]) -> Option<&[u8]>
+    ensures some { IfSome result (λ rest. text.now ≡ codes "--- program\n" ++ rest.now) }
+    ensures none { IfNone result ((rest : List ℕ) → text.now ≢ codes "--- program\n" ++ rest) }
+{
+    text.strip_prefix(PROGRAM)
+}
+
 /// The texts of a bundle, else the first marker that is missing.
 pub(crate) fn read_bundle(text: &[u8]) -> Result<Bundle<'_>, Marker>
     ensures bundle { IfOk result (λ b. IsBundle text.now b.program.now b.externals.now b.trace.now) }
     ensures missing { IfErr result (IsMissing text.now) }
 {
-    let Some(rest) = text.strip_prefix(PROGRAM) else {
+    let Some(rest) = behind_program(text) else {
         return Err(Marker::Program);
     };
     let Some((program, others)) = cut(rest, EXTERNALS) else {

@@ -26,15 +26,27 @@ enum Start {
     Untold,
 }
 
-/// `NoMemory` as a number of the part `program`.
-const NO_MEMORY: u32 = 16;
+/// `NoMemory` as a number of each part that reads a program.
+const LEX_NO_MEMORY: u32 = 7;
 
-/// Why a program that has a tree has no flat program.
+const SYNTAX_NO_MEMORY: u32 = 2;
+
+const PROGRAM_NO_MEMORY: u32 = 16;
+
+/// Why a program's text is refused, by the fault.
 fn of_program(alloc: Global, program: &[u8], fault: &Fault) -> Result<Option<String>, NoMemory>
     ensures { IfOk result (λ told. IfSome told (λ _. is_of_text fault.now.part fault.now.number ≡ true)) }
 {
     match fault.part {
-        Part::Program if fault.number != NO_MEMORY => {
+        Part::Lex if fault.number != LEX_NO_MEMORY => match tell_program(alloc, program)? {
+            Some(words) => Ok(Some(words)),
+            None => Ok(None),
+        },
+        Part::Syntax if fault.number != SYNTAX_NO_MEMORY => match tell_program(alloc, program)? {
+            Some(words) => Ok(Some(words)),
+            None => Ok(None),
+        },
+        Part::Program if fault.number != PROGRAM_NO_MEMORY => {
             match tell_cause(alloc, program, fault.number)? {
                 Some(words) => Ok(Some(words)),
                 None => Ok(None),
@@ -118,10 +130,6 @@ fn of_plan(alloc: Global, program: Program, externals: &[u8]) -> Result<Start, N
 fn start_of(alloc: Global, program: &[u8], externals: &[u8]) -> Result<Start, NoMemory>
     ensures { IfOk result (Gives program.now externals.now) }
 {
-    match tell_program(alloc, program)? {
-        Some(words) => return Ok(Start::Refused(words)),
-        None => {}
-    }
     match read_program(alloc, program) {
         Ok(flat) => of_plan(alloc, flat, externals),
         Err(fault) => match of_program(alloc, program, &fault)? {
@@ -144,7 +152,10 @@ pub fn refusal_of_texts(
     ensures { IfOk result (λ told. IfSome told (λ _. HaveNoMeaning program.now externals.now trace.now)) }
 {
     match start_of(alloc, program, externals)? {
-        Start::Program(flat) => of_trace(alloc, &flat, trace, "Trace"),
+        Start::Program(flat) => match of_trace(alloc, &flat, trace, "Trace")? {
+            Some(words) => Ok(Some(words)),
+            None => Ok(None),
+        },
         Start::Refused(words) => Ok(Some(words)),
         Start::Untold => Ok(None),
     }
@@ -176,7 +187,10 @@ pub fn refusal_of_pair_texts(
     ensures { IfOk result (λ told. IfSome told (λ _. HaveNoMeaningBoth program.now externals.now first.now second.now)) }
 {
     match start_of(alloc, program, externals)? {
-        Start::Program(flat) => of_traces(alloc, &flat, first, second),
+        Start::Program(flat) => match of_traces(alloc, &flat, first, second)? {
+            Some(words) => Ok(Some(words)),
+            None => Ok(None),
+        },
         Start::Refused(words) => Ok(Some(words)),
         Start::Untold => Ok(None),
     }

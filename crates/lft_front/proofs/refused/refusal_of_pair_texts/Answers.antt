@@ -1,8 +1,13 @@
-use Rattle.lft_front.proofs.Telling.{told_so, none_by_traces}
-use Rattle.lft_front.specs.Told.{HaveNoMeaningBoth}
+use Rattle.std.proofs.Common.{subst}
+use Rattle.lft_front.specs.declared.refused.Start.{Start}
+use Rattle.lft_front.specs.Told.{Gives}
+use Rattle.lft_front.proofs.Telling.{some_so, none_by_traces, none_of_both}
 use Rattle.lft_front.proofs.refused.refusal_of_pair_texts.Goals as goal
 
-pub returns-in-Program : goal.returns-in-Program
-returns-in-Program c =
-    let none = HaveNoMeaningBoth c.args.program.now c.args.externals.now c.args.first.now c.args.second.now in
-    told_so c.of_traces.result _ (λ _. none) (λ _ h. none_by_traces c.args.program.now c.args.externals.now c.in-Program.flat c.in_ok-start_of.ensures c.args.first.now c.args.second.now h) c.of_traces.ensures
+pub returns-in-Some : goal.returns-in-Some
+returns-in-Some c =
+    let only = subst (λ (s : Start). Gives c.args.program.now c.args.externals.now s) c.in-Program.is c.in_ok-flat.ensures in
+    none_by_traces c.args.program.now c.args.externals.now c.in-Program.flat only c.args.first.now c.args.second.now (some_so c.in_ok-words-in-Program.field-0 c.in-Some.words _ c.in-Some.is c.in_ok-words-in-Program.ensures)
+
+pub returns-in-Refused : goal.returns-in-Refused
+returns-in-Refused c = none_of_both c.args.program.now c.args.externals.now c.args.first.now c.args.second.now (subst (λ (s : Start). Gives c.args.program.now c.args.externals.now s) c.in-Refused.is c.in_ok-flat.ensures)

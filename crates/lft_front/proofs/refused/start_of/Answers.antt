@@ -1,5 +1,5 @@
-use Rattle.lft_front.proofs.Telling.{none_by_tree}
+use Rattle.lft_front.proofs.Telling.{some_so, none_by_program}
 use Rattle.lft_front.proofs.refused.start_of.Goals as goal
 
 pub returns-in-Some : goal.returns-in-Some
-returns-in-Some c = none_by_tree c.args.program.now c.args.externals.now c.in_ok-tell_program.ensures.some
+returns-in-Some c = none_by_program c.args.program.now c.args.externals.now (c.in-Err.ensures.none (some_so c.in_ok-words-in-Err.field-0 c.in-Some.words _ c.in-Some.is c.in_ok-words-in-Err.ensures))
