@@ -1,4 +1,4 @@
-use Rattle.lft_explain.proofs.Texts.{also}
+use Rattle.lft_words.proofs.Steps.{also}
 use Rattle.lft_explain.proofs.orders.push_early.Goals as goal
 
 pub returns : goal.returns
