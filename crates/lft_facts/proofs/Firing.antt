@@ -28,7 +28,6 @@ abbrev pub first_firing : TimerOf → Tag
 first_firing timer = record { time = timer.offset; micro = 0 }
 
 module _ (timer : TimerOf) (g : Tag) where
-
   -- each firing is at the first or behind it
   none_earlier : (k : Tag) → Before k (first_firing timer) → ¬ Fires timer k
   none_earlier k b f = let x = earlier_time (timer.offset + f.0 * timer.period) timer.offset (subst (λ (z : Tag). Before z (first_firing timer)) f.1 b) in omega arith
