@@ -95,11 +95,13 @@ WHY_WRONG_READ = f"""broken rule=10 wrong-read {AT_ZERO} reaction=main.b#1
 
 main.b#1 runs at (0, 0), from line 5 on.
 
+  input     read  present
+  main.b.x  2     1        <-
+
   3 | write,0,0,0,main.a#1,main.a.out,1,  a cause
     ..
   5 | start,1,0,0,main.b#1,,,             <- here
 
-  input main.b.x: read 2, present 1
   main.b.x gets 1 at (0, 0):
     line 3 is the last write of main.a.out at (0, 0)
     main.a.out (0, 0) --> main.b.x (0, 0)"""

@@ -1,20 +1,16 @@
 -- What explains a breach.
-use Rattle.std.specs.Prelude.{◌≡◌, ℕ, List, All}
+use Rattle.std.specs.Prelude.{◌≡◌, ℕ, List}
 use Rattle.lft_trace.specs.declared.row.Row.{Row}
 use Rattle.lft_model.specs.declared.breach.Breach.{Breach}
 use Rattle.lft_model.specs.Plans.{PlanParts}
-use Rattle.lft_facts.specs.declared.clues.Clue.{Clue}
 use Rattle.lft_facts.specs.declared.facts.Fact.{Fact}
-use Rattle.lft_facts.specs.Clues.{IsClue}
 use Rattle.lft_facts.specs.Facts.{AreFacts}
 use Rattle.lft_facts.specs.Enough.{Proves}
 use Rattle.lft_explain.specs.Told.{told}
 
--- the text tells facts and clues that are true of the plan and the rows, and the facts are enough for the breach
+-- the text tells facts that are true of the plan and the rows, and they are enough for the breach
 pub record Explains (plan : PlanParts) (t : List Row) (b : Breach) (text : List ℕ) : Type 0 where
   pub facts : List Fact
   pub holds : AreFacts plan t facts
   pub enough : Proves facts b
-  pub clues : List Clue
-  pub are_clues : All (IsClue plan t) clues
-  pub is_told : text ≡ told plan.program t facts clues
+  pub is_told : text ≡ told plan.program t facts

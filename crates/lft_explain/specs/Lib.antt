@@ -5,6 +5,7 @@ pub mod Rows
 pub mod Runs
 pub mod Sentences
 pub mod Neighbours
-pub mod Clues
+pub mod Reasons
+pub mod Reads
 pub mod Told
 pub mod Explained

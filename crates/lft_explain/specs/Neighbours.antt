@@ -17,6 +17,6 @@ run_before_words h start = codes "  Its run just before is at " ++ tag_words h +
 abbrev pub run_after_words : Tag → ℕ → List ℕ
 run_after_words h start = codes "  Its run just after is at " ++ tag_words h ++ codes ", from " ++ line_words start ++ codes " on.\n"
 
--- `The last row of the trace is line L, at G.`
-abbrev pub last_row_words : ℕ → Tag → List ℕ
-last_row_words i g = codes "  The last row of the trace is " ++ line_words i ++ codes ", at " ++ tag_words g ++ codes ".\n"
+-- `The last row of the trace is line L, at G; the stop is S.`
+abbrev pub last_row_words : ℕ → Tag → Tag → List ℕ
+last_row_words i g s = codes "  The last row of the trace is " ++ line_words i ++ codes ", at " ++ tag_words g ++ codes "; the stop is " ++ tag_words s ++ codes ".\n"

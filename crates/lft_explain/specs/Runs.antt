@@ -1,12 +1,10 @@
 -- The text of runs, of triggers and of what was read.
-use Rattle.std.specs.Prelude.{ℕ, List, ◌++◌, Option, codes, decimal}
+use Rattle.std.specs.Prelude.{ℕ, List, ◌++◌, codes, decimal}
 use Rattle.lft_tag.specs.declared.Tag.{Tag}
 use Rattle.lft_flat.specs.Parts.{Parts}
-use Rattle.lft_flat.specs.declared.parts.Name.{Name}
 use Rattle.lft_flat.specs.declared.parts.Trigger.{Trigger}
 use Rattle.lft_flat.specs.declared.parts.Trigger.TheVariants.{Startup, Shutdown, Timer, On}
-use Rattle.lft_flat.specs.declared.parts.Value.{Value}
-use Rattle.lft_words.specs.Words.{tag_words, value_words, timer_words, reaction_words, name_words, trigger_words}
+use Rattle.lft_words.specs.Words.{tag_words, timer_words, reaction_words, name_words, trigger_words}
 use Rattle.lft_words.specs.Lines.{line_words}
 
 -- `X is triggered at G and has no run there.`
@@ -31,7 +29,3 @@ absent_words program g Startup = codes "  startup is present at (0, 0) alone.\n"
 absent_words program g Shutdown = codes "  shutdown is present at the stop alone.\n"
 absent_words program g (Timer n) = codes "  timer " ++ timer_words program n ++ codes " does not fire at " ++ tag_words g ++ codes ".\n"
 absent_words program g (On n) = codes "  " ++ name_words program n ++ codes " has no event at " ++ tag_words g ++ codes ".\n"
-
--- `input N: read V, present W`
-abbrev pub reads_words : Parts → Name → Option Value → Option Value → List ℕ
-reads_words program n read present = codes "  input " ++ name_words program n ++ codes ": read " ++ value_words read ++ codes ", present " ++ value_words present ++ codes "\n"

@@ -2,15 +2,13 @@
 use Rattle.std.specs.Prelude.{ℕ, List, [], ◌∷◌, ◌++◌, flat_map}
 use Rattle.lft_flat.specs.Parts.{Parts}
 use Rattle.lft_trace.specs.declared.row.Row.{Row}
-use Rattle.lft_facts.specs.declared.clues.Clue.{Clue}
 use Rattle.lft_facts.specs.declared.facts.Fact.{Fact}
 use Rattle.lft_facts.specs.declared.facts.Fact.TheVariants as fact
 use Rattle.lft_quotes.specs.Quoted.{quoted}
 use Rattle.lft_explain.specs.Causes.{cause_words}
-use Rattle.lft_explain.specs.Clues.{clue_words}
-use Rattle.lft_explain.specs.Runs.{trigger_of_words, count_words, absent_words, reads_words}
-use Rattle.lft_explain.specs.Neighbours.{never_words, run_before_words, run_after_words, last_row_words}
-use Rattle.lft_explain.specs.Ways.{hop_words, nearest_words}
+use Rattle.lft_explain.specs.Reasons.{reason_words}
+use Rattle.lft_explain.specs.Reads.{table}
+use Rattle.lft_explain.specs.Runs.{trigger_of_words, count_words, absent_words}
 use Rattle.lft_explain.specs.Orders.{precedes_words, declared_words, feeds_words}
 use Rattle.lft_explain.specs.Sentences.{sentence}
 
@@ -20,10 +18,6 @@ fact_words program t (fact.StartsEarly g a r start end) = precedes_words program
 fact_words program t (fact.DeclaredFirst a b) = declared_words program a b
 fact_words program t (fact.Feeds a b p) = feeds_words program a b p
 fact_words program t (fact.NoRun g r) = []
-fact_words program t (fact.NeverRuns r) = never_words program r
-fact_words program t (fact.RunBefore g r h start) = run_before_words h start
-fact_words program t (fact.RunAfter g r h start) = run_after_words h start
-fact_words program t (fact.LastRow i g) = last_row_words i g
 fact_words program t (fact.Runs g r start) = []
 fact_words program t (fact.HasTrigger r x) = trigger_of_words program r x
 fact_words program t (fact.TriggerCount r count) = count_words program r count
@@ -31,9 +25,8 @@ fact_words program t (fact.Untriggered g r k x) = absent_words program g x
 fact_words program t (fact.RowIs g r i) = []
 fact_words program t (fact.Row f) = []
 fact_words program t (fact.Cause c) = cause_words program t c
-fact_words program t (fact.Hop hop) = hop_words program hop
-fact_words program t (fact.Nearest g x h) = nearest_words program x g h
-fact_words program t (fact.Reads g r k n read present) = reads_words program n read present
+fact_words program t (fact.Reads g r k n read present) = []
+fact_words program t (fact.Reason x) = reason_words program t x
 
 -- what the facts say beside what is wrong, one after another
 abbrev pub details : Parts → List Row → List Fact → List ℕ
@@ -44,10 +37,6 @@ abbrev pub part : List ℕ → List ℕ
 part [] = []
 part (byte ∷ bytes) = 10 ∷ byte ∷ bytes
 
--- what facts say beside what is wrong, and then clues
-abbrev pub all_details : Parts → List Row → List Fact → List Clue → List ℕ
-all_details program t facts clues = details program t facts ++ flat_map (clue_words program t) clues
-
--- the text of facts and clues: what is wrong, the rows that they name, and what else they say
-abbrev pub told : Parts → List Row → List Fact → List Clue → List ℕ
-told program t facts clues = sentence program t facts ++ part (quoted program t facts clues) ++ part (all_details program t facts clues)
+-- the text of facts: what is wrong, what was read, the rows that they name, and what else they say
+abbrev pub told : Parts → List Row → List Fact → List ℕ
+told program t facts = sentence program t facts ++ part (table program facts) ++ part (quoted program t facts) ++ part (details program t facts)

@@ -4,6 +4,7 @@ use Rattle.lft_tag.specs.declared.Tag.{Tag}
 use Rattle.lft_flat.specs.Parts.{Parts}
 use Rattle.lft_flat.specs.declared.parts.Port.{Port as PortOf}
 use Rattle.lft_flat.specs.declared.parts.Trigger.{Trigger}
+use Rattle.lft_flat.specs.declared.parts.Trigger.TheVariants.{Startup, Shutdown, Timer, On}
 use Rattle.lft_trace.specs.declared.row.Row.{Row}
 use Rattle.lft_trace.specs.declared.row.Step.{Step}
 use Rattle.lft_trace.specs.declared.row.Step.TheVariants.{Start, Read, Write, Schedule, Stop, End}
@@ -52,9 +53,16 @@ side_words g h =
     else if nat_lt h.micro g.micro then codes "before"
     else codes "after"
 
+-- what a trigger has where it is present
+abbrev pub happening : Trigger → List ℕ
+happening (Timer n) = codes "firing of "
+happening (On n) = codes "event of "
+happening Startup = codes "event of "
+happening Shutdown = codes "event of "
+
 -- `The nearest event of X `
 abbrev pub nearest_of : Parts → Trigger → List ℕ
-nearest_of program x = codes "    The nearest event of " ++ trigger_words program x ++ codes " "
+nearest_of program x = codes "    The nearest " ++ happening x ++ trigger_words program x ++ codes " "
 
 -- `The nearest event of X before it is at H.`
 abbrev pub nearest_words : Parts → Trigger → Tag → Tag → List ℕ

@@ -6,7 +6,7 @@ ghost use Rattle.lft_model.specs.Breaches.{First};
 ghost use Rattle.lft_explain.specs.Explained.{Explains};
 
 use crate::telling::tell;
-use lft_facts::{find, find_clues};
+use lft_facts::find;
 use lft_model::{Breach, Plan};
 use lft_tag::NoMemory;
 use lft_trace::Rows;
@@ -20,7 +20,6 @@ pub fn explain(alloc: Global, plan: &Plan, rows: &Rows, breach: Breach) -> Resul
     ensures { IfOk result (λ text. Explains plan.now rows.now breach (string_bytes text)) }
 {
     let facts = find(alloc, plan, rows, breach)?;
-    let clues = find_clues(alloc, plan, rows, &facts)?;
-    let text = tell(alloc, plan.program(), rows, &facts, clues.as_slice())?;
+    let text = tell(alloc, plan.program(), rows, &facts)?;
     Ok(text)
 }

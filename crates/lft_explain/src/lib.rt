@@ -2,10 +2,11 @@
 //! Why a trace breaks a rule, as text: facts that a reader can believe one by one.
 
 mod causes;
-mod clues;
 mod explaining;
 mod neighbours;
 mod orders;
+mod reads;
+mod reasons;
 mod rows;
 mod runs;
 mod sentences;

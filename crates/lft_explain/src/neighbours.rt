@@ -46,14 +46,21 @@ pub(crate) fn push_run_after(text: &mut String, tag: Tag, start: u32) -> Result<
     Ok(())
 }
 
-/// Puts which row is the last of all at the end of the text.
-pub(crate) fn push_last_row(text: &mut String, row: u32, tag: Tag) -> Result<(), AllocError>
-    ensures { OnOk result (string_bytes text.new ≡ string_bytes text.old ++ last_row_words row tag) }
+/// Puts which row is the last of all, and the stop, at the end of the text.
+pub(crate) fn push_last_row(
+    text: &mut String,
+    row: u32,
+    tag: Tag,
+    stop: Tag,
+) -> Result<(), AllocError>
+    ensures { OnOk result (string_bytes text.new ≡ string_bytes text.old ++ last_row_words row tag stop) }
 {
     text.push_str("  The last row of the trace is ")?;
     push_line(text, row)?;
     text.push_str(", at ")?;
     push_tag(text, tag)?;
+    text.push_str("; the stop is ")?;
+    push_tag(text, stop)?;
     text.push_str(".\n")?;
     Ok(())
 }

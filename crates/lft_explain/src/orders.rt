@@ -1,7 +1,7 @@
 //! The text of which reaction precedes which.
 
 ghost use Rattle.std.specs.Prelude.{◌≡◌, ◌++◌, OnOk, string_bytes};
-ghost use Rattle.lft_explain.specs.Orders.{origin_of, early_words, precedes_words, declared_words, feeds_words};
+ghost use Rattle.lft_explain.specs.Orders.{origin_of, early_words, precedes_words, declared_words, feeds_words, passed_by_words};
 
 use lft_flat::Program;
 use lft_tag::Tag;
@@ -97,5 +97,22 @@ pub(crate) fn push_feeds(
     text.push_str(" --> ")?;
     push_port(text, program, port)?;
     text.push_str("\n")?;
+    Ok(())
+}
+
+/// Puts that a reaction on the way has no run at the end of the text.
+pub(crate) fn push_passed_by(
+    text: &mut String,
+    program: &Program,
+    tag: Tag,
+    reaction: u32,
+) -> Result<(), AllocError>
+    ensures { OnOk result (string_bytes text.new ≡ string_bytes text.old ++ passed_by_words program.now tag reaction) }
+{
+    text.push_str("    ")?;
+    push_reaction(text, program, reaction)?;
+    text.push_str(" has no run at ")?;
+    push_tag(text, tag)?;
+    text.push_str("; the order goes through it all the same\n")?;
     Ok(())
 }

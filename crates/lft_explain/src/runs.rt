@@ -1,13 +1,12 @@
 //! The text of runs, of triggers and of what was read.
 
 ghost use Rattle.std.specs.Prelude.{◌≡◌, ◌++◌, OnOk, string_bytes};
-ghost use Rattle.lft_explain.specs.Runs.{no_run_words, runs_words, trigger_of_words, count_words, absent_words, reads_words};
+ghost use Rattle.lft_explain.specs.Runs.{no_run_words, runs_words, trigger_of_words, count_words, absent_words};
 
-use lft_flat::{Name, Program, Trigger, Value};
+use lft_flat::{Program, Trigger};
 use lft_tag::Tag;
 use lft_words::{
     push_line, push_name, push_number, push_reaction, push_tag, push_timer, push_trigger,
-    push_value,
 };
 use std::alloc::AllocError;
 
@@ -107,25 +106,5 @@ pub(crate) fn push_absent(
             text.push_str(".\n")?;
         }
     }
-    Ok(())
-}
-
-/// Puts what was read and what is present at the end of the text.
-pub(crate) fn push_reads(
-    text: &mut String,
-    program: &Program,
-    name: Name,
-    read: Option<Value>,
-    present: Option<Value>,
-) -> Result<(), AllocError>
-    ensures { OnOk result (string_bytes text.new ≡ string_bytes text.old ++ reads_words program.now name read present) }
-{
-    text.push_str("  input ")?;
-    push_name(text, program, name)?;
-    text.push_str(": read ")?;
-    push_value(text, read)?;
-    text.push_str(", present ")?;
-    push_value(text, present)?;
-    text.push_str("\n")?;
     Ok(())
 }

@@ -1,18 +1,16 @@
 //! The text of facts.
 
-ghost use Rattle.std.specs.Prelude.{◌≡◌, ◌++◌, flat_map, IfOk, OnOk, string_bytes};
+ghost use Rattle.std.specs.Prelude.{◌≡◌, ◌++◌, IfOk, OnOk, string_bytes};
 ghost use Rattle.lft_trace.specs.Fits.{RowsFit};
-ghost use Rattle.lft_explain.specs.Clues.{clue_words};
 ghost use Rattle.lft_explain.specs.Told.{fact_words, details as the_details, part, told};
 
 use crate::causes::push_cause;
-use crate::clues::push_clue;
-use crate::neighbours::{push_last_row, push_never, push_run_after, push_run_before};
 use crate::orders::{push_declared, push_feeds, push_precedes};
-use crate::runs::{push_absent, push_count, push_reads, push_trigger_of};
+use crate::reads::table;
+use crate::reasons::push_reason;
+use crate::runs::{push_absent, push_count, push_trigger_of};
 use crate::sentences::sentence;
-use crate::ways::{push_hop, push_nearest};
-use lft_facts::{Clue, Fact, Facts};
+use lft_facts::{Fact, Facts};
 use lft_flat::Program;
 use lft_lists::item_at;
 use lft_quotes::quote;
@@ -22,39 +20,36 @@ use std::alloc::{AllocError, Global};
 
 /// Puts a fact at the end of the text.
 fn push_fact(
+    alloc: Global,
     text: &mut String,
     program: &Program,
     rows: &[Row],
     fact: Fact,
-) -> Result<(), AllocError>
+) -> Result<(), NoMemory>
     ensures { OnOk result (string_bytes text.new ≡ string_bytes text.old ++ fact_words program.now rows.now fact) }
 {
     match fact {
-        Fact::RowIs { .. } | Fact::Row(_) | Fact::NoRun { .. } | Fact::Runs { .. } => Ok(()),
-        Fact::Cause(cause) => push_cause(text, program, rows, cause),
-        Fact::Hop(hop) => push_hop(text, program, hop),
-        Fact::Nearest { tag, trigger, at } => push_nearest(text, program, trigger, tag, at),
-        Fact::NeverRuns { reaction } => push_never(text, program, reaction),
-        Fact::RunBefore { at, start, .. } => push_run_before(text, at, start),
-        Fact::RunAfter { at, start, .. } => push_run_after(text, at, start),
-        Fact::LastRow { row, tag } => push_last_row(text, row, tag),
-        Fact::HasTrigger { reaction, trigger } => push_trigger_of(text, program, reaction, trigger),
-        Fact::TriggerCount { reaction, count } => push_count(text, program, reaction, count),
-        Fact::Untriggered { tag, trigger, .. } => push_absent(text, program, tag, trigger),
-        Fact::StartsEarly { earlier, later, .. } => push_precedes(text, program, earlier, later),
-        Fact::DeclaredFirst { first, second } => push_declared(text, program, first, second),
+        Fact::RowIs { .. }
+        | Fact::Row(_)
+        | Fact::NoRun { .. }
+        | Fact::Runs { .. }
+        | Fact::Reads { .. } => {}
+        Fact::Cause(cause) => push_cause(text, program, rows, cause)?,
+        Fact::HasTrigger { reaction, trigger } => {
+            push_trigger_of(text, program, reaction, trigger)?
+        }
+        Fact::TriggerCount { reaction, count } => push_count(text, program, reaction, count)?,
+        Fact::Untriggered { tag, trigger, .. } => push_absent(text, program, tag, trigger)?,
+        Fact::StartsEarly { earlier, later, .. } => push_precedes(text, program, earlier, later)?,
+        Fact::DeclaredFirst { first, second } => push_declared(text, program, first, second)?,
         Fact::Feeds {
             writer,
             reader,
             port,
-        } => push_feeds(text, program, writer, reader, port),
-        Fact::Reads {
-            name,
-            read,
-            present,
-            ..
-        } => push_reads(text, program, name, read, present),
+        } => push_feeds(text, program, writer, reader, port)?,
+        Fact::Reason(reason) => push_reason(alloc, text, program, rows, reason)?,
     }
+    Ok(())
 }
 
 /// What the facts say beside what is wrong, one after another.
@@ -63,30 +58,14 @@ fn details(
     program: &Program,
     rows: &[Row],
     facts: &[Fact],
-) -> Result<String, AllocError>
+) -> Result<String, NoMemory>
     ensures { IfOk result (λ text. string_bytes text ≡ the_details program.now rows.now facts.now) }
 {
     let mut text = String::new(alloc);
     for place in 0..facts.len() {
-        push_fact(&mut text, program, rows, item_at(facts, place))?;
+        push_fact(alloc, &mut text, program, rows, item_at(facts, place))?;
     }
     Ok(text)
-}
-
-/// Puts the clues, one after another, at the end of the text.
-fn push_clues(
-    alloc: Global,
-    text: &mut String,
-    program: &Program,
-    rows: &[Row],
-    clues: &[Clue],
-) -> Result<(), NoMemory>
-    ensures { OnOk result (string_bytes text.new ≡ string_bytes text.old ++ flat_map (clue_words program.now rows.now) clues.now) }
-{
-    for place in 0..clues.len() {
-        push_clue(alloc, text, program, rows, item_at(clues, place))?;
-    }
-    Ok(())
 }
 
 /// Puts an empty line and a part at the end of the text, where there is such a part.
@@ -100,25 +79,25 @@ fn push_part(text: &mut String, bytes: &str) -> Result<(), AllocError>
     Ok(())
 }
 
-/// The text of facts and clues: what is wrong, the rows that they name, and what else they say. Names that
-/// are of nothing are written as nothing, so it asks for no facts that are true.
+/// The text of facts: what is wrong, what was read, the rows that they name, and what else they say. Names
+/// that are of nothing are written as nothing, so it asks for no facts that are true.
 pub fn tell(
     alloc: Global,
     program: &Program,
     rows: &Rows,
     facts: &Facts,
-    clues: &[Clue],
 ) -> Result<String, NoMemory>
     requires { RowsFit program.now rows.now }
-    ensures { IfOk result (λ text. string_bytes text ≡ told program.now rows.now facts.now clues.now) }
+    ensures { IfOk result (λ text. string_bytes text ≡ told program.now rows.now facts.now) }
 {
     let rows = rows.as_slice();
     let facts = facts.as_slice();
     let mut text = sentence(alloc, program, rows, facts)?;
-    let quotes = quote(alloc, program, rows, facts, clues)?;
+    let table = table(alloc, program, facts)?;
+    push_part(&mut text, table.as_str())?;
+    let quotes = quote(alloc, program, rows, facts)?;
     push_part(&mut text, quotes.as_str())?;
-    let mut details = details(alloc, program, rows, facts)?;
-    push_clues(alloc, &mut details, program, rows, clues)?;
+    let details = details(alloc, program, rows, facts)?;
     push_part(&mut text, details.as_str())?;
     Ok(text)
 }

@@ -1,7 +1,7 @@
 //! The text of where delays lead, and of what is nearest.
 
 ghost use Rattle.std.specs.Prelude.{◌≡◌, ◌++◌, OnOk, string_bytes};
-ghost use Rattle.lft_explain.specs.Ways.{delay_into as the_delay_into, arrow_words, hop_words, least_delay as the_least_delay, extra_of as the_extra_of, extra_at as the_extra_at, delays_words, side_words, nearest_of, nearest_words};
+ghost use Rattle.lft_explain.specs.Ways.{delay_into as the_delay_into, arrow_words, hop_words, least_delay as the_least_delay, extra_of as the_extra_of, extra_at as the_extra_at, delays_words, side_words, happening as the_happening, nearest_of, nearest_words};
 
 use lft_facts::Hop;
 use lft_flat::{Program, Trigger};
@@ -124,11 +124,22 @@ fn push_side(text: &mut String, tag: Tag, other: Tag) -> Result<(), AllocError>
     Ok(())
 }
 
+/// What a trigger has where it is present.
+fn happening(trigger: Trigger) -> &'static str
+    ensures { result.now ≡ the_happening trigger }
+{
+    match trigger {
+        Trigger::Timer(_) => "firing of ",
+        Trigger::On(_) | Trigger::Startup | Trigger::Shutdown => "event of ",
+    }
+}
+
 /// Puts of what an event is the nearest at the end of the text.
 fn push_nearest_of(text: &mut String, program: &Program, trigger: Trigger) -> Result<(), AllocError>
     ensures { OnOk result (string_bytes text.new ≡ string_bytes text.old ++ nearest_of program.now trigger) }
 {
-    text.push_str("    The nearest event of ")?;
+    text.push_str("    The nearest ")?;
+    text.push_str(happening(trigger))?;
     push_trigger(text, program, trigger)?;
     text.push_str(" ")?;
     Ok(())

@@ -7,7 +7,7 @@ use Rattle.lft_model.proofs.Places.{slice_get_within}
 use Rattle.lft_tag.specs.declared.Tag.{Tag}
 use Rattle.lft_flat.specs.Parts.{inputs}
 use Rattle.lft_flat.specs.Naming.{named}
-use Rattle.lft_flat.specs.Sound.{IsSound, IsNameOf}
+use Rattle.lft_flat.specs.Sound.{IsSound, IsNameOf, IsTriggerOf}
 use Rattle.lft_flat.specs.declared.parts.Name.{Name}
 use Rattle.lft_flat.specs.declared.parts.Value.{Value}
 use Rattle.lft_flat.specs.declared.parts.Trigger.{Trigger}
@@ -18,7 +18,8 @@ use Rattle.lft_model.specs.declared.breach.Breach.{Breach}
 use Rattle.lft_model.specs.Plans.{PlanParts}
 use Rattle.lft_facts.specs.declared.facts.Fact.{Fact}
 use Rattle.lft_facts.specs.Facts.{IsFact, AreFacts, IsRead, IsUntriggered}
-use Rattle.lft_facts.specs.Enough.{Adds, Extends, ProvesTag}
+use Rattle.lft_facts.specs.Enough.{Adds, Extends, Gives, ProvesTag, ProvesRow}
+use Rattle.lft_facts.proofs.Lists.{all_left}
 
 module _ (plan : PlanParts) (t : List Row) where
   pub adds_none : (facts : List Fact) → Adds plan t facts facts
@@ -39,6 +40,13 @@ module _ (plan : PlanParts) (t : List Row) where
   -- more facts hold and give as much
   pub adds_holds : (old new : List Fact) → Adds plan t old new → AreFacts plan t old → AreFacts plan t new
   adds_holds old new a all = subst (λ (fs : List Fact). AreFacts plan t fs) (sym a.is) (All-append (IsFact plan t) old a.more all a.holds)
+
+-- more facts give the same breach
+pub adds_row : (plan : PlanParts) (t : List Row) (old new : List Fact) (b : Breach) → Adds plan t old new → ProvesRow old b → ProvesRow new b
+adds_row plan t old new b a gives other s all = gives other s (all_left (IsFact other s) old a.more (subst (λ (fs : List Fact). AreFacts other s fs) a.is all))
+
+pub adds_gives : (plan : PlanParts) (t : List Row) (old new : List Fact) (g : Tag) (o : Option ℕ) (k : ℕ) → Adds plan t old new → Gives old g o k → Gives new g o k
+adds_gives plan t old new g o k a gives other s all = gives other s (all_left (IsFact other s) old a.more (subst (λ (fs : List Fact). AreFacts other s fs) a.is all))
 
 -- facts so far, among them the first of some others
 pub record ExtendsTo (plan : PlanParts) (t : List Row) (old : List Fact) (n : ℕ) (new : List Fact) : Type 0 where
@@ -77,5 +85,5 @@ read_known plan sound t g r k n read present f = go (Contains-append_cases (filt
     go (inl m) = let i = to_trigger f.reaction.triggers n m in (sound.exist r f.reaction f.is_reaction).triggers (On n) (contains_at f.reaction.triggers i.0 (On n) i.1)
     go (inr m) = (sound.exist r f.reaction f.is_reaction).uses n m
 
-pub trigger_named : (plan : PlanParts) (sound : IsSound plan.program) (t : List Row) (g : Tag) (r k : ℕ) (x : Trigger) (n : Name) → x ≡ On n → IsUntriggered plan t g r k x → IsNameOf plan.program n
-trigger_named plan sound t g r k x n is f = (sound.exist r f.reaction f.is_reaction).triggers (On n) (subst (λ (y : Trigger). Contains f.reaction.triggers y) is (contains_at f.reaction.triggers k x f.is_trigger))
+pub trigger_known : (plan : PlanParts) (sound : IsSound plan.program) (t : List Row) (g : Tag) (r k : ℕ) (x : Trigger) → IsUntriggered plan t g r k x → IsTriggerOf plan.program x
+trigger_known plan sound t g r k x f = (sound.exist r f.reaction f.is_reaction).triggers x (contains_at f.reaction.triggers k x f.is_trigger)

@@ -1,17 +1,20 @@
--- Why a row asks for the stop, and what feeds a port.
-use Rattle.std.proofs.Common.{◌≡◌, ◌≢◌, ℕ, List, ap, ◌∙◌, sym, subst, Option, Some, None, IfSome, Result, Ok, Err, OnOk, slice_get}
+-- Why a row asks for the stop, what feeds a port, and what a reaction declares.
+use Rattle.std.proofs.Common.{◌≡◌, ◌≢◌, ℕ, ◌<◌, List, [], length, ap, ◌∙◌, sym, subst, unwrap_or, option_map, Option, Some, None, IfSome, slice_get}
 use Rattle.lft_tag.specs.declared.Tag.{Tag}
 use Rattle.lft_tag.specs.Tags.{after}
-use Rattle.lft_flat.specs.Parts.{Parts}
+use Rattle.lft_lists.proofs.Places.{get_there}
+use Rattle.lft_flat.specs.Parts.{Parts, inputs}
 use Rattle.lft_flat.specs.Sound.{IsSound}
 use Rattle.lft_flat.specs.declared.parts.Port.{Port as PortOf}
+use Rattle.lft_flat.specs.declared.parts.Reaction.{Reaction}
 use Rattle.lft_trace.specs.declared.row.Row.{Row}
 use Rattle.lft_trace.specs.declared.row.Step.{Step}
 use Rattle.lft_trace.specs.declared.row.Step.TheVariants.{Stop}
 use Rattle.lft_model.specs.Plans.{PlanParts}
 use Rattle.lft_model.specs.Presence.{asked}
-use Rattle.lft_facts.specs.declared.clues.Clue.{Clue}
-use Rattle.lft_facts.specs.Clues.{IsFedBy, IsClue}
+use Rattle.lft_model.specs.Runs.{inputs_of, effects_of}
+use Rattle.lft_facts.specs.declared.facts.Reason.{Reason}
+use Rattle.lft_facts.specs.Reasons.{IsReason, IsFedBy, HasInputs, HasEffects}
 
 pub asks_for : (g h : Tag) (s : Step) → s ≡ Stop → after g 0 ≡ h → asked g s ≡ Some h
 asks_for g h s is e = ap (asked g) is ∙ ap Some e
@@ -21,17 +24,19 @@ fed_by program plan p port sound is other same =
     let k = sound.origins p port is in
     subst (λ (x : Parts). IsFedBy x p port.origin) (sym same) (record { delays = k.0; is_origin = k.1; other = other })
 
--- a clue on a program is one on each plan of it
-pub of_program : (o : Option Clue) (program : Parts) (plan : PlanParts) (t : List Row) → plan.program ≡ program → IfSome o (λ c. (p : PlanParts) (u : List Row) → p.program ≡ program → IsClue p u c) → IfSome o (IsClue plan t)
+-- a reason on a program is one on each plan of it
+pub of_program : (o : Option Reason) (program : Parts) (plan : PlanParts) (t : List Row) → plan.program ≡ program → IfSome o (λ c. (p : PlanParts) (u : List Row) → p.program ≡ program → IsReason p u c) → IfSome o (IsReason plan t)
 of_program None program plan t e h = tt
 of_program (Some c) program plan t e h = h plan t e
 
--- a clue on rows is one on each plan
-pub of_rows : (o : Option Clue) (plan : PlanParts) (t : List Row) → IfSome o (λ c. (p : PlanParts) → IsClue p t c) → IfSome o (IsClue plan t)
+-- a reason on rows is one on each plan
+pub of_rows : (o : Option Reason) (plan : PlanParts) (t : List Row) → IfSome o (λ c. (p : PlanParts) → IsReason p t c) → IfSome o (IsReason plan t)
 of_rows None plan t h = tt
 of_rows (Some c) plan t h = h plan
 
--- what is so after a call is so in other words
-pub on_ok : {A E : Type 0} (r : Result A E) (P Q : Type 0) → (P → Q) → OnOk r P → OnOk r Q
-on_ok (Ok x) P Q f h = f h
-on_ok (Err e) P Q f h = tt
+-- a reaction has the inputs and effects that its number leads to
+pub has_inputs : (program : Parts) (r : ℕ) → r < length program.reactions → HasInputs program r (inputs_of program r)
+has_inputs program r l = let x = get_there program.reactions r l in record { reaction = x.0; is_reaction = x.1; are = ap (λ (o : Option Reaction). unwrap_or (option_map inputs o) []) (sym x.1) }
+
+pub has_effects : (program : Parts) (r : ℕ) → r < length program.reactions → HasEffects program r (effects_of program r)
+has_effects program r l = let x = get_there program.reactions r l in record { reaction = x.0; is_reaction = x.1; are = ap (λ (o : Option Reaction). unwrap_or (option_map (λ (y : Reaction). y.effects) o) []) (sym x.1) }

@@ -8,7 +8,8 @@ use Rattle.lft_lists.proofs.Places.{Some_same}
 use Rattle.lft_trace.specs.declared.row.Row.{Row}
 use Rattle.lft_model.specs.Runs.{start_row, Ran}
 use Rattle.lft_model.proofs.Places.{slice_get_within}
-use Rattle.lft_facts.specs.Facts.{StartsAt, IsRunBefore, IsRunAfter}
+use Rattle.lft_facts.specs.Runs.{StartsAt}
+use Rattle.lft_facts.specs.Reasons.{IsRunBefore, IsRunAfter}
 use Rattle.lft_facts.specs.Neighbours.{IsNearestStart}
 
 module _ (Kind : Tag → Type 0) (UpToIt : Tag → Tag → Type 0) (t : List Row) (r i : ℕ) (row : Row) (is : slice_get t i ≡ Some row) where
@@ -47,14 +48,6 @@ module _ (Kind : Tag → Type 0) (UpToIt : Tag → Tag → Type 0) (t : List Row
       go : (j : ℕ) (k : Tag) → j < i + 1 → StartsAt t k r j → Kind k → Dec (j ≡ i) → UpToIt k row.tag
       go j k l s q (yes e) = subst (λ (h : Tag). UpToIt h row.tag) (sym (tag_here k (subst (λ n. StartsAt t k r n) e s))) (self row.tag)
       go j k l s q (no d) = trans k run.0 row.tag (so_far.2 j k (omega arith) s q) up
-
--- what isn't earlier is up to it
-pub not_before : (g h : Tag) → ¬ Before g h → UpTo h g
-not_before g h n = go (order_cases g h)
-  where
-    go : Before g h ⊎ UpTo h g → UpTo h g
-    go (inl b) = absurd (n b)
-    go (inr u) = u
 
 -- after all rows
 module _ (t : List Row) (g : Tag) (r i : ℕ) (all : length t ≤ i) where

@@ -16,6 +16,7 @@ use Rattle.lft_flat.proofs.Origins.{origin_unique}
 use Rattle.lft_trace.specs.declared.row.Row.{Row}
 use Rattle.lft_trace.specs.declared.row.Step.TheVariants.{Write}
 use Rattle.lft_trace.specs.Fits.{RowsFit}
+use Rattle.lft_model.proofs.Blocks.{two_places}
 use Rattle.lft_model.specs.Plans.{PlanParts}
 use Rattle.lft_model.specs.Presence.{value_written, scheduled, given, min_delay, events_of, IsWrittenFrom, PortClash}
 use Rattle.lft_model.proofs.Steps.{some_written}
@@ -62,17 +63,6 @@ kept_one {X} {Y} h (y ∷ ys) (suc i) x v e f = over (h y) (kept_one h ys i x v 
     over None l = l
     over (Some w) l = omega arith
 
-kept_two : {X Y : Type 0} (h : X → Option Y) (xs : List X) (i j : ℕ) (x y : X) (v w : Y) → i < j → slice_get xs i ≡ Some x → slice_get xs j ≡ Some y → h x ≡ Some v → h y ≡ Some w → 2 ≤ length (filter_map h xs)
-kept_two h [] i j x y v w l e f p q = absurd (cc)
-kept_two h (z ∷ zs) zero zero x y v w l e f p q = absurd (omega arith)
-kept_two h (z ∷ zs) zero (suc j) x y v w l e f p q = let s : z ≡ x = cc in let r : h z ≡ Some v = ap h s ∙ p in let n : 1 ≤ length (filter_map h zs) = kept_one h zs j y w f q in rw r (omega arith)
-kept_two h (z ∷ zs) (suc i) zero x y v w l e f p q = absurd (omega arith)
-kept_two {X} {Y} h (z ∷ zs) (suc i) (suc j) x y v w l e f p q = over (h z) (kept_two h zs i j x y v w (omega arith) e f p q)
-  where
-    over : (o : Option Y) → 2 ≤ length (filter_map h zs) → 2 ≤ length (cons_option o (filter_map h zs))
-    over None n = n
-    over (Some u) n = omega arith
-
 pub two_scheduled : (g : Tag) (a i j : ℕ) → i ≢ j → GivesClash (cause.Scheduled g a i) (cause.Scheduled g a j) g
 two_scheduled g a i j apart plan t x y = (Action a, go (dec_lt i j) (dec_lt j i))
   where
@@ -80,8 +70,8 @@ two_scheduled g a i j apart plan t x y = (Action a, go (dec_lt i j) (dec_lt j i)
     both = length-append (filter_map (scheduled g a (min_delay plan.program a)) t) (filter_map (given g a) plan.externals.events)
 
     go : Dec (i < j) → Dec (j < i) → 2 ≤ length (events_of plan t g a)
-    go (yes l) d = let n = kept_two (scheduled g a (min_delay plan.program a)) t i j x.row y.row x.value y.value l x.is_row y.is_row (scheduled_at plan t g a i x) (scheduled_at plan t g a j y) in let b = both in omega arith
-    go (no n) (yes l) = let n = kept_two (scheduled g a (min_delay plan.program a)) t j i y.row x.row y.value x.value l y.is_row x.is_row (scheduled_at plan t g a j y) (scheduled_at plan t g a i x) in let b = both in omega arith
+    go (yes l) d = let n = two_places (scheduled g a (min_delay plan.program a)) t i j x.row y.row x.value y.value l x.is_row y.is_row (scheduled_at plan t g a i x) (scheduled_at plan t g a j y) in let b = both in omega arith
+    go (no n) (yes l) = let n = two_places (scheduled g a (min_delay plan.program a)) t j i y.row x.row y.value x.value l y.is_row x.is_row (scheduled_at plan t g a j y) (scheduled_at plan t g a i x) in let b = both in omega arith
     go (no n) (no m) = absurd (apart (omega arith))
 
 pub scheduled_given : (g : Tag) (a i e : ℕ) → GivesClash (cause.Scheduled g a i) (cause.Given g a e) g
@@ -98,8 +88,8 @@ two_given g a i j apart plan t x y = (Action a, go (dec_lt i j) (dec_lt j i))
     both = length-append (filter_map (scheduled g a (min_delay plan.program a)) t) (filter_map (given g a) plan.externals.events)
 
     go : Dec (i < j) → Dec (j < i) → 2 ≤ length (events_of plan t g a)
-    go (yes l) d = let n = kept_two (given g a) plan.externals.events i j x.event y.event x.event.value y.event.value l x.is_event y.is_event (given_at plan g a i x) (given_at plan g a j y) in let b = both in omega arith
-    go (no n) (yes l) = let n = kept_two (given g a) plan.externals.events j i y.event x.event y.event.value x.event.value l y.is_event x.is_event (given_at plan g a j y) (given_at plan g a i x) in let b = both in omega arith
+    go (yes l) d = let n = two_places (given g a) plan.externals.events i j x.event y.event x.event.value y.event.value l x.is_event y.is_event (given_at plan g a i x) (given_at plan g a j y) in let b = both in omega arith
+    go (no n) (yes l) = let n = two_places (given g a) plan.externals.events j i y.event x.event y.event.value x.event.value l y.is_event x.is_event (given_at plan g a j y) (given_at plan g a i x) in let b = both in omega arith
     go (no n) (no m) = absurd (apart (omega arith))
 
 -- what is told of two places of causes of an action gives two events

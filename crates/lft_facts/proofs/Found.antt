@@ -1,5 +1,5 @@
 -- What the first breach says of its rule, and what facts say of the breach.
-use Rattle.std.proofs.Common.{◌≡◌, ℕ, ◌+◌, ◌<◌, ◌≤◌, ◌⊎◌, inl, inr, List, length, refl, sym, ◌∙◌, subst, arith, Option, Some, None, unwrap_or, Result, Ok, Err, IfOk}
+use Rattle.std.proofs.Common.{◌≡◌, ℕ, ◌+◌, ◌<◌, ◌≤◌, ◌⊎◌, inl, inr, List, length, refl, sym, ◌∙◌, subst, arith, Option, Some, None, unwrap_or}
 use Rattle.lft_tag.specs.declared.Tag.{Tag}
 use Rattle.lft_tag.specs.Tags.{Before}
 use Rattle.lft_tag.proofs.Order.{Before-irrefl}
@@ -120,8 +120,3 @@ proves_tag facts b z p = record { row = λ l. absurd (omega arith); tag = λ e. 
 
 pub proves_row : (facts : List Fact) (b : Breach) → ¬ (b.row ≡ 0) → ProvesRow facts b → Proves facts b
 proves_row facts b n p = record { row = λ l. p; tag = λ e. absurd (n e) }
-
--- what follows from what an answer says follows of the answer
-pub if_ok : {T E : Type 0} (r : Result T E) (P Q : T → Type 0) → ((x : T) → P x → Q x) → IfOk r P → IfOk r Q
-if_ok (Ok x) P Q f p = f x p
-if_ok (Err e) P Q f p = tt

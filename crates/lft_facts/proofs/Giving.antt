@@ -19,7 +19,8 @@ use Rattle.lft_answers.specs.Answers.{KeepsRows}
 use Rattle.lft_facts.specs.declared.facts.Fact.{Fact}
 use Rattle.lft_facts.specs.declared.facts.Cause.{Cause}
 use Rattle.lft_facts.specs.declared.facts.Fact.TheVariants as fact
-use Rattle.lft_facts.specs.Facts.{IsFact, IsCause, AreFacts, StartsAt, EndsAt, IsEarlyStart, IsTriggerOf, HasTriggers, IsUntriggered}
+use Rattle.lft_facts.specs.Facts.{IsFact, IsCause, AreFacts, IsEarlyStart, IsTriggerOf, HasTriggers, IsUntriggered}
+use Rattle.lft_facts.specs.Runs.{StartsAt, EndsAt}
 use Rattle.lft_facts.specs.Enough.{Gives, GivesChain, GivesTrigger}
 use Rattle.lft_facts.specs.Ways.{IsMarked, EndsMarked}
 use Rattle.lft_facts.proofs.Lists.{all_right}

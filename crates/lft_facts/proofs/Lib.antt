@@ -13,3 +13,5 @@ pub mod Added
 pub mod Clashes
 pub mod RowGiving
 mod Asking
+mod Firing
+mod Running

@@ -22,7 +22,7 @@ use Rattle.lft_presence.specs.declared.causes.Cause.{Cause as Event}
 use Rattle.lft_presence.specs.Causes.{tag_of}
 use Rattle.lft_presence.proofs.Positions.{shifted_mono}
 use Rattle.lft_presence.proofs.Presences.{present_cause, cause_present}
-use Rattle.lft_facts.specs.Facts.{IsNearest}
+use Rattle.lft_facts.specs.Reasons.{IsNearest}
 use Rattle.lft_facts.specs.Ways.{AreThere}
 use Rattle.lft_facts.specs.Causes.{StandsFor, IsLastBefore, IsFirstAfter}
 use Rattle.lft_facts.proofs.Lookups.{in_order}

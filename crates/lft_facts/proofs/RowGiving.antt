@@ -19,7 +19,8 @@ use Rattle.lft_facts.specs.declared.facts.Fact.{Fact}
 use Rattle.lft_facts.specs.declared.facts.Fact.TheVariants as fact
 use Rattle.lft_facts.specs.declared.facts.RowFact.{RowFact}
 use Rattle.lft_facts.specs.declared.facts.RowFact.TheVariants as row_fact
-use Rattle.lft_facts.specs.Facts.{IsFact, IsRowFact, AreFacts, IsRowOf, IsOpenSince, MayNot}
+use Rattle.lft_facts.specs.Facts.{IsFact, IsRowFact, AreFacts, IsRowOf, MayNot}
+use Rattle.lft_facts.specs.Runs.{IsOpenSince}
 use Rattle.lft_facts.specs.Enough.{GivesRow, ProvesRow}
 
 -- each fact gives its rule

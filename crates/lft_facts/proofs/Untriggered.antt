@@ -12,7 +12,8 @@ use Rattle.lft_model.specs.Presence.{Triggered}
 use Rattle.lft_model.proofs.Places.{slice_get_within}
 use Rattle.lft_facts.specs.declared.facts.Fact.{Fact}
 use Rattle.lft_facts.specs.declared.facts.Fact.TheVariants as fact
-use Rattle.lft_facts.specs.Facts.{IsFact, AreFacts, StartsAt}
+use Rattle.lft_facts.specs.Facts.{IsFact, AreFacts}
+use Rattle.lft_facts.specs.Runs.{StartsAt}
 use Rattle.lft_facts.specs.Enough.{Gives}
 use Rattle.lft_facts.proofs.Giving.{not_triggered_gives}
 

@@ -4,19 +4,22 @@ use native.Mathlib.Decide.{ℕ_discrete}
 use Rattle.std.specs.List.{AllZip}
 use Rattle.std.proofs.lemmas.List.Elements.{All-push, All-contains, All-cons, All-nil, Contains-append_left, Contains-push}
 use Rattle.lft_lists.proofs.Places.{get_there, same_at, get_written}
+use Rattle.lft_lists.proofs.Mapped.{mapped}
 use Rattle.lft_tag.specs.declared.Tag.{Tag}
 use Rattle.lft_flat.specs.Parts.{inputs}
 use Rattle.lft_flat.specs.declared.parts.Name.{Name}
 use Rattle.lft_flat.specs.declared.parts.Reaction.{Reaction}
 use Rattle.lft_flat.specs.declared.parts.Value.{Value}
 use Rattle.lft_trace.specs.declared.row.Row.{Row}
+use Rattle.lft_trace.proofs.Zips.{long}
 use Rattle.lft_model.specs.Plans.{PlanParts}
 use Rattle.lft_model.specs.Presence.{Shows, Inputs}
 use Rattle.lft_model.specs.Runs.{inputs_of, reads_at, read_of, steps_of, start_row}
 use Rattle.lft_model.proofs.Places.{slice_get_within}
 use Rattle.lft_facts.specs.declared.facts.Fact.{Fact}
 use Rattle.lft_facts.specs.declared.facts.Fact.TheVariants as fact
-use Rattle.lft_facts.specs.Facts.{IsFact, AreFacts, IsRead, StartsAt}
+use Rattle.lft_facts.specs.Facts.{IsFact, AreFacts, IsRead}
+use Rattle.lft_facts.specs.Runs.{StartsAt}
 use Rattle.lft_facts.specs.Enough.{Gives}
 use Rattle.lft_facts.proofs.Giving.{ran_there, same_reaction}
 
@@ -26,12 +29,6 @@ same_items [] [] l e = refl
 same_items [] (y ∷ ys) l e = absurd (omega arith)
 same_items (x ∷ xs) [] l e = absurd (omega arith)
 same_items (x ∷ xs) (y ∷ ys) l e = let p : x ≡ y = e 0 x y refl refl in let q : xs ≡ ys = same_items xs ys (omega arith) (λ k a b f g. e (suc k) a b f g) in cc
-
--- a map at a place
-map_at : {X Y : Type 0} (f : X → Y) (xs : List X) (k : ℕ) (x : X) → slice_get xs k ≡ Some x → slice_get (map f xs) k ≡ Some (f x)
-map_at f [] k x e = absurd (cc)
-map_at f (y ∷ ys) zero x e = let q : y ≡ x = cc in ap (λ z. Some (f z)) q
-map_at f (y ∷ ys) (suc k) x e = map_at f ys k x e
 
 map_long : {X Y : Type 0} (f : X → Y) (xs : List X) → length (map f xs) ≡ length xs
 map_long f [] = refl
@@ -51,12 +48,6 @@ zip_set R [] (b ∷ ys) k x y z e r = absurd z
 zip_set R (a ∷ xs) [] k x y z e r = absurd z
 zip_set {A} R (a ∷ xs) (b ∷ ys) zero x y z e r = let p : x ≡ a = cc in (subst (λ (w : A). R w y) p r, z.1)
 zip_set R (a ∷ xs) (b ∷ ys) (suc k) x y z e r = (z.0, zip_set R xs ys k x y z.1 e r)
-
-zip_long : {A B : Type 0} (R : A → B → Type 0) (xs : List A) (ys : List B) → AllZip R xs ys → length xs ≡ length ys
-zip_long R [] [] z = refl
-zip_long R [] (b ∷ ys) z = absurd z
-zip_long R (a ∷ xs) [] z = absurd z
-zip_long R (a ∷ xs) (b ∷ ys) z = ap suc (zip_long R xs ys z.1)
 
 -- the inputs by number are those of the reaction
 own_inputs : (plan : PlanParts) (r : ℕ) (x : Reaction) → slice_get plan.program.reactions r ≡ Some x → inputs_of plan.program r ≡ inputs x
@@ -86,14 +77,14 @@ module _ (plan : PlanParts) (t : List Row) (g : Tag) (r start : ℕ) (x : Reacti
   read_long = ap length reads_are ∙ map_long (read_of (steps_of t g r)) names
 
   pub present_long : length present ≡ length names
-  present_long = sym (zip_long (Shows plan t g) names present shown)
+  present_long = sym (long (Shows plan t g) names present shown)
 
   -- the fact of one input holds
   is_read : (k : ℕ) (n : Name) (o u : Option Value) → slice_get names k ≡ Some n → slice_get read k ≡ Some o → slice_get present k ≡ Some u → IsRead plan t g r k n o u
   is_read k n o u e f h = record { reaction = x; is_reaction = is_reaction; is_input = ap (λ (ns : List Name). slice_get ns k) (sym are) ∙ e; was_read = read_one; shown = λ w. (one_only w, λ q. subst (λ v. Shows plan t g n v) (sym q) here) }
     where
       read_one : read_of (steps_of t g r) n ≡ o
-      read_one = let z : Some (read_of (steps_of t g r) n) ≡ Some o = sym (map_at (read_of (steps_of t g r)) names k n e) ∙ ap (λ (os : List (Option Value)). slice_get os k) (sym reads_are) ∙ f in cc
+      read_one = let z : Some (read_of (steps_of t g r) n) ≡ Some o = sym (mapped (read_of (steps_of t g r)) names k n e) ∙ ap (λ (os : List (Option Value)). slice_get os k) (sym reads_are) ∙ f in cc
 
       here : Shows plan t g n u
       here = zip_at (Shows plan t g) names present k n u shown e h
@@ -141,7 +132,7 @@ module _ (plan : PlanParts) (t : List Row) (g : Tag) (r start : ℕ) (x : Reacti
               its = ap (λ (y : Reaction). slice_get (inputs y) k) (same_reaction other.program.reactions r o.reaction is.reaction o.is_reaction is.is_reaction) ∙ is.is_input
 
               shows : Shows other s g n.0 (read_of (steps_of s g r) n.0)
-              shows = zip_at (Shows other s g) (inputs o.reaction) (reads_at other s g r) k n.0 (read_of (steps_of s g r) n.0) o.each its (ap (λ ns. slice_get (map (read_of (steps_of s g r)) ns) k) (own_inputs other r o.reaction o.is_reaction) ∙ map_at (read_of (steps_of s g r)) (inputs o.reaction) k n.0 its)
+              shows = zip_at (Shows other s g) (inputs o.reaction) (reads_at other s g r) k n.0 (read_of (steps_of s g r) n.0) o.each its (ap (λ ns. slice_get (map (read_of (steps_of s g r)) ns) k) (own_inputs other r o.reaction o.is_reaction) ∙ mapped (read_of (steps_of s g r)) (inputs o.reaction) k n.0 its)
 
           same : read ≡ present
           same = same_items read present (read_long ∙ sym present_long) one

@@ -21,21 +21,14 @@ use Rattle.lft_model.specs.Plans.{PlanParts}
 use Rattle.lft_model.specs.Presence.{stop, value_written, min_delay, Occurs, Shows}
 use Rattle.lft_model.specs.Runs.{start_row, end_row, Ran, steps_of, read_of, inputs_of}
 use Rattle.lft_model.specs.Breaches.{IsOpen, IsUnended, MayWrite, MaySchedule}
+use Rattle.lft_facts.specs.Runs.{StartsAt, EndsAt, IsOpenSince}
+use Rattle.lft_facts.specs.Reasons.{IsReason}
 use Rattle.lft_facts.specs.declared.facts.Fact.{Fact}
 use Rattle.lft_facts.specs.declared.facts.Fact.TheVariants as fact
-use Rattle.lft_facts.specs.declared.facts.Hop.{Hop}
 use Rattle.lft_facts.specs.declared.facts.Cause.{Cause}
 use Rattle.lft_facts.specs.declared.facts.Cause.TheVariants as cause
 use Rattle.lft_facts.specs.declared.facts.RowFact.{RowFact}
 use Rattle.lft_facts.specs.declared.facts.RowFact.TheVariants as row_fact
-
--- the row at place p starts a run of r at g
-abbrev pub StartsAt : List Row → Tag → ℕ → ℕ → Type 0
-StartsAt t g r p = (w : ℕ) × (slice_get t p ≡ Some (start_row w g r))
-
--- the row at place p ends a run of r at g
-abbrev pub EndsAt : List Row → Tag → ℕ → ℕ → Type 0
-EndsAt t g r p = (w : ℕ) × (slice_get t p ≡ Some (end_row w g r))
 
 -- r starts at g in one row, and a ends at g in a later row
 pub record IsEarlyStart (t : List Row) (g : Tag) (a r start end : ℕ) : Type 0 where
@@ -146,14 +139,6 @@ pub record StartsTwice (t : List Row) (i j : ℕ) : Type 0 where
   pub first : StartsAt t row.tag row.reaction j
   pub before : j < i
 
--- before place i worker w has an open run that it started in the row at place j
-pub record IsOpenSince (t : List Row) (i w j : ℕ) : Type 0 where
-  pub tag : Tag
-  pub reaction : ℕ
-  pub before : j < i
-  pub starts : slice_get t j ≡ Some (start_row w tag reaction)
-  pub not_ended : (k : ℕ) → j < k → k < i → ¬ (slice_get t k ≡ Some (end_row w tag reaction))
-
 -- the row at place i starts a run while its worker has one open that it started in the row at place j
 pub record StartsBusy (t : List Row) (i j : ℕ) : Type 0 where
   pub row : Row
@@ -212,41 +197,6 @@ pub record IsNeverEnded (t : List Row) (i : ℕ) : Type 0 where
   pub is_row : slice_get t i ≡ Some row
   pub unended : IsUnended t i row
 
--- a connection leads into a port from its source, and its delay, if it has one, from the tag before it to the one after it
-pub record IsHop (program : Parts) (hop : Hop) : Type 0 where
-  pub port : PortOf
-  pub source : Source
-  pub is_port : slice_get program.ports hop.to ≡ Some port
-  pub is_source : port.source ≡ Some source
-  pub from_there : source.port ≡ hop.from
-  pub leads : hop.after ≡ after_all hop.before (option_to_list source.delay)
-
--- x is present at h, which isn't g, and nowhere between the two
-pub record IsNearest (plan : PlanParts) (t : List Row) (g : Tag) (x : Trigger) (h : Tag) : Type 0 where
-  pub present : Occurs plan t h x
-  pub apart : ¬ (h ≡ g)
-  pub none_before : (k : Tag) → Before h k → Before k g → ¬ Occurs plan t k x
-  pub none_after : (k : Tag) → Before g k → Before k h → ¬ Occurs plan t k x
-
--- of the runs of r at tags before g the last is at h, and starts in the row at place p
-pub record IsRunBefore (t : List Row) (g : Tag) (r : ℕ) (h : Tag) (p : ℕ) : Type 0 where
-  pub starts : StartsAt t h r p
-  pub before : Before h g
-  pub none_between : (k : Tag) → Before h k → Before k g → ¬ Ran t k r
-
--- of the runs of r at tags after g the first is at h, and starts in the row at place p
-pub record IsRunAfter (t : List Row) (g : Tag) (r : ℕ) (h : Tag) (p : ℕ) : Type 0 where
-  pub starts : StartsAt t h r p
-  pub after : Before g h
-  pub none_between : (k : Tag) → Before g k → Before k h → ¬ Ran t k r
-
--- the row at place i is the last of all, and is at g
-pub record IsLastRow (t : List Row) (i : ℕ) (g : Tag) : Type 0 where
-  pub row : Row
-  pub is_row : slice_get t i ≡ Some row
-  pub last : length t ≡ i + 1
-  pub tag_is : row.tag ≡ g
-
 -- what makes something present is so in the plan and the rows
 abbrev pub IsCause : PlanParts → List Row → Cause → Type 0
 IsCause plan t (cause.AtStartup g) = g ≡ record { time = 0; micro = 0 }
@@ -274,20 +224,15 @@ IsFact plan t (fact.StartsEarly g a r start end) = IsEarlyStart t g a r start en
 IsFact plan t (fact.DeclaredFirst a b) = IsDeclaredFirst plan.program a b
 IsFact plan t (fact.Feeds a b p) = FeedsBy plan.program a b p
 IsFact plan t (fact.NoRun g r) = ¬ Ran t g r
-IsFact plan t (fact.NeverRuns r) = (g : Tag) → ¬ Ran t g r
-IsFact plan t (fact.RunBefore g r h p) = IsRunBefore t g r h p
-IsFact plan t (fact.RunAfter g r h p) = IsRunAfter t g r h p
-IsFact plan t (fact.LastRow i g) = IsLastRow t i g
 IsFact plan t (fact.Runs g r start) = StartsAt t g r start
 IsFact plan t (fact.HasTrigger r x) = IsTriggerOf plan.program r x
 IsFact plan t (fact.TriggerCount r count) = HasTriggers plan.program r count
 IsFact plan t (fact.Untriggered g r k x) = IsUntriggered plan t g r k x
 IsFact plan t (fact.Cause c) = IsCause plan t c
-IsFact plan t (fact.Hop hop) = IsHop plan.program hop
-IsFact plan t (fact.Nearest g x h) = IsNearest plan t g x h
 IsFact plan t (fact.RowIs g r i) = IsRowOf t g r i
 IsFact plan t (fact.Row f) = IsRowFact plan t f
 IsFact plan t (fact.Reads g r k n read present) = IsRead plan t g r k n read present
+IsFact plan t (fact.Reason x) = IsReason plan t x
 
 -- all of the facts hold
 abbrev pub AreFacts : PlanParts → List Row → List Fact → Type 0

@@ -1,6 +1,7 @@
+pub mod Runs
+pub mod Reasons
 pub mod Facts
 pub mod Enough
 pub mod Ways
 pub mod Causes
 pub mod Neighbours
-pub mod Clues

@@ -1,5 +1,5 @@
 -- Ways along the short lists of a graph. The contracts of private functions alone need this file.
-use Rattle.std.specs.Prelude.{◌≡◌, ℕ, ◌<◌, ◌⊎◌, List, [], length, Option, Some, slice_get, slice_index_or, Contains}
+use Rattle.std.specs.Prelude.{◌≡◌, ℕ, ◌<◌, ◌≤◌, ◌⊎◌, MatchOption, List, [], length, Option, Some, slice_get, slice_index_or, Contains}
 use Rattle.lft_tag.specs.declared.Tag.{Tag}
 use Rattle.lft_flat.specs.Parts.{Parts}
 use Rattle.lft_flat.specs.Origins.{Origin}
@@ -7,7 +7,7 @@ use Rattle.lft_flat.specs.declared.parts.Name.{Name}
 use Rattle.lft_flat.specs.declared.parts.Name.TheVariants.{Port, Action}
 use Rattle.lft_trace.specs.declared.row.Row.{Row}
 use Rattle.lft_graph.specs.Graph.{GraphParts}
-use Rattle.lft_facts.specs.Facts.{EndsAt}
+use Rattle.lft_facts.specs.Runs.{EndsAt}
 
 -- the name is a port that is reached without a delay from an origin among the effects
 abbrev pub IsFed : Parts → List Name → Name → Type 0
@@ -47,3 +47,7 @@ pub record AreWays (graph : GraphParts) (last : ℕ) (next : List (Option ℕ)) 
 -- the row at place i ends a run at g of a reaction that has a next one
 abbrev pub EndsMarked : List Row → Tag → List (Option ℕ) → ℕ → Type 0
 EndsMarked t g next i = (a : ℕ) × EndsAt t g a i × IsMarked next a
+
+-- of the reactions with a next one that end at g in the rows between two places the least, if any: itself and its place
+abbrev pub IsLeastEnd : List Row → Tag → List (Option ℕ) → ℕ → ℕ → Option (ℕ × ℕ) → Type 0
+IsLeastEnd t g next start i o = MatchOption o ((j a : ℕ) → start < j → j < i → EndsAt t g a j → ¬ IsMarked next a) (λ end. EndsAt t g end.0 end.1 × IsMarked next end.0 × (start < end.1) × ((j a : ℕ) → start < j → j < i → EndsAt t g a j → IsMarked next a → end.0 ≤ a))

@@ -1,18 +1,20 @@
 //! Rule 9: a run that started before one that precedes it had ended.
 
-ghost use Rattle.std.specs.Prelude.{◌≡◌, ◌↔◌, ◌<◌, ◌≤◌, ℕ, Some, length, slice_get, IsTrue, IfOk};
+ghost use Rattle.std.specs.Prelude.{◌≡◌, ◌↔◌, ◌+◌, ◌<◌, ◌≤◌, ℕ, Some, length, slice_get, IsTrue, IfOk};
 ghost use Rattle.lft_trace.specs.Fits.{RowsFit};
+ghost use Rattle.lft_trace.specs.declared.row.Row.{Row as TheRow};
 ghost use Rattle.lft_model.specs.Breaches.{IsTooEarly};
 ghost use Rattle.lft_model.specs.Runs.{Ran};
 ghost use Rattle.lft_answers.specs.Answers.{KeepsRows};
-ghost use Rattle.lft_facts.specs.Facts.{AreFacts, EndsAt};
+ghost use Rattle.lft_facts.specs.Runs.{EndsAt};
+ghost use Rattle.lft_facts.specs.Facts.{AreFacts};
 ghost use Rattle.lft_facts.specs.Enough.{Gives};
-ghost use Rattle.lft_facts.specs.Ways.{IsMarked, EndsMarked};
-ghost use Rattle.lft_trace.specs.declared.row.Row.{Row as TheRow};
+ghost use Rattle.lft_facts.specs.Ways.{IsMarked, EndsMarked, IsLeastEnd};
 
 use crate::chain::chain;
 use crate::facts::Fact;
-use crate::runs::start_of;
+use crate::passing::add_passed_by;
+use crate::runs::{runs_at, start_of};
 use crate::ways::{is_marked, ways};
 use lft_model::Plan;
 use lft_tag::{NoMemory, Tag};
@@ -29,8 +31,41 @@ fn ends_marked(rows: &[Row], tag: Tag, next: &[Option<u32>], place: usize) -> bo
     is_end(&row.step) && row.tag.is_same(tag) && is_marked(next, row.reaction)
 }
 
-/// Of the end rows at the tag behind the place, of reactions from which a way leads on, the first:
-/// its reaction and its place.
+/// Of the reactions from which a way leads on, and which end at the tag, the least so far, or that of
+/// the row at the place where it is lesser: itself and its place.
+fn lesser(
+    rows: &[Row],
+    tag: Tag,
+    start: u32,
+    next: &[Option<u32>],
+    so_far: Option<(u32, u32)>,
+    place: usize,
+) -> Option<(u32, u32)>
+    requires few { length rows.now ≤ 4000000 }
+    requires place { place < length rows.now }
+    requires after { start < place }
+    requires known { (i : ℕ) → (row : TheRow) → slice_get rows.now i ≡ Some row → row.reaction < length next.now }
+    requires so_far { IsLeastEnd rows.now tag next.now start place so_far }
+    ensures { IsLeastEnd rows.now tag next.now start (place + 1) result }
+{
+    if !ends_marked(rows, tag, next, place) {
+        return so_far;
+    }
+    let reaction = row_at(rows, place).reaction;
+    match so_far {
+        Some(end) => {
+            if reaction < end.0 {
+                Some((reaction, place as u32))
+            } else {
+                so_far
+            }
+        }
+        None => Some((reaction, place as u32)),
+    }
+}
+
+/// Of the reactions from which a way leads on, and which end at the tag behind the place, the least:
+/// itself and its place.
 fn late_end(rows: &[Row], tag: Tag, start: u32, next: &[Option<u32>]) -> (u32, u32)
     requires few { length rows.now ≤ 4000000 }
     requires known { (i : ℕ) → (row : TheRow) → slice_get rows.now i ≡ Some row → row.reaction < length next.now }
@@ -38,17 +73,18 @@ fn late_end(rows: &[Row], tag: Tag, start: u32, next: &[Option<u32>]) -> (u32, u
     ensures marked { IsMarked next.now result.0 }
     ensures ends { EndsAt rows.now tag result.0 result.1 }
     ensures after { start < result.1 }
+    ensures least { (i a : ℕ) → start < i → EndsAt rows.now tag a i → IsMarked next.now a → result.0 ≤ a }
 {
+    let mut least = None;
     for place in start as usize + 1..rows.len() {
-        if ends_marked(rows, tag, next, place) {
-            return (row_at(rows, place).reaction, place as u32);
-        }
+        least = lesser(rows, tag, start, next, least, place);
     }
-    unreachable!()
+    let Some(end) = least else { unreachable!() };
+    end
 }
 
-/// The facts that give the breach of rule 9 by the reaction's run at the tag.
-pub(crate) fn too_early(
+/// The start before an end, and the steps between the two reactions.
+fn early_chain(
     alloc: Global,
     plan: &Plan,
     rows: &[Row],
@@ -76,5 +112,27 @@ pub(crate) fn too_early(
         end,
     })?;
     facts.extend_from_slice(steps.as_slice())?;
+    Ok(facts)
+}
+
+/// The facts that give the breach of rule 9 by the reaction's run at the tag, and which reactions on the
+/// way have no run there.
+pub(crate) fn too_early(
+    alloc: Global,
+    plan: &Plan,
+    rows: &[Row],
+    tag: Tag,
+    reaction: u32,
+) -> Result<Vec<Fact>, NoMemory>
+    requires fit { RowsFit plan.now.program rows.now }
+    requires kept { KeepsRows plan.now rows.now }
+    requires ran { Ran rows.now tag reaction }
+    requires early { IsTooEarly plan.now rows.now tag reaction }
+    ensures holds { IfOk result (λ facts. AreFacts plan.now rows.now facts.items) }
+    ensures enough { IfOk result (λ facts. Gives facts.items tag (Some reaction) 9) }
+{
+    let mut facts = early_chain(alloc, plan, rows, tag, reaction)?;
+    let ran = runs_at(alloc, rows, tag, plan.program().reactions())?;
+    add_passed_by(tag, ran.as_slice(), &mut facts)?;
     Ok(facts)
 }

@@ -54,20 +54,20 @@ pub struct Hop {
     pub after: Tag,
 }
 
-/// A statement about a plan and the rows of a trace. Rows and events are named by their places,
-/// counted from 0; the row at place 0 stands in line 2 of the table.
+/// What a port or an action is.
 #[derive(Clone, Copy, PartialEq, Eq, Debug, Drop)]
-pub enum Fact {
-    /// The tag and the reaction of a row.
-    RowIs {
-        tag: Tag,
-        reaction: u32,
-        row: u32,
-    },
-    /// What is wrong with a row.
-    Row(RowFact),
-    /// Why something is present.
-    Cause(Cause),
+pub enum Kind {
+    /// A port.
+    Port,
+    /// An action that reactions schedule.
+    Logical,
+    /// An action whose events are external inputs.
+    Physical,
+}
+
+/// A statement beside those that are enough for a breach: what a reader asks next.
+#[derive(Clone, Copy, PartialEq, Eq, Debug, Drop)]
+pub enum Reason {
     /// A connection on the way of an event.
     Hop(Hop),
     /// The trigger is present at another tag, and nowhere between the two tags.
@@ -76,8 +76,8 @@ pub enum Fact {
         trigger: Trigger,
         at: Tag,
     },
-    /// A reaction has no run at the tag.
-    NoRun {
+    /// A reaction on the way from one to another has no run at the tag.
+    PassedBy {
         tag: Tag,
         reaction: u32,
     },
@@ -99,10 +99,89 @@ pub enum Fact {
         at: Tag,
         start: u32,
     },
-    /// The last row of all, and its tag.
+    /// The last row of all, its tag, and the stop.
     LastRow {
         row: u32,
         tag: Tag,
+        stop: Tag,
+    },
+    /// The stop, as the external inputs say.
+    StopGiven {
+        tag: Tag,
+    },
+    /// The stop, for which this row asks one microstep before.
+    StopAsked {
+        tag: Tag,
+        row: u32,
+    },
+    /// The worker of the row ended that run before, in another row.
+    EndedIn {
+        row: u32,
+        end: u32,
+    },
+    /// The worker of the row has a run open, which it started in another row.
+    HasOpen {
+        row: u32,
+        start: u32,
+    },
+    /// Another worker has the run of the row open, which it started in another row.
+    OpenOn {
+        row: u32,
+        start: u32,
+    },
+    /// A later row starts the run of the row.
+    StartsIn {
+        row: u32,
+        start: u32,
+    },
+    /// What the inputs of a reaction are.
+    Inputs {
+        reaction: u32,
+    },
+    /// What the effects of a reaction are.
+    Effects {
+        reaction: u32,
+    },
+    /// What a port or action is.
+    KindOf {
+        name: Name,
+        kind: Kind,
+    },
+    /// What a port gets is written at another one, its origin.
+    FedBy {
+        port: u32,
+        origin: u32,
+    },
+    /// A later row ends a run of that reaction, by another worker or at another tag.
+    EndsOther {
+        row: u32,
+        end: u32,
+    },
+    /// The last row of the worker of the row.
+    LastOfWorker {
+        row: u32,
+        last: u32,
+    },
+}
+
+/// A statement about a plan and the rows of a trace. Rows and events are named by their places,
+/// counted from 0; the row at place 0 stands in line 2 of the table.
+#[derive(Clone, Copy, PartialEq, Eq, Debug, Drop)]
+pub enum Fact {
+    /// The tag and the reaction of a row.
+    RowIs {
+        tag: Tag,
+        reaction: u32,
+        row: u32,
+    },
+    /// What is wrong with a row.
+    Row(RowFact),
+    /// Why something is present.
+    Cause(Cause),
+    /// A reaction has no run at the tag.
+    NoRun {
+        tag: Tag,
+        reaction: u32,
     },
     /// One of the triggers of a reaction.
     HasTrigger {
@@ -155,6 +234,8 @@ pub enum Fact {
         read: Option<Value>,
         present: Option<Value>,
     },
+    /// What a reader asks next.
+    Reason(Reason),
 }
 
 /// Facts in the order in which they are told.

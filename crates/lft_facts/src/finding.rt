@@ -72,7 +72,7 @@ pub fn find(alloc: Global, plan: &Plan, rows: &Rows, breach: Breach) -> Result<F
     if breach.row == 0 {
         at_tag(alloc, plan, rows.as_slice(), breach)
     } else {
-        let facts = of_row(alloc, rows.as_slice(), breach)?;
+        let facts = of_row(alloc, plan, rows.as_slice(), breach)?;
         Ok(Facts::from_vec(facts))
     }
 }

@@ -4,11 +4,11 @@ ghost use Rattle.std.specs.Prelude.{◌≡◌, ◌<◌, ℕ, List, Some, length,
 ghost use Rattle.lft_tag.specs.Tags.{after_all};
 ghost use Rattle.lft_trace.specs.declared.row.Row.{Row as TheRow};
 ghost use Rattle.lft_model.specs.Plans.{PlanParts};
-ghost use Rattle.lft_facts.specs.Facts.{IsHop};
+ghost use Rattle.lft_facts.specs.Reasons.{IsHop};
 ghost use Rattle.lft_facts.specs.Enough.{Adds};
 ghost use Rattle.lft_facts.specs.Ways.{AreThere};
 
-use crate::facts::{Fact, Hop};
+use crate::facts::{Fact, Hop, Reason};
 use lft_flat::Program;
 use lft_lists::item_at;
 use lft_tag::{NoMemory, Tag};
@@ -93,7 +93,7 @@ pub(crate) fn add_hops(
         left -= 1;
         match hop(program, item_at(way.as_slice(), left), at) {
             Some(hop) => {
-                facts.push(Fact::Hop(hop))?;
+                facts.push(Fact::Reason(Reason::Hop(hop)))?;
                 at = hop.after;
             }
             None => return Ok(()),

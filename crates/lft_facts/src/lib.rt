@@ -1,26 +1,29 @@
 #![tactic(auto)]
 //! Facts behind the first breach of a trace: each of them is true, and together they give the breach.
 
+mod adding;
 mod cause;
 mod chain;
-mod clues;
 mod collision;
 mod early;
 mod facts;
 mod feeding;
 mod finding;
+mod firings;
 mod hops;
 mod lookup;
 mod nearest;
 mod neighbours;
 mod ordering;
+mod passing;
 mod reads;
 mod reasons;
+mod row_reasons;
 mod rows;
 mod runs;
+mod stopping;
 mod triggers;
 mod ways;
 
-pub use clues::{Clue, find_clues};
-pub use facts::{Cause, Fact, Facts, Hop, RowFact};
+pub use facts::{Cause, Fact, Facts, Hop, Kind, Reason, RowFact};
 pub use finding::find;

@@ -5,7 +5,7 @@ ghost use Rattle.lft_flat.specs.Sound.{IsNameOf};
 ghost use Rattle.lft_flat.specs.declared.parts.Trigger.TheVariants.{On as TheName};
 ghost use Rattle.lft_trace.specs.Fits.{RowsFit};
 ghost use Rattle.lft_presence.specs.Causes.{AreCauses};
-ghost use Rattle.lft_facts.specs.Facts.{IsNearest};
+ghost use Rattle.lft_facts.specs.Reasons.{IsNearest};
 ghost use Rattle.lft_facts.specs.Causes.{StandsFor};
 
 use crate::lookup::{first_after, last_before};

@@ -3,14 +3,16 @@
 ghost use Rattle.std.specs.Prelude.{◌+◌, ◌<◌, ◌≤◌, length, IfSome, IfNone, OnOk};
 ghost use Rattle.lft_tag.specs.declared.Tag.{Tag as TheTag};
 ghost use Rattle.lft_tag.specs.Tags.{Before, UpTo};
+ghost use Rattle.lft_trace.specs.Fits.{RowsFit};
 ghost use Rattle.lft_model.specs.Plans.{PlanParts};
 ghost use Rattle.lft_model.specs.Runs.{Ran};
-ghost use Rattle.lft_facts.specs.Facts.{IsRunBefore, IsRunAfter};
+ghost use Rattle.lft_facts.specs.Reasons.{IsRunBefore, IsRunAfter};
 ghost use Rattle.lft_facts.specs.Enough.{Adds};
 ghost use Rattle.lft_facts.specs.Neighbours.{IsNearestStart};
 
-use crate::facts::Fact;
+use crate::facts::{Fact, Reason};
 use crate::runs::is_start_at;
+use lft_model::{Plan, trace_stop};
 use lft_tag::{NoMemory, Tag};
 use lft_trace::{Row, row_at};
 
@@ -113,12 +115,12 @@ fn add_after(rows: &[Row], tag: Tag, reaction: u32, facts: &mut Vec<Fact>) -> Re
 {
     match run_after(rows, tag, reaction) {
         Some((at, start)) => {
-            facts.push(Fact::RunAfter {
+            facts.push(Fact::Reason(Reason::RunAfter {
                 tag,
                 reaction,
                 at,
                 start,
-            })?;
+            }))?;
             Ok(())
         }
         None => Ok(()),
@@ -139,16 +141,16 @@ fn add_after_or_never(
 {
     match run_after(rows, tag, reaction) {
         Some((at, start)) => {
-            facts.push(Fact::RunAfter {
+            facts.push(Fact::Reason(Reason::RunAfter {
                 tag,
                 reaction,
                 at,
                 start,
-            })?;
+            }))?;
             Ok(())
         }
         None => {
-            facts.push(Fact::NeverRuns { reaction })?;
+            facts.push(Fact::Reason(Reason::NeverRuns { reaction }))?;
             Ok(())
         }
     }
@@ -167,12 +169,12 @@ pub(crate) fn add_runs(
 {
     match run_before(rows, tag, reaction) {
         Some((at, start)) => {
-            facts.push(Fact::RunBefore {
+            facts.push(Fact::Reason(Reason::RunBefore {
                 tag,
                 reaction,
                 at,
                 start,
-            })?;
+            }))?;
             add_after(rows, tag, reaction, facts)?;
             Ok(())
         }
@@ -180,10 +182,15 @@ pub(crate) fn add_runs(
     }
 }
 
-/// Puts the last row behind the facts, where it is before the tag.
-pub(crate) fn add_last_row(rows: &[Row], tag: Tag, facts: &mut Vec<Fact>) -> Result<(), NoMemory>
-    requires few { length rows.now ≤ 4000000 }
-    ensures { OnOk result ((plan : PlanParts) → Adds plan rows.now facts.old.items facts.new.items) }
+/// Puts the last row and the stop behind the facts, where that row is before the tag.
+pub(crate) fn add_last_row(
+    plan: &Plan,
+    rows: &[Row],
+    tag: Tag,
+    facts: &mut Vec<Fact>,
+) -> Result<(), NoMemory>
+    requires fit { RowsFit plan.now.program rows.now }
+    ensures { OnOk result (Adds plan.now rows.now facts.old.items facts.new.items) }
 {
     if rows.len() == 0 {
         return Ok(());
@@ -191,10 +198,11 @@ pub(crate) fn add_last_row(rows: &[Row], tag: Tag, facts: &mut Vec<Fact>) -> Res
     let place = rows.len() - 1;
     let last = row_at(rows, place).tag;
     if last.is_before(tag) {
-        facts.push(Fact::LastRow {
+        facts.push(Fact::Reason(Reason::LastRow {
             row: place as u32,
             tag: last,
-        })?;
+            stop: trace_stop(plan, rows),
+        }))?;
     }
     Ok(())
 }

@@ -7,7 +7,8 @@ ghost use Rattle.lft_tag.specs.Tags.{Before};
 ghost use Rattle.lft_trace.specs.declared.row.Row.{Row as TheRow};
 ghost use Rattle.lft_model.specs.Breaches.{IsLate, IsOpen, WasStarted, WasRead};
 ghost use Rattle.lft_model.specs.Runs.{end_row};
-ghost use Rattle.lft_facts.specs.Facts.{StartsAt, ReadsAt, IsOpenSince};
+ghost use Rattle.lft_facts.specs.Runs.{StartsAt, IsOpenSince};
+ghost use Rattle.lft_facts.specs.Facts.{ReadsAt};
 
 use crate::runs::is_start_at;
 use lft_flat::Name;

@@ -6,7 +6,8 @@ ghost use Rattle.lft_trace.specs.Fits.{RowsFit};
 ghost use Rattle.lft_model.specs.Presence.{Inputs, Collision};
 ghost use Rattle.lft_model.specs.Runs.{Ran, reads_at};
 ghost use Rattle.lft_answers.specs.Answers.{KeepsRows};
-ghost use Rattle.lft_facts.specs.Facts.{AreFacts, StartsAt};
+ghost use Rattle.lft_facts.specs.Facts.{AreFacts};
+ghost use Rattle.lft_facts.specs.Runs.{StartsAt};
 ghost use Rattle.lft_facts.specs.Enough.{Gives};
 
 use crate::facts::Fact;

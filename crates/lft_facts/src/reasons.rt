@@ -2,18 +2,22 @@
 //! nearest to what is absent.
 
 ghost use Rattle.std.specs.Prelude.{IfOk, IfSome, OnOk};
-ghost use Rattle.lft_flat.specs.Sound.{IsNameOf};
+ghost use Rattle.lft_flat.specs.Sound.{IsNameOf, IsTriggerOf as IsKnown};
 ghost use Rattle.lft_flat.specs.declared.parts.Trigger.TheVariants.{On as TheName};
 ghost use Rattle.lft_trace.specs.Fits.{RowsFit};
+ghost use Rattle.lft_model.specs.Presence.{Occurs};
 ghost use Rattle.lft_presence.specs.Causes.{AreCauses};
-ghost use Rattle.lft_facts.specs.Facts.{IsFact, IsCause, IsNearest, AreFacts};
+ghost use Rattle.lft_facts.specs.Facts.{IsFact, IsCause, AreFacts};
+ghost use Rattle.lft_facts.specs.Reasons.{IsNearest};
 ghost use Rattle.lft_facts.specs.Enough.{Adds, Extends};
 
 use crate::cause::name_cause;
-use crate::facts::{Cause, Fact, Facts};
+use crate::facts::{Cause, Fact, Facts, Reason};
+use crate::firings::add_firings;
 use crate::hops::add_hops;
 use crate::nearest::{event_after, event_before};
 use crate::neighbours::{add_last_row, add_runs};
+use crate::stopping::add_stop;
 use lft_flat::{Name, Trigger};
 use lft_lists::item_at;
 use lft_model::Plan;
@@ -22,7 +26,8 @@ use lft_tag::{NoMemory, Tag};
 use lft_trace::{Row, row_at};
 use std::alloc::Global;
 
-/// Puts the way on which the event came behind the facts, where it is of a port.
+/// Puts the way on which the event came behind the facts, where it is of a port, and what makes the
+/// stop, where something is present there.
 fn add_way(
     alloc: Global,
     plan: &Plan,
@@ -30,7 +35,8 @@ fn add_way(
     cause: Cause,
     facts: &mut Vec<Fact>,
 ) -> Result<(), NoMemory>
-    requires { IsCause plan.now rows.now cause }
+    requires fit { RowsFit plan.now.program rows.now }
+    requires cause { IsCause plan.now rows.now cause }
     ensures { OnOk result (Adds plan.now rows.now facts.old.items facts.new.items) }
 {
     match cause {
@@ -38,6 +44,7 @@ fn add_way(
             let from = row_at(rows, row as usize).tag;
             add_hops(alloc, plan.program(), from, port, facts)
         }
+        Cause::AtShutdown { .. } => add_stop(plan, rows, facts),
         _ => Ok(()),
     }
 }
@@ -85,11 +92,11 @@ fn add_nearest(
 {
     match at {
         Some(at) => {
-            facts.push(Fact::Nearest {
+            facts.push(Fact::Reason(Reason::Nearest {
                 tag,
                 trigger: Trigger::On(name),
                 at,
-            })?;
+            }))?;
             add_event(alloc, plan, rows, causes, at, name, facts)
         }
         None => Ok(()),
@@ -118,8 +125,33 @@ fn add_near(
     Ok(())
 }
 
-/// Puts what stands right behind the fact behind the others: the way of an event, and the events
-/// that are nearest to a trigger that is absent.
+/// Puts what is nearest to the tag of a trigger that is absent there behind the facts: events, firings,
+/// or the stop.
+fn add_absent(
+    alloc: Global,
+    plan: &Plan,
+    rows: &[Row],
+    causes: &[EventCause],
+    tag: Tag,
+    trigger: Trigger,
+    facts: &mut Vec<Fact>,
+) -> Result<(), NoMemory>
+    requires fit { RowsFit plan.now.program rows.now }
+    requires causes { AreCauses plan.now rows.now causes.now }
+    requires trigger { IsKnown plan.now.program trigger }
+    requires absent { ¬ Occurs plan.now rows.now tag trigger }
+    ensures { OnOk result (Adds plan.now rows.now facts.old.items facts.new.items) }
+{
+    match trigger {
+        Trigger::Startup => Ok(()),
+        Trigger::Shutdown => add_stop(plan, rows, facts),
+        Trigger::Timer(timer) => add_firings(plan, rows, tag, timer, facts),
+        Trigger::On(name) => add_near(alloc, plan, rows, causes, tag, name, facts),
+    }
+}
+
+/// Puts what stands right behind the fact behind the others: the way of an event, and what is nearest to
+/// a trigger that is absent.
 fn add_details(
     alloc: Global,
     plan: &Plan,
@@ -137,10 +169,9 @@ fn add_details(
     plan.keeps();
     match fact {
         Fact::Cause(cause) => add_way(alloc, plan, rows, cause, facts),
-        Fact::Untriggered { tag, trigger, .. } => match trigger {
-            Trigger::On(name) => add_near(alloc, plan, rows, causes, tag, name, facts),
-            _ => Ok(()),
-        },
+        Fact::Untriggered { tag, trigger, .. } => {
+            add_absent(alloc, plan, rows, causes, tag, trigger, facts)
+        }
         _ => Ok(()),
     }
 }
@@ -181,7 +212,7 @@ fn add_reasons(
         }
         Fact::NoRun { tag, reaction } => {
             add_runs(rows, tag, reaction, facts)?;
-            add_last_row(rows, tag, facts)?;
+            add_last_row(plan, rows, tag, facts)?;
             Ok(())
         }
         _ => Ok(()),

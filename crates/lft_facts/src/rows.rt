@@ -2,6 +2,7 @@
 
 ghost use Rattle.std.specs.Prelude.{◌≡◌, Some, slice_get, IfOk};
 ghost use Rattle.lft_flat.specs.Parts.{Parts};
+ghost use Rattle.lft_trace.specs.Fits.{RowsFit};
 ghost use Rattle.lft_model.specs.Plans.{PlanParts};
 ghost use Rattle.lft_model.specs.Breaches.{BreaksRow, IsOutOfOrder, IsUndeclared, RowBreach};
 ghost use Rattle.lft_facts.specs.Facts.{IsRowFact, AreFacts};
@@ -9,7 +10,8 @@ ghost use Rattle.lft_facts.specs.Enough.{GivesRow, ProvesRow};
 
 use crate::facts::{Fact, RowFact};
 use crate::ordering::{first_read, first_start, greater_row, open_start};
-use lft_model::Breach;
+use crate::row_reasons::add_row_reasons;
+use lft_model::{Breach, Plan};
 use lft_tag::NoMemory;
 use lft_trace::{Row, Step, is_start, row_at};
 use std::alloc::Global;
@@ -68,10 +70,16 @@ fn row_fact(rows: &[Row], rule: u8, place: u32, row: Row) -> RowFact
     }
 }
 
-/// The facts that give the breach of one of the rules 1 to 5.
-pub(crate) fn of_row(alloc: Global, rows: &[Row], breach: Breach) -> Result<Vec<Fact>, NoMemory>
-    requires breach { (plan : PlanParts) × RowBreach plan rows.now breach }
-    ensures holds { IfOk result (λ facts. (plan : PlanParts) → RowBreach plan rows.now breach → AreFacts plan rows.now facts.items) }
+/// The facts that give the breach of one of the rules 1 to 5, and behind them what a reader asks next.
+pub(crate) fn of_row(
+    alloc: Global,
+    plan: &Plan,
+    rows: &[Row],
+    breach: Breach,
+) -> Result<Vec<Fact>, NoMemory>
+    requires fit { RowsFit plan.now.program rows.now }
+    requires breach { RowBreach plan.now rows.now breach }
+    ensures holds { IfOk result (λ facts. AreFacts plan.now rows.now facts.items) }
     ensures enough { IfOk result (λ facts. ProvesRow facts.items breach) }
 {
     let place = breach.row - 2;
@@ -84,5 +92,6 @@ pub(crate) fn of_row(alloc: Global, rows: &[Row], breach: Breach) -> Result<Vec<
         row: place,
     })?;
     facts.push(Fact::Row(fact))?;
+    add_row_reasons(plan, rows, fact, &mut facts)?;
     Ok(facts)
 }

@@ -1,11 +1,14 @@
 //! Where runs start.
 
-ghost use Rattle.std.specs.Prelude.{◌≡◌, ◌↔◌, ◌<◌, ◌≤◌, length, IsTrue};
+ghost use Rattle.std.specs.Prelude.{◌≡◌, ◌↔◌, ◌+◌, ◌<◌, ◌≤◌, ℕ, Some, length, slice_get, IsTrue, IfOk};
+ghost use Rattle.lft_trace.specs.declared.row.Row.{Row as TheRow};
 ghost use Rattle.lft_model.specs.Runs.{Ran};
-ghost use Rattle.lft_facts.specs.Facts.{StartsAt};
+ghost use Rattle.lft_facts.specs.Runs.{StartsAt};
+ghost use Rattle.lft_facts.specs.Neighbours.{HaveRunBefore, HaveRun};
 
-use lft_tag::Tag;
+use lft_tag::{NoMemory, Tag};
 use lft_trace::{Row, is_start, row_at};
+use std::alloc::Global;
 
 /// Whether the row at the place starts the reaction's run at the tag.
 pub(crate) fn is_start_at(rows: &[Row], tag: Tag, reaction: u32, place: usize) -> bool
@@ -28,4 +31,36 @@ pub(crate) fn start_of(rows: &[Row], tag: Tag, reaction: u32) -> u32
         }
     }
     unreachable!()
+}
+
+/// Notes whether the row at the place starts a run at the tag.
+fn note_run(rows: &[Row], tag: Tag, place: usize, ran: &mut [bool])
+    requires place { place < length rows.now }
+    requires known { (row : TheRow) → slice_get rows.now place ≡ Some row → row.reaction < length ran.old }
+    requires so_far { HaveRunBefore rows.now tag place ran.old }
+    ensures long { length ran.new ≡ length ran.old }
+    ensures noted { HaveRunBefore rows.now tag (place + 1) ran.new }
+{
+    let reaction = row_at(rows, place).reaction;
+    if !is_start_at(rows, tag, reaction, place) {
+        return;
+    }
+    ran[reaction as usize] = true;
+}
+
+/// Whether each of the reactions, counted from 0, has a run at the tag.
+pub(crate) fn runs_at(
+    alloc: Global,
+    rows: &[Row],
+    tag: Tag,
+    reactions: usize,
+) -> Result<Vec<bool>, NoMemory>
+    requires known { (i : ℕ) (row : TheRow) → slice_get rows.now i ≡ Some row → row.reaction < reactions }
+    ensures { IfOk result (λ ran. HaveRun rows.now tag ran.items) }
+{
+    let mut ran = vec![in alloc; false; reactions]?;
+    for place in 0..rows.len() {
+        note_run(rows, tag, place, ran.as_mut_slice());
+    }
+    Ok(ran)
 }

@@ -4,7 +4,7 @@ use Rattle.lft_tag.specs.declared.Tag.{Tag}
 use Rattle.lft_tag.specs.Tags.{Before}
 use Rattle.lft_flat.specs.Parts.{Parts}
 use Rattle.lft_flat.specs.declared.parts.Name.{Name}
-use Rattle.lft_flat.specs.declared.parts.Name.TheVariants.{Action}
+use Rattle.lft_flat.specs.declared.parts.Name.TheVariants.{Port, Action}
 use Rattle.lft_flat.specs.declared.parts.Reaction.{Reaction}
 use Rattle.lft_flat.specs.declared.parts.Trigger.{Trigger}
 use Rattle.lft_flat.specs.declared.parts.Trigger.TheVariants.{Shutdown, On}
@@ -13,7 +13,7 @@ use Rattle.lft_trace.specs.declared.row.Row.{Row}
 use Rattle.lft_trace.specs.declared.row.Step.TheVariants.{Read, Write, Schedule}
 use Rattle.lft_model.specs.declared.breach.Breach.{Breach}
 use Rattle.lft_model.specs.Plans.{PlanParts}
-use Rattle.lft_model.specs.Presence.{Triggered}
+use Rattle.lft_model.specs.Presence.{stop, Triggered}
 use Rattle.lft_hints.specs.declared.hint.Hint.{Hint}
 use Rattle.lft_hints.specs.declared.hint.Hint.TheVariants as hint
 
@@ -41,6 +41,10 @@ pub record HasTrigger (program : Parts) (r : ℕ) (x : Trigger) : Type 0 where
   pub is_reaction : slice_get program.reactions r ≡ Some reaction
   pub is_trigger : Contains reaction.triggers x
 
+-- a port is one of the triggers of r
+abbrev pub HasPort : Parts → ℕ → Type 0
+HasPort program r = (p : ℕ) × HasTrigger program r (On (Port p))
+
 -- r is triggered at a thousand times the time of g, which isn't 0
 pub record IsThousandfold (plan : PlanParts) (t : List Row) (g : Tag) (r : ℕ) : Type 0 where
   pub later : 0 < g.time
@@ -65,7 +69,7 @@ abbrev pub IsUntriggeredHint : PlanParts → List Row → Tag → ℕ → Hint �
 IsUntriggeredHint plan t g r hint.Thousandfold = IsThousandfold plan t g r
 IsUntriggeredHint plan t g r (hint.WholeDelay i) = HasWholeDelay plan.program t g r i
 IsUntriggeredHint plan t g r hint.RunsAtStop = HasTrigger plan.program r Shutdown
-IsUntriggeredHint plan t g r hint.NoWrites = NoneWrites t
+IsUntriggeredHint plan t g r hint.NoWrites = NoneWrites t × HasPort plan.program r
 IsUntriggeredHint plan t g r hint.FirstOfWorker = ⊥
 IsUntriggeredHint plan t g r hint.FirstRow = ⊥
 IsUntriggeredHint plan t g r hint.TraceEnds = ⊥
@@ -79,7 +83,7 @@ OfRule8 plan t b h = (b.rule ≡ 8) × ((r : ℕ) × (b.reaction ≡ Some r) × 
 abbrev pub IsHint : PlanParts → List Row → Breach → Hint → Type 0
 IsHint plan t b hint.FirstOfWorker = (b.rule ≡ 1) × ((i : ℕ) × (b.row ≡ i + 2) × IsFirstOfWorker t i)
 IsHint plan t b hint.FirstRow = (b.rule ≡ 3) × (b.row ≡ 2)
-IsHint plan t b hint.TraceEnds = (b.rule ≡ 7) × AllBefore t b.tag
+IsHint plan t b hint.TraceEnds = (b.rule ≡ 7) × AllBefore t b.tag × (stop plan t ≡ plan.externals.stop)
 IsHint plan t b hint.NoReads = (b.rule ≡ 10) × NoneReads t
 IsHint plan t b hint.Thousandfold = OfRule8 plan t b hint.Thousandfold
 IsHint plan t b (hint.WholeDelay i) = OfRule8 plan t b (hint.WholeDelay i)

@@ -1,15 +1,16 @@
 //! Which hint a breach has.
 
-ghost use Rattle.std.specs.Prelude.{◌≡◌, ◌<◌, length, IsTrue, IfSome};
+ghost use Rattle.std.specs.Prelude.{◌≡◌, ◌↔◌, ◌<◌, length, IsTrue, IfSome};
 ghost use Rattle.lft_flat.specs.declared.parts.Trigger.TheVariants.{Shutdown};
 ghost use Rattle.lft_trace.specs.Fits.{RowsFit};
-ghost use Rattle.lft_hints.specs.Hints.{HasTrigger, HasWholeDelay, IsHint, IsThousandfold, IsUntriggeredHint, SchedulesWhole};
+ghost use Rattle.lft_model.specs.Presence.{stop};
+ghost use Rattle.lft_hints.specs.Hints.{HasPort, HasTrigger, HasWholeDelay, IsHint, IsThousandfold, IsUntriggeredHint, SchedulesWhole};
 
 use crate::hint::Hint;
 use crate::rows::{all_before, is_first_of_worker, none_reads, none_writes};
 use lft_flat::{Name, Trigger};
 use lft_lists::item_at;
-use lft_model::{Breach, Plan, triggered_slow};
+use lft_model::{Breach, Plan, trace_stop, triggered_slow};
 use lft_tag::Tag;
 use lft_trace::{Row, Rows, Step, row_at};
 
@@ -25,6 +26,28 @@ fn has_trigger(plan: &Plan, reaction: u32, trigger: Trigger) -> bool
         }
     }
     false
+}
+
+/// Whether a port is among the triggers of the reaction.
+fn has_port(plan: &Plan, reaction: u32) -> bool
+    requires { reaction < length plan.now.program.reactions }
+    ensures { IsTrue result → HasPort plan.now.program reaction }
+{
+    let triggers = plan.program().reaction(reaction).triggers.as_slice();
+    for place in 0..triggers.len() {
+        if let Trigger::On(Name::Port(_)) = item_at(triggers, place) {
+            return true;
+        }
+    }
+    false
+}
+
+/// Whether the stop is that of the external inputs.
+fn is_given_stop(plan: &Plan, rows: &[Row]) -> bool
+    requires { RowsFit plan.now.program rows.now }
+    ensures { IsTrue result ↔ (stop plan.now rows.now ≡ plan.now.externals.stop) }
+{
+    trace_stop(plan, rows).is_same(plan.externals().stop())
 }
 
 /// Whether the reaction is triggered at a thousand times the time of the tag.
@@ -95,7 +118,7 @@ fn of_untriggered(plan: &Plan, rows: &Rows, tag: Tag, reaction: u32) -> Option<H
     if has_trigger(plan, reaction, Trigger::Shutdown) {
         return Some(Hint::RunsAtStop);
     }
-    if none_writes(rows.as_slice()) {
+    if none_writes(rows.as_slice()) && has_port(plan, reaction) {
         return Some(Hint::NoWrites);
     }
     None
@@ -121,7 +144,7 @@ pub fn hint_of(plan: &Plan, rows: &Rows, breach: Breach) -> Option<Hint>
         } else {
             None
         },
-        (7, _) => if !all.is_empty() && all_before(all, breach.tag) {
+        (7, _) => if !all.is_empty() && all_before(all, breach.tag) && is_given_stop(plan, all) {
             Some(Hint::TraceEnds)
         } else {
             None

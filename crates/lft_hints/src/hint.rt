@@ -14,7 +14,7 @@ pub enum Hint {
     FirstOfWorker,
     /// The breach of rule 3 is at the first row of all.
     FirstRow,
-    /// All rows are before the tag of a breach of rule 7.
+    /// All rows are before the tag of a breach of rule 7, and the stop is that of the external inputs.
     TraceEnds,
     /// The reaction of a breach of rule 8 is triggered at a thousand times the time of its run.
     Thousandfold,
@@ -22,7 +22,7 @@ pub enum Hint {
     WholeDelay { row: u32 },
     /// The reaction of a breach of rule 8 has `shutdown` among its triggers.
     RunsAtStop,
-    /// No row writes, and the breach is of rule 8.
+    /// No row writes, and the reaction of a breach of rule 8 has a port among its triggers.
     NoWrites,
     /// No row reads, and the breach is of rule 10.
     NoReads,

@@ -7,7 +7,7 @@ use Rattle.lft_trace.specs.declared.row.Step.{Step}
 use Rattle.lft_trace.specs.declared.row.Step.TheVariants.{Start, Read, Write, Schedule, Stop, End}
 use Rattle.lft_trace.specs.Traces.{word}
 use Rattle.lft_trace.specs.Written.{event_of, step_fields, row_fields}
-use Rattle.lft_quotes.proofs.Lines.{also}
+use Rattle.lft_words.proofs.Steps.{also}
 
 -- a field before those of a step
 step_joined : (program : Parts) (x : List ℕ) (s : Step) → join_with_byte 44 (x ∷ step_fields program s) ≡ x ++ (44 ∷ join_with_byte 44 (step_fields program s))

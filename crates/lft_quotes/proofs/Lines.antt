@@ -8,10 +8,6 @@ use Rattle.lft_quotes.specs.declared.quoting.Widths.{Widths}
 use Rattle.lft_quotes.specs.Quoted.{quote_words, gap_words, lines}
 use Rattle.lft_words.proofs.Steps.{drop_next}
 
--- one more piece behind a text
-pub also : (s0 s1 s2 a b : List ℕ) → s1 ≡ s0 ++ a → s2 ≡ s1 ++ b → s2 ≡ s0 ++ (a ++ b)
-also s0 s1 s2 a b e f = f ∙ ap (λ s. s ++ b) e ∙ append_assoc s0 a b
-
 -- two pieces behind a text, before what is left
 pub pieces : (s0 s1 s2 a b rest : List ℕ) → s1 ≡ s0 ++ a → s2 ≡ s1 ++ b → s2 ++ rest ≡ s0 ++ (a ++ b ++ rest)
 pieces s0 s1 s2 a b rest p q = rw (q, p) (simp append_assoc)

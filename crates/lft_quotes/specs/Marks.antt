@@ -1,9 +1,9 @@
--- Which rows facts and clues name, and what each is to them.
+-- Which rows facts name, and what each is to them.
 use Rattle.std.specs.Prelude.{ℕ, List, [], ◌∷◌, codes}
 use Rattle.lft_facts.specs.declared.facts.Cause.{Cause}
 use Rattle.lft_facts.specs.declared.facts.Cause.TheVariants as cause
-use Rattle.lft_facts.specs.declared.clues.Clue.{Clue}
-use Rattle.lft_facts.specs.declared.clues.Clue.TheVariants as clue
+use Rattle.lft_facts.specs.declared.facts.Reason.{Reason}
+use Rattle.lft_facts.specs.declared.facts.Reason.TheVariants as reason
 use Rattle.lft_facts.specs.declared.facts.Fact.{Fact}
 use Rattle.lft_facts.specs.declared.facts.Fact.TheVariants as fact
 use Rattle.lft_facts.specs.declared.facts.RowFact.{RowFact}
@@ -37,6 +37,28 @@ row_fact_names (row_fact.NotInput i) = []
 row_fact_names (row_fact.NotEffect i) = []
 row_fact_names (row_fact.Unended i) = []
 
+-- the rows that a reason names
+abbrev pub reason_names : Reason → List Quote
+reason_names (reason.Hop hop) = []
+reason_names (reason.Nearest g x h) = []
+reason_names (reason.PassedBy g r) = []
+reason_names (reason.NeverRuns r) = []
+reason_names (reason.RunBefore g r h start) = []
+reason_names (reason.RunAfter g r h start) = []
+reason_names (reason.LastRow i g s) = marked i mark.TraceEnd
+reason_names (reason.StopGiven g) = []
+reason_names (reason.StopAsked g i) = marked i mark.AsksStop
+reason_names (reason.EndedIn i k) = marked k mark.EarlierEnd
+reason_names (reason.HasOpen i j) = marked j mark.OpenStart
+reason_names (reason.OpenOn i j) = marked j mark.OpenStart
+reason_names (reason.StartsIn i j) = marked j mark.LaterStart
+reason_names (reason.Inputs r) = []
+reason_names (reason.Effects r) = []
+reason_names (reason.KindOf n k) = []
+reason_names (reason.FedBy p o) = []
+reason_names (reason.EndsOther i k) = marked k mark.OtherEnd
+reason_names (reason.LastOfWorker i k) = marked k mark.LastRow
+
 -- the rows that a fact names
 abbrev pub names : Fact → List Quote
 names (fact.RowIs g r i) = marked i mark.Here
@@ -44,23 +66,8 @@ names (fact.Row f) = row_fact_names f
 names (fact.Cause c) = cause_names c
 names (fact.Runs g r start) = marked start mark.Here
 names (fact.StartsEarly g a r start end) = (record { row = start; mark = mark.Here }) ∷ marked end mark.LateEnd
-names (fact.LastRow i g) = marked i mark.TraceEnd
+names (fact.Reason x) = reason_names x
 names _ = []
-
--- the rows that a clue names
-abbrev pub clue_names : Clue → List Quote
-clue_names (clue.StopGiven g) = []
-clue_names (clue.StopAsked g i) = marked i mark.AsksStop
-clue_names (clue.EndedIn i k) = marked k mark.EarlierEnd
-clue_names (clue.HasOpen i j) = marked j mark.OpenStart
-clue_names (clue.OpenOn i j) = marked j mark.OpenStart
-clue_names (clue.StartsIn i j) = marked j mark.LaterStart
-clue_names (clue.Inputs r) = []
-clue_names (clue.Effects r) = []
-clue_names (clue.KindOf n) = []
-clue_names (clue.FedBy p o) = []
-clue_names (clue.EndsOther i k) = marked k mark.OtherEnd
-clue_names (clue.LastRow i k) = marked k mark.LastRow
 
 -- what stands behind a row
 abbrev pub mark_words : Mark → List ℕ

@@ -1,9 +1,8 @@
 -- The rows that facts name, in order.
-use Rattle.std.specs.Prelude.{ℕ, List, [], ◌∷◌, ◌++◌, nat_lt, nat_eq, if◌then◌else◌, fold, flat_map}
-use Rattle.lft_facts.specs.declared.clues.Clue.{Clue}
+use Rattle.std.specs.Prelude.{ℕ, List, [], ◌∷◌, nat_lt, nat_eq, if◌then◌else◌, fold, flat_map}
 use Rattle.lft_facts.specs.declared.facts.Fact.{Fact}
 use Rattle.lft_quotes.specs.declared.marks.Quote.{Quote}
-use Rattle.lft_quotes.specs.Marks.{names, clue_names}
+use Rattle.lft_quotes.specs.Marks.{names}
 
 -- a row in its place among others that ascend; of two quotes of one row the earlier stays
 abbrev pub inserted : List Quote → Quote → List Quote
@@ -13,6 +12,6 @@ inserted (x ∷ xs) q =
     else if nat_eq q.row x.row then x ∷ xs
     else x ∷ inserted xs q
 
--- the rows that facts and then clues name: ascending, each once, marked as by the first that names it
-abbrev pub quotes_of : List Fact → List Clue → List Quote
-quotes_of facts clues = fold inserted [] (flat_map names facts ++ flat_map clue_names clues)
+-- the rows that facts name: ascending, each once, marked as by the first that names it
+abbrev pub quotes_of : List Fact → List Quote
+quotes_of facts = fold inserted [] (flat_map names facts)

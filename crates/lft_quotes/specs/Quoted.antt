@@ -1,11 +1,11 @@
 -- The text of quoted rows.
-use Rattle.std.specs.Prelude.{ℕ, zero, suc, ◌+◌, ◌-◌, max, List, [], ◌∷◌, ◌++◌, Bool, true, false, length, replicate, Option, Some, None, slice_get, option_map, unwrap_or, nat_lt, nat_le, if◌then◌else◌, fold, codes, decimal}
+use Rattle.std.specs.Prelude.{ℕ, zero, suc, ◌+◌, max, List, [], ◌∷◌, ◌++◌, Bool, true, false, length, Option, Some, None, slice_get, option_map, unwrap_or, nat_lt, nat_le, if◌then◌else◌, fold, codes, decimal}
 use Rattle.std.specs.List.{join_with_byte}
 use Rattle.lft_flat.specs.Parts.{Parts}
 use Rattle.lft_trace.specs.declared.row.Row.{Row}
 use Rattle.lft_trace.specs.Written.{row_fields}
-use Rattle.lft_facts.specs.declared.clues.Clue.{Clue}
 use Rattle.lft_facts.specs.declared.facts.Fact.{Fact}
+use Rattle.lft_words.specs.Columns.{blanks, fill, padded}
 use Rattle.lft_quotes.specs.declared.marks.Mark.{Mark}
 use Rattle.lft_quotes.specs.declared.marks.Quote.{Quote}
 use Rattle.lft_quotes.specs.declared.quoting.Widths.{Widths}
@@ -19,10 +19,6 @@ row_text program t i = unwrap_or (option_map (λ row. join_with_byte 44 (row_fie
 -- the number of the line in which the row at a place stands: line 1 is the header
 abbrev pub line_number : ℕ → List ℕ
 line_number place = decimal (place + 2)
-
--- so many blanks
-abbrev pub blanks : ℕ → List ℕ
-blanks count = replicate count 32
 
 -- the width of a row to which others are filled: a row of more than 200 bytes counts for nothing
 abbrev pub width_of : List ℕ → ℕ
@@ -41,7 +37,7 @@ widths_of program t quotes = fold (widened program t) (record { line = 0; row = 
 
 -- a line: `  4 | start,0,0,0,main#1,,,  <- here`
 abbrev pub line_of : Widths → List ℕ → List ℕ → Mark → List ℕ
-line_of w number row m = codes "  " ++ blanks (w.line - length number) ++ number ++ codes " | " ++ row ++ blanks (w.row - length row) ++ codes "  " ++ mark_words m ++ codes "\n"
+line_of w number row m = codes "  " ++ fill w.line number ++ number ++ codes " | " ++ padded w.row row ++ codes "  " ++ mark_words m ++ codes "\n"
 
 -- a row with its line number before it and its mark behind it
 abbrev pub quote_words : Parts → List Row → Widths → Quote → List ℕ
@@ -61,6 +57,6 @@ abbrev pub lines : Parts → List Row → Widths → Option Quote → List Quote
 lines program t w before [] = []
 lines program t w before (q ∷ qs) = gap_words w before q ++ quote_words program t w q ++ lines program t w (Some q) qs
 
--- the rows that facts and clues name, a line each
-abbrev pub quoted : Parts → List Row → List Fact → List Clue → List ℕ
-quoted program t facts clues = lines program t (widths_of program t (quotes_of facts clues)) None (quotes_of facts clues)
+-- the rows that facts name, a line each
+abbrev pub quoted : Parts → List Row → List Fact → List ℕ
+quoted program t facts = lines program t (widths_of program t (quotes_of facts)) None (quotes_of facts)

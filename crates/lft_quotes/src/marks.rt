@@ -1,9 +1,9 @@
-//! Which rows a fact or a clue names, and what they are to it.
+//! Which rows a fact names, and what they are to it.
 
 ghost use Rattle.std.specs.Prelude.{◌≡◌, ◌++◌, ◌∷◌, [], OnOk};
-ghost use Rattle.lft_quotes.specs.Marks.{cause_names, row_fact_names, names, clue_names, mark_words};
+ghost use Rattle.lft_quotes.specs.Marks.{cause_names, row_fact_names, reason_names, names, mark_words};
 
-use lft_facts::{Cause, Clue, Fact, RowFact};
+use lft_facts::{Cause, Fact, Reason, RowFact};
 use std::alloc::AllocError;
 
 /// What a row is to the facts.
@@ -107,6 +107,34 @@ fn push_row_fact(quotes: &mut Vec<Quote>, fact: RowFact) -> Result<(), AllocErro
     }
 }
 
+/// Puts the rows that the reason names behind the quotes.
+fn push_reason(quotes: &mut Vec<Quote>, reason: Reason) -> Result<(), AllocError>
+    ensures { OnOk result (quotes.new.items ≡ quotes.old.items ++ reason_names reason) }
+{
+    match reason {
+        Reason::LastRow { row, .. } => push(quotes, row, Mark::TraceEnd),
+        Reason::StopAsked { row, .. } => push(quotes, row, Mark::AsksStop),
+        Reason::EndedIn { end, .. } => push(quotes, end, Mark::EarlierEnd),
+        Reason::HasOpen { start, .. } | Reason::OpenOn { start, .. } => {
+            push(quotes, start, Mark::OpenStart)
+        }
+        Reason::StartsIn { start, .. } => push(quotes, start, Mark::LaterStart),
+        Reason::EndsOther { end, .. } => push(quotes, end, Mark::OtherEnd),
+        Reason::LastOfWorker { last, .. } => push(quotes, last, Mark::LastRow),
+        Reason::Hop(_)
+        | Reason::Nearest { .. }
+        | Reason::PassedBy { .. }
+        | Reason::NeverRuns { .. }
+        | Reason::RunBefore { .. }
+        | Reason::RunAfter { .. }
+        | Reason::StopGiven { .. }
+        | Reason::Inputs { .. }
+        | Reason::Effects { .. }
+        | Reason::KindOf { .. }
+        | Reason::FedBy { .. } => Ok(()),
+    }
+}
+
 /// Puts the rows that the fact names behind the quotes.
 pub(crate) fn push_named(quotes: &mut Vec<Quote>, fact: Fact) -> Result<(), AllocError>
     ensures { OnOk result (quotes.new.items ≡ quotes.old.items ++ names fact) }
@@ -120,28 +148,7 @@ pub(crate) fn push_named(quotes: &mut Vec<Quote>, fact: Fact) -> Result<(), Allo
             push(quotes, start, Mark::Here)?;
             push(quotes, end, Mark::LateEnd)
         }
-        Fact::LastRow { row, .. } => push(quotes, row, Mark::TraceEnd),
+        Fact::Reason(reason) => push_reason(quotes, reason),
         _ => Ok(()),
-    }
-}
-
-/// Puts the rows that the clue names behind the quotes.
-pub(crate) fn push_clue(quotes: &mut Vec<Quote>, clue: Clue) -> Result<(), AllocError>
-    ensures { OnOk result (quotes.new.items ≡ quotes.old.items ++ clue_names clue) }
-{
-    match clue {
-        Clue::StopAsked { row, .. } => push(quotes, row, Mark::AsksStop),
-        Clue::EndedIn { end, .. } => push(quotes, end, Mark::EarlierEnd),
-        Clue::HasOpen { start, .. } | Clue::OpenOn { start, .. } => {
-            push(quotes, start, Mark::OpenStart)
-        }
-        Clue::StartsIn { start, .. } => push(quotes, start, Mark::LaterStart),
-        Clue::EndsOther { end, .. } => push(quotes, end, Mark::OtherEnd),
-        Clue::LastRow { last, .. } => push(quotes, last, Mark::LastRow),
-        Clue::StopGiven { .. }
-        | Clue::Inputs { .. }
-        | Clue::Effects { .. }
-        | Clue::KindOf { .. }
-        | Clue::FedBy { .. } => Ok(()),
     }
 }

@@ -2,11 +2,11 @@
 
 ghost use Rattle.std.specs.Prelude.{◌≡◌, ◌++◌, ◌<◌, ◌≤◌, length, take, drop, slice_get, Some, IfOk, OnOk, [], fold, flat_map};
 ghost use Rattle.lft_quotes.specs.declared.marks.Quote.{Quote as TheQuote};
-ghost use Rattle.lft_quotes.specs.Marks.{names, clue_names};
+ghost use Rattle.lft_quotes.specs.Marks.{names};
 ghost use Rattle.lft_quotes.specs.Picked.{inserted, quotes_of};
 
-use crate::marks::{Quote, push_clue, push_named};
-use lft_facts::{Clue, Fact};
+use crate::marks::{Quote, push_named};
+use lft_facts::Fact;
 use lft_lists::item_at;
 use std::alloc::{AllocError, Global};
 
@@ -50,16 +50,6 @@ fn named(alloc: Global, facts: &[Fact]) -> Result<Vec<Quote>, AllocError>
     Ok(quotes)
 }
 
-/// Puts the rows that the clues name, as often as they name them, behind the quotes.
-fn push_clues(quotes: &mut Vec<Quote>, clues: &[Clue]) -> Result<(), AllocError>
-    ensures { OnOk result (quotes.new.items ≡ quotes.old.items ++ flat_map clue_names clues.now) }
-{
-    for place in 0..clues.len() {
-        push_clue(quotes, item_at(clues, place))?;
-    }
-    Ok(())
-}
-
 /// The quotes ascending by row, each row once, as it comes first.
 fn in_order(alloc: Global, named: &[Quote]) -> Result<Vec<Quote>, AllocError>
     ensures { IfOk result (λ quotes. quotes.items ≡ fold inserted [] named.now) }
@@ -71,12 +61,10 @@ fn in_order(alloc: Global, named: &[Quote]) -> Result<Vec<Quote>, AllocError>
     Ok(quotes)
 }
 
-/// The rows that facts and then clues name: ascending, each once, marked as by the first that names
-/// it.
-pub(crate) fn pick(alloc: Global, facts: &[Fact], clues: &[Clue]) -> Result<Vec<Quote>, AllocError>
-    ensures { IfOk result (λ quotes. quotes.items ≡ quotes_of facts.now clues.now) }
+/// The rows that facts name: ascending, each once, marked as by the first that names it.
+pub(crate) fn pick(alloc: Global, facts: &[Fact]) -> Result<Vec<Quote>, AllocError>
+    ensures { IfOk result (λ quotes. quotes.items ≡ quotes_of facts.now) }
 {
-    let mut named = named(alloc, facts)?;
-    push_clues(&mut named, clues)?;
+    let named = named(alloc, facts)?;
     in_order(alloc, named.as_slice())
 }

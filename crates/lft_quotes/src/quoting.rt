@@ -1,17 +1,18 @@
 //! The text of quoted rows.
 
-ghost use Rattle.std.specs.Prelude.{◌≡◌, ◌-◌, ◌++◌, length, IfOk, OnOk, string_bytes};
+ghost use Rattle.std.specs.Prelude.{◌≡◌, ◌++◌, length, IfOk, OnOk, string_bytes};
 ghost use Rattle.lft_trace.specs.Fits.{RowsFit};
-ghost use Rattle.lft_quotes.specs.Quoted.{line_number, blanks, width_of as the_width_of, widened, widths_of, line_of, quote_words, gap_words, lines, quoted};
+ghost use Rattle.lft_quotes.specs.Quoted.{line_number, width_of as the_width_of, widened, widths_of, line_of, quote_words, gap_words, lines, quoted};
 
 use crate::marks::{Mark, Quote};
 use crate::picking::pick;
 use crate::rows::row_text;
 use itoa::Buffer;
-use lft_facts::{Clue, Fact};
+use lft_facts::Fact;
 use lft_flat::Program;
 use lft_lists::item_at;
 use lft_trace::Row;
+use lft_words::{push_blanks, push_fill, push_padded};
 use std::alloc::{AllocError, Global};
 
 /// How wide line numbers and rows are written.
@@ -71,24 +72,6 @@ fn greatest(
     Ok(widths)
 }
 
-/// Puts so many blanks at the end of the text.
-fn push_blanks(text: &mut String, count: usize) -> Result<(), AllocError>
-    ensures { OnOk result (string_bytes text.new ≡ string_bytes text.old ++ blanks count) }
-{
-    for _blank in 0..count {
-        text.push_str(" ")?;
-    }
-    Ok(())
-}
-
-/// Puts the blanks at the end of the text that a part of it lacks to the width.
-fn push_fill(text: &mut String, width: usize, part: &str) -> Result<(), AllocError>
-    ensures { OnOk result (string_bytes text.new ≡ string_bytes text.old ++ blanks (width - length part.now)) }
-{
-    push_blanks(text, width.saturating_sub(part.len()))?;
-    Ok(())
-}
-
 /// Puts the line of a quote at the end of the text.
 fn push_line(
     text: &mut String,
@@ -103,8 +86,7 @@ fn push_line(
     push_fill(text, widths.line, number)?;
     text.push_str(number)?;
     text.push_str(" | ")?;
-    text.push_str(row)?;
-    push_fill(text, widths.row, row)?;
+    push_padded(text, widths.row, row)?;
     text.push_str("  ")?;
     text.push_str(mark.words())?;
     text.push_str("\n")?;
@@ -170,18 +152,17 @@ fn lines_of(
     Ok(text)
 }
 
-/// The rows that facts and clues name, a line each, in order. It takes time for each two of them.
+/// The rows that facts name, a line each, in order. It takes time for each two of them.
 pub fn quote(
     alloc: Global,
     program: &Program,
     rows: &[Row],
     facts: &[Fact],
-    clues: &[Clue],
 ) -> Result<String, AllocError>
     requires { RowsFit program.now rows.now }
-    ensures { IfOk result (λ text. string_bytes text ≡ quoted program.now rows.now facts.now clues.now) }
+    ensures { IfOk result (λ text. string_bytes text ≡ quoted program.now rows.now facts.now) }
 {
-    let quotes = pick(alloc, facts, clues)?;
+    let quotes = pick(alloc, facts)?;
     let widths = greatest(alloc, program, rows, quotes.as_slice())?;
     lines_of(alloc, program, rows, widths, quotes.as_slice())
 }

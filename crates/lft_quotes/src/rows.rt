@@ -11,6 +11,7 @@ ghost use Rattle.lft_quotes.specs.Quoted.{row_text as the_row_text};
 use itoa::Buffer;
 use lft_flat::{Name, Program, Value};
 use lft_trace::{Row, Step, row_at};
+use lft_words::push_number;
 use std::alloc::{AllocError, Global};
 
 /// The first field of a row.
@@ -25,15 +26,6 @@ fn event(step: Step) -> &'static str
         Step::Stop => "stop",
         Step::End => "end",
     }
-}
-
-/// Puts a number at the end of the text.
-fn push_number(text: &mut String, number: u64) -> Result<(), AllocError>
-    ensures { OnOk result (string_bytes text.new ≡ string_bytes text.old ++ decimal number) }
-{
-    let mut buffer = Buffer::new();
-    text.push_str(buffer.format(number))?;
-    Ok(())
 }
 
 /// Puts a comma and a number at the end of the text.

@@ -19,6 +19,10 @@ fold_next f a [] i x e = absurd (cc)
 fold_next f a (y ∷ ys) zero x e = let q : y ≡ x = cc in ap (f a) q
 fold_next f a (y ∷ ys) (suc i) x e = fold_next f (f a y) ys i x e
 
+-- one more piece behind a text
+pub also : (s0 s1 s2 a b : List ℕ) → s1 ≡ s0 ++ a → s2 ≡ s1 ++ b → s2 ≡ s0 ++ (a ++ b)
+also s0 s1 s2 a b e f = f ∙ ap (λ s. s ++ b) e ∙ append_assoc s0 a b
+
 -- what is put behind a list for each item of another: one more, and all
 pub said_more : {X Y : Type 0} (f : X → List Y) (xs : List X) (i : ℕ) (x : X) (s old new : List Y) → slice_get xs i ≡ Some x → old ≡ s ++ flat_map f (take i xs) → new ≡ old ++ f x → new ≡ s ++ flat_map f (take (i + 1) xs)
 said_more f xs i x s old new e so_far is =

@@ -1,9 +1,11 @@
 #![tactic(auto)]
 //! How times, tags, values, names and rows are written for people.
 
+mod columns;
 mod lines;
 mod words;
 
+pub use columns::{push_blanks, push_fill, push_padded};
 pub use lines::{
     push_capital_line, push_line, push_name_at, push_reaction_at, push_tag_at, push_value_at,
     push_worker_at,

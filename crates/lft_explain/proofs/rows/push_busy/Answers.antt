@@ -1,6 +1,6 @@
 use Rattle.std.proofs.Common.{◌++◌, codes}
 use Rattle.lft_explain.specs.Rows.{run_words, starts_words}
-use Rattle.lft_explain.proofs.Texts.{also}
+use Rattle.lft_words.proofs.Steps.{also}
 use Rattle.lft_explain.proofs.rows.push_busy.Goals as goal
 
 pub returns : goal.returns

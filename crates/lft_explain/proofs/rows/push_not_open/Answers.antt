@@ -1,7 +1,7 @@
 use Rattle.std.proofs.Common.{◌++◌, codes}
 use Rattle.lft_words.specs.Lines.{line_words, worker_at}
 use Rattle.lft_explain.specs.Rows.{run_words}
-use Rattle.lft_explain.proofs.Texts.{also}
+use Rattle.lft_words.proofs.Steps.{also}
 use Rattle.lft_explain.proofs.rows.push_not_open.Goals as goal
 
 pub returns : goal.returns

@@ -1,7 +1,8 @@
 use Rattle.std.proofs.Common.{arith, rules}
 use Rattle.std.proofs.Common.{Some, None}
+use Rattle.std.proofs.lemmas.Result.{IfOk-weaker}
 use Rattle.lft_facts.specs.Enough.{Gives, ProvesTag}
-use Rattle.lft_facts.proofs.Found.{of_tag, no_clash, proves, clash_proves, is_tenth, if_ok}
+use Rattle.lft_facts.proofs.Found.{of_tag, no_clash, proves, clash_proves, is_tenth}
 use Rattle.lft_facts.proofs.finding.enough_at_tag.Goals as goal
 
 pub too_early-requires-clause-kept : goal.too_early-requires-clause-kept
@@ -16,12 +17,12 @@ wrong_read-requires-clause-no_clash c =
     no_clash c.args.plan.now c.args.rows.now c.args.breach c.requires.first c.in-Some.reaction 10 c.in-Some.is k (omega arith) (omega arith)
 
 pub returns-in_default-clause-enough : goal.returns-in_default-clause-enough
-returns-in_default-clause-enough c = if_ok c.collision.result (λ fs. Gives fs.items c.args.breach.tag None 6) (λ fs. ProvesTag fs.items c.args.breach) (λ fs g. clash_proves c.args.plan.now c.args.rows.now c.args.breach c.requires.first c.in_default.is fs.items g) c.collision.ensures.enough
+returns-in_default-clause-enough c = IfOk-weaker c.collision.result (λ fs. Gives fs.items c.args.breach.tag None 6) (λ fs. ProvesTag fs.items c.args.breach) (λ fs g. clash_proves c.args.plan.now c.args.rows.now c.args.breach c.requires.first c.in_default.is fs.items g) c.collision.ensures.enough
 
 pub returns-in-9-clause-enough : goal.returns-in-9-clause-enough
-returns-in-9-clause-enough c = if_ok c.too_early.result (λ fs. Gives fs.items c.args.breach.tag (Some c.in-Some.reaction) 9) (λ fs. ProvesTag fs.items c.args.breach) (λ fs g. proves c.args.plan.now c.args.rows.now c.args.breach c.requires.first c.in-Some.reaction 9 c.in-Some.is c.in-9.is (omega arith) fs.items g) c.too_early.ensures.enough
+returns-in-9-clause-enough c = IfOk-weaker c.too_early.result (λ fs. Gives fs.items c.args.breach.tag (Some c.in-Some.reaction) 9) (λ fs. ProvesTag fs.items c.args.breach) (λ fs g. proves c.args.plan.now c.args.rows.now c.args.breach c.requires.first c.in-Some.reaction 9 c.in-Some.is c.in-9.is (omega arith) fs.items g) c.too_early.ensures.enough
 
 pub returns-in_default-rule-clause-enough : goal.returns-in_default-rule-clause-enough
 returns-in_default-rule-clause-enough c =
     let k = is_tenth c.args.plan.now c.args.rows.now c.args.breach c.in-Some.reaction (of_tag c.args.plan.now c.args.rows.now c.args.breach c.requires.first c.requires.tag).breach c.in-Some.is (search rules) (search rules) (search rules) in
-    if_ok c.wrong_read.result (λ fs. Gives fs.items c.args.breach.tag (Some c.in-Some.reaction) 10) (λ fs. ProvesTag fs.items c.args.breach) (λ fs g. proves c.args.plan.now c.args.rows.now c.args.breach c.requires.first c.in-Some.reaction 10 c.in-Some.is k (omega arith) fs.items g) c.wrong_read.ensures.enough
+    IfOk-weaker c.wrong_read.result (λ fs. Gives fs.items c.args.breach.tag (Some c.in-Some.reaction) 10) (λ fs. ProvesTag fs.items c.args.breach) (λ fs g. proves c.args.plan.now c.args.rows.now c.args.breach c.requires.first c.in-Some.reaction 10 c.in-Some.is k (omega arith) fs.items g) c.wrong_read.ensures.enough

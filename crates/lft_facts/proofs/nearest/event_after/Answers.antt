@@ -4,7 +4,7 @@ use Rattle.lft_tag.specs.Shifts.{shifted}
 use Rattle.lft_flat.specs.Parts.{Parts}
 use Rattle.lft_flat.specs.declared.parts.Trigger.TheVariants.{On}
 use Rattle.lft_presence.specs.Causes.{tag_of}
-use Rattle.lft_facts.specs.Facts.{IsNearest}
+use Rattle.lft_facts.specs.Reasons.{IsNearest}
 use Rattle.lft_facts.specs.Causes.{StandsFor}
 use Rattle.lft_facts.proofs.Near.{nearest_after}
 use Rattle.lft_facts.proofs.nearest.event_after.Goals as goal

@@ -3,9 +3,10 @@ use Rattle.lft_tag.specs.declared.Tag.{Tag}
 use Rattle.lft_tag.specs.Tags.{Before, UpTo}
 use Rattle.lft_tag.proofs.Order.{Before-weaken, UpTo-refl, UpTo-trans}
 use Rattle.lft_presence.proofs.Lists.{not_true}
-use Rattle.lft_facts.specs.Facts.{StartsAt}
+use Rattle.lft_facts.specs.Runs.{StartsAt}
 use Rattle.lft_facts.specs.Neighbours.{IsNearestStart}
-use Rattle.lft_facts.proofs.Beside.{tag_here, start_stays, start_kept, start_first, start_here, not_before}
+use Rattle.lft_facts.proofs.Beside.{tag_here, start_stays, start_kept, start_first, start_here}
+use Rattle.lft_presence.proofs.Skips.{up_to_stop}
 use Rattle.lft_facts.proofs.neighbours.later.Goals as goal
 
 pub returns-then-not-is_start_at : goal.returns-then-not-is_start_at
@@ -18,7 +19,7 @@ pub returns-then-is_before : goal.returns-then-is_before
 returns-then-is_before c = start_here (λ (k : Tag). Before k c.args.tag) UpTo c.args.rows.now c.args.reaction c.args.place c.row_at.result c.row_at.ensures UpTo-refl UpTo-trans (c.is_start_at.ensures.0 c.if-not-is_start_at.false) (c.is_before.ensures.0 c.if-not-is_before.false) c.in-Some.run' (Before-weaken c.in-Some.run'.0 c.row_at.result.tag (c.if-is_before.ensures.0 refl)) (subst (λ (o : Option (Tag × ℕ)). IsNearestStart (λ (k : Tag). Before k c.args.tag) UpTo c.args.rows.now c.args.reaction c.args.place o) c.in-Some.is c.requires.so_far)
 
 pub returns-else-is_before : goal.returns-else-is_before
-returns-else-is_before c = start_kept (λ (k : Tag). Before k c.args.tag) UpTo c.args.rows.now c.args.reaction c.args.place c.row_at.result c.row_at.ensures c.in-Some.run' (not_before c.in-Some.run'.0 c.row_at.result.tag (λ b. not_true (c.if-is_before.ensures.1 b))) (subst (λ (o : Option (Tag × ℕ)). IsNearestStart (λ (k : Tag). Before k c.args.tag) UpTo c.args.rows.now c.args.reaction c.args.place o) c.in-Some.is c.requires.so_far)
+returns-else-is_before c = start_kept (λ (k : Tag). Before k c.args.tag) UpTo c.args.rows.now c.args.reaction c.args.place c.row_at.result c.row_at.ensures c.in-Some.run' (up_to_stop c.in-Some.run'.0 c.row_at.result.tag (λ b. not_true (c.if-is_before.ensures.1 b))) (subst (λ (o : Option (Tag × ℕ)). IsNearestStart (λ (k : Tag). Before k c.args.tag) UpTo c.args.rows.now c.args.reaction c.args.place o) c.in-Some.is c.requires.so_far)
 
 pub returns-in-None : goal.returns-in-None
 returns-in-None c = start_first (λ (k : Tag). Before k c.args.tag) UpTo c.args.rows.now c.args.reaction c.args.place c.row_at.result c.row_at.ensures UpTo-refl (c.is_start_at.ensures.0 c.if-not-is_start_at.false) (c.is_before.ensures.0 c.if-not-is_before.false) (subst (λ (o : Option (Tag × ℕ)). IsNearestStart (λ (k : Tag). Before k c.args.tag) UpTo c.args.rows.now c.args.reaction c.args.place o) c.in-None.is c.requires.so_far)

@@ -1,25 +1,45 @@
 use Rattle.std.proofs.Common.{◌≡◌, ◌+◌, ◌-◌, ◌++◌, ◌∷◌, [], refl, ap, ◌∙◌, arith}
 use Rattle.lft_facts.specs.declared.facts.Fact.TheVariants as fact
 use Rattle.lft_facts.proofs.RowGiving.{row_proves, row_holds, own_breaks, own_tag, own_reaction}
+use Rattle.lft_facts.proofs.Added.{adds_row, adds_holds}
 use Rattle.lft_facts.proofs.rows.of_row.Goals as goal
+use Rattle.lft_facts.proofs.rows.of_row.Goals.{In_ok-add_row_reasons}
+
+pub row_fact-fact-requires-clause-breaks : goal.row_fact-fact-requires-clause-breaks
+row_fact-fact-requires-clause-breaks c =
+    let b = c.args.breach in
+    let x = c.requires.breach in
+    let i = b.row - 2 in
+    let e : b.row ≡ x.place + 2 = x.row_is in
+    let line : b.row ≡ i + 2 = omega arith in
+    (c.args.plan.now, own_breaks c.args.plan.now c.args.rows.now b x i line c.row_at-row.result c.row_at-row.ensures)
+
+-- the two facts that are enough
+all : (c : In_ok-add_row_reasons) → c.push-2.new.self.items ≡ fact.RowIs c.row_at-row.result.tag c.row_at-row.result.reaction (c.args.breach.row - 2) ∷ fact.Row c.row_fact-fact.result ∷ []
+all c = c.in_ok-push-2.ensures.items ∙ ap (λ fs. fs ++ fact.Row c.row_fact-fact.result ∷ []) (c.in_ok-push.ensures.items ∙ ap (λ fs. fs ++ fact.RowIs c.row_at-row.result.tag c.row_at-row.result.reaction (c.args.breach.row - 2) ∷ []) c.new-facts.ensures.items)
 
 pub returns-clause-enough : goal.returns-clause-enough
 returns-clause-enough c =
+    let plan = c.args.plan.now in
+    let t = c.args.rows.now in
     let b = c.args.breach in
     let x = c.requires.breach in
     let i = b.row - 2 in
     let row = c.row_at-row.result in
-    let e : b.row ≡ x.1.place + 2 = x.1.row_is in
+    let e : b.row ≡ x.place + 2 = x.row_is in
     let line : b.row ≡ i + 2 = omega arith in
-    let all : c.push-2.new.self.items ≡ fact.RowIs row.tag row.reaction i ∷ fact.Row c.row_fact-fact.result ∷ [] = c.in_ok-push-2.ensures.items ∙ ap (λ fs. fs ++ fact.Row c.row_fact-fact.result ∷ []) (c.in_ok-push.ensures.items ∙ ap (λ fs. fs ++ fact.RowIs row.tag row.reaction i ∷ []) c.new-facts.ensures.items) in
-    row_proves b row.tag row.reaction i c.row_fact-fact.result c.push-2.new.self.items all (own_tag x.0 c.args.rows.now b x.1 i line row c.row_at-row.ensures) (own_reaction x.0 c.args.rows.now b x.1 i line row c.row_at-row.ensures) line c.row_fact-fact.ensures.gives
+    adds_row plan t c.push-2.new.self.items c.add_row_reasons.new.facts.items b c.in_ok-add_row_reasons.ensures
+    (row_proves b row.tag row.reaction i c.row_fact-fact.result c.push-2.new.self.items (all c) (own_tag plan t b x i line row c.row_at-row.ensures) (own_reaction plan t b x i line row c.row_at-row.ensures) line c.row_fact-fact.ensures.gives)
 
 pub returns-clause-holds : goal.returns-clause-holds
-returns-clause-holds c plan x =
+returns-clause-holds c =
+    let plan = c.args.plan.now in
+    let t = c.args.rows.now in
     let b = c.args.breach in
+    let x = c.requires.breach in
     let i = b.row - 2 in
     let row = c.row_at-row.result in
     let e : b.row ≡ x.place + 2 = x.row_is in
     let line : b.row ≡ i + 2 = omega arith in
-    let all : c.push-2.new.self.items ≡ fact.RowIs row.tag row.reaction i ∷ fact.Row c.row_fact-fact.result ∷ [] = c.in_ok-push-2.ensures.items ∙ ap (λ fs. fs ++ fact.Row c.row_fact-fact.result ∷ []) (c.in_ok-push.ensures.items ∙ ap (λ fs. fs ++ fact.RowIs row.tag row.reaction i ∷ []) c.new-facts.ensures.items) in
-    row_holds plan c.args.rows.now row.tag row.reaction i c.row_fact-fact.result c.push-2.new.self.items all (record { row = row; is_row = c.row_at-row.ensures; tag_is = refl; reaction_is = refl }) (c.row_fact-fact.ensures.holds plan (own_breaks plan c.args.rows.now b x i line row c.row_at-row.ensures))
+    adds_holds plan t c.push-2.new.self.items c.add_row_reasons.new.facts.items c.in_ok-add_row_reasons.ensures
+    (row_holds plan t row.tag row.reaction i c.row_fact-fact.result c.push-2.new.self.items (all c) (record { row = row; is_row = c.row_at-row.ensures; tag_is = refl; reaction_is = refl }) (c.row_fact-fact.ensures.holds plan (own_breaks plan t b x i line row c.row_at-row.ensures)))

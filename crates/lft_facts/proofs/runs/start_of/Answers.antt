@@ -1,7 +1,7 @@
 use Rattle.std.proofs.Common.{◌≡◌, ◌<◌, Bool, false, true, sym, ◌∙◌, length, arith, below_more}
 use Rattle.lft_model.specs.Runs.{start_row}
 use Rattle.lft_model.proofs.Places.{slice_get_within}
-use Rattle.lft_facts.specs.Facts.{StartsAt}
+use Rattle.lft_facts.specs.Runs.{StartsAt}
 use Rattle.lft_facts.proofs.runs.start_of.Goals as goal
 
 pub loop-place-preserved : goal.loop-place-preserved

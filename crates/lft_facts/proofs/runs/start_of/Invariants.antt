@@ -1,5 +1,5 @@
 use Rattle.std.proofs.Common.{ℕ, ◌<◌}
-use Rattle.lft_facts.specs.Facts.{StartsAt}
+use Rattle.lft_facts.specs.Runs.{StartsAt}
 use Rattle.lft_facts.proofs.runs.start_of.Given as goal
 
 abbrev pub invariant-loop-place : goal.invariant-loop-place

@@ -1,0 +1,97 @@
+-- Which reactions have a run at a tag, and which marked one that ends there is the least.
+use Rattle.std.proofs.Common.{◌≡◌, ℕ, ◌+◌, ◌<◌, ◌≤◌, ◌⊎◌, inl, inr, Bool, true, false, List, length, replicate, refl, sym, ap, ◌∙◌, subst, arith, Option, Some, None, slice_get, slice_set}
+use native.Mathlib.Decide.{ℕ_discrete}
+use Rattle.lft_lists.proofs.Places.{get_same, get_write_cases, get_written, get_unwritten, Some_same}
+use Rattle.lft_tag.specs.declared.Tag.{Tag}
+use Rattle.lft_trace.specs.declared.row.Row.{Row}
+use Rattle.lft_model.specs.Runs.{start_row, end_row, Ran}
+use Rattle.lft_model.proofs.Places.{slice_get_within}
+use Rattle.lft_facts.specs.Runs.{StartsAt, EndsAt}
+use Rattle.lft_facts.specs.Ways.{IsMarked, EndsMarked, IsLeastEnd}
+use Rattle.lft_facts.specs.Neighbours.{HaveRunBefore, HaveRun}
+
+pub run_none : (t : List Row) (g : Tag) (n : ℕ) (ran : List Bool) → ran ≡ replicate n false → HaveRunBefore t g 0 ran
+run_none t g n ran e r = (λ q. let z : true ≡ false = get_same n r false true (ap (λ bs. slice_get bs r) (sym e) ∙ q) in absurd (cc), λ x. let l : x.0 < 0 = x.1 in absurd (omega arith))
+
+pub run_all : (t : List Row) (g : Tag) (i : ℕ) (ran : List Bool) → length t ≤ i → HaveRunBefore t g i ran → HaveRun t g ran
+run_all t g i ran all so_far r = (λ q. let x = (so_far r).0 q in record { place = x.0; worker = x.2.0; starts = x.2.1 }, λ x. let l : x.place < length t = slice_get_within t x.place (start_row x.worker g r) x.starts in (so_far r).1 (x.place, omega arith, (x.worker, x.starts)))
+
+module _ (t : List Row) (g : Tag) (i : ℕ) (row : Row) (is : slice_get t i ≡ Some row) where
+  of_row : (r : ℕ) → StartsAt t g r i → r ≡ row.reaction
+  of_row r s = ap (λ (x : Row). x.reaction) (Some_same (start_row s.0 g r) row (sym s.1 ∙ is))
+
+  pub run_same : (ran : List Bool) → ¬ StartsAt t g row.reaction i → HaveRunBefore t g i ran → HaveRunBefore t g (i + 1) ran
+  run_same ran none so_far r = (λ q. let x = (so_far r).0 q in let l : x.0 < i = x.1 in (x.0, omega arith, x.2), λ x. back x.0 x.1 x.2 (ℕ_discrete x.0 i))
+    where
+      back : (j : ℕ) → j < i + 1 → StartsAt t g r j → Dec (j ≡ i) → slice_get ran r ≡ Some true
+      back j l s (yes e) = let here = subst (λ k. StartsAt t g r k) e s in absurd (none (subst (λ k. StartsAt t g k i) (of_row r here) here))
+      back j l s (no n) = (so_far r).1 (j, omega arith, s)
+
+  pub run_more : (ran new : List Bool) → StartsAt t g row.reaction i → row.reaction < length ran → new ≡ slice_set ran row.reaction true → HaveRunBefore t g i ran → HaveRunBefore t g (i + 1) new
+  run_more ran new starts there e so_far r = (λ q. fore (get_write_cases ran row.reaction r true true there (ap (λ bs. slice_get bs r) (sym e) ∙ q)), λ x. ap (λ bs. slice_get bs r) e ∙ back x.0 x.1 x.2 (ℕ_discrete r row.reaction) (ℕ_discrete x.0 i))
+    where
+      fore : ((r ≡ row.reaction) × (true ≡ true)) ⊎ (¬ (r ≡ row.reaction) × (slice_get ran r ≡ Some true)) → (j : ℕ) × (j < i + 1) × StartsAt t g r j
+      fore (inl q) = (i, omega arith, subst (λ k. StartsAt t g k i) (sym q.0) starts)
+      fore (inr q) = let x = (so_far r).0 q.1 in let l : x.0 < i = x.1 in (x.0, omega arith, x.2)
+
+      back : (j : ℕ) → j < i + 1 → StartsAt t g r j → Dec (r ≡ row.reaction) → Dec (j ≡ i) → slice_get (slice_set ran row.reaction true) r ≡ Some true
+      back j l s (yes q) d = ap (λ k. slice_get (slice_set ran row.reaction true) k) q ∙ get_written ran row.reaction true there
+      back j l s (no n) (yes q) = absurd (n (of_row r (subst (λ k. StartsAt t g r k) q s)))
+      back j l s (no n) (no m) = get_unwritten ran row.reaction r true n ∙ (so_far r).1 (j, omega arith, s)
+
+-- one more row that ends no marked reaction
+module _ (t : List Row) (g : Tag) (next : List (Option ℕ)) (start i : ℕ) where
+  pub least_stays : (o : Option (ℕ × ℕ)) → ¬ EndsMarked t g next i → IsLeastEnd t g next start i o → IsLeastEnd t g next start (i + 1) o
+  least_stays None none so_far = λ j a b l s m. go j a b l s m (ℕ_discrete j i)
+    where
+      go : (j a : ℕ) → start < j → j < i + 1 → EndsAt t g a j → IsMarked next a → Dec (j ≡ i) → ⊥
+      go j a b l s m (yes e) = none (a, subst (λ k. EndsAt t g a k) e s, m)
+      go j a b l s m (no n) = so_far j a b (omega arith) s m
+  least_stays (Some end) none so_far = (so_far.0, so_far.1, so_far.2, λ j a b l s m. go j a b l s m (ℕ_discrete j i))
+    where
+      go : (j a : ℕ) → start < j → j < i + 1 → EndsAt t g a j → IsMarked next a → Dec (j ≡ i) → end.0 ≤ a
+      go j a b l s m (yes e) = absurd (none (a, subst (λ k. EndsAt t g a k) e s, m))
+      go j a b l s m (no n) = so_far.3 j a b (omega arith) s m
+
+-- one more row: of the marked reactions that end at g the least
+module _ (t : List Row) (g : Tag) (next : List (Option ℕ)) (start i : ℕ) (row : Row) (is : slice_get t i ≡ Some row) where
+  of_end : (a : ℕ) → EndsAt t g a i → a ≡ row.reaction
+  of_end a s = ap (λ (x : Row). x.reaction) (Some_same (end_row s.0 g a) row (sym s.1 ∙ is))
+
+  pub end_here : EndsMarked t g next i → EndsAt t g row.reaction i × IsMarked next row.reaction
+  end_here m = subst (λ a. EndsAt t g a i × IsMarked next a) (of_end m.0 m.1) (m.1, m.2)
+
+  pub least_kept : (end : ℕ × ℕ) → end.0 ≤ row.reaction → IsLeastEnd t g next start i (Some end) → IsLeastEnd t g next start (i + 1) (Some end)
+  least_kept end up so_far = (so_far.0, so_far.1, so_far.2, λ j a b l s m. go j a b l s m (ℕ_discrete j i))
+    where
+      go : (j a : ℕ) → start < j → j < i + 1 → EndsAt t g a j → IsMarked next a → Dec (j ≡ i) → end.0 ≤ a
+      go j a b l s m (yes e) = let q : a ≡ row.reaction = of_end a (subst (λ k. EndsAt t g a k) e s) in omega arith
+      go j a b l s m (no n) = so_far.3 j a b (omega arith) s m
+
+  pub least_first : start < i → EndsMarked t g next i → IsLeastEnd t g next start i None → IsLeastEnd t g next start (i + 1) (Some (row.reaction, i))
+  least_first after m so_far = ((end_here m).0, (end_here m).1, after, λ j a b l s k. go j a b l s k (ℕ_discrete j i))
+    where
+      go : (j a : ℕ) → start < j → j < i + 1 → EndsAt t g a j → IsMarked next a → Dec (j ≡ i) → row.reaction ≤ a
+      go j a b l s k (yes e) = let q : a ≡ row.reaction = of_end a (subst (λ x. EndsAt t g a x) e s) in omega arith
+      go j a b l s k (no n) = absurd (so_far j a b (omega arith) s k)
+
+  pub least_here : start < i → EndsMarked t g next i → (end : ℕ × ℕ) → row.reaction ≤ end.0 → IsLeastEnd t g next start i (Some end) → IsLeastEnd t g next start (i + 1) (Some (row.reaction, i))
+  least_here after m end up so_far = ((end_here m).0, (end_here m).1, after, λ j a b l s k. go j a b l s k (ℕ_discrete j i))
+    where
+      go : (j a : ℕ) → start < j → j < i + 1 → EndsAt t g a j → IsMarked next a → Dec (j ≡ i) → row.reaction ≤ a
+      go j a b l s k (yes e) = let q : a ≡ row.reaction = of_end a (subst (λ x. EndsAt t g a x) e s) in omega arith
+      go j a b l s k (no n) = let x : end.0 ≤ a = so_far.3 j a b (omega arith) s k in omega arith
+
+-- past all rows
+pub least_none : (t : List Row) (g : Tag) (next : List (Option ℕ)) (start i : ℕ) → i ≤ start + 1 → IsLeastEnd t g next start i None
+least_none t g next start i e j a b l s m = absurd (omega arith)
+
+module _ (t : List Row) (g : Tag) (next : List (Option ℕ)) (start i : ℕ) (all : length t ≤ i) where
+  within : (j a : ℕ) → EndsAt t g a j → j < i
+  within j a s = let l : j < length t = slice_get_within t j (end_row s.0 g a) s.1 in omega arith
+
+  pub least_some : ((j : ℕ) × (start < j) × EndsMarked t g next j) → ¬ IsLeastEnd t g next start i None
+  least_some x so_far = so_far x.0 x.2.0 x.1 (within x.0 x.2.0 x.2.1) x.2.1 x.2.2
+
+  pub least_all : (end : ℕ × ℕ) → IsLeastEnd t g next start i (Some end) → (j a : ℕ) → start < j → EndsAt t g a j → IsMarked next a → end.0 ≤ a
+  least_all end so_far j a b s m = so_far.3 j a b (within j a s) s m

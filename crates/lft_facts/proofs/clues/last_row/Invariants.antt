@@ -1,6 +1,0 @@
-use Rattle.std.proofs.Common.{◌≡◌, ◌≢◌, ℕ, ◌+◌, ◌≤◌, length, Some, slice_get}
-use Rattle.lft_trace.specs.declared.row.Row.{Row}
-use Rattle.lft_facts.proofs.clues.last_row.Given as goal
-
-abbrev pub invariant-loop-back : goal.invariant-loop-back
-invariant-loop-back l = (j : ℕ) (x : Row) → length l.rows ≤ j + l.back → slice_get l.rows j ≡ Some x → x.worker ≢ l.worker

@@ -1,0 +1,171 @@
+-- What a reader asks next: statements beside those that are enough for a breach.
+use Rattle.std.specs.Prelude.{◌≡◌, ◌≢◌, ℕ, ◌+◌, ◌<◌, Bool, true, false, List, length, Some, slice_get, option_to_list}
+use Rattle.lft_tag.specs.declared.Tag.{Tag}
+use Rattle.lft_tag.specs.Tags.{Before, after_all}
+use Rattle.lft_flat.specs.Parts.{Parts, inputs}
+use Rattle.lft_flat.specs.Origins.{Origin}
+use Rattle.lft_flat.specs.declared.parts.Action.{Action as ActionOf}
+use Rattle.lft_flat.specs.declared.parts.Name.{Name}
+use Rattle.lft_flat.specs.declared.parts.Name.TheVariants.{Port, Action}
+use Rattle.lft_flat.specs.declared.parts.Port.{Port as PortOf}
+use Rattle.lft_flat.specs.declared.parts.Source.{Source}
+use Rattle.lft_flat.specs.declared.parts.Reaction.{Reaction}
+use Rattle.lft_flat.specs.declared.parts.Trigger.{Trigger}
+use Rattle.lft_trace.specs.declared.row.Row.{Row}
+use Rattle.lft_model.specs.Plans.{PlanParts}
+use Rattle.lft_model.specs.Presence.{stop, asked, Occurs}
+use Rattle.lft_model.specs.Runs.{start_row, end_row, Ran, inputs_of, effects_of}
+use Rattle.lft_facts.specs.Runs.{StartsAt, IsOpenSince}
+use Rattle.lft_facts.specs.declared.facts.Hop.{Hop}
+use Rattle.lft_facts.specs.declared.facts.Kind.{Kind}
+use Rattle.lft_facts.specs.declared.facts.Kind.TheVariants as kind
+use Rattle.lft_facts.specs.declared.facts.Reason.{Reason}
+use Rattle.lft_facts.specs.declared.facts.Reason.TheVariants as reason
+
+-- a connection leads into a port from its source, and its delay, if it has one, from the tag before it to the one after it
+pub record IsHop (program : Parts) (hop : Hop) : Type 0 where
+  pub port : PortOf
+  pub source : Source
+  pub is_port : slice_get program.ports hop.to ≡ Some port
+  pub is_source : port.source ≡ Some source
+  pub from_there : source.port ≡ hop.from
+  pub leads : hop.after ≡ after_all hop.before (option_to_list source.delay)
+
+-- x is present at h, which isn't g, and nowhere between the two
+pub record IsNearest (plan : PlanParts) (t : List Row) (g : Tag) (x : Trigger) (h : Tag) : Type 0 where
+  pub present : Occurs plan t h x
+  pub apart : ¬ (h ≡ g)
+  pub none_before : (k : Tag) → Before h k → Before k g → ¬ Occurs plan t k x
+  pub none_after : (k : Tag) → Before g k → Before k h → ¬ Occurs plan t k x
+
+-- of the runs of r at tags before g the last is at h, and starts in the row at place p
+pub record IsRunBefore (t : List Row) (g : Tag) (r : ℕ) (h : Tag) (p : ℕ) : Type 0 where
+  pub starts : StartsAt t h r p
+  pub before : Before h g
+  pub none_between : (k : Tag) → Before h k → Before k g → ¬ Ran t k r
+
+-- of the runs of r at tags after g the first is at h, and starts in the row at place p
+pub record IsRunAfter (t : List Row) (g : Tag) (r : ℕ) (h : Tag) (p : ℕ) : Type 0 where
+  pub starts : StartsAt t h r p
+  pub after : Before g h
+  pub none_between : (k : Tag) → Before g k → Before k h → ¬ Ran t k r
+
+-- the row at place i is the last of all and at g, and the stop is s
+pub record IsLastRow (plan : PlanParts) (t : List Row) (i : ℕ) (g s : Tag) : Type 0 where
+  pub row : Row
+  pub is_row : slice_get t i ≡ Some row
+  pub last : length t ≡ i + 1
+  pub tag_is : row.tag ≡ g
+  pub is_stop : stop plan t ≡ s
+
+-- the stop is g, as the external inputs say
+pub record IsGivenStop (plan : PlanParts) (t : List Row) (g : Tag) : Type 0 where
+  pub is_stop : stop plan t ≡ g
+  pub given : plan.externals.stop ≡ g
+
+-- the stop is g, and the row at place i asks for it
+pub record IsAskedStop (plan : PlanParts) (t : List Row) (g : Tag) (i : ℕ) : Type 0 where
+  pub row : Row
+  pub is_row : slice_get t i ≡ Some row
+  pub is_stop : stop plan t ≡ g
+  pub asks : asked row.tag row.step ≡ Some g
+
+-- the worker of the row at place i ended the run of that row in the one at place k before it
+pub record EndedIn (t : List Row) (i k : ℕ) : Type 0 where
+  pub row : Row
+  pub is_row : slice_get t i ≡ Some row
+  pub before : k < i
+  pub ends : slice_get t k ≡ Some (end_row row.worker row.tag row.reaction)
+
+-- at the row at place i its worker has a run open, which it started in the one at place j
+pub record HasOpen (t : List Row) (i j : ℕ) : Type 0 where
+  pub row : Row
+  pub is_row : slice_get t i ≡ Some row
+  pub open_since : IsOpenSince t i row.worker j
+
+-- at the row at place i another worker has the run of that row open, which it started in the one at place j
+pub record IsOpenOn (t : List Row) (i j : ℕ) : Type 0 where
+  pub row : Row
+  pub is_row : slice_get t i ≡ Some row
+  pub worker : ℕ
+  pub other : worker ≢ row.worker
+  pub starts : slice_get t j ≡ Some (start_row worker row.tag row.reaction)
+  pub open_since : IsOpenSince t i worker j
+
+-- the row at place j starts the run of the one at place i before it
+pub record StartsIn (t : List Row) (i j : ℕ) : Type 0 where
+  pub row : Row
+  pub is_row : slice_get t i ≡ Some row
+  pub behind : i < j
+  pub starts : StartsAt t row.tag row.reaction j
+
+-- the reaction has these inputs
+pub record HasInputs (program : Parts) (r : ℕ) (names : List Name) : Type 0 where
+  pub reaction : Reaction
+  pub is_reaction : slice_get program.reactions r ≡ Some reaction
+  pub are : inputs reaction ≡ names
+
+-- the reaction has these effects
+pub record HasEffects (program : Parts) (r : ℕ) (names : List Name) : Type 0 where
+  pub reaction : Reaction
+  pub is_reaction : slice_get program.reactions r ≡ Some reaction
+  pub are : reaction.effects ≡ names
+
+-- the action is a physical one, or a logical one
+abbrev pub IsAction : Parts → ℕ → Bool → Type 0
+IsAction program a physical = (action : ActionOf) × (slice_get program.actions a ≡ Some action) × (action.physical ≡ physical)
+
+-- the name is of a thing of that kind
+abbrev pub IsOfKind : Parts → Name → Kind → Type 0
+IsOfKind program (Port p) kind.Port = p < length program.ports
+IsOfKind program (Action a) kind.Logical = IsAction program a false
+IsOfKind program (Action a) kind.Physical = IsAction program a true
+IsOfKind program (Port p) kind.Logical = ⊥
+IsOfKind program (Port p) kind.Physical = ⊥
+IsOfKind program (Action a) kind.Port = ⊥
+
+-- port o, another one, is the origin of port p
+pub record IsFedBy (program : Parts) (p o : ℕ) : Type 0 where
+  pub delays : List ℕ
+  pub is_origin : Origin program p o delays
+  pub other : o ≢ p
+
+-- the row at place k behind the one at place i ends a run of its reaction, by another worker or at another tag
+pub record EndsOther (t : List Row) (i k : ℕ) : Type 0 where
+  pub row : Row
+  pub end : Row
+  pub is_row : slice_get t i ≡ Some row
+  pub is_end : slice_get t k ≡ Some (end_row end.worker end.tag row.reaction)
+  pub behind : i < k
+  pub other : end.worker ≡ row.worker → end.tag ≡ row.tag → ⊥
+
+-- the row at place k is the last of the worker of the one at place i
+pub record IsLastOfWorker (t : List Row) (i k : ℕ) : Type 0 where
+  pub row : Row
+  pub last : Row
+  pub is_row : slice_get t i ≡ Some row
+  pub is_last : slice_get t k ≡ Some last
+  pub of_worker : last.worker ≡ row.worker
+  pub none_later : (j : ℕ) (later : Row) → k < j → slice_get t j ≡ Some later → later.worker ≢ row.worker
+
+-- the reason holds of the plan and the rows
+abbrev pub IsReason : PlanParts → List Row → Reason → Type 0
+IsReason plan t (reason.Hop hop) = IsHop plan.program hop
+IsReason plan t (reason.Nearest g x h) = IsNearest plan t g x h
+IsReason plan t (reason.PassedBy g r) = ¬ Ran t g r
+IsReason plan t (reason.NeverRuns r) = (g : Tag) → ¬ Ran t g r
+IsReason plan t (reason.RunBefore g r h p) = IsRunBefore t g r h p
+IsReason plan t (reason.RunAfter g r h p) = IsRunAfter t g r h p
+IsReason plan t (reason.LastRow i g s) = IsLastRow plan t i g s
+IsReason plan t (reason.StopGiven g) = IsGivenStop plan t g
+IsReason plan t (reason.StopAsked g i) = IsAskedStop plan t g i
+IsReason plan t (reason.EndedIn i k) = EndedIn t i k
+IsReason plan t (reason.HasOpen i j) = HasOpen t i j
+IsReason plan t (reason.OpenOn i j) = IsOpenOn t i j
+IsReason plan t (reason.StartsIn i j) = StartsIn t i j
+IsReason plan t (reason.Inputs r) = HasInputs plan.program r (inputs_of plan.program r)
+IsReason plan t (reason.Effects r) = HasEffects plan.program r (effects_of plan.program r)
+IsReason plan t (reason.KindOf n k) = IsOfKind plan.program n k
+IsReason plan t (reason.FedBy p o) = IsFedBy plan.program p o
+IsReason plan t (reason.EndsOther i k) = EndsOther t i k
+IsReason plan t (reason.LastOfWorker i k) = IsLastOfWorker t i k
