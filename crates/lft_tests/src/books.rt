@@ -141,29 +141,74 @@ fn books_two_in_either_order(rt: HostRuntime) -> Result<(), Fail> {
     Ok(())
 }
 
-/// An answer to a ticket that no book gave, for the second reaction by the second worker.
-fn strange(alloc: Global) -> Answered<AnyAnswer> {
-    let reads = Reads::from_vec(Vec::new(alloc));
+/// An answer to a ticket of these parts at the first tag but for so many microsteps. No book gave it.
+fn strange(
+    alloc: Global,
+    worker: u32,
+    micro: u32,
+    reaction: u32,
+    state: i64,
+    reads: &[Option<Value>],
+) -> Result<Answered<AnyAnswer>, NoMemory> {
     let ticket = Ticket {
-        worker: 1,
-        tag: FIRST,
-        reaction: 1,
-        state: 0,
-        reads,
+        worker,
+        tag: Tag { time: 0, micro },
+        reaction,
+        state,
+        reads: Reads::from_vec(Vec::from_slice(alloc, reads)?),
     };
-    Body::new(1, Prepared::new(done(alloc, 0, &[]))).call(alloc, ticket)
+    Ok(Body::new(reaction, Prepared::new(done(alloc, 0, &[]))).call(alloc, ticket))
 }
 
-// what a book has stopped for is answered to all that comes after it
-#[test]
-fn refuses_a_strange_answer(rt: HostRuntime) -> Result<(), Fail> {
-    let alloc = rt.alloc();
+/// A book of `PIPE` whose first run is begun by the first worker, and what its body answers.
+fn begun(rt: &impl Abort, alloc: Global) -> Result<(PreparedBook, Answered<AnyAnswer>), Fail> {
     let (first, second) = (done(alloc, 0, &[]), done(alloc, 0, &[]));
-    let mut book = book_of(&rt, alloc, PIPE, first, second)?;
-    let first = answered(&rt, alloc, &mut book, 0, 0, &[]);
-    assert!(rt; book.commit(strange(alloc)) == Err(Stop::Stranger));
+    let mut book = book_of(rt, alloc, PIPE, first, second)?;
+    let first = answered(rt, alloc, &mut book, 0, 0, &[]);
+    Ok((book, first))
+}
+
+/// Whether a book whose first run is begun takes no answer to a ticket of these parts. What a book
+/// has stopped for is answered to all that comes after it.
+fn is_strange(
+    rt: &impl Abort,
+    alloc: Global,
+    worker: u32,
+    micro: u32,
+    reaction: u32,
+    state: i64,
+    reads: &[Option<Value>],
+) -> Result<bool, Fail> {
+    let (mut book, first) = begun(rt, alloc)?;
+    let other = strange(alloc, worker, micro, reaction, state, reads)?;
+    if book.commit(other).is_ok() {
+        return Ok(false);
+    }
     assert!(rt; matches!(book.begin(1), Err(Stop::Stranger)));
     assert!(rt; book.commit(first) == Err(Stop::Stranger));
+    Ok(true)
+}
+
+// anyone may make a ticket: with the parts of the run that is open it is good
+#[test]
+fn refuses_a_ticket_that_differs_in_any_part(rt: HostRuntime) -> Result<(), Fail> {
+    let alloc = rt.alloc();
+    assert!(rt; !is_strange(&rt, alloc, 0, 0, 0, 0, &[])?);
+    assert!(rt; is_strange(&rt, alloc, 1, 0, 0, 0, &[])?);
+    assert!(rt; is_strange(&rt, alloc, 0, 1, 0, 0, &[])?);
+    assert!(rt; is_strange(&rt, alloc, 0, 0, 1, 0, &[])?);
+    assert!(rt; is_strange(&rt, alloc, 0, 0, 0, 1, &[])?);
+    assert!(rt; is_strange(&rt, alloc, 0, 0, 0, 0, &[None])?);
+    Ok(())
+}
+
+#[test]
+fn refuses_a_second_answer_to_a_ticket(rt: HostRuntime) -> Result<(), Fail> {
+    let alloc = rt.alloc();
+    let (mut book, first) = begun(&rt, alloc)?;
+    assert!(rt; book.commit(first).is_ok());
+    let again = strange(alloc, 0, 0, 0, 0, &[])?;
+    assert!(rt; book.commit(again) == Err(Stop::Stranger));
     Ok(())
 }
 

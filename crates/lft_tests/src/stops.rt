@@ -3,7 +3,7 @@
 ghost use Rattle.std.specs.Prelude.{◌≡◌, IfOk, length};
 
 use crate::answers::{PreparedBodies, done, put, schedule, write};
-use crate::texts::{AGAIN, AT_ONCE, plan};
+use crate::texts::{AGAIN, AT_ONCE, TWO, plan};
 use lft_model::Plan;
 use lft_pool::{Bodies, Done, Stop, record_run};
 use lft_tag::NoMemory;
@@ -190,5 +190,24 @@ fn stops_at_a_delay_past_the_limit(rt: HostRuntime) -> Result<(), Fail> {
     assert!(rt; reason.is_none() && rows.as_slice() == SCHEDULED);
     let (reason, rows) = recorded_again(&rt, rt.alloc(), longest + 1)?;
     assert!(rt; reason == Some(Stop::LimitTag) && rows.as_slice() == BEGUN);
+    Ok(())
+}
+
+#[test]
+fn leaves_all_bodies_where_the_workers_are_bad(rt: HostRuntime) -> Result<(), Fail> {
+    let alloc = rt.alloc();
+    for workers in [0, 65] {
+        let plan = plan(alloc, TWO, AT_ONCE)?;
+        let mut bodies = PreparedBodies::new(alloc, plan.program())?;
+        put(&mut bodies, 0, done(alloc, 0, &[]))?;
+        put(&mut bodies, 1, done(alloc, 0, &[]))?;
+        put(&mut bodies, 1, done(alloc, 0, &[]))?;
+        let Err(stopped) = record_run(&rt, alloc, plan, bodies, workers, 10) else {
+            panic!(rt; "{workers} workers record");
+        };
+        assert!(rt; stopped.reason == Stop::BadWorkers, "{workers}");
+        assert!(rt; stopped.rows.as_slice().is_empty() && stopped.states.as_slice().is_empty());
+        assert!(rt; stopped.left.left(0) == 1 && stopped.left.left(1) == 2);
+    }
     Ok(())
 }
