@@ -1,10 +1,13 @@
 //! Writers that are interrupted, that fail, and that take nothing; statuses.
 
 use crate::texts::with_fault;
-use lft_front::{Fault, finish, judge_texts, judge_texts_alone, show_text};
+use lft_cards::read_cards;
+use lft_front::{Fault, finish, judge_texts, judge_texts_alone, load, pair_texts, show_text};
+use lft_record::{card_bodies, cards_fault, record_answer, record_to};
 use std::alloc::Global;
 use std::io;
 use std::io::{ErrorKind, Write};
+use std::sync::Wait;
 use std::thread::Threads;
 
 /// Takes one byte a call. At so many calls, from the one of the number `at` on, counted from 0, it
@@ -64,16 +67,40 @@ const EXTERNALS: &[u8] = b"kind,time,microstep,name,value\nstop,0,0,,\n";
 
 const TRACE: &[u8] = b"event,worker,time,microstep,reaction,name,value,delay\n";
 
+/// One body, for the first reaction.
+const CARDS: &[u8] = b"kind,reaction,name,delay,value\nbodies,main#1,,,1\n";
+
 /// A call that writes.
 #[derive(Clone, Copy)]
 enum Call {
     JudgeAlone,
     Judge,
+    Pair,
     Show,
+    RecordTo,
+    RecordAnswer,
+}
+
+/// Records the text of a program, and writes the table.
+fn record<R: Threads + Wait + Sync>(
+    rt: &R,
+    alloc: Global,
+    program: &[u8],
+    out: &mut Stumbling,
+) -> Result<(), Fault> {
+    let plan = load(alloc, program, EXTERNALS)?;
+    let cards = match read_cards(alloc, plan.program(), CARDS) {
+        Ok(cards) => cards,
+        Err(fault) => return Err(cards_fault(fault)),
+    };
+    match card_bodies(alloc, plan.program(), &cards, 10) {
+        Ok(bodies) => record_to(rt, alloc, plan, bodies, 1, 10, out),
+        Err(_) => Err(Fault::no_memory()),
+    }
 }
 
 /// The fault of a call on the text of a program, if there is one.
-fn fault_of<R: Threads + Sync>(
+fn fault_of<R: Threads + Wait + Sync>(
     rt: &R,
     alloc: Global,
     call: Call,
@@ -83,12 +110,17 @@ fn fault_of<R: Threads + Sync>(
     match call {
         Call::JudgeAlone => judge_texts_alone(alloc, program, EXTERNALS, TRACE, out).err(),
         Call::Judge => judge_texts(rt, alloc, program, EXTERNALS, TRACE, 2, out).err(),
+        Call::Pair => pair_texts(rt, alloc, program, EXTERNALS, TRACE, TRACE, 2, out).err(),
         Call::Show => show_text(alloc, program, out).err(),
+        Call::RecordTo => record(rt, alloc, program, out).err(),
+        Call::RecordAnswer => {
+            record_answer(rt, alloc, program, EXTERNALS, CARDS, 1, 10, out).err()
+        }
     }
 }
 
 /// What a writer has taken of a call, and after it the line of the fault, where there is one.
-fn written<R: Threads + Sync>(
+fn written<R: Threads + Wait + Sync>(
     rt: &R,
     alloc: Global,
     call: Call,
@@ -102,6 +134,8 @@ fn written<R: Threads + Sync>(
 const EMPTY: &str = "main reactor { }";
 
 const ACCEPTED: &str = "accepted runs=0 tags=0\n";
+
+const SAME: &str = "same runs=0 tags=0\n";
 
 const CHAIN: &str = "main reactor {
     timer t(0, 1 s)
@@ -131,12 +165,26 @@ reaction main.a#1 level=0 before=-
 reaction main.b.c#1 level=0 before=-
 ";
 
+const ONE: &str = "main reactor { reaction(startup) {= =} }";
+
+/// The second reaction has no body.
+const TWO: &str = "main reactor { reaction(startup) {= =} reaction(startup) {= =} }";
+
+/// A run of the first reaction.
+const RUN: &str = "event,worker,time,microstep,reaction,name,value,delay
+start,0,0,0,main#1,,,
+end,0,0,0,main#1,,,
+";
+
 /// Each call that writes, with a program and what is written of it.
-const CALLS: [(Call, &str, &str); 4] = [
+const CALLS: [(Call, &str, &str); 7] = [
     (Call::JudgeAlone, EMPTY, ACCEPTED),
     (Call::Judge, EMPTY, ACCEPTED),
+    (Call::Pair, EMPTY, SAME),
     (Call::Show, CHAIN, CHAIN_LINES),
     (Call::Show, DEEP, DEEP_LINES),
+    (Call::RecordTo, ONE, RUN),
+    (Call::RecordAnswer, ONE, RUN),
 ];
 
 const FAILED: &[u8] = b"fault write 1 Failed\n";
@@ -168,6 +216,25 @@ fn tells_failed_writes(rt: HostRuntime) {
                 assert!(rt; is_failed(&text, lines.as_bytes(), at), "{at} {lines}");
             }
         }
+    }
+}
+
+const NO_BODY: &[u8] = b"fault pool 1 NoBody main#2\n";
+
+// a recording that stopped has rows to write: the fault of a failed write comes before the reason
+#[test]
+fn tells_a_failed_write_before_a_stop(rt: HostRuntime) {
+    for call in [Call::RecordTo, Call::RecordAnswer] {
+        for kind in [Some(ErrorKind::TimedOut), None] {
+            for at in 0..RUN.len() {
+                let out = Stumbling::new(rt.alloc(), at, 1, kind);
+                let text = written(&rt, rt.alloc(), call, TWO, out);
+                assert!(rt; is_failed(&text, RUN.as_bytes(), at), "{at}");
+            }
+        }
+        let whole = Stumbling::new(rt.alloc(), 0, 0, None);
+        let text = written(&rt, rt.alloc(), call, TWO, whole);
+        assert!(rt; text.strip_suffix(NO_BODY) == Some(RUN.as_bytes()));
     }
 }
 
