@@ -1,12 +1,12 @@
 //! Writers that are interrupted, that fail, and that take nothing; statuses.
 
 use crate::texts::with_fault;
-use lft_cards::read_cards;
-use lft_front::{Fault, finish, judge_texts, judge_texts_alone, load, pair_texts, show_text};
-use lft_record::{card_bodies, cards_fault, record_answer, record_to};
+use lft_front::{Fault, finish, judge_texts, judge_texts_alone, pair_texts, show_text};
+use lft_record::record_answer;
 use std::alloc::Global;
 use std::io;
 use std::io::{ErrorKind, Write};
+use std::process::Abort;
 use std::sync::Wait;
 use std::thread::Threads;
 
@@ -77,26 +77,7 @@ enum Call {
     Judge,
     Pair,
     Show,
-    RecordTo,
-    RecordAnswer,
-}
-
-/// Records the text of a program, and writes the table.
-fn record<R: Threads + Wait + Sync>(
-    rt: &R,
-    alloc: Global,
-    program: &[u8],
-    out: &mut Stumbling,
-) -> Result<(), Fault> {
-    let plan = load(alloc, program, EXTERNALS)?;
-    let cards = match read_cards(alloc, plan.program(), CARDS) {
-        Ok(cards) => cards,
-        Err(fault) => return Err(cards_fault(fault)),
-    };
-    match card_bodies(alloc, plan.program(), &cards, 10) {
-        Ok(bodies) => record_to(rt, alloc, plan, bodies, 1, 10, out),
-        Err(_) => Err(Fault::no_memory()),
-    }
+    Record,
 }
 
 /// The fault of a call on the text of a program, if there is one.
@@ -112,10 +93,7 @@ fn fault_of<R: Threads + Wait + Sync>(
         Call::Judge => judge_texts(rt, alloc, program, EXTERNALS, TRACE, 2, out).err(),
         Call::Pair => pair_texts(rt, alloc, program, EXTERNALS, TRACE, TRACE, 2, out).err(),
         Call::Show => show_text(alloc, program, out).err(),
-        Call::RecordTo => record(rt, alloc, program, out).err(),
-        Call::RecordAnswer => {
-            record_answer(rt, alloc, program, EXTERNALS, CARDS, 1, 10, out).err()
-        }
+        Call::Record => record_answer(rt, alloc, program, EXTERNALS, CARDS, 1, 10, out).err(),
     }
 }
 
@@ -176,17 +154,6 @@ start,0,0,0,main#1,,,
 end,0,0,0,main#1,,,
 ";
 
-/// Each call that writes, with a program and what is written of it.
-const CALLS: [(Call, &str, &str); 7] = [
-    (Call::JudgeAlone, EMPTY, ACCEPTED),
-    (Call::Judge, EMPTY, ACCEPTED),
-    (Call::Pair, EMPTY, SAME),
-    (Call::Show, CHAIN, CHAIN_LINES),
-    (Call::Show, DEEP, DEEP_LINES),
-    (Call::RecordTo, ONE, RUN),
-    (Call::RecordAnswer, ONE, RUN),
-];
-
 const FAILED: &[u8] = b"fault write 1 Failed\n";
 
 /// Whether a text is these lines as far as they were taken, and the line of a failed write.
@@ -194,29 +161,78 @@ fn is_failed(text: &[u8], lines: &[u8], taken: usize) -> bool {
     text.strip_suffix(FAILED) == lines.get(..taken)
 }
 
-#[test]
-fn writes_on_after_interruptions(rt: HostRuntime) {
-    for (call, program, lines) in CALLS {
-        for at in 0..lines.len() {
-            let out = Stumbling::new(rt.alloc(), at, 3, Some(ErrorKind::Interrupted));
-            let text = written(&rt, rt.alloc(), call, program, out);
-            assert!(rt; text.as_slice() == lines.as_bytes(), "{at} {lines}");
-        }
+/// The call goes on after three interruptions, wherever they come.
+fn goes_on<R: Abort + Threads + Wait + Sync>(
+    rt: &R,
+    alloc: Global,
+    call: Call,
+    program: &str,
+    lines: &str,
+) {
+    for at in 0..lines.len() {
+        let out = Stumbling::new(alloc, at, 3, Some(ErrorKind::Interrupted));
+        let text = written(rt, alloc, call, program, out);
+        assert!(rt; text.as_slice() == lines.as_bytes(), "{at} {lines}");
     }
 }
 
-// the writer isn't asked again: what it took is what stands before the place
-#[test]
-fn tells_failed_writes(rt: HostRuntime) {
-    for kind in [Some(ErrorKind::TimedOut), Some(ErrorKind::WouldBlock), None] {
-        for (call, program, lines) in CALLS {
-            for at in 0..lines.len() {
-                let out = Stumbling::new(rt.alloc(), at, 1, kind);
-                let text = written(&rt, rt.alloc(), call, program, out);
-                assert!(rt; is_failed(&text, lines.as_bytes(), at), "{at} {lines}");
-            }
-        }
+/// The call tells a write that fails, wherever it does. The writer isn't asked again: what it took is
+/// what stands before the place.
+fn tells_failed_writes<R: Abort + Threads + Wait + Sync>(
+    rt: &R,
+    alloc: Global,
+    call: Call,
+    program: &str,
+    lines: &str,
+    kind: Option<ErrorKind>,
+) {
+    for at in 0..lines.len() {
+        let out = Stumbling::new(alloc, at, 1, kind);
+        let text = written(rt, alloc, call, program, out);
+        assert!(rt; is_failed(&text, lines.as_bytes(), at), "{at} {lines}");
     }
+}
+
+/// The call tells a flush that fails.
+fn tells_failed_flush<R: Abort + Threads + Wait + Sync>(
+    rt: &R,
+    alloc: Global,
+    call: Call,
+    program: &str,
+    lines: &str,
+) {
+    let mut out = Stumbling::new(alloc, 0, 0, None);
+    out.flushes = false;
+    let text = written(rt, alloc, call, program, out);
+    assert!(rt; is_failed(&text, lines.as_bytes(), lines.len()), "{lines}");
+}
+
+/// The call, which writes these lines, meets each kind of writer.
+fn meets_writers<R: Abort + Threads + Wait + Sync>(
+    rt: &R,
+    alloc: Global,
+    call: Call,
+    program: &str,
+    lines: &str,
+) {
+    goes_on(rt, alloc, call, program, lines);
+    let timed_out = Some(ErrorKind::TimedOut);
+    tells_failed_writes(rt, alloc, call, program, lines, timed_out);
+    let would_block = Some(ErrorKind::WouldBlock);
+    tells_failed_writes(rt, alloc, call, program, lines, would_block);
+    tells_failed_writes(rt, alloc, call, program, lines, None);
+    tells_failed_flush(rt, alloc, call, program, lines);
+}
+
+#[test]
+fn calls_meet_writers(rt: HostRuntime) {
+    let alloc = rt.alloc();
+    meets_writers(&rt, alloc, Call::JudgeAlone, EMPTY, ACCEPTED);
+    meets_writers(&rt, alloc, Call::Judge, EMPTY, ACCEPTED);
+    meets_writers(&rt, alloc, Call::Pair, EMPTY, SAME);
+    meets_writers(&rt, alloc, Call::Show, CHAIN, CHAIN_LINES);
+    meets_writers(&rt, alloc, Call::Show, DEEP, DEEP_LINES);
+    meets_writers(&rt, alloc, Call::Record, ONE, RUN);
 }
 
 const NO_BODY: &[u8] = b"fault pool 1 NoBody main#2\n";
@@ -224,28 +240,13 @@ const NO_BODY: &[u8] = b"fault pool 1 NoBody main#2\n";
 // a recording that stopped has rows to write: the fault of a failed write comes before the reason
 #[test]
 fn tells_a_failed_write_before_a_stop(rt: HostRuntime) {
-    for call in [Call::RecordTo, Call::RecordAnswer] {
-        for kind in [Some(ErrorKind::TimedOut), None] {
-            for at in 0..RUN.len() {
-                let out = Stumbling::new(rt.alloc(), at, 1, kind);
-                let text = written(&rt, rt.alloc(), call, TWO, out);
-                assert!(rt; is_failed(&text, RUN.as_bytes(), at), "{at}");
-            }
-        }
-        let whole = Stumbling::new(rt.alloc(), 0, 0, None);
-        let text = written(&rt, rt.alloc(), call, TWO, whole);
-        assert!(rt; text.strip_suffix(NO_BODY) == Some(RUN.as_bytes()));
-    }
-}
-
-#[test]
-fn tells_failed_flushes(rt: HostRuntime) {
-    for (call, program, lines) in CALLS {
-        let mut out = Stumbling::new(rt.alloc(), 0, 0, None);
-        out.flushes = false;
-        let text = written(&rt, rt.alloc(), call, program, out);
-        assert!(rt; is_failed(&text, lines.as_bytes(), lines.len()), "{lines}");
-    }
+    let alloc = rt.alloc();
+    let timed_out = Some(ErrorKind::TimedOut);
+    tells_failed_writes(&rt, alloc, Call::Record, TWO, RUN, timed_out);
+    tells_failed_writes(&rt, alloc, Call::Record, TWO, RUN, None);
+    let whole = Stumbling::new(alloc, 0, 0, None);
+    let text = written(&rt, alloc, Call::Record, TWO, whole);
+    assert!(rt; text.strip_suffix(NO_BODY) == Some(RUN.as_bytes()));
 }
 
 // the status of a fault is 2 whatever becomes of its line

@@ -2,10 +2,9 @@
 
 use crate::hoard::Hoard;
 use lft_cards::{Cards, read_cards};
-use lft_flat::Value;
 use lft_front::load;
 use lft_model::Plan;
-use lft_pool::{AnyAnswer, Begin, Book, Stop};
+use lft_pool::{Answered, AnyAnswer, Begin, Book, Stop};
 use lft_record::{CardCode, card_bodies};
 use lft_tag::NoMemory;
 use lft_trace::write_trace;
@@ -84,29 +83,37 @@ fn stands(
     )
 }
 
+/// Whether the book is told to have no memory left, now and from then on.
+fn is_out_of_memory(book: &mut CardBook<'_>, fault: Stop) -> bool {
+    fault == Stop::NoMemory && book.begin(0).err() == Some(fault)
+}
+
 /// Whether a book within so many bytes can't begin its first run.
 fn is_begin_refused(
     rt: &impl Abort,
     alloc: Global,
     hoard: &mut Hoard,
-    plan: &Plan,
-    cards: &Cards,
+    mut book: CardBook<'_>,
     budget: usize,
 ) -> Result<bool, Fail> {
-    let mut book = book_of(alloc, plan, cards)?;
     hoard.refuse(alloc, budget)?;
-    let begun = book.begin(0);
+    let fault = book.begin(0).err();
     hoard.relent();
-    if let Ok(Begin::Run(ticket, _)) = begun {
-        let reads = [Some(Value::Int(7)), None];
-        assert!(rt; ticket.reads.as_slice() == reads.as_slice());
+    let Some(fault) = fault else {
         assert!(rt; stands(alloc, book, None, BEGUN, 0, 1)?);
         return Ok(false);
-    }
-    assert!(rt; matches!(begun, Err(Stop::NoMemory)));
-    assert!(rt; matches!(book.begin(0), Err(Stop::NoMemory)));
-    assert!(rt; stands(alloc, book, Some(Stop::NoMemory), NO_ROWS, 0, 2)?);
+    };
+    assert!(rt; is_out_of_memory(&mut book, fault));
+    assert!(rt; stands(alloc, book, Some(fault), NO_ROWS, 0, 2)?);
     Ok(true)
+}
+
+/// What the first run answers.
+fn first_answer(rt: &impl Abort, alloc: Global, book: &mut CardBook<'_>) -> Answered<AnyAnswer> {
+    let Ok(Begin::Run(ticket, body)) = book.begin(0) else {
+        panic!(rt; "no run begins");
+    };
+    body.call(alloc, ticket)
 }
 
 /// Whether a book within so many bytes can't take the answer of its first run.
@@ -114,59 +121,60 @@ fn is_commit_refused(
     rt: &impl Abort,
     alloc: Global,
     hoard: &mut Hoard,
-    plan: &Plan,
-    cards: &Cards,
+    mut book: CardBook<'_>,
     budget: usize,
 ) -> Result<bool, Fail> {
-    let mut book = book_of(alloc, plan, cards)?;
-    let Ok(Begin::Run(ticket, body)) = book.begin(0) else {
-        panic!(rt; "no run begins");
-    };
-    let answered = body.call(alloc, ticket);
+    let answered = first_answer(rt, alloc, &mut book);
     hoard.refuse(alloc, budget)?;
-    let ended = book.commit(answered);
+    let fault = book.commit(answered).err();
     hoard.relent();
-    if ended.is_ok() {
+    let Some(fault) = fault else {
         assert!(rt; stands(alloc, book, None, ENDED, 1, 1)?);
         return Ok(false);
-    }
-    assert!(rt; ended == Err(Stop::NoMemory));
-    assert!(rt; matches!(book.begin(0), Err(Stop::NoMemory)));
-    assert!(rt; stands(alloc, book, Some(Stop::NoMemory), BEGUN, 0, 1)?);
+    };
+    assert!(rt; is_out_of_memory(&mut book, fault));
+    assert!(rt; stands(alloc, book, Some(fault), BEGUN, 0, 1)?);
     Ok(true)
 }
 
 /// How many budgets are tried, each sixteen bytes more than the one before.
 const BUDGETS: usize = 400;
 
-#[test]
-fn a_refused_begin_leaves_the_book(rt: HostRuntime) -> Result<(), Fail> {
-    let alloc = rt.alloc();
-    let plan = load(alloc, PROGRAM, EXTERNALS)?;
-    let cards = read_cards(alloc, plan.program(), CARDS)?;
-    let mut hoard = Hoard::new(alloc)?;
-    let mut refused = 0usize;
+/// How many budgets are too small to begin the first run, and how many to take its answer.
+fn refused(
+    rt: &impl Abort,
+    alloc: Global,
+    hoard: &mut Hoard,
+    plan: &Plan,
+    cards: &Cards,
+) -> Result<(usize, usize), Fail> {
+    let mut begins = 0usize;
+    let mut commits = 0usize;
     for sixteens in 0..BUDGETS {
-        if is_begin_refused(&rt, alloc, &mut hoard, &plan, &cards, 16 * sixteens)? {
-            refused = refused.saturating_add(1);
+        let book = book_of(alloc, plan, cards)?;
+        if is_begin_refused(rt, alloc, hoard, book, 16 * sixteens)? {
+            begins = begins.saturating_add(1);
+        }
+        let book = book_of(alloc, plan, cards)?;
+        if is_commit_refused(rt, alloc, hoard, book, 16 * sixteens)? {
+            commits = commits.saturating_add(1);
         }
     }
-    assert!(rt; 0 < refused && refused < BUDGETS);
+    Ok((begins, commits))
+}
+
+/// Within the least budgets both calls are refused, and within the greatest none.
+fn leaves_the_book(rt: &impl Abort, alloc: Global, plan: &Plan) -> Result<(), Fail> {
+    let cards = read_cards(alloc, plan.program(), CARDS)?;
+    let mut hoard = Hoard::new(alloc)?;
+    let (begins, commits) = refused(rt, alloc, &mut hoard, plan, &cards)?;
+    assert!(rt; 0 < begins && begins < BUDGETS);
+    assert!(rt; 0 < commits && commits < BUDGETS);
     Ok(())
 }
 
 #[test]
-fn a_refused_commit_leaves_the_book(rt: HostRuntime) -> Result<(), Fail> {
-    let alloc = rt.alloc();
-    let plan = load(alloc, PROGRAM, EXTERNALS)?;
-    let cards = read_cards(alloc, plan.program(), CARDS)?;
-    let mut hoard = Hoard::new(alloc)?;
-    let mut refused = 0usize;
-    for sixteens in 0..BUDGETS {
-        if is_commit_refused(&rt, alloc, &mut hoard, &plan, &cards, 16 * sixteens)? {
-            refused = refused.saturating_add(1);
-        }
-    }
-    assert!(rt; 0 < refused && refused < BUDGETS);
-    Ok(())
+fn a_refused_growth_leaves_the_book(rt: HostRuntime) -> Result<(), Fail> {
+    let plan = load(rt.alloc(), PROGRAM, EXTERNALS)?;
+    leaves_the_book(&rt, rt.alloc(), &plan)
 }

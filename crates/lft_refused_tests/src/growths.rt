@@ -97,9 +97,9 @@ fn refused(
 fn judging_and_showing_tell_want_of_memory(rt: HostRuntime) -> Result<(), Fail> {
     let alloc = rt.alloc();
     let mut hoard = Hoard::new(alloc)?;
-    for (call, lines) in [(Call::Judge, VERDICT), (Call::Show, LINES)] {
-        let refused = refused(&rt, alloc, &mut hoard, call, lines)?;
-        assert!(rt; 0 < refused && refused < BUDGETS);
-    }
+    let judging = refused(&rt, alloc, &mut hoard, Call::Judge, VERDICT)?;
+    assert!(rt; 0 < judging && judging < BUDGETS);
+    let showing = refused(&rt, alloc, &mut hoard, Call::Show, LINES)?;
+    assert!(rt; 0 < showing && showing < BUDGETS);
     Ok(())
 }

@@ -1,9 +1,10 @@
 //! Calls that take no memory, while all memory is refused.
 
+ghost use Rattle.std.specs.Prelude.{◌≡◌, length};
 ghost use Rattle.lft_trace.specs.Fits.{RowsFit};
 
 use crate::hoard::Hoard;
-use crate::idle::{Idle, bodies_of};
+use crate::idle::{Idle, IdleBodies, bodies_of};
 use lft_check::{CheckFault, NoWatch, judge};
 use lft_flat::{Found, Name, Program, Value};
 use lft_front::{Fault, finish, load, split_bundle};
@@ -15,7 +16,9 @@ use lft_slices::{Cut, cut};
 use lft_tag::{Shift, Tag};
 use lft_trace::{Rows, read_trace};
 use std::alloc::Global;
+use std::sync::Wait;
 use std::test::Fail;
+use std::thread::Threads;
 
 const FIRST: Tag = Tag { time: 0, micro: 0 };
 
@@ -88,22 +91,41 @@ fn tells_cut(cut: &Cut) -> bool {
     tags == [FIRST].as_slice() && cut.clash().is_none() && cut.gap().is_none()
 }
 
+/// Whether judging by no worker is refused for that.
+fn is_judged_by_none<R: Threads + Sync>(rt: &R, alloc: Global, plan: &Plan, rows: &Rows) -> bool
+    requires { RowsFit plan.now.program rows.now }
+{
+    judge(rt, alloc, plan, rows, 0, &NoWatch).err() == Some(CheckFault::BadWorkers)
+}
+
+/// Whether all of this is told while all memory is refused.
+fn tells_without<R: Threads + Sync>(
+    rt: &R,
+    alloc: Global,
+    plan: &Plan,
+    copy: &Plan,
+    rows: &Rows,
+) -> Result<bool, Fail>
+    requires { RowsFit plan.now.program rows.now }
+{
+    let cut = cut(alloc, plan, rows)?;
+    let mut hoard = Hoard::new(alloc)?;
+    hoard.refuse(alloc, 0)?;
+    Ok(
+        is_all_refused(alloc)
+            && tells_plan(plan, copy, rows)
+            && tells_cut(&cut)
+            && is_judged_by_none(rt, alloc, plan, rows),
+    )
+}
+
 #[test]
 fn tells_of_plans_and_traces_without_memory(rt: HostRuntime) -> Result<(), Fail> {
     let alloc = rt.alloc();
     let plan = load(alloc, PIPE, EXTERNALS)?;
     let copy = plan.copy(alloc)?;
     let rows = read_trace(alloc, plan.program(), TRACE)?;
-    let cut = cut(alloc, &plan, &rows)?;
-    let mut hoard = Hoard::new(alloc)?;
-    hoard.refuse(alloc, 0)?;
-    let is_refused = is_all_refused(alloc);
-    let is_plan = tells_plan(&plan, &copy, &rows);
-    let is_cut = tells_cut(&cut);
-    let judged = judge(&rt, alloc, &plan, &rows, 0, &NoWatch);
-    hoard.relent();
-    assert!(rt; is_refused && is_plan && is_cut);
-    assert!(rt; judged == Err(CheckFault::BadWorkers));
+    assert!(rt; tells_without(&rt, alloc, &plan, &copy, &rows)?);
     Ok(())
 }
 
@@ -125,7 +147,9 @@ fn tells_edges(out: &mut Vec<u8>) -> bool {
 
 /// Whether a queue of events at the times 5, 6 and 7 gives them out.
 fn empties(queue: &mut Queue) -> bool {
-    let [five, six, seven] = [5, 6, 7].map(|time| Tag { time, micro: 0 });
+    let five = Tag { time: 5, micro: 0 };
+    let six = Tag { time: 6, micro: 0 };
+    let seven = Tag { time: 7, micro: 0 };
     if queue.get(six, NAME).is_none() {
         return false;
     }
@@ -158,27 +182,55 @@ fn writes_and_empties_without_memory(rt: HostRuntime) -> Result<(), Fail> {
     Ok(())
 }
 
+/// A book that is closed has all its bodies left.
+fn closes(book: Book<AnyAnswer, Idle>) -> bool {
+    let closed = book.close();
+    closed.reason.is_none() && closed.left.left(0) == 0 && closed.left.left(1) == 1
+}
+
 #[test]
 fn hands_bodies_back_without_memory(rt: HostRuntime) -> Result<(), Fail> {
     let alloc = rt.alloc();
     let plan = load(alloc, PIPE, EXTERNALS)?;
     let bodies = bodies_of(alloc, plan.program())?;
-    let others = bodies_of(alloc, plan.program())?;
-    let Ok(book) = Book::new(alloc, plan.copy(alloc)?, bodies, 10) else {
+    let Ok(book) = Book::new(alloc, plan, bodies, 10) else {
         panic!(rt; "there is no book");
     };
     let mut hoard = Hoard::new(alloc)?;
     hoard.refuse(alloc, 0)?;
     let is_refused = is_all_refused(alloc);
-    let closed = book.close();
-    let left = [closed.left.left(0), closed.left.left(1)];
-    let unbegun = record_run(&rt, alloc, plan, others, 0, 10).err();
-    let body: Body<AnyAnswer, Idle> = Body::new(0, Idle);
+    let is_closed = closes(book);
+    let is_body = Body::<AnyAnswer, Idle>::new(0, Idle).reaction() == 0;
     hoard.relent();
-    assert!(rt; is_refused && closed.reason.is_none() && left == [0, 1] && body.reaction() == 0);
-    let Some(stopped) = unbegun else {
-        panic!(rt; "recorded");
-    };
-    assert!(rt; stopped.reason == Stop::BadWorkers && stopped.left.left(1) == 1);
+    assert!(rt; is_refused && is_closed && is_body);
+    Ok(())
+}
+
+/// Whether recording by no worker is refused for that, and the bodies are left.
+fn is_recorded_by_none<R: Threads + Wait + Sync>(
+    rt: &R,
+    alloc: Global,
+    plan: Plan,
+    bodies: IdleBodies,
+) -> bool
+    requires { length bodies ≡ length plan.program.reactions }
+{
+    match record_run(rt, alloc, plan, bodies, 0, 10) {
+        Ok(_) => false,
+        Err(stopped) => stopped.reason == Stop::BadWorkers && stopped.left.left(1) == 1,
+    }
+}
+
+#[test]
+fn refuses_to_record_by_none_without_memory(rt: HostRuntime) -> Result<(), Fail> {
+    let alloc = rt.alloc();
+    let plan = load(alloc, PIPE, EXTERNALS)?;
+    let bodies = bodies_of(alloc, plan.program())?;
+    let mut hoard = Hoard::new(alloc)?;
+    hoard.refuse(alloc, 0)?;
+    let is_refused = is_all_refused(alloc);
+    let is_by_none = is_recorded_by_none(&rt, alloc, plan, bodies);
+    hoard.relent();
+    assert!(rt; is_refused && is_by_none);
     Ok(())
 }
