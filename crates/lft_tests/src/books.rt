@@ -1,14 +1,14 @@
 //! Books driven by hand: what a ticket has, what rows a book has in the end, and that judging accepts
 //! them.
 
-ghost use Rattle.std.specs.Prelude.{◌≡◌, IfOk, length};
-
 use crate::answers::{Prepared, PreparedBodies, done, put, write};
 use crate::texts::{AT_ONCE, PIPE, TWO, is_table, plan};
 use lft_check::{NoWatch, Verdict, judge_alone};
 use lft_flat::Value;
-use lft_model::{Plan, Reads};
-use lft_pool::{Answered, AnyAnswer, Begin, Body, Book, Done, PutFault, States, Stop, Ticket};
+use lft_model::Reads;
+use lft_pool::{
+    Answered, AnyAnswer, Begin, Bodies, Body, Book, Done, PutFault, States, Stop, Ticket,
+};
 use lft_tag::{NoMemory, Tag};
 use std::alloc::Global;
 use std::process::Abort;
@@ -19,41 +19,22 @@ type PreparedBook = Book<AnyAnswer, Prepared>;
 
 const FIRST: Tag = Tag { time: 0, micro: 0 };
 
-/// One body for each of two reactions, with this answer.
-fn two_bodies(
-    alloc: Global,
-    plan: &Plan,
-    first: Result<Done, NoMemory>,
-    second: Result<Done, NoMemory>,
-) -> Result<PreparedBodies, NoMemory>
-    ensures { IfOk result (λ bodies. length bodies ≡ length plan.now.program.reactions) }
-{
-    let mut bodies = PreparedBodies::new(alloc, plan.program())?;
-    put(&mut bodies, 0, first)?;
-    put(&mut bodies, 1, second)?;
-    Ok(bodies)
-}
-
-/// A book of at most ten runs.
-fn new_book(alloc: Global, plan: Plan, bodies: PreparedBodies) -> Result<PreparedBook, NoMemory>
-    requires { length bodies ≡ length plan.program.reactions }
-{
-    match Book::new(alloc, plan, bodies, 10) {
-        Ok(book) => Ok(book),
-        Err(_) => Err(NoMemory),
-    }
-}
-
-/// The book of a program of two reactions, each with one body of this answer.
+/// The book of a program of two reactions, each with one body of this answer: at most ten runs.
 fn book_of(
+    rt: &impl Abort,
     alloc: Global,
     program: &[u8],
     first: Result<Done, NoMemory>,
     second: Result<Done, NoMemory>,
 ) -> Result<PreparedBook, Fail> {
     let plan = plan(alloc, program, AT_ONCE)?;
-    let bodies = two_bodies(alloc, &plan, first, second)?;
-    Ok(new_book(alloc, plan, bodies)?)
+    let mut bodies = Bodies::new(alloc, plan.program())?;
+    put(&mut bodies, 0, first)?;
+    put(&mut bodies, 1, second)?;
+    match Book::new(alloc, plan, bodies, 10) {
+        Ok(book) => Ok(book),
+        Err(_) => panic!(rt; "there is no book"),
+    }
 }
 
 /// What the body answers to the run that the worker begins: at the first tag, of this reaction, with
@@ -109,7 +90,7 @@ end,1,0,0,main.b#1,,,
 fn books_a_pipe(rt: HostRuntime) -> Result<(), Fail> {
     let alloc = rt.alloc();
     let (first, second) = (done(alloc, 5, &[write(0, 1)]), done(alloc, 6, &[]));
-    let mut book = book_of(alloc, PIPE, first, second)?;
+    let mut book = book_of(&rt, alloc, PIPE, first, second)?;
     let first = answered(&rt, alloc, &mut book, 0, 0, &[]);
     assert!(rt; waits(&mut book, 0) && waits(&mut book, 1));
     assert!(rt; book.commit(first).is_ok());
@@ -148,7 +129,7 @@ fn books_two_in_either_order(rt: HostRuntime) -> Result<(), Fail> {
             done(alloc, 0, &[write(0, 1)]),
             done(alloc, 0, &[write(1, 1)]),
         );
-        let mut book = book_of(alloc, TWO, p, q)?;
+        let mut book = book_of(&rt, alloc, TWO, p, q)?;
         let p = answered(&rt, alloc, &mut book, 0, 0, &[]);
         let q = answered(&rt, alloc, &mut book, 1, 1, &[]);
         assert!(rt; waits(&mut book, 2));
@@ -160,78 +141,28 @@ fn books_two_in_either_order(rt: HostRuntime) -> Result<(), Fail> {
     Ok(())
 }
 
-/// An answer to a ticket of these parts at the first tag but for so many microsteps. No book gave it.
-fn strange(
-    alloc: Global,
-    worker: u32,
-    micro: u32,
-    reaction: u32,
-    state: i64,
-    reads: &[Option<Value>],
-) -> Result<Answered<AnyAnswer>, NoMemory> {
+/// An answer to a ticket that no book gave, for the second reaction by the second worker.
+fn strange(alloc: Global) -> Answered<AnyAnswer> {
+    let reads = Reads::from_vec(Vec::new(alloc));
     let ticket = Ticket {
-        worker,
-        tag: Tag { time: 0, micro },
-        reaction,
-        state,
-        reads: Reads::from_vec(Vec::from_slice(alloc, reads)?),
+        worker: 1,
+        tag: FIRST,
+        reaction: 1,
+        state: 0,
+        reads,
     };
-    Ok(Body::new(reaction, Prepared::new(done(alloc, 0, &[]))).call(alloc, ticket))
+    Body::new(1, Prepared::new(done(alloc, 0, &[]))).call(alloc, ticket)
 }
 
-/// A book of `PIPE`.
-fn pipe_book(alloc: Global) -> Result<PreparedBook, Fail> {
-    book_of(alloc, PIPE, done(alloc, 0, &[]), done(alloc, 0, &[]))
-}
-
-/// Whether the book takes neither answer: what it has stopped for is answered to all that comes.
-fn refuses(
-    book: &mut PreparedBook,
-    other: Answered<AnyAnswer>,
-    first: Answered<AnyAnswer>,
-) -> bool {
-    let other = book.commit(other);
-    let first = book.commit(first);
-    other == Err(Stop::Stranger)
-        && first == Err(Stop::Stranger)
-        && matches!(book.begin(1), Err(Stop::Stranger))
-}
-
-/// Whether a book whose first run is begun takes no answer to a ticket of these parts.
-fn is_strange(
-    rt: &impl Abort,
-    alloc: Global,
-    worker: u32,
-    micro: u32,
-    reaction: u32,
-    state: i64,
-    reads: &[Option<Value>],
-) -> Result<bool, Fail> {
-    let mut book = pipe_book(alloc)?;
-    let first = answered(rt, alloc, &mut book, 0, 0, &[]);
-    let other = strange(alloc, worker, micro, reaction, state, reads)?;
-    Ok(refuses(&mut book, other, first))
-}
-
+// what a book has stopped for is answered to all that comes after it
 #[test]
-fn refuses_a_ticket_that_differs_in_any_part(rt: HostRuntime) -> Result<(), Fail> {
+fn refuses_a_strange_answer(rt: HostRuntime) -> Result<(), Fail> {
     let alloc = rt.alloc();
-    assert!(rt; is_strange(&rt, alloc, 1, 0, 0, 0, &[])?);
-    assert!(rt; is_strange(&rt, alloc, 0, 1, 0, 0, &[])?);
-    assert!(rt; is_strange(&rt, alloc, 0, 0, 1, 0, &[])?);
-    assert!(rt; is_strange(&rt, alloc, 0, 0, 0, 1, &[])?);
-    assert!(rt; is_strange(&rt, alloc, 0, 0, 0, 0, &[None])?);
-    Ok(())
-}
-
-// anyone may make a ticket: with the parts of the run that is open it is good, once
-#[test]
-fn takes_one_answer_to_a_ticket(rt: HostRuntime) -> Result<(), Fail> {
-    let alloc = rt.alloc();
-    let mut book = pipe_book(alloc)?;
+    let (first, second) = (done(alloc, 0, &[]), done(alloc, 0, &[]));
+    let mut book = book_of(&rt, alloc, PIPE, first, second)?;
     let first = answered(&rt, alloc, &mut book, 0, 0, &[]);
-    let same = strange(alloc, 0, 0, 0, 0, &[])?;
-    assert!(rt; book.commit(same).is_ok());
+    assert!(rt; book.commit(strange(alloc)) == Err(Stop::Stranger));
+    assert!(rt; matches!(book.begin(1), Err(Stop::Stranger)));
     assert!(rt; book.commit(first) == Err(Stop::Stranger));
     Ok(())
 }
