@@ -1,10 +1,13 @@
 //! Writers that are interrupted, that fail, and that take nothing; statuses.
 
 use crate::texts::with_fault;
-use lft_front::{Fault, finish, judge_texts, judge_texts_alone, show_text};
+use lft_front::{Fault, finish, judge_texts, judge_texts_alone, pair_texts, show_text};
+use lft_record::record_answer;
 use std::alloc::Global;
 use std::io;
 use std::io::{ErrorKind, Write};
+use std::process::Abort;
+use std::sync::Wait;
 use std::thread::Threads;
 
 /// Takes one byte a call. At so many calls, from the one of the number `at` on, counted from 0, it
@@ -64,16 +67,21 @@ const EXTERNALS: &[u8] = b"kind,time,microstep,name,value\nstop,0,0,,\n";
 
 const TRACE: &[u8] = b"event,worker,time,microstep,reaction,name,value,delay\n";
 
+/// One body, for the first reaction.
+const CARDS: &[u8] = b"kind,reaction,name,delay,value\nbodies,main#1,,,1\n";
+
 /// A call that writes.
 #[derive(Clone, Copy)]
 enum Call {
     JudgeAlone,
     Judge,
+    Pair,
     Show,
+    Record,
 }
 
 /// The fault of a call on the text of a program, if there is one.
-fn fault_of<R: Threads + Sync>(
+fn fault_of<R: Threads + Wait + Sync>(
     rt: &R,
     alloc: Global,
     call: Call,
@@ -83,12 +91,14 @@ fn fault_of<R: Threads + Sync>(
     match call {
         Call::JudgeAlone => judge_texts_alone(alloc, program, EXTERNALS, TRACE, out).err(),
         Call::Judge => judge_texts(rt, alloc, program, EXTERNALS, TRACE, 2, out).err(),
+        Call::Pair => pair_texts(rt, alloc, program, EXTERNALS, TRACE, TRACE, 2, out).err(),
         Call::Show => show_text(alloc, program, out).err(),
+        Call::Record => record_answer(rt, alloc, program, EXTERNALS, CARDS, 1, 10, out).err(),
     }
 }
 
 /// What a writer has taken of a call, and after it the line of the fault, where there is one.
-fn written<R: Threads + Sync>(
+fn written<R: Threads + Wait + Sync>(
     rt: &R,
     alloc: Global,
     call: Call,
@@ -102,6 +112,8 @@ fn written<R: Threads + Sync>(
 const EMPTY: &str = "main reactor { }";
 
 const ACCEPTED: &str = "accepted runs=0 tags=0\n";
+
+const SAME: &str = "same runs=0 tags=0\n";
 
 const CHAIN: &str = "main reactor {
     timer t(0, 1 s)
@@ -131,13 +143,16 @@ reaction main.a#1 level=0 before=-
 reaction main.b.c#1 level=0 before=-
 ";
 
-/// Each call that writes, with a program and what is written of it.
-const CALLS: [(Call, &str, &str); 4] = [
-    (Call::JudgeAlone, EMPTY, ACCEPTED),
-    (Call::Judge, EMPTY, ACCEPTED),
-    (Call::Show, CHAIN, CHAIN_LINES),
-    (Call::Show, DEEP, DEEP_LINES),
-];
+const ONE: &str = "main reactor { reaction(startup) {= =} }";
+
+/// The second reaction has no body.
+const TWO: &str = "main reactor { reaction(startup) {= =} reaction(startup) {= =} }";
+
+/// A run of the first reaction.
+const RUN: &str = "event,worker,time,microstep,reaction,name,value,delay
+start,0,0,0,main#1,,,
+end,0,0,0,main#1,,,
+";
 
 const FAILED: &[u8] = b"fault write 1 Failed\n";
 
@@ -146,39 +161,92 @@ fn is_failed(text: &[u8], lines: &[u8], taken: usize) -> bool {
     text.strip_suffix(FAILED) == lines.get(..taken)
 }
 
-#[test]
-fn writes_on_after_interruptions(rt: HostRuntime) {
-    for (call, program, lines) in CALLS {
-        for at in 0..lines.len() {
-            let out = Stumbling::new(rt.alloc(), at, 3, Some(ErrorKind::Interrupted));
-            let text = written(&rt, rt.alloc(), call, program, out);
-            assert!(rt; text.as_slice() == lines.as_bytes(), "{at} {lines}");
-        }
+/// The call goes on after three interruptions, wherever they come.
+fn goes_on<R: Abort + Threads + Wait + Sync>(
+    rt: &R,
+    alloc: Global,
+    call: Call,
+    program: &str,
+    lines: &str,
+) {
+    for at in 0..lines.len() {
+        let out = Stumbling::new(alloc, at, 3, Some(ErrorKind::Interrupted));
+        let text = written(rt, alloc, call, program, out);
+        assert!(rt; text.as_slice() == lines.as_bytes(), "{at} {lines}");
     }
 }
 
-// the writer isn't asked again: what it took is what stands before the place
-#[test]
-fn tells_failed_writes(rt: HostRuntime) {
-    for kind in [Some(ErrorKind::TimedOut), Some(ErrorKind::WouldBlock), None] {
-        for (call, program, lines) in CALLS {
-            for at in 0..lines.len() {
-                let out = Stumbling::new(rt.alloc(), at, 1, kind);
-                let text = written(&rt, rt.alloc(), call, program, out);
-                assert!(rt; is_failed(&text, lines.as_bytes(), at), "{at} {lines}");
-            }
-        }
+/// The call tells a write that fails, wherever it does. The writer isn't asked again: what it took is
+/// what stands before the place.
+fn tells_failed_writes<R: Abort + Threads + Wait + Sync>(
+    rt: &R,
+    alloc: Global,
+    call: Call,
+    program: &str,
+    lines: &str,
+    kind: Option<ErrorKind>,
+) {
+    for at in 0..lines.len() {
+        let out = Stumbling::new(alloc, at, 1, kind);
+        let text = written(rt, alloc, call, program, out);
+        assert!(rt; is_failed(&text, lines.as_bytes(), at), "{at} {lines}");
     }
 }
 
+/// The call tells a flush that fails.
+fn tells_failed_flush<R: Abort + Threads + Wait + Sync>(
+    rt: &R,
+    alloc: Global,
+    call: Call,
+    program: &str,
+    lines: &str,
+) {
+    let mut out = Stumbling::new(alloc, 0, 0, None);
+    out.flushes = false;
+    let text = written(rt, alloc, call, program, out);
+    assert!(rt; is_failed(&text, lines.as_bytes(), lines.len()), "{lines}");
+}
+
+/// The call, which writes these lines, meets each kind of writer.
+fn meets_writers<R: Abort + Threads + Wait + Sync>(
+    rt: &R,
+    alloc: Global,
+    call: Call,
+    program: &str,
+    lines: &str,
+) {
+    goes_on(rt, alloc, call, program, lines);
+    let timed_out = Some(ErrorKind::TimedOut);
+    tells_failed_writes(rt, alloc, call, program, lines, timed_out);
+    let would_block = Some(ErrorKind::WouldBlock);
+    tells_failed_writes(rt, alloc, call, program, lines, would_block);
+    tells_failed_writes(rt, alloc, call, program, lines, None);
+    tells_failed_flush(rt, alloc, call, program, lines);
+}
+
 #[test]
-fn tells_failed_flushes(rt: HostRuntime) {
-    for (call, program, lines) in CALLS {
-        let mut out = Stumbling::new(rt.alloc(), 0, 0, None);
-        out.flushes = false;
-        let text = written(&rt, rt.alloc(), call, program, out);
-        assert!(rt; is_failed(&text, lines.as_bytes(), lines.len()), "{lines}");
-    }
+fn calls_meet_writers(rt: HostRuntime) {
+    let alloc = rt.alloc();
+    meets_writers(&rt, alloc, Call::JudgeAlone, EMPTY, ACCEPTED);
+    meets_writers(&rt, alloc, Call::Judge, EMPTY, ACCEPTED);
+    meets_writers(&rt, alloc, Call::Pair, EMPTY, SAME);
+    meets_writers(&rt, alloc, Call::Show, CHAIN, CHAIN_LINES);
+    meets_writers(&rt, alloc, Call::Show, DEEP, DEEP_LINES);
+    meets_writers(&rt, alloc, Call::Record, ONE, RUN);
+}
+
+const NO_BODY: &[u8] = b"fault pool 1 NoBody main#2\n";
+
+// a recording that stopped has rows to write: the fault of a failed write comes before the reason
+#[test]
+fn tells_a_failed_write_before_a_stop(rt: HostRuntime) {
+    let alloc = rt.alloc();
+    let timed_out = Some(ErrorKind::TimedOut);
+    tells_failed_writes(&rt, alloc, Call::Record, TWO, RUN, timed_out);
+    tells_failed_writes(&rt, alloc, Call::Record, TWO, RUN, None);
+    let whole = Stumbling::new(alloc, 0, 0, None);
+    let text = written(&rt, alloc, Call::Record, TWO, whole);
+    assert!(rt; text.strip_suffix(NO_BODY) == Some(RUN.as_bytes()));
 }
 
 // the status of a fault is 2 whatever becomes of its line

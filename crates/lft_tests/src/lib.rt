@@ -1,12 +1,14 @@
 #![tactic(auto)]
-//! The tests below the calls on texts that need code: tags; who is told of a tag, by a copy of a plan
-//! and by two workers at a time; queues, books driven by hand, and recordings. What is data is a case
-//! of `lft_cases`.
+//! The tests below the calls on texts that need code: tags; what fits a program; who is told of a
+//! tag, by a copy of a plan and by two workers at a time; queues, books driven by hand, and
+//! recordings. What is data is a case of `lft_cases`.
 
 #[cfg(test)]
 mod answers;
 #[cfg(test)]
 mod books;
+#[cfg(test)]
+mod fits;
 #[cfg(test)]
 mod queues;
 #[cfg(test)]

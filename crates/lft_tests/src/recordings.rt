@@ -3,7 +3,7 @@
 ghost use Rattle.std.specs.Prelude.{◌≡◌, IfOk, OnOk, length};
 
 use crate::answers::{done, put, write};
-use crate::texts::{AT_ONCE, PIPE, TWO, plan};
+use crate::texts::{AT_ONCE, PIPE, TO_20_MS, TWO, plan};
 use lft_check::{NoWatch, Verdict, judge_alone};
 use lft_model::{Plan, Reads};
 use lft_pool::{AnyAnswer, Bodies, Body, Code, Done, record_run};
@@ -104,8 +104,6 @@ fn runs_two_bodies_at_once(rt: HostRuntime) -> Result<(), Fail> {
     assert!(rt; verdict == Verdict::Accepted { runs: 2, tags: 1 });
     Ok(())
 }
-
-const TO_20_MS: &[u8] = b"kind,time,microstep,name,value\nstop,20000000,0,,\n";
 
 // no clause says which of a reaction's bodies meets which of its runs
 #[test]

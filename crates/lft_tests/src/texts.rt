@@ -2,6 +2,7 @@
 
 ghost use Rattle.lft_trace.specs.Fits.{RowsFit};
 
+use lft_flat::Program;
 use lft_model::Plan;
 use lft_program::flatten;
 use lft_syntax::{lex, parse};
@@ -28,11 +29,19 @@ pub(crate) const AGAIN: &[u8] =
 /// The execution is stopped at its first tag.
 pub(crate) const AT_ONCE: &[u8] = b"kind,time,microstep,name,value\nstop,0,0,,\n";
 
+/// The execution is stopped at the third firing of a timer of 10 ms.
+pub(crate) const TO_20_MS: &[u8] = b"kind,time,microstep,name,value\nstop,20000000,0,,\n";
+
+/// The program of a text.
+pub(crate) fn program(alloc: Global, text: &[u8]) -> Result<Program, Fail> {
+    let tokens = lex(alloc, text)?;
+    let tree = parse(alloc, text, &tokens)?;
+    Ok(flatten(alloc, &tree)?)
+}
+
 /// The plan of a program's text and of a table of external inputs.
-pub(crate) fn plan(alloc: Global, program: &[u8], externals: &[u8]) -> Result<Plan, Fail> {
-    let tokens = lex(alloc, program)?;
-    let tree = parse(alloc, program, &tokens)?;
-    let program = flatten(alloc, &tree)?;
+pub(crate) fn plan(alloc: Global, text: &[u8], externals: &[u8]) -> Result<Plan, Fail> {
+    let program = program(alloc, text)?;
     let externals = read_externals(alloc, &program, externals)?;
     Ok(Plan::new(alloc, program, externals)?)
 }
