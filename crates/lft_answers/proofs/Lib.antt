@@ -1,2 +1,3 @@
 pub mod Stepping
+pub mod LastRead
 pub mod Made

@@ -42,7 +42,7 @@ fn value_scheduled(step: Step, action: u32) -> Option<(u64, Value)>
 }
 
 /// The last value that the steps write to the port.
-pub fn last_written(steps: &[Step], port: u32) -> Option<Value>
+fn last_written(steps: &[Step], port: u32) -> Option<Value>
     ensures { result ≡ last_or None (filter_map (the_value_written port) steps.now) }
 {
     let mut last = None;
@@ -56,11 +56,7 @@ pub fn last_written(steps: &[Step], port: u32) -> Option<Value>
 }
 
 /// What the steps schedule for the action, in order: extra delays in nanoseconds with their values.
-pub fn all_scheduled(
-    alloc: Global,
-    steps: &[Step],
-    action: u32,
-) -> Result<Vec<(u64, Value)>, NoMemory>
+fn all_scheduled(alloc: Global, steps: &[Step], action: u32) -> Result<Vec<(u64, Value)>, NoMemory>
     ensures { IfOk result (λ list. list.items ≡ filter_map (the_value_scheduled action) steps.now) }
 {
     let mut list = Vec::new(alloc);
@@ -98,7 +94,11 @@ fn outcome_of_steps(alloc: Global, effect: Name, steps: &[Step]) -> Result<Outco
 }
 
 /// What the steps answer for the effects, in order.
-pub fn answer_of_steps(alloc: Global, effects: &[Name], steps: &[Step]) -> Result<Answer, NoMemory>
+pub(crate) fn answer_of_steps(
+    alloc: Global,
+    effects: &[Name],
+    steps: &[Step],
+) -> Result<Answer, NoMemory>
     ensures { IfOk result (λ answer. answer ≡ answer_of effects.now steps.now) }
 {
     let mut outcomes = Vec::new(alloc);

@@ -15,8 +15,7 @@ use lft_tag::NoMemory;
 use lft_trace::Row;
 use std::alloc::Global;
 
-/// What the run that starts in the row at the place read. It looks at the rows up to its end row once,
-/// and then at the run's own steps once for each input.
+/// What the run that starts in the row at the place read. It looks at the rows up to its end row once.
 pub fn reads_of_run(
     alloc: Global,
     plan: &Plan,

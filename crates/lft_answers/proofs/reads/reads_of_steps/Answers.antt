@@ -18,7 +18,7 @@ loop-place-preserved c =
     let trigger = get_or xs i Startup in
     let here : slice_get xs i ≡ Some trigger = slice_get-get_or xs i Startup (omega arith) in
     elim c.match-input_of.branch [
-      | in-Some+in_ok-push w ↦ ap (λ v. v.items) w.reads-is ∙ w.in_ok-push.ensures.items ∙ made_more f (filter_map named (take i xs)) (filter_map named (take (i + 1) xs)) w.in-Some.name c.loop-place.reads.items w.last_read.result (kept_more named xs i trigger (Some w.in-Some.name) here (sym w.in-Some.is ∙ c.input_of.ensures)) w.last_read.ensures c.loop-place.invariant
+      | in-Some+in_ok-push w ↦ ap (λ v. v.items) w.reads-is ∙ w.in_ok-push.ensures.items ∙ made_more f (filter_map named (take i xs)) (filter_map named (take (i + 1) xs)) w.in-Some.name c.loop-place.reads.items w.get.result (kept_more named xs i trigger (Some w.in-Some.name) here (sym w.in-Some.is ∙ c.input_of.ensures)) (w.get.ensures ∙ c.in_ok-readings.ensures w.in-Some.name) c.loop-place.invariant
       | in_default w ↦ ap (λ v. v.items) w.reads-is ∙ c.loop-place.invariant ∙ ap (map f) (sym (kept_more named xs i trigger None here (sym w.in_default.is ∙ c.input_of.ensures) ∙ append-nil (filter_map named (take i xs))))
     ]
 
@@ -28,4 +28,4 @@ loop-place-2-preserved c =
     let ns = c.as_slice-uses.result.now in
     let i = c.loop-place-2.place in
     let name = get_or ns i (Port 0) in
-    c.in_ok-push-2.ensures.items ∙ made_more (read_of c.args.steps.now) (front ++ take i ns) (front ++ take (i + 1) ns) name c.loop-place-2.reads.items c.last_read-in-loop-place-2.result (ap (λ ks. front ++ ks) (take_more ns i (Port 0) (omega arith)) ∙ sym (append_assoc front (take i ns) (name ∷ []))) c.last_read-in-loop-place-2.ensures c.loop-place-2.invariant
+    c.in_ok-push-2.ensures.items ∙ made_more (read_of c.args.steps.now) (front ++ take i ns) (front ++ take (i + 1) ns) name c.loop-place-2.reads.items c.get-in-loop-place-2.result (ap (λ ks. front ++ ks) (take_more ns i (Port 0) (omega arith)) ∙ sym (append_assoc front (take i ns) (name ∷ []))) (c.get-in-loop-place-2.ensures ∙ c.in_ok-readings.ensures name) c.loop-place-2.invariant
