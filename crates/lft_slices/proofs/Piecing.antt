@@ -30,7 +30,7 @@ use Rattle.lft_slices.specs.declared.slices.Slice.{Slice}
 use Rattle.lft_slices.specs.declared.pieces.Piece.{Piece}
 use Rattle.lft_slices.specs.Slices.{IsCuttable, IsSlice, AreSlices}
 use Rattle.lft_slices.specs.declared.pieces.Pieces.{Pieces}
-use Rattle.lft_slices.specs.Pieces.{AreTags, IsPiece, AreRuns, AreEndsTo, AreEndsOver, AreStartsTo, AreRunsIn, ArePiecesTo, ArePieces, IsTagAt}
+use Rattle.lft_slices.specs.Pieces.{AreTags, IsPiece, AreRuns, AreEndsTo, AreStartsTo, AreRunsIn, ArePiecesTo, ArePieces, IsTagAt}
 
 -- no two pieces of the list are of one reaction
 abbrev AreApart : List Piece → Type 0
@@ -117,23 +117,6 @@ module _ (plan : PlanParts) (t : List Row) (rules : IsCuttable (record { plan = 
             ap (λ c. slice_get (slice_set ends row.reaction i) c) q ∙ get_written ends row.reaction i known ∙ ap Some same
         go (no n) (inl k) = get_unwritten ends row.reaction r i n ∙ so_far j w r l k e
         go (no n) (inr k) = absurd (n (sym (ap (λ (z : Row). z.reaction) k.1)))
-
-    -- what is kept over what was there
-    pub over_stay : (old ends : List ℕ) → AreEndsOver t s i old ends → AreEndsOver t s (i + 1) old ends
-    over_stay old ends so_far r e q = go (so_far r e q)
-      where
-        go : (slice_get old r ≡ Some e) ⊎ ((w : ℕ) × (s.first ≤ e) × (e < i) × (slice_get t e ≡ Some (end_row w s.tag r))) → (slice_get old r ≡ Some e) ⊎ ((w : ℕ) × (s.first ≤ e) × (e < i + 1) × (slice_get t e ≡ Some (end_row w s.tag r)))
-        go (inl k) = inl k
-        go (inr k) = let l : e < i = k.2 in inr (k.0, k.1, omega arith, k.3)
-
-    pub over_more : (old ends : List ℕ) → row.reaction < length ends → row.step ≡ End → AreEndsOver t s i old ends → AreEndsOver t s (i + 1) old (slice_set ends row.reaction i)
-    over_more old ends known d so_far r e q = go (get_write_cases ends row.reaction r i e known q)
-      where
-        go : ((r ≡ row.reaction) × (i ≡ e)) ⊎ ((r ≢ row.reaction) × (slice_get ends r ≡ Some e)) → (slice_get old r ≡ Some e) ⊎ ((w : ℕ) × (s.first ≤ e) × (e < i + 1) × (slice_get t e ≡ Some (end_row w s.tag r)))
-        go (inl k) =
-            let same : i ≡ e = k.1 in
-            inr (row.worker, omega arith, omega arith, ap (λ z. slice_get t z) (sym same) ∙ as_step End d ∙ ap (λ z. Some (end_row row.worker s.tag z)) (sym k.0))
-        go (inr k) = over_stay old ends so_far r e k.1
 
     -- the starts
     later : (xs : List Piece) → AreStartsTo t s i xs → (k : ℕ) (x : Piece) → slice_get xs k ≡ Some x → IsPiece t s.tag x × (x.start < i + 1)

@@ -36,10 +36,6 @@ IsTagAt t k g = (tags : List Tag) × AreTags t tags × (slice_get tags k ≡ Som
 abbrev pub AreEndsTo : List Row → Slice → ℕ → List ℕ → Type 0
 AreEndsTo t s i ends = (j w r : ℕ) → s.first ≤ j → j < i → slice_get t j ≡ Some (end_row w s.tag r) → slice_get ends r ≡ Some j
 
--- what is kept under a reaction is the place of its end row in the slice before place i, or what was kept before
-abbrev pub AreEndsOver : List Row → Slice → ℕ → List ℕ → List ℕ → Type 0
-AreEndsOver t s i old new = (r e : ℕ) → slice_get new r ≡ Some e → (slice_get old r ≡ Some e) ⊎ ((w : ℕ) × (s.first ≤ e) × (e < i) × (slice_get t e ≡ Some (end_row w s.tag r)))
-
 -- the runs that start in the rows of the slice before place i, each once
 pub record AreStartsTo (t : List Row) (s : Slice) (i : ℕ) (pieces : List Piece) : Type 0 where
   pub is_run : (k : ℕ) (x : Piece) → slice_get pieces k ≡ Some x → IsPiece t s.tag x × (x.start < i)

@@ -23,7 +23,7 @@ mod walk;
 pub use cuts::Cut;
 pub use cutting::cut;
 pub use fault::CutFault;
-pub use pieces::{Piece, keep_ends};
+pub use pieces::Piece;
 pub use sharing::slice_rows_shared;
 pub use sliced::Sliced;
 pub use slices::Slice;

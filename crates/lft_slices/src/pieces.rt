@@ -3,8 +3,7 @@
 ghost use Rattle.std.specs.Prelude.{◌≡◌, ◌++◌, ◌∷◌, [], ◌+◌, ◌<◌, ◌≤◌, length, Some, slice_get, slice_range, OnOk, IfOk};
 ghost use Rattle.lft_model.specs.Plans.{PlanParts};
 ghost use Rattle.lft_slices.specs.Slices.{IsCuttable, IsSlice, AreSlices};
-ghost use Rattle.lft_rows.specs.Marks.{AreNoneFrom};
-ghost use Rattle.lft_slices.specs.Pieces.{AreRuns, AreEndsTo, AreEndsOver, AreStartsTo, ArePieces};
+ghost use Rattle.lft_slices.specs.Pieces.{AreRuns, AreEndsTo, AreStartsTo, ArePieces};
 
 use crate::slices::Slice;
 use lft_lists::item_at;
@@ -35,13 +34,11 @@ pub(crate) struct Pieces {
 
 /// Keeps the place of each end row of the slice under its reaction. What ended nowhere in the slice
 /// keeps what it had.
-pub fn keep_ends(rows: &[Row], slice: Slice, ends: &mut Vec<u32>)
+fn keep_ends(rows: &[Row], slice: Slice, ends: &mut Vec<u32>)
     requires rules { (plan : PlanParts) × IsCuttable (record { plan = plan; rows = rows.now }) × (length ends.old.items ≡ length plan.program.reactions) }
     requires slice { IsSlice rows.now slice }
     ensures count { length ends.new.items ≡ length ends.old.items }
     ensures ends { AreEndsTo rows.now slice slice.end ends.new.items }
-    ensures others { AreEndsOver rows.now slice slice.end ends.old.items ends.new.items }
-    ensures none { AreNoneFrom slice.end ends.old.items → AreNoneFrom slice.end ends.new.items }
 {
     for place in slice.first..slice.end {
         let row = row_at(rows, place);

@@ -1,10 +1,8 @@
 use Rattle.std.proofs.Common.{◌≡◌, ℕ, ◌+◌, ◌<◌, List, length, refl, sym, ap, ◌∙◌, subst, arith}
 use Rattle.lft_lists.proofs.Places.{length_written}
 use Rattle.lft_presence.proofs.Lists.{not_true}
-use Rattle.lft_rows.specs.Marks.{AreNoneFrom}
-use Rattle.lft_slices.specs.Pieces.{AreEndsTo, AreEndsOver}
-use Rattle.lft_rows.proofs.Marked.{none_written}
-use Rattle.lft_slices.proofs.Piecing.{ends_stay, ends_more, over_stay, over_more}
+use Rattle.lft_slices.specs.Pieces.{AreEndsTo}
+use Rattle.lft_slices.proofs.Piecing.{ends_stay, ends_more}
 use Rattle.lft_slices.proofs.pieces.keep_ends.Goals as goal
 use Rattle.lft_slices.proofs.pieces.keep_ends.Goals.{then-is_end, else-is_end}
 
@@ -22,13 +20,9 @@ loop-place-preserved c =
       | then-is_end w ↦ record {
         count = ap (λ v. length v.items) w.ends-is ∙ length_written c.loop-place.ends.items row.reaction i ∙ long;
         ends = subst (λ (xs : List ℕ). AreEndsTo t s (i + 1) xs) (sym (ap (λ v. v.items) w.ends-is)) (ends_more rules.0 t rules.1 s c.requires.slice i row c.row_at-row.ensures (omega arith) (omega arith) c.loop-place.ends.items (omega arith) (w.if-is_end.ensures.0 refl) c.loop-place.invariant.ends);
-        others = subst (λ (xs : List ℕ). AreEndsOver t s (i + 1) c.args.ends.now.items xs) (sym (ap (λ v. v.items) w.ends-is)) (over_more rules.0 t rules.1 s c.requires.slice i row c.row_at-row.ensures (omega arith) (omega arith) c.args.ends.now.items c.loop-place.ends.items (omega arith) (w.if-is_end.ensures.0 refl) c.loop-place.invariant.others);
-        none = λ h. subst (λ (xs : List ℕ). AreNoneFrom s.end xs) (sym (ap (λ v. v.items) w.ends-is)) (none_written s.end c.loop-place.ends.items row.reaction i (omega arith) (omega arith) (c.loop-place.invariant.none h));
       }
       | else-is_end w ↦ record {
         count = ap (λ v. length v.items) w.ends-is ∙ long;
         ends = subst (λ (xs : List ℕ). AreEndsTo t s (i + 1) xs) (sym (ap (λ v. v.items) w.ends-is)) (ends_stay rules.0 t rules.1 s c.requires.slice i row c.row_at-row.ensures (omega arith) (omega arith) c.loop-place.ends.items (λ e. not_true (w.if-is_end.ensures.1 e)) c.loop-place.invariant.ends);
-        others = subst (λ (xs : List ℕ). AreEndsOver t s (i + 1) c.args.ends.now.items xs) (sym (ap (λ v. v.items) w.ends-is)) (over_stay rules.0 t rules.1 s c.requires.slice i row c.row_at-row.ensures (omega arith) (omega arith) c.args.ends.now.items c.loop-place.ends.items c.loop-place.invariant.others);
-        none = λ h. subst (λ (xs : List ℕ). AreNoneFrom s.end xs) (sym (ap (λ v. v.items) w.ends-is)) (c.loop-place.invariant.none h);
       }
     ]
