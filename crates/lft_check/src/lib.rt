@@ -1,13 +1,13 @@
 #![tactic(auto)]
 //! The verdict on a trace.
 
-mod carry;
+mod ancestors;
 mod examine;
 mod fault;
 mod judging;
 mod ranks;
+mod sets;
 mod shares;
-mod upstream;
 mod verdict;
 mod watch;
 

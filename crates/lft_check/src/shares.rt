@@ -3,9 +3,11 @@
 ghost use Rattle.std.specs.Prelude.{◌≡◌, ℕ, ◌<◌, ◌≤◌, length, Some, Err, IfOk, IfErr, OnOk, slice_get};
 ghost use Rattle.lft_presence.specs.Clashes.{IsClash};
 ghost use Rattle.lft_slices.specs.Slices.{AreSlices};
+ghost use Rattle.lft_check.specs.Sets.{AreAncestors};
 ghost use Rattle.lft_check.specs.Verdicts.{LeastOf, BreachIn};
 ghost use Rattle.lft_check.specs.Shares.{share_start, IsLeastOfShare, AreShares, IsFound, AreOk};
 
+use crate::ancestors::Ancestors;
 use crate::judging::{first_in, lesser};
 use crate::watch::Watch;
 use lft_lists::item_at;
@@ -32,12 +34,14 @@ fn share_begins(tags: usize, workers: usize, worker: usize) -> usize
 fn examine_share<W: Watch>(
     alloc: Global,
     sliced: &Sliced,
+    ancestors: &Ancestors,
     watch: &W,
     slices: &[Slice],
     bound: Option<Tag>,
     worker: usize,
     workers: usize,
 ) -> Found
+    requires ancestors { AreAncestors sliced.now.plan.program ancestors.now }
     requires slices { AreSlices sliced.now.rows slices.now }
     requires bound { IsClash sliced.now bound }
     requires workers { (worker < workers) × (workers ≤ 64) }
@@ -47,7 +51,7 @@ fn examine_share<W: Watch>(
     sliced.keeps();
     let low = share_begins(slices.len(), workers, worker);
     let high = share_begins(slices.len(), workers, worker + 1);
-    first_in(alloc, sliced, watch, slices, bound, low, high)
+    first_in(alloc, sliced, ancestors, watch, slices, bound, low, high)
 }
 
 /// What each of several workers found, each in a thread of its own.
@@ -55,11 +59,13 @@ fn examine_shares<W: Watch, R: Threads + Sync>(
     rt: &R,
     alloc: Global,
     sliced: &Sliced,
+    ancestors: &Ancestors,
     watch: &W,
     slices: &[Slice],
     bound: Option<Tag>,
     workers: usize,
 ) -> Result<Vec<Found>, NoMemory>
+    requires ancestors { AreAncestors sliced.now.plan.program ancestors.now }
     requires slices { AreSlices sliced.now.rows slices.now }
     requires bound { IsClash sliced.now bound }
     requires workers { (1 < workers) × (workers ≤ 64) }
@@ -70,9 +76,13 @@ fn examine_shares<W: Watch, R: Threads + Sync>(
         alloc,
         workers,
         &|worker: usize| -> Found
-            requires { AreSlices sliced.now.rows slices.now × IsClash sliced.now bound × (worker < workers) × (workers ≤ 64) }
+            requires { AreAncestors sliced.now.plan.program ancestors.now × AreSlices sliced.now.rows slices.now × IsClash sliced.now bound × (worker < workers) × (workers ≤ 64) }
             ensures { IfOk result (IsLeastOfShare sliced.entry.now slices.entry.now bound workers worker) }
-        { examine_share(alloc, sliced, watch, slices, bound, worker, workers) },
+        {
+            examine_share(
+                alloc, sliced, ancestors, watch, slices, bound, worker, workers,
+            )
+        },
     ) else {
         return Err(NoMemory);
     };
@@ -100,17 +110,19 @@ pub(crate) fn examine_shared<W: Watch, R: Threads + Sync>(
     rt: &R,
     alloc: Global,
     sliced: &Sliced,
+    ancestors: &Ancestors,
     watch: &W,
     slices: &[Slice],
     bound: Option<Tag>,
     workers: usize,
 ) -> Result<Option<Breach>, NoMemory>
+    requires ancestors { AreAncestors sliced.now.plan.program ancestors.now }
     requires slices { AreSlices sliced.now.rows slices.now }
     requires bound { IsClash sliced.now bound }
     requires workers { (1 < workers) × (workers ≤ 64) }
     ensures { IfOk result (LeastOf (BreachIn sliced.now slices.now bound 0 (length slices.now))) }
 {
-    let found = examine_shares(rt, alloc, sliced, watch, slices, bound, workers)?;
+    let found = examine_shares(rt, alloc, sliced, ancestors, watch, slices, bound, workers)?;
     let least = least_found(found.as_slice())?;
     Ok(least)
 }
