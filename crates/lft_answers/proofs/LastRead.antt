@@ -1,11 +1,5 @@
 -- What steps read last, one step after another.
-use Rattle.std.proofs.Common.{◌≡◌, ℕ, ◌+◌, ◌==◌, ◌⊎◌, inl, inr, List, take, refl, sym, ap, ◌∙◌, Some, None, Bool, true, false, cond, slice_get, eq-eqb}
-use Rattle.std.specs.Ordering.{is_eq, nat_cmp}
-use Rattle.std.specs.declared.cmp.Ordering.{Ordering}
-use Rattle.std.specs.declared.cmp.Ordering.TheVariants.{Less, Equal, Greater}
-use Rattle.std.proofs.lemmas.Bool.{cases_eq, eqb-true}
-use Rattle.std.specs.Cmp.{nat_cmp_is}
-use Rattle.std.proofs.lemmas.Map.Lookups.{exact_unsigned}
+use Rattle.std.proofs.Common.{◌≡◌, ℕ, ◌+◌, List, take, refl, sym, ap, ◌∙◌, Some, None, Bool, true, false, cond, slice_get}
 use Rattle.lft_flat.specs.declared.parts.Name.{Name}
 use Rattle.lft_flat.specs.declared.parts.Value.{Value}
 use Rattle.lft_trace.specs.declared.row.Step.{Step}
@@ -13,23 +7,6 @@ use Rattle.lft_model.specs.Runs.{same_name, value_read, read_of}
 use Rattle.lft_answers.specs.Readings.{last_of, read_as, AreReadBy, IsPut}
 use Rattle.lft_answers.specs.declared.readings.Readings.{Readings}
 use Rattle.lft_answers.proofs.Stepping.{last_stays, last_changes}
-
-unequal : (r : Ordering) → (r ≡ Equal → ⊥) → is_eq r ≡ false
-unequal Less d = refl
-unequal Equal d = absurd (d refl)
-unequal Greater d = refl
-
-is_false : (b : Bool) → (b ≡ true → ⊥) → b ≡ false
-is_false true d = absurd (d refl)
-is_false false d = refl
-
--- the order of numbers tells their equality
-pub same_key : (p q : ℕ) → is_eq (nat_cmp p q) ≡ (q == p)
-same_key p q = go (cases_eq p q)
-  where
-    go : (p ≡ q) ⊎ (p ≡ q → ⊥) → is_eq (nat_cmp p q) ≡ (q == p)
-    go (inl z) = ap is_eq (sym (nat_cmp_is p q Equal z)) ∙ sym (eq-eqb q p (sym z))
-    go (inr d) = unequal (nat_cmp p q) (λ z. d (exact_unsigned p q z)) ∙ sym (is_false (q == p) (λ z. d (sym (eqb-true q p z))))
 
 -- one step more, which reads or doesn't
 module _ (steps : List Step) (i : ℕ) (s : Step) (here : slice_get steps i ≡ Some s) where

@@ -1,12 +1,12 @@
 -- What precedes each reaction, along the levels.
-use Rattle.std.proofs.Common.{◌≡◌, ◌≢◌, ℕ, zero, suc, ◌+◌, ◌/◌, ◌<◌, ◌≤◌, ◌⊎◌, inl, inr, List, [], length, replicate, refl, sym, ap, ◌∙◌, subst, arith, Some, slice_get, slice_set, Contains}
+use Rattle.std.proofs.Common.{◌≡◌, ◌≢◌, ℕ, zero, suc, ◌+◌, ◌/◌, ◌<◌, ◌≤◌, ◌⊎◌, inl, inr, List, length, refl, sym, ap, ◌∙◌, subst, arith, Some, slice_get, slice_set, Contains}
 use Rattle.std.specs.Prelude.{◌↔◌}
 use Rattle.std.proofs.lemmas.Bool.{cases_lt}
 use native.Mathlib.Decide.{ℕ_discrete}
 use Rattle.lft_flat.specs.Parts.{Parts}
 use Rattle.lft_graph.specs.Precedence.{Direct, Precedes}
 use Rattle.lft_graph.specs.Graph.{GraphParts, IsGraphOf}
-use Rattle.lft_lists.proofs.Places.{contains_at, at_contains, get_there, same_at, get_same, length_same, get_write_cases, length_written}
+use Rattle.lft_lists.proofs.Places.{contains_at, at_contains, get_there, same_at, get_write_cases, length_written}
 use Rattle.lft_model.proofs.Places.{slice_get_within}
 use Rattle.lft_check.specs.Sets.{Has, AreAncestors, HaveRoom, IsUnder, IsUnion}
 
@@ -20,9 +20,6 @@ precedes_known program a b (Precedes.one d) = direct_known program _ _ d
 precedes_known program a b (Precedes.more d p) = direct_known program _ _ d
 
 -- the union, one member more
-pub union_begin : (list : List ℕ) (sets : List (List ℕ)) (set : List ℕ) → ((r : ℕ) → Has set r → ⊥) → IsUnion list 0 sets set
-union_begin list sets set none a = (λ h. absurd (none a h), λ u. let l : u.0 < 0 = u.2 in absurd (omega arith))
-
 pub union_more : (list : List ℕ) (sets : List (List ℕ)) (k b : ℕ) (own old with more : List ℕ) → slice_get list k ≡ Some b → slice_get sets b ≡ Some own → ((r : ℕ) → Has with r ↔ ((r ≡ b) ⊎ Has old r)) → ((r : ℕ) → Has more r ↔ (Has with r ⊎ Has own r)) → IsUnion list k sets old → IsUnion list (k + 1) sets more
 union_more list sets k b own old with more is_b is_own inserted added so_far a = (λ h. out ((added a).0 h), λ u. back u (ℕ_discrete u.0 k))
   where
@@ -51,15 +48,6 @@ pub record AreAncestorsTo (program : Parts) (order : List ℕ) (k : ℕ) (sets :
   pub as_long : length sets ≡ length program.reactions
   pub room : HaveRoom (length sets) sets
   pub right : (j r : ℕ) (set : List ℕ) → j < k → slice_get order j ≡ Some r → slice_get sets r ≡ Some set → (a : ℕ) → Has set a ↔ Precedes program a r
-
-pub ancestors_begin : (program : Parts) (order : List ℕ) (n : ℕ) → n ≡ length program.reactions → AreAncestorsTo program order 0 (replicate n [])
-ancestors_begin program order n e = record { as_long = length_same n [] ∙ e; room = room; right = λ j r set l p q. absurd (omega arith) }
-  where
-    none : List (List ℕ)
-    none = replicate n []
-
-    room : HaveRoom (length none) none
-    room r set q = let z : set ≡ [] = get_same n r [] set q in let l : length set ≡ 0 = ap length z in omega arith
 
 module _ (program : Parts) (graph : GraphParts) (is_graph : IsGraphOf program graph) where
   many : length graph.levels ≡ length program.reactions

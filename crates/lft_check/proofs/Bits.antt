@@ -1,5 +1,5 @@
 -- Sets by bits of words.
-use Rattle.std.proofs.Common.{◌≡◌, ℕ, zero, suc, ◌+◌, ◌*◌, ◌/◌, ◌%◌, ◌^◌, ◌<◌, ◌≤◌, ◌⊎◌, inl, inr, List, [], ◌∷◌, length, replicate, get_or, min, max, Some, refl, sym, ap, ◌∙◌, subst, arith}
+use Rattle.std.proofs.Common.{◌≡◌, ℕ, zero, suc, ◌+◌, ◌*◌, ◌/◌, ◌%◌, ◌^◌, ◌<◌, ◌≤◌, ◌⊎◌, inl, inr, List, [], ◌∷◌, length, get_or, min, max, Some, refl, sym, ap, ◌∙◌, subst, arith}
 use Rattle.std.specs.Prelude.{◌↔◌, bit_and, bit_or, slice_set, slice_index}
 use Rattle.std.specs.Int.{bit_at}
 use Rattle.std.proofs.lemmas.List.{get_or-set_same, get_or-set_other}
@@ -13,15 +13,6 @@ use Rattle.lft_check.specs.Sets.{Has}
 -- the word at a place that is there
 pub word_at : (words : List ℕ) (k word : ℕ) → k < length words → word ≡ get_or words k word → slice_index words k ≡ word
 word_at words k word there is = get_or_from_slice_get words k word 0 (slice_get-get_or words k word there ∙ ap Some (sym is))
-
--- nothing is in a set of words that are 0
-zeros : (n k : ℕ) → slice_index (replicate n 0) k ≡ 0
-zeros zero k = refl
-zeros (suc n) zero = refl
-zeros (suc n) (suc k) = zeros n k
-
-pub none_in : (n r : ℕ) → Has (replicate n 0) r → ⊥
-none_in n r has = let z : bit_at (slice_index (replicate n 0) (r / 64)) (r % 64) ≡ 0 = ap (λ w. bit_at w (r % 64)) (zeros n (r / 64)) ∙ bit_at-zero (r % 64) in omega arith
 
 -- a bit of one of two words
 either : (a b i : ℕ) → bit_at (bit_or a b) i ≡ 1 ↔ ((bit_at a i ≡ 1) ⊎ (bit_at b i ≡ 1))
