@@ -29,7 +29,7 @@ impl<'a> Refused<'a> {
     }
 
     /// The time with that place in the member, and where it stands.
-    fn time(
+    pub(crate) fn time(
         &self,
         site: Site<'a>,
         place: usize,

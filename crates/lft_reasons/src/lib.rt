@@ -3,11 +3,7 @@
 //! and what to write.
 
 mod candidates;
-mod census;
-mod cycle;
-mod delays;
 mod findings;
-mod loops;
 mod near;
 mod reason;
 mod reasons;
@@ -15,8 +11,7 @@ mod recursion;
 mod refused;
 mod tell;
 mod unknown;
-mod wiring;
+mod whole;
 mod words;
 
-pub use loops::tell_loop;
 pub use tell::tell_cause;

@@ -17,14 +17,6 @@ pub(crate) struct Reason {
     pub ways: String,
 }
 
-/// Puts the pieces behind the text.
-pub(crate) fn push_pieces(out: &mut String, pieces: &[&str]) -> Result<(), NoMemory> {
-    for piece in pieces {
-        out.push_str(*piece)?;
-    }
-    Ok(())
-}
-
 impl Reason {
     /// The sentence that begins so.
     pub(crate) fn of(alloc: Global, words: &str) -> Result<Reason, NoMemory> {

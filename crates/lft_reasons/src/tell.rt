@@ -1,11 +1,15 @@
 //! Why a program with a tree is refused, for people.
 
-ghost use Rattle.std.specs.Prelude.{IfOk, IfSome};
-ghost use Rattle.lft_refusals.specs.Refusals.{HasTree};
+ghost use Rattle.std.specs.Prelude.{◌≡◌, ◌⊎◌, IfOk, IfSome, IsTrue, codes, string_bytes};
+ghost use Rattle.lft_tree.specs.View.{tree_view};
+ghost use Rattle.lft_scope.specs.Causes.{IsFirst, causes};
+ghost use Rattle.lft_program.specs.Faults.{number_of as the_number_of};
+ghost use Rattle.lft_reasons.specs.Reasons.{BeginsThere, IsToldOf, SayPlace};
 
 use crate::reason::Reason;
 use crate::refused::Refused;
 use lft_places::{Source, Spot};
+use lft_program::{ProgramFault, flatten};
 use lft_refusals::{place_of, push_line, push_place};
 use lft_scope::members;
 use lft_syntax::{LexFault, SyntaxFault, Tokens, lex, parse};
@@ -58,18 +62,23 @@ fn push_spot(
     }
 }
 
-/// Puts where it is behind the text.
-fn push_start(out: &mut String, text: &[u8], spot: Option<Spot>) -> Result<(), NoMemory> {
+/// Where it is.
+fn start_of(alloc: Global, text: &[u8], spot: Option<Spot>) -> Result<String, NoMemory>
+    ensures { IfOk result (λ words. SayPlace text.now (string_bytes words) ⊎ (string_bytes words ≡ codes "Program: ")) }
+{
+    let mut out = String::new(alloc);
     match spot {
-        Some(spot) if spot.start <= text.len() => push_place(out, place_of(text, spot.start)),
-        _ => Ok(out.push_str("Program: ")?),
+        Some(spot) if spot.start <= text.len() => {
+            push_place(&mut out, place_of(text, spot.start))?;
+        }
+        _ => out.push_str("Program: ")?,
     }
+    Ok(out)
 }
 
-/// The reason in lines.
-fn lines(alloc: Global, text: &[u8], reason: &Reason) -> Result<String, NoMemory> {
+/// What is behind the place.
+fn rest_of(alloc: Global, text: &[u8], reason: &Reason) -> Result<String, NoMemory> {
     let mut out = String::new(alloc);
-    push_start(&mut out, text, reason.at)?;
     out.push_str(reason.said.as_str())?;
     out.push_str(".\n")?;
     push_spot(alloc, &mut out, text, reason.before)?;
@@ -78,12 +87,57 @@ fn lines(alloc: Global, text: &[u8], reason: &Reason) -> Result<String, NoMemory
     Ok(out)
 }
 
+/// The reason in lines.
+fn lines(alloc: Global, text: &[u8], reason: &Reason) -> Result<String, NoMemory>
+    ensures { IfOk result (λ words. BeginsThere text.now (string_bytes words)) }
+{
+    let rest = rest_of(alloc, text, reason)?;
+    let mut out = start_of(alloc, text, reason.at)?;
+    out.push_str(rest.as_str())?;
+    Ok(out)
+}
+
+/// The number of the cause for which a program is refused.
+fn number_of(fault: ProgramFault) -> u32
+    ensures { result ≡ the_number_of fault }
+{
+    match fault {
+        ProgramFault::NoMain => 1,
+        ProgramFault::TwoMains => 2,
+        ProgramFault::DuplicateName => 3,
+        ProgramFault::UnknownReactor => 4,
+        ProgramFault::RecursiveReactor => 5,
+        ProgramFault::UnknownName => 6,
+        ProgramFault::WrongPlace => 7,
+        ProgramFault::MainHasPorts => 8,
+        ProgramFault::TwoSources => 9,
+        ProgramFault::ConnectionCycle => 10,
+        ProgramFault::WidthMismatch => 11,
+        ProgramFault::NoTrigger => 12,
+        ProgramFault::DuplicateInput => 13,
+        ProgramFault::DelayTooLong => 14,
+        ProgramFault::TooMany => 15,
+        ProgramFault::NoMemory => 16,
+    }
+}
+
+/// Whether the tree is refused for the cause with that number.
+fn is_refused_for(alloc: Global, ast: &Ast, cause: u32) -> Result<bool, NoMemory>
+    ensures { IfOk result (λ b. IsTrue b → IsFirst (causes (tree_view ast.now)) cause) }
+{
+    match flatten(alloc, ast) {
+        Ok(_) => Ok(false),
+        Err(ProgramFault::NoMemory) => Err(NoMemory),
+        Err(fault) => Ok(number_of(fault) == cause),
+    }
+}
+
 /// Why a program that has a tree is refused by the cause with that number, in lines that end with a line
 /// feed: the place, what is wrong there, the line with a mark, and what to write. Where something stands
-/// twice, both lines. Of several places the first in the text. None where the text has no tree, and where no
-/// cause has that number.
+/// twice, both lines. Of several places the first in the text. None where the text has no tree, and where it
+/// isn't refused for that cause.
 pub fn tell_cause(alloc: Global, text: &[u8], cause: u32) -> Result<Option<String>, NoMemory>
-    ensures { IfOk result (λ told. IfSome told (λ _. HasTree text.now)) }
+    ensures { IfOk result (λ told. IfSome told (λ words. IsToldOf text.now cause (string_bytes words))) }
 {
     let tokens = match lex(alloc, text) {
         Ok(tokens) => tokens,
@@ -95,6 +149,9 @@ pub fn tell_cause(alloc: Global, text: &[u8], cause: u32) -> Result<Option<Strin
         Err(SyntaxFault::NoMemory) => return Err(NoMemory),
         Err(_) => return Ok(None),
     };
+    if !is_refused_for(alloc, &ast, cause)? {
+        return Ok(None);
+    }
     match reason_of(alloc, text, &tokens, &ast, cause)? {
         Some(reason) => {
             let words = lines(alloc, text, &reason)?;

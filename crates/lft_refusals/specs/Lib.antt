@@ -1,2 +1,4 @@
 pub mod Places
+pub mod Quotes
 pub mod Refusals
+pub mod Tables

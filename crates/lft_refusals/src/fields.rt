@@ -1,10 +1,14 @@
 //! Which field of a record is wrong, and what it may be.
 
+ghost use Rattle.std.specs.Prelude.{IfSome, codes};
+ghost use Rattle.csv.specs.Records.{fields_of};
+ghost use Rattle.lft_refusals.specs.Tables.{IsField, IsFilled, IsFilledThere, IsNoNumber, IsNoNumberThere, NamesNone};
+
 use crate::record::field;
 use csv::ByteRecord;
 use lft_flat::{Found, Program};
 use lft_tag::{MAX_MICRO, MAX_TIME};
-use lft_trace::names::read_reaction;
+use lft_trace::names::{read_reaction, read_thing};
 use lft_trace::number::{read_number, read_number_or_zero, read_value};
 
 /// A field that is wrong: its place in the record, counted from 0, its name, what it isn't, and what
@@ -23,7 +27,9 @@ const NANOSECONDS: &str =
     "Times and delays are whole nanoseconds, of at most 10^18. They count from the start of the run.";
 
 /// The first field of a row of a trace that is no number, if one isn't.
-pub(crate) fn number_of_trace(fields: &ByteRecord) -> Option<Wrong> {
+pub(crate) fn number_of_trace(fields: &ByteRecord) -> Option<Wrong>
+    ensures { IfSome result (IsNoNumber (fields_of fields.now)) }
+{
     let has_value = has_value(field(fields, 0));
     if read_number(field(fields, 1), u32::MAX as u64).is_none() {
         return Some(wrong_at(
@@ -51,7 +57,9 @@ pub(crate) fn number_of_trace(fields: &ByteRecord) -> Option<Wrong> {
 const VALUES: &str = "A value is a whole number of 64 bits with a sign, or nothing.";
 
 /// The first field of a record of external inputs that is no number, if one isn't.
-pub(crate) fn number_of_externals(fields: &ByteRecord) -> Option<Wrong> {
+pub(crate) fn number_of_externals(fields: &ByteRecord) -> Option<Wrong>
+    ensures { IfSome result (IsNoNumberThere (fields_of fields.now)) }
+{
     if read_number(field(fields, 1), MAX_TIME).is_none() {
         return Some(wrong_at(1, "time", "is no time", NANOSECONDS));
     }
@@ -64,27 +72,35 @@ pub(crate) fn number_of_externals(fields: &ByteRecord) -> Option<Wrong> {
     None
 }
 
-/// The field of a row of a trace that names nothing that it may name.
-pub(crate) fn name_of_trace(program: &Program, fields: &ByteRecord) -> Wrong {
+/// The field of a row of a trace that names nothing that it may name, if one does.
+pub(crate) fn name_of_trace(program: &Program, fields: &ByteRecord) -> Option<Wrong>
+    ensures { IfSome result (NamesNone program.now (fields_of fields.now)) }
+{
     let reaction = field(fields, 4);
     if read_reaction(program, None, reaction).is_none() {
-        return Wrong {
+        return Some(Wrong {
             at: 4,
             name: "reaction",
             is_no: "is no reaction of the program",
             help: of_reaction(reaction),
-        };
+        });
     }
-    Wrong {
+    let name = field(fields, 5);
+    if read_thing(program, name).is_some() {
+        return None;
+    }
+    Some(Wrong {
         at: 5,
         name: "name",
         is_no: "is no port and no action of the program",
-        help: of_name(program.find_bytes(field(fields, 5)), field(fields, 5)),
-    }
+        help: of_name(program.find_bytes(name), name),
+    })
 }
 
 /// The field of a record of external inputs that names no physical action.
-pub(crate) fn name_of_externals(program: &Program, fields: &ByteRecord) -> Wrong {
+pub(crate) fn name_of_externals(program: &Program, fields: &ByteRecord) -> Wrong
+    ensures { IsField result 3 (codes "name") }
+{
     let name = field(fields, 3);
     let help = match program.find_bytes(name) {
         Some(Found::Action(_)) => {
@@ -101,14 +117,15 @@ pub(crate) fn name_of_externals(program: &Program, fields: &ByteRecord) -> Wrong
 }
 
 /// The field of a row of a trace that is to be empty.
-pub(crate) fn filled_of_trace(fields: &ByteRecord) -> Wrong {
-    if !has_value(field(fields, 0)) {
-        if !field(fields, 5).is_empty() {
-            return wrong_at(5, "name", "stands where nothing may", EMPTY);
-        }
-        if !field(fields, 6).is_empty() {
-            return wrong_at(6, "value", "stands where nothing may", EMPTY);
-        }
+pub(crate) fn filled_of_trace(fields: &ByteRecord) -> Wrong
+    ensures { IsFilled (fields_of fields.now) result }
+{
+    let has_none = !has_value(field(fields, 0));
+    if has_none && !field(fields, 5).is_empty() {
+        return wrong_at(5, "name", "stands where nothing may", EMPTY);
+    }
+    if has_none && !field(fields, 6).is_empty() {
+        return wrong_at(6, "value", "stands where nothing may", EMPTY);
     }
     wrong_at(
         7,
@@ -121,18 +138,20 @@ pub(crate) fn filled_of_trace(fields: &ByteRecord) -> Wrong {
 const EMPTY: &str = "Only `read`, `write` and `schedule` have a name and a value.";
 
 /// The field of a record of external inputs that is to be empty.
-pub(crate) fn filled_of_externals(fields: &ByteRecord) -> Wrong {
-    let at = if field(fields, 3).is_empty() { 4 } else { 3 };
-    let name = if at == 3 { "name" } else { "value" };
-    wrong_at(
-        at,
-        name,
-        "stands where nothing may",
-        "A stop has neither name nor value.",
-    )
+pub(crate) fn filled_of_externals(fields: &ByteRecord) -> Wrong
+    ensures { IsFilledThere (fields_of fields.now) result }
+{
+    let help = "A stop has neither name nor value.";
+    if field(fields, 3).is_empty() {
+        wrong_at(4, "value", "stands where nothing may", help)
+    } else {
+        wrong_at(3, "name", "stands where nothing may", help)
+    }
 }
 
-fn wrong_at(at: u8, name: &'static str, is_no: &'static str, help: &'static str) -> Wrong {
+fn wrong_at(at: u8, name: &'static str, is_no: &'static str, help: &'static str) -> Wrong
+    ensures { IsField result at name.now }
+{
     Wrong {
         at,
         name,

@@ -12,7 +12,7 @@ mod record;
 mod refusal;
 mod tables;
 mod ways;
-pub mod words;
+mod words;
 
 pub use place::{Place, place_of};
 pub use program_text::tell_program;

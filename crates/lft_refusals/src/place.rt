@@ -31,7 +31,7 @@ pub(crate) fn begins_letter(byte: u8) -> bool
 }
 
 /// How many letters begin in the bytes.
-fn letters(bytes: &[u8]) -> usize
+pub(crate) fn letters(bytes: &[u8]) -> usize
     ensures { result ≡ count_by begins_letter bytes.now }
 {
     bytes.iter().filter(|byte| begins_letter(**byte)).count()

@@ -1,26 +1,45 @@
 //! A place of a program's text for people: its line and column, and the line with a mark.
 
-ghost use Rattle.std.specs.Prelude.{◌≤◌, length};
+ghost use Rattle.std.specs.Prelude.{◌≡◌, ◌≤◌, ◌++◌, OnOk, length, min, slice_range, string_bytes};
 ghost use Rattle.lft_refusals.specs.Places.{IsPlace};
+ghost use Rattle.lft_refusals.specs.Quotes.{blank_margin, blanks_below, margin, marked_line, marks, place_words, quoted, trimmed};
 
 use crate::place::Place;
-use crate::words::{
-    push_blank_margin, push_blanks, push_bytes, push_margin, push_marks, push_number,
-};
+use crate::words::{push_blank_margin, push_blanks_below, push_bytes, push_margin, push_marks};
 use lft_tag::NoMemory;
+use lft_words::push_number;
 use std::alloc::Global;
 
 /// A line of more bytes isn't quoted.
 const LONGEST_LINE: usize = 200;
 
 /// Puts the line and the column behind the text.
-pub fn push_place(out: &mut String, place: Place) -> Result<(), NoMemory> {
+pub fn push_place(out: &mut String, place: Place) -> Result<(), NoMemory>
+    ensures { OnOk result (string_bytes out.new ≡ string_bytes out.old ++ place_words place) }
+{
     out.push_str("Program, line ")?;
-    push_number(out, place.line)?;
+    push_number(out, place.line as u64)?;
     out.push_str(", column ")?;
-    push_number(out, place.column)?;
+    push_number(out, place.column as u64)?;
     out.push_str(": ")?;
     Ok(())
+}
+
+/// Puts a line of that number behind the text.
+fn push_quoted(alloc: Global, out: &mut String, number: usize, line: &[u8]) -> Result<(), NoMemory>
+    ensures { OnOk result (string_bytes out.new ≡ string_bytes out.old ++ (margin number ++ quoted (trimmed line.now))) }
+{
+    push_margin(out, number)?;
+    push_bytes(alloc, out, line.trim_ascii_end())
+}
+
+/// Puts a mark below a line of that number behind the text, at the bytes that follow those before.
+fn push_below(out: &mut String, number: usize, before: &[u8], marked: &[u8]) -> Result<(), NoMemory>
+    ensures { OnOk result (string_bytes out.new ≡ string_bytes out.old ++ (blank_margin number ++ blanks_below before.now ++ marks marked.now)) }
+{
+    push_blank_margin(out, number)?;
+    push_blanks_below(out, before)?;
+    push_marks(out, marked)
 }
 
 /// Puts the line of a place behind the text, and below it a mark at the bytes from there up to the end. A
@@ -35,17 +54,19 @@ pub fn push_line(
 ) -> Result<(), NoMemory>
     requires place { IsPlace text.now start place }
     requires inside { (start ≤ end) × (end ≤ length text.now) }
+    ensures { OnOk result (string_bytes out.new ≡ string_bytes out.old ++ marked_line text.now place start end) }
 {
-    let line = &text[place.start..place.end];
-    if line.len() > LONGEST_LINE {
+    if LONGEST_LINE < place.end - place.start {
         return Ok(());
     }
-    push_margin(out, place.line)?;
-    push_bytes(alloc, out, line.trim_ascii_end())?;
-    push_blank_margin(out, place.line)?;
-    push_blanks(out, &text[place.start..start])?;
-    let end = if end < place.end { end } else { place.end };
-    push_marks(out, &text[start..end])?;
+    push_quoted(alloc, out, place.line, &text[place.start..place.end])?;
+    let last = end.min(place.end);
+    push_below(
+        out,
+        place.line,
+        &text[place.start..start],
+        &text[start..last],
+    )?;
     out.push_str("\n")?;
     Ok(())
 }

@@ -1,6 +1,11 @@
 //! One record of a table, with a mark below a field.
 
-use crate::words::{push_blank_margin, push_blanks, push_bytes, push_margin, push_marks};
+ghost use Rattle.std.specs.Prelude.{◌≡◌, IfOk, IfSome};
+ghost use Rattle.csv.specs.Records.{fields_of};
+ghost use Rattle.lft_trace.specs.Records.{records_of};
+ghost use Rattle.lft_refusals.specs.Tables.{HasRecord, field_at};
+
+use crate::words::{push_blank_margin, push_blanks_below, push_bytes, push_margin, push_marks};
 use csv::ByteRecord;
 use lft_tag::NoMemory;
 use lft_trace::records::{open, read_next};
@@ -14,7 +19,12 @@ pub(crate) fn record_of(
     alloc: Global,
     text: &[u8],
     number: u32,
-) -> Result<Option<ByteRecord>, NoMemory> {
+) -> Result<Option<ByteRecord>, NoMemory>
+    ensures { IfOk result (λ found. IfSome found (λ r. HasRecord (records_of text.now) number (fields_of r))) }
+{
+    if number == 0 {
+        return Ok(None);
+    }
     let mut reader = open(alloc, text);
     let mut fields = ByteRecord::new(alloc);
     for _before in 0..number {
@@ -40,7 +50,9 @@ fn joined(alloc: Global, fields: &ByteRecord) -> Result<Vec<u8>, NoMemory> {
 }
 
 /// The field at a place, counted from 0; nothing where there is none.
-pub(crate) fn field(fields: &ByteRecord, at: usize) -> &[u8] {
+pub(crate) fn field(fields: &ByteRecord, at: usize) -> &[u8]
+    ensures { result.now ≡ field_at (fields_of fields.now) at }
+{
     match fields.get(at) {
         Some(field) => field,
         None => &[],
@@ -76,7 +88,7 @@ pub(crate) fn push_record(
     push_bytes(alloc, out, bytes.as_slice())?;
     push_blank_margin(out, number as usize)?;
     for before in 0..at {
-        push_blanks(out, field(fields, before))?;
+        push_blanks_below(out, field(fields, before))?;
         out.push_str(" ")?;
     }
     push_marks(out, field(fields, at))?;

@@ -1,16 +1,23 @@
 //! Why a table is refused, for people.
 
+ghost use Rattle.std.specs.Prelude.{◌≡◌, ◌++◌, [], ℕ, List, Some, false, ◌⊎◌, IfOk, IfSome, OnOk, codes, string_bytes};
+ghost use Rattle.csv.specs.Records.{fields_of};
+ghost use Rattle.lft_trace.specs.Faults.{is_told};
+ghost use Rattle.lft_trace.specs.Records.{records_of};
+ghost use Rattle.lft_refusals.specs.Tables.{HasRecord, IsWrong, IsWrongIn, IsWrongThere, NamesField, field_line, field_words, line_words, word_of};
+
 use crate::fields::{
     Wrong, filled_of_externals, filled_of_trace, name_of_externals, name_of_trace,
     number_of_externals, number_of_trace,
 };
 use crate::foreign::{EXTERNALS, TRACE, of_text};
 use crate::record::{field, push_record, record_of};
-use crate::words::{push_bytes, push_number, push_way};
+use crate::words::{push_bytes, push_way};
 use csv::ByteRecord;
 use lft_flat::Program;
 use lft_tag::NoMemory;
 use lft_trace::TraceFault;
+use lft_words::push_number;
 use std::alloc::Global;
 
 /// The table that was read. A trace is called by a word, since there may be two.
@@ -21,7 +28,9 @@ enum Table {
 }
 
 impl Table {
-    fn word(self) -> &'static str {
+    fn word(self) -> &'static str
+        ensures { result.now ≡ word_of self }
+    {
         match self {
             Table::Trace(word) => word,
             Table::Externals => "External inputs",
@@ -53,7 +62,10 @@ pub fn tell_trace(
     text: &[u8],
     fault: TraceFault,
     word: &'static str,
-) -> Result<String, NoMemory> {
+) -> Result<String, NoMemory>
+    ensures untold { IfOk result (λ words. is_told fault ≡ false → string_bytes words ≡ []) }
+    ensures field { IfOk result (λ words. (n : ℕ) → field_line fault ≡ Some n → (string_bytes words ≡ []) ⊎ NamesField (records_of text.now) word.now n (IsWrong program.now fault) (string_bytes words)) }
+{
     tell(alloc, program, text, fault, Table::Trace(word))
 }
 
@@ -63,20 +75,96 @@ pub fn tell_externals(
     program: &Program,
     text: &[u8],
     fault: TraceFault,
-) -> Result<String, NoMemory> {
+) -> Result<String, NoMemory>
+    ensures untold { IfOk result (λ words. is_told fault ≡ false → string_bytes words ≡ []) }
+    ensures field { IfOk result (λ words. (n : ℕ) → field_line fault ≡ Some n → (string_bytes words ≡ []) ⊎ NamesField (records_of text.now) (codes "External inputs") n (IsWrongThere fault) (string_bytes words)) }
+{
     tell(alloc, program, text, fault, Table::Externals)
 }
 
+/// Why a table is refused with this fault.
 fn tell(
     alloc: Global,
     program: &Program,
     text: &[u8],
     fault: TraceFault,
     table: Table,
+) -> Result<String, NoMemory>
+    ensures untold { IfOk result (λ words. is_told fault ≡ false → string_bytes words ≡ []) }
+    ensures field { IfOk result (λ words. (n : ℕ) → field_line fault ≡ Some n → (string_bytes words ≡ []) ⊎ NamesField (records_of text.now) (word_of table) n (IsWrongIn program.now table fault) (string_bytes words)) }
+{
+    match fault {
+        TraceFault::NotCsv | TraceFault::NoMemory => Ok(String::new(alloc)),
+        TraceFault::BadEvent(line)
+        | TraceFault::BadNumber(line)
+        | TraceFault::UnknownName(line)
+        | TraceFault::FieldInPlace(line) => tell_field(alloc, program, text, line, fault, table),
+        TraceFault::BadFieldCount(line)
+        | TraceFault::DuplicateExternal(line)
+        | TraceFault::TwoStops(line) => tell_record(alloc, text, line, fault, table),
+        TraceFault::BadHeader | TraceFault::NoStop | TraceFault::TooManyRows => {
+            tell_whole(alloc, text, fault, table)
+        }
+    }
+}
+
+/// The same of a fault of one field.
+fn tell_field(
+    alloc: Global,
+    program: &Program,
+    text: &[u8],
+    line: u32,
+    fault: TraceFault,
+    table: Table,
+) -> Result<String, NoMemory>
+    ensures { IfOk result (λ words. (string_bytes words ≡ []) ⊎ NamesField (records_of text.now) (word_of table) line (IsWrongIn program.now table fault) (string_bytes words)) }
+{
+    let Some(fields) = record_of(alloc, text, line)? else {
+        return Ok(String::new(alloc));
+    };
+    let Some(wrong) = wrong_field(program, &fields, fault, table) else {
+        return Ok(String::new(alloc));
+    };
+    let mut out = String::new(alloc);
+    push_field(&mut out, line, table, wrong)?;
+    let rest = wrong_words(alloc, line, &fields, wrong)?;
+    out.push_str(rest.as_str())?;
+    Ok(out)
+}
+
+/// The same of a fault of a record as a whole.
+fn tell_record(
+    alloc: Global,
+    text: &[u8],
+    line: u32,
+    fault: TraceFault,
+    table: Table,
+) -> Result<String, NoMemory> {
+    let mut out = String::new(alloc);
+    let Some(fields) = record_of(alloc, text, line)? else {
+        return Ok(out);
+    };
+    let words = match fault {
+        TraceFault::DuplicateExternal(_) => "that action has an event at that tag already.",
+        TraceFault::TwoStops(_) => "a stop stands before it already.",
+        _ => {
+            push_count(alloc, &mut out, line, &fields, table)?;
+            return Ok(out);
+        }
+    };
+    push_whole(alloc, &mut out, line, &fields, table, words)?;
+    Ok(out)
+}
+
+/// The same of a fault of no record.
+fn tell_whole(
+    alloc: Global,
+    text: &[u8],
+    fault: TraceFault,
+    table: Table,
 ) -> Result<String, NoMemory> {
     let mut out = String::new(alloc);
     match fault {
-        TraceFault::BadHeader => push_header(alloc, &mut out, text, table)?,
         TraceFault::NoStop => {
             out.push_str("External inputs: there is no record stop,TIME,MICROSTEP,,\n")?;
         }
@@ -84,18 +172,7 @@ fn tell(
             out.push_str(table.word())?;
             out.push_str(": a table has at most 4,000,000 records.\n")?;
         }
-        TraceFault::NotCsv | TraceFault::NoMemory => {}
-        TraceFault::BadFieldCount(line)
-        | TraceFault::BadEvent(line)
-        | TraceFault::BadNumber(line)
-        | TraceFault::UnknownName(line)
-        | TraceFault::FieldInPlace(line)
-        | TraceFault::DuplicateExternal(line)
-        | TraceFault::TwoStops(line) => {
-            if let Some(fields) = record_of(alloc, text, line)? {
-                push_fault(alloc, &mut out, program, line, &fields, fault, table)?;
-            }
-        }
+        _ => push_header(alloc, &mut out, text, table)?,
     }
     Ok(out)
 }
@@ -130,46 +207,21 @@ fn first_line(text: &[u8]) -> &[u8] {
     text
 }
 
-/// Puts behind the text what is wrong with a record.
-fn push_fault(
-    alloc: Global,
-    out: &mut String,
-    program: &Program,
-    line: u32,
-    fields: &ByteRecord,
-    fault: TraceFault,
-    table: Table,
-) -> Result<(), NoMemory> {
-    match fault {
-        TraceFault::BadFieldCount(_) => push_count(alloc, out, line, fields, table),
-        TraceFault::DuplicateExternal(_) => {
-            let words = "that action has an event at that tag already.";
-            push_whole(alloc, out, line, fields, table, words)
-        }
-        TraceFault::TwoStops(_) => {
-            let words = "a stop stands before it already.";
-            push_whole(alloc, out, line, fields, table, words)
-        }
-        _ => match wrong_field(program, fields, fault, table) {
-            Some(wrong) => push_wrong(alloc, out, line, fields, table, wrong),
-            None => Ok(()),
-        },
-    }
-}
-
 /// The field that the fault is about.
 fn wrong_field(
     program: &Program,
     fields: &ByteRecord,
     fault: TraceFault,
     table: Table,
-) -> Option<Wrong> {
+) -> Option<Wrong>
+    ensures { IfSome result (IsWrongIn program.now table fault (fields_of fields.now)) }
+{
     match (fault, table) {
         (TraceFault::BadEvent(_), Table::Trace(_)) => Some(EVENT),
         (TraceFault::BadEvent(_), Table::Externals) => Some(KIND),
         (TraceFault::BadNumber(_), Table::Trace(_)) => number_of_trace(fields),
         (TraceFault::BadNumber(_), Table::Externals) => number_of_externals(fields),
-        (TraceFault::UnknownName(_), Table::Trace(_)) => Some(name_of_trace(program, fields)),
+        (TraceFault::UnknownName(_), Table::Trace(_)) => name_of_trace(program, fields),
         (TraceFault::UnknownName(_), Table::Externals) => Some(name_of_externals(program, fields)),
         (TraceFault::FieldInPlace(_), Table::Trace(_)) => Some(filled_of_trace(fields)),
         (TraceFault::FieldInPlace(_), Table::Externals) => Some(filled_of_externals(fields)),
@@ -192,10 +244,13 @@ const KIND: Wrong = Wrong {
 };
 
 /// Puts the table and the line of a record behind the text.
-fn push_line(out: &mut String, line: u32, table: Table) -> Result<(), NoMemory> {
+fn push_line(out: &mut String, line: u32, table: Table) -> Result<(), NoMemory>
+    ensures { OnOk result (string_bytes out.new ≡ string_bytes out.old ++ line_words (word_of table) line) }
+{
     out.push_str(table.word())?;
     out.push_str(", line ")?;
-    push_number(out, line as usize)
+    push_number(out, u64::from(line))?;
+    Ok(())
 }
 
 /// Puts behind the text that a record has another number of fields.
@@ -208,7 +263,7 @@ fn push_count(
 ) -> Result<(), NoMemory> {
     push_line(out, line, table)?;
     out.push_str(" has ")?;
-    push_number(out, fields.len())?;
+    push_number(out, fields.len() as u64)?;
     out.push_str(" fields, and ")?;
     out.push_str(table.count())?;
     out.push_str(" are wanted.\n")?;
@@ -240,26 +295,33 @@ fn push_whole(
     push_record(alloc, out, line, fields, 0)
 }
 
-/// Puts behind the text which field is wrong, what stands there and what may.
-fn push_wrong(
-    alloc: Global,
-    out: &mut String,
-    line: u32,
-    fields: &ByteRecord,
-    table: Table,
-    wrong: Wrong,
-) -> Result<(), NoMemory> {
+/// Puts which field is wrong behind the text.
+fn push_field(out: &mut String, line: u32, table: Table, wrong: Wrong) -> Result<(), NoMemory>
+    ensures { OnOk result (string_bytes out.new ≡ string_bytes out.old ++ field_words (word_of table) line wrong) }
+{
     push_line(out, line, table)?;
     out.push_str(", field ")?;
-    push_number(out, wrong.at as usize + 1)?;
+    push_number(out, u64::from(wrong.at) + 1)?;
     out.push_str(" (")?;
     out.push_str(wrong.name)?;
     out.push_str("): ")?;
-    push_found(alloc, out, field(fields, wrong.at as usize))?;
+    Ok(())
+}
+
+/// What stands in a field that is wrong, and what may.
+fn wrong_words(
+    alloc: Global,
+    line: u32,
+    fields: &ByteRecord,
+    wrong: Wrong,
+) -> Result<String, NoMemory> {
+    let mut out = String::new(alloc);
+    push_found(alloc, &mut out, field(fields, wrong.at as usize))?;
     out.push_str(wrong.is_no)?;
     out.push_str(".\n")?;
-    push_record(alloc, out, line, fields, wrong.at as usize)?;
-    push_way(out, wrong.help)
+    push_record(alloc, &mut out, line, fields, wrong.at as usize)?;
+    push_way(&mut out, wrong.help)?;
+    Ok(out)
 }
 
 /// Puts what stands in a field behind the text.

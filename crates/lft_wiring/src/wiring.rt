@@ -1,8 +1,9 @@
-//! The instances of a program and the connections between their ports, for what is said of chains.
+//! The instances of a program and the connections between their ports.
 //!
 //! The instances are listed as they are walked. For each port at which a connection ends stand the port
 //! where it begins, its delay, and its place in the text.
 
+use crate::joins::{Join, Port};
 use lft_places::MemberPlace;
 use lft_scope::times::nanoseconds;
 use lft_tag::NoMemory;
@@ -11,48 +12,36 @@ use std::alloc::Global;
 use std::collections::HashMap;
 
 /// More instances than a program may have aren't walked.
-const MOST_INSTANCES: usize = 10_000;
+pub(crate) const MOST_INSTANCES: usize = 10_000;
 
-/// A port, or a parameter: the number of its instance, and its name there.
+/// The number of an instance, and a name there.
 pub(crate) type Named<'a> = (usize, &'a str);
 
 /// A reactor, and its place in the file.
 #[derive(Clone, Copy)]
-pub(crate) struct Placed<'a> {
+pub struct Placed<'a> {
     pub reactor: &'a Reactor,
     pub place: usize,
 }
 
 /// An instance: its reactor, its name, and the number of the one that contains it.
 #[derive(Clone, Copy)]
-struct Inside<'a> {
-    of: Placed<'a>,
-    name: &'a str,
-    parent: usize,
+pub struct Inside<'a> {
+    pub of: Placed<'a>,
+    pub name: &'a str,
+    pub parent: usize,
 }
 
-/// A single connection, by the port at which it ends.
-#[derive(Clone, Copy)]
-pub(crate) struct Join<'a> {
-    pub from: Named<'a>,
-    pub at: MemberPlace,
-    /// The place of its destination among those of the connection, and that name.
-    pub place: usize,
-    pub destination: &'a Reference,
-    /// The delay as it is written, and in nanoseconds.
-    pub written: Option<&'a TimeExpression>,
-    pub delay: u64,
-}
-
-/// All instances, by what contains them and their names too, the values of their parameters, and the
-/// connections.
+/// The reactors of a file, all instances, by what contains them and their names too, the values of their
+/// parameters, and the connections.
 #[derive(Drop)]
-pub(crate) struct Wiring<'a> {
-    instances: Vec<Inside<'a>>,
+pub struct Wiring<'a> {
+    pub reactors: &'a [&'a Reactor],
+    pub instances: Vec<Inside<'a>>,
     children: HashMap<Named<'a>, usize>,
     values: HashMap<Named<'a>, u64>,
     joins: HashMap<Named<'a>, Join<'a>>,
-    pub ends: Vec<Named<'a>>,
+    pub(crate) ends: Vec<Port<'a>>,
 }
 
 /// The nanoseconds of a time; a time past the greatest counts as the greatest number.
@@ -73,14 +62,42 @@ fn given<'a>(given: &'a [Assignment], name: &str) -> Option<&'a TimeExpression> 
     None
 }
 
+/// The reactors that have a name, by name.
+fn by_name<'a>(
+    alloc: Global,
+    reactors: &'a [&'a Reactor],
+) -> Result<HashMap<&'a str, Placed<'a>>, NoMemory> {
+    let mut named = HashMap::new(alloc);
+    for place in 0..reactors.len() {
+        let reactor = reactors[place];
+        if let Some(name) = &reactor.name {
+            named.insert(name.as_str(), Placed { reactor, place })?;
+        }
+    }
+    Ok(named)
+}
+
+/// The first main reactor.
+pub(crate) fn main_of<'a>(reactors: &'a [&'a Reactor]) -> Option<Placed<'a>> {
+    for place in 0..reactors.len() {
+        let reactor = reactors[place];
+        if reactor.is_main {
+            return Some(Placed { reactor, place });
+        }
+    }
+    None
+}
+
 impl<'a> Wiring<'a> {
-    /// The wiring of the program with that main reactor, whose reactors have these names.
-    pub(crate) fn of(
-        alloc: Global,
-        main: Placed<'a>,
-        named: &HashMap<&'a str, Placed<'a>>,
-    ) -> Result<Wiring<'a>, NoMemory> {
+    /// The wiring of the program with these reactors, in the order of the file. None where none of them is a
+    /// main one.
+    pub fn of(alloc: Global, reactors: &'a [&'a Reactor]) -> Result<Option<Wiring<'a>>, NoMemory> {
+        let Some(main) = main_of(reactors) else {
+            return Ok(None);
+        };
+        let named = by_name(alloc, reactors)?;
         let mut wiring = Wiring {
+            reactors,
             instances: Vec::new(alloc),
             children: HashMap::new(alloc),
             values: HashMap::new(alloc),
@@ -93,9 +110,9 @@ impl<'a> Wiring<'a> {
             parent: 0,
         })?;
         wiring.add_values(0, main.reactor, 0, &[])?;
-        wiring.add_instances(named)?;
+        wiring.add_instances(&named)?;
         wiring.join_all()?;
-        Ok(wiring)
+        Ok(Some(wiring))
     }
 
     /// The nanoseconds of a time that stands in an instance.
@@ -168,11 +185,17 @@ impl<'a> Wiring<'a> {
     }
 
     /// The port that a name is in an instance.
-    fn port(&self, number: usize, name: &'a Reference) -> Option<Named<'a>> {
+    fn port(&self, number: usize, name: &'a Reference) -> Option<Port<'a>> {
         match &name.port {
-            None => Some((number, name.head.as_str())),
+            None => Some(Port {
+                instance: number,
+                name: name.head.as_str(),
+            }),
             Some(port) => match self.children.get(&(number, name.head.as_str())).copied() {
-                Some(child) => Some((child, port.as_str())),
+                Some(instance) => Some(Port {
+                    instance,
+                    name: port.as_str(),
+                }),
                 None => None,
             },
         }
@@ -196,13 +219,13 @@ impl<'a> Wiring<'a> {
                 if let (Some(from), Some(to)) = (from, to) {
                     let join = Join {
                         from,
+                        to,
+                        number,
                         at,
                         place,
-                        destination: &connection.destinations[place],
-                        written: connection.delay.as_ref(),
                         delay,
                     };
-                    self.joins.insert(to, join)?;
+                    self.joins.insert(to.key(), join)?;
                     self.ends.push(to)?;
                 }
             }
@@ -232,40 +255,7 @@ impl<'a> Wiring<'a> {
     }
 
     /// The connection that ends at a port, if one does.
-    pub(crate) fn joined(&self, port: Named<'a>) -> Option<Join<'a>> {
-        self.joins.get(&port).copied()
-    }
-
-    /// The names of the instances around a port, from its own up to `main`.
-    fn path(&self, alloc: Global, number: usize) -> Result<Vec<&'a str>, NoMemory> {
-        let mut names = Vec::new(alloc);
-        let mut at = number;
-        for _step in 0..MOST_INSTANCES {
-            if at >= self.instances.len() {
-                return Ok(names);
-            }
-            names.push(self.instances[at].name)?;
-            if at == 0 {
-                return Ok(names);
-            }
-            at = self.instances[at].parent;
-        }
-        Ok(names)
-    }
-
-    /// Puts the full name of a port behind the text.
-    pub(crate) fn push_port(
-        &self,
-        alloc: Global,
-        out: &mut String,
-        port: Named<'a>,
-    ) -> Result<(), NoMemory> {
-        let names = self.path(alloc, port.0)?;
-        for name in names.iter().rev() {
-            out.push_str(*name)?;
-            out.push_str(".")?;
-        }
-        out.push_str(port.1)?;
-        Ok(())
+    pub(crate) fn joined(&self, port: Port<'a>) -> Option<Join<'a>> {
+        self.joins.get(&port.key()).copied()
     }
 }

@@ -1,0 +1,132 @@
+//! What is said of a cause that the program shows as a whole: a loop of connections, a sum of delays, a limit
+//! that is passed.
+
+use crate::reason::Reason;
+use crate::refused::Refused;
+use itoa::Buffer;
+use lft_places::Spot;
+use lft_scope::kinds::Role;
+use lft_tag::NoMemory;
+use lft_wiring::{Excess, Join, Kind, Wiring, passed_limit};
+
+/// More ports of a loop aren't named.
+const MOST_NAMES: usize = 12;
+
+/// What there is too much of.
+fn kind_words(kind: Kind) -> &'static str {
+    match kind {
+        Kind::Instances => " instances",
+        Kind::Reactions => " reactions",
+        Kind::Ports => " ports",
+        Kind::Connections => " single connections",
+        Kind::Actions => " actions",
+        Kind::Timers => " timers",
+    }
+}
+
+impl<'a> Refused<'a> {
+    /// Where the name at which a single connection ends stands.
+    fn end_spot(&self, join: Join<'a>) -> Result<Option<Spot>, NoMemory> {
+        let Some(site) = self.site(join.at.reactor, join.at.member) else {
+            return Ok(None);
+        };
+        match self.name(site, Role::Destination, join.place)? {
+            Some((_, spot)) => Ok(spot),
+            None => Ok(None),
+        }
+    }
+
+    /// Where the delay of a single connection stands.
+    fn delay_spot(&self, join: Join<'a>) -> Result<Option<Spot>, NoMemory> {
+        let Some(site) = self.site(join.at.reactor, join.at.member) else {
+            return Ok(None);
+        };
+        match self.time(site, 0)? {
+            Some((_, spot)) => Ok(spot),
+            None => Ok(None),
+        }
+    }
+
+    /// The ports of a loop in the direction of the connections, from the end of the first one on.
+    fn ring_words(
+        &self,
+        wiring: &Wiring<'a>,
+        first: Join<'a>,
+        ring: &[Join<'a>],
+    ) -> Result<String, NoMemory> {
+        let mut out = String::new(self.alloc);
+        wiring.push_port(self.alloc, &mut out, first.to)?;
+        for (place, join) in ring.iter().rev().enumerate() {
+            out.push_str(" -> ")?;
+            if place >= MOST_NAMES {
+                out.push_str("..")?;
+                return Ok(out);
+            }
+            wiring.push_port(self.alloc, &mut out, join.to)?;
+        }
+        Ok(out)
+    }
+
+    /// Connections alone form a loop. The place is the end of one of them.
+    pub(crate) fn cycle(&self) -> Result<Option<Reason>, NoMemory> {
+        let Some(wiring) = Wiring::of(self.alloc, self.reactors)? else {
+            return Ok(None);
+        };
+        let Some(ring) = wiring.ring(self.alloc)? else {
+            return Ok(None);
+        };
+        let Some(first) = ring.first().copied() else {
+            return Ok(None);
+        };
+        let words = self.ring_words(&wiring, first, &ring)?;
+        let reason = Reason::of(self.alloc, "connections alone form a loop")?
+            .at(self.end_spot(first)?)
+            .way(words.as_str())?;
+        let way = "No delay breaks such a loop: a reaction has to stand in it.";
+        Ok(Some(reason.way(way)?))
+    }
+
+    /// The delays of a chain of connections sum to more than the greatest time. The place is the delay with
+    /// which they do.
+    pub(crate) fn long_chain(&self) -> Result<Option<Reason>, NoMemory> {
+        let Some(wiring) = Wiring::of(self.alloc, self.reactors)? else {
+            return Ok(None);
+        };
+        let Some(chain) = wiring.long_chain(self.alloc)? else {
+            return Ok(None);
+        };
+        let (Some(last), Some(first)) = (chain.first().copied(), chain.last().copied()) else {
+            return Ok(None);
+        };
+        let mut ports = String::new(self.alloc);
+        wiring.push_port(self.alloc, &mut ports, first.from)?;
+        ports.push_str(" to ")?;
+        wiring.push_port(self.alloc, &mut ports, last.to)?;
+        let reason = Reason::of(self.alloc, "the delays from ")?
+            .say(ports.as_str())?
+            .say(" sum to more than 10^18 nanoseconds")?
+            .at(self.delay_spot(last)?);
+        Ok(Some(reason.way("That is some 31 years. No chain of connections may delay longer.")?))
+    }
+
+    /// Which limit the program passes, and how many there are.
+    pub(crate) fn too_many(&self) -> Result<Option<Reason>, NoMemory> {
+        let Some(excess) = passed_limit(self.alloc, self.reactors)? else {
+            return Ok(None);
+        };
+        let (kind, count, limit) = match excess {
+            Excess::Counted { kind, count, limit } => (kind, count, limit),
+            Excess::Uncounted => {
+                let reason = "the program has more than 1000000 instances, and may have 10000";
+                return Ok(Some(Reason::of(self.alloc, reason)?));
+            }
+        };
+        let (mut counted, mut most) = (Buffer::new(), Buffer::new());
+        let reason = Reason::of(self.alloc, "the program has ")?
+            .say(counted.format(count))?
+            .say(kind_words(kind))?
+            .say(", and may have ")?
+            .say(most.format(limit))?;
+        Ok(Some(reason))
+    }
+}

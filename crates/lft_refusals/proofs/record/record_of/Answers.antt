@@ -1,0 +1,17 @@
+use Rattle.std.proofs.Common.{◌≡◌, ◌+◌, ◌-◌, ◌∷◌, drop, slice_get, sym, ap, ◌∙◌, arith}
+use Rattle.csv.specs.Records.{fields_of}
+use Rattle.lft_trace.specs.Records.{reader_left, records_of}
+use Rattle.lft_refusals.proofs.Drops.{first_left, left_more}
+use Rattle.lft_refusals.proofs.record.record_of.Goals as goal
+
+pub loop-before-preserved : goal.loop-before-preserved
+loop-before-preserved c =
+    let all = records_of c.args.text.now in
+    let n = c.loop-before._before in
+    let found = c.in-Ok-true.ensures.found c.in-Ok-true.field-0-test in
+    let left = sym c.loop-before.invariant.left ∙ found in
+    record {
+      plain = c.in-Ok-true.ensures.plain c.in-Ok-true.field-0-test;
+      left = sym (left_more all _ n _ left);
+      last = λ _. ap (λ m. slice_get all m) (omega arith) ∙ first_left all _ n _ left;
+    }

@@ -1,0 +1,16 @@
+#![tactic(auto)]
+//! What a program shows as a whole of a cause of refusal, and no single place of it: connections that alone
+//! form a loop, delays that sum to too much, a limit that is passed, and reactions that wait for one another.
+
+mod census;
+mod chains;
+mod joins;
+mod loops;
+mod naming;
+mod rings;
+mod wiring;
+
+pub use census::{Excess, Kind, passed_limit};
+pub use joins::{Join, Port};
+pub use loops::tell_loop;
+pub use wiring::{Inside, Placed, Wiring};
