@@ -1,9 +1,8 @@
 #![tactic(auto)]
 //! The tests of the calls on texts that need code: long texts and tables, many workers, readers and writers that
-//! are interrupted or fail, refused growths. What is data is a case of `lft_cases`.
+//! are interrupted or fail. What is data is a case of `lft_cases`, and refused growths stand in
+//! `lft_refused_tests`.
 
-#[cfg(test)]
-mod growths;
 #[cfg(test)]
 mod limits;
 #[cfg(test)]

@@ -1,0 +1,10 @@
+#![tactic(auto)]
+//! Tests in which memory is refused. They take all that the process can have, so they stand alone:
+//! under `rt try`, whose allocator is another one, they don't end.
+
+#[cfg(test)]
+mod hoard;
+#[cfg(test)]
+mod queues;
+#[cfg(test)]
+mod telling;
