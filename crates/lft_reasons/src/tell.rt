@@ -125,11 +125,13 @@ fn number_of(fault: ProgramFault) -> u32
 fn is_refused_for(alloc: Global, ast: &Ast, cause: u32) -> Result<bool, NoMemory>
     ensures { IfOk result (λ b. IsTrue b → IsFirst (causes (tree_view ast.now)) cause) }
 {
-    match flatten(alloc, ast) {
-        Ok(_) => Ok(false),
-        Err(ProgramFault::NoMemory) => Err(NoMemory),
-        Err(fault) => Ok(number_of(fault) == cause),
+    let Err(fault) = flatten(alloc, ast) else {
+        return Ok(false);
+    };
+    if fault == ProgramFault::NoMemory {
+        return Err(NoMemory);
     }
+    Ok(number_of(fault) == cause)
 }
 
 /// Why a program that has a tree is refused by the cause with that number, in lines that end with a line

@@ -1,3 +1,4 @@
+use Rattle.std.proofs.Common.{rules}
 use Rattle.lft_tree.specs.View.{tree_view}
 use Rattle.lft_reasons.proofs.tell.tell_cause.Goals as goal
 
