@@ -5,6 +5,10 @@
 #[cfg(test)]
 mod hoard;
 #[cfg(test)]
+mod plans;
+#[cfg(test)]
 mod queues;
 #[cfg(test)]
 mod telling;
+#[cfg(test)]
+mod texts;
