@@ -8,7 +8,11 @@ mod answers;
 #[cfg(test)]
 mod books;
 #[cfg(test)]
+mod closures;
+#[cfg(test)]
 mod fits;
+#[cfg(test)]
+mod plans;
 #[cfg(test)]
 mod queues;
 #[cfg(test)]

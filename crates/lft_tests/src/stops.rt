@@ -3,7 +3,7 @@
 ghost use Rattle.std.specs.Prelude.{◌≡◌, IfOk, length};
 
 use crate::answers::{PreparedBodies, done, put, schedule, write};
-use crate::texts::{AGAIN, AT_ONCE, plan};
+use crate::texts::{AGAIN, AT_ONCE, TWO, plan};
 use lft_model::Plan;
 use lft_pool::{Bodies, Done, Stop, record_run};
 use lft_tag::NoMemory;
@@ -190,5 +190,38 @@ fn stops_at_a_delay_past_the_limit(rt: HostRuntime) -> Result<(), Fail> {
     assert!(rt; reason.is_none() && rows.as_slice() == SCHEDULED);
     let (reason, rows) = recorded_again(&rt, rt.alloc(), longest + 1)?;
     assert!(rt; reason == Some(Stop::LimitTag) && rows.as_slice() == BEGUN);
+    Ok(())
+}
+
+/// One body for the first of two reactions, and two for the second.
+fn three_bodies(alloc: Global, plan: &Plan) -> Result<PreparedBodies, NoMemory>
+    ensures { IfOk result (λ bodies. length bodies ≡ length plan.now.program.reactions) }
+{
+    let mut bodies = PreparedBodies::new(alloc, plan.program())?;
+    put(&mut bodies, 0, done(alloc, 0, &[]))?;
+    put(&mut bodies, 1, done(alloc, 0, &[]))?;
+    put(&mut bodies, 1, done(alloc, 0, &[]))?;
+    Ok(bodies)
+}
+
+/// Whether a recording by so many workers is refused for that, without a row, and all three bodies
+/// are left.
+fn is_unbegun<R: Threads + Wait + Sync>(rt: &R, alloc: Global, workers: u32) -> Result<bool, Fail> {
+    let plan = plan(alloc, TWO, AT_ONCE)?;
+    let bodies = three_bodies(alloc, &plan)?;
+    match record_run(rt, alloc, plan, bodies, workers, 10) {
+        Ok(_) => Ok(false),
+        Err(stopped) => Ok(
+            stopped.reason == Stop::BadWorkers
+                && stopped.rows.as_slice().is_empty()
+                && stopped.left.left(0) == 1
+                && stopped.left.left(1) == 2,
+        ),
+    }
+}
+
+#[test]
+fn leaves_all_bodies_where_the_workers_are_bad(rt: HostRuntime) -> Result<(), Fail> {
+    assert!(rt; is_unbegun(&rt, rt.alloc(), 0)? && is_unbegun(&rt, rt.alloc(), 65)?);
     Ok(())
 }
