@@ -35,6 +35,9 @@ impl Code for Prepared {
     }
 }
 
+/// A body of whose answers nothing is asked.
+pub(crate) type PreparedBody = Body<AnyAnswer, Prepared>;
+
 /// Bodies of whose answers nothing is asked.
 pub(crate) type PreparedBodies = Bodies<AnyAnswer, Prepared>;
 
@@ -42,6 +45,26 @@ pub(crate) type PreparedBodies = Bodies<AnyAnswer, Prepared>;
 pub(crate) fn done(alloc: Global, state: i64, steps: &[Step]) -> Result<Done, NoMemory> {
     let steps = Steps::from_vec(Vec::from_slice(alloc, steps)?);
     Ok(Done { state, steps })
+}
+
+/// A body of the reaction with this answer.
+pub(crate) fn body(reaction: u32, answer: Result<Done, NoMemory>) -> PreparedBody
+    ensures { result ≡ reaction }
+{
+    Body::new(reaction, Prepared::new(answer))
+}
+
+/// Puts a body behind the others of its reaction.
+pub(crate) fn put_body<C: Code + Drop>(
+    bodies: &mut Bodies<AnyAnswer, C>,
+    body: Body<AnyAnswer, C>,
+) -> Result<(), NoMemory>
+    ensures { OnOk result (length bodies.new ≡ length bodies.old) }
+{
+    match bodies.put(body) {
+        Ok(()) => return Ok(()),
+        Err(_) => return Err(NoMemory),
+    }
 }
 
 /// Puts a body with this answer behind the others of its reaction.
@@ -52,10 +75,7 @@ pub(crate) fn put(
 ) -> Result<(), NoMemory>
     ensures { OnOk result (length bodies.new ≡ length bodies.old) }
 {
-    match bodies.put(Body::new(reaction, Prepared::new(answer))) {
-        Ok(()) => return Ok(()),
-        Err(_) => return Err(NoMemory),
-    }
+    put_body(bodies, body(reaction, answer))
 }
 
 /// The step that writes a number to a port.

@@ -1,9 +1,9 @@
 //! Rows and external inputs at each limit of what fits a program.
 
-use crate::texts::program;
+use crate::texts::{externals, program};
 use lft_flat::{Name, Program, Value};
-use lft_tag::Tag;
-use lft_trace::{Row, Rows, Step, read_externals};
+use lft_tag::{NoMemory, Tag};
+use lft_trace::{Row, Rows, Step, TraceFault};
 use std::alloc::Global;
 use std::test::Fail;
 
@@ -25,7 +25,7 @@ fn row_fits(
     tag: Tag,
     reaction: u32,
     step: Step,
-) -> Result<bool, Fail> {
+) -> Result<bool, NoMemory> {
     let row = Row {
         tag,
         worker: u32::MAX,
@@ -36,14 +36,13 @@ fn row_fits(
 }
 
 /// Whether a row of the first reaction with this step fits.
-fn step_fits(alloc: Global, program: &Program, step: Step) -> Result<bool, Fail> {
+fn step_fits(alloc: Global, program: &Program, step: Step) -> Result<bool, NoMemory> {
     row_fits(alloc, program, LAST, 0, step)
 }
 
-#[test]
-fn rows_fit_up_to_each_limit(rt: HostRuntime) -> Result<(), Fail> {
-    let alloc = rt.alloc();
-    let program = program(alloc, ONE)?;
+/// Whether a row fits at the greatest tag of the first reaction; at a later time; at a later
+/// microstep; of another reaction.
+fn fitting_rows(alloc: Global, program: &Program) -> Result<[bool; 4], NoMemory> {
     let late = Tag {
         time: LAST.time + 1,
         micro: 0,
@@ -52,47 +51,73 @@ fn rows_fit_up_to_each_limit(rt: HostRuntime) -> Result<(), Fail> {
         time: 0,
         micro: LAST.micro + 1,
     };
-    assert!(rt; row_fits(alloc, &program, LAST, 0, Step::Start)?);
-    assert!(rt; !row_fits(alloc, &program, late, 0, Step::Start)?);
-    assert!(rt; !row_fits(alloc, &program, far, 0, Step::Start)?);
-    assert!(rt; !row_fits(alloc, &program, LAST, 1, Step::Start)?);
+    Ok([
+        row_fits(alloc, program, LAST, 0, Step::Start)?,
+        row_fits(alloc, program, late, 0, Step::Start)?,
+        row_fits(alloc, program, far, 0, Step::Start)?,
+        row_fits(alloc, program, LAST, 1, Step::Start)?,
+    ])
+}
+
+#[test]
+fn rows_fit_up_to_each_limit(rt: HostRuntime) -> Result<(), Fail> {
+    let program = program(rt.alloc(), ONE)?;
+    assert!(rt; fitting_rows(rt.alloc(), &program)? == [true, false, false, false]);
     Ok(())
 }
 
 /// How many of the three kinds of steps that name a port or an action fit.
-fn fitting_steps(alloc: Global, program: &Program, name: Name) -> Result<u32, Fail> {
+fn fitting_kinds(alloc: Global, program: &Program, name: Name) -> Result<u32, NoMemory> {
     let read = step_fits(alloc, program, Step::Read(name, Value::Bare))?;
     let write = step_fits(alloc, program, Step::Write(name, Value::Bare))?;
     let schedule = step_fits(alloc, program, Step::Schedule(name, Value::Bare, LAST.time))?;
     Ok(u32::from(read) + u32::from(write) + u32::from(schedule))
 }
 
-#[test]
-fn steps_fit_up_to_each_limit(rt: HostRuntime) -> Result<(), Fail> {
-    let alloc = rt.alloc();
-    let program = program(alloc, ONE)?;
-    assert!(rt; fitting_steps(alloc, &program, Name::Port(0))? == 3);
-    assert!(rt; fitting_steps(alloc, &program, Name::Port(1))? == 0);
-    assert!(rt; fitting_steps(alloc, &program, Name::Action(0))? == 3);
-    assert!(rt; fitting_steps(alloc, &program, Name::Action(1))? == 0);
-    let long = Step::Schedule(Name::Action(0), Value::Bare, LAST.time + 1);
-    assert!(rt; !step_fits(alloc, &program, long)?);
-    Ok(())
+/// How many kinds fit of the port, of another port, of the action and of another action.
+fn fitting_steps(alloc: Global, program: &Program) -> Result<[u32; 4], NoMemory> {
+    Ok([
+        fitting_kinds(alloc, program, Name::Port(0))?,
+        fitting_kinds(alloc, program, Name::Port(1))?,
+        fitting_kinds(alloc, program, Name::Action(0))?,
+        fitting_kinds(alloc, program, Name::Action(1))?,
+    ])
 }
 
 #[test]
-fn four_million_rows_fit_and_no_more(rt: HostRuntime) -> Result<(), Fail> {
+fn steps_fit_up_to_each_limit(rt: HostRuntime) -> Result<(), Fail> {
     let program = program(rt.alloc(), ONE)?;
+    let long = Step::Schedule(Name::Action(0), Value::Bare, LAST.time + 1);
+    assert!(rt; fitting_steps(rt.alloc(), &program)? == [3, 0, 3, 0]);
+    assert!(rt; !step_fits(rt.alloc(), &program, long)?);
+    Ok(())
+}
+
+/// So many ends of runs at the greatest tag.
+fn ends(alloc: Global, count: usize) -> Result<Rows, NoMemory> {
     let row = Row {
         tag: LAST,
         worker: 0,
         reaction: 0,
         step: Step::End,
     };
-    let mut rows = Rows::from_vec(vec![in rt.alloc(); row; 4_000_001]?);
-    assert!(rt; !rows.fits(&program));
+    Ok(Rows::from_vec(vec![in alloc; row; count]?))
+}
+
+/// Whether one row more than 4,000,000 doesn't fit, and without it they do.
+fn fit_without_the_last(mut rows: Rows, program: &Program) -> bool {
+    if rows.fits(program) {
+        return false;
+    }
     rows.truncate(4_000_000);
-    assert!(rt; rows.fits(&program));
+    rows.fits(program)
+}
+
+#[test]
+fn four_million_rows_fit_and_no_more(rt: HostRuntime) -> Result<(), Fail> {
+    let program = program(rt.alloc(), ONE)?;
+    let rows = ends(rt.alloc(), 4_000_001)?;
+    assert!(rt; fit_without_the_last(rows, &program));
     Ok(())
 }
 
@@ -110,14 +135,24 @@ event,0,0,main.q,
 stop,0,0,,
 ";
 
+/// Whether the inputs that a table gives the program with two actions fit that with one, and that with
+/// two.
+fn inputs_fit(
+    alloc: Global,
+    one: &Program,
+    two: &Program,
+    table: &[u8],
+) -> Result<(bool, bool), TraceFault> {
+    let inputs = externals(alloc, two, table)?;
+    Ok((inputs.fits(one), inputs.fits(two)))
+}
+
 // what a reader gives has no tag past the limit, and too few events for theirs
 #[test]
 fn external_inputs_fit_a_program_that_has_their_actions(rt: HostRuntime) -> Result<(), Fail> {
     let alloc = rt.alloc();
     let (one, two) = (program(alloc, ONE_ACTION)?, program(alloc, TWO_ACTIONS)?);
-    let first = read_externals(alloc, &two, FIRST_AT_LAST)?;
-    let second = read_externals(alloc, &two, SECOND)?;
-    assert!(rt; first.fits(&one) && first.fits(&two));
-    assert!(rt; !second.fits(&one) && second.fits(&two));
+    assert!(rt; inputs_fit(alloc, &one, &two, FIRST_AT_LAST)? == (true, true));
+    assert!(rt; inputs_fit(alloc, &one, &two, SECOND)? == (false, true));
     Ok(())
 }

@@ -2,33 +2,49 @@
 
 ghost use Rattle.std.specs.Prelude.{◌≡◌, IfOk, OnOk, length};
 
-use crate::answers::{done, put, write};
-use crate::texts::{AT_ONCE, PIPE, TO_20_MS, TWO, plan};
-use lft_check::{NoWatch, Verdict, judge_alone};
+use crate::answers::{Prepared, PreparedBodies, done, put, put_body, write};
+use crate::texts::{AT_ONCE, PIPE, TO_20_MS, TWO, is_accepted, plan};
 use lft_model::{Plan, Reads};
-use lft_pool::{AnyAnswer, Bodies, Body, Code, Done, record_run};
+use lft_pool::{AnyAnswer, Bodies, Body, Code, Done, Recorded, Stop, record_run};
 use lft_tag::{NoMemory, Tag};
 use std::alloc::Global;
-use std::sync::Arc;
-use std::sync::atomic::{AtomicBool, Ordering};
+use std::sync::Wait;
+use std::sync::atomic::{AtomicU64, Ordering};
 use std::test::Fail;
 use std::thread;
+use std::thread::Threads;
+
+/// A recording of at most ten runs, or why it stopped. Nothing else is told of it: what knows the
+/// clauses of a recording is long to prove.
+pub(crate) fn record<C: Code + Drop + Send, R: Threads + Wait + Sync>(
+    rt: &R,
+    alloc: Global,
+    plan: Plan,
+    bodies: Bodies<AnyAnswer, C>,
+    workers: u32,
+) -> Result<Recorded<AnyAnswer, C>, Stop>
+    requires { length bodies ≡ length plan.program.reactions }
+{
+    match record_run(rt, alloc, plan, bodies, workers, 10) {
+        Ok(recorded) => Ok(recorded),
+        Err(stopped) => Err(stopped.reason),
+    }
+}
 
 /// A body that waits until another one has begun, and writes 1; -1 where the other one hadn't begun
 /// after so many turns.
 #[derive(Drop)]
-struct Meeting {
+struct Meeting<'a> {
     alloc: Global,
     port: u32,
-    mine: Arc<AtomicBool>,
-    others: Arc<AtomicBool>,
+    begun: &'a AtomicU64,
 }
 
-/// Tells by one flag that a body has begun, and waits for the other flag. 1 where it came, else -1.
-fn meet(mine: &AtomicBool, others: &AtomicBool) -> i64 {
-    mine.store(true, Ordering::SeqCst);
+/// Counts a body that has begun, and waits for a second one. 1 where it came, else -1.
+fn meet(begun: &AtomicU64) -> i64 {
+    begun.fetch_add(1, Ordering::SeqCst);
     for _ in 0..100_000_000u64 {
-        if others.load(Ordering::SeqCst) {
+        if begun.load(Ordering::SeqCst) > 1 {
             return 1;
         }
         thread::yield_now();
@@ -36,13 +52,13 @@ fn meet(mine: &AtomicBool, others: &AtomicBool) -> i64 {
     -1
 }
 
-impl Code for Meeting {
+impl Code for Meeting<'_> {
     ghost can_run = { λ _. Unit {0} };
 
     ghost gives = { λ _ _ _ _ _. Unit {0} };
 
     fn run(self, _tag: Tag, _state: i64, _reads: Reads) -> Result<Done, NoMemory> {
-        let came = meet(&self.mine, &self.others);
+        let came = meet(self.begun);
         done(self.alloc, came, &[write(self.port, came)])
     }
 
@@ -51,72 +67,77 @@ impl Code for Meeting {
     }
 }
 
-/// Puts the body behind the others of its reaction.
-fn put_meeting(
-    bodies: &mut Bodies<AnyAnswer, Meeting>,
-    reaction: u32,
-    meeting: Meeting,
-) -> Result<(), NoMemory>
-    ensures { OnOk result (length bodies.new ≡ length bodies.old) }
-{
-    match bodies.put(Body::new(reaction, meeting)) {
-        Ok(()) => return Ok(()),
-        Err(_) => return Err(NoMemory),
-    }
-}
-
 /// A body for each of the two reactions of `TWO`, each of which waits for the other one.
-fn meeting_bodies(alloc: Global, plan: &Plan) -> Result<Bodies<AnyAnswer, Meeting>, Fail>
+fn meeting_bodies<'a>(
+    alloc: Global,
+    plan: &Plan,
+    begun: &'a AtomicU64,
+) -> Result<Bodies<AnyAnswer, Meeting<'a>>, NoMemory>
     ensures { IfOk result (λ bodies. length bodies ≡ length plan.now.program.reactions) }
 {
-    let left = Arc::new(alloc, AtomicBool::new(false))?;
-    let right = Arc::new(alloc, AtomicBool::new(false))?;
     let p = Meeting {
         alloc,
         port: 0,
-        mine: left.clone()?,
-        others: right.clone()?,
+        begun,
     };
     let q = Meeting {
         alloc,
         port: 1,
-        mine: right,
-        others: left,
+        begun,
     };
     let mut bodies = Bodies::new(alloc, plan.program())?;
-    put_meeting(&mut bodies, 0, p)?;
-    put_meeting(&mut bodies, 1, q)?;
+    put_body(&mut bodies, Body::new(0, p))?;
+    put_body(&mut bodies, Body::new(1, q))?;
     Ok(bodies)
+}
+
+/// A recording of them by two workers.
+fn record_meeting<'a, R: Threads + Wait + Sync>(
+    rt: &R,
+    alloc: Global,
+    begun: &'a AtomicU64,
+) -> Result<Recorded<AnyAnswer, Meeting<'a>>, Fail> {
+    let plan = plan(alloc, TWO, AT_ONCE)?;
+    let bodies = meeting_bodies(alloc, &plan, begun)?;
+    Ok(record(rt, alloc, plan, bodies, 2)?)
 }
 
 // no clause says that a body runs while no lock is held, or that there are two workers: with a lock
 // round the bodies, or one worker for all, the first one waits in vain
 #[test]
 fn runs_two_bodies_at_once(rt: HostRuntime) -> Result<(), Fail> {
-    let alloc = rt.alloc();
-    let plan = plan(alloc, TWO, AT_ONCE)?;
-    let bodies = meeting_bodies(alloc, &plan)?;
-    let Ok(recorded) = record_run(&rt, alloc, plan, bodies, 2, 10) else {
-        panic!(rt; "stopped");
-    };
+    let begun = AtomicU64::new(0);
+    let recorded = record_meeting(&rt, rt.alloc(), &begun)?;
     assert!(rt; recorded.states.as_slice() == [(0, 1), (0, 1)].as_slice());
-    let verdict = judge_alone(alloc, &recorded.plan, &recorded.rows, &NoWatch)?;
-    assert!(rt; verdict == Verdict::Accepted { runs: 2, tags: 1 });
+    assert!(rt; is_accepted(rt.alloc(), &recorded.plan, &recorded.rows)?);
     Ok(())
+}
+
+/// Three bodies for the first reaction of `PIPE`.
+fn three_bodies(alloc: Global, plan: &Plan) -> Result<PreparedBodies, NoMemory>
+    ensures { IfOk result (λ bodies. length bodies ≡ length plan.now.program.reactions) }
+{
+    let mut bodies = PreparedBodies::new(alloc, plan.program())?;
+    put(&mut bodies, 0, done(alloc, 1, &[]))?;
+    put(&mut bodies, 0, done(alloc, 2, &[]))?;
+    put(&mut bodies, 0, done(alloc, 3, &[]))?;
+    Ok(bodies)
+}
+
+/// A recording of them by one worker.
+fn record_three<R: Threads + Wait + Sync>(
+    rt: &R,
+    alloc: Global,
+) -> Result<Recorded<AnyAnswer, Prepared>, Fail> {
+    let plan = plan(alloc, PIPE, TO_20_MS)?;
+    let bodies = three_bodies(alloc, &plan)?;
+    Ok(record(rt, alloc, plan, bodies, 1)?)
 }
 
 // no clause says which of a reaction's bodies meets which of its runs
 #[test]
 fn takes_bodies_in_the_order_in_which_they_were_put(rt: HostRuntime) -> Result<(), Fail> {
-    let alloc = rt.alloc();
-    let plan = plan(alloc, PIPE, TO_20_MS)?;
-    let mut bodies = Bodies::new(alloc, plan.program())?;
-    put(&mut bodies, 0, done(alloc, 1, &[]))?;
-    put(&mut bodies, 0, done(alloc, 2, &[]))?;
-    put(&mut bodies, 0, done(alloc, 3, &[]))?;
-    let Ok(recorded) = record_run(&rt, alloc, plan, bodies, 1, 10) else {
-        panic!(rt; "stopped");
-    };
+    let recorded = record_three(&rt, rt.alloc())?;
     assert!(rt; recorded.states.as_slice() == [(0, 1), (1, 2), (2, 3)].as_slice());
     Ok(())
 }
@@ -163,19 +184,32 @@ fn put_leaving(
 
 const TO_40_MS: &[u8] = b"kind,time,microstep,name,value\nstop,40000000,0,,\n";
 
-// no clause says where among a reaction's bodies those stand that are kept by their count
-#[test]
-fn takes_many_bodies_in_their_place(rt: HostRuntime) -> Result<(), Fail> {
-    let alloc = rt.alloc();
-    let plan = plan(alloc, PIPE, TO_40_MS)?;
+/// Eleven bodies for the first reaction of `PIPE`.
+fn many_bodies(alloc: Global, plan: &Plan) -> Result<Bodies<AnyAnswer, Leaving>, NoMemory>
+    ensures { IfOk result (λ bodies. length bodies ≡ length plan.now.program.reactions) }
+{
     let mut bodies = Bodies::new(alloc, plan.program())?;
     put_leaving(&mut bodies, Leaving { alloc, word: 1 }, 1)?;
     put_leaving(&mut bodies, Leaving { alloc, word: 9 }, 0)?;
     put_leaving(&mut bodies, Leaving { alloc, word: 2 }, 3)?;
     put_leaving(&mut bodies, Leaving { alloc, word: 3 }, 7)?;
-    let Ok(recorded) = record_run(&rt, alloc, plan, bodies, 1, 10) else {
-        panic!(rt; "stopped");
-    };
+    Ok(bodies)
+}
+
+/// A recording of five of them by one worker.
+fn record_many<R: Threads + Wait + Sync>(
+    rt: &R,
+    alloc: Global,
+) -> Result<Recorded<AnyAnswer, Leaving>, Fail> {
+    let plan = plan(alloc, PIPE, TO_40_MS)?;
+    let bodies = many_bodies(alloc, &plan)?;
+    Ok(record(rt, alloc, plan, bodies, 1)?)
+}
+
+// no clause says where among a reaction's bodies those stand that are kept by their count
+#[test]
+fn takes_many_bodies_in_their_place(rt: HostRuntime) -> Result<(), Fail> {
+    let recorded = record_many(&rt, rt.alloc())?;
     assert!(rt; recorded.states.as_slice() == [(0, 1), (1, 2), (2, 2), (2, 2), (2, 3)].as_slice());
     assert!(rt; recorded.left.left(0) == 6);
     Ok(())

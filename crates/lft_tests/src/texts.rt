@@ -1,12 +1,15 @@
-//! Programs and external inputs, their plans, and the tables of rows.
+//! Programs and external inputs, their plans, and what is asked of rows.
 
-ghost use Rattle.lft_trace.specs.Fits.{RowsFit};
+ghost use Rattle.std.specs.Prelude.{IfOk};
+ghost use Rattle.lft_trace.specs.Fits.{ExternalsFit, RowsFit};
 
+use lft_check::{NoWatch, Verdict, judge_alone};
 use lft_flat::Program;
 use lft_model::Plan;
 use lft_program::flatten;
 use lft_syntax::{lex, parse};
-use lft_trace::{Rows, read_externals, write_trace};
+use lft_tag::NoMemory;
+use lft_trace::{Externals, Rows, TraceFault, read_externals, write_trace};
 use std::alloc::Global;
 use std::test::Fail;
 
@@ -39,17 +42,59 @@ pub(crate) fn program(alloc: Global, text: &[u8]) -> Result<Program, Fail> {
     Ok(flatten(alloc, &tree)?)
 }
 
+/// The external inputs of a table. All that is told of them is what a plan needs: what knows more is
+/// long to prove.
+pub(crate) fn externals(
+    alloc: Global,
+    program: &Program,
+    text: &[u8],
+) -> Result<Externals, TraceFault>
+    ensures { IfOk result (λ inputs. ExternalsFit program.now inputs) }
+{
+    match read_externals(alloc, program, text) {
+        Ok(inputs) => Ok(inputs),
+        Err(fault) => Err(fault),
+    }
+}
+
 /// The plan of a program's text and of a table of external inputs.
-pub(crate) fn plan(alloc: Global, text: &[u8], externals: &[u8]) -> Result<Plan, Fail> {
+pub(crate) fn plan(alloc: Global, text: &[u8], table: &[u8]) -> Result<Plan, Fail> {
     let program = program(alloc, text)?;
-    let externals = read_externals(alloc, &program, externals)?;
+    let externals = externals(alloc, &program, table)?;
     Ok(Plan::new(alloc, program, externals)?)
 }
 
-/// Whether the rows of a plan are written as this table.
-pub(crate) fn is_table(alloc: Global, plan: &Plan, rows: &Rows, table: &[u8]) -> Result<bool, Fail>
+// the table of rows, of which nothing is known
+fn table_of(alloc: Global, plan: &Plan, rows: &Rows) -> Result<Vec<u8>, NoMemory>
     requires { RowsFit plan.now.program rows.now }
 {
-    let text = write_trace(alloc, plan.program(), rows)?;
+    write_trace(alloc, plan.program(), rows)
+}
+
+/// Whether the rows of a plan are written as this table.
+pub(crate) fn is_table(
+    alloc: Global,
+    plan: &Plan,
+    rows: &Rows,
+    table: &[u8],
+) -> Result<bool, NoMemory>
+    requires { RowsFit plan.now.program rows.now }
+{
+    let text = table_of(alloc, plan, rows)?;
     Ok(text.as_slice() == table)
+}
+
+// the verdict, of which nothing is known
+fn judged(alloc: Global, plan: &Plan, rows: &Rows) -> Result<Verdict, NoMemory>
+    requires { RowsFit plan.now.program rows.now }
+{
+    judge_alone(alloc, plan, rows, &NoWatch)
+}
+
+/// Whether the rows fit the plan's program, and judging accepts them as two runs at one tag.
+pub(crate) fn is_accepted(alloc: Global, plan: &Plan, rows: &Rows) -> Result<bool, NoMemory> {
+    if !rows.fits(plan.program()) {
+        return Ok(false);
+    }
+    Ok(judged(alloc, plan, rows)? == Verdict::Accepted { runs: 2, tags: 1 })
 }
