@@ -20,8 +20,8 @@ use Rattle.lft_recording.specs.Answering.{MayAll}
 use Rattle.lft_recording.specs.Collisions.{CollidesFirst, IsClean}
 use Rattle.lft_recording.specs.Starts.{MayStart, MayStartFirst, NoneMayStart, NothingLeft, SomethingLeft, IsAnyOpen, IsBusy}
 use Rattle.lft_events.specs.Events.{HasEvents}
-use Rattle.lft_agenda.specs.declared.found.Found.{Found}
-use Rattle.lft_agenda.specs.declared.found.Found.TheVariants.{Ready, Blocked, Nothing}
+use Rattle.lft_agenda.specs.declared.found.NextRun.{NextRun}
+use Rattle.lft_agenda.specs.declared.found.NextRun.TheVariants.{Ready, Blocked, Nothing}
 use Rattle.lft_agenda.specs.declared.open.OpenRun.{OpenRun}
 use Rattle.lft_agenda.specs.OpenRuns.{AreOpen}
 use Rattle.lft_agenda.specs.Waits.{IsLeastTag, IsTurnOf}
@@ -82,7 +82,7 @@ pub record MayFind (plan : PlanParts) (t : List Row) : Type 0 where
   pub quiet : OnlyEndedAnswer t
 
 -- what was found is what may start next
-abbrev pub Finds : PlanParts → List Row → Found → Type 0
+abbrev pub Finds : PlanParts → List Row → NextRun → Type 0
 Finds plan t (Ready g r) = MayStartFirst plan t g r
 Finds plan t Blocked = NoneMayStart plan t × IsAnyOpen t
 Finds plan t Nothing = NothingLeft plan t

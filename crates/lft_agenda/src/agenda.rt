@@ -14,7 +14,7 @@ ghost use Rattle.lft_agenda.specs.OpenRuns.{HasReads};
 
 use crate::advancing::advance;
 use crate::firings::Firings;
-use crate::found::Found;
+use crate::found::NextRun;
 use crate::open::{OpenRun, has_reads, is_busy, take_out};
 use crate::stopping::stop_with;
 use crate::telling::tell;
@@ -101,16 +101,16 @@ impl Agenda {
     }
 
     /// What may start next. It takes no memory, and looks at no row and at no event.
-    pub fn find(&self) -> Found
+    pub fn find(&self) -> NextRun
         ensures { (plan : PlanParts) (t : List RowOf) → MayFind plan t → IsAgenda plan t self.now → Finds plan t result }
     {
         if let Some(reaction) = self.turn.first() {
-            return Found::Ready(self.from, reaction);
+            return NextRun::Ready(self.from, reaction);
         }
         if self.runs.is_empty() {
-            return Found::Nothing;
+            return NextRun::Nothing;
         }
-        Found::Blocked
+        NextRun::Blocked
     }
 
     /// Whether the worker has an open run.

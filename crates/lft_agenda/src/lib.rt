@@ -13,5 +13,5 @@ mod turning;
 mod writing;
 
 pub use agenda::Agenda;
-pub use found::Found;
+pub use found::NextRun;
 pub use open::OpenRun;

@@ -7,17 +7,18 @@ use Rattle.std.proofs.lemmas.Bool.Decides.{nat_tests}
 use Rattle.std.proofs.lemmas.List.Elements.{filter_map-append}
 use Rattle.std.proofs.lemmas.Option.{slice_get-get_or, slice_get_within, get_or_from_slice_get}
 use Rattle.lft_flat.specs.Parts.{Parts}
-use Rattle.lft_trace.proofs.Zips.{long, pushed}
+use Rattle.lft_trace.proofs.Zips.{long}
 use Rattle.lft_cards.specs.CardTables.{AreTold, Begins, CardTable, CardsFail, FaultAt, IsAgain, IsCard, IsScript, entries_of, entry_bodies, entry_of, entry_state, entry_step, header}
 use Rattle.lft_cards.specs.Scripts.{Adds, blank, is_taken, with_entry}
 use Rattle.lft_cards.specs.declared.card.Card.{Card}
 use Rattle.lft_cards.specs.declared.card.CardStep.{CardStep}
-use Rattle.lft_cards.specs.declared.card.Entry.{Entry}
-use Rattle.lft_cards.specs.declared.card.Entry.TheVariants as entry
+use Rattle.lft_cards.specs.declared.card.CardEntry.{CardEntry}
+use Rattle.lft_cards.specs.declared.card.CardEntry.TheVariants as entry
 use Rattle.lft_cards.specs.declared.cards.Script.{Script}
 use Rattle.lft_cards.specs.declared.expression.Term.{Term}
 use Rattle.lft_cards.specs.declared.fault.CardFault.{CardFault}
 use Rattle.lft_cards.specs.declared.fault.CardFault.TheVariants as fault
+use Rattle.std.proofs.lemmas.Slice.Zip.{all_zipped_more}
 
 abbrev pub Texts : Type 0
 Texts = List (List (List ℕ))
@@ -48,7 +49,7 @@ start program records left scripts f e h l b = record {
 }
 
 -- the entries of a reaction, with those of one card more
-pub entries_more : (r : ℕ) (cards : List Card) (card : Card) (o : Option Entry) → entry_of r card ≡ o → entries_of r (cards ++ (card ∷ [])) ≡ entries_of r cards ++ option_to_list o
+pub entries_more : (r : ℕ) (cards : List Card) (card : Card) (o : Option CardEntry) → entry_of r card ≡ o → entries_of r (cards ++ (card ∷ [])) ≡ entries_of r cards ++ option_to_list o
 entries_more r cards card None e = filter_map-append (entry_of r) cards (card ∷ []) ∙ rw e refl
 entries_more r cards card (Some x) e = filter_map-append (entry_of r) cards (card ∷ []) ∙ rw e refl
 
@@ -62,7 +63,7 @@ none_taken : {X : Type 0} (o : Option X) → is_some o ≡ false → o ≡ None
 none_taken None h = refl
 none_taken (Some x) h = absurd (cc h)
 
-with_more : (entries : List Entry) (script : Script) (e : Entry) → IsScript entries script → is_taken script e ≡ false → IsScript (entries ++ (e ∷ [])) (with_entry script e)
+with_more : (entries : List CardEntry) (script : Script) (e : CardEntry) → IsScript entries script → is_taken script e ≡ false → IsScript (entries ++ (e ∷ [])) (with_entry script e)
 with_more entries script (entry.Bodies n) s free = record {
   bodies = filter_map-append entry_bodies entries (entry.Bodies n ∷ []) ∙ ap (λ (l : List ℕ). l ++ (n ∷ [])) (s.bodies ∙ ap option_to_list (none_taken script.bodies free));
   steps = filter_map-append entry_step entries (entry.Bodies n ∷ []) ∙ append-nil (filter_map entry_step entries) ∙ s.steps;
@@ -112,7 +113,7 @@ one_more program records rest scripts now line f card r is within a = record {
   first = r.first ++ (f ∷ []);
   cards = r.cards ++ (card ∷ []);
   under = r.under ∙ ap (λ (t : Texts). header ∷ t) (sym (append_assoc r.first (f ∷ []) rest));
-  each = pushed (IsCard program) r.first r.cards f card r.each is;
+  each = all_zipped_more (IsCard program) r.first r.cards f card r.each is;
   here = let e = length-append r.first (f ∷ []) in let h = r.here in omega (arith, e, h);
   told = told_more program r.cards scripts now card r.told (let l = r.told.long in omega (arith, l, within)) a;
 }
@@ -139,7 +140,7 @@ taken_again cards card script s taken = again card.entry refl taken
     some None l h e = absurd (cc h)
     some {X} (Some x) l h e = λ none. let q : ◌≡◌ {A = List X} [] (x ∷ []) = sym none ∙ e in cc q
 
-    again : (e : Entry) → card.entry ≡ e → is_taken script e ≡ true → IsAgain cards card
+    again : (e : CardEntry) → card.entry ≡ e → is_taken script e ≡ true → IsAgain cards card
     again (entry.Bodies n) e t = inl (n, ap entry_bodies e, some script.bodies (filter_map entry_bodies (entries_of card.reaction cards)) t s.bodies)
     again (entry.Step x) e t = absurd (cc t)
     again (entry.State terms) e t = inr (terms, ap entry_state e, some script.state (filter_map entry_state (entries_of card.reaction cards)) t s.state)

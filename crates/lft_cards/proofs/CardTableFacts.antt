@@ -8,19 +8,16 @@ use Rattle.std.proofs.lemmas.Option.{slice_get-get_or, slice_get_within}
 use Rattle.lft_flat.specs.Parts.{Parts}
 use Rattle.lft_flat.specs.Sound.{IsSound}
 use Rattle.lft_flat.specs.declared.found.Found.TheVariants as found
-use Rattle.lft_trace.proofs.Zips.{Parted, long, parted, same}
+use Rattle.lft_trace.proofs.Zips.{Parted, long, parted, same, same_rest}
 use Rattle.lft_cards.specs.CardTables.{AreTold, CardTable, CardsFail, FailsAt, FaultAt, HasTooMany, IsCard, IsScript, entries_of, entry_bodies, entry_of, entry_state, header}
 use Rattle.lft_cards.specs.Scripts.{blank}
 use Rattle.lft_cards.specs.declared.card.Card.{Card}
-use Rattle.lft_cards.specs.declared.card.Entry.{Entry}
+use Rattle.lft_cards.specs.declared.card.CardEntry.{CardEntry}
 use Rattle.lft_cards.specs.declared.cards.Script.{Script}
 use Rattle.lft_cards.specs.declared.fault.CardFault.{CardFault}
 use Rattle.lft_cards.specs.declared.fault.CardFault.TheVariants as fault
 use Rattle.lft_cards.proofs.CardFacts.{Texts, entries_more, is_own}
 use Rattle.lft_cards.proofs.CardsDiffer.{count_there, empty_there, kind_there, name_there, number_there, one_card, value_there}
-
-same_rest : (records a b : Texts) → records ≡ header ∷ a → records ≡ header ∷ b → a ≡ b
-same_rest records a b h k = let e : ◌≡◌ {A = Texts} (header ∷ a) (header ∷ b) = sym h ∙ k in cc e
 
 same_cards : (program : Parts) (rest : Texts) (a b : List Card) → IsSound program → AllZip (IsCard program) rest a → AllZip (IsCard program) rest b → a ≡ b
 same_cards program rest a b sound h k = same (IsCard program) (λ f x y p q. one_card program f x y sound p q) rest a b h k
@@ -31,7 +28,7 @@ one_item None (Some y) h = absurd (cc h)
 one_item (Some x) None h = absurd (cc h)
 one_item (Some x) (Some y) h = let e : x ≡ y = cc h in ap (λ z. Some z) e
 
-one_script : (entries : List Entry) (a b : Script) → IsScript entries a → IsScript entries b → a ≡ b
+one_script : (entries : List CardEntry) (a b : Script) → IsScript entries a → IsScript entries b → a ≡ b
 one_script entries a b x y =
     let bodies = one_item a.bodies b.bodies (sym x.bodies ∙ y.bodies) in
     let steps = sym x.steps ∙ y.steps in
@@ -50,7 +47,7 @@ same_items (x ∷ xs) (y ∷ ys) h each =
 
 pub one_table : (program : Parts) (records : Texts) (scripts other : List Script) → IsSound program → CardTable program records scripts → CardTable program records other → other ≡ scripts
 one_table program records scripts other sound t u =
-    let r : t.rest ≡ u.rest = same_rest records t.rest u.rest t.under u.under in
+    let r : t.rest ≡ u.rest = same_rest header records t.rest u.rest t.under u.under in
     let e : t.cards ≡ u.cards = same_cards program u.rest t.cards u.cards sound (rw r at t.each) u.each in
     let told : AreTold program u.cards scripts = rw e at t.told in
     let lengths : length other ≡ length scripts = u.told.long ∙ sym told.long in
@@ -68,7 +65,7 @@ two (a ∷ (b ∷ before)) more x (Some y) some h = cc h
 entries_split : (front back : List Card) (card : Card) → entries_of card.reaction (front ++ (card ∷ back)) ≡ entries_of card.reaction front ++ (card.entry ∷ entries_of card.reaction back)
 entries_split front back card = filter_map-append (entry_of card.reaction) front (card ∷ back) ∙ rw (is_own card.reaction card refl) refl
 
-not_again : {X : Type 0} (of : Entry → Option X) (front back : List Card) (card : Card) (x : X) (o : Option X) → of card.entry ≡ Some x → filter_map of (entries_of card.reaction front) ≢ []
+not_again : {X : Type 0} (of : CardEntry → Option X) (front back : List Card) (card : Card) (x : X) (o : Option X) → of card.entry ≡ Some x → filter_map of (entries_of card.reaction front) ≢ []
     → filter_map of (entries_of card.reaction (front ++ (card ∷ back))) ≡ option_to_list o → ⊥
 not_again of front back card x o e some h =
     let split = ap (filter_map of) (entries_split front back card) ∙ filter_map-append of (entries_of card.reaction front) (card.entry ∷ entries_of card.reaction back) in
@@ -105,7 +102,7 @@ faulty program records scripts line bad fault.NoMemory front back here sound t w
 
 two_faults : (program : Parts) (records : Texts) (e : CardFault) (scripts : List Script) → IsSound program → FailsAt program records e → CardTable program records scripts → ⊥
 two_faults program records e scripts sound f t =
-    let s : t.rest ≡ f.first ++ (f.bad ∷ f.more) = same_rest records t.rest (f.first ++ (f.bad ∷ f.more)) t.under f.begins.under in
+    let s : t.rest ≡ f.first ++ (f.bad ∷ f.more) = same_rest header records t.rest (f.first ++ (f.bad ∷ f.more)) t.under f.begins.under in
     let each : AllZip (IsCard program) (f.first ++ (f.bad ∷ f.more)) t.cards = rw s at t.each in
     let p : Parted (IsCard program) f.first f.bad t.cards = parted (IsCard program) f.first f.bad f.more t.cards each in
     let front : f.cards ≡ p.front = same_cards program f.first f.cards p.front sound f.begins.each p.each in
@@ -113,7 +110,7 @@ two_faults program records e scripts sound f t =
 
 not_more : (program : Parts) (records : Texts) (scripts : List Script) → HasTooMany program records → CardTable program records scripts → ⊥
 not_more program records scripts f t =
-    let s : t.rest ≡ f.first ++ (f.next ∷ f.more) = same_rest records t.rest (f.first ++ (f.next ∷ f.more)) t.under f.begins.under in
+    let s : t.rest ≡ f.first ++ (f.next ∷ f.more) = same_rest header records t.rest (f.first ++ (f.next ∷ f.more)) t.under f.begins.under in
     let l = ap length s in
     let a = length-append f.first (f.next ∷ f.more) in
     let z = long (IsCard program) t.rest t.cards t.each in

@@ -9,10 +9,10 @@ use Rattle.lft_flat.specs.declared.found.Found.TheVariants as found
 use Rattle.lft_cards.specs.CardTables.{CardFields, HasBadValue, IsCard, IsContent, IsOf, IsOfKind, IsUnknown, IsUnspelled, has_name, has_numbers, in_order, is_filled, word}
 use Rattle.lft_cards.specs.declared.card.Card.{Card}
 use Rattle.lft_cards.specs.declared.card.CardStep.TheVariants as step
-use Rattle.lft_cards.specs.declared.card.Content.{Content}
-use Rattle.lft_cards.specs.declared.card.Content.TheVariants as content
-use Rattle.lft_cards.specs.declared.card.Entry.{Entry}
-use Rattle.lft_cards.specs.declared.card.Entry.TheVariants as entry
+use Rattle.lft_cards.specs.declared.card.CardValue.{CardValue}
+use Rattle.lft_cards.specs.declared.card.CardValue.TheVariants as content
+use Rattle.lft_cards.specs.declared.card.CardEntry.{CardEntry}
+use Rattle.lft_cards.specs.declared.card.CardEntry.TheVariants as entry
 use Rattle.lft_cards.specs.declared.kind.CardKind.{CardKind}
 use Rattle.lft_cards.specs.declared.kind.CardKind.TheVariants as kind
 use Rattle.lft_cards.proofs.TermsDiffer.{one_expression, one_thing}
@@ -40,13 +40,13 @@ same_kind j k h = sym (kind_of_word j) ∙ ap kind_of h ∙ kind_of_word k
 one_reaction : (program : Parts) (text : List ℕ) (a b : ℕ) → IsSound program → IsNamed program.names (found.Reaction a) text → IsNamed program.names (found.Reaction b) text → a ≡ b
 one_reaction program text a b sound x y = let e = sound.well_named.distinct (found.Reaction a) (found.Reaction b) text x y in cc e
 
-one_content : (program : Parts) (r : ℕ) (text : List ℕ) (a b : Content) → IsSound program → IsContent program r text a → IsContent program r text b → a ≡ b
+one_content : (program : Parts) (r : ℕ) (text : List ℕ) (a b : CardValue) → IsSound program → IsContent program r text a → IsContent program r text b → a ≡ b
 one_content program r text content.Bare content.Bare sound x y = refl
 one_content program r text content.Bare (content.Int t) sound x y = absurd (y.0 x)
 one_content program r text (content.Int s) content.Bare sound x y = absurd (x.0 y)
 one_content program r text (content.Int s) (content.Int t) sound x y = ap content.Int (one_expression program r text s t sound x.1 y.1)
 
-one_of_kind : (program : Parts) (k : CardKind) (c : CardFields) (r : ℕ) (a b : Entry) → IsSound program → IsOfKind program k c r a → IsOfKind program k c r b → a ≡ b
+one_of_kind : (program : Parts) (k : CardKind) (c : CardFields) (r : ℕ) (a b : CardEntry) → IsSound program → IsOfKind program k c r a → IsOfKind program k c r b → a ≡ b
 one_of_kind program kind.Bodies c r a b sound x y = let e : Some x.0 ≡ Some y.0 = sym x.1 ∙ y.1 in let n : x.0 ≡ y.0 = cc e in x.4 ∙ ap entry.Bodies n ∙ sym y.4
 one_of_kind program kind.Write c r a b sound x y =
     let n = one_thing program c.name x.0 y.0 sound.well_named.distinct x.2 y.2 in

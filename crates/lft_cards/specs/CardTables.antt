@@ -11,10 +11,10 @@ use Rattle.lft_cards.specs.Expressions.{IsExpression}
 use Rattle.lft_cards.specs.declared.card.Card.{Card}
 use Rattle.lft_cards.specs.declared.card.CardStep.{CardStep}
 use Rattle.lft_cards.specs.declared.card.CardStep.TheVariants as step
-use Rattle.lft_cards.specs.declared.card.Content.{Content}
-use Rattle.lft_cards.specs.declared.card.Content.TheVariants as content
-use Rattle.lft_cards.specs.declared.card.Entry.{Entry}
-use Rattle.lft_cards.specs.declared.card.Entry.TheVariants as entry
+use Rattle.lft_cards.specs.declared.card.CardValue.{CardValue}
+use Rattle.lft_cards.specs.declared.card.CardValue.TheVariants as content
+use Rattle.lft_cards.specs.declared.card.CardEntry.{CardEntry}
+use Rattle.lft_cards.specs.declared.card.CardEntry.TheVariants as entry
 use Rattle.lft_cards.specs.declared.cards.Script.{Script}
 use Rattle.lft_cards.specs.declared.expression.Term.{Term}
 use Rattle.lft_cards.specs.declared.fault.CardFault.{CardFault}
@@ -71,15 +71,15 @@ has_value kind.Stop = false
 has_value kind.State = true
 
 -- what is written or scheduled: `bare`, or else an expression
-abbrev pub IsContent : Parts → ℕ → List ℕ → Content → Type 0
+abbrev pub IsContent : Parts → ℕ → List ℕ → CardValue → Type 0
 IsContent program r text content.Bare = text ≡ codes "bare"
 IsContent program r text (content.Int terms) = (text ≢ codes "bare") × IsExpression program r text terms
 
 -- what a card of a kind tells of reaction r
-abbrev pub IsOfKind : Parts → CardKind → CardFields → ℕ → Entry → Type 0
+abbrev pub IsOfKind : Parts → CardKind → CardFields → ℕ → CardEntry → Type 0
 IsOfKind program kind.Bodies c r e = (n : ℕ) × (number 1000000 c.value ≡ Some n) × (c.name ≡ []) × (c.delay ≡ []) × (e ≡ entry.Bodies n)
-IsOfKind program kind.Write c r e = (n : Name) × (v : Content) × IsThing program c.name n × IsContent program r c.value v × (c.delay ≡ []) × (e ≡ entry.Step (step.Write n v))
-IsOfKind program kind.Schedule c r e = (n : Name) × (v : Content) × (d : ℕ) × IsThing program c.name n × IsContent program r c.value v × (number_or_zero 1000000000000000000 c.delay ≡ Some d) × (e ≡ entry.Step (step.Schedule n v d))
+IsOfKind program kind.Write c r e = (n : Name) × (v : CardValue) × IsThing program c.name n × IsContent program r c.value v × (c.delay ≡ []) × (e ≡ entry.Step (step.Write n v))
+IsOfKind program kind.Schedule c r e = (n : Name) × (v : CardValue) × (d : ℕ) × IsThing program c.name n × IsContent program r c.value v × (number_or_zero 1000000000000000000 c.delay ≡ Some d) × (e ≡ entry.Step (step.Schedule n v d))
 IsOfKind program kind.Stop c r e = (c.name ≡ []) × (c.delay ≡ []) × (c.value ≡ []) × (e ≡ entry.Step step.Stop)
 IsOfKind program kind.State c r e = (terms : List Term) × IsExpression program r c.value terms × (c.name ≡ []) × (c.delay ≡ []) × (e ≡ entry.State terms)
 
@@ -93,33 +93,33 @@ pub record IsCard (program : Parts) (fields : List (List ℕ)) (card : Card) : T
   pub entry : IsOfKind program kind columns card.reaction card.entry
 
 -- the number of bodies that a card gives, if it gives one
-abbrev pub entry_bodies : Entry → Option ℕ
+abbrev pub entry_bodies : CardEntry → Option ℕ
 entry_bodies (entry.Bodies n) = Some n
 entry_bodies (entry.Step s) = None
 entry_bodies (entry.State terms) = None
 
 -- the step that a card gives, if it gives one
-abbrev pub entry_step : Entry → Option CardStep
+abbrev pub entry_step : CardEntry → Option CardStep
 entry_step (entry.Bodies n) = None
 entry_step (entry.Step s) = Some s
 entry_step (entry.State terms) = None
 
 -- the word that a card gives, if it gives one
-abbrev pub entry_state : Entry → Option (List Term)
+abbrev pub entry_state : CardEntry → Option (List Term)
 entry_state (entry.Bodies n) = None
 entry_state (entry.Step s) = None
 entry_state (entry.State terms) = Some terms
 
 -- what the card tells, if it is one of reaction r
-abbrev pub entry_of : ℕ → Card → Option Entry
+abbrev pub entry_of : ℕ → Card → Option CardEntry
 entry_of r card = cond (r == card.reaction) (Some card.entry) None
 
 -- what the cards of reaction r tell, in order
-abbrev pub entries_of : ℕ → List Card → List Entry
+abbrev pub entries_of : ℕ → List Card → List CardEntry
 entries_of r cards = filter_map (entry_of r) cards
 
 -- what a reaction's cards tell: at most one number of bodies, the steps in order, at most one word
-pub record IsScript (entries : List Entry) (script : Script) : Type 0 where
+pub record IsScript (entries : List CardEntry) (script : Script) : Type 0 where
   pub bodies : filter_map entry_bodies entries ≡ option_to_list script.bodies
   pub steps : filter_map entry_step entries ≡ script.steps
   pub state : filter_map entry_state entries ≡ option_to_list script.state
@@ -159,8 +159,8 @@ is_filled kind c =
 -- what is written, scheduled or left as the state word is spelled by nothing
 abbrev pub IsUnspelled : Parts → CardKind → ℕ → List ℕ → Type 0
 IsUnspelled program kind.Bodies r text = ⊥
-IsUnspelled program kind.Write r text = (v : Content) → IsContent program r text v → ⊥
-IsUnspelled program kind.Schedule r text = (v : Content) → IsContent program r text v → ⊥
+IsUnspelled program kind.Write r text = (v : CardValue) → IsContent program r text v → ⊥
+IsUnspelled program kind.Schedule r text = (v : CardValue) → IsContent program r text v → ⊥
 IsUnspelled program kind.Stop r text = ⊥
 IsUnspelled program kind.State r text = (terms : List Term) → IsExpression program r text terms → ⊥
 

@@ -10,10 +10,10 @@ use Rattle.lft_cards.specs.Expressions.{expression_value}
 use Rattle.lft_cards.specs.declared.card.Card.{Card}
 use Rattle.lft_cards.specs.declared.card.CardStep.{CardStep}
 use Rattle.lft_cards.specs.declared.card.CardStep.TheVariants as step
-use Rattle.lft_cards.specs.declared.card.Content.{Content}
-use Rattle.lft_cards.specs.declared.card.Content.TheVariants as content
-use Rattle.lft_cards.specs.declared.card.Entry.{Entry}
-use Rattle.lft_cards.specs.declared.card.Entry.TheVariants as entry
+use Rattle.lft_cards.specs.declared.card.CardValue.{CardValue}
+use Rattle.lft_cards.specs.declared.card.CardValue.TheVariants as content
+use Rattle.lft_cards.specs.declared.card.CardEntry.{CardEntry}
+use Rattle.lft_cards.specs.declared.card.CardEntry.TheVariants as entry
 use Rattle.lft_cards.specs.declared.cards.Script.{Script}
 
 -- a script of a reaction without cards
@@ -21,13 +21,13 @@ abbrev pub blank : Script
 blank = record { bodies = None; steps = []; state = None }
 
 -- whether the script has a number of bodies, or a word, where the entry tells one
-abbrev pub is_taken : Script → Entry → Bool
+abbrev pub is_taken : Script → CardEntry → Bool
 is_taken script (entry.Bodies n) = is_some script.bodies
 is_taken script (entry.Step s) = false
 is_taken script (entry.State terms) = is_some script.state
 
 -- the script with one more entry
-abbrev pub with_entry : Script → Entry → Script
+abbrev pub with_entry : Script → CardEntry → Script
 with_entry script (entry.Bodies n) = record script { bodies = Some n }
 with_entry script (entry.Step s) = record script { steps = script.steps ++ (s ∷ []) }
 with_entry script (entry.State terms) = record script { state = Some terms }
@@ -44,7 +44,7 @@ abbrev pub bodies_at : List Script → ℕ → ℕ
 bodies_at scripts r = unwrap_or (option_and_then (λ script. script.bodies) (slice_get scripts r)) 0
 
 -- what is written or scheduled in a run at a tag, with the state word before it and what it reads
-abbrev pub content_value : Tag → ℤ → List (Option Value) → Content → Value
+abbrev pub content_value : Tag → ℤ → List (Option Value) → CardValue → Value
 content_value g word reads content.Bare = Bare
 content_value g word reads (content.Int terms) = Int (expression_value g word reads terms)
 

@@ -3,7 +3,7 @@
 ghost use Rattle.std.specs.Prelude.{◌≡◌, IfOk};
 ghost use Rattle.lft_cards.specs.Scripts.{card_done, content_value, script_done, script_word, step_done};
 
-use crate::card::{CardStep, Content};
+use crate::card::{CardStep, CardValue};
 use crate::cards::{Cards, Script};
 use lft_bodies::{Done, Steps};
 use lft_flat::Value;
@@ -78,11 +78,11 @@ fn made(step: &CardStep, tag: Tag, state: i64, reads: &Reads) -> Step
     }
 }
 
-fn value_of(content: &Content, tag: Tag, state: i64, reads: &Reads) -> Value
+fn value_of(content: &CardValue, tag: Tag, state: i64, reads: &Reads) -> Value
     ensures { result ≡ content_value tag state reads.now content.now }
 {
     match content {
-        Content::Bare => Value::Bare,
-        Content::Int(expression) => Value::Int(expression.value(tag, state, reads)),
+        CardValue::Bare => Value::Bare,
+        CardValue::Int(expression) => Value::Int(expression.value(tag, state, reads)),
     }
 }

@@ -8,7 +8,7 @@ use std::marker::Model;
 
 /// What a card writes or schedules: presence alone, or a number.
 #[derive(Drop)]
-pub enum Content {
+pub enum CardValue {
     Bare,
     Int(Expression),
 }
@@ -16,8 +16,8 @@ pub enum Content {
 /// A step of a body. A schedule has the extra delay in nanoseconds.
 #[derive(Drop)]
 pub enum CardStep {
-    Write(Name, Content),
-    Schedule(Name, Content, u64),
+    Write(Name, CardValue),
+    Schedule(Name, CardValue, u64),
     Stop,
 }
 
@@ -68,7 +68,7 @@ impl CardSteps {
 
 /// What a card adds to the script of its reaction.
 #[derive(Drop)]
-pub(crate) enum Entry {
+pub(crate) enum CardEntry {
     Bodies(u32),
     Step(CardStep),
     State(Expression),
@@ -78,5 +78,5 @@ pub(crate) enum Entry {
 #[derive(Drop)]
 pub(crate) struct Card {
     pub(crate) reaction: u32,
-    pub(crate) entry: Entry,
+    pub(crate) entry: CardEntry,
 }

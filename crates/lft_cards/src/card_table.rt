@@ -9,7 +9,7 @@ ghost use Rattle.lft_cards.specs.Seen.{FieldFault, IsCardOf, card_fields};
 ghost use Rattle.lft_cards.specs.declared.card.Card.{Card as TheCard};
 ghost use Rattle.lft_cards.specs.declared.cards.Script.{Script};
 
-use crate::card::{Card, CardStep, Content, Entry};
+use crate::card::{Card, CardEntry, CardStep, CardValue};
 use crate::cards::Cards;
 use crate::expression::{Expression, read_expression};
 use crate::fault::CardFault;
@@ -20,7 +20,7 @@ use lft_flat::{Name, Program};
 use lft_tag::{MAX_TIME, NoMemory};
 use lft_trace::names::{read_reaction, read_thing};
 use lft_trace::number::{read_number, read_number_or_zero};
-use lft_trace::records::{LAST_LINE, Stop, open, read_next};
+use lft_trace::records::{LAST_LINE, Unread, open, read_next};
 use std::alloc::Global;
 
 /// The greatest number of bodies that a card may give a reaction.
@@ -43,12 +43,12 @@ pub fn read_cards(alloc: Global, program: &Program, text: &[u8]) -> Result<Cards
 }
 
 // The fault of a table whose records stop. It tells nothing of the text.
-fn stopped(stop: Stop) -> CardFault
+fn stopped(unread: Unread) -> CardFault
     ensures { is_told result ≡ false }
 {
-    match stop {
-        Stop::NotCsv => CardFault::NotCsv,
-        Stop::NoMemory => CardFault::NoMemory,
+    match unread {
+        Unread::NotCsv => CardFault::NotCsv,
+        Unread::NoMemory => CardFault::NoMemory,
     }
 }
 
@@ -157,7 +157,7 @@ fn read_bodies(program: &Program, fields: &CardFields, line: u32) -> Result<Card
     if fields.is_filled(CardKind::Bodies) {
         return Err(CardFault::FieldInPlace(line));
     }
-    let entry = Entry::Bodies(count as u32);
+    let entry = CardEntry::Bodies(count as u32);
     Ok(Card { reaction, entry })
 }
 
@@ -182,7 +182,7 @@ fn read_write(
     }
     match read_content(alloc, program, reaction, fields.value) {
         Ok(Some(content)) => {
-            let entry = Entry::Step(CardStep::Write(name, content));
+            let entry = CardEntry::Step(CardStep::Write(name, content));
             Ok(Card { reaction, entry })
         }
         Ok(None) => Err(CardFault::BadValue(line)),
@@ -211,7 +211,7 @@ fn read_schedule(
     };
     match read_content(alloc, program, reaction, fields.value) {
         Ok(Some(content)) => {
-            let entry = Entry::Step(CardStep::Schedule(name, content, delay));
+            let entry = CardEntry::Step(CardStep::Schedule(name, content, delay));
             Ok(Card { reaction, entry })
         }
         Ok(None) => Err(CardFault::BadValue(line)),
@@ -230,7 +230,7 @@ fn read_stop(program: &Program, fields: &CardFields, line: u32) -> Result<Card, 
     if fields.is_filled(CardKind::Stop) {
         return Err(CardFault::FieldInPlace(line));
     }
-    let entry = Entry::Step(CardStep::Stop);
+    let entry = CardEntry::Step(CardStep::Stop);
     Ok(Card { reaction, entry })
 }
 
@@ -252,7 +252,7 @@ fn read_state(
     }
     match read_expression(alloc, program, reaction, fields.value) {
         Ok(Some(expression)) => {
-            let entry = Entry::State(expression);
+            let entry = CardEntry::State(expression);
             Ok(Card { reaction, entry })
         }
         Ok(None) => Err(CardFault::BadValue(line)),
@@ -266,16 +266,16 @@ fn read_content(
     program: &Program,
     reaction: u32,
     text: &[u8],
-) -> Result<Option<Content>, NoMemory>
+) -> Result<Option<CardValue>, NoMemory>
     requires { reaction < length program.now.reactions }
     ensures some { IfOk result (λ found. IfSome found (IsContent program.now reaction text.now)) }
-    ensures none { IfOk result (λ found. IfNone found ((content : Content) → IsContent program.now reaction text.now content → ⊥)) }
+    ensures none { IfOk result (λ found. IfNone found ((content : CardValue) → IsContent program.now reaction text.now content → ⊥)) }
 {
     if text == b"bare".as_slice() {
-        return Ok(Some(Content::Bare));
+        return Ok(Some(CardValue::Bare));
     }
     match read_expression(alloc, program, reaction, text) {
-        Ok(Some(expression)) => Ok(Some(Content::Int(expression))),
+        Ok(Some(expression)) => Ok(Some(CardValue::Int(expression))),
         Ok(None) => Ok(None),
         Err(refused) => Err(refused),
     }

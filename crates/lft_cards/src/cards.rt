@@ -3,7 +3,7 @@
 ghost use Rattle.std.specs.Prelude.{◌≡◌, ◌≢◌, ◌<◌, length, slice_get, Some, None, true, false, not, IfOk, IfSome, IfNone, All};
 ghost use Rattle.lft_cards.specs.Scripts.{Adds, bodies_at, blank, is_taken, with_entry};
 
-use crate::card::{Card, CardSteps, Entry};
+use crate::card::{Card, CardEntry, CardSteps};
 use crate::expression::Expression;
 use lft_flat::Program;
 use lft_tag::NoMemory;
@@ -32,19 +32,19 @@ impl Script {
     }
 
     // Adds what a card tells; false where it was told before.
-    fn add(&mut self, entry: Entry) -> Result<bool, NoMemory>
+    fn add(&mut self, entry: CardEntry) -> Result<bool, NoMemory>
         ensures free { IfOk result (λ new. new ≡ not (is_taken self.old entry)) }
         ensures added { IfOk result (λ new. new ≡ true → self.new ≡ with_entry self.old entry) }
     {
         match entry {
-            Entry::Bodies(count) => {
+            CardEntry::Bodies(count) => {
                 if self.bodies.is_some() {
                     return Ok(false);
                 }
                 self.bodies = Some(count);
             }
-            Entry::Step(step) => self.steps.push(step)?,
-            Entry::State(expression) => {
+            CardEntry::Step(step) => self.steps.push(step)?,
+            CardEntry::State(expression) => {
                 if self.state.is_some() {
                     return Ok(false);
                 }

@@ -11,7 +11,7 @@ mod fields;
 mod kind;
 
 pub use answer::card_answer;
-pub use card::{CardStep, CardSteps, Content};
+pub use card::{CardStep, CardSteps, CardValue};
 pub use card_table::read_cards;
 pub use cards::{Cards, Script};
 pub use expression::{Expression, Term};

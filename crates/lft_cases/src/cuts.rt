@@ -9,7 +9,7 @@
 ghost use Rattle.std.specs.Prelude.{◌≡◌};
 ghost use Rattle.lft_trace.specs.Fits.{RowsFit};
 
-use crate::given::{Given, trace_table};
+use crate::given::{CaseTexts, trace_table};
 use crate::presence::recorded;
 use lft_model::{Plan, clash_slow};
 use lft_slices::{Cut, cut};
@@ -79,7 +79,7 @@ fn write_cut(
 /// A case `cut`.
 pub(crate) fn cuts(
     alloc: Global,
-    given: &Given,
+    given: &CaseTexts,
     rows: &[u8],
     told: &mut Vec<u8>,
 ) -> io::Result<()> {

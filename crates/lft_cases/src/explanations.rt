@@ -8,7 +8,7 @@
 //! - `refused-externals`, `refused-trace`: the same of a table of the given program, header and all.
 //! - `refused-bundle`: the same of a bundle.
 
-use crate::given::{Given, trace_table};
+use crate::given::{CaseTexts, trace_table};
 use crate::whole::end;
 use lft_front::{explain_answer, explain_bundle_answer, refusal_of_bundle, refusal_of_texts};
 use lft_tag::NoMemory;
@@ -21,7 +21,7 @@ use std::thread::Threads;
 fn explained<R: Threads + Sync>(
     rt: &R,
     alloc: Global,
-    given: &Given,
+    given: &CaseTexts,
     trace: &[u8],
     workers: u32,
 ) -> io::Result<Vec<u8>> {
@@ -37,7 +37,7 @@ fn explained<R: Threads + Sync>(
 pub(crate) fn explain<R: Threads + Sync>(
     rt: &R,
     alloc: Global,
-    given: &Given,
+    given: &CaseTexts,
     rows: &[u8],
     told: &mut Vec<u8>,
 ) -> io::Result<()> {
@@ -91,7 +91,7 @@ pub(crate) fn refused(alloc: Global, text: &[u8], told: &mut Vec<u8>) -> io::Res
 /// A case `refused-externals`.
 pub(crate) fn refused_externals(
     alloc: Global,
-    given: &Given,
+    given: &CaseTexts,
     text: &[u8],
     told: &mut Vec<u8>,
 ) -> io::Result<()> {
@@ -101,7 +101,7 @@ pub(crate) fn refused_externals(
 /// A case `refused-trace`.
 pub(crate) fn refused_trace(
     alloc: Global,
-    given: &Given,
+    given: &CaseTexts,
     text: &[u8],
     told: &mut Vec<u8>,
 ) -> io::Result<()> {

@@ -8,7 +8,7 @@
 //! What isn't read has the line of its fault.
 
 use crate::case_text::lines_of;
-use crate::given::{Given, external_table, joined};
+use crate::given::{CaseTexts, external_table, joined};
 use crate::programs::program_of;
 use lft_trace::{Externals, read_externals};
 use std::alloc::Global;
@@ -18,7 +18,7 @@ use std::io::Write;
 /// A case `external-rows`.
 pub(crate) fn rows(
     alloc: Global,
-    given: &Given,
+    given: &CaseTexts,
     lines: &[u8],
     told: &mut Vec<u8>,
 ) -> io::Result<()> {
@@ -47,7 +47,7 @@ fn write_inputs(inputs: &Externals, told: &mut Vec<u8>) -> io::Result<()> {
 /// A case `read-externals-text`.
 pub(crate) fn read_text(
     alloc: Global,
-    given: &Given,
+    given: &CaseTexts,
     table: &[u8],
     told: &mut Vec<u8>,
 ) -> io::Result<()> {
@@ -64,7 +64,7 @@ pub(crate) fn read_text(
 /// A case `read-externals`.
 pub(crate) fn read(
     alloc: Global,
-    given: &Given,
+    given: &CaseTexts,
     rows: &[u8],
     told: &mut Vec<u8>,
 ) -> io::Result<()> {

@@ -5,7 +5,7 @@
 //! - `pool-faults`: why a recording stops, with the first reaction of the given program and with the
 //!   tag (5, 1).
 
-use crate::given::Given;
+use crate::given::CaseTexts;
 use crate::programs::program_of;
 use lft_cards::CardFault;
 use lft_pool::Stop;
@@ -37,7 +37,7 @@ pub(crate) fn cards(told: &mut Vec<u8>) -> io::Result<()> {
 }
 
 /// A case `pool-faults`.
-pub(crate) fn pool(alloc: Global, given: &Given, told: &mut Vec<u8>) -> io::Result<()> {
+pub(crate) fn pool(alloc: Global, given: &CaseTexts, told: &mut Vec<u8>) -> io::Result<()> {
     let program = match program_of(alloc, given.program.as_slice()) {
         Ok(program) => program,
         Err(refusal) => return writeln!(told, "{refusal:?}"),

@@ -6,7 +6,7 @@
 //!   given program is recorded (`cards`). Where something else is told from a length on, the length
 //!   is written, and what is told.
 
-use crate::given::Given;
+use crate::given::CaseTexts;
 use lft_front::{finish, judge_answer};
 use lft_record::record_answer;
 use std::alloc::Global;
@@ -22,7 +22,7 @@ const MOST_RUNS: u32 = 10;
 fn told_of<R: Threads + Wait + Sync>(
     rt: &R,
     alloc: Global,
-    given: &Given,
+    given: &CaseTexts,
     place: &str,
     text: &[u8],
     workers: u32,
@@ -47,7 +47,7 @@ fn told_of<R: Threads + Wait + Sync>(
 pub(crate) fn fronts<R: Threads + Wait + Sync>(
     rt: &R,
     alloc: Global,
-    given: &Given,
+    given: &CaseTexts,
     text: &[u8],
     place: &str,
     told: &mut Vec<u8>,

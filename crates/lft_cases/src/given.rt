@@ -11,7 +11,7 @@ const TRACE_HEADER: &str = "event,worker,time,microstep,reaction,name,value,dela
 
 /// The texts of a program and of its tables.
 #[derive(Drop)]
-pub struct Given {
+pub struct CaseTexts {
     pub program: Vec<u8>,
     pub externals: Vec<u8>,
     pub trace: Vec<u8>,
@@ -34,10 +34,10 @@ pub(crate) fn trace_table(alloc: Global, rows: &[u8]) -> Result<Vec<u8>, AllocEr
     joined(alloc, TRACE_HEADER.as_bytes(), rows)
 }
 
-impl Given {
+impl CaseTexts {
     /// Empty texts.
-    pub(crate) fn new(alloc: Global) -> Given {
-        Given {
+    pub(crate) fn new(alloc: Global) -> CaseTexts {
+        CaseTexts {
             program: Vec::new(alloc),
             externals: Vec::new(alloc),
             trace: Vec::new(alloc),

@@ -27,7 +27,7 @@ mod trace_tables;
 mod whole;
 
 use crate::case_text::push_line;
-use crate::given::Given;
+use crate::given::CaseTexts;
 use std::alloc::Global;
 use std::io;
 use std::io::Write;
@@ -38,7 +38,7 @@ use std::thread::Threads;
 fn tell<R: Threads + Wait + Sync>(
     rt: &R,
     alloc: Global,
-    given: &Given,
+    given: &CaseTexts,
     kind: &str,
     text: &[u8],
     told: &mut Vec<u8>,
@@ -89,7 +89,7 @@ fn tell<R: Threads + Wait + Sync>(
 
 fn main(rt: HostRuntime) -> io::Result<()> {
     let alloc = rt.alloc();
-    let mut given = Given::new(alloc);
+    let mut given = CaseTexts::new(alloc);
     let mut kind = String::new(alloc);
     let mut text = Vec::new(alloc);
     for line in rt.lines(alloc) {

@@ -9,7 +9,7 @@
 //!
 //! A line that tells the status is written at the end.
 
-use crate::given::{Given, trace_table};
+use crate::given::{CaseTexts, trace_table};
 use lft_front::{explain_pair_answer, finish, pair_answer, refusal_of_pair_texts};
 use std::alloc::Global;
 use std::io;
@@ -20,7 +20,7 @@ use std::thread::Threads;
 fn paired<R: Threads + Sync>(
     rt: &R,
     alloc: Global,
-    given: &Given,
+    given: &CaseTexts,
     second: &[u8],
     workers: u32,
 ) -> io::Result<Vec<u8>> {
@@ -40,7 +40,7 @@ fn paired<R: Threads + Sync>(
 pub(crate) fn pair_text<R: Threads + Sync>(
     rt: &R,
     alloc: Global,
-    given: &Given,
+    given: &CaseTexts,
     second: &[u8],
     workers: &str,
     told: &mut Vec<u8>,
@@ -68,7 +68,7 @@ pub(crate) fn pair_text<R: Threads + Sync>(
 pub(crate) fn pair<R: Threads + Sync>(
     rt: &R,
     alloc: Global,
-    given: &Given,
+    given: &CaseTexts,
     rows: &[u8],
     workers: &str,
     told: &mut Vec<u8>,
@@ -81,7 +81,7 @@ pub(crate) fn pair<R: Threads + Sync>(
 pub(crate) fn explain_pair<R: Threads + Sync>(
     rt: &R,
     alloc: Global,
-    given: &Given,
+    given: &CaseTexts,
     rows: &[u8],
     told: &mut Vec<u8>,
 ) -> io::Result<()> {

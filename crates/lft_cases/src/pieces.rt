@@ -8,7 +8,7 @@
 ghost use Rattle.lft_tag.specs.declared.Tag.{Tag as TheTag};
 ghost use Rattle.lft_slices.specs.Pieces.{IsPiece};
 
-use crate::given::{Given, trace_table};
+use crate::given::{CaseTexts, trace_table};
 use crate::presence::recorded;
 use lft_answers::Answer;
 use lft_lists::item_at;
@@ -61,7 +61,7 @@ fn write_pieces(alloc: Global, cut: &Cut, told: &mut Vec<u8>) -> io::Result<()> 
 /// A case `pieces`.
 pub(crate) fn pieces(
     alloc: Global,
-    given: &Given,
+    given: &CaseTexts,
     rows: &[u8],
     told: &mut Vec<u8>,
 ) -> io::Result<()> {

@@ -13,7 +13,7 @@ ghost use Rattle.std.specs.Prelude.{IfOk, IfSome, ◌<◌, length};
 ghost use Rattle.lft_trace.specs.Fits.{RowsFit};
 
 use crate::case_text::lines_of;
-use crate::given::Given;
+use crate::given::CaseTexts;
 use crate::programs::program_of;
 use crate::refusal::Refusal;
 use lft_model::{Plan, clash_slow, inputs_slow, present_slow, triggered_slow};
@@ -25,7 +25,11 @@ use std::io;
 use std::io::Write;
 
 /// The given plan, with the rows of the trace table.
-pub(crate) fn recorded(alloc: Global, given: &Given, table: &[u8]) -> Result<(Plan, Rows), Refusal>
+pub(crate) fn recorded(
+    alloc: Global,
+    given: &CaseTexts,
+    table: &[u8],
+) -> Result<(Plan, Rows), Refusal>
     ensures { IfOk result (λ r. RowsFit r.0.program r.1) }
 {
     let program = program_of(alloc, given.program.as_slice())?;
@@ -105,7 +109,7 @@ fn answer(alloc: Global, plan: &Plan, rows: &Rows, line: &str) -> Option<String>
 /// A case `ask`.
 pub(crate) fn ask(
     alloc: Global,
-    given: &Given,
+    given: &CaseTexts,
     questions: &[u8],
     told: &mut Vec<u8>,
 ) -> io::Result<()> {

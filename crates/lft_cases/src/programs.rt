@@ -8,7 +8,7 @@
 //! What isn't read has the line of its refusal.
 
 use crate::case_text::lines_of;
-use crate::given::Given;
+use crate::given::CaseTexts;
 use crate::refusal::Refusal;
 use crate::texts::tree_of;
 use lft_program::{Program, flatten};
@@ -82,7 +82,7 @@ pub(crate) fn flat(alloc: Global, text: &[u8], told: &mut Vec<u8>) -> io::Result
 /// A case `find`.
 pub(crate) fn find(
     alloc: Global,
-    given: &Given,
+    given: &CaseTexts,
     names: &[u8],
     told: &mut Vec<u8>,
 ) -> io::Result<()> {

@@ -6,7 +6,7 @@
 //! - `record-text WORKERS MAX_RUNS`: the same of a whole table of cards.
 //! - `recordings TIMES WORKERS`: how many of so many recordings by so many workers are accepted.
 
-use crate::given::{Given, joined};
+use crate::given::{CaseTexts, joined};
 use lft_check::Verdict;
 use lft_front::{finish, judge_texts_alone};
 use lft_record::record_answer;
@@ -34,7 +34,7 @@ fn numbers(words: &str) -> Option<(u32, u32)> {
 fn recorded<R: Threads + Wait + Sync>(
     rt: &R,
     alloc: Global,
-    given: &Given,
+    given: &CaseTexts,
     cards: &[u8],
     workers: u32,
     runs: u32,
@@ -51,7 +51,7 @@ fn recorded<R: Threads + Wait + Sync>(
 pub(crate) fn record_text<R: Threads + Wait + Sync>(
     rt: &R,
     alloc: Global,
-    given: &Given,
+    given: &CaseTexts,
     cards: &[u8],
     words: &str,
     told: &mut Vec<u8>,
@@ -76,7 +76,7 @@ pub(crate) fn record_text<R: Threads + Wait + Sync>(
 /// Writes the verdict on a table that was recorded.
 fn judge_recorded(
     alloc: Global,
-    given: &Given,
+    given: &CaseTexts,
     table: &[u8],
     told: &mut Vec<u8>,
 ) -> io::Result<()> {
@@ -92,7 +92,7 @@ fn judge_recorded(
 pub(crate) fn record<R: Threads + Wait + Sync>(
     rt: &R,
     alloc: Global,
-    given: &Given,
+    given: &CaseTexts,
     rows: &[u8],
     words: &str,
     told: &mut Vec<u8>,
@@ -105,7 +105,7 @@ pub(crate) fn record<R: Threads + Wait + Sync>(
 fn is_accepted<R: Threads + Wait + Sync>(
     rt: &R,
     alloc: Global,
-    given: &Given,
+    given: &CaseTexts,
     cards: &[u8],
     workers: u32,
 ) -> bool {
@@ -125,7 +125,7 @@ fn is_accepted<R: Threads + Wait + Sync>(
 pub(crate) fn recordings<R: Threads + Wait + Sync>(
     rt: &R,
     alloc: Global,
-    given: &Given,
+    given: &CaseTexts,
     rows: &[u8],
     words: &str,
     told: &mut Vec<u8>,

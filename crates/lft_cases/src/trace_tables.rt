@@ -8,7 +8,7 @@
 //! What isn't read has the line of its fault.
 
 use crate::case_text::lines_of;
-use crate::given::{Given, joined, trace_table};
+use crate::given::{CaseTexts, joined, trace_table};
 use crate::programs::program_of;
 use crate::refusal::Refusal;
 use lft_program::Program;
@@ -33,7 +33,7 @@ fn write_last(
 /// A case `trace-rows`.
 pub(crate) fn rows(
     alloc: Global,
-    given: &Given,
+    given: &CaseTexts,
     lines: &[u8],
     told: &mut Vec<u8>,
 ) -> io::Result<()> {
@@ -63,7 +63,7 @@ fn write_rows(rows: &[Row], told: &mut Vec<u8>) -> io::Result<()> {
 /// A case `read-trace-text`.
 pub(crate) fn read_text(
     alloc: Global,
-    given: &Given,
+    given: &CaseTexts,
     table: &[u8],
     told: &mut Vec<u8>,
 ) -> io::Result<()> {
@@ -80,7 +80,7 @@ pub(crate) fn read_text(
 /// A case `read-trace`.
 pub(crate) fn read(
     alloc: Global,
-    given: &Given,
+    given: &CaseTexts,
     rows: &[u8],
     told: &mut Vec<u8>,
 ) -> io::Result<()> {
@@ -98,7 +98,7 @@ fn rewritten(alloc: Global, program: &[u8], table: &[u8]) -> Result<Vec<u8>, Ref
 /// A case `write-trace`.
 pub(crate) fn write(
     alloc: Global,
-    given: &Given,
+    given: &CaseTexts,
     rows: &[u8],
     told: &mut Vec<u8>,
 ) -> io::Result<()> {

@@ -10,7 +10,7 @@
 //!
 //! A line that tells the status is written at the end.
 
-use crate::given::{Given, trace_table};
+use crate::given::{CaseTexts, trace_table};
 use lft_check::Verdict;
 use lft_front::{
     Fault, bundle_answer, finish, judge_texts, judge_texts_alone, show_text, split_bundle,
@@ -38,7 +38,7 @@ pub(crate) fn show(alloc: Global, program: &[u8], told: &mut Vec<u8>) -> io::Res
 fn judged<R: Threads + Sync>(
     rt: &R,
     alloc: Global,
-    given: &Given,
+    given: &CaseTexts,
     trace: &[u8],
     workers: Option<u32>,
 ) -> io::Result<Vec<u8>> {
@@ -61,7 +61,7 @@ fn judged<R: Threads + Sync>(
 pub(crate) fn judge_text<R: Threads + Sync>(
     rt: &R,
     alloc: Global,
-    given: &Given,
+    given: &CaseTexts,
     trace: &[u8],
     workers: &str,
     told: &mut Vec<u8>,
@@ -89,7 +89,7 @@ pub(crate) fn judge_text<R: Threads + Sync>(
 pub(crate) fn judge<R: Threads + Sync>(
     rt: &R,
     alloc: Global,
-    given: &Given,
+    given: &CaseTexts,
     rows: &[u8],
     workers: &str,
     told: &mut Vec<u8>,

@@ -13,17 +13,17 @@ use std::collections::HashSet;
 /// The names that were met so far: those of the reactor's own things, and those of ports of
 /// contained instances.
 #[derive(Drop)]
-pub(crate) struct Seen<'a> {
+pub(crate) struct SeenNames<'a> {
     own: HashSet<&'a str>,
     inner: HashSet<(&'a str, &'a str)>,
 }
 
-impl<'a> Seen<'a> {
+impl<'a> SeenNames<'a> {
     /// None was met.
-    pub(crate) fn new(alloc: Global) -> Seen<'a>
+    pub(crate) fn new(alloc: Global) -> SeenNames<'a>
         ensures { (q : RefTree) → has_seen result q ≡ false }
     {
-        Seen {
+        SeenNames {
             own: HashSet::new(alloc),
             inner: HashSet::new(alloc),
         }

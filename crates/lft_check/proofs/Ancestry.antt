@@ -4,20 +4,16 @@ use Rattle.std.specs.Prelude.{◌↔◌}
 use Rattle.std.proofs.lemmas.Bool.{cases_lt}
 use native.Mathlib.Decide.{ℕ_discrete}
 use Rattle.lft_flat.specs.Parts.{Parts}
-use Rattle.lft_graph.specs.Precedence.{Direct, Precedes}
+use Rattle.lft_graph.specs.Precedence.{Precedes}
 use Rattle.lft_graph.specs.Graph.{GraphParts, IsGraphOf}
 use Rattle.lft_lists.proofs.Places.{contains_at, at_contains, get_there, same_at, get_write_cases, length_written}
 use Rattle.lft_model.proofs.Places.{slice_get_within}
 use Rattle.lft_check.specs.Sets.{Has, AreAncestors, HaveRoom, IsUnder, IsUnion}
-
--- what precedes is a reaction
-direct_known : (program : Parts) (a b : ℕ) → Direct program a b → a < length program.reactions
-direct_known program a b (inl x) = slice_get_within program.reactions a x.first x.is_first
-direct_known program a b (inr x) = slice_get_within program.reactions a x.writer x.is_writer
+use Rattle.lft_graph.proofs.Cycles.{from_there}
 
 pub precedes_known : (program : Parts) (a b : ℕ) → Precedes program a b → a < length program.reactions
-precedes_known program a b (Precedes.one d) = direct_known program _ _ d
-precedes_known program a b (Precedes.more d p) = direct_known program _ _ d
+precedes_known program a b (Precedes.one d) = from_there program _ _ d
+precedes_known program a b (Precedes.more d p) = from_there program _ _ d
 
 -- the union, one member more
 pub union_more : (list : List ℕ) (sets : List (List ℕ)) (k b : ℕ) (own old with more : List ℕ) → slice_get list k ≡ Some b → slice_get sets b ≡ Some own → ((r : ℕ) → Has with r ↔ ((r ≡ b) ⊎ Has old r)) → ((r : ℕ) → Has more r ↔ (Has with r ⊎ Has own r)) → IsUnion list k sets old → IsUnion list (k + 1) sets more

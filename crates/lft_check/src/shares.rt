@@ -18,9 +18,6 @@ use std::alloc::Global;
 use std::thread;
 use std::thread::Threads;
 
-/// What a worker found: the first breach of its share, if any.
-type Found = Result<Option<Breach>, NoMemory>;
-
 /// Where the share of a worker begins. That of a worker past the last begins where the tags end.
 fn share_begins(tags: usize, workers: usize, worker: usize) -> usize
     requires { (0 < workers) × (workers ≤ 64) × (worker ≤ workers) × (tags ≤ 4000000) }
@@ -40,7 +37,7 @@ fn examine_share<W: Watch>(
     bound: Option<Tag>,
     worker: usize,
     workers: usize,
-) -> Found
+) -> Result<Option<Breach>, NoMemory>
     requires ancestors { AreAncestors sliced.now.plan.program ancestors.now }
     requires slices { AreSlices sliced.now.rows slices.now }
     requires bound { IsClash sliced.now bound }
@@ -64,7 +61,7 @@ fn examine_shares<W: Watch, R: Threads + Sync>(
     slices: &[Slice],
     bound: Option<Tag>,
     workers: usize,
-) -> Result<Vec<Found>, NoMemory>
+) -> Result<Vec<Result<Option<Breach>, NoMemory>>, NoMemory>
     requires ancestors { AreAncestors sliced.now.plan.program ancestors.now }
     requires slices { AreSlices sliced.now.rows slices.now }
     requires bound { IsClash sliced.now bound }
@@ -75,7 +72,7 @@ fn examine_shares<W: Watch, R: Threads + Sync>(
         rt,
         alloc,
         workers,
-        &|worker: usize| -> Found
+        &|worker: usize| -> Result<Option<Breach>, NoMemory>
             requires { AreAncestors sliced.now.plan.program ancestors.now × AreSlices sliced.now.rows slices.now × IsClash sliced.now bound × (worker < workers) × (workers ≤ 64) }
             ensures { IfOk result (IsLeastOfShare sliced.entry.now slices.entry.now bound workers worker) }
         {
@@ -90,7 +87,7 @@ fn examine_shares<W: Watch, R: Threads + Sync>(
 }
 
 /// The least of the breaches that workers found, of those that are.
-fn least_found(found: &[Found]) -> Result<Option<Breach>, NoMemory>
+fn least_found(found: &[Result<Option<Breach>, NoMemory>]) -> Result<Option<Breach>, NoMemory>
     ensures least { IfOk result (LeastOf (IsFound found.now (length found.now))) }
     ensures all { OnOk result (AreOk found.now (length found.now)) }
     ensures memory { IfErr result (λ _. (k : ℕ) × (x : _) × (slice_get found.now k ≡ Some (Err x))) }

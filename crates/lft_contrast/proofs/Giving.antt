@@ -25,12 +25,7 @@ use Rattle.lft_contrast.proofs.Outcomes.{write_outcome, schedule_outcome, reques
 use Rattle.lft_contrast.proofs.Added.{adds_keeps, adds_one, adds_holds, last_contained}
 use Rattle.lft_contrast.specs.Enough.{Adds, TellsAll, TellsReads}
 use Rattle.lft_flat.specs.Parts.{Parts}
-
--- maps of one list with the same items
-mapped_same : {X Y : Type 0} (f h : X → Y) (xs : List X) (x : X) → map f xs ≡ map h xs → Mem x xs → f x ≡ h x
-mapped_same f h [] x e m = absurd m
-mapped_same f h (y ∷ ys) x e (inl q) = let z : f y ≡ h y = cc in sym (ap f q) ∙ z ∙ ap h q
-mapped_same f h (y ∷ ys) x e (inr m) = let z : map f ys ≡ map h ys = cc in mapped_same f h ys x z m
+use Rattle.lft_lists.proofs.Mapped.{map_same}
 
 event_at : (xs : List Scheduling) (k : ℕ) → event_of (slice_get xs k) ≡ slice_get (map event xs) k
 event_at [] k = refl
@@ -43,7 +38,7 @@ module _ (plan : PlanParts) (t s : List Row) (g : Tag) (r : ℕ) (alike : answer
   outcomes = ap (λ (a : Answer). a.outcomes) alike
 
   same_outcome : (n : Name) → Contains (effects_of plan.program r) n → HaveSameOutcome (placed_steps t g r) (placed_steps s g r) n
-  same_outcome n c = ap (λ (ss : List Step). outcome_of ss n) (placed_are t g r) ∙ mapped_same (outcome_of (steps_of t g r)) (outcome_of (steps_of s g r)) (effects_of plan.program r) n outcomes (contains_mem n (effects_of plan.program r) c) ∙ sym (ap (λ (ss : List Step). outcome_of ss n) (placed_are s g r))
+  same_outcome n c = ap (λ (ss : List Step). outcome_of ss n) (placed_are t g r) ∙ map_same (outcome_of (steps_of t g r)) (outcome_of (steps_of s g r)) (effects_of plan.program r) n outcomes (contains_mem n (effects_of plan.program r) c) ∙ sym (ap (λ (ss : List Step). outcome_of ss n) (placed_are s g r))
 
   not_written : (p : ℕ) (first second : Option LastWrite) → ¬ IsContrast plan t s (contrast.Written g r p first second)
   not_written p first second x =

@@ -16,6 +16,7 @@ use Rattle.lft_contrast.specs.declared.contrasts.Scheduling.{Scheduling}
 use Rattle.lft_contrast.specs.Runs.{write, write_of, last_write, scheduling, scheduling_of, schedulings, request_at, request_of as placed_request, last_request}
 use Rattle.lft_contrast.specs.Contrasts.{value_of}
 use Rattle.lft_contrast.specs.Enough.{steps}
+use Rattle.std.proofs.Math.Bool.{or-false}
 
 same_filter : {X Y : Type 0} (f h : X → Option Y) (xs : List X) → ((x : X) → f x ≡ h x) → filter_map f xs ≡ filter_map h xs
 same_filter f h [] e = refl
@@ -42,17 +43,13 @@ scheduled_as i (Some y) = refl
 pub schedule_outcome : (run : List Placed) (a : ℕ) → outcome_of (steps run) (Action a) ≡ Scheduled (map (λ (y : Scheduling). (y.delay, y.value)) (schedulings run a))
 schedule_outcome run a = ap Scheduled (filter_map-map (λ (x : Placed). x.step) (value_scheduled a) run ∙ sym (map-filter_map (λ (y : Scheduling). (y.delay, y.value)) (scheduling_of a) run ∙ same_filter (λ (x : Placed). option_map (λ (y : Scheduling). (y.delay, y.value)) (scheduling_of a x)) (λ (x : Placed). value_scheduled a x.step) run (λ x. scheduled_as x.row (value_scheduled a x.step))))
 
-or_false : (b : Bool) → b ≡ (b || false)
-or_false true = refl
-or_false false = refl
-
 or_true : (b : Bool) → true ≡ (b || true)
 or_true true = refl
 or_true false = refl
 
 -- a stop was requested where there is a last request
 requested_from : (o : Option ℕ) (run : List Placed) → is_some (last_or o (filter_map placed_request run)) ≡ (is_some o || request_of (steps run))
-requested_from o [] = or_false (is_some o)
+requested_from o [] = sym (or-false (is_some o))
 requested_from o (x ∷ xs) = by x.row x.step (λ p. requested_from p xs)
   where
     by : (i : ℕ) (s : Step) → ((p : Option ℕ) → is_some (last_or p (filter_map placed_request xs)) ≡ (is_some p || request_of (steps xs))) → is_some (last_or o (cons_option (request_at i s) (filter_map placed_request xs))) ≡ (is_some o || (is_stop s || request_of (steps xs)))

@@ -1,11 +1,11 @@
--- The text of contrasts, one after another, and words in columns.
-use Rattle.std.proofs.Common.{◌≡◌, ℕ, zero, suc, ◌+◌, ◌-◌, ◌≤◌, List, [], ◌∷◌, ◌++◌, length, max, take, take_all, add-one, append-nil, append_assoc, replicate, sym, ap, ◌∙◌, refl, arith, Some, slice_get, flat_map}
+-- The text of contrasts, one after another, and how wide their columns are.
+use Rattle.std.proofs.Common.{◌≡◌, ℕ, ◌+◌, ◌-◌, ◌≤◌, List, [], ◌∷◌, ◌++◌, length, max, take, take_all, add-one, append_assoc, sym, ap, ◌∙◌, refl, Some, slice_get, flat_map}
 use Rattle.lft_lists.proofs.Picked.{take_next}
 use Rattle.lft_tag.specs.declared.Tag.{Tag}
 use Rattle.lft_flat.specs.Parts.{Parts}
 use Rattle.lft_words.proofs.Steps.{flat_next}
 use Rattle.lft_contrast.specs.declared.contrasts.Contrast.{Contrast}
-use Rattle.lft_contrast.specs.Told.{widest, padded, contrast_words, heading_words, told_in}
+use Rattle.lft_contrast.specs.Told.{widest, contrast_words, heading_words, told_in}
 
 -- the greatest length with one contrast more
 widest_behind : (words : Contrast → List ℕ) (least : ℕ) (cs : List Contrast) (c : Contrast) → widest words least (cs ++ c ∷ []) ≡ max (widest words least cs) (length (words c))
@@ -17,38 +17,6 @@ widest_next words least cs i c cell old e q so_far = ap (λ w. max w (length cel
 
 pub widest_end : (words : Contrast → List ℕ) (least : ℕ) (cs : List Contrast) (i width : ℕ) → length cs ≤ i → width ≡ widest words least (take i cs) → width ≡ widest words least cs
 widest_end words least cs i width l so_far = so_far ∙ ap (λ l. widest words least l) (take_all i cs l)
-
--- one blank more
-abbrev blank : List ℕ
-blank = 32 ∷ []
-
-blanks : (n : ℕ) → replicate n 32 ++ blank ≡ replicate (suc n) 32
-blanks zero = refl
-blanks (suc n) = ap (λ l. 32 ∷ l) (blanks n)
-
--- a word with the blanks up to a place behind a text
-pub record PaddedTo (old word : List ℕ) (width at : ℕ) (new : List ℕ) : Type 0 where
-  pub text : new ≡ old ++ (word ++ replicate (at - length word) 32)
-  pub behind : length word ≤ at
-  pub within : at - length word ≤ width - length word
-
-pub padded_none : (old word new : List ℕ) (width at : ℕ) → at ≡ length word → new ≡ old ++ word → PaddedTo old word width at new
-padded_none old word new width at e is =
-    let z : at - length word ≡ 0 = omega arith in
-    record { text = is ∙ ap (λ l. old ++ l) (sym (append-nil word) ∙ ap (λ n. word ++ replicate n 32) (sym z)); behind = omega arith; within = omega arith }
-
-pub padded_more : (old word new more : List ℕ) (width at : ℕ) → suc at ≤ width → more ≡ new ++ blank → PaddedTo old word width at new → PaddedTo old word width (at + 1) more
-padded_more old word new more width at l is so_far =
-    let b = so_far.behind in
-    let z : suc (at - length word) ≡ at + 1 - length word = omega arith in
-    record { text = is ∙ ap (λ s. s ++ blank) so_far.text ∙ append_assoc old (word ++ replicate (at - length word) 32) (blank) ∙ ap (λ s. old ++ s) (append_assoc word (replicate (at - length word) 32) (blank) ∙ ap (λ s. word ++ s) (blanks (at - length word) ∙ ap (λ n. replicate n 32) z)); behind = omega arith; within = omega arith }
-
-pub padded_end : (old word new : List ℕ) (width at : ℕ) → width ≤ at → PaddedTo old word width at new → new ≡ old ++ padded width word
-padded_end old word new width at l so_far =
-    let b = so_far.behind in
-    let w = so_far.within in
-    let z : at - length word ≡ width - length word = omega arith in
-    so_far.text ∙ ap (λ n. old ++ (word ++ replicate n 32)) z
 
 -- the text with one contrast more
 pub told_next : (program : Parts) (head : List ℕ) (e f : ℕ) (cs : List Contrast) (i : ℕ) (c : Contrast) (old new : List ℕ) → slice_get cs i ≡ Some c → old ≡ head ++ flat_map (contrast_words program e f) (take i cs) → new ≡ old ++ contrast_words program e f c → new ≡ head ++ flat_map (contrast_words program e f) (take (i + 1) cs)

@@ -1,18 +1,15 @@
 -- The text of contrasts.
-use Rattle.std.specs.Prelude.{ℕ, ◌-◌, List, [], ◌∷◌, ◌++◌, Option, length, max, replicate, flat_map, codes, decimal}
+use Rattle.std.specs.Prelude.{ℕ, List, [], ◌∷◌, ◌++◌, Option, length, max, flat_map, codes, decimal}
 use Rattle.lft_tag.specs.declared.Tag.{Tag}
 use Rattle.lft_flat.specs.Parts.{Parts}
 use Rattle.lft_flat.specs.declared.parts.Name.{Name}
 use Rattle.lft_flat.specs.declared.parts.Value.{Value}
 use Rattle.lft_words.specs.Words.{tag_words, value_words, reaction_words, name_words}
+use Rattle.lft_words.specs.Columns.{padded}
 use Rattle.lft_words.specs.Lines.{line_words}
 use Rattle.lft_contrast.specs.declared.contrasts.Contrast.{Contrast}
 use Rattle.lft_contrast.specs.declared.contrasts.Contrast.TheVariants as contrast
 use Rattle.lft_contrast.specs.Words.{instance_words, effect_words, first_words, second_words}
-
--- blanks behind a word, up to a width
-abbrev pub padded : ℕ → List ℕ → List ℕ
-padded width words = words ++ replicate (width - length words) 32
 
 -- the greatest length of some words of contrasts, and at least so many
 abbrev pub widest : (Contrast → List ℕ) → ℕ → List Contrast → ℕ

@@ -2,12 +2,13 @@
 
 ghost use Rattle.std.specs.Prelude.{◌≡◌, ◌++◌, length, max, IfOk, OnOk, string_bytes};
 ghost use Rattle.lft_contrast.specs.Words.{effect_words, first_words};
-ghost use Rattle.lft_contrast.specs.Told.{padded, widest, row_words};
+ghost use Rattle.lft_contrast.specs.Told.{widest, row_words};
 
 use crate::cells::{effect_cell, first_cell, push_second};
 use crate::contrasts::Contrast;
 use lft_flat::Program;
 use lft_lists::item_at;
+use lft_words::push_padded;
 use std::alloc::{AllocError, Global};
 
 /// How wide the first two columns are.
@@ -70,17 +71,6 @@ pub(crate) fn widths_of(
     Ok(Widths { effect, first })
 }
 
-/// Puts a word with blanks behind it, up to the width, at the end of the text.
-pub(crate) fn push_padded(text: &mut String, word: &str, width: usize) -> Result<(), AllocError>
-    ensures { OnOk result (string_bytes text.new ≡ string_bytes text.old ++ padded width word.now) }
-{
-    text.push_str(word)?;
-    for _blank in word.len()..width {
-        text.push_str(" ")?;
-    }
-    Ok(())
-}
-
 /// Puts a line of the table at the end of the text.
 pub(crate) fn push_row(
     alloc: Global,
@@ -94,9 +84,9 @@ pub(crate) fn push_row(
     let effect = effect_cell(alloc, program, contrast)?;
     let first = first_cell(alloc, contrast)?;
     text.push_str("  ")?;
-    push_padded(text, effect.as_str(), widths.effect)?;
+    push_padded(text, widths.effect, effect.as_str())?;
     text.push_str("  ")?;
-    push_padded(text, first.as_str(), widths.first)?;
+    push_padded(text, widths.first, first.as_str())?;
     text.push_str("  ")?;
     push_second(text, contrast)?;
     text.push_str("\n")?;

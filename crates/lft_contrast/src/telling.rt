@@ -5,11 +5,13 @@ ghost use Rattle.lft_contrast.specs.Words.{instance_words};
 ghost use Rattle.lft_contrast.specs.Told.{starts_words, read_words, earlier_words, before_words, contrast_words, heading_words, told};
 
 use crate::contrasts::{Contrast, Contrasts};
-use crate::table::{Widths, push_padded, push_row, widths_of};
+use crate::table::{Widths, push_row, widths_of};
 use lft_flat::{Name, Program, Value};
 use lft_lists::item_at;
 use lft_tag::Tag;
-use lft_words::{push_line, push_name, push_number, push_reaction, push_tag, push_value};
+use lft_words::{
+    push_line, push_name, push_number, push_padded, push_reaction, push_tag, push_value,
+};
 use std::alloc::{AllocError, Global};
 
 /// Puts where a run starts at the end of the text.
@@ -117,9 +119,9 @@ fn push_heading(
     text.push_str(" at ")?;
     push_tag(text, tag)?;
     text.push_str(" answers otherwise in the two traces.\n\n  ")?;
-    push_padded(text, "effect", widths.effect)?;
+    push_padded(text, widths.effect, "effect")?;
     text.push_str("  ")?;
-    push_padded(text, "first", widths.first)?;
+    push_padded(text, widths.first, "first")?;
     text.push_str("  second\n")?;
     Ok(())
 }

@@ -4,7 +4,7 @@ use Rattle.lft_tag.specs.declared.Tag.{Tag}
 use Rattle.lft_tag.specs.Tags.{UpTo}
 use Rattle.lft_tag.specs.Shifts.{Folded, shifted}
 use Rattle.lft_tag.proofs.Order.{UpTo-Before}
-use Rattle.lft_tag.proofs.Chains.{tag_of}
+use Rattle.lft_tag.proofs.Chains.{tag_of, shifted_same}
 use Rattle.lft_flat.specs.declared.parts.Port.{Port as PortOf}
 use Rattle.lft_trace.specs.declared.row.Row.{Row}
 use Rattle.lft_listeners.specs.Listeners.{IsArrival, IsWatched, arrival, IsFirstDelayed}
@@ -26,13 +26,6 @@ together g h s same apart = go s.0 s.1 same
     go : (d n : ℕ) → shifted g (d, n) ≡ shifted h (d, n) → (0 < d) × (g.time ≡ h.time)
     go zero n e = absurd (apart (tag_of (ap (λ (k : Tag). k.time) e) (let z : g.micro + n ≡ h.micro + n = ap (λ (k : Tag). k.micro) e in let y : g.micro ≡ h.micro = omega arith in y)))
     go (suc d) n e = (omega arith, (let z : g.time + suc d ≡ h.time + suc d = ap (λ (k : Tag). k.time) e in omega arith))
-
-meet : (g h : Tag) (s : Folded) → 0 < s.0 → g.time ≡ h.time → shifted g s ≡ shifted h s
-meet g h s l e = go s.0 s.1 l
-  where
-    go : (d n : ℕ) → 0 < d → shifted g (d, n) ≡ shifted h (d, n)
-    go zero n z = absurd (omega arith)
-    go (suc d) n z = tag_of (ap (λ (k : ℕ). k + suc d) e) refl
 
 -- a lesser shift leads to no later tag
 no_later : (g : Tag) (s t : Folded) → 0 < s.0 → 0 < t.0 → (let a : Tag = record { time = s.0; micro = s.1 } in let b : Tag = record { time = t.0; micro = t.1 } in UpTo a b) → UpTo (shifted g s) (shifted g t)
@@ -66,7 +59,7 @@ carried plan good t p port is_port h c = record {
     first_value = c.first_value;
     second_value = c.second_value;
     is_first = to_written plan good f.0 f.1.port f.1.delayed.is_port t (shifted c.first (f.1.port.shift.time, f.1.port.shift.steps)) c.first c.first_value refl (subst (λ (o : ℕ). Last t c.first o c.first_value) (sym f.1.delayed.has_origin) one.1);
-    is_second = to_written plan good f.0 f.1.port f.1.delayed.is_port t (shifted c.first (f.1.port.shift.time, f.1.port.shift.steps)) c.second c.second_value (meet c.second c.first (f.1.port.shift.time, f.1.port.shift.steps) f.1.delayed.later (sym both.1)) (subst (λ (o : ℕ). Last t c.second o c.second_value) (sym f.1.delayed.has_origin) two.1);
+    is_second = to_written plan good f.0 f.1.port f.1.delayed.is_port t (shifted c.first (f.1.port.shift.time, f.1.port.shift.steps)) c.second c.second_value (shifted_same c.second c.first (f.1.port.shift.time, f.1.port.shift.steps) f.1.delayed.later (sym both.1)) (subst (λ (o : ℕ). Last t c.second o c.second_value) (sym f.1.delayed.has_origin) two.1);
     differ = c.differ;
   };
 }

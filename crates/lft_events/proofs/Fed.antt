@@ -1,5 +1,5 @@
 -- The events in the queue, when a row is fed to it.
-use Rattle.std.proofs.Common.{◌≡◌, ◌≢◌, ◌↔◌, ℕ, ◌+◌, ◌<◌, List, [], ◌∷◌, ◌++◌, refl, sym, ap, ◌∙◌, subst, arith, Option, Some, None, IsSome, Bool, true, false, cond, ◌||◌, nat_eq, eqb-true, slice_get, Result, Ok, Err, IfOk, Contains, AllPairs, length, take, length-take}
+use Rattle.std.proofs.Common.{◌≡◌, ◌≢◌, ◌↔◌, ℕ, ◌+◌, ◌<◌, List, [], ◌∷◌, ◌++◌, refl, sym, ap, ◌∙◌, subst, arith, Option, Some, None, IsSome, Bool, true, false, cond, ◌||◌, nat_eq, eqb-true, slice_get, Contains, AllPairs, length, take, length-take}
 use Rattle.std.specs.Cmp.{nat_eq_equiv}
 use Rattle.std.specs.List.{list_any}
 use Rattle.std.proofs.lemmas.Bool.Decides.{nat_tests}
@@ -23,15 +23,11 @@ use Rattle.lft_queue.proofs.Tests.{name_refl}
 use Rattle.lft_model.specs.Plans.{PlanParts, IsSoundPlan}
 use Rattle.lft_model.specs.Presence.{Last, IsWrittenFrom, At, PortClash, ClashesAt}
 use Rattle.lft_model.proofs.Places.{tag_discrete}
-use Rattle.lft_model.proofs.Steps.{same_tag_refl}
 use Rattle.lft_listeners.specs.Listeners.{IsWatched}
 use Rattle.lft_events.specs.Events.{IsWanted, IsPut, seen_by, IsFedTo, WasWritten}
 use Rattle.lft_events.proofs.Heard.{heard}
 use Rattle.lft_events.proofs.Written.{shifts_on, from_written, to_written, elsewhere_at, elsewhere_clash, more_clash, one_event, two_events}
-
-pub if_ok : {A E : Type 0} (r : Result A E) (P Q : A → Type 0) → ((a : A) → P a → Q a) → IfOk r P → IfOk r Q
-if_ok (Ok a) P Q f h = f a h
-if_ok (Err e) P Q f h = h
+use Rattle.lft_tag.proofs.Order.{same_tag_refl}
 
 -- the ports of a list that have heard so far, and the next one
 pub taken_more : (ports : List ℕ) (i p : ℕ) → slice_get ports i ≡ Some p → take (i + 1) ports ≡ take i ports ++ p ∷ []

@@ -5,7 +5,7 @@ use Rattle.std.proofs.lemmas.Bool.{false≢true}
 use native.Mathlib.Decide.{dec_lt}
 use Rattle.lft_tag.specs.declared.Tag.{Tag}
 use Rattle.lft_tag.specs.Tags.{Before, UpTo, same_tag}
-use Rattle.lft_tag.proofs.Order.{Before-irrefl, UpTo-not, order_cases}
+use Rattle.lft_tag.proofs.Order.{Before-irrefl, UpTo-not, order_cases, same_tag_refl}
 use Rattle.lft_flat.specs.Parts.{Parts, inputs}
 use Rattle.lft_flat.specs.declared.parts.Trigger.TheVariants.{On}
 use Rattle.lft_lists.proofs.Members.{Mem, mem_get, get_mem, mem_filter, mem_from_filter, mem_contains, contains_mem}
@@ -22,12 +22,13 @@ use Rattle.lft_model.specs.Plans.{PlanParts, IsSoundPlan}
 use Rattle.lft_model.specs.Presence.{given, At, Shows, Inputs}
 use Rattle.lft_model.proofs.Places.{slice_get_within}
 use Rattle.lft_model.proofs.Counted.{get_or_get}
-use Rattle.lft_model.proofs.Steps.{both_true, same_tag_true, same_tag_refl, cond_some}
+use Rattle.lft_model.proofs.Steps.{both_true, same_tag_true}
 use Rattle.lft_model.proofs.Reached.{input_of_trigger}
 use Rattle.lft_model.proofs.Empty.{empty_so_far}
 use Rattle.lft_listeners.specs.Listeners.{IsListener}
 use Rattle.lft_events.specs.Events.{IsWatchedName, HasEvents}
 use Rattle.lft_events.proofs.Fed.{none_there, some_there}
+use Rattle.std.proofs.NetLemmas.Options.{cond_some}
 
 -- one of the first i events is of the action at the tag, with the value
 pub record IsGiven (events : List Event) (i : ℕ) (h : Tag) (n : Name) (v : Value) : Type 0 where

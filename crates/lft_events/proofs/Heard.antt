@@ -2,7 +2,7 @@
 use Rattle.std.proofs.Common.{◌≡◌, ◌↔◌, inl, inr, List, refl, sym, ap, ◌∙◌, subst, Option, Some, None, IsSome, Bool, true, false, cond, ◌&&◌}
 use Rattle.lft_tag.specs.declared.Tag.{Tag}
 use Rattle.lft_tag.specs.Tags.{Before, UpTo, same_tag}
-use Rattle.lft_tag.proofs.Order.{Before-trans, Before-irrefl}
+use Rattle.lft_tag.proofs.Order.{Before-trans, Before-irrefl, same_tag_refl}
 use Rattle.lft_flat.specs.declared.parts.Value.{Value}
 use Rattle.lft_flat.specs.declared.parts.Name.{Name}
 use Rattle.lft_trace.specs.declared.row.Row.{Row}
@@ -10,7 +10,7 @@ use Rattle.lft_queue.specs.Pending.{Pending, value_of, same_name, same_key}
 use Rattle.lft_queue.proofs.Tests.{name_same, name_refl}
 use Rattle.lft_model.specs.Plans.{PlanParts}
 use Rattle.lft_model.specs.Presence.{At, ClashesAt}
-use Rattle.lft_model.proofs.Steps.{both_true, same_tag_true, same_tag_refl}
+use Rattle.lft_model.proofs.Steps.{both_true, same_tag_true}
 use Rattle.lft_events.specs.Events.{IsEarlier, IsWanted, IsPut, IsWatchedName, HasEventsOf}
 
 pub iff_trans : {A B C : Type 0} → A ↔ B → B ↔ C → A ↔ C

@@ -5,8 +5,8 @@ use Rattle.lft_flat.specs.Parts.{Parts}
 use Rattle.lft_flat.specs.declared.parts.Name.{Name}
 use Rattle.lft_trace.specs.declared.row.Row.{Row}
 use Rattle.lft_model.specs.Runs.{inputs_of, effects_of}
-use Rattle.lft_facts.specs.declared.facts.Kind.{Kind}
-use Rattle.lft_facts.specs.declared.facts.Kind.TheVariants as kind
+use Rattle.lft_facts.specs.declared.facts.ThingKind.{ThingKind}
+use Rattle.lft_facts.specs.declared.facts.ThingKind.TheVariants as kind
 use Rattle.lft_facts.specs.declared.facts.Reason.{Reason}
 use Rattle.lft_facts.specs.declared.facts.Reason.TheVariants as reason
 use Rattle.lft_words.specs.Words.{tag_words, port_words, reaction_words, name_words}
@@ -49,13 +49,13 @@ abbrev pub effects_words : Parts → ℕ → List ℕ
 effects_words program r = codes "  Effects of " ++ reaction_words program r ++ codes ":" ++ listed program (effects_of program r) ++ codes "\n"
 
 -- what a thing is, and what is done with it
-abbrev pub kind_words : Kind → List ℕ
+abbrev pub kind_words : ThingKind → List ℕ
 kind_words kind.Port = codes " is a port: it is written, and not scheduled.\n"
 kind_words kind.Logical = codes " is a logical action: it is scheduled, and not written.\n"
 kind_words kind.Physical = codes " is a physical action: its events are external inputs.\n"
 
 -- `N is a ..`
-abbrev pub named_kind_words : Parts → Name → Kind → List ℕ
+abbrev pub named_kind_words : Parts → Name → ThingKind → List ℕ
 named_kind_words program n k = codes "  " ++ name_words program n ++ kind_words k
 
 -- `P is fed by Q: a write names that.`

@@ -8,7 +8,7 @@ use crate::neighbours::{push_last_row, push_never, push_run_after, push_run_befo
 use crate::orders::push_passed_by;
 use crate::rows::push_run;
 use crate::ways::{push_hop, push_nearest};
-use lft_facts::{Kind, Reason};
+use lft_facts::{Reason, ThingKind};
 use lft_flat::{Name, Program};
 use lft_lists::item_at;
 use lft_tag::{NoMemory, Tag};
@@ -163,18 +163,23 @@ fn push_effects(text: &mut String, program: &Program, reaction: u32) -> Result<(
 }
 
 /// What a thing of that kind is, and what is done with it.
-fn kind_words(kind: Kind) -> &'static str
+fn kind_words(kind: ThingKind) -> &'static str
     ensures { result.now ≡ the_kind_words kind }
 {
     match kind {
-        Kind::Port => " is a port: it is written, and not scheduled.\n",
-        Kind::Logical => " is a logical action: it is scheduled, and not written.\n",
-        Kind::Physical => " is a physical action: its events are external inputs.\n",
+        ThingKind::Port => " is a port: it is written, and not scheduled.\n",
+        ThingKind::Logical => " is a logical action: it is scheduled, and not written.\n",
+        ThingKind::Physical => " is a physical action: its events are external inputs.\n",
     }
 }
 
 /// Puts what a port or action is at the end of the text.
-fn push_kind(text: &mut String, program: &Program, name: Name, kind: Kind) -> Result<(), AllocError>
+fn push_kind(
+    text: &mut String,
+    program: &Program,
+    name: Name,
+    kind: ThingKind,
+) -> Result<(), AllocError>
     ensures { OnOk result (string_bytes text.new ≡ string_bytes text.old ++ named_kind_words program.now name kind) }
 {
     text.push_str("  ")?;

@@ -6,7 +6,7 @@ use Rattle.lft_lists.proofs.Members.{last_by_place}
 use Rattle.lft_tag.specs.declared.Tag.{Tag}
 use Rattle.lft_tag.specs.Tags.{Before, after, same_tag}
 use Rattle.lft_tag.specs.Shifts.{shifted}
-use Rattle.lft_tag.proofs.Order.{Before-irrefl}
+use Rattle.lft_tag.proofs.Order.{Before-irrefl, same_tag_refl}
 use Rattle.lft_tag.proofs.Chains.{tag_of as tag_from}
 use Rattle.lft_flat.specs.Parts.{Parts}
 use Rattle.lft_flat.proofs.Origins.{origin_inside}
@@ -27,7 +27,7 @@ use Rattle.lft_model.proofs.Places.{slice_get_within}
 use Rattle.lft_model.proofs.ActionEvents.{at_row, at_event}
 use Rattle.lft_model.proofs.Firings.{time_of, again_fires}
 use Rattle.lft_model.proofs.Ended.{written_by, by_written, by_scheduled, scheduled_by}
-use Rattle.lft_model.proofs.Steps.{cond_some, both_true, same_tag_true, same_tag_refl, written_some, some_written, scheduled_some, some_scheduled}
+use Rattle.lft_model.proofs.Steps.{both_true, same_tag_true, written_some, some_written, scheduled_some, some_scheduled}
 use Rattle.lft_presence.specs.declared.causes.Cause.{Cause as Event}
 use Rattle.lft_presence.specs.Causes.{tag_of, cause as cause_of, ComesUpTo, Leads, IsLastCause, IsCause, Carries, step_cause}
 use Rattle.lft_presence.proofs.Presences.{ChainOf, port_cause, action_cause, carrier, row_of, event_of, step_place, step_schedules, none_leads}
@@ -35,6 +35,7 @@ use Rattle.lft_facts.specs.declared.facts.Cause.{Cause}
 use Rattle.lft_facts.specs.declared.facts.Cause.TheVariants as cause
 use Rattle.lft_facts.specs.Facts.{IsCause as IsFactCause, IsWrittenIn, IsScheduledIn, IsGiven, FiresAfter}
 use Rattle.lft_facts.specs.Enough.{GivesTrigger}
+use Rattle.std.proofs.NetLemmas.Options.{cond_some}
 
 -- the row is the last that writes the origin at its tag, so the port has an event from there
 pub written_from : (plan : PlanParts) (t : List Row) (g : Tag) (p i : ℕ) (w : IsWrittenIn plan t g p i) → IsWrittenFrom plan t g p w.row.tag w.value

@@ -30,8 +30,8 @@ use Rattle.lft_facts.specs.declared.facts.Cause.{Cause}
 use Rattle.lft_facts.specs.declared.facts.Cause.TheVariants as cause
 use Rattle.lft_facts.specs.Facts.{IsFact, AreFacts, IsWrittenIn}
 use Rattle.lft_facts.specs.Enough.{Gives, GivesClash}
-use Rattle.lft_facts.specs.Causes.{IsFirstCause}
-use Rattle.lft_facts.proofs.Lookups.{in_order}
+use Rattle.lft_presence.specs.Lookups.{IsFirstCause}
+use Rattle.lft_presence.proofs.Lookups.{in_order}
 use Rattle.lft_facts.proofs.Causes.{written_from, scheduled_at, given_at, written_in}
 
 -- two rows that write the origin of one port last at their tags, and lead to one tag, are of two tags

@@ -1,4 +1,3 @@
-pub mod Lookups
 pub mod Lists
 pub mod Upstream
 pub mod Causes

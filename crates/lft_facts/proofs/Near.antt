@@ -24,8 +24,9 @@ use Rattle.lft_presence.proofs.Positions.{shifted_mono}
 use Rattle.lft_presence.proofs.Presences.{present_cause, cause_present}
 use Rattle.lft_facts.specs.Reasons.{IsNearest}
 use Rattle.lft_facts.specs.Ways.{AreThere}
-use Rattle.lft_facts.specs.Causes.{StandsFor, IsLastBefore, IsFirstAfter}
-use Rattle.lft_facts.proofs.Lookups.{in_order}
+use Rattle.lft_facts.specs.Causes.{StandsFor}
+use Rattle.lft_presence.specs.Lookups.{IsLastBefore, IsFirstAfter}
+use Rattle.lft_presence.proofs.Lookups.{in_order}
 
 module _ (plan : PlanParts) (t : List Row) (sound : IsSound plan.program) (fit : RowsFit plan.program t) (g : Tag) (n : Name) (key : ℕ) (s : Folded) (stands : StandsFor plan.program n key s) (c : Event) where
   pub nearest_before : IsLastBefore plan t key s g (Some c) → IsNearest plan t g (On n) (shifted (tag_of c) s)

@@ -22,6 +22,7 @@ use Rattle.lft_facts.specs.declared.facts.RowFact.TheVariants as row_fact
 use Rattle.lft_facts.specs.Facts.{IsFact, IsRowFact, AreFacts, IsRowOf, MayNot}
 use Rattle.lft_facts.specs.Runs.{IsOpenSince}
 use Rattle.lft_facts.specs.Enough.{GivesRow, ProvesRow}
+use Rattle.lft_model.proofs.OutOfOrder.{out_inner}
 
 -- each fact gives its rule
 pub late_row : (i j : ℕ) → GivesRow (row_fact.Late i j) i 1
@@ -36,16 +37,8 @@ again_row i j plan t f = (f.row, f.is_row, inr (inr (inl (refl, subst (λ (s : S
 pub busy_row : (i j : ℕ) → GivesRow (row_fact.Busy i j) i 3
 busy_row i j plan t f = (f.row, f.is_row, inr (inr (inl (refl, subst (λ (s : Step). IsOutOfOrder t i f.row s) (sym f.starts) (inr (f.busy.tag, f.busy.reaction, record { start = j; before = f.busy.before; starts = f.busy.starts; not_ended = f.busy.not_ended }))))))
 
-closed_order : (t : List Row) (i : ℕ) (row : Row) (s : Step) → ¬ (s ≡ Start) → ¬ IsOpen t i row.worker row.tag row.reaction → IsOutOfOrder t i row s
-closed_order t i row Start n c = absurd (n refl)
-closed_order t i row (Read m v) n c = c
-closed_order t i row (Write m v) n c = c
-closed_order t i row (Schedule m v d) n c = c
-closed_order t i row Stop n c = c
-closed_order t i row End n c = c
-
 pub unopened_row : (i : ℕ) → GivesRow (row_fact.NotOpen i) i 3
-unopened_row i plan t f = (f.row, f.is_row, inr (inr (inl (refl, closed_order t i f.row f.row.step f.inner f.closed))))
+unopened_row i plan t f = (f.row, f.is_row, inr (inr (inl (refl, out_inner t i f.row f.row.step f.inner f.closed))))
 
 pub other_row : (i : ℕ) → GivesRow (row_fact.NotInput i) i 4
 other_row i plan t f = (f.row, f.is_row, inr (inr (inr (inl (refl, subst (λ (s : Step). IsUndeclared plan.program t i f.row s) (sym f.reads) (inl f.other))))))
@@ -66,15 +59,6 @@ effect_row i plan t f = (f.row, f.is_row, inr (inr (inr (inl (refl, undeclared_b
 
 pub unended_row : (i : ℕ) → GivesRow (row_fact.Unended i) i 5
 unended_row i plan t f = (f.row, f.is_row, inr (inr (inr (inr (refl, f.unended)))))
-
--- what a row that is out of order says
-pub order_closed : (t : List Row) (i : ℕ) (row : Row) (s : Step) → ¬ (s ≡ Start) → IsOutOfOrder t i row s → ¬ IsOpen t i row.worker row.tag row.reaction
-order_closed t i row Start n o = absurd (n refl)
-order_closed t i row (Read m v) n o = o
-order_closed t i row (Write m v) n o = o
-order_closed t i row (Schedule m v d) n o = o
-order_closed t i row Stop n o = o
-order_closed t i row End n o = o
 
 pub order_busy : (t : List Row) (i : ℕ) (row : Row) → row.step ≡ Start → IsOutOfOrder t i row row.step → ¬ WasStarted t i row.tag row.reaction → (g : Tag) × (r : ℕ) × IsOpen t i row.worker g r
 order_busy t i row is o none = go (subst (λ (s : Step). IsOutOfOrder t i row s) is o)

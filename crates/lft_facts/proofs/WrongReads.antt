@@ -3,7 +3,7 @@ use Rattle.std.proofs.Common.{◌≡◌, ℕ, zero, suc, ◌+◌, ◌<◌, ◌�
 use native.Mathlib.Decide.{ℕ_discrete}
 use Rattle.std.specs.List.{AllZip}
 use Rattle.std.proofs.lemmas.List.Elements.{All-push, All-contains, All-cons, All-nil, Contains-append_left, Contains-push}
-use Rattle.lft_lists.proofs.Places.{get_there, same_at, get_written}
+use Rattle.lft_lists.proofs.Places.{get_there, same_at, get_written, same_items}
 use Rattle.lft_lists.proofs.Mapped.{mapped}
 use Rattle.lft_tag.specs.declared.Tag.{Tag}
 use Rattle.lft_flat.specs.Parts.{inputs}
@@ -22,17 +22,7 @@ use Rattle.lft_facts.specs.Facts.{IsFact, AreFacts, IsRead}
 use Rattle.lft_facts.specs.Runs.{StartsAt}
 use Rattle.lft_facts.specs.Enough.{Gives}
 use Rattle.lft_facts.proofs.Giving.{ran_there, same_reaction}
-
--- lists of one length with the same items
-same_items : {X : Type 0} (xs ys : List X) → length xs ≡ length ys → ((k : ℕ) (x y : X) → slice_get xs k ≡ Some x → slice_get ys k ≡ Some y → x ≡ y) → xs ≡ ys
-same_items [] [] l e = refl
-same_items [] (y ∷ ys) l e = absurd (omega arith)
-same_items (x ∷ xs) [] l e = absurd (omega arith)
-same_items (x ∷ xs) (y ∷ ys) l e = let p : x ≡ y = e 0 x y refl refl in let q : xs ≡ ys = same_items xs ys (omega arith) (λ k a b f g. e (suc k) a b f g) in cc
-
-map_long : {X Y : Type 0} (f : X → Y) (xs : List X) → length (map f xs) ≡ length xs
-map_long f [] = refl
-map_long f (x ∷ xs) = ap suc (map_long f xs)
+use Rattle.std.proofs.lemmas.List.{length-map}
 
 -- two lists side by side, at a place
 zip_at : {A B : Type 0} (R : A → B → Type 0) (xs : List A) (ys : List B) (k : ℕ) (x : A) (y : B) → AllZip R xs ys → slice_get xs k ≡ Some x → slice_get ys k ≡ Some y → R x y
@@ -74,7 +64,7 @@ module _ (plan : PlanParts) (t : List Row) (g : Tag) (r start : ℕ) (x : Reacti
   as_shown other z = only other (record { reaction = x; is_reaction = is_reaction; each = subst (λ (ns : List Name). AllZip (Shows plan t g) ns other) are z })
 
   pub read_long : length read ≡ length names
-  read_long = ap length reads_are ∙ map_long (read_of (steps_of t g r)) names
+  read_long = ap length reads_are ∙ length-map names (read_of (steps_of t g r))
 
   pub present_long : length present ≡ length names
   present_long = sym (long (Shows plan t g) names present shown)

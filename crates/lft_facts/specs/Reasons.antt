@@ -17,8 +17,8 @@ use Rattle.lft_model.specs.Presence.{stop, asked, Occurs}
 use Rattle.lft_model.specs.Runs.{start_row, end_row, Ran, inputs_of, effects_of}
 use Rattle.lft_facts.specs.Runs.{StartsAt, IsOpenSince}
 use Rattle.lft_facts.specs.declared.facts.Hop.{Hop}
-use Rattle.lft_facts.specs.declared.facts.Kind.{Kind}
-use Rattle.lft_facts.specs.declared.facts.Kind.TheVariants as kind
+use Rattle.lft_facts.specs.declared.facts.ThingKind.{ThingKind}
+use Rattle.lft_facts.specs.declared.facts.ThingKind.TheVariants as kind
 use Rattle.lft_facts.specs.declared.facts.Reason.{Reason}
 use Rattle.lft_facts.specs.declared.facts.Reason.TheVariants as reason
 
@@ -116,7 +116,7 @@ abbrev pub IsAction : Parts → ℕ → Bool → Type 0
 IsAction program a physical = (action : ActionOf) × (slice_get program.actions a ≡ Some action) × (action.physical ≡ physical)
 
 -- the name is of a thing of that kind
-abbrev pub IsOfKind : Parts → Name → Kind → Type 0
+abbrev pub IsOfKind : Parts → Name → ThingKind → Type 0
 IsOfKind program (Port p) kind.Port = p < length program.ports
 IsOfKind program (Action a) kind.Logical = IsAction program a false
 IsOfKind program (Action a) kind.Physical = IsAction program a true

@@ -11,10 +11,9 @@ ghost use Rattle.lft_facts.specs.Facts.{IsCause, IsWrittenIn, FiresAfter};
 ghost use Rattle.lft_facts.specs.Enough.{GivesTrigger};
 
 use crate::facts::Cause;
-use crate::lookup::last_cause;
 use lft_flat::{Name, Trigger};
 use lft_model::{Plan, fires};
-use lft_presence::Cause as EventCause;
+use lft_presence::{Cause as EventCause, last_cause};
 use lft_tag::{Shift, Tag};
 use lft_trace::Row;
 

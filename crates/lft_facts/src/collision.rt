@@ -9,9 +9,8 @@ ghost use Rattle.lft_facts.specs.Enough.{Gives, GivesClash};
 
 use crate::cause::of_action;
 use crate::facts::{Cause, Fact};
-use crate::lookup::{first_cause, last_cause};
 use lft_model::Plan;
-use lft_presence::{Cause as EventCause, cause_tag};
+use lft_presence::{Cause as EventCause, cause_tag, first_cause, last_cause};
 use lft_tag::{NoMemory, Shift, Tag};
 use lft_trace::Row;
 use std::alloc::Global;

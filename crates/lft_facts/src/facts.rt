@@ -5,7 +5,7 @@ use lft_tag::Tag;
 use std::marker::Model;
 
 /// Why a trigger or an input is present at a tag.
-#[derive(Clone, Copy, PartialEq, Eq, Debug, Drop)]
+#[derive(Clone, Copy, Drop)]
 pub enum Cause {
     /// The tag is the first of all.
     AtStartup { tag: Tag },
@@ -22,7 +22,7 @@ pub enum Cause {
 }
 
 /// What is wrong with a row, by one of the rules 1 to 5.
-#[derive(Clone, Copy, PartialEq, Eq, Debug, Drop)]
+#[derive(Clone, Copy, Drop)]
 pub enum RowFact {
     /// It is at a lesser tag than a row before it.
     Late { row: u32, earlier: u32 },
@@ -46,7 +46,7 @@ pub enum RowFact {
 
 /// A connection between two ports, and where its delay leads: from the tag before it to the one
 /// after it.
-#[derive(Clone, Copy, PartialEq, Eq, Debug, Drop)]
+#[derive(Clone, Copy, Drop)]
 pub struct Hop {
     pub from: u32,
     pub to: u32,
@@ -55,8 +55,8 @@ pub struct Hop {
 }
 
 /// What a port or an action is.
-#[derive(Clone, Copy, PartialEq, Eq, Debug, Drop)]
-pub enum Kind {
+#[derive(Clone, Copy, Drop)]
+pub enum ThingKind {
     /// A port.
     Port,
     /// An action that reactions schedule.
@@ -66,7 +66,7 @@ pub enum Kind {
 }
 
 /// A statement beside those that are enough for a breach: what a reader asks next.
-#[derive(Clone, Copy, PartialEq, Eq, Debug, Drop)]
+#[derive(Clone, Copy, Drop)]
 pub enum Reason {
     /// A connection on the way of an event.
     Hop(Hop),
@@ -145,7 +145,7 @@ pub enum Reason {
     /// What a port or action is.
     KindOf {
         name: Name,
-        kind: Kind,
+        kind: ThingKind,
     },
     /// What a port gets is written at another one, its origin.
     FedBy {
@@ -166,7 +166,7 @@ pub enum Reason {
 
 /// A statement about a plan and the rows of a trace. Rows and events are named by their places,
 /// counted from 0; the row at place 0 stands in line 2 of the table.
-#[derive(Clone, Copy, PartialEq, Eq, Debug, Drop)]
+#[derive(Clone, Copy, Drop)]
 pub enum Fact {
     /// The tag and the reaction of a row.
     RowIs {
@@ -239,7 +239,7 @@ pub enum Fact {
 }
 
 /// Facts in the order in which they are told.
-#[derive(Debug, Drop)]
+#[derive(Drop)]
 pub struct Facts {
     items: Vec<Fact>,
 }

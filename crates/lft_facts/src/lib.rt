@@ -11,7 +11,6 @@ mod feeding;
 mod finding;
 mod firings;
 mod hops;
-mod lookup;
 mod nearest;
 mod neighbours;
 mod ordering;
@@ -25,5 +24,5 @@ mod stopping;
 mod triggers;
 mod ways;
 
-pub use facts::{Cause, Fact, Facts, Hop, Kind, Reason, RowFact};
+pub use facts::{Cause, Fact, Facts, Hop, Reason, RowFact, ThingKind};
 pub use finding::find;

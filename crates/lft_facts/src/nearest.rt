@@ -8,10 +8,9 @@ ghost use Rattle.lft_presence.specs.Causes.{AreCauses};
 ghost use Rattle.lft_facts.specs.Reasons.{IsNearest};
 ghost use Rattle.lft_facts.specs.Causes.{StandsFor};
 
-use crate::lookup::{first_after, last_before};
 use lft_flat::{Name, Program};
 use lft_model::Plan;
-use lft_presence::{Cause as EventCause, cause_tag, moved};
+use lft_presence::{Cause as EventCause, cause_tag, first_after, last_before, moved};
 use lft_tag::{Shift, Tag};
 use lft_trace::Row;
 

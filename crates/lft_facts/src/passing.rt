@@ -12,20 +12,15 @@ use crate::facts::{Fact, Reason};
 use lft_lists::item_at;
 use lft_tag::{NoMemory, Tag};
 
-/// The reaction with which the step begins.
-fn begins(step: Fact) -> Option<u32> {
-    match step {
-        Fact::DeclaredFirst { first, .. } => Some(first),
-        Fact::Feeds { writer, .. } => Some(writer),
-        _ => None,
-    }
-}
-
 /// That the reaction with which the step begins has no run at the tag, where it has none.
 fn passed_by(tag: Tag, ran: &[bool], step: Fact) -> Option<Reason>
     ensures { (plan : PlanParts) (t : List TheRow) → HaveRun t tag ran.now → IfSome result (IsReason plan t) }
 {
-    let reaction = begins(step)?;
+    let reaction = match step {
+        Fact::DeclaredFirst { first, .. } => first,
+        Fact::Feeds { writer, .. } => writer,
+        _ => return None,
+    };
     if (reaction as usize) < ran.len() && !ran[reaction as usize] {
         Some(Reason::PassedBy { tag, reaction })
     } else {

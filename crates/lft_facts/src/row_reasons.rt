@@ -10,7 +10,7 @@ ghost use Rattle.lft_facts.specs.Reasons.{IsReason, IsOfKind};
 ghost use Rattle.lft_facts.specs.Enough.{Adds};
 
 use crate::adding::add;
-use crate::facts::{Fact, Kind, Reason, RowFact};
+use crate::facts::{Fact, Reason, RowFact, ThingKind};
 use crate::ordering::{first_start, is_end_at, is_open_since};
 use crate::runs::is_start_at;
 use crate::stopping::stop_reason;
@@ -146,14 +146,14 @@ fn named_feed(program: &Program, step: Step) -> Option<Reason>
 }
 
 /// What the action is.
-fn kind_of(program: &Program, action: u32) -> Kind
+fn kind_of(program: &Program, action: u32) -> ThingKind
     requires { action < length program.now.actions }
     ensures { IsOfKind program.now (TheAction action) result }
 {
     if program.action(action).physical {
-        Kind::Physical
+        ThingKind::Physical
     } else {
-        Kind::Logical
+        ThingKind::Logical
     }
 }
 
@@ -169,7 +169,7 @@ fn named_kind(program: &Program, step: Step) -> Option<Reason>
         }),
         Step::Schedule(Name::Port(port), _, _) => Some(Reason::KindOf {
             name: Name::Port(port),
-            kind: Kind::Port,
+            kind: ThingKind::Port,
         }),
         Step::Schedule(Name::Action(action), _, _) => {
             if program.action(action).physical {

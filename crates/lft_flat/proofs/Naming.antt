@@ -1,9 +1,13 @@
 -- Which triggers name a port or an action.
-use Rattle.std.proofs.Common.{◌≡◌, refl, ap, Some, None}
+use Rattle.std.proofs.Common.{◌≡◌, refl, ap, Some, None, ◌⊎◌, inl, inr, ℕ, slice_get, filter_map, subst}
 use Rattle.lft_flat.specs.Naming.{named}
 use Rattle.lft_flat.specs.declared.parts.Name.{Name}
 use Rattle.lft_flat.specs.declared.parts.Trigger.{Trigger}
 use Rattle.lft_flat.specs.declared.parts.Trigger.TheVariants.{Startup, Shutdown, Timer, On}
+use Rattle.lft_lists.proofs.Members.{Mem, mem_cases, mem_from_filter, mem_contains}
+use Rattle.lft_flat.specs.Parts.{Parts, inputs}
+use Rattle.lft_flat.specs.Sound.{IsSound, IsNameOf, IsTriggerOf}
+use Rattle.lft_flat.specs.declared.parts.Reaction.{Reaction}
 
 -- a trigger that is no port and no action names none
 pub named_none : (x : Trigger) → ((n : Name) → ¬ (x ≡ On n)) → named x ≡ None
@@ -18,3 +22,13 @@ named_on Startup n e = absurd (cc)
 named_on Shutdown n e = absurd (cc)
 named_on (Timer k) n e = absurd (cc)
 named_on (On m) n e = let q : m ≡ n = cc in ap On q
+
+-- an input of a reaction is a port or action of the program
+pub input_known : (program : Parts) → IsSound program → (r : ℕ) (x : Reaction) → slice_get program.reactions r ≡ Some x → (n : Name) → Mem n (inputs x) → IsNameOf program n
+input_known program sound r x e n m = go (mem_cases n (filter_map named x.triggers) x.uses m)
+  where
+    go : Mem n (filter_map named x.triggers) ⊎ Mem n x.uses → IsNameOf program n
+    go (inl q) =
+        let p = mem_from_filter named x.triggers n q in
+        subst (λ (y : Trigger). IsTriggerOf program y) (named_on p.0 n p.2) ((sound.exist r x e).triggers p.0 (mem_contains p.0 x.triggers p.1))
+    go (inr q) = (sound.exist r x e).uses n (mem_contains n x.uses q)

@@ -13,7 +13,7 @@ ghost use Rattle.lft_load.specs.Refusals.{is_of_text};
 ghost use Rattle.lft_front.specs.Refusals.{JudgeRefusal, JudgingRefusal, IsRefusedGrowth, TextsRefusal};
 ghost use Rattle.lft_load.specs.declared.fault.Part.TheVariants as part;
 
-use crate::judge::{Given, report};
+use crate::judge::{Execution, report};
 use lft_check::{NoWatch, Verdict, judge_alone};
 use lft_load::{Fault, Part, load};
 use lft_model::Plan;
@@ -23,7 +23,12 @@ use std::alloc::Global;
 use std::io::Write;
 
 /// The plan and the rows of three texts, else the fault of the first layer that refuses.
-fn read_texts(alloc: Global, program: &[u8], externals: &[u8], trace: &[u8]) -> Result<Given, Fault>
+fn read_texts(
+    alloc: Global,
+    program: &[u8],
+    externals: &[u8],
+    trace: &[u8],
+) -> Result<Execution, Fault>
     ensures meaning { IfOk result (λ given. IsMeaning program.now externals.now trace.now given.plan given.rows) }
     ensures fit { IfOk result (λ given. RowsFit given.plan.program given.rows) }
     ensures refused { IfErr result (TextsRefusal program.now externals.now trace.now) }
@@ -34,7 +39,7 @@ fn read_texts(alloc: Global, program: &[u8], externals: &[u8], trace: &[u8]) -> 
         Err(fault) => return Err(fault),
     };
     match read_trace(alloc, plan.program(), trace) {
-        Ok(rows) => Ok(Given { plan, rows }),
+        Ok(rows) => Ok(Execution { plan, rows }),
         Err(fault) => Err(Fault::trace(fault)),
     }
 }

@@ -31,7 +31,7 @@ use std::thread::Threads;
 
 /// The plan and the rows of three texts.
 #[derive(Drop)]
-pub(crate) struct Given {
+pub(crate) struct Execution {
     pub plan: Plan,
     pub rows: Rows,
 }
@@ -45,7 +45,7 @@ pub(crate) fn read_texts<R: Threads + Sync>(
     externals: &[u8],
     trace: &[u8],
     workers: u32,
-) -> Result<Given, Fault>
+) -> Result<Execution, Fault>
     ensures meaning { IfOk result (λ given. IsMeaning program.now externals.now trace.now given.plan given.rows) }
     ensures fit { IfOk result (λ given. RowsFit given.plan.program given.rows) }
     ensures refused { IfErr result (TextsRefusal program.now externals.now trace.now) }
@@ -56,7 +56,7 @@ pub(crate) fn read_texts<R: Threads + Sync>(
         Err(fault) => return Err(fault),
     };
     match read_trace_shared(rt, alloc, plan.program(), trace, workers) {
-        Ok(rows) => Ok(Given { plan, rows }),
+        Ok(rows) => Ok(Execution { plan, rows }),
         Err(fault) => Err(Fault::trace(fault)),
     }
 }

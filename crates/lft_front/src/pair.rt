@@ -15,7 +15,7 @@ ghost use Rattle.lft_front.specs.Refusals.{CheckRefusal, IsRefusedGrowth};
 ghost use Rattle.lft_load.specs.Written.{AppendsFront};
 ghost use Rattle.lft_load.specs.declared.fault.Part.TheVariants as part;
 
-use crate::judge::{Given, read_texts, verdict_of};
+use crate::judge::{Execution, read_texts, verdict_of};
 use crate::line::paired_line;
 use crate::paired::Paired;
 use lft_check::Verdict;
@@ -32,7 +32,7 @@ use std::thread::Threads;
 /// What three texts gave, and the rows of a second trace.
 #[derive(Drop)]
 pub(crate) struct Both {
-    pub given: Given,
+    pub given: Execution,
     pub second: Rows,
 }
 

@@ -10,6 +10,8 @@ mod long_texts;
 #[cfg(test)]
 mod many_workers;
 #[cfg(test)]
+mod products;
+#[cfg(test)]
 mod readers;
 #[cfg(test)]
 mod texts;

@@ -9,7 +9,8 @@ use Rattle.lft_graph.specs.Loops.{IsLoop}
 use Rattle.lft_graph.proofs.Chains.{snoc}
 use Rattle.lft_lists.proofs.Places.{get_there}
 
-from_there : (program : Parts) (a r : ℕ) → Direct program a r → a < length program.reactions
+-- what precedes is a reaction
+pub from_there : (program : Parts) (a r : ℕ) → Direct program a r → a < length program.reactions
 from_there program a r (inl d) = slice_get_within program.reactions a d.first d.is_first
 from_there program a r (inr d) = slice_get_within program.reactions a d.writer d.is_writer
 

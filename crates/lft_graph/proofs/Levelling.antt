@@ -2,14 +2,14 @@
 use Rattle.std.proofs.Common.{◌≡◌, ◌≢◌, ℕ, ◌+◌, ◌<◌, ◌⊎◌, inl, inr, List, [], ◌∷◌, ◌++◌, length, refl, sym, ap, ◌∙◌, subst, arith, Some, slice_get, length-append, replicate, Contains}
 use Rattle.std.proofs.lemmas.Option.{slice_get_within}
 use Rattle.std.proofs.lemmas.Bool.{cases_lt}
-use Rattle.lft_graph.specs.declared.levels.Mark.{Mark}
-use Rattle.lft_graph.specs.declared.levels.Mark.TheVariants.{New, Open, Done}
+use Rattle.lft_graph.specs.declared.levels.LevelMark.{LevelMark}
+use Rattle.lft_graph.specs.declared.levels.LevelMark.TheVariants.{New, Open, Done}
 use Rattle.lft_graph.specs.Graph.{AreLevels}
 use Rattle.lft_graph.specs.Walks.{IsSettled, NoneOpen, KeepsLooked, IsLevelOf}
 use Rattle.lft_lists.proofs.Places.{get_push_cases, get_same, length_same, get_there, at_contains, contains_at}
 
 -- each reaction below a number is looked at, and none is open
-pub record Looked (before : List (List ℕ)) (marks : List Mark) (reaction : ℕ) : Type 0 where
+pub record Looked (before : List (List ℕ)) (marks : List LevelMark) (reaction : ℕ) : Type 0 where
   pub as_long : length marks ≡ length before
   pub settled : IsSettled before marks
   pub none_open : NoneOpen marks
@@ -26,7 +26,7 @@ looked_start before = record {
   looked = λ p l. absurd (omega arith);
 }
 
-pub looked_more : (before : List (List ℕ)) (old marks : List Mark) (reaction : ℕ) → Looked before old reaction → length marks ≡ length old → IsSettled before marks → NoneOpen marks → KeepsLooked old marks → slice_get marks reaction ≢ Some New → Looked before marks (reaction + 1)
+pub looked_more : (before : List (List ℕ)) (old marks : List LevelMark) (reaction : ℕ) → Looked before old reaction → length marks ≡ length old → IsSettled before marks → NoneOpen marks → KeepsLooked old marks → slice_get marks reaction ≢ Some New → Looked before marks (reaction + 1)
 looked_more before old marks reaction w same s n k l = record {
   as_long = same ∙ w.as_long;
   settled = s;
@@ -35,14 +35,14 @@ looked_more before old marks reaction w same s n k l = record {
 }
 
 -- the levels that are taken out of the marks so far
-pub record Taken (marks : List Mark) (all : List ℕ) (reaction : ℕ) : Type 0 where
+pub record Taken (marks : List LevelMark) (all : List ℕ) (reaction : ℕ) : Type 0 where
   pub as_long : length all ≡ reaction
   pub each : (p l : ℕ) → slice_get all p ≡ Some l → slice_get marks p ≡ Some (Done l)
 
-pub taken_start : (marks : List Mark) → Taken marks [] 0
+pub taken_start : (marks : List LevelMark) → Taken marks [] 0
 taken_start marks = record { as_long = refl; each = λ p l e. absurd (cc) }
 
-pub taken_more : (marks : List Mark) (all : List ℕ) (reaction l : ℕ) → Taken marks all reaction → slice_get marks reaction ≡ Some (Done l) → Taken marks (all ++ l ∷ []) (reaction + 1)
+pub taken_more : (marks : List LevelMark) (all : List ℕ) (reaction l : ℕ) → Taken marks all reaction → slice_get marks reaction ≡ Some (Done l) → Taken marks (all ++ l ∷ []) (reaction + 1)
 taken_more marks all reaction l w e = record {
   as_long = length-append all (l ∷ []) ∙ ap (λ n. n + 1) w.as_long;
   each = λ p x f. at p x (get_push_cases all l p x f);
@@ -53,12 +53,12 @@ taken_more marks all reaction l w e = record {
     at p x (inr a) = subst (λ i. slice_get marks i ≡ Some (Done x)) (sym (a.0 ∙ w.as_long)) (e ∙ ap (λ y. Some (Done y)) a.1)
 
 -- where each reaction is looked at, each has a level
-pub is_levelled : (before : List (List ℕ)) (marks : List Mark) (p : ℕ) (m : Mark) → Looked before marks (length before) → slice_get marks p ≡ Some m → ((l : ℕ) → m ≡ Done l → ⊥) → ⊥
+pub is_levelled : (before : List (List ℕ)) (marks : List LevelMark) (p : ℕ) (m : LevelMark) → Looked before marks (length before) → slice_get marks p ≡ Some m → ((l : ℕ) → m ≡ Done l → ⊥) → ⊥
 is_levelled before marks p New w e n = w.looked p (let l = slice_get_within marks p New e in let s = w.as_long in omega arith) e
 is_levelled before marks p (Open k) w e n = w.none_open p k e
 is_levelled before marks p (Done l) w e n = n l refl
 
-pub are_levels : (before : List (List ℕ)) (marks : List Mark) (all : List ℕ) (reaction : ℕ) → Looked before marks (length before) → Taken marks all reaction → reaction ≡ length before → AreLevels before all
+pub are_levels : (before : List (List ℕ)) (marks : List LevelMark) (all : List ℕ) (reaction : ℕ) → Looked before marks (length before) → Taken marks all reaction → reaction ≡ length before → AreLevels before all
 are_levels before marks all reaction w t e = record {
   as_long = t.as_long ∙ e;
   above = above;

@@ -2,9 +2,9 @@
 use Rattle.std.proofs.Common.{◌≡◌, ◌≢◌, ℕ, zero, suc, ◌+◌, ◌<◌, ◌⊎◌, inl, inr, List, [], ◌∷◌, ◌++◌, length, refl, sym, ap, ◌∙◌, subst, arith, Option, Some, slice_get, slice_set, Contains, length-append}
 use Rattle.std.proofs.lemmas.Option.{slice_get_within}
 use Rattle.std.proofs.lemmas.Bool.{cases_eq}
-use Rattle.lft_graph.specs.declared.levels.Mark.{Mark}
-use Rattle.lft_graph.specs.declared.levels.Mark.TheVariants.{New, Open, Done}
-use Rattle.lft_graph.specs.declared.levels.Next.TheVariants.{Level, Looped, First}
+use Rattle.lft_graph.specs.declared.levels.LevelMark.{LevelMark}
+use Rattle.lft_graph.specs.declared.levels.LevelMark.TheVariants.{New, Open, Done}
+use Rattle.lft_graph.specs.declared.levels.LevelStep.TheVariants.{Level, Looped, First}
 use Rattle.lft_graph.specs.Loops.{IsLoopOf}
 use Rattle.lft_graph.specs.Walks.{IsStep, AreDone, IsLevelOf, IsSettled, NoneOpen, KeepsLooked, IsNext, IsCut, tally, done_weight}
 use Rattle.lft_lists.proofs.Places.{contains_at, at_contains, get_written, get_unwritten, get_write_cases, length_written, get_push, get_last, get_push_cases}
@@ -13,7 +13,7 @@ use Rattle.lft_graph.proofs.Walking.{tally_written, KeepsDone, keeps_done, done_
 
 module _ (before : List (List ℕ)) where
   -- marks that are right, apart from what is open
-  pub record AreMarked (old : List Mark) (reaction : ℕ) (marks : List Mark) : Type 0 where
+  pub record AreMarked (old : List LevelMark) (reaction : ℕ) (marks : List LevelMark) : Type 0 where
     pub as_long : length marks ≡ length before
     pub settled : IsSettled before marks
     pub scanned : (r k : ℕ) → slice_get marks r ≡ Some (Open k) → AreDone before marks r k
@@ -21,18 +21,18 @@ module _ (before : List (List ℕ)) where
     pub looked : slice_get marks reaction ≢ Some New
 
   -- the stack is what is open, and each of its members is in the list of the one below it
-  pub record IsStack (marks : List Mark) (stack : List ℕ) : Type 0 where
+  pub record IsStack (marks : List LevelMark) (stack : List ℕ) : Type 0 where
     pub opened : (p k : ℕ) → slice_get marks p ≡ Some (Open k) → Contains stack p
     pub are_open : (i p : ℕ) → slice_get stack i ≡ Some p → (k : ℕ) × (slice_get marks p ≡ Some (Open k))
     pub once : (i j a : ℕ) → slice_get stack i ≡ Some a → slice_get stack j ≡ Some a → i ≡ j
     pub steps : (i a b : ℕ) → slice_get stack i ≡ Some a → slice_get stack (i + 1) ≡ Some b → IsStep before b a
 
-  pub record Settling (old : List Mark) (reaction : ℕ) (marks : List Mark) (stack : List ℕ) : Type 0 where
+  pub record Settling (old : List LevelMark) (reaction : ℕ) (marks : List LevelMark) (stack : List ℕ) : Type 0 where
     pub marked : AreMarked old reaction marks
     pub stacked : IsStack marks stack
 
   -- a mark that isn't done is written by one that isn't done
-  settled_opens : (marks : List Mark) (i k : ℕ) (x : Mark) → IsSettled before marks → slice_get marks i ≡ Some x → ((l : ℕ) → x ≡ Done l → ⊥) → done_weight x ≡ 0 → IsSettled before (slice_set marks i (Open k))
+  settled_opens : (marks : List LevelMark) (i k : ℕ) (x : LevelMark) → IsSettled before marks → slice_get marks i ≡ Some x → ((l : ℕ) → x ≡ Done l → ⊥) → done_weight x ≡ 0 → IsSettled before (slice_set marks i (Open k))
   settled_opens marks i k x s e n z = record {
     right = λ r l list f g. elim (get_write_cases marks i r (Open k) (Done l) within f) [ inl a ↦ absurd (let b : Open k ≡ Done l = a.1 in cc) | inr a ↦ level_kept marks (slice_set marks i (Open k)) (keeps_done marks i x (Open k) e n) list (length list) l (s.right r l list a.1 g) ];
     small = λ r l f. elim (get_write_cases marks i r (Open k) (Done l) within f) [ inl a ↦ absurd (let b : Open k ≡ Done l = a.1 in cc) | inr a ↦ (let t = tally_written done_weight marks i x (Open k) e in let u = s.small r l a.1 in omega arith) ];
@@ -42,7 +42,7 @@ module _ (before : List (List ℕ)) where
       within = slice_get_within marks i x e
 
   -- the marks, where one that isn't done is opened with a place up to which its list is done
-  marked_opens : (old marks : List Mark) (reaction i k : ℕ) (x : Mark) → AreMarked old reaction marks → slice_get marks i ≡ Some x → ((l : ℕ) → x ≡ Done l → ⊥) → done_weight x ≡ 0 → AreDone before marks i k → AreMarked old reaction (slice_set marks i (Open k))
+  marked_opens : (old marks : List LevelMark) (reaction i k : ℕ) (x : LevelMark) → AreMarked old reaction marks → slice_get marks i ≡ Some x → ((l : ℕ) → x ≡ Done l → ⊥) → done_weight x ≡ 0 → AreDone before marks i k → AreMarked old reaction (slice_set marks i (Open k))
   marked_opens old marks reaction i k x w e n z d = record {
     as_long = length_written marks i (Open k) ∙ w.as_long;
     settled = settled_opens marks i k x w.settled e n z;
@@ -61,10 +61,10 @@ module _ (before : List (List ℕ)) where
       scanned r j (inl a) m b list l f g = let q : Open k ≡ Open j = a.1 in let s : k ≡ j = cc in done_kept marks (slice_set marks i (Open k)) keeps b (d m b list (omega arith) (subst (λ t. slice_get before t ≡ Some list) a.0 f) g)
       scanned r j (inr a) m b list l f g = done_kept marks (slice_set marks i (Open k)) keeps b (w.scanned r j a.1 m b list l f g)
 
-  is_open_not_new : (o : Option Mark) (k : ℕ) → o ≡ Some New → o ≡ Some (Open k) → ⊥
+  is_open_not_new : (o : Option LevelMark) (k : ℕ) → o ≡ Some New → o ≡ Some (Open k) → ⊥
   is_open_not_new o k e f = cc
 
-  pub settling_start : (marks : List Mark) (reaction : ℕ) → length marks ≡ length before → IsSettled before marks → NoneOpen marks → slice_get marks reaction ≡ Some New → Settling marks reaction (slice_set marks reaction (Open 0)) (reaction ∷ [])
+  pub settling_start : (marks : List LevelMark) (reaction : ℕ) → length marks ≡ length before → IsSettled before marks → NoneOpen marks → slice_get marks reaction ≡ Some New → Settling marks reaction (slice_set marks reaction (Open 0)) (reaction ∷ [])
   settling_start marks reaction same s none e = record {
     marked = record {
       as_long = length_written marks reaction (Open 0) ∙ same;
@@ -92,7 +92,7 @@ module _ (before : List (List ℕ)) where
       opens zero p f = let q : reaction ≡ p = cc in (0, subst (λ t. slice_get (slice_set marks reaction (Open 0)) t ≡ Some (Open 0)) q (get_written marks reaction (Open 0) within))
       opens (suc i) p f = absurd (cc)
 
-  module _ (old marks : List Mark) (reaction top : ℕ) (stack : List ℕ) (w : Settling old reaction marks (stack ++ top ∷ [])) where
+  module _ (old marks : List LevelMark) (reaction top : ℕ) (stack : List ℕ) (w : Settling old reaction marks (stack ++ top ∷ [])) where
     pub top_open : (k : ℕ) × (slice_get marks top ≡ Some (Open k))
     top_open = w.stacked.are_open (length stack) top (get_last stack top)
 
@@ -117,7 +117,7 @@ module _ (before : List (List ℕ)) where
       };
     }
       where
-        cases : (q : ℕ) (z : Mark) → slice_get (slice_set marks top (Done level)) q ≡ Some z → ((q ≡ top) × (Done level ≡ z)) ⊎ ((q ≢ top) × (slice_get marks q ≡ Some z))
+        cases : (q : ℕ) (z : LevelMark) → slice_get (slice_set marks top (Done level)) q ≡ Some z → ((q ≡ top) × (Done level ≡ z)) ⊎ ((q ≢ top) × (slice_get marks q ≡ Some z))
         cases q z f = get_write_cases marks top q (Done level) z top_within f
 
         keeps : KeepsDone marks (slice_set marks top (Done level))
@@ -166,7 +166,7 @@ module _ (before : List (List ℕ)) where
       };
     }
       where
-        middle : List Mark
+        middle : List LevelMark
         middle = slice_set marks top (Open place)
 
         still_new : slice_get (slice_set marks top (Open place)) member ≡ Some New
@@ -175,7 +175,7 @@ module _ (before : List (List ℕ)) where
         member_within : member < length (slice_set marks top (Open place))
         member_within = slice_get_within (slice_set marks top (Open place)) member New still_new
 
-        cases : (q : ℕ) (z : Mark) → slice_get (slice_set (slice_set marks top (Open place)) member (Open 0)) q ≡ Some z → ((q ≡ member) × (Open 0 ≡ z)) ⊎ ((q ≢ member) × (slice_get (slice_set marks top (Open place)) q ≡ Some z))
+        cases : (q : ℕ) (z : LevelMark) → slice_get (slice_set (slice_set marks top (Open place)) member (Open 0)) q ≡ Some z → ((q ≡ member) × (Open 0 ≡ z)) ⊎ ((q ≢ member) × (slice_get (slice_set marks top (Open place)) q ≡ Some z))
         cases q z f = get_write_cases (slice_set marks top (Open place)) member q (Open 0) z member_within f
 
         was_open : (p k : ℕ) → ((p ≡ top) × (Open place ≡ Open k)) ⊎ ((p ≢ top) × (slice_get marks p ≡ Some (Open k))) → Contains (stack ++ top ∷ []) p
@@ -227,5 +227,5 @@ module _ (before : List (List ℕ)) where
     looped_there member n = w.stacked.opened member n.1.0 n.1.1
 
   -- the walk is over
-  pub settled_end : (old marks : List Mark) (reaction : ℕ) → Settling old reaction marks [] → NoneOpen marks
+  pub settled_end : (old marks : List LevelMark) (reaction : ℕ) → Settling old reaction marks [] → NoneOpen marks
   settled_end old marks reaction w p k e = let c = w.stacked.opened p k e in let l : c.0 < 0 = c.1 in omega arith

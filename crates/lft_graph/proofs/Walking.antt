@@ -1,42 +1,42 @@
 -- Marks: their weights, and levels from them.
 use Rattle.std.proofs.Common.{◌≡◌, ℕ, zero, suc, ◌+◌, ◌<◌, ◌≤◌, inl, inr, List, [], ◌∷◌, length, refl, ap, ◌∙◌, subst, arith, Some, slice_get, slice_set}
 use Rattle.std.proofs.lemmas.Bool.{cases_eq}
-use Rattle.lft_graph.specs.declared.levels.Mark.{Mark}
-use Rattle.lft_graph.specs.declared.levels.Mark.TheVariants.{New, Open, Done}
+use Rattle.lft_graph.specs.declared.levels.LevelMark.{LevelMark}
+use Rattle.lft_graph.specs.declared.levels.LevelMark.TheVariants.{New, Open, Done}
 use Rattle.lft_graph.specs.Walks.{IsDone, IsLevelOf, tally, done_weight}
 use Rattle.lft_lists.proofs.Places.{get_unwritten}
 
-pub tally_written : (f : Mark → ℕ) (xs : List Mark) (i : ℕ) (x y : Mark) → slice_get xs i ≡ Some x → tally f (slice_set xs i y) + f x ≡ tally f xs + f y
+pub tally_written : (f : LevelMark → ℕ) (xs : List LevelMark) (i : ℕ) (x y : LevelMark) → slice_get xs i ≡ Some x → tally f (slice_set xs i y) + f x ≡ tally f xs + f y
 tally_written f [] i x y e = absurd (cc)
 tally_written f (z ∷ xs) zero x y e = let q : z ≡ x = cc in let r : f z ≡ f x = ap f q in omega arith
 tally_written f (z ∷ xs) (suc i) x y e = let r = tally_written f xs i x y e in omega arith
 
-done_within : (m : Mark) → done_weight m ≤ 1
+done_within : (m : LevelMark) → done_weight m ≤ 1
 done_within New = omega arith
 done_within (Open k) = omega arith
 done_within (Done l) = omega arith
 
-pub tally_all : (xs : List Mark) → tally done_weight xs ≤ length xs
+pub tally_all : (xs : List LevelMark) → tally done_weight xs ≤ length xs
 tally_all [] = omega arith
 tally_all (x ∷ xs) = let a = tally_all xs in let b = done_within x in omega arith
 
 -- what is done stays so
-pub KeepsDone : List Mark → List Mark → Type 0
+pub KeepsDone : List LevelMark → List LevelMark → Type 0
 KeepsDone old new = (a l : ℕ) → slice_get old a ≡ Some (Done l) → slice_get new a ≡ Some (Done l)
 
-pub keeps_done : (marks : List Mark) (i : ℕ) (x y : Mark) → slice_get marks i ≡ Some x → ((l : ℕ) → x ≡ Done l → ⊥) → KeepsDone marks (slice_set marks i y)
+pub keeps_done : (marks : List LevelMark) (i : ℕ) (x y : LevelMark) → slice_get marks i ≡ Some x → ((l : ℕ) → x ≡ Done l → ⊥) → KeepsDone marks (slice_set marks i y)
 unfolding KeepsDone
 keeps_done marks i x y e n a l f = get_unwritten marks i a y (λ s. n l (let g : slice_get marks i ≡ Some (Done l) = subst (λ k. slice_get marks k ≡ Some (Done l)) s f in cc)) ∙ f
 
-pub keeps_both : (a b c : List Mark) → KeepsDone a b → KeepsDone b c → KeepsDone a c
+pub keeps_both : (a b c : List LevelMark) → KeepsDone a b → KeepsDone b c → KeepsDone a c
 unfolding KeepsDone
 keeps_both a b c k m i l e = m i l (k i l e)
 
-pub done_kept : (old new : List Mark) → KeepsDone old new → (a : ℕ) → IsDone old a → IsDone new a
+pub done_kept : (old new : List LevelMark) → KeepsDone old new → (a : ℕ) → IsDone old a → IsDone new a
 unfolding KeepsDone
 done_kept old new k a d = (d.0, k a d.0 d.1)
 
-pub level_kept : (old new : List Mark) → KeepsDone old new → (list : List ℕ) (place level : ℕ) → IsLevelOf old list place level → IsLevelOf new list place level
+pub level_kept : (old new : List LevelMark) → KeepsDone old new → (list : List ℕ) (place level : ℕ) → IsLevelOf old list place level → IsLevelOf new list place level
 unfolding KeepsDone
 level_kept old new k list place level w = record {
   above = λ i a l e. (let r = w.above i a l e in (r.0, k a r.0 r.1, r.2));
@@ -44,18 +44,18 @@ level_kept old new k list place level w = record {
 }
 
 -- the members of a list one after another
-pub level_start : (marks : List Mark) (list : List ℕ) → IsLevelOf marks list 0 0
+pub level_start : (marks : List LevelMark) (list : List ℕ) → IsLevelOf marks list 0 0
 level_start marks list = record { above = λ i a l e. absurd (omega arith); least = λ l. absurd (omega arith) }
 
 -- a member of a level as great as any so far
-pub level_higher : (marks : List Mark) (list : List ℕ) (place level a k : ℕ) → IsLevelOf marks list place level → slice_get list place ≡ Some a → slice_get marks a ≡ Some (Done k) → level ≤ k → IsLevelOf marks list (place + 1) (k + 1)
+pub level_higher : (marks : List LevelMark) (list : List ℕ) (place level a k : ℕ) → IsLevelOf marks list place level → slice_get list place ≡ Some a → slice_get marks a ≡ Some (Done k) → level ≤ k → IsLevelOf marks list (place + 1) (k + 1)
 level_higher marks list place level a k w e f g = record {
   above = λ i b l h. elim (cases_eq i place) [ inl s ↦ (k, (let h : slice_get list place ≡ Some b = subst (λ j. slice_get list j ≡ Some b) s h in let q : a ≡ b = cc in subst (λ j. slice_get marks j ≡ Some (Done k)) q f), omega arith) | inr n ↦ (let r = w.above i b (omega arith) h in let m = r.2 in (r.0, r.1, omega arith)) ];
   least = λ l. (place, a, k, e, f, refl);
 }
 
 -- a member of a lower level
-pub level_lower : (marks : List Mark) (list : List ℕ) (place level a k : ℕ) → IsLevelOf marks list place level → slice_get list place ≡ Some a → slice_get marks a ≡ Some (Done k) → k < level → IsLevelOf marks list (place + 1) level
+pub level_lower : (marks : List LevelMark) (list : List ℕ) (place level a k : ℕ) → IsLevelOf marks list place level → slice_get list place ≡ Some a → slice_get marks a ≡ Some (Done k) → k < level → IsLevelOf marks list (place + 1) level
 level_lower marks list place level a k w e f g = record {
   above = λ i b l h. elim (cases_eq i place) [ inl s ↦ (k, (let h : slice_get list place ≡ Some b = subst (λ j. slice_get list j ≡ Some b) s h in let q : a ≡ b = cc in subst (λ j. slice_get marks j ≡ Some (Done k)) q f), g) | inr n ↦ w.above i b (omega arith) h ];
   least = w.least;

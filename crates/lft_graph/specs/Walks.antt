@@ -5,10 +5,10 @@ use Rattle.lft_flat.specs.Origins.{Origin}
 use Rattle.lft_flat.specs.declared.parts.Name.{Name}
 use Rattle.lft_flat.specs.declared.parts.Name.TheVariants.{Port, Action}
 use Rattle.lft_graph.specs.Before.{Writes, IsLastWriter, Reaches, IsBefore}
-use Rattle.lft_graph.specs.declared.levels.Mark.{Mark}
-use Rattle.lft_graph.specs.declared.levels.Mark.TheVariants.{New, Open, Done}
-use Rattle.lft_graph.specs.declared.levels.Next.{Next}
-use Rattle.lft_graph.specs.declared.levels.Next.TheVariants.{Level, Looped, First}
+use Rattle.lft_graph.specs.declared.levels.LevelMark.{LevelMark}
+use Rattle.lft_graph.specs.declared.levels.LevelMark.TheVariants.{New, Open, Done}
+use Rattle.lft_graph.specs.declared.levels.LevelStep.{LevelStep}
+use Rattle.lft_graph.specs.declared.levels.LevelStep.TheVariants.{Level, Looped, First}
 
 -- for each port the last writer among the reactions below a number
 pub record KnowsWriters (program : Parts) (below : ℕ) (writers : List (Option ℕ)) : Type 0 where
@@ -49,53 +49,53 @@ AreInside before = (r i a : ℕ) (list : List ℕ) → slice_get before r ≡ So
 abbrev pub IsStep : List (List ℕ) → ℕ → ℕ → Type 0
 IsStep before a b = (list : List ℕ) × (i : ℕ) × (slice_get before b ≡ Some list) × (slice_get list i ≡ Some a)
 
-abbrev pub IsDone : List Mark → ℕ → Type 0
+abbrev pub IsDone : List LevelMark → ℕ → Type 0
 IsDone marks a = (k : ℕ) × (slice_get marks a ≡ Some (Done k))
 
 -- the level that a list gives, where the levels of its members are marked
-pub record IsLevelOf (marks : List Mark) (list : List ℕ) (place level : ℕ) : Type 0 where
+pub record IsLevelOf (marks : List LevelMark) (list : List ℕ) (place level : ℕ) : Type 0 where
   pub above : (i a : ℕ) → i < place → slice_get list i ≡ Some a → (k : ℕ) × (slice_get marks a ≡ Some (Done k)) × (k < level)
   pub least : 0 < level → (i : ℕ) × (a : ℕ) × (k : ℕ) × (slice_get list i ≡ Some a) × (slice_get marks a ≡ Some (Done k)) × (k + 1 ≡ level)
 
 -- the members at the places below one are done
-abbrev pub AreDone : List (List ℕ) → List Mark → ℕ → ℕ → Type 0
+abbrev pub AreDone : List (List ℕ) → List LevelMark → ℕ → ℕ → Type 0
 AreDone before marks r place = (i a : ℕ) (list : List ℕ) → i < place → slice_get before r ≡ Some list → slice_get list i ≡ Some a → IsDone marks a
 
 -- a weight of each mark, added up
-abbrev pub tally : (Mark → ℕ) → List Mark → ℕ
+abbrev pub tally : (LevelMark → ℕ) → List LevelMark → ℕ
 tally f [] = 0
 tally f (m ∷ ms) = f m + tally f ms
 
-abbrev pub done_weight : Mark → ℕ
+abbrev pub done_weight : LevelMark → ℕ
 done_weight New = 0
 done_weight (Open k) = 0
 done_weight (Done l) = 1
 
-abbrev pub new_weight : Mark → ℕ
+abbrev pub new_weight : LevelMark → ℕ
 new_weight New = 1
 new_weight (Open k) = 0
 new_weight (Done l) = 0
 
 -- a level is less than there are levels
-abbrev pub AreSmall : List Mark → Type 0
+abbrev pub AreSmall : List LevelMark → Type 0
 AreSmall marks = (a k : ℕ) → slice_get marks a ≡ Some (Done k) → k < tally done_weight marks
 
 -- what is marked as done is right
-pub record IsSettled (before : List (List ℕ)) (marks : List Mark) : Type 0 where
+pub record IsSettled (before : List (List ℕ)) (marks : List LevelMark) : Type 0 where
   pub right : (r l : ℕ) (list : List ℕ) → slice_get marks r ≡ Some (Done l) → slice_get before r ≡ Some list → IsLevelOf marks list (length list) l
   pub small : AreSmall marks
 
-abbrev pub NoneOpen : List Mark → Type 0
+abbrev pub NoneOpen : List LevelMark → Type 0
 NoneOpen marks = (p k : ℕ) → slice_get marks p ≢ Some (Open k)
 
 -- what comes next at a reaction
-abbrev pub IsNext : List (List ℕ) → List Mark → ℕ → Next → Type 0
+abbrev pub IsNext : List (List ℕ) → List LevelMark → ℕ → LevelStep → Type 0
 IsNext before marks r (Level l) = (list : List ℕ) × (slice_get before r ≡ Some list) × IsLevelOf marks list (length list) l × (l ≤ tally done_weight marks)
 IsNext before marks r (Looped m) = IsStep before m r × ((k : ℕ) × (slice_get marks m ≡ Some (Open k)))
 IsNext before marks r (First place m) = IsStep before m r × (slice_get marks m ≡ Some New) × AreDone before marks r place
 
 -- what was looked at stays so
-abbrev pub KeepsLooked : List Mark → List Mark → Type 0
+abbrev pub KeepsLooked : List LevelMark → List LevelMark → Type 0
 KeepsLooked old new = (p : ℕ) → slice_get new p ≡ Some New → slice_get old p ≡ Some New
 
 -- a step of a turn: from place down to start, and then from the end down to place

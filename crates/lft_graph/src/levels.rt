@@ -4,7 +4,7 @@ ghost use Rattle.std.specs.Prelude.{◌≡◌, ◌≢◌, ℕ, List, ◌<◌, �
 ghost use Rattle.lft_graph.specs.Graph.{AreLevels};
 ghost use Rattle.lft_graph.specs.Loops.{IsLoopOf};
 ghost use Rattle.lft_graph.specs.Walks.{AreInside, IsStep, AreDone, IsLevelOf, AreSmall, IsSettled, NoneOpen, IsNext, KeepsLooked, tally, done_weight};
-ghost use Rattle.lft_graph.specs.declared.levels.Mark.TheVariants.{New, Open, Done};
+ghost use Rattle.lft_graph.specs.declared.levels.LevelMark.TheVariants.{New, Open, Done};
 
 use crate::fault::GraphFault;
 use crate::loops::cut_loop;
@@ -15,7 +15,7 @@ use std::alloc::Global;
 /// How far a reaction is looked at: not yet, on the way with the first members of its list
 /// levelled, or to the end, with its level.
 #[derive(Clone, Copy, Drop)]
-pub(crate) enum Mark {
+pub(crate) enum LevelMark {
     New,
     Open(usize),
     Done(u32),
@@ -24,14 +24,14 @@ pub(crate) enum Mark {
 /// What comes next at a reaction: its level, a member of its list that is on the way, or the
 /// first member that isn't looked at, with its place.
 #[derive(Clone, Copy, Drop)]
-pub(crate) enum Next {
+pub(crate) enum LevelStep {
     Level(u32),
     Looped(u32),
     First(usize, u32),
 }
 
 // the mark of a reaction
-fn mark_at(marks: &[Mark], reaction: u32) -> Mark
+fn mark_at(marks: &[LevelMark], reaction: u32) -> LevelMark
     requires { reaction < length marks.now }
     ensures { slice_get marks.now reaction ≡ Some result }
 {
@@ -47,17 +47,17 @@ fn list_at(before: &[Members], reaction: u32) -> &[u32]
 }
 
 // how many members of its list are levelled
-fn place_in(mark: Mark) -> usize
+fn place_in(mark: LevelMark) -> usize
     ensures { (k : ℕ) → mark ≡ Open k → result ≡ k }
 {
     match mark {
-        Mark::Open(place) => place,
+        LevelMark::Open(place) => place,
         _ => 0,
     }
 }
 
 // 0, or one more than the greatest level of the members
-fn level_of(list: &[u32], marks: &[Mark]) -> u32
+fn level_of(list: &[u32], marks: &[LevelMark]) -> u32
     requires done { (i a : ℕ) → slice_get list.now i ≡ Some a → (k : ℕ) × (slice_get marks.now a ≡ Some (Done k)) }
     requires small { AreSmall marks.now }
     requires few { tally done_weight marks.now < 100000 }
@@ -66,7 +66,7 @@ fn level_of(list: &[u32], marks: &[Mark]) -> u32
 {
     let mut level = 0;
     'members: for place in 0..list.len() {
-        if let Mark::Done(below) = mark_at(marks, item_at(list, place)) {
+        if let LevelMark::Done(below) = mark_at(marks, item_at(list, place)) {
             if below >= level {
                 level = below + 1;
             }
@@ -76,7 +76,7 @@ fn level_of(list: &[u32], marks: &[Mark]) -> u32
 }
 
 // what comes next at a reaction
-fn look(before: &[Members], marks: &[Mark], reaction: u32, from: usize) -> Next
+fn look(before: &[Members], marks: &[LevelMark], reaction: u32, from: usize) -> LevelStep
     requires inside { AreInside before.now }
     requires known { reaction < length before.now }
     requires as_long { length marks.now ≡ length before.now }
@@ -89,19 +89,19 @@ fn look(before: &[Members], marks: &[Mark], reaction: u32, from: usize) -> Next
     'members: for place in from..list.len() {
         let member = item_at(list, place);
         match mark_at(marks, member) {
-            Mark::New => return Next::First(place, member),
-            Mark::Open(_) => return Next::Looped(member),
-            Mark::Done(_) => {}
+            LevelMark::New => return LevelStep::First(place, member),
+            LevelMark::Open(_) => return LevelStep::Looped(member),
+            LevelMark::Done(_) => {}
         }
     }
-    Next::Level(level_of(list, marks))
+    LevelStep::Level(level_of(list, marks))
 }
 
 // levels a reaction and all that precede it
 fn settle(
     alloc: Global,
     before: &[Members],
-    marks: &mut [Mark],
+    marks: &mut [LevelMark],
     reaction: u32,
 ) -> Result<(), GraphFault>
     requires inside { AreInside before.now }
@@ -117,26 +117,26 @@ fn settle(
     ensures cycle { (l : List ℕ) → result ≡ Err (GraphFault.CausalityLoop l) → IsLoopOf (IsStep before.now) l }
 {
     match mark_at(marks, reaction) {
-        Mark::New => {}
+        LevelMark::New => {}
         _ => return Ok(()),
     }
     let mut stack = Vec::new(alloc);
-    marks[reaction as usize] = Mark::Open(0);
+    marks[reaction as usize] = LevelMark::Open(0);
     stack.push(reaction)?;
     'walk: while let Some(top) = stack.pop() {
         let from = place_in(mark_at(marks, top));
         match look(before, marks, top, from) {
-            Next::Level(level) => {
-                marks[top as usize] = Mark::Done(level);
+            LevelStep::Level(level) => {
+                marks[top as usize] = LevelMark::Done(level);
             }
-            Next::Looped(member) => {
+            LevelStep::Looped(member) => {
                 stack.push(top)?;
                 let found = cut_loop(alloc, &stack, member)?;
                 return Err(GraphFault::CausalityLoop(found));
             }
-            Next::First(place, member) => {
-                marks[top as usize] = Mark::Open(place);
-                marks[member as usize] = Mark::Open(0);
+            LevelStep::First(place, member) => {
+                marks[top as usize] = LevelMark::Open(place);
+                marks[member as usize] = LevelMark::Open(0);
                 stack.push(top)?;
                 stack.push(member)?;
             }
@@ -152,7 +152,7 @@ pub(crate) fn levels(alloc: Global, before: &[Members]) -> Result<Vec<u32>, Grap
     ensures levels { IfOk result (λ v. AreLevels before.now v.items) }
     ensures cycle { (l : List ℕ) → result ≡ Err (GraphFault.CausalityLoop l) → IsLoopOf (IsStep before.now) l }
 {
-    let mut marks = vec![in alloc; Mark::New; before.len()]?;
+    let mut marks = vec![in alloc; LevelMark::New; before.len()]?;
     'reactions: for reaction in 0..before.len() {
         match settle(alloc, before, &mut marks, reaction as u32) {
             Ok(()) => {}
@@ -161,7 +161,7 @@ pub(crate) fn levels(alloc: Global, before: &[Members]) -> Result<Vec<u32>, Grap
     }
     let mut all = Vec::new(alloc);
     'marks: for reaction in 0..before.len() {
-        if let Mark::Done(level) = mark_at(&marks, reaction as u32) {
+        if let LevelMark::Done(level) = mark_at(&marks, reaction as u32) {
             all.push(level)?;
         }
     }

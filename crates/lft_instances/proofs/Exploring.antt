@@ -8,10 +8,10 @@ use Rattle.lft_instances.specs.declared.walk.Contents.{Contents}
 use Rattle.lft_instances.specs.declared.recursion.Stage.{Stage}
 use Rattle.lft_instances.specs.declared.recursion.Stage.TheVariants.{New, Open, Done}
 use Rattle.lft_instances.specs.declared.recursion.Visit.{Visit}
-use Rattle.lft_instances.specs.declared.recursion.Turn.TheVariants.{Finished, Skipped, Recursive, Enter}
+use Rattle.lft_instances.specs.declared.recursion.NextInside.TheVariants.{Finished, Skipped, Recursive, Enter}
 use Rattle.lft_instances.specs.Contents.{contained}
 use Rattle.lft_instances.specs.Containment.{Holds, HoldsDeep, one, more, IsRecursive}
-use Rattle.lft_instances.specs.Stages.{IsPast, IsExplored, IsTurn, NoneOpen, KeepsExplored}
+use Rattle.lft_instances.specs.Stages.{IsPast, IsExplored, IsNextInside, NoneOpen, KeepsExplored}
 use Rattle.lft_instances.proofs.Walks.{count, count_of, has_kids}
 use Rattle.lft_instances.proofs.Settling.{mem_last, pairs_front, pairs_last}
 use Rattle.lft_instances.proofs.Pairs.{Pairs, pairs_append}
@@ -127,7 +127,7 @@ past_deep table stages a b same w p (one h) = past_holds table stages a b same w
 past_deep table stages a b same w p (more h r) = past_deep table stages _ b same w (past_holds table stages a _ same w p h) r
 
 -- the top has no more instances
-pub exploring_done : (table : List Contents) (before stages : List Stage) (start : ℕ) (visits : List Visit) (top : Visit) → Exploring table before start stages (visits ++ top ∷ []) → IsTurn table stages top Finished → Exploring table before start (slice_set stages top.reactor Done) visits
+pub exploring_done : (table : List Contents) (before stages : List Stage) (start : ℕ) (visits : List Visit) (top : Visit) → Exploring table before start stages (visits ++ top ∷ []) → IsNextInside table stages top Finished → Exploring table before start (slice_set stages top.reactor Done) visits
 exploring_done table before stages start visits top w n = record {
   as_long = length_written stages top.reactor Done ∙ w.as_long;
   explored = record { closed = λ a b f h. still b (closed a b (cases a Done f) h); ends = λ a f h. ends a (cases a Done f) h };
@@ -174,7 +174,7 @@ exploring_done table before stages start visits top w n = record {
     opened p (inr a) = elim (mem_cases p (reactors_of visits) (top.reactor ∷ []) (subst (λ l. Mem p l) (reactors_push visits top) (w.opened p a.1))) [ inl m ↦ m | inr m ↦ elim m [ inl e ↦ absurd (a.0 (sym e)) | inr z ↦ absurd z ] ]
 
 -- the next instance of the top is of a reactor that is past
-pub exploring_skip : (table : List Contents) (before stages : List Stage) (start : ℕ) (visits : List Visit) (top again : Visit) → Exploring table before start stages (visits ++ top ∷ []) → IsTurn table stages top Skipped → again.reactor ≡ top.reactor → again.next ≡ top.next + 1 → Exploring table before start stages (visits ++ again ∷ [])
+pub exploring_skip : (table : List Contents) (before stages : List Stage) (start : ℕ) (visits : List Visit) (top again : Visit) → Exploring table before start stages (visits ++ top ∷ []) → IsNextInside table stages top Skipped → again.reactor ≡ top.reactor → again.next ≡ top.next + 1 → Exploring table before start stages (visits ++ again ∷ [])
 exploring_skip table before stages start visits top again w n at next = record {
   as_long = w.as_long;
   explored = w.explored;
@@ -199,7 +199,7 @@ exploring_skip table before stages start visits top again w n at next = record {
     passed v (inr (inr z)) k b l f = absurd z
 
 -- the next instance of the top is of a reactor to be explored first
-pub exploring_enter : (table : List Contents) (before stages : List Stage) (start c : ℕ) (visits : List Visit) (top inner : Visit) → Exploring table before start stages (visits ++ top ∷ []) → IsTurn table stages top (Enter c) → inner.reactor ≡ c → inner.next ≡ 0 → Exploring table before start (slice_set stages c Open) ((visits ++ top ∷ []) ++ inner ∷ [])
+pub exploring_enter : (table : List Contents) (before stages : List Stage) (start c : ℕ) (visits : List Visit) (top inner : Visit) → Exploring table before start stages (visits ++ top ∷ []) → IsNextInside table stages top (Enter c) → inner.reactor ≡ c → inner.next ≡ 0 → Exploring table before start (slice_set stages c Open) ((visits ++ top ∷ []) ++ inner ∷ [])
 exploring_enter table before stages start c visits top inner w n at next = record {
   as_long = length_written stages c Open ∙ w.as_long;
   explored = explored_opens table stages c w.explored is_new;
@@ -237,7 +237,7 @@ exploring_enter table before stages start c visits top inner w n at next = recor
     passed v (inr (inr z)) k b l f = absurd z
 
 -- the next instance of the top is of a reactor on the way: that one contains itself
-pub exploring_loop : (table : List Contents) (before stages : List Stage) (start : ℕ) (visits : List Visit) (top : Visit) → Exploring table before start stages (visits ++ top ∷ []) → IsTurn table stages top Recursive → IsRecursive table
+pub exploring_loop : (table : List Contents) (before stages : List Stage) (start : ℕ) (visits : List Visit) (top : Visit) → Exploring table before start stages (visits ++ top ∷ []) → IsNextInside table stages top Recursive → IsRecursive table
 exploring_loop table before stages start visits top w n = (n.0, go (mem_cases n.0 (reactors_of visits) (top.reactor ∷ []) (subst (λ l. Mem n.0 l) (reactors_push visits top) (w.opened n.0 n.2))))
   where
     go : Mem n.0 (reactors_of visits) ⊎ Mem n.0 (top.reactor ∷ []) → HoldsDeep table n.0 n.0
@@ -303,7 +303,7 @@ done_smaller table before stages start visits top w =
     let b = load_push table visits top in
     omega arith
 
-pub skip_smaller : (table : List Contents) (stages : List Stage) (visits : List Visit) (top again : Visit) → IsTurn table stages top Skipped → again.reactor ≡ top.reactor → again.next ≡ top.next + 1 → load table (visits ++ again ∷ []) < load table (visits ++ top ∷ [])
+pub skip_smaller : (table : List Contents) (stages : List Stage) (visits : List Visit) (top again : Visit) → IsNextInside table stages top Skipped → again.reactor ≡ top.reactor → again.next ≡ top.next + 1 → load table (visits ++ again ∷ []) < load table (visits ++ top ∷ [])
 skip_smaller table stages visits top again n at next =
     let l = (has_kids table top.reactor).within top.next n.0 n.1 in
     let a = load_push table visits top in
@@ -311,7 +311,7 @@ skip_smaller table stages visits top again n at next =
     let e : count table again.reactor ≡ count table top.reactor = ap (count table) at in
     omega arith
 
-pub enter_smaller : (table : List Contents) (before stages : List Stage) (start c : ℕ) (visits : List Visit) (top inner : Visit) → Exploring table before start stages (visits ++ top ∷ []) → IsTurn table stages top (Enter c) → inner.reactor ≡ c → inner.next ≡ 0 → weigh table (slice_set stages c Open) + load table ((visits ++ top ∷ []) ++ inner ∷ []) < weigh table stages + load table (visits ++ top ∷ [])
+pub enter_smaller : (table : List Contents) (before stages : List Stage) (start c : ℕ) (visits : List Visit) (top inner : Visit) → Exploring table before start stages (visits ++ top ∷ []) → IsNextInside table stages top (Enter c) → inner.reactor ≡ c → inner.next ≡ 0 → weigh table (slice_set stages c Open) + load table ((visits ++ top ∷ []) ++ inner ∷ []) < weigh table stages + load table (visits ++ top ∷ [])
 enter_smaller table before stages start c visits top inner w n at next =
     let l = slice_get_within stages c New n.1 in
     let s = w.as_long in

@@ -6,8 +6,8 @@ use Rattle.lft_instances.specs.declared.walk.Contents.{Contents}
 use Rattle.lft_instances.specs.declared.recursion.Stage.{Stage}
 use Rattle.lft_instances.specs.declared.recursion.Stage.TheVariants.{New, Open, Done}
 use Rattle.lft_instances.specs.declared.recursion.Visit.{Visit}
-use Rattle.lft_instances.specs.declared.recursion.Turn.{Turn}
-use Rattle.lft_instances.specs.declared.recursion.Turn.TheVariants.{Finished, Skipped, Recursive, Enter}
+use Rattle.lft_instances.specs.declared.recursion.NextInside.{NextInside}
+use Rattle.lft_instances.specs.declared.recursion.NextInside.TheVariants.{Finished, Skipped, Recursive, Enter}
 
 -- the reactor is explored to the end, or has no instances since it stands past the end of the table
 abbrev pub IsPast : List Stage → ℕ → Type 0
@@ -27,8 +27,8 @@ abbrev pub KeepsExplored : List Stage → List Stage → Type 0
 KeepsExplored before now = (r : ℕ) → slice_get now r ≡ Some New → slice_get before r ≡ Some New
 
 -- what comes next at a reactor being explored: it has no more instances, or the next is of a reactor that is explored already, is being explored, or is to be explored first
-abbrev pub IsTurn : List Contents → List Stage → Visit → Turn → Type 0
-IsTurn table stages v Finished = contained table v.reactor v.next ≡ None
-IsTurn table stages v Skipped = (c : ℕ) × (contained table v.reactor v.next ≡ Some c) × IsPast stages c
-IsTurn table stages v Recursive = (c : ℕ) × (contained table v.reactor v.next ≡ Some c) × (slice_get stages c ≡ Some Open)
-IsTurn table stages v (Enter c) = (contained table v.reactor v.next ≡ Some c) × (slice_get stages c ≡ Some New)
+abbrev pub IsNextInside : List Contents → List Stage → Visit → NextInside → Type 0
+IsNextInside table stages v Finished = contained table v.reactor v.next ≡ None
+IsNextInside table stages v Skipped = (c : ℕ) × (contained table v.reactor v.next ≡ Some c) × IsPast stages c
+IsNextInside table stages v Recursive = (c : ℕ) × (contained table v.reactor v.next ≡ Some c) × (slice_get stages c ≡ Some Open)
+IsNextInside table stages v (Enter c) = (contained table v.reactor v.next ≡ Some c) × (slice_get stages c ≡ Some New)

@@ -3,9 +3,9 @@
 ghost use Rattle.std.specs.Prelude.{◌≡◌, ◌≢◌, ◌+◌, ◌<◌, ◌^◌, ◌↔◌, length, slice_get, Some, IfOk, IsTrue};
 ghost use Rattle.std.specs.Bool.{OnFalse, OnTrue};
 ghost use Rattle.lft_instances.specs.Containment.{IsRecursive};
-ghost use Rattle.lft_instances.specs.Stages.{IsExplored, IsTurn, KeepsExplored, NoneOpen};
+ghost use Rattle.lft_instances.specs.Stages.{IsExplored, IsNextInside, KeepsExplored, NoneOpen};
 ghost use Rattle.lft_instances.specs.declared.recursion.Stage.TheVariants.{New};
-ghost use Rattle.lft_instances.specs.declared.recursion.Turn.TheVariants.{Skipped};
+ghost use Rattle.lft_instances.specs.declared.recursion.NextInside.TheVariants.{Skipped};
 
 use crate::walk::{Contents, child};
 use lft_lists::item_at;
@@ -27,10 +27,10 @@ pub struct Visit {
     pub next: usize,
 }
 
-/// What comes next at a reactor on the way: it has no more instances, or the next one is of a
+/// What comes next inside a reactor on the way: it has no more instances, or the next one is of a
 /// reactor that is explored already, is on the way itself, or is to be explored first.
 #[derive(Clone, Copy, Drop)]
-pub enum Turn {
+pub enum NextInside {
     Finished,
     Skipped,
     Recursive,
@@ -38,21 +38,21 @@ pub enum Turn {
 }
 
 // what comes next at a reactor on the way
-fn look(reactors: &[Contents], stages: &[Stage], visit: Visit) -> Turn
-    ensures turn { IsTurn reactors.now stages.now visit result }
+fn look(reactors: &[Contents], stages: &[Stage], visit: Visit) -> NextInside
+    ensures turn { IsNextInside reactors.now stages.now visit result }
     ensures room { result ≡ Skipped → visit.next + 1 < 2 ^ 64 }
 {
     match child(reactors, visit.reactor, visit.next) {
-        None => Turn::Finished,
+        None => NextInside::Finished,
         Some(reactor) => {
             let inner = reactor as usize;
             if inner >= stages.len() {
-                return Turn::Skipped;
+                return NextInside::Skipped;
             }
             match item_at(stages, inner) {
-                Stage::New => Turn::Enter(inner),
-                Stage::Open => Turn::Recursive,
-                Stage::Done => Turn::Skipped,
+                Stage::New => NextInside::Enter(inner),
+                Stage::Open => NextInside::Recursive,
+                Stage::Done => NextInside::Skipped,
             }
         }
     }
@@ -87,17 +87,17 @@ fn explore(
     })?;
     'visits: while let Some(top) = open.pop() {
         match look(reactors, stages, top) {
-            Turn::Finished => {
+            NextInside::Finished => {
                 stages[top.reactor] = Stage::Done;
             }
-            Turn::Skipped => {
+            NextInside::Skipped => {
                 open.push(Visit {
                     reactor: top.reactor,
                     next: top.next + 1,
                 })?;
             }
-            Turn::Recursive => return Ok(true),
-            Turn::Enter(inner) => {
+            NextInside::Recursive => return Ok(true),
+            NextInside::Enter(inner) => {
                 stages[inner] = Stage::Open;
                 open.push(top)?;
                 open.push(Visit {

@@ -5,7 +5,7 @@ use Rattle.std.specs.Ordering.{is_eq, nat_cmp, ordering_then}
 use Rattle.std.specs.Option.{option_eq}
 use Rattle.std.specs.Cmp.{nat_cmp_is}
 use Rattle.std.specs.declared.cmp.Ordering.{Ordering}
-use Rattle.std.specs.declared.cmp.Ordering.TheVariants.{Less, Equal, Greater}
+use Rattle.std.specs.declared.cmp.Ordering.TheVariants.{Equal}
 use Rattle.std.proofs.lemmas.Bool.{cases_eq}
 use Rattle.std.proofs.lemmas.List.{take_all}
 use Rattle.std.proofs.lemmas.Option.{slice_get_within, get_or_from_slice_get}
@@ -22,11 +22,7 @@ use Rattle.lft_listeners.specs.Listeners.{beat, IsLeader, IsLive}
 use Rattle.lft_listeners.specs.Filling.{beat_cmp, StartsBefore, HaveLeaders, AreLeading}
 use Rattle.lft_listeners.proofs.Pushing.{contains_pushed}
 use Rattle.lft_listeners.proofs.Filling.{none_contained}
-
-not_equal : (r : Ordering) → (r ≡ Equal → ⊥) → is_eq r ≡ false
-not_equal Less d = refl
-not_equal Equal d = absurd (d refl)
-not_equal Greater d = refl
+use Rattle.lft_tag.proofs.Comparing.{not_equal}
 
 -- of two beats the order says whether they are one
 beat_same : (b q : ℕ × ℕ) → q ≡ b → is_eq (beat_cmp b q) ≡ true

@@ -4,7 +4,7 @@ ghost use Rattle.std.specs.Prelude.{◌≡◌, ◌≢◌, ◌↔◌, ℕ, Contai
 ghost use Rattle.lft_flat.specs.Parts.{Parts};
 ghost use Rattle.lft_listeners.specs.Listeners.{IsArrival, IsWatched, AreArrivals};
 
-use crate::lists::Lists;
+use crate::lists::NumberLists;
 use crate::watched::Watched;
 use lft_flat::Program;
 use lft_tag::NoMemory;
@@ -16,7 +16,7 @@ use std::marker::Model;
 /// delayed port of each origin.
 #[derive(Drop)]
 pub struct Arrivals {
-    lists: Lists,
+    lists: NumberLists,
 }
 
 impl Model for Arrivals {
@@ -33,7 +33,7 @@ impl Arrivals {
         ensures { IfOk result (λ arrivals. AreArrivals program.now arrivals) }
     {
         let watched = Watched::new(alloc, program)?;
-        let mut lists = Lists::new(alloc, program.ports())?;
+        let mut lists = NumberLists::new(alloc, program.ports())?;
         'ports: for number in 0..program.ports() {
             if watched.has(program, number as u32) {
                 lists.push(program.port(number as u32).origin, number as u32)?;

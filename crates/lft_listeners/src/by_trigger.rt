@@ -5,7 +5,7 @@ ghost use Rattle.lft_flat.specs.declared.parts.Trigger.{Trigger as TriggerOf};
 ghost use Rattle.lft_flat.specs.Sound.{IsTriggerOf};
 ghost use Rattle.lft_listeners.specs.Lists.{list_of, HasList, IsPushed};
 
-use crate::lists::Lists;
+use crate::lists::NumberLists;
 use lft_flat::{Name, Program, Trigger};
 use lft_tag::NoMemory;
 use std::alloc::Global;
@@ -16,9 +16,9 @@ use std::marker::Model;
 pub(crate) struct ByTrigger {
     startup: Vec<u32>,
     shutdown: Vec<u32>,
-    timers: Lists,
-    ports: Lists,
-    actions: Lists,
+    timers: NumberLists,
+    ports: NumberLists,
+    actions: NumberLists,
 }
 
 impl Model for ByTrigger {
@@ -38,9 +38,9 @@ impl ByTrigger {
         Ok(ByTrigger {
             startup: Vec::new(alloc),
             shutdown: Vec::new(alloc),
-            timers: Lists::new(alloc, program.timers())?,
-            ports: Lists::new(alloc, program.ports())?,
-            actions: Lists::new(alloc, program.actions())?,
+            timers: NumberLists::new(alloc, program.timers())?,
+            ports: NumberLists::new(alloc, program.ports())?,
+            actions: NumberLists::new(alloc, program.actions())?,
         })
     }
 

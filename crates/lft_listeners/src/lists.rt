@@ -9,11 +9,11 @@ use std::marker::Model;
 
 /// A list of numbers for each number below a count.
 #[derive(Drop)]
-pub(crate) struct Lists {
+pub(crate) struct NumberLists {
     rows: Vec<Vec<u32>>,
 }
 
-impl Model for Lists {
+impl Model for NumberLists {
     ghost use Rattle.std.specs.Prelude.{List, ℕ, map};
 
     ghost Value = { List (List ℕ) };
@@ -21,9 +21,9 @@ impl Model for Lists {
     ghost view = { λ a. map (λ row. row.items) a.rows.items };
 }
 
-impl Lists {
+impl NumberLists {
     // so many empty lists
-    pub(crate) fn new(alloc: Global, count: usize) -> Result<Lists, NoMemory>
+    pub(crate) fn new(alloc: Global, count: usize) -> Result<NumberLists, NoMemory>
         ensures as_long { IfOk result (λ lists. length lists ≡ count) }
         ensures empty { IfOk result (λ lists. (n : ℕ) → list_at lists n ≡ []) }
     {
@@ -31,7 +31,7 @@ impl Lists {
         'rows: for _number in 0..count {
             rows.push(Vec::new(alloc))?;
         }
-        Ok(Lists { rows })
+        Ok(NumberLists { rows })
     }
 
     // one more number behind the others of a list

@@ -1,6 +1,7 @@
 -- What mapped and numbered lists have at their places.
-use Rattle.std.proofs.Common.{◌≡◌, ℕ, zero, suc, ◌+◌, List, [], ◌∷◌, map, Option, Some, None, option_map, slice_get, refl, ap, ◌∙◌, arith}
-use Rattle.std.specs.List.{enumerate_from}
+use Rattle.std.proofs.Common.{◌≡◌, ℕ, zero, suc, ◌+◌, List, [], ◌∷◌, map, Option, Some, None, option_map, slice_get, refl, ap, ◌∙◌, arith, inl, inr, sym}
+use Rattle.std.specs.List.{enumerate_from, zip}
+use Rattle.lft_lists.proofs.Members.{Mem}
 
 pub mapped : {X Y : Type 0} (f : X → Y) (xs : List X) (k : ℕ) (x : X) → slice_get xs k ≡ Some x → slice_get (map f xs) k ≡ Some (f x)
 mapped f [] k x e = absurd (cc)
@@ -22,3 +23,16 @@ enumerate_at i (z ∷ xs) (suc n) x e = let j : (i + 1) + n ≡ i + suc n = omeg
 pub option_map_some : {X Y : Type 0} (f : X → Y) (o : Option X) (y : Y) → option_map f o ≡ Some y → (x : X) × (o ≡ Some x) × (f x ≡ y)
 option_map_some f None y e = absurd (cc)
 option_map_some f (Some x) y e = (x, refl, (cc))
+
+-- maps that give one list agree on its members
+pub map_same : {X Y : Type 0} (f h : X → Y) (xs : List X) (x : X) → map f xs ≡ map h xs → Mem x xs → f x ≡ h x
+map_same f h [] x e m = absurd m
+map_same f h (y ∷ ys) x e (inl q) = let a : f y ≡ h y = cc in ap f (sym q) ∙ a ∙ ap h q
+map_same f h (y ∷ ys) x e (inr m) = let a : map f ys ≡ map h ys = cc in map_same f h ys x a m
+
+-- items at one place of two lists stand beside one another
+pub pair_at : {X Y : Type 0} (xs : List X) (ys : List Y) (k : ℕ) (x : X) (y : Y) → slice_get xs k ≡ Some x → slice_get ys k ≡ Some y → slice_get (zip xs ys) k ≡ Some (x, y)
+pair_at [] ys k x y e f = absurd (cc)
+pair_at (z ∷ xs) [] k x y e f = absurd (cc)
+pair_at (z ∷ xs) (w ∷ ys) zero x y e f = let a : z ≡ x = cc in let b : w ≡ y = cc in ap (λ v. Some (v, w)) a ∙ ap (λ v. Some (x, v)) b
+pair_at (z ∷ xs) (w ∷ ys) (suc k) x y e f = pair_at xs ys k x y e f

@@ -112,3 +112,10 @@ same_some o x y a b = cc
 
 pub Some_same : {X : Type 0} (x y : X) → Some x ≡ Some y → x ≡ y
 Some_same x y same = cc
+
+-- lists of one length with the same items
+pub same_items : {X : Type 0} (xs ys : List X) → length xs ≡ length ys → ((k : ℕ) (x y : X) → slice_get xs k ≡ Some x → slice_get ys k ≡ Some y → x ≡ y) → xs ≡ ys
+same_items [] [] l e = refl
+same_items [] (y ∷ ys) l e = absurd (omega arith)
+same_items (x ∷ xs) [] l e = absurd (omega arith)
+same_items (x ∷ xs) (y ∷ ys) l e = let p : x ≡ y = e 0 x y refl refl in let q : xs ≡ ys = same_items xs ys (omega arith) (λ k a b f g. e (suc k) a b f g) in cc

@@ -34,11 +34,7 @@ use Rattle.lft_model.proofs.Kept.{effect_of, before_direct, write_row, WriteRow,
 use Rattle.lft_model.proofs.Reached.{declared_schedule, input_of_trigger}
 use Rattle.lft_model.proofs.Decided.{dec_ran}
 use Rattle.lft_model.proofs.Law.{runs_if_triggered, triggered_if_ran, reads_inputs}
-
-map_same : {X Y : Type 0} (f h : X → Y) (xs : List X) (x : X) → map f xs ≡ map h xs → Mem x xs → f x ≡ h x
-map_same f h [] x e m = absurd m
-map_same f h (y ∷ ys) x e (inl q) = let a : f y ≡ h y = cc in ap f (sym q) ∙ a ∙ ap h q
-map_same f h (y ∷ ys) x e (inr m) = let a : map f ys ≡ map h ys = cc in map_same f h ys x a m
+use Rattle.lft_lists.proofs.Mapped.{map_same}
 
 -- r ran at h in both traces or in neither, and answered the same
 pub record SameRun (plan : PlanParts) (t s : List Row) (h : Tag) (a : ℕ) : Type 0 where
@@ -323,7 +319,7 @@ pub no_steps : (plan : PlanParts) (t : List Row) → KeepsFour plan t → (g : T
 no_steps plan t well g r n = nil_of_none (steps_of t g r) (λ s m. let o : RowOf t g r s = step_mem t g r s m in n (ran_at plan t well o.place o.row g r o.is_row o.tag_is o.reaction_is))
 
 -- a run that neither trace has is the same
-absent_same : (plan : PlanParts) (t s : List Row) → Legal plan t → Legal plan s → (g : Tag) (r : ℕ) → ¬ Ran t g r → ¬ Ran s g r → SameRun plan t s g r
+pub absent_same : (plan : PlanParts) (t s : List Row) → Legal plan t → Legal plan s → (g : Tag) (r : ℕ) → ¬ Ran t g r → ¬ Ran s g r → SameRun plan t s g r
 absent_same plan t s first second g r n m =
     let x : steps_of t g r ≡ [] = no_steps plan t (four plan t first.rows) g r n in
     let y : steps_of s g r ≡ [] = no_steps plan s (four plan s second.rows) g r m in

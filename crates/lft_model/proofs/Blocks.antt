@@ -1,5 +1,5 @@
 -- The rows of some runs by place: each run has a block of them, from its start row to its end row.
-use Rattle.std.proofs.Common.{◌≡◌, ℕ, zero, suc, ◌+◌, ◌<◌, ◌≤◌, ◌⊎◌, inl, inr, List, [], ◌∷◌, ◌++◌, length, length-append, take, map, refl, sym, ap, ◌∙◌, subst, arith, Option, Some, None, Bool, true, false, cond, ◌&&◌, ◌==◌, eq-eqb, eqb-true, slice_get, filter_map, flat_map, option_to_list, zip}
+use Rattle.std.proofs.Common.{◌≡◌, ℕ, zero, suc, ◌+◌, ◌<◌, ◌≤◌, ◌⊎◌, inl, inr, List, [], ◌∷◌, ◌++◌, length, length-append, take, refl, sym, ap, ◌∙◌, subst, arith, Option, Some, None, Bool, true, false, cond, ◌&&◌, ◌==◌, eq-eqb, eqb-true, slice_get, filter_map, flat_map, option_to_list, zip}
 use Rattle.std.specs.List.{cons_option}
 use Rattle.lft_tag.specs.Tags.{same_tag}
 use Rattle.lft_lists.proofs.Members.{Mem, mem_get, get_mem, mem_right, mem_cases, mem_from_map, none_nil, filter_map-map, filter_map-flat_map}
@@ -13,19 +13,17 @@ use Rattle.lft_trace.specs.declared.row.Row.{Row}
 use Rattle.lft_trace.specs.declared.row.Step.{Step}
 use Rattle.lft_trace.specs.declared.row.Step.TheVariants.{Start, Read, Write, Schedule, Stop, End}
 use Rattle.lft_model.specs.Runs.{Run, inputs_of, read_step, same_name, value_read, step_of, closing_steps, steps_of_run, rows_of_run, rows_of}
-use Rattle.lft_model.proofs.Steps.{both_true, same_tag_true, same_tag_refl}
+use Rattle.lft_model.proofs.Steps.{both_true, same_tag_true}
 use Rattle.lft_model.proofs.Counted.{NamesApart}
 use Rattle.lft_model.proofs.RunSteps.{read_part, write_part, schedule_part, in_reads, in_writes, in_schedules, row_with, mem_zip}
+use Rattle.lft_tag.proofs.Order.{same_tag_refl}
+use Rattle.std.proofs.lemmas.List.{length-map}
 
 -- lists by place
 pub put_right : {X : Type 0} (xs ys : List X) (j : ℕ) (x : X) (i : ℕ) → i ≡ length xs + j → slice_get ys j ≡ Some x → slice_get (xs ++ ys) i ≡ Some x
 put_right [] ys j x i q e = ap (λ k. slice_get ys k) (let z : i ≡ j = omega arith in z) ∙ e
 put_right (z ∷ xs) ys j x zero q e = absurd (omega arith)
 put_right (z ∷ xs) ys j x (suc i) q e = let p : i ≡ length xs + j = omega arith in put_right xs ys j x i p e
-
-map_length : {X Y : Type 0} (f : X → Y) (xs : List X) → length (map f xs) ≡ length xs
-map_length f [] = refl
-map_length f (x ∷ xs) = let e : length (map f xs) ≡ length xs = map_length f xs in omega arith
 
 pub two_places : {X Y : Type 0} (h : X → Option Y) (xs : List X) (i j : ℕ) (x y : X) (a b : Y) → i < j → slice_get xs i ≡ Some x → slice_get xs j ≡ Some y → h x ≡ Some a → h y ≡ Some b → 2 ≤ length (filter_map h xs)
 two_places h [] i j x y a b l e f p q = absurd (cc)
@@ -204,7 +202,7 @@ pub record Placed (program : Parts) (l : List Run) (i : ℕ) (x : Row) : Type 0 
 
 module _ (program : Parts) where
   rows_length : (u : Run) → length (rows_of_run program u) ≡ length (steps_of_run program u)
-  rows_length u = map_length (row_with u) (steps_of_run program u)
+  rows_length u = length-map (steps_of_run program u) (row_with u)
 
   next_length : (u : Run) (l : List Run) → length (rows_of program (u ∷ l)) ≡ length (rows_of_run program u) + length (rows_of program l)
   next_length u l = length-append (rows_of_run program u) (rows_of program l)

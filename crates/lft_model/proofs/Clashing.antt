@@ -20,8 +20,9 @@ use Rattle.lft_model.specs.Fitting.{EachFits}
 use Rattle.lft_model.specs.Plans.{PlanParts}
 use Rattle.lft_model.specs.Presence.{scheduled, given, min_delay, events_of, PortClash, ClashesAt, Collision}
 use Rattle.lft_model.proofs.Places.{slice_get_within}
-use Rattle.lft_model.proofs.Steps.{cond_some, both_true, scheduled_some}
+use Rattle.lft_model.proofs.Steps.{both_true, scheduled_some}
 use Rattle.lft_model.proofs.Ended.{Schedules, scheduled_by}
+use Rattle.std.proofs.NetLemmas.Options.{cond_some}
 
 -- a step of the program that schedules an action names one of the program's
 step_within : (program : Parts) (s : Step) (a extra : ℕ) (v : Value) → StepFits program s → s ≡ Schedule (Action a) v extra → a < length program.actions

@@ -12,8 +12,9 @@ use Rattle.lft_trace.specs.declared.externals.Event.{Event}
 use Rattle.lft_model.specs.Plans.{PlanParts, IsSoundPlan}
 use Rattle.lft_model.specs.Presence.{given, Collision, ClashesAt}
 use Rattle.lft_model.specs.Recorded.{SoFar}
-use Rattle.lft_model.proofs.Steps.{cond_some, both_true, same_tag_true}
+use Rattle.lft_model.proofs.Steps.{both_true, same_tag_true}
 use Rattle.lft_model.proofs.Counted.{get_or_get}
+use Rattle.std.proofs.NetLemmas.Options.{cond_some}
 
 -- two places of a list at which a filter keeps the items
 record TwoKept {X Y : Type 0} (f : X → Option Y) (xs : List X) : Type 0 where

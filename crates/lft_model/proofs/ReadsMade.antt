@@ -11,10 +11,10 @@ use Rattle.lft_flat.specs.declared.parts.Name.{Name}
 use Rattle.lft_flat.specs.declared.parts.Trigger.{Trigger}
 use Rattle.lft_flat.specs.declared.parts.Trigger.TheVariants.{Startup, Shutdown, Timer, On}
 use Rattle.lft_trace.specs.declared.row.Row.{Row}
-use Rattle.lft_trace.proofs.Zips.{pushed}
 use Rattle.lft_model.specs.Plans.{PlanParts}
 use Rattle.lft_model.specs.Presence.{At, IsPresent, Shows, Inputs}
 use Rattle.lft_lists.proofs.Picked.{kept_more, take_next}
+use Rattle.std.proofs.lemmas.Slice.Zip.{all_zipped_more}
 
 -- one more element of a list
 taken : {X : Type 0} (xs : List X) (i : ℕ) (x : X) → slice_get xs i ≡ Some x → take (i + 1) xs ≡ take i xs ++ x ∷ []
@@ -28,7 +28,7 @@ module _ (plan : PlanParts) (t : List Row) (g : Tag) where
 
   -- a trigger that names a port or an action
   pub read_trigger : (xs : List Trigger) (i : ℕ) (n : Name) (os : List (Option Value)) (o : Option Value) → slice_get xs i ≡ Some (On n) → Shows plan t g n o → AllZip (Shows plan t g) (filter_map named (take i xs)) os → AllZip (Shows plan t g) (filter_map named (take (i + 1) xs)) (os ++ o ∷ [])
-  read_trigger xs i n os o e s h = subst (λ (ns : List Name). AllZip (Shows plan t g) ns (os ++ o ∷ [])) (sym (kept_more named xs i (On n) (Some n) e refl)) (pushed (Shows plan t g) (filter_map named (take i xs)) os n o h s)
+  read_trigger xs i n os o e s h = subst (λ (ns : List Name). AllZip (Shows plan t g) ns (os ++ o ∷ [])) (sym (kept_more named xs i (On n) (Some n) e refl)) (all_zipped_more (Shows plan t g) (filter_map named (take i xs)) os n o h s)
 
   -- a trigger that names none
   pub read_nothing : (xs : List Trigger) (i : ℕ) (x : Trigger) (os : List (Option Value)) → slice_get xs i ≡ Some x → ((n : Name) → ¬ (x ≡ On n)) → AllZip (Shows plan t g) (filter_map named (take i xs)) os → AllZip (Shows plan t g) (filter_map named (take (i + 1) xs)) os
@@ -36,7 +36,7 @@ module _ (plan : PlanParts) (t : List Row) (g : Tag) where
 
   -- a use
   pub read_use : (front ns : List Name) (i : ℕ) (n : Name) (os : List (Option Value)) (o : Option Value) → slice_get ns i ≡ Some n → Shows plan t g n o → AllZip (Shows plan t g) (front ++ take i ns) os → AllZip (Shows plan t g) (front ++ take (i + 1) ns) (os ++ o ∷ [])
-  read_use front ns i n os o e s h = subst (λ (ms : List Name). AllZip (Shows plan t g) ms (os ++ o ∷ [])) (append_assoc front (take i ns) (n ∷ []) ∙ ap (λ ms. front ++ ms) (sym (taken ns i n e))) (pushed (Shows plan t g) (front ++ take i ns) os n o h s)
+  read_use front ns i n os o e s h = subst (λ (ms : List Name). AllZip (Shows plan t g) ms (os ++ o ∷ [])) (append_assoc front (take i ns) (n ∷ []) ∙ ap (λ ms. front ++ ms) (sym (taken ns i n e))) (all_zipped_more (Shows plan t g) (front ++ take i ns) os n o h s)
 
 -- the reads of a reaction, of a program that is the plan's and by rows that are those of the trace
 module _ (plan : PlanParts) (s t : List Row) (same : s ≡ t) (g : Tag) (r : ℕ) (program : Parts) (is_program : program ≡ plan.program) (x : Reaction) (is_reaction : slice_get program.reactions r ≡ Some x) (ns : List Name) (are : ns ≡ x.uses) where

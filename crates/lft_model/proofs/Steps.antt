@@ -1,5 +1,5 @@
 -- The steps of a run in a trace, and in the rows of the run alone.
-use Rattle.std.proofs.Common.{◌≡◌, ℕ, ◌⊎◌, inl, inr, List, [], ◌∷◌, ◌++◌, map, refl, sym, ap, ◌∙◌, subst, Option, Some, None, Bool, true, false, cond, ◌&&◌, ◌==◌, eqb-true, eq-eqb, slice_get, filter_map, flat_map, option_map, zip}
+use Rattle.std.proofs.Common.{◌≡◌, ℕ, ◌⊎◌, inl, inr, List, [], ◌∷◌, ◌++◌, map, refl, sym, ap, ◌∙◌, subst, Option, Some, None, Bool, true, false, ◌&&◌, ◌==◌, eqb-true, eq-eqb, slice_get, filter_map, flat_map, option_map, zip}
 use Rattle.std.specs.List.{last_or}
 use Rattle.lft_tag.specs.declared.Tag.{Tag}
 use Rattle.lft_tag.specs.Tags.{same_tag}
@@ -14,11 +14,9 @@ use Rattle.lft_trace.specs.declared.row.Row.{Row}
 use Rattle.lft_trace.specs.declared.row.Step.{Step}
 use Rattle.lft_trace.specs.declared.row.Step.TheVariants.{Start, Read, Write, Schedule, Stop, End}
 use Rattle.lft_model.specs.Presence.{value_written, value_scheduled}
-use Rattle.lft_model.specs.Runs.{Run, Outcome, step_of, steps_of, outcome_of, inputs_of, effects_of, read_step, write_step, schedule_steps, write_step_of, schedule_steps_of, closing_steps, request_of, steps_of_run}
-
-pub cond_some : {X : Type 0} (b : Bool) (x y : X) → cond b (Some x) None ≡ Some y → (b ≡ true) × (x ≡ y)
-cond_some true x y e = (refl, cc)
-cond_some false x y e = absurd (cc)
+use Rattle.lft_model.specs.Runs.{Run, Outcome, step_of, steps_of, outcome_of, inputs_of, effects_of, read_step, write_step, schedule_steps, write_step_of, schedule_steps_of, closing_steps, request_of, steps_of_run, same_name}
+use Rattle.std.proofs.NetLemmas.Options.{cond_some}
+use Rattle.lft_tag.proofs.Order.{same_tag_refl}
 
 pub both_true : (a b : Bool) → a && b ≡ true → (a ≡ true) × (b ≡ true)
 both_true true b e = (refl, e)
@@ -26,9 +24,6 @@ both_true false b e = absurd (cc)
 
 pub same_tag_true : (g h : Tag) → same_tag g h ≡ true → g ≡ h
 same_tag_true g h e = let p = both_true (g.time == h.time) (g.micro == h.micro) e in tag_of (eqb-true g.time h.time p.0) (eqb-true g.micro h.micro p.1)
-
-pub same_tag_refl : (g h : Tag) → g ≡ h → same_tag g h ≡ true
-same_tag_refl g h e = let a : (g.time == h.time) ≡ true = eq-eqb g.time h.time (ap (λ x. x.time) e) in let b : (g.micro == h.micro) ≡ true = eq-eqb g.micro h.micro (ap (λ x. x.micro) e) in rw (a, b) refl
 
 -- a step of the run of c at h is the step of a row
 pub step_row : (t : List Row) (h : Tag) (c : ℕ) (row : Row) (s : Step) → step_of h c row ≡ Some s → (row.tag ≡ h) × (row.reaction ≡ c) × (row.step ≡ s)
@@ -224,3 +219,14 @@ module _ (program : Parts) (t : List Row) (h : Tag) (c : ℕ) (reads : List (Opt
       let w : Mem (Schedule (Action a) v d) (schedule_steps (Action a, outcome_of st (Action a))) = mem_map (λ (y : ℕ × Value). Schedule (Action a) y.1 y.0) (d, v) (filter_map (value_scheduled a) st) e in
       let u : Mem (Schedule (Action a) v d) (flat_map schedule_steps (zip eff (map (outcome_of st) eff))) = mem_flat schedule_steps (Action a, outcome_of st (Action a)) (Schedule (Action a) v d) (zip eff (map (outcome_of st) eff)) y w in
       mem_left (Schedule (Action a) v d) (read_part ++ write_part ++ schedule_part) (closing_steps (request_of (steps_of t h c))) (mem_right (Schedule (Action a) v d) (read_part ++ write_part) schedule_part u)
+
+-- the test of two names being one
+pub name_same : (m n : Name) → same_name m n ≡ true → m ≡ n
+name_same (Port p) (Port q) e = ap Port (eqb-true p q e)
+name_same (Port p) (Action b) e = absurd (cc)
+name_same (Action a) (Port q) e = absurd (cc)
+name_same (Action a) (Action b) e = ap Action (eqb-true a b e)
+
+pub name_self : (n : Name) → same_name n n ≡ true
+name_self (Port p) = eq-eqb p p refl
+name_self (Action a) = eq-eqb a a refl

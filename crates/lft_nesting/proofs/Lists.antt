@@ -31,12 +31,6 @@ enumerate_back i [] n y e = absurd (cc)
 enumerate_back i (x ∷ xs) zero y e = let q : (i, x) ≡ y = cc in let z : i + 0 ≡ i = omega arith in (z ∙ ap (λ w. w.0) q, ap (λ w. Some w.1) q)
 enumerate_back i (x ∷ xs) (suc n) y e = let r = enumerate_back (i + 1) xs n y e in let z : i + suc n ≡ (i + 1) + n = omega arith in (z ∙ r.0, r.1)
 
-pub pair_at : {X Y : Type 0} (xs : List X) (ys : List Y) (k : ℕ) (x : X) (y : Y) → slice_get xs k ≡ Some x → slice_get ys k ≡ Some y → slice_get (zip xs ys) k ≡ Some (x, y)
-pair_at [] ys k x y e f = absurd (cc)
-pair_at (z ∷ xs) [] k x y e f = absurd (cc)
-pair_at (z ∷ xs) (w ∷ ys) zero x y e f = let a : z ≡ x = cc in let b : w ≡ y = cc in ap (λ v. Some (v, w)) a ∙ ap (λ v. Some (x, v)) b
-pair_at (z ∷ xs) (w ∷ ys) (suc k) x y e f = pair_at xs ys k x y e f
-
 pub pair_back : {X Y : Type 0} (xs : List X) (ys : List Y) (k : ℕ) (p : X × Y) → slice_get (zip xs ys) k ≡ Some p → (slice_get xs k ≡ Some p.0) × (slice_get ys k ≡ Some p.1)
 pair_back [] ys k p e = absurd (cc)
 pair_back (x ∷ xs) [] k p e = absurd (cc)

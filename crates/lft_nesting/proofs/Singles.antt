@@ -4,13 +4,13 @@ use Rattle.std.specs.List.{zip, prefix_len}
 use Rattle.std.proofs.lemmas.Bool.{cases_lt, lt-ltb, le-ltb}
 use Rattle.std.proofs.lemmas.List.{map-append}
 use Rattle.std.proofs.lemmas.Slice.Eq.{bytes_eq-Decides}
-use Rattle.lft_lists.proofs.Mapped.{mapped, mapped_from}
+use Rattle.lft_lists.proofs.Mapped.{mapped, mapped_from, pair_at}
 use Rattle.lft_tree.specs.Tree.{ReactorTree, ConnectionTree, RefTree, TimeTree, connections_of}
 use Rattle.lft_scope.specs.Kinds.{destinations_in}
 use Rattle.lft_scope.specs.Places.{place}
 use Rattle.lft_reactors.specs.Sheets.{Single, singles_in, singles_of}
 use Rattle.lft_nesting.proofs.Counting.{total, flat_at}
-use Rattle.lft_nesting.proofs.Lists.{From, flat_back, pair_at, pair_back}
+use Rattle.lft_nesting.proofs.Lists.{From, flat_back, pair_back}
 
 -- the connection that a single one is of
 pub record IsOf (r : ReactorTree) (s : Single) : Type 0 where

@@ -8,8 +8,8 @@ use Rattle.std.specs.List.{last_or, cons_option}
 use Rattle.std.specs.Map.{lookup}
 use Rattle.std.specs.Ordering.{is_eq, nat_cmp, ordering_then}
 use Rattle.std.specs.declared.cmp.Ordering.{Ordering}
-use Rattle.std.specs.declared.cmp.Ordering.TheVariants.{Less, Equal, Greater}
-use Rattle.std.proofs.lemmas.Bool.{cases_eq, eqb-true}
+use Rattle.std.specs.declared.cmp.Ordering.TheVariants.{Equal}
+use Rattle.std.proofs.lemmas.Bool.{cases_eq, eqb-true, false_from_ne_true}
 use Rattle.std.proofs.lemmas.Bool.Decides.{Decides-eqb, Decides-and, Decides-like}
 use Rattle.std.proofs.lemmas.Cmp.{nat_cmp_total, then_total, on_total}
 use Rattle.std.proofs.lemmas.Map.Lookups.{btree_map_from_get, btree_map_eq-Decides, exact_unsigned, exact_pairs}
@@ -36,15 +36,7 @@ use Rattle.lft_answers.specs.Answers.{answer_of}
 use Rattle.lft_answers.proofs.Stepping.{last_stays, last_changes}
 use Rattle.lft_pair.specs.Answering.{writing, scheduling, last_to, SameWritten, SameScheduled, SameAnswers, AreWritten, AreScheduled, place_cmp}
 use Rattle.lft_pair.proofs.Maps.{map_get}
-
-is_false : (b : Bool) → (b ≡ true → ⊥) → b ≡ false
-is_false true d = absurd (d refl)
-is_false false d = refl
-
-not_equal : (r : Ordering) → (r ≡ Equal → ⊥) → is_eq r ≡ false
-not_equal Less d = refl
-not_equal Equal d = absurd (d refl)
-not_equal Greater d = refl
+use Rattle.lft_tag.proofs.Comparing.{not_equal}
 
 -- what a step writes to a port, by the port and the value that it names
 abbrev written_as : ℕ → Option (ℕ × Value) → Option Value
@@ -75,7 +67,7 @@ written_put p q v steps i s old new here e put so_far = go (cases_eq p q)
         put ∙ ap (λ (c : Bool). cond c (Some v) old) t ∙ last_changes (value_written p) steps i s (Some v) here now refl
     go (inr d) =
         let t : is_eq (nat_cmp q p) ≡ false = not_equal (nat_cmp q p) (λ z. d (sym (exact_unsigned q p z))) in
-        let b : (p == q) ≡ false = is_false (p == q) (λ z. d (eqb-true p q z)) in
+        let b : (p == q) ≡ false = false_from_ne_true (p == q) (λ z. d (eqb-true p q z)) in
         let now : None ≡ value_written p s = sym (written_is p s ∙ ap (written_as p) e ∙ ap (λ (c : Bool). cond c (Some v) None) b) in
         put ∙ ap (λ (c : Bool). cond c (Some v) old) t ∙ last_stays (value_written p) steps i s old None here now refl so_far
 
@@ -108,7 +100,7 @@ module _ (steps : List Step) (i : ℕ) (s : Step) (here : slice_get steps i ≡ 
 
   scheduled_other : (a b : ℕ) (x : ℕ × Value) → scheduling s ≡ Some (b, x) → (a ≡ b → ⊥) → scheduled_for (take (i + 1) steps) a ≡ scheduled_for (take i steps) a
   scheduled_other a b x e d =
-      let t : (a == b) ≡ false = is_false (a == b) (λ z. d (eqb-true a b z)) in
+      let t : (a == b) ≡ false = false_from_ne_true (a == b) (λ z. d (eqb-true a b z)) in
       kept_more (value_scheduled a) steps i s None here (sym (scheduled_is a s ∙ ap (scheduled_as a) e ∙ ap (λ (c : Bool). cond c (Some x) None) t)) ∙ append-nil (scheduled_for (take i steps) a)
 
 get_unpushed : {X : Type 0} (xs : List X) (y : X) (k : ℕ) → (k ≡ length xs → ⊥) → slice_get (xs ++ y ∷ []) k ≡ slice_get xs k

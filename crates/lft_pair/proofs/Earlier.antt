@@ -1,5 +1,5 @@
 -- Where the first run that doesn't agree is, all before it is the same.
-use Rattle.std.proofs.Common.{◌≡◌, ℕ, zero, suc, ◌<◌, ◌⊎◌, inl, inr, List, [], length, map, refl, sym, ap, ◌∙◌, subst, arith, Option, Some, None, slice_get, Contains}
+use Rattle.std.proofs.Common.{◌≡◌, ℕ, zero, suc, ◌<◌, ◌⊎◌, inl, inr, List, length, refl, sym, ap, ◌∙◌, subst, arith, Option, Some, None, slice_get, Contains}
 use native.Mathlib.Decide.{dec_lt}
 use Rattle.lft_tag.specs.declared.Tag.{Tag}
 use Rattle.lft_flat.specs.Parts.{Parts}
@@ -9,15 +9,12 @@ use Rattle.lft_graph.specs.Precedence.Precedes.{one, more}
 use Rattle.lft_graph.specs.Graph.{GraphParts, IsGraphOf}
 use Rattle.lft_lists.proofs.Places.{get_there}
 use Rattle.lft_model.specs.Plans.{PlanParts, IsSoundPlan}
-use Rattle.lft_trace.specs.declared.row.Step.{Step}
-use Rattle.lft_model.specs.Runs.{Ran, steps_of, read_of, inputs_of, effects_of}
-use Rattle.lft_model.proofs.Legality.{four}
-use Rattle.lft_answers.specs.Answers.{answer_of}
+use Rattle.lft_model.specs.Runs.{Ran}
 use Rattle.lft_model.specs.Recorded.{SameRuns}
 use Rattle.lft_model.specs.Breaches.{Legal}
 use Rattle.lft_model.proofs.Places.{slice_get_within}
 use Rattle.lft_model.proofs.Decided.{dec_ran}
-use Rattle.lft_model.proofs.Agree.{SameRun, swap, IsBefore, SameBefore, ran_same, history_same, reads_same, no_steps, agree, values_same}
+use Rattle.lft_model.proofs.Agree.{SameRun, swap, IsBefore, SameBefore, ran_same, history_same, reads_same, agree, values_same, absent_same}
 use Rattle.lft_pair.specs.declared.comparison.Pair.TheVariants.{Same, Differ}
 use Rattle.lft_pair.specs.Pairs.{ComesFirst, IsDifference, IsComparison, Agrees, IsFirstOdd, FirstOdd}
 use Rattle.lft_pair.proofs.Odd.{first_trans}
@@ -143,14 +140,6 @@ module _ (program : Parts) (graph : GraphParts) (is_graph : IsGraphOf program gr
   is_first g r plan e h a (inl b) = inl b
   is_first g r plan e h a (inr b) = subst (λ (z : Tag). ComesFirst graph.levels z a g r) (sym b.0) (lower g a r (subst (λ (q : Parts). Precedes q a r) e b.1))
 
--- a run that neither trace has is the same
-absent : (plan : PlanParts) (t s : List Row) → Legal plan t → Legal plan s → (g : Tag) (r : ℕ) → ¬ Ran t g r → ¬ Ran s g r → SameRun plan t s g r
-absent plan t s first second g r n m =
-    let x : steps_of t g r ≡ [] = no_steps plan t (four plan t first.rows) g r n in
-    let y : steps_of s g r ≡ [] = no_steps plan s (four plan s second.rows) g r m in
-    let e : steps_of t g r ≡ steps_of s g r = x ∙ sym y in
-    record { there = λ q. absurd (n q); back = λ q. absurd (m q); answers = ap (λ (zs : List Step). answer_of (effects_of plan.program r) zs) e; reads = ap (λ (zs : List Step). map (read_of zs) (inputs_of plan.program r)) e }
-
 module _ (plan : PlanParts) (good : IsSoundPlan plan) (t s : List Row) (first : Legal plan t) (second : Legal plan s) where
   back_before : (g : Tag) (r : ℕ) → SameBefore plan t s g r → SameBefore plan s t g r
   back_before g r same h a b = swap plan t s h a (same h a b)
@@ -161,7 +150,7 @@ module _ (plan : PlanParts) (good : IsSoundPlan plan) (t s : List Row) (first : 
     where
       go : Dec (Ran t g r) → SameRun plan t s g r
       go (yes o) = let u = alike o in record { there = λ q. u.0; back = λ q. o; answers = u.1; reads = reads_same plan good t s first second g r same o }
-      go (no n) = absent plan t s first second g r n (λ q. n (ran_same plan good s t second first g r (back_before g r same) q))
+      go (no n) = absent_same plan t s first second g r n (λ q. n (ran_same plan good s t second first g r (back_before g r same) q))
 
   module _ (graph : GraphParts) (is_graph : IsGraphOf plan.program graph) (g : Tag) (r : ℕ) (odd : IsFirstOdd plan graph.levels t s (g, r)) where
     same_first : (h : Tag) (a : ℕ) → ComesFirst graph.levels h a g r → SameRun plan t s h a

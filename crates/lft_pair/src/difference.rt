@@ -12,7 +12,7 @@ ghost use Rattle.lft_pair.specs.Places.{AreLastStarts, AreUpTo};
 ghost use Rattle.lft_flat.specs.Parts.{Parts};
 
 use crate::answers::same_answers;
-use crate::starts::{Starts, no_starts};
+use crate::starts::{LastStarts, no_starts};
 use lft_answers::read_steps;
 use lft_graph::Graph;
 use lft_model::Plan;
@@ -24,7 +24,7 @@ use std::alloc::Global;
 /// a run of each trace.
 #[derive(Drop)]
 struct Kept {
-    starts: Starts,
+    starts: LastStarts,
     mine: Vec<Step>,
     theirs: Vec<Step>,
 }

@@ -17,7 +17,7 @@ use std::alloc::Global;
 /// How many rows of a trace are read, and for each reaction the place of its last start among them,
 /// or 0.
 #[derive(Drop)]
-pub(crate) struct Starts {
+pub(crate) struct LastStarts {
     pub read: usize,
     pub places: Vec<usize>,
 }
@@ -34,16 +34,16 @@ fn is_start_at(rows: &[Row], tag: Tag, reaction: u32, place: usize) -> bool
 }
 
 /// No row is read.
-pub(crate) fn no_starts(alloc: Global, reactions: usize) -> Result<Starts, NoMemory>
+pub(crate) fn no_starts(alloc: Global, reactions: usize) -> Result<LastStarts, NoMemory>
     ensures as_long { IfOk result (λ starts. length starts.places.items ≡ reactions) }
     ensures none_read { IfOk result (λ starts. starts.read ≡ 0) }
     ensures kept { IfOk result (λ starts. (t : List TheRow) → AreLastStarts t starts.read starts.places.items) }
 {
     let places = vec![in alloc; 0; reactions]?;
-    Ok(Starts { read: 0, places })
+    Ok(LastStarts { read: 0, places })
 }
 
-impl Starts {
+impl LastStarts {
     /// Reads on, up to the first row after the tag.
     fn read_to(&mut self, rows: &[Row], tag: Tag)
         requires fit { (program : Parts) × RowsFit program rows.now × (length self.old.places.items ≡ length program.reactions) }

@@ -5,5 +5,5 @@ mod places;
 mod source;
 mod spots;
 
-pub use source::Source;
+pub use source::SourceText;
 pub use spots::{MemberPlace, Spot};

@@ -3,12 +3,12 @@
 //! The tree is walked in step with the tokens, so a place is never one of another member, of a type, of a
 //! state variable or of a target's block.
 
-use crate::source::Source;
+use crate::source::SourceText;
 use crate::spots::MemberPlace;
 use lft_scope::kinds::Role;
 use lft_tree::{Connection, Item, Member, Reactor, TimeExpression};
 
-impl<'a> Source<'a> {
+impl<'a> SourceText<'a> {
     /// The token behind the delay of a connection whose names end there.
     fn delay_end(&self, connection: &Connection, at: usize) -> usize {
         match &connection.delay {

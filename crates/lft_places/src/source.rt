@@ -9,7 +9,7 @@ use lft_tree::Ast;
 
 /// A program's text with its tokens and its tree.
 #[derive(Clone, Copy)]
-pub struct Source<'a> {
+pub struct SourceText<'a> {
     pub text: &'a [u8],
     pub tokens: &'a [Token],
     pub ast: &'a Ast,
@@ -50,7 +50,7 @@ pub(crate) fn holds(text: &[u8], bytes: &[u8]) -> bool
     false
 }
 
-impl<'a> Source<'a> {
+impl<'a> SourceText<'a> {
     /// What the token is.
     fn kind(&self, at: usize) -> Option<TokenKind> {
         if at < self.tokens.len() {

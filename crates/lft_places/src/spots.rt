@@ -9,7 +9,7 @@ ghost use Rattle.lft_syntax.specs.declared.token.TokenKind.TheVariants.{Number};
 ghost use Rattle.lft_tree.specs.View.{ref_view, time_view};
 ghost use Rattle.lft_places.specs.Spots.{HasCodeWith, NameStandsAt, StandAt, StandsAt, TimeStandsAt};
 
-use crate::source::{Source, holds, spelling};
+use crate::source::{SourceText, holds, spelling};
 use lft_scope::kinds::Role;
 use lft_syntax::{Token, TokenKind};
 use lft_tree::{Reference, Time, TimeExpression};
@@ -44,7 +44,7 @@ impl Spot {
     }
 }
 
-impl<'a> Source<'a> {
+impl<'a> SourceText<'a> {
     /// The bytes of the token, if it spells the word.
     fn word(&self, at: usize, word: &str) -> Option<Spot>
         ensures { IfSome result (λ s. StandsAt self.now.text.now s word.now) }

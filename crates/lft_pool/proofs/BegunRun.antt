@@ -28,7 +28,8 @@ use Rattle.lft_model.proofs.Quiet.{pending_time}
 use Rattle.lft_bodies.specs.declared.done.Done.{Done}
 use Rattle.lft_recording.specs.Starts.{MayStart, IsBusy, started_row, started_count}
 use Rattle.lft_pool.specs.Books.{law_of, IsRecording}
-use Rattle.lft_pool.proofs.Known.{ran_of_run, input_known}
+use Rattle.lft_pool.proofs.Known.{ran_of_run}
+use Rattle.lft_flat.proofs.Naming.{input_known}
 
 -- each instance hands its word on, and each run meets the law: as `Follows` says of the ended runs
 abbrev pub HandsOn : PlanParts → List (ℤ × ℤ) → List Run → Type 0

@@ -1,16 +1,7 @@
 -- What is known of a recording's runs and of the names of its program.
-use Rattle.std.proofs.Common.{◌≡◌, ℕ, ◌<◌, ◌⊎◌, inl, inr, List, [], ◌∷◌, length, refl, ap, ◌∙◌, subst, arith, Option, Some, slice_get, filter_map, ℤ, zero, suc, replicate}
-use Rattle.std.specs.List.{AllZip}
+use Rattle.std.proofs.Common.{◌≡◌, ℕ, ◌<◌, ◌⊎◌, List, [], ◌∷◌, length, refl, ap, ◌∙◌, subst, arith, Option, Some, slice_get, ℤ, zero, suc, replicate}
 use Rattle.lft_tag.specs.declared.Tag.{Tag}
-use Rattle.lft_lists.proofs.Members.{Mem, mem_cases, mem_from_filter, mem_contains}
-use Rattle.lft_flat.specs.Parts.{Parts, inputs}
-use Rattle.lft_flat.specs.Naming.{named}
-use Rattle.lft_flat.specs.Sound.{IsSound, IsNameOf, IsTriggerOf}
 use Rattle.lft_flat.specs.declared.parts.Value.{Value}
-use Rattle.lft_flat.specs.declared.parts.Name.{Name}
-use Rattle.lft_flat.specs.declared.parts.Reaction.{Reaction}
-use Rattle.lft_flat.specs.declared.parts.Trigger.{Trigger}
-use Rattle.lft_flat.specs.declared.parts.Trigger.TheVariants.{Startup, Shutdown, Timer, On}
 use Rattle.lft_trace.specs.declared.row.Row.{Row}
 use Rattle.lft_model.specs.Plans.{PlanParts, IsSoundPlan}
 use Rattle.lft_model.specs.Runs.{Run, Ran, end_row, by_ends}
@@ -33,27 +24,6 @@ ran_of_run plan t well k u e =
     let h : HasRun (by_ends plan t) u.tag u.reaction = record { place = k; run = u; is_run = e; same_tag = refl; same_reaction = refl } in
     let o = end_of_run plan t (length t) u.tag u.reaction (subst (λ (l : List Run). HasRun l u.tag u.reaction) (all_ended plan t) h) in
     ran_at plan t well o.place (end_row o.worker u.tag u.reaction) u.tag u.reaction o.ends refl refl
-
--- an input of a reaction is a port or action of the program
-pub input_known : (program : Parts) → IsSound program → (r : ℕ) (x : Reaction) → slice_get program.reactions r ≡ Some x → (n : Name) → Mem n (inputs x) → IsNameOf program n
-input_known program sound r x e n m = go (mem_cases n (filter_map named x.triggers) x.uses m)
-  where
-    of_trigger : (y : Trigger) → named y ≡ Some n → IsTriggerOf program y → IsNameOf program n
-    of_trigger Startup q o = absurd (cc)
-    of_trigger Shutdown q o = absurd (cc)
-    of_trigger (Timer k) q o = absurd (cc)
-    of_trigger (On k) q o = let z : k ≡ n = cc in subst (λ (y : Name). IsNameOf program y) z o
-
-    go : Mem n (filter_map named x.triggers) ⊎ Mem n x.uses → IsNameOf program n
-    go (inl q) = let p = mem_from_filter named x.triggers n q in of_trigger p.0 p.2 ((sound.exist r x e).triggers p.0 (mem_contains p.0 x.triggers p.1))
-    go (inr q) = (sound.exist r x e).uses n (mem_contains n x.uses q)
-
--- two lists that agree item by item have one length
-pub zipped_length : {X Y : Type 0} (P : X → Y → Type 0) (xs : List X) (ys : List Y) → AllZip P xs ys → length ys ≡ length xs
-zipped_length P [] [] z = refl
-zipped_length P [] (y ∷ ys) z = absurd z
-zipped_length P (x ∷ xs) [] z = absurd z
-zipped_length P (x ∷ xs) (y ∷ ys) z = let e = zipped_length P xs ys z.1 in omega arith
 
 -- a recording so far after which nothing is left is legal
 pub nothing_left_legal : (plan : PlanParts) → IsSoundPlan plan → (t : List Row) → SoFar plan t → NothingLeft plan t → Legal plan t

@@ -15,7 +15,7 @@ ghost use Rattle.lft_recording.specs.Starts.{IsAnyOpen, IsBusy, MayStartFirst, N
 use crate::states::States;
 use crate::stop::Stop;
 use crate::words::{is_same, no_words, set_word, word_at};
-use lft_agenda::{Agenda, Found};
+use lft_agenda::{Agenda, NextRun};
 use lft_bodies::{Answered, Bodies, Body, BoxedCode, Code, Done, Law, Ticket, ticket_of};
 use lft_model::Plan;
 use lft_recording::{begun, committed, has_long_delay, may_make_all};
@@ -148,9 +148,9 @@ impl<L: Law, C: Code + Drop> Book<L, C> {
             return Ok(Begin::Wait);
         }
         match self.agenda.find() {
-            Found::Ready(tag, reaction) => return self.start(worker, tag, reaction),
-            Found::Blocked => return Ok(Begin::Wait),
-            Found::Nothing => return Ok(Begin::Finished),
+            NextRun::Ready(tag, reaction) => return self.start(worker, tag, reaction),
+            NextRun::Blocked => return Ok(Begin::Wait),
+            NextRun::Nothing => return Ok(Begin::Finished),
         }
     }
 

@@ -5,7 +5,7 @@ use Rattle.lft_tag.specs.declared.Tag.{Tag}
 use Rattle.lft_tag.specs.Tags.{Before, UpTo}
 use Rattle.lft_tag.specs.Shifts.{Folded, shifted}
 use Rattle.lft_tag.proofs.Order.{UpTo-trans, UpTo-not}
-use Rattle.lft_tag.proofs.Chains.{tag_of as tag_from}
+use Rattle.lft_tag.proofs.Chains.{tag_of as tag_from, shifted_same}
 use Rattle.lft_lists.proofs.Places.{get_push_cases}
 use Rattle.lft_flat.proofs.Origins.{origin_within}
 use Rattle.lft_flat.specs.declared.parts.Port.{Port as PortOf}
@@ -32,10 +32,6 @@ same_time g h k (suc d, steps) e f n =
     let t : g.time ≡ h.time = omega arith in
     (omega arith, t, λ m. n (tag_from t m))
 
-leads_same : (g h : Tag) (s : Folded) → 0 < s.0 → g.time ≡ h.time → shifted g s ≡ shifted h s
-leads_same g h (zero, steps) l e = absurd (omega arith)
-leads_same g h (suc d, steps) l e = tag_from (ap (λ n. n + suc d) e) refl
-
 module _ (plan : PlanParts) (t : List Row) (causes : List Cause) (are : AreCauses plan t causes) (p : ℕ) (port : PortOf) (chain : ChainOf plan.program p port) where
   pair_of_clash : (g : Tag) → PortClash plan t g p → (0 < port.shift.time) × ((x y : Cause) × Among causes x × Among causes y × IsPair true port.origin x y × (shifted (tag_of x) (port.shift.time, port.shift.steps) ≡ g) × (shifted (tag_of y) (port.shift.time, port.shift.steps) ≡ g))
   pair_of_clash g c =
@@ -47,7 +43,7 @@ module _ (plan : PlanParts) (t : List Row) (causes : List Cause) (are : AreCause
   clash_of_pair : (x y : Cause) → 0 < port.shift.time → Among causes x → Among causes y → IsPair true port.origin x y → PortClash plan t (shifted (tag_of y) (port.shift.time, port.shift.steps)) p
   clash_of_pair x y l i j q =
       let g = shifted (tag_of y) (port.shift.time, port.shift.steps) in
-      let same : shifted (tag_of x) (port.shift.time, port.shift.steps) ≡ g = leads_same (tag_of x) (tag_of y) (port.shift.time, port.shift.steps) l q.2 in
+      let same : shifted (tag_of x) (port.shift.time, port.shift.steps) ≡ g = shifted_same (tag_of x) (tag_of y) (port.shift.time, port.shift.steps) l q.2 in
       let v = port_from plan t g p port chain x (are.just.only i.0 x i.1) (q.0, same) in
       let w = port_from plan t g p port chain y (are.just.only j.0 y j.1) (q.1, refl) in
       record { first = tag_of x; second = tag_of y; first_value = v.0; second_value = w.0; is_first = v.1; is_second = w.1; differ = λ e. q.3 (ap (λ (z : Tag). z.micro) e) }

@@ -9,3 +9,4 @@ pub mod Twice
 pub mod Collisions
 pub mod Dues
 pub mod Kept
+pub mod Lookups

@@ -2,3 +2,4 @@ pub mod Traces
 pub mod Causes
 pub mod Clashes
 pub mod Kept
+pub mod Lookups

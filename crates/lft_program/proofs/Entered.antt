@@ -1,6 +1,6 @@
 -- What each instance of a tree is: an instance of a reactor of the file, whose parameters have no value past the greatest time.
-use Rattle.std.proofs.Common.{◌≡◌, ℕ, suc, ◌<◌, ◌≤◌, inl, inr, ⊎_elim, Bool, true, false, cond, List, [], ◌∷◌, ◌++◌, map, flat_map, find, slice_get, Option, Some, None, option_to_list, Any, refl, sym, subst, arith}
-use Rattle.std.specs.Option.{option_map, option_and_then}
+use Rattle.std.proofs.Common.{◌≡◌, ℕ, suc, ◌<◌, ◌≤◌, inl, inr, ⊎_elim, Bool, true, false, cond, List, [], ◌∷◌, ◌++◌, map, flat_map, find, slice_get, Option, Some, None, option_to_list, Any, refl, subst, arith}
+use Rattle.std.specs.Option.{option_and_then}
 use Rattle.std.specs.Str.{bytes_eq}
 use Rattle.std.proofs.lemmas.Bool.{cases_lt}
 use Rattle.lft_lists.proofs.Places.{Some_same}
@@ -8,13 +8,14 @@ use Rattle.lft_lists.proofs.Mapped.{mapped, mapped_from}
 use Rattle.lft_tree.specs.Tree.{FileTree, ReactorTree, ParameterTree, AssignmentTree, InstanceTree, TimeTree, Written, Named, nanoseconds, reactors_of, instances_of, timers_of, actions_of, connections_of}
 use Rattle.lft_instances.specs.Paths.{along}
 use Rattle.lft_scope.specs.Causes.{HasLongTime, IsLongTime, longest}
-use Rattle.lft_scope.specs.Instances.{Inside, is_called, reactor_named, value_of, time_in, given_or_default, given_in, entered, main_of, main_instance}
+use Rattle.lft_scope.specs.Instances.{Inside, is_called, value_of, time_in, given_or_default, given_in, entered, main_of, main_instance}
 use Rattle.lft_scope.specs.Kinds.{times_in, timer_times}
 use Rattle.lft_scope.proofs.Effects.{Any-flat}
 use Rattle.lft_scope.proofs.Somes.{Any-left, Any-right, Any-head}
 use Rattle.lft_scope.proofs.Twice.{Any-at}
 use Rattle.lft_nesting.specs.Located.{Located, AreLocated}
 use Rattle.lft_program.specs.Flattening.{time_or_zero}
+use Rattle.lft_nesting.proofs.Entering.{entered_by}
 
 -- what is found stands in the list, and passes
 find_in : {X : Type 0} (p : X → Bool) (xs : List X) (x : X) → find p xs ≡ Some x → (k : ℕ) × (slice_get xs k ≡ Some x) × (p x ≡ true)
@@ -33,28 +34,6 @@ along_keeps {X} step P next x (k ∷ path) y p e = by (step x k) refl (λ z q f.
     by : (o : Option X) → step x k ≡ o → ((z : X) → P z → along step z path ≡ Some y → P y) → option_and_then (λ z. along step z path) o ≡ Some y → P y
     by None is go e = absurd (cc)
     by (Some z) is go e = go z (next x k z p is) e
-
--- how an instance is entered
-pub record Enters (tree : FileTree) (x : Inside) (k : ℕ) (y : Inside) : Type 0 where
-  pub instance : InstanceTree
-  pub there : slice_get (instances_of x.reactor) k ≡ Some instance
-  pub reactor : ReactorTree
-  pub named : reactor_named (reactors_of tree) instance.reactor ≡ Some reactor
-  pub is : y ≡ record { reactor = reactor; values = map (given_in x instance.given) reactor.parameters }
-
-pub enters : (tree : FileTree) (x : Inside) (k : ℕ) (y : Inside) → entered tree x k ≡ Some y → Enters tree x k y
-enters tree x k y e = by (slice_get (instances_of x.reactor) k) refl e
-  where
-    with_values : InstanceTree → ReactorTree → Inside
-    with_values i r = record { reactor = r; values = map (given_in x i.given) r.parameters }
-
-    over : (i : InstanceTree) → slice_get (instances_of x.reactor) k ≡ Some i → (o : Option ReactorTree) → reactor_named (reactors_of tree) i.reactor ≡ o → option_map (with_values i) o ≡ Some y → Enters tree x k y
-    over i at None is e = absurd (cc)
-    over i at (Some r) is e = record { instance = i; there = at; reactor = r; named = is; is = sym (Some_same (with_values i r) y e) }
-
-    by : (o : Option InstanceTree) → slice_get (instances_of x.reactor) k ≡ o → option_and_then (λ i. option_map (with_values i) (reactor_named (reactors_of tree) i.reactor)) o ≡ Some y → Enters tree x k y
-    by None is e = absurd (cc)
-    by (Some i) is e = over i is (reactor_named (reactors_of tree) i.reactor) refl e
 
 -- ---- times
 
@@ -137,13 +116,13 @@ module _ (tree : FileTree) (in_time : Any HasLongTime (reactors_of tree) → ⊥
 
   entered_usual : (x : Inside) (k : ℕ) (y : Inside) → IsUsual x → entered tree x k ≡ Some y → IsUsual y
   entered_usual x k y usual e =
-      let n = enters tree x k y e in
-      let at = find_in (λ r. is_called n.instance.reactor r.name) (reactors_of tree) n.reactor n.named in
-      subst IsUsual (sym n.is)
+      let n = entered_by tree x k y e in
+      let at = find_in (λ r. is_called n.i.reactor r.name) (reactors_of tree) n.r n.is_reactor in
+      subst IsUsual n.is_made
       (record {
         number = at.0;
         reactor = at.1;
-        short = λ j v there. (let p = mapped_from (given_in x n.instance.given) n.reactor.parameters j v there in subst (λ m. m ≤ 1000000000000000000) p.2 (given_short x usual k n.instance n.there p.0 (default_short at.0 n.reactor at.1 j p.0 p.1)));
+        short = λ j v there. (let p = mapped_from (given_in x n.i.given) n.r.parameters j v there in subst (λ m. m ≤ 1000000000000000000) p.2 (given_short x usual k n.i n.is_instance p.0 (default_short at.0 n.r at.1 j p.0 p.1)));
       })
 
   pub all_usual : (instances : List Located) → AreLocated tree instances → (n : ℕ) (l : Located) → slice_get instances n ≡ Some l → IsUsual l.inside

@@ -11,7 +11,7 @@ use Rattle.lft_flat.specs.Names.{HasNoTwice}
 use Rattle.lft_program.specs.Extended.{Ending, dotted, hashed, endings, extended, AreAfter}
 use Rattle.lft_tree.specs.Identifiers.{IsIdentifier}
 use Rattle.lft_program.specs.FullNames.{members, AreOfProgram, AreFew}
-use Rattle.lft_program.specs.declared.naming.Declared.{Declared}
+use Rattle.lft_program.specs.declared.naming.OwnName.{OwnName}
 use Rattle.lft_program.specs.declared.naming.Placed.{Placed}
 use Rattle.lft_program.proofs.Distinct.{main, ArePaths, HasNoTwice-extended}
 use Rattle.lft_scope.proofs.Twice.{slice_get-front}
@@ -72,12 +72,12 @@ ready front middle back all parts paths t so_far =
         ap (extended main) parts ∙ extended-append main front (middle ++ back) ∙ sym (ap (λ l. extended l (middle ++ back)) so_far) ∙ extended-append t middle back in
         rw e (extended-keeps (extended t middle) back i text at)
 
-module _ (instances ports actions timers : List Declared) (reactions : List Placed) (things : AreOfProgram instances ports actions timers reactions) (few : AreFew instances ports actions timers reactions) where
+module _ (instances ports actions timers : List OwnName) (reactions : List Placed) (things : AreOfProgram instances ports actions timers reactions) (few : AreFew instances ports actions timers reactions) where
   long_all : length (members instances ports actions timers) ≡ (length instances - 1) + length (ports ++ actions ++ timers)
   long_all = length-append (drop 1 instances) (ports ++ actions ++ timers) ∙ ap (λ n. n + length (ports ++ actions ++ timers)) (length-drop 1 instances)
 
   -- an instance stands before what it declares
-  pub before_member : (k : ℕ) (d : Declared) → slice_get (members instances ports actions timers) k ≡ Some d → (d.instance < 1 + k) × (d.instance < length instances)
+  pub before_member : (k : ℕ) (d : OwnName) → slice_get (members instances ports actions timers) k ≡ Some d → (d.instance < 1 + k) × (d.instance < length instances)
   before_member k d at = ⊎_elim inner other (part_at (drop 1 instances) (ports ++ actions ++ timers) k d at)
     where
       some : 0 < length instances
@@ -105,7 +105,7 @@ module _ (instances ports actions timers : List Declared) (reactions : List Plac
 
   -- where an ending is from
   data_of : (k : ℕ) (e : Ending) → slice_get (endings instances ports actions timers reactions) k ≡ Some e
-      → ((d : Declared) × (slice_get (members instances ports actions timers) k ≡ Some d) × (dotted d ≡ e)) ⊎ ((j : ℕ) × (r : Placed) × (k ≡ length (members instances ports actions timers) + j) × (slice_get reactions j ≡ Some r) × (hashed r ≡ e))
+      → ((d : OwnName) × (slice_get (members instances ports actions timers) k ≡ Some d) × (dotted d ≡ e)) ⊎ ((j : ℕ) × (r : Placed) × (k ≡ length (members instances ports actions timers) + j) × (slice_get reactions j ≡ Some r) × (hashed r ≡ e))
   data_of k e at =
       ⊎_elim
       (λ h. inl (mapped_from dotted (members instances ports actions timers) k e h))
@@ -125,7 +125,7 @@ module _ (instances ports actions timers : List Declared) (reactions : List Plac
       subst (λ x. x.0 < 1 + k) h.4 inside)
       (data_of k e at)
 
-  dotted_ends : (k : ℕ) (d : Declared) → slice_get (members instances ports actions timers) k ≡ Some d → IsEnding (dotted d).1
+  dotted_ends : (k : ℕ) (d : OwnName) → slice_get (members instances ports actions timers) k ≡ Some d → IsEnding (dotted d).1
   dotted_ends k d at = record {
     separator = 46;
     rest = d.name.now;
@@ -143,7 +143,7 @@ module _ (instances ports actions timers : List Declared) (reactions : List Plac
     last = HasNoSeparator-decimal (r.place + 1) (small r k at);
   }
 
-  same_dotted : (i j : ℕ) (a b : Declared) → slice_get (members instances ports actions timers) i ≡ Some a → slice_get (members instances ports actions timers) j ≡ Some b → dotted a ≡ dotted b → i ≡ j
+  same_dotted : (i j : ℕ) (a b : OwnName) → slice_get (members instances ports actions timers) i ≡ Some a → slice_get (members instances ports actions timers) j ≡ Some b → dotted a ≡ dotted b → i ≡ j
   same_dotted i j a b at_a at_b same =
       let instance : a.instance ≡ b.instance = ap (λ (e : Ending). e.0) same in
       let ends : codes "." ++ a.name.now ≡ codes "." ++ b.name.now = ap (λ (e : Ending). e.1) same in
@@ -163,7 +163,7 @@ module _ (instances ports actions timers : List Declared) (reactions : List Plac
       (λ k l d low high both. things.places_once k l d low high both.0 both.1)
       i j a b at_a at_b (instance, place) (sym instance, sym place)
 
-  never_both : (d : Declared) (r : Placed) → dotted d ≡ hashed r → ⊥
+  never_both : (d : OwnName) (r : Placed) → dotted d ≡ hashed r → ⊥
   never_both d r same =
       let ends : codes "." ++ d.name.now ≡ codes "#" ++ decimal (r.place + 1) = ap (λ (e : Ending). e.1) same in
       differ 46 35 refl refl (ap (λ (l : List ℕ). get_or l 0 0) ends)

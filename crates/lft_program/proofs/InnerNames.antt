@@ -18,8 +18,8 @@ use Rattle.lft_nesting.proofs.Zipping.{then_some, zip_at, zip_back, zip_long}
 use Rattle.lft_program.specs.Flattening.{name_of_path, name_under}
 use Rattle.lft_program.specs.OwnNames.{own_names}
 use Rattle.lft_program.specs.TreeLists.{name_at, seen}
-use Rattle.lft_program.specs.declared.naming.Declared.{Declared}
-use Rattle.lft_program.specs.declared.own_names.Kind.TheVariants as kinds
+use Rattle.lft_program.specs.declared.naming.OwnName.{OwnName}
+use Rattle.lft_program.specs.declared.own_names.MemberKind.TheVariants as kinds
 use Rattle.lft_program.proofs.KindNames.{instance_name_there}
 use Rattle.lft_program.proofs.NamesOnce.{instance_names}
 use Rattle.lft_flat.proofs.Ranges.{slice_get-drop}
@@ -69,7 +69,7 @@ module _ (tree : FileTree) where
 -- ---- the instances but the main one
 
 -- the k-th instance, which is not the main one: it stands at a place of the one that contains it
-pub record IsInner (located : List Located) (k : ℕ) (x : Declared) : Type 0 where
+pub record IsInner (located : List Located) (k : ℕ) (x : OwnName) : Type 0 where
   pub outer : Located
   pub inner : Located
   pub place : ℕ
@@ -124,7 +124,7 @@ module _ (tree : FileTree) (tables : Tables) (nest : Nest) (is : IsNest tree tab
   abbrev pub told_of : Instance → ℕ × List ℕ
   told_of i = (i.parent, name_at (map (own_names kinds.Instance) (reactors_of tree)) nest.instances.items i.parent i.place)
 
-  inner_of : (k : ℕ) (x : Declared) (m : Instance) (l o : Located) → slice_get is.located k ≡ Some l → slice_get is.located m.parent ≡ Some o → m.parent < k → l.path ≡ o.path ++ m.place ∷ [] → seen x ≡ told_of m → IsInner is.located k x
+  inner_of : (k : ℕ) (x : OwnName) (m : Instance) (l o : Located) → slice_get is.located k ≡ Some l → slice_get is.located m.parent ≡ Some o → m.parent < k → l.path ≡ o.path ++ m.place ∷ [] → seen x ≡ told_of m → IsInner is.located k x
   inner_of k x m l o at_l at_o before path told =
       let main = main_instance is.are_located.main in
       let leads : along (entered tree) main (o.path ++ m.place ∷ []) ≡ Some l.inside = ap (along (entered tree) main) (sym path) ∙ is.are_located.inside k l at_l in
@@ -145,11 +145,11 @@ module _ (tree : FileTree) (tables : Tables) (nest : Nest) (is : IsNest tree tab
         path = path;
       }
 
-  module _ (xs : List Declared) (seen_so : map seen xs ≡ map told_of nest.instances.items) where
+  module _ (xs : List OwnName) (seen_so : map seen xs ≡ map told_of nest.instances.items) where
     pub long_inner : length xs ≡ length is.located
     long_inner = sym (length-map xs seen) ∙ ap length seen_so ∙ length-map nest.instances.items told_of ∙ sym long
 
-    pub inner_at : (k : ℕ) (x : Declared) → slice_get xs k ≡ Some x → 0 < k → IsInner is.located k x
+    pub inner_at : (k : ℕ) (x : OwnName) → slice_get xs k ≡ Some x → 0 < k → IsInner is.located k x
     inner_at k x at later =
         let made : slice_get (map told_of nest.instances.items) k ≡ Some (seen x) = ap (λ l. slice_get l k) (sym seen_so) ∙ mapped seen xs k x at in
         let m = mapped_from told_of nest.instances.items k (seen x) made in
@@ -159,7 +159,7 @@ module _ (tree : FileTree) (tables : Tables) (nest : Nest) (is : IsNest tree tab
         let path : l.0.path ≡ outer.0.path ++ m.0.place ∷ [] = sym walked.3 ∙ ap (λ p. p ++ m.0.place ∷ []) (sym outer.2) in
         inner_of k x m.0 l.0 outer.0 l.1 outer.1 walked.1 path (sym m.2)
 
-    later_at : (k : ℕ) (x : Declared) → slice_get (drop 1 xs) k ≡ Some x → slice_get xs (1 + k) ≡ Some x
+    later_at : (k : ℕ) (x : OwnName) → slice_get (drop 1 xs) k ≡ Some x → slice_get xs (1 + k) ≡ Some x
     later_at k x at = sym (slice_get-drop xs 1 k) ∙ at
 
     pub inner_sites : AreSites is.located instance_names (drop 1 xs)

@@ -9,7 +9,7 @@ use Rattle.lft_lists.proofs.Mapped.{mapped}
 use Rattle.lft_tree.specs.Tree.{ReactorTree, InstanceTree, instances_of, ports_of, actions_of, timers_of, instance_in, port_in, action_in, timer_in}
 use Rattle.lft_instances.specs.declared.numbering.Thing.{Thing}
 use Rattle.lft_instances.specs.declared.walk.Instance.{Instance}
-use Rattle.lft_nesting.specs.Located.{Located, declared, Declared as DeclaredItem}
+use Rattle.lft_nesting.specs.Located.{Located, declared, Declared}
 use Rattle.lft_nesting.specs.Nests.{IsInstanceOf, IsNumbering, IsThingOf}
 use Rattle.lft_nesting.specs.declared.nest.Numbering.{Numbering}
 use Rattle.lft_nesting.proofs.Counting.{base}
@@ -17,9 +17,9 @@ use Rattle.lft_nesting.proofs.Listing.{declared_from, declared-length}
 use Rattle.lft_nesting.proofs.Zipping.{zip_at, zip_back, zip_long, zip_of}
 use Rattle.lft_program.specs.OwnNames.{own_names}
 use Rattle.lft_program.specs.TreeLists.{name_at, placed_at, seen, Says, IsPlacedAt}
-use Rattle.lft_program.specs.declared.naming.Declared.{Declared}
+use Rattle.lft_program.specs.declared.naming.OwnName.{OwnName}
 use Rattle.lft_program.specs.declared.naming.Placed.{Placed}
-use Rattle.lft_program.specs.declared.own_names.Kind.TheVariants as kinds
+use Rattle.lft_program.specs.declared.own_names.MemberKind.TheVariants as kinds
 use Rattle.lft_lists.proofs.Picked.{map-filter_map}
 use Rattle.lft_program.proofs.Sites.{AreSites}
 
@@ -58,7 +58,7 @@ module _ (rs : List ReactorTree) (located : List Located) (instances : List Inst
 
   module _ {X : Type 0} (kind : ReactorTree → List X) where
     -- two declarations of one instance and place are one
-    pub one_declared : (i j : ℕ) (c d : DeclaredItem X) → slice_get (declared kind located) i ≡ Some c → slice_get (declared kind located) j ≡ Some d → c.instance ≡ d.instance → c.place ≡ d.place → i ≡ j
+    pub one_declared : (i j : ℕ) (c d : Declared X) → slice_get (declared kind located) i ≡ Some c → slice_get (declared kind located) j ≡ Some d → c.instance ≡ d.instance → c.place ≡ d.place → i ≡ j
     one_declared i j c d at_c at_d instance place =
         let e : i ≡ base kind located c.instance + c.place = (declared_from kind located i c at_c).number in
         let f : j ≡ base kind located d.instance + d.place = (declared_from kind located j d at_d).number in
@@ -70,14 +70,14 @@ module _ (rs : List ReactorTree) (located : List Located) (instances : List Inst
       item_name r k x at = ap (λ l. slice_get l k) (same r) ∙ mapped name (kind r) k x at
 
       pub told : (things : List Thing) → AllZip IsThingOf (declared kind located) things
-          → (xs : List Declared) → map seen xs ≡ map (λ t. (t.instance, name_at (map names rs) instances t.instance t.place)) things
+          → (xs : List OwnName) → map seen xs ≡ map (λ t. (t.instance, name_at (map names rs) instances t.instance t.place)) things
           → AllZip (Says name) (declared kind located) xs
       told things all xs is = zip_of (Says name) (declared kind located) xs long each
         where
           long : length (declared kind located) ≡ length xs
           long = zip_long IsThingOf (declared kind located) things all ∙ sym (length-map things (λ t. (t.instance, name_at (map names rs) instances t.instance t.place))) ∙ sym (ap length is) ∙ length-map xs seen
 
-          each : (k : ℕ) (d : DeclaredItem X) (x : Declared) → slice_get (declared kind located) k ≡ Some d → slice_get xs k ≡ Some x → Says name d x
+          each : (k : ℕ) (d : Declared X) (x : OwnName) → slice_get (declared kind located) k ≡ Some d → slice_get xs k ≡ Some x → Says name d x
           each k d x at_d at_x =
               let stands = declared_from kind located k d at_d in
               let t = zip_at IsThingOf (declared kind located) things all k d at_d in
@@ -89,7 +89,7 @@ module _ (rs : List ReactorTree) (located : List Located) (instances : List Inst
 
       -- the same of lists that are these
       pub told_as : (trees : List ReactorTree) → trees ≡ rs → (made : List Instance) → made ≡ instances → (listed things : List Thing) → listed ≡ things → AllZip IsThingOf (declared kind located) things
-          → (xs : List Declared) → map seen xs ≡ map (λ t. (t.instance, name_at (map names trees) made t.instance t.place)) listed
+          → (xs : List OwnName) → map seen xs ≡ map (λ t. (t.instance, name_at (map names trees) made t.instance t.place)) listed
           → AllZip (Says name) (declared kind located) xs
       told_as trees same_trees made same_made listed things same_listed all xs is =
           told things all xs (is
@@ -97,7 +97,7 @@ module _ (rs : List ReactorTree) (located : List Located) (instances : List Inst
           ∙ ap (λ l. map (λ t. (t.instance, name_at (map names rs) l t.instance t.place)) listed) same_made
           ∙ ap (λ l. map (λ t. (t.instance, name_at (map names rs) instances t.instance t.place)) l) same_listed)
 
-      pub sites : (xs : List Declared) → AllZip (Says name) (declared kind located) xs → AreSites located names xs
+      pub sites : (xs : List OwnName) → AllZip (Says name) (declared kind located) xs → AreSites located names xs
       sites xs all = record {
         site = λ i x at.
             let d = zip_back (Says name) (declared kind located) xs all i x at in
@@ -114,7 +114,7 @@ module _ (rs : List ReactorTree) (located : List Located) (instances : List Inst
             one_declared i j c.0 d.0 c.1 d.1 (sym c.2.0 ∙ instance ∙ d.2.0) place;
       }
 
-      pub few_told : (limit : ℕ) (n : Numbering) → IsNumbering kind rs instances limit n → (xs : List Declared) → AllZip (Says name) (declared kind located) xs → length xs ≤ limit
+      pub few_told : (limit : ℕ) (n : Numbering) → IsNumbering kind rs instances limit n → (xs : List OwnName) → AllZip (Says name) (declared kind located) xs → length xs ≤ limit
       few_told limit n numbering xs all =
           let a = zip_long (Says name) (declared kind located) xs all in
           let b = declared-length kind rs located instances limit n zipped numbering in
@@ -126,7 +126,7 @@ module _ (rs : List ReactorTree) (located : List Located) (instances : List Inst
     pub placed_told : (things : List Thing) → AllZip IsThingOf (declared kind located) things → (xs : List Placed) → xs ≡ map placed_at things → AllZip IsPlacedAt (declared kind located) xs
     placed_told things all xs is = zip_of IsPlacedAt (declared kind located) xs (zip_long IsThingOf (declared kind located) things all ∙ sym (length-map things placed_at) ∙ sym (ap length is)) each
       where
-        each : (k : ℕ) (d : DeclaredItem X) (x : Placed) → slice_get (declared kind located) k ≡ Some d → slice_get xs k ≡ Some x → IsPlacedAt d x
+        each : (k : ℕ) (d : Declared X) (x : Placed) → slice_get (declared kind located) k ≡ Some d → slice_get xs k ≡ Some x → IsPlacedAt d x
         each k d x at_d at_x =
             let t = zip_at IsThingOf (declared kind located) things all k d at_d in
             let one : x ≡ placed_at t.0 = Some_same _ _ (sym at_x ∙ ap (λ l. slice_get l k) is ∙ mapped placed_at things k t.0 t.1) in

@@ -1,5 +1,5 @@
 -- What the tables and the nest of a tree have for a declaration of it.
-use Rattle.std.proofs.Common.{◌≡◌, ℕ, zero, suc, List, [], ◌∷◌, ◌++◌, Option, Some, map, flat_map, length, slice_get, option_to_list, Any, inr, subst, sym, ap, ◌∙◌}
+use Rattle.std.proofs.Common.{◌≡◌, ℕ, List, [], ◌∷◌, ◌++◌, Option, Some, map, flat_map, length, slice_get, option_to_list, Any, inr, sym, ap, ◌∙◌}
 use Rattle.std.specs.Option.{option_and_then, unwrap_or}
 use Rattle.std.specs.List.{AllZip}
 use Rattle.lft_scope.proofs.Effects.{Any-flat}
@@ -15,7 +15,7 @@ use Rattle.lft_reactors.specs.Sheets.{IsDeclarations, IsTimerSheet, IsActionShee
 use Rattle.lft_reactors.specs.declared.sheets.ActionSheet.{ActionSheet}
 use Rattle.lft_reactors.specs.declared.sheets.Declarations.{Declarations}
 use Rattle.lft_reactors.specs.declared.sheets.TimerSheet.{TimerSheet}
-use Rattle.lft_scope.proofs.Somes.{Any-head, Any-tail, Any-left, Any-right}
+use Rattle.lft_scope.proofs.Somes.{Any-left, Any-right}
 use Rattle.lft_nesting.specs.Located.{Located, Declared, declared}
 use Rattle.lft_nesting.specs.Nests.{IsInstanceOf, IsThingOf}
 use Rattle.lft_nesting.specs.declared.linking.Linked.{Linked}
@@ -31,11 +31,7 @@ use Rattle.lft_flat.specs.declared.parts.Timer.{Timer as TimerOf}
 use Rattle.lft_program.proofs.Clocks.{clock_or_zero_is}
 use Rattle.lft_program.proofs.Making.{Made, made_zip}
 use Rattle.lft_program.proofs.Zips.{AllZip-from}
-
-any_at : {X : Type 0} (P : X → Type 0) (xs : List X) (k : ℕ) (x : X) → slice_get xs k ≡ Some x → P x → Any P xs
-any_at P [] k x at p = absurd (cc)
-any_at P (z ∷ xs) zero x at p = Any-head P z xs (let same : x ≡ z = cc in subst P same p)
-any_at P (z ∷ xs) (suc k) x at p = Any-tail P z xs (any_at P xs k x at p)
+use Rattle.lft_scope.proofs.Twice.{Any-at}
 
 -- times of timers and actions are among those of their reactor
 long_first : (r : ReactorTree) → Any IsLongTime (flat_map timer_times (timers_of r) ++ flat_map (λ a. option_to_list a.min_delay) (actions_of r)) → Any IsLongTime (times_in r)
@@ -62,7 +58,7 @@ module _ (tree : FileTree) (tables : Tables) (nest : Nest) (links : List Linked)
   declarations_there n l at = row_there IsDeclarations tables.declarations.items of.are_tables.declarations n l at
 
   not_long : (n : ℕ) (l : Located) → slice_get of.is_nest.located n ≡ Some l → Any IsLongTime (times_in l.inside.reactor) → ⊥
-  not_long n l at long = let i = instance_there n l at in of.in_time (any_at HasLongTime (reactors_of tree) i.0.reactor l.inside.reactor i.2 (inr long))
+  not_long n l at long = let i = instance_there n l at in of.in_time (Any-at HasLongTime (reactors_of tree) i.0.reactor l.inside.reactor i.2 (inr long))
 
   clock_read : (n : ℕ) (l : Located) (o : Option TimeTree) (clock : Clock) → slice_get of.is_nest.located n ≡ Some l → (Any IsLongTime (option_to_list o) → ⊥) → IsClockOrZero l.inside.reactor o clock → clock_at nest n clock ≡ time_or_zero l.inside o
   clock_read n l o clock at short is =

@@ -8,7 +8,7 @@ use Rattle.lft_lists.proofs.Mapped.{mapped}
 use Rattle.lft_flat.specs.Places.{names_from, AreStarts}
 use Rattle.lft_program.specs.Extended.{Ending, dotted, hashed, endings, extended}
 use Rattle.lft_program.specs.FullNames.{IsDotted, IsHashed, AreFullNames, AreOfProgram, AreFew}
-use Rattle.lft_program.specs.declared.naming.Declared.{Declared}
+use Rattle.lft_program.specs.declared.naming.OwnName.{OwnName}
 use Rattle.lft_program.specs.declared.naming.Placed.{Placed}
 use Rattle.lft_flat.specs.declared.names.Starts.{Starts}
 use Rattle.lft_program.proofs.Distinct.{main, ArePaths}
@@ -55,7 +55,7 @@ module _ (all : List Ending) (paths : ArePaths all) (texts : List (List ℕ)) (i
             let place : 1 + (length front + k) ≡ a + k = omega arith in
             ap (slice_get texts) place ∙ sym (range-get texts a b k low) ∙ at
 
-module _ (instances ports actions timers : List Declared) (reactions : List Placed) (things : AreOfProgram instances ports actions timers reactions) (few : AreFew instances ports actions timers reactions)
+module _ (instances ports actions timers : List OwnName) (reactions : List Placed) (things : AreOfProgram instances ports actions timers reactions) (few : AreFew instances ports actions timers reactions)
     (texts : List (List ℕ)) (is : texts ≡ extended main (endings instances ports actions timers reactions)) where
   -- where the kinds begin
   abbrev pub starts : Starts
@@ -87,26 +87,26 @@ module _ (instances ports actions timers : List Declared) (reactions : List Plac
       let e = few.few_reactions in
       record { ports = omega arith; actions = omega arith; timers = omega arith; reactions = omega arith; total_fits = omega arith }
 
-  made_dotted : (d : Declared) (c : List ℕ) → slice_get (slice_range texts 0 (length instances)) d.instance ≡ Some c → IsDotted (slice_range texts 0 (length instances)) d (c ++ (dotted d).1)
+  made_dotted : (d : OwnName) (c : List ℕ) → slice_get (slice_range texts 0 (length instances)) d.instance ≡ Some c → IsDotted (slice_range texts 0 (length instances)) d (c ++ (dotted d).1)
   made_dotted d c there = (c, there, sym (append_assoc c (codes ".") d.name.now))
 
   made_hashed : (r : Placed) (c : List ℕ) → slice_get (slice_range texts 0 (length instances)) r.instance ≡ Some c → IsHashed (slice_range texts 0 (length instances)) r (c ++ (hashed r).1)
   made_hashed r c there = (c, there, sym (append_assoc c (codes "#") (decimal (r.place + 1))))
 
-  inside_inner : (k : ℕ) (d : Declared) → slice_get (drop 1 instances) k ≡ Some d → d.instance < length instances
+  inside_inner : (k : ℕ) (d : OwnName) → slice_get (drop 1 instances) k ≡ Some d → d.instance < length instances
   inside_inner k d at =
       (before_member instances ports actions timers reactions things few k d (slice_get-front (drop 1 instances) (ports ++ actions ++ timers) k d at)).1
 
-  inside_declared : (k : ℕ) (d : Declared) → slice_get (ports ++ actions ++ timers) k ≡ Some d → d.instance < length instances
+  inside_declared : (k : ℕ) (d : OwnName) → slice_get (ports ++ actions ++ timers) k ≡ Some d → d.instance < length instances
   inside_declared = all_at (λ d. d.instance < length instances) (ports ++ actions ++ timers) things.declared
 
-  inside_ports : (k : ℕ) (d : Declared) → slice_get ports k ≡ Some d → d.instance < length instances
+  inside_ports : (k : ℕ) (d : OwnName) → slice_get ports k ≡ Some d → d.instance < length instances
   inside_ports k d at = inside_declared k d (slice_get-front (ports ++ actions) timers k d (slice_get-front ports actions k d at))
 
-  inside_actions : (k : ℕ) (d : Declared) → slice_get actions k ≡ Some d → d.instance < length instances
+  inside_actions : (k : ℕ) (d : OwnName) → slice_get actions k ≡ Some d → d.instance < length instances
   inside_actions k d at = inside_declared (length ports + k) d (slice_get-front (ports ++ actions) timers (length ports + k) d (later_at ports actions k ∙ at))
 
-  inside_timers : (k : ℕ) (d : Declared) → slice_get timers k ≡ Some d → d.instance < length instances
+  inside_timers : (k : ℕ) (d : OwnName) → slice_get timers k ≡ Some d → d.instance < length instances
   inside_timers k d at = inside_declared (length (ports ++ actions) + k) d (later_at (ports ++ actions) timers k ∙ at)
 
   inside_reactions : (k : ℕ) (r : Placed) → slice_get reactions k ≡ Some r → r.instance < length instances

@@ -1,14 +1,13 @@
 -- The instances of a tree are one list, and the reactor of each is one of the file.
 use Rattle.std.proofs.Common.{◌≡◌, ℕ, suc, Bool, true, false, cond, List, [], ◌∷◌, map, find, slice_get, Some, refl, sym, ap, subst, ◌∙◌}
-use Rattle.std.specs.Option.{option_map}
 use Rattle.lft_lists.proofs.Places.{Some_same}
-use Rattle.lft_tree.specs.Tree.{FileTree, ReactorTree, InstanceTree, reactors_of, instances_of}
-use Rattle.lft_lists.proofs.Mapped.{option_map_some}
+use Rattle.lft_tree.specs.Tree.{FileTree, ReactorTree, reactors_of}
 use Rattle.lft_instances.specs.Paths.{along, IsPreOrder}
 use Rattle.lft_instances.proofs.Unique.{pre_order_unique}
-use Rattle.lft_scope.specs.Instances.{Inside, IsInside, is_called, reactor_named, given_in, entered, main_of, main_instance}
+use Rattle.lft_scope.specs.Instances.{Inside, IsInside, is_called, entered, main_of, main_instance}
 use Rattle.lft_nesting.specs.Located.{Located, AreLocated}
 use Rattle.lft_nesting.proofs.Zipping.{then_some}
+use Rattle.lft_nesting.proofs.Entering.{entered_by}
 
 -- what is found stands in the list
 found_in : {X : Type 0} (p : X → Bool) (xs : List X) (x : X) → find p xs ≡ Some x → (k : ℕ) × (slice_get xs k ≡ Some x)
@@ -19,19 +18,6 @@ found_in {X} p (y ∷ xs) x e = by (p y) (λ f. found_in p xs x f) e
     by true go e = (0, e)
     by false go e = let r = go e in (suc r.0, r.1)
 
--- the `new` by which an instance is entered
-pub record Enters (tree : FileTree) (x : Inside) (k : ℕ) (y : Inside) : Type 0 where
-  pub instance : InstanceTree
-  pub there : slice_get (instances_of x.reactor) k ≡ Some instance
-  pub named : reactor_named (reactors_of tree) instance.reactor ≡ Some y.reactor
-
-pub enters : (tree : FileTree) (x : Inside) (k : ℕ) (y : Inside) → entered tree x k ≡ Some y → Enters tree x k y
-enters tree x k y e =
-    let made : InstanceTree → ReactorTree → Inside = λ i r. record { reactor = r; values = map (given_in x i.given) r.parameters } in
-    let i = then_some (λ i. option_map (made i) (reactor_named (reactors_of tree) i.reactor)) (slice_get (instances_of x.reactor) k) y e in
-    let r = option_map_some (made i.0) (reactor_named (reactors_of tree) i.0.reactor) y i.2 in
-    record { instance = i.0; there = i.1; named = r.1 ∙ ap (λ (z : Inside). Some z.reactor) r.2 }
-
 -- the reactor is one of the file
 abbrev pub InFile : FileTree → Inside → Type 0
 InFile tree x = (n : ℕ) × (slice_get (reactors_of tree) n ≡ Some x.reactor)
@@ -40,8 +26,8 @@ below_in : (tree : FileTree) (x : Inside) (path : List ℕ) (y : Inside) → InF
 below_in tree x [] y known e = subst (InFile tree) (Some_same x y e) known
 below_in tree x (k ∷ path) y known e =
     let s = then_some (λ z. along (entered tree) z path) (entered tree x k) y e in
-    let n = enters tree x k s.0 s.1 in
-    below_in tree s.0 path y (found_in (λ r. is_called n.instance.reactor r.name) (reactors_of tree) s.0.reactor n.named) s.2
+    let n = entered_by tree x k s.0 s.1 in
+    below_in tree s.0 path y (found_in (λ r. is_called n.i.reactor r.name) (reactors_of tree) s.0.reactor (n.is_reactor ∙ ap (λ (z : Inside). Some z.reactor) n.is_made)) s.2
 
 pub in_file : (tree : FileTree) (path : List ℕ) (x : Inside) → IsInside tree path x → InFile tree x
 in_file tree path x (main, is, leads) = below_in tree (main_instance main) path x (found_in (λ r. r.is_main) (reactors_of tree) main is) leads

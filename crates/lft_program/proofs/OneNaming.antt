@@ -1,30 +1,21 @@
 -- The things of a program have full names in one way only.
-use Rattle.std.proofs.Common.{◌≡◌, ℕ, ◌+◌, ◌<◌, zero, suc, List, [], ◌∷◌, ◌++◌, drop, length, slice_get, Some, codes, refl, sym, ap, subst, ◌∙◌, arith, length-drop}
+use Rattle.std.proofs.Common.{◌≡◌, ℕ, ◌+◌, ◌<◌, zero, suc, List, ◌∷◌, ◌++◌, drop, slice_get, Some, codes, sym, ap, subst, ◌∙◌, arith, length-drop}
 use Rattle.std.specs.Fmt.{decimal}
 use Rattle.std.specs.List.{AllZip}
 use Rattle.std.proofs.lemmas.Option.{slice_get_within}
-use Rattle.lft_lists.proofs.Places.{Some_same}
+use Rattle.lft_lists.proofs.Places.{Some_same, same_items}
 use Rattle.lft_flat.specs.Names.{ThingNames}
 use Rattle.lft_program.specs.FullNames.{IsDotted, IsHashed, AreFullNames, AreNested}
-use Rattle.lft_program.specs.declared.naming.Declared.{Declared}
+use Rattle.lft_program.specs.declared.naming.OwnName.{OwnName}
 use Rattle.lft_program.specs.declared.naming.Placed.{Placed}
 use Rattle.lft_flat.proofs.Ranges.{slice_get-drop}
 use Rattle.lft_program.proofs.Zips.{AllZip-length, AllZip-from, AllZip-one}
 
-same_lists : {X : Type 0} (xs ys : List X) → length xs ≡ length ys → ((k : ℕ) (x y : X) → slice_get xs k ≡ Some x → slice_get ys k ≡ Some y → x ≡ y) → xs ≡ ys
-same_lists [] [] long each = refl
-same_lists [] (y ∷ ys) long each = absurd (omega arith)
-same_lists (x ∷ xs) [] long each = absurd (omega arith)
-same_lists (x ∷ xs) (y ∷ ys) long each =
-    let head : x ≡ y = each 0 x y refl refl in
-    let tail = same_lists xs ys (omega arith) (λ k. each (suc k)) in
-    cc
-
 -- a name as it is made from a container's
-dotted_by : (c e x : List ℕ) (d : Declared) → c ≡ e → x ≡ c ++ codes "." ++ d.name.now → x ≡ e ++ codes "." ++ d.name.now
+dotted_by : (c e x : List ℕ) (d : OwnName) → c ≡ e → x ≡ c ++ codes "." ++ d.name.now → x ≡ e ++ codes "." ++ d.name.now
 dotted_by c e x d same is = is ∙ ap (λ l. l ++ codes "." ++ d.name.now) same
 
-module _ (instances : List Declared) (nested : AreNested instances) (ns ms : List (List ℕ))
+module _ (instances : List OwnName) (nested : AreNested instances) (ns ms : List (List ℕ))
     (main_n : slice_get ns 0 ≡ Some (codes "main")) (main_m : slice_get ms 0 ≡ Some (codes "main"))
     (all_n : AllZip (IsDotted ns) (drop 1 instances) (drop 1 ns)) (all_m : AllZip (IsDotted ms) (drop 1 instances) (drop 1 ms)) where
   same_below : (n k : ℕ) (x y : List ℕ) → k < n → slice_get ns k ≡ Some x → slice_get ms k ≡ Some y → x ≡ y
@@ -34,14 +25,14 @@ module _ (instances : List Declared) (nested : AreNested instances) (ns ms : Lis
       let place : 1 + k ≡ suc k = omega arith in
       let from = AllZip-from (IsDotted ns) (drop 1 instances) (drop 1 ns) all_n k x (slice_get-drop ns 1 k ∙ ap (slice_get ns) place ∙ a) in
       let other = AllZip-from (IsDotted ms) (drop 1 instances) (drop 1 ms) all_m k y (slice_get-drop ms 1 k ∙ ap (slice_get ms) place ∙ b) in
-      let d : Declared = from.0 in
+      let d : OwnName = from.0 in
       let c = from.2.0 in
       let e = other.2.0 in
       let one : other.0 ≡ d = Some_same other.0 d (sym other.1 ∙ from.1) in
       let at : slice_get instances (1 + k) ≡ Some d = sym (slice_get-drop instances 1 k) ∙ from.1 in
       let before = nested.order (1 + k) d at (omega arith) in
-      let there : slice_get ms d.instance ≡ Some e = subst (λ (z : Declared). slice_get ms z.instance ≡ Some e) one other.2.1 in
-      let named : y ≡ e ++ codes "." ++ d.name.now = subst (λ (z : Declared). y ≡ e ++ codes "." ++ z.name.now) one other.2.2 in
+      let there : slice_get ms d.instance ≡ Some e = subst (λ (z : OwnName). slice_get ms z.instance ≡ Some e) one other.2.1 in
+      let named : y ≡ e ++ codes "." ++ d.name.now = subst (λ (z : OwnName). y ≡ e ++ codes "." ++ z.name.now) one other.2.2 in
       let containers : c ≡ e = same_below n d.instance c e (omega arith) from.2.1 there in
       dotted_by c e x d containers from.2.2 ∙ sym named
 
@@ -53,9 +44,9 @@ module _ (instances : List Declared) (nested : AreNested instances) (ns ms : Lis
       let d = length-drop 1 ms in
       let e = slice_get_within ns 0 (codes "main") main_n in
       let f = slice_get_within ms 0 (codes "main") main_m in
-      same_lists ns ms (omega arith) (λ k x y at_x at_y. same_below (suc k) k x y (omega arith) at_x at_y)
+      same_items ns ms (omega arith) (λ k x y at_x at_y. same_below (suc k) k x y (omega arith) at_x at_y)
 
-one_dotted : (ns : List (List ℕ)) (d : Declared) (y z : List ℕ) → IsDotted ns d y → IsDotted ns d z → y ≡ z
+one_dotted : (ns : List (List ℕ)) (d : OwnName) (y z : List ℕ) → IsDotted ns d y → IsDotted ns d z → y ≡ z
 one_dotted ns d y z a b =
     let same = Some_same a.0 b.0 (sym a.1 ∙ b.1) in
     dotted_by a.0 b.0 y d same a.2 ∙ sym b.2
@@ -65,7 +56,7 @@ one_hashed ns r y z a b =
     let same = Some_same a.0 b.0 (sym a.1 ∙ b.1) in
     a.2 ∙ ap (λ l. l ++ codes "#" ++ decimal (r.place + 1)) same ∙ sym b.2
 
-pub one_naming : (instances ports actions timers : List Declared) (reactions : List Placed) → AreNested instances → (names other : ThingNames)
+pub one_naming : (instances ports actions timers : List OwnName) (reactions : List Placed) → AreNested instances → (names other : ThingNames)
     → AreFullNames instances ports actions timers reactions names → AreFullNames instances ports actions timers reactions other → other ≡ names
 one_naming instances ports actions timers reactions nested names other a b =
     let i : other.instances ≡ names.instances = same_instances instances nested other.instances names.instances b.main_name a.main_name b.instance_names a.instance_names in

@@ -24,9 +24,10 @@ use Rattle.lft_nesting.proofs.Listing.{Stands}
 use Rattle.lft_nesting.proofs.Zipping.{then_some}
 use Rattle.lft_program.specs.Flattening.{IsSource}
 use Rattle.lft_flat.specs.declared.parts.Source.{Source}
-use Rattle.lft_program.proofs.OneInstances.{InFile, in_file, one_inside, inside_at, enters}
+use Rattle.lft_program.proofs.OneInstances.{InFile, in_file, one_inside, inside_at}
 use Rattle.lft_program.proofs.OneThing.{once_at, right_at, one_port}
 use Rattle.lft_program.proofs.Standing.{StandsInner, stands_inner, stands_once}
+use Rattle.lft_nesting.proofs.Entering.{entered_by}
 
 -- ---- lists
 
@@ -142,8 +143,8 @@ module _ (tree : FileTree) (lawful : IsLawful tree) (all : List Located) (are : 
           let root = main_instance c.is_inside.0 in
           let leads : along (entered tree) root (c.path ++ s.place ∷ []) ≡ Some owner = ap (along (entered tree) root) path ∙ same_root in
           let step = then_some (λ y. along (entered tree) y []) (entered tree c.inside s.place) owner (sym (along_at (entered tree) root c.inside c.path (s.place ∷ []) c.is_inside.2) ∙ leads) in
-          let e = enters tree c.inside s.place owner (step.1 ∙ step.2) in
-          let instance : e.instance ≡ s.instance = Some_same e.instance s.instance (sym e.there ∙ s.there) in
+          let e = entered_by tree c.inside s.place owner (step.1 ∙ step.2) in
+          let instance : e.i ≡ s.instance = Some_same e.i s.instance (sym e.is_instance ∙ s.there) in
           let first = first_place (λ (i : InstanceTree). i.name) c.to.head (instances_of c.inside.reactor) s.instance (found_at (λ (i : InstanceTree). bytes_eq c.to.head i.name) (instances_of c.inside.reactor) s.place s.instance s.is s.there) in
           let w : IsInner (reactors_of tree) c.inside.reactor c.to first.0 its_place.0 = record {
             name = name;
@@ -152,7 +153,7 @@ module _ (tree : FileTree) (lawful : IsLawful tree) (all : List Located) (are : 
             is_name = dotted;
             is_place = first.1;
             is_instance = first.2;
-            is_inner = ap (λ (i : InstanceTree). reactor_named (reactors_of tree) i.reactor) (sym instance) ∙ e.named;
+            is_inner = ap (λ (i : InstanceTree). reactor_named (reactors_of tree) i.reactor) (sym instance) ∙ e.is_reactor ∙ ap (λ (z : Inside). Some z.reactor) e.is_made;
             is_port = ap (port_place owner.reactor) (ap (λ t. t.name) s.thing) ∙ its_place.1;
           } in
           inr (s.place, inner_written (reactors_of tree) lawful.later.0 lawful.later.1.0 file.0 c.inside.reactor file.1 c.number c.place c.connection c.to c.is_connection c.is_to first.0 its_place.0 w q.item its_place.2, path)

@@ -13,8 +13,9 @@ use Rattle.lft_scope.specs.Instances.{Inside, thing_at, stands_for, stands_insid
 use Rattle.lft_nesting.specs.Located.{Located, AreLocated, Declared}
 use Rattle.lft_nesting.specs.Tables.{IsLawful}
 use Rattle.lft_nesting.proofs.Placed.{IsAt, inside_once}
-use Rattle.lft_program.proofs.Entered.{IsUsual, all_usual, enters}
+use Rattle.lft_program.proofs.Entered.{IsUsual, all_usual}
 use Rattle.lft_program.proofs.Standing.{StandsInner, stands_inner}
+use Rattle.lft_nesting.proofs.Entering.{entered_by}
 
 -- how a reaction may write a port: an output of its own instance, or an input of an instance that this contains
 abbrev pub Writes : Declared ReactionTree → Declared PortTree → Type 0
@@ -56,14 +57,14 @@ module _ (tree : FileTree) (lawful : IsLawful tree) (in_time : Any HasLongTime (
         let root = main_instance are.main in
         let leads : along (entered tree) root (d.located.path ++ s.place ∷ []) ≡ Some q.located.inside = ap (along (entered tree) root) path ∙ are.inside q.instance q.located at_q.located in
         let step : along (entered tree) d.located.inside (s.place ∷ []) ≡ Some q.located.inside = sym (along_at (entered tree) root d.located.inside d.located.path (s.place ∷ []) (are.inside d.instance d.located at_d.located)) ∙ leads in
-        let e = enters tree d.located.inside s.place q.located.inside (last_step (entered tree d.located.inside s.place) step) in
-        let instance : e.instance ≡ s.instance = Some_same _ _ (sym e.there ∙ s.there) in
-        let reactor : q.located.inside.reactor ≡ e.reactor = ap (λ i. i.reactor) e.is in
-        let named : reactor_named (reactors_of tree) s.instance.reactor ≡ Some e.reactor = ap (λ i. reactor_named (reactors_of tree) i.reactor) (sym instance) ∙ e.named in
-        let there : find (λ x. bytes_eq name x.name) (ports_of e.reactor) ≡ Some q.item =
-        ap (λ h. find (λ x. bytes_eq h x.name) (ports_of e.reactor)) called ∙ ap (λ r. find (λ x. bytes_eq q.item.name x.name) (ports_of r)) (sym reactor) ∙ found in
+        let e = entered_by tree d.located.inside s.place q.located.inside (last_step (entered tree d.located.inside s.place) step) in
+        let instance : e.i ≡ s.instance = Some_same _ _ (sym e.is_instance ∙ s.there) in
+        let reactor : q.located.inside.reactor ≡ e.r = sym (ap (λ i. i.reactor) e.is_made) in
+        let named : reactor_named (reactors_of tree) s.instance.reactor ≡ Some e.r = ap (λ i. reactor_named (reactors_of tree) i.reactor) (sym instance) ∙ e.is_reactor in
+        let there : find (λ x. bytes_eq name x.name) (ports_of e.r) ≡ Some q.item =
+        ap (λ h. find (λ x. bytes_eq h x.name) (ports_of e.r)) called ∙ ap (λ r. find (λ x. bytes_eq q.item.name x.name) (ports_of r)) (sym reactor) ∙ found in
         let first = found_at (λ i. bytes_eq ref.head i.name) (instances_of d.located.inside.reactor) s.place s.instance s.is s.there in
-        inr (s.place, inner_effect (reactors_of tree) usual_d.number d.located.inside.reactor usual_d.reactor lawful.later d.place d.item at_d.item j ref among name s.instance e.reactor q.item dotted first named there, path)
+        inr (s.place, inner_effect (reactors_of tree) usual_d.number d.located.inside.reactor usual_d.reactor lawful.later d.place d.item at_d.item j ref among name s.instance e.r q.item dotted first named there, path)
       where
         last_step : (o : Option Inside) → option_and_then (λ y. Some y) o ≡ Some q.located.inside → o ≡ Some q.located.inside
         last_step None e = absurd (cc)

@@ -6,20 +6,20 @@ use Rattle.lft_lists.proofs.Places.{Some_same}
 use Rattle.lft_tree.specs.Tree.{ReactorTree}
 use Rattle.lft_scope.specs.Causes.{IsTwice}
 use Rattle.lft_nesting.specs.Located.{Located}
-use Rattle.lft_program.specs.declared.naming.Declared.{Declared}
+use Rattle.lft_program.specs.declared.naming.OwnName.{OwnName}
 use Rattle.lft_program.proofs.FullNames.{part_at}
 
 -- ---- names that an instance has once
 
 -- no two things of the list have one instance and one name
-abbrev pub Once : List Declared → Type 0
-Once xs = (i j : ℕ) (a b : Declared) → i < j → slice_get xs i ≡ Some a → slice_get xs j ≡ Some b → a.instance ≡ b.instance → a.name.now ≡ b.name.now → ⊥
+abbrev pub Once : List OwnName → Type 0
+Once xs = (i j : ℕ) (a b : OwnName) → i < j → slice_get xs i ≡ Some a → slice_get xs j ≡ Some b → a.instance ≡ b.instance → a.name.now ≡ b.name.now → ⊥
 
 -- nothing of the one list has instance and name with something of the other
-abbrev pub Apart : List Declared → List Declared → Type 0
-Apart xs ys = (i j : ℕ) (a b : Declared) → slice_get xs i ≡ Some a → slice_get ys j ≡ Some b → a.instance ≡ b.instance → a.name.now ≡ b.name.now → ⊥
+abbrev pub Apart : List OwnName → List OwnName → Type 0
+Apart xs ys = (i j : ℕ) (a b : OwnName) → slice_get xs i ≡ Some a → slice_get ys j ≡ Some b → a.instance ≡ b.instance → a.name.now ≡ b.name.now → ⊥
 
-pub once_append : (xs ys : List Declared) → Once xs → Once ys → Apart xs ys → Once (xs ++ ys)
+pub once_append : (xs ys : List OwnName) → Once xs → Once ys → Apart xs ys → Once (xs ++ ys)
 once_append xs ys once_x once_y apart i j a b low at_a at_b instance name =
     ⊎_elim
     (λ p. ⊎_elim
@@ -32,14 +32,14 @@ once_append xs ys once_x once_y apart i j a b low at_a at_b instance name =
     (part_at xs ys j b at_b))
     (part_at xs ys i a at_a)
 
-pub apart_append : (xs ys zs : List Declared) → Apart xs ys → Apart xs zs → Apart xs (ys ++ zs)
+pub apart_append : (xs ys zs : List OwnName) → Apart xs ys → Apart xs zs → Apart xs (ys ++ zs)
 apart_append xs ys zs from_y from_z i j a b at_a at_b instance name =
     ⊎_elim
     (λ q. from_y i j a b at_a q instance name)
     (λ q. from_z i q.0 a b at_a q.2 instance name)
     (part_at ys zs j b at_b)
 
-pub append_apart : (xs ys zs : List Declared) → Apart xs zs → Apart ys zs → Apart (xs ++ ys) zs
+pub append_apart : (xs ys zs : List OwnName) → Apart xs zs → Apart ys zs → Apart (xs ++ ys) zs
 append_apart xs ys zs from_x from_y i j a b at_a at_b instance name =
     ⊎_elim
     (λ q. from_x i j a b q at_b instance name)
@@ -61,16 +61,16 @@ module _ {X : Type 0} where
 -- ---- sites
 
 -- where a name of the thing's reactor is the thing's own
-pub record Site (located : List Located) (names : ReactorTree → List (List ℕ)) (d : Declared) : Type 0 where
+pub record Site (located : List Located) (names : ReactorTree → List (List ℕ)) (d : OwnName) : Type 0 where
   pub at : Located
   pub place : ℕ
   pub there : slice_get located d.instance ≡ Some at
   pub name : slice_get (names at.inside.reactor) place ≡ Some d.name.now
 
 -- each thing has a site, and no two have the same
-pub record AreSites (located : List Located) (names : ReactorTree → List (List ℕ)) (xs : List Declared) : Type 0 where
-  pub site : (i : ℕ) (d : Declared) → slice_get xs i ≡ Some d → Site located names d
-  pub one : (i j : ℕ) (a b : Declared) (at_a : slice_get xs i ≡ Some a) (at_b : slice_get xs j ≡ Some b) → a.instance ≡ b.instance → (site i a at_a).place ≡ (site j b at_b).place → i ≡ j
+pub record AreSites (located : List Located) (names : ReactorTree → List (List ℕ)) (xs : List OwnName) : Type 0 where
+  pub site : (i : ℕ) (d : OwnName) → slice_get xs i ≡ Some d → Site located names d
+  pub one : (i j : ℕ) (a b : OwnName) (at_a : slice_get xs i ≡ Some a) (at_b : slice_get xs j ≡ Some b) → a.instance ≡ b.instance → (site i a at_a).place ≡ (site j b at_b).place → i ≡ j
 
 -- no name stands in both lists
 abbrev pub AreApart : List (List ℕ) → List (List ℕ) → Type 0
@@ -82,12 +82,12 @@ module _ (located : List Located) where
   Each P = (n : ℕ) (l : Located) → slice_get located n ≡ Some l → P l.inside.reactor
 
   -- the place in the other one's reactor, where the two have one instance and one name
-  same_place : (f g : ReactorTree → List (List ℕ)) (a b : Declared) → (x : Site located f a) → (y : Site located g b) → a.instance ≡ b.instance → a.name.now ≡ b.name.now → slice_get (g x.at.inside.reactor) y.place ≡ Some a.name.now
+  same_place : (f g : ReactorTree → List (List ℕ)) (a b : OwnName) → (x : Site located f a) → (y : Site located g b) → a.instance ≡ b.instance → a.name.now ≡ b.name.now → slice_get (g x.at.inside.reactor) y.place ≡ Some a.name.now
   same_place f g a b x y instance name =
       let same : x.at ≡ y.at = Some_same x.at y.at (sym x.there ∙ ap (slice_get located) instance ∙ y.there) in
       ap (λ (l : Located). slice_get (g l.inside.reactor) y.place) same ∙ y.name ∙ ap Some (sym name)
 
-  pub once_of : (names : ReactorTree → List (List ℕ)) (xs : List Declared) → AreSites located names xs → Each (λ r. IsTwice (names r) → ⊥) → Once xs
+  pub once_of : (names : ReactorTree → List (List ℕ)) (xs : List OwnName) → AreSites located names xs → Each (λ r. IsTwice (names r) → ⊥) → Once xs
   once_of names xs sites never i j a b low at_a at_b instance name =
       let x = sites.site i a at_a in
       let y = sites.site j b at_b in
@@ -100,18 +100,18 @@ module _ (located : List Located) where
       h)
       (cases_order x.place y.place)
 
-  pub apart_of : (f g : ReactorTree → List (List ℕ)) (xs ys : List Declared) → AreSites located f xs → AreSites located g ys → Each (λ r. AreApart (f r) (g r)) → Apart xs ys
+  pub apart_of : (f g : ReactorTree → List (List ℕ)) (xs ys : List OwnName) → AreSites located f xs → AreSites located g ys → Each (λ r. AreApart (f r) (g r)) → Apart xs ys
   apart_of f g xs ys in_x in_y never i j a b at_a at_b instance name =
       let x = in_x.site i a at_a in
       let y = in_y.site j b at_b in
       never a.instance x.at x.there x.place y.place a.name.now x.name (same_place f g a b x y instance name)
 
-  pub names_of_sites : (P : List ℕ → Type 0) (names : ReactorTree → List (List ℕ)) (xs : List Declared) → AreSites located names xs → Each (λ r. (k : ℕ) (name : List ℕ) → slice_get (names r) k ≡ Some name → P name) → (k : ℕ) (d : Declared) → slice_get xs k ≡ Some d → P d.name.now
+  pub names_of_sites : (P : List ℕ → Type 0) (names : ReactorTree → List (List ℕ)) (xs : List OwnName) → AreSites located names xs → Each (λ r. (k : ℕ) (name : List ℕ) → slice_get (names r) k ≡ Some name → P name) → (k : ℕ) (d : OwnName) → slice_get xs k ≡ Some d → P d.name.now
   names_of_sites P names xs sites each k d at =
       let x = sites.site k d at in
       each d.instance x.at x.there x.place d.name.now x.name
 
-  pub within_sites : (names : ReactorTree → List (List ℕ)) (xs : List Declared) → AreSites located names xs → (k : ℕ) (d : Declared) → slice_get xs k ≡ Some d → d.instance < length located
+  pub within_sites : (names : ReactorTree → List (List ℕ)) (xs : List OwnName) → AreSites located names xs → (k : ℕ) (d : OwnName) → slice_get xs k ≡ Some d → d.instance < length located
   within_sites names xs sites k d at =
       let x = sites.site k d at in
       slice_get_within located d.instance x.at x.there

@@ -21,7 +21,7 @@ use Rattle.lft_program.specs.Flattening.{name_of_path, name_of_thing, name_of_re
 use Rattle.lft_program.specs.FullNames.{IsDotted, IsHashed, AreFullNames, AreNested, AreOfProgram, AreFew, members}
 use Rattle.lft_flat.specs.Names.{ThingNames}
 use Rattle.lft_program.specs.TreeLists.{AreLists, IsPlacedAt, Says}
-use Rattle.lft_program.specs.declared.naming.Declared.{Declared}
+use Rattle.lft_program.specs.declared.naming.OwnName.{OwnName}
 use Rattle.lft_program.specs.declared.naming.Placed.{Placed}
 use Rattle.lft_program.specs.declared.tree_lists.Lists.{Lists}
 use Rattle.lft_program.proofs.InnerNames.{first, inner_at, inner_sites, long, long_inner, path_last}
@@ -32,16 +32,16 @@ use Rattle.lft_program.proofs.Sites.{Once, AreApart, AreSites, Each, all_of, pai
 
 module _ (tree : FileTree) (tables : Tables) (nest : Nest) (is : IsNest tree tables nest)
     (lists : Lists) (are : AreLists tree tables nest is lists) where
-  abbrev inner : List Declared
+  abbrev inner : List OwnName
   inner = lists.instances.items
 
-  abbrev ports : List Declared
+  abbrev ports : List OwnName
   ports = lists.ports.items
 
-  abbrev actions : List Declared
+  abbrev actions : List OwnName
   actions = lists.actions.items
 
-  abbrev timers : List Declared
+  abbrev timers : List OwnName
   timers = lists.timers.items
 
   abbrev reactions : List Placed
@@ -95,9 +95,9 @@ module _ (tree : FileTree) (tables : Tables) (nest : Nest) (is : IsNest tree tab
         turned : (us vs : List (List ℕ)) → AreApart us vs → AreApart vs us
         turned us vs apart i j name first second = apart j i name second first
 
-    each_identifier : (k : ℕ) (d : Declared) → slice_get (members inner ports actions timers) k ≡ Some d → IsIdentifier d.name.now
+    each_identifier : (k : ℕ) (d : OwnName) → slice_get (members inner ports actions timers) k ≡ Some d → IsIdentifier d.name.now
     each_identifier =
-        let P : Declared → Type 0 = λ d. IsIdentifier d.name.now in
+        let P : OwnName → Type 0 = λ d. IsIdentifier d.name.now in
         let r = λ (n : ℕ) (l : Located) (at : slice_get is.located n ≡ Some l). reactor_at (reactors_of tree) is.located nest.instances.items is.instances n l at in
         each_append P (drop 1 inner) (ports ++ actions ++ timers)
         (names_of_sites is.located IsIdentifier instance_names (drop 1 inner) of_inner (λ n l at. instances_named tree identifiers (r n l at).0.reactor l.inside.reactor (r n l at).2))
@@ -109,8 +109,8 @@ module _ (tree : FileTree) (tables : Tables) (nest : Nest) (is : IsNest tree tab
 
     pub of_program : AreOfProgram inner ports actions timers reactions
     of_program =
-        let P : Declared → Type 0 = λ d. d.instance < length inner in
-        let within = λ (names : ReactorTree → List (List ℕ)) (xs : List Declared) (s : AreSites is.located names xs) (k : ℕ) (d : Declared) (at : slice_get xs k ≡ Some d). (let l = within_sites is.located names xs s k d at in let n = same_long in small d.instance l n) in
+        let P : OwnName → Type 0 = λ d. d.instance < length inner in
+        let within = λ (names : ReactorTree → List (List ℕ)) (xs : List OwnName) (s : AreSites is.located names xs) (k : ℕ) (d : OwnName) (at : slice_get xs k ≡ Some d). (let l = within_sites is.located names xs s k d at in let n = same_long in small d.instance l n) in
         record {
           nested = nested;
           declared = all_of P (ports ++ actions ++ timers) (each_append P (ports ++ actions) timers (each_append P ports actions (within port_names ports of_ports) (within action_names actions of_actions)) (within timer_names timers of_timers));
@@ -140,13 +140,13 @@ module _ (tree : FileTree) (tables : Tables) (nest : Nest) (is : IsNest tree tab
   text_at : (n : ℕ) (l : Located) → slice_get is.located n ≡ Some l → slice_get instance_texts n ≡ Some (name_of_path tree is.are_located.main l.path)
   text_at n l at = mapped (λ i. name_of_path tree is.are_located.main i.path) is.located n l at
 
-  names_of_kind : {X : Type 0} (kind : ReactorTree → List X) (name : X → List ℕ) (xs : List Declared) → AllZip (Says name) (declared kind is.located) xs → AllZip (IsDotted instance_texts) xs (map (name_of_thing tree is.are_located.main) (things name (declared kind is.located)))
+  names_of_kind : {X : Type 0} (kind : ReactorTree → List X) (name : X → List ℕ) (xs : List OwnName) → AllZip (Says name) (declared kind is.located) xs → AllZip (IsDotted instance_texts) xs (map (name_of_thing tree is.are_located.main) (things name (declared kind is.located)))
   names_of_kind {X} kind name xs all = zip_of (IsDotted instance_texts) xs _ same each
     where
       same : length xs ≡ length (map (name_of_thing tree is.are_located.main) (things name (declared kind is.located)))
       same = sym (zip_long (Says name) (declared kind is.located) xs all) ∙ sym (length-map (declared kind is.located) _) ∙ sym (length-map (things name (declared kind is.located)) (name_of_thing tree is.are_located.main))
 
-      each : (k : ℕ) (x : Declared) (y : List ℕ) → slice_get xs k ≡ Some x → slice_get (map (name_of_thing tree is.are_located.main) (things name (declared kind is.located))) k ≡ Some y → IsDotted instance_texts x y
+      each : (k : ℕ) (x : OwnName) (y : List ℕ) → slice_get xs k ≡ Some x → slice_get (map (name_of_thing tree is.are_located.main) (things name (declared kind is.located))) k ≡ Some y → IsDotted instance_texts x y
       each k x y at_x at_y =
           let t = mapped_from (name_of_thing tree is.are_located.main) (things name (declared kind is.located)) k y at_y in
           let d = mapped_from _ (declared kind is.located) k t.0 t.1 in
@@ -183,7 +183,7 @@ module _ (tree : FileTree) (tables : Tables) (nest : Nest) (is : IsNest tree tab
       same : length (drop 1 inner) ≡ length (drop 1 instance_texts)
       same = let a = length-drop 1 inner in let b = length-drop 1 instance_texts in let c = length-map is.located (λ i. name_of_path tree is.are_located.main i.path) in let d = same_long in omega arith
 
-      each : (k : ℕ) (x : Declared) (y : List ℕ) → slice_get (drop 1 inner) k ≡ Some x → slice_get (drop 1 instance_texts) k ≡ Some y → IsDotted instance_texts x y
+      each : (k : ℕ) (x : OwnName) (y : List ℕ) → slice_get (drop 1 inner) k ≡ Some x → slice_get (drop 1 instance_texts) k ≡ Some y → IsDotted instance_texts x y
       each k x y at_x at_y =
           let i = inner_at tree tables nest is inner are.instances (1 + k) x (sym (slice_get-drop inner 1 k) ∙ at_x) (omega arith) in
           let there : slice_get instance_texts (1 + k) ≡ Some y = sym (slice_get-drop instance_texts 1 k) ∙ at_y in
@@ -208,7 +208,7 @@ module _ (tree : FileTree) (tables : Tables) (nest : Nest) (is : IsNest tree tab
       }
 
 -- an answer that each right naming is equal to is the naming of the tree
-pub named_as : {E : Type 0} (tree : FileTree) (tables : Tables) (nest : Nest) (xs ps cs ts : List Declared) (rs : List Placed) (r : Result ThingNames E)
+pub named_as : {E : Type 0} (tree : FileTree) (tables : Tables) (nest : Nest) (xs ps cs ts : List OwnName) (rs : List Placed) (r : Result ThingNames E)
     → ((n : IsNest tree tables nest) → AreFullNames xs ps cs ts rs (names_of tree n.are_located.main n.located))
     → IfOk r (λ t. (other : ThingNames) → AreFullNames xs ps cs ts rs other → other ≡ t)
     → IfOk r (λ t. (n : IsNest tree tables nest) → t ≡ names_of tree n.are_located.main n.located)

@@ -8,7 +8,7 @@ use Rattle.lft_program.specs.Extended.{Ending, dotted, hashed, endings, name_aft
 use Rattle.lft_program.specs.FullNames.{members, AreOfProgram, AreFew}
 use Rattle.lft_flat.specs.Names.{IsNameByte, AreWords}
 use Rattle.lft_flat.specs.Places.{AreStarts, names_from}
-use Rattle.lft_program.specs.declared.naming.Declared.{Declared}
+use Rattle.lft_program.specs.declared.naming.OwnName.{OwnName}
 use Rattle.lft_program.specs.declared.naming.Placed.{Placed}
 use Rattle.lft_flat.specs.declared.names.Starts.{Starts}
 use Rattle.lft_program.proofs.Distinct.{main}
@@ -42,7 +42,7 @@ extended_fits texts (e ∷ es) all ends =
 main_fits : All (All IsNameByte) main
 main_fits = All-cons (All IsNameByte) (codes "main") [] (All-from_recursion IsNameByte (codes "main") (refl, (refl, (refl, (refl, tt))))) (All-nil (All IsNameByte))
 
-module _ (instances ports actions timers : List Declared) (reactions : List Placed) (things : AreOfProgram instances ports actions timers reactions) (few : AreFew instances ports actions timers reactions) where
+module _ (instances ports actions timers : List OwnName) (reactions : List Placed) (things : AreOfProgram instances ports actions timers reactions) (few : AreFew instances ports actions timers reactions) where
   -- a dot and an identifier
   dotted_fits : All (λ d. All IsNameByte (dotted d).1) (members instances ports actions timers)
   dotted_fits =

@@ -2,7 +2,7 @@
 use Rattle.std.specs.Prelude.{◌≡◌, ℕ, ◌+◌, ◌<◌, List, [], ◌∷◌, ◌++◌, map, slice_get, slice_index_or, Some, codes}
 use Rattle.std.specs.Fmt.{decimal}
 use Rattle.lft_program.specs.FullNames.{members}
-use Rattle.lft_program.specs.declared.naming.Declared.{Declared}
+use Rattle.lft_program.specs.declared.naming.OwnName.{OwnName}
 use Rattle.lft_program.specs.declared.naming.Placed.{Placed}
 
 -- the number of an instance, and what a name has after that of the instance
@@ -10,7 +10,7 @@ abbrev pub Ending : Type 0
 Ending = ℕ × List ℕ
 
 -- the ending of a thing with a name
-abbrev pub dotted : Declared → Ending
+abbrev pub dotted : OwnName → Ending
 dotted thing = (thing.instance, codes "." ++ thing.name.now)
 
 -- the ending of a reaction
@@ -18,7 +18,7 @@ abbrev pub hashed : Placed → Ending
 hashed reaction = (reaction.instance, codes "#" ++ decimal (reaction.place + 1))
 
 -- the endings of all things but the main instance, in the order of their kinds
-abbrev pub endings : List Declared → List Declared → List Declared → List Declared → List Placed → List Ending
+abbrev pub endings : List OwnName → List OwnName → List OwnName → List OwnName → List Placed → List Ending
 endings instances ports actions timers reactions = map dotted (members instances ports actions timers) ++ map hashed reactions
 
 -- the name of the instance with the ending

@@ -5,14 +5,14 @@ use Rattle.std.specs.Option.{option_and_then}
 use Rattle.lft_tree.specs.Tree.{FileTree, reactors_of, ports_of, actions_of, timers_of, reactions_of}
 use Rattle.lft_instances.specs.declared.numbering.Thing.{Thing}
 use Rattle.lft_instances.specs.declared.walk.Instance.{Instance}
-use Rattle.lft_nesting.specs.Located.{Declared as DeclaredItem, declared}
+use Rattle.lft_nesting.specs.Located.{Declared, declared}
 use Rattle.lft_nesting.specs.Nests.{IsNest}
 use Rattle.lft_nesting.specs.declared.nest.Nest.{Nest}
 use Rattle.lft_nesting.specs.declared.tables.Tables.{Tables}
 use Rattle.lft_program.specs.OwnNames.{own_names}
-use Rattle.lft_program.specs.declared.naming.Declared.{Declared}
+use Rattle.lft_program.specs.declared.naming.OwnName.{OwnName}
 use Rattle.lft_program.specs.declared.naming.Placed.{Placed}
-use Rattle.lft_program.specs.declared.own_names.Kind.TheVariants as kinds
+use Rattle.lft_program.specs.declared.own_names.MemberKind.TheVariants as kinds
 use Rattle.lft_program.specs.declared.tree_lists.Lists.{Lists}
 
 -- the name at a place of the reactor of an instance, where each reactor has a list of names; an empty one where there is none
@@ -20,7 +20,7 @@ abbrev pub name_at : List (List (List ℕ)) → List Instance → ℕ → ℕ �
 name_at lists instances n place = unwrap_or (option_and_then (λ l. slice_get l place) (option_and_then (λ i. slice_get lists i.reactor) (slice_get instances n))) []
 
 -- the instance and the name of a thing
-abbrev pub seen : Declared → ℕ × List ℕ
+abbrev pub seen : OwnName → ℕ × List ℕ
 seen d = (d.instance, d.name.now)
 
 -- a reaction by its instance and its place
@@ -28,11 +28,11 @@ abbrev pub placed_at : Thing → Placed
 placed_at t = record { instance = t.instance; place = t.place }
 
 -- the thing has the instance and the name of the declaration
-abbrev pub Says : {X : Type 0} → (X → List ℕ) → DeclaredItem X → Declared → Type 0
+abbrev pub Says : {X : Type 0} → (X → List ℕ) → Declared X → OwnName → Type 0
 Says name d x = (x.instance ≡ d.instance) × (x.name.now ≡ name d.item)
 
 -- the reaction has the instance and the place of the declaration
-abbrev pub IsPlacedAt : {X : Type 0} → DeclaredItem X → Placed → Type 0
+abbrev pub IsPlacedAt : {X : Type 0} → Declared X → Placed → Type 0
 IsPlacedAt d x = (x.instance ≡ d.instance) × (x.place ≡ d.place)
 
 -- each instance has the number of the one that contains it and its name there, and all else that of its instance, with its own name or its place

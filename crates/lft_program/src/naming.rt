@@ -12,7 +12,7 @@ use std::hash::{DefaultHasher, Hasher};
 
 /// A thing that an instance declares under a name of its own: an instance, port, action or timer.
 #[derive(Clone, Copy)]
-pub(crate) struct Declared<'a> {
+pub(crate) struct OwnName<'a> {
     /// The number of the instance that declares it; of an instance, the one that contains it.
     pub(crate) instance: u32,
     /// Its name in that instance.
@@ -29,7 +29,7 @@ pub(crate) struct Placed {
 }
 
 /// The name of a thing, after that of its instance.
-fn dotted_name(alloc: Global, instances: &Texts, thing: &Declared<'_>) -> Result<String, NoMemory>
+fn dotted_name(alloc: Global, instances: &Texts, thing: &OwnName<'_>) -> Result<String, NoMemory>
     requires { thing.now.instance < length instances.now }
     ensures { IfOk result (λ r. string_bytes r ≡ name_after instances.now (dotted thing.now)) }
 {
@@ -49,7 +49,7 @@ fn hashed_name(alloc: Global, instances: &Texts, reaction: &Placed) -> Result<St
 }
 
 /// Adds the names of these things, whose instances have their names there or come before them.
-fn add_declared(alloc: Global, texts: &mut Texts, things: &[Declared<'_>]) -> Result<(), NoMemory>
+fn add_declared(alloc: Global, texts: &mut Texts, things: &[OwnName<'_>]) -> Result<(), NoMemory>
     requires after { AreAfter (length texts.old) (map dotted things.now) }
     requires distinct { HasNoTwice (extended texts.old (map dotted things.now)) }
     ensures { OnOk result (texts.new ≡ extended texts.old (map dotted things.now)) }
@@ -82,7 +82,7 @@ fn main_name(alloc: Global, seed: u64) -> Result<Texts, NoMemory>
 }
 
 /// Goes on past the things' names and containers.
-fn add_to_seed(hasher: &mut DefaultHasher, things: &[Declared<'_>]) {
+fn add_to_seed(hasher: &mut DefaultHasher, things: &[OwnName<'_>]) {
     for thing in things {
         hasher.write_u32(thing.instance);
         hasher.write(thing.name.as_bytes());
@@ -92,10 +92,10 @@ fn add_to_seed(hasher: &mut DefaultHasher, things: &[Declared<'_>]) {
 /// A number that depends on all names: whoever looks for names whose hashes collide under it changes
 /// it with each try.
 fn seed_of(
-    instances: &[Declared<'_>],
-    ports: &[Declared<'_>],
-    actions: &[Declared<'_>],
-    timers: &[Declared<'_>],
+    instances: &[OwnName<'_>],
+    ports: &[OwnName<'_>],
+    actions: &[OwnName<'_>],
+    timers: &[OwnName<'_>],
 ) -> u64 {
     let mut hasher = DefaultHasher::new();
     add_to_seed(&mut hasher, instances);
@@ -108,10 +108,10 @@ fn seed_of(
 /// The names of these things, one kind after another.
 fn all_names(
     alloc: Global,
-    instances: &[Declared<'_>],
-    ports: &[Declared<'_>],
-    actions: &[Declared<'_>],
-    timers: &[Declared<'_>],
+    instances: &[OwnName<'_>],
+    ports: &[OwnName<'_>],
+    actions: &[OwnName<'_>],
+    timers: &[OwnName<'_>],
     reactions: &[Placed],
 ) -> Result<Texts, NoMemory>
     requires things { AreOfProgram instances.now ports.now actions.now timers.now reactions.now }
@@ -132,10 +132,10 @@ fn all_names(
 /// that one's first reaction. The things are numbered as they stand in the lists.
 pub(crate) fn full_names(
     alloc: Global,
-    instances: &[Declared<'_>],
-    ports: &[Declared<'_>],
-    actions: &[Declared<'_>],
-    timers: &[Declared<'_>],
+    instances: &[OwnName<'_>],
+    ports: &[OwnName<'_>],
+    actions: &[OwnName<'_>],
+    timers: &[OwnName<'_>],
     reactions: &[Placed],
 ) -> Result<NameTable, NoMemory>
     requires things { AreOfProgram instances.now ports.now actions.now timers.now reactions.now }

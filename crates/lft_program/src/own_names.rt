@@ -12,7 +12,7 @@ use std::alloc::Global;
 
 /// The kinds of members whose full names have a dot.
 #[derive(Clone, Copy, PartialEq, Eq, Drop)]
-pub(crate) enum Kind {
+pub(crate) enum MemberKind {
     Instance,
     Port,
     Action,
@@ -20,20 +20,20 @@ pub(crate) enum Kind {
 }
 
 /// The name of a member of this kind.
-fn name_of(member: &Member, kind: Kind) -> Option<&str>
+fn name_of(member: &Member, kind: MemberKind) -> Option<&str>
     ensures { option_map (λ t. t.now) result ≡ name_in kind (member_view member.now) }
 {
     match (kind, member) {
-        (Kind::Instance, Member::Instance(instance)) => Some(instance.name.as_str()),
-        (Kind::Port, Member::Port(port)) => Some(port.name.as_str()),
-        (Kind::Action, Member::Action(action)) => Some(action.name.as_str()),
-        (Kind::Timer, Member::Timer(timer)) => Some(timer.name.as_str()),
+        (MemberKind::Instance, Member::Instance(instance)) => Some(instance.name.as_str()),
+        (MemberKind::Port, Member::Port(port)) => Some(port.name.as_str()),
+        (MemberKind::Action, Member::Action(action)) => Some(action.name.as_str()),
+        (MemberKind::Timer, Member::Timer(timer)) => Some(timer.name.as_str()),
         _ => None,
     }
 }
 
 /// The names of the members of this kind, in order.
-fn names_among(alloc: Global, members: &[Member], kind: Kind) -> Result<Vec<&str>, NoMemory>
+fn names_among(alloc: Global, members: &[Member], kind: MemberKind) -> Result<Vec<&str>, NoMemory>
     ensures { IfOk result (λ v. texts v.items ≡ filter_map (name_in kind) (member_views members.now)) }
 {
     let mut names = Vec::new(alloc);
@@ -50,7 +50,7 @@ fn names_among(alloc: Global, members: &[Member], kind: Kind) -> Result<Vec<&str
 pub(crate) fn own_names<'a>(
     alloc: Global,
     reactors: &[&'a Reactor],
-    kind: Kind,
+    kind: MemberKind,
 ) -> Result<Vec<Vec<&'a str>>, NoMemory>
     ensures { IfOk result (λ v. name_lists v.items ≡ map (own_names kind) (reactor_trees reactors.now)) }
 {

@@ -8,8 +8,8 @@ ghost use Rattle.lft_program.specs.OwnNames.{name_lists, own_names};
 ghost use Rattle.lft_scope.specs.References.{reactor_trees};
 ghost use Rattle.lft_program.specs.TreeLists.{AreLists, name_at, placed_at, seen};
 
-use crate::naming::{Declared, Placed};
-use crate::own_names::{Kind, own_names};
+use crate::naming::{OwnName, Placed};
+use crate::own_names::{MemberKind, own_names};
 use lft_instances::{Instance, Thing};
 use lft_nesting::Nest;
 use lft_tag::NoMemory;
@@ -19,10 +19,10 @@ use std::alloc::Global;
 /// What the instances of a nest declare, by kind and in the order of the numbers.
 #[derive(Drop)]
 pub(crate) struct Lists<'a> {
-    pub(crate) instances: Vec<Declared<'a>>,
-    pub(crate) ports: Vec<Declared<'a>>,
-    pub(crate) actions: Vec<Declared<'a>>,
-    pub(crate) timers: Vec<Declared<'a>>,
+    pub(crate) instances: Vec<OwnName<'a>>,
+    pub(crate) ports: Vec<OwnName<'a>>,
+    pub(crate) actions: Vec<OwnName<'a>>,
+    pub(crate) timers: Vec<OwnName<'a>>,
     pub(crate) reactions: Vec<Placed>,
 }
 
@@ -45,12 +45,12 @@ fn contained<'a>(
     alloc: Global,
     names: &[Vec<&'a str>],
     instances: &[Instance],
-) -> Result<Vec<Declared<'a>>, NoMemory>
+) -> Result<Vec<OwnName<'a>>, NoMemory>
     ensures { IfOk result (λ v. map seen v.items ≡ map (λ i. (i.parent, name_at (name_lists names.now) instances.now i.parent i.place)) instances.now) }
 {
     let mut declared = Vec::new(alloc);
     for inner in instances {
-        declared.push(Declared {
+        declared.push(OwnName {
             instance: inner.parent,
             name: name_at(names, instances, inner.parent, inner.place),
         })?;
@@ -64,12 +64,12 @@ fn declared<'a>(
     names: &[Vec<&'a str>],
     instances: &[Instance],
     things: &[Thing],
-) -> Result<Vec<Declared<'a>>, NoMemory>
+) -> Result<Vec<OwnName<'a>>, NoMemory>
     ensures { IfOk result (λ v. map seen v.items ≡ map (λ t. (t.instance, name_at (name_lists names.now) instances.now t.instance t.place)) things.now) }
 {
     let mut declared = Vec::new(alloc);
     for thing in things {
-        declared.push(Declared {
+        declared.push(OwnName {
             instance: thing.instance,
             name: name_at(names, instances, thing.instance, thing.place as usize),
         })?;
@@ -83,8 +83,8 @@ fn declared_of<'a>(
     reactors: &[&'a Reactor],
     instances: &[Instance],
     things: &[Thing],
-    kind: Kind,
-) -> Result<Vec<Declared<'a>>, NoMemory>
+    kind: MemberKind,
+) -> Result<Vec<OwnName<'a>>, NoMemory>
     ensures { IfOk result (λ v. map seen v.items ≡ map (λ t. (t.instance, name_at (map (own_names kind) (reactor_trees reactors.now)) instances.now t.instance t.place)) things.now) }
 {
     let names = own_names(alloc, reactors, kind)?;
@@ -116,7 +116,7 @@ impl<'a> Lists<'a> {
         ensures { IfOk result (λ l. (tree : FileTree) (tables : Tables) (n : IsNest tree tables nest.now)
             → reactor_trees reactors.now ≡ reactors_of tree → AreLists tree tables nest.now n l) }
     {
-        let names = own_names(alloc, reactors, Kind::Instance)?;
+        let names = own_names(alloc, reactors, MemberKind::Instance)?;
         let ports = nest.ports_by_number(alloc)?;
         let actions = nest.actions_by_number(alloc)?;
         let timers = nest.timers_by_number(alloc)?;
@@ -124,9 +124,9 @@ impl<'a> Lists<'a> {
         let instances = nest.instances.as_slice();
         Ok(Lists {
             instances: contained(alloc, &names, instances)?,
-            ports: declared_of(alloc, reactors, instances, &ports, Kind::Port)?,
-            actions: declared_of(alloc, reactors, instances, &actions, Kind::Action)?,
-            timers: declared_of(alloc, reactors, instances, &timers, Kind::Timer)?,
+            ports: declared_of(alloc, reactors, instances, &ports, MemberKind::Port)?,
+            actions: declared_of(alloc, reactors, instances, &actions, MemberKind::Action)?,
+            timers: declared_of(alloc, reactors, instances, &timers, MemberKind::Timer)?,
             reactions: placed(alloc, &reactions)?,
         })
     }

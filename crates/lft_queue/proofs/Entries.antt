@@ -15,6 +15,8 @@ use Rattle.lft_flat.specs.declared.parts.Name.{Name}
 use Rattle.lft_flat.specs.declared.parts.Name.TheVariants.{Port, Action}
 use Rattle.lft_queue.specs.Pending.{Pending, same_key, value_of, Becomes, IsMap}
 use Rattle.lft_queue.specs.Keys.{Key, key_of, tag_of, name_of, pending_at, key_cmp}
+use Rattle.lft_tag.proofs.Comparing.{less_nat, less_then, both_equal}
+use Rattle.std.proofs.lemmas.Map.Lookups.{exact_unsigned}
 
 eq_nat : (a b : ℕ) → is_eq (nat_cmp a b) ≡ (a == b)
 eq_nat a b = grind (arith, nat_tests)
@@ -105,33 +107,17 @@ is_map (p ∷ es) h zero (suc j) d lt len = all_apart p es h.0 j d (omega arith)
 is_map (p ∷ es) h (suc i) zero d lt len = absurd (omega arith)
 is_map (p ∷ es) h (suc i) (suc j) d lt len = is_map es h.1 i j d (omega arith) (omega arith)
 
-less_nat : (a b : ℕ) → nat_cmp a b ≡ Less → a < b
-less_nat a b h = grind (arith, nat_tests)
-
-same_nat : (a b : ℕ) → nat_cmp a b ≡ Equal → a ≡ b
-same_nat a b h = grind (arith, nat_tests)
-
-less_then : (o q : Ordering) → ordering_then o q ≡ Less → (o ≡ Less) ⊎ ((o ≡ Equal) × (q ≡ Less))
-less_then Less q h = inl refl
-less_then Equal q h = inr (refl, h)
-less_then Greater q h = cc (h)
-
-both_equal : (o q : Ordering) → ordering_then o q ≡ Equal → (o ≡ Equal) × (q ≡ Equal)
-both_equal Less q h = cc (h)
-both_equal Equal q h = (refl, h)
-both_equal Greater q h = cc (h)
-
 -- keys in order have tags in order
 pub follows : (j k : Key) → key_cmp j k ≡ Less → UpTo (tag_of j) (tag_of k)
 follows j k h = by_last (less_then (ordering_then (ordering_then (nat_cmp j.0 k.0) (nat_cmp j.1 k.1)) (bool_cmp j.2 k.2)) (nat_cmp j.3 k.3) h)
   where
     equal : ordering_then (nat_cmp j.0 k.0) (nat_cmp j.1 k.1) ≡ Equal → UpTo (tag_of j) (tag_of k)
-    equal e = let p = both_equal (nat_cmp j.0 k.0) (nat_cmp j.1 k.1) e in let a : j.0 ≡ k.0 = same_nat j.0 k.0 p.0 in let b : j.1 ≡ k.1 = same_nat j.1 k.1 p.1 in inr (a, omega arith)
+    equal e = let p = both_equal (nat_cmp j.0 k.0) (nat_cmp j.1 k.1) e in let a : j.0 ≡ k.0 = exact_unsigned j.0 k.0 p.0 in let b : j.1 ≡ k.1 = exact_unsigned j.1 k.1 p.1 in inr (a, omega arith)
 
     less : ordering_then (nat_cmp j.0 k.0) (nat_cmp j.1 k.1) ≡ Less → UpTo (tag_of j) (tag_of k)
     less e = elim (less_then (nat_cmp j.0 k.0) (nat_cmp j.1 k.1) e) [
       | inl a ↦ inl (less_nat j.0 k.0 a)
-      | inr b ↦ let c : j.1 < k.1 = less_nat j.1 k.1 b.1 in inr (same_nat j.0 k.0 b.0, omega arith)
+      | inr b ↦ let c : j.1 < k.1 = less_nat j.1 k.1 b.1 in inr (exact_unsigned j.0 k.0 b.0, omega arith)
     ]
 
     by_kind : ordering_then (ordering_then (nat_cmp j.0 k.0) (nat_cmp j.1 k.1)) (bool_cmp j.2 k.2) ≡ Less → UpTo (tag_of j) (tag_of k)
@@ -150,8 +136,8 @@ equal_up j k e =
     let p = both_equal (ordering_then (ordering_then (nat_cmp j.0 k.0) (nat_cmp j.1 k.1)) (bool_cmp j.2 k.2)) (nat_cmp j.3 k.3) e in
     let q = both_equal (ordering_then (nat_cmp j.0 k.0) (nat_cmp j.1 k.1)) (bool_cmp j.2 k.2) p.0 in
     let r = both_equal (nat_cmp j.0 k.0) (nat_cmp j.1 k.1) q.0 in
-    let b : j.1 ≡ k.1 = same_nat j.1 k.1 r.1 in
-    inr (same_nat j.0 k.0 r.0, omega arith)
+    let b : j.1 ≡ k.1 = exact_unsigned j.1 k.1 r.1 in
+    inr (exact_unsigned j.0 k.0 r.0, omega arith)
 
 up_to_self : (g : Tag) → UpTo g g
 up_to_self g = inr (refl, omega arith)

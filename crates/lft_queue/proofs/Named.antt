@@ -11,14 +11,14 @@ use Rattle.std.proofs.lemmas.Bool.Decides.{nat_tests}
 use Rattle.std.proofs.lemmas.List.Kept.{IsStrictlySortedBy-filter}
 use Rattle.lft_tag.specs.declared.Tag.{Tag}
 use Rattle.lft_tag.specs.Tags.{Before, UpTo, same_tag}
-use Rattle.lft_tag.proofs.Order.{Before-UpTo}
+use Rattle.lft_tag.proofs.Order.{Before-UpTo, same_tag_refl}
 use Rattle.lft_flat.specs.declared.parts.Value.{Value}
 use Rattle.lft_flat.specs.declared.parts.Name.{Name}
 use Rattle.lft_flat.specs.declared.parts.Name.TheVariants.{Port}
 use Rattle.lft_queue.specs.Pending.{Pending, same_name, value_of, is_at, names_at}
 use Rattle.lft_queue.specs.Keys.{Key, key_of, tag_of, name_of, pending_at, key_cmp, AreFrom}
 use Rattle.lft_queue.proofs.Entries.{follows, equal_up}
-use Rattle.lft_queue.proofs.Tests.{name_same, name_refl, tag_same, tag_apart, past}
+use Rattle.lft_queue.proofs.Tests.{name_same, name_refl, tag_apart, past}
 
 contains_first : {X : Type 0} (x : X) (xs : List X) → Contains (x ∷ xs) x
 contains_first x xs = (0, omega arith, refl)
@@ -133,7 +133,7 @@ module _ (g : Tag) (k : Key) (v : Value) (es : List (Key × Value)) (are : AreFr
 
   -- at the tag
   pub first_named : g ≡ tag_of k → names_at g (map pending_at ((k, v) ∷ es)) ≡ name_of k.2 k.3 ∷ names_at g (map pending_at es)
-  first_named e = ap (λ (b : Bool). map (λ (x : Pending). x.name) (cond b (pending_at (k, v) ∷ filter (is_at g) (map pending_at es)) (filter (is_at g) (map pending_at es)))) (tag_same g (tag_of k) e)
+  first_named e = ap (λ (b : Bool). map (λ (x : Pending). x.name) (cond b (pending_at (k, v) ∷ filter (is_at g) (map pending_at es)) (filter (is_at g) (map pending_at es)))) (same_tag_refl g (tag_of k) e)
 
   -- or after it, as all others are then
   pub none_named : ¬ (g ≡ tag_of k) → (names_at g (map pending_at ((k, v) ∷ es)) ≡ []) × (names_at g (map pending_at es) ≡ [])

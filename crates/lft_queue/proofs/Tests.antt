@@ -19,9 +19,6 @@ pub name_refl : (n : Name) → same_name n n ≡ true
 name_refl (Port p) = eq-eqb p p refl
 name_refl (Action a) = eq-eqb a a refl
 
-pub tag_same : (g h : Tag) → g ≡ h → same_tag g h ≡ true
-tag_same g h e = let a : (g.time == h.time) ≡ true = eq-eqb g.time h.time (ap (λ (k : Tag). k.time) e) in let b : (g.micro == h.micro) ≡ true = eq-eqb g.micro h.micro (ap (λ (k : Tag). k.micro) e) in rw (a, b) refl
-
 -- a tag is none of the later ones
 pub tag_apart : (g h : Tag) → Before g h → same_tag g h ≡ false
 tag_apart g h (inl l) = let a : (g.time == h.time) ≡ false = ne_eqb g.time h.time (λ e. absurd (omega arith)) in rw a refl

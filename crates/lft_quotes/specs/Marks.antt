@@ -8,12 +8,12 @@ use Rattle.lft_facts.specs.declared.facts.Fact.{Fact}
 use Rattle.lft_facts.specs.declared.facts.Fact.TheVariants as fact
 use Rattle.lft_facts.specs.declared.facts.RowFact.{RowFact}
 use Rattle.lft_facts.specs.declared.facts.RowFact.TheVariants as row_fact
-use Rattle.lft_quotes.specs.declared.marks.Mark.{Mark}
-use Rattle.lft_quotes.specs.declared.marks.Mark.TheVariants as mark
+use Rattle.lft_quotes.specs.declared.marks.RowMark.{RowMark}
+use Rattle.lft_quotes.specs.declared.marks.RowMark.TheVariants as mark
 use Rattle.lft_quotes.specs.declared.marks.Quote.{Quote}
 
 -- the row at a place, with a mark
-abbrev pub marked : ℕ → Mark → List Quote
+abbrev pub marked : ℕ → RowMark → List Quote
 marked i m = (record { row = i; mark = m }) ∷ []
 
 -- the row that makes something present
@@ -70,7 +70,7 @@ names (fact.Reason x) = reason_names x
 names _ = []
 
 -- what stands behind a row
-abbrev pub mark_words : Mark → List ℕ
+abbrev pub mark_words : RowMark → List ℕ
 mark_words mark.Here = codes "<- here"
 mark_words mark.Greater = codes "already at a greater tag"
 mark_words mark.FirstStart = codes "its first start"

@@ -6,7 +6,7 @@ use Rattle.lft_trace.specs.declared.row.Row.{Row}
 use Rattle.lft_trace.specs.Written.{row_fields}
 use Rattle.lft_facts.specs.declared.facts.Fact.{Fact}
 use Rattle.lft_words.specs.Columns.{blanks, fill, padded}
-use Rattle.lft_quotes.specs.declared.marks.Mark.{Mark}
+use Rattle.lft_quotes.specs.declared.marks.RowMark.{RowMark}
 use Rattle.lft_quotes.specs.declared.marks.Quote.{Quote}
 use Rattle.lft_quotes.specs.declared.quoting.Widths.{Widths}
 use Rattle.lft_quotes.specs.Marks.{mark_words}
@@ -36,7 +36,7 @@ abbrev pub widths_of : Parts → List Row → List Quote → Widths
 widths_of program t quotes = fold (widened program t) (record { line = 0; row = 0 }) quotes
 
 -- a line: `  4 | start,0,0,0,main#1,,,  <- here`
-abbrev pub line_of : Widths → List ℕ → List ℕ → Mark → List ℕ
+abbrev pub line_of : Widths → List ℕ → List ℕ → RowMark → List ℕ
 line_of w number row m = codes "  " ++ fill w.line number ++ number ++ codes " | " ++ padded w.row row ++ codes "  " ++ mark_words m ++ codes "\n"
 
 -- a row with its line number before it and its mark behind it

@@ -6,5 +6,5 @@ mod picking;
 mod quoting;
 mod rows;
 
-pub use marks::{Mark, Quote};
+pub use marks::{Quote, RowMark};
 pub use quoting::quote;

@@ -7,8 +7,8 @@ use lft_facts::{Cause, Fact, Reason, RowFact};
 use std::alloc::AllocError;
 
 /// What a row is to the facts.
-#[derive(Clone, Copy, PartialEq, Eq, Debug, Drop)]
-pub enum Mark {
+#[derive(Clone, Copy, Drop)]
+pub enum RowMark {
     /// It breaks the rule.
     Here,
     /// It is before, and at a greater tag.
@@ -38,37 +38,37 @@ pub enum Mark {
 }
 
 /// A row, by its place, and what it is to the facts.
-#[derive(Clone, Copy, PartialEq, Eq, Debug, Drop)]
+#[derive(Clone, Copy, Drop)]
 pub struct Quote {
     pub row: u32,
-    pub mark: Mark,
+    pub mark: RowMark,
 }
 
-impl Mark {
+impl RowMark {
     /// The words behind the row.
     pub(crate) fn words(self) -> &'static str
         ensures { result.now ≡ mark_words self }
     {
         match self {
-            Mark::Here => "<- here",
-            Mark::Greater => "already at a greater tag",
-            Mark::FirstStart => "its first start",
-            Mark::OpenStart => "the run that is open",
-            Mark::FirstRead => "its first read",
-            Mark::Cause => "a cause",
-            Mark::LateEnd => "has to end first",
-            Mark::TraceEnd => "the last row",
-            Mark::AsksStop => "asks for the stop",
-            Mark::EarlierEnd => "ends that run",
-            Mark::LaterStart => "starts that run",
-            Mark::OtherEnd => "another end",
-            Mark::LastRow => "the last row of its worker",
+            RowMark::Here => "<- here",
+            RowMark::Greater => "already at a greater tag",
+            RowMark::FirstStart => "its first start",
+            RowMark::OpenStart => "the run that is open",
+            RowMark::FirstRead => "its first read",
+            RowMark::Cause => "a cause",
+            RowMark::LateEnd => "has to end first",
+            RowMark::TraceEnd => "the last row",
+            RowMark::AsksStop => "asks for the stop",
+            RowMark::EarlierEnd => "ends that run",
+            RowMark::LaterStart => "starts that run",
+            RowMark::OtherEnd => "another end",
+            RowMark::LastRow => "the last row of its worker",
         }
     }
 }
 
 /// Puts the row behind the quotes.
-fn push(quotes: &mut Vec<Quote>, row: u32, mark: Mark) -> Result<(), AllocError>
+fn push(quotes: &mut Vec<Quote>, row: u32, mark: RowMark) -> Result<(), AllocError>
     ensures { OnOk result (quotes.new.items ≡ quotes.old.items ++ (record { row = row; mark = mark }) ∷ []) }
 {
     quotes.push(Quote { row, mark })?;
@@ -81,7 +81,7 @@ fn push_cause(quotes: &mut Vec<Quote>, cause: Cause) -> Result<(), AllocError>
 {
     match cause {
         Cause::Written { row, .. } | Cause::Scheduled { row, .. } => {
-            push(quotes, row, Mark::Cause)
+            push(quotes, row, RowMark::Cause)
         }
         Cause::AtStartup { .. }
         | Cause::AtShutdown { .. }
@@ -95,10 +95,10 @@ fn push_row_fact(quotes: &mut Vec<Quote>, fact: RowFact) -> Result<(), AllocErro
     ensures { OnOk result (quotes.new.items ≡ quotes.old.items ++ row_fact_names fact) }
 {
     match fact {
-        RowFact::Late { earlier, .. } => push(quotes, earlier, Mark::Greater),
-        RowFact::StartsAgain { first, .. } => push(quotes, first, Mark::FirstStart),
-        RowFact::Busy { start, .. } => push(quotes, start, Mark::OpenStart),
-        RowFact::ReadAgain { first, .. } => push(quotes, first, Mark::FirstRead),
+        RowFact::Late { earlier, .. } => push(quotes, earlier, RowMark::Greater),
+        RowFact::StartsAgain { first, .. } => push(quotes, first, RowMark::FirstStart),
+        RowFact::Busy { start, .. } => push(quotes, start, RowMark::OpenStart),
+        RowFact::ReadAgain { first, .. } => push(quotes, first, RowMark::FirstRead),
         RowFact::AfterStop { .. }
         | RowFact::NotOpen { .. }
         | RowFact::NotInput { .. }
@@ -112,15 +112,15 @@ fn push_reason(quotes: &mut Vec<Quote>, reason: Reason) -> Result<(), AllocError
     ensures { OnOk result (quotes.new.items ≡ quotes.old.items ++ reason_names reason) }
 {
     match reason {
-        Reason::LastRow { row, .. } => push(quotes, row, Mark::TraceEnd),
-        Reason::StopAsked { row, .. } => push(quotes, row, Mark::AsksStop),
-        Reason::EndedIn { end, .. } => push(quotes, end, Mark::EarlierEnd),
+        Reason::LastRow { row, .. } => push(quotes, row, RowMark::TraceEnd),
+        Reason::StopAsked { row, .. } => push(quotes, row, RowMark::AsksStop),
+        Reason::EndedIn { end, .. } => push(quotes, end, RowMark::EarlierEnd),
         Reason::HasOpen { start, .. } | Reason::OpenOn { start, .. } => {
-            push(quotes, start, Mark::OpenStart)
+            push(quotes, start, RowMark::OpenStart)
         }
-        Reason::StartsIn { start, .. } => push(quotes, start, Mark::LaterStart),
-        Reason::EndsOther { end, .. } => push(quotes, end, Mark::OtherEnd),
-        Reason::LastOfWorker { last, .. } => push(quotes, last, Mark::LastRow),
+        Reason::StartsIn { start, .. } => push(quotes, start, RowMark::LaterStart),
+        Reason::EndsOther { end, .. } => push(quotes, end, RowMark::OtherEnd),
+        Reason::LastOfWorker { last, .. } => push(quotes, last, RowMark::LastRow),
         Reason::Hop(_)
         | Reason::Nearest { .. }
         | Reason::PassedBy { .. }
@@ -140,13 +140,13 @@ pub(crate) fn push_named(quotes: &mut Vec<Quote>, fact: Fact) -> Result<(), Allo
     ensures { OnOk result (quotes.new.items ≡ quotes.old.items ++ names fact) }
 {
     match fact {
-        Fact::RowIs { row, .. } => push(quotes, row, Mark::Here),
+        Fact::RowIs { row, .. } => push(quotes, row, RowMark::Here),
         Fact::Row(fact) => push_row_fact(quotes, fact),
         Fact::Cause(cause) => push_cause(quotes, cause),
-        Fact::Runs { start, .. } => push(quotes, start, Mark::Here),
+        Fact::Runs { start, .. } => push(quotes, start, RowMark::Here),
         Fact::StartsEarly { start, end, .. } => {
-            push(quotes, start, Mark::Here)?;
-            push(quotes, end, Mark::LateEnd)
+            push(quotes, start, RowMark::Here)?;
+            push(quotes, end, RowMark::LateEnd)
         }
         Fact::Reason(reason) => push_reason(quotes, reason),
         _ => Ok(()),

@@ -4,7 +4,7 @@ ghost use Rattle.std.specs.Prelude.{◌≡◌, ◌++◌, length, IfOk, OnOk, str
 ghost use Rattle.lft_trace.specs.Fits.{RowsFit};
 ghost use Rattle.lft_quotes.specs.Quoted.{line_number, width_of as the_width_of, widened, widths_of, line_of, quote_words, gap_words, lines, quoted};
 
-use crate::marks::{Mark, Quote};
+use crate::marks::{Quote, RowMark};
 use crate::picking::pick;
 use crate::rows::row_text;
 use itoa::Buffer;
@@ -78,7 +78,7 @@ fn push_line(
     widths: Widths,
     number: &str,
     row: &str,
-    mark: Mark,
+    mark: RowMark,
 ) -> Result<(), AllocError>
     ensures { OnOk result (string_bytes text.new ≡ string_bytes text.old ++ line_of widths number.now row.now mark) }
 {

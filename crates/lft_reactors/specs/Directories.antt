@@ -8,7 +8,7 @@ use Rattle.lft_reactors.specs.Numbers.{AreContents}
 use Rattle.lft_scope.specs.Places.{IsIndexOf}
 use Rattle.lft_reactors.specs.Sheets.{is_timer, timer_place}
 use Rattle.lft_reactors.specs.declared.directory.Directory.{Directory}
-use Rattle.lft_reactors.specs.declared.directory.Names.{Names}
+use Rattle.lft_reactors.specs.declared.directory.NamesByKind.{NamesByKind}
 use Rattle.lft_scope.specs.declared.kinds.Kind.{Kind}
 use Rattle.lft_scope.specs.declared.kinds.Kind.TheVariants.{OwnParameter, OwnInput, OwnOutput, OwnTimer, OwnAction, OwnInstance, InnerInput, InnerOutput}
 use Rattle.lft_scope.specs.declared.kinds.Role.{Role}
@@ -16,7 +16,7 @@ use Rattle.lft_scope.specs.declared.kinds.Role.{Role}
 -- ---- indexes
 
 -- the table has the places of what this reactor declares
-pub record IsNames (r : ReactorTree) (names : Names) : Type 0 where
+pub record IsNames (r : ReactorTree) (names : NamesByKind) : Type 0 where
   pub parameters : IsIndexOf names.parameters (map (λ x. x.name) r.parameters)
   pub ports : IsIndexOf names.ports (map (λ x. x.name) (ports_of r))
   pub timers : IsIndexOf names.timers (map (λ x. x.name) (timers_of r))

@@ -32,7 +32,7 @@ fn index_of<'a>(alloc: Global, members: &'a [Member], kind: Declared) -> Result<
 
 /// Where the names of what a reactor declares stand, by kind.
 #[derive(Drop)]
-pub(crate) struct Names<'a> {
+pub(crate) struct NamesByKind<'a> {
     parameters: Index<'a>,
     ports: Index<'a>,
     timers: Index<'a>,
@@ -40,14 +40,14 @@ pub(crate) struct Names<'a> {
     instances: Index<'a>,
 }
 
-impl<'a> Names<'a> {
+impl<'a> NamesByKind<'a> {
     /// Those of a reactor.
-    fn of(alloc: Global, reactor: &'a Reactor) -> Result<Names<'a>, NoMemory>
+    fn of(alloc: Global, reactor: &'a Reactor) -> Result<NamesByKind<'a>, NoMemory>
         ensures { IfOk result (IsNames (reactor_view reactor.now)) }
     {
         let parameters = parameter_names(alloc, &reactor.parameters)?;
         let members = reactor.members.as_slice();
-        Ok(Names {
+        Ok(NamesByKind {
             parameters: Index::of(alloc, &parameters)?,
             ports: index_of(alloc, members, Declared::Port)?,
             timers: index_of(alloc, members, Declared::Timer)?,
@@ -69,7 +69,7 @@ fn known_contents(alloc: Global, reactors: &[&Reactor]) -> Result<Vec<Contents>,
     }
 }
 
-fn names_at<'b, 'a>(names: &'b [Names<'a>], number: usize) -> Option<&'b Names<'a>>
+fn names_at<'b, 'a>(names: &'b [NamesByKind<'a>], number: usize) -> Option<&'b NamesByKind<'a>>
     ensures { option_map (λ n. n.now) result ≡ slice_get names.now number }
 {
     if number < names.len() {
@@ -92,7 +92,7 @@ fn contents_at(contents: &[Contents], number: usize) -> Option<&Contents>
 /// Where the names of each reactor stand, and what each contains, by number.
 #[derive(Drop)]
 pub(crate) struct Directory<'a> {
-    names: Vec<Names<'a>>,
+    names: Vec<NamesByKind<'a>>,
     contents: Vec<Contents>,
 }
 
@@ -105,13 +105,13 @@ impl<'a> Directory<'a> {
         let contents = known_contents(alloc, reactors)?;
         let mut names = Vec::new(alloc);
         for reactor in reactors {
-            names.push(Names::of(alloc, reactor)?)?;
+            names.push(NamesByKind::of(alloc, reactor)?)?;
         }
         Ok(Directory { names, contents })
     }
 
     /// The names of the reactor of this number.
-    fn names(&self, number: usize) -> Option<&Names<'a>>
+    fn names(&self, number: usize) -> Option<&NamesByKind<'a>>
         ensures { (rs : List ReactorTree) (r : ReactorTree) → IsAt rs self.now number r → IsSomeAnd result (λ n. IsNames r n.now) }
     {
         names_at(&self.names, number)

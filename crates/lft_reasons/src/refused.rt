@@ -1,6 +1,6 @@
 //! A program that has a tree and is refused, and where the parts of its tree stand in its text.
 
-use lft_places::{MemberPlace, Source, Spot};
+use lft_places::{MemberPlace, SourceText, Spot};
 use lft_tree::{Member, Reactor};
 use lft_witnesses::declared_name;
 use std::alloc::Global;
@@ -9,7 +9,7 @@ use std::alloc::Global;
 #[derive(Clone, Copy)]
 pub(crate) struct Refused<'a> {
     pub alloc: Global,
-    pub source: Source<'a>,
+    pub source: SourceText<'a>,
     pub reactors: &'a [&'a Reactor],
 }
 

@@ -8,7 +8,7 @@ ghost use Rattle.lft_reasons.specs.Reasons.{BeginsThere, IsToldOf, SayPlace};
 
 use crate::reason::Reason;
 use crate::refused::Refused;
-use lft_places::{Source, Spot};
+use lft_places::{SourceText, Spot};
 use lft_program::{ProgramFault, flatten};
 use lft_refusals::{place_of, push_line, push_place};
 use lft_scope::members;
@@ -29,7 +29,7 @@ fn reason_of(
     let reactors = members::reactors(alloc, &ast.items)?;
     let refused = Refused {
         alloc,
-        source: Source {
+        source: SourceText {
             text,
             tokens: tokens.as_slice(),
             ast,

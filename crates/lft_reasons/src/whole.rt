@@ -7,20 +7,20 @@ use itoa::Buffer;
 use lft_places::Spot;
 use lft_scope::kinds::Role;
 use lft_tag::NoMemory;
-use lft_wiring::{Excess, Join, Kind, Wiring, passed_limit};
+use lft_wiring::{Join, LimitedKind, Wiring, passed_limit};
 
 /// More ports of a loop aren't named.
 const MOST_NAMES: usize = 12;
 
 /// What there is too much of.
-fn kind_words(kind: Kind) -> &'static str {
+fn kind_words(kind: LimitedKind) -> &'static str {
     match kind {
-        Kind::Instances => " instances",
-        Kind::Reactions => " reactions",
-        Kind::Ports => " ports",
-        Kind::Connections => " single connections",
-        Kind::Actions => " actions",
-        Kind::Timers => " timers",
+        LimitedKind::Instances => " instances",
+        LimitedKind::Reactions => " reactions",
+        LimitedKind::Ports => " ports",
+        LimitedKind::Connections => " single connections",
+        LimitedKind::Actions => " actions",
+        LimitedKind::Timers => " timers",
     }
 }
 
@@ -114,19 +114,14 @@ impl<'a> Refused<'a> {
         let Some(excess) = passed_limit(self.alloc, self.reactors)? else {
             return Ok(None);
         };
-        let (kind, count, limit) = match excess {
-            Excess::Counted { kind, count, limit } => (kind, count, limit),
-            Excess::Uncounted => {
-                let reason = "the program has more than 1000000 instances, and may have 10000";
-                return Ok(Some(Reason::of(self.alloc, reason)?));
-            }
-        };
         let (mut counted, mut most) = (Buffer::new(), Buffer::new());
+        let more = if excess.is_more { "more than " } else { "" };
         let reason = Reason::of(self.alloc, "the program has ")?
-            .say(counted.format(count))?
-            .say(kind_words(kind))?
+            .say(more)?
+            .say(counted.format(excess.count))?
+            .say(kind_words(excess.kind))?
             .say(", and may have ")?
-            .say(most.format(limit))?;
+            .say(most.format(excess.limit))?;
         Ok(Some(reason))
     }
 }

@@ -4,7 +4,7 @@ ghost use Rattle.std.specs.Prelude.{◌≡◌, ◌≤◌, length, count_by};
 ghost use Rattle.lft_refusals.specs.Places.{is_feed, begins_letter, BeginsLine, EndsLine, IsPlace};
 
 /// Where a byte of a text stands, for people.
-#[derive(Clone, Copy, Debug, PartialEq, Eq)]
+#[derive(Clone, Copy)]
 pub struct Place {
     /// The number of its line, the first being 1.
     pub line: usize,

@@ -10,7 +10,7 @@ use lft_tag::NoMemory;
 use std::alloc::Global;
 
 /// Why a text is refused.
-#[derive(Clone, Copy, Debug, PartialEq, Eq)]
+#[derive(Clone, Copy)]
 pub(crate) enum Why {
     /// It can't be cut into tokens any further.
     Lex(LexFault),
@@ -21,7 +21,7 @@ pub(crate) enum Why {
 }
 
 /// Why a text is refused, and which of its bytes that is about.
-#[derive(Clone, Copy, Debug, PartialEq, Eq)]
+#[derive(Clone, Copy)]
 pub(crate) struct Refusal {
     pub why: Why,
     pub start: usize,

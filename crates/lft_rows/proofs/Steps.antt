@@ -5,7 +5,7 @@ use native.Mathlib.Decide.{ℕ_discrete}
 use Rattle.lft_tag.specs.declared.Tag.{Tag}
 use Rattle.lft_trace.specs.declared.row.Row.{Row}
 use Rattle.lft_trace.specs.declared.row.Step.{Step}
-use Rattle.lft_trace.specs.declared.row.Step.TheVariants.{Start, Read, Write, Schedule, Stop, End}
+use Rattle.lft_trace.specs.declared.row.Step.TheVariants.{Start, End}
 use Rattle.lft_model.specs.Runs.{start_row, end_row}
 use Rattle.lft_model.specs.Breaches.{IsOpen, IsOutOfOrder, IsUnended, WasStarted}
 use Rattle.lft_model.proofs.Places.{slice_get_within}
@@ -14,6 +14,7 @@ use Rattle.lft_rows.specs.Places.{place_of}
 use Rattle.lft_rows.specs.Passes.{Unended, OpenPlace, Holds, HasOpen}
 use Rattle.lft_presence.proofs.Lists.{not_true}
 use Rattle.lft_rows.proofs.Opens.{keeps_open, ends_open, open_kept, none_open, kept_open, same_start}
+use Rattle.lft_model.proofs.OutOfOrder.{out_inner, inner_out}
 
 -- a place that is kept is of a row
 pub kept_within : (t : List Row) (p i w s : ℕ) → OpenPlace t p i w (Some s) → s < length t
@@ -65,23 +66,6 @@ module _ (t : List Row) (p i : ℕ) (row : Row) (is_row : slice_get t i ≡ Some
         where
           same : row.worker ≡ w → row.tag ≡ g → row.reaction ≡ r → start_row w g r ≡ start_row row.worker row.tag row.reaction
           same a b c = cc
-
--- rule 3 at a row that is no start row
-pub out_inner : (t : List Row) (i : ℕ) (row : Row) (s : Step) → ¬ (s ≡ Start) → ¬ IsOpen t i row.worker row.tag row.reaction → IsOutOfOrder t i row s
-out_inner t i row Start n o = absurd (n refl)
-out_inner t i row (Read m v) n o = o
-out_inner t i row (Write m v) n o = o
-out_inner t i row (Schedule m v d) n o = o
-out_inner t i row Stop n o = o
-out_inner t i row End n o = o
-
-pub inner_out : (t : List Row) (i : ℕ) (row : Row) (s : Step) → ¬ (s ≡ Start) → IsOutOfOrder t i row s → ¬ IsOpen t i row.worker row.tag row.reaction
-inner_out t i row Start n o = absurd (n refl)
-inner_out t i row (Read m v) n o = o
-inner_out t i row (Write m v) n o = o
-inner_out t i row (Schedule m v d) n o = o
-inner_out t i row Stop n o = o
-inner_out t i row End n o = o
 
 pub out_start : (t : List Row) (i : ℕ) (row : Row) (s : Step) → s ≡ Start → WasStarted t i row.tag row.reaction ⊎ ((g : Tag) × (r : ℕ) × IsOpen t i row.worker g r) → IsOutOfOrder t i row s
 out_start t i row s e o = subst (λ z. IsOutOfOrder t i row z) (sym e) o

@@ -5,20 +5,18 @@ use native.Mathlib.Decide.{ℕ_discrete}
 use Rattle.lft_flat.proofs.Origins.{origin_unique}
 use Rattle.lft_tag.specs.declared.Tag.{Tag}
 use Rattle.lft_flat.specs.Parts.{Parts, inputs}
-use Rattle.lft_flat.specs.Naming.{named}
-use Rattle.lft_flat.specs.Sound.{IsSound, IsNameOf, IsTriggerOf}
+use Rattle.lft_flat.specs.Sound.{IsSound, IsNameOf}
 use Rattle.lft_flat.specs.declared.parts.Value.{Value}
 use Rattle.lft_flat.specs.declared.parts.Name.{Name}
 use Rattle.lft_flat.specs.declared.parts.Name.TheVariants.{Port, Action}
-use Rattle.lft_flat.specs.declared.parts.Trigger.{Trigger}
 use Rattle.lft_flat.specs.declared.parts.Reaction.{Reaction}
 use Rattle.lft_trace.specs.declared.row.Row.{Row}
 use Rattle.lft_model.specs.Plans.{PlanParts}
 use Rattle.lft_model.specs.Presence.{At, IsPresent, Shows, Inputs, Collision, written, events_of}
 use Rattle.lft_model.specs.Runs.{read_of, steps_of, inputs_of, reads_at}
 use Rattle.lft_lists.proofs.Places.{same_at}
-use Rattle.lft_lists.proofs.Members.{Mem, mem_get, get_mem, mem_cases, mem_from_filter, contains_mem, mem_contains}
-use Rattle.lft_flat.proofs.Naming.{named_on}
+use Rattle.lft_lists.proofs.Members.{Mem, mem_get, get_mem, contains_mem}
+use Rattle.lft_flat.proofs.Naming.{input_known}
 use Rattle.lft_model.proofs.Places.{slice_get_within, tag_discrete}
 use Rattle.lft_trace.specs.declared.row.Step.TheVariants.{Start, Read}
 use Rattle.lft_slices.specs.Reads.{IsRight, MissesInput, TellsWrongRead}
@@ -111,22 +109,9 @@ module _ (plan : PlanParts) (t : List Row) (g : Tag) (r : ℕ) (names : List Nam
       let z = subst (λ (y : Reaction). AllZip (Shows plan t g) (inputs y) (reads_at plan t g r)) b o.each in
       d (zip_from (Shows plan t g) (read_of (steps_of t g r)) (inputs x) (subst (λ (ns : List Name). AllZip (Shows plan t g) (inputs x) (map (read_of (steps_of t g r)) ns)) own_inputs z) n (subst (λ xs. Mem n xs) own (mem_get names k n e)))
 
--- an input of a reaction is a port or action of the program
-pub input_known : (program : Parts) → IsSound program → (r : ℕ) (x : Reaction) → slice_get program.reactions r ≡ Some x → (n : Name) → Mem n (inputs x) → IsNameOf program n
-input_known program sound r x e n m = go (mem_cases n (filter_map named x.triggers) x.uses m)
-  where
-    go : Mem n (filter_map named x.triggers) ⊎ Mem n x.uses → IsNameOf program n
-    go (inl q) =
-        let p = mem_from_filter named x.triggers n q in
-        subst (λ (y : Trigger). IsTriggerOf program y) (named_on p.0 n p.2) ((sound.exist r x e).triggers p.0 (mem_contains p.0 x.triggers p.1))
-    go (inr q) = (sound.exist r x e).uses n (mem_contains n x.uses q)
-
 -- the input at a place
 pub input_at : (program : Parts) → IsSound program → (r : ℕ) (x : Reaction) → slice_get program.reactions r ≡ Some x → (names : List Name) → names ≡ inputs x → (k : ℕ) (n : Name) → slice_get names k ≡ Some n → IsNameOf program n
 input_at program sound r x e names own k n q = input_known program sound r x e n (subst (λ xs. Mem n xs) own (mem_get names k n q))
-
-pub not_false : (b : Bool) → b ≡ false → b ≡ true → ⊥
-not_false b e q = let z : false ≡ true = sym e ∙ q in absurd (cc)
 
 -- a row that starts a run tells of a wrong read where its run misses an input
 pub tells_start : (plan : PlanParts) (t : List Row) (g : Tag) (row : Row) (b : Bool) → row.step ≡ Start → (b ≡ true) ↔ MissesInput plan t g row.reaction → (b ≡ true) ↔ TellsWrongRead plan t g row

@@ -1,12 +1,10 @@
 -- What a run read, by the mark of an input.
-use Rattle.std.proofs.Common.{◌≡◌, ℕ, ◌+◌, ◌<◌, ◌≤◌, ◌⊎◌, inl, inr, List, [], ◌∷◌, refl, sym, ap, ◌∙◌, subst, arith, lit<, true, cond, Option, Some, None, slice_get, filter_map, option_and_then, eqb-true}
+use Rattle.std.proofs.Common.{◌≡◌, ℕ, ◌+◌, ◌<◌, ◌≤◌, ◌⊎◌, inl, inr, List, [], ◌∷◌, refl, sym, ap, ◌∙◌, subst, arith, lit<, cond, Option, Some, None, slice_get, filter_map, option_and_then}
 use Rattle.std.specs.List.{last_or}
-use Rattle.std.proofs.lemmas.Bool.{eq-eqb}
 use Rattle.lft_tag.specs.declared.Tag.{Tag}
 use Rattle.lft_lists.proofs.Members.{filter_map-filter_map, Mem, get_mem, mem_from_filter, last_by_place, none_nil}
 use Rattle.lft_flat.specs.declared.parts.Value.{Value}
 use Rattle.lft_flat.specs.declared.parts.Name.{Name}
-use Rattle.lft_flat.specs.declared.parts.Name.TheVariants.{Port, Action}
 use Rattle.lft_trace.specs.declared.row.Row.{Row}
 use Rattle.lft_trace.specs.declared.row.Step.{Step}
 use Rattle.lft_trace.specs.declared.row.Step.TheVariants.{Start, Read, Write, Schedule, Stop, End}
@@ -15,12 +13,13 @@ use Rattle.lft_model.specs.Plans.{PlanParts}
 use Rattle.lft_model.specs.Breaches.{WasRead, IsUndeclared}
 use Rattle.lft_model.proofs.Legality.{KeepsFour, keeps_four}
 use Rattle.lft_rows.proofs.Steps.{row_eq}
-use Rattle.lft_model.proofs.Steps.{step_row, row_step, cond_some}
+use Rattle.lft_model.proofs.Steps.{step_row, row_step, name_same, name_self}
 use Rattle.lft_slices.specs.declared.slices.Slice.{Slice}
 use Rattle.lft_slices.specs.Slices.{IsSlice}
 use Rattle.lft_rows.specs.Marks.{ReadsFor, IsMark}
 use Rattle.lft_slices.specs.Reads.{value_read}
 use Rattle.lft_rows.proofs.Marked.{same_here}
+use Rattle.std.proofs.NetLemmas.Options.{cond_some}
 
 -- what a row of the run of r at g reads of a name
 abbrev pub read_in : Tag → ℕ → Name → Row → Option Value
@@ -29,20 +28,10 @@ read_in g r n row = option_and_then (read_by n) (step_of g r row)
 read_over : (t : List Row) (g : Tag) (r : ℕ) (n : Name) → read_of (steps_of t g r) n ≡ last_or None (filter_map (read_in g r n) t)
 read_over t g r n = ap (λ vs. last_or None vs) (filter_map-filter_map (step_of g r) (read_by n) (read_in g r n) (λ x. refl) t)
 
-same_names : (m n : Name) → same_name m n ≡ true → m ≡ n
-same_names (Port p) (Port q) e = ap Port (eqb-true p q e)
-same_names (Port p) (Action b) e = absurd (cc)
-same_names (Action a) (Port q) e = absurd (cc)
-same_names (Action a) (Action b) e = ap Action (eqb-true a b e)
-
-name_self : (n : Name) → same_name n n ≡ true
-name_self (Port p) = eq-eqb p p refl
-name_self (Action a) = eq-eqb a a refl
-
 -- a step that reads the name
 read_step : (n : Name) (s : Step) (v : Value) → read_by n s ≡ Some v → s ≡ Read n v
 read_step n Start v e = absurd (cc)
-read_step n (Read m w) v e = let p = cond_some (same_name n m) w v e in let q = same_names n m p.0 in ap (λ k. Read k w) (sym q) ∙ ap (λ k. Read n k) p.1
+read_step n (Read m w) v e = let p = cond_some (same_name n m) w v e in let q = name_same n m p.0 in ap (λ k. Read k w) (sym q) ∙ ap (λ k. Read n k) p.1
 read_step n (Write m w) v e = absurd (cc)
 read_step n (Schedule m w d) v e = absurd (cc)
 read_step n Stop v e = absurd (cc)

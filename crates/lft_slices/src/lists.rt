@@ -8,11 +8,11 @@ use std::marker::Model;
 
 /// A list for each reaction, by its number.
 #[derive(Drop)]
-pub(crate) struct Lists<T: Copy + Drop> {
+pub(crate) struct ByReaction<T: Copy + Drop> {
     rows: Vec<Vec<T>>,
 }
 
-impl<T: Copy + Drop> Model for Lists<T> {
+impl<T: Copy + Drop> Model for ByReaction<T> {
     ghost use Rattle.std.specs.Prelude.{List, map};
 
     ghost Value = { List (List T) };
@@ -20,9 +20,9 @@ impl<T: Copy + Drop> Model for Lists<T> {
     ghost view = { λ l. map (λ row. row.items) l.rows.items };
 }
 
-impl<T: Copy + Drop> Lists<T> {
+impl<T: Copy + Drop> ByReaction<T> {
     /// So many empty lists.
-    pub(crate) fn new(alloc: Global, count: usize) -> Result<Lists<T>, NoMemory>
+    pub(crate) fn new(alloc: Global, count: usize) -> Result<ByReaction<T>, NoMemory>
         ensures count { IfOk result (λ lists. length lists ≡ count) }
         ensures empty { IfOk result (λ lists. (r : ℕ) (list : List T) → slice_get lists r ≡ Some list → list ≡ []) }
     {
@@ -31,7 +31,7 @@ impl<T: Copy + Drop> Lists<T> {
             rows.reserve(1)?;
             rows.push_reserved(Vec::new(alloc));
         }
-        Ok(Lists { rows })
+        Ok(ByReaction { rows })
     }
 
     /// Adds an item behind the others of a list.

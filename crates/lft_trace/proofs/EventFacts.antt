@@ -1,5 +1,5 @@
 -- Entries of a map of events: what an insertion adds, and their order.
-use Rattle.std.proofs.Common.{◌≡◌, ◌∙◌, ◌⊎◌, inl, inr, ◌<◌, ℕ, zero, suc, List, [], ◌∷◌, length, map, get_or, Option, Some, None, slice_get, refl, sym, ap, subst, arith, true, cond}
+use Rattle.std.proofs.Common.{◌≡◌, ◌∙◌, ◌⊎◌, inl, inr, ◌<◌, ℕ, zero, suc, List, [], ◌∷◌, length, map, get_or, Option, Some, None, slice_get, refl, sym, ap, subst, arith, cond}
 use Rattle.std.specs.BTreeMap.{insert_entry, is_at}
 use Rattle.std.specs.List.{AllByRecursion}
 use Rattle.std.specs.List.Sorted.{IsPermutation, IsStrictlySortedBy}
@@ -17,18 +17,15 @@ use Rattle.lft_tag.specs.Tags.{Before}
 use Rattle.lft_trace.specs.Inputs.{InOrder}
 use Rattle.lft_trace.specs.Keys.{event_at}
 use Rattle.lft_trace.specs.declared.externals.Event.{Event}
+use Rattle.lft_tag.proofs.Comparing.{less_nat, less_then, both_equal}
+use Rattle.std.proofs.lemmas.Map.Lookups.{exact_unsigned}
+use Rattle.std.specs.Cmp.{Equal-is}
 
 abbrev pub Key : Type 0
 Key = ℕ × ℕ × ℕ
 
 abbrev pub key_cmp : Key → Key → Ordering
 key_cmp x y = ordering_then (ordering_then (nat_cmp x.0 y.0) (nat_cmp x.1 y.1)) (nat_cmp x.2 y.2)
-
-same_nat : (a b : ℕ) → nat_cmp a b ≡ Equal → a ≡ b
-same_nat a b h = grind (arith, nat_tests)
-
-less_nat : (a b : ℕ) → nat_cmp a b ≡ Less → a < b
-less_nat a b h = grind (arith, nat_tests)
 
 itself : (a : ℕ) → nat_cmp a a ≡ Equal
 itself a = grind (arith, nat_tests)
@@ -54,16 +51,11 @@ has_map [] i p h = cc (h)
 has_map (q ∷ es) zero p h = let e : q ≡ p = cc (h) in subst (λ (x : Key × Value). Has (map event_at (q ∷ es)) (event_at x)) e (has_head (event_at q) (map event_at es))
 has_map (q ∷ es) (suc i) p h = has_tail (event_at q) (event_at p) (map event_at es) (has_map es i p h)
 
-both_equal : (o q : Ordering) → ordering_then o q ≡ Equal → (o ≡ Equal) × (q ≡ Equal)
-both_equal Less q h = cc (h)
-both_equal Equal q h = (refl, h)
-both_equal Greater q h = cc (h)
-
 same_key : (j k : Key) → key_cmp j k ≡ Equal → (j.0 ≡ k.0) × (j.1 ≡ k.1) × (j.2 ≡ k.2)
 same_key j k h =
     let a = both_equal (ordering_then (nat_cmp j.0 k.0) (nat_cmp j.1 k.1)) (nat_cmp j.2 k.2) h in
     let b = both_equal (nat_cmp j.0 k.0) (nat_cmp j.1 k.1) a.0 in
-    (same_nat j.0 k.0 b.0, same_nat j.1 k.1 b.1, same_nat j.2 k.2 a.1)
+    (exact_unsigned j.0 k.0 b.0, exact_unsigned j.1 k.1 b.1, exact_unsigned j.2 k.2 a.1)
 
 key_itself : (j k : Key) → j.0 ≡ k.0 → j.1 ≡ k.1 → j.2 ≡ k.2 → key_cmp j k ≡ Equal
 key_itself j k a b c = rw (a, b, c, itself k.0, itself k.1) (itself k.2)
@@ -71,18 +63,13 @@ key_itself j k a b c = rw (a, b, c, itself k.0, itself k.1) (itself k.2)
 pub key_of : Event → Key
 key_of e = (e.tag.time, e.tag.micro, e.action)
 
-is_equal : (o : Ordering) → is_eq o ≡ true → o ≡ Equal
-is_equal Less h = cc (h)
-is_equal Equal h = refl
-is_equal Greater h = cc (h)
-
 tag_of : Key → Tag
 tag_of k = record { time = k.0; micro = k.1 }
 
 pub found : (es : List (Key × Value)) (e : Event) (w : Value) → lookup (is_at (key_cmp (e.tag.time, e.tag.micro, e.action))) es ≡ Some w → (d : Event) × Has (map event_at es) d × Clash d e
 found es e w h =
     let p = place_from_lookup (is_at (key_cmp (e.tag.time, e.tag.micro, e.action))) es w h in
-    let s = same_key (e.tag.time, e.tag.micro, e.action) p.1 (is_equal (key_cmp (e.tag.time, e.tag.micro, e.action) p.1) p.3) in
+    let s = same_key (e.tag.time, e.tag.micro, e.action) p.1 ((Equal-is (key_cmp (e.tag.time, e.tag.micro, e.action) p.1)).0 p.3) in
     (event_at (p.1, w), has_map es p.0 (p.1, w) p.2, (λ i. record { time = sym s.0 i; micro = sym s.1 i }, sym s.2))
 
 missed : (o : Ordering) (v : Value) (rest : Option Value) → cond (is_eq o) (Some v) rest ≡ None → (o ≡ Equal → ⊥) × (rest ≡ None)
@@ -119,23 +106,18 @@ inserted (p ∷ ps) k v none =
     let m = missed (key_cmp k p.0) p.1 (lookup (is_at (key_cmp k)) ps) none in
     added_at k v p ps (key_cmp k p.0) m.0 (inserted ps k v m.1)
 
-least : (o q : Ordering) → ordering_then o q ≡ Less → (o ≡ Less) ⊎ ((o ≡ Equal) × (q ≡ Less))
-least Less q h = inl refl
-least Equal q h = inr (refl, h)
-least Greater q h = cc (h)
-
 abbrev Follows : Event → Event → Type 0
 Follows x y = Before x.tag y.tag ⊎ ((x.tag ≡ y.tag) × (x.action < y.action))
 
 follows : (p q : Key × Value) → key_cmp p.0 q.0 ≡ Less → Follows (event_at p) (event_at q)
-follows p q h = elim (least (ordering_then (nat_cmp p.0.0 q.0.0) (nat_cmp p.0.1 q.0.1)) (nat_cmp p.0.2 q.0.2) h) [
-  | inl a ↦ elim (least (nat_cmp p.0.0 q.0.0) (nat_cmp p.0.1 q.0.1) a) [
+follows p q h = elim (less_then (ordering_then (nat_cmp p.0.0 q.0.0) (nat_cmp p.0.1 q.0.1)) (nat_cmp p.0.2 q.0.2) h) [
+  | inl a ↦ elim (less_then (nat_cmp p.0.0 q.0.0) (nat_cmp p.0.1 q.0.1) a) [
     | inl b ↦ inl (inl (less_nat p.0.0 q.0.0 b))
-    | inr b ↦ inl (inr (same_nat p.0.0 q.0.0 b.0, less_nat p.0.1 q.0.1 b.1))
+    | inr b ↦ inl (inr (exact_unsigned p.0.0 q.0.0 b.0, less_nat p.0.1 q.0.1 b.1))
   ]
   | inr a ↦
       let b = both_equal (nat_cmp p.0.0 q.0.0) (nat_cmp p.0.1 q.0.1) a.0 in
-      inr (λ i. record { time = same_nat p.0.0 q.0.0 b.0 i; micro = same_nat p.0.1 q.0.1 b.1 i }, less_nat p.0.2 q.0.2 a.1)
+      inr (λ i. record { time = exact_unsigned p.0.0 q.0.0 b.0 i; micro = exact_unsigned p.0.1 q.0.1 b.1 i }, less_nat p.0.2 q.0.2 a.1)
 ]
 
 all_follow : (p : Key × Value) (es : List (Key × Value)) → AllByRecursion (λ y. key_cmp p.0 y ≡ Less) (keys_of es) → (j : ℕ) (d : Event) → j < length (map event_at es) → Follows (event_at p) (get_or (map event_at es) j d)

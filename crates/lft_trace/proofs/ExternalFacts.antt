@@ -16,7 +16,8 @@ use Rattle.lft_trace.specs.declared.externals.Event.{Event}
 use Rattle.lft_trace.specs.declared.fault.TraceFault.{TraceFault}
 use Rattle.lft_trace.specs.declared.fault.TraceFault.TheVariants as fault
 use Rattle.lft_trace.proofs.Members.{apart_pushed, has_permuted, has_permuted_back}
-use Rattle.lft_trace.proofs.Zips.{long, pushed}
+use Rattle.lft_trace.proofs.Zips.{long}
+use Rattle.std.proofs.lemmas.Slice.Zip.{all_zipped_more}
 
 abbrev pub Texts : Type 0
 Texts = List (List (List ℕ))
@@ -61,7 +62,7 @@ one_more program records rest stop now events events_now line f entry r is k = r
   first = r.first ++ (f ∷ []);
   entries = r.entries ++ (entry ∷ []);
   under = r.under ∙ ap (λ (t : Texts). header ∷ t) (sym (append_assoc r.first (f ∷ []) rest));
-  each = pushed (IsEntry program) r.first r.entries f entry r.each is;
+  each = all_zipped_more (IsEntry program) r.first r.entries f entry r.each is;
   here = let e = length-append r.first (f ∷ []) in let h = r.here in omega (arith, e, h);
   stops = stops_after r.entries entry stop now events events_now r.stops k;
   apart = apart_after r.entries entry stop now events events_now r.apart r.same k;

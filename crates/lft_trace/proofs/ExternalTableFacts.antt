@@ -23,13 +23,10 @@ use Rattle.lft_trace.proofs.Ascending.{same_events}
 use Rattle.lft_trace.proofs.EntriesDiffer.{count_there, empty_there, kind_there, name_there, number_there, one_entry}
 use Rattle.lft_trace.proofs.Members.{at_front, at_middle, has_permuted, has_permuted_back}
 use Rattle.lft_trace.proofs.TableFacts.{within}
-use Rattle.lft_trace.proofs.Zips.{Parted, behind, long, parted, same}
+use Rattle.lft_trace.proofs.Zips.{Parted, behind, long, parted, same, same_rest}
 
 abbrev Texts : Type 0
 Texts = List (List (List ℕ))
-
-same_rest : (records a b : Texts) → records ≡ header ∷ a → records ≡ header ∷ b → a ≡ b
-same_rest records a b h k = let e : ◌≡◌ {A = Texts} (header ∷ a) (header ∷ b) = sym h ∙ k in cc (e)
 
 same_entries : (program : Parts) (rest : Texts) (a b : List Entry) → IsSound program → AllZip (IsEntry program) rest a → AllZip (IsEntry program) rest b → a ≡ b
 same_entries program rest a b sound h k = same (IsEntry program) (λ f x y p q. one_entry program f x y sound.well_named.distinct p q) rest a b h k
@@ -39,7 +36,7 @@ same_inputs a b s e = λ i. record { stop = s i; events = e i }
 
 pub one_table : (program : Parts) (records : Texts) (inputs other : ExternalInputs) → IsSound program → ExternalTable program records inputs → ExternalTable program records other → other ≡ inputs
 one_table program records inputs other sound t u =
-    let r : t.rest ≡ u.rest = same_rest records t.rest u.rest t.under u.under in
+    let r : t.rest ≡ u.rest = same_rest header records t.rest u.rest t.under u.under in
     let e : t.entries ≡ u.entries = same_entries program u.rest t.entries u.entries sound (rw r at t.each) u.each in
     let one : filter_map stop_of u.entries ≡ inputs.stop ∷ [] = rw e at t.one_stop in
     let all : IsPermutation (filter_map event_of u.entries) inputs.events = rw e at t.same in
@@ -88,7 +85,7 @@ faulty program records inputs line bad fault.NoMemory front back here sound t wh
 
 two_faults : (program : Parts) (records : Texts) (e : TraceFault) (inputs : ExternalInputs) → IsSound program → FailsAt program records e → ExternalTable program records inputs → ⊥
 two_faults program records e inputs sound f t =
-    let s : t.rest ≡ f.first ++ (f.bad ∷ f.more) = same_rest records t.rest (f.first ++ (f.bad ∷ f.more)) t.under f.begins.under in
+    let s : t.rest ≡ f.first ++ (f.bad ∷ f.more) = same_rest header records t.rest (f.first ++ (f.bad ∷ f.more)) t.under f.begins.under in
     let each : AllZip (IsEntry program) (f.first ++ (f.bad ∷ f.more)) t.entries = rw s at t.each in
     let p : Parted (IsEntry program) f.first f.bad t.entries = parted (IsEntry program) f.first f.bad f.more t.entries each in
     let front : f.entries ≡ p.front = same_entries program f.first f.entries p.front sound f.begins.each p.each in
@@ -96,7 +93,7 @@ two_faults program records e inputs sound f t =
 
 not_more : (program : Parts) (records : Texts) (inputs : ExternalInputs) → HasTooMany program records → ExternalTable program records inputs → ⊥
 not_more program records inputs f t =
-    let s : t.rest ≡ f.first ++ (f.next ∷ f.more) = same_rest records t.rest (f.first ++ (f.next ∷ f.more)) t.under f.begins.under in
+    let s : t.rest ≡ f.first ++ (f.next ∷ f.more) = same_rest header records t.rest (f.first ++ (f.next ∷ f.more)) t.under f.begins.under in
     let l = ap length s in
     let a = length-append f.first (f.next ∷ f.more) in
     let z = long (IsEntry program) t.rest t.entries t.each in
@@ -106,7 +103,7 @@ not_more program records inputs f t =
 
 not_stopless : (program : Parts) (records : Texts) (inputs : ExternalInputs) → IsSound program → HasNoStop program records → ExternalTable program records inputs → ⊥
 not_stopless program records inputs sound f t =
-    let s : t.rest ≡ f.rest = cc (same_rest records t.rest (f.rest ++ []) t.under f.begins.under, append-nil f.rest) in
+    let s : t.rest ≡ f.rest = cc (same_rest header records t.rest (f.rest ++ []) t.under f.begins.under, append-nil f.rest) in
     let e : f.entries ≡ t.entries = same_entries program t.rest f.entries t.entries sound (rw (← s) at f.begins.each) t.each in
     let n : filter_map stop_of t.entries ≡ [] = rw e at f.none in
     let q : ◌≡◌ {A = List Tag} [] (inputs.stop ∷ []) = sym n ∙ t.one_stop in

@@ -9,7 +9,7 @@ use Rattle.lft_trace.specs.declared.fault.TraceFault.TheVariants as fault
 use Rattle.lft_trace.specs.declared.kind.RowKind.{RowKind}
 use Rattle.lft_trace.specs.declared.kind.RowKind.TheVariants.{Start, Read, Write, Schedule, Stop, End}
 use Rattle.lft_trace.specs.declared.row.Step.{Step}
-use Rattle.lft_trace.specs.declared.trace_table.Numbers.{Numbers}
+use Rattle.lft_trace.specs.declared.trace_table.RowNumbers.{RowNumbers}
 use Rattle.lft_trace.specs.Seen.{FieldFault, NumbersOf, StepOf}
 use Rattle.lft_trace.specs.Traces.{FaultAt, IsStep, TraceFields, in_order, is_empty, is_filled, word}
 
@@ -26,7 +26,7 @@ all_bare c h =
     let b = or_parts (not (is_empty c.name)) (not (is_empty c.value)) a.0 in
     (bare c.name b.0, bare c.value b.1, bare c.delay a.1)
 
-pub step_is : (program : Parts) (kind : RowKind) (c : TraceFields) (n : Numbers) (s : Step) → NumbersOf kind c n → StepOf program kind c.name n.value n.delay s → is_filled kind c ≡ false → IsStep program kind c s
+pub step_is : (program : Parts) (kind : RowKind) (c : TraceFields) (n : RowNumbers) (s : Step) → NumbersOf kind c n → StepOf program kind c.name n.value n.delay s → is_filled kind c ≡ false → IsStep program kind c s
 step_is program Start c n s h t e = let b = all_bare c e in (b.0, b.1, b.2, t)
 step_is program Read c n s h t e = (t.0, n.value, t.1, h.value refl, bare c.delay e, t.2)
 step_is program Write c n s h t e = (t.0, n.value, t.1, h.value refl, bare c.delay e, t.2)

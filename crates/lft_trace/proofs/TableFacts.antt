@@ -1,5 +1,5 @@
 -- Records have one trace table, or a fault, and what a table holds fits its program.
-use Rattle.std.proofs.Common.{◌≡◌, ◌∙◌, inl, inr, ◌+◌, ◌≤◌, ◌++◌, ℕ, List, [], ◌∷◌, length, Some, None, refl, sym, ap, arith, length-append, Bool, true, false, nat_le}
+use Rattle.std.proofs.Common.{◌≡◌, ◌∙◌, inl, inr, ◌+◌, ◌≤◌, ◌++◌, ℕ, List, [], ◌∷◌, length, Some, None, refl, ap, arith, length-append, Bool, true, false, nat_le}
 use Rattle.std.specs.Prelude.{if◌then◌else◌, ◌&&◌}
 use Rattle.std.specs.Char.{is_ascii_digit}
 use Rattle.std.specs.List.{AllZip, list_all}
@@ -18,30 +18,27 @@ use Rattle.lft_trace.specs.declared.kind.RowKind.TheVariants.{Start, Read, Write
 use Rattle.lft_trace.specs.declared.row.Row.{Row}
 use Rattle.lft_trace.specs.declared.row.Step.{Step}
 use Rattle.lft_trace.proofs.RowsDiffer.{not_both, one_row}
-use Rattle.lft_trace.proofs.Zips.{behind, long, middle, same}
+use Rattle.lft_trace.proofs.Zips.{behind, long, middle, same, same_rest}
 
 abbrev Texts : Type 0
 Texts = List (List (List ℕ))
 
-same_rest : (records a b : Texts) → records ≡ header ∷ a → records ≡ header ∷ b → a ≡ b
-same_rest records a b h k = let e : ◌≡◌ {A = Texts} (header ∷ a) (header ∷ b) = sym h ∙ k in cc (e)
-
 pub one_table : (program : Parts) (records : Texts) (rows other : List Row) → IsSound program → Table program records rows → Table program records other → other ≡ rows
 one_table program records rows other sound t u =
-    let e : t.rest ≡ u.rest = same_rest records t.rest u.rest t.under u.under in
+    let e : t.rest ≡ u.rest = same_rest header records t.rest u.rest t.under u.under in
     let each : AllZip (IsRow program) u.rest rows = rw e at t.each in
     same (IsRow program) (λ f a b x y. one_row program f a b sound.well_named.distinct x y) u.rest other rows u.each each
 
 two_faults : (program : Parts) (records : Texts) (e : TraceFault) (rows : List Row) → FailsAt program records e → Table program records rows → ⊥
 two_faults program records e rows f t =
-    let s : t.rest ≡ f.first ++ (f.bad ∷ f.more) = same_rest records t.rest (f.first ++ (f.bad ∷ f.more)) t.under f.begins.under in
+    let s : t.rest ≡ f.first ++ (f.bad ∷ f.more) = same_rest header records t.rest (f.first ++ (f.bad ∷ f.more)) t.under f.begins.under in
     let each : AllZip (IsRow program) (f.first ++ (f.bad ∷ f.more)) rows = rw s at t.each in
     let m = middle (IsRow program) f.first f.bad f.more rows each in
     not_both program (length f.first + 2) f.bad e m.0 f.is m.1
 
 not_more : (program : Parts) (records : Texts) (rows : List Row) → HasTooMany program records → Table program records rows → ⊥
 not_more program records rows f t =
-    let s : t.rest ≡ f.first ++ (f.next ∷ f.more) = same_rest records t.rest (f.first ++ (f.next ∷ f.more)) t.under f.begins.under in
+    let s : t.rest ≡ f.first ++ (f.next ∷ f.more) = same_rest header records t.rest (f.first ++ (f.next ∷ f.more)) t.under f.begins.under in
     let l = ap length s in
     let a = length-append f.first (f.next ∷ f.more) in
     let z = long (IsRow program) t.rest rows t.each in

@@ -6,7 +6,8 @@ use Rattle.lft_trace.specs.Traces.{Begins, FaultAt, IsRow, Table, TraceFails, he
 use Rattle.lft_trace.specs.declared.fault.TraceFault.{TraceFault}
 use Rattle.lft_trace.specs.declared.fault.TraceFault.TheVariants as fault
 use Rattle.lft_trace.specs.declared.row.Row.{Row}
-use Rattle.lft_trace.proofs.Zips.{long, pushed}
+use Rattle.lft_trace.proofs.Zips.{long}
+use Rattle.std.proofs.lemmas.Slice.Zip.{all_zipped_more}
 
 abbrev pub Texts : Type 0
 Texts = List (List (List ℕ))
@@ -22,7 +23,7 @@ pub one_more : (program : Parts) (records rest : Texts) (rows : List Row) (line 
 one_more program records rest rows line f row r is = record {
   first = r.first ++ (f ∷ []);
   under = r.under ∙ ap (λ (t : Texts). header ∷ t) (sym (append_assoc r.first (f ∷ []) rest));
-  each = pushed (IsRow program) r.first rows f row r.each is;
+  each = all_zipped_more (IsRow program) r.first rows f row r.each is;
   here = let e = length-append r.first (f ∷ []) in let h = r.here in omega (arith, e, h);
 }
 

@@ -1,5 +1,5 @@
 -- Lists that are related item by item.
-use Rattle.std.proofs.Common.{◌≡◌, ◌++◌, ℕ, zero, suc, List, [], ◌∷◌, length, Some, slice_get, refl, ap, arith}
+use Rattle.std.proofs.Common.{◌≡◌, ◌++◌, ℕ, zero, suc, List, [], ◌∷◌, length, Some, slice_get, refl, ap, arith, sym, ◌∙◌}
 use Rattle.std.specs.List.{AllZip}
 
 pub long : {A B : Type 0} (R : A → B → Type 0) (xs : List A) (ys : List B) → AllZip R xs ys → length xs ≡ length ys
@@ -7,12 +7,6 @@ long R [] [] h = refl
 long R [] (y ∷ ys) h = absurd h
 long R (x ∷ xs) [] h = absurd h
 long R (x ∷ xs) (y ∷ ys) h = let e = long R xs ys h.1 in omega arith
-
-pub pushed : {A B : Type 0} (R : A → B → Type 0) (xs : List A) (ys : List B) (x : A) (y : B) → AllZip R xs ys → R x y → AllZip R (xs ++ (x ∷ [])) (ys ++ (y ∷ []))
-pushed R [] [] x y h r = (r, tt)
-pushed R [] (b ∷ ys) x y h r = absurd h
-pushed R (a ∷ xs) [] x y h r = absurd h
-pushed R (a ∷ xs) (b ∷ ys) x y h r = (h.0, pushed R xs ys x y h.1 r)
 
 -- one list is related to one other, where each item is
 pub same : {A B : Type 0} (R : A → B → Type 0) → ((x : A) (y z : B) → R x y → R x z → y ≡ z) → (xs : List A) (ys zs : List B) → AllZip R xs ys → AllZip R xs zs → ys ≡ zs
@@ -54,3 +48,7 @@ parted R (a ∷ xs) x more [] h = absurd h
 parted {A} {B} R (a ∷ xs) x more (y ∷ ys) h =
     let p = parted R xs x more ys h.1 in
     record { front = y ∷ p.front; here = p.here; back = p.back; whole = ap (λ (l : List B). y ∷ l) p.whole; each = (h.0, p.each); is = p.is }
+
+-- what stands behind one header
+pub same_rest : {X : Type 0} (header : X) (records a b : List X) → records ≡ header ∷ a → records ≡ header ∷ b → a ≡ b
+same_rest {X} header records a b h k = let e : ◌≡◌ {A = List X} (header ∷ a) (header ∷ b) = sym h ∙ k in cc e

@@ -12,13 +12,13 @@ use Rattle.lft_trace.specs.declared.kind.RowKind.{RowKind}
 use Rattle.lft_trace.specs.declared.kind.RowKind.TheVariants.{Start, Read, Write, Schedule, Stop, End}
 use Rattle.lft_trace.specs.declared.row.Step.{Step}
 use Rattle.lft_trace.specs.declared.row.Step.TheVariants as step
-use Rattle.lft_trace.specs.declared.trace_table.Numbers.{Numbers}
+use Rattle.lft_trace.specs.declared.trace_table.RowNumbers.{RowNumbers}
 
 abbrev pub trace_fields : FieldsHeld → TraceFields
 trace_fields c = record { event = c.event.now; worker = c.worker.now; time = c.time.now; microstep = c.microstep.now; reaction = c.reaction.now; name = c.name.now; value = c.value.now; delay = c.delay.now }
 
 -- the numbers of a record with this event
-pub record NumbersOf (kind : RowKind) (c : TraceFields) (n : Numbers) : Type 0 where
+pub record NumbersOf (kind : RowKind) (c : TraceFields) (n : RowNumbers) : Type 0 where
   pub worker : number 4294967295 c.worker ≡ Some n.worker
   pub time : number 1000000000000000000 c.time ≡ Some n.tag.time
   pub microstep : number 1000000000 c.microstep ≡ Some n.tag.micro

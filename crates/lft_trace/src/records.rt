@@ -15,18 +15,18 @@ pub const LAST_LINE: u32 = 4_000_001;
 
 /// Why the records stop before their end.
 #[derive(Clone, Copy, PartialEq, Eq)]
-pub enum Stop {
+pub enum Unread {
     NotCsv,
     NoMemory,
 }
 
 /// The fault of a table whose records stop. It tells nothing of the text.
-pub(crate) fn stopped(stop: Stop) -> TraceFault
+pub(crate) fn stopped(unread: Unread) -> TraceFault
     ensures { is_told result ≡ false }
 {
-    match stop {
-        Stop::NotCsv => TraceFault::NotCsv,
-        Stop::NoMemory => TraceFault::NoMemory,
+    match unread {
+        Unread::NotCsv => TraceFault::NotCsv,
+        Unread::NoMemory => TraceFault::NoMemory,
     }
 }
 
@@ -42,7 +42,7 @@ pub fn open(alloc: Global, text: &[u8]) -> Reader<&[u8]>
 }
 
 /// Reads the next record, if there is one.
-pub fn read_next(reader: &mut Reader<&[u8]>, fields: &mut ByteRecord) -> Result<bool, Stop>
+pub fn read_next(reader: &mut Reader<&[u8]>, fields: &mut ByteRecord) -> Result<bool, Unread>
     requires { IsPlain reader.old }
     ensures plain { IfOk result (λ found. found ≡ true → IsPlain reader.new) }
     ensures found { IfOk result (λ found. found ≡ true → reader_left reader.old ≡ fields_of fields.new ∷ reader_left reader.new) }
@@ -51,8 +51,8 @@ pub fn read_next(reader: &mut Reader<&[u8]>, fields: &mut ByteRecord) -> Result<
     match reader.read_byte_record(fields) {
         Ok(found) => Ok(found),
         Err(e) => match e.kind() {
-            ErrorKind::OutOfMemory => Err(Stop::NoMemory),
-            _ => Err(Stop::NotCsv),
+            ErrorKind::OutOfMemory => Err(Unread::NoMemory),
+            _ => Err(Unread::NotCsv),
         },
     }
 }

@@ -120,7 +120,7 @@ fn is_header(fields: &ByteRecord) -> bool
 
 /// The numbers of a record: bare and 0 where its event has no value and no delay.
 #[derive(Clone, Copy)]
-struct Numbers {
+struct RowNumbers {
     worker: u32,
     tag: Tag,
     value: Value,
@@ -128,7 +128,7 @@ struct Numbers {
 }
 
 // The numbers of a record, if all that its event has are numbers within their limits.
-fn read_numbers(kind: RowKind, fields: &TraceFields) -> Option<Numbers>
+fn read_numbers(kind: RowKind, fields: &TraceFields) -> Option<RowNumbers>
     ensures some { IfSome result (λ n. NumbersOf kind (trace_fields fields.now) n × (has_numbers kind (trace_fields fields.now) ≡ true)) }
     ensures none { IfNone result (has_numbers kind (trace_fields fields.now) ≡ false) }
 {
@@ -145,7 +145,7 @@ fn read_numbers(kind: RowKind, fields: &TraceFields) -> Option<Numbers>
         None => return None,
     };
     match delay_of(kind, fields.delay) {
-        Some(delay) => Some(Numbers {
+        Some(delay) => Some(RowNumbers {
             worker,
             tag,
             value,

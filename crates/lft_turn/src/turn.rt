@@ -6,10 +6,10 @@ ghost use Rattle.lft_graph.specs.Graph.{IsGraphOf};
 ghost use Rattle.lft_turn.specs.declared.phase.Phase.TheVariants.{Idle, Waiting, Open};
 ghost use Rattle.lft_turn.specs.Turns.{IsPending, IsReady, IsLeastReady, NoneOpen, NonePending};
 
-use crate::members::Members;
+use crate::members::ReactionList;
 use crate::mirror::mirror;
 use crate::moving::change;
-use crate::numbers::Numbers;
+use crate::numbers::NumberSet;
 use crate::phase::{Phase, is_pending};
 use crate::seats::{Seat, seat_at};
 use lft_flat::Program;
@@ -29,9 +29,9 @@ use std::marker::Model;
 #[derive(Drop)]
 pub struct Turn {
     graph: Graph,
-    after: Vec<Members>,
+    after: Vec<ReactionList>,
     seats: Vec<Seat>,
-    frees: Numbers,
+    frees: NumberSet,
     stack: Vec<u32>,
 }
 
@@ -63,7 +63,7 @@ impl Turn {
             counted: false,
         };
         let seats = vec![in alloc; idle; count]?;
-        let frees = Numbers::new(alloc, count)?;
+        let frees = NumberSet::new(alloc, count)?;
         let stack = vec![in alloc; 0; count]?;
         Ok(Turn {
             graph,

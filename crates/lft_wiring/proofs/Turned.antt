@@ -1,15 +1,8 @@
 -- Each item of a list beside the next one, and the last one beside the first.
-use Rattle.std.proofs.Common.{◌≡◌, ℕ, zero, suc, ◌+◌, ◌≤◌, List, [], ◌∷◌, ◌++◌, length, add-one, sym, ap, ◌∙◌, Some, slice_get, arith}
+use Rattle.std.proofs.Common.{◌≡◌, ℕ, ◌+◌, ◌≤◌, List, [], ◌∷◌, ◌++◌, length, add-one, sym, ap, ◌∙◌, Some, slice_get, arith}
 use Rattle.std.specs.Prelude.{zip}
 use Rattle.lft_lists.proofs.Places.{get_left, get_last}
 use Rattle.lft_wiring.specs.Loops.{turned}
-
--- items at one place of two lists stand beside one another
-pub zip_at : {X Y : Type 0} (xs : List X) (ys : List Y) (i : ℕ) (x : X) (y : Y) → slice_get xs i ≡ Some x → slice_get ys i ≡ Some y → slice_get (zip xs ys) i ≡ Some (x, y)
-zip_at [] ys i x y a b = absurd (cc)
-zip_at (z ∷ xs) [] i x y a b = absurd (cc)
-zip_at (z ∷ xs) (w ∷ ys) zero x y a b = let p : z ≡ x = cc in let q : w ≡ y = cc in cc
-zip_at (z ∷ xs) (w ∷ ys) (suc i) x y a b = zip_at xs ys i x y a b
 
 -- there are no more pairs than items
 pub zip_short : {X Y : Type 0} (xs : List X) (ys : List Y) → length (zip xs ys) ≤ length xs

@@ -1,12 +1,11 @@
 -- What a program may have only so many of.
 use Rattle.std.specs.Prelude.{◌≡◌, ℕ, ◌<◌}
-use Rattle.lft_wiring.specs.declared.census.Kind.{Kind}
-use Rattle.lft_wiring.specs.declared.census.Kind.TheVariants.{Instances, Reactions, Ports, Connections, Actions, Timers}
+use Rattle.lft_wiring.specs.declared.census.LimitedKind.{LimitedKind}
+use Rattle.lft_wiring.specs.declared.census.LimitedKind.TheVariants.{Instances, Reactions, Ports, Connections, Actions, Timers}
 use Rattle.lft_wiring.specs.declared.census.Excess.{Excess}
-use Rattle.lft_wiring.specs.declared.census.Excess.TheVariants.{Counted, Uncounted}
 
 -- how many of a kind a program may have
-abbrev pub limit_of : Kind → ℕ
+abbrev pub limit_of : LimitedKind → ℕ
 limit_of Instances = 10000
 limit_of Reactions = 10000
 limit_of Ports = 100000
@@ -16,5 +15,4 @@ limit_of Timers = 100000
 
 -- what is counted is more than the limit of its kind
 abbrev pub IsExcess : Excess → Type 0
-IsExcess (Counted kind count limit) = (limit ≡ limit_of kind) × (limit < count)
-IsExcess Uncounted = Unit {0}
+IsExcess e = (e.limit ≡ limit_of e.kind) × (e.limit < e.count)

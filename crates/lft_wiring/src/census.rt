@@ -13,8 +13,8 @@ use std::collections::HashMap;
 const MOST_COUNTED: usize = 1_000_000;
 
 /// What a program may have only so many of.
-#[derive(Clone, Copy, PartialEq, Eq)]
-pub enum Kind {
+#[derive(Clone, Copy)]
+pub enum LimitedKind {
     Instances,
     Reactions,
     Ports,
@@ -25,11 +25,14 @@ pub enum Kind {
 
 /// A limit that is passed.
 #[derive(Clone, Copy)]
-pub enum Excess {
-    /// There are so many, and may be so many at most.
-    Counted { kind: Kind, count: u64, limit: u64 },
-    /// There are more than a million instances.
-    Uncounted,
+pub struct Excess {
+    pub kind: LimitedKind,
+    /// How many there are at least.
+    pub count: u64,
+    /// Whether there are more than that. Counting ends at a million instances.
+    pub is_more: bool,
+    /// How many there may be.
+    pub limit: u64,
 }
 
 /// How many instances, and how much they declare of each kind.
@@ -41,27 +44,19 @@ struct Census {
     connections: u64,
     actions: u64,
     timers: u64,
+    is_more: bool,
 }
 
 /// How many of a kind there may be.
-fn limit_of(kind: Kind) -> u64
+fn limit_of(kind: LimitedKind) -> u64
     ensures { result ≡ the_limit_of kind }
 {
     match kind {
-        Kind::Instances | Kind::Reactions => 10_000,
-        Kind::Ports | Kind::Connections | Kind::Actions | Kind::Timers => 100_000,
-    }
-}
-
-/// The excess, if so many are more than there may be.
-fn passed(kind: Kind, count: u64) -> Option<Excess>
-    ensures { IfSome result IsExcess }
-{
-    let limit = limit_of(kind);
-    if count > limit {
-        Some(Excess::Counted { kind, count, limit })
-    } else {
-        None
+        LimitedKind::Instances | LimitedKind::Reactions => 10_000,
+        LimitedKind::Ports
+        | LimitedKind::Connections
+        | LimitedKind::Actions
+        | LimitedKind::Timers => 100_000,
     }
 }
 
@@ -84,21 +79,38 @@ impl Census {
         }
     }
 
-    /// The first limit that is passed.
+    /// The excess of a kind, if there are more than there may be.
+    fn passed(&self, kind: LimitedKind, count: u64) -> Option<Excess>
+        ensures { IfSome result IsExcess }
+    {
+        let limit = limit_of(kind);
+        if count > limit {
+            Some(Excess {
+                kind,
+                count,
+                is_more: self.is_more,
+                limit,
+            })
+        } else {
+            None
+        }
+    }
+
+    /// The first limit that is passed. Where not all instances were counted, it is theirs.
     fn excess(&self) -> Option<Excess>
         ensures { IfSome result IsExcess }
     {
         let kinds = [
-            (Kind::Instances, self.instances),
-            (Kind::Reactions, self.reactions),
-            (Kind::Ports, self.ports),
-            (Kind::Connections, self.connections),
-            (Kind::Actions, self.actions),
-            (Kind::Timers, self.timers),
+            (LimitedKind::Instances, self.instances),
+            (LimitedKind::Reactions, self.reactions),
+            (LimitedKind::Ports, self.ports),
+            (LimitedKind::Connections, self.connections),
+            (LimitedKind::Actions, self.actions),
+            (LimitedKind::Timers, self.timers),
         ];
         for place in 0..kinds.len() {
             let (kind, count) = kinds[place];
-            let found = passed(kind, count);
+            let found = self.passed(kind, count);
             if found.is_some() {
                 return found;
             }
@@ -131,12 +143,8 @@ fn contained(alloc: Global, reactors: &[&Reactor]) -> Result<Vec<Vec<usize>>, No
     Ok(found)
 }
 
-/// The census of the program with that main reactor. None where it has too many instances to be counted.
-fn count_all(
-    alloc: Global,
-    reactors: &[&Reactor],
-    main: usize,
-) -> Result<Option<Census>, NoMemory> {
+/// The census of the program with that main reactor. It ends at a million instances.
+fn count_all(alloc: Global, reactors: &[&Reactor], main: usize) -> Result<Census, NoMemory> {
     let contained = contained(alloc, reactors)?;
     let mut census = Census {
         instances: 0,
@@ -145,23 +153,24 @@ fn count_all(
         connections: 0,
         actions: 0,
         timers: 0,
+        is_more: false,
     };
     let mut left = Vec::new(alloc);
     left.push(main)?;
     for counted in 0..MOST_COUNTED {
         let Some(number) = left.pop() else {
-            return Ok(Some(census));
+            return Ok(census);
         };
-        if number >= reactors.len() || number >= contained.len() {
-            return Ok(None);
+        if number < reactors.len() && number < contained.len() {
+            census.add(reactors[number]);
+            // What is left to count takes memory: no more than there is to count.
+            if left.len() <= MOST_COUNTED - counted {
+                left.extend_from_slice(contained[number].as_slice())?;
+            }
         }
-        census.add(reactors[number]);
-        if counted.saturating_add(left.len()) > MOST_COUNTED {
-            return Ok(None);
-        }
-        left.extend_from_slice(contained[number].as_slice())?;
     }
-    Ok(None)
+    census.is_more = !left.is_empty();
+    Ok(census)
 }
 
 /// Which limit the program with these reactors passes, and how many there are. None where it passes none.
@@ -171,8 +180,6 @@ pub fn passed_limit(alloc: Global, reactors: &[&Reactor]) -> Result<Option<Exces
     let Some(main) = main_of(reactors) else {
         return Ok(None);
     };
-    match count_all(alloc, reactors, main.place)? {
-        Some(census) => Ok(census.excess()),
-        None => Ok(Some(Excess::Uncounted)),
-    }
+    let census = count_all(alloc, reactors, main.place)?;
+    Ok(census.excess())
 }

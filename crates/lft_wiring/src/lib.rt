@@ -10,7 +10,7 @@ mod naming;
 mod rings;
 mod wiring;
 
-pub use census::{Excess, Kind, passed_limit};
+pub use census::{Excess, LimitedKind, passed_limit};
 pub use joins::{Join, Port};
 pub use loops::tell_loop;
 pub use wiring::{Inside, Placed, Wiring};

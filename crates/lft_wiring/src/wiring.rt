@@ -3,6 +3,8 @@
 //! The instances are listed as they are walked. For each port at which a connection ends stand the port
 //! where it begins, its delay, and its place in the text.
 
+ghost use Rattle.std.specs.Prelude.{◌≡◌, IfOk, IfSome};
+
 use crate::joins::{Join, Port};
 use lft_places::MemberPlace;
 use lft_scope::times::nanoseconds;
@@ -91,7 +93,9 @@ pub(crate) fn main_of<'a>(reactors: &'a [&'a Reactor]) -> Option<Placed<'a>> {
 impl<'a> Wiring<'a> {
     /// The wiring of the program with these reactors, in the order of the file. None where none of them is a
     /// main one.
-    pub fn of(alloc: Global, reactors: &'a [&'a Reactor]) -> Result<Option<Wiring<'a>>, NoMemory> {
+    pub fn of(alloc: Global, reactors: &'a [&'a Reactor]) -> Result<Option<Wiring<'a>>, NoMemory>
+        ensures { IfOk result (λ found. IfSome found (λ wiring. wiring.reactors.now ≡ reactors.now)) }
+    {
         let Some(main) = main_of(reactors) else {
             return Ok(None);
         };
@@ -135,7 +139,9 @@ impl<'a> Wiring<'a> {
         reactor: &'a Reactor,
         parent: usize,
         assignments: &'a [Assignment],
-    ) -> Result<(), NoMemory> {
+    ) -> Result<(), NoMemory>
+        ensures { self.new.reactors ≡ self.old.reactors }
+    {
         for parameter in &reactor.parameters {
             let name = parameter.name.as_str();
             let value = match given(assignments, name) {
@@ -153,7 +159,9 @@ impl<'a> Wiring<'a> {
         named: &HashMap<&'a str, Placed<'a>>,
         number: usize,
         members: &'a [Member],
-    ) -> Result<(), NoMemory> {
+    ) -> Result<(), NoMemory>
+        ensures { self.new.reactors ≡ self.old.reactors }
+    {
         for member in members {
             if let Member::Instance(instance) = member {
                 if let Some(of) = named.get(instance.reactor.as_str()).copied() {
@@ -173,7 +181,9 @@ impl<'a> Wiring<'a> {
     }
 
     /// Lists all instances.
-    fn add_instances(&mut self, named: &HashMap<&'a str, Placed<'a>>) -> Result<(), NoMemory> {
+    fn add_instances(&mut self, named: &HashMap<&'a str, Placed<'a>>) -> Result<(), NoMemory>
+        ensures { self.new.reactors ≡ self.old.reactors }
+    {
         for number in 0..MOST_INSTANCES {
             if number >= self.instances.len() {
                 return Ok(());
@@ -207,7 +217,9 @@ impl<'a> Wiring<'a> {
         number: usize,
         at: MemberPlace,
         connection: &'a Connection,
-    ) -> Result<(), NoMemory> {
+    ) -> Result<(), NoMemory>
+        ensures { self.new.reactors ≡ self.old.reactors }
+    {
         let delay = match &connection.delay {
             Some(time) => self.length(number, time),
             None => 0,
@@ -234,7 +246,9 @@ impl<'a> Wiring<'a> {
     }
 
     /// Keeps all single connections.
-    fn join_all(&mut self) -> Result<(), NoMemory> {
+    fn join_all(&mut self) -> Result<(), NoMemory>
+        ensures { self.new.reactors ≡ self.old.reactors }
+    {
         for number in 0..self.instances.len() {
             let of = if number < self.instances.len() {
                 self.instances[number].of

@@ -227,7 +227,7 @@ fn pair_words<'a>(matches: &ArgMatches<'a>, first: &str) -> PairWords<'a> {
 
 /// What the words ask for, the first being the program's own name. The error is the command line's:
 /// a refusal, or the help that was asked for.
-pub fn read_words<'a>(alloc: Global, words: &'a [String]) -> Result<Job<'a>, Error> {
+pub(crate) fn read_words<'a>(alloc: Global, words: &'a [String]) -> Result<Job<'a>, Error> {
     let command = root_command(alloc)?;
     let matches = command.try_get_matches_from(words)?;
     match matches.subcommand() {

@@ -3,17 +3,17 @@ use Rattle.std.specs.List.{AllZip}
 use Rattle.std.proofs.lemmas.Iterator.Consumers.{YieldsList-turn, YieldsList-end}
 use Rattle.std.proofs.lemmas.Iterator.Splits.{YieldsList-from_slice_split}
 use Rattle.std.proofs.lemmas.List.{map-append}
-use Rattle.lft_trace.proofs.Zips.{pushed}
 use Rattle.lft_cards.specs.Expressions.{IsTerm}
 use Rattle.lft_cards.specs.declared.expression.Term.{Term}
 use Rattle.lft_cards.proofs.TermsDiffer.{no_term}
 use Rattle.lft_cards.proofs.expression.read_expression.Goals as goal
+use Rattle.std.proofs.lemmas.Slice.Zip.{all_zipped_more}
 
 pub loop-piece-preserved : goal.loop-piece-preserved
 loop-piece-preserved c =
     let is : IsTerm c.args.program.now c.args.reaction c.in-Some.piece.now c.in-Some-read_term.term = c.in-Some-read_term.ensures.some in
     let items : c.push.new.self.items ≡ c.loop-piece.terms.items ++ (c.in-Some-read_term.term ∷ []) = search rules in
-    rw (items, map-append (λ piece. piece.now) c.loop-piece.yielded (c.in-Some.piece ∷ [])) (pushed (IsTerm c.args.program.now c.args.reaction) (map (λ piece. piece.now) c.loop-piece.yielded) c.loop-piece.terms.items c.in-Some.piece.now c.in-Some-read_term.term c.loop-piece.invariant is)
+    rw (items, map-append (λ piece. piece.now) c.loop-piece.yielded (c.in-Some.piece ∷ [])) (all_zipped_more (IsTerm c.args.program.now c.args.reaction) (map (λ piece. piece.now) c.loop-piece.yielded) c.loop-piece.terms.items c.in-Some.piece.now c.in-Some-read_term.term c.loop-piece.invariant is)
 
 pub returns-in-None-read_term-clause-none : goal.returns-in-None-read_term-clause-none
 returns-in-None-read_term-clause-none c =

@@ -10,9 +10,10 @@ use Rattle.lft_lists.proofs.Places.{same_some}
 use Rattle.lft_queue.specs.Pending.{Pending, Becomes}
 use Rattle.lft_model.specs.Recorded.{run_row}
 use Rattle.lft_events.specs.Events.{IsPut, IsFedTo}
-use Rattle.lft_events.proofs.Fed.{if_ok, again_fed, first_fed}
+use Rattle.lft_events.proofs.Fed.{again_fed, first_fed}
 use Rattle.lft_events.proofs.feeding.feed_port.Goals as goal
 use Rattle.lft_events.proofs.feeding.feed_port.Goals.{then-again, else-again}
+use Rattle.std.proofs.lemmas.Result.{IfOk-weaker}
 
 pub returns : goal.returns
 returns c = λ t w r o ports arrives watched unmet is was.
@@ -22,7 +23,7 @@ returns c = λ t w r o ports arrives watched unmet is was.
     let its : port.origin ≡ o = ap (λ (z : PortOf). z.origin) (same_some (slice_get plan.program.ports c.args.number) port arrives.0 there arrives.1) ∙ arrives.2 in
     let x = run_row w c.args.tag r (Write (Port o) c.args.value) in
     let at : c.plus-at.result ≡ shifted c.args.tag (port.shift.time, port.shift.steps) = c.plus-at.ensures.folded in
-    if_ok c.put.result (λ found. IsPut c.args.last c.args.clash c.plus-at.result (Port c.args.number) c.args.value c.if-again.queue c.put.new.queue found) (λ found. IsFedTo plan t x c.args.last (ports ++ c.args.number ∷ []) found c.put.new.queue) (λ found put0.
+    IfOk-weaker c.put.result (λ found. IsPut c.args.last c.args.clash c.plus-at.result (Port c.args.number) c.args.value c.if-again.queue c.put.new.queue found) (λ found. IsFedTo plan t x c.args.last (ports ++ c.args.number ∷ []) found c.put.new.queue) (λ found put0.
     let put : IsPut c.args.last c.args.clash (shifted c.args.tag (port.shift.time, port.shift.steps)) (Port c.args.number) c.args.value c.if-again.queue c.put.new.queue found = subst (λ (g : Tag). IsPut c.args.last c.args.clash g (Port c.args.number) c.args.value c.if-again.queue c.put.new.queue found) at put0 in
     elim c.if-again.branch [
       | then-again k ↦

@@ -8,9 +8,9 @@ use Rattle.lft_trace.specs.declared.row.Step.TheVariants.{Schedule}
 use Rattle.lft_model.specs.Presence.{min_delay}
 use Rattle.lft_model.specs.Recorded.{run_row}
 use Rattle.lft_events.specs.Events.{IsPut, HasEvents}
-use Rattle.lft_events.proofs.Fed.{if_ok}
 use Rattle.lft_events.proofs.Steps.{schedule_fed}
 use Rattle.lft_events.proofs.feeding.feed_schedule.Goals as goal
+use Rattle.std.proofs.lemmas.Result.{IfOk-weaker}
 
 pub returns : goal.returns
 returns c = λ t w r is.
@@ -20,6 +20,6 @@ returns c = λ t w r is.
     let min : action.min_delay ≡ min_delay plan.program c.args.action = ap (λ (o : Option ActionOf). unwrap_or (option_map (λ z. z.min_delay) o) 0) (sym there) in
     let at : c.after.result ≡ after c.args.tag (min_delay plan.program c.args.action + c.args.delay) = c.after.ensures ∙ ap (λ (n : ℕ). after c.args.tag (n + c.args.delay)) min in
     let x = run_row w c.args.tag r (Schedule (Action c.args.action) c.args.value c.args.delay) in
-    if_ok c.put.result (λ found. IsPut c.args.last c.args.clash c.after.result (Action c.args.action) c.args.value c.args.queue.now c.put.new.queue found) (λ found. HasEvents plan (t ++ x ∷ []) c.args.tag c.args.last found c.put.new.queue) (λ found put0.
+    IfOk-weaker c.put.result (λ found. IsPut c.args.last c.args.clash c.after.result (Action c.args.action) c.args.value c.args.queue.now c.put.new.queue found) (λ found. HasEvents plan (t ++ x ∷ []) c.args.tag c.args.last found c.put.new.queue) (λ found put0.
     let put : IsPut c.args.last c.args.clash (after c.args.tag (min_delay plan.program c.args.action + c.args.delay)) (Action c.args.action) c.args.value c.args.queue.now c.put.new.queue found = subst (λ (g : Tag). IsPut c.args.last c.args.clash g (Action c.args.action) c.args.value c.args.queue.now c.put.new.queue found) at put0 in
     schedule_fed plan t x c.args.action c.args.delay c.args.value refl c.args.last c.args.clash found c.args.queue.now c.put.new.queue is put) c.put.ensures

@@ -3,7 +3,7 @@ use Rattle.lft_tag.specs.Shifts.{Folded}
 use Rattle.lft_flat.specs.Parts.{Parts}
 use Rattle.lft_presence.specs.declared.causes.Cause.{Cause as Event}
 use Rattle.lft_presence.specs.Causes.{IsLastCause}
-use Rattle.lft_facts.specs.Causes.{IsFirstCause}
+use Rattle.lft_presence.specs.Lookups.{IsFirstCause}
 use Rattle.lft_facts.proofs.Causes.{action_holds}
 use Rattle.lft_facts.proofs.Clashes.{no_first_events, no_last_events, one_place_events, places_clash}
 use Rattle.lft_facts.proofs.collision.action_clash.Goals as goal

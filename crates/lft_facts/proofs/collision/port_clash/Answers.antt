@@ -6,7 +6,7 @@ use Rattle.lft_presence.specs.declared.causes.Cause.{Cause as Event}
 use Rattle.lft_presence.specs.Causes.{tag_of, IsLastCause}
 use Rattle.lft_presence.proofs.Presences.{chain_of}
 use Rattle.lft_presence.proofs.Lists.{not_true}
-use Rattle.lft_facts.specs.Causes.{IsFirstCause}
+use Rattle.lft_presence.specs.Lookups.{IsFirstCause}
 use Rattle.lft_facts.proofs.Causes.{last_written}
 use Rattle.lft_facts.proofs.Clashes.{no_last_clash, no_first_clash, one_tag_clash, other_written, other_gives}
 use Rattle.lft_facts.proofs.collision.port_clash.Goals as goal

@@ -2,8 +2,8 @@ use Rattle.std.proofs.Common.{◌≡◌, ℕ, ◌+◌, ◌<◌, length, slice_ge
 use Rattle.std.proofs.lemmas.Option.{slice_get_within}
 use Rattle.lft_graph.specs.Loops.{IsLoopOf}
 use Rattle.lft_graph.specs.Walks.{IsStep, IsNext, IsCut, tally, new_weight}
-use Rattle.lft_graph.specs.declared.levels.Mark.TheVariants.{New, Open, Done}
-use Rattle.lft_graph.specs.declared.levels.Next.TheVariants.{Looped, First}
+use Rattle.lft_graph.specs.declared.levels.LevelMark.TheVariants.{New, Open, Done}
+use Rattle.lft_graph.specs.declared.levels.LevelStep.TheVariants.{Looped, First}
 use Rattle.lft_graph.proofs.Walking.{tally_written, tally_all}
 use Rattle.lft_graph.proofs.Settling.{Settling, settling_start, settling_level, settling_first, settling_looped, top_open, first_new}
 use Rattle.lft_graph.proofs.levels.settle.Goals as goal

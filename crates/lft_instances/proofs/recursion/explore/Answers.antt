@@ -1,9 +1,9 @@
 use Rattle.std.proofs.Common.{◌≡◌, ◌+◌, [], ◌∷◌, ◌++◌, refl, ap, ◌∙◌, subst, arith}
 use Rattle.std.proofs.lemmas.Option.{slice_get_within}
 use Rattle.lft_instances.specs.declared.recursion.Stage.TheVariants.{New, Open}
-use Rattle.lft_instances.specs.declared.recursion.Turn.TheVariants.{Finished, Skipped, Enter}
+use Rattle.lft_instances.specs.declared.recursion.NextInside.TheVariants.{Finished, Skipped, Enter}
 use Rattle.lft_instances.specs.declared.recursion.Visit.{Visit}
-use Rattle.lft_instances.specs.Stages.{IsTurn}
+use Rattle.lft_instances.specs.Stages.{IsNextInside}
 use Rattle.lft_instances.proofs.Exploring.{Exploring, exploring_done, exploring_skip, exploring_enter, exploring_loop, done_smaller, skip_smaller, enter_smaller, top_within}
 use Rattle.lft_instances.proofs.recursion.explore.Goals as goal
 use Rattle.lft_instances.proofs.recursion.explore.Goals.{In-Some, In-Finished, In-Skipped, In-Enter}
@@ -18,14 +18,14 @@ before c = subst (λ l. Exploring c.args.reactors.now c.args.stages.now c.args.s
 pub bounds-stages-top : goal.bounds-stages-top
 bounds-stages-top c = slice_get_within c.visits.stages c.in-Some.top.reactor Open (top_within c.args.reactors.now c.args.stages.now c.visits.stages c.args.start c.pop.new.self.items c.in-Some.top (before ((goal.at.bounds-stages-top c).In-Some)))
 
-finished : (c : goal.In-Finished) → IsTurn c.args.reactors.now c.visits.stages c.in-Some.top Finished
-finished c = subst (λ x. IsTurn c.args.reactors.now c.visits.stages c.in-Some.top x) c.in-Finished.is c.look.ensures.turn
+finished : (c : goal.In-Finished) → IsNextInside c.args.reactors.now c.visits.stages c.in-Some.top Finished
+finished c = subst (λ x. IsNextInside c.args.reactors.now c.visits.stages c.in-Some.top x) c.in-Finished.is c.look.ensures.turn
 
-skipped : (c : goal.In-Skipped) → IsTurn c.args.reactors.now c.visits.stages c.in-Some.top Skipped
-skipped c = subst (λ x. IsTurn c.args.reactors.now c.visits.stages c.in-Some.top x) c.in-Skipped.is c.look.ensures.turn
+skipped : (c : goal.In-Skipped) → IsNextInside c.args.reactors.now c.visits.stages c.in-Some.top Skipped
+skipped c = subst (λ x. IsNextInside c.args.reactors.now c.visits.stages c.in-Some.top x) c.in-Skipped.is c.look.ensures.turn
 
-enters : (c : goal.In-Enter) → IsTurn c.args.reactors.now c.visits.stages c.in-Some.top (Enter c.in-Enter.inner)
-enters c = subst (λ x. IsTurn c.args.reactors.now c.visits.stages c.in-Some.top x) c.in-Enter.is c.look.ensures.turn
+enters : (c : goal.In-Enter) → IsNextInside c.args.reactors.now c.visits.stages c.in-Some.top (Enter c.in-Enter.inner)
+enters c = subst (λ x. IsNextInside c.args.reactors.now c.visits.stages c.in-Some.top x) c.in-Enter.is c.look.ensures.turn
 
 pub visits-smaller-in-Finished : goal.visits-smaller-in-Finished
 visits-smaller-in-Finished c =
@@ -47,7 +47,7 @@ visits-preserved-in-Continue-branch-2 c =
 
 pub returns-in-Recursive-clause-found : goal.returns-in-Recursive-clause-found
 returns-in-Recursive-clause-found c =
-    exploring_loop c.args.reactors.now c.args.stages.now c.visits.stages c.args.start c.pop.new.self.items c.in-Some.top (before ((goal.at.returns-in-Recursive-clause-found c).In-Some)) (subst (λ x. IsTurn c.args.reactors.now c.visits.stages c.in-Some.top x) c.in-Recursive.is c.look.ensures.turn)
+    exploring_loop c.args.reactors.now c.args.stages.now c.visits.stages c.args.start c.pop.new.self.items c.in-Some.top (before ((goal.at.returns-in-Recursive-clause-found c).In-Some)) (subst (λ x. IsNextInside c.args.reactors.now c.visits.stages c.in-Some.top x) c.in-Recursive.is c.look.ensures.turn)
 
 pub bounds-stages-inner : goal.bounds-stages-inner
 bounds-stages-inner c = slice_get_within c.visits.stages c.in-Enter.inner New (enters ((goal.at.bounds-stages-inner c).In-Enter)).1

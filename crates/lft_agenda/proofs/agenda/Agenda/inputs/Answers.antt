@@ -10,11 +10,11 @@ use Rattle.lft_queue.specs.Pending.{value_of}
 use Rattle.lft_model.specs.Presence.{Inputs}
 use Rattle.lft_model.specs.Runs.{inputs_of}
 use Rattle.lft_model.proofs.Quiet.{pending_time}
-use Rattle.lft_events.proofs.Fed.{if_ok}
 use Rattle.lft_events.proofs.Given.{inputs_read}
 use Rattle.lft_recording.specs.Starts.{SomethingLeft}
 use Rattle.lft_agenda.specs.Agendas.{AgendaParts, IsAgenda}
 use Rattle.lft_agenda.proofs.agenda.Agenda.inputs.Goals as goal
+use Rattle.std.proofs.lemmas.Result.{IfOk-weaker}
 
 pub returns : goal.returns
 returns c = λ t is so_far quiet may.
@@ -26,4 +26,4 @@ returns c = λ t is so_far quiet may.
     let left : SomethingLeft plan t = (c.args.tag, c.args.reaction, may.ready.pending) in
     let early : UpTo c.args.tag a.stop = subst (λ (k : Tag). UpTo c.args.tag k) (sym its.stop_is) (pending_time plan c.keeps.ensures.sound t so_far quiet c.args.tag c.args.reaction may.ready.pending) in
     let read : Inputs plan t c.args.tag c.args.reaction (map (λ n. value_of c.args.tag n a.queue) (inputs x.0)) = inputs_read plan t a.from a.stop a.queue (its.current.events left) c.args.tag ((its.current.least left).least c.args.tag c.args.reaction may.ready.pending) early c.args.reaction x.0 x.1 in
-    if_ok c.read_inputs.result (λ reads. reads ≡ map (λ n. value_of c.args.tag n a.queue) (inputs_of plan.program c.args.reaction)) (Inputs plan t c.args.tag c.args.reaction) (λ reads e. subst (λ (os : List (Option Value)). Inputs plan t c.args.tag c.args.reaction os) (sym (e ∙ ap (λ (ns : List Name). map (λ n. value_of c.args.tag n a.queue) ns) names)) read) c.read_inputs.ensures
+    IfOk-weaker c.read_inputs.result (λ reads. reads ≡ map (λ n. value_of c.args.tag n a.queue) (inputs_of plan.program c.args.reaction)) (Inputs plan t c.args.tag c.args.reaction) (λ reads e. subst (λ (os : List (Option Value)). Inputs plan t c.args.tag c.args.reaction os) (sym (e ∙ ap (λ (ns : List Name). map (λ n. value_of c.args.tag n a.queue) ns) names)) read) c.read_inputs.ensures

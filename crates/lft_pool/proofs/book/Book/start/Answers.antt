@@ -19,15 +19,15 @@ use Rattle.lft_agenda.specs.Agendas.{IsAgenda}
 use Rattle.lft_pool.specs.Books.{BookParts, IsRecording, IsKept, AgendaHolds}
 use Rattle.lft_pool.specs.Reasons.{StopHolds, ReasonHolds}
 use Rattle.lft_pool.specs.declared.stop.Stop.TheVariants.{NoBody, TooManyRuns, NoMemory, TooManyRows, LimitTag}
-use Rattle.lft_pool.proofs.Known.{zipped_length}
 use Rattle.lft_pool.proofs.Refusals.{memory_holds, holds_by_start}
 use Rattle.lft_pool.proofs.BegunRun.{same, begun_recording, begun_count}
 use Rattle.lft_pool.proofs.book.Book.start.Goals as goal
+use Rattle.std.proofs.lemmas.Slice.Zip.{AllZip-long}
 
 pub begun-requires-clause-reads : goal.begun-requires-clause-reads
 begun-requires-clause-reads g c =
     let i : Inputs c.self.inside.plan c.self.inside.rows c.args.tag c.args.reaction c.in-Ok.reads = search rules in
-    zipped_length (Shows c.self.inside.plan c.self.inside.rows c.args.tag) (inputs i.reaction) c.in-Ok.reads i.each ∙ ap (λ (o : Option Reaction). length (unwrap_or (option_map inputs o) [])) (sym i.is_reaction)
+    AllZip-long (Shows c.self.inside.plan c.self.inside.rows c.args.tag) (inputs i.reaction) c.in-Ok.reads i.each ∙ ap (λ (o : Option Reaction). length (unwrap_or (option_map inputs o) [])) (sym i.is_reaction)
 
 pub word_at-state-requires : goal.word_at-state-requires
 word_at-state-requires g c =
