@@ -5,7 +5,7 @@ use Rattle.lft_flat.specs.declared.parts.Value.{Value}
 use Rattle.lft_flat.specs.declared.parts.Value.TheVariants.{Bare, Int}
 use Rattle.lft_trace.specs.declared.row.Step.{Step}
 use Rattle.lft_trace.specs.declared.row.Step.TheVariants as row
-use Rattle.lft_bodies.specs.declared.done.Done.{Done}
+use Rattle.lft_pool.specs.declared.bodies.done.Done.{Done}
 use Rattle.lft_cards.specs.Expressions.{expression_value}
 use Rattle.lft_cards.specs.declared.card.Card.{Card}
 use Rattle.lft_cards.specs.declared.card.CardStep.{CardStep}

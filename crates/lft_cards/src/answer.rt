@@ -5,7 +5,7 @@ ghost use Rattle.lft_cards.specs.Scripts.{card_done, content_value, script_done,
 
 use crate::card::{CardStep, CardValue};
 use crate::cards::{Cards, Script};
-use lft_bodies::{Done, Steps};
+use lft_pool::{Done, Steps};
 use lft_flat::Value;
 use lft_model::Reads;
 use lft_tag::{NoMemory, Tag};

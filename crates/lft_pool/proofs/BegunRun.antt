@@ -25,7 +25,7 @@ use Rattle.lft_model.proofs.Places.{slice_get_within}
 use Rattle.lft_model.proofs.RunSteps.{in_reads, mem_zip}
 use Rattle.lft_model.proofs.Begun.{begun_so_far, same_runs, steps_same}
 use Rattle.lft_model.proofs.Quiet.{pending_time}
-use Rattle.lft_bodies.specs.declared.done.Done.{Done}
+use Rattle.lft_pool.specs.declared.bodies.done.Done.{Done}
 use Rattle.lft_recording.specs.Starts.{MayStart, IsBusy, started_row, started_count}
 use Rattle.lft_pool.specs.Books.{law_of, IsRecording}
 use Rattle.lft_pool.proofs.Known.{ran_of_run}

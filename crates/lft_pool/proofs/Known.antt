@@ -14,7 +14,7 @@ use Rattle.lft_model.proofs.Law.{EndRow, end_of_run}
 use Rattle.lft_model.proofs.Recording.{dec_end_row, open_ready_now}
 use Rattle.lft_model.proofs.Empty.{empty_so_far}
 use Rattle.lft_model.proofs.Finished.{AllEnded, finished_legal}
-use Rattle.lft_bodies.specs.declared.done.Done.{Done}
+use Rattle.lft_pool.specs.declared.bodies.done.Done.{Done}
 use Rattle.lft_pool.specs.Books.{IsRecording}
 use Rattle.lft_recording.specs.Starts.{NothingLeft}
 

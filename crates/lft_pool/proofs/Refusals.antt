@@ -16,8 +16,8 @@ use Rattle.lft_lists.proofs.Members.{Mem, get_mem}
 use Rattle.lft_model.specs.Recorded.{MayAnswer, SoFar, committed_rows}
 use Rattle.lft_agenda.specs.Agendas.{AgendaParts, IsAgenda, EndsWith}
 use Rattle.lft_recording.specs.Collisions.{IsClean}
-use Rattle.lft_bodies.specs.declared.done.Done.{Done}
-use Rattle.lft_bodies.specs.declared.ticket.Ticket.{Ticket}
+use Rattle.lft_pool.specs.declared.bodies.done.Done.{Done}
+use Rattle.lft_pool.specs.declared.bodies.ticket.Ticket.{Ticket}
 use Rattle.lft_pool.specs.declared.stop.Stop.{Stop}
 use Rattle.lft_pool.specs.declared.stop.Stop.TheVariants.{NoBody, Collision, UndeclaredEffect, TooManyRuns, Stranger, BodyNoMemory, NoMemory, NoWorker, PlanChanged, BadWorkers, TooManyRows, LimitTag}
 use Rattle.lft_pool.specs.Books.{BookParts}

@@ -6,7 +6,7 @@ use Rattle.lft_model.specs.OneWorker.{rows as rows_of_runs}
 use Rattle.lft_model.specs.Recorded.{begun_rows}
 use Rattle.lft_pool.specs.declared.book.Begin.{Begin}
 use Rattle.lft_pool.specs.declared.book.Begin.TheVariants.{Run, Wait, Finished}
-use Rattle.lft_bodies.specs.declared.ticket.Ticket.{Ticket}
+use Rattle.lft_pool.specs.declared.bodies.ticket.Ticket.{Ticket}
 use Rattle.lft_recording.specs.Starts.{MayStartFirst}
 use Rattle.lft_pool.specs.Books.{BookParts, word_now}
 

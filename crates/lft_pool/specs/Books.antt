@@ -8,7 +8,7 @@ use Rattle.lft_trace.specs.Fits.{RowsFit}
 use Rattle.lft_model.specs.Plans.{PlanParts}
 use Rattle.lft_model.specs.Runs.{by_ends}
 use Rattle.lft_model.specs.Recorded.{SoFar, Follows, BodyLaw, OnlyEndedAnswer, instance_of, word_after}
-use Rattle.lft_bodies.specs.declared.done.Done.{Done}
+use Rattle.lft_pool.specs.declared.bodies.done.Done.{Done}
 use Rattle.lft_pool.specs.declared.stop.Stop.{Stop}
 use Rattle.lft_recording.specs.Starts.{MayStart, started_count}
 use Rattle.lft_agenda.specs.Agendas.{AgendaParts, IsAgenda}

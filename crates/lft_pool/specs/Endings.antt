@@ -2,7 +2,7 @@
 use Rattle.std.specs.Prelude.{◌≡◌, ◌⊎◌, ℕ, ℤ, ◌<◌, ◌≤◌, List, Option, Bool, true, false, Result, Err, IfOk, is_ok}
 use Rattle.lft_tag.specs.declared.Tag.{Tag}
 use Rattle.lft_flat.specs.declared.parts.Value.{Value}
-use Rattle.lft_bodies.specs.declared.done.Done.{Done}
+use Rattle.lft_pool.specs.declared.bodies.done.Done.{Done}
 use Rattle.lft_recording.specs.Starts.{SomethingLeft, started_count}
 use Rattle.lft_pool.specs.declared.book.Begin.{Begin}
 use Rattle.lft_pool.specs.declared.stop.Stop.{Stop}

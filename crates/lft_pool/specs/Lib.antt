@@ -1,3 +1,4 @@
+
 pub mod Books
 pub mod PendingEvents
 pub mod Begun

@@ -3,8 +3,8 @@ use Rattle.std.specs.Prelude.{ℕ, ℤ, List, Option, Some, None, Result, IfOk}
 use Rattle.lft_tag.specs.declared.Tag.{Tag}
 use Rattle.lft_tag.specs.declared.NoMemory.{NoMemory as Refused}
 use Rattle.lft_flat.specs.declared.parts.Value.{Value}
-use Rattle.lft_bodies.specs.declared.done.Done.{Done}
-use Rattle.lft_bodies.specs.declared.ticket.Ticket.{Ticket}
+use Rattle.lft_pool.specs.declared.bodies.done.Done.{Done}
+use Rattle.lft_pool.specs.declared.bodies.ticket.Ticket.{Ticket}
 use Rattle.lft_pool.specs.declared.stop.Stop.{Stop}
 use Rattle.lft_pool.specs.Books.{BookParts}
 use Rattle.lft_pool.specs.Causes.{BeginCause}

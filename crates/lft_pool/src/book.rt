@@ -16,7 +16,7 @@ use crate::states::States;
 use crate::stop::Stop;
 use crate::words::{is_same, no_words, set_word, word_at};
 use lft_agenda::{Agenda, NextRun};
-use lft_bodies::{Answered, Bodies, Body, BoxedCode, Code, Done, Law, Ticket, ticket_of};
+use crate::bodies::{Answered, Bodies, Body, BoxedCode, Code, Done, Law, Ticket, ticket_of};
 use lft_model::Plan;
 use lft_recording::{begun, committed, has_long_delay, may_make_all};
 use lft_tag::{NoMemory, Tag};

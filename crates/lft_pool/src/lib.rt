@@ -9,7 +9,7 @@ mod stop;
 mod words;
 
 pub use book::{Begin, Book, Closed, Stopped};
-pub use lft_bodies::{
+pub use crate::bodies::{
     Answered, AnyAnswer, Bodies, Body, BoxedCode, Code, Done, Law, PutFault, Steps, Ticket,
 };
 pub use run::{Recorded, record_run};

@@ -11,7 +11,7 @@ ghost use Rattle.lft_pool.specs.Endings.{ReasonIs, WhyStopped};
 use crate::book::{Begin, Book, Closed, MAX_RUNS, Stopped};
 use crate::states::States;
 use crate::stop::Stop;
-use lft_bodies::{Bodies, BoxedCode, Code, Law};
+use crate::bodies::{Bodies, BoxedCode, Code, Law};
 use lft_model::{Plan, is_workers};
 use lft_trace::Rows;
 use std::alloc::Global;

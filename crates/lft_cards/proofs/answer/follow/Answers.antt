@@ -3,7 +3,7 @@ use Rattle.std.specs.Int.{cast_signed, cast_unsigned, w64}
 use Rattle.std.proofs.lemmas.List.{take_all}
 use Rattle.lft_trace.specs.declared.row.Step.{Step}
 use Rattle.lft_cards.specs.Scripts.{script_done, script_word, step_done}
-use Rattle.lft_bodies.specs.declared.done.Done.{Done}
+use Rattle.lft_pool.specs.declared.bodies.done.Done.{Done}
 use Rattle.lft_cards.proofs.answer.follow.Goals as goal
 
 pub returns : goal.returns

@@ -11,7 +11,7 @@ use Rattle.lft_model.specs.Recorded.{begun_rows, word_after}
 use Rattle.lft_model.proofs.Places.{slice_get_within}
 use Rattle.lft_model.proofs.Quiet.{inputs_to_ended}
 use Rattle.lft_recording.specs.Starts.{MayStartFirst, IsBusy}
-use Rattle.lft_bodies.specs.declared.ticket.Ticket.{Ticket}
+use Rattle.lft_pool.specs.declared.bodies.ticket.Ticket.{Ticket}
 use Rattle.lft_pool.specs.declared.stop.Stop.{Stop}
 use Rattle.lft_pool.specs.Begun.{Started}
 use Rattle.lft_pool.specs.Causes.{HasAllRuns, HasNoRoom, StartCause}

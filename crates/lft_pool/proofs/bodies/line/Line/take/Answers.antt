@@ -1,7 +1,7 @@
 use Rattle.std.proofs.Common.{ap, ◌∙◌, ◌++◌, ◌≤◌, subst}
 use Rattle.std.specs.Option.{option_to_list}
-use Rattle.lft_bodies.proofs.Lists.{behind_first}
-use Rattle.lft_bodies.proofs.line.Line.take.Goals as goal
+use Rattle.lft_pool.proofs.Lists.{behind_first}
+use Rattle.lft_pool.proofs.bodies.line.Line.take.Goals as goal
 
 pub invariant_of-self-else-count-gt1 : goal.invariant_of-self-else-count-gt1
 invariant_of-self-else-count-gt1 g c =

@@ -2,10 +2,10 @@
 
 ghost use Rattle.std.specs.Prelude.{◌≡◌, IfOk, Result};
 
-use crate::answered::Answered;
-use crate::done::Done;
-use crate::law::Law;
-use crate::ticket::Ticket;
+use crate::bodies::answered::Answered;
+use crate::bodies::done::Done;
+use crate::bodies::law::Law;
+use crate::bodies::ticket::Ticket;
 use lft_model::Reads;
 use lft_tag::{NoMemory, Tag};
 use std::alloc::Global;
@@ -21,7 +21,7 @@ pub trait Code {
     ghost use Rattle.lft_tag.specs.declared.Tag.{Tag};
     ghost use Rattle.lft_tag.specs.declared.NoMemory.{NoMemory};
     ghost use Rattle.lft_flat.specs.declared.parts.Value.{Value};
-    ghost use Rattle.lft_bodies.specs.declared.done.Done.{Done};
+    ghost use Rattle.lft_pool.specs.declared.bodies.done.Done.{Done};
 
     /// It may be run on every tag, word and reads.
     ghost can_run: { Self → Type 0 };

@@ -2,8 +2,8 @@
 
 ghost use Rattle.std.specs.Prelude.{◌≡◌, ◌<◌, ◌-◌, IfOk};
 
-use crate::body::{Body, Code};
-use crate::law::Law;
+use crate::bodies::body::{Body, Code};
+use crate::bodies::law::Law;
 use std::marker::{Model, PhantomData};
 
 /// So many bodies of a reaction, one at least, of which each has this code. Contracts see the

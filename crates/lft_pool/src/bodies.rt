@@ -2,10 +2,24 @@
 
 ghost use Rattle.std.specs.Prelude.{◌≡◌, ◌<◌, ◌≤◌, ◌+◌, ◌-◌, length, IfOk, IfErr, OnOk, slice_index, slice_set, All};
 
-use crate::body::{Body, BoxedCode, Code};
-use crate::law::Law;
-use crate::line::Line;
-use crate::same::SameBodies;
+mod answered;
+mod body;
+mod done;
+mod law;
+mod line;
+mod same;
+mod ticket;
+
+pub(crate) use answered::Answered;
+pub(crate) use body::{Body, BoxedCode, Code};
+pub(crate) use done::{Done, Steps};
+pub(crate) use law::{AnyAnswer, Law};
+pub(crate) use ticket::{Ticket, ticket_of};
+
+use crate::bodies::body::{Body, BoxedCode, Code};
+use crate::bodies::law::Law;
+use crate::bodies::line::Line;
+use crate::bodies::same::SameBodies;
 use lft_flat::Program;
 use lft_tag::NoMemory;
 use std::alloc::Global;

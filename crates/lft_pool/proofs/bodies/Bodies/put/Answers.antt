@@ -2,7 +2,7 @@ use Rattle.std.proofs.Common.{rules, arith, ◌∙◌}
 use Rattle.std.proofs.lemmas.Grind.{common_steps}
 use Rattle.std.proofs.lemmas.List.{map-set, get_or-map}
 use Rattle.std.proofs.Math.Seq.{map-set_same}
-use Rattle.lft_bodies.proofs.bodies.Bodies.put.Goals as goal
+use Rattle.lft_pool.proofs.bodies.Bodies.put.Goals as goal
 
 pub returns-in-Ok-clause-ok : goal.returns-in-Ok-clause-ok
 returns-in-Ok-clause-ok g c = grind (arith, common_steps, map-set, get_or-map)

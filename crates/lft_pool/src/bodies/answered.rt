@@ -2,9 +2,9 @@
 
 ghost use Rattle.std.specs.Prelude.{◌≡◌, IfOk};
 
-use crate::done::Done;
-use crate::law::Law;
-use crate::ticket::Ticket;
+use crate::bodies::done::Done;
+use crate::bodies::law::Law;
+use crate::bodies::ticket::Ticket;
 use lft_tag::NoMemory;
 use std::marker::{Model, PhantomData};
 
@@ -19,8 +19,8 @@ pub struct Answered<L: Law> {
 impl<L: Law> Model for Answered<L> {
     ghost use Rattle.std.specs.Prelude.{IfOk, Result};
     ghost use Rattle.lft_tag.specs.declared.NoMemory.{NoMemory};
-    ghost use Rattle.lft_bodies.specs.declared.ticket.Ticket.{Ticket};
-    ghost use Rattle.lft_bodies.specs.declared.done.Done.{Done};
+    ghost use Rattle.lft_pool.specs.declared.bodies.ticket.Ticket.{Ticket};
+    ghost use Rattle.lft_pool.specs.declared.bodies.done.Done.{Done};
 
     ghost Value = { Ticket × Result Done NoMemory };
 

@@ -2,9 +2,9 @@
 
 ghost use Rattle.std.specs.Prelude.{◌≡◌, ◌<◌, ◌+◌, ◌-◌, OnOk, IfErr};
 
-use crate::body::{Body, Code};
-use crate::law::Law;
-use crate::same::SameBodies;
+use crate::bodies::body::{Body, Code};
+use crate::bodies::law::Law;
+use crate::bodies::same::SameBodies;
 use std::alloc::Global;
 use std::collections::VecDeque;
 use std::marker::Model;
