@@ -7,7 +7,7 @@
 
 use crate::given::CaseTexts;
 use crate::programs::program_of;
-use lft_cards::CardFault;
+use lft_record::CardFault;
 use lft_pool::Stop;
 use lft_record::{cards_fault, stop_fault};
 use lft_tag::Tag;

@@ -3,10 +3,10 @@ use Rattle.std.specs.Prelude.{◌≡◌, ℕ, List, Option, true}
 use Rattle.std.specs.Io.KnownBytes.{Keeps}
 use Rattle.lft_trace.specs.Records.{records_of}
 use Rattle.lft_model.specs.Plans.{PlanParts}
-use Rattle.lft_cards.specs.CardTables.{CardTable, CardsFail}
-use Rattle.lft_cards.specs.Faults.{is_told}
-use Rattle.lft_cards.specs.declared.cards.Script.{Script}
-use Rattle.lft_cards.specs.declared.fault.CardFault.{CardFault}
+use Rattle.lft_record.specs.CardTables.{CardTable, CardsFail}
+use Rattle.lft_record.specs.CardFaults.{is_told}
+use Rattle.lft_record.specs.declared.cards.Script.{Script}
+use Rattle.lft_record.specs.declared.cards.fault.CardFault.{CardFault}
 use Rattle.lft_load.specs.Meaning.{IsOnly, IsPlanOf}
 use Rattle.lft_load.specs.Refusals.{LoadRefusal}
 use Rattle.lft_load.specs.declared.fault.Fault.{Fault}

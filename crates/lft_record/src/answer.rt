@@ -6,7 +6,7 @@ ghost use Rattle.lft_record.specs.Answers.{AnswerRefusal, IsAnswer};
 use crate::bodies::card_bodies;
 use crate::fault::cards_fault;
 use crate::recording::record_to;
-use lft_cards::read_cards;
+use crate::cards::read_cards;
 use lft_load::{Fault, load};
 use std::alloc::Global;
 use std::io::Write;

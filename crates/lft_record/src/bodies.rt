@@ -1,9 +1,9 @@
 //! The bodies of a recording by cards.
 
 ghost use Rattle.std.specs.Prelude.{◌≡◌, ◌<◌, ℕ, IfOk, length, min, slice_index};
-ghost use Rattle.lft_cards.specs.Scripts.{bodies_at};
+ghost use Rattle.lft_record.specs.Scripts.{bodies_at};
 
-use lft_cards::{Cards, card_answer};
+use crate::cards::{Cards, card_answer};
 use lft_flat::Program;
 use lft_model::Reads;
 use lft_pool::{AnyAnswer, Bodies, Code, Done};
@@ -20,7 +20,7 @@ pub struct CardCode<'a> {
 
 impl Code for CardCode<'_> {
     ghost use Rattle.std.specs.Prelude.{◌≡◌, IfOk};
-    ghost use Rattle.lft_cards.specs.Scripts.{card_done};
+    ghost use Rattle.lft_record.specs.Scripts.{card_done};
 
     ghost can_run = { λ _. Unit {0} };
 

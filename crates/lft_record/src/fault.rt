@@ -4,7 +4,7 @@ ghost use Rattle.std.specs.Prelude.{◌≡◌, IfOk};
 ghost use Rattle.lft_load.specs.declared.fault.Part.TheVariants as part;
 ghost use Rattle.lft_record.specs.Faults.{card_number, stop_number};
 
-use lft_cards::CardFault;
+use crate::cards::CardFault;
 use lft_flat::Program;
 use lft_load::{Detail, Fault, Part};
 use lft_pool::Stop;

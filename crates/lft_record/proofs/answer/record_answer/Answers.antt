@@ -2,8 +2,8 @@ use Rattle.std.proofs.Common.{◌≡◌, ℕ, List, Option, Some, None, true, re
 use Rattle.std.specs.Io.KnownBytes.{Keeps}
 use Rattle.lft_flat.specs.Parts.{Parts}
 use Rattle.lft_trace.specs.Records.{records_of}
-use Rattle.lft_cards.specs.CardTables.{CardTable, CardsFail}
-use Rattle.lft_cards.specs.Faults.{is_told}
+use Rattle.lft_record.specs.CardTables.{CardTable, CardsFail}
+use Rattle.lft_record.specs.CardFaults.{is_told}
 use Rattle.lft_record.specs.Answers.AnswerRefusal.{by_load, by_cards, by_recording}
 use Rattle.lft_record.proofs.answer.record_answer.Goals as goal
 

@@ -1,6 +1,6 @@
 use Rattle.std.proofs.Common.{◌≡◌, ◌<◌, ◌≤◌, ℕ, length}
 use Rattle.std.specs.Prelude.{min, slice_index}
-use Rattle.lft_cards.specs.Scripts.{bodies_at}
+use Rattle.lft_record.specs.Scripts.{bodies_at}
 use Rattle.lft_record.proofs.bodies.card_bodies.Given as goal
 
 abbrev pub invariant-loop-reaction : goal.invariant-loop-reaction

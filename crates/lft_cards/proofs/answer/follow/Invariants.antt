@@ -1,6 +1,0 @@
-use Rattle.std.proofs.Common.{◌≡◌, map, take}
-use Rattle.lft_cards.specs.Scripts.{step_done}
-use Rattle.lft_cards.proofs.answer.follow.Given as goal
-
-abbrev pub invariant-loop-step : goal.invariant-loop-step
-invariant-loop-step l = l.steps.items ≡ map (step_done l.tag l.state l.reads) (take l.step-index l.script.steps)

@@ -1,0 +1,186 @@
+-- What one more record does to a table of cards.
+use Rattle.std.proofs.Common.{◌≡◌, ◌≢◌, ◌∙◌, inl, inr, ◌⊎◌, ◌+◌, ◌<◌, ◌≤◌, ◌==◌, ◌++◌, ℕ, List, [], ◌∷◌, length, Option, Some, None, Bool, true, false, filter_map, get_or, slice_get, refl, sym, ap, subst, arith, append_assoc, append-nil, length-append}
+use Rattle.std.specs.Prelude.{cond, not, is_some, option_to_list}
+use Rattle.std.specs.List.{All, AllZip}
+use Rattle.std.proofs.lemmas.Bool.{cases_Bool}
+use Rattle.std.proofs.lemmas.Bool.Decides.{nat_tests}
+use Rattle.std.proofs.lemmas.List.Elements.{filter_map-append}
+use Rattle.std.proofs.lemmas.Option.{slice_get-get_or, slice_get_within, get_or_from_slice_get}
+use Rattle.lft_flat.specs.Parts.{Parts}
+use Rattle.lft_trace.proofs.Zips.{long}
+use Rattle.lft_record.specs.CardTables.{AreTold, Begins, CardTable, CardsFail, FaultAt, IsAgain, IsCard, IsScript, entries_of, entry_bodies, entry_of, entry_state, entry_step, header}
+use Rattle.lft_record.specs.Scripts.{Adds, blank, is_taken, with_entry}
+use Rattle.lft_record.specs.declared.cards.card.Card.{Card}
+use Rattle.lft_record.specs.declared.cards.card.CardStep.{CardStep}
+use Rattle.lft_record.specs.declared.cards.card.CardEntry.{CardEntry}
+use Rattle.lft_record.specs.declared.cards.card.CardEntry.TheVariants as entry
+use Rattle.lft_record.specs.declared.cards.Script.{Script}
+use Rattle.lft_record.specs.declared.cards.expression.Term.{Term}
+use Rattle.lft_record.specs.declared.cards.fault.CardFault.{CardFault}
+use Rattle.lft_record.specs.declared.cards.fault.CardFault.TheVariants as fault
+use Rattle.std.proofs.lemmas.Slice.Zip.{all_zipped_more}
+
+abbrev pub Texts : Type 0
+Texts = List (List (List ℕ))
+
+-- what is read before a line: the header and the records of some cards, the scripts that they tell, and the records left
+pub record Gathered (program : Parts) (records : Texts) (scripts : List Script) (left : Texts) (line : ℕ) : Type 0 where
+  pub first : Texts
+  pub cards : List Card
+  pub under : records ≡ header ∷ (first ++ left)
+  pub each : AllZip (IsCard program) first cards
+  pub here : length first + 2 ≡ line
+  pub told : AreTold program cards scripts
+
+blank_told : (r : ℕ) (script : Script) → script ≡ blank → IsScript [] script
+blank_told r script e = rw e (record { bodies = refl; steps = refl; state = refl })
+
+pub start : (program : Parts) (records left : Texts) (scripts : List Script) (f : List (List ℕ)) → records ≡ f ∷ left → f ≡ header → length scripts ≡ length program.reactions → All (λ script. script ≡ blank) scripts → Gathered program records scripts left 2
+start program records left scripts f e h l b = record {
+  first = [];
+  cards = [];
+  under = e ∙ ap (λ (g : List (List ℕ)). g ∷ left) h;
+  each = tt;
+  here = refl;
+  told = record {
+    long = l;
+    each = λ r script at. blank_told r script (sym (get_or_from_slice_get scripts r script blank at) ∙ b r blank (slice_get_within scripts r script at));
+  };
+}
+
+-- the entries of a reaction, with those of one card more
+pub entries_more : (r : ℕ) (cards : List Card) (card : Card) (o : Option CardEntry) → entry_of r card ≡ o → entries_of r (cards ++ (card ∷ [])) ≡ entries_of r cards ++ option_to_list o
+entries_more r cards card None e = filter_map-append (entry_of r) cards (card ∷ []) ∙ rw e refl
+entries_more r cards card (Some x) e = filter_map-append (entry_of r) cards (card ∷ []) ∙ rw e refl
+
+pub is_own : (r : ℕ) (card : Card) → r ≡ card.reaction → entry_of r card ≡ Some card.entry
+is_own r card e = let t : (r == card.reaction) ≡ true = grind (arith, nat_tests, e) in rw t refl
+
+is_other : (r : ℕ) (card : Card) → r ≢ card.reaction → entry_of r card ≡ None
+is_other r card e = let t : (r == card.reaction) ≡ false = grind (arith, nat_tests, e) in rw t refl
+
+none_taken : {X : Type 0} (o : Option X) → is_some o ≡ false → o ≡ None
+none_taken None h = refl
+none_taken (Some x) h = absurd (cc h)
+
+with_more : (entries : List CardEntry) (script : Script) (e : CardEntry) → IsScript entries script → is_taken script e ≡ false → IsScript (entries ++ (e ∷ [])) (with_entry script e)
+with_more entries script (entry.Bodies n) s free = record {
+  bodies = filter_map-append entry_bodies entries (entry.Bodies n ∷ []) ∙ ap (λ (l : List ℕ). l ++ (n ∷ [])) (s.bodies ∙ ap option_to_list (none_taken script.bodies free));
+  steps = filter_map-append entry_step entries (entry.Bodies n ∷ []) ∙ append-nil (filter_map entry_step entries) ∙ s.steps;
+  state = filter_map-append entry_state entries (entry.Bodies n ∷ []) ∙ append-nil (filter_map entry_state entries) ∙ s.state;
+}
+with_more entries script (entry.Step x) s free = record {
+  bodies = filter_map-append entry_bodies entries (entry.Step x ∷ []) ∙ append-nil (filter_map entry_bodies entries) ∙ s.bodies;
+  steps = filter_map-append entry_step entries (entry.Step x ∷ []) ∙ ap (λ (l : List CardStep). l ++ (x ∷ [])) s.steps;
+  state = filter_map-append entry_state entries (entry.Step x ∷ []) ∙ append-nil (filter_map entry_state entries) ∙ s.state;
+}
+with_more entries script (entry.State t) s free = record {
+  bodies = filter_map-append entry_bodies entries (entry.State t ∷ []) ∙ append-nil (filter_map entry_bodies entries) ∙ s.bodies;
+  steps = filter_map-append entry_step entries (entry.State t ∷ []) ∙ append-nil (filter_map entry_step entries) ∙ s.steps;
+  state = filter_map-append entry_state entries (entry.State t ∷ []) ∙ ap (λ (l : List (List Term)). l ++ (t ∷ [])) (s.state ∙ ap option_to_list (none_taken script.state free));
+}
+
+not_false : (b : Bool) → true ≡ not b → b ≡ false
+not_false true h = absurd (cc h)
+not_false false h = refl
+
+not_true : (b : Bool) → false ≡ not b → b ≡ true
+not_true true h = refl
+not_true false h = absurd (cc h)
+
+told_more : (program : Parts) (cards : List Card) (scripts now : List Script) (card : Card) → AreTold program cards scripts → card.reaction < length scripts → Adds scripts now card true → AreTold program (cards ++ (card ∷ [])) now
+told_more program cards scripts now card t within a = record {
+  long = a.long ∙ t.long;
+  each = λ r script at. elim (cases_Bool (r == card.reaction)) [
+    | inl e ↦
+        let own : r ≡ card.reaction = grind (arith, nat_tests, e) in
+        let old = get_or scripts card.reaction blank in
+        let was : slice_get scripts card.reaction ≡ Some old = slice_get-get_or scripts card.reaction blank within in
+        let new : Some script ≡ Some (with_entry old card.entry) = sym at ∙ ap (slice_get now) own ∙ a.added old was refl in
+        let is : script ≡ with_entry old card.entry = cc new in
+        let before : IsScript (entries_of r cards) old = t.each r old (ap (slice_get scripts) own ∙ was) in
+        rw (entries_more r cards card (Some card.entry) (is_own r card own), is) (with_more (entries_of r cards) old card.entry before (not_false (is_taken old card.entry) (a.free old was)))
+    | inr e ↦
+        let other : r ≢ card.reaction = grind (arith, nat_tests, e) in
+        let before : IsScript (entries_of r cards) script = t.each r script (sym (a.others r other) ∙ at) in
+        rw (entries_more r cards card None (is_other r card other), append-nil (entries_of r cards)) before
+  ];
+}
+
+pub one_more : (program : Parts) (records rest : Texts) (scripts now : List Script) (line : ℕ) (f : List (List ℕ)) (card : Card)
+    → Gathered program records scripts (f ∷ rest) line → IsCard program f card → card.reaction < length program.reactions → Adds scripts now card true → Gathered program records now rest (line + 1)
+one_more program records rest scripts now line f card r is within a = record {
+  first = r.first ++ (f ∷ []);
+  cards = r.cards ++ (card ∷ []);
+  under = r.under ∙ ap (λ (t : Texts). header ∷ t) (sym (append_assoc r.first (f ∷ []) rest));
+  each = all_zipped_more (IsCard program) r.first r.cards f card r.each is;
+  here = let e = length-append r.first (f ∷ []) in let h = r.here in omega (arith, e, h);
+  told = told_more program r.cards scripts now card r.told (let l = r.told.long in omega (arith, l, within)) a;
+}
+
+begins : (program : Parts) (records left : Texts) (scripts : List Script) (line : ℕ) (r : Gathered program records scripts left line) → Begins program records r.first left r.cards
+begins program records left scripts line r = record { under = r.under; each = r.each; scripts = scripts; told = r.told }
+
+pub bad : (program : Parts) (records rest : Texts) (scripts : List Script) (line : ℕ) (f : List (List ℕ)) (e : CardFault)
+    → Gathered program records scripts (f ∷ rest) line → line < 4000002 → ((before : List Card) → FaultAt program before line f e) → CardsFail program records e
+bad program records rest scripts line f e r small is = inr (inl (record {
+  first = r.first;
+  bad = f;
+  more = rest;
+  cards = r.cards;
+  begins = begins program records (f ∷ rest) scripts line r;
+  within = let h = r.here in omega (arith, h);
+  is = rw r.here (is r.cards);
+}))
+
+taken_again : (cards : List Card) (card : Card) (script : Script) → IsScript (entries_of card.reaction cards) script → is_taken script card.entry ≡ true → IsAgain cards card
+taken_again cards card script s taken = again card.entry refl taken
+  where
+    some : {X : Type 0} (o : Option X) (l : List X) → is_some o ≡ true → l ≡ option_to_list o → l ≢ []
+    some None l h e = absurd (cc h)
+    some {X} (Some x) l h e = λ none. let q : ◌≡◌ {A = List X} [] (x ∷ []) = sym none ∙ e in cc q
+
+    again : (e : CardEntry) → card.entry ≡ e → is_taken script e ≡ true → IsAgain cards card
+    again (entry.Bodies n) e t = inl (n, ap entry_bodies e, some script.bodies (filter_map entry_bodies (entries_of card.reaction cards)) t s.bodies)
+    again (entry.Step x) e t = absurd (cc t)
+    again (entry.State terms) e t = inr (terms, ap entry_state e, some script.state (filter_map entry_state (entries_of card.reaction cards)) t s.state)
+
+pub refused : (program : Parts) (records rest : Texts) (scripts now : List Script) (line : ℕ) (f : List (List ℕ)) (card : Card)
+    → Gathered program records scripts (f ∷ rest) line → line < 4000002 → IsCard program f card → card.reaction < length program.reactions → Adds scripts now card false → CardsFail program records (fault.GivenTwice line)
+refused program records rest scripts now line f card r small is within a =
+    let inside : card.reaction < length scripts = let l = r.told.long in omega (arith, l, within) in
+    let old = get_or scripts card.reaction blank in
+    let was : slice_get scripts card.reaction ≡ Some old = slice_get-get_or scripts card.reaction blank inside in
+    let again : IsAgain r.cards card = taken_again r.cards card old (r.told.each card.reaction old was) (not_true (is_taken old card.entry) (a.free old was)) in
+    inr (inl (record {
+      first = r.first;
+      bad = f;
+      more = rest;
+      cards = r.cards;
+      begins = begins program records (f ∷ rest) scripts line r;
+      within = let k = r.here in omega (arith, k);
+      is = (sym r.here, card, is, again);
+    }))
+
+pub past : (program : Parts) (records rest : Texts) (scripts : List Script) (line : ℕ) (f : List (List ℕ)) → Gathered program records scripts (f ∷ rest) line → line ≡ 4000002 → CardsFail program records fault.TooManyRows
+past program records rest scripts line f r e = inr (inr (
+  refl,
+  record {
+    first = r.first;
+    next = f;
+    more = rest;
+    cards = r.cards;
+    begins = begins program records (f ∷ rest) scripts line r;
+    full = let h = r.here in omega (arith, h, e);
+  },
+))
+
+pub ended : (program : Parts) (records : Texts) (scripts : List Script) (line : ℕ) → Gathered program records scripts [] line → line ≤ 4000002 → CardTable program records scripts
+ended program records scripts line r small = record {
+  rest = r.first;
+  cards = r.cards;
+  under = r.under ∙ ap (λ (t : Texts). header ∷ t) (append-nil r.first);
+  each = r.each;
+  few = let e = long (IsCard program) r.first r.cards r.each in let k = r.here in omega (arith, e, k);
+  told = r.told;
+}

@@ -1,0 +1,70 @@
+-- Scripts by reaction: what cards add to them, and what they answer.
+use Rattle.std.specs.Prelude.{◌≡◌, ◌≢◌, ◌++◌, ◌∷◌, ℕ, ℤ, Bool, false, true, not, is_some, List, [], length, map, slice_get, option_and_then, option_map, unwrap_or, Option, Some, None}
+use Rattle.lft_tag.specs.declared.Tag.{Tag}
+use Rattle.lft_flat.specs.declared.parts.Value.{Value}
+use Rattle.lft_flat.specs.declared.parts.Value.TheVariants.{Bare, Int}
+use Rattle.lft_trace.specs.declared.row.Step.{Step}
+use Rattle.lft_trace.specs.declared.row.Step.TheVariants as row
+use Rattle.lft_pool.specs.declared.bodies.done.Done.{Done}
+use Rattle.lft_record.specs.Expressions.{expression_value}
+use Rattle.lft_record.specs.declared.cards.card.Card.{Card}
+use Rattle.lft_record.specs.declared.cards.card.CardStep.{CardStep}
+use Rattle.lft_record.specs.declared.cards.card.CardStep.TheVariants as step
+use Rattle.lft_record.specs.declared.cards.card.CardValue.{CardValue}
+use Rattle.lft_record.specs.declared.cards.card.CardValue.TheVariants as content
+use Rattle.lft_record.specs.declared.cards.card.CardEntry.{CardEntry}
+use Rattle.lft_record.specs.declared.cards.card.CardEntry.TheVariants as entry
+use Rattle.lft_record.specs.declared.cards.Script.{Script}
+
+-- a script of a reaction without cards
+abbrev pub blank : Script
+blank = record { bodies = None; steps = []; state = None }
+
+-- whether the script has a number of bodies, or a word, where the entry tells one
+abbrev pub is_taken : Script → CardEntry → Bool
+is_taken script (entry.Bodies n) = is_some script.bodies
+is_taken script (entry.Step s) = false
+is_taken script (entry.State terms) = is_some script.state
+
+-- the script with one more entry
+abbrev pub with_entry : Script → CardEntry → Script
+with_entry script (entry.Bodies n) = record script { bodies = Some n }
+with_entry script (entry.Step s) = record script { steps = script.steps ++ (s ∷ []) }
+with_entry script (entry.State terms) = record script { state = Some terms }
+
+-- the card is added to the script of its reaction, if that hasn't got what it tells; the others stay
+pub record Adds (old new : List Script) (card : Card) (is_new : Bool) : Type 0 where
+  pub free : (script : Script) → slice_get old card.reaction ≡ Some script → is_new ≡ not (is_taken script card.entry)
+  pub added : (script : Script) → slice_get old card.reaction ≡ Some script → is_new ≡ true → slice_get new card.reaction ≡ Some (with_entry script card.entry)
+  pub others : (r : ℕ) → r ≢ card.reaction → slice_get new r ≡ slice_get old r
+  pub long : length new ≡ length old
+
+-- how many bodies a reaction has
+abbrev pub bodies_at : List Script → ℕ → ℕ
+bodies_at scripts r = unwrap_or (option_and_then (λ script. script.bodies) (slice_get scripts r)) 0
+
+-- what is written or scheduled in a run at a tag, with the state word before it and what it reads
+abbrev pub content_value : Tag → ℤ → List (Option Value) → CardValue → Value
+content_value g word reads content.Bare = Bare
+content_value g word reads (content.Int terms) = Int (expression_value g word reads terms)
+
+-- a step in such a run, with its value
+abbrev pub step_done : Tag → ℤ → List (Option Value) → CardStep → Step
+step_done g word reads (step.Write n v) = row.Write n (content_value g word reads v)
+step_done g word reads (step.Schedule n v d) = row.Schedule n (content_value g word reads v) d
+step_done g word reads step.Stop = row.Stop
+
+-- the word that a body leaves: what its script gives, or the word before
+abbrev pub script_word : Script → Tag → ℤ → List (Option Value) → ℤ
+script_word script g word reads = unwrap_or (option_map (expression_value g word reads) script.state) word
+
+-- what a body answers: the word that it leaves, and its steps in order (ours)
+abbrev pub script_done : Script → Tag → ℤ → List (Option Value) → Done
+script_done script g word reads = record {
+  state = script_word script g word reads;
+  steps = map (step_done g word reads) script.steps;
+}
+
+-- what a body of reaction r answers by the cards
+abbrev pub card_done : List Script → ℕ → Tag → ℤ → List (Option Value) → Done
+card_done scripts r g word reads = script_done (unwrap_or (slice_get scripts r) blank) g word reads
