@@ -1,6 +1,6 @@
 -- A clock read in an instance is the time that it was made of.
 use Rattle.std.proofs.Common.{◌≡◌, [], Option, Some, None, option_to_list, Any, ap}
-use Rattle.lft_nesting.proofs.Giving.{time_is}
+use Rattle.lft_program.proofs.Giving.{time_is}
 use Rattle.lft_tree.specs.Tree.{TimeTree}
 use Rattle.lft_instances.specs.Values.{clock_in}
 use Rattle.lft_instances.specs.declared.settings.Clock.{Clock}

@@ -13,9 +13,9 @@ use Rattle.lft_scope.specs.Kinds.{times_in, timer_times}
 use Rattle.lft_scope.proofs.Effects.{Any-flat}
 use Rattle.lft_scope.proofs.Somes.{Any-left, Any-right, Any-head}
 use Rattle.lft_scope.proofs.Twice.{Any-at}
-use Rattle.lft_nesting.specs.Located.{Located, AreLocated}
+use Rattle.lft_program.specs.Located.{Located, AreLocated}
 use Rattle.lft_program.specs.Flattening.{time_or_zero}
-use Rattle.lft_nesting.proofs.Entering.{entered_by}
+use Rattle.lft_program.proofs.Entering.{entered_by}
 
 -- what is found stands in the list, and passes
 find_in : {X : Type 0} (p : X → Bool) (xs : List X) (x : X) → find p xs ≡ Some x → (k : ℕ) × (slice_get xs k ≡ Some x) × (p x ≡ true)

@@ -3,10 +3,10 @@ use Rattle.std.proofs.Common.{◌≡◌, ◌≢◌, ℕ, List, [], ◌∷◌, �
 use Rattle.std.specs.Result.{IsErrAnd}
 use Rattle.lft_tree.specs.Tree.{FileTree, reactors_of}
 use Rattle.lft_scope.specs.Causes.{IsFirst, NoneHolds, TooMany, HasLongTime, DelayTooLong, causes}
-use Rattle.lft_nesting.specs.Links.{last_causes, number_of as link_number}
-use Rattle.lft_nesting.specs.declared.linking.LinkFault.{LinkFault}
-use Rattle.lft_nesting.specs.declared.linking.LinkFault.TheVariants as links
-use Rattle.lft_nesting.specs.Tables.{IsLawful}
+use Rattle.lft_program.specs.Links.{last_causes, number_of as link_number}
+use Rattle.lft_program.specs.declared.nesting.linking.LinkFault.{LinkFault}
+use Rattle.lft_program.specs.declared.nesting.linking.LinkFault.TheVariants as links
+use Rattle.lft_program.specs.Tables.{IsLawful}
 use Rattle.lft_program.specs.Faults.{number_of, of_links, reactor_causes}
 use Rattle.lft_program.specs.declared.fault.ProgramFault.TheVariants as faults
 

@@ -10,9 +10,9 @@ use Rattle.lft_scope.specs.Causes.{HasLongTime, IsLongTime}
 use Rattle.lft_scope.specs.Instances.{stands_for, thing_at}
 use Rattle.lft_scope.specs.Kinds.{reads_of, ref_in, timer_times}
 use Rattle.lft_reactors.specs.Sheets.{is_timer, without_timers}
-use Rattle.lft_nesting.specs.Located.{Located, Declared, declared, ports_in, actions_in, timers_in}
-use Rattle.lft_nesting.specs.Tables.{IsLawful}
-use Rattle.lft_nesting.proofs.Placed.{declared_from, thing_from, path_once}
+use Rattle.lft_program.specs.Located.{Located, Declared, declared, ports_in, actions_in, timers_in}
+use Rattle.lft_program.specs.Tables.{IsLawful}
+use Rattle.lft_program.proofs.Placed.{declared_from, thing_from, path_once}
 use Rattle.lft_program.specs.Flattening.{Flat, IsPort, IsAction, IsTimer, IsReaction, IsName, IsTrigger, name_of_thing, name_of_reaction}
 use Rattle.lft_flat.specs.Names.{AreDistinct, AreWords}
 use Rattle.lft_flat.specs.Parts.{Parts, inputs}

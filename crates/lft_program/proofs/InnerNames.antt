@@ -10,11 +10,11 @@ use Rattle.lft_instances.specs.Paths.{along}
 use Rattle.lft_instances.specs.declared.walk.Instance.{Instance}
 use Rattle.lft_instances.proofs.Orders.{before_itself}
 use Rattle.lft_scope.specs.Instances.{Inside, entered, given_in, main_instance, reactor_named}
-use Rattle.lft_nesting.specs.Located.{Located}
-use Rattle.lft_nesting.specs.Nests.{IsInstanceOf, IsNest}
-use Rattle.lft_nesting.specs.declared.nest.Nest.{Nest}
-use Rattle.lft_nesting.specs.declared.tables.Tables.{Tables}
-use Rattle.lft_nesting.proofs.Zipping.{then_some, zip_at, zip_back, zip_long}
+use Rattle.lft_program.specs.Located.{Located}
+use Rattle.lft_program.specs.Nests.{IsInstanceOf, IsNest}
+use Rattle.lft_program.specs.declared.nesting.nest.Nest.{Nest}
+use Rattle.lft_program.specs.declared.nesting.tables.Tables.{Tables}
+use Rattle.lft_program.proofs.Zipping.{then_some, zip_at, zip_back, zip_long}
 use Rattle.lft_program.specs.Flattening.{name_of_path, name_under}
 use Rattle.lft_program.specs.OwnNames.{own_names}
 use Rattle.lft_program.specs.TreeLists.{name_at, seen}

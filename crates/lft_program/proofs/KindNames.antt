@@ -9,12 +9,12 @@ use Rattle.lft_lists.proofs.Mapped.{mapped}
 use Rattle.lft_tree.specs.Tree.{ReactorTree, InstanceTree, instances_of, ports_of, actions_of, timers_of, instance_in, port_in, action_in, timer_in}
 use Rattle.lft_instances.specs.declared.numbering.Thing.{Thing}
 use Rattle.lft_instances.specs.declared.walk.Instance.{Instance}
-use Rattle.lft_nesting.specs.Located.{Located, declared, Declared}
-use Rattle.lft_nesting.specs.Nests.{IsInstanceOf, IsNumbering, IsThingOf}
-use Rattle.lft_nesting.specs.declared.nest.Numbering.{Numbering}
-use Rattle.lft_nesting.proofs.Counting.{base}
-use Rattle.lft_nesting.proofs.Listing.{declared_from, declared-length}
-use Rattle.lft_nesting.proofs.Zipping.{zip_at, zip_back, zip_long, zip_of}
+use Rattle.lft_program.specs.Located.{Located, declared, Declared}
+use Rattle.lft_program.specs.Nests.{IsInstanceOf, IsNumbering, IsThingOf}
+use Rattle.lft_program.specs.declared.nesting.nest.Numbering.{Numbering}
+use Rattle.lft_program.proofs.Counting.{base}
+use Rattle.lft_program.proofs.Listing.{declared_from, declared-length}
+use Rattle.lft_program.proofs.Zipping.{zip_at, zip_back, zip_long, zip_of}
 use Rattle.lft_program.specs.OwnNames.{own_names}
 use Rattle.lft_program.specs.TreeLists.{name_at, placed_at, seen, Says, IsPlacedAt}
 use Rattle.lft_program.specs.declared.naming.OwnName.{OwnName}

@@ -16,13 +16,13 @@ use Rattle.lft_reactors.specs.declared.sheets.ActionSheet.{ActionSheet}
 use Rattle.lft_reactors.specs.declared.sheets.Declarations.{Declarations}
 use Rattle.lft_reactors.specs.declared.sheets.TimerSheet.{TimerSheet}
 use Rattle.lft_scope.proofs.Somes.{Any-left, Any-right}
-use Rattle.lft_nesting.specs.Located.{Located, Declared, declared}
-use Rattle.lft_nesting.specs.Nests.{IsInstanceOf, IsThingOf}
-use Rattle.lft_nesting.specs.declared.linking.Linked.{Linked}
-use Rattle.lft_nesting.specs.declared.nest.Nest.{Nest}
-use Rattle.lft_nesting.specs.declared.tables.Tables.{Tables}
-use Rattle.lft_nesting.proofs.Declared.{declared_from}
-use Rattle.lft_nesting.proofs.Zipping.{zip_at}
+use Rattle.lft_program.specs.Located.{Located, Declared, declared}
+use Rattle.lft_program.specs.Nests.{IsInstanceOf, IsThingOf}
+use Rattle.lft_program.specs.declared.nesting.linking.Linked.{Linked}
+use Rattle.lft_program.specs.declared.nesting.nest.Nest.{Nest}
+use Rattle.lft_program.specs.declared.nesting.tables.Tables.{Tables}
+use Rattle.lft_program.proofs.Declared.{declared_from}
+use Rattle.lft_program.proofs.Zipping.{zip_at}
 use Rattle.lft_program.specs.Flattening.{IsTimer, IsAction, time_or_zero}
 use Rattle.lft_program.specs.Laying.{IsActionAt, IsTimerAt, action_at, clock_at, declarations_at, timer_at}
 use Rattle.lft_program.specs.OfTree.{AreOfTree}

@@ -6,7 +6,7 @@ use Rattle.lft_tree.specs.Tree.{FileTree, ReactorTree, reactors_of, ports_of, ti
 use Rattle.lft_scope.specs.Causes.{IsTwice, DeclaresTwice, DuplicateName}
 use Rattle.lft_scope.specs.Kinds.{names_in}
 use Rattle.lft_scope.proofs.Twice.{twice_left, Any-at}
-use Rattle.lft_nesting.specs.Tables.{IsLawful}
+use Rattle.lft_program.specs.Tables.{IsLawful}
 use Rattle.lft_scope.proofs.Twice.{slice_get-front}
 use Rattle.lft_program.proofs.FullNames.{later_at, all_at}
 use Rattle.lft_program.proofs.Sites.{AreApart}

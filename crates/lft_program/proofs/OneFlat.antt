@@ -4,9 +4,9 @@ use Rattle.std.specs.List.{AllZip}
 use Rattle.lft_lists.proofs.Picked.{map-same}
 use Rattle.lft_lists.proofs.Places.{Some_same}
 use Rattle.lft_tree.specs.Tree.{FileTree, PortTree, ports_of, actions_of, timers_of, reactions_of}
-use Rattle.lft_nesting.specs.Located.{Located, AreLocated, Declared, declared}
-use Rattle.lft_nesting.specs.Tables.{IsLawful}
-use Rattle.lft_nesting.proofs.Listing.{declared_from}
+use Rattle.lft_program.specs.Located.{Located, AreLocated, Declared, declared}
+use Rattle.lft_program.specs.Tables.{IsLawful}
+use Rattle.lft_program.proofs.Listing.{declared_from}
 use Rattle.lft_program.specs.Flattening.{Flat, IsPort, IsAction, IsTimer, IsReaction, names_of}
 use Rattle.lft_flat.specs.Parts.{Parts}
 use Rattle.lft_flat.specs.Sound.{KeepsOrigins}

@@ -5,9 +5,9 @@ use Rattle.lft_tree.specs.Tree.{FileTree, ReactorTree, reactors_of}
 use Rattle.lft_instances.specs.Paths.{along, IsPreOrder}
 use Rattle.lft_instances.proofs.Unique.{pre_order_unique}
 use Rattle.lft_scope.specs.Instances.{Inside, IsInside, is_called, entered, main_of, main_instance}
-use Rattle.lft_nesting.specs.Located.{Located, AreLocated}
-use Rattle.lft_nesting.proofs.Zipping.{then_some}
-use Rattle.lft_nesting.proofs.Entering.{entered_by}
+use Rattle.lft_program.specs.Located.{Located, AreLocated}
+use Rattle.lft_program.proofs.Zipping.{then_some}
+use Rattle.lft_program.proofs.Entering.{entered_by}
 
 -- what is found stands in the list
 found_in : {X : Type 0} (p : X → Bool) (xs : List X) (x : X) → find p xs ≡ Some x → (k : ℕ) × (slice_get xs k ≡ Some x)

@@ -4,8 +4,8 @@ use Rattle.lft_lists.proofs.Places.{Some_same}
 use Rattle.lft_tree.specs.Tree.{FileTree, RefTree, TriggerTree, ReactionTree, ActionTree, TimerTree, AtStartup, AtShutdown, OnRef}
 use Rattle.lft_scope.specs.Instances.{Thing, stands_for}
 use Rattle.lft_reactors.specs.Sheets.{without_timers}
-use Rattle.lft_nesting.specs.Located.{Located, AreLocated, Declared, timers_in}
-use Rattle.lft_nesting.specs.Tables.{IsLawful}
+use Rattle.lft_program.specs.Located.{Located, AreLocated, Declared, timers_in}
+use Rattle.lft_program.specs.Tables.{IsLawful}
 use Rattle.lft_program.specs.Flattening.{Means, IsName, IsTrigger, IsAction, IsTimer, IsReaction}
 use Rattle.lft_flat.specs.declared.parts.Action.{Action as ActionOf}
 use Rattle.lft_flat.specs.declared.parts.Timer.{Timer as TimerOf}

@@ -17,17 +17,17 @@ use Rattle.lft_scope.proofs.Effects.{port_found}
 use Rattle.lft_scope.proofs.Placing.{find-place}
 use Rattle.lft_scope.proofs.Twice.{Any-at}
 use Rattle.lft_reactors.proofs.Written.{own_written, inner_written}
-use Rattle.lft_nesting.specs.Located.{Located, AreLocated, Declared}
-use Rattle.lft_nesting.specs.Tables.{IsLawful}
-use Rattle.lft_nesting.proofs.Counting.{total, flat_at}
-use Rattle.lft_nesting.proofs.Listing.{Stands}
-use Rattle.lft_nesting.proofs.Zipping.{then_some}
+use Rattle.lft_program.specs.Located.{Located, AreLocated, Declared}
+use Rattle.lft_program.specs.Tables.{IsLawful}
+use Rattle.lft_program.proofs.Counting.{total, flat_at}
+use Rattle.lft_program.proofs.Listing.{Stands}
+use Rattle.lft_program.proofs.Zipping.{then_some}
 use Rattle.lft_program.specs.Flattening.{IsSource}
 use Rattle.lft_flat.specs.declared.parts.Source.{Source}
 use Rattle.lft_program.proofs.OneInstances.{InFile, in_file, one_inside, inside_at}
 use Rattle.lft_program.proofs.OneThing.{once_at, right_at, one_port}
 use Rattle.lft_program.proofs.Standing.{StandsInner, stands_inner, stands_once}
-use Rattle.lft_nesting.proofs.Entering.{entered_by}
+use Rattle.lft_program.proofs.Entering.{entered_by}
 
 -- ---- lists
 

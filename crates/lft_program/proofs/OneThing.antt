@@ -4,7 +4,7 @@ use Rattle.std.proofs.lemmas.Bool.{cases_lt}
 use Rattle.std.proofs.lemmas.List.{length-map}
 use Rattle.std.proofs.lemmas.Option.{slice_get_within}
 use Rattle.lft_program.proofs.NamesOnce.{port_names, timer_names, action_names, instance_names}
-use Rattle.lft_nesting.proofs.Placed.{path_once}
+use Rattle.lft_program.proofs.Placed.{path_once}
 use Rattle.lft_lists.proofs.Mapped.{mapped, mapped_from}
 use Rattle.lft_lists.proofs.Places.{get_left, Some_same}
 use Rattle.lft_tree.specs.Tree.{FileTree, ReactorTree, PortTree, TimerTree, ActionTree, reactors_of, ports_of, timers_of, actions_of}
@@ -12,10 +12,10 @@ use Rattle.lft_scope.specs.Causes.{IsTwice}
 use Rattle.lft_scope.specs.Instances.{Thing, thing_at}
 use Rattle.lft_scope.specs.Kinds.{names_in}
 use Rattle.lft_scope.proofs.Effects.{names_once}
-use Rattle.lft_nesting.specs.Located.{Located, AreLocated, Declared, declared, things, ports_in, actions_in, timers_in}
-use Rattle.lft_nesting.specs.Tables.{IsLawful}
-use Rattle.lft_nesting.proofs.Counting.{base}
-use Rattle.lft_nesting.proofs.Listing.{Stands, declared_from}
+use Rattle.lft_program.specs.Located.{Located, AreLocated, Declared, declared, things, ports_in, actions_in, timers_in}
+use Rattle.lft_program.specs.Tables.{IsLawful}
+use Rattle.lft_program.proofs.Counting.{base}
+use Rattle.lft_program.proofs.Listing.{Stands, declared_from}
 use Rattle.lft_program.proofs.OneInstances.{in_file, inside_at}
 
 pub once_at : {X : Type 0} (xs : List X) (x : X) (i j : ℕ) → (IsTwice xs → ⊥) → slice_get xs i ≡ Some x → slice_get xs j ≡ Some x → i ≡ j

@@ -10,12 +10,12 @@ use Rattle.lft_instances.proofs.Orders.{along_at}
 use Rattle.lft_scope.proofs.Effects.{port_found, own_effect, inner_effect}
 use Rattle.lft_scope.specs.Causes.{HasLongTime}
 use Rattle.lft_scope.specs.Instances.{Inside, thing_at, stands_for, stands_inside, entered, main_instance, reactor_named}
-use Rattle.lft_nesting.specs.Located.{Located, AreLocated, Declared}
-use Rattle.lft_nesting.specs.Tables.{IsLawful}
-use Rattle.lft_nesting.proofs.Placed.{IsAt, inside_once}
+use Rattle.lft_program.specs.Located.{Located, AreLocated, Declared}
+use Rattle.lft_program.specs.Tables.{IsLawful}
+use Rattle.lft_program.proofs.Placed.{IsAt, inside_once}
 use Rattle.lft_program.proofs.Entered.{IsUsual, all_usual}
 use Rattle.lft_program.proofs.Standing.{StandsInner, stands_inner}
-use Rattle.lft_nesting.proofs.Entering.{entered_by}
+use Rattle.lft_program.proofs.Entering.{entered_by}
 
 -- how a reaction may write a port: an output of its own instance, or an input of an instance that this contains
 abbrev pub Writes : Declared ReactionTree → Declared PortTree → Type 0

@@ -3,9 +3,9 @@ use Rattle.std.proofs.Common.{◌≡◌, ℕ, zero, suc, ◌+◌, ◌-◌, ◌<�
 use Rattle.std.specs.List.{AllZip}
 use Rattle.std.proofs.lemmas.Option.{slice_get_within, slice_get-get_or}
 use Rattle.lft_tree.specs.Tree.{FileTree, ReactionTree, reactions_of}
-use Rattle.lft_nesting.specs.Located.{Declared, declared}
-use Rattle.lft_nesting.proofs.Counting.{base, declared_at}
-use Rattle.lft_nesting.proofs.Placed.{IsAt, declared_from}
+use Rattle.lft_program.specs.Located.{Declared, declared}
+use Rattle.lft_program.proofs.Counting.{base, declared_at}
+use Rattle.lft_program.proofs.Placed.{IsAt, declared_from}
 use Rattle.lft_program.specs.Flattening.{IsReaction, Flat}
 use Rattle.lft_flat.specs.Parts.{Parts}
 use Rattle.lft_flat.specs.Sound.{IsNumbered, IsConsecutive}

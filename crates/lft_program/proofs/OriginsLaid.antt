@@ -6,9 +6,9 @@ use Rattle.lft_lists.proofs.Places.{get_there}
 use Rattle.lft_tree.specs.Tree.{FileTree}
 use Rattle.lft_instances.specs.Sources.{Origin as OriginBefore, itself as itself_before, over as over_before}
 use Rattle.lft_instances.specs.declared.numbering.Thing.{Thing}
-use Rattle.lft_nesting.specs.declared.linking.Linked.{Linked}
-use Rattle.lft_nesting.specs.declared.nest.Nest.{Nest}
-use Rattle.lft_nesting.specs.declared.tables.Tables.{Tables}
+use Rattle.lft_program.specs.declared.nesting.linking.Linked.{Linked}
+use Rattle.lft_program.specs.declared.nesting.nest.Nest.{Nest}
+use Rattle.lft_program.specs.declared.nesting.tables.Tables.{Tables}
 use Rattle.lft_program.specs.Laying.{source_of}
 use Rattle.lft_program.specs.OfTree.{AreOfTree}
 use Rattle.lft_flat.specs.Origins.{Origin, itself, over}

@@ -9,13 +9,13 @@ use Rattle.lft_instances.specs.declared.numbering.Thing.{Thing}
 use Rattle.lft_instances.specs.declared.origins.Source.{Source as Before}
 use Rattle.lft_scope.specs.Instances.{Thing as Spoken, thing_at}
 use Rattle.lft_reactors.specs.Sheets.{IsDeclarations}
-use Rattle.lft_nesting.specs.Links.{IsSource as IsSourceBefore}
-use Rattle.lft_nesting.specs.Located.{Located, Declared, declared, ports_in}
-use Rattle.lft_nesting.specs.Nests.{IsThingOf}
-use Rattle.lft_nesting.specs.declared.linking.Linked.{Linked}
-use Rattle.lft_nesting.specs.declared.nest.Nest.{Nest}
-use Rattle.lft_nesting.specs.declared.tables.Tables.{Tables}
-use Rattle.lft_nesting.proofs.Declared.{declared_from}
+use Rattle.lft_program.specs.Links.{IsSource as IsSourceBefore}
+use Rattle.lft_program.specs.Located.{Located, Declared, declared, ports_in}
+use Rattle.lft_program.specs.Nests.{IsThingOf}
+use Rattle.lft_program.specs.declared.nesting.linking.Linked.{Linked}
+use Rattle.lft_program.specs.declared.nesting.nest.Nest.{Nest}
+use Rattle.lft_program.specs.declared.nesting.tables.Tables.{Tables}
+use Rattle.lft_program.proofs.Declared.{declared_from}
 use Rattle.lft_program.specs.Flattening.{IsPort, IsSource}
 use Rattle.lft_program.specs.Laying.{IsPortAt, input_at, source_of}
 use Rattle.lft_program.specs.OfTree.{AreOfTree}

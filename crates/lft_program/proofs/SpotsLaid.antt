@@ -16,18 +16,18 @@ use Rattle.lft_reactors.specs.declared.sheets.Cue.TheVariants as cues
 use Rattle.lft_reactors.specs.declared.sheets.Cues.{Cues}
 use Rattle.lft_reactors.specs.declared.sheets.Spot.{Spot}
 use Rattle.lft_reactors.specs.declared.sheets.Spot.TheVariants as spots
-use Rattle.lft_nesting.specs.Located.{Located, Declared, declared, things}
-use Rattle.lft_nesting.specs.Nests.{IsNumbering, IsThingOf}
-use Rattle.lft_nesting.specs.declared.linking.Linked.{Linked}
-use Rattle.lft_nesting.specs.declared.nest.Nest.{Nest}
-use Rattle.lft_nesting.specs.declared.nest.Numbering.{Numbering}
-use Rattle.lft_nesting.specs.declared.tables.Tables.{Tables}
-use Rattle.lft_nesting.proofs.Counting.{base}
-use Rattle.lft_nesting.proofs.Declared.{declared_from}
-use Rattle.lft_nesting.proofs.Ends.{place_at, standing}
-use Rattle.lft_nesting.proofs.Ports.{as_many, number_at, thing_forth}
-use Rattle.lft_nesting.proofs.Singles.{place_forth}
-use Rattle.lft_nesting.proofs.Zipping.{zip_at}
+use Rattle.lft_program.specs.Located.{Located, Declared, declared, things}
+use Rattle.lft_program.specs.Nests.{IsNumbering, IsThingOf}
+use Rattle.lft_program.specs.declared.nesting.linking.Linked.{Linked}
+use Rattle.lft_program.specs.declared.nesting.nest.Nest.{Nest}
+use Rattle.lft_program.specs.declared.nesting.nest.Numbering.{Numbering}
+use Rattle.lft_program.specs.declared.nesting.tables.Tables.{Tables}
+use Rattle.lft_program.proofs.Counting.{base}
+use Rattle.lft_program.proofs.Declared.{declared_from}
+use Rattle.lft_program.proofs.Ends.{place_at, standing}
+use Rattle.lft_program.proofs.Ports.{as_many, number_at, thing_forth}
+use Rattle.lft_program.proofs.Singles.{place_forth}
+use Rattle.lft_program.proofs.Zipping.{zip_at}
 use Rattle.lft_program.specs.Flattening.{IsName, IsReaction, IsTrigger}
 use Rattle.lft_program.specs.Laying.{Each, HasCues, HasName, HasTrigger, IsReactionAt, cues_at, name_at, trigger_at}
 use Rattle.lft_program.specs.OfTree.{AreOfTree}

@@ -11,7 +11,7 @@ use Rattle.lft_instances.proofs.Unique.{pairs_from}
 use Rattle.lft_scope.specs.Causes.{IsTwice}
 use Rattle.lft_scope.specs.Instances.{Thing, thing_at, stands_for, stands_inside}
 use Rattle.lft_scope.specs.Kinds.{ref_in}
-use Rattle.lft_nesting.specs.Located.{Located}
+use Rattle.lft_program.specs.Located.{Located}
 use Rattle.lft_program.specs.Flattening.{IsName, IsTrigger, Means}
 use Rattle.lft_flat.specs.Naming.{named}
 use Rattle.lft_flat.specs.declared.parts.Name.{Name}

@@ -10,13 +10,13 @@ use Rattle.lft_tree.specs.Identifiers.{IsIdentifier, HasIdentifiers}
 use Rattle.lft_tree.specs.Tree.{FileTree, ReactorTree, reactors_of, ports_of, actions_of, timers_of, reactions_of}
 use Rattle.lft_scope.specs.Kinds.{names_in}
 use Rattle.lft_scope.specs.Causes.{IsTwice}
-use Rattle.lft_nesting.specs.Located.{Located, declared, things}
-use Rattle.lft_nesting.specs.Nests.{IsNest}
-use Rattle.lft_nesting.specs.Tables.{IsLawful}
-use Rattle.lft_nesting.specs.declared.nest.Nest.{Nest}
-use Rattle.lft_nesting.specs.declared.tables.Tables.{Tables}
-use Rattle.lft_nesting.proofs.Listing.{declared_from}
-use Rattle.lft_nesting.proofs.Zipping.{zip_at, zip_long, zip_of}
+use Rattle.lft_program.specs.Located.{Located, declared, things}
+use Rattle.lft_program.specs.Nests.{IsNest}
+use Rattle.lft_program.specs.Tables.{IsLawful}
+use Rattle.lft_program.specs.declared.nesting.nest.Nest.{Nest}
+use Rattle.lft_program.specs.declared.nesting.tables.Tables.{Tables}
+use Rattle.lft_program.proofs.Listing.{declared_from}
+use Rattle.lft_program.proofs.Zipping.{zip_at, zip_long, zip_of}
 use Rattle.lft_program.specs.Flattening.{name_of_path, name_of_thing, name_of_reaction, names_of}
 use Rattle.lft_program.specs.FullNames.{IsDotted, IsHashed, AreFullNames, AreNested, AreOfProgram, AreFew, members}
 use Rattle.lft_flat.specs.Names.{ThingNames}

@@ -4,10 +4,10 @@ use Rattle.lft_tree.specs.Tree.{FileTree, reactors_of}
 use Rattle.lft_scope.specs.Causes.{RecursiveReactor, first_causes, later_causes}
 use Rattle.lft_scope.specs.declared.fault.ReactorFault.{ReactorFault}
 use Rattle.lft_scope.specs.declared.fault.ReactorFault.TheVariants as reactors
-use Rattle.lft_nesting.specs.declared.nest.NestFault.{NestFault}
-use Rattle.lft_nesting.specs.declared.nest.NestFault.TheVariants as nests
-use Rattle.lft_nesting.specs.declared.linking.LinkFault.{LinkFault}
-use Rattle.lft_nesting.specs.declared.linking.LinkFault.TheVariants as links
+use Rattle.lft_program.specs.declared.nesting.nest.NestFault.{NestFault}
+use Rattle.lft_program.specs.declared.nesting.nest.NestFault.TheVariants as nests
+use Rattle.lft_program.specs.declared.nesting.linking.LinkFault.{LinkFault}
+use Rattle.lft_program.specs.declared.nesting.linking.LinkFault.TheVariants as links
 use Rattle.lft_program.specs.declared.fault.ProgramFault.{ProgramFault}
 use Rattle.lft_program.specs.declared.fault.ProgramFault.TheVariants as faults
 

@@ -6,7 +6,7 @@ use Rattle.lft_tree.specs.Tree.{FileTree, ReactorTree, PortTree, ActionTree, Tim
 use Rattle.lft_scope.specs.Causes.{NoneHolds, causes}
 use Rattle.lft_scope.specs.Instances.{Inside, time_in, entered, main_instance, Thing, thing_at, stands_for, Connects}
 use Rattle.lft_reactors.specs.Sheets.{without_timers}
-use Rattle.lft_nesting.specs.Located.{Located, AreLocated, Declared, declared, ports_in, actions_in, timers_in}
+use Rattle.lft_program.specs.Located.{Located, AreLocated, Declared, declared, ports_in, actions_in, timers_in}
 use Rattle.lft_flat.specs.Names.{ThingNames}
 use Rattle.lft_flat.specs.Parts.{Parts}
 use Rattle.lft_flat.specs.Sound.{KeepsOrigins}

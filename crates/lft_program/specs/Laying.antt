@@ -14,9 +14,9 @@ use Rattle.lft_reactors.specs.declared.sheets.Declarations.{Declarations}
 use Rattle.lft_reactors.specs.declared.sheets.Spot.{Spot}
 use Rattle.lft_reactors.specs.declared.sheets.Spot.TheVariants as spots
 use Rattle.lft_reactors.specs.declared.sheets.TimerSheet.{TimerSheet}
-use Rattle.lft_nesting.specs.declared.linking.Linked.{Linked}
-use Rattle.lft_nesting.specs.declared.nest.Nest.{Nest}
-use Rattle.lft_nesting.specs.declared.tables.Tables.{Tables}
+use Rattle.lft_program.specs.declared.nesting.linking.Linked.{Linked}
+use Rattle.lft_program.specs.declared.nesting.nest.Nest.{Nest}
+use Rattle.lft_program.specs.declared.nesting.tables.Tables.{Tables}
 use Rattle.lft_flat.specs.declared.parts.Action.{Action as ActionOf}
 use Rattle.lft_flat.specs.declared.parts.Name.{Name}
 use Rattle.lft_flat.specs.declared.parts.Name.TheVariants.{Port, Action}

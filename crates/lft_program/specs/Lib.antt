@@ -1,3 +1,9 @@
+pub mod Located
+pub mod Tables
+pub mod Nests
+pub mod Links
+pub mod Numbered
+pub mod Linking
 pub mod FullNames
 pub mod Extended
 pub mod Flattening

@@ -3,7 +3,7 @@
 ghost use Rattle.std.specs.Prelude.{◌≡◌, Any};
 ghost use Rattle.lft_tree.specs.Tree.{FileTree, reactors_of};
 ghost use Rattle.lft_scope.specs.Causes.{HasLongTime};
-ghost use Rattle.lft_nesting.specs.Tables.{IsLawful};
+ghost use Rattle.lft_program.specs.Tables.{IsLawful};
 ghost use Rattle.lft_program.specs.Flattening.{Flat};
 ghost use Rattle.lft_flat.specs.Names.{AreDistinct, AreWords};
 ghost use Rattle.lft_flat.specs.Sound.{IsWithinLimits};

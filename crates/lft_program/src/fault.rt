@@ -3,7 +3,7 @@
 ghost use Rattle.std.specs.Prelude.{◌≡◌};
 ghost use Rattle.lft_program.specs.declared.fault.ProgramFault.TheVariants as faults;
 
-use lft_nesting::{LinkFault, NestFault};
+use crate::nesting::{LinkFault, NestFault};
 use lft_scope::ReactorFault;
 use std::alloc::{AllocError, AllocFailed};
 

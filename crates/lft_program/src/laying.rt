@@ -4,7 +4,7 @@
 ghost use Rattle.std.specs.Prelude.{◌≡◌, Bool, Some, IfOk};
 ghost use Rattle.std.specs.List.{AllZip};
 ghost use Rattle.lft_tree.specs.Tree.{FileTree, ports_of, timers_of, actions_of, reactions_of};
-ghost use Rattle.lft_nesting.specs.Located.{declared};
+ghost use Rattle.lft_program.specs.Located.{declared};
 ghost use Rattle.lft_program.specs.Flattening.{IsPort, IsTimer, IsAction, IsReaction};
 ghost use Rattle.lft_program.specs.Laying.{HasCues, IsActionAt, IsPortAt, IsReactionAt, IsTimerAt, action_at, cues_at, declarations_at, input_at, source_of, timer_at};
 ghost use Rattle.lft_program.specs.OfTree.{AreOfTree};
@@ -18,7 +18,7 @@ ghost use Rattle.lft_reactors.specs.declared.sheets.TimerSheet.{TimerSheet};
 use crate::spots;
 use lft_flat::{Action, Port, Reaction, Source, Timer};
 use lft_instances::Thing;
-use lft_nesting::{Linked, Nest, Tables};
+use crate::nesting::{Linked, Nest, Tables};
 use lft_reactors::{Cues, Declarations};
 use lft_tag::NoMemory;
 use std::alloc::Global;

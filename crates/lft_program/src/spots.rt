@@ -7,7 +7,7 @@ ghost use Rattle.lft_program.specs.Laying.{AreNames, AreTriggers, Each, HasName,
 
 use lft_flat::{Name, Names, Trigger, Triggers};
 use lft_instances::End;
-use lft_nesting::{Nest, Numbering};
+use crate::nesting::{Nest, Numbering};
 use lft_reactors::{Cue, Spot};
 use lft_tag::NoMemory;
 use std::alloc::Global;

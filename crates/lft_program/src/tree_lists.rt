@@ -2,8 +2,8 @@
 
 ghost use Rattle.std.specs.Prelude.{◌≡◌, ◌≤◌, IfOk, length, map};
 ghost use Rattle.lft_tree.specs.Tree.{FileTree, reactors_of};
-ghost use Rattle.lft_nesting.specs.Nests.{IsNest};
-ghost use Rattle.lft_nesting.specs.declared.tables.Tables.{Tables};
+ghost use Rattle.lft_program.specs.Nests.{IsNest};
+ghost use Rattle.lft_program.specs.declared.nesting.tables.Tables.{Tables};
 ghost use Rattle.lft_program.specs.OwnNames.{name_lists, own_names};
 ghost use Rattle.lft_scope.specs.References.{reactor_trees};
 ghost use Rattle.lft_program.specs.TreeLists.{AreLists, name_at, placed_at, seen};
@@ -11,7 +11,7 @@ ghost use Rattle.lft_program.specs.TreeLists.{AreLists, name_at, placed_at, seen
 use crate::naming::{OwnName, Placed};
 use crate::own_names::{MemberKind, own_names};
 use lft_instances::{Instance, Thing};
-use lft_nesting::Nest;
+use crate::nesting::Nest;
 use lft_tag::NoMemory;
 use lft_tree::Reactor;
 use std::alloc::Global;

@@ -3,15 +3,15 @@
 ghost use Rattle.std.specs.Prelude.{◌≡◌, IfOk};
 ghost use Rattle.lft_tree.specs.Identifiers.{HasIdentifiers};
 ghost use Rattle.lft_tree.specs.View.{tree_view};
-ghost use Rattle.lft_nesting.specs.Nests.{IsNest};
-ghost use Rattle.lft_nesting.specs.Tables.{AreTables, IsLawful};
+ghost use Rattle.lft_program.specs.Nests.{IsNest};
+ghost use Rattle.lft_program.specs.Tables.{AreTables, IsLawful};
 ghost use Rattle.lft_program.specs.Flattening.{names_of};
 ghost use Rattle.lft_flat.specs.Names.{AreDistinct, AreWords};
 
 use crate::naming::full_names;
 use crate::tree_lists::Lists;
 use lft_flat::NameTable;
-use lft_nesting::{Nest, Tables};
+use crate::nesting::{Nest, Tables};
 use lft_scope::members::reactors;
 use lft_tag::NoMemory;
 use lft_tree::Ast;

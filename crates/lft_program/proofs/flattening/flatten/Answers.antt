@@ -1,7 +1,7 @@
 use Rattle.std.proofs.Common.{◌≢◌, subst, sym}
 use Rattle.lft_tree.specs.View.{tree_view}
 use Rattle.lft_scope.specs.Causes.{IsFirst, causes}
-use Rattle.lft_nesting.specs.Links.{AreLinks}
+use Rattle.lft_program.specs.Links.{AreLinks}
 use Rattle.lft_program.specs.Faults.{number_of, of_links}
 use Rattle.lft_program.specs.declared.fault.ProgramFault.TheVariants as faults
 use Rattle.lft_program.proofs.Firsts.{first_of_reactors, first_of_links, none_of_all, lawful, in_time, handed_on, same_number}

@@ -1,6 +1,6 @@
 use Rattle.std.proofs.Common.{Some, refl, ap, ◌∙◌, arith}
 use Rattle.std.proofs.lemmas.Grind.{common_steps}
-use Rattle.lft_nesting.proofs.Zipping.{then_some}
+use Rattle.lft_program.proofs.Zipping.{then_some}
 use Rattle.lft_program.proofs.ByNumber.{item_same, row_within, then_at}
 use Rattle.lft_program.proofs.laying.timer.Goals as goal
 

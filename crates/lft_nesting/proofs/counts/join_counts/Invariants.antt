@@ -1,5 +1,0 @@
-use Rattle.std.proofs.Common.{◌≡◌, length, map, take}
-use Rattle.lft_nesting.proofs.counts.join_counts.Given as goal
-
-abbrev pub invariant-loop-reactor : goal.invariant-loop-reactor
-invariant-loop-reactor l = l.counts.items ≡ map (λ x. length x.joins.items) (take l.reactor-index l.table)

@@ -1,5 +1,0 @@
-use Rattle.lft_nesting.proofs.Reaching.{Linking}
-use Rattle.lft_nesting.proofs.linking.link_all.Given as goal
-
-abbrev pub invariant-ports : goal.invariant-ports
-invariant-ports l = Linking l.sources l.reached l.port l.links.items

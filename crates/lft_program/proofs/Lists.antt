@@ -1,0 +1,42 @@
+-- Elements of joined lists, of pairs, and of paths with one more step.
+use Rattle.std.proofs.Common.{◌≡◌, ℕ, zero, suc, ◌+◌, ◌⊎◌, inl, inr, List, [], ◌∷◌, ◌++◌, length, refl, ap, ◌∙◌, arith, Some, slice_get, flat_map}
+use Rattle.std.specs.List.{enumerate_from, zip}
+use Rattle.lft_lists.proofs.Places.{get_append_cases}
+use Rattle.lft_program.proofs.Counting.{total}
+
+-- from which element, and from which of its pieces, a piece comes
+pub record From {X Y : Type 0} (f : X → List Y) (xs : List X) (p : ℕ) (y : Y) : Type 0 where
+  pub number : ℕ
+  pub element : X
+  pub place : ℕ
+  pub is_element : slice_get xs number ≡ Some element
+  pub is_piece : slice_get (f element) place ≡ Some y
+  pub is_at : p ≡ total f number xs + place
+
+pub flat_back : {X Y : Type 0} (f : X → List Y) (xs : List X) (p : ℕ) (y : Y) → slice_get (flat_map f xs) p ≡ Some y → From f xs p y
+flat_back f [] p y e = absurd (cc)
+flat_back {X} {Y} f (x ∷ xs) p y e = by (get_append_cases (f x) (flat_map f xs) p y e) (λ j g. flat_back f xs j y g)
+  where
+    by : (slice_get (f x) p ≡ Some y) ⊎ ((j : ℕ) × (p ≡ length (f x) + j) × (slice_get (flat_map f xs) j ≡ Some y)) → ((j : ℕ) → slice_get (flat_map f xs) j ≡ Some y → From f xs j y) → From f (x ∷ xs) p y
+    by (inl a) more = record { number = 0; element = x; place = p; is_element = refl; is_piece = a; is_at = omega arith }
+    by (inr b) more =
+        let r = more b.0 b.2 in
+        let q : p ≡ length (f x) + b.0 = b.1 in
+        let s : b.0 ≡ total f r.number xs + r.place = r.is_at in
+        let t : total f (suc r.number) (x ∷ xs) ≡ length (f x) + total f r.number xs = refl in
+        record { number = suc r.number; element = r.element; place = r.place; is_element = r.is_element; is_piece = r.is_piece; is_at = omega arith }
+
+pub enumerate_back : {X : Type 0} (i : ℕ) (xs : List X) (n : ℕ) (y : ℕ × X) → slice_get (enumerate_from i xs) n ≡ Some y → (i + n ≡ y.0) × (slice_get xs n ≡ Some y.1)
+enumerate_back i [] n y e = absurd (cc)
+enumerate_back i (x ∷ xs) zero y e = let q : (i, x) ≡ y = cc in let z : i + 0 ≡ i = omega arith in (z ∙ ap (λ w. w.0) q, ap (λ w. Some w.1) q)
+enumerate_back i (x ∷ xs) (suc n) y e = let r = enumerate_back (i + 1) xs n y e in let z : i + suc n ≡ (i + 1) + n = omega arith in (z ∙ r.0, r.1)
+
+pub pair_back : {X Y : Type 0} (xs : List X) (ys : List Y) (k : ℕ) (p : X × Y) → slice_get (zip xs ys) k ≡ Some p → (slice_get xs k ≡ Some p.0) × (slice_get ys k ≡ Some p.1)
+pair_back [] ys k p e = absurd (cc)
+pair_back (x ∷ xs) [] k p e = absurd (cc)
+pair_back (x ∷ xs) (y ∷ ys) zero p e = let q : (x, y) ≡ p = cc in (ap (λ w. Some w.0) q, ap (λ w. Some w.1) q)
+pair_back (x ∷ xs) (y ∷ ys) (suc k) p e = pair_back xs ys k p e
+
+pub some_step : (p : List ℕ) (k : ℕ) → p ++ k ∷ [] ≡ [] → ⊥
+some_step [] k e = cc
+some_step (x ∷ p) k e = cc

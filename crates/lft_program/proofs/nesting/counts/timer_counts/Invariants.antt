@@ -1,0 +1,5 @@
+use Rattle.std.proofs.Common.{◌≡◌, length, map, take}
+use Rattle.lft_program.proofs.nesting.counts.timer_counts.Given as goal
+
+abbrev pub invariant-loop-reactor : goal.invariant-loop-reactor
+invariant-loop-reactor l = l.counts.items ≡ map (λ x. length x.timers.items) (take l.reactor-index l.table)

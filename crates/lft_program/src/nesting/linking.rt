@@ -1,0 +1,134 @@
+//! The source and the origin of each port.
+
+ghost use Rattle.std.specs.Prelude.{◌≡◌, ◌≢◌, ℕ, ◌<◌, None, Err, IfSome, IfOk, IfErr, OnOk, length};
+ghost use Rattle.lft_tree.specs.View.{tree_view};
+ghost use Rattle.lft_scope.specs.Causes.{IsFirst, NoneHolds};
+ghost use Rattle.lft_program.specs.Linking.{AreLinked, IsLinked, IsTooLong};
+ghost use Rattle.lft_program.specs.Links.{AreLinks, last_causes, number_of};
+ghost use Rattle.lft_program.specs.Nests.{IsNest};
+ghost use Rattle.lft_program.specs.Tables.{AreTables, IsLawful};
+ghost use Rattle.lft_program.specs.declared.nesting.linking.LinkFault.TheVariants as faults;
+
+use crate::nesting::nest::Nest;
+use crate::nesting::tables::Tables;
+use lft_causes::has_long_time;
+use lft_instances::{OriginFault, Reached, Source, find_origins, find_sources};
+use lft_tag::{NoMemory, Shift};
+use lft_tree::Ast;
+use std::alloc::{AllocFailed, Global};
+
+/// How a port is reached: the port before it with the delay of the connection from it in
+/// nanoseconds, the origin of its chain of connections, and the delays of that chain.
+#[derive(Clone, Copy, PartialEq, Eq, Drop)]
+pub struct Linked {
+    pub source: Option<Source>,
+    pub origin: u32,
+    pub shift: Shift,
+}
+
+/// Why ports have no origins, in the order in which the causes are answered.
+#[derive(Clone, Copy, PartialEq, Eq, Drop)]
+pub enum LinkFault {
+    /// Connections alone form a cycle.
+    ConnectionCycle,
+    /// A time, or the sum of a chain's delays, is past 10^18 nanoseconds.
+    DelayTooLong,
+    /// A growth of memory was refused.
+    NoMemory,
+}
+
+impl From<NoMemory> for LinkFault {
+    ghost use Rattle.std.specs.Prelude.{◌≡◌};
+    ghost use Rattle.lft_program.specs.declared.nesting.linking.LinkFault.TheVariants as faults;
+
+    ghost from_gives = { λ _ f. f ≡ faults.NoMemory };
+
+    fn from(_error: NoMemory) -> LinkFault {
+        LinkFault::NoMemory
+    }
+}
+
+impl<T: Drop> From<AllocFailed<T>> for LinkFault {
+    ghost use Rattle.std.specs.Prelude.{◌≡◌};
+    ghost use Rattle.lft_program.specs.declared.nesting.linking.LinkFault.TheVariants as faults;
+
+    ghost from_gives = { λ _ f. f ≡ faults.NoMemory };
+
+    fn from(_error: AllocFailed<T>) -> LinkFault {
+        LinkFault::NoMemory
+    }
+}
+
+// how a port is reached, or None where the delays of its chain sum to too much
+fn link_at(sources: &[Option<Source>], reached: &[Reached], port: usize) -> Option<Linked>
+    requires known { port < length sources.now }
+    requires as_long { length reached.now ≡ length sources.now }
+    ensures linked { IfSome result (λ l. IsLinked sources.now reached.now port l) }
+    ensures long { result ≡ None → IsTooLong reached.now port }
+{
+    let end = reached[port];
+    match end.shift {
+        Some(shift) => Some(Linked {
+            source: sources[port],
+            origin: end.origin,
+            shift,
+        }),
+        None => None,
+    }
+}
+
+// how each port is reached, by the ports' sources and the ends of their chains
+fn link_all(
+    alloc: Global,
+    sources: &[Option<Source>],
+    reached: &[Reached],
+) -> Result<Vec<Linked>, LinkFault>
+    requires { length reached.now ≡ length sources.now }
+    ensures linked { IfOk result (λ v. AreLinked sources.now reached.now v.items) }
+    ensures long { result ≡ Err LinkFault.DelayTooLong → (p : ℕ) × IsTooLong reached.now p }
+    ensures no_cycle { result ≢ Err LinkFault.ConnectionCycle }
+{
+    let mut links = Vec::new(alloc);
+    'ports: for port in 0..sources.len() {
+        match link_at(sources, reached, port) {
+            Some(link) => links.push(link)?,
+            None => return Err(LinkFault::DelayTooLong),
+        }
+    }
+    Ok(links)
+}
+
+/// How each port is reached, by the port's number. The tree is that of the tables and the nest. A
+/// cycle comes before a time that is too long.
+pub fn links(
+    alloc: Global,
+    ast: &Ast,
+    tables: &Tables,
+    nest: &Nest,
+) -> Result<Vec<Linked>, LinkFault>
+    requires tables { AreTables (tree_view ast.now) tables.now }
+    requires lawful { IsLawful (tree_view ast.now) }
+    requires nest { IsNest (tree_view ast.now) tables.now nest.now }
+    ensures links { IfOk result (λ v. (n : IsNest (tree_view ast.now) tables.now nest.now) → AreLinks (tree_view ast.now) n.located v.items) }
+    ensures none { OnOk result (NoneHolds (last_causes (tree_view ast.now))) }
+    ensures first { IfErr result (λ f. f ≢ faults.NoMemory → IsFirst (last_causes (tree_view ast.now)) (number_of f)) }
+{
+    let sources = find_sources(
+        alloc,
+        &tables.connections,
+        &nest.ports.counts,
+        &nest.instances,
+        &nest.ports.firsts,
+        &nest.children,
+        &nest.values,
+    )?;
+    let reached = match find_origins(alloc, &sources) {
+        Ok(reached) => reached,
+        Err(OriginFault::Cycle) => return Err(LinkFault::ConnectionCycle),
+        Err(OriginFault::NoMemory) => return Err(LinkFault::NoMemory),
+    };
+    if has_long_time(alloc, ast)? {
+        return Err(LinkFault::DelayTooLong);
+    }
+    link_all(alloc, &sources, &reached)
+}
