@@ -6,9 +6,9 @@ use Rattle.lft_trace.specs.declared.row.Row.{Row}
 use Rattle.lft_queue.specs.Pending.{Pending}
 use Rattle.lft_graph.specs.Graph.{IsGraphOf}
 use Rattle.lft_lists.proofs.Places.{get_same, length_same}
-use Rattle.lft_turn.specs.declared.phase.Phase.{Phase}
-use Rattle.lft_turn.specs.declared.phase.Phase.TheVariants.{Idle}
-use Rattle.lft_turn.specs.Turns.{TurnParts}
+use Rattle.lft_agenda.specs.declared.turn.phase.Phase.{Phase}
+use Rattle.lft_agenda.specs.declared.turn.phase.Phase.TheVariants.{Idle}
+use Rattle.lft_agenda.specs.Turns.{TurnParts}
 use Rattle.lft_model.specs.Plans.{PlanParts, IsSoundPlan}
 use Rattle.lft_model.specs.Recorded.{OnlyEndedAnswer}
 use Rattle.lft_model.proofs.Empty.{empty_so_far}

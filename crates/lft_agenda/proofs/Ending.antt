@@ -10,8 +10,8 @@ use Rattle.lft_flat.specs.declared.parts.Value.{Value}
 use Rattle.lft_trace.specs.declared.row.Row.{Row}
 use Rattle.lft_trace.specs.declared.row.Step.{Step}
 use Rattle.lft_queue.specs.Pending.{Pending}
-use Rattle.lft_turn.specs.declared.phase.Phase.TheVariants.{Idle, Waiting, Open}
-use Rattle.lft_turn.specs.Turns.{TurnParts}
+use Rattle.lft_agenda.specs.declared.turn.phase.Phase.TheVariants.{Idle, Waiting, Open}
+use Rattle.lft_agenda.specs.Turns.{TurnParts}
 use Rattle.lft_model.specs.Plans.{PlanParts, IsSoundPlan}
 use Rattle.lft_model.specs.Presence.{stop}
 use Rattle.lft_model.specs.Runs.{Run, start_row, by_ends}

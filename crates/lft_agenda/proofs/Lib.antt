@@ -1,3 +1,12 @@
+pub mod Blocked
+pub mod Blocking
+pub mod Adding
+pub mod Writing
+pub mod Telling
+pub mod Mirroring
+pub mod Spreading
+pub mod Changing
+pub mod Starting
 pub mod Opening
 pub mod Stops
 pub mod LedFirings

@@ -12,9 +12,9 @@ use Rattle.lft_flat.specs.declared.parts.Trigger.TheVariants.{Startup, Shutdown,
 use Rattle.lft_trace.specs.declared.row.Row.{Row}
 use Rattle.lft_queue.specs.Pending.{Pending, value_of, same_name, same_key, is_after}
 use Rattle.lft_queue.proofs.Tests.{test_before, before_test}
-use Rattle.lft_turn.specs.declared.phase.Phase.{Phase}
-use Rattle.lft_turn.specs.declared.phase.Phase.TheVariants.{Idle, Waiting, Open}
-use Rattle.lft_turn.specs.Turns.{TurnParts, NonePending}
+use Rattle.lft_agenda.specs.declared.turn.phase.Phase.{Phase}
+use Rattle.lft_agenda.specs.declared.turn.phase.Phase.TheVariants.{Idle, Waiting, Open}
+use Rattle.lft_agenda.specs.Turns.{TurnParts, NonePending}
 use Rattle.lft_graph.specs.Graph.{GraphParts, IsGraphOf}
 use Rattle.lft_model.specs.Plans.{PlanParts, IsSoundPlan}
 use Rattle.lft_model.specs.Presence.{stop, At, Occurs, Triggered}

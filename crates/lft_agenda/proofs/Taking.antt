@@ -11,7 +11,7 @@ use Rattle.lft_lists.proofs.Members.{Mem, mem_contains, contains_mem}
 use Rattle.lft_model.specs.Presence.{Fires}
 use Rattle.lft_listeners.specs.Listeners.{IsListener, IsLive}
 use Rattle.lft_queue.proofs.Tests.{test_before, not_before}
-use Rattle.lft_turn.specs.Turns.{TurnParts}
+use Rattle.lft_agenda.specs.Turns.{TurnParts}
 use Rattle.lft_agenda.specs.declared.firings.Firing.{Firing}
 use Rattle.lft_agenda.specs.Telling.{IsTold, FiresAt}
 use Rattle.lft_agenda.specs.Firings.{tag_of_firing, IsFirstOf, AreFirst, IsMoved, how_many_until}

@@ -5,10 +5,10 @@ use Rattle.lft_tag.proofs.Order.{UpTo_antisym}
 use Rattle.lft_trace.specs.declared.row.Row.{Row}
 use Rattle.lft_lists.proofs.Places.{get_there}
 use Rattle.lft_model.proofs.Places.{slice_get_within}
-use Rattle.lft_turn.specs.declared.phase.Phase.{Phase}
-use Rattle.lft_turn.specs.declared.phase.Phase.TheVariants.{Idle, Waiting, Open}
-use Rattle.lft_turn.specs.Turns.{TurnParts, IsReady, IsLeastReady, NoneOpen, NonePending}
-use Rattle.lft_turn.specs.Turns.{IsPending as IsBusyThere}
+use Rattle.lft_agenda.specs.declared.turn.phase.Phase.{Phase}
+use Rattle.lft_agenda.specs.declared.turn.phase.Phase.TheVariants.{Idle, Waiting, Open}
+use Rattle.lft_agenda.specs.Turns.{TurnParts, IsReady, IsLeastReady, NoneOpen, NonePending}
+use Rattle.lft_agenda.specs.Turns.{IsPending as IsBusyThere}
 use Rattle.lft_model.specs.Plans.{PlanParts, IsSoundPlan}
 use Rattle.lft_model.specs.Runs.{Ran, by_ends}
 use Rattle.lft_model.specs.OneWorker.{IsPending}

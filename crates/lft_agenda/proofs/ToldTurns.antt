@@ -11,9 +11,9 @@ use Rattle.lft_queue.specs.Pending.{Pending, value_of}
 use Rattle.lft_listeners.specs.Listeners.{IsListener, IsLive}
 use Rattle.lft_lists.proofs.Places.{get_there, get_written, get_unwritten, length_written, get_write_cases, same_at}
 use Rattle.lft_model.proofs.Places.{slice_get_within}
-use Rattle.lft_turn.specs.declared.phase.Phase.{Phase}
-use Rattle.lft_turn.specs.declared.phase.Phase.TheVariants.{Idle, Waiting, Open}
-use Rattle.lft_turn.specs.Turns.{TurnParts, IsPending}
+use Rattle.lft_agenda.specs.declared.turn.phase.Phase.{Phase}
+use Rattle.lft_agenda.specs.declared.turn.phase.Phase.TheVariants.{Idle, Waiting, Open}
+use Rattle.lft_agenda.specs.Turns.{TurnParts, IsPending}
 use Rattle.lft_agenda.specs.Telling.{IsTold, FiresAt, OccursBy, TriggeredByQueue, OfFirst}
 
 -- where the property holds of none, nothing changes

@@ -1,3 +1,7 @@
+pub mod Phases
+pub mod Turns
+pub mod Flags
+pub mod Seats
 pub mod OpenRuns
 pub mod Waits
 pub mod Telling

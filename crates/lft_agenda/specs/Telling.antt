@@ -13,9 +13,9 @@ use Rattle.lft_trace.specs.declared.row.Step.TheVariants.{Start, Read, Write, Sc
 use Rattle.lft_queue.specs.Pending.{Pending, value_of}
 use Rattle.lft_model.specs.Presence.{Fires}
 use Rattle.lft_listeners.specs.Listeners.{IsListener}
-use Rattle.lft_turn.specs.declared.phase.Phase.{Phase}
-use Rattle.lft_turn.specs.declared.phase.Phase.TheVariants.{Idle, Waiting}
-use Rattle.lft_turn.specs.Turns.{TurnParts}
+use Rattle.lft_agenda.specs.declared.turn.phase.Phase.{Phase}
+use Rattle.lft_agenda.specs.declared.turn.phase.Phase.TheVariants.{Idle, Waiting}
+use Rattle.lft_agenda.specs.Turns.{TurnParts}
 
 -- the idle reactions with a property wait now, and all else is as it was
 pub record IsTold (P : ℕ → Type 0) (old new : TurnParts) : Type 0 where

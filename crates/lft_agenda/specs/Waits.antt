@@ -4,9 +4,9 @@ use Rattle.lft_tag.specs.declared.Tag.{Tag}
 use Rattle.lft_tag.specs.Tags.{Before, UpTo}
 use Rattle.lft_trace.specs.declared.row.Row.{Row}
 use Rattle.lft_graph.specs.Graph.{IsGraphOf}
-use Rattle.lft_turn.specs.declared.phase.Phase.{Phase}
-use Rattle.lft_turn.specs.declared.phase.Phase.TheVariants.{Idle, Waiting, Open}
-use Rattle.lft_turn.specs.Turns.{TurnParts}
+use Rattle.lft_agenda.specs.declared.turn.phase.Phase.{Phase}
+use Rattle.lft_agenda.specs.declared.turn.phase.Phase.TheVariants.{Idle, Waiting, Open}
+use Rattle.lft_agenda.specs.Turns.{TurnParts}
 use Rattle.lft_model.specs.Plans.{PlanParts}
 use Rattle.lft_model.specs.Runs.{Ran, by_ends}
 use Rattle.lft_model.specs.OneWorker.{IsPending}

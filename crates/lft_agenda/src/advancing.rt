@@ -18,7 +18,7 @@ use lft_listeners::Listeners;
 use lft_model::Plan;
 use lft_queue::Queue;
 use lft_tag::Tag;
-use lft_turn::Turn;
+use crate::turn::Turn;
 
 // The lesser of the tag, if there is one after the first and up to the stop, and the least so far.
 fn sooner(least: Option<Tag>, from: Tag, stop: Tag, other: Option<Tag>) -> Option<Tag>

@@ -27,7 +27,7 @@ use lft_model::{Plan, Reads};
 use lft_queue::Queue;
 use lft_tag::{NoMemory, Tag};
 use lft_trace::Step;
-use lft_turn::Turn;
+use crate::turn::Turn;
 use std::alloc::Global;
 use std::marker::Model;
 

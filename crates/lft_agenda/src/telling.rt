@@ -15,7 +15,7 @@ use lft_lists::item_at;
 use lft_model::Plan;
 use lft_queue::Queue;
 use lft_tag::Tag;
-use lft_turn::Turn;
+use crate::turn::Turn;
 
 /// Where the trigger is present, the reactions that listen to it are told.
 pub(crate) fn tell_of(

@@ -1,9 +1,9 @@
 //! A run starts or ends at the tag of the turn.
 
 ghost use Rattle.std.specs.Prelude.{◌≡◌, Some, length, slice_get, slice_set};
-ghost use Rattle.lft_turn.specs.declared.phase.Phase.TheVariants.{Waiting, Open, Idle};
+ghost use Rattle.lft_agenda.specs.declared.turn.phase.Phase.TheVariants.{Waiting, Open, Idle};
 
-use lft_turn::{Phase, Turn};
+use crate::turn::{Phase, Turn};
 
 /// The run of the reaction starts, where it waits.
 // The agenda's clauses say what they need of the reaction only for the rows that it is of, so there is

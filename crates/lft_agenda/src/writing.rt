@@ -13,7 +13,7 @@ use lft_lists::item_at;
 use lft_model::Plan;
 use lft_tag::Tag;
 use lft_trace::Step;
-use lft_turn::Turn;
+use crate::turn::Turn;
 
 // Those that listen to a port where a write of the origin at the tag arrives at once.
 fn tell_write(

@@ -3,7 +3,7 @@ use Rattle.lft_tag.specs.declared.Tag.{Tag}
 use Rattle.lft_tag.specs.Tags.{Before, UpTo}
 use Rattle.lft_trace.specs.declared.row.Row.{Row}
 use Rattle.lft_queue.specs.Pending.{Pending}
-use Rattle.lft_turn.specs.Turns.{NonePending}
+use Rattle.lft_agenda.specs.Turns.{NonePending}
 use Rattle.lft_agenda.specs.Waits.{IsCovered}
 use Rattle.lft_agenda.specs.Telling.{TriggeredByQueue}
 use Rattle.lft_agenda.specs.Agendas.{MayAdvance, IsReached}

@@ -1,9 +1,0 @@
-pub mod Blocked
-pub mod Blocking
-pub mod Adding
-pub mod Writing
-pub mod Telling
-pub mod Mirroring
-pub mod Spreading
-pub mod Changing
-pub mod Starting

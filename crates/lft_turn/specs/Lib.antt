@@ -1,4 +1,0 @@
-pub mod Phases
-pub mod Turns
-pub mod Flags
-pub mod Seats
