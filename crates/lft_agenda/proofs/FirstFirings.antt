@@ -21,7 +21,7 @@ use Rattle.lft_lists.proofs.Places.{same_some, same_at, at_contains}
 use Rattle.lft_model.proofs.Places.{slice_get_within}
 use Rattle.lft_queue.specs.Pending.{Pending}
 use Rattle.lft_model.specs.Presence.{Fires}
-use Rattle.lft_listeners.specs.Listeners.{IsLive}
+use Rattle.lft_agenda.specs.Listeners.{IsLive}
 use Rattle.lft_agenda.specs.declared.firings.Firing.{Firing}
 use Rattle.lft_agenda.specs.Waits.{IsBetween, IsCovered}
 use Rattle.lft_agenda.specs.Telling.{FiresAt, TriggeredByQueue}

@@ -9,8 +9,8 @@ use Rattle.lft_flat.specs.Parts.{Parts}
 use Rattle.lft_flat.specs.declared.parts.Timer.{Timer as TimerOf}
 use Rattle.lft_flat.specs.declared.parts.Trigger.TheVariants.{Timer}
 use Rattle.lft_model.specs.Presence.{Fires}
-use Rattle.lft_listeners.specs.Listeners.{beat, IsLeader, IsListener, IsLive}
-use Rattle.lft_listeners.proofs.Led.{led}
+use Rattle.lft_agenda.specs.Listeners.{beat, IsLeader, IsListener, IsLive}
+use Rattle.lft_agenda.proofs.Led.{led}
 use Rattle.lft_agenda.specs.Telling.{FiresAt}
 
 -- the later of two offsets that go as far past whole periods is whole periods after the other

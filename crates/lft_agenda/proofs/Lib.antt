@@ -1,3 +1,9 @@
+pub mod Pushing
+pub mod Filling
+pub mod Leaders
+pub mod Led
+pub mod Arriving
+pub mod Watching
 pub mod Blocked
 pub mod Blocking
 pub mod Adding

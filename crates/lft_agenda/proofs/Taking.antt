@@ -9,7 +9,7 @@ use Rattle.lft_flat.specs.Parts.{Parts}
 use Rattle.lft_flat.specs.declared.parts.Trigger.TheVariants.{Timer}
 use Rattle.lft_lists.proofs.Members.{Mem, mem_contains, contains_mem}
 use Rattle.lft_model.specs.Presence.{Fires}
-use Rattle.lft_listeners.specs.Listeners.{IsListener, IsLive}
+use Rattle.lft_agenda.specs.Listeners.{IsListener, IsLive}
 use Rattle.lft_queue.proofs.Tests.{test_before, not_before}
 use Rattle.lft_agenda.specs.Turns.{TurnParts}
 use Rattle.lft_agenda.specs.declared.firings.Firing.{Firing}

@@ -8,7 +8,7 @@ use Rattle.lft_flat.specs.declared.parts.Name.{Name}
 use Rattle.lft_flat.specs.declared.parts.Trigger.{Trigger}
 use Rattle.lft_flat.specs.declared.parts.Trigger.TheVariants.{Startup, Shutdown, Timer, On}
 use Rattle.lft_queue.specs.Pending.{Pending, value_of}
-use Rattle.lft_listeners.specs.Listeners.{IsListener, IsLive}
+use Rattle.lft_agenda.specs.Listeners.{IsListener, IsLive}
 use Rattle.lft_lists.proofs.Places.{get_there, get_written, get_unwritten, length_written, get_write_cases, same_at}
 use Rattle.lft_model.proofs.Places.{slice_get_within}
 use Rattle.lft_agenda.specs.declared.turn.phase.Phase.{Phase}

@@ -9,7 +9,7 @@ use Rattle.lft_trace.specs.declared.row.Step.{Step}
 use Rattle.lft_trace.specs.declared.row.Step.TheVariants.{Stop}
 use Rattle.lft_queue.specs.Pending.{Pending}
 use Rattle.lft_agenda.specs.Turns.{TurnParts}
-use Rattle.lft_listeners.specs.Listeners.{ListenerParts, AreListeners, AreArrivals}
+use Rattle.lft_agenda.specs.Listeners.{ListenerParts, AreListeners, AreArrivals}
 use Rattle.lft_model.specs.Plans.{PlanParts, IsSoundPlan}
 use Rattle.lft_model.specs.Presence.{Inputs, stop}
 use Rattle.lft_model.specs.Runs.{by_ends}

@@ -9,7 +9,7 @@ use Rattle.lft_tag.specs.Tags.{Before, UpTo, is_before}
 use Rattle.lft_flat.specs.Parts.{Parts}
 use Rattle.lft_flat.specs.declared.parts.Timer.{Timer as TimerOf}
 use Rattle.lft_model.specs.Presence.{Fires}
-use Rattle.lft_listeners.specs.Listeners.{IsLive}
+use Rattle.lft_agenda.specs.Listeners.{IsLive}
 use Rattle.lft_agenda.specs.declared.firings.Firing.{Firing}
 use Rattle.lft_agenda.specs.Telling.{FiresAt}
 

@@ -1,3 +1,6 @@
+pub mod Listeners
+pub mod Lists
+pub mod Filling
 pub mod Phases
 pub mod Turns
 pub mod Flags

@@ -12,7 +12,7 @@ use Rattle.lft_trace.specs.declared.row.Step.{Step}
 use Rattle.lft_trace.specs.declared.row.Step.TheVariants.{Start, Read, Write, Schedule, Stop, End}
 use Rattle.lft_queue.specs.Pending.{Pending, value_of}
 use Rattle.lft_model.specs.Presence.{Fires}
-use Rattle.lft_listeners.specs.Listeners.{IsListener}
+use Rattle.lft_agenda.specs.Listeners.{IsListener}
 use Rattle.lft_agenda.specs.declared.turn.phase.Phase.{Phase}
 use Rattle.lft_agenda.specs.declared.turn.phase.Phase.TheVariants.{Idle, Waiting}
 use Rattle.lft_agenda.specs.Turns.{TurnParts}

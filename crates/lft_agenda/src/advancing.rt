@@ -6,7 +6,7 @@ ghost use Rattle.lft_tag.specs.Tags.{Before, UpTo};
 ghost use Rattle.lft_flat.specs.Parts.{Parts};
 ghost use Rattle.lft_trace.specs.declared.row.Row.{Row as RowOf};
 ghost use Rattle.lft_queue.specs.Pending.{Pending};
-ghost use Rattle.lft_listeners.specs.Listeners.{AreListeners};
+ghost use Rattle.lft_agenda.specs.Listeners.{AreListeners};
 ghost use Rattle.lft_agenda.specs.Waits.{IsBetween, IsCovered};
 ghost use Rattle.lft_agenda.specs.Telling.{TriggeredByQueue};
 ghost use Rattle.lft_agenda.specs.Firings.{AreFirst};
@@ -14,7 +14,7 @@ ghost use Rattle.lft_agenda.specs.Agendas.{MayAdvance, IsReached, IsCurrent};
 
 use crate::firings::Firings;
 use crate::telling::tell;
-use lft_listeners::Listeners;
+use crate::listeners::Listeners;
 use lft_model::Plan;
 use lft_queue::Queue;
 use lft_tag::Tag;

@@ -22,7 +22,7 @@ use crate::turning::{finish, start};
 use crate::writing::tell_writes;
 use lft_events::{feed, first_events, read_inputs};
 use lft_flat::Value;
-use lft_listeners::{Arrivals, Listeners};
+use crate::listeners::{Arrivals, Listeners};
 use lft_model::{Plan, Reads};
 use lft_queue::Queue;
 use lft_tag::{NoMemory, Tag};

@@ -3,12 +3,12 @@
 ghost use Rattle.std.specs.Prelude.{◌≡◌, ◌≤◌, ◌<◌, [], length, IfOk, IfSome, IfNone, Contains};
 ghost use Rattle.lft_tag.specs.Tags.{Before, UpTo};
 ghost use Rattle.lft_model.specs.Presence.{Fires};
-ghost use Rattle.lft_listeners.specs.Listeners.{AreListeners};
+ghost use Rattle.lft_agenda.specs.Listeners.{AreListeners};
 ghost use Rattle.lft_agenda.specs.declared.firings.Firing.{Firing as FiringOf};
 ghost use Rattle.lft_agenda.specs.Firings.{tag_of_firing, IsFirstFiring, AreFirst, IsMoved};
 
 use lft_flat::{Program, Timer};
-use lft_listeners::Listeners;
+use crate::listeners::Listeners;
 use lft_lists::item_at;
 use lft_tag::{NoMemory, Tag};
 use std::alloc::Global;

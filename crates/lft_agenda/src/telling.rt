@@ -3,14 +3,14 @@
 ghost use Rattle.std.specs.Prelude.{◌≡◌, ◌≤◌, length, IsSome, IsTrue};
 ghost use Rattle.lft_tag.specs.Tags.{Before, UpTo};
 ghost use Rattle.lft_flat.specs.declared.parts.Name.{Name as NameOf};
-ghost use Rattle.lft_listeners.specs.Listeners.{IsListener, AreListeners};
+ghost use Rattle.lft_agenda.specs.Listeners.{IsListener, AreListeners};
 ghost use Rattle.lft_queue.specs.Pending.{value_of};
 ghost use Rattle.lft_agenda.specs.Telling.{IsTold, FiresAt, TriggeredByQueue};
 ghost use Rattle.lft_agenda.specs.Firings.{AreFirst};
 
 use crate::firings::Firings;
 use lft_flat::Trigger;
-use lft_listeners::Listeners;
+use crate::listeners::Listeners;
 use lft_lists::item_at;
 use lft_model::Plan;
 use lft_queue::Queue;

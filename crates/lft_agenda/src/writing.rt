@@ -3,12 +3,12 @@
 ghost use Rattle.std.specs.Prelude.{◌≡◌, length};
 ghost use Rattle.lft_tag.specs.Tags.{IsRecorded};
 ghost use Rattle.lft_flat.specs.declared.parts.Name.{Name as NameOf};
-ghost use Rattle.lft_listeners.specs.Listeners.{IsListener, AreListeners, AreArrivals};
+ghost use Rattle.lft_agenda.specs.Listeners.{IsListener, AreListeners, AreArrivals};
 ghost use Rattle.lft_agenda.specs.Telling.{IsTold, ArrivesAtOnce, TriggeredByWrites};
 
 use crate::telling::tell_of;
 use lft_flat::{Name, Trigger};
-use lft_listeners::{Arrivals, Listeners};
+use crate::listeners::{Arrivals, Listeners};
 use lft_lists::item_at;
 use lft_model::Plan;
 use lft_tag::Tag;

@@ -7,8 +7,8 @@ use Rattle.lft_tag.proofs.Order.{UpTo-Before}
 use Rattle.lft_tag.proofs.Chains.{tag_of, shifted_same}
 use Rattle.lft_flat.specs.declared.parts.Port.{Port as PortOf}
 use Rattle.lft_trace.specs.declared.row.Row.{Row}
-use Rattle.lft_listeners.specs.Listeners.{IsArrival, IsWatched, arrival, IsFirstDelayed}
-use Rattle.lft_listeners.proofs.Watching.{delayed_first}
+use Rattle.lft_agenda.specs.Listeners.{IsArrival, IsWatched, arrival, IsFirstDelayed}
+use Rattle.lft_agenda.proofs.Watching.{delayed_first}
 use Rattle.lft_model.specs.Plans.{PlanParts, IsSoundPlan}
 use Rattle.lft_model.specs.Presence.{Last, PortClash}
 use Rattle.lft_events.specs.Events.{IsEarlier}

@@ -23,7 +23,7 @@ use Rattle.lft_queue.proofs.Tests.{name_refl}
 use Rattle.lft_model.specs.Plans.{PlanParts, IsSoundPlan}
 use Rattle.lft_model.specs.Presence.{Last, IsWrittenFrom, At, PortClash, ClashesAt}
 use Rattle.lft_model.proofs.Places.{tag_discrete}
-use Rattle.lft_listeners.specs.Listeners.{IsWatched}
+use Rattle.lft_agenda.specs.Listeners.{IsWatched}
 use Rattle.lft_events.specs.Events.{IsWanted, IsPut, seen_by, IsFedTo, WasWritten}
 use Rattle.lft_events.proofs.Heard.{heard}
 use Rattle.lft_events.proofs.Written.{shifts_on, from_written, to_written, elsewhere_at, elsewhere_clash, more_clash, one_event, two_events}

@@ -25,7 +25,7 @@ use Rattle.lft_model.proofs.Counted.{get_or_get}
 use Rattle.lft_model.proofs.Steps.{both_true, same_tag_true}
 use Rattle.lft_model.proofs.Reached.{input_of_trigger}
 use Rattle.lft_model.proofs.Empty.{empty_so_far}
-use Rattle.lft_listeners.specs.Listeners.{IsListener}
+use Rattle.lft_agenda.specs.Listeners.{IsListener}
 use Rattle.lft_events.specs.Events.{IsWatchedName, HasEvents}
 use Rattle.lft_events.proofs.Fed.{none_there, some_there}
 use Rattle.std.proofs.NetLemmas.Options.{cond_some}

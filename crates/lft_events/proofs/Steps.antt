@@ -20,7 +20,7 @@ use Rattle.lft_trace.specs.declared.row.Step.{Step}
 use Rattle.lft_trace.specs.declared.row.Step.TheVariants.{Write, Schedule, End}
 use Rattle.lft_queue.specs.Pending.{Pending, value_of, same_name}
 use Rattle.lft_queue.proofs.Tests.{name_refl}
-use Rattle.lft_listeners.specs.Listeners.{IsArrival, IsWatched}
+use Rattle.lft_agenda.specs.Listeners.{IsArrival, IsWatched}
 use Rattle.lft_model.specs.Plans.{PlanParts, IsSoundPlan}
 use Rattle.lft_model.specs.Presence.{written, value_scheduled, scheduled, given, min_delay, events_of, Last, IsWrittenFrom, At, PortClash, ClashesAt}
 use Rattle.lft_model.specs.Recorded.{run_row, committed_rows}

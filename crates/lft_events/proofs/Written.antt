@@ -17,7 +17,7 @@ use Rattle.lft_flat.specs.declared.parts.Name.TheVariants.{Port}
 use Rattle.lft_trace.specs.declared.row.Row.{Row}
 use Rattle.lft_trace.specs.declared.row.Step.{Step}
 use Rattle.lft_trace.specs.declared.row.Step.TheVariants.{Write}
-use Rattle.lft_listeners.specs.Listeners.{IsArrival}
+use Rattle.lft_agenda.specs.Listeners.{IsArrival}
 use Rattle.lft_model.specs.Plans.{PlanParts, IsSoundPlan}
 use Rattle.lft_model.specs.Presence.{value_written, written, Last, IsWrittenFrom, At, PortClash, ClashesAt}
 use Rattle.lft_model.proofs.Places.{tag_discrete}

@@ -9,7 +9,7 @@ use Rattle.lft_flat.specs.declared.parts.Value.{Value}
 use Rattle.lft_flat.specs.declared.parts.Name.{Name}
 use Rattle.lft_flat.specs.declared.parts.Name.TheVariants.{Port, Action}
 use Rattle.lft_trace.specs.declared.row.Row.{Row}
-use Rattle.lft_listeners.specs.Listeners.{IsWatched}
+use Rattle.lft_agenda.specs.Listeners.{IsWatched}
 use Rattle.lft_queue.specs.Pending.{Pending, value_of, Becomes}
 use Rattle.lft_model.specs.Plans.{PlanParts}
 use Rattle.lft_model.specs.Presence.{At, ClashesAt, Last}

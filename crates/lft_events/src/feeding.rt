@@ -2,7 +2,7 @@
 
 ghost use Rattle.std.specs.Prelude.{◌≡◌, ◌<◌, ◌≤◌, ◌+◌, ◌++◌, ◌∷◌, [], ℕ, List, length, slice_get, Some, None, IfOk, Contains};
 ghost use Rattle.lft_tag.specs.Tags.{UpTo, IsRecorded};
-ghost use Rattle.lft_listeners.specs.Listeners.{IsArrival, IsWatched, AreArrivals};
+ghost use Rattle.lft_agenda.specs.Listeners.{IsArrival, IsWatched, AreArrivals};
 ghost use Rattle.lft_trace.specs.declared.row.Row.{Row as RowOf};
 ghost use Rattle.lft_trace.specs.Fits.{StepFits};
 ghost use Rattle.lft_model.specs.Recorded.{run_row, committed_rows};
@@ -10,7 +10,7 @@ ghost use Rattle.lft_trace.specs.declared.row.Step.{Step as StepOf};
 ghost use Rattle.lft_events.specs.Events.{HasEvents, IsPut, IsFedTo, KnowsAgain};
 
 use lft_flat::{Name, Value};
-use lft_listeners::Arrivals;
+use lft_agenda::Arrivals;
 use lft_lists::item_at;
 use lft_model::Plan;
 use lft_queue::{Queue, QueueFault};

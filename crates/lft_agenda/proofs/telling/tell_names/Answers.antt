@@ -3,7 +3,7 @@ use Rattle.lft_flat.specs.declared.parts.Name.{Name}
 use Rattle.lft_flat.specs.declared.parts.Trigger.TheVariants.{On}
 use Rattle.lft_queue.specs.Pending.{value_of}
 use Rattle.lft_lists.proofs.Places.{contains_at, at_contains}
-use Rattle.lft_listeners.specs.Listeners.{IsListener}
+use Rattle.lft_agenda.specs.Listeners.{IsListener}
 use Rattle.lft_agenda.proofs.ToldTurns.{told_as, told_begun, told_next, told_each, drop_head, drop_none}
 use Rattle.lft_agenda.proofs.telling.tell_names.Goals as goal
 

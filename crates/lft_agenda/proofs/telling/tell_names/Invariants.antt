@@ -1,7 +1,7 @@
 use Rattle.std.proofs.Common.{◌≡◌, ℕ, drop}
 use Rattle.lft_flat.specs.declared.parts.Name.{Name}
 use Rattle.lft_flat.specs.declared.parts.Trigger.TheVariants.{On}
-use Rattle.lft_listeners.specs.Listeners.{IsListener}
+use Rattle.lft_agenda.specs.Listeners.{IsListener}
 use Rattle.lft_agenda.specs.Telling.{IsTold, OfFirst}
 use Rattle.lft_agenda.proofs.telling.tell_names.Given as goal
 

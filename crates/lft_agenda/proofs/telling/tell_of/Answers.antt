@@ -2,7 +2,7 @@ use Rattle.std.proofs.Common.{◌≡◌, ℕ, ◌<◌, length, IsTrue, refl, sym
 use Rattle.std.proofs.lemmas.Bool.{false≢true}
 use Rattle.lft_lists.proofs.Places.{contains_at, at_contains}
 use Rattle.lft_model.proofs.Places.{slice_get_within}
-use Rattle.lft_listeners.specs.Listeners.{IsListener}
+use Rattle.lft_agenda.specs.Listeners.{IsListener}
 use Rattle.lft_agenda.proofs.ToldTurns.{told_none, told_begun, told_next, told_each, told_one}
 use Rattle.lft_agenda.proofs.telling.tell_of.Goals as goal
 

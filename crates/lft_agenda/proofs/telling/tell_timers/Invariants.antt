@@ -1,7 +1,7 @@
 use Rattle.std.proofs.Common.{ℕ, List}
 use Rattle.lft_flat.specs.declared.parts.Trigger.TheVariants.{Timer}
 use Rattle.lft_lists.proofs.Members.{Mem}
-use Rattle.lft_listeners.specs.Listeners.{IsListener}
+use Rattle.lft_agenda.specs.Listeners.{IsListener}
 use Rattle.lft_agenda.specs.Telling.{IsTold}
 use Rattle.lft_agenda.specs.Firings.{how_many_until}
 use Rattle.lft_agenda.proofs.Taking.{AreTaken}

@@ -5,7 +5,7 @@ use Rattle.lft_flat.specs.declared.parts.Name.TheVariants.{Port}
 use Rattle.lft_trace.specs.declared.row.Step.TheVariants.{Write}
 use Rattle.lft_lists.proofs.Places.{contains_at}
 use Rattle.lft_queue.specs.Pending.{value_of}
-use Rattle.lft_listeners.specs.Listeners.{IsArrival, IsWatched}
+use Rattle.lft_agenda.specs.Listeners.{IsArrival, IsWatched}
 use Rattle.lft_model.specs.Recorded.{run_row}
 use Rattle.lft_events.specs.Events.{IsFedTo}
 use Rattle.lft_events.proofs.Fed.{taken_more, unmet_yet}

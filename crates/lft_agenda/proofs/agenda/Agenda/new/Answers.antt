@@ -5,7 +5,7 @@ use Rattle.lft_flat.specs.Parts.{Parts}
 use Rattle.lft_trace.specs.Inputs.{ExternalInputs}
 use Rattle.lft_graph.specs.Graph.{GraphParts, IsGraphOf}
 use Rattle.lft_agenda.specs.declared.turn.phase.Phase.TheVariants.{Idle}
-use Rattle.lft_listeners.specs.Listeners.{AreListeners, AreArrivals}
+use Rattle.lft_agenda.specs.Listeners.{AreListeners, AreArrivals}
 use Rattle.lft_lists.proofs.Places.{length_same}
 use Rattle.lft_agenda.specs.declared.open.OpenRun.{OpenRun}
 use Rattle.lft_agenda.specs.OpenRuns.{AreOpen}

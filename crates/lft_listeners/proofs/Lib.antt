@@ -1,6 +1,0 @@
-pub mod Pushing
-pub mod Filling
-pub mod Leaders
-pub mod Led
-pub mod Arriving
-pub mod Watching

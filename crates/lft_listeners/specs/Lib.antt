@@ -1,3 +1,0 @@
-pub mod Listeners
-pub mod Lists
-pub mod Filling
