@@ -39,7 +39,7 @@ use Rattle.lft_model.proofs.Added.{added_row}
 use Rattle.lft_model.proofs.Committed.{not_ended, its_time, new_stop}
 use Rattle.lft_model.proofs.Recording.{precedes_ended}
 use Rattle.lft_model.proofs.Quiet.{pending_now, pending_triggered, pending_open}
-use Rattle.lft_events.proofs.Written.{from_written, to_written}
+use Rattle.lft_agenda.proofs.Written.{from_written, to_written}
 use Rattle.lft_agenda.specs.Listeners.{IsListener}
 use Rattle.lft_agenda.specs.Telling.{ArrivesAtOnce, TriggeredByWrites}
 use Rattle.lft_agenda.specs.Agendas.{MayEnd}

@@ -1,3 +1,10 @@
+pub mod Heard
+pub mod Written
+pub mod Carried
+pub mod Fed
+pub mod Steps
+pub mod Given
+pub mod Keeping
 pub mod Pushing
 pub mod Filling
 pub mod Leaders

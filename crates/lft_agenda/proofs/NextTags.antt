@@ -26,10 +26,10 @@ use Rattle.lft_lists.proofs.Members.{contains_mem}
 use Rattle.lft_model.proofs.Places.{slice_get_within}
 use Rattle.lft_model.proofs.Steps.{both_true, same_tag_true}
 use Rattle.lft_model.proofs.Quiet.{pending_now, pending_time, pending_triggered}
-use Rattle.lft_events.specs.Events.{IsWatchedName, HasEvents}
-use Rattle.lft_events.proofs.Given.{listened_watched}
+use Rattle.lft_agenda.specs.Events.{IsWatchedName, HasEvents}
+use Rattle.lft_agenda.proofs.Given.{listened_watched}
 use Rattle.lft_agenda.specs.Listeners.{IsListener}
-use Rattle.lft_events.proofs.Fed.{some_there}
+use Rattle.lft_agenda.proofs.Fed.{some_there}
 use Rattle.lft_recording.specs.Starts.{SomethingLeft}
 use Rattle.lft_agenda.specs.Waits.{IsBetween, IsCovered, PhaseIs, IsTurnOf}
 use Rattle.lft_agenda.specs.Telling.{IsTold, OccursBy, TriggeredByQueue}

@@ -19,7 +19,7 @@ use Rattle.lft_model.specs.Recorded.{SoFar, OnlyEndedAnswer, committed_rows}
 use Rattle.lft_recording.specs.Answering.{MayAll}
 use Rattle.lft_recording.specs.Collisions.{CollidesFirst, IsClean}
 use Rattle.lft_recording.specs.Starts.{MayStart, MayStartFirst, NoneMayStart, NothingLeft, SomethingLeft, IsAnyOpen, IsBusy}
-use Rattle.lft_events.specs.Events.{HasEvents}
+use Rattle.lft_agenda.specs.Events.{HasEvents}
 use Rattle.lft_agenda.specs.declared.found.NextRun.{NextRun}
 use Rattle.lft_agenda.specs.declared.found.NextRun.TheVariants.{Ready, Blocked, Nothing}
 use Rattle.lft_agenda.specs.declared.open.OpenRun.{OpenRun}

@@ -1,3 +1,4 @@
+pub mod Events
 pub mod Listeners
 pub mod Lists
 pub mod Filling

@@ -20,7 +20,7 @@ use crate::stopping::stop_with;
 use crate::telling::tell;
 use crate::turning::{finish, start};
 use crate::writing::tell_writes;
-use lft_events::{feed, first_events, read_inputs};
+use crate::events::{feed, first_events, read_inputs};
 use lft_flat::Value;
 use crate::listeners::{Arrivals, Listeners};
 use lft_model::{Plan, Reads};

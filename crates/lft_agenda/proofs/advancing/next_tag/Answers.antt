@@ -5,7 +5,7 @@ use Rattle.lft_tag.proofs.Order.{UpTo-refl}
 use Rattle.lft_flat.specs.Parts.{Parts}
 use Rattle.lft_flat.specs.declared.parts.Trigger.{Trigger}
 use Rattle.lft_flat.specs.declared.parts.Trigger.TheVariants.{Startup, Shutdown, Timer, On}
-use Rattle.lft_events.proofs.Fed.{some_there}
+use Rattle.lft_agenda.proofs.Fed.{some_there}
 use Rattle.lft_queue.specs.Pending.{Pending, value_of}
 use Rattle.lft_agenda.specs.Listeners.{IsListener}
 use Rattle.lft_agenda.specs.Waits.{IsCovered}

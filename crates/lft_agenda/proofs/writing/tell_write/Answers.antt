@@ -9,7 +9,7 @@ use Rattle.lft_trace.specs.declared.row.Step.TheVariants.{Write}
 use Rattle.lft_lists.proofs.Places.{contains_at, at_contains, same_some}
 use Rattle.lft_model.proofs.Places.{slice_get_within}
 use Rattle.lft_agenda.specs.Listeners.{IsListener, IsArrival}
-use Rattle.lft_events.proofs.Given.{listened_watched}
+use Rattle.lft_agenda.proofs.Given.{listened_watched}
 use Rattle.lft_agenda.specs.Telling.{ArrivesAtOnce}
 use Rattle.lft_agenda.proofs.ToldTurns.{told_as, told_begun, told_next, told_each}
 use Rattle.lft_agenda.proofs.writing.tell_write.Goals as goal

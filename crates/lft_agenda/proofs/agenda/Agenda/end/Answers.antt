@@ -3,7 +3,7 @@ use Rattle.std.specs.List.{filter}
 use Rattle.lft_tag.specs.declared.Tag.{Tag}
 use Rattle.lft_model.specs.Presence.{stop as the_stop}
 use Rattle.lft_model.specs.Recorded.{committed_rows}
-use Rattle.lft_events.specs.Events.{HasEvents}
+use Rattle.lft_agenda.specs.Events.{HasEvents}
 use Rattle.lft_agenda.specs.OpenRuns.{is_run}
 use Rattle.lft_agenda.specs.Agendas.{AgendaParts, IsAgenda, IsOf}
 use Rattle.lft_agenda.proofs.Ending.{its_end, from_here, ended_reached, may_go_on, stays_current, ended_agenda}
