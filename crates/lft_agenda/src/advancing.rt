@@ -13,12 +13,12 @@ ghost use Rattle.lft_agenda.specs.Firings.{AreFirst};
 ghost use Rattle.lft_agenda.specs.Agendas.{MayAdvance, IsReached, IsCurrent};
 
 use crate::firings::Firings;
-use crate::telling::tell;
 use crate::listeners::Listeners;
+use crate::telling::tell;
+use crate::turn::Turn;
 use lft_model::Plan;
 use lft_queue::Queue;
 use lft_tag::Tag;
-use crate::turn::Turn;
 
 // The lesser of the tag, if there is one after the first and up to the stop, and the least so far.
 fn sooner(least: Option<Tag>, from: Tag, stop: Tag, other: Option<Tag>) -> Option<Tag>

@@ -13,21 +13,21 @@ ghost use Rattle.lft_agenda.specs.Agendas.{IsAgenda, IsOf, MayFind, Finds, MayBe
 ghost use Rattle.lft_agenda.specs.OpenRuns.{HasReads};
 
 use crate::advancing::advance;
+use crate::events::{feed, first_events, read_inputs};
 use crate::firings::Firings;
 use crate::found::NextRun;
+use crate::listeners::{Arrivals, Listeners};
 use crate::open::{OpenRun, has_reads, is_busy, take_out};
 use crate::stopping::stop_with;
 use crate::telling::tell;
+use crate::turn::Turn;
 use crate::turning::{finish, start};
 use crate::writing::tell_writes;
-use crate::events::{feed, first_events, read_inputs};
 use lft_flat::Value;
-use crate::listeners::{Arrivals, Listeners};
 use lft_model::{Plan, Reads};
 use lft_queue::Queue;
 use lft_tag::{NoMemory, Tag};
 use lft_trace::Step;
-use crate::turn::Turn;
 use std::alloc::Global;
 use std::marker::Model;
 

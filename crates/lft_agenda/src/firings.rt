@@ -7,8 +7,8 @@ ghost use Rattle.lft_agenda.specs.Listeners.{AreListeners};
 ghost use Rattle.lft_agenda.specs.declared.firings.Firing.{Firing as FiringOf};
 ghost use Rattle.lft_agenda.specs.Firings.{tag_of_firing, IsFirstFiring, AreFirst, IsMoved};
 
-use lft_flat::{Program, Timer};
 use crate::listeners::Listeners;
+use lft_flat::{Program, Timer};
 use lft_lists::item_at;
 use lft_tag::{NoMemory, Tag};
 use std::alloc::Global;

@@ -4,11 +4,14 @@
 
 mod advancing;
 mod agenda;
+mod events;
 mod firings;
 mod found;
+mod listeners;
 mod open;
 mod stopping;
 mod telling;
+mod turn;
 mod turning;
 mod writing;
 

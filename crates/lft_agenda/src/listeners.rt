@@ -13,10 +13,9 @@ mod leading;
 mod lists;
 mod watched;
 
-pub(crate) use arrivals::Arrivals;
-
 use crate::listeners::by_trigger::ByTrigger;
 use crate::listeners::leading::live_timers;
+pub(crate) use arrivals::Arrivals;
 use lft_flat::{Program, Trigger};
 use lft_lists::item_at;
 use lft_tag::NoMemory;
@@ -25,7 +24,7 @@ use std::marker::Model;
 
 /// The listeners of each trigger of a program: the reactions that it triggers.
 #[derive(Drop)]
-pub struct Listeners {
+pub(crate) struct Listeners {
     by_trigger: ByTrigger,
     live_timers: Vec<u32>,
 }
@@ -64,7 +63,7 @@ fn by_trigger(alloc: Global, program: &Program) -> Result<ByTrigger, NoMemory>
 impl Listeners {
     /// The listeners of the program. It costs what the program's triggers, timers, ports and
     /// actions are.
-    pub fn new(alloc: Global, program: &Program) -> Result<Listeners, NoMemory>
+    pub(crate) fn new(alloc: Global, program: &Program) -> Result<Listeners, NoMemory>
         ensures { IfOk result (λ listeners. AreListeners program.now listeners) }
     {
         // Asked for what every program keeps: a timer that a reaction names is one of the program.
@@ -78,7 +77,7 @@ impl Listeners {
     }
 
     /// The reactions that the trigger triggers; none where it is of another program.
-    pub fn of(&self, trigger: Trigger) -> &[u32]
+    pub(crate) fn of(&self, trigger: Trigger) -> &[u32]
         ensures { (program : Parts) → AreListeners program self.now → (r : ℕ) → Contains result.now r ↔ IsListener program trigger r }
     {
         self.by_trigger.at(trigger)
@@ -86,7 +85,7 @@ impl Listeners {
 
     /// The timers that trigger a reaction and lead there: where others among its triggers fire only
     /// when one of them does, that one alone.
-    pub fn live_timers(&self) -> &[u32]
+    pub(crate) fn live_timers(&self) -> &[u32]
         ensures { (program : Parts) → AreListeners program self.now → (n : ℕ) → Contains result.now n ↔ IsLive program n }
     {
         self.live_timers.as_slice()

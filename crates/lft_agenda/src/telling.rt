@@ -9,13 +9,13 @@ ghost use Rattle.lft_agenda.specs.Telling.{IsTold, FiresAt, TriggeredByQueue};
 ghost use Rattle.lft_agenda.specs.Firings.{AreFirst};
 
 use crate::firings::Firings;
-use lft_flat::Trigger;
 use crate::listeners::Listeners;
+use crate::turn::Turn;
+use lft_flat::Trigger;
 use lft_lists::item_at;
 use lft_model::Plan;
 use lft_queue::Queue;
 use lft_tag::Tag;
-use crate::turn::Turn;
 
 /// Where the trigger is present, the reactions that listen to it are told.
 pub(crate) fn tell_of(

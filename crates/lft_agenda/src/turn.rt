@@ -13,17 +13,16 @@ mod numbers;
 mod phase;
 mod seats;
 
-pub(crate) use phase::Phase;
-
 use crate::turn::members::ReactionList;
 use crate::turn::mirror::mirror;
 use crate::turn::moving::change;
 use crate::turn::numbers::NumberSet;
-use crate::turn::phase::{Phase, is_pending};
+use crate::turn::phase::is_pending;
 use crate::turn::seats::{Seat, seat_at};
 use lft_flat::Program;
 use lft_graph::Graph;
 use lft_tag::NoMemory;
+pub(crate) use phase::Phase;
 use std::alloc::Global;
 use std::marker::Model;
 
@@ -36,7 +35,7 @@ use std::marker::Model;
 /// a tag each step of the graph from a reaction that is busy at some time is taken twice, if none
 /// is triggered after it was idle again, and other reactions aren't looked at.
 #[derive(Drop)]
-pub struct Turn {
+pub(crate) struct Turn {
     graph: Graph,
     after: Vec<ReactionList>,
     seats: Vec<Seat>,
@@ -58,7 +57,7 @@ impl Model for Turn {
 
 impl Turn {
     /// A tag at which no reaction is triggered yet. It is the one call that takes memory.
-    pub fn new(alloc: Global, program: &Program, graph: &Graph) -> Result<Turn, NoMemory>
+    pub(crate) fn new(alloc: Global, program: &Program, graph: &Graph) -> Result<Turn, NoMemory>
         requires { IsGraphOf program.now graph.now }
         ensures graph { IfOk result (λ turn. turn.graph ≡ graph.now) }
         ensures idle { IfOk result (λ turn. turn.phases ≡ replicate (length graph.now.before) Idle) }
@@ -100,14 +99,14 @@ impl Turn {
     }
 
     /// How many reactions there are.
-    pub fn reactions(&self) -> usize
+    pub(crate) fn reactions(&self) -> usize
         ensures { result ≡ length self.now.phases }
     {
         self.seats.len()
     }
 
     /// How far a reaction is.
-    pub fn phase(&self, reaction: u32) -> Phase
+    pub(crate) fn phase(&self, reaction: u32) -> Phase
         requires { reaction < length self.now.phases }
         ensures { slice_get self.now.phases reaction ≡ Some result }
     {
@@ -116,7 +115,7 @@ impl Turn {
 
     /// The reaction is triggered at the tag. Where it is already, or its run is open, nothing
     /// changes.
-    pub fn trigger(&mut self, reaction: u32)
+    pub(crate) fn trigger(&mut self, reaction: u32)
         requires { reaction < length self.old.phases }
         ensures graph { self.new.graph ≡ self.old.graph }
         ensures idle { slice_get self.old.phases reaction ≡ Some Idle → self.new.phases ≡ slice_set self.old.phases reaction Waiting }
@@ -130,7 +129,7 @@ impl Turn {
     /// The least ready reaction: it is triggered, its run hasn't started, and no reaction that
     /// precedes it is pending. None where no reaction is ready; where no run is open either,
     /// nothing is left to run at the tag.
-    pub fn first(&self) -> Option<u32>
+    pub(crate) fn first(&self) -> Option<u32>
         ensures ready { (program : Parts) (r : ℕ) → IsGraphOf program self.now.graph → result ≡ Some r → IsLeastReady program self.now.phases r }
         ensures none { (program : Parts) (r : ℕ) → IsGraphOf program self.now.graph → result ≡ None → ¬ IsReady program self.now.phases r }
         ensures over { (program : Parts) → IsGraphOf program self.now.graph → result ≡ None → NoneOpen self.now.phases → NonePending self.now.phases }
@@ -139,7 +138,7 @@ impl Turn {
     }
 
     /// The run of the reaction starts.
-    pub fn start(&mut self, reaction: u32)
+    pub(crate) fn start(&mut self, reaction: u32)
         requires { slice_get self.old.phases reaction ≡ Some Waiting }
         ensures graph { self.new.graph ≡ self.old.graph }
         ensures phases { self.new.phases ≡ slice_set self.old.phases reaction Open }
@@ -148,7 +147,7 @@ impl Turn {
     }
 
     /// The run of the reaction has ended.
-    pub fn finish(&mut self, reaction: u32)
+    pub(crate) fn finish(&mut self, reaction: u32)
         requires { slice_get self.old.phases reaction ≡ Some Open }
         ensures graph { self.new.graph ≡ self.old.graph }
         ensures phases { self.new.phases ≡ slice_set self.old.phases reaction Idle }

@@ -6,14 +6,14 @@ ghost use Rattle.lft_flat.specs.declared.parts.Name.{Name as NameOf};
 ghost use Rattle.lft_agenda.specs.Listeners.{IsListener, AreListeners, AreArrivals};
 ghost use Rattle.lft_agenda.specs.Telling.{IsTold, ArrivesAtOnce, TriggeredByWrites};
 
-use crate::telling::tell_of;
-use lft_flat::{Name, Trigger};
 use crate::listeners::{Arrivals, Listeners};
+use crate::telling::tell_of;
+use crate::turn::Turn;
+use lft_flat::{Name, Trigger};
 use lft_lists::item_at;
 use lft_model::Plan;
 use lft_tag::Tag;
 use lft_trace::Step;
-use crate::turn::Turn;
 
 // Those that listen to a port where a write of the origin at the tag arrives at once.
 fn tell_write(

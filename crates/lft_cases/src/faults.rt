@@ -7,9 +7,8 @@
 
 use crate::given::CaseTexts;
 use crate::programs::program_of;
-use lft_record::CardFault;
 use lft_pool::Stop;
-use lft_record::{cards_fault, stop_fault};
+use lft_record::{CardFault, cards_fault, stop_fault};
 use lft_tag::Tag;
 use std::alloc::Global;
 use std::io;

@@ -1,4 +1,3 @@
-
 pub mod Books
 pub mod PendingEvents
 pub mod Begun

@@ -10,20 +10,17 @@ mod line;
 mod same;
 mod ticket;
 
-pub(crate) use answered::Answered;
-pub(crate) use body::{Body, BoxedCode, Code};
-pub(crate) use done::{Done, Steps};
-pub(crate) use law::{AnyAnswer, Law};
-pub(crate) use ticket::{Ticket, ticket_of};
-
-use crate::bodies::body::{Body, BoxedCode, Code};
-use crate::bodies::law::Law;
 use crate::bodies::line::Line;
 use crate::bodies::same::SameBodies;
+pub use answered::Answered;
+pub use body::{Body, BoxedCode, Code};
+pub use done::{Done, Steps};
+pub use law::{AnyAnswer, Law};
 use lft_flat::Program;
 use lft_tag::NoMemory;
 use std::alloc::Global;
 use std::marker::Model;
+pub use ticket::{Ticket, ticket_of};
 
 /// Why a body is handed back.
 #[derive(Clone, Copy, PartialEq, Eq, Debug)]

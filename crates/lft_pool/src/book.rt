@@ -12,11 +12,11 @@ ghost use Rattle.lft_recording.specs.Collisions.{CollidesFirst, IsClean};
 ghost use Rattle.lft_pool.specs.Answers.{HasTicket, HasClash, KeepsOpenRuns, Committed, CommitCause, EndCause, RefusalCause};
 ghost use Rattle.lft_recording.specs.Starts.{IsAnyOpen, IsBusy, MayStartFirst, NoneMayStart, NothingLeft, SomethingLeft, started_count};
 
+use crate::bodies::{Answered, Bodies, Body, BoxedCode, Code, Done, Law, Ticket, ticket_of};
 use crate::states::States;
 use crate::stop::Stop;
 use crate::words::{is_same, no_words, set_word, word_at};
 use lft_agenda::{Agenda, NextRun};
-use crate::bodies::{Answered, Bodies, Body, BoxedCode, Code, Done, Law, Ticket, ticket_of};
 use lft_model::Plan;
 use lft_recording::{begun, committed, has_long_delay, may_make_all};
 use lft_tag::{NoMemory, Tag};

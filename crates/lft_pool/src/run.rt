@@ -8,10 +8,10 @@ ghost use Rattle.lft_pool.specs.Begun.{MatchBegin};
 ghost use Rattle.lft_model.specs.Workers.{IsWorkers};
 ghost use Rattle.lft_pool.specs.Endings.{ReasonIs, WhyStopped};
 
+use crate::bodies::{Bodies, BoxedCode, Code, Law};
 use crate::book::{Begin, Book, Closed, MAX_RUNS, Stopped};
 use crate::states::States;
 use crate::stop::Stop;
-use crate::bodies::{Bodies, BoxedCode, Code, Law};
 use lft_model::{Plan, is_workers};
 use lft_trace::Rows;
 use std::alloc::Global;

@@ -14,10 +14,10 @@ ghost use Rattle.lft_program.specs.declared.fault.ProgramFault.TheVariants as fa
 use crate::assembly::assembled;
 use crate::fault::ProgramFault;
 use crate::laying;
+use crate::nesting::{Linked, Nest, Tables, contains_itself, links};
 use crate::tree_names::tree_names;
 use lft_causes::{check_first, check_later};
 use lft_flat::Program;
-use crate::nesting::{Linked, Nest, Tables, contains_itself, links};
 use lft_reactors::{connections, contents, declarations, main_number, parameters, reactions};
 use lft_tag::NoMemory;
 use lft_tree::Ast;

@@ -15,10 +15,10 @@ ghost use Rattle.lft_reactors.specs.declared.sheets.Cues.{Cues as CuesOf};
 ghost use Rattle.lft_reactors.specs.declared.sheets.Declarations.{Declarations as DeclarationsOf};
 ghost use Rattle.lft_reactors.specs.declared.sheets.TimerSheet.{TimerSheet};
 
+use crate::nesting::{Linked, Nest, Tables};
 use crate::spots;
 use lft_flat::{Action, Port, Reaction, Source, Timer};
 use lft_instances::Thing;
-use crate::nesting::{Linked, Nest, Tables};
 use lft_reactors::{Cues, Declarations};
 use lft_tag::NoMemory;
 use std::alloc::Global;

@@ -7,6 +7,7 @@ mod fault;
 mod flattening;
 mod laying;
 mod naming;
+mod nesting;
 mod own_names;
 mod spots;
 mod tree_lists;

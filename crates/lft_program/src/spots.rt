@@ -5,9 +5,9 @@ ghost use Rattle.std.specs.Prelude.{◌≡◌, Some, IfOk};
 ghost use Rattle.lft_instances.specs.Joins.{port_at, port_of};
 ghost use Rattle.lft_program.specs.Laying.{AreNames, AreTriggers, Each, HasName, HasTrigger, IsFew, name_at, trigger_at};
 
+use crate::nesting::{Nest, Numbering};
 use lft_flat::{Name, Names, Trigger, Triggers};
 use lft_instances::End;
-use crate::nesting::{Nest, Numbering};
 use lft_reactors::{Cue, Spot};
 use lft_tag::NoMemory;
 use std::alloc::Global;

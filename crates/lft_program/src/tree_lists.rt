@@ -9,9 +9,9 @@ ghost use Rattle.lft_scope.specs.References.{reactor_trees};
 ghost use Rattle.lft_program.specs.TreeLists.{AreLists, name_at, placed_at, seen};
 
 use crate::naming::{OwnName, Placed};
+use crate::nesting::Nest;
 use crate::own_names::{MemberKind, own_names};
 use lft_instances::{Instance, Thing};
-use crate::nesting::Nest;
 use lft_tag::NoMemory;
 use lft_tree::Reactor;
 use std::alloc::Global;

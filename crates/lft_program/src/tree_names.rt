@@ -9,9 +9,9 @@ ghost use Rattle.lft_program.specs.Flattening.{names_of};
 ghost use Rattle.lft_flat.specs.Names.{AreDistinct, AreWords};
 
 use crate::naming::full_names;
+use crate::nesting::{Nest, Tables};
 use crate::tree_lists::Lists;
 use lft_flat::NameTable;
-use crate::nesting::{Nest, Tables};
 use lft_scope::members::reactors;
 use lft_tag::NoMemory;
 use lft_tree::Ast;

@@ -4,9 +4,9 @@ ghost use Rattle.std.specs.Prelude.{◌≡◌, IfOk, IfErr, true};
 ghost use Rattle.lft_record.specs.Answers.{AnswerRefusal, IsAnswer};
 
 use crate::bodies::card_bodies;
+use crate::cards::read_cards;
 use crate::fault::cards_fault;
 use crate::recording::record_to;
-use crate::cards::read_cards;
 use lft_load::{Fault, load};
 use std::alloc::Global;
 use std::io::Write;

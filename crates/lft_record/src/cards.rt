@@ -11,14 +11,12 @@ mod fault;
 mod fields;
 mod kind;
 
-pub(crate) use answer::card_answer;
-pub(crate) use card::{CardStep, CardSteps, CardValue};
-pub(crate) use card_table::read_cards;
-pub(crate) use expression::{Expression, Term};
-pub(crate) use fault::CardFault;
-
-use crate::cards::card::{Card, CardEntry, CardSteps};
-use crate::cards::expression::Expression;
+use crate::cards::card::{Card, CardEntry};
+pub use answer::card_answer;
+pub use card::{CardStep, CardSteps, CardValue};
+pub use card_table::read_cards;
+pub use expression::{Expression, Term};
+pub use fault::CardFault;
 use lft_flat::Program;
 use lft_tag::NoMemory;
 use std::alloc::Global;

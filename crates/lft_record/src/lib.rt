@@ -1,12 +1,17 @@
 #![tactic(auto)]
-//! Recordings that are written as trace tables, and recordings by cards.
+//! Recordings that are written as trace tables, and recordings by cards: tables of what bodies answer.
 
 mod answer;
 mod bodies;
+mod cards;
 mod fault;
 mod recording;
 
 pub use answer::record_answer;
 pub use bodies::{CardCode, card_bodies};
+pub use cards::{
+    CardFault, CardStep, CardSteps, CardValue, Cards, Expression, Script, Term, card_answer,
+    read_cards,
+};
 pub use fault::{cards_fault, stop_fault};
 pub use recording::record_to;

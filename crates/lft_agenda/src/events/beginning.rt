@@ -12,7 +12,7 @@ use lft_trace::Event;
 use std::alloc::Global;
 
 /// The events of the external inputs up to the stop: those of no rows.
-pub fn first_events(alloc: Global, plan: &Plan) -> Result<Queue, NoMemory>
+pub(crate) fn first_events(alloc: Global, plan: &Plan) -> Result<Queue, NoMemory>
     ensures { IfOk result (HasEvents plan.now [] (record { time = 0; micro = 0 }) plan.now.externals.stop None) }
 {
     // Asked for what every plan keeps: of a sound one no two external events collide.

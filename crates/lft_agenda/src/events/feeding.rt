@@ -9,8 +9,8 @@ ghost use Rattle.lft_model.specs.Recorded.{run_row, committed_rows};
 ghost use Rattle.lft_trace.specs.declared.row.Step.{Step as StepOf};
 ghost use Rattle.lft_agenda.specs.Events.{HasEvents, IsPut, IsFedTo, KnowsAgain};
 
-use lft_flat::{Name, Value};
 use lft_agenda::Arrivals;
+use lft_flat::{Name, Value};
 use lft_lists::item_at;
 use lft_model::Plan;
 use lft_queue::{Queue, QueueFault};
@@ -159,7 +159,7 @@ fn feed_step(
 /// Puts the watched events of the steps of a run at the tag in, as far as they are up to the last tag.
 /// Gives the least tag at which two causes give one port or action an event, if there is one. The
 /// arrivals are those of the plan's program; it costs what the steps' watched ports and actions are.
-pub fn feed(
+pub(crate) fn feed(
     queue: &mut Queue,
     plan: &Plan,
     arrivals: &Arrivals,

@@ -26,7 +26,7 @@ fn push_values(
 }
 
 /// The values that the queue has at the tag for the inputs of the reaction, triggers before uses.
-pub fn read_inputs(
+pub(crate) fn read_inputs(
     alloc: Global,
     queue: &Queue,
     plan: &Plan,

@@ -15,7 +15,7 @@ use std::marker::Model;
 /// origin it is. A port that no reaction reads costs nothing while the program runs, but for one
 /// delayed port of each origin.
 #[derive(Drop)]
-pub struct Arrivals {
+pub(crate) struct Arrivals {
     lists: NumberLists,
 }
 
@@ -29,7 +29,7 @@ impl Model for Arrivals {
 
 impl Arrivals {
     /// The arrivals of the program. It costs what the program's ports and inputs are.
-    pub fn new(alloc: Global, program: &Program) -> Result<Arrivals, NoMemory>
+    pub(crate) fn new(alloc: Global, program: &Program) -> Result<Arrivals, NoMemory>
         ensures { IfOk result (λ arrivals. AreArrivals program.now arrivals) }
     {
         let watched = Watched::new(alloc, program)?;
@@ -44,7 +44,7 @@ impl Arrivals {
 
     /// The watched ports at which a write of the origin arrives, each once; none where the number is
     /// no port's or the port isn't an origin.
-    pub fn of(&self, origin: u32) -> &[u32]
+    pub(crate) fn of(&self, origin: u32) -> &[u32]
         ensures each { (program : Parts) → AreArrivals program self.now → (p : ℕ) → Contains result.now p ↔ (IsArrival program origin p × IsWatched program p) }
         ensures once { (program : Parts) → AreArrivals program self.now → AllPairs (λ p q. p ≢ q) result.now }
     {

@@ -6,7 +6,7 @@ ghost use Rattle.lft_agenda.specs.Phases.{pending};
 /// How far a reaction is at a tag: it wasn't triggered or its run has ended, it is triggered and
 /// its run hasn't started, or its run has started and hasn't ended.
 #[derive(Clone, Copy, Drop)]
-pub enum Phase {
+pub(crate) enum Phase {
     Idle,
     Waiting,
     Open,

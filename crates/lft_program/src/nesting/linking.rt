@@ -20,7 +20,7 @@ use std::alloc::{AllocFailed, Global};
 /// How a port is reached: the port before it with the delay of the connection from it in
 /// nanoseconds, the origin of its chain of connections, and the delays of that chain.
 #[derive(Clone, Copy, PartialEq, Eq, Drop)]
-pub struct Linked {
+pub(crate) struct Linked {
     pub source: Option<Source>,
     pub origin: u32,
     pub shift: Shift,
@@ -28,7 +28,7 @@ pub struct Linked {
 
 /// Why ports have no origins, in the order in which the causes are answered.
 #[derive(Clone, Copy, PartialEq, Eq, Drop)]
-pub enum LinkFault {
+pub(crate) enum LinkFault {
     /// Connections alone form a cycle.
     ConnectionCycle,
     /// A time, or the sum of a chain's delays, is past 10^18 nanoseconds.
@@ -100,7 +100,7 @@ fn link_all(
 
 /// How each port is reached, by the port's number. The tree is that of the tables and the nest. A
 /// cycle comes before a time that is too long.
-pub fn links(
+pub(crate) fn links(
     alloc: Global,
     ast: &Ast,
     tables: &Tables,

@@ -10,7 +10,9 @@ ghost use Rattle.lft_program.specs.Nests.{IsNest};
 ghost use Rattle.lft_program.specs.Tables.{AreTables, IsLawful};
 ghost use Rattle.lft_program.specs.declared.nesting.nest.NestFault;
 
-use crate::nesting::counts::{action_counts, join_counts, port_counts, reaction_counts, timer_counts};
+use crate::nesting::counts::{
+    action_counts, join_counts, port_counts, reaction_counts, timer_counts,
+};
 use crate::nesting::tables::Tables;
 use lft_instances::{Children, Instance, Values, WalkFault, all_instances, first_numbers};
 use std::alloc::Global;
@@ -23,7 +25,7 @@ const MAX_THINGS: u32 = 100_000;
 /// How things of one kind are numbered: how many of them each reactor declares, by the reactor's
 /// number, and the number of each instance's first one, by the instance's number.
 #[derive(Drop)]
-pub struct Numbering {
+pub(crate) struct Numbering {
     pub counts: Vec<u32>,
     pub firsts: Vec<u32>,
 }
@@ -31,7 +33,7 @@ pub struct Numbering {
 /// The instances in pre-order, of which the main one is the first, with the instances that each
 /// contains, the values of its parameters in nanoseconds, and the numbers of what it declares.
 #[derive(Drop)]
-pub struct Nest {
+pub(crate) struct Nest {
     pub instances: Vec<Instance>,
     pub children: Children,
     pub values: Values,
@@ -43,7 +45,7 @@ pub struct Nest {
 
 /// Why there is no nest.
 #[derive(Clone, Copy, PartialEq, Eq, Drop)]
-pub enum NestFault {
+pub(crate) enum NestFault {
     /// A limit on the number of instances, reactions, ports, single connections, actions or timers
     /// is passed.
     TooMany,
@@ -98,7 +100,7 @@ fn numbered(
 impl Nest {
     /// The nest of the tree whose reactors have these tables. Nothing is made past a limit. The
     /// order of the limits means nothing, since each gives the same fault.
-    pub fn of(alloc: Global, tables: &Tables) -> Result<Nest, NestFault>
+    pub(crate) fn of(alloc: Global, tables: &Tables) -> Result<Nest, NestFault>
         ensures nest { IfOk result (λ n. (tree : FileTree) → AreTables tree tables.now → IsLawful tree → IsNest tree tables.now n) }
         ensures within { OnOk result ((tree : FileTree) → AreTables tree tables.now → IsLawful tree → TooMany tree → ⊥) }
         ensures too_many { result ≡ Err NestFault.TooMany → (tree : FileTree) → AreTables tree tables.now → IsLawful tree → TooMany tree }

@@ -12,7 +12,7 @@ use std::alloc::Global;
 /// Whether a reactor of the file contains itself, at any depth. The table has what each reactor
 /// contains, by number. It is a border of proofs: it says of a tree what `is_recursive` says of
 /// numbers.
-pub fn contains_itself(alloc: Global, contents: &[Contents]) -> Result<bool, NoMemory>
+pub(crate) fn contains_itself(alloc: Global, contents: &[Contents]) -> Result<bool, NoMemory>
     ensures { IfOk result (λ b. (rs : List ReactorTree) → AreContents rs contents.now → NoneHolds (first_causes rs) → IsTrue b ↔ RecursiveReactor rs) }
 {
     is_recursive(alloc, contents)

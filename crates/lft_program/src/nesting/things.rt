@@ -14,7 +14,7 @@ use std::alloc::Global;
 
 impl Nest {
     /// The instance and the place of each port, by the port's number.
-    pub fn ports_by_number(&self, alloc: Global) -> Result<Vec<Thing>, NoMemory>
+    pub(crate) fn ports_by_number(&self, alloc: Global) -> Result<Vec<Thing>, NoMemory>
         requires { length self.now.instances.items ≤ 10000 }
         ensures { IfOk result (λ v. (tree : FileTree) (tables : Tables) (n : IsNest tree tables self.now)
             → AllZip IsThingOf (declared ports_of n.located) v.items) }
@@ -23,7 +23,7 @@ impl Nest {
     }
 
     /// The instance and the place of each timer, by the timer's number.
-    pub fn timers_by_number(&self, alloc: Global) -> Result<Vec<Thing>, NoMemory>
+    pub(crate) fn timers_by_number(&self, alloc: Global) -> Result<Vec<Thing>, NoMemory>
         requires { length self.now.instances.items ≤ 10000 }
         ensures { IfOk result (λ v. (tree : FileTree) (tables : Tables) (n : IsNest tree tables self.now)
             → AllZip IsThingOf (declared timers_of n.located) v.items) }
@@ -32,7 +32,7 @@ impl Nest {
     }
 
     /// The instance and the place of each action, by the action's number.
-    pub fn actions_by_number(&self, alloc: Global) -> Result<Vec<Thing>, NoMemory>
+    pub(crate) fn actions_by_number(&self, alloc: Global) -> Result<Vec<Thing>, NoMemory>
         requires { length self.now.instances.items ≤ 10000 }
         ensures { IfOk result (λ v. (tree : FileTree) (tables : Tables) (n : IsNest tree tables self.now)
             → AllZip IsThingOf (declared actions_of n.located) v.items) }
@@ -41,7 +41,7 @@ impl Nest {
     }
 
     /// The instance and the place of each reaction, by the reaction's number.
-    pub fn reactions_by_number(&self, alloc: Global) -> Result<Vec<Thing>, NoMemory>
+    pub(crate) fn reactions_by_number(&self, alloc: Global) -> Result<Vec<Thing>, NoMemory>
         requires { length self.now.instances.items ≤ 10000 }
         ensures { IfOk result (λ v. (tree : FileTree) (tables : Tables) (n : IsNest tree tables self.now)
             → AllZip IsThingOf (declared reactions_of n.located) v.items) }

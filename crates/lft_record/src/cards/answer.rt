@@ -5,9 +5,9 @@ ghost use Rattle.lft_record.specs.Scripts.{card_done, content_value, script_done
 
 use crate::cards::card::{CardStep, CardValue};
 use crate::cards::{Cards, Script};
-use lft_pool::{Done, Steps};
 use lft_flat::Value;
 use lft_model::Reads;
+use lft_pool::{Done, Steps};
 use lft_tag::{NoMemory, Tag};
 use lft_trace::Step;
 use std::alloc::Global;

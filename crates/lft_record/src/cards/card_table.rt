@@ -9,8 +9,8 @@ ghost use Rattle.lft_record.specs.Seen.{FieldFault, IsCardOf, card_fields};
 ghost use Rattle.lft_record.specs.declared.cards.card.Card.{Card as TheCard};
 ghost use Rattle.lft_record.specs.declared.cards.Script.{Script};
 
-use crate::cards::card::{Card, CardEntry, CardStep, CardValue};
 use crate::cards::Cards;
+use crate::cards::card::{Card, CardEntry, CardStep, CardValue};
 use crate::cards::expression::{Expression, read_expression};
 use crate::cards::fault::CardFault;
 use crate::cards::fields::CardFields;
