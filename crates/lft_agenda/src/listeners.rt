@@ -49,7 +49,7 @@ fn push_all(lists: &mut ByTrigger, triggers: &[Trigger], reaction: u32) -> Resul
 }
 
 // the reactions that each trigger triggers
-fn by_trigger(alloc: Global, program: &Program) -> Result<ByTrigger, NoMemory>
+fn reactions_by_trigger(alloc: Global, program: &Program) -> Result<ByTrigger, NoMemory>
     ensures { IfOk result (λ lists. AreListed program.now (length program.now.reactions) lists) }
 {
     let mut lists = ByTrigger::new(alloc, program)?;
@@ -68,7 +68,7 @@ impl Listeners {
     {
         // Asked for what every program keeps: a timer that a reaction names is one of the program.
         program.keeps();
-        let by_trigger = by_trigger(alloc, program)?;
+        let by_trigger = reactions_by_trigger(alloc, program)?;
         let live_timers = live_timers(alloc, program)?;
         Ok(Listeners {
             by_trigger,

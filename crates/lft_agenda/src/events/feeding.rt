@@ -9,7 +9,7 @@ ghost use Rattle.lft_model.specs.Recorded.{run_row, committed_rows};
 ghost use Rattle.lft_trace.specs.declared.row.Step.{Step as StepOf};
 ghost use Rattle.lft_agenda.specs.Events.{HasEvents, IsPut, IsFedTo, KnowsAgain};
 
-use lft_agenda::Arrivals;
+use crate::listeners::Arrivals;
 use lft_flat::{Name, Value};
 use lft_lists::item_at;
 use lft_model::Plan;

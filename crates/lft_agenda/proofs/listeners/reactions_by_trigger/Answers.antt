@@ -3,7 +3,7 @@ use Rattle.lft_flat.specs.declared.parts.Trigger.{Trigger}
 use Rattle.lft_agenda.specs.Lists.{ArePushed}
 use Rattle.lft_agenda.specs.Filling.{AreListed}
 use Rattle.lft_agenda.proofs.Filling.{listed_start, listed_more}
-use Rattle.lft_agenda.proofs.listeners.by_trigger.Goals as goal
+use Rattle.lft_agenda.proofs.listeners.reactions_by_trigger.Goals as goal
 
 pub push_all-requires : goal.push_all-requires
 push_all-requires c t m = c.reactions.invariant.room t ((c.reaction.ensures.sound.exist c.reactions.number c.reaction.result.now c.reaction.ensures.value).triggers t (subst (λ (ts : List Trigger). Contains ts t) c.as_slice-triggers.ensures m))
