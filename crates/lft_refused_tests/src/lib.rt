@@ -3,9 +3,15 @@
 //! under `rt try`, whose allocator is another one, they don't end.
 
 #[cfg(test)]
+mod bodies;
+#[cfg(test)]
+mod books;
+#[cfg(test)]
 mod hoard;
 #[cfg(test)]
 mod plans;
+#[cfg(test)]
+mod prepared;
 #[cfg(test)]
 mod queues;
 #[cfg(test)]
