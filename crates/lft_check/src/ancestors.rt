@@ -4,8 +4,8 @@ ghost use Rattle.std.specs.Prelude.{◌≡◌, ◌<◌, ◌≤◌, ◌+◌, ◌/
 ghost use Rattle.lft_check.specs.Sets.{AreAncestors, HaveRoom, HasAll, IsUnion};
 
 use crate::sets::Set;
+use lft_by_tag::Sliced;
 use lft_lists::item_at;
-use lft_slices::Sliced;
 use lft_tag::NoMemory;
 use std::alloc::Global;
 use std::marker::Model;

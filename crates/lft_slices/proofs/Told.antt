@@ -11,7 +11,7 @@ use Rattle.lft_answers.specs.Answers.{KeepsRows}
 use Rattle.lft_presence.specs.Traces.{TraceParts}
 use Rattle.lft_slices.specs.declared.pieces.Piece.{Piece}
 use Rattle.lft_slices.specs.Pieces.{IsPiece}
-use Rattle.lft_slices.specs.Slices.{IsCuttable}
+use Rattle.lft_by_tag.specs.Slices.{IsCuttable}
 
 module _ (cut : TraceParts) (rows : List Row) (are_rows : rows ≡ cut.rows) where
   pub starts_within : (g : Tag) (x : Piece) → IsPiece cut.rows g x → x.start < length rows

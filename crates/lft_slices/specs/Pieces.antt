@@ -4,15 +4,10 @@ use Rattle.lft_tag.specs.declared.Tag.{Tag}
 use Rattle.lft_tag.specs.Tags.{Before}
 use Rattle.lft_trace.specs.declared.row.Row.{Row}
 use Rattle.lft_model.specs.Runs.{start_row, end_row, Ran}
-use Rattle.lft_slices.specs.declared.slices.Slice.{Slice}
+use Rattle.lft_by_tag.specs.declared.slices.Slice.{Slice}
+use Rattle.lft_by_tag.specs.Slices.{AreTags}
 use Rattle.lft_slices.specs.declared.pieces.Piece.{Piece}
 use Rattle.lft_slices.specs.declared.pieces.Pieces.{Pieces}
-
--- the tags with a run, ascending
-pub record AreTags (t : List Row) (tags : List Tag) : Type 0 where
-  pub ascending : (j k : ℕ) (g h : Tag) → j < k → slice_get tags j ≡ Some g → slice_get tags k ≡ Some h → Before g h
-  pub ran : (k : ℕ) (g : Tag) → slice_get tags k ≡ Some g → (r : ℕ) × Ran t g r
-  pub each : (g : Tag) (r : ℕ) → Ran t g r → (k : ℕ) × (slice_get tags k ≡ Some g)
 
 -- the piece tells the places of the start row and of the end row of its reaction's run at g
 pub record IsPiece (t : List Row) (g : Tag) (x : Piece) : Type 0 where

@@ -6,10 +6,11 @@ ghost use Rattle.lft_flat.specs.declared.parts.Value.{Value as Carried};
 ghost use Rattle.lft_model.specs.Presence.{Collision, Inputs};
 ghost use Rattle.lft_presence.specs.Clashes.{IsClash};
 ghost use Rattle.lft_presence.specs.Traces.{AreDue};
-ghost use Rattle.lft_slices.specs.Pieces.{AreTags, IsTagAt, AreRuns};
+ghost use Rattle.lft_by_tag.specs.Slices.{AreTags, IsGap};
+ghost use Rattle.lft_slices.specs.Pieces.{IsTagAt, AreRuns};
 
 use crate::pieces::{Piece, Pieces};
-use crate::sliced::Sliced;
+use lft_by_tag::Sliced;
 use lft_model::Reads;
 use lft_presence::Presence;
 use lft_tag::{NoMemory, Tag};
@@ -18,7 +19,7 @@ use std::marker::Model;
 
 /// The rows of a plan's trace, cut by tag, with the runs at each tag. None of the rows breaks one of
 /// the rules 1 to 5.
-// The judge does with the sliced rows alone: the runs by tag are for those who ask what ran.
+// The judge asks the sliced rows alone. The runs by tag are for those who ask what ran.
 #[derive(Drop)]
 pub struct Cut<'a> {
     sliced: Sliced<'a>,
@@ -75,6 +76,14 @@ impl<'a> Cut<'a> {
         ensures { (g : TheTag) → IsTagAt self.now.rows k g → AreRuns self.now.rows g result.now }
     {
         self.pieces.at(k)
+    }
+
+    /// The least tag up to the stop without any run at which a reaction is triggered, and the least
+    /// such reaction. It takes no memory.
+    pub fn gap(&self) -> Option<(Tag, u32)>
+        ensures { IsGap self.now result }
+    {
+        self.sliced.gap(self.tags())
     }
 
     /// The least tag up to the stop at which two causes give a port or an action an event.

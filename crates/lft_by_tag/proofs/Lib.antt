@@ -1,0 +1,13 @@
+pub mod ByTag
+pub mod Firings
+pub mod Missed
+pub mod Needing
+pub mod Indexed
+pub mod Absent
+pub mod RunReads
+pub mod RightReads
+pub mod Walks
+pub mod Searched
+pub mod Begun
+pub mod Counted
+pub mod Stopped

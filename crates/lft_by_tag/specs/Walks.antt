@@ -1,0 +1,24 @@
+-- How far a walk over the tags of sliced rows has come.
+use Rattle.std.specs.Prelude.{◌≡◌, ◌<◌, ℕ, List, Some, slice_get}
+use Rattle.lft_tag.specs.declared.Tag.{Tag}
+use Rattle.lft_tag.specs.Tags.{Before}
+use Rattle.lft_trace.specs.declared.row.Row.{Row}
+use Rattle.lft_by_tag.specs.declared.slices.Slice.{Slice}
+use Rattle.lft_by_tag.specs.declared.walk.Walk.{Walk}
+use Rattle.lft_by_tag.specs.Absences.{AreAbsences}
+use Rattle.lft_rows.specs.Marks.{AreBefore, AreMarks}
+use Rattle.lft_presence.specs.Traces.{TraceParts}
+
+-- the tag is past all rows before place i
+abbrev pub IsPast : List Row → ℕ → Tag → Type 0
+IsPast t i h = (j : ℕ) (row : Row) → j < i → slice_get t j ≡ Some row → Before row.tag h
+
+-- the walk knows of none but rows before place i
+pub record IsBefore (cut : TraceParts) (i : ℕ) (walk : Walk) : Type 0 where
+  pub marks : AreBefore cut.plan.program i walk.marks
+  pub absences : (h : Tag) → IsPast cut.rows i h → AreAbsences cut h walk.absences.items
+
+-- the walk has gone over the rows at the tag of the slice, and no further
+pub record HasWalked (cut : TraceParts) (s : Slice) (walk : Walk) : Type 0 where
+  pub marks : AreMarks cut.plan.program cut.rows s.first s.end walk.marks
+  pub absences : AreAbsences cut s.tag walk.absences.items

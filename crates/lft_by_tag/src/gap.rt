@@ -1,0 +1,27 @@
+//! The first tag without any run at which a reaction is triggered.
+
+ghost use Rattle.lft_by_tag.specs.Slices.{AreTags, IsGap};
+
+use crate::missing::{first_of, lacked};
+use crate::sliced::Sliced;
+use lft_tag::Tag;
+
+impl<'a> Sliced<'a> {
+    /// The least tag up to the stop without any run at which a reaction is triggered, and the least
+    /// such reaction, where these are the tags with a run. It takes no memory.
+    pub fn gap(&self, tags: &[Tag]) -> Option<(Tag, u32)>
+        requires { AreTags self.now.rows tags.now }
+        ensures { IsGap self.now result }
+    {
+        // Asked for what sliced rows keep: their plan is sound, and they are of its program.
+        self.keeps();
+        let presence = self.presence();
+        let mut first = None;
+        for reaction in 0..presence.reactions() as u32 {
+            let triggers = presence.program().reaction(reaction).triggers.as_slice();
+            let vacant = lacked(presence, reaction, triggers, tags, &mut []);
+            first = first_of(first, vacant, reaction);
+        }
+        first
+    }
+}

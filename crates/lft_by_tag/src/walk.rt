@@ -1,0 +1,84 @@
+//! A walk over the tags of sliced rows, in order: what the runs at a tag read.
+
+ghost use Rattle.std.specs.Prelude.{◌≡◌, ◌<◌, IfOk, Some, slice_get};
+ghost use Rattle.lft_flat.specs.declared.parts.Reaction.{Reaction as TheReaction};
+ghost use Rattle.lft_flat.specs.declared.parts.Name.{Name as TheName};
+ghost use Rattle.lft_model.specs.Runs.{read_of, steps_of};
+ghost use Rattle.lft_rows.specs.Marks.{HasSeat, width};
+ghost use Rattle.lft_by_tag.specs.Reads.{value_read as the_value_read};
+ghost use Rattle.lft_by_tag.specs.Slices.{IsSlice};
+ghost use Rattle.lft_by_tag.specs.Walks.{IsBefore, HasWalked};
+
+use crate::absences::{Absences, absences_of};
+use crate::sliced::Sliced;
+use crate::slices::Slice;
+use lft_flat::Value;
+use lft_rows::Marks;
+use lft_tag::NoMemory;
+use lft_trace::{Step, row_at};
+use std::alloc::Global;
+
+/// How far a walk over the tags of sliced rows has come.
+#[derive(Drop)]
+pub struct Walk {
+    pub(crate) marks: Marks,
+    pub(crate) absences: Vec<Absences>,
+}
+
+/// The value that a step reads, if it reads one.
+fn value_read(step: &Step) -> Option<Value>
+    ensures { result ≡ the_value_read step.now }
+{
+    match step {
+        Step::Read(_, value) => Some(*value),
+        Step::Start => None,
+        Step::Write(_, _) => None,
+        Step::Schedule(_, _, _) => None,
+        Step::Stop => None,
+        Step::End => None,
+    }
+}
+
+impl<'a> Sliced<'a> {
+    /// A walk that hasn't begun.
+    pub fn walk(&self, alloc: Global) -> Result<Walk, NoMemory>
+        ensures { IfOk result (IsBefore self.now 0) }
+    {
+        let marks = Marks::new(alloc, self.program())?;
+        let absences = absences_of(alloc, self.program())?;
+        Ok(Walk { marks, absences })
+    }
+
+    /// Goes over the rows at one more tag.
+    pub fn walk_over(&self, walk: &mut Walk, slice: Slice)
+        requires slice { IsSlice self.now.rows slice }
+        requires before { IsBefore self.now slice.first walk.old }
+        ensures { HasWalked self.now slice walk.new }
+    {
+        walk.marks
+            .pass_all(self.program(), self.rows(), slice.first, slice.end);
+    }
+
+    /// What the run of the reaction at the tag read of the input at the seat, if it did.
+    pub(crate) fn read_at(
+        &self,
+        walk: &Walk,
+        slice: Slice,
+        reaction: u32,
+        seat: usize,
+    ) -> Option<Value>
+        requires slice { IsSlice self.now.rows slice }
+        requires walked { HasWalked self.now slice walk.now }
+        requires seat { (x : TheReaction) × (slice_get self.now.plan.program.reactions reaction ≡ Some x) × (seat < width x) }
+        ensures { (x : TheReaction) (n : TheName) → slice_get self.now.plan.program.reactions reaction ≡ Some x → HasSeat x n seat → result ≡ read_of (steps_of self.now.rows slice.tag reaction) n }
+    {
+        let rows = self.rows();
+        let mark = walk.marks.of(self.program(), reaction, seat) as usize;
+        if mark > slice.first {
+            let row = row_at(rows, mark - 1);
+            value_read(&row.step)
+        } else {
+            None
+        }
+    }
+}
