@@ -7,8 +7,8 @@ use Rattle.lft_agenda.specs.declared.turn.phase.Phase.TheVariants.{Idle, Waiting
 use Rattle.lft_agenda.specs.declared.turn.seats.Seat.{Seat}
 use Rattle.lft_agenda.specs.Phases.{pending}
 use Rattle.lft_agenda.specs.Seats.{busy_at, busy, free, times, load, gain, loss, IsAtRest, IsMoving, IsPushed}
-use Rattle.lft_agenda.proofs.Writing.{rest_moving, room_to_turn, written_moves}
-use Rattle.lft_agenda.proofs.Telling.{busy_waits}
+use Rattle.lft_agenda.proofs.WrittenSeats.{rest_moving, room_to_turn, written_moves}
+use Rattle.lft_agenda.proofs.ToldSeats.{busy_waits}
 
 busy_pending : (p : Phase) (n : ℕ) → pending p ≡ true → busy_at p n ≡ true
 busy_pending Idle n e = absurd (false≢true e)

@@ -14,8 +14,8 @@ pub mod Watching
 pub mod Blocked
 pub mod Blocking
 pub mod Adding
-pub mod Writing
-pub mod Telling
+pub mod WrittenSeats
+pub mod ToldSeats
 pub mod Mirroring
 pub mod Spreading
 pub mod Changing

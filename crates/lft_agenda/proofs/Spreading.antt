@@ -11,7 +11,7 @@ use Rattle.lft_agenda.specs.Flags.{IsFlagged}
 use Rattle.lft_agenda.proofs.Blocked.{IsBusy, IsFree, SpreadsAlong}
 use Rattle.lft_agenda.specs.Seats.{busy_at, busy, free_at, free, IsAtRest, IsMirror, phases_of}
 use Rattle.lft_agenda.proofs.Adding.{times_at, times_back, load_some, load_back}
-use Rattle.lft_agenda.proofs.Telling.{busy_waits}
+use Rattle.lft_agenda.proofs.ToldSeats.{busy_waits}
 
 -- some of the short list of r are busy
 abbrev pub IsHeld : List Seat → ℕ → Type 0

@@ -5,8 +5,8 @@ use Rattle.lft_agenda.specs.declared.turn.seats.Seat.{Seat}
 use Rattle.lft_agenda.specs.Seats.{IsMoving}
 use Rattle.lft_lists.proofs.Places.{get_there}
 use Rattle.lft_agenda.proofs.Adding.{tally_small}
-use Rattle.lft_agenda.proofs.Writing.{popped, popped_fewer}
-use Rattle.lft_agenda.proofs.Telling.{phases_kept}
+use Rattle.lft_agenda.proofs.WrittenSeats.{popped, popped_fewer}
+use Rattle.lft_agenda.proofs.ToldSeats.{phases_kept}
 use Rattle.lft_agenda.proofs.turn.moving.settle.Goals as goal
 
 -- the stack holds reactions

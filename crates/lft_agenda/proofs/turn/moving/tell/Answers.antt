@@ -3,7 +3,7 @@ use mathlib.Core.Bool.{Bool}
 use Rattle.lft_lists.proofs.Places.{same_at}
 use Rattle.lft_agenda.specs.declared.turn.seats.Seat.{Seat}
 use Rattle.lft_agenda.specs.Seats.{busy, uncounted, IsMoving}
-use Rattle.lft_agenda.proofs.Telling.{IsTold, told_fits, told_some, told_room, told_moves, told_as_many, phases_kept}
+use Rattle.lft_agenda.proofs.ToldSeats.{IsTold, told_fits, told_some, told_room, told_moves, told_as_many, phases_kept}
 use Rattle.lft_agenda.proofs.turn.moving.tell.Goals as goal
 
 pub told-seat-requires-clause-fits : goal.told-seat-requires-clause-fits

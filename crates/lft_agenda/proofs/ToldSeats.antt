@@ -7,7 +7,7 @@ use Rattle.lft_agenda.specs.declared.turn.phase.Phase.TheVariants.{Idle, Waiting
 use Rattle.lft_agenda.specs.declared.turn.seats.Seat.{Seat}
 use Rattle.lft_agenda.specs.Seats.{busy_at, busy, free, times, hit, load, gain, loss, differ, uncounted, AreOnce, IsMoving, IsPushed}
 use Rattle.lft_agenda.proofs.Adding.{hit_same, hit_apart, times_drop, load_small, tally_written}
-use Rattle.lft_agenda.proofs.Writing.{room_to_turn, written_moves}
+use Rattle.lft_agenda.proofs.WrittenSeats.{room_to_turn, written_moves}
 
 pub busy_waits : (p : Phase) (n : ℕ) → 0 < n → busy_at p n ≡ true
 busy_waits Idle zero l = absurd (omega arith)
