@@ -81,7 +81,7 @@ fn judges_many_runs_that_miss_many_inputs(rt: HostRuntime) -> Result<(), Fail> {
         &stop_at(alloc, 199_999, 0)?,
         &ticks(alloc, 200_000)?,
     );
-    assert!(rt; line.as_slice() == b"accepted runs=200000 tags=200000\n");
+    assert!(rt; line.as_slice() == b"accepted runs=200000 tags=200000\n".as_slice());
     Ok(())
 }
 
@@ -131,7 +131,8 @@ fn judges_many_tags_with_much_that_precedes_a_run(rt: HostRuntime) -> Result<(),
     let table = pairs_of_runs(alloc, 500_000, "main.q#401", "main.y#1")?;
     let line = judged(alloc, &program, &stop_at(alloc, 499_999, 1)?, &table);
     assert!(rt;
-        line.as_slice() == b"broken rule=7 not-run time=499999 microstep=1 reaction=main.last#1\n"
+        line.as_slice()
+            == b"broken rule=7 not-run time=499999 microstep=1 reaction=main.last#1\n".as_slice()
     );
     Ok(())
 }
@@ -157,7 +158,7 @@ fn pairs_many_runs_with_many_effects(rt: HostRuntime) -> Result<(), Fail> {
         &rt, alloc, &program, &externals, &table, &table, 1, &mut out,
     );
     let line = with_fault(out, answer.err());
-    assert!(rt; line.as_slice() == b"same runs=200000 tags=200000\n");
+    assert!(rt; line.as_slice() == b"same runs=200000 tags=200000\n".as_slice());
     Ok(())
 }
 
