@@ -7,7 +7,6 @@ use Rattle.lft_flat.specs.Origins.{Origin}
 use Rattle.lft_flat.specs.declared.parts.Value.{Value}
 use Rattle.lft_flat.specs.declared.parts.Name.{Name}
 use Rattle.lft_flat.specs.declared.parts.Name.TheVariants.{Port, Action}
-use Rattle.lft_flat.specs.declared.parts.Timer.{Timer as TimerOf}
 use Rattle.lft_flat.specs.declared.parts.Trigger.{Trigger}
 use Rattle.lft_flat.specs.declared.parts.Trigger.TheVariants.{Startup, Shutdown, Timer, On}
 use Rattle.lft_trace.specs.declared.row.Row.{Row}
@@ -19,16 +18,17 @@ use Rattle.lft_check.specs.Verdicts.{IsAccepted}
 use Rattle.lft_by_tag.specs.Slices.{runs_in}
 use Rattle.lft_stream.specs.Settled.{IsRightBehind}
 use Rattle.lft_stream.specs.Counted.{IsCounted}
-use Rattle.lft_stream.specs.Owed.{Listens, IsMet, IsApart, firing, IsBeat}
+use Rattle.lft_stream.specs.declared.due.Due.{Due}
+use Rattle.lft_stream.specs.Owed.{Listens, IsMet, IsApart}
+use Rattle.lft_stream.specs.Dues.{AreDues, IsTimed}
 use Rattle.lft_stream.specs.Lanes.{held, made, carried, IsLane, LaneLaw}
 use Rattle.lft_stream.specs.Streams.{State, first_state, IsPlain, PortStands, IsStream, IsLeft, PortLeft, IsEnded, PortGrows, IsGrown, StreamLaw, IsEased, IsMoved, MoveLaw}
-use Rattle.lft_stream.proofs.Before.{ran_whole}
 use Rattle.lft_stream.proofs.Settling.{step_law, legal_of}
 use Rattle.lft_stream.proofs.Counting.{count_law}
-use Rattle.lft_stream.proofs.Owing.{parts_law, ends_law, beat_law}
+use Rattle.lft_stream.proofs.Owing.{parts_law, due_law}
 use Rattle.lft_stream.proofs.Clashes.{clash_law}
 use Rattle.lft_stream.proofs.Lanes.{lane_law, none_held}
-use Rattle.lft_lists.proofs.Members.{get_mem, mem_contains}
+use Rattle.lft_lists.proofs.Members.{mem_contains}
 
 -- no rows have none
 no_place : {X : Type 0} (i : ℕ) (x : X) → ¬ (slice_get [] i ≡ Some x)
@@ -38,19 +38,19 @@ module _ (plan : PlanParts) where
   laws : LaneLaw plan
   laws = lane_law plan
 
-  begins_stream : (has : ℕ → Bool) → ((p r : ℕ) → has p ≡ false → ¬ Listens plan r (On (Port p))) → IsStream plan [] (first_state plan has)
-  begins_stream has unheard = record {
+  begins_stream : (has : ℕ → Bool) (dues : List (List Due)) → ((p r : ℕ) → has p ≡ false → ¬ Listens plan r (On (Port p))) → AreDues plan [] dues → IsStream plan [] (first_state plan has dues)
+  begins_stream has dues unheard due = record {
     settled = record { rows = λ b o. absurd (no_place o.place o.row o.is_row); runs = λ g r o. absurd (never g r o) };
     counted = record { runs_are = refl; tags_are = ([], record { ascending = λ j k g h l p q. absurd (no_place j g p); ran = λ k g p. absurd (no_place k g p); each = λ g r o. absurd (never g r o) }, refl) };
     actions = λ a. laws.begins (Action a);
     ports = λ p o ds way. stands p (has p) refl;
-    beats = λ n r timer e x. (beat_law plan).begins [] timer r;
+    dues = due;
   }
     where
       no_clash : (h : Tag) (p : ℕ) → ¬ PortClash plan [] h p
       no_clash h p c = let e : None ≡ Some c.first_value = c.is_first.is_last in absurd (cc)
 
-      stands : (p : ℕ) (b : Bool) → has p ≡ b → PortStands plan [] (first_state plan has) p b
+      stands : (p : ℕ) (b : Bool) → has p ≡ b → PortStands plan [] (first_state plan has dues) p b
       stands p true e = laws.begins (Port p)
       stands p false e = record { unheard = λ r. unheard p r e; clashes = λ h c. absurd (no_clash h p c) }
 
@@ -71,26 +71,13 @@ module _ (plan : PlanParts) where
         go true lane e = moved (Port p) (old.queues (Port p) ++ carried u g o ds) e (laws.writes d u g p o ds (old.lows (Port p)) (old.queues (Port p)) way right.earlier right.at_tag (grown.reached (Port p)) lane)
         go false plain bounded = clash_law plan d u g p o ds old.clash new.clash way right.earlier right.at_tag grown.clash bounded plain
 
-    beat_grows : (n r : ℕ) (timer : TimerOf) → slice_get plan.program.timers n ≡ Some timer → Listens plan r (Timer n) → IsBeat (d ++ u) timer r (new.beats n r)
-    beat_grows n r timer e x = go (grown.beats n r timer e x)
-      where
-        kept : IsBeat (d ++ u) timer r (old.beats n r)
-        kept = (beat_law plan).grows d u timer r (old.beats n r) (stream.beats n r timer e x)
-
-        go : (new.beats n r ≡ old.beats n r) ⊎ (new.beats n r ≡ old.beats n r + 1) × (g ≡ firing timer (old.beats n r)) × Ran u g r → IsBeat (d ++ u) timer r (new.beats n r)
-        go (inl q) = subst (λ (k : ℕ). IsBeat (d ++ u) timer r k) (sym q) kept
-        go (inr (q, f, o)) = subst (λ (k : ℕ). IsBeat (d ++ u) timer r k) (sym q) ((beat_law plan).steps (d ++ u) timer r (old.beats n r) kept (subst (λ (h : Tag). Ran (d ++ u) h r) f (whole o)))
-          where
-            whole : Ran u g r → Ran (d ++ u) g r
-            whole o = ran_whole plan d u g (λ y m. let i = get_mem y d m in right.earlier i.0 y i.1) r o
-
     stream_grows : (r : ℕ) → Ran u g r → IsStream plan (d ++ u) new
     stream_grows r o = record {
       settled = step_law plan d u g stream.settled right;
       counted = subst (λ (k : ℕ). IsCounted (d ++ u) k new.tags) (sym grown.runs) (subst (λ (k : ℕ). IsCounted (d ++ u) (old.runs + runs_in u) k) (sym grown.tags) (count_law d u g r old.runs old.tags right.earlier right.at_tag o stream.counted));
       actions = action_grows;
       ports = port_grows;
-      beats = beat_grows;
+      dues = grown.dues;
     }
 
   module _ (t : List Row) (s : State) (stream : IsStream plan t s) (ended : IsEnded plan t s) where
@@ -129,10 +116,13 @@ module _ (plan : PlanParts) where
     name_apart (Port p) = λ h up c. port_apart p c.is_first.origin c.is_first.delays c.is_first.is_origin h up c
     name_apart (Action a) = laws.apart t (Action a) (s.lows (Action a)) (s.queues (Action a)) (few_of (Action a) (s.queues (Action a)) (ended.actions a)) (stream.actions a)
 
+    timed_met : (x : Trigger) → IsTimed x → IsMet plan t x
+    timed_met x timed = (due_law plan).meets t s.dues stream.dues ended.dues x timed
+
     trigger_met : (x : Trigger) → IsMet plan t x
-    trigger_met Startup = (ends_law plan).startup t ended.startup
-    trigger_met Shutdown = (ends_law plan).shutdown t ended.shutdown
-    trigger_met (Timer n) = λ h r up z l. (beat_law plan).meets t n z.0 z.1 (λ c y. (s.beats n c, stream.beats n c z.0 z.1 y, ended.beats n c z.0 z.1 y)) h r up z l
+    trigger_met Startup = timed_met Startup tt
+    trigger_met Shutdown = timed_met Shutdown tt
+    trigger_met (Timer n) = timed_met (Timer n) tt
     trigger_met (On n) = name_met n
 
     stream_accepts : IsAccepted plan t s.runs s.tags
@@ -140,7 +130,7 @@ module _ (plan : PlanParts) where
 
 pub stream_law : (plan : PlanParts) → StreamLaw plan
 stream_law plan = record {
-  begins = λ has unheard. begins_stream plan has unheard;
+  begins = λ has dues unheard due. begins_stream plan has dues unheard due;
   grows = λ d u g r old new stream right o grown. stream_grows plan d u g old new stream right grown r o;
   accepts = λ t s stream ended. stream_accepts plan t s stream ended;
 }
@@ -170,7 +160,7 @@ module _ (plan : PlanParts) (t : List Row) (old new : State) (stream : IsStream 
     counted = subst (λ (k : ℕ). IsCounted t k new.tags) (sym moved.runs) (subst (λ (k : ℕ). IsCounted t old.runs k) (sym moved.tags) stream.counted);
     actions = λ a. lane_moves (Action a) (stream.actions a);
     ports = port_moves;
-    beats = λ n r timer e x. subst (λ (k : ℕ). IsBeat t timer r k) (sym (moved.beats n r)) (stream.beats n r timer e x);
+    dues = subst (λ (dues : List (List Due)). AreDues plan t dues) (sym moved.dues) stream.dues;
   }
 
 pub move_law : (plan : PlanParts) → MoveLaw plan

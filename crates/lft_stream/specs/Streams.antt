@@ -1,5 +1,5 @@
 -- The judge's whole state, and when it may accept.
-use Rattle.std.specs.Prelude.{◌≡◌, Bool, true, false, ℕ, ◌+◌, ◌<◌, ◌⊎◌, List, [], ◌∷◌, ◌++◌, length, Option, Some, None, slice_get, Contains}
+use Rattle.std.specs.Prelude.{◌≡◌, Bool, true, false, ℕ, ◌+◌, ◌<◌, ◌⊎◌, List, [], ◌∷◌, ◌++◌, length, Option, Some, None, Contains}
 use Rattle.lft_tag.specs.declared.Tag.{Tag}
 use Rattle.lft_tag.specs.Tags.{Before, UpTo, after_all}
 use Rattle.lft_tag.specs.Shifts.{join_all, none}
@@ -7,8 +7,7 @@ use Rattle.lft_flat.specs.Origins.{Origin}
 use Rattle.lft_flat.specs.declared.parts.Value.{Value}
 use Rattle.lft_flat.specs.declared.parts.Name.{Name}
 use Rattle.lft_flat.specs.declared.parts.Name.TheVariants.{Port, Action}
-use Rattle.lft_flat.specs.declared.parts.Timer.{Timer as TimerOf}
-use Rattle.lft_flat.specs.declared.parts.Trigger.TheVariants.{Startup, Shutdown, Timer, On}
+use Rattle.lft_flat.specs.declared.parts.Trigger.TheVariants.{On}
 use Rattle.lft_trace.specs.declared.row.Row.{Row}
 use Rattle.lft_model.specs.Plans.{PlanParts}
 use Rattle.lft_model.specs.Presence.{stop, Last, PortClash}
@@ -17,22 +16,24 @@ use Rattle.lft_check.specs.Verdicts.{IsAccepted}
 use Rattle.lft_by_tag.specs.Slices.{runs_in}
 use Rattle.lft_stream.specs.Settled.{AreBefore, AreAt, IsSettled, IsRightBehind}
 use Rattle.lft_stream.specs.Counted.{IsCounted}
-use Rattle.lft_stream.specs.Owed.{Listens, firing, IsBeat, IsOver}
+use Rattle.lft_stream.specs.declared.due.Due.{Due}
+use Rattle.lft_stream.specs.Owed.{Listens}
+use Rattle.lft_stream.specs.Dues.{AreDues, NoneOwed}
 use Rattle.lft_stream.specs.Lanes.{held, first_events, made, carried, IsLane, AreAlike}
 
--- what is kept: which ports have a lane, of each name its lane and the tag up to which it is done with, of each timer and reaction the number of firings that were met, of the ports without a lane the tag before which none collides, and the numbers of runs and tags
+-- what is kept: which ports have a lane, of each name its lane and the tag up to which it is done with, when each trigger is due, of the ports without a lane the tag before which none collides, and the numbers of runs and tags
 pub record State : Type 0 where
   pub has_lane : ℕ → Bool
   pub lows : Name → Tag
   pub queues : Name → List (Tag × Value)
-  pub beats : ℕ → ℕ → ℕ
+  pub dues : List (List Due)
   pub clash : Option Tag
   pub runs : ℕ
   pub tags : ℕ
 
 -- before the first row, where these ports are to have a lane
-abbrev pub first_state : PlanParts → (ℕ → Bool) → State
-first_state plan has = record { has_lane = has; lows = λ n. record { time = 0; micro = 0 }; queues = first_events plan; beats = λ n r. 0; clash = None; runs = 0; tags = 0 }
+abbrev pub first_state : PlanParts → (ℕ → Bool) → List (List Due) → State
+first_state plan has dues = record { has_lane = has; lows = λ n. record { time = 0; micro = 0 }; queues = first_events plan; dues = dues; clash = None; runs = 0; tags = 0 }
 
 -- no reaction is triggered by the port, and its collisions are at the bound or later; without a bound it has none
 pub record IsPlain (plan : PlanParts) (t : List Row) (p : ℕ) (clash : Option Tag) : Type 0 where
@@ -62,7 +63,7 @@ pub record IsStream (plan : PlanParts) (t : List Row) (s : State) : Type 0 where
   pub counted : IsCounted t s.runs s.tags
   pub actions : (a : ℕ) → IsLane plan t (Action a) (s.lows (Action a)) (s.queues (Action a))
   pub ports : (p o : ℕ) (delays : List ℕ) → Origin plan.program p o delays → PortStands plan t s p (s.has_lane p)
-  pub beats : (n r : ℕ) (timer : TimerOf) → slice_get plan.program.timers n ≡ Some timer → Listens plan r (Timer n) → IsBeat t timer r (s.beats n r)
+  pub dues : AreDues plan t s.dues
 
 -- the events of a lane are after the stop; or no reaction is triggered by the name, and no two are at one tag up to the stop
 abbrev pub IsLeft : PlanParts → List Row → Name → List (Tag × Value) → Type 0
@@ -77,19 +78,17 @@ PortLeft plan t s p false = Unit {0}
 
 -- nothing is left to be met up to the stop
 pub record IsEnded (plan : PlanParts) (t : List Row) (s : State) : Type 0 where
-  pub startup : (r : ℕ) → Listens plan r Startup → Ran t (record { time = 0; micro = 0 }) r
-  pub shutdown : (r : ℕ) → Listens plan r Shutdown → Ran t (stop plan t) r
+  pub dues : NoneOwed (stop plan t) s.dues
   pub clash : (c : Tag) → s.clash ≡ Some c → Before (stop plan t) c
   pub actions : (a : ℕ) → IsLeft plan t (Action a) (s.queues (Action a))
   pub ports : (p o : ℕ) (delays : List ℕ) → Origin plan.program p o delays → PortLeft plan t s p (s.has_lane p)
-  pub beats : (n r : ℕ) (timer : TimerOf) → slice_get plan.program.timers n ≡ Some timer → Listens plan r (Timer n) → IsOver (stop plan t) timer (s.beats n r)
 
 -- what the rows u at g do to a port: its lane has their event behind, or the bound of its collisions is early enough
 abbrev pub PortGrows : List Row → List Row → Tag → State → State → ℕ → ℕ → List ℕ → Bool → Type 0
 PortGrows d u g old new p o delays true = new.queues (Port p) ≡ old.queues (Port p) ++ carried u g o delays
 PortGrows d u g old new p o delays false = IsBounded d u g o delays new.clash
 
--- the state over the rows u at g: the lanes have their events behind, a beat is on by one where its reaction ran at its next firing, and the bound of collisions is early enough
+-- the state over the rows u at g: the lanes have their events behind, what is due is so with these rows, and the bound of collisions is early enough
 pub record IsGrown (plan : PlanParts) (d u : List Row) (g : Tag) (old new : State) : Type 0 where
   pub has_lane : (p : ℕ) → new.has_lane p ≡ old.has_lane p
   pub lows : (n : Name) → new.lows n ≡ old.lows n
@@ -97,13 +96,13 @@ pub record IsGrown (plan : PlanParts) (d u : List Row) (g : Tag) (old new : Stat
   pub actions : (a : ℕ) → new.queues (Action a) ≡ old.queues (Action a) ++ made plan u a
   pub ports : (p o : ℕ) (delays : List ℕ) → Origin plan.program p o delays → PortGrows d u g old new p o delays (old.has_lane p)
   pub clash : IsAsEarly new.clash old.clash
-  pub beats : (n r : ℕ) (timer : TimerOf) → slice_get plan.program.timers n ≡ Some timer → Listens plan r (Timer n) → (new.beats n r ≡ old.beats n r) ⊎ (new.beats n r ≡ old.beats n r + 1) × (g ≡ firing timer (old.beats n r)) × Ran u g r
+  pub dues : AreDues plan (d ++ u) new.dues
   pub runs : new.runs ≡ old.runs + runs_in u
   pub tags : new.tags ≡ old.tags + 1
 
 -- the whole: the first state is right for no rows, where each port that triggers a reaction has a lane; the rows of one later tag, right behind those so far, lead to a right state; and with a right state that has nothing left the rows are accepted, with its counts
 pub record StreamLaw (plan : PlanParts) : Type 0 where
-  pub begins : (has : ℕ → Bool) → ((p r : ℕ) → has p ≡ false → ¬ Listens plan r (On (Port p))) → IsStream plan [] (first_state plan has)
+  pub begins : (has : ℕ → Bool) (dues : List (List Due)) → ((p r : ℕ) → has p ≡ false → ¬ Listens plan r (On (Port p))) → AreDues plan [] dues → IsStream plan [] (first_state plan has dues)
   pub grows : (d u : List Row) (g : Tag) (r : ℕ) (old new : State) → IsStream plan d old → IsRightBehind plan d u g → Ran u g r → IsGrown plan d u g old new → IsStream plan (d ++ u) new
   pub accepts : (t : List Row) (s : State) → IsStream plan t s → IsEnded plan t s → IsAccepted plan t s.runs s.tags
 
@@ -115,7 +114,7 @@ IsEased plan t n low queue high rest = UpTo low high × ((y : Tag × Value) → 
 pub record IsMoved (plan : PlanParts) (t : List Row) (old new : State) : Type 0 where
   pub has_lane : (p : ℕ) → new.has_lane p ≡ old.has_lane p
   pub lanes : (n : Name) → (new.lows n ≡ old.lows n) × (new.queues n ≡ old.queues n) ⊎ IsEased plan t n (old.lows n) (old.queues n) (new.lows n) (new.queues n)
-  pub beats : (n r : ℕ) → new.beats n r ≡ old.beats n r
+  pub dues : new.dues ≡ old.dues
   pub clash : new.clash ≡ old.clash
   pub runs : new.runs ≡ old.runs
   pub tags : new.tags ≡ old.tags
