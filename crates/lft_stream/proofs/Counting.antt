@@ -10,7 +10,11 @@ use Rattle.lft_model.specs.Runs.{start_row, Ran}
 use Rattle.lft_model.proofs.Places.{slice_get_within}
 use Rattle.lft_by_tag.specs.Slices.{begins, runs_in, AreTags}
 use Rattle.lft_stream.specs.Settled.{AreBefore, AreAt}
-use Rattle.lft_stream.specs.Counted.{CountLaw}
+use Rattle.lft_stream.specs.Counted.{IsCounted}
+
+-- a later tag with a run adds its runs, and one tag
+abbrev pub CountLaw : Type 0
+CountLaw = (d u : List Row) (g : Tag) (r runs tags : ℕ) → AreBefore d g → AreAt u g → Ran u g r → IsCounted d runs tags → IsCounted (d ++ u) (runs + runs_in u) (tags + 1)
 
 count_append : {X : Type 0} (p : X → Bool) (xs ys : List X) → count_by p (xs ++ ys) ≡ count_by p xs + count_by p ys
 count_append p xs ys = sum_by-append (λ x. cond (p x) 1 0) xs ys

@@ -1,5 +1,5 @@
 -- The lanes: events that are still to be met.
-use Rattle.std.proofs.Common.{◌≡◌, ℕ, zero, suc, ◌+◌, ◌<◌, ◌≤◌, ◌⊎◌, inl, inr, ◌==◌, ◌&&◌, Bool, true, false, cond, List, [], ◌∷◌, ◌++◌, length, length-append, refl, sym, ap, ◌∙◌, subst, arith, Option, Some, None, slice_get, filter_map, option_map, Contains}
+use Rattle.std.proofs.Common.{◌≡◌, ℕ, zero, suc, ◌+◌, ◌<◌, ◌≤◌, ◌⊎◌, inl, inr, ◌==◌, ◌&&◌, Bool, true, false, cond, List, [], ◌∷◌, ◌++◌, length, length-append, refl, sym, ap, ◌∙◌, subst, arith, Option, Some, None, slice_get, filter_map, option_map, Contains, option_to_list}
 use Rattle.std.specs.List.{last_or, cons_option}
 use Rattle.std.specs.Option.{option_and_then, option_to_list}
 use Rattle.std.proofs.lemmas.List.Elements.{filter_map-append}
@@ -24,11 +24,23 @@ use Rattle.lft_tag.proofs.Order.{same_tag_refl}
 use Rattle.lft_model.proofs.Ended.{written_by}
 use Rattle.lft_stream.specs.Settled.{AreBefore, AreAt}
 use Rattle.lft_stream.specs.Owed.{Listens, IsMet, IsApart}
-use Rattle.lft_stream.specs.Lanes.{at_tag, held, coming, given_to, first_events, made, carried, IsDone, IsKept, IsLane, AreAlike, LaneLaw}
+use Rattle.lft_stream.specs.Lanes.{at_tag, held, coming, given_to, first_events, made, carried, IsDone, IsKept, IsLane, AreAlike}
 use Rattle.lft_stream.proofs.Behind.{at_back, clash_back}
 use Rattle.lft_stream.proofs.Before.{ran_whole}
 use Rattle.lft_stream.proofs.Hand.{last_old, last_whole, last_now, last_then}
 use Rattle.lft_stream.proofs.Owing.{ran_grows}
+
+-- how a lane goes: it begins with the external inputs; the order of its events is free; more rows put their events behind; its first event leaves it when all listeners have their runs; a port without a delay whose listeners ran where it was written has an empty lane again; a lane without an event up to the stop has met its name, and one without two at a tag keeps it apart
+pub record LaneLaw (plan : PlanParts) : Type 0 where
+  pub begins : (n : Name) → IsLane plan [] n (record { time = 0; micro = 0 }) (first_events plan n)
+  pub reorders : (t : List Row) (n : Name) (low : Tag) (queue other : List (Tag × Value)) → AreAlike queue other → IsLane plan t n low queue → IsLane plan t n low other
+  pub schedules : (t u : List Row) (a : ℕ) (low : Tag) (queue : List (Tag × Value)) → ((i : ℕ) (x : Row) → slice_get u i ≡ Some x → UpTo low x.tag) → IsLane plan t (Action a) low queue → IsLane plan (t ++ u) (Action a) low (queue ++ made plan u a)
+  pub writes : (t u : List Row) (g : Tag) (p o : ℕ) (delays : List ℕ) (low : Tag) (queue : List (Tag × Value)) → Origin plan.program p o delays → AreBefore t g → AreAt u g → UpTo low g → IsLane plan t (Port p) low queue → IsLane plan (t ++ u) (Port p) low (queue ++ carried u g o delays)
+  pub takes : (t : List Row) (n : Name) (low high : Tag) (x : Tag × Value) (queue : List (Tag × Value)) → Before x.0 high → ((y : Tag × Value) → Contains queue y → UpTo high y.0) → ((r : ℕ) → Listens plan r (On n) → Ran t x.0 r) → UpTo low high → IsLane plan t n low (x ∷ queue) → IsLane plan t n high queue
+  pub passes : (t u : List Row) (g : Tag) (p o : ℕ) (low : Tag) → Origin plan.program p o [] → AreBefore t g → AreAt u g → UpTo low g → ((v : Value) → Last u g o v → (r : ℕ) → Listens plan r (On (Port p)) → Ran u g r) → IsLane plan t (Port p) low [] → IsLane plan (t ++ u) (Port p) (after g 0) []
+  pub rises : (t : List Row) (n : Name) (low high : Tag) (queue : List (Tag × Value)) → ((y : Tag × Value) → Contains queue y → UpTo high y.0) → UpTo low high → IsLane plan t n low queue → IsLane plan t n high queue
+  pub meets : (t : List Row) (n : Name) (low : Tag) (queue : List (Tag × Value)) → ((y : Tag × Value) → Contains queue y → Before (stop plan t) y.0) → IsLane plan t n low queue → IsMet plan t (On n)
+  pub apart : (t : List Row) (n : Name) (low : Tag) (queue : List (Tag × Value)) → ((h : Tag) → UpTo h (stop plan t) → length (held queue h) < 2) → IsLane plan t n low queue → IsApart plan t n
 
 -- an event of a list at its tag
 item_at : (h : Tag) (x : Tag × Value) (v : Value) → at_tag h x ≡ Some v → (x.0 ≡ h) × (x.1 ≡ v)

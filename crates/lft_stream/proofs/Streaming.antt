@@ -21,14 +21,20 @@ use Rattle.lft_stream.specs.Counted.{IsCounted}
 use Rattle.lft_stream.specs.declared.due.Due.{Due}
 use Rattle.lft_stream.specs.Owed.{Listens, IsMet, IsApart}
 use Rattle.lft_stream.specs.Dues.{AreDues, IsTimed}
-use Rattle.lft_stream.specs.Lanes.{held, made, carried, IsLane, LaneLaw}
-use Rattle.lft_stream.specs.Streams.{State, first_state, IsPlain, PortStands, IsStream, IsLeft, PortLeft, IsEnded, PortGrows, IsGrown, StreamLaw, IsEased, IsMoved, MoveLaw}
+use Rattle.lft_stream.specs.Lanes.{held, made, carried, IsLane}
+use Rattle.lft_stream.specs.Streams.{State, first_state, IsPlain, PortStands, IsStream, IsLeft, PortLeft, IsEnded, PortGrows, IsGrown, IsEased, IsMoved, MoveLaw}
 use Rattle.lft_stream.proofs.Settling.{step_law, legal_of}
 use Rattle.lft_stream.proofs.Counting.{count_law}
 use Rattle.lft_stream.proofs.Owing.{parts_law, due_law}
 use Rattle.lft_stream.proofs.Clashes.{clash_law}
-use Rattle.lft_stream.proofs.Lanes.{lane_law, none_held}
+use Rattle.lft_stream.proofs.Lanes.{LaneLaw, lane_law, none_held}
 use Rattle.lft_lists.proofs.Members.{mem_contains}
+
+-- the whole: the first state is right for no rows, where each port that triggers a reaction has a lane; the rows of one later tag, right behind those so far, lead to a right state; and with a right state that has nothing left the rows are accepted, with its counts
+pub record StreamLaw (plan : PlanParts) : Type 0 where
+  pub begins : (has : ℕ → Bool) (dues : List (List Due)) → ((p r : ℕ) → has p ≡ false → ¬ Listens plan r (On (Port p))) → AreDues plan [] dues → IsStream plan [] (first_state plan has dues)
+  pub grows : (d u : List Row) (g : Tag) (r : ℕ) (old new : State) → IsStream plan d old → IsRightBehind plan d u g → Ran u g r → IsGrown plan d u g old new → IsStream plan (d ++ u) new
+  pub accepts : (t : List Row) (s : State) → IsStream plan t s → IsEnded plan t s → IsAccepted plan t s.runs s.tags
 
 -- no rows have none
 no_place : {X : Type 0} (i : ℕ) (x : X) → ¬ (slice_get [] i ≡ Some x)

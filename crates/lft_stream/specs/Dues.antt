@@ -1,5 +1,5 @@
 -- When triggers that wait for no event are due: at the tags where their reactions have no run yet.
-use Rattle.std.specs.Prelude.{◌≡◌, ℕ, ◌+◌, ◌*◌, ◌<◌, List, ◌++◌, length, Some, slice_get, Contains}
+use Rattle.std.specs.Prelude.{◌≡◌, ℕ, ◌+◌, ◌*◌, ◌<◌, List, length, Some, slice_get, Contains}
 use Rattle.lft_tag.specs.declared.Tag.{Tag}
 use Rattle.lft_tag.specs.Tags.{UpTo}
 use Rattle.lft_flat.specs.declared.parts.Reaction.{Reaction}
@@ -12,8 +12,6 @@ use Rattle.lft_model.specs.Presence.{stop, Occurs}
 use Rattle.lft_model.specs.Runs.{Ran}
 use Rattle.lft_stream.specs.declared.due.Due.{Due}
 use Rattle.lft_stream.specs.declared.due.Due.TheVariants.{AtTag, AtStop, Never}
-use Rattle.lft_stream.specs.Settled.{AreBefore}
-use Rattle.lft_stream.specs.Owed.{IsMet}
 
 -- the k-th firing of a timer, counted from 0; where the period is 0 the first alone is one
 abbrev pub firing : TimerOf → ℕ → Tag
@@ -78,8 +76,3 @@ IsTimed Startup = Unit {0}
 IsTimed Shutdown = Unit {0}
 IsTimed (Timer n) = Unit {0}
 IsTimed (On n) = ⊥
-
--- when triggers are due stays so over rows of a later tag up to the stop; and where nothing is due up to the stop, each trigger that waits for no event is met
-pub record DueLaw (plan : PlanParts) : Type 0 where
-  pub grows : (d u : List Row) (g : Tag) (dues : List (List Due)) → AreBefore d g → UpTo g (stop plan d) → AreDues plan d dues → AreDues plan (d ++ u) dues
-  pub meets : (t : List Row) (dues : List (List Due)) → AreDues plan t dues → NoneOwed (stop plan t) dues → (x : Trigger) → IsTimed x → IsMet plan t x

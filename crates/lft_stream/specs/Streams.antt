@@ -1,5 +1,5 @@
 -- The judge's whole state, and when it may accept.
-use Rattle.std.specs.Prelude.{◌≡◌, Bool, true, false, ℕ, ◌+◌, ◌<◌, ◌⊎◌, List, [], ◌∷◌, ◌++◌, length, Option, Some, None, Contains}
+use Rattle.std.specs.Prelude.{◌≡◌, Bool, true, false, ℕ, ◌+◌, ◌<◌, ◌⊎◌, List, ◌∷◌, ◌++◌, length, Option, Some, None, Contains}
 use Rattle.lft_tag.specs.declared.Tag.{Tag}
 use Rattle.lft_tag.specs.Tags.{Before, UpTo, after_all}
 use Rattle.lft_tag.specs.Shifts.{join_all, none}
@@ -12,9 +12,8 @@ use Rattle.lft_trace.specs.declared.row.Row.{Row}
 use Rattle.lft_model.specs.Plans.{PlanParts}
 use Rattle.lft_model.specs.Presence.{stop, Last, PortClash}
 use Rattle.lft_model.specs.Runs.{Ran}
-use Rattle.lft_check.specs.Verdicts.{IsAccepted}
 use Rattle.lft_by_tag.specs.Slices.{runs_in}
-use Rattle.lft_stream.specs.Settled.{AreBefore, AreAt, IsSettled, IsRightBehind}
+use Rattle.lft_stream.specs.Settled.{IsSettled}
 use Rattle.lft_stream.specs.Counted.{IsCounted}
 use Rattle.lft_stream.specs.declared.due.Due.{Due}
 use Rattle.lft_stream.specs.Owed.{Listens}
@@ -47,10 +46,6 @@ IsAsEarly new old = (c : Tag) → old ≡ Some c → (e : Tag) × (new ≡ Some 
 -- where the delays have a time and the origin is written at the tag at hand and was at another tag of the same time, the bound is where they meet, or earlier
 abbrev pub IsBounded : List Row → List Row → Tag → ℕ → List ℕ → Option Tag → Type 0
 IsBounded d u g o delays clash = (k : Tag) (v w : Value) → Last d k o v → Last u g o w → k.time ≡ g.time → 0 < (join_all none delays).0 → (c : Tag) × (clash ≡ Some c) × UpTo c (after_all g delays)
-
--- then a plain port stays plain
-abbrev pub ClashLaw : PlanParts → Type 0
-ClashLaw plan = (d u : List Row) (g : Tag) (p o : ℕ) (delays : List ℕ) (old new : Option Tag) → Origin plan.program p o delays → AreBefore d g → AreAt u g → IsAsEarly new old → IsBounded d u g o delays new → IsPlain plan d p old → IsPlain plan (d ++ u) p new
 
 -- what is kept of a port is right: its lane, or that it is plain
 abbrev pub PortStands : PlanParts → List Row → State → ℕ → Bool → Type 0
@@ -100,12 +95,6 @@ pub record IsGrown (plan : PlanParts) (d u : List Row) (g : Tag) (old new : Stat
   pub runs : new.runs ≡ old.runs + runs_in u
   pub tags : new.tags ≡ old.tags + 1
 
--- the whole: the first state is right for no rows, where each port that triggers a reaction has a lane; the rows of one later tag, right behind those so far, lead to a right state; and with a right state that has nothing left the rows are accepted, with its counts
-pub record StreamLaw (plan : PlanParts) : Type 0 where
-  pub begins : (has : ℕ → Bool) (dues : List (List Due)) → ((p r : ℕ) → has p ≡ false → ¬ Listens plan r (On (Port p))) → AreDues plan [] dues → IsStream plan [] (first_state plan has dues)
-  pub grows : (d u : List Row) (g : Tag) (r : ℕ) (old new : State) → IsStream plan d old → IsRightBehind plan d u g → Ran u g r → IsGrown plan d u g old new → IsStream plan (d ++ u) new
-  pub accepts : (t : List Row) (s : State) → IsStream plan t s → IsEnded plan t s → IsAccepted plan t s.runs s.tags
-
 -- a lane may be eased: its first event, in some order, leaves it where all listeners have their runs; and it may be done with up to its least event
 abbrev pub IsEased : PlanParts → List Row → Name → Tag → List (Tag × Value) → Tag → List (Tag × Value) → Type 0
 IsEased plan t n low queue high rest = UpTo low high × ((y : Tag × Value) → Contains rest y → UpTo high y.0) × (AreAlike queue rest ⊎ ((x : Tag × Value) × AreAlike queue (x ∷ rest) × Before x.0 high × ((r : ℕ) → Listens plan r (On n) → Ran t x.0 r)))
@@ -119,6 +108,6 @@ pub record IsMoved (plan : PlanParts) (t : List Row) (old new : State) : Type 0 
   pub runs : new.runs ≡ old.runs
   pub tags : new.tags ≡ old.tags
 
--- a right state stays right so
+-- what is kept stays right where an event that all its listeners met leaves it
 abbrev pub MoveLaw : PlanParts → Type 0
 MoveLaw plan = (t : List Row) (old new : State) → IsStream plan t old → IsMoved plan t old new → IsStream plan t new
