@@ -1,0 +1,15 @@
+use Rattle.std.proofs.Common.{◌++◌, take, None, subst, sym}
+use Rattle.lft_tag.specs.declared.Tag.{Tag}
+use Rattle.lft_rows.specs.Firsts.{FirstRow}
+use Rattle.lft_stream.specs.Timers.{IsStreamOf}
+use Rattle.lft_stream.proofs.Parting.{rises_from}
+use Rattle.lft_stream.proofs.stream.Stream.add_kept.Goals as goal
+
+pub slice_from-slice-requires-clause-rises : goal.slice_from-slice-requires-clause-rises
+slice_from-slice-requires-clause-rises g c = rises_from c.args.self.now.stop c.args.plan.now c.args.rows.now c.requires.1.1.0
+
+pub add_slice-requires : goal.add_slice-requires
+add_slice-requires g c =
+    let plan = c.args.plan.now in
+    let rows = c.args.rows.now in
+    (c.requires.0, (c.requires.1.0, (subst (λ (last : Tag). FirstRow last plan rows None) (sym c.loop-first.invariant.stop) c.requires.1.1.0, (c.slice_from-slice.ensures.slice, subst (λ n. IsStreamOf plan (g.done ++ take n rows) c.loop-first.self) (sym c.slice_from-slice.ensures.first) c.loop-first.invariant.stands))))

@@ -1,0 +1,78 @@
+-- When triggers that wait for no event are due: at the tags where their reactions have no run yet.
+use Rattle.std.specs.Prelude.{◌≡◌, ℕ, ◌+◌, ◌*◌, ◌<◌, List, length, Some, slice_get, Contains}
+use Rattle.lft_tag.specs.declared.Tag.{Tag}
+use Rattle.lft_tag.specs.Tags.{UpTo}
+use Rattle.lft_flat.specs.declared.parts.Reaction.{Reaction}
+use Rattle.lft_flat.specs.declared.parts.Trigger.{Trigger}
+use Rattle.lft_flat.specs.declared.parts.Trigger.TheVariants.{Startup, Shutdown, Timer, On}
+use Rattle.lft_flat.specs.declared.parts.Timer.{Timer as TimerOf}
+use Rattle.lft_trace.specs.declared.row.Row.{Row}
+use Rattle.lft_model.specs.Plans.{PlanParts}
+use Rattle.lft_model.specs.Presence.{stop, Occurs}
+use Rattle.lft_model.specs.Runs.{Ran}
+use Rattle.lft_stream.specs.declared.due.Due.{Due}
+use Rattle.lft_stream.specs.declared.due.Due.TheVariants.{AtTag, AtStop, Never}
+
+-- the k-th firing of a timer, counted from 0; where the period is 0 the first alone is one
+abbrev pub firing : TimerOf → ℕ → Tag
+firing timer k = record { time = timer.offset + k * timer.period; micro = 0 }
+
+-- r has a run at each of the first k firings of a timer
+abbrev pub HasRunsAt : List Row → ℕ → TimerOf → ℕ → Type 0
+HasRunsAt t r timer k = (j : ℕ) → j < k → Ran t (firing timer j) r
+
+-- r has a run at each firing before the one at the tag, which is one; or the timer fires once, and r has that run
+abbrev pub IsNextFiring : List Row → ℕ → TimerOf → Due → Type 0
+IsNextFiring t r timer (AtTag g) = (k : ℕ) × HasRunsAt t r timer k × (g ≡ firing timer k) × (timer.period ≡ 0 → k ≡ 0)
+IsNextFiring t r timer AtStop = ⊥
+IsNextFiring t r timer Never = (timer.period ≡ 0) × Ran t (firing timer 0) r
+
+-- a trigger of r is due at the first tag where it is present and r has no run so far; never where there is none, and where it waits for an event
+abbrev pub IsDue : PlanParts → List Row → ℕ → Trigger → Due → Type 0
+IsDue plan t r Startup (AtTag g) = g ≡ record { time = 0; micro = 0 }
+IsDue plan t r Startup AtStop = ⊥
+IsDue plan t r Startup Never = Ran t (record { time = 0; micro = 0 }) r
+IsDue plan t r Shutdown (AtTag g) = ⊥
+IsDue plan t r Shutdown AtStop = Unit {0}
+IsDue plan t r Shutdown Never = Ran t (stop plan t) r
+IsDue plan t r (Timer n) due = (timer : TimerOf) × (slice_get plan.program.timers n ≡ Some timer) × IsNextFiring t r timer due
+IsDue plan t r (On n) (AtTag g) = ⊥
+IsDue plan t r (On n) AtStop = ⊥
+IsDue plan t r (On n) Never = Unit {0}
+
+-- one by one, when some triggers of r are due
+pub record AreDue (plan : PlanParts) (t : List Row) (r : ℕ) (triggers : List Trigger) (dues : List Due) : Type 0 where
+  pub as_long : length dues ≡ length triggers
+  pub each : (k : ℕ) (x : Trigger) (due : Due) → slice_get triggers k ≡ Some x → slice_get dues k ≡ Some due → IsDue plan t r x due
+
+-- when the triggers of each reaction are due
+pub record AreDues (plan : PlanParts) (t : List Row) (dues : List (List Due)) : Type 0 where
+  pub as_long : length dues ≡ length plan.program.reactions
+  pub each : (r : ℕ) (reaction : Reaction) (list : List Due) → slice_get plan.program.reactions r ≡ Some reaction → slice_get dues r ≡ Some list → AreDue plan t r reaction.triggers list
+
+-- what is due is so at g, where the stop tag is last
+abbrev pub IsDueAt : Tag → Tag → Due → Type 0
+IsDueAt last g (AtTag h) = h ≡ g
+IsDueAt last g AtStop = g ≡ last
+IsDueAt last g Never = ⊥
+
+-- what is due is so up to the stop
+abbrev pub IsOwed : Tag → Due → Type 0
+IsOwed last (AtTag g) = UpTo g last
+IsOwed last AtStop = Unit {0}
+IsOwed last Never = ⊥
+
+-- nothing is due up to the stop
+abbrev pub NoneOwed : Tag → List (List Due) → Type 0
+NoneOwed last dues = (r k : ℕ) (list : List Due) (due : Due) → slice_get dues r ≡ Some list → slice_get list k ≡ Some due → ¬ IsOwed last due
+
+-- some trigger of the list is present at g
+abbrev pub SomeOccurs : PlanParts → List Row → Tag → List Trigger → Type 0
+SomeOccurs plan t g triggers = (x : Trigger) × Contains triggers x × Occurs plan t g x
+
+-- a trigger that waits for no event
+abbrev pub IsTimed : Trigger → Type 0
+IsTimed Startup = Unit {0}
+IsTimed Shutdown = Unit {0}
+IsTimed (Timer n) = Unit {0}
+IsTimed (On n) = ⊥

@@ -1,0 +1,89 @@
+//! When a trigger that waits for no event is present next.
+
+ghost use Rattle.std.specs.Prelude.{◌≡◌, ◌↔◌, ℕ, List, [], ◌<◌, length, Some, IfSome, IsTrue, slice_get};
+ghost use Rattle.lft_tag.specs.declared.Tag.{Tag as TheTag};
+ghost use Rattle.lft_flat.specs.Sound.{IsTriggerOf};
+ghost use Rattle.lft_flat.specs.declared.parts.Trigger.{Trigger as TheTrigger};
+ghost use Rattle.lft_trace.specs.declared.row.Row.{Row as TheRow};
+ghost use Rattle.lft_model.specs.Presence.{stop};
+ghost use Rattle.lft_model.specs.Runs.{Ran};
+ghost use Rattle.lft_stream.specs.Dues.{IsDue, AreDue, IsDueAt, IsOwed, SomeOccurs};
+
+use lft_flat::{Timer, Trigger};
+use lft_lists::item_at;
+use lft_model::Plan;
+use lft_tag::Tag;
+
+/// When a trigger is present next, of the tags at which its reaction has no run so far.
+#[derive(Clone, Copy, PartialEq, Eq, Drop)]
+pub(crate) enum Due {
+    /// At this tag.
+    AtTag(Tag),
+    /// At the stop, which a later row may bring nearer.
+    AtStop,
+    /// At none; or an event is waited for.
+    Never,
+}
+
+/// The tag of this time, at microstep 0.
+fn at_time(time: u64) -> Tag
+    ensures { result ≡ record { time = time; micro = 0 } }
+{
+    Tag { time, micro: 0 }
+}
+
+impl Due {
+    /// When a trigger is due before the first row.
+    pub(crate) fn first(plan: &Plan, trigger: Trigger) -> Due
+        requires { IsTriggerOf plan.now.program trigger }
+        ensures { (r : ℕ) → IsDue plan.now [] r trigger result }
+    {
+        match trigger {
+            Trigger::Startup => Due::AtTag(at_time(0)),
+            Trigger::Shutdown => Due::AtStop,
+            Trigger::Timer(number) => Due::AtTag(at_time(plan.program().timer(number).offset)),
+            Trigger::On(_) => Due::Never,
+        }
+    }
+
+    /// Whether this is at the tag, where the stop is the last.
+    pub(crate) fn is_at(self, tag: Tag, last: Tag) -> bool
+        ensures { IsTrue result ↔ IsDueAt last tag self }
+    {
+        match self {
+            Due::AtTag(next) => next.is_same(tag),
+            Due::AtStop => tag.is_same(last),
+            Due::Never => false,
+        }
+    }
+
+    /// Whether this is up to the stop.
+    pub(crate) fn is_owed(self, last: Tag) -> bool
+        ensures { IsTrue result ↔ IsOwed last self }
+    {
+        match self {
+            Due::AtTag(next) => !last.is_before(next),
+            Due::AtStop => true,
+            Due::Never => false,
+        }
+    }
+
+    /// When the trigger is due next, where its reaction has a run now. None where that is at no tag
+    /// that 64 bits hold.
+    pub(crate) fn next(self, plan: &Plan, trigger: Trigger) -> Option<Due>
+        requires { IsTriggerOf plan.now.program trigger }
+        ensures { IfSome result (λ due. (t : List TheRow) (g : TheTag) (r : ℕ) → IsDue plan.now t r trigger self → IsDueAt (stop plan.now t) g self → Ran t g r → IsDue plan.now t r trigger due) }
+    {
+        match (trigger, self) {
+            (Trigger::Timer(number), Due::AtTag(tag)) => {
+                let timer = plan.program().timer(number);
+                if timer.period == 0 {
+                    return Some(Due::Never);
+                }
+                let time = tag.time.checked_add(timer.period)?;
+                Some(Due::AtTag(at_time(time)))
+            }
+            _ => Some(Due::Never),
+        }
+    }
+}
