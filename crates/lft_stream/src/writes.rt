@@ -1,0 +1,100 @@
+//! What was written last to each port.
+
+ghost use Rattle.std.specs.Prelude.{◌≡◌, ℕ, List, [], ◌∷◌, ◌++◌, ◌<◌, length, Some, None, IfOk, MatchOption, slice_get};
+ghost use Rattle.lft_flat.specs.declared.parts.Name.TheVariants.{Port};
+ghost use Rattle.lft_trace.specs.declared.row.Step.TheVariants.{Write};
+ghost use Rattle.lft_model.specs.Presence.{value_written};
+ghost use Rattle.lft_trace.specs.declared.row.Row.{Row as TheRow};
+ghost use Rattle.lft_trace.specs.Fits.{RowFits};
+ghost use Rattle.lft_stream.specs.Settled.{AreBefore, AreAt};
+ghost use Rattle.lft_stream.specs.Shown.{last_write};
+ghost use Rattle.lft_stream.specs.Writes.{AreWrites};
+
+use lft_flat::{Name, Program, Value};
+use lft_lists::item_at;
+use lft_tag::{NoMemory, Tag};
+use lft_trace::{Row, Step};
+use std::alloc::Global;
+use std::marker::Model;
+
+/// A write of a port.
+#[derive(Clone, Copy, PartialEq, Eq, Drop)]
+pub(crate) struct Written {
+    tag: Tag,
+    value: Value,
+}
+
+/// For each port its last write, if it is written.
+#[derive(Drop)]
+pub(crate) struct Writes {
+    last: Vec<Option<Written>>,
+}
+
+impl Model for Writes {
+    ghost use Rattle.std.specs.Prelude.{List, Option};
+    ghost use Rattle.lft_stream.specs.declared.writes.Written.{Written};
+
+    ghost Value = { List (Option Written) };
+
+    ghost view = { λ writes. writes.last.items };
+}
+
+/// The port that the step writes, with the value, if it writes one.
+fn written_port(step: &Step) -> Option<(u32, Value)>
+    ensures { MatchOption result ((p : ℕ) → value_written p step.now ≡ None) (λ x. step.now ≡ Write (Port x.0) x.1) }
+{
+    match step {
+        Step::Write(Name::Port(port), value) => Some((*port, *value)),
+        Step::Write(Name::Action(_), _) => None,
+        Step::Start => None,
+        Step::Read(_, _) => None,
+        Step::Schedule(_, _, _) => None,
+        Step::Stop => None,
+        Step::End => None,
+    }
+}
+
+impl Writes {
+    /// No port is written.
+    pub(crate) fn new(alloc: Global, program: &Program) -> Result<Writes, NoMemory>
+        ensures { IfOk result (AreWrites program.now []) }
+    {
+        let last = vec![in alloc; None; program.ports()]?;
+        Ok(Writes { last })
+    }
+
+    /// Goes on past a row.
+    pub(crate) fn pass(&mut self, program: &Program, row: Row)
+        ghost rows: { List TheRow }
+        requires fits { RowFits program.now row }
+        requires writes { AreWrites program.now rows self.old }
+        ensures { AreWrites program.now (rows ++ row ∷ []) self.new }
+    {
+        let tag = row.tag;
+        if let Some((port, value)) = written_port(&row.step) {
+            self.last[port as usize] = Some(Written { tag, value });
+        }
+    }
+
+    /// The value that is written last to the port at the tag, of rows that are at the tag behind
+    /// rows that are at earlier ones.
+    pub(crate) fn value_at(&self, program: &Program, tag: Tag, port: u32) -> Option<Value>
+        ghost parts: { List TheRow × List TheRow }
+        requires port { port < length program.now.ports }
+        requires earlier { AreBefore parts.0 tag }
+        requires at { AreAt parts.1 tag }
+        requires writes { AreWrites program.now (parts.0 ++ parts.1) self.now }
+        ensures { result ≡ last_write parts.1 tag port }
+    {
+        match item_at(self.last.as_slice(), port as usize) {
+            Some(write) => {
+                if write.tag.is_same(tag) {
+                    Some(write.value)
+                } else {
+                    None
+                }
+            }
+            None => None,
+        }
+    }
+}
