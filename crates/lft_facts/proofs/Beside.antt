@@ -12,40 +12,40 @@ use Rattle.lft_facts.specs.Runs.{StartsAt}
 use Rattle.lft_facts.specs.Reasons.{IsRunBefore, IsRunAfter}
 use Rattle.lft_facts.specs.Neighbours.{IsNearestStart}
 
-module _ (ThingKind : Tag → Type 0) (UpToIt : Tag → Tag → Type 0) (t : List Row) (r i : ℕ) (row : Row) (is : slice_get t i ≡ Some row) where
+module _ (Kind : Tag → Type 0) (UpToIt : Tag → Tag → Type 0) (t : List Row) (r i : ℕ) (row : Row) (is : slice_get t i ≡ Some row) where
   pub tag_here : (k : Tag) → StartsAt t k r i → k ≡ row.tag
   tag_here k s = ap (λ (x : Row). x.tag) (Some_same (start_row s.0 k r) row (sym s.1 ∙ is))
 
-  pub start_stays : (o : Option (Tag × ℕ)) → ((k : Tag) → StartsAt t k r i → ¬ ThingKind k) → IsNearestStart ThingKind UpToIt t r i o → IsNearestStart ThingKind UpToIt t r (i + 1) o
+  pub start_stays : (o : Option (Tag × ℕ)) → ((k : Tag) → StartsAt t k r i → ¬ Kind k) → IsNearestStart Kind UpToIt t r i o → IsNearestStart Kind UpToIt t r (i + 1) o
   start_stays None none so_far = λ j k l s q. go j k l s q (ℕ_discrete j i)
     where
-      go : (j : ℕ) (k : Tag) → j < i + 1 → StartsAt t k r j → ThingKind k → Dec (j ≡ i) → ⊥
+      go : (j : ℕ) (k : Tag) → j < i + 1 → StartsAt t k r j → Kind k → Dec (j ≡ i) → ⊥
       go j k l s q (yes e) = none k (subst (λ n. StartsAt t k r n) e s) q
       go j k l s q (no d) = so_far j k (omega arith) s q
   start_stays (Some run) none so_far = (so_far.0, so_far.1, λ j k l s q. go j k l s q (ℕ_discrete j i))
     where
-      go : (j : ℕ) (k : Tag) → j < i + 1 → StartsAt t k r j → ThingKind k → Dec (j ≡ i) → UpToIt k run.0
+      go : (j : ℕ) (k : Tag) → j < i + 1 → StartsAt t k r j → Kind k → Dec (j ≡ i) → UpToIt k run.0
       go j k l s q (yes e) = absurd (none k (subst (λ n. StartsAt t k r n) e s) q)
       go j k l s q (no d) = so_far.2 j k (omega arith) s q
 
-  pub start_kept : (run : Tag × ℕ) → UpToIt row.tag run.0 → IsNearestStart ThingKind UpToIt t r i (Some run) → IsNearestStart ThingKind UpToIt t r (i + 1) (Some run)
+  pub start_kept : (run : Tag × ℕ) → UpToIt row.tag run.0 → IsNearestStart Kind UpToIt t r i (Some run) → IsNearestStart Kind UpToIt t r (i + 1) (Some run)
   start_kept run up so_far = (so_far.0, so_far.1, λ j k l s q. go j k l s q (ℕ_discrete j i))
     where
-      go : (j : ℕ) (k : Tag) → j < i + 1 → StartsAt t k r j → ThingKind k → Dec (j ≡ i) → UpToIt k run.0
+      go : (j : ℕ) (k : Tag) → j < i + 1 → StartsAt t k r j → Kind k → Dec (j ≡ i) → UpToIt k run.0
       go j k l s q (yes e) = subst (λ (h : Tag). UpToIt h run.0) (sym (tag_here k (subst (λ n. StartsAt t k r n) e s))) up
       go j k l s q (no d) = so_far.2 j k (omega arith) s q
 
-  pub start_first : ((h : Tag) → UpToIt h h) → StartsAt t row.tag r i → ThingKind row.tag → IsNearestStart ThingKind UpToIt t r i None → IsNearestStart ThingKind UpToIt t r (i + 1) (Some (row.tag, i))
+  pub start_first : ((h : Tag) → UpToIt h h) → StartsAt t row.tag r i → Kind row.tag → IsNearestStart Kind UpToIt t r i None → IsNearestStart Kind UpToIt t r (i + 1) (Some (row.tag, i))
   start_first self starts kind so_far = (starts, kind, λ j k l s q. go j k l s q (ℕ_discrete j i))
     where
-      go : (j : ℕ) (k : Tag) → j < i + 1 → StartsAt t k r j → ThingKind k → Dec (j ≡ i) → UpToIt k row.tag
+      go : (j : ℕ) (k : Tag) → j < i + 1 → StartsAt t k r j → Kind k → Dec (j ≡ i) → UpToIt k row.tag
       go j k l s q (yes e) = subst (λ (h : Tag). UpToIt h row.tag) (sym (tag_here k (subst (λ n. StartsAt t k r n) e s))) (self row.tag)
       go j k l s q (no d) = absurd (so_far j k (omega arith) s q)
 
-  pub start_here : ((h : Tag) → UpToIt h h) → ((f g h : Tag) → UpToIt f g → UpToIt g h → UpToIt f h) → StartsAt t row.tag r i → ThingKind row.tag → (run : Tag × ℕ) → UpToIt run.0 row.tag → IsNearestStart ThingKind UpToIt t r i (Some run) → IsNearestStart ThingKind UpToIt t r (i + 1) (Some (row.tag, i))
+  pub start_here : ((h : Tag) → UpToIt h h) → ((f g h : Tag) → UpToIt f g → UpToIt g h → UpToIt f h) → StartsAt t row.tag r i → Kind row.tag → (run : Tag × ℕ) → UpToIt run.0 row.tag → IsNearestStart Kind UpToIt t r i (Some run) → IsNearestStart Kind UpToIt t r (i + 1) (Some (row.tag, i))
   start_here self trans starts kind run up so_far = (starts, kind, λ j k l s q. go j k l s q (ℕ_discrete j i))
     where
-      go : (j : ℕ) (k : Tag) → j < i + 1 → StartsAt t k r j → ThingKind k → Dec (j ≡ i) → UpToIt k row.tag
+      go : (j : ℕ) (k : Tag) → j < i + 1 → StartsAt t k r j → Kind k → Dec (j ≡ i) → UpToIt k row.tag
       go j k l s q (yes e) = subst (λ (h : Tag). UpToIt h row.tag) (sym (tag_here k (subst (λ n. StartsAt t k r n) e s))) (self row.tag)
       go j k l s q (no d) = trans k run.0 row.tag (so_far.2 j k (omega arith) s q) up
 

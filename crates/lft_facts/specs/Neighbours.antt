@@ -10,7 +10,7 @@ use Rattle.lft_facts.specs.Runs.{StartsAt}
 
 -- of the runs of r at tags of a kind that start in the rows before place i the one to which the others come up, if any: its tag and its place
 abbrev pub IsNearestStart : (Tag → Type 0) → (Tag → Tag → Type 0) → List Row → ℕ → ℕ → Option (Tag × ℕ) → Type 0
-IsNearestStart ThingKind UpToIt t r i o = MatchOption o ((j : ℕ) (k : Tag) → j < i → StartsAt t k r j → ¬ ThingKind k) (λ run. StartsAt t run.0 r run.1 × ThingKind run.0 × ((j : ℕ) (k : Tag) → j < i → StartsAt t k r j → ThingKind k → UpToIt k run.0))
+IsNearestStart Kind UpToIt t r i o = MatchOption o ((j : ℕ) (k : Tag) → j < i → StartsAt t k r j → ¬ Kind k) (λ run. StartsAt t run.0 r run.1 × Kind run.0 × ((j : ℕ) (k : Tag) → j < i → StartsAt t k r j → Kind k → UpToIt k run.0))
 
 -- of the tags before g at which the timer fires the last is h
 pub record IsFiringBefore (timer : TimerOf) (g h : Tag) : Type 0 where
