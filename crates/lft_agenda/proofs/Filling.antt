@@ -19,14 +19,6 @@ none_contained {X} x c = let l : c.0 < length {A = X} [] = c.1 in omega arith
 pub empty_contained : {X : Type 0} (xs : List X) (x : X) → xs ≡ [] → Contains xs x → ⊥
 empty_contained {X} xs x e c = none_contained x (subst (λ (ys : List X). Contains ys x) e c)
 
--- no trigger yet
-pub pushed_start : (triggers : List Trigger) (reaction : ℕ) (lists : TriggerLists) → ArePushed (take 0 triggers) reaction lists lists
-pushed_start triggers reaction lists = record { room = λ t h. h; each = λ t r. (λ c. inl c, back t r) }
-  where
-    back : (t : Trigger) (r : ℕ) → Contains (list_of lists t) r ⊎ (Contains (take 0 triggers) t × (r ≡ reaction)) → Contains (list_of lists t) r
-    back t r (inl c) = c
-    back t r (inr p) = absurd (none_contained t p.0)
-
 -- one trigger more
 pub pushed_more : (triggers : List Trigger) (place reaction : ℕ) (trigger : Trigger) (old mid new : TriggerLists) → slice_get triggers place ≡ Some trigger → ArePushed (take place triggers) reaction old mid → IsPushed trigger reaction mid new → ArePushed (take (place + 1) triggers) reaction old new
 pushed_more triggers place reaction trigger old mid new here before one = record { room = λ t h. one.room t (before.room t h); each = λ t r. (λ c. to t r ((one.each t r).0 c), from t r) }

@@ -64,13 +64,6 @@ starts_through a b c i j k (inl l) (inr m) = inl (let e = m.0 in omega arith)
 starts_through a b c i j k (inr l) (inl m) = inl (let e = l.0 in omega arith)
 starts_through a b c i j k (inr l) (inr m) = inr (l.0 ∙ m.0, let p = l.1 in let q = m.1 in omega arith)
 
--- no trigger yet
-pub leaders_start : (program : Parts) (triggers : List Trigger) (map : BTreeMap (ℕ × ℕ) ℕ) → ((b : ℕ × ℕ) → get beat_cmp map b ≡ None) → HaveLeaders program (take 0 triggers) map
-leaders_start program triggers map empty = record {
-  each = λ b n e. (let z : None ≡ Some n = sym (empty b) ∙ e in absurd (cc));
-  all = λ n timer c e. absurd (none_contained (Timer n) c);
-}
-
 -- one trigger more
 module _ (program : Parts) (triggers : List Trigger) (place : ℕ) (trigger : Trigger) (here : slice_get triggers place ≡ Some trigger) where
   longer : take (place + 1) triggers ≡ take place triggers ++ trigger ∷ []

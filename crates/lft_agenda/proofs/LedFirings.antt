@@ -1,5 +1,5 @@
 -- Where a timer fires, so does the one that leads it: of the timers of one beat the first has all their firings.
-use Rattle.std.proofs.Common.{◌≡◌, ℕ, suc, ◌+◌, ◌-◌, ◌*◌, ◌/◌, ◌%◌, ◌<◌, ◌≤◌, ◌⊎◌, inl, inr, refl, sym, ap, ◌∙◌, subst, arith}
+use Rattle.std.proofs.Common.{◌≡◌, ℕ, suc, ◌+◌, ◌-◌, ◌*◌, ◌/◌, ◌%◌, ◌<◌, ◌≤◌, ◌⊎◌, inl, inr, sym, ap, ◌∙◌, arith}
 use Rattle.std.proofs.lemmas.Bool.{cases_eq}
 use Rattle.std.proofs.lemmas.Nat.{div-add-mod'}
 use native.Mathlib.Decide.{dec_lt}
@@ -9,7 +9,7 @@ use Rattle.lft_flat.specs.Parts.{Parts}
 use Rattle.lft_flat.specs.declared.parts.Timer.{Timer as TimerOf}
 use Rattle.lft_flat.specs.declared.parts.Trigger.TheVariants.{Timer}
 use Rattle.lft_model.specs.Presence.{Fires}
-use Rattle.lft_agenda.specs.Listeners.{beat, IsLeader, IsListener, IsLive}
+use Rattle.lft_agenda.specs.Listeners.{beat, IsListener, IsLive}
 use Rattle.lft_agenda.proofs.Led.{led}
 use Rattle.lft_agenda.specs.Telling.{FiresAt}
 

@@ -66,13 +66,6 @@ mirrored_more before count mine after new w e n = record {
         let o = was a list f in
         n.others a r o.0 list o.1 f d ∙ w.there a r o.0 own o.1 g (omega arith)
 
-pub mirrored_start : (before after : List (List ℕ)) → length after ≡ length before → ((a : ℕ) (list : List ℕ) → slice_get after a ≡ Some list → list ≡ []) → IsMirrored before 0 after
-mirrored_start before after l z = record {
-  as_long = l;
-  there = λ a r list mine e f m. absurd (omega arith);
-  none = λ a r list e m. ap (times r) (z a list e);
-}
-
 -- an ascending list has none twice
 times_once : (xs : List ℕ) → ((i j x : ℕ) → slice_get xs i ≡ Some x → slice_get xs j ≡ Some x → i ≡ j) → (x : ℕ) → times x xs ≤ 1
 times_once [] o x = omega arith

@@ -1,5 +1,5 @@
 -- The first firing of a timer after a tag.
-use Rattle.std.proofs.Common.{◌≡◌, ℕ, suc, ◌+◌, ◌-◌, ◌*◌, ◌/◌, ◌%◌, ◌<◌, ◌≤◌, inl, inr, refl, ap, ◌∙◌, arith}
+use Rattle.std.proofs.Common.{◌≡◌, ℕ, suc, ◌+◌, ◌-◌, ◌*◌, ◌/◌, ◌%◌, ◌<◌, ◌≤◌, inl, inr, refl, ◌∙◌, arith}
 use Rattle.std.proofs.lemmas.Nat.{div-add-mod'}
 use native.Mathlib.Decide.{dec_lt}
 use Rattle.std.proofs.Math.Nat.{mod-lt, mul-le-mul_right, suc-mul}
@@ -11,9 +11,6 @@ use Rattle.lft_model.specs.Presence.{Fires}
 use Rattle.lft_model.proofs.Firings.{firing, time_of}
 use Rattle.lft_agenda.specs.Firings.{IsFirstFiring}
 
-at_zero : ℕ → Tag
-at_zero time = record { time = time; micro = 0 }
-
 -- after a tag is at a later time, since it fires at microstep 0
 later_time : (g f : Tag) → f.micro ≡ 0 → Before g f → g.time < f.time
 later_time g f m (inl b) = b
@@ -23,28 +20,12 @@ later_time g f m (inr b) = absurd (let k = b.1 in omega arith)
 up_to_time : (time : ℕ) (f : Tag) → f.micro ≡ 0 → time ≤ f.time → UpTo (record { time = time; micro = 0 }) f
 up_to_time time f m l = search arith
 
-pub first_firing : (timer : TimerOf) (g : Tag) → g.time < timer.offset → IsFirstFiring timer (λ h. Before g h) (record { time = timer.offset; micro = 0 })
-first_firing timer g l = record {
-  fires = (0, tag_of (omega arith) refl, λ p. refl);
-  holds = inl l;
-  least = λ f fires b. (let e = time_of f (firing timer fires.0) fires.1 in up_to_time timer.offset f e.1 (let d : f.time ≡ timer.offset + fires.0 * timer.period = e.0 in omega arith));
-}
-
 pub starts_at : (timer : TimerOf) → IsFirstFiring timer (λ h. UpTo (record { time = 0; micro = 0 }) h) (record { time = timer.offset; micro = 0 })
 starts_at timer = record {
   fires = (0, tag_of (omega arith) refl, λ p. refl);
   holds = search arith;
   least = λ f fires u. (let e = time_of f (firing timer fires.0) fires.1 in up_to_time timer.offset f e.1 (let d : f.time ≡ timer.offset + fires.0 * timer.period = e.0 in omega arith));
 }
-
-pub no_more_firing : (timer : TimerOf) (g f : Tag) → timer.offset ≤ g.time → timer.period ≡ 0 → Fires timer f → ¬ Before g f
-no_more_firing timer g f l p fires b =
-    let e = time_of f (firing timer fires.0) fires.1 in
-    let k : fires.0 ≡ 0 = fires.2 p in
-    let d : f.time ≡ timer.offset + 0 * timer.period = e.0 ∙ ap (λ i. timer.offset + i * timer.period) k in
-    let z : f.time ≡ timer.offset = d ∙ omega arith in
-    let y : g.time < f.time = later_time g f e.1 b in
-    omega arith
 
 -- a firing after the tag is at least one period after the last one up to it
 more_times : (k j period over time : ℕ) → over < period → k * period + over < j * period → suc k * period ≤ j * period

@@ -67,9 +67,6 @@ pub opened_at : (t : List Row) (w : ℕ) (g : Tag) (r : ℕ) → IsOpen t (lengt
 opened_at t w g r o = record { place = o.start; worker = w; starts = o.starts }
 
 module _ (plan : PlanParts) (good : IsSoundPlan plan) (t : List Row) (w : ℕ) (g : Tag) (r : ℕ) (shown : List (Option Value)) (b : MayBegin plan t w g r shown) where
-  abbrev its_steps : List Step
-  its_steps = Start ∷ filter_map read_step (zip (inputs_of plan.program r) shown)
-
   early : UpTo g (stop plan t)
   early = pending_time plan good t b.so_far b.quiet g r b.may.ready.pending
 

@@ -196,10 +196,6 @@ knows_again plan good t g last clash q o b u is e p port is_port its = (to, from
 
 -- a scheduling of an action
 module _ (plan : PlanParts) (t : List Row) (x : Row) (a d : ℕ) (v : Value) (schedules : x.step ≡ Schedule (Action a) v d) where
-  -- its rows are all, the others' those from before
-  abbrev now : Name → List Row
-  now m = cond (same_name (Action a) m) (t ++ x ∷ []) t
-
   arrives : scheduled (after x.tag (min_delay plan.program a + d)) a (min_delay plan.program a) x ≡ Some v
   arrives = by_scheduled (after x.tag (min_delay plan.program a + d)) a (min_delay plan.program a) x v (record { extra = d; arrives = refl; value_is = ap (λ (s : Step). value_scheduled a s) schedules ∙ some_scheduled a d v })
 

@@ -28,19 +28,6 @@ rest_moving up after seats flags stack w l = record {
   frees = w.frees;
 }
 
-pub moving_rest : (up : Bool) (after : List (List ℕ)) (seats : List Seat) (flags : List Bool) (stack : List ℕ) → IsMoving up after seats flags stack 0 [] → IsAtRest after seats flags
-moving_rest up after seats flags stack w = record {
-  as_long = w.as_long;
-  flags_as_long = w.flags_as_long;
-  waits = λ r s e. (let a = w.waits r s e in let g = gain_none up in let h = loss_none up in omega arith);
-  counted = λ r s e. settled r s (w.counted r s e);
-  frees = w.frees;
-}
-  where
-    settled : (r : ℕ) (s : Seat) → (busy s ≡ s.counted) ⊎ IsStacked stack 0 r → busy s ≡ s.counted
-    settled r s (inl b) = b
-    settled r s (inr t) = absurd (let l = t.1 in omega arith)
-
 -- one is taken off the stack, and counts as it is
 module _ (up : Bool) (after : List (List ℕ)) (seats : List Seat) (flags : List Bool) (stack : List ℕ) (top a : ℕ) (s y : Seat) (list : List ℕ) (w : IsMoving up after seats flags stack (top + 1) []) (es : slice_get stack top ≡ Some a) (e : slice_get seats a ≡ Some s) (el : slice_get after a ≡ Some list) (phase : y.phase ≡ s.phase) (waits : y.waits ≡ s.waits) (now : y.counted ≡ up) where
   was_stacked : (x : Seat) × (slice_get seats a ≡ Some x) × (x.counted ≡ not up) × (busy x ≡ up)

@@ -4,7 +4,7 @@ ghost use Rattle.std.specs.Prelude.{◌↔◌, ℕ, length, Contains, IfOk, OnOk
 ghost use Rattle.lft_flat.specs.Parts.{Parts};
 ghost use Rattle.lft_flat.specs.declared.parts.Trigger.{Trigger as TriggerOf};
 ghost use Rattle.lft_agenda.specs.Listeners.{IsListener, IsLive, AreListeners};
-ghost use Rattle.lft_agenda.specs.Lists.{list_of, HasList, ArePushed};
+ghost use Rattle.lft_agenda.specs.Lists.{HasList, ArePushed};
 ghost use Rattle.lft_agenda.specs.Filling.{AreListed};
 
 mod arrivals;

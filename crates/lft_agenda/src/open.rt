@@ -1,6 +1,6 @@
 //! The runs that have started and haven't ended.
 
-ghost use Rattle.std.specs.Prelude.{◌≡◌, ◌↔◌, ◌<◌, List, length, filter, not, IsTrue};
+ghost use Rattle.std.specs.Prelude.{◌≡◌, ◌↔◌, ◌<◌, List, filter, not, IsTrue};
 ghost use Rattle.lft_model.specs.Plans.{PlanParts};
 ghost use Rattle.lft_trace.specs.declared.row.Row.{Row};
 ghost use Rattle.lft_recording.specs.Starts.{IsBusy};

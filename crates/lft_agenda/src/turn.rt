@@ -1,6 +1,6 @@
 //! One tag, by counters that each change brings up to date.
 
-ghost use Rattle.std.specs.Prelude.{◌≡◌, ℕ, List, Bool, true, false, ◌<◌, ◌≤◌, length, slice_get, slice_set, replicate, Some, None, IfOk};
+ghost use Rattle.std.specs.Prelude.{◌≡◌, ℕ, false, ◌<◌, ◌≤◌, length, slice_get, slice_set, replicate, Some, None, IfOk};
 ghost use Rattle.lft_flat.specs.Parts.{Parts};
 ghost use Rattle.lft_graph.specs.Graph.{IsGraphOf};
 ghost use Rattle.lft_agenda.specs.declared.turn.phase.Phase.TheVariants.{Idle, Waiting, Open};
@@ -44,7 +44,6 @@ pub(crate) struct Turn {
 }
 
 impl Model for Turn {
-    ghost use Rattle.std.specs.Prelude.{map};
     ghost use Rattle.lft_agenda.specs.Turns.{TurnParts};
     ghost use Rattle.lft_agenda.specs.Seats.{IsKept, phases_of};
 

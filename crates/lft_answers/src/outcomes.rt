@@ -3,38 +3,11 @@
 ghost use Rattle.std.specs.Prelude.{◌≡◌};
 
 use lft_flat::Value;
+use lft_lists::List;
 use std::marker::Model;
 
 /// What a run scheduled for an action: extra delays in nanoseconds with their values, in order.
-#[derive(Debug, Drop)]
-pub struct Schedulings {
-    items: Vec<(u64, Value)>,
-}
-
-impl Model for Schedulings {
-    ghost use Rattle.std.specs.Prelude.{ℕ, List};
-    ghost use Rattle.lft_flat.specs.declared.parts.Value.{Value as Carried};
-
-    ghost Value = { List (ℕ × Carried) };
-
-    ghost view = { λ a. a.items.items };
-}
-
-impl Schedulings {
-    /// The schedulings of the list. It takes no memory.
-    pub(crate) fn from_vec(items: Vec<(u64, Value)>) -> Schedulings
-        ensures { result ≡ items.items }
-    {
-        Schedulings { items }
-    }
-
-    /// The schedulings in order. It takes no memory.
-    pub fn as_slice(&self) -> &[(u64, Value)]
-        ensures { result.now ≡ self.now }
-    {
-        self.items.as_slice()
-    }
-}
+pub type Schedulings = List<(u64, Value)>;
 
 /// What a run answered for one effect.
 #[derive(Debug, Drop)]

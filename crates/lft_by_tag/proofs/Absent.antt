@@ -127,12 +127,6 @@ in_block k b e =
     let rest : k % 64 < 64 = mod-lt k (omega arith) in
     (omega (arith, whole, e), omega (arith, whole, rest, e))
 
-pub block_of : (k b : ℕ) → b * 64 ≤ k → k < b * 64 + 64 → k / 64 ≡ b
-block_of k b l m =
-    let whole : k / 64 * 64 + k % 64 ≡ k = div-add-mod' k 64 in
-    let rest : k % 64 < 64 = mod-lt k (omega arith) in
-    omega (arith, whole, rest, l, m)
-
 -- the tag of a slice is past the rows before it
 pub slice_past : (cut : TraceParts) → IsCuttable cut → (s : Slice) → IsSlice cut.rows s → IsPast cut.rows s.first s.tag
 slice_past cut rules s is j row l e = go (order_cases row.tag s.tag)

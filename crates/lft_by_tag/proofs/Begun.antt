@@ -144,9 +144,6 @@ due_more cut r gs ps known starts triggered k p e q due new is so_far i row ther
 
 -- the marks, one run more
 module _ (places : List ℕ) (known : List Bool) (k : ℕ) (old due : List Bool) where
-  pub marked_begin : AreMarkedTo places known 0 old old
-  marked_begin = record { as_long = refl; kept = λ i e. e; marked = λ j p l e q w. absurd (omega arith) }
-
   pub marked_more : (new : List Bool) (p : ℕ) → slice_get places k ≡ Some p → new ≡ slice_set due p true → AreMarkedTo places known k old due → AreMarkedTo places known (k + 1) old new
   marked_more new p is e h = record { as_long = ap length e ∙ length_written due p true ∙ h.as_long; kept = λ i q. stays i (h.kept i q); marked = λ j r l q s w. marked j r q s w (ℕ_discrete j k) l }
     where
@@ -209,16 +206,6 @@ marks_over cut r gs new old n none h k g p q = go (written_over new old n k p)
     go : (slice_get new k ≡ Some true) ⊎ (slice_get old k ≡ Some true) → Triggered cut.plan cut.rows g r
     go (inl e) = h k g e q
     go (inr e) = absurd (none k e)
-
-pub none_due : (cut : TraceParts) (due : List Bool) → NoneMarked due → AreDue cut due
-none_due cut due none i row p q = absurd (none i p)
-
-pub due_over : (cut : TraceParts) (new old : List Bool) (n : ℕ) → NoneMarked old → AreDue cut new → AreDue cut (take n (new ++ drop (length new) old))
-due_over cut new old n none h i row p q = go (written_over new old n i p)
-  where
-    go : (slice_get new i ≡ Some true) ⊎ (slice_get old i ≡ Some true) → Triggered cut.plan cut.rows row.tag row.reaction
-    go (inl e) = h i row e q
-    go (inr e) = absurd (none i e)
 
 pub none_in : (n : ℕ) (bs : List Bool) → bs ≡ replicate n false → NoneMarked bs
 none_in n bs e k p = let z : true ≡ false = get_same n k false true (ap (λ xs. slice_get xs k) (sym e) ∙ p) in absurd (cc)

@@ -25,9 +25,6 @@ pub record AreSlicesTo (t : List Row) (first i : ℕ) (slices : List Slice) : Ty
   pub within : first ≤ i
   pub at_end : i ≡ length t → first ≡ i
 
-pub slices_begin : (t : List Row) → AreSlicesTo t 0 0 []
-slices_begin t = record { ascending = λ j k x y l p q. absurd (cc); is_slice = λ k x e. absurd (cc); each = λ j row l e. absurd (omega arith); apart = λ k x row e p. absurd (cc); same = λ j x y l m p q. ap (λ (z : Row). z.tag) (same_row t j 0 x y (omega arith) p q); within = omega arith; at_end = λ e. refl }
-
 module _ (t : List Row) (rises : Rises t) (first i : ℕ) (slices : List Slice) (so_far : AreSlicesTo t first i slices) (row : Row) (is_row : slice_get t i ≡ Some row) where
   -- the next row is at the tag too
   pub slices_stay : ¬ IsOther t (i + 1) row.tag → AreSlicesTo t first (i + 1) slices

@@ -18,9 +18,6 @@ pub record WalkedTo (cut : TraceParts) (timer : TimerOf) (tags : List Tag) (time
   pub once : timer.period ≡ 0 → count ≡ 0
   pub ran : (j : ℕ) → j < count → HasTag tags (record { time = timer.offset + j * timer.period; micro = 0 })
 
-pub walk_begins : (cut : TraceParts) (timer : TimerOf) (tags : List Tag) → WalkedTo cut timer tags timer.offset
-walk_begins cut timer tags = record { count = 0; is_at = omega arith; once = λ e. refl; ran = λ j l. absurd (omega arith) }
-
 module _ (cut : TraceParts) (timer : TimerOf) (tags : List Tag) (time : ℕ) (so_far : WalkedTo cut timer tags time) where
   -- the timer fires at this time
   pub walk_fires : Fires timer (record { time = time; micro = 0 })
@@ -65,13 +62,6 @@ module _ (cut : TraceParts) (timer : TimerOf) (tags : List Tag) (time : ℕ) (so
       past : (g last : Tag) → time ≤ g.time → UpTo g last → last.time < time → ⊥
       past g last a (inl b) c = omega arith
       past g last a (inr b) c = let e : g.time ≡ last.time = b.0 in omega arith
-
-  -- the timer fires once, and there is a run there
-  pub walk_once : timer.period ≡ 0 → HasTag tags (record { time = time; micro = 0 }) → LeastTag (LacksFiring cut timer tags) None
-  walk_once p ran g x = x.not_there (subst (λ (z : Tag). HasTag tags z) (tag_of same (sym (time_of g (firing timer x.fires.0) x.fires.1).1)) ran)
-    where
-      same : time ≡ g.time
-      same = so_far.is_at ∙ ap (λ k. timer.offset + k * timer.period) (so_far.once p ∙ sym (x.fires.2 p)) ∙ sym (time_of g (firing timer x.fires.0) x.fires.1).0
 
   -- one firing more
   pub walk_goes_on : ¬ (timer.period ≡ 0) → HasTag tags (record { time = time; micro = 0 }) → WalkedTo cut timer tags (time + timer.period)

@@ -2,7 +2,7 @@
 use Rattle.std.proofs.Common.{◌≡◌, ℕ, ◌+◌, ◌*◌, ◌<◌, ◌≤◌, ◌⊎◌, inl, inr, List, length, refl, sym, ap, ◌∙◌, subst, arith, Option, Some, None, slice_get, Contains, MatchOption}
 use native.Mathlib.Decide.{ℕ_discrete}
 use Rattle.lft_tag.specs.declared.Tag.{Tag}
-use Rattle.lft_tag.specs.Tags.{Before, UpTo}
+use Rattle.lft_tag.specs.Tags.{Before}
 use Rattle.lft_tag.proofs.Order.{UpTo-trans, Before-weaken, Before-UpTo, split_up}
 use Rattle.lft_flat.specs.Parts.{Parts}
 use Rattle.lft_flat.specs.Sound.{IsSound, IsTriggerOf}
@@ -28,9 +28,6 @@ pub record LacksBefore (cut : TraceParts) (xs : List Trigger) (k : ℕ) (tags : 
   pub before : place < k
   pub is_trigger : slice_get xs place ≡ Some trigger
   pub lacks : LacksTrigger cut trigger tags g
-
-pub lacked_begin : (cut : TraceParts) (xs : List Trigger) (tags : List Tag) → LeastTag (LacksBefore cut xs 0 tags) None
-lacked_begin cut xs tags g x = let l : x.place < 0 = x.before in omega arith
 
 pub lacked_more : (cut : TraceParts) (xs : List Trigger) (k : ℕ) (tags : List Tag) (trigger : Trigger) (a b o : Option Tag) → slice_get xs k ≡ Some trigger → LeastTag (LacksBefore cut xs k tags) a → LeastTag (LacksTrigger cut trigger tags) b → IsSooner a b o → LeastTag (LacksBefore cut xs (k + 1) tags) o
 lacked_more cut xs k tags trigger a b o e p q s = least_as (λ g. LacksBefore cut xs k tags g ⊎ LacksTrigger cut trigger tags g) (LacksBefore cut xs (k + 1) tags) o (least_of_both (LacksBefore cut xs k tags) (LacksTrigger cut trigger tags) a b o p q s) to (λ g x. from g x (ℕ_discrete x.place k))
@@ -71,9 +68,6 @@ lacked_all cut r k tags ys o needed l h = least_as (LacksBefore cut ys k tags) (
 -- the pair comes before what is missed by a
 abbrev pub FirstBelow : (ℕ → Tag → Type 0) → ℕ → Option (Tag × ℕ) → Type 0
 FirstBelow P n o = MatchOption o ((g : Tag) (r : ℕ) → r < n → ¬ P r g) (λ x. P x.1 x.0 × ((h : Tag) (a : ℕ) → a < n → P a h → Before x.0 h ⊎ ((x.0 ≡ h) × (x.1 ≤ a))) × (x.1 < n))
-
-pub first_begin : (P : ℕ → Tag → Type 0) → FirstBelow P 0 None
-first_begin P g r l x = omega arith
 
 last_or_less : (a n : ℕ) → a < n + 1 → Dec (a ≡ n) → (a < n) ⊎ (a ≡ n)
 last_or_less a n l (yes e) = inr e

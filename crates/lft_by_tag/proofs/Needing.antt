@@ -1,5 +1,5 @@
 -- Triggers that stand for the others of a reaction.
-use Rattle.std.proofs.Common.{◌≡◌, ℕ, ◌+◌, ◌-◌, ◌*◌, ◌/◌, ◌%◌, ◌<◌, ◌≤◌, ◌⊎◌, inl, inr, List, ◌∷◌, [], ◌++◌, length, refl, sym, ap, ◌∙◌, subst, arith, Option, Some, None, slice_get}
+use Rattle.std.proofs.Common.{◌≡◌, ℕ, ◌+◌, ◌-◌, ◌*◌, ◌/◌, ◌%◌, ◌<◌, ◌≤◌, ◌⊎◌, inl, inr, List, ◌∷◌, [], ◌++◌, length, refl, sym, ap, ◌∙◌, subst, arith, Option, Some, slice_get}
 use Rattle.std.specs.List.Sorted.{IsPermutation}
 use Rattle.std.proofs.lemmas.List.Sorted.{IsPermutation-sym, Contains-permutation}
 use Rattle.std.proofs.lemmas.Nat.{div-add-mod', mod-mul-add}
@@ -81,23 +81,11 @@ in_step a b e l (n, q, once) =
     let gap : b.offset - a.offset ≡ n * b.period = q in
     record { same = e; count = n; later = omega arith; once = λ z. once (sym e ∙ z) }
 
-pub step_offset : (a b : Beat) → InStep a b → a.offset ≤ b.offset
-step_offset a b h = let l : b.offset ≡ a.offset + h.count * a.period = h.later in omega arith
-
-pub step_multiple : (a b : Beat) → InStep a b → IsMultiple (b.offset - a.offset) b.period
-step_multiple a b h =
-    let l : b.offset ≡ a.offset + h.count * a.period = h.later in
-    let same : h.count * a.period ≡ h.count * b.period = ap (λ k. h.count * k) h.same in
-    (h.count, omega arith, λ z. h.once (h.same ∙ z))
-
 -- the triggers before place k are parted into timers, as beats, and others
 pub record AreParted (program : Parts) (xs : List Trigger) (k : ℕ) (beats : List Beat) (ys : List Trigger) : Type 0 where
   pub is_beat : (i : ℕ) (b : Beat) → slice_get beats i ≡ Some b → ((j : ℕ) × (slice_get xs j ≡ Some (Timer b.number))) × IsBeatOf program b
   pub only : (i : ℕ) (y : Trigger) → slice_get ys i ≡ Some y → (j : ℕ) × (slice_get xs j ≡ Some y)
   pub each : (j : ℕ) (x : Trigger) → j < k → slice_get xs j ≡ Some x → ((i : ℕ) × (slice_get ys i ≡ Some x)) ⊎ ((i : ℕ) × (b : Beat) × (slice_get beats i ≡ Some b) × (x ≡ Timer b.number))
-
-pub parted_begin : (program : Parts) (xs : List Trigger) → AreParted program xs 0 [] []
-parted_begin program xs = record { is_beat = λ i b e. absurd (cc); only = λ i y e. absurd (cc); each = λ j x l e. absurd (omega arith) }
 
 module _ (program : Parts) (xs : List Trigger) (k : ℕ) (beats : List Beat) (ys : List Trigger) (h : AreParted program xs k beats ys) (x : Trigger) (is_x : slice_get xs k ≡ Some x) where
   pub parted_timer : (b : Beat) → x ≡ Timer b.number → IsBeatOf program b → AreParted program xs (k + 1) (beats ++ b ∷ []) ys
@@ -147,12 +135,6 @@ parted_sorted program xs k beats sorted ys moves h = record { is_beat = λ i b e
 -- the beat that was added last
 abbrev pub IsLast : List Beat → List Trigger → Option Beat → Type 0
 IsLast beats ys last = (c : Beat) → last ≡ Some c → ((j : ℕ) × (slice_get beats j ≡ Some c)) × ((i : ℕ) × (slice_get ys i ≡ Some (Timer c.number)))
-
-pub none_last : (beats : List Beat) (ys : List Trigger) → IsLast beats ys None
-none_last beats ys c e = absurd (cc)
-
-pub added_begin : (beats : List Beat) (ys : List Trigger) → AreAdded beats 0 ys ys
-added_begin beats ys = record { kept = λ i y e. e; only = λ i y e. inl e; each = λ j b l e. absurd (omega arith) }
 
 made_on : (beats : List Beat) (ys : List Trigger) (y : Trigger) (b : Beat) → IsMade beats ys b → IsMade beats (ys ++ y ∷ []) b
 made_on beats ys y b h = record { place = h.place; first = h.first; is_first = h.is_first; there = (h.there.0, get_push ys y h.there.0 (Timer h.first.number) h.there.1); in_step = h.in_step }

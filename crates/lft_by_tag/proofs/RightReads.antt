@@ -1,7 +1,6 @@
 -- Whether a run read its inputs, one after another.
 use Rattle.std.proofs.Common.{◌≡◌, ℕ, ◌+◌, ◌<◌, ◌≤◌, ◌⊎◌, inl, inr, List, [], ◌∷◌, length, refl, sym, ap, ◌∙◌, subst, arith, Bool, true, false, ◌↔◌, Option, Some, None, IfSome, IfNone, slice_get, filter_map, map, unwrap_or, option_map, not}
 use Rattle.std.specs.List.{last_or, AllZip}
-use native.Mathlib.Decide.{ℕ_discrete}
 use Rattle.lft_flat.proofs.Origins.{origin_unique}
 use Rattle.lft_tag.specs.declared.Tag.{Tag}
 use Rattle.lft_flat.specs.Parts.{Parts, inputs}
@@ -14,10 +13,9 @@ use Rattle.lft_trace.specs.declared.row.Row.{Row}
 use Rattle.lft_model.specs.Plans.{PlanParts}
 use Rattle.lft_model.specs.Presence.{At, IsPresent, Shows, Inputs, Collision, written, events_of}
 use Rattle.lft_model.specs.Runs.{read_of, steps_of, inputs_of, reads_at}
-use Rattle.lft_lists.proofs.Places.{same_at}
 use Rattle.lft_lists.proofs.Members.{Mem, mem_get, get_mem, contains_mem}
 use Rattle.lft_flat.proofs.Naming.{input_known}
-use Rattle.lft_model.proofs.Places.{slice_get_within, tag_discrete}
+use Rattle.lft_model.proofs.Places.{tag_discrete}
 use Rattle.lft_trace.specs.declared.row.Step.TheVariants.{Start, Read}
 use Rattle.lft_by_tag.specs.Reads.{IsRight, MissesInput, TellsWrongRead}
 
@@ -57,39 +55,15 @@ module _ (plan : PlanParts) (t : List Row) (g : Tag) (no_clash : ¬ Collision pl
       same (Some v) None s some none = absurd (none (v, s))
       same (Some v) (Some w) s some none = ap Some (one_value n v w s some)
 
-zip_to : {X Y : Type 0} (P : X → Y → Type 0) (f : X → Y) (xs : List X) → ((x : X) → Mem x xs → P x (f x)) → AllZip P xs (map f xs)
-zip_to P f [] h = tt
-zip_to P f (x ∷ xs) h = (h x (inl refl), zip_to P f xs (λ y m. h y (inr m)))
-
 zip_from : {X Y : Type 0} (P : X → Y → Type 0) (f : X → Y) (xs : List X) → AllZip P xs (map f xs) → (x : X) → Mem x xs → P x (f x)
 zip_from P f [] h x m = absurd m
 zip_from P f (y ∷ ys) h x (inl e) = subst (λ z. P z (f z)) e h.0
 zip_from P f (y ∷ ys) h x (inr m) = zip_from P f ys h.1 x m
 
--- the inputs before a place were read rightly
-abbrev pub AreRight : PlanParts → List Row → Tag → ℕ → List Name → ℕ → Type 0
-AreRight plan t g r names k = (j : ℕ) (n : Name) → j < k → slice_get names j ≡ Some n → IsRight plan t g r n
-
 -- the reads of a reaction and its inputs
 module _ (plan : PlanParts) (t : List Row) (g : Tag) (r : ℕ) (names : List Name) (x : Reaction) (is_reaction : slice_get plan.program.reactions r ≡ Some x) (own : names ≡ inputs x) where
-  pub right_more : (k : ℕ) (n : Name) → slice_get names k ≡ Some n → IsRight plan t g r n → AreRight plan t g r names k → AreRight plan t g r names (k + 1)
-  right_more k n e h so_far j m l q = go (ℕ_discrete j k)
-    where
-      go : Dec (j ≡ k) → IsRight plan t g r m
-      go (yes d) = subst (λ z. IsRight plan t g r z) (same_at names k j n m e q (sym d)) h
-      go (no d) = so_far j m (omega arith) q
-
   pub own_inputs : inputs_of plan.program r ≡ inputs x
   own_inputs = ap (λ (o : Option Reaction). unwrap_or (option_map inputs o) []) is_reaction
-
-  pub all_right : (k : ℕ) → length names ≤ k → AreRight plan t g r names k → Inputs plan t g r (reads_at plan t g r)
-  all_right k l h = record { reaction = x; is_reaction = is_reaction; each = subst (λ (ns : List Name). AllZip (Shows plan t g) (inputs x) (map (read_of (steps_of t g r)) ns)) (sym own_inputs) (zip_to (Shows plan t g) (read_of (steps_of t g r)) (inputs x) each) }
-    where
-      each : (n : Name) → Mem n (inputs x) → Shows plan t g n (read_of (steps_of t g r) n)
-      each n e =
-          let p = get_mem n names (subst (λ xs. Mem n xs) (sym own) e) in
-          let w : p.0 < length names = slice_get_within names p.0 n p.1 in
-          h p.0 n (omega arith) p.1
 
   not_each : (ns : List Name) → ((n : Name) → Mem n ns → ¬ ¬ Shows plan t g n (read_of (steps_of t g r) n)) → ¬ ¬ AllZip (Shows plan t g) ns (map (read_of (steps_of t g r)) ns)
   not_each [] h none = none tt

@@ -1,5 +1,5 @@
 -- The tags to which the causes of a name lead, one after another.
-use Rattle.std.proofs.Common.{◌≡◌, ℕ, ◌<◌, ◌≤◌, ◌⊎◌, inl, inr, List, length, refl, sym, ◌∙◌, subst, arith, true, false, Option, Some, None, slice_get}
+use Rattle.std.proofs.Common.{◌≡◌, ℕ, ◌<◌, ◌≤◌, ◌⊎◌, inl, inr, List, length, refl, sym, ◌∙◌, subst, arith, Option, Some, None, slice_get}
 use Rattle.std.proofs.lemmas.Bool.{cases_lt}
 use Rattle.lft_tag.specs.declared.Tag.{Tag}
 use Rattle.lft_tag.specs.Tags.{Before, UpTo}
@@ -12,7 +12,7 @@ use Rattle.lft_trace.specs.Fits.{RowsFit}
 use Rattle.lft_model.specs.Presence.{stop}
 use Rattle.lft_model.proofs.Places.{slice_get_within}
 use Rattle.lft_presence.specs.declared.causes.Cause.{Cause}
-use Rattle.lft_presence.specs.Causes.{tag_of, AreCauses, LiesBelow, IsPosition, IsSkip}
+use Rattle.lft_presence.specs.Causes.{tag_of, AreCauses, IsSkip}
 use Rattle.lft_presence.specs.Traces.{TraceParts, LeastTag}
 use Rattle.lft_by_tag.specs.Least.{HasTag, LacksCause, LacksTrigger}
 use Rattle.lft_presence.proofs.Skips.{leads_up, names_up}
@@ -25,19 +25,6 @@ pub record IsWalked (cut : TraceParts) (causes : List Cause) (name : ℕ) (s : F
   pub least : (k : ℕ) (c : Cause) → place ≤ k → slice_get causes k ≡ Some c → name ≤ c.name
 
 module _ (cut : TraceParts) (causes : List Cause) (are : AreCauses cut.plan cut.rows causes) (name : ℕ) (s : Folded) (tags : List Tag) where
-  pub walk_begins : (n : ℕ) (none : Folded) → IsPosition causes name none (record { time = 0; micro = 0 }) false n → IsWalked cut causes name s tags n
-  walk_begins n none h = record { ran = λ k c l e q. absurd (lesser c q (h.below k c l e)); least = λ k c l e. no_lesser c (h.rest k c l e) (cases_lt c.name name) }
-    where
-      lesser : (c : Cause) → c.name ≡ name → LiesBelow name none (record { time = 0; micro = 0 }) false c → ⊥
-      lesser c q (inl l) = let a : c.name < name = l in omega arith
-      lesser c q (inr (e, inl (inl l))) = omega arith
-      lesser c q (inr (e, inl (inr l))) = let a : (shifted (tag_of c) none).micro < 0 = l.1 in omega arith
-      lesser c q (inr (e, inr b)) = let a : false ≡ true = b.0 in absurd (cc)
-
-      no_lesser : (c : Cause) → ¬ LiesBelow name none (record { time = 0; micro = 0 }) false c → (c.name < name) ⊎ (name ≤ c.name) → name ≤ c.name
-      no_lesser c n (inl l) = absurd (n (inl l))
-      no_lesser c n (inr l) = l
-
   module _ (place : ℕ) (h : IsWalked cut causes name s tags place) where
     -- a lacked tag is that of a cause from the place on
     later : (g : Tag) (m : LacksCause cut name s tags g) → (k : ℕ) × (place ≤ k) × (slice_get causes k ≡ Some m.cause)

@@ -1,7 +1,7 @@
 //! Up to when the inputs of a reaction are absent, many at a time: a run costs by the blocks of inputs
 //! in which something happened, and not by the inputs.
 
-ghost use Rattle.std.specs.Prelude.{◌≡◌, ◌↔◌, ◌≤◌, ◌<◌, ◌/◌, ℕ, List, Option, ◌⊎◌, ◌+◌, length, Some, IfOk, IsTrue, slice_get, slice_set};
+ghost use Rattle.std.specs.Prelude.{◌≡◌, ◌↔◌, ◌≤◌, ◌<◌, ◌/◌, ℕ, Option, ◌⊎◌, ◌+◌, length, Some, IfOk, IsTrue, slice_get, slice_set};
 ghost use Rattle.lft_tag.specs.declared.Tag.{Tag as TheTag};
 ghost use Rattle.lft_tag.specs.Tags.{UpTo};
 ghost use Rattle.lft_presence.specs.declared.causes.Cause.{Cause as TheCause};

@@ -4,11 +4,12 @@
 //! remark, and `== end` stands last. In these lines `\HH` is the byte of that hexadecimal number, and
 //! a backslash at the end of a line takes the line's end away. The kinds are told where they are
 //! answered: what is given to other cases, texts, programs, traces, external inputs, presence, the
-//! runs of a trace and what else a cut tells, texts as a whole, what explains a verdict, two traces
+//! runs of a trace and what else a cut tells, what a short look tells, texts as a whole, what explains a verdict, two traces
 //! beside one another, recordings, texts that are cut short, and the words of faults. `title` and some
 //! words are written as they are.
 #![tactic(auto)]
 
+mod accepting;
 mod case_text;
 mod cuts;
 mod explanations;
@@ -64,6 +65,7 @@ fn tell<R: Threads + Wait + Sync>(
         "ask" => presence::ask(alloc, given, text, told),
         "pieces" => pieces::pieces(alloc, given, text, told),
         "cut" => cuts::cuts(alloc, given, text, told),
+        "accepts" => accepting::accepts(alloc, given, text, told),
         "show" => whole::show(alloc, text, told),
         "judge" => whole::judge(rt, alloc, given, text, words, told),
         "judge-text" => whole::judge_text(rt, alloc, given, text, words, told),

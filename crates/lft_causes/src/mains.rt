@@ -3,7 +3,7 @@
 ghost use Rattle.std.specs.Prelude.{◌≡◌, ◌≢◌, ◌↔◌, IsTrue, [], count_by, IsSomeAnd};
 ghost use Rattle.lft_tree.specs.Tree.{port_in, ports_of};
 ghost use Rattle.lft_tree.specs.View.{member_view, reactor_view};
-ghost use Rattle.lft_scope.specs.Causes.{NoMain, TwoMains, MainHasPorts, mains};
+ghost use Rattle.lft_scope.specs.Causes.{NoMain, TwoMains, MainHasPorts};
 ghost use Rattle.lft_scope.specs.References.{reactor_trees};
 
 use lft_tree::{Member, Reactor};

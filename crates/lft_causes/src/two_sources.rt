@@ -1,6 +1,6 @@
 //! What writes each port: connections and reactions.
 
-ghost use Rattle.std.specs.Prelude.{◌≡◌, ◌↔◌, ◌⊎◌, IsTrue, IfOk, OnOk, Any, Contains, filter_map, map};
+ghost use Rattle.std.specs.Prelude.{◌≡◌, ◌↔◌, ◌⊎◌, IsTrue, IfOk, Any, Contains};
 ghost use Rattle.lft_tree.specs.View.{reactor_view};
 ghost use Rattle.lft_scope.specs.Causes.{IsTwice, TwoSources, WritesTwice};
 ghost use Rattle.lft_scope.specs.Kinds.{destinations_in, effects_in};

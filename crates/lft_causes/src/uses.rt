@@ -2,7 +2,7 @@
 
 ghost use Rattle.std.specs.Prelude.{◌≡◌, ◌++◌, IfOk, OnOk, map, flat_map, option_map, option_to_list};
 ghost use Rattle.lft_tree.specs.View.{assignment_view, connection_view, reaction_view, reactor_view, time_view};
-ghost use Rattle.lft_scope.specs.Kinds.{in_role, reads_of, refs_in, times_in, timer_times, connection_refs, reaction_refs};
+ghost use Rattle.lft_scope.specs.Kinds.{in_role, refs_in, times_in, timer_times, connection_refs, reaction_refs};
 ghost use Rattle.lft_scope.specs.References.{action_trees, connection_trees, instance_trees, reaction_trees, ref_trees, timer_trees};
 ghost use Rattle.lft_causes.specs.Uses.{time_trees, use_views};
 ghost use Rattle.lft_scope.specs.declared.kinds.Role.TheVariants.{Destination, Effect, Read, Source};

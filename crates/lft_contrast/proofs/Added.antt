@@ -1,5 +1,5 @@
 -- Contrasts that are put behind others.
-use Rattle.std.proofs.Common.{◌≡◌, ℕ, zero, suc, ◌+◌, ◌<◌, ◌≤◌, List, [], ◌∷◌, ◌++◌, All, Contains, append-nil, append_assoc, length, map, sym, ap, ◌∙◌, refl, subst, arith, Option, Some, slice_get, option_map, unwrap_or}
+use Rattle.std.proofs.Common.{◌≡◌, ℕ, ◌+◌, ◌<◌, ◌≤◌, List, [], ◌∷◌, ◌++◌, Contains, append-nil, append_assoc, length, map, sym, ap, ◌∙◌, refl, subst, arith, Option, Some, slice_get, option_map, unwrap_or}
 use Rattle.std.proofs.lemmas.List.{length-map}
 use Rattle.std.proofs.lemmas.List.Elements.{All-nil, All-cons, All-append, Contains-append_left, Contains-append_right}
 use native.Mathlib.Decide.{ℕ_discrete}
@@ -33,9 +33,6 @@ module _ (plan : PlanParts) (t s : List Row) where
 
   pub adds_keeps : (old new : List Contrast) → Adds plan t s old new → (c : Contrast) → Contains old c → Contains new c
   adds_keeps old new a c m = subst (λ (cs : List Contrast). Contains cs c) (sym a.is) (Contains-append_left old a.more c m)
-
-  pub adds_reads : (g : Tag) (r : ℕ) (old new : List Contrast) → Adds plan t s old new → TellsReads plan g r old → TellsReads plan g r new
-  adds_reads g r old new a tells k n e = let x = tells k n e in (x.0, adds_keeps old new a (contrast.Read g r k n x.0) x.1)
 
 pub last_contained : (told new : List Contrast) (c : Contrast) → new ≡ told ++ c ∷ [] → Contains new c
 last_contained told new c e = subst (λ (cs : List Contrast). Contains cs c) (sym e) (Contains-append_right told (c ∷ []) c (0, omega arith, refl))

@@ -1,5 +1,5 @@
 -- A count with one row more.
-use Rattle.std.proofs.Common.{◌≡◌, ℕ, ◌+◌, ◌≤◌, List, [], ◌∷◌, ◌++◌, length, take, take_all, add-one, sym, ap, ◌∙◌, refl, subst, arith, Some, slice_get}
+use Rattle.std.proofs.Common.{◌≡◌, ℕ, ◌+◌, ◌≤◌, List, [], ◌∷◌, ◌++◌, length, take, take_all, add-one, sym, ap, ◌∙◌, subst, arith, Some, slice_get}
 use Rattle.lft_lists.proofs.Picked.{take_next}
 use Rattle.lft_trace.specs.declared.row.Row.{Row}
 use Rattle.lft_contrast.specs.Counts.{Counts, no_row, one_more, passed}

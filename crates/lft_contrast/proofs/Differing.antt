@@ -1,16 +1,14 @@
 -- What is told of the effects of two runs.
-use Rattle.std.proofs.Common.{◌≡◌, ◌≢◌, ℕ, zero, suc, ◌+◌, ◌<◌, ◌≤◌, ◌⊎◌, inl, inr, List, [], ◌∷◌, ◌++◌, All, Contains, length, map, sym, ap, ◌∙◌, refl, subst, arith, Option, Some, None, slice_get, option_map, MatchOption, Result, Ok, Err, IfOk}
+use Rattle.std.proofs.Common.{◌≡◌, ◌≢◌, ℕ, zero, suc, ◌+◌, ◌<◌, ◌≤◌, ◌⊎◌, inl, inr, List, [], ◌∷◌, ◌++◌, All, Contains, length, map, sym, ap, ◌∙◌, refl, subst, arith, Option, Some, None, slice_get, MatchOption, Result, Ok, Err, IfOk}
 use Rattle.std.proofs.lemmas.List.Elements.{All-nil, All-push, Contains-append_left, Contains-append_right}
 use native.Mathlib.Decide.{ℕ_discrete}
 use Rattle.lft_lists.proofs.Members.{mem_contains, contains_mem, mem_get, get_mem}
 use Rattle.lft_tag.specs.declared.Tag.{Tag}
 use Rattle.lft_flat.specs.declared.parts.Name.{Name}
 use Rattle.lft_flat.specs.declared.parts.Name.TheVariants.{Port, Action}
-use Rattle.lft_flat.specs.declared.parts.Value.{Value}
 use Rattle.lft_model.specs.Runs.Outcome.{Written, Scheduled}
 use Rattle.lft_model.proofs.Places.{slice_get_within}
 use Rattle.lft_contrast.specs.declared.contrasts.Placed.{Placed}
-use Rattle.lft_contrast.specs.declared.contrasts.LastWrite.{LastWrite}
 use Rattle.lft_contrast.specs.declared.contrasts.Scheduling.{Scheduling}
 use Rattle.lft_contrast.specs.declared.contrasts.Contrast.{Contrast}
 use Rattle.lft_contrast.specs.Runs.{last_write, schedulings}

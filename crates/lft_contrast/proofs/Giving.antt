@@ -1,12 +1,11 @@
 -- What contrasts give.
 use Rattle.std.proofs.Common.{◌≡◌, ◌≢◌, ℕ, zero, suc, ◌⊎◌, inl, inr, List, [], ◌∷◌, ◌++◌, All, Contains, map, sym, ap, ◌∙◌, refl, subst, Option, Some, is_some, slice_get, option_map, unwrap_or}
-use Rattle.std.proofs.lemmas.List.Elements.{All-contains, Contains-append_left, Contains-append_right}
+use Rattle.std.proofs.lemmas.List.Elements.{All-contains}
 use Rattle.lft_lists.proofs.Members.{Mem, mem_contains, contains_mem}
 use Rattle.lft_tag.specs.declared.Tag.{Tag}
 use Rattle.lft_flat.specs.declared.parts.Name.{Name}
 use Rattle.lft_flat.specs.declared.parts.Name.TheVariants.{Port, Action}
 use Rattle.lft_flat.specs.declared.parts.Reaction.{Reaction}
-use Rattle.lft_flat.specs.declared.parts.Value.{Value}
 use Rattle.lft_trace.specs.declared.row.Row.{Row}
 use Rattle.lft_trace.specs.declared.row.Step.{Step}
 use Rattle.lft_model.specs.Plans.{PlanParts}
@@ -18,7 +17,7 @@ use Rattle.lft_contrast.specs.declared.contrasts.Scheduling.{Scheduling}
 use Rattle.lft_contrast.specs.declared.contrasts.Contrast.{Contrast}
 use Rattle.lft_contrast.specs.declared.contrasts.Contrast.TheVariants as contrast
 use Rattle.lft_contrast.specs.Runs.{placed_steps, last_write, schedulings, last_request}
-use Rattle.lft_contrast.specs.Contrasts.{IsContrast, AreContrasts, IsWritten, IsScheduled, IsRequested, value_of, event, event_of}
+use Rattle.lft_contrast.specs.Contrasts.{IsContrast, AreContrasts, value_of, event, event_of}
 use Rattle.lft_contrast.specs.Enough.{GiveOther, HaveSameOutcome, TellsOf, TellsStop, IsToldOf, IsStopTold, IsOfEffect, TellsAnswers, steps}
 use Rattle.lft_contrast.proofs.Placing.{placed_are}
 use Rattle.lft_contrast.proofs.Outcomes.{write_outcome, schedule_outcome, request_outcome}

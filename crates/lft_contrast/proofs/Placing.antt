@@ -1,5 +1,5 @@
 -- The steps of a run, one row after another.
-use Rattle.std.proofs.Common.{◌≡◌, ℕ, ◌+◌, ◌≤◌, List, [], ◌∷◌, ◌++◌, length, take, take_all, map, filter_map, sym, ap, ◌∙◌, refl, arith, Option, Some, None, slice_get, option_map, Result}
+use Rattle.std.proofs.Common.{◌≡◌, ℕ, ◌+◌, ◌≤◌, List, [], ◌∷◌, ◌++◌, length, take, take_all, map, filter_map, sym, ap, ◌∙◌, refl, arith, Option, Some, None, slice_get, option_map}
 use Rattle.std.specs.List.{enumerate_from, cons_option}
 use Rattle.std.proofs.lemmas.List.FromFn.{length-enumerate_from}
 use Rattle.lft_tag.specs.declared.Tag.{Tag}

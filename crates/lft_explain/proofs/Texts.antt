@@ -1,21 +1,12 @@
 -- Pieces of a text, and what the first of some facts says.
-use Rattle.std.proofs.Common.{◌≡◌, ℕ, List, [], ◌∷◌, ◌++◌, length, append_assoc, refl, ap, ◌∙◌, Some, slice_get}
+use Rattle.std.proofs.Common.{◌≡◌, ℕ, List, ◌∷◌, ◌++◌, append_assoc, ap, ◌∙◌}
 use Rattle.lft_flat.specs.Parts.{Parts}
 use Rattle.lft_facts.specs.declared.facts.Fact.{Fact}
 use Rattle.lft_trace.specs.declared.row.Row.{Row}
 use Rattle.lft_quotes.specs.Quoted.{quoted}
-use Rattle.lft_explain.specs.Sentences.{first_words, opening, sentence}
+use Rattle.lft_explain.specs.Sentences.{sentence}
 use Rattle.lft_explain.specs.Reads.{table}
 use Rattle.lft_explain.specs.Told.{details, part, told}
-
--- what the first of some facts says
-pub opening_none : (program : Parts) (facts : List Fact) → length facts ≡ 0 → opening program facts ≡ []
-opening_none program [] e = refl
-opening_none program (f ∷ fs) e = absurd (cc)
-
-pub opening_first : (program : Parts) (facts : List Fact) (f : Fact) → slice_get facts 0 ≡ Some f → opening program facts ≡ first_words program f
-opening_first program [] f e = absurd (cc)
-opening_first program (g ∷ gs) f e = let q : g ≡ f = cc in ap (first_words program) q
 
 -- five pieces behind a text
 pub five : (s0 s1 s2 s3 s4 s5 a b c d e : List ℕ) → s1 ≡ s0 ++ a → s2 ≡ s1 ++ b → s3 ≡ s2 ++ c → s4 ≡ s3 ++ d → s5 ≡ s4 ++ e → s5 ≡ s0 ++ (a ++ b ++ c ++ d ++ e)

@@ -1,7 +1,6 @@
 -- The table of what a run read of its inputs, and what is present.
-use Rattle.std.specs.Prelude.{ℕ, max, List, [], ◌∷◌, ◌++◌, length, Option, codes, bytes_eq, fold, flat_map, if◌then◌else◌}
+use Rattle.std.specs.Prelude.{ℕ, max, List, [], ◌∷◌, ◌++◌, length, codes, bytes_eq, fold, flat_map, if◌then◌else◌}
 use Rattle.lft_flat.specs.Parts.{Parts}
-use Rattle.lft_flat.specs.declared.parts.Value.{Value}
 use Rattle.lft_facts.specs.declared.facts.Fact.{Fact}
 use Rattle.lft_facts.specs.declared.facts.Fact.TheVariants as fact
 use Rattle.lft_words.specs.Words.{value_words, name_words}

@@ -1,6 +1,6 @@
 //! The table of what a run read of its inputs, and what is present.
 
-ghost use Rattle.std.specs.Prelude.{◌≡◌, ◌++◌, length, max, IfOk, OnOk, string_bytes};
+ghost use Rattle.std.specs.Prelude.{◌≡◌, ◌++◌, max, IfOk, OnOk, string_bytes};
 ghost use Rattle.lft_words.specs.Words.{value_words, name_words};
 ghost use Rattle.lft_explain.specs.Reads.{widened, widths_of, last_cell, line_of, read_line, read_lines, headed, table as the_table};
 

@@ -1,5 +1,5 @@
 -- Facts that are put behind others.
-use Rattle.std.proofs.Common.{◌≡◌, ◌⊎◌, inl, inr, ℕ, Contains, filter_map, List, [], ◌∷◌, ◌++◌, append-nil, append_assoc, length, length-append, ◌+◌, ◌<◌, ◌≤◌, arith, refl, Some, slice_get, sym, ap, ◌∙◌, subst, Option}
+use Rattle.std.proofs.Common.{◌≡◌, ◌⊎◌, inl, inr, ℕ, Contains, filter_map, List, [], ◌∷◌, ◌++◌, append-nil, append_assoc, length, ◌+◌, ◌<◌, ◌≤◌, arith, refl, Some, slice_get, sym, ap, ◌∙◌, subst, Option}
 use Rattle.std.proofs.lemmas.List.Elements.{All-nil, All-cons, All-append, All-weaker, All-contains, All-contains_itself, Contains-append_cases, Contains-append_left, Contains-append_right}
 use native.Mathlib.Decide.{ℕ_discrete}
 use Rattle.lft_lists.proofs.Places.{contains_at, at_contains, same_at}
@@ -25,17 +25,11 @@ module _ (plan : PlanParts) (t : List Row) where
   pub adds_none : (facts : List Fact) → Adds plan t facts facts
   adds_none facts = record { more = []; is = sym (append-nil facts); holds = All-nil (IsFact plan t) }
 
-  pub adds_same : (facts new : List Fact) → new ≡ facts → Adds plan t facts new
-  adds_same facts new e = subst (λ (fs : List Fact). Adds plan t facts fs) (sym e) (adds_none facts)
-
   pub adds_one : (facts new : List Fact) (f : Fact) → new ≡ facts ++ f ∷ [] → IsFact plan t f → Adds plan t facts new
   adds_one facts new f e holds = record { more = f ∷ []; is = e; holds = All-cons (IsFact plan t) f [] holds (All-nil (IsFact plan t)) }
 
   pub adds_both : (first second third : List Fact) → Adds plan t first second → Adds plan t second third → Adds plan t first third
   adds_both first second third a b = record { more = a.more ++ b.more; is = b.is ∙ ap (λ fs. fs ++ b.more) a.is ∙ append_assoc first a.more b.more; holds = All-append (IsFact plan t) a.more b.more a.holds b.holds }
-
-  pub adds_long : (old new : List Fact) → Adds plan t old new → length old ≤ length new
-  adds_long old new a = let e : length new ≡ length old + length a.more = ap length a.is ∙ length-append old a.more in omega arith
 
   -- more facts hold and give as much
   pub adds_holds : (old new : List Fact) → Adds plan t old new → AreFacts plan t old → AreFacts plan t new
@@ -54,9 +48,6 @@ pub record ExtendsTo (plan : PlanParts) (t : List Row) (old : List Fact) (n : �
   pub kept : (k : ℕ) (f : Fact) → k < n → slice_get old k ≡ Some f → Contains new f
 
 module _ (plan : PlanParts) (t : List Row) (old : List Fact) where
-  pub extends_begin : (new : List Fact) → new ≡ [] → ExtendsTo plan t old 0 new
-  extends_begin new e = record { holds = subst (λ (fs : List Fact). AreFacts plan t fs) (sym e) (All-nil (IsFact plan t)); kept = λ k f l. absurd (omega arith) }
-
   pub extends_more : (n : ℕ) (new last : List Fact) → ExtendsTo plan t old n new → Adds plan t new last → ExtendsTo plan t old n last
   extends_more n new last h a = record { holds = adds_holds plan t new last a h.holds; kept = λ k f l e. subst (λ (fs : List Fact). Contains fs f) (sym a.is) (Contains-append_left new a.more f (h.kept k f l e)) }
 

@@ -1,10 +1,10 @@
 -- What rows give a port or an action at a tag, and that it is present there.
 use Rattle.std.proofs.Common.{◌≡◌, ℕ, ◌+◌, ◌-◌, ◌*◌, ◌/◌, ◌%◌, ◌<◌, ◌≤◌, ◌⊎◌, inl, inr, List, length, refl, sym, ap, ◌∙◌, subst, arith, Option, Some, None, slice_get, ◌==◌, ◌&&◌}
-use Rattle.std.proofs.lemmas.Bool.{eqb-true, eq-eqb, cases_lt}
+use Rattle.std.proofs.lemmas.Bool.{eq-eqb, cases_lt}
 use Rattle.std.proofs.lemmas.Nat.{div-add-mod'}
 use Rattle.lft_lists.proofs.Members.{last_by_place}
 use Rattle.lft_tag.specs.declared.Tag.{Tag}
-use Rattle.lft_tag.specs.Tags.{Before, after, same_tag}
+use Rattle.lft_tag.specs.Tags.{Before, after}
 use Rattle.lft_tag.specs.Shifts.{shifted}
 use Rattle.lft_tag.proofs.Order.{Before-irrefl, same_tag_refl}
 use Rattle.lft_tag.proofs.Chains.{tag_of as tag_from}
@@ -19,7 +19,6 @@ use Rattle.lft_flat.specs.declared.parts.Trigger.TheVariants.{On, Timer}
 use Rattle.lft_trace.specs.declared.row.Row.{Row}
 use Rattle.lft_trace.specs.declared.row.Step.{Step}
 use Rattle.lft_trace.specs.declared.row.Step.TheVariants.{Start, Read, Write, Schedule, Stop, End}
-use Rattle.lft_trace.specs.declared.externals.Event.{Event as External}
 use Rattle.lft_trace.specs.Fits.{RowsFit}
 use Rattle.lft_model.specs.Plans.{PlanParts}
 use Rattle.lft_model.specs.Presence.{value_written, value_scheduled, written, scheduled, given, min_delay, IsWrittenFrom, IsPresent, Fires, Occurs}
@@ -27,7 +26,7 @@ use Rattle.lft_model.proofs.Places.{slice_get_within}
 use Rattle.lft_model.proofs.ActionEvents.{at_row, at_event}
 use Rattle.lft_model.proofs.Firings.{time_of, again_fires}
 use Rattle.lft_model.proofs.Ended.{written_by, by_written, by_scheduled, scheduled_by}
-use Rattle.lft_model.proofs.Steps.{both_true, same_tag_true, written_some, some_written, scheduled_some, some_scheduled}
+use Rattle.lft_model.proofs.Steps.{written_some, some_written, scheduled_some, some_scheduled}
 use Rattle.lft_presence.specs.declared.causes.Cause.{Cause as Event}
 use Rattle.lft_presence.specs.Causes.{tag_of, cause as cause_of, ComesUpTo, Leads, IsLastCause, IsCause, Carries, step_cause}
 use Rattle.lft_presence.proofs.Presences.{ChainOf, port_cause, action_cause, carrier, row_of, event_of, step_place, step_schedules, none_leads}
@@ -35,7 +34,6 @@ use Rattle.lft_facts.specs.declared.facts.Cause.{Cause}
 use Rattle.lft_facts.specs.declared.facts.Cause.TheVariants as cause
 use Rattle.lft_facts.specs.Facts.{IsCause as IsFactCause, IsWrittenIn, IsScheduledIn, IsGiven, FiresAfter}
 use Rattle.lft_facts.specs.Enough.{GivesTrigger}
-use Rattle.std.proofs.NetLemmas.Options.{cond_some}
 
 -- the row is the last that writes the origin at its tag, so the port has an event from there
 pub written_from : (plan : PlanParts) (t : List Row) (g : Tag) (p i : ℕ) (w : IsWrittenIn plan t g p i) → IsWrittenFrom plan t g p w.row.tag w.value
@@ -111,13 +109,6 @@ pub scheduled_in : (plan : PlanParts) (t : List Row) (g : Tag) (a i : ℕ) (row 
 scheduled_in plan t g a i row v is e =
     let s = scheduled_by g a (min_delay plan.program a) row v e in
     record { row = row; value = v; extra = s.extra; is_row = is; schedules = scheduled_some a row.step (s.extra, v) s.value_is; arrives = s.arrives }
-
--- an external event that gives the action something
-pub given_in : (plan : PlanParts) (g : Tag) (a i : ℕ) (event : External) (v : Value) → slice_get plan.externals.events i ≡ Some event → given g a event ≡ Some v → IsGiven plan g a i
-given_in plan g a i event v is e =
-    let c = cond_some (same_tag g event.tag && (a == event.action)) event.value v e in
-    let b = both_true (same_tag g event.tag) (a == event.action) c.0 in
-    record { event = event; is_event = is; tag_is = sym (same_tag_true g event.tag b.0); action_is = sym (eqb-true a event.action b.1) }
 
 -- a cause that leads to the tag of an action is a row that schedules it there, or past the rows an external event
 module _ (plan : PlanParts) (t : List Row) (fit : RowsFit plan.program t) (g : Tag) (a : ℕ) (c : Event) (is : IsCause plan t c) (l : Leads (length plan.program.ports + a) (0, 0) g c) where

@@ -138,9 +138,6 @@ module _ (plan : PlanParts) (t : List Row) (g : Tag) (p : ℕ) (port : PortOf) (
             let high = in_order x.0 last (x.2.0 ∙ sym is_last.1.0) (is_last.2 x.0 x.1 x.2) in
             sym x.3 ∙ UpTo_antisym (tag_of x.0) (tag_of last) high (subst (λ (z : Tag). UpTo z (tag_of x.0)) e low)
 
-    pub no_other : IsLastCause plan t port.origin (0, 0) (tag_of first) None → ⊥
-    no_other h = h first is_first.0 (is_first.1.0, none_leads (tag_of first))
-
     module _ (other : Event) (is_other : IsLastCause plan t port.origin (0, 0) (tag_of first) (Some other)) where
       same : tag_of other ≡ tag_of first
       same = sym (none_leads (tag_of other)) ∙ is_other.1.1

@@ -1,11 +1,11 @@
 -- When a timer fires just before and just after a tag.
 use Rattle.std.proofs.Common.{◌≡◌, ℕ, ◌+◌, ◌-◌, ◌*◌, ◌/◌, ◌%◌, ◌<◌, ◌≤◌, ◌⊎◌, inl, inr, List, refl, sym, ap, ◌∙◌, subst, arith, Option, Some, None, IfSome, slice_get}
 use Rattle.std.proofs.lemmas.Bool.{cases_lt}
-use Rattle.std.proofs.lemmas.Nat.{div-add-mod', mul-le}
+use Rattle.std.proofs.lemmas.Nat.{mul-le}
 use native.Mathlib.Decide.{ℕ_discrete}
 use Rattle.lft_lists.proofs.Places.{same_at}
 use Rattle.lft_tag.specs.declared.Tag.{Tag}
-use Rattle.lft_tag.specs.Tags.{Before, UpTo}
+use Rattle.lft_tag.specs.Tags.{Before}
 use Rattle.lft_tag.proofs.Order.{Before-irrefl, Before-trans}
 use Rattle.lft_tag.proofs.Chains.{tag_of}
 use Rattle.lft_flat.specs.Parts.{Parts}
@@ -14,7 +14,6 @@ use Rattle.lft_flat.specs.declared.parts.Trigger.TheVariants.{Timer}
 use Rattle.lft_trace.specs.declared.row.Row.{Row}
 use Rattle.lft_model.specs.Plans.{PlanParts}
 use Rattle.lft_model.specs.Presence.{Fires, Occurs}
-use Rattle.lft_model.proofs.Firings.{time_of, fires_once}
 use Rattle.lft_facts.specs.Reasons.{IsNearest}
 use Rattle.lft_facts.specs.Neighbours.{IsFiringBefore, IsFiringAfter}
 

@@ -1,18 +1,15 @@
 -- What the first breach says of its rule, and what facts say of the breach.
-use Rattle.std.proofs.Common.{◌≡◌, ℕ, ◌+◌, ◌<◌, ◌≤◌, ◌⊎◌, inl, inr, List, length, refl, sym, ◌∙◌, subst, arith, Option, Some, None, unwrap_or}
-use Rattle.lft_tag.specs.declared.Tag.{Tag}
+use Rattle.std.proofs.Common.{◌≡◌, ℕ, ◌+◌, ◌<◌, ◌≤◌, ◌⊎◌, inl, inr, List, refl, sym, ◌∙◌, subst, arith, Option, Some, None, unwrap_or}
 use Rattle.lft_tag.specs.Tags.{Before}
 use Rattle.lft_tag.proofs.Order.{Before-irrefl}
 use Rattle.lft_trace.specs.declared.row.Row.{Row}
-use Rattle.lft_trace.specs.Fits.{RowsFit}
 use Rattle.lft_model.specs.declared.breach.Breach.{Breach}
 use Rattle.lft_model.specs.Plans.{PlanParts}
-use Rattle.lft_model.specs.Presence.{Triggered, Inputs, Collision}
-use Rattle.lft_model.specs.Runs.{Ran, reads_at, start_row}
-use Rattle.lft_model.specs.Breaches.{BreaksRow, BreaksTag, BreaksAt, IsTooEarly, RowBreach, TagBreach, TagOrder, First}
+use Rattle.lft_model.specs.Presence.{Collision}
+use Rattle.lft_model.specs.Breaches.{BreaksRow, BreaksTag, BreaksAt, TagBreach, TagOrder, First}
 use Rattle.lft_answers.specs.Answers.{KeepsRows}
 use Rattle.lft_facts.specs.declared.facts.Fact.{Fact}
-use Rattle.lft_facts.specs.Enough.{Gives, Proves, ProvesTag, ProvesRow}
+use Rattle.lft_facts.specs.Enough.{Gives, ProvesTag}
 
 -- the first breach by a tag, and that no row breaks a rule
 pub record IsTagFirst (plan : PlanParts) (t : List Row) (b : Breach) : Type 0 where
@@ -51,34 +48,6 @@ module _ (plan : PlanParts) (t : List Row) (b : Breach) (first : First plan t b)
       go (inr (e, inl x)) = absurd (omega arith)
       go (inr (e, inr x)) = let q = x.0 in absurd (omega arith)
 
-pub breaks_7 : (plan : PlanParts) (t : List Row) (g : Tag) (r : ℕ) → BreaksTag plan t g r 7 → Triggered plan t g r × (¬ Ran t g r)
-breaks_7 plan t g r (inl x) = (x.1, x.2)
-breaks_7 plan t g r (inr (inl x)) = let e = x.0 in absurd (omega arith)
-breaks_7 plan t g r (inr (inr (inl x))) = let e = x.0 in absurd (omega arith)
-breaks_7 plan t g r (inr (inr (inr x))) = let e = x.0 in absurd (omega arith)
-
-pub breaks_8 : (plan : PlanParts) (t : List Row) (g : Tag) (r : ℕ) → BreaksTag plan t g r 8 → Ran t g r × (¬ Triggered plan t g r)
-breaks_8 plan t g r (inl x) = let e = x.0 in absurd (omega arith)
-breaks_8 plan t g r (inr (inl x)) = (x.1, x.2)
-breaks_8 plan t g r (inr (inr (inl x))) = let e = x.0 in absurd (omega arith)
-breaks_8 plan t g r (inr (inr (inr x))) = let e = x.0 in absurd (omega arith)
-
-pub breaks_9 : (plan : PlanParts) (t : List Row) (g : Tag) (r : ℕ) → BreaksTag plan t g r 9 → Ran t g r × IsTooEarly plan t g r
-breaks_9 plan t g r (inl x) = let e = x.0 in absurd (omega arith)
-breaks_9 plan t g r (inr (inl x)) = let e = x.0 in absurd (omega arith)
-breaks_9 plan t g r (inr (inr (inl x))) = (x.1, x.2)
-breaks_9 plan t g r (inr (inr (inr x))) = let e = x.0 in absurd (omega arith)
-
-pub breaks_10 : (plan : PlanParts) (t : List Row) (g : Tag) (r : ℕ) → BreaksTag plan t g r 10 → Ran t g r × (¬ Inputs plan t g r (reads_at plan t g r))
-breaks_10 plan t g r (inl x) = let e = x.0 in absurd (omega arith)
-breaks_10 plan t g r (inr (inl x)) = let e = x.0 in absurd (omega arith)
-breaks_10 plan t g r (inr (inr (inl x))) = let e = x.0 in absurd (omega arith)
-breaks_10 plan t g r (inr (inr (inr x))) = (x.1, x.2)
-
--- a reaction that has a run is one of the program
-pub ran_known : (plan : PlanParts) (t : List Row) (g : Tag) (r : ℕ) → RowsFit plan.program t → Ran t g r → r < length plan.program.reactions
-ran_known plan t g r fit x = (fit.each x.place (start_row x.worker g r) x.starts).reaction
-
 -- the first breach of no reaction is a collision
 pub record IsClashFirst (plan : PlanParts) (t : List Row) (b : Breach) : Type 0 where
   pub rule_is : b.rule ≡ 6
@@ -101,10 +70,6 @@ pub of_tag : (plan : PlanParts) (t : List Row) (b : Breach) → First plan t b �
 of_tag plan t b (inl x) z = let e : b.row ≡ x.0.place + 2 = x.0.row_is in absurd (omega arith)
 of_tag plan t b (inr x) z = record { kept = x.0; breach = x.1; least = x.2 }
 
-pub of_row : (plan : PlanParts) (t : List Row) (b : Breach) → First plan t b → ¬ (b.row ≡ 0) → RowBreach plan t b
-of_row plan t b (inl x) n = x.0
-of_row plan t b (inr x) n = absurd (n x.1.row_is)
-
 -- a rule of a reaction at a tag that is none of 7 to 9 is the tenth
 pub is_tenth : (plan : PlanParts) (t : List Row) (b : Breach) (r : ℕ) → TagBreach plan t b → b.reaction ≡ Some r → ¬ (b.rule ≡ 7) → ¬ (b.rule ≡ 8) → ¬ (b.rule ≡ 9) → b.rule ≡ 10
 is_tenth plan t b r x is a c d = go (subst (λ (o : Option ℕ). BreaksAt plan t b.tag o b.rule) is x.breaks)
@@ -114,9 +79,3 @@ is_tenth plan t b r x is a c d = go (subst (λ (o : Option ℕ). BreaksAt plan t
     go (inr (inl y)) = absurd (c y.0)
     go (inr (inr (inl y))) = absurd (d y.0)
     go (inr (inr (inr y))) = y.0
-
-pub proves_tag : (facts : List Fact) (b : Breach) → b.row ≡ 0 → ProvesTag facts b → Proves facts b
-proves_tag facts b z p = record { row = λ l. absurd (omega arith); tag = λ e. p }
-
-pub proves_row : (facts : List Fact) (b : Breach) → ¬ (b.row ≡ 0) → ProvesRow facts b → Proves facts b
-proves_row facts b n p = record { row = λ l. p; tag = λ e. absurd (n e) }

@@ -1,7 +1,7 @@
 -- Facts of the right forms give the breaches of the rules 7 to 10.
 use Rattle.std.proofs.Common.{◌≡◌, ℕ, ◌<◌, inl, inr, List, [], ◌∷◌, ◌++◌, length, refl, sym, ap, ◌∙◌, subst, arith, Option, Some, slice_get, Contains}
 use native.Mathlib.Decide.{ℕ_discrete, dec_lt}
-use Rattle.std.proofs.lemmas.List.Elements.{All-head, All-tail, All-cons, All-nil, All-contains}
+use Rattle.std.proofs.lemmas.List.Elements.{All-head, All-tail, All-cons, All-contains}
 use Rattle.lft_lists.proofs.Places.{get_there, same_at, at_contains}
 use Rattle.lft_tag.specs.declared.Tag.{Tag}
 use Rattle.lft_flat.specs.declared.parts.Trigger.{Trigger}
@@ -85,10 +85,6 @@ not_run_gives g r x c facts is gives plan t all kept = inl (refl, record { react
     why : IsCause plan t c
     why = All-head (IsFact plan t) (fact.Cause c) [] (All-tail (IsFact plan t) (fact.HasTrigger r x) (fact.Cause c ∷ []) rest)
 
--- the facts of rule 7 hold
-pub not_run_holds : (plan : PlanParts) (t : List Row) (g : Tag) (r : ℕ) (x : Trigger) (c : Cause) (facts : List Fact) → facts ≡ fact.NoRun g r ∷ fact.HasTrigger r x ∷ fact.Cause c ∷ [] → ¬ Ran t g r → IsTriggerOf plan.program r x → IsCause plan t c → AreFacts plan t facts
-not_run_holds plan t g r x c facts is none has why = subst (λ (fs : List Fact). AreFacts plan t fs) (sym is) (All-cons (IsFact plan t) (fact.NoRun g r) (fact.HasTrigger r x ∷ fact.Cause c ∷ []) none (All-cons (IsFact plan t) (fact.HasTrigger r x) (fact.Cause c ∷ []) has (All-cons (IsFact plan t) (fact.Cause c) [] why (All-nil (IsFact plan t)))))
-
 -- a reaction of this number is one
 pub same_reaction : (xs : List Reaction) (r : ℕ) (x y : Reaction) → slice_get xs r ≡ Some x → slice_get xs r ≡ Some y → x ≡ y
 same_reaction xs r x y e f = same_at xs r r x y e f refl
@@ -112,10 +108,3 @@ not_triggered_gives g r start xs facts runs counts each plan t all kept = inr (i
         let z : Some x.0 ≡ Some o.trigger = sym f.is_trigger ∙ ap (λ (y : Reaction). slice_get y.triggers i.0) is ∙ i.1 in
         let q : x.0 ≡ o.trigger = cc in
         f.absent (subst (λ (y : Trigger). Occurs plan t g y) (sym q) o.occurs)
-
--- the row that ends a marked run is of a marked reaction
-pub marked_here : (t : List Row) (g : Tag) (next : List (Option ℕ)) (i : ℕ) (row : Row) → slice_get t i ≡ Some row → EndsMarked t g next i → IsMarked next row.reaction
-marked_here t g next i row is m =
-    let z : Some (end_row m.1.0 g m.0) ≡ Some row = sym m.1.1 ∙ is in
-    let y : end_row m.1.0 g m.0 ≡ row = cc in
-    subst (λ (a : ℕ). IsMarked next a) (ap (λ (x : Row). x.reaction) y) m.2

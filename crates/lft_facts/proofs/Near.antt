@@ -10,7 +10,7 @@ use Rattle.lft_flat.specs.Origins.{Origin}
 use Rattle.lft_flat.specs.Origins.Origin.{itself, over}
 use Rattle.lft_flat.proofs.Origins.{origin_within}
 use Rattle.lft_flat.specs.declared.parts.Port.{Port as PortOf}
-use Rattle.lft_flat.specs.declared.parts.Source.{Source}
+use Rattle.lft_tag.specs.declared.Source.{Source}
 use Rattle.lft_flat.specs.declared.parts.Name.{Name}
 use Rattle.lft_flat.specs.declared.parts.Trigger.TheVariants.{On}
 use Rattle.lft_lists.proofs.Places.{get_push_cases}

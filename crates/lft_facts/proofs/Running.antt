@@ -1,10 +1,10 @@
 -- Which reactions have a run at a tag, and which marked one that ends there is the least.
-use Rattle.std.proofs.Common.{◌≡◌, ℕ, ◌+◌, ◌<◌, ◌≤◌, ◌⊎◌, inl, inr, Bool, true, false, List, length, replicate, refl, sym, ap, ◌∙◌, subst, arith, Option, Some, None, slice_get, slice_set}
+use Rattle.std.proofs.Common.{◌≡◌, ℕ, ◌+◌, ◌<◌, ◌≤◌, ◌⊎◌, inl, inr, Bool, true, false, List, length, replicate, sym, ap, ◌∙◌, subst, arith, Option, Some, None, slice_get, slice_set}
 use native.Mathlib.Decide.{ℕ_discrete}
 use Rattle.lft_lists.proofs.Places.{get_same, get_write_cases, get_written, get_unwritten, Some_same}
 use Rattle.lft_tag.specs.declared.Tag.{Tag}
 use Rattle.lft_trace.specs.declared.row.Row.{Row}
-use Rattle.lft_model.specs.Runs.{start_row, end_row, Ran}
+use Rattle.lft_model.specs.Runs.{start_row, end_row}
 use Rattle.lft_model.proofs.Places.{slice_get_within}
 use Rattle.lft_facts.specs.Runs.{StartsAt, EndsAt}
 use Rattle.lft_facts.specs.Ways.{IsMarked, EndsMarked, IsLeastEnd}

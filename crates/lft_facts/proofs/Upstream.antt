@@ -1,9 +1,9 @@
 -- Ways along the short lists of a graph, found from the greatest level down.
-use Rattle.std.proofs.Common.{◌≡◌, ◌≢◌, ℕ, zero, suc, ◌+◌, ◌-◌, ◌<◌, ◌≤◌, ◌⊎◌, inl, inr, List, [], ◌∷◌, ◌++◌, length, take, refl, sym, ap, ◌∙◌, subst, arith, Option, Some, None, slice_get, slice_set, slice_index_or, replicate, Contains}
+use Rattle.std.proofs.Common.{◌≡◌, ◌≢◌, ℕ, zero, suc, ◌+◌, ◌-◌, ◌<◌, ◌≤◌, ◌⊎◌, inl, inr, List, [], ◌∷◌, ◌++◌, length, take, refl, sym, ap, ◌∙◌, subst, arith, Option, Some, None, slice_get, slice_set, slice_index_or, Contains}
 use native.Mathlib.Decide.{ℕ_discrete}
-use Rattle.std.proofs.lemmas.List.Elements.{All-push, All-nil}
+use Rattle.std.proofs.lemmas.List.Elements.{All-push}
 use Rattle.std.proofs.lemmas.Option.{get_or_from_slice_get}
-use Rattle.lft_lists.proofs.Places.{get_there, same_at, get_write_cases, get_written, get_unwritten, length_written, contains_at, at_contains, get_same, length_same}
+use Rattle.lft_lists.proofs.Places.{get_there, same_at, get_write_cases, get_written, get_unwritten, length_written, contains_at, at_contains}
 use Rattle.lft_flat.specs.Parts.{Parts}
 use Rattle.lft_trace.specs.declared.row.Row.{Row}
 use Rattle.lft_graph.specs.Before.{IsDeclaredJustBefore, FeedsLast}
@@ -18,10 +18,6 @@ use Rattle.lft_facts.specs.Facts.{AreFacts, IsFact}
 use Rattle.lft_facts.specs.Enough.{GivesDirect, GivesChain}
 use Rattle.lft_facts.specs.Ways.{IsMarked, IsMarking, AreThere, InList, LeadsOn, AreWays}
 use Rattle.lft_facts.proofs.Lists.{all_left, all_last}
-
--- marking, one number of the list after another
-pub marking_begins : (b : ℕ) (next : List (Option ℕ)) → IsMarking [] b next next
-marking_begins b next = record { as_long = refl; kept = λ a c e. e; only = λ a c e. inl e; all = λ i a e. absurd (cc) }
 
 module _ (list : List ℕ) (i a : ℕ) (is : slice_get list i ≡ Some a) (b : ℕ) (old next : List (Option ℕ)) (so_far : IsMarking (take i list) b old next) where
   -- a number before place i stands before the next place
@@ -147,18 +143,6 @@ module _ (program : Parts) (graph : GraphParts) (is_graph : IsGraphOf program gr
       go : {k h : ℕ} → (k < h) ⊎ ((k ≡ h) × (c < b)) → level_of graph b < k → level_of graph b ≡ h → ⊥
       go (inl p) q r = absurd (omega arith)
       go (inr p) q r = let s = p.0 in absurd (omega arith)
-
-  pub ways_begin : (last : ℕ) (next : List (Option ℕ)) → next ≡ replicate (length graph.before) None → WaysFrom graph last (length graph.by_level) next
-  ways_begin last next e = record {
-    within = omega arith;
-    as_long = ap length e ∙ length_same (length graph.before) None;
-    steps = λ a b q. absurd (none a b q);
-    below = λ a m. absurd (none a m.0 m.1);
-    behind = λ j b l q o a m. let k : j < length graph.by_level = slice_get_within graph.by_level j b q in absurd (omega arith);
-  }
-    where
-      none : (a b : ℕ) → ¬ (slice_get next a ≡ Some (Some b))
-      none a b q = let z : Some b ≡ None = get_same (length graph.before) a None (Some b) (ap (λ ns. slice_get ns a) (sym e) ∙ q) in absurd (cc)
 
   module _ (last i c : ℕ) (is : slice_get graph.by_level i ≡ Some c) (old : List (Option ℕ)) (so_far : WaysFrom graph last (i + 1) old) where
     within_next : i ≤ length graph.by_level
@@ -291,9 +275,6 @@ pub record ChainTo (plan : PlanParts) (graph : GraphParts) (next : List (Option 
   pub gives : ((first ≡ at) × IsMarked next first) ⊎ GivesChain facts first at
 
 module _ (plan : PlanParts) (graph : GraphParts) (next : List (Option ℕ)) (first last : ℕ) where
-  pub chain_begins : (facts : List Fact) → facts ≡ [] → IsMarked next first → ChainTo plan graph next facts first first last
-  chain_begins facts e m = record { leads = inr m; holds = λ t. subst (λ (fs : List Fact). AreFacts plan t fs) (sym e) (All-nil (IsFact plan t)); gives = inl (refl, m) }
-
   pub chain_more : AreWays graph last next → (facts : List Fact) (at after : ℕ) (f : Fact) (new : List Fact) → ChainTo plan graph next facts first at last → slice_get next at ≡ Some (Some after) → ((t : List Row) → IsFact plan t f) → GivesDirect f at after → new ≡ facts ++ f ∷ [] → ChainTo plan graph next new first after last
   chain_more ways facts at after f new so_far e holds gives is_new = subst (λ (fs : List Fact). ChainTo plan graph next fs first after last) (sym is_new) (record { leads = (ways.steps at after e).1; holds = λ t. All-push (IsFact plan t) facts f (so_far.holds t) (holds t); gives = inr (go so_far.gives) })
     where

@@ -14,7 +14,7 @@ use Rattle.lft_trace.specs.declared.row.Row.{Row}
 use Rattle.lft_trace.proofs.Zips.{long}
 use Rattle.lft_model.specs.Plans.{PlanParts}
 use Rattle.lft_model.specs.Presence.{Shows, Inputs}
-use Rattle.lft_model.specs.Runs.{inputs_of, reads_at, read_of, steps_of, start_row}
+use Rattle.lft_model.specs.Runs.{inputs_of, reads_at, read_of, steps_of}
 use Rattle.lft_model.proofs.Places.{slice_get_within}
 use Rattle.lft_facts.specs.declared.facts.Fact.{Fact}
 use Rattle.lft_facts.specs.declared.facts.Fact.TheVariants as fact
@@ -126,10 +126,3 @@ module _ (plan : PlanParts) (t : List Row) (g : Tag) (r start : ℕ) (x : Reacti
 
           same : read ≡ present
           same = same_items read present (read_long ∙ sym present_long) one
-
--- what the run that starts in a row read
-pub reads_of_start : (plan : PlanParts) (t s : List Row) → s ≡ t → (g : Tag) (r start : ℕ) (row : Row) → StartsAt s g r start → slice_get s start ≡ Some row → (reads : List (Option Value)) → reads ≡ reads_at plan s row.tag row.reaction → reads ≡ reads_at plan t g r
-reads_of_start plan t s same g r start row starts is reads e =
-    let z : Some row ≡ Some (start_row starts.0 g r) = sym is ∙ starts.1 in
-    let y : row ≡ start_row starts.0 g r = cc in
-    e ∙ ap (λ (x : Row). reads_at plan s x.tag x.reaction) y ∙ ap (λ ts. reads_at plan ts g r) same

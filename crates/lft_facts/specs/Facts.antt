@@ -1,5 +1,5 @@
 -- What each fact says.
-use Rattle.std.specs.Prelude.{◌≡◌, ◌↔◌, ℕ, ◌+◌, ◌*◌, ◌<◌, List, [], length, Option, Some, None, slice_get, Contains, All, option_to_list}
+use Rattle.std.specs.Prelude.{◌≡◌, ◌↔◌, ℕ, ◌+◌, ◌*◌, ◌<◌, List, [], length, Option, Some, None, slice_get, Contains, All}
 use Rattle.lft_tag.specs.declared.Tag.{Tag}
 use Rattle.lft_tag.specs.Tags.{Before, after, after_all}
 use Rattle.lft_flat.specs.Parts.{Parts, inputs}
@@ -7,8 +7,6 @@ use Rattle.lft_flat.specs.Origins.{Origin}
 use Rattle.lft_flat.specs.declared.parts.Name.{Name}
 use Rattle.lft_flat.specs.declared.parts.Name.TheVariants.{Port, Action}
 use Rattle.lft_flat.specs.declared.parts.Value.{Value}
-use Rattle.lft_flat.specs.declared.parts.Port.{Port as PortOf}
-use Rattle.lft_flat.specs.declared.parts.Source.{Source}
 use Rattle.lft_flat.specs.declared.parts.Reaction.{Reaction}
 use Rattle.lft_flat.specs.declared.parts.Timer.{Timer as TimerOf}
 use Rattle.lft_flat.specs.declared.parts.Trigger.{Trigger}
@@ -19,7 +17,7 @@ use Rattle.lft_trace.specs.declared.row.Step.TheVariants.{Start, Read, Write, Sc
 use Rattle.lft_trace.specs.declared.externals.Event.{Event}
 use Rattle.lft_model.specs.Plans.{PlanParts}
 use Rattle.lft_model.specs.Presence.{stop, value_written, min_delay, Occurs, Shows}
-use Rattle.lft_model.specs.Runs.{start_row, end_row, Ran, steps_of, read_of, inputs_of}
+use Rattle.lft_model.specs.Runs.{Ran, steps_of, read_of, inputs_of}
 use Rattle.lft_model.specs.Breaches.{IsOpen, IsUnended, MayWrite, MaySchedule}
 use Rattle.lft_facts.specs.Runs.{StartsAt, EndsAt, IsOpenSince}
 use Rattle.lft_facts.specs.Reasons.{IsReason}

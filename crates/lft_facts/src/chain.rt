@@ -1,6 +1,6 @@
 //! The steps by which one reaction precedes another.
 
-ghost use Rattle.std.specs.Prelude.{◌≡◌, ◌<◌, ◌⊎◌, ℕ, Some, length, slice_get, IfOk};
+ghost use Rattle.std.specs.Prelude.{◌≡◌, ◌<◌, ◌⊎◌, ℕ, Some, length, IfOk};
 ghost use Rattle.lft_graph.specs.Graph.{IsGraphOf};
 ghost use Rattle.lft_graph.specs.Before.{IsDeclaredJustBefore, FeedsLast};
 ghost use Rattle.lft_facts.specs.Facts.{IsFact, AreFacts};

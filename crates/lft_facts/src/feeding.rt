@@ -1,7 +1,6 @@
 //! Which port leads from one reaction to another at once.
 
-ghost use Rattle.std.specs.Prelude.{◌≡◌, ◌↔◌, ◌<◌, ℕ, Some, length, slice_get, Contains, IfSome, IfNone, IsTrue};
-ghost use Rattle.lft_flat.specs.Origins.{Origin};
+ghost use Rattle.std.specs.Prelude.{◌≡◌, ◌↔◌, ◌<◌, ℕ, Some, length, Contains, IfSome, IfNone, IsTrue};
 ghost use Rattle.lft_flat.specs.Sound.{IsNameOf};
 ghost use Rattle.lft_flat.specs.declared.parts.Name.TheVariants.{Port as ThePort};
 ghost use Rattle.lft_graph.specs.Precedence.{Feeds};

@@ -1,6 +1,6 @@
 //! The single connections on the way of an event to a port, each with the tags that it joins.
 
-ghost use Rattle.std.specs.Prelude.{◌≡◌, ◌<◌, ℕ, List, Some, length, slice_get, option_to_list, IfOk, IfSome, OnOk};
+ghost use Rattle.std.specs.Prelude.{◌≡◌, ◌<◌, ℕ, List, Some, length, option_to_list, IfOk, IfSome, OnOk};
 ghost use Rattle.lft_tag.specs.Tags.{after_all};
 ghost use Rattle.lft_trace.specs.declared.row.Row.{Row as TheRow};
 ghost use Rattle.lft_model.specs.Plans.{PlanParts};

@@ -1,7 +1,6 @@
 //! Rules 1, 3 and 4: which row before it a row contradicts.
 
 ghost use Rattle.std.specs.Prelude.{◌≡◌, ◌↔◌, ◌<◌, ℕ, Some, length, slice_get, IsTrue, IfSome, IfNone};
-ghost use Rattle.std.specs.Bool.{Decides};
 ghost use Rattle.lft_tag.specs.declared.Tag.{Tag as TheTag};
 ghost use Rattle.lft_tag.specs.Tags.{Before};
 ghost use Rattle.lft_trace.specs.declared.row.Row.{Row as TheRow};

@@ -2,7 +2,7 @@
 use Rattle.std.specs.Prelude.{◌≡◌, ℕ, List, [], ◌++◌, Some, None, slice_get, option_to_list}
 use Rattle.lft_flat.specs.Parts.{Parts}
 use Rattle.lft_flat.specs.declared.parts.Port.{Port as PortOf}
-use Rattle.lft_flat.specs.declared.parts.Source.{Source}
+use Rattle.lft_tag.specs.declared.Source.{Source}
 
 -- the chain of connections into port p, walked backwards, ends at port o; the delays are those of the chain from o on
 pub data Origin (program : Parts) : ℕ → ℕ → List ℕ → Type 0 where

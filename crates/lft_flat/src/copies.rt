@@ -1,6 +1,6 @@
 //! Copies of reactions.
 
-ghost use Rattle.std.specs.Prelude.{◌≡◌, ◌<◌, IfOk, length};
+ghost use Rattle.std.specs.Prelude.{◌≡◌, ◌<◌, IfOk};
 
 use crate::parts::Reaction;
 use lft_tag::NoMemory;

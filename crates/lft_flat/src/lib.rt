@@ -12,8 +12,9 @@ mod same;
 mod texts;
 
 pub use found::Found;
+pub use lft_tag::Source;
 pub use lists::{Names, Triggers};
 pub use names::{NameTable, Starts};
-pub use parts::{Action, Name, Port, Reaction, Source, Timer, Trigger, Value};
+pub use parts::{Action, Name, Port, Reaction, Timer, Trigger, Value};
 pub use program::Program;
 pub use texts::Texts;

@@ -5,7 +5,7 @@ ghost use Rattle.std.specs.Prelude.{◌≡◌, IfOk};
 ghost use Rattle.lft_flat.specs.Parts.{inputs};
 
 use crate::lists::{Names, Triggers};
-use lft_tag::{NoMemory, Shift};
+use lft_tag::{NoMemory, Shift, Source};
 use std::alloc::Global;
 
 /// What a port or an action carries: nothing beside its presence, or a number.
@@ -29,13 +29,6 @@ pub enum Trigger {
     Shutdown,
     Timer(u32),
     On(Name),
-}
-
-/// The port before, and the delay of the connection from it in nanoseconds, if it has one.
-#[derive(Clone, Copy, PartialEq, Eq, Debug, Drop)]
-pub struct Source {
-    pub port: u32,
-    pub delay: Option<u64>,
 }
 
 /// A port, with the end of its chain of connections walked backwards and the delays of that chain.

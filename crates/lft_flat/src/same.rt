@@ -3,8 +3,8 @@
 ghost use Rattle.std.specs.Prelude.{◌≡◌};
 ghost use Rattle.std.specs.Bool.{Decides};
 
-use crate::parts::{Action, Name, Port, Reaction, Source, Timer, Trigger};
-use lft_tag::Shift;
+use crate::parts::{Action, Name, Port, Reaction, Timer, Trigger};
+use lft_tag::{Shift, Source};
 
 fn same_source(a: Option<Source>, b: Option<Source>) -> bool
     ensures { Decides result (a ≡ b) }
@@ -32,28 +32,6 @@ fn same_port(a: &Port, b: &Port) -> bool
         && same_shift(a.shift, b.shift)
 }
 
-fn same_action(a: &Action, b: &Action) -> bool
-    ensures { Decides result (a.now ≡ b.now) }
-{
-    a.instance == b.instance && a.physical == b.physical && a.min_delay == b.min_delay
-}
-
-fn same_timer(a: &Timer, b: &Timer) -> bool
-    ensures { Decides result (a.now ≡ b.now) }
-{
-    a.instance == b.instance && a.offset == b.offset && a.period == b.period
-}
-
-fn same_reaction(a: &Reaction, b: &Reaction) -> bool
-    ensures { Decides result (a.now ≡ b.now) }
-{
-    a.instance == b.instance
-        && a.place == b.place
-        && same_triggers(a.triggers.as_slice(), b.triggers.as_slice())
-        && same_names(a.uses.as_slice(), b.uses.as_slice())
-        && same_names(a.effects.as_slice(), b.effects.as_slice())
-}
-
 pub fn same_ports(a: &[Port], b: &[Port]) -> bool
     ensures { Decides result (a.now ≡ b.now) }
 {
@@ -71,57 +49,35 @@ pub fn same_ports(a: &[Port], b: &[Port]) -> bool
 pub fn same_actions(a: &[Action], b: &[Action]) -> bool
     ensures { Decides result (a.now ≡ b.now) }
 {
-    if a.len() != b.len() {
-        return false;
-    }
-    for i in 0..a.len() {
-        if !same_action(&a[i], &b[i]) {
-            return false;
-        }
-    }
-    true
+    a == b
 }
 
 pub fn same_timers(a: &[Timer], b: &[Timer]) -> bool
     ensures { Decides result (a.now ≡ b.now) }
 {
-    if a.len() != b.len() {
-        return false;
-    }
-    for i in 0..a.len() {
-        if !same_timer(&a[i], &b[i]) {
-            return false;
-        }
-    }
-    true
+    a == b
 }
 
 fn same_names(a: &[Name], b: &[Name]) -> bool
     ensures { Decides result (a.now ≡ b.now) }
 {
-    if a.len() != b.len() {
-        return false;
-    }
-    for i in 0..a.len() {
-        if a[i] != b[i] {
-            return false;
-        }
-    }
-    true
+    a == b
 }
 
 fn same_triggers(a: &[Trigger], b: &[Trigger]) -> bool
     ensures { Decides result (a.now ≡ b.now) }
 {
-    if a.len() != b.len() {
-        return false;
-    }
-    for i in 0..a.len() {
-        if a[i] != b[i] {
-            return false;
-        }
-    }
-    true
+    a == b
+}
+
+fn same_reaction(a: &Reaction, b: &Reaction) -> bool
+    ensures { Decides result (a.now ≡ b.now) }
+{
+    a.instance == b.instance
+        && a.place == b.place
+        && same_triggers(a.triggers.as_slice(), b.triggers.as_slice())
+        && same_names(a.uses.as_slice(), b.uses.as_slice())
+        && same_names(a.effects.as_slice(), b.effects.as_slice())
 }
 
 pub fn same_reactions(a: &[Reaction], b: &[Reaction]) -> bool

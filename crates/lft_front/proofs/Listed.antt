@@ -1,13 +1,11 @@
 -- Texts that grow by one piece for each item of a list, and what a graph's lists hold.
-use Rattle.std.proofs.Common.{◌≡◌, ℕ, zero, suc, ◌+◌, ◌<◌, ◌≤◌, ◌⊎◌, inl, inr, List, [], ◌∷◌, ◌++◌, length, take, flat_map, refl, sym, ap, ◌∙◌, arith, Some, slice_get, get_or}
+use Rattle.std.proofs.Common.{◌≡◌, ℕ, zero, suc, ◌+◌, ◌<◌, ◌≤◌, ◌⊎◌, inl, inr, List, [], ◌∷◌, ◌++◌, length, take, flat_map, sym, ap, ◌∙◌, arith, Some, slice_get}
 use Rattle.std.specs.List.{enumerate_from}
 use Rattle.std.proofs.lemmas.List.{append_assoc, append-nil, take_all}
 use Rattle.std.proofs.lemmas.Option.{slice_get_within}
 use Rattle.std.proofs.lemmas.List.FromFn.{length-enumerate_from}
 use Rattle.lft_lists.proofs.Mapped.{enumerate_at}
 use Rattle.lft_flat.specs.Parts.{Parts}
-use Rattle.lft_flat.specs.Origins.{Origin}
-use Rattle.lft_flat.specs.Origins.Origin.{itself, over}
 use Rattle.lft_graph.specs.Graph.{GraphParts, IsGraphOf}
 use Rattle.lft_graph.specs.Before.{IsDeclaredJustBefore, FeedsLast}
 use Rattle.lft_lists.proofs.Places.{contains_at}

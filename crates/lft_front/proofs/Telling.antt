@@ -6,7 +6,7 @@ use Rattle.lft_trace.specs.Traces.{Table}
 use Rattle.lft_graph.specs.Precedence.{HasNoLoop}
 use Rattle.lft_graph.specs.Loops.{IsLoop}
 use Rattle.lft_graph.proofs.Cycles.{is_cycle}
-use Rattle.lft_load.specs.Meaning.{IsProgramOf, IsPlanOf, IsOnly}
+use Rattle.lft_load.specs.Meaning.{IsProgramOf, IsOnly}
 use Rattle.lft_load.proofs.Loading.{table_of, no_loop_of}
 use Rattle.lft_front.specs.Told.{HaveNoMeaning, HaveNoMeaningBoth, HaveNoPlan, IsNoTable, IsNoTrace}
 

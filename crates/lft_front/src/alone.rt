@@ -13,6 +13,7 @@ ghost use Rattle.lft_load.specs.Refusals.{is_of_text};
 ghost use Rattle.lft_front.specs.Refusals.{JudgeRefusal, JudgingRefusal, IsRefusedGrowth, TextsRefusal};
 ghost use Rattle.lft_load.specs.declared.fault.Part.TheVariants as part;
 
+use crate::accepting::accepted;
 use crate::judge::{Execution, report};
 use lft_check::{NoWatch, Verdict, judge_alone};
 use lft_load::{Fault, Part, load};
@@ -53,6 +54,10 @@ fn verdict_of(alloc: Global, plan: &Plan, rows: &Rows) -> Result<Verdict, Fault>
 {
     // Called for its clause: of an accepted trace it says that the runs are an execution.
     law_one_worker(plan);
+    // Most traces are right, and of many programs this is known after a short look.
+    if let Some(verdict) = accepted(alloc, plan, rows) {
+        return Ok(verdict);
+    }
     match judge_alone(alloc, plan, rows, &NoWatch) {
         Ok(verdict) => Ok(verdict),
         Err(_) => Err(Fault::plain(Part::Check, 3, "NoMemory")),

@@ -17,6 +17,7 @@ ghost use Rattle.lft_front.specs.Refusals.{JudgeRefusal, JudgingRefusal, CheckRe
 ghost use Rattle.lft_load.specs.Written.{AppendsFront};
 ghost use Rattle.lft_load.specs.declared.fault.Part.TheVariants as part;
 
+use crate::accepting::accepted;
 use crate::line::verdict_line;
 use lft_check::{CheckFault, NoWatch, Verdict, judge};
 use lft_flat::Program;
@@ -77,6 +78,12 @@ pub(crate) fn verdict_of<R: Threads + Sync>(
 {
     // Called for its clause: of an accepted trace it says that the runs are an execution.
     law_one_worker(plan);
+    // Several workers share the checker's work, and a short look has one.
+    if workers == 1 {
+        if let Some(verdict) = accepted(alloc, plan, rows) {
+            return Ok(verdict);
+        }
+    }
     match judge(rt, alloc, plan, rows, workers, &NoWatch) {
         Ok(verdict) => Ok(verdict),
         Err(CheckFault::BadWorkers) => Err(Fault::plain(Part::Check, 1, "BadWorkers")),

@@ -2,6 +2,7 @@
 //! From texts to a verdict, to the comparison of two traces, or to the lines of a program. It hands
 //! on what a command begins and ends with: faults, `load`, `read_input` and `finish` of `lft_load`.
 
+mod accepting;
 mod alone;
 mod answer;
 mod bundle;

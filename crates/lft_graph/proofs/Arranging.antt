@@ -1,16 +1,16 @@
 -- The order of levels and numbers.
-use Rattle.std.proofs.Common.{◌≡◌, ◌≢◌, ℕ, zero, suc, ◌+◌, ◌<◌, ◌⊎◌, inl, inr, List, [], ◌∷◌, ◌++◌, length, refl, sym, ap, ◌∙◌, subst, arith, Some, slice_get, slice_index_or, length-append, Contains, false, eqb, map, AllPairs}
+use Rattle.std.proofs.Common.{◌≡◌, ◌≢◌, ℕ, zero, suc, ◌+◌, ◌<◌, ◌⊎◌, inl, inr, List, [], ◌∷◌, ◌++◌, length, refl, sym, ap, ◌∙◌, subst, arith, Some, slice_get, slice_index_or, Contains, false, eqb, map, AllPairs}
 use Rattle.std.specs.List.Sorted.{IsPermutation, IsSorted}
 use Rattle.std.specs.Ordering.{nat_cmp, ordering_then, is_lt}
 use Rattle.std.specs.Cmp.{IsTotalOrder}
 use Rattle.std.proofs.lemmas.Cmp.{nat_cmp_total, then_total, on_total}
-use Rattle.std.proofs.lemmas.List.Sorted.{IsPermutation-sym, IsPermutation-map, Contains-permutation, length_permutation, sorted_far, ranks_by}
+use Rattle.std.proofs.lemmas.List.Sorted.{IsPermutation-sym, IsPermutation-map, Contains-permutation, sorted_far, ranks_by}
 use Rattle.std.proofs.lemmas.Map.Made.{AllPairs-from_IsDistinct, IsDistinct-from_AllPairs}
 use Rattle.std.proofs.lemmas.Map.Keys.{IsDistinct-IsPermutation}
 use Rattle.std.proofs.lemmas.Bool.Decides.{Decides-eqb, nat_tests}
 use Rattle.std.proofs.lemmas.Option.{slice_get_within, get_or_from_slice_get}
 use Rattle.lft_graph.specs.Graph.{AreByLevel}
-use Rattle.lft_lists.proofs.Places.{contains_at, at_contains, get_push_cases, get_there, same_at}
+use Rattle.lft_lists.proofs.Places.{contains_at, at_contains, get_there, same_at}
 
 -- the order of the pairs: by level, then by number
 pair_cmp_total : IsTotalOrder (λ (x : ℕ × ℕ) y. ordering_then (nat_cmp x.0 y.0) (nat_cmp x.1 y.1))
@@ -21,47 +21,16 @@ pub record Paired (levels : List ℕ) (pairs : List (ℕ × ℕ)) (number : ℕ)
   pub as_long : length pairs ≡ number
   pub each : (i : ℕ) (x : ℕ × ℕ) → slice_get pairs i ≡ Some x → (x.1 ≡ i) × (slice_get levels i ≡ Some x.0)
 
-pub paired_start : (levels : List ℕ) → Paired levels [] 0
-paired_start levels = record { as_long = refl; each = λ i x e. absurd (cc) }
-
-pub paired_more : (levels : List ℕ) (pairs : List (ℕ × ℕ)) (number level : ℕ) → Paired levels pairs number → slice_get levels number ≡ Some level → Paired levels (pairs ++ (level, number) ∷ []) (number + 1)
-paired_more levels pairs number level w e = record {
-  as_long = length-append pairs ((level, number) ∷ []) ∙ ap (λ n. n + 1) w.as_long;
-  each = λ i x f. at i x (get_push_cases pairs (level, number) i x f);
-}
-  where
-    at : (i : ℕ) (x : ℕ × ℕ) → (slice_get pairs i ≡ Some x) ⊎ ((i ≡ length pairs) × ((level, number) ≡ x)) → (x.1 ≡ i) × (slice_get levels i ≡ Some x.0)
-    at i x (inl a) = w.each i x a
-    at i x (inr a) =
-        let q : i ≡ number = a.0 ∙ w.as_long in
-        (sym (ap (λ (y : ℕ × ℕ). y.1) a.1) ∙ sym q, ap (slice_get levels) q ∙ e ∙ ap (λ (y : ℕ × ℕ). Some y.0) a.1)
-
 -- the numbers of the pairs so far
 pub record Arranged (pairs : List (ℕ × ℕ)) (order : List ℕ) (place : ℕ) : Type 0 where
   pub as_long : length order ≡ place
   pub each : (j a : ℕ) → slice_get order j ≡ Some a → (x : ℕ × ℕ) × (slice_get pairs j ≡ Some x) × (x.1 ≡ a)
-
-pub arranged_start : (pairs : List (ℕ × ℕ)) → Arranged pairs [] 0
-arranged_start pairs = record { as_long = refl; each = λ j a e. absurd (cc) }
-
-pub arranged_more : (pairs : List (ℕ × ℕ)) (order : List ℕ) (place : ℕ) (x : ℕ × ℕ) → Arranged pairs order place → slice_get pairs place ≡ Some x → Arranged pairs (order ++ x.1 ∷ []) (place + 1)
-arranged_more pairs order place x w e = record {
-  as_long = length-append order (x.1 ∷ []) ∙ ap (λ n. n + 1) w.as_long;
-  each = λ j a f. at j a (get_push_cases order x.1 j a f);
-}
-  where
-    at : (j a : ℕ) → (slice_get order j ≡ Some a) ⊎ ((j ≡ length order) × (x.1 ≡ a)) → (y : ℕ × ℕ) × (slice_get pairs j ≡ Some y) × (y.1 ≡ a)
-    at j a (inl b) = w.each j a b
-    at j a (inr b) = (x, ap (slice_get pairs) (b.0 ∙ w.as_long) ∙ e, b.1)
 
 -- what the order of pairs says
 not_less : (k a l b : ℕ) → is_lt (ordering_then (nat_cmp l k) (nat_cmp b a)) ≡ false → a ≢ b → (k < l) ⊎ ((k ≡ l) × (a < b))
 not_less k a l b e n = grind (arith, nat_tests)
 
 module _ (levels : List ℕ) (pairs sorted : List (ℕ × ℕ)) (order : List ℕ) (paired : Paired levels pairs (length levels)) (moved : IsPermutation pairs sorted) (up : IsSorted (λ (x : ℕ × ℕ) y. ordering_then (nat_cmp x.0 y.0) (nat_cmp x.1 y.1)) sorted) (arranged : Arranged sorted order (length sorted)) where
-  same_length : length sorted ≡ length levels
-  same_length = length_permutation pairs sorted moved ∙ paired.as_long
-
   -- a pair is that of its number
   known : (j : ℕ) (x : ℕ × ℕ) → slice_get sorted j ≡ Some x → slice_get levels x.1 ≡ Some x.0
   known j x e =

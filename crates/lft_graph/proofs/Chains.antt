@@ -46,9 +46,6 @@ module _ (program : Parts) (sound : IsSound program) (lists : List (List ℕ)) (
   pub inside : AreInside lists
   inside r i a list e f = let l = from_there a r (member_direct a r list e (contains_at list i a f)) in let s = has.as_long in omega arith
 
-  pub few : length lists ≤ 10000
-  few = let s = has.as_long in let l = sound.limits.reactions in omega arith
-
   step_direct : (a b : ℕ) → IsStep lists a b → Direct program a b
   step_direct a b s = member_direct a b s.0 s.2 (contains_at s.0 s.1 a s.3)
 

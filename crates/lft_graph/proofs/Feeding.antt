@@ -50,9 +50,6 @@ module _ (program : Parts) (sound : IsSound program) where
     last_there a o w = let l = knows.last o a (slice_get_within program.reactions a w.writer w.is_writer) w in (l.0, last_at o l.0 l.1, l.1)
 
 module _ (program : Parts) (At : ℕ → Name → Type 0) where
-  pub notes_start : (old : List ℕ) → NotesBelow program At 0 old old
-  notes_start old = record { kept = λ a c. c; only = λ a c. inl c; covers = λ i a o name l. absurd (omega arith) }
-
   -- a name with a feeder
   pub notes_feeder : (place a : ℕ) (name : Name) (old new : List ℕ) → NotesBelow program At place old new → At place name → ((other : Name) → At place other → other ≡ name) → IsFeeder program name a → ((b o : ℕ) → Writes program b o → IsUndelayed program name o → (c : ℕ) × IsLastWriter program c o × (a ≡ c)) → NotesBelow program At (place + 1) old (new ++ a ∷ [])
   notes_feeder place a name old new w at one f covers = record {
@@ -114,12 +111,6 @@ to_trigger triggers n c = let g = at_contains (filter_map named triggers) n c in
     go (On m ∷ ts) (suc i) e = up (On m) ts (go ts i e)
 
 module _ (program : Parts) (sound : IsSound program) (r : ℕ) (x : Reaction) (is : slice_get program.reactions r ≡ Some x) where
-  AtTrigger : ℕ → Name → Type 0
-  AtTrigger i n = slice_get x.triggers i ≡ Some (On n)
-
-  AtUse : ℕ → Name → Type 0
-  AtUse i n = slice_get x.uses i ≡ Some n
-
   -- what a list starts with: the reaction declared just before, if there is one
   pub Begins : List ℕ → Type 0
   Begins first = (a : ℕ) → Contains first a ↔ IsDeclaredJustBefore program a r
@@ -216,10 +207,6 @@ module _ (program : Parts) (sound : IsSound program) (r : ℕ) (x : Reaction) (i
 
     pub is_covered : Covers program r list
     is_covered a o w q = let g = covered a o w q in (g.0, g.1, (members g.0).1 g.2)
-
--- one list more
-pub lists_start : (program : Parts) → HasLists program 0 []
-lists_start program = record { as_long = refl; before = λ r list e. absurd (cc); covers = λ r list e. absurd (cc) }
 
 pub lists_more : (program : Parts) (below : ℕ) (lists : List (List ℕ)) (list : List ℕ) → HasLists program below lists → IsBefore program below list → Covers program below list → HasLists program (below + 1) (lists ++ list ∷ [])
 lists_more program below lists list w b c = record {

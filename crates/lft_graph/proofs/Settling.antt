@@ -222,10 +222,3 @@ module _ (before : List (List ℕ)) where
       once = w.stacked.once;
       goes_on = λ i a e f. (let s : i ≡ length stack = omega (arith, length-append stack (top ∷ [])) in let h : slice_get (stack ++ top ∷ []) i ≡ Some top = subst (λ t. slice_get (stack ++ top ∷ []) t ≡ Some top) (sym s) (get_last stack top) in let q : top ≡ a = cc in subst (IsStep before member) q n.0);
     }) cut
-
-    pub looped_there : (member : ℕ) → IsNext before marks top (Looped member) → Contains (stack ++ top ∷ []) member
-    looped_there member n = w.stacked.opened member n.1.0 n.1.1
-
-  -- the walk is over
-  pub settled_end : (old marks : List LevelMark) (reaction : ℕ) → Settling old reaction marks [] → NoneOpen marks
-  settled_end old marks reaction w p k e = let c = w.stacked.opened p k e in let l : c.0 < 0 = c.1 in omega arith

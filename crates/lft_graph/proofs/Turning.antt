@@ -20,9 +20,6 @@ module _ (Step : ℕ → ℕ → Type 0) (stack loop : List ℕ) (member : ℕ) 
     pub goes_on : (i a : ℕ) → i + 1 ≡ length stack → slice_get stack i ≡ Some a → Step member a
 
   module _ (walk : IsWalk) (cut : IsCut stack member loop) where
-    place_at : ℕ → ℕ
-    place_at t = turned cut.start cut.place (length stack) t
-
     -- what stands at a step of the turn
     stands : (t a : ℕ) → slice_get loop t ≡ Some a → slice_get stack (turned cut.start cut.place (length stack) t) ≡ Some a
     stands t a e = sym (cut.turns t (slice_get_within loop t a e)) ∙ e

@@ -1,6 +1,5 @@
 -- Marks: their weights, and levels from them.
-use Rattle.std.proofs.Common.{◌≡◌, ℕ, zero, suc, ◌+◌, ◌<◌, ◌≤◌, inl, inr, List, [], ◌∷◌, length, refl, ap, ◌∙◌, subst, arith, Some, slice_get, slice_set}
-use Rattle.std.proofs.lemmas.Bool.{cases_eq}
+use Rattle.std.proofs.Common.{◌≡◌, ℕ, zero, suc, ◌+◌, ◌<◌, ◌≤◌, List, [], ◌∷◌, length, ap, ◌∙◌, subst, arith, Some, slice_get, slice_set}
 use Rattle.lft_graph.specs.declared.levels.LevelMark.{LevelMark}
 use Rattle.lft_graph.specs.declared.levels.LevelMark.TheVariants.{New, Open, Done}
 use Rattle.lft_graph.specs.Walks.{IsDone, IsLevelOf, tally, done_weight}
@@ -28,10 +27,6 @@ pub keeps_done : (marks : List LevelMark) (i : ℕ) (x y : LevelMark) → slice_
 unfolding KeepsDone
 keeps_done marks i x y e n a l f = get_unwritten marks i a y (λ s. n l (let g : slice_get marks i ≡ Some (Done l) = subst (λ k. slice_get marks k ≡ Some (Done l)) s f in cc)) ∙ f
 
-pub keeps_both : (a b c : List LevelMark) → KeepsDone a b → KeepsDone b c → KeepsDone a c
-unfolding KeepsDone
-keeps_both a b c k m i l e = m i l (k i l e)
-
 pub done_kept : (old new : List LevelMark) → KeepsDone old new → (a : ℕ) → IsDone old a → IsDone new a
 unfolding KeepsDone
 done_kept old new k a d = (d.0, k a d.0 d.1)
@@ -41,22 +36,4 @@ unfolding KeepsDone
 level_kept old new k list place level w = record {
   above = λ i a l e. (let r = w.above i a l e in (r.0, k a r.0 r.1, r.2));
   least = λ l. (let r = w.least l in (r.0, r.1, r.2, r.3, k r.1 r.2 r.4, r.5));
-}
-
--- the members of a list one after another
-pub level_start : (marks : List LevelMark) (list : List ℕ) → IsLevelOf marks list 0 0
-level_start marks list = record { above = λ i a l e. absurd (omega arith); least = λ l. absurd (omega arith) }
-
--- a member of a level as great as any so far
-pub level_higher : (marks : List LevelMark) (list : List ℕ) (place level a k : ℕ) → IsLevelOf marks list place level → slice_get list place ≡ Some a → slice_get marks a ≡ Some (Done k) → level ≤ k → IsLevelOf marks list (place + 1) (k + 1)
-level_higher marks list place level a k w e f g = record {
-  above = λ i b l h. elim (cases_eq i place) [ inl s ↦ (k, (let h : slice_get list place ≡ Some b = subst (λ j. slice_get list j ≡ Some b) s h in let q : a ≡ b = cc in subst (λ j. slice_get marks j ≡ Some (Done k)) q f), omega arith) | inr n ↦ (let r = w.above i b (omega arith) h in let m = r.2 in (r.0, r.1, omega arith)) ];
-  least = λ l. (place, a, k, e, f, refl);
-}
-
--- a member of a lower level
-pub level_lower : (marks : List LevelMark) (list : List ℕ) (place level a k : ℕ) → IsLevelOf marks list place level → slice_get list place ≡ Some a → slice_get marks a ≡ Some (Done k) → k < level → IsLevelOf marks list (place + 1) level
-level_lower marks list place level a k w e f g = record {
-  above = λ i b l h. elim (cases_eq i place) [ inl s ↦ (k, (let h : slice_get list place ≡ Some b = subst (λ j. slice_get list j ≡ Some b) s h in let q : a ≡ b = cc in subst (λ j. slice_get marks j ≡ Some (Done k)) q f), g) | inr n ↦ w.above i b (omega arith) h ];
-  least = w.least;
 }

@@ -1,5 +1,5 @@
 -- The last writers so far.
-use Rattle.std.proofs.Common.{◌≡◌, ℕ, ◌+◌, ◌<◌, ◌≤◌, ◌⊎◌, inl, inr, List, length, refl, sym, ap, ◌∙◌, subst, arith, Option, Some, None, slice_get, slice_set, Contains, replicate}
+use Rattle.std.proofs.Common.{◌≡◌, ℕ, ◌+◌, ◌<◌, ◌≤◌, ◌⊎◌, inl, inr, List, length, sym, ap, ◌∙◌, subst, arith, Option, Some, slice_get, slice_set, Contains}
 use Rattle.std.proofs.lemmas.Bool.{cases_lt, cases_eq}
 use Rattle.lft_flat.specs.Parts.{Parts}
 use Rattle.lft_flat.specs.declared.parts.Reaction.{Reaction}
@@ -7,16 +7,13 @@ use Rattle.lft_flat.specs.declared.parts.Name.{Name}
 use Rattle.lft_flat.specs.declared.parts.Name.TheVariants.{Port}
 use Rattle.lft_graph.specs.Before.{Writes}
 use Rattle.lft_graph.specs.Walks.{KnowsWriters}
-use Rattle.lft_lists.proofs.Places.{contains_at, get_written, get_unwritten, get_same, length_same, length_written}
+use Rattle.lft_lists.proofs.Places.{contains_at, get_written, get_unwritten, length_written}
 
 -- the effects at the places below one are noted
 pub record Noted (effects : List Name) (reaction : ℕ) (old new : List (Option ℕ)) (place : ℕ) : Type 0 where
   pub as_long : length new ≡ length old
   pub noted : (k p : ℕ) → k < place → slice_get effects k ≡ Some (Port p) → slice_get new p ≡ Some (Some reaction)
   pub others : (p : ℕ) → (slice_get new p ≡ slice_get old p) ⊎ (Contains effects (Port p) × (slice_get new p ≡ Some (Some reaction)))
-
-pub noted_start : (effects : List Name) (reaction : ℕ) (old : List (Option ℕ)) → Noted effects reaction old old 0
-noted_start effects reaction old = record { as_long = refl; noted = λ k p l e. absurd (omega arith); others = λ p. inl refl }
 
 pub noted_port : (effects : List Name) (reaction : ℕ) (old new : List (Option ℕ)) (place q : ℕ) → Noted effects reaction old new place → slice_get effects place ≡ Some (Port q) → q < length new → Noted effects reaction old (slice_set new q (Some reaction)) (place + 1)
 noted_port effects reaction old new place q w e l = record {
@@ -45,13 +42,6 @@ noted_other effects reaction old new place w n = record {
   as_long = w.as_long;
   noted = λ k p b f. elim (cases_eq k place) [ inl s ↦ absurd (n p (subst (λ i. slice_get effects i ≡ Some (Port p)) s f)) | inr m ↦ w.noted k p (omega arith) f ];
   others = w.others;
-}
-
-pub writers_start : (program : Parts) → KnowsWriters program 0 (replicate (length program.ports) None)
-writers_start program = record {
-  as_long = length_same (length program.ports) None;
-  right = λ p a e. absurd (let q : Some a ≡ None = get_same (length program.ports) p None (Some a) e in cc);
-  last = λ p a l w. absurd (omega arith);
 }
 
 pub writers_more : (program : Parts) (old new : List (Option ℕ)) (r : ℕ) (x : Reaction) → KnowsWriters program r old → slice_get program.reactions r ≡ Some x → length new ≡ length old → ((p : ℕ) → Contains x.effects (Port p) → slice_get new p ≡ Some (Some r)) → ((p : ℕ) → (slice_get new p ≡ slice_get old p) ⊎ (Contains x.effects (Port p) × (slice_get new p ≡ Some (Some r)))) → KnowsWriters program (r + 1) new

@@ -3,7 +3,6 @@ use Rattle.std.proofs.Common.{◌≡◌, ◌≢◌, ℕ, zero, suc, ◌+◌, ◌
 use Rattle.std.specs.List.{enumerate_from}
 use Rattle.std.specs.Option.{option_map_or, option_map, option_and_then}
 use Rattle.std.proofs.lemmas.Bool.{cases_lt}
-use Rattle.std.proofs.Math.Seq.{drop-length}
 use Rattle.std.proofs.lemmas.Bool.Decides.{eqb_tells}
 use Rattle.std.proofs.lemmas.Option.{slice_get_within}
 use Rattle.std.proofs.lemmas.List.FromFn.{length-enumerate_from}
@@ -56,13 +55,6 @@ drop_at [] k x e = absurd (cc)
 drop_at (y ∷ xs) zero x e = let q : y ≡ x = cc in ap (λ z. z ∷ xs) q
 drop_at (y ∷ xs) (suc k) x e = let q : suc (k + 1) ≡ suc k + 1 = omega arith in drop_at xs k x e ∙ ap (λ n. x ∷ drop n (y ∷ xs)) q
 
-entered_none : (outer defaults : List ℕ) → AreEntered outer [] defaults defaults
-entered_none outer defaults = record { as_long = refl; each = λ place default e. e }
-
--- nothing is given
-pub values_none : (outer defaults : List ℕ) → defaults ≡ values_in outer [] defaults
-values_none outer defaults = entered_is outer [] defaults defaults (entered_none outer defaults)
-
 value_first : (outer : List ℕ) (given : List Given) (g : Given) (place default : ℕ) → g.place ≡ place → value_in outer (g ∷ given) place default ≡ clock_in outer g.clock
 value_first outer given g place default e = go (eqb_tells g.place place)
   where
@@ -100,17 +92,11 @@ entered_more outer given defaults own k g e w l = rw (drop_at given k g e) (ente
 pub entered_skip : (outer : List ℕ) (given : List Given) (defaults own : List ℕ) (k : ℕ) (g : Given) → slice_get given k ≡ Some g → AreEntered outer (drop (k + 1) given) defaults own → length own ≤ g.place → AreEntered outer (drop k given) defaults own
 entered_skip outer given defaults own k g e w l = rw (drop_at given k g e) (entered_past outer (drop (k + 1) given) defaults own g w l)
 
-pub entered_start : (outer : List ℕ) (given : List Given) (defaults : List ℕ) → AreEntered outer (drop (length given) given) defaults defaults
-entered_start outer given defaults = rw (drop-length given) (entered_none outer defaults)
-
 -- the values of the first instances
 pub record Valued (table : List Parameters) (instances : List Instance) (rows : List (List ℕ)) (number : ℕ) : Type 0 where
   pub as_long : length rows ≡ number
   pub main : (i : Instance) (own : List ℕ) → slice_get instances 0 ≡ Some i → slice_get rows 0 ≡ Some own → own ≡ defaults_of table i.reactor
   pub later : (n : ℕ) (i above : Instance) (own outer : List ℕ) → 0 < n → slice_get instances n ≡ Some i → slice_get instances i.parent ≡ Some above → slice_get rows n ≡ Some own → slice_get rows i.parent ≡ Some outer → own ≡ values_in outer (given_by table above.reactor i.place) (defaults_of table i.reactor)
-
-pub valued_start : (table : List Parameters) (instances : List Instance) → Valued table instances [] 0
-valued_start table instances = record { as_long = refl; main = λ i own e f. absurd (cc); later = λ n i above own outer l e a f g. absurd (cc) }
 
 -- the main instance
 pub valued_main : (table : List Parameters) (instances : List Instance) (rows : List (List ℕ)) (number : ℕ) (i : Instance) (own : List ℕ) → Valued table instances rows number → number ≡ 0 → slice_get instances number ≡ Some i → own ≡ defaults_of table i.reactor → Valued table instances (rows ++ own ∷ []) (number + 1)

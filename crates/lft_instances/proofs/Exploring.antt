@@ -1,8 +1,8 @@
 -- What exploring the reactors keeps.
-use Rattle.std.proofs.Common.{◌≡◌, ◌≢◌, ℕ, zero, suc, ◌+◌, ◌-◌, ◌<◌, ◌≤◌, ◌⊎◌, inl, inr, List, [], ◌∷◌, ◌++◌, length, refl, sym, ap, ◌∙◌, subst, arith, Option, Some, None, slice_get, slice_set, replicate}
+use Rattle.std.proofs.Common.{◌≡◌, ◌≢◌, ℕ, zero, suc, ◌+◌, ◌-◌, ◌<◌, ◌≤◌, ◌⊎◌, inl, inr, List, [], ◌∷◌, ◌++◌, length, refl, sym, ap, ◌∙◌, subst, arith, Option, Some, None, slice_get, slice_set}
 use Rattle.std.proofs.lemmas.Bool.{cases_lt}
 use Rattle.std.proofs.lemmas.Option.{slice_get_within}
-use Rattle.lft_lists.proofs.Places.{get_there, get_written, get_unwritten, get_write_cases, length_written, length_same}
+use Rattle.lft_lists.proofs.Places.{get_there, get_written, get_unwritten, get_write_cases, length_written}
 use Rattle.lft_lists.proofs.Members.{Mem, mem_left, mem_right, mem_cases}
 use Rattle.lft_instances.specs.declared.walk.Contents.{Contents}
 use Rattle.lft_instances.specs.declared.recursion.Stage.{Stage}
@@ -101,21 +101,6 @@ explored_opens table stages r w e = record {
   where
     done : (a : ℕ) → slice_get (slice_set stages r Open) a ≡ Some Done → slice_get stages a ≡ Some Done
     done a f = elim (get_write_cases stages r a Open Done (slice_get_within stages r New e) f) [ inl q ↦ absurd (let z : Open ≡ Done = q.1 in cc) | inr q ↦ q.1 ]
-
-pub exploring_start : (table : List Contents) (stages : List Stage) (start : ℕ) (v : Visit) → length stages ≡ length table → IsExplored table stages → NoneOpen stages → slice_get stages start ≡ Some New → v.reactor ≡ start → v.next ≡ 0 → Exploring table stages start (slice_set stages start Open) (v ∷ [])
-exploring_start table stages start v same s none e at next = record {
-  as_long = length_written stages start Open ∙ same;
-  explored = explored_opens table stages start s e;
-  opened = λ p f. elim (get_write_cases stages start p Open Open within f) [ inl a ↦ inl (at ∙ sym a.0) | inr a ↦ absurd (none p a.1) ];
-  are_open = λ p m. elim m [ inl q ↦ subst (λ k. slice_get (slice_set stages start Open) k ≡ Some Open) (sym at ∙ q) (get_written stages start Open within) | inr z ↦ absurd z ];
-  chain = ((λ y m. absurd m), tt);
-  passed = λ u m k b l f. elim m [ inl q ↦ absurd (let z : v.next ≡ u.next = ap (λ x. x.next) q in omega arith) | inr z ↦ absurd z ];
-  kept = λ p f. elim (get_write_cases stages start p Open New within f) [ inl a ↦ absurd (let b : Open ≡ New = a.1 in cc) | inr a ↦ a.1 ];
-  looked = λ f. let q : New ≡ Open = not_both (slice_get (slice_set stages start Open) start) New Open f (get_written stages start Open within) in cc;
-}
-  where
-    within : start < length stages
-    within = slice_get_within stages start New e
 
 -- what a reactor that is past contains is past too
 past_holds : (table : List Contents) (stages : List Stage) (a b : ℕ) → length stages ≡ length table → IsExplored table stages → IsPast stages a → Holds table a b → IsPast stages b
@@ -251,43 +236,6 @@ pub record Explored (table : List Contents) (stages : List Stage) (reactor : ℕ
   pub explored : IsExplored table stages
   pub none_open : NoneOpen stages
   pub looked : (r : ℕ) → r < reactor → slice_get stages r ≢ Some New
-
-all_new : (n r : ℕ) (s : Stage) → slice_get (replicate n New) r ≡ Some s → s ≡ New
-all_new zero r s e = absurd (cc)
-all_new (suc n) zero s e = let q : New ≡ s = cc in sym q
-all_new (suc n) (suc r) s e = all_new n r s e
-
-pub explored_start : (table : List Contents) → Explored table (replicate (length table) New) 0
-explored_start table = record {
-  as_long = length_same (length table) New;
-  explored = record { closed = λ a b e h. absurd (let q : Done ≡ New = all_new (length table) a Done e in cc); ends = λ a e h. let q : Done ≡ New = all_new (length table) a Done e in cc };
-  none_open = λ r e. let q : Open ≡ New = all_new (length table) r Open e in cc;
-  looked = λ r l. absurd (omega arith);
-}
-
-pub explored_more : (table : List Contents) (before stages : List Stage) (reactor : ℕ) → Explored table before reactor → length stages ≡ length before → IsExplored table stages → NoneOpen stages → KeepsExplored before stages → slice_get stages reactor ≢ Some New → Explored table stages (reactor + 1)
-explored_more table before stages reactor w same s n k l = record {
-  as_long = same ∙ w.as_long;
-  explored = s;
-  none_open = n;
-  looked = λ r b e. elim (cases_lt r reactor) [ inl a ↦ w.looked r a (k r e) | inr g ↦ l (let q : r ≡ reactor = omega arith in subst (λ i. slice_get stages i ≡ Some New) q e) ];
-}
-
--- with all reactors explored, none contains itself
-pub explored_all : (table : List Contents) (stages : List Stage) (reactor : ℕ) → Explored table stages reactor → length table ≤ reactor → IsRecursive table → ⊥
-explored_all table stages reactor w all r = go s.0 s.1
-  where
-    first : {a b : ℕ} → HoldsDeep table a b → a < length table
-    first (one h) = holds_within table _ _ h
-    first (more h rest) = holds_within table _ _ h
-
-    s : (x : Stage) × (slice_get stages r.0 ≡ Some x)
-    s = let l = first r.1 in let n = w.as_long in get_there stages r.0 (omega arith)
-
-    go : (x : Stage) → slice_get stages r.0 ≡ Some x → ⊥
-    go New e = w.looked r.0 (let l = first r.1 in omega arith) e
-    go Open e = w.none_open r.0 e
-    go Done e = w.explored.ends r.0 e r.1
 
 -- each turn makes what is left less
 pub top_within : (table : List Contents) (before stages : List Stage) (start : ℕ) (visits : List Visit) (top : Visit) → Exploring table before start stages (visits ++ top ∷ []) → slice_get stages top.reactor ≡ Some Open

@@ -34,11 +34,3 @@ folded_then s d None delays few f m =
     let e = sum_push delays d in
     omega arith
 folded_then s d (Some x) delays few f m = join_push none delays d ∙ ap (λ y. join y d) f ∙ sym m.1
-
-join_steps : (x : Folded) (d : ℕ) → (join x d).1 ≤ x.1 + 1
-join_steps x zero = omega arith
-join_steps x (suc d) = omega arith
-
-pub append_none : (xs : List ℕ) → xs ++ [] ≡ xs
-append_none [] = refl
-append_none (x ∷ xs) = ap (λ l. x ∷ l) (append_none xs)

@@ -1,11 +1,11 @@
 -- The sources of ports so far, in a pass over the joins of each instance.
-use Rattle.std.proofs.Common.{◌≡◌, ◌≢◌, ℕ, zero, suc, ◌+◌, ◌<◌, ◌≤◌, ◌⊎◌, inl, inr, List, [], length, refl, sym, ap, ◌∙◌, subst, arith, Option, Some, None, slice_get, slice_set, replicate, unwrap_or}
+use Rattle.std.proofs.Common.{◌≡◌, ◌≢◌, ℕ, ◌+◌, ◌<◌, ◌≤◌, ◌⊎◌, inl, inr, List, [], length, sym, ap, ◌∙◌, subst, arith, Option, Some, slice_get, slice_set, unwrap_or}
 use Rattle.std.specs.Option.{option_map, option_and_then}
 use Rattle.std.proofs.lemmas.Bool.{cases_lt, cases_eq}
 use Rattle.std.proofs.lemmas.Option.{slice_get_within}
 use Rattle.lft_lists.proofs.Places.{get_there, get_written, get_unwritten, get_write_cases, length_written, same_some}
 use Rattle.lft_instances.specs.declared.walk.Instance.{Instance}
-use Rattle.lft_instances.specs.declared.origins.Source.{Source}
+use Rattle.lft_tag.specs.declared.Source.{Source}
 use Rattle.lft_instances.specs.declared.joins.End.{End}
 use Rattle.lft_instances.specs.declared.joins.End.TheVariants.{Own, Inner}
 use Rattle.lft_instances.specs.declared.joins.Join.{Join}
@@ -44,22 +44,6 @@ pub record Sourced (counts : List ℕ) (table : List Connections) (instances : L
   pub as_long : length sources ≡ things counts instances
   pub right : (b : ℕ) (s : Source) → slice_get sources b ≡ Some (Some s) → Joins table instances firsts children values s.port b s.delay
   pub all : (b : ℕ) (s : Source) (j : Joins table instances firsts children values s.port b s.delay) → Earlier number place j.number j.place → slice_get sources b ≡ Some (Some s)
-
-all_none : (n p : ℕ) (s : Source) → slice_get (replicate n None) p ≡ Some (Some s) → ⊥
-all_none zero p s e = cc
-all_none (suc n) zero s e = cc
-all_none (suc n) (suc p) s e = all_none n p s e
-
-length_none : (n : ℕ) → length (replicate {A = Option Source} n None) ≡ n
-length_none zero = refl
-length_none (suc n) = ap suc (length_none n)
-
-pub sourced_start : (counts : List ℕ) (table : List Connections) (instances : List Instance) (firsts : List ℕ) (children values : List (List ℕ)) (n : ℕ) → n ≡ things counts instances → Sourced counts table instances firsts children values 0 0 (replicate n None)
-sourced_start counts table instances firsts children values n e = record {
-  as_long = length_none n ∙ e;
-  right = λ b s f. absurd (all_none n b s f);
-  all = λ b s j l. elim l [ inl a ↦ absurd (omega arith) | inr a ↦ absurd (let k : j.place < 0 = a.1 in omega arith) ];
-}
 
 -- with all joins of an instance come those before the next
 pub rest_earlier : (table : List Connections) (instances : List Instance) (number place n k : ℕ) (join : Join) (i : Instance) → HasJoin table instances n k join → slice_get instances number ≡ Some i → length (joins_of table i.reactor) ≤ place → Earlier (number + 1) 0 n k → Earlier number place n k

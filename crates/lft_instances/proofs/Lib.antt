@@ -12,6 +12,5 @@ pub mod Things
 pub mod Siblings
 pub mod Entering
 pub mod Joining
-pub mod Lawful
 pub mod Listing
 mod Samples

@@ -1,5 +1,5 @@
 -- The things of the first instances, in order.
-use Rattle.std.proofs.Common.{◌≡◌, ℕ, ◌+◌, ◌<◌, ◌≤◌, ◌⊎◌, inl, inr, List, [], ◌∷◌, ◌++◌, length, refl, sym, ap, ◌∙◌, subst, arith, Some, slice_get, take, length-append}
+use Rattle.std.proofs.Common.{◌≡◌, ℕ, ◌+◌, ◌<◌, ◌≤◌, ◌⊎◌, inl, inr, List, [], ◌∷◌, ◌++◌, length, sym, ap, ◌∙◌, subst, arith, Some, slice_get, take, length-append}
 use Rattle.std.proofs.lemmas.Bool.{cases_lt}
 use Rattle.std.proofs.lemmas.Option.{slice_get_within}
 use Rattle.lft_lists.proofs.Places.{get_push, get_last}
@@ -13,12 +13,6 @@ use Rattle.lft_instances.proofs.Joining.{Earlier}
 pub record Listing (counts : List ℕ) (instances : List Instance) (number place : ℕ) (all : List Thing) : Type 0 where
   pub as_long : length all ≡ things counts (take number instances) + place
   pub each : (n k : ℕ) (i : Instance) → slice_get instances n ≡ Some i → k < count_of counts i.reactor → Earlier number place n k → slice_get all (things counts (take n instances) + k) ≡ Some (record { instance = n; place = k })
-
-pub listing_start : (counts : List ℕ) (instances : List Instance) → Listing counts instances 0 0 []
-listing_start counts instances = record {
-  as_long = refl;
-  each = λ n k i e l a. elim a [ inl b ↦ absurd (omega arith) | inr b ↦ absurd (let z : k < 0 = b.1 in omega arith) ];
-}
 
 pub listing_more : (counts : List ℕ) (instances : List Instance) (number place : ℕ) (all : List Thing) → Listing counts instances number place all → Listing counts instances number (place + 1) (all ++ (record { instance = number; place = place }) ∷ [])
 listing_more counts instances number place all w = record {

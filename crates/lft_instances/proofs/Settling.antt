@@ -4,7 +4,7 @@ use Rattle.std.proofs.lemmas.Option.{slice_get_within}
 use Rattle.lft_lists.proofs.Places.{get_written, get_unwritten, get_write_cases, length_written}
 use Rattle.lft_tag.specs.Shifts.{none}
 use Rattle.lft_lists.proofs.Members.{Mem, mem_left, mem_right, mem_cases}
-use Rattle.lft_instances.specs.declared.origins.Source.{Source}
+use Rattle.lft_tag.specs.declared.Source.{Source}
 use Rattle.lft_instances.specs.declared.origins.Reached.{Reached}
 use Rattle.lft_instances.specs.declared.origins.Mark.{Mark}
 use Rattle.lft_instances.specs.declared.origins.Mark.TheVariants.{New, Open, Done}

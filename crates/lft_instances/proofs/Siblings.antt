@@ -112,17 +112,6 @@ child_in rows n place m e = go (slice_get rows n) refl
     go None f = absurd (let g : child_of rows n place ≡ None = ap (option_and_then (λ r. slice_get r place)) f in cc)
     go (Some row) f = (row, f, sym (child_row rows n place row f) ∙ e)
 
-pub filled_start : (made : List Instance) → Filled made ([] ∷ []) 1
-filled_start made = record {
-  as_long = refl;
-  each = λ n place m e. absurd (let r = child_in ([] ∷ []) n place m e in none n place m r.0 r.1 r.2);
-  all = λ n place m c l. absurd (let z : 0 < m = c.2 in omega arith);
-}
-  where
-    none : (n place m : ℕ) (row : List ℕ) → slice_get ([] ∷ []) n ≡ Some row → slice_get row place ≡ Some m → ⊥
-    none zero place m row e f = let q : [] ≡ row = cc in let g : slice_get [] place ≡ Some m = subst (λ r. slice_get r place ≡ Some m) (sym q) f in cc
-    none (suc n) place m row e f = cc
-
 -- the next instance goes to the end of its parent's row
 pub filled_more : (table : List Contents) (main : ℕ) (made : List Instance) → IsWalk table main made → (rows : List (List ℕ)) (number : ℕ) (i : Instance) (row : List ℕ) → Filled made rows number → slice_get made number ≡ Some i → 0 < number → slice_get (rows ++ [] ∷ []) i.parent ≡ Some row → Filled made (slice_set (rows ++ [] ∷ []) i.parent (row ++ number ∷ [])) (number + 1)
 filled_more table main made w rows number i row f e pos r = record {

@@ -1,7 +1,7 @@
 -- Where two steps go side by side, the same paths exist.
 use Rattle.std.proofs.Common.{◌≡◌, ℕ, List, [], ◌∷◌, refl, sym, ap, ◌∙◌, subst, Option, Some, None}
 use Rattle.std.specs.Option.{option_and_then}
-use Rattle.lft_instances.specs.Paths.{along, Exists, IsPreOrder, IsMoreThan}
+use Rattle.lft_instances.specs.Paths.{along, IsPreOrder}
 
 -- what the one step reaches from a thing, the other reaches from what stands for it
 pub record Simulates {X Y : Type 0} (R : X → Y → Type 0) (f : X → ℕ → Option X) (g : Y → ℕ → Option Y) : Type 0 where
@@ -38,6 +38,3 @@ pre_order_back R f g x y paths s r w = record {
   each = λ i p e. let a = w.each i p e in let b = along_back R f g s x y p a.0 r a.1 in (b.0, b.1);
   all = λ p e. let b = along_forth R f g s x y p e.0 r e.1 in w.all p (b.0, b.1);
 }
-
-pub more_back : {X Y : Type 0} (R : X → Y → Type 0) (f : X → ℕ → Option X) (g : Y → ℕ → Option Y) (x : X) (y : Y) (limit : ℕ) → Simulates R f g → R x y → IsMoreThan (Exists g y) limit → IsMoreThan (Exists f x) limit
-more_back R f g x y limit s r w = record { some = w.some; more = w.more; distinct = w.distinct; each = λ i p e. let a = w.each i p e in let b = along_back R f g s x y p a.0 r a.1 in (b.0, b.1) }

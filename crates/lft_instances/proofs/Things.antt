@@ -8,7 +8,7 @@ use Rattle.lft_instances.specs.declared.walk.Contents.{Contents}
 use Rattle.lft_instances.specs.declared.walk.Instance.{Instance}
 use Rattle.lft_instances.specs.Paths.{Before, IsMoreThan}
 use Rattle.lft_instances.specs.Contents.{IsWalk}
-use Rattle.lft_instances.specs.Numbers.{count_of, things, AreFirst, IsThing}
+use Rattle.lft_instances.specs.Numbers.{count_of, things, IsThing}
 use Rattle.lft_instances.proofs.Orders.{before_itself}
 use Rattle.lft_instances.proofs.Limits.{no_longer}
 use Rattle.lft_instances.proofs.Unique.{pairs_from}
@@ -35,18 +35,12 @@ pub record Numbering (counts : List ℕ) (instances : List Instance) (firsts : L
   pub so_far : total ≡ things counts (take number instances)
   pub each : (n first : ℕ) → slice_get firsts n ≡ Some first → first ≡ things counts (take n instances)
 
-pub numbering_start : (counts : List ℕ) (instances : List Instance) → Numbering counts instances [] 0 0
-numbering_start counts instances = record { as_long = refl; so_far = refl; each = λ n first e. absurd (cc) }
-
 pub numbering_more : (counts : List ℕ) (instances : List Instance) (firsts : List ℕ) (number total : ℕ) (i : Instance) → Numbering counts instances firsts number total → slice_get instances number ≡ Some i → Numbering counts instances (firsts ++ total ∷ []) (number + 1) (total + count_of counts i.reactor)
 numbering_more counts instances firsts number total i w e = record {
   as_long = length-append firsts (total ∷ []) ∙ ap (λ k. k + 1) w.as_long;
   so_far = ap (λ k. k + count_of counts i.reactor) w.so_far ∙ sym (things_more counts instances number i e);
   each = λ n first f. elim (get_push_cases firsts total n first f) [ inl a ↦ w.each n first a | inr a ↦ sym a.1 ∙ w.so_far ∙ ap (λ k. things counts (take k instances)) (sym (a.0 ∙ w.as_long)) ];
 }
-
-pub numbering_end : (counts : List ℕ) (instances : List Instance) (firsts : List ℕ) (number total : ℕ) → Numbering counts instances firsts number total → number ≡ length instances → AreFirst counts instances firsts
-numbering_end counts instances firsts number total w e = record { as_long = w.as_long ∙ e; each = w.each }
 
 pub numbering_total : (counts : List ℕ) (instances : List Instance) (firsts : List ℕ) (number total : ℕ) → Numbering counts instances firsts number total → number ≡ length instances → total ≡ things counts instances
 numbering_total counts instances firsts number total w e = w.so_far ∙ ap (λ k. things counts (take k instances)) e ∙ things_all counts instances

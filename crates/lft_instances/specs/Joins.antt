@@ -5,7 +5,7 @@ use Rattle.lft_instances.specs.Numbers.{count_of, things}
 use Rattle.lft_instances.specs.Children.{child_of}
 use Rattle.lft_instances.specs.Values.{clock_in}
 use Rattle.lft_instances.specs.declared.walk.Instance.{Instance}
-use Rattle.lft_instances.specs.declared.origins.Source.{Source}
+use Rattle.lft_tag.specs.declared.Source.{Source}
 use Rattle.lft_instances.specs.declared.joins.End.{End}
 use Rattle.lft_instances.specs.declared.joins.End.TheVariants.{Own, Inner}
 use Rattle.lft_instances.specs.declared.joins.Join.{Join}

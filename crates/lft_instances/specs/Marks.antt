@@ -2,7 +2,7 @@
 use Rattle.std.specs.Prelude.{◌≡◌, ◌≢◌, ℕ, ◌+◌, ◌≤◌, List, [], ◌∷◌, Option, Some, None, slice_get}
 use Rattle.lft_tag.specs.declared.Shift.{Shift}
 use Rattle.lft_instances.specs.Sources.{IsReached}
-use Rattle.lft_instances.specs.declared.origins.Source.{Source}
+use Rattle.lft_tag.specs.declared.Source.{Source}
 use Rattle.lft_instances.specs.declared.origins.Reached.{Reached}
 use Rattle.lft_instances.specs.declared.origins.Mark.{Mark}
 use Rattle.lft_instances.specs.declared.origins.Mark.TheVariants.{New, Open, Done}

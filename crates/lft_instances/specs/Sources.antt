@@ -2,7 +2,7 @@
 use Rattle.std.specs.Prelude.{◌≡◌, ℕ, ◌<◌, List, [], ◌++◌, Option, Some, None, slice_get, length, option_to_list, sum}
 use Rattle.lft_tag.specs.Shifts.{join_all, none}
 use Rattle.lft_tag.specs.declared.Shift.{Shift}
-use Rattle.lft_instances.specs.declared.origins.Source.{Source}
+use Rattle.lft_tag.specs.declared.Source.{Source}
 use Rattle.lft_instances.specs.declared.origins.Reached.{Reached}
 
 -- each source is a port of the list

@@ -8,11 +8,10 @@ ghost use Rattle.lft_instances.specs.Values.{clock_in};
 
 use crate::nesting::Children;
 use crate::numbering::count_things;
-use crate::origins::Source;
 use crate::settings::{Clock, Values};
 use crate::walk::Instance;
 use lft_lists::item_at;
-use lft_tag::NoMemory;
+use lft_tag::{NoMemory, Source};
 use std::alloc::Global;
 
 /// An end of a connection in a reactor: a port of its own by its place, or the port at a place of

@@ -5,15 +5,8 @@ ghost use Rattle.lft_instances.specs.Sources.{AreInside, AreReached, IsFolded, L
 ghost use Rattle.lft_instances.specs.Marks.{IsNext, IsSettled, KeepsLooked, NoneOpen, done_weight, steps_of, tally};
 ghost use Rattle.lft_instances.specs.declared.origins.Mark.TheVariants.{New};
 
-use lft_tag::Shift;
+use lft_tag::{Shift, Source};
 use std::alloc::{AllocError, AllocFailed, Global};
-
-/// The port before, and the delay of the connection from it in nanoseconds, if it has one.
-#[derive(Clone, Copy, PartialEq, Eq, Drop)]
-pub struct Source {
-    pub port: u32,
-    pub delay: Option<u64>,
-}
 
 /// The port where a chain begins, and the chain's delays folded; None where they sum to more than
 /// 10^18 nanoseconds.

@@ -1,6 +1,6 @@
 //! The values that the parameters of each instance have.
 
-ghost use Rattle.std.specs.Prelude.{◌≡◌, ℕ, ◌<◌, List, [], Some, length, map, slice_get, unwrap_or, IfOk};
+ghost use Rattle.std.specs.Prelude.{◌≡◌, ℕ, ◌<◌, List, [], Some, map, slice_get, unwrap_or, IfOk};
 ghost use Rattle.lft_instances.specs.Contents.{AreWalked};
 ghost use Rattle.lft_instances.specs.declared.walk.Contents.{Contents};
 ghost use Rattle.lft_instances.specs.Values.{HaveValues, LeadToValues, clock_in, defaults_of, given_by, values_in};

@@ -4,10 +4,8 @@ ghost use Rattle.std.specs.Prelude.{◌≡◌, ◌+◌, ◌<◌, ◌≤◌, ◌^
 ghost use Rattle.lft_instances.specs.Contents.{IsWalk, contained};
 ghost use Rattle.lft_instances.specs.Paths.{Exists, IsMoreThan};
 
+use lft_tag::MAX_INSTANCES;
 use std::alloc::{AllocError, AllocFailed, Global};
-
-/// The greatest number of instances, with the main one.
-pub const MAX_INSTANCES: usize = 10_000;
 
 /// What a reactor contains: the numbers of the reactors of its instances, in order of declaration.
 #[derive(Drop)]

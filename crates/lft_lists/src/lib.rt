@@ -1,7 +1,12 @@
 #![tactic(auto)]
-//! The item at a place of a list, and lemmas on lists that several crates cite.
+//! Lists: the item at a place, a list of which contracts see the items, and lemmas that several crates
+//! cite.
 
 ghost use Rattle.std.specs.Prelude.{◌≡◌, ◌<◌, length, slice_get, Some};
+
+mod list;
+
+pub use list::List;
 
 /// The item at the place, counted from 0.
 pub fn item_at<T: Copy>(items: &[T], place: usize) -> T

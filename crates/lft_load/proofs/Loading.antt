@@ -1,11 +1,9 @@
 -- What a refusal of one layer says of the texts.
-use Rattle.std.proofs.Common.{◌≡◌, ℕ, ◌≤◌, List, length, Result, Err, true, refl, sym, ◌∙◌, subst, arith, inl, inr}
+use Rattle.std.proofs.Common.{◌≡◌, ℕ, ◌≤◌, List, Result, Err, true, refl, sym, ◌∙◌, subst, inl, inr}
 use Rattle.lft_syntax.specs.declared.token.Token.{Token}
-use Rattle.lft_syntax.specs.declared.fault.LexFault.{LexFault}
-use Rattle.lft_syntax.specs.declared.fault.LexFault.TheVariants as lex
 use Rattle.lft_syntax.specs.declared.fault.SyntaxFault.{SyntaxFault}
 use Rattle.lft_syntax.specs.declared.fault.SyntaxFault.TheVariants as syntax
-use Rattle.lft_syntax.specs.Lexes.{Lexes, LexFails}
+use Rattle.lft_syntax.specs.Lexes.{Lexes}
 use Rattle.lft_syntax.specs.View.{lexemes}
 use Rattle.lft_tree.specs.Tree.{FileTree}
 use Rattle.lft_syntax.specs.Grammar.{Spells}
@@ -23,7 +21,7 @@ use Rattle.lft_trace.specs.Inputs.{ExternalInputs}
 use Rattle.lft_trace.specs.Records.{records_of}
 use Rattle.lft_trace.specs.ExternalTables.{ExternalTable}
 use Rattle.lft_model.specs.Plans.{PlanParts}
-use Rattle.lft_load.specs.Faults.{lex_number, syntax_number, graph_number, table_number, IsFault}
+use Rattle.lft_load.specs.Faults.{syntax_number, graph_number, table_number, IsFault}
 use Rattle.lft_graph.specs.Precedence.{HasNoLoop}
 use Rattle.lft_graph.specs.declared.fault.GraphFault.{GraphFault}
 use Rattle.lft_graph.specs.declared.fault.GraphFault.TheVariants as graph
@@ -37,16 +35,6 @@ use Rattle.lft_load.specs.declared.fault.Part.TheVariants as part
 -- a fault of this part and number tells something of the texts
 pub told_at : (p q : Part) (m n : ℕ) → p ≡ q → m ≡ n → is_of_text p m ≡ true → is_of_text q n ≡ true
 told_at p q m n e f t = subst (λ k. is_of_text q k ≡ true) f (subst (λ k. is_of_text k m ≡ true) e t)
-
--- a text without tokens has no tree
-pub lex_none : (text : List ℕ) (e : LexFault) → LexFails text e → is_of_text part.Lex (lex_number e) ≡ true → (tree : FileTree) → IsTreeOf text tree → ⊥
-lex_none text (lex.BadChar at) h t tree x = h.2 x.tokens x.lexed
-lex_none text lex.OpenComment h t tree x = h.2 x.tokens x.lexed
-lex_none text lex.OpenCode h t tree x = h.2 x.tokens x.lexed
-lex_none text lex.OpenString h t tree x = h.2 x.tokens x.lexed
-lex_none text (lex.NumberTooLarge at) h t tree x = h.2 x.tokens x.lexed
-lex_none text lex.TooLong h t tree x = let l : length text ≤ 1048576 = x.short in absurd (omega arith)
-lex_none text lex.NoMemory h t tree x = absurd (cc t)
 
 -- the tokens of a text are one list
 pub one_tree : (text : List ℕ) (tokens : List Token) → ((other : List Token) → Lexes text other → other ≡ tokens) → (tree : FileTree) → IsTreeOf text tree → Spells tree (lexemes text tokens)

@@ -1,7 +1,6 @@
 -- What the rows schedule for an action and the external inputs give it: whether there is an event, and how many there are.
-use Rattle.std.proofs.Common.{◌≡◌, ℕ, suc, ◌+◌, ◌≤◌, List, [], ◌∷◌, ◌++◌, length, length-append, take, refl, sym, ap, ◌∙◌, arith, add-one, true, false, Option, Some, None, IfSome, slice_get, filter_map, is_some}
+use Rattle.std.proofs.Common.{◌≡◌, ℕ, suc, ◌+◌, ◌≤◌, List, [], ◌∷◌, ◌++◌, length, length-append, take, refl, sym, ap, ◌∙◌, arith, true, false, Option, Some, None, IfSome, slice_get, filter_map, is_some}
 use Rattle.std.specs.List.{cons_option}
-use Rattle.std.proofs.lemmas.List.Elements.{filter_map-append}
 use Rattle.lft_tag.specs.declared.Tag.{Tag}
 use Rattle.lft_lists.proofs.Picked.{kept_more}
 use Rattle.lft_lists.proofs.Members.{mem_get, mem_filter, mem_contains, mem_left, mem_right}

@@ -6,8 +6,6 @@ use Rattle.lft_tag.specs.Tags.{same_tag}
 use Rattle.lft_lists.proofs.Members.{Mem, get_mem, mem_cases, mem_from_filter}
 use Rattle.lft_flat.proofs.Origins.{origin_within}
 use Rattle.lft_flat.specs.Parts.{Parts}
-use Rattle.lft_flat.specs.Origins.{Origin}
-use Rattle.lft_flat.specs.Origins.Origin.{itself, over}
 use Rattle.lft_flat.specs.declared.parts.Value.{Value}
 use Rattle.lft_flat.specs.declared.parts.Name.{Name}
 use Rattle.lft_flat.specs.declared.parts.Name.TheVariants.{Port, Action}
@@ -19,7 +17,6 @@ use Rattle.lft_trace.specs.Fits.{ExternalsFit, StepFits}
 use Rattle.lft_model.specs.Fitting.{EachFits}
 use Rattle.lft_model.specs.Plans.{PlanParts}
 use Rattle.lft_model.specs.Presence.{scheduled, given, min_delay, events_of, PortClash, ClashesAt, Collision}
-use Rattle.lft_model.proofs.Places.{slice_get_within}
 use Rattle.lft_model.proofs.Steps.{both_true, scheduled_some}
 use Rattle.lft_model.proofs.Ended.{Schedules, scheduled_by}
 use Rattle.std.proofs.NetLemmas.Options.{cond_some}

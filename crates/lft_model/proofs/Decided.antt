@@ -1,5 +1,5 @@
 -- What is present at a tag can be decided, and so can what is triggered and read there.
-use Rattle.std.proofs.Common.{◌≡◌, ℕ, suc, ◌+◌, ◌*◌, ◌<◌, ◌≤◌, inl, inr, List, [], ◌∷◌, length, refl, sym, ap, ◌∙◌, subst, arith, Option, Some, None, slice_get, filter_map}
+use Rattle.std.proofs.Common.{◌≡◌, ℕ, suc, ◌+◌, ◌*◌, ◌<◌, ◌≤◌, List, [], ◌∷◌, length, refl, sym, ap, ◌∙◌, subst, arith, Option, Some, None, slice_get, filter_map}
 use Rattle.std.specs.List.{last_or, AllZip}
 use Rattle.std.proofs.Math.Nat.{mul-le-mul_left}
 use Rattle.std.proofs.Math.IntN.{ℤ_discrete}
@@ -7,7 +7,7 @@ use native.Mathlib.Decide.{ℕ_discrete}
 use Rattle.lft_flat.proofs.Origins.{origin_unique}
 use Rattle.lft_tag.specs.declared.Tag.{Tag}
 use Rattle.lft_tag.specs.Tags.{after_all}
-use Rattle.lft_lists.proofs.Members.{Mem, mem_get, get_mem, last_mem, mem_from_filter, mem_contains, contains_mem}
+use Rattle.lft_lists.proofs.Members.{mem_get, get_mem, last_mem, mem_from_filter, mem_contains, contains_mem}
 use Rattle.lft_flat.specs.Parts.{Parts, inputs}
 use Rattle.lft_flat.specs.Sound.{IsSound}
 use Rattle.lft_flat.specs.Origins.{Origin}
@@ -33,19 +33,6 @@ value_discrete Bare Bare = yes refl
 value_discrete Bare (Int y) = no (λ e. cc)
 value_discrete (Int x) Bare = no (λ e. cc)
 value_discrete (Int x) (Int y) = dec_map (λ e. ap Int e) (λ e. cc) (ℤ_discrete x y)
-
-pub option_discrete : (o : Option Value) (v : Value) → Dec (o ≡ Some v)
-option_discrete None v = no (λ e. cc)
-option_discrete (Some w) v = dec_map (λ e. ap Some e) (λ e. cc) (value_discrete w v)
-
-pub dec_value : (v : Value) (xs : List Value) → Dec (Mem v xs)
-dec_value v [] = no (λ m. m)
-dec_value v (x ∷ xs) = go (value_discrete x v) (dec_value v xs)
-  where
-    go : Dec (x ≡ v) → Dec (Mem v xs) → Dec (Mem v (x ∷ xs))
-    go (yes e) d = yes (inl e)
-    go (no k) (yes m) = yes (inr m)
-    go (no k) (no l) = no (λ z. elim z [ inl e ↦ k e | inr m ↦ l m ])
 
 -- something of an item at a place
 pub dec_item : {X : Type 0} (xs : List X) (P : X → Type 0) → ((x : X) → Dec (P x)) → (i : ℕ) → Dec ((x : X) × (slice_get xs i ≡ Some x) × P x)

@@ -13,18 +13,6 @@ time_of g time e = (ap (λ (z : Tag). z.time) e, ap (λ (z : Tag). z.micro) e)
 abbrev pub firing : TimerOf → ℕ → ℕ
 firing timer k = timer.offset + k * timer.period
 
-pub fires_early : (timer : TimerOf) (g : Tag) → g.time < timer.offset → ¬ Fires timer g
-fires_early timer g l f = let e : g.time ≡ timer.offset + f.0 * timer.period = (time_of g (firing timer f.0) f.1).0 in omega arith
-
-pub fires_late : (timer : TimerOf) (g : Tag) → ¬ (g.micro ≡ 0) → ¬ Fires timer g
-fires_late timer g n f = n (time_of g (firing timer f.0) f.1).1
-
-pub fires_once : (timer : TimerOf) (g : Tag) → g.micro ≡ 0 → timer.period ≡ 0 → g.time ≡ timer.offset → Fires timer g
-fires_once timer g m p e = (0, tag_of (e ∙ omega arith) m, λ q. refl)
-
-pub once_fires : (timer : TimerOf) (g : Tag) → timer.period ≡ 0 → Fires timer g → g.time ≡ timer.offset
-once_fires timer g p f = (time_of g (firing timer f.0) f.1).0 ∙ ap (λ k. timer.offset + k * timer.period) (f.2 p) ∙ omega arith
-
 pub fires_again : (timer : TimerOf) (g : Tag) → g.micro ≡ 0 → timer.offset ≤ g.time → ¬ (timer.period ≡ 0) → (g.time - timer.offset) % timer.period ≡ 0 → Fires timer g
 fires_again timer g m l n e = (k, tag_of time m, λ q. absurd (n q))
   where

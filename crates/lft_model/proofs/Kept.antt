@@ -121,9 +121,6 @@ module _ (plan : PlanParts) (sound : IsSound plan.program) (t : List Row) (order
 
   -- the last write of port p at h, where it is by reaction a
   module _ (h : Tag) (p : ℕ) (v : Value) (l : LastAt (written h p) t v) where
-    writer : ℕ
-    writer = l.item.reaction
-
     pub is_write : (l.item.tag ≡ h) × (l.item.step ≡ Write (Port p) v)
     is_write = let r = written_by h p l.item v l.gives in (r.0, written_some p l.item.step v r.1)
 

@@ -90,21 +90,6 @@ filter_map_get {X} {Y} h (x ∷ xs) k y e = go (h x) refl k e (λ j q. filter_ma
     go (Some z) q zero e rest = record { place = 0; item = x; is_item = refl; gives = q ∙ e; before = refl }
     go (Some z) q (suc k) e rest = further h x xs k y z q (rest k e)
 
--- where an item that gives something goes
-pub record To {X Y : Type 0} (h : X → Option Y) (xs : List X) (i : ℕ) (y : Y) : Type 0 where
-  pub place : ℕ
-  pub is_there : slice_get (filter_map h xs) place ≡ Some y
-  pub before : take place (filter_map h xs) ≡ filter_map h (take i xs)
-
-pub filter_map_put : {X Y : Type 0} (h : X → Option Y) (xs : List X) (i : ℕ) (x : X) (y : Y) → slice_get xs i ≡ Some x → h x ≡ Some y → To h xs i y
-filter_map_put h [] i x y e p = absurd (cc)
-filter_map_put h (z ∷ zs) zero x y e p = let q : h z ≡ Some y = cc in record { place = 0; is_there = rw q refl; before = refl }
-filter_map_put {X} {Y} h (z ∷ zs) (suc i) x y e p = go (h z) refl (filter_map_put h zs i x y e p)
-  where
-    go : (o : Option Y) → h z ≡ o → To h zs i y → To h (z ∷ zs) (suc i) y
-    go None q f = record { place = f.place; is_there = rw q f.is_there; before = rw q f.before }
-    go (Some v) q f = record { place = suc f.place; is_there = rw q f.is_there; before = rw q (ap (λ ys. v ∷ ys) f.before) }
-
 -- equal tags and rows
 pub tag_discrete : (g h : Tag) → Dec (g ≡ h)
 tag_discrete g h = go (ℕ_discrete g.time h.time) (ℕ_discrete g.micro h.micro)

@@ -10,7 +10,7 @@ use Rattle.lft_trace.specs.declared.row.Row.{Row}
 use Rattle.lft_trace.specs.declared.row.Step.{Step}
 use Rattle.lft_trace.specs.declared.row.Step.TheVariants.{Start, Read, Write, Schedule, Stop, End}
 use Rattle.lft_model.specs.Plans.{PlanParts, IsSoundPlan}
-use Rattle.lft_model.specs.Presence.{stop, Triggered, Shows, Inputs, Collision}
+use Rattle.lft_model.specs.Presence.{stop, Triggered, Shows, Inputs}
 use Rattle.lft_model.specs.Runs.{Run, by_ends, rows_of}
 use Rattle.lft_model.specs.OneWorker.{HasRun, IsPending, rows}
 use Rattle.lft_model.specs.Recorded.{SoFar, IsAnswer, OnlyEndedAnswer}
@@ -19,7 +19,7 @@ use Rattle.lft_model.proofs.Ended.{ended_before, all_ended}
 use Rattle.lft_model.proofs.Law.{EndRow, end_of_run, run_of_end}
 use Rattle.lft_model.proofs.Reached.{all_stop}
 use Rattle.lft_model.proofs.Recording.{recorded_in_order}
-use Rattle.lft_model.proofs.Finished.{at_own, own_at, triggered_own, own_triggered, own_inputs, collision_own}
+use Rattle.lft_model.proofs.Finished.{at_own, own_at, triggered_own, own_triggered}
 
 module _ (plan : PlanParts) (good : IsSoundPlan plan) (t : List Row) (so_far : SoFar plan t) (quiet : OnlyEndedAnswer t) where
   told : (i : ℕ) (x : Row) → slice_get t i ≡ Some x → IsAnswer x.step → Inside t i x.tag x.reaction
@@ -63,14 +63,6 @@ module _ (plan : PlanParts) (good : IsSoundPlan plan) (t : List Row) (so_far : S
   -- what the rows show to a reaction the ended runs show to it
   pub inputs_to_ended : (g : Tag) (r : ℕ) (shown : List (Option Value)) → Inputs plan t g r shown → Inputs plan (rows plan (by_ends plan t)) g r shown
   inputs_to_ended g r shown o = subst (λ (l : List Run). Inputs plan (rows_of plan.program l) g r shown) (sym (all_ended plan t)) (record { reaction = o.reaction; is_reaction = o.is_reaction; each = all_to g (inputs o.reaction) shown o.each })
-
-  -- and the other way
-  pub inputs_from_ended : (g : Tag) (r : ℕ) (shown : List (Option Value)) → Inputs plan (rows plan (by_ends plan t)) g r shown → Inputs plan t g r shown
-  inputs_from_ended g r shown o = own_inputs plan good t in_order g r shown (subst (λ (l : List Run). Inputs plan (rows_of plan.program l) g r shown) (all_ended plan t) o)
-
-  -- the rows make no collision up to their stop
-  pub no_collision : (g : Tag) → UpTo g (stop plan t) → ¬ Collision plan t g
-  no_collision g u c = so_far.no_clash g (subst (λ (k : Tag). UpTo g k) (sym ended_stop) u) (collision_own plan good t in_order g c)
 
   -- a reaction is pending where the rows trigger it up to their stop, and no row ends it
   pub pending_now : (g : Tag) (r : ℕ) → UpTo g (stop plan t) → Triggered plan t g r → ¬ EndRow t (length t) g r → IsPending plan (by_ends plan t) g r

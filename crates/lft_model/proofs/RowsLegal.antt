@@ -51,21 +51,11 @@ module _ (plan : PlanParts) (good : IsSoundPlan plan) (l : List Run) (path : Pat
   abbrev all : List Row
   all = rows_of plan.program l
 
-  At : ℕ → Row → Type 0
-  At i x = Placed plan.program l i x
-
-  at : (i : ℕ) (x : Row) → slice_get all i ≡ Some x → At i x
-  unfolding At
-  at i x e = placed plan.program l i x e
-
   tag_is : (i : ℕ) (x : Row) (p : Placed plan.program l i x) → p.run.tag ≡ x.tag
   tag_is i x p = ap (λ (y : Row). y.tag) p.row_is
 
   reaction_is : (i : ℕ) (x : Row) (p : Placed plan.program l i x) → p.run.reaction ≡ x.reaction
   reaction_is i x p = ap (λ (y : Row). y.reaction) p.row_is
-
-  offset : ℕ → ℕ
-  offset k = length (rows_of plan.program (take k l))
 
   inside_block : (i : ℕ) (x : Row) (p : Placed plan.program l i x) → p.inner < length (steps_of_run plan.program p.run)
   inside_block i x p = slice_get_within (steps_of_run plan.program p.run) p.inner x.step p.is_step

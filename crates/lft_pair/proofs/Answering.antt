@@ -201,10 +201,6 @@ same_more mine theirs i x y p q e so_far = ap (λ (k : ℕ). take k mine) (add-o
 pub all_same : (mine theirs : List Step) (b : Bool) → request_of mine ≡ request_of theirs → SameWritten mine theirs → Decides b (SameScheduled mine theirs) → Decides b (SameAnswers mine theirs)
 all_same mine theirs b s w d = (λ t. record { stops = s; written = w; scheduled = d.0 t }, λ a. d.1 a.scheduled)
 
--- the same steps answer the same
-pub answers_refl : (mine theirs : List Step) → mine ≡ theirs → SameAnswers mine theirs
-answers_refl mine theirs e = record { stops = ap request_of e; written = λ p. ap (λ (l : List Step). last_to l p) e; scheduled = λ a. ap (λ (l : List Step). scheduled_for l a) e }
-
 -- what answers the same for each port and action does so for any effects
 pub same_effects : (effects : List Name) (mine theirs : List Step) → SameAnswers mine theirs → answer_of effects mine ≡ answer_of effects theirs
 same_effects effects mine theirs same = let o = each effects in let p : request_of mine ≡ request_of theirs = same.stops in cc

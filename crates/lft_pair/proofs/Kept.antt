@@ -1,12 +1,12 @@
 -- The last starts of the rows before a place, one row after another.
-use Rattle.std.proofs.Common.{◌≡◌, ℕ, ◌+◌, ◌<◌, ◌≤◌, ◌≢◌, ◌⊎◌, inl, inr, List, length, length-set, replicate, refl, sym, ap, ◌∙◌, subst, arith, Some, slice_get, slice_set, Bool, true, false}
+use Rattle.std.proofs.Common.{◌≡◌, ℕ, ◌+◌, ◌<◌, ◌≤◌, ◌≢◌, ◌⊎◌, inl, inr, List, length, length-set, refl, sym, ap, ◌∙◌, subst, arith, Some, slice_get, slice_set, Bool, true, false}
 use native.Mathlib.Decide.{ℕ_discrete, dec_lt}
 use Rattle.lft_tag.specs.declared.Tag.{Tag}
 use Rattle.lft_tag.specs.Tags.{Before, UpTo}
 use Rattle.lft_tag.proofs.Order.{Before-irrefl, Before-UpTo, UpTo_antisym, order_cases}
 use Rattle.lft_trace.specs.declared.row.Row.{Row}
 use Rattle.lft_trace.specs.declared.row.Step.TheVariants.{Start}
-use Rattle.lft_lists.proofs.Places.{get_same, get_write_cases}
+use Rattle.lft_lists.proofs.Places.{get_write_cases}
 use Rattle.lft_model.specs.Plans.{PlanParts}
 use Rattle.lft_model.specs.Breaches.{Legal}
 use Rattle.lft_model.specs.Runs.{start_row, Ran}
@@ -95,9 +95,6 @@ module _ (t : List Row) (i : ℕ) (row : Row) (is_row : slice_get t i ≡ Some r
   -- a row that starts a run is read
   pub read_start : row.step ≡ Start → row.reaction < n → now ≡ slice_set places row.reaction i → ReadTo t g n (i + 1) (i + 1) now
   read_start starts known e = record { at = refl; as_long = ap length e ∙ length-set places row.reaction i ∙ so_far.as_long; kept = subst (λ (zs : List ℕ). AreLastStarts t (i + 1) zs) (sym e) (starts_more t i row is_row places starts (let l = so_far.as_long in omega arith) kept_here); up_to = up_to_here }
-
-pub no_starts_yet : (n : ℕ) (t : List Row) → AreLastStarts t 0 (replicate n 0)
-no_starts_yet n t r p e = record { starts = inl (get_same n r 0 p e); last = λ j g l x. absurd (omega arith) }
 
 -- no row stands behind the last
 pub after_end : (t : List Row) (i : ℕ) (g : Tag) → length t ≤ i → AreAfter t i g

@@ -39,10 +39,6 @@ abbrev pub MeetsLaw : (ℕ → Tag → ℤ → List (Option Value) → Done → 
 MeetsLaw holds t states l = (k : ℕ) (u : Run) (words : ℤ × ℤ) → slice_get l k ≡ Some u → slice_get states k ≡ Some words → law_of holds u.reaction u.tag words.0 u.reads words.1 (answered_steps t u.tag u.reaction)
 
 module _ (holds : ℕ → Tag → ℤ → List (Option Value) → Done → Type 0) (plan : PlanParts) (good : IsSoundPlan plan) (t : List Row) (states : List (ℤ × ℤ)) (is : IsRecording holds plan t states) (w : ℕ) (g : Tag) (r : ℕ) (shown : List (Option Value)) (may : MayStart plan t g r) (reads : Inputs plan (rows plan (by_ends plan t)) g r shown) (idle : ¬ IsBusy t w) where
-  -- the rows with those of the run
-  abbrev more : List Row
-  more = t ++ begun_rows plan w g r shown
-
   early : UpTo g (stop plan t)
   early = pending_time plan good t is.so_far is.quiet g r may.ready.pending
 

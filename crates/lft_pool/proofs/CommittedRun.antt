@@ -44,10 +44,6 @@ zip_both (z ∷ xs) x [] y e = absurd (omega arith)
 zip_both (z ∷ xs) x (k ∷ ys) y e = ap (λ ps. (z, k) ∷ ps) (zip_both xs x ys y (omega arith))
 
 module _ (holds : ℕ → Tag → ℤ → List (Option Value) → Done → Type 0) (plan : PlanParts) (good : IsSoundPlan plan) (t : List Row) (states : List (ℤ × ℤ)) (is : IsRecording holds plan t states) (w : ℕ) (g : Tag) (r : ℕ) (open_run : IsOpen t (length t) w g r) (steps : List Step) (may : (s : Step) → Mem s steps → MayAnswer plan r s) where
-  -- the rows with those of the answer
-  abbrev more : List Row
-  more = t ++ committed_rows w g r steps
-
   kept : KeepsFour plan (t ++ committed_rows w g r steps)
   kept = committed_kept plan good t is.so_far w g r open_run steps may
 
@@ -175,9 +171,6 @@ module _ (holds : ℕ → Tag → ℤ → List (Option Value) → Done → Type 
 
   -- the words before and after, and the law
   module _ (before after : ℤ) (word_is : before ≡ word_after plan.program (instance_of plan.program r) (by_ends plan t) states) (lawful : holds r g before (reads_at plan t g r) (record { state = after; steps = steps })) where
-    abbrev its_run : Run
-    its_run = run_at plan (t ++ committed_rows w g r steps) g r
-
     follows : Follows plan (law_of holds) (t ++ committed_rows w g r steps) (states ++ (before, after) ∷ [])
     follows = record {
       one_each = length-append states ((before, after) ∷ []) ∙ ap (λ (n : ℕ). n + 1) is.follows.one_each ∙ sym (length-append (by_ends plan t) (run_at plan (t ++ committed_rows w g r steps) g r ∷ [])) ∙ ap length (sym ended_more);

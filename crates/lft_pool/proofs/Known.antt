@@ -1,5 +1,5 @@
 -- What is known of a recording's runs and of the names of its program.
-use Rattle.std.proofs.Common.{◌≡◌, ℕ, ◌<◌, ◌⊎◌, List, [], ◌∷◌, length, refl, ap, ◌∙◌, subst, arith, Option, Some, slice_get, ℤ, zero, suc, replicate}
+use Rattle.std.proofs.Common.{◌≡◌, ℕ, ◌<◌, ◌⊎◌, List, [], ◌∷◌, length, refl, ap, ◌∙◌, subst, arith, Option, Some, slice_get, ℤ}
 use Rattle.lft_tag.specs.declared.Tag.{Tag}
 use Rattle.lft_flat.specs.declared.parts.Value.{Value}
 use Rattle.lft_trace.specs.declared.row.Row.{Row}
@@ -49,9 +49,3 @@ empty_recording holds plan good = record {
   fit = record { few = omega arith; each = λ i x e. absurd (cc) };
   quiet = λ i x e a. absurd (cc);
 }
-
--- each of some equal items
-pub repeated : {X : Type 0} (n i : ℕ) (x : X) → i < n → slice_get (replicate n x) i ≡ Some x
-repeated zero i x l = absurd (omega arith)
-repeated (suc n) zero x l = refl
-repeated (suc n) (suc i) x l = repeated n i x (omega arith)

@@ -1,6 +1,6 @@
 //! The book: the state of a recording, changed by `begin` and `commit` alone.
 
-ghost use Rattle.std.specs.Prelude.{◌≡◌, ◌<◌, ◌+◌, ◌-◌, [], length, Some, None, Err, IfOk, IfErr, IfSome, IfNone, OnOk, IsOk, IsTrue, ◌↔◌, ◌≤◌, ◌⊎◌, slice_get};
+ghost use Rattle.std.specs.Prelude.{◌≡◌, ◌<◌, ◌+◌, ◌-◌, [], length, Some, None, Err, IfOk, IfErr, IfSome, IfNone, OnOk, IsOk, IsTrue, ◌↔◌, ◌≤◌, ◌⊎◌};
 ghost use Rattle.lft_model.specs.Plans.{PlanParts};
 ghost use Rattle.lft_model.specs.Breaches.{Legal};
 ghost use Rattle.lft_pool.specs.Books.{BookParts, IsRecording};
@@ -8,7 +8,6 @@ ghost use Rattle.lft_pool.specs.PendingEvents.{SamePending};
 ghost use Rattle.lft_pool.specs.Reasons.{ReasonHolds, StopHolds};
 ghost use Rattle.lft_pool.specs.Begun.{MatchBegin, Started};
 ghost use Rattle.lft_pool.specs.Causes.{BeginCause, StartCause};
-ghost use Rattle.lft_recording.specs.Collisions.{CollidesFirst, IsClean};
 ghost use Rattle.lft_pool.specs.Answers.{HasTicket, HasClash, KeepsOpenRuns, Committed, CommitCause, EndCause, RefusalCause};
 ghost use Rattle.lft_recording.specs.Starts.{IsAnyOpen, IsBusy, MayStartFirst, NoneMayStart, NothingLeft, SomethingLeft, started_count};
 
@@ -19,15 +18,10 @@ use crate::words::{is_same, no_words, set_word, word_at};
 use lft_agenda::{Agenda, NextRun};
 use lft_model::Plan;
 use lft_recording::{begun, committed, has_long_delay, may_make_all};
-use lft_tag::{NoMemory, Tag};
+use lft_tag::{MAX_ROWS, MAX_RUNS, NoMemory, Tag};
 use lft_trace::Rows;
 use std::alloc::Global;
 use std::marker::Model;
-
-/// The greatest number of runs of a recording.
-pub const MAX_RUNS: u32 = 1_000_000;
-/// The greatest number of rows of a recording.
-pub const MAX_ROWS: usize = 4_000_000;
 
 /// What a worker is to do next.
 #[derive(Drop)]
@@ -291,7 +285,7 @@ impl<L: Law, C: Code + Drop> Book<L, C> {
             self.reason = Some(reason);
             return Err(reason);
         }
-        let Ok(()) = self.states.push(state, word) else {
+        let Ok(()) = self.states.push((state, word)) else {
             self.rows.truncate(before);
             self.reason = Some(Stop::NoMemory);
             return Err(Stop::NoMemory);

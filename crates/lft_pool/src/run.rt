@@ -1,6 +1,6 @@
 //! Many workers over one book.
 
-ghost use Rattle.std.specs.Prelude.{◌≡◌, ◌≢◌, ◌↔◌, ◌⊎◌, ◌≤◌, [], length, IfOk, IfErr, IfNone, IfSome, IsTrue, true, false, Some, None, is_ok};
+ghost use Rattle.std.specs.Prelude.{◌≡◌, ◌≢◌, ◌↔◌, ◌⊎◌, ◌≤◌, [], length, IfOk, IfErr, IfNone, IfSome, true, false, Some, None, is_ok};
 ghost use Rattle.lft_model.specs.Breaches.{Legal};
 ghost use Rattle.lft_recording.specs.Starts.{SomethingLeft, started_count};
 ghost use Rattle.lft_pool.specs.Books.{IsRecording, LacksBody};
@@ -9,10 +9,11 @@ ghost use Rattle.lft_model.specs.Workers.{IsWorkers};
 ghost use Rattle.lft_pool.specs.Endings.{ReasonIs, WhyStopped};
 
 use crate::bodies::{Bodies, BoxedCode, Code, Law};
-use crate::book::{Begin, Book, Closed, MAX_RUNS, Stopped};
+use crate::book::{Begin, Book, Closed, Stopped};
 use crate::states::States;
 use crate::stop::Stop;
 use lft_model::{Plan, is_workers};
+use lft_tag::MAX_RUNS;
 use lft_trace::Rows;
 use std::alloc::Global;
 use std::sync::{Condvar, Mutex, Wait};

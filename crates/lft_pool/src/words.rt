@@ -1,6 +1,6 @@
 //! The state words of instances.
 
-ghost use Rattle.std.specs.Prelude.{◌≡◌, ◌↔◌, ◌<◌, IsTrue, ℤ, pos, length, Some, slice_get, slice_set, IfOk};
+ghost use Rattle.std.specs.Prelude.{◌≡◌, ◌↔◌, ◌<◌, IsTrue, pos, length, Some, slice_get, slice_set, IfOk};
 ghost use Rattle.lft_flat.specs.declared.parts.Reaction.{Reaction as ReactionOf};
 
 use lft_flat::Program;

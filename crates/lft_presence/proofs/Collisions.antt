@@ -101,21 +101,11 @@ below_more P n a b r h k e = least_as (λ g. ((p : ℕ) × (p < n) × P p g) ⊎
         go (yes q) = inr (subst (λ z. P z g) q x.2)
         go (no d) = let l : x.0 < n + 1 = x.1 in inl (x.0, omega arith, x.2)
 
-pub ports_begin : (plan : PlanParts) (t : List Row) → LeastTag (PortsClash plan t 0) None
-ports_begin plan t g x = let l : x.0 < 0 = x.1 in omega arith
-
 pub ports_more : (plan : PlanParts) (t : List Row) (n : ℕ) (a b r : Option Tag) → LeastTag (PortsClash plan t n) a → LeastTag (λ g. PortClash plan t g n) b → IsSooner a b r → LeastTag (PortsClash plan t (n + 1)) r
 ports_more plan t n a b r h k e = below_more (λ p g. PortClash plan t g p) n a b r h k e
 
-pub actions_begin : (plan : PlanParts) (t : List Row) → LeastTag (ActionsClash plan t 0) None
-actions_begin plan t g x = let l : x.0 < 0 = x.1 in omega arith
-
 pub actions_more : (plan : PlanParts) (t : List Row) (n : ℕ) (a b r : Option Tag) → LeastTag (ActionsClash plan t n) a → LeastTag (λ g. HasTwo plan t g n) b → IsSooner a b r → LeastTag (ActionsClash plan t (n + 1)) r
 actions_more plan t n a b r h k e = below_more (λ a g. HasTwo plan t g a) n a b r h k e
-
--- doubles, one port more
-pub doubles_begin : (causes : List Cause) → AreDoubles causes 0 []
-doubles_begin causes = record { as_long = refl; each = λ p o e. absurd (cc) }
 
 pub doubles_more : (causes : List Cause) (n : ℕ) (doubles : List (Option Cause)) (o : Option Cause) → IsFirstPair causes true n o → AreDoubles causes n doubles → AreDoubles causes (n + 1) (doubles ++ o ∷ [])
 doubles_more causes n doubles o h d = record { as_long = length-append doubles (o ∷ []) ∙ ap (λ k. k + 1) d.as_long; each = λ p x e. each p x (get_push_cases doubles o p x e) }

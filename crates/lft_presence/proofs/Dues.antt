@@ -14,9 +14,6 @@ pub record AreDueTo (cut : TraceParts) (g : Tag) (n : ℕ) (due : List ℕ) : Ty
   pub below : (k a : ℕ) → slice_get due k ≡ Some a → a < n
   pub each : (a : ℕ) → a < n → Triggered cut.plan cut.rows g a → (k : ℕ) × (slice_get due k ≡ Some a)
 
-pub due_begins : (cut : TraceParts) (g : Tag) → AreDueTo cut g 0 []
-due_begins cut g = record { ascending = λ j k a b l p q. absurd (cc); triggered = λ k a e. absurd (cc); below = λ k a e. absurd (cc); each = λ a l x. absurd (omega arith) }
-
 module _ (cut : TraceParts) (g : Tag) (n : ℕ) (due : List ℕ) (so_far : AreDueTo cut g n due) where
   pub due_stays : ¬ Triggered cut.plan cut.rows g n → AreDueTo cut g (n + 1) due
   due_stays d = record { ascending = so_far.ascending; triggered = so_far.triggered; below = λ k a e. let l : a < n = so_far.below k a e in omega arith; each = λ a l x. go a l x (ℕ_discrete a n) }

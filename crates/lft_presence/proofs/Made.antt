@@ -59,9 +59,6 @@ just_more P Q cs x h to here new from = record { only = λ k c e. only c (get_pu
 abbrev pub IsRowCauseTo : Parts → List Row → ℕ → Cause → Type 0
 IsRowCauseTo program t i c = (x : IsRowCause program t c) × (x.place < i)
 
-pub rows_begin : (program : Parts) (t : List Row) → HasJust (IsRowCauseTo program t 0) []
-rows_begin program t = record { only = λ k c e. absurd (cc); once = λ j k c d e. absurd (cc); each = λ c x. let l : x.0.place < 0 = x.1 in absurd (omega arith) }
-
 module _ (program : Parts) (t : List Row) (i : ℕ) (row : Row) (is_row : slice_get t i ≡ Some row) where
   -- a cause up to this row is this row or one before it
   last : (o : Option Cause) → o ≡ step_cause program row.tag i row.step → (c : Cause) → IsRowCauseTo program t (i + 1) c → IsRowCauseTo program t i c ⊎ (o ≡ Some c)

@@ -6,7 +6,7 @@ use Rattle.lft_tag.specs.Tags.{Before, UpTo}
 use Rattle.lft_tag.specs.Shifts.{Folded, shifted}
 use Rattle.lft_tag.proofs.Order.{UpTo-Before, UpTo-refl, Before-weaken, order_cases, UpTo_antisym}
 use Rattle.lft_presence.specs.declared.causes.Cause.{Cause}
-use Rattle.lft_presence.specs.Causes.{tag_of, ComesUpTo, AreAscending, LiesBelow, IsPosition}
+use Rattle.lft_presence.specs.Causes.{tag_of, ComesUpTo, AreAscending, LiesBelow}
 
 -- a shift keeps the order of tags
 pub shifted_mono : (g h : Tag) (s : Folded) → UpTo g h → UpTo (shifted g s) (shifted h s)
@@ -46,16 +46,6 @@ pub same_cause : (causes : List Cause) (i j : ℕ) (x y : Cause) → i ≡ j →
 same_cause causes i j x y e p q = let a : Some x ≡ Some y = sym p ∙ ap (λ k. slice_get causes k) e ∙ q in cc
 
 module _ (causes : List Cause) (up : AreAscending causes) (name : ℕ) (s : Folded) (g : Tag) (past : Bool) (low high middle : ℕ) (h : IsBetween causes name s g past low high) (c : Cause) (is_cause : slice_get causes middle ≡ Some c) (l : low ≤ middle) (m : middle < high) where
-  pub raise : LiesBelow name s g past c → IsBetween causes name s g past (middle + 1) high
-  raise b = record { order = omega arith; within = h.within; below = below; rest = h.rest }
-    where
-      below : (k : ℕ) (x : Cause) → k < middle + 1 → slice_get causes k ≡ Some x → LiesBelow name s g past x
-      below k x n e = go (ℕ_discrete k middle)
-        where
-          go : Dec (k ≡ middle) → LiesBelow name s g past x
-          go (yes q) = subst (λ z. LiesBelow name s g past z) (sym (same_cause causes k middle x c q e is_cause)) b
-          go (no d) = let a : k < middle = omega arith in below_down name s g past x c (up k middle x c a e is_cause) b
-
   pub lower : ¬ LiesBelow name s g past c → IsBetween causes name s g past low middle
   lower n = record { order = l; within = let w : high ≤ length causes = h.within in omega arith; below = h.below; rest = rest }
     where
@@ -65,6 +55,3 @@ module _ (causes : List Cause) (up : AreAscending causes) (name : ℕ) (s : Fold
           go : Dec (k ≡ middle) → ¬ LiesBelow name s g past x
           go (yes q) = subst (λ z. ¬ LiesBelow name s g past z) (sym (same_cause causes k middle x c q e is_cause)) n
           go (no f) = λ b. let a : middle < k = omega arith in n (below_down name s g past c x (up middle k c x a is_cause e) b)
-
-pub closed : (causes : List Cause) (name : ℕ) (s : Folded) (g : Tag) (past : Bool) (low high : ℕ) → ¬ (low < high) → IsBetween causes name s g past low high → IsPosition causes name s g past low
-closed causes name s g past low high n h = record { within = let a : high ≤ length causes = h.within in let b : low ≤ high = h.order in omega arith; below = h.below; rest = λ k c l e. let b : low ≤ high = h.order in h.rest k c (omega arith) e }

@@ -109,13 +109,6 @@ pub event_there : (plan : PlanParts) (t : List Row) (c : Cause) → IsCause plan
 event_there plan t c (inl x) n = let l : x.place < length t = slice_get_within t x.place x.row x.is_row in let e : c.place ≡ x.place = step_place plan.program x.row.tag x.place x.row.step c x.gives in absurd (n (omega arith))
 event_there plan t c (inr x) n = x
 
-pub event_within : (plan : PlanParts) (t : List Row) (c : Cause) → IsCause plan t c → ¬ (c.place < length t) → c.place - length t < length plan.externals.events
-event_within plan t c i n =
-    let x = event_there plan t c i n in
-    let e : c.place ≡ length t + x.place = event_place plan.program (length t + x.place) x.event c x.gives in
-    let l : x.place < length plan.externals.events = slice_get_within plan.externals.events x.place x.event x.is_event in
-    omega arith
-
 -- what a step that is a cause does
 step_writes : (program : Parts) (g : Tag) (i : ℕ) (s : Step) (c : Cause) (p : ℕ) (v : Value) → p < length program.ports → step_cause program g i s ≡ Some c → c.name ≡ p → value_of s ≡ Some v → (tag_of c ≡ g) × (value_written p s ≡ Some v)
 step_writes program g i Start c p v l e q f = absurd (cc)
@@ -293,9 +286,6 @@ module _ (plan : PlanParts) (t : List Row) (g : Tag) (p : ℕ) (port : PortOf) (
 
 -- the event of an action
 module _ (plan : PlanParts) (t : List Row) (fit : RowsFit plan.program t) (g : Tag) (a : ℕ) where
-  min : ℕ
-  min = min_delay plan.program a
-
   pub given_there : (event : Event) (v : Value) → g ≡ event.tag → a ≡ event.action → event.value ≡ v → given g a event ≡ Some v
   given_there event v e q w = ap (λ b. cond b (Some event.value) None) (and_from (same_tag g event.tag) (a == event.action) (same_tag_refl g event.tag e) (eq-eqb a event.action q)) ∙ ap Some w
 

@@ -4,7 +4,7 @@ use Rattle.std.proofs.lemmas.Bool.{cases_lt, cases_eq}
 use Rattle.lft_scope.proofs.Effects.{no_duplicate}
 use Rattle.lft_lists.proofs.Mapped.{mapped}
 use Rattle.lft_lists.proofs.Places.{get_right, get_left}
-use Rattle.lft_tree.specs.Tree.{FileTree, ReactorTree, PortTree, TimerTree, ActionTree, ConnectionTree, reactors_of, connections_of, ports_of, timers_of, actions_of, instances_of}
+use Rattle.lft_tree.specs.Tree.{FileTree, ReactorTree, PortTree, ConnectionTree, reactors_of, connections_of, ports_of, timers_of, actions_of, instances_of}
 use Rattle.lft_scope.specs.Causes.{IsTwice, NoneHolds, DuplicateName, DeclaresTwice, UnknownName, WrongPlace, TwoSources, WritesTwice, WidthMismatch, DiffersInWidth, later_causes}
 use Rattle.lft_scope.specs.Kinds.{names_in, destinations_in}
 use Rattle.lft_scope.proofs.Twice.{Any-at}
@@ -52,17 +52,6 @@ module _ (tree : FileTree) (lawful : IsLawful tree) (k : ℕ) (r : ReactorTree) 
       (get_left (parameters ++ ports ++ timers) actions (length parameters + m) z.name
       (get_left (parameters ++ ports) timers (length parameters + m) z.name
       (get_right parameters ports m ∙ mapped (λ x. x.name) (ports_of r) m z e))))
-
-  pub timers_once : (i j : ℕ) (x y : TimerTree) → slice_get (timers_of r) i ≡ Some x → slice_get (timers_of r) j ≡ Some y → x.name ≡ y.name → i ≡ j
-  timers_once = once_among (λ x. x.name) (timers_of r) (names_in r) (length (parameters ++ ports)) names_once (λ m z e.
-      get_left (parameters ++ ports ++ timers ++ actions) instances (length (parameters ++ ports) + m) z.name
-      (get_left (parameters ++ ports ++ timers) actions (length (parameters ++ ports) + m) z.name
-      (get_right (parameters ++ ports) timers m ∙ mapped (λ x. x.name) (timers_of r) m z e)))
-
-  pub actions_once : (i j : ℕ) (x y : ActionTree) → slice_get (actions_of r) i ≡ Some x → slice_get (actions_of r) j ≡ Some y → x.name ≡ y.name → i ≡ j
-  actions_once = once_among (λ x. x.name) (actions_of r) (names_in r) (length (parameters ++ ports ++ timers)) names_once (λ m z e.
-      get_left (parameters ++ ports ++ timers ++ actions) instances (length (parameters ++ ports ++ timers) + m) z.name
-      (get_right (parameters ++ ports ++ timers) actions m ∙ mapped (λ x. x.name) (actions_of r) m z e))
 
   -- the two lists of a connection are as long as each other
   pub even : (c : ℕ) (con : ConnectionTree) → slice_get (connections_of r) c ≡ Some con → length con.sources ≡ length con.destinations

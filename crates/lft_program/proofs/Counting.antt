@@ -1,8 +1,6 @@
 -- The number of a declaration: those of the instances before it, and its place.
-use Rattle.std.proofs.Common.{◌≡◌, ℕ, zero, suc, ◌+◌, List, [], ◌∷◌, ◌++◌, length, refl, sym, ap, ◌∙◌, subst, arith, Some, slice_get, flat_map}
+use Rattle.std.proofs.Common.{◌≡◌, ℕ, zero, suc, ◌+◌, List, [], ◌∷◌, ◌++◌, length, sym, ap, ◌∙◌, subst, arith, Some, slice_get, flat_map}
 use Rattle.std.specs.List.{enumerate_from}
-use Rattle.std.proofs.lemmas.List.FromFn.{length-enumerate_from}
-use Rattle.std.proofs.lemmas.List.{length-map}
 use Rattle.lft_lists.proofs.Mapped.{mapped, enumerate_at}
 use Rattle.lft_lists.proofs.Places.{get_right, get_left}
 use Rattle.lft_tree.specs.Tree.{ReactorTree}
@@ -33,15 +31,3 @@ declared_at {X} kind instances n k l x e f =
     flat_at (declared_in kind) (enumerate_from 0 instances) n k (n, l) (record { instance = n; located = l; place = k; item = x })
     (a ∙ ap (λ w. Some (w, l)) z)
     (mapped P (enumerate_from 0 (kind l.inside.reactor)) k (k, x) (b ∙ ap (λ w. Some (w, x)) y))
-
--- the code's numbers: each instance begins where the one before it ends
-total_next : {X Y : Type 0} (f : X → List Y) (xs : List X) (n : ℕ) (x : X) → slice_get xs n ≡ Some x → total f (suc n) xs ≡ total f n xs + length (f x)
-total_next f [] n x e = absurd (cc)
-total_next f (z ∷ xs) zero x e = let q : z ≡ x = cc in let r : length (f z) ≡ length (f x) = ap (λ w. length (f w)) q in let s : total f 1 (z ∷ xs) ≡ length (f z) + 0 = refl in omega arith
-total_next f (z ∷ xs) (suc n) x e = let a : total f (suc n) xs ≡ total f n xs + length (f x) = total_next f xs n x e in let s : total f (suc (suc n)) (z ∷ xs) ≡ length (f z) + total f (suc n) xs = refl in let t : total f (suc n) (z ∷ xs) ≡ length (f z) + total f n xs = refl in omega arith
-
-pub base_next : {X : Type 0} (kind : ReactorTree → List X) (instances : List Located) (n : ℕ) (l : Located) → slice_get instances n ≡ Some l → base kind instances (suc n) ≡ base kind instances n + length (kind l.inside.reactor)
-base_next kind instances n l e =
-    let z : 0 + n ≡ n = omega arith in
-    total_next (declared_in kind) (enumerate_from 0 instances) n (n, l) (enumerate_at 0 instances n l e ∙ ap (λ w. Some (w, l)) z)
-    ∙ ap (λ w. base kind instances n + w) (length-map (enumerate_from 0 (kind l.inside.reactor)) _ ∙ length-enumerate_from 0 (kind l.inside.reactor))

@@ -4,7 +4,7 @@ use Rattle.std.proofs.lemmas.Option.{slice_get_within}
 use Rattle.lft_lists.proofs.Places.{get_there}
 use Rattle.lft_tree.specs.Tree.{FileTree}
 use Rattle.lft_instances.specs.Sources.{Leads, one, more}
-use Rattle.lft_instances.specs.declared.origins.Source.{Source}
+use Rattle.lft_tag.specs.declared.Source.{Source}
 use Rattle.lft_scope.specs.Causes.{ConnectionCycle}
 use Rattle.lft_scope.specs.Instances.{Thing, Chain, one as one_step, more as more_steps}
 use Rattle.lft_program.proofs.Connected.{TreeSources}

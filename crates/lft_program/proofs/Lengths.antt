@@ -7,7 +7,7 @@ use Rattle.lft_tree.specs.Tree.{FileTree, reactors_of}
 use Rattle.lft_tag.specs.Shifts.{join_all, none}
 use Rattle.lft_tag.specs.declared.Shift.{Shift}
 use Rattle.lft_instances.specs.Sources.{Origin, itself, over, IsFolded, IsReached, AreReached}
-use Rattle.lft_instances.specs.declared.origins.Source.{Source}
+use Rattle.lft_tag.specs.declared.Source.{Source}
 use Rattle.lft_instances.specs.declared.origins.Reached.{Reached}
 use Rattle.lft_instances.proofs.Folding.{time_sum}
 use Rattle.lft_scope.specs.Causes.{DelayTooLong, HasLongChain, HasLongTime}

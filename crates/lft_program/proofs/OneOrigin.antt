@@ -10,7 +10,7 @@ use Rattle.lft_flat.specs.Origins.{Origin, itself, over}
 use Rattle.lft_flat.specs.Parts.{Parts}
 use Rattle.lft_flat.specs.Sound.{KeepsOrigins}
 use Rattle.lft_flat.specs.declared.parts.Port.{Port as PortOf}
-use Rattle.lft_flat.specs.declared.parts.Source.{Source}
+use Rattle.lft_tag.specs.declared.Source.{Source}
 
 -- a shift is known by its time and steps
 same_shift : (s t : Shift) → s.time ≡ t.time → s.steps ≡ t.steps → s ≡ t

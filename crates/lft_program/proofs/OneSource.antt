@@ -17,13 +17,13 @@ use Rattle.lft_scope.proofs.Effects.{port_found}
 use Rattle.lft_scope.proofs.Placing.{find-place}
 use Rattle.lft_scope.proofs.Twice.{Any-at}
 use Rattle.lft_reactors.proofs.Written.{own_written, inner_written}
-use Rattle.lft_program.specs.Located.{Located, AreLocated, Declared}
+use Rattle.lft_program.specs.Located.{Located, AreLocated, Declared, ports_in}
 use Rattle.lft_program.specs.Tables.{IsLawful}
 use Rattle.lft_program.proofs.Counting.{total, flat_at}
 use Rattle.lft_program.proofs.Listing.{Stands}
 use Rattle.lft_program.proofs.Zipping.{then_some}
-use Rattle.lft_program.specs.Flattening.{IsSource}
-use Rattle.lft_flat.specs.declared.parts.Source.{Source}
+use Rattle.lft_program.specs.Links.{IsSource}
+use Rattle.lft_tag.specs.declared.Source.{Source}
 use Rattle.lft_program.proofs.OneInstances.{InFile, in_file, one_inside, inside_at}
 use Rattle.lft_program.proofs.OneThing.{once_at, right_at, one_port}
 use Rattle.lft_program.proofs.Standing.{StandsInner, stands_inner, stands_once}
@@ -180,7 +180,7 @@ module _ (tree : FileTree) (lawful : IsLawful tree) (all : List Located) (are : 
     one_connection : (a b : Thing) (d e : Option ℕ) → Connects tree a target d → Connects tree b target e → (a ≡ b) × (d ≡ e)
     one_connection a b d e c h = one_of_one a b target d e c h (same_path c.path h.path (leads a d c) (leads b e h))
 
-    pub one_source : (x y : Option Source) → IsSource tree all target x → IsSource tree all target y → x ≡ y
+    pub one_source : (x y : Option Source) → IsSource tree (ports_in all) target x → IsSource tree (ports_in all) target y → x ≡ y
     one_source None None v w = refl
     one_source None (Some s) v (from, at, joins) = absurd (v from s.delay joins)
     one_source (Some s) None (from, at, joins) w = absurd (w from s.delay joins)

@@ -9,7 +9,6 @@ use Rattle.lft_instances.specs.declared.numbering.Thing.{Thing}
 use Rattle.lft_program.specs.declared.nesting.linking.Linked.{Linked}
 use Rattle.lft_program.specs.declared.nesting.nest.Nest.{Nest}
 use Rattle.lft_program.specs.declared.nesting.tables.Tables.{Tables}
-use Rattle.lft_program.specs.Laying.{source_of}
 use Rattle.lft_program.specs.OfTree.{AreOfTree}
 use Rattle.lft_flat.specs.Origins.{Origin, itself, over}
 use Rattle.lft_flat.specs.Parts.{Parts}
@@ -20,17 +19,17 @@ use Rattle.lft_program.proofs.PortsLaid.{IsLinkedPort}
 
 -- each link has a port of its number with its source
 abbrev pub HaveSources : List Linked → Parts → Type 0
-HaveSources links program = (p : ℕ) (l : Linked) → slice_get links p ≡ Some l → (port : PortOf) × (slice_get program.ports p ≡ Some port) × (port.source ≡ source_of l.source)
+HaveSources links program = (p : ℕ) (l : Linked) → slice_get links p ≡ Some l → (port : PortOf) × (slice_get program.ports p ≡ Some port) × (port.source ≡ l.source)
 
 chain_is : (links : List Linked) (program : Parts) → HaveSources links program → (p o : ℕ) (delays : List ℕ) → OriginBefore (map (λ l. l.source) links) p o delays → Origin program p o delays
 chain_is links program have p _ _ (itself_before at) =
     let l = mapped_from (λ (l : Linked). l.source) links p None at in
     let port = have p l.0 l.1 in
-    itself port.0 port.1 (port.2 ∙ ap source_of l.2)
+    itself port.0 port.1 (port.2 ∙ l.2)
 chain_is links program have p o delays (over_before source first at rest is) =
     let l = mapped_from (λ (l : Linked). l.source) links p (Some source) at in
     let port = have p l.0 l.1 in
-    over port.0 (record { port = source.port; delay = source.delay }) first port.1 (port.2 ∙ ap source_of l.2) (chain_is links program have source.port o first rest) is
+    over port.0 source first port.1 (port.2 ∙ l.2) (chain_is links program have source.port o first rest) is
 
 module _ (tree : FileTree) (tables : Tables) (nest : Nest) (links : List Linked) (of : AreOfTree tree tables nest links) (things : List Thing) (ports : List PortOf) (as_long : length links ≡ length things) (long : length ports ≡ length things) (made : Made (IsLinkedPort tables nest links) things ports) where
   -- the link of a port
@@ -46,7 +45,7 @@ module _ (tree : FileTree) (tables : Tables) (nest : Nest) (links : List Linked)
       let port = get_there ports p within in
       let link = linked p port.0 port.1 in
       let is : link.1.0 ≡ l = (let e : Some link.1.0 ≡ Some l = sym link.1.1 ∙ at in cc) in
-      (port.0, ap (λ ps. slice_get ps p) same ∙ port.1, link.1.2.source ∙ ap (λ k. source_of k.source) is)
+      (port.0, ap (λ ps. slice_get ps p) same ∙ port.1, link.1.2.source ∙ ap (λ k. k.source) is)
 
   pub keeps_origins : (program : Parts) → program.ports ≡ ports → KeepsOrigins program
   keeps_origins program same p port at =

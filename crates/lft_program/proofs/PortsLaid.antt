@@ -1,32 +1,27 @@
 -- What the tables and the links of a tree have for a port of it.
-use Rattle.std.proofs.Common.{◌≡◌, ◌<◌, ℕ, Bool, List, Option, Some, None, length, slice_get, sym, subst, ap, ◌∙◌}
+use Rattle.std.proofs.Common.{◌≡◌, ◌<◌, ℕ, Bool, List, Some, length, slice_get, sym, subst, ap, ◌∙◌}
 use Rattle.std.specs.Option.{option_and_then}
 use Rattle.std.specs.List.{AllZip}
 use Rattle.std.proofs.lemmas.List.{length-map}
 use Rattle.lft_lists.proofs.Mapped.{mapped}
 use Rattle.lft_tree.specs.Tree.{FileTree, PortTree, ports_of}
 use Rattle.lft_instances.specs.declared.numbering.Thing.{Thing}
-use Rattle.lft_instances.specs.declared.origins.Source.{Source as Before}
 use Rattle.lft_scope.specs.Instances.{Thing as Spoken, thing_at}
 use Rattle.lft_reactors.specs.Sheets.{IsDeclarations}
-use Rattle.lft_program.specs.Links.{IsSource as IsSourceBefore}
-use Rattle.lft_program.specs.Located.{Located, Declared, declared, ports_in}
+use Rattle.lft_program.specs.Links.{IsSource}
+use Rattle.lft_program.specs.Located.{Declared, declared, ports_in}
 use Rattle.lft_program.specs.Nests.{IsThingOf}
 use Rattle.lft_program.specs.declared.nesting.linking.Linked.{Linked}
 use Rattle.lft_program.specs.declared.nesting.nest.Nest.{Nest}
 use Rattle.lft_program.specs.declared.nesting.tables.Tables.{Tables}
 use Rattle.lft_program.proofs.Declared.{declared_from}
-use Rattle.lft_program.specs.Flattening.{IsPort, IsSource}
-use Rattle.lft_program.specs.Laying.{IsPortAt, input_at, source_of}
+use Rattle.lft_program.specs.Flattening.{IsPort}
+use Rattle.lft_program.specs.Laying.{IsPortAt, input_at}
 use Rattle.lft_program.specs.OfTree.{AreOfTree}
 use Rattle.lft_flat.specs.declared.parts.Port.{Port as PortOf}
 use Rattle.lft_program.proofs.LaidOut.{row_there}
 use Rattle.lft_program.proofs.Making.{Made, made_zip}
 use Rattle.lft_program.proofs.Zips.{AllZip-from, AllZip-length}
-
-source_is : (tree : FileTree) (all : List Located) (t : Spoken) (s : Option Before) → IsSourceBefore tree (ports_in all) t s → IsSource tree all t (source_of s)
-source_is tree all t None is = is
-source_is tree all t (Some s) is = is
 
 -- the port is the one of its number's link
 abbrev pub IsLinkedPort : Tables → Nest → List Linked → ℕ → Thing → PortOf → Type 0
@@ -51,7 +46,7 @@ module _ (tree : FileTree) (tables : Tables) (nest : Nest) (links : List Linked)
         record {
           instance = made.2.instance ∙ same.0;
           direction = (cc);
-          source = subst (IsSource tree of.is_nest.located (name d)) (sym made.2.source) (source_is tree of.is_nest.located (name d) made.0.source source);
+          source = subst (IsSource tree (ports_in of.is_nest.located) (name d)) (sym made.2.source) source;
         }
 
   module _ (things : List Thing) (all : AllZip IsThingOf (declared ports_of of.is_nest.located) things) where

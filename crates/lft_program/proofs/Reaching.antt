@@ -7,7 +7,7 @@ use Rattle.lft_lists.proofs.Places.{get_there, get_push_cases}
 use Rattle.lft_tree.specs.Tree.{FileTree}
 use Rattle.lft_tag.specs.declared.Shift.{Shift}
 use Rattle.lft_instances.specs.Sources.{AreReached, Leads, Origin}
-use Rattle.lft_instances.specs.declared.origins.Source.{Source}
+use Rattle.lft_tag.specs.declared.Source.{Source}
 use Rattle.lft_instances.specs.declared.origins.Reached.{Reached}
 use Rattle.lft_scope.specs.Causes.{DelayTooLong as HasLongDelay, IsFirst, NoneHolds}
 use Rattle.lft_scope.specs.Instances.{Thing, Connects}

@@ -4,13 +4,13 @@ use Rattle.std.specs.List.{AllZip}
 use Rattle.std.specs.Fmt.{decimal}
 use Rattle.lft_tree.specs.Tree.{FileTree, ReactorTree, PortTree, ActionTree, TimerTree, ReactionTree, TimeTree, RefTree, TriggerTree, AtStartup, AtShutdown, OnRef, instances_of, ports_of, actions_of, timers_of, reactions_of}
 use Rattle.lft_scope.specs.Causes.{NoneHolds, causes}
-use Rattle.lft_scope.specs.Instances.{Inside, time_in, entered, main_instance, Thing, thing_at, stands_for, Connects}
+use Rattle.lft_scope.specs.Instances.{Inside, time_in, entered, main_instance, Thing, thing_at, stands_for}
 use Rattle.lft_reactors.specs.Sheets.{without_timers}
+use Rattle.lft_program.specs.Links.{IsSource}
 use Rattle.lft_program.specs.Located.{Located, AreLocated, Declared, declared, ports_in, actions_in, timers_in}
 use Rattle.lft_flat.specs.Names.{ThingNames}
 use Rattle.lft_flat.specs.Parts.{Parts}
 use Rattle.lft_flat.specs.Sound.{KeepsOrigins}
-use Rattle.lft_flat.specs.declared.parts.Source.{Source}
 use Rattle.lft_flat.specs.declared.parts.Port.{Port as PortOf}
 use Rattle.lft_flat.specs.declared.parts.Action.{Action as ActionOf}
 use Rattle.lft_flat.specs.declared.parts.Timer.{Timer as TimerOf}
@@ -47,16 +47,11 @@ IsTrigger all at (OnRef ref) (On n) = IsName all at ref n
 
 -- ---- parts
 
--- the source of a thing among the ports: what a connection joins to it with its delay, or none where no connection leads into it
-abbrev pub IsSource : FileTree → List Located → Thing → Option Source → Type 0
-IsSource tree all t None = (from : Thing) (delay : Option ℕ) → Connects tree from t delay → ⊥
-IsSource tree all t (Some s) = (from : Thing) × (slice_get (ports_in all) s.port ≡ Some from) × Connects tree from t s.delay
-
 -- the port that an instance declares
 pub record IsPort (tree : FileTree) (all : List Located) (d : Declared PortTree) (port : PortOf) : Type 0 where
   pub instance : port.instance ≡ d.instance
   pub direction : port.is_input ≡ d.item.is_input
-  pub source : IsSource tree all (thing_at d.located.path d.item.name) port.source
+  pub source : IsSource tree (ports_in all) (thing_at d.located.path d.item.name) port.source
 
 -- the action that an instance declares
 pub record IsAction (d : Declared ActionTree) (action : ActionOf) : Type 0 where

@@ -1,9 +1,8 @@
 -- Parts by number, as they are read from the tables, the nest and the links. The contracts of the crate's own functions alone need this file.
-use Rattle.std.specs.Prelude.{◌≡◌, ℕ, ◌≤◌, Bool, List, [], Option, Some, None, slice_get, unwrap_or, option_map, option_and_then}
+use Rattle.std.specs.Prelude.{◌≡◌, ℕ, ◌≤◌, Bool, List, [], Option, Some, slice_get, unwrap_or, option_map, option_and_then}
 use Rattle.std.specs.List.{AllZip}
 use Rattle.lft_instances.specs.Joins.{port_at, port_of}
 use Rattle.lft_instances.specs.Values.{clock_in}
-use Rattle.lft_instances.specs.declared.origins.Source.{Source as Before}
 use Rattle.lft_instances.specs.declared.numbering.Thing.{Thing}
 use Rattle.lft_instances.specs.declared.settings.Clock.{Clock}
 use Rattle.lft_reactors.specs.declared.sheets.ActionSheet.{ActionSheet}
@@ -22,7 +21,6 @@ use Rattle.lft_flat.specs.declared.parts.Name.{Name}
 use Rattle.lft_flat.specs.declared.parts.Name.TheVariants.{Port, Action}
 use Rattle.lft_flat.specs.declared.parts.Port.{Port as PortOf}
 use Rattle.lft_flat.specs.declared.parts.Reaction.{Reaction}
-use Rattle.lft_flat.specs.declared.parts.Source.{Source}
 use Rattle.lft_flat.specs.declared.parts.Timer.{Timer as TimerOf}
 use Rattle.lft_flat.specs.declared.parts.Trigger.{Trigger}
 use Rattle.lft_flat.specs.declared.parts.Trigger.TheVariants.{Startup, Shutdown, Timer, On}
@@ -54,11 +52,6 @@ cues_at tables nest thing = option_and_then (λ x. slice_get x.reactions.items t
 -- what a clock is in instance n
 abbrev pub clock_at : Nest → ℕ → Clock → ℕ
 clock_at nest n clock = clock_in (unwrap_or (slice_get nest.values n) []) clock
-
--- the source of a port, as parts have it
-abbrev pub source_of : Option Before → Option Source
-source_of None = None
-source_of (Some s) = Some (record { port = s.port; delay = s.delay })
 
 -- the port or action that a spot is in instance n
 abbrev pub name_at : Nest → ℕ → Spot → Option Name
@@ -112,7 +105,7 @@ AreTriggers nest n cues triggers = AllZip (λ c t. trigger_at nest n c ≡ Some 
 pub record IsPortAt (tables : Tables) (nest : Nest) (link : Linked) (thing : Thing) (port : PortOf) : Type 0 where
   pub instance : port.instance ≡ thing.instance
   pub direction : input_at tables nest thing ≡ Some port.is_input
-  pub source : port.source ≡ source_of link.source
+  pub source : port.source ≡ link.source
   pub origin : port.origin ≡ link.origin
   pub shift : port.shift ≡ link.shift
 

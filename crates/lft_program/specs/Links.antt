@@ -3,7 +3,7 @@ use Rattle.std.specs.Prelude.{◌≡◌, ℕ, List, [], ◌∷◌, Option, Some,
 use Rattle.lft_tree.specs.Tree.{FileTree}
 use Rattle.lft_tag.specs.Shifts.{join_all, none}
 use Rattle.lft_instances.specs.Sources.{Origin}
-use Rattle.lft_instances.specs.declared.origins.Source.{Source}
+use Rattle.lft_tag.specs.declared.Source.{Source}
 use Rattle.lft_scope.specs.Causes.{ConnectionCycle as HasCycle, DelayTooLong as HasLongDelay}
 use Rattle.lft_scope.specs.Instances.{Thing, Connects}
 use Rattle.lft_program.specs.Located.{Located, ports_in}

@@ -3,8 +3,7 @@
 ghost use Rattle.std.specs.Prelude.{◌≡◌, ◌≢◌, IfOk, IfErr, OnOk};
 ghost use Rattle.lft_tree.specs.View.{tree_view};
 ghost use Rattle.lft_scope.specs.Causes.{IsFirst, NoneHolds, causes};
-ghost use Rattle.lft_program.specs.Nests.{IsNest};
-ghost use Rattle.lft_program.specs.Tables.{AreTables, IsLawful};
+ghost use Rattle.lft_program.specs.Tables.{AreTables};
 ghost use Rattle.lft_program.specs.Faults.{number_of, reactor_causes};
 ghost use Rattle.lft_program.specs.Flattening.{Flat, IsFlatOf};
 ghost use Rattle.lft_flat.specs.Parts.{Parts};

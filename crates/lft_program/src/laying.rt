@@ -6,7 +6,7 @@ ghost use Rattle.std.specs.List.{AllZip};
 ghost use Rattle.lft_tree.specs.Tree.{FileTree, ports_of, timers_of, actions_of, reactions_of};
 ghost use Rattle.lft_program.specs.Located.{declared};
 ghost use Rattle.lft_program.specs.Flattening.{IsPort, IsTimer, IsAction, IsReaction};
-ghost use Rattle.lft_program.specs.Laying.{HasCues, IsActionAt, IsPortAt, IsReactionAt, IsTimerAt, action_at, cues_at, declarations_at, input_at, source_of, timer_at};
+ghost use Rattle.lft_program.specs.Laying.{HasCues, IsActionAt, IsPortAt, IsReactionAt, IsTimerAt, action_at, cues_at, declarations_at, input_at, timer_at};
 ghost use Rattle.lft_program.specs.OfTree.{AreOfTree};
 ghost use Rattle.lft_flat.specs.Parts.{Parts};
 ghost use Rattle.lft_flat.specs.Sound.{KeepsOrigins};
@@ -17,7 +17,7 @@ ghost use Rattle.lft_reactors.specs.declared.sheets.TimerSheet.{TimerSheet};
 
 use crate::nesting::{Linked, Nest, Tables};
 use crate::spots;
-use lft_flat::{Action, Port, Reaction, Source, Timer};
+use lft_flat::{Action, Port, Reaction, Timer};
 use lft_instances::Thing;
 use lft_reactors::{Cues, Declarations};
 use lft_tag::NoMemory;
@@ -32,20 +32,6 @@ fn declarations_of<'a>(tables: &'a Tables, nest: &Nest, instance: u32) -> &'a De
     &tables.declarations[reactor as usize]
 }
 
-// the source of a port, as parts have it: the flat program stands below flattening, and so has a
-// type of its own for it
-fn source(link: &Linked) -> Option<Source>
-    ensures { result ≡ source_of link.now.source }
-{
-    match link.source {
-        Some(before) => Some(Source {
-            port: before.port,
-            delay: before.delay,
-        }),
-        None => None,
-    }
-}
-
 fn port(tables: &Tables, nest: &Nest, link: &Linked, thing: Thing) -> Port
     requires { (is_input : Bool) × (input_at tables.now nest.now thing ≡ Some is_input) }
     ensures { IsPortAt tables.now nest.now link.now thing result }
@@ -54,7 +40,7 @@ fn port(tables: &Tables, nest: &Nest, link: &Linked, thing: Thing) -> Port
     Port {
         instance: thing.instance,
         is_input: declarations.inputs[thing.place as usize],
-        source: source(link),
+        source: link.source,
         origin: link.origin,
         shift: link.shift,
     }

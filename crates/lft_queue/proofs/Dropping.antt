@@ -18,10 +18,6 @@ use Rattle.lft_queue.specs.Keys.{Key, tag_of, pending_at, key_cmp}
 use Rattle.lft_queue.proofs.Entries.{follows}
 use Rattle.lft_queue.proofs.Tests.{test_before, not_before}
 
--- one that isn't after the tag doesn't stay
-pub first_dropped : (g : Tag) (e : Key × Value) (es : List (Key × Value)) → ¬ Before g (tag_of e.0) → filter (λ x. is_after g x) (map pending_at (e ∷ es)) ≡ filter (λ x. is_after g x) (map pending_at es)
-first_dropped g e es n = ap (λ (b : Bool). cond b (pending_at e ∷ filter (λ x. is_after g x) (map pending_at es)) (filter (λ x. is_after g x) (map pending_at es))) (not_before g (tag_of e.0) n)
-
 -- where the first is after it, all stay
 pub all_kept : (g : Tag) (es : List (Key × Value)) (k : Key) (v : Value) → slice_get es 0 ≡ Some (k, v) → IsStrictlySortedBy key_cmp (keys_of es) → Before g (tag_of k) → map pending_at es ≡ filter (λ x. is_after g x) (map pending_at es)
 unfolding IsStrictlySortedBy

@@ -11,12 +11,12 @@ use Rattle.std.proofs.lemmas.Bool.Decides.{nat_tests}
 use Rattle.std.proofs.lemmas.List.Kept.{IsStrictlySortedBy-filter}
 use Rattle.lft_tag.specs.declared.Tag.{Tag}
 use Rattle.lft_tag.specs.Tags.{Before, UpTo, same_tag}
-use Rattle.lft_tag.proofs.Order.{Before-UpTo, same_tag_refl}
+use Rattle.lft_tag.proofs.Order.{Before-UpTo}
 use Rattle.lft_flat.specs.declared.parts.Value.{Value}
 use Rattle.lft_flat.specs.declared.parts.Name.{Name}
 use Rattle.lft_flat.specs.declared.parts.Name.TheVariants.{Port}
 use Rattle.lft_queue.specs.Pending.{Pending, same_name, value_of, is_at, names_at}
-use Rattle.lft_queue.specs.Keys.{Key, key_of, tag_of, name_of, pending_at, key_cmp, AreFrom}
+use Rattle.lft_queue.specs.Keys.{Key, key_of, tag_of, pending_at, key_cmp, AreFrom}
 use Rattle.lft_queue.proofs.Entries.{follows, equal_up}
 use Rattle.lft_queue.proofs.Tests.{name_same, name_refl, tag_apart, past}
 
@@ -130,10 +130,6 @@ module _ (g : Tag) (k : Key) (v : Value) (es : List (Key × Value)) (are : AreFr
   pub rest_from : AreFrom g es
   unfolding IsStrictlySortedBy
   rest_from = record { ordered = are.ordered.1; from = are.from.1 }
-
-  -- at the tag
-  pub first_named : g ≡ tag_of k → names_at g (map pending_at ((k, v) ∷ es)) ≡ name_of k.2 k.3 ∷ names_at g (map pending_at es)
-  first_named e = ap (λ (b : Bool). map (λ (x : Pending). x.name) (cond b (pending_at (k, v) ∷ filter (is_at g) (map pending_at es)) (filter (is_at g) (map pending_at es)))) (same_tag_refl g (tag_of k) e)
 
   -- or after it, as all others are then
   pub none_named : ¬ (g ≡ tag_of k) → (names_at g (map pending_at ((k, v) ∷ es)) ≡ []) × (names_at g (map pending_at es) ≡ [])

@@ -1,6 +1,6 @@
 //! Tags and names as keys of an ordered map.
 
-ghost use Rattle.std.specs.Prelude.{◌≡◌, ◌↔◌, IsTrue};
+ghost use Rattle.std.specs.Prelude.{◌≡◌, ◌↔◌};
 ghost use Rattle.lft_queue.specs.Keys.{key_of, tag_of, name_of};
 
 use lft_flat::Name;

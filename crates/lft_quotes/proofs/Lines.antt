@@ -1,5 +1,5 @@
 -- The lines of quotes, one after another.
-use Rattle.std.proofs.Common.{◌≡◌, ℕ, suc, ◌+◌, ◌≤◌, List, [], ◌++◌, length, drop, add-one, append-nil, append_assoc, sym, ap, ◌∙◌, Option, Some, slice_get}
+use Rattle.std.proofs.Common.{◌≡◌, ℕ, suc, ◌+◌, ◌≤◌, List, ◌++◌, length, drop, add-one, append-nil, append_assoc, sym, ap, ◌∙◌, Option, Some, slice_get}
 use Rattle.std.proofs.lemmas.List.{drop_all}
 use Rattle.lft_flat.specs.Parts.{Parts}
 use Rattle.lft_trace.specs.declared.row.Row.{Row}

@@ -1,6 +1,5 @@
 -- A quote in its place among others.
-use Rattle.std.proofs.Common.{◌≡◌, ℕ, suc, ◌+◌, ◌<◌, ◌≤◌, List, [], ◌∷◌, ◌++◌, length, take, take_all, drop, take-append-drop, add-one, append_assoc, sym, ap, ◌∙◌, arith, Some, slice_get}
-use Rattle.std.proofs.lemmas.List.{drop_all}
+use Rattle.std.proofs.Common.{◌≡◌, ℕ, suc, ◌+◌, ◌<◌, ◌≤◌, List, [], ◌∷◌, ◌++◌, take, drop, take-append-drop, add-one, append_assoc, sym, ap, ◌∙◌, arith, Some, slice_get}
 use Rattle.std.proofs.lemmas.Bool.Decides.{nat_tests}
 use Rattle.lft_lists.proofs.Picked.{take_next}
 use Rattle.lft_quotes.specs.declared.marks.Quote.{Quote}
@@ -25,13 +24,6 @@ passed_more xs q x i e l so_far =
     ∙ sym (append_assoc (take i xs) (x ∷ []) (inserted (drop (suc i) xs) q))
     ∙ ap (λ zs. zs ++ inserted (drop (suc i) xs) q) (sym (take_next xs i x e))
     ∙ ap (λ n. take n xs ++ inserted (drop n xs) q) (sym (add-one i))
-
--- the quote goes behind all
-pub goes_last : (xs : List Quote) (q : Quote) (i : ℕ) → length xs ≤ i → inserted xs q ≡ take i xs ++ inserted (drop i xs) q → xs ++ q ∷ [] ≡ inserted xs q
-goes_last xs q i l passed =
-    ap (λ zs. zs ++ q ∷ []) (sym (take_all i xs l))
-    ∙ sym (ap (λ zs. take i xs ++ inserted zs q) (drop_all i xs l))
-    ∙ sym passed
 
 -- the quote goes before one of a greater row
 pub goes_before : (xs : List Quote) (q x : Quote) (i : ℕ) → slice_get xs i ≡ Some x → q.row < x.row → inserted xs q ≡ take i xs ++ inserted (drop i xs) q → take i xs ++ q ∷ drop i xs ≡ inserted xs q

@@ -1,5 +1,5 @@
 -- The text of quoted rows.
-use Rattle.std.specs.Prelude.{ℕ, zero, suc, ◌+◌, max, List, [], ◌∷◌, ◌++◌, Bool, true, false, length, Option, Some, None, slice_get, option_map, unwrap_or, nat_lt, nat_le, if◌then◌else◌, fold, codes, decimal}
+use Rattle.std.specs.Prelude.{ℕ, ◌+◌, max, List, [], ◌∷◌, ◌++◌, Bool, false, length, Option, Some, None, slice_get, option_map, unwrap_or, nat_lt, nat_le, if◌then◌else◌, fold, codes, decimal}
 use Rattle.std.specs.List.{join_with_byte}
 use Rattle.lft_flat.specs.Parts.{Parts}
 use Rattle.lft_trace.specs.declared.row.Row.{Row}

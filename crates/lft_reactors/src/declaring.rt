@@ -1,9 +1,9 @@
 //! What reactors declare, by number.
 
-ghost use Rattle.std.specs.Prelude.{◌≡◌, List, map, flat_map, option_to_list, Any, IfOk};
+ghost use Rattle.std.specs.Prelude.{◌≡◌, map, flat_map, option_to_list, Any, IfOk};
 ghost use Rattle.std.specs.List.{AllZip};
 ghost use Rattle.lft_tree.specs.Tree.{ReactorTree, reactors_of};
-ghost use Rattle.lft_tree.specs.View.{action_view, reactor_view, timer_view, tree_view};
+ghost use Rattle.lft_tree.specs.View.{reactor_view, tree_view};
 ghost use Rattle.lft_scope.specs.Causes.{NoneHolds, first_causes, later_causes};
 ghost use Rattle.lft_scope.specs.Kinds.{timer_times};
 ghost use Rattle.lft_reactors.specs.Lacking.{LacksPlace, TimeLacksPlace};

@@ -5,8 +5,9 @@ ghost use Rattle.std.specs.Thread.{IsSync};
 ghost use Rattle.lft_reading.specs.Parts.{HoldsRows, rows_of};
 
 use crate::lines::cut_behind;
-use crate::workers::{MAX_ROWS, read_parts};
+use crate::workers::read_parts;
 use lft_flat::Program;
+use lft_tag::MAX_ROWS;
 use lft_trace::Row;
 use std::alloc::Global;
 use std::thread::{Threads, join};
@@ -74,7 +75,7 @@ fn put_together(rows: Vec<Row>, parts: Vec<Vec<Row>>) -> Option<Vec<Row>>
             return None;
         }
     }
-    if all.len() > MAX_ROWS as usize {
+    if all.len() > MAX_ROWS {
         return None;
     }
     Some(all)

@@ -1,18 +1,16 @@
 //! The rows of a text without a header, read in parts beside each other.
 
-ghost use Rattle.std.specs.Prelude.{◌≡◌, ◌≤◌, ◌++◌, length, IfSome, false};
+ghost use Rattle.std.specs.Prelude.{◌≡◌, ◌≤◌, ◌++◌, IfSome, false};
 ghost use Rattle.std.specs.Thread.{IsSync};
 ghost use Rattle.lft_reading.specs.Parts.{HoldsRows, rows_of};
 
 use crate::lines::cut_behind;
 use lft_flat::Program;
+use lft_tag::MAX_ROWS;
 use lft_trace::{Row, read_part};
 use memchr::memchr;
 use std::alloc::Global;
 use std::thread::{Threads, join};
-
-/// The greatest number of rows of a table.
-pub(crate) const MAX_ROWS: u32 = 4_000_000;
 
 /// Texts of fewer bytes are read in one part: of them a thread costs more than it brings.
 const SHORT: usize = 1 << 20;
@@ -73,7 +71,7 @@ fn read_plain(alloc: Global, program: &Program, text: &[u8]) -> Option<Vec<Row>>
     if memchr(b'"', text).is_some() {
         return None;
     }
-    read_part(alloc, program, text, MAX_ROWS)
+    read_part(alloc, program, text, MAX_ROWS as u32)
 }
 
 // The rows as the only part.

@@ -1,6 +1,6 @@
 -- What one more record does to a table of cards.
-use Rattle.std.proofs.Common.{◌≡◌, ◌≢◌, ◌∙◌, inl, inr, ◌⊎◌, ◌+◌, ◌<◌, ◌≤◌, ◌==◌, ◌++◌, ℕ, List, [], ◌∷◌, length, Option, Some, None, Bool, true, false, filter_map, get_or, slice_get, refl, sym, ap, subst, arith, append_assoc, append-nil, length-append}
-use Rattle.std.specs.Prelude.{cond, not, is_some, option_to_list}
+use Rattle.std.proofs.Common.{◌≡◌, ◌≢◌, ◌∙◌, inl, inr, ◌⊎◌, ◌+◌, ◌<◌, ◌≤◌, ◌==◌, ◌++◌, ℕ, List, [], ◌∷◌, length, Option, Some, None, Bool, true, false, filter_map, get_or, slice_get, refl, sym, ap, arith, append_assoc, append-nil, length-append}
+use Rattle.std.specs.Prelude.{not, is_some, option_to_list}
 use Rattle.std.specs.List.{All, AllZip}
 use Rattle.std.proofs.lemmas.Bool.{cases_Bool}
 use Rattle.std.proofs.lemmas.Bool.Decides.{nat_tests}
@@ -161,19 +161,6 @@ refused program records rest scripts now line f card r small is within a =
       within = let k = r.here in omega (arith, k);
       is = (sym r.here, card, is, again);
     }))
-
-pub past : (program : Parts) (records rest : Texts) (scripts : List Script) (line : ℕ) (f : List (List ℕ)) → Gathered program records scripts (f ∷ rest) line → line ≡ 4000002 → CardsFail program records fault.TooManyRows
-past program records rest scripts line f r e = inr (inr (
-  refl,
-  record {
-    first = r.first;
-    next = f;
-    more = rest;
-    cards = r.cards;
-    begins = begins program records (f ∷ rest) scripts line r;
-    full = let h = r.here in omega (arith, h, e);
-  },
-))
 
 pub ended : (program : Parts) (records : Texts) (scripts : List Script) (line : ℕ) → Gathered program records scripts [] line → line ≤ 4000002 → CardTable program records scripts
 ended program records scripts line r small = record {

@@ -1,13 +1,11 @@
 -- Records have one table of cards, or a fault.
-use Rattle.std.proofs.Common.{◌≡◌, ◌≢◌, ◌∙◌, inl, inr, ◌⊎◌, ◌+◌, ◌<◌, ◌≤◌, ◌==◌, ◌++◌, ℕ, zero, suc, List, [], ◌∷◌, length, Option, Some, None, filter_map, get_or, slice_get, refl, sym, ap, subst, arith, length-append, true}
+use Rattle.std.proofs.Common.{◌≡◌, ◌≢◌, ◌∙◌, inl, inr, ◌⊎◌, ◌+◌, ◌<◌, ◌≤◌, ◌==◌, ◌++◌, ℕ, zero, suc, List, [], ◌∷◌, length, Option, Some, None, filter_map, get_or, slice_get, refl, sym, ap, arith, length-append}
 use Rattle.std.specs.Prelude.{option_to_list}
 use Rattle.std.specs.List.{AllZip}
-use Rattle.std.proofs.lemmas.Bool.Decides.{nat_tests}
 use Rattle.std.proofs.lemmas.List.Elements.{filter_map-append}
 use Rattle.std.proofs.lemmas.Option.{slice_get-get_or, slice_get_within}
 use Rattle.lft_flat.specs.Parts.{Parts}
 use Rattle.lft_flat.specs.Sound.{IsSound}
-use Rattle.lft_flat.specs.declared.found.Found.TheVariants as found
 use Rattle.lft_trace.proofs.Zips.{Parted, long, parted, same, same_rest}
 use Rattle.lft_record.specs.CardTables.{AreTold, CardTable, CardsFail, FailsAt, FaultAt, HasTooMany, IsCard, IsScript, entries_of, entry_bodies, entry_of, entry_state, header}
 use Rattle.lft_record.specs.Scripts.{blank}
@@ -16,7 +14,7 @@ use Rattle.lft_record.specs.declared.cards.card.CardEntry.{CardEntry}
 use Rattle.lft_record.specs.declared.cards.Script.{Script}
 use Rattle.lft_record.specs.declared.cards.fault.CardFault.{CardFault}
 use Rattle.lft_record.specs.declared.cards.fault.CardFault.TheVariants as fault
-use Rattle.lft_record.proofs.CardFacts.{Texts, entries_more, is_own}
+use Rattle.lft_record.proofs.CardFacts.{Texts, is_own}
 use Rattle.lft_record.proofs.CardsDiffer.{count_there, empty_there, kind_there, name_there, number_there, one_card, value_there}
 
 same_cards : (program : Parts) (rest : Texts) (a b : List Card) → IsSound program → AllZip (IsCard program) rest a → AllZip (IsCard program) rest b → a ≡ b

@@ -1,5 +1,5 @@
 -- Sums that wrap on the way are the sum that wraps at the end.
-use Rattle.std.proofs.Common.{◌≡◌, ◌∙◌, ◌+◌, ◌%◌, ◌<◌, ◌^◌, add-one, FitsSigned, ℕ, ℤ, pos, List, [], ◌∷◌, ◌++◌, map, take, Some, slice_get, refl, sym, ap, arith}
+use Rattle.std.proofs.Common.{◌≡◌, ◌∙◌, ◌+◌, ◌%◌, ◌<◌, ◌^◌, add-one, FitsSigned, ℕ, ℤ, pos, List, [], ◌∷◌, ◌++◌, map, take, Some, slice_get, sym, ap}
 use Rattle.std.specs.Prelude.{◌+ℤ◌}
 use Rattle.std.proofs.Math.IntN.{+ℤ_assoc, +ℤ_comm}
 use Rattle.std.proofs.Math.Nat.{mod-eq_of_lt}

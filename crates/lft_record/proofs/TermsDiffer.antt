@@ -8,7 +8,6 @@ use Rattle.lft_flat.specs.Names.{AreDistinct}
 use Rattle.lft_flat.specs.Parts.{Parts, inputs}
 use Rattle.lft_flat.specs.Sound.{IsSound}
 use Rattle.lft_flat.specs.declared.parts.Name.{Name}
-use Rattle.lft_flat.specs.declared.parts.Reaction.{Reaction}
 use Rattle.lft_flat.specs.declared.parts.Value.TheVariants.{Int}
 use Rattle.lft_trace.specs.Traces.{IsThing, thing}
 use Rattle.lft_trace.proofs.RowsDiffer.{same_thing}

@@ -1,14 +1,10 @@
 -- The rows of a run that is begun, as they are pushed.
-use Rattle.std.proofs.Common.{◌≡◌, ℕ, zero, suc, ◌+◌, ◌<◌, List, [], ◌∷◌, ◌++◌, add-one, length, take, map, refl, sym, ap, ◌∙◌, arith, Option, Some, None, slice_get, filter_map, zip, get_or}
+use Rattle.std.proofs.Common.{◌≡◌, ℕ, zero, suc, ◌+◌, ◌<◌, List, [], ◌∷◌, ◌++◌, add-one, length, take, map, sym, ap, ◌∙◌, arith, Option, Some, slice_get, filter_map, zip, get_or}
 use Rattle.std.proofs.lemmas.List.{map-append}
 use Rattle.std.proofs.lemmas.List.Elements.{filter_map-append}
 use Rattle.lft_tag.specs.declared.Tag.{Tag}
-use Rattle.lft_flat.proofs.Naming.{named_none}
 use Rattle.lft_flat.specs.declared.parts.Value.{Value}
 use Rattle.lft_flat.specs.declared.parts.Name.{Name}
-use Rattle.lft_flat.specs.Naming.{named}
-use Rattle.lft_flat.specs.declared.parts.Trigger.{Trigger}
-use Rattle.lft_flat.specs.declared.parts.Trigger.TheVariants.{Startup, Shutdown, Timer, On}
 use Rattle.lft_trace.specs.declared.row.Step.TheVariants.{Start}
 use Rattle.lft_model.specs.Runs.{read_step}
 use Rattle.lft_model.specs.Recorded.{run_row}

@@ -9,13 +9,5 @@ use lft_flat::Value;
 pub fn same_reads(a: &[Option<Value>], b: &[Option<Value>]) -> bool
     ensures { Decides result (a.now ≡ b.now) }
 {
-    if a.len() != b.len() {
-        return false;
-    }
-    for i in 0..a.len() {
-        if a[i] != b[i] {
-            return false;
-        }
-    }
-    true
+    a == b
 }

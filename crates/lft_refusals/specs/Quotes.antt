@@ -1,5 +1,5 @@
 -- The words of a place of a text, and of the line that is quoted with a mark below it.
-use Rattle.std.specs.Prelude.{ℕ, ◌-◌, ◌==◌, ◌&&◌, not, if◌then◌else◌, nat_lt, nat_eq, List, [], ◌∷◌, ◌++◌, Option, Some, None, length, take, slice_range, count_by, flat_map, replicate, min, max, chars, codes, decimal}
+use Rattle.std.specs.Prelude.{ℕ, ◌-◌, ◌==◌, ◌&&◌, not, if◌then◌else◌, nat_lt, List, [], ◌∷◌, ◌++◌, Option, Some, None, length, take, slice_range, count_by, flat_map, replicate, min, max, chars, codes, decimal}
 use Rattle.std.specs.Char.{is_control, is_ascii_whitespace, encode_utf8}
 use Rattle.std.specs.List.{suffix_len}
 use Rattle.std.specs.Str.Lossy.{utf8_lossy}

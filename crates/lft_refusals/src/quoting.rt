@@ -1,6 +1,6 @@
 //! A place of a program's text for people: its line and column, and the line with a mark.
 
-ghost use Rattle.std.specs.Prelude.{◌≡◌, ◌≤◌, ◌++◌, OnOk, length, min, slice_range, string_bytes};
+ghost use Rattle.std.specs.Prelude.{◌≡◌, ◌≤◌, ◌++◌, OnOk, length, min, string_bytes};
 ghost use Rattle.lft_refusals.specs.Places.{IsPlace};
 ghost use Rattle.lft_refusals.specs.Quotes.{blank_margin, blanks_below, margin, marked_line, marks, place_words, quoted, trimmed};
 

@@ -1,10 +1,10 @@
 //! Why a table is refused, for people.
 
-ghost use Rattle.std.specs.Prelude.{◌≡◌, ◌++◌, [], ℕ, List, Some, false, ◌⊎◌, IfOk, IfSome, OnOk, codes, string_bytes};
+ghost use Rattle.std.specs.Prelude.{◌≡◌, ◌++◌, [], ℕ, Some, false, ◌⊎◌, IfOk, IfSome, OnOk, codes, string_bytes};
 ghost use Rattle.csv.specs.Records.{fields_of};
 ghost use Rattle.lft_trace.specs.Faults.{is_told};
 ghost use Rattle.lft_trace.specs.Records.{records_of};
-ghost use Rattle.lft_refusals.specs.Tables.{HasRecord, IsWrong, IsWrongIn, IsWrongThere, NamesField, field_line, field_words, line_words, word_of};
+ghost use Rattle.lft_refusals.specs.Tables.{IsWrong, IsWrongIn, IsWrongThere, NamesField, field_line, field_words, line_words, word_of};
 
 use crate::fields::{
     Wrong, filled_of_externals, filled_of_trace, name_of_externals, name_of_trace,

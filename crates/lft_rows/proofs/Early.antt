@@ -3,20 +3,11 @@ use Rattle.std.proofs.Common.{◌≡◌, ℕ, ◌+◌, ◌<◌, ◌≤◌, ◌�
 use native.Mathlib.Decide.{ℕ_discrete}
 use Rattle.lft_tag.specs.declared.Tag.{Tag}
 use Rattle.lft_tag.specs.Tags.{Before, UpTo}
-use Rattle.lft_tag.proofs.Order.{UpTo-refl, UpTo-trans, UpTo_antisym, UpTo-not}
+use Rattle.lft_tag.proofs.Order.{UpTo-refl, UpTo-trans}
 use Rattle.lft_trace.specs.declared.row.Row.{Row}
-use Rattle.lft_model.specs.Plans.{PlanParts}
 use Rattle.lft_model.specs.Runs.{start_row}
-use Rattle.lft_model.specs.Breaches.{IsLate, IsOutOfOrder, IsUndeclared, BreaksRowUntil, WasStarted}
+use Rattle.lft_model.specs.Breaches.{IsLate}
 use Rattle.lft_rows.specs.Passes.{IsLatest, LastStart}
-
--- none of the rules below a limit is broken
-pub none_below : (stop : Tag) (plan : PlanParts) (t : List Row) (i : ℕ) (row : Row) (limit : ℕ) → limit ≤ 5 → (1 < limit → ¬ IsLate t i row) → (2 < limit → ¬ Before stop row.tag) → (3 < limit → ¬ IsOutOfOrder t i row row.step) → (4 < limit → ¬ IsUndeclared plan.program t i row row.step) → (k : ℕ) → k < limit → ¬ BreaksRowUntil stop plan t i row k
-none_below stop plan t i row limit le n1 n2 n3 n4 k l (inl (e, b)) = n1 (omega arith) b
-none_below stop plan t i row limit le n1 n2 n3 n4 k l (inr (inl (e, b))) = n2 (omega arith) b
-none_below stop plan t i row limit le n1 n2 n3 n4 k l (inr (inr (inl (e, b)))) = n3 (omega arith) b
-none_below stop plan t i row limit le n1 n2 n3 n4 k l (inr (inr (inr (inl (e, b))))) = n4 (omega arith) b
-none_below stop plan t i row limit le n1 n2 n3 n4 k l (inr (inr (inr (inr (e, b))))) = absurd (omega arith)
 
 -- rule 1 by the latest tag
 pub late_of : (t : List Row) (i : ℕ) (row : Row) (last : Tag) → IsLatest t i last → Before row.tag last → IsLate t i row
@@ -25,9 +16,6 @@ late_of t i row last h b = go h.is_one
     go : ((j : ℕ) × (x : Row) × (j < i) × (slice_get t j ≡ Some x) × (x.tag ≡ last)) ⊎ (last ≡ record { time = 0; micro = 0 }) → IsLate t i row
     go (inl (j, x, l, e, q)) = (j, x, l, e, subst (λ z. Before row.tag z) (sym q) b)
     go (inr q) = let z : Before row.tag (record { time = 0; micro = 0 }) = subst (λ z. Before row.tag z) q b in absurd (omega arith)
-
-pub not_late_of : (t : List Row) (i : ℕ) (row : Row) (last : Tag) → IsLatest t i last → UpTo last row.tag → ¬ IsLate t i row
-not_late_of t i row last h u (j, x, l, e, b) = UpTo-not x.tag row.tag (UpTo-trans x.tag last row.tag (h.each j x l e) u) b
 
 pub latest_more : (t : List Row) (i : ℕ) (row : Row) (last : Tag) → IsLatest t i last → slice_get t i ≡ Some row → UpTo last row.tag → IsLatest t (i + 1) row.tag
 latest_more t i row last h e u = record { each = λ j x l q. go j x l q (ℕ_discrete j i); is_one = inl (i, row, omega arith, e, refl) }
@@ -38,19 +26,6 @@ latest_more t i row last h e u = record { each = λ j x l q. go j x l q (ℕ_dis
 
 pub latest_none : (t : List Row) → IsLatest t 0 (record { time = 0; micro = 0 })
 latest_none t = record { each = λ j x l q. absurd (omega arith); is_one = inr refl }
-
--- whether the reaction was started at the tag, by its last start
-pub started_by : (t : List Row) (i r : ℕ) (g last : Tag) → LastStart t i r (Some last) → last ≡ g → WasStarted t i g r
-started_by t i r g last h e = (h.0.0, h.0.1, h.0.2, h.0.3 ∙ ap (λ z. Some (start_row h.0.1 z r)) e)
-
-pub started_at : (t : List Row) (i r : ℕ) (g top last : Tag) → IsLatest t i top → UpTo top g → LastStart t i r (Some last) → WasStarted t i g r → last ≡ g
-started_at t i r g top last m u h s =
-    let a : UpTo g last = h.1 s.0 s.1 g s.2 s.3 in
-    let b : UpTo last g = UpTo-trans last top g (m.each h.0.0 (start_row h.0.1 last r) h.0.2 h.0.3) u in
-    UpTo_antisym last g b a
-
-pub not_started : (t : List Row) (i r : ℕ) (g : Tag) → LastStart t i r None → ¬ WasStarted t i g r
-not_started t i r g h s = h s.0 s.1 g s.2 s.3
 
 -- one more row
 pub start_more : (t : List Row) (i r w : ℕ) (g top : Tag) → IsLatest t i top → UpTo top g → slice_get t i ≡ Some (start_row w g r) → LastStart t (i + 1) r (Some g)

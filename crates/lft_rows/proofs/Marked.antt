@@ -164,9 +164,6 @@ pub record AreLaidTo (reactions : List Reaction) (n : ℕ) (names : List (List N
   pub laid : AreLaid reactions firsts (length places)
   pub none : AreNoneFrom 0 places
 
-pub laid_none : (reactions : List Reaction) → AreLaidTo reactions 0 [] [] []
-laid_none reactions = record { many = refl; inputs_are = λ r x l e. absurd (omega arith); as_long = refl; laid = record { within = λ r f x ex ef. absurd (cc); apart = λ r s f g x l ex ef eg. absurd (cc) }; none = λ k m e. absurd (cc) }
-
 -- what is known of all reactions
 pub laid_all : (program : Parts) (n : ℕ) (marks : Marks) → length program.reactions ≤ n → n ≤ length program.reactions → AreLaidTo program.reactions n marks.inputs.items marks.firsts.items marks.places.items → AreBefore program 0 marks
 laid_all program n marks l m h = record { is_laid = record { inputs_are = λ r x e. h.inputs_are r x (let w : r < length program.reactions = slice_get_within program.reactions r x e in omega arith) e; as_long = (let w : length marks.firsts.items ≡ n = h.as_long in omega arith); laid = h.laid }; none = h.none }
@@ -206,19 +203,3 @@ laid_more reactions n names firsts places more x ex h size none = record { many 
         go (inl d) (inr e) = let a : f + width y ≤ length places = h.laid.within r f y ey d in let b : length places ≡ g = e.1 in omega arith
         go (inr d) (inl e) = let a : s < length firsts = slice_get_within firsts s g e in let b : r ≡ length firsts = d.0 in absurd (omega arith)
         go (inr d) (inr e) = let a : s ≡ length firsts = e.0 in let b : r ≡ length firsts = d.0 in absurd (omega arith)
-
--- one number written, up to the place
-pub none_written : (i : ℕ) (places : List ℕ) (k m : ℕ) → k < length places → m ≤ i → AreNoneFrom i places → AreNoneFrom i (slice_set places k m)
-none_written i places k m l up h j x e = go (get_write_cases places k j m x l e)
-  where
-    go : ((j ≡ k) × (m ≡ x)) ⊎ ((j ≢ k) × (slice_get places j ≡ Some x)) → x ≤ i
-    go (inl q) = let z : m ≡ x = q.1 in omega arith
-    go (inr q) = h j x q.1
-
--- one zero more
-pub none_pushed : (places : List ℕ) → AreNoneFrom 0 places → AreNoneFrom 0 (places ++ 0 ∷ [])
-none_pushed places h k m e = go (get_push_cases places 0 k m e)
-  where
-    go : (slice_get places k ≡ Some m) ⊎ ((k ≡ length places) × (0 ≡ m)) → m ≤ 0
-    go (inl q) = h k m q
-    go (inr q) = let z : 0 ≡ m = q.1 in omega arith

@@ -64,6 +64,3 @@ open_kept t i w s g r h o = let e : o.start ≡ s = h.only o.start g r o.before 
 
 pub none_open : (t : List Row) (i w : ℕ) → OpenPlace t i i w None → (g : Tag) (r : ℕ) → ¬ IsOpen t i w g r
 none_open t i w h g r o = h o.start g r o.before (record { starts = o.starts; not_ended = o.not_ended })
-
-pub kept_open : (t : List Row) (i w s : ℕ) → OpenPlace t i i w (Some s) → (g : Tag) × (r : ℕ) × (slice_get t s ≡ Some (start_row w g r)) × IsOpen t i w g r
-kept_open t i w s h = (h.tag, h.reaction, h.unended.starts, record { start = s; before = h.before; starts = h.unended.starts; not_ended = h.unended.not_ended })

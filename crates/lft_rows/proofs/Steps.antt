@@ -1,5 +1,5 @@
 -- One row more, and what the code asks of the open runs.
-use Rattle.std.proofs.Common.{◌≡◌, ℕ, ◌+◌, ◌<◌, ◌≤◌, ◌⊎◌, inr, is_some, List, length, refl, sym, ap, ◌∙◌, subst, Option, Some, None, slice_get, cond, true, false, Bool, ◌==◌, ne_eqb, not}
+use Rattle.std.proofs.Common.{◌≡◌, ℕ, ◌+◌, ◌<◌, ◌≤◌, ◌⊎◌, inr, is_some, List, refl, sym, ap, ◌∙◌, subst, Option, Some, None, slice_get, cond, true, false, Bool, ◌==◌, ne_eqb, not}
 use Rattle.std.proofs.lemmas.Bool.{eq-eqb}
 use native.Mathlib.Decide.{ℕ_discrete}
 use Rattle.lft_tag.specs.declared.Tag.{Tag}
@@ -7,33 +7,16 @@ use Rattle.lft_trace.specs.declared.row.Row.{Row}
 use Rattle.lft_trace.specs.declared.row.Step.{Step}
 use Rattle.lft_trace.specs.declared.row.Step.TheVariants.{Start, End}
 use Rattle.lft_model.specs.Runs.{start_row, end_row}
-use Rattle.lft_model.specs.Breaches.{IsOpen, IsOutOfOrder, IsUnended, WasStarted}
-use Rattle.lft_model.proofs.Places.{slice_get_within}
+use Rattle.lft_model.specs.Breaches.{IsOpen, IsOutOfOrder, WasStarted}
 use Rattle.lft_rows.specs.declared.open.OpenRuns.{OpenRuns}
 use Rattle.lft_rows.specs.Places.{place_of}
-use Rattle.lft_rows.specs.Passes.{Unended, OpenPlace, Holds, HasOpen}
+use Rattle.lft_rows.specs.Passes.{OpenPlace, Holds, HasOpen}
 use Rattle.lft_presence.proofs.Lists.{not_true}
-use Rattle.lft_rows.proofs.Opens.{keeps_open, ends_open, open_kept, none_open, kept_open, same_start}
+use Rattle.lft_rows.proofs.Opens.{keeps_open, ends_open, open_kept, none_open, same_start}
 use Rattle.lft_model.proofs.OutOfOrder.{out_inner, inner_out}
-
--- a place that is kept is of a row
-pub kept_within : (t : List Row) (p i w s : ℕ) → OpenPlace t p i w (Some s) → s < length t
-kept_within t p i w s h = slice_get_within t s (start_row w h.tag h.reaction) h.unended.starts
 
 pub at_kept : (t : List Row) (p i w : ℕ) (o : Option ℕ) (s : ℕ) → OpenPlace t p i w o → o ≡ Some s → OpenPlace t p i w (Some s)
 at_kept t p i w o s h e = subst (λ z. OpenPlace t p i w z) e h
-
--- the kept row is the start row of the tag and the reaction, where they are the same
-pub start_of : (t : List Row) (p i : ℕ) (row first : Row) (s : ℕ) → OpenPlace t p i row.worker (Some s) → slice_get t s ≡ Some first → first.tag ≡ row.tag → first.reaction ≡ row.reaction → slice_get t s ≡ Some (start_row row.worker row.tag row.reaction)
-start_of t p i row first s h e q r =
-    let a : Some first ≡ Some (start_row row.worker h.tag h.reaction) = sym e ∙ h.unended.starts in
-    let b : first ≡ start_row row.worker h.tag h.reaction = cc in
-    let c : h.tag ≡ row.tag = sym (ap (λ (z : Row). z.tag) b) ∙ q in
-    let d : h.reaction ≡ row.reaction = sym (ap (λ (z : Row). z.reaction) b) ∙ r in
-    h.unended.starts ∙ ap Some (cc)
-
-pub tag_of_start : (t : List Row) (row first : Row) (s : ℕ) → slice_get t s ≡ Some first → slice_get t s ≡ Some (start_row row.worker row.tag row.reaction) → (first.tag ≡ row.tag) × (first.reaction ≡ row.reaction)
-tag_of_start t row first s e q = let a : Some first ≡ Some (start_row row.worker row.tag row.reaction) = sym e ∙ q in let b : first ≡ start_row row.worker row.tag row.reaction = cc in (ap (λ (z : Row). z.tag) b, ap (λ (z : Row). z.reaction) b)
 
 row_by : (w : ℕ) (g : Tag) (r : ℕ) {s z : Step} → s ≡ z → (let x : Row = record { worker = w; tag = g; reaction = r; step = s } in let y : Row = record { worker = w; tag = g; reaction = r; step = z } in x ≡ y)
 row_by w g r e = cc
@@ -44,9 +27,6 @@ row_eq row s e = row_by row.worker row.tag row.reaction e
 module _ (t : List Row) (p i : ℕ) (row : Row) (is_row : slice_get t i ≡ Some row) where
   end_parts : (w : ℕ) (g : Tag) (r : ℕ) → slice_get t i ≡ Some (end_row w g r) → (row.step ≡ End) × (row.worker ≡ w) × (row.tag ≡ g) × (row.reaction ≡ r)
   end_parts w g r e = let a : Some row ≡ Some (end_row w g r) = sym is_row ∙ e in let b : row ≡ end_row w g r = cc in (ap (λ (z : Row). z.step) b, ap (λ (z : Row). z.worker) b, ap (λ (z : Row). z.tag) b, ap (λ (z : Row). z.reaction) b)
-
-  start_parts : (w : ℕ) (g : Tag) (r : ℕ) → slice_get t i ≡ Some (start_row w g r) → (row.step ≡ Start) × (row.worker ≡ w) × (row.tag ≡ g) × (row.reaction ≡ r)
-  start_parts w g r e = let a : Some row ≡ Some (start_row w g r) = sym is_row ∙ e in let b : row ≡ start_row w g r = cc in (ap (λ (z : Row). z.step) b, ap (λ (z : Row). z.worker) b, ap (λ (z : Row). z.tag) b, ap (λ (z : Row). z.reaction) b)
 
   pub close_then : (old new : OpenRuns) → p ≤ i → row.step ≡ End → HasOpen t old row → Holds t p i old → ((w : ℕ) → place_of new w ≡ cond (row.worker == w) None (place_of old w)) → Holds t p (i + 1) new
   close_then old new le en has h q w = go (ℕ_discrete row.worker w)
@@ -70,9 +50,6 @@ module _ (t : List Row) (p i : ℕ) (row : Row) (is_row : slice_get t i ≡ Some
 pub out_start : (t : List Row) (i : ℕ) (row : Row) (s : Step) → s ≡ Start → WasStarted t i row.tag row.reaction ⊎ ((g : Tag) × (r : ℕ) × IsOpen t i row.worker g r) → IsOutOfOrder t i row s
 out_start t i row s e o = subst (λ z. IsOutOfOrder t i row z) (sym e) o
 
-pub start_out : (t : List Row) (i : ℕ) (row : Row) (s : Step) → s ≡ Start → IsOutOfOrder t i row s → WasStarted t i row.tag row.reaction ⊎ ((g : Tag) × (r : ℕ) × IsOpen t i row.worker g r)
-start_out t i row s e o = subst (λ z. IsOutOfOrder t i row z) e o
-
 -- the row's run is open where it is the kept one
 pub open_has : (t : List Row) (i : ℕ) (row : Row) (runs : OpenRuns) → Holds t i i runs → HasOpen t runs row → IsOpen t i row.worker row.tag row.reaction
 open_has t i row runs h has =
@@ -87,34 +64,6 @@ has_open_run t i row runs h o = go (place_of runs row.worker) refl
     go : (p : Option ℕ) → place_of runs row.worker ≡ p → HasOpen t runs row
     go None e = absurd (none_open t i row.worker (subst (λ z. OpenPlace t i i row.worker z) e (h row.worker)) row.tag row.reaction o)
     go (Some s) e = (s, e, open_kept t i row.worker s row.tag row.reaction (at_kept t i i row.worker (place_of runs row.worker) s (h row.worker) e) o)
-
-pub some_open : (t : List Row) (i w s : ℕ) (runs : OpenRuns) → Holds t i i runs → place_of runs w ≡ Some s → (g : Tag) × (r : ℕ) × IsOpen t i w g r
-some_open t i w s runs h e = let k = kept_open t i w s (at_kept t i i w (place_of runs w) s (h w) e) in (k.0, k.1, k.3)
-
-pub no_open : (t : List Row) (i w : ℕ) (runs : OpenRuns) → Holds t i i runs → place_of runs w ≡ None → ((g : Tag) × (r : ℕ) × IsOpen t i w g r) → ⊥
-no_open t i w runs h e o = none_open t i w (subst (λ z. OpenPlace t i i w z) e (h w)) o.0 o.1 o.2
-
--- rule 5 by the open runs after the last row
-pub unended_row : (t : List Row) (p j : ℕ) (row : Row) (runs : OpenRuns) → Holds t p (length t) runs → slice_get t j ≡ Some row → row.step ≡ Start → place_of runs row.worker ≡ Some j → IsUnended t j row
-unended_row t p j row runs h e st q =
-    let k : OpenPlace t p (length t) row.worker (Some j) = at_kept t p (length t) row.worker (place_of runs row.worker) j (h row.worker) q in
-    let a : Some row ≡ Some (start_row row.worker k.tag k.reaction) = sym e ∙ k.unended.starts in
-    let b : row ≡ start_row row.worker k.tag k.reaction = cc in
-    let c : end_row row.worker row.tag row.reaction ≡ end_row row.worker k.tag k.reaction = same row k.tag k.reaction (ap (λ (z : Row). z.tag) b) (ap (λ (z : Row). z.reaction) b) in
-    (st, λ m l x. k.unended.not_ended m l (slice_get_within t m (end_row row.worker row.tag row.reaction) x) (x ∙ ap Some c))
-  where
-    same : (row : Row) (g : Tag) (r : ℕ) → row.tag ≡ g → row.reaction ≡ r → end_row row.worker row.tag row.reaction ≡ end_row row.worker g r
-    same row g r a b = cc
-
-pub row_unended : (t : List Row) (p j : ℕ) (row : Row) (runs : OpenRuns) → Holds t p (length t) runs → j < p → slice_get t j ≡ Some row → IsUnended t j row → place_of runs row.worker ≡ Some j
-row_unended t p j row runs h l e u = go (place_of runs row.worker) (h row.worker) refl
-  where
-    it : Unended t (length t) j row.worker row.tag row.reaction
-    it = record { starts = e ∙ ap Some (row_eq row Start u.0); not_ended = λ k a b. u.1 k a }
-
-    go : (o : Option ℕ) → OpenPlace t p (length t) row.worker o → place_of runs row.worker ≡ o → place_of runs row.worker ≡ Some j
-    go None k q = absurd (k j row.tag row.reaction l it)
-    go (Some s) k q = q ∙ ap Some (sym (k.only j row.tag row.reaction l it))
 
 -- rule 3 at a row that is no start row, by the test
 pub order_inner : (t : List Row) (i : ℕ) (row : Row) (runs : OpenRuns) (b : Bool) → Holds t i i runs → ¬ (row.step ≡ Start) → (b ≡ true → HasOpen t runs row) × (HasOpen t runs row → b ≡ true) → (not b ≡ true → IsOutOfOrder t i row row.step) × (IsOutOfOrder t i row row.step → not b ≡ true)

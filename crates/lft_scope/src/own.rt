@@ -1,6 +1,6 @@
 //! What the plain names of a reactor are.
 
-ghost use Rattle.std.specs.Prelude.{◌≡◌, ◌++◌, List, ℕ, IfOk, OnOk, map, filter_map, find, option_map, slice_get, bytes_eq};
+ghost use Rattle.std.specs.Prelude.{◌≡◌, ◌++◌, ℕ, IfOk, OnOk, map, filter_map, find, option_map, slice_get, bytes_eq};
 ghost use Rattle.lft_tree.specs.Tree.{ReactorTree, instances_of};
 ghost use Rattle.lft_tree.specs.View.{instance_view, member_view, member_views, parameter_view, reactor_view};
 ghost use Rattle.lft_scope.specs.Kinds.{kinds_in, own_kind};

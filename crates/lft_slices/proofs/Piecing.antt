@@ -235,9 +235,6 @@ runs_last t g xs ys h = record { order = omega (arith, length-append xs ys); wit
         let e : slice_get (xs ++ ys) (length xs + y.0) ≡ Some y.1 = put_right xs ys y.0 y.1 (length xs + y.0) refl y.2 in
         (length xs + y.0, y.1, omega arith, slice_get_within (xs ++ ys) (length xs + y.0) y.1 e, e, y.3)
 
-pub pieces_begin : (t : List Row) (slices : List Slice) (firsts : List ℕ) → firsts ≡ 0 ∷ [] → ArePiecesTo t slices 0 [] firsts []
-pieces_begin t slices firsts e = subst (λ fs. ArePiecesTo t slices 0 [] fs []) (sym e) (record { count = refl; as_long = refl; last = refl; tagged = λ j g q. absurd (cc); runs = λ j a b g q p r. absurd (cc) })
-
 pub pieces_more : (t : List Row) (slices : List Slice) (k : ℕ) (tags : List Tag) (firsts : List ℕ) (xs ys : List Piece) (s : Slice) → ArePiecesTo t slices k tags firsts xs → slice_get slices k ≡ Some s → AreRuns t s.tag ys → ArePiecesTo t slices (k + 1) (tags ++ s.tag ∷ []) (firsts ++ length (xs ++ ys) ∷ []) (xs ++ ys)
 pieces_more t slices k tags firsts xs ys s h is_slice are = record { count = omega (arith, length-append tags (s.tag ∷ []), h.count); as_long = omega (arith, length-append firsts (n ∷ []), h.as_long); last = ap (λ i. slice_get (firsts ++ n ∷ []) i) (sym h.as_long) ∙ get_last firsts n; tagged = λ j g e. tagged j g (get_push_cases tags s.tag j g e); runs = λ j a b g e p q. runs j a b g (get_push_cases tags s.tag j g e) (get_push_cases firsts n j a p) (get_push_cases firsts n (j + 1) b q) }
   where

@@ -1,12 +1,12 @@
 -- The lanes: events that are still to be met.
 use Rattle.std.proofs.Common.{◌≡◌, ℕ, zero, suc, ◌+◌, ◌<◌, ◌≤◌, ◌⊎◌, inl, inr, ◌==◌, ◌&&◌, Bool, true, false, cond, List, [], ◌∷◌, ◌++◌, length, length-append, refl, sym, ap, ◌∙◌, subst, arith, Option, Some, None, slice_get, filter_map, option_map, Contains, option_to_list}
-use Rattle.std.specs.List.{last_or, cons_option}
+use Rattle.std.specs.List.{last_or}
 use Rattle.std.specs.Option.{option_and_then, option_to_list}
 use Rattle.std.proofs.lemmas.List.Elements.{filter_map-append}
 use Rattle.lft_tag.specs.declared.Tag.{Tag}
 use Rattle.lft_tag.specs.Tags.{Before, UpTo, after, after_all, same_tag}
-use Rattle.lft_tag.proofs.Order.{order_cases, Before-UpTo, UpTo-not, UpTo-Before, UpTo-trans, Before-weaken, after_past}
-use Rattle.lft_lists.proofs.Members.{Mem, get_mem, mem_left, mem_right, mem_cases, mem_contains, contains_mem, mem_filter, mem_from_filter, last_mem, nil_of_none, filter_map-filter_map}
+use Rattle.lft_tag.proofs.Order.{order_cases, Before-UpTo, UpTo-Before, UpTo-trans}
+use Rattle.lft_lists.proofs.Members.{Mem, get_mem, mem_left, mem_right, mem_cases, mem_contains, contains_mem, mem_filter, mem_from_filter, last_mem, filter_map-filter_map}
 use Rattle.lft_flat.specs.Origins.{Origin}
 use Rattle.lft_flat.proofs.Origins.{origin_unique}
 use Rattle.lft_flat.specs.declared.parts.Value.{Value}
@@ -17,30 +17,24 @@ use Rattle.lft_trace.specs.declared.row.Row.{Row}
 use Rattle.lft_trace.specs.declared.externals.Event.{Event}
 use Rattle.lft_model.specs.Plans.{PlanParts}
 use Rattle.lft_model.specs.Presence.{stop, value_scheduled, scheduled, given, min_delay, events_of, written, Last, IsWrittenFrom, At, PortClash}
-use Rattle.lft_model.specs.Runs.{Ran}
 use Rattle.std.proofs.NetLemmas.Options.{cond_some}
 use Rattle.lft_model.proofs.Steps.{same_tag_true}
 use Rattle.lft_tag.proofs.Order.{same_tag_refl}
 use Rattle.lft_model.proofs.Ended.{written_by}
 use Rattle.lft_stream.specs.Settled.{AreBefore, AreAt}
-use Rattle.lft_stream.specs.Owed.{Listens, IsMet, IsApart}
-use Rattle.lft_stream.specs.Lanes.{at_tag, held, coming, given_to, first_events, made, carried, IsDone, IsKept, IsLane, AreAlike}
+use Rattle.lft_stream.specs.Owed.{IsMet, IsApart}
+use Rattle.lft_stream.specs.Lanes.{at_tag, held, coming, given_to, first_events, made, carried, IsDone, IsKept, IsLane, GoesOn}
 use Rattle.lft_stream.proofs.Behind.{at_back, clash_back}
-use Rattle.lft_stream.proofs.Before.{ran_whole}
 use Rattle.lft_stream.proofs.Hand.{last_old, last_whole, last_now, last_then}
 use Rattle.lft_stream.proofs.Owing.{ran_grows}
 
--- how a lane goes: it begins with the external inputs; the order of its events is free; more rows put their events behind; its first event leaves it when all listeners have their runs; a port without a delay whose listeners ran where it was written has an empty lane again; a lane without an event up to the stop has met its name, and one without two at a tag keeps it apart
+-- how a lane goes: it begins with the external inputs; more rows put their events behind; it goes on to a later tag where what it had before that is met; and where it is done with up to the stop, its name is met and apart
 pub record LaneLaw (plan : PlanParts) : Type 0 where
   pub begins : (n : Name) → IsLane plan [] n (record { time = 0; micro = 0 }) (first_events plan n)
-  pub reorders : (t : List Row) (n : Name) (low : Tag) (queue other : List (Tag × Value)) → AreAlike queue other → IsLane plan t n low queue → IsLane plan t n low other
   pub schedules : (t u : List Row) (a : ℕ) (low : Tag) (queue : List (Tag × Value)) → ((i : ℕ) (x : Row) → slice_get u i ≡ Some x → UpTo low x.tag) → IsLane plan t (Action a) low queue → IsLane plan (t ++ u) (Action a) low (queue ++ made plan u a)
   pub writes : (t u : List Row) (g : Tag) (p o : ℕ) (delays : List ℕ) (low : Tag) (queue : List (Tag × Value)) → Origin plan.program p o delays → AreBefore t g → AreAt u g → UpTo low g → IsLane plan t (Port p) low queue → IsLane plan (t ++ u) (Port p) low (queue ++ carried u g o delays)
-  pub takes : (t : List Row) (n : Name) (low high : Tag) (x : Tag × Value) (queue : List (Tag × Value)) → Before x.0 high → ((y : Tag × Value) → Contains queue y → UpTo high y.0) → ((r : ℕ) → Listens plan r (On n) → Ran t x.0 r) → UpTo low high → IsLane plan t n low (x ∷ queue) → IsLane plan t n high queue
-  pub passes : (t u : List Row) (g : Tag) (p o : ℕ) (low : Tag) → Origin plan.program p o [] → AreBefore t g → AreAt u g → UpTo low g → ((v : Value) → Last u g o v → (r : ℕ) → Listens plan r (On (Port p)) → Ran u g r) → IsLane plan t (Port p) low [] → IsLane plan (t ++ u) (Port p) (after g 0) []
-  pub rises : (t : List Row) (n : Name) (low high : Tag) (queue : List (Tag × Value)) → ((y : Tag × Value) → Contains queue y → UpTo high y.0) → UpTo low high → IsLane plan t n low queue → IsLane plan t n high queue
-  pub meets : (t : List Row) (n : Name) (low : Tag) (queue : List (Tag × Value)) → ((y : Tag × Value) → Contains queue y → Before (stop plan t) y.0) → IsLane plan t n low queue → IsMet plan t (On n)
-  pub apart : (t : List Row) (n : Name) (low : Tag) (queue : List (Tag × Value)) → ((h : Tag) → UpTo h (stop plan t) → length (held queue h) < 2) → IsLane plan t n low queue → IsApart plan t n
+  pub goes : (t : List Row) (n : Name) (low high : Tag) (queue rest : List (Tag × Value)) → GoesOn plan t n low queue high rest → IsLane plan t n low queue → IsLane plan t n high rest
+  pub ends : (t : List Row) (n : Name) (low : Tag) (queue : List (Tag × Value)) → Before (stop plan t) low → IsLane plan t n low queue → IsMet plan t (On n) × IsApart plan t n
 
 -- an event of a list at its tag
 item_at : (h : Tag) (x : Tag × Value) (v : Value) → at_tag h x ≡ Some v → (x.0 ≡ h) × (x.1 ≡ v)
@@ -55,11 +49,8 @@ held_mem queue h v m = let p = mem_from_filter (at_tag h) queue v m in let q = i
 mem_held : (queue : List (Tag × Value)) (h : Tag) (x : Tag × Value) → Mem x queue → x.0 ≡ h → Mem x.1 (held queue h)
 mem_held queue h x m e = mem_filter (at_tag h) x x.1 queue m (at_item h x e)
 
-held_append : (xs ys : List (Tag × Value)) (h : Tag) → held (xs ++ ys) h ≡ held xs h ++ held ys h
+pub held_append : (xs ys : List (Tag × Value)) (h : Tag) → held (xs ++ ys) h ≡ held xs h ++ held ys h
 held_append xs ys h = filter_map-append (at_tag h) xs ys
-
-pub none_held : (queue : List (Tag × Value)) (h : Tag) → ((y : Tag × Value) → Mem y queue → ¬ (y.0 ≡ h)) → held queue h ≡ []
-none_held queue h n = nil_of_none (held queue h) (λ v m. let x = held_mem queue h v m in n x.0 x.1 x.2)
 
 some_one : {X : Type 0} (x : X) (xs : List X) → Mem x xs → 1 ≤ length xs
 some_one x [] m = absurd m
@@ -89,7 +80,7 @@ given_at h a event = go (same_tag h event.tag) (a == event.action) refl
 held_made : (plan : PlanParts) (u : List Row) (a : ℕ) (h : Tag) → held (made plan u a) h ≡ filter_map (scheduled h a (min_delay plan.program a)) u
 held_made plan u a h = filter_map-filter_map (coming a (min_delay plan.program a)) (at_tag h) (scheduled h a (min_delay plan.program a)) (coming_at h a (min_delay plan.program a)) u
 
-held_first : (plan : PlanParts) (a : ℕ) (h : Tag) → held (first_events plan (Action a)) h ≡ filter_map (given h a) plan.externals.events
+pub held_first : (plan : PlanParts) (a : ℕ) (h : Tag) → held (first_events plan (Action a)) h ≡ filter_map (given h a) plan.externals.events
 held_first plan a h = filter_map-filter_map (given_to a) (at_tag h) (given h a) (given_at h a) plan.externals.events
 
 -- what is done with stays so with later rows
@@ -283,117 +274,33 @@ module _ (plan : PlanParts) (t u : List Row) (g : Tag) (p o : ℕ) (ds : List �
   writes_lane : IsLane plan (t ++ u) (Port p) low (queue ++ carried u g o ds)
   writes_lane = record { past = λ h b. done_grows plan t u (Port p) h (λ x m. let i = get_mem x u m in subst (λ (z : Tag). Before h z) (sym (at i.0 x i.1)) (Before-UpTo h low g b reached)) (lane.past h b); ahead = λ h up. port_kept h up }
 
--- the first event leaves
-module _ (plan : PlanParts) (t : List Row) (n : Name) (low high : Tag) (x : Tag × Value) (queue : List (Tag × Value)) (passed : Before x.0 high) (rest : (y : Tag × Value) → Contains queue y → UpTo high y.0) (ran : (r : ℕ) → Listens plan r (On n) → Ran t x.0 r) (lane : IsLane plan t n low (x ∷ queue)) where
-  none_at : (h : Tag) → Before h high → held queue h ≡ []
-  none_at h b = none_held queue h (λ y m e. UpTo-not high y.0 (rest y (mem_contains y queue m)) (subst (λ (z : Tag). Before z high) (sym e) b))
-
-  takes_past : (h : Tag) → Before h high → IsDone plan t n h
-  takes_past h b = go (order_cases h low)
-    where
-      one : (o : Option Value) → length (cons_option o (held queue h)) ≤ 1
-      one None = rw (none_at h b) (omega arith)
-      one (Some v) = rw (none_at h b) (omega arith)
-
-      is_first : (y : Tag × Value) → Mem y (x ∷ queue) → y.0 ≡ h → x.0 ≡ h
-      is_first y (inl e) q = ap (λ (z : Tag × Value). z.0) e ∙ q
-      is_first y (inr m) q = absurd (UpTo-not high y.0 (rest y (mem_contains y queue m)) (subst (λ (z : Tag). Before z high) (sym q) b))
-
-      go : Before h low ⊎ UpTo low h → IsDone plan t n h
-      go (inl c) = lane.past h c
-      go (inr up) = record {
-        met = λ v z r l. let y = held_mem (x ∷ queue) h v (contains_mem v (held (x ∷ queue) h) ((lane.ahead h up).there v z)) in subst (λ (k : Tag). Ran t k r) (is_first y.0 y.1 y.2) (ran r l);
-        apart = λ c. let k : 2 ≤ length (cons_option (at_tag h x) (held queue h)) = (lane.ahead h up).clash c in let m : length (cons_option (at_tag h x) (held queue h)) ≤ 1 = one (at_tag h x) in absurd (omega arith);
-      }
-
-  takes_ahead : (h : Tag) → UpTo low h → UpTo high h → IsKept plan t n h queue
-  takes_ahead h up far = record {
-    there = λ v z. subst (λ (vs : List Value). Contains vs v) same (old.there v z);
-    back = λ v z. old.back v (subst (λ (vs : List Value). Contains vs v) (sym same) z);
-    clash = λ c. rw (← same) (old.clash c);
-  }
-    where
-      old : IsKept plan t n h (x ∷ queue)
-      old = lane.ahead h up
-
-      go : (o : Option Value) → at_tag h x ≡ o → cons_option o (held queue h) ≡ held queue h
-      go None e = refl
-      go (Some v) e = absurd (UpTo-not high h far (subst (λ (z : Tag). Before z high) (item_at h x v e).0 passed))
-
-      same : held (x ∷ queue) h ≡ held queue h
-      same = go (at_tag h x) refl
-
-  -- what was taken was not before the lane, so the lane was not past the new bound
-  takes_lane : UpTo low high → IsLane plan t n high queue
-  takes_lane up = record { past = takes_past; ahead = λ h far. takes_ahead h (UpTo-trans low high h up far) far }
-
 module _ (plan : PlanParts) (t : List Row) (n : Name) (low : Tag) (queue : List (Tag × Value)) (lane : IsLane plan t n low queue) where
-  rises_lane : (high : Tag) → ((y : Tag × Value) → Contains queue y → UpTo high y.0) → UpTo low high → IsLane plan t n high queue
-  rises_lane high rest up = record { past = past; ahead = λ h far. lane.ahead h (UpTo-trans low high h up far) }
+  goes_lane : (high : Tag) (rest : List (Tag × Value)) → GoesOn plan t n low queue high rest → IsLane plan t n high rest
+  goes_lane high rest on = record { past = past; ahead = ahead }
     where
       past : (h : Tag) → Before h high → IsDone plan t n h
       past h b = go (order_cases h low)
         where
-          none : held queue h ≡ []
-          none = none_held queue h (λ y m e. UpTo-not high y.0 (rest y (mem_contains y queue m)) (subst (λ (z : Tag). Before z high) (sym e) b))
-
           go : Before h low ⊎ UpTo low h → IsDone plan t n h
           go (inl c) = lane.past h c
-          go (inr far) = record {
-            met = λ v z r l. absurd (contains_mem v [] (subst (λ (vs : List Value). Contains vs v) none ((lane.ahead h far).there v z)));
-            apart = λ c. let k : 2 ≤ length (held queue h) = (lane.ahead h far).clash c in let m : length (held queue h) ≡ 0 = ap (λ (vs : List Value). length vs) none in absurd (omega arith);
-          }
+          go (inr far) =
+              let here = on.met h far b in
+              let kept = lane.ahead h far in
+              record { met = λ v x. here.met v (kept.there v x); apart = λ c. let k : 2 ≤ length (held queue h) = kept.clash c in let m : length (held queue h) < 2 = here.alone in omega arith }
 
-  meets_lane : ((y : Tag × Value) → Contains queue y → Before (stop plan t) y.0) → IsMet plan t (On n)
-  meets_lane none h r up z l = go (order_cases h low)
-    where
-      go : Before h low ⊎ UpTo low h → Ran t h r
-      go (inl b) = (lane.past h b).met z.0 z.1 r l
-      go (inr far) =
-          let y = held_mem queue h z.0 (contains_mem z.0 (held queue h) ((lane.ahead h far).there z.0 z.1)) in
-          absurd (UpTo-not h (stop plan t) up (subst (λ (k : Tag). Before (stop plan t) k) y.2 (none y.0 (mem_contains y.0 queue y.1))))
+      ahead : (h : Tag) → UpTo high h → IsKept plan t n h rest
+      ahead h far =
+          let kept = lane.ahead h (UpTo-trans low high h on.up far) in
+          record { there = λ v x. subst (λ (vs : List Value). Contains vs v) (sym (on.same h far)) (kept.there v x); back = λ v c. kept.back v (subst (λ (vs : List Value). Contains vs v) (on.same h far) c); clash = λ c. rw (on.same h far) (kept.clash c) }
 
-  apart_lane : ((h : Tag) → UpTo h (stop plan t) → length (held queue h) < 2) → IsApart plan t n
-  apart_lane few h up c = go (order_cases h low)
-    where
-      go : Before h low ⊎ UpTo low h → ⊥
-      go (inl b) = (lane.past h b).apart c
-      go (inr far) = let k : 2 ≤ length (held queue h) = (lane.ahead h far).clash c in let m : length (held queue h) < 2 = few h up in omega arith
-
-reorders_lane : (plan : PlanParts) (t : List Row) (n : Name) (low : Tag) (queue other : List (Tag × Value)) → AreAlike queue other → IsLane plan t n low queue → IsLane plan t n low other
-reorders_lane plan t n low queue other alike lane = record { past = lane.past; ahead = ahead }
-  where
-    ahead : (h : Tag) → UpTo low h → IsKept plan t n h other
-    ahead h up =
-        let old = lane.ahead h up in
-        let same = alike h in
-        record { there = λ v x. (same.1 v).0 (old.there v x); back = λ v c. old.back v ((same.1 v).1 c); clash = λ c. let l : 2 ≤ length (held queue h) = old.clash c in let e : length (held queue h) ≡ length (held other h) = same.0 in omega arith }
-
--- a port without a delay, over the rows of a tag
-passes_lane : (plan : PlanParts) (t u : List Row) (g : Tag) (p o : ℕ) (low : Tag) → Origin plan.program p o [] → AreBefore t g → AreAt u g → UpTo low g → ((v : Value) → Last u g o v → (r : ℕ) → Listens plan r (On (Port p)) → Ran u g r) → IsLane plan t (Port p) low [] → IsLane plan (t ++ u) (Port p) (after g 0) []
-passes_lane plan t u g p o low way before at reached ran lane = go (last_or None (filter_map (written g o) u)) refl (writes_lane plan t u g p o [] low [] way before at reached lane)
-  where
-    up : UpTo low (after g 0)
-    up = Before-weaken low (after g 0) (UpTo-Before low g (after g 0) reached (after_past g 0))
-
-    no_more : (y : Tag × Value) → Contains [] y → UpTo (after g 0) y.0
-    no_more y c = absurd (contains_mem y [] c)
-
-    go : (z : Option Value) → last_or None (filter_map (written g o) u) ≡ z → IsLane plan (t ++ u) (Port p) low (option_to_list (option_map (λ v. (after_all g [], v)) (last_or None (filter_map (written g o) u)))) → IsLane plan (t ++ u) (Port p) (after g 0) []
-    go None e now = rises_lane plan (t ++ u) (Port p) low [] (subst (λ (z : Option Value). IsLane plan (t ++ u) (Port p) low (option_to_list (option_map (λ v. (g, v)) z))) e now) (after g 0) no_more up
-    go (Some v) e now =
-        let x : Tag × Value = (g, v) in
-        takes_lane plan (t ++ u) (Port p) low (after g 0) x [] (after_past g 0) no_more (λ r l. ran_whole plan t u g (λ y m. let i = get_mem y t m in before i.0 y i.1) r (ran v e r l)) (subst (λ (z : Option Value). IsLane plan (t ++ u) (Port p) low (option_to_list (option_map (λ w. (g, w)) z))) e now) up
+  ends_lane : Before (stop plan t) low → IsMet plan t (On n) × IsApart plan t n
+  ends_lane past = (λ h r up z l. (lane.past h (UpTo-Before h (stop plan t) low up past)).met z.0 z.1 r l, λ h up c. (lane.past h (UpTo-Before h (stop plan t) low up past)).apart c)
 
 pub lane_law : (plan : PlanParts) → LaneLaw plan
 lane_law plan = record {
   begins = begins_lane plan;
-  reorders = λ t n low queue other alike lane. reorders_lane plan t n low queue other alike lane;
   schedules = λ t u a low queue from lane. schedules_lane plan t u a low queue from lane;
   writes = λ t u g p o ds low queue way before at reached lane. writes_lane plan t u g p o ds low queue way before at reached lane;
-  takes = λ t n low high x queue passed rest ran up lane. takes_lane plan t n low high x queue passed rest ran lane up;
-  passes = λ t u g p o low way before at reached ran lane. passes_lane plan t u g p o low way before at reached ran lane;
-  rises = λ t n low high queue rest up lane. rises_lane plan t n low queue lane high rest up;
-  meets = λ t n low queue none lane. meets_lane plan t n low queue lane none;
-  apart = λ t n low queue few lane. apart_lane plan t n low queue lane few;
+  goes = λ t n low high queue rest on lane. goes_lane plan t n low queue lane high rest on;
+  ends = λ t n low queue past lane. ends_lane plan t n low queue lane past;
 }

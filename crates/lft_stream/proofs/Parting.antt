@@ -1,17 +1,22 @@
 -- Rows cut where the tag changes: where no row of the whole breaks one of the rules 1 to 5, none of a slice does.
-use Rattle.std.proofs.Common.{◌≡◌, ℕ, ◌+◌, ◌-◌, ◌<◌, ◌≤◌, ◌⊎◌, inl, inr, List, ◌++◌, take, refl, sym, ap, ◌∙◌, subst, arith, Some, None, slice_get, slice_range}
+use Rattle.std.proofs.Common.{◌≡◌, ℕ, ◌+◌, ◌-◌, ◌<◌, ◌≤◌, ◌⊎◌, inl, inr, List, ◌++◌, length, take, drop, refl, sym, ap, ◌∙◌, subst, arith, Option, Some, None, slice_get, slice_range, filter_map}
+use Rattle.std.proofs.lemmas.List.{append-nil, take-append-drop}
+use Rattle.std.proofs.lemmas.List.Elements.{filter_map-append}
 use Rattle.std.proofs.Math.Seq.{take-add}
 use Rattle.lft_tag.specs.declared.Tag.{Tag}
 use Rattle.lft_tag.specs.Tags.{Before, UpTo}
 use Rattle.lft_tag.proofs.Order.{order_cases}
-use Rattle.lft_flat.proofs.Ranges.{length-range, range-get, range-within}
+use Rattle.lft_flat.specs.Parts.{Parts}
+use Rattle.lft_flat.proofs.Ranges.{length-range, range-get, range-within, slice_get-drop}
 use Rattle.lft_trace.specs.declared.row.Row.{Row}
 use Rattle.lft_trace.specs.declared.row.Step.{Step}
 use Rattle.lft_trace.specs.declared.row.Step.TheVariants.{Start, Read, Write, Schedule, Stop, End}
 use Rattle.lft_trace.specs.Fits.{RowsFit}
-use Rattle.lft_flat.specs.Parts.{Parts}
 use Rattle.lft_model.specs.Plans.{PlanParts}
-use Rattle.lft_model.specs.Runs.{start_row, end_row, Ran}
+use Rattle.lft_model.specs.Runs.{start_row, end_row, step_of, steps_of, Ran}
+use Rattle.lft_model.proofs.Places.{slice_get_take}
+use Rattle.lft_model.proofs.Steps.{step_row}
+use Rattle.lft_lists.proofs.Members.{none_nil}
 use Rattle.lft_model.specs.Breaches.{IsOpen, IsOutOfOrder, IsUndeclared, BreaksRowUntil}
 use Rattle.lft_rows.specs.Firsts.{FirstRow}
 use Rattle.lft_by_tag.specs.declared.slices.Slice.{Slice}
@@ -33,6 +38,9 @@ module _ (t : List Row) (s : Slice) (is : IsSlice t s) where
 
   pub to_whole : (i : ℕ) (x : Row) → slice_get rows_of i ≡ Some x → slice_get t (s.first + i) ≡ Some x
   to_whole i x e = sym (range-get t s.first s.end i (range-within t s.first s.end i x is.within e)) ∙ e
+
+  pub part_fits : (program : Parts) → RowsFit program t → RowsFit program rows_of
+  part_fits program fit = record { few = let a : length rows_of ≡ s.end - s.first = length-range t s.first s.end is.within in let b = is.within in let c = fit.few in omega arith; each = λ i x e. fit.each (s.first + i) x (to_whole i x e) }
 
   pub are_at : AreAt rows_of s.tag
   are_at i x e = is.at_tag (s.first + i) x (to_whole i x e) (omega arith) (range-within t s.first s.end i x is.within e)
@@ -56,8 +64,25 @@ module _ (t : List Row) (s : Slice) (is : IsSlice t s) where
   pub up_to_end : take s.first t ++ rows_of ≡ take s.end t
   up_to_end = sym (take-add s.first (s.end - s.first) t) ∙ ap (λ n. take n t) (let a = is.some in let b : s.first + (s.end - s.first) ≡ s.end = omega arith in b)
 
-  pub fit_part : (program : Parts) → RowsFit program t → RowsFit program rows_of
-  fit_part program fit = let a = length-range t s.first s.end is.within in let b = is.within in let c = fit.few in record { few = omega arith; each = λ i x e. fit.each (s.first + i) x (to_whole i x e) }
+  -- no other row has a step of a run at the tag
+  pub steps_part : (r : ℕ) → steps_of t s.tag r ≡ steps_of rows_of s.tag r
+  steps_part r = ap (λ (rows : List Row). filter_map f rows) (sym (take-append-drop s.end t)) ∙ filter_map-append f (take s.end t) (drop s.end t) ∙ ap (λ steps. filter_map f (take s.end t) ++ steps) (none_nil f (drop s.end t) after) ∙ append-nil (filter_map f (take s.end t)) ∙ ap (λ (rows : List Row). filter_map f rows) (sym up_to_end) ∙ filter_map-append f (take s.first t) rows_of ∙ ap (λ steps. steps ++ filter_map f rows_of) (none_nil f (take s.first t) before)
+    where
+      f : Row → Option Step
+      f = step_of s.tag r
+
+      other : (k : ℕ) (x : Row) → slice_get t k ≡ Some x → ((s.first ≤ k) × (k < s.end) → ⊥) → f x ≡ None
+      other k x e out = go (f x) refl
+        where
+          go : (o : Option Step) → f x ≡ o → f x ≡ None
+          go None q = q
+          go (Some z) q = absurd (out (is.all k x e (step_row t s.tag r x z q).0))
+
+      before : (k : ℕ) (x : Row) → slice_get (take s.first t) k ≡ Some x → f x ≡ None
+      before k x e = let p = slice_get_take s.first t k x e in let a : k < s.first = p.0 in other k x p.1 (λ z. let b : s.first ≤ k = z.0 in omega arith)
+
+      after : (k : ℕ) (x : Row) → slice_get (drop s.end t) k ≡ Some x → f x ≡ None
+      after k x e = other (s.end + k) x (sym (slice_get-drop t s.end k) ∙ e) (λ z. let b : s.end + k < s.end = z.1 in omega arith)
 
   module _ (last : Tag) (plan : PlanParts) (kept : FirstRow last plan t None) (i : ℕ) (x : Row) (e : slice_get rows_of i ≡ Some x) where
     here : x.tag ≡ s.tag

@@ -1,9 +1,7 @@
 -- Runs by the levels of their reactions.
-use Rattle.std.proofs.Common.{◌≡◌, ℕ, ◌+◌, ◌<◌, ◌≤◌, inl, inr, List, length, refl, sym, ap, ◌∙◌, arith, get_or, Some, None, slice_get}
+use Rattle.std.proofs.Common.{◌≡◌, ℕ, ◌+◌, ◌<◌, ◌≤◌, inl, inr, List, length, refl, arith, get_or, Some, None, slice_get}
 use Rattle.std.proofs.lemmas.Option.{get_or_from_slice_get}
-use native.Mathlib.Decide.{ℕ_discrete}
 use Rattle.lft_tag.specs.declared.Tag.{Tag}
-use Rattle.lft_lists.proofs.Places.{same_at}
 use Rattle.lft_flat.specs.Parts.{Parts}
 use Rattle.lft_graph.specs.Graph.{GraphParts, IsGraphOf}
 use Rattle.lft_graph.specs.Precedence.{IsLevelled, Direct, Precedes}
@@ -28,28 +26,6 @@ StartsWithin levels t n most = (i : ℕ) (x : Row) → i < n → slice_get t i �
 -- before the place no run starts before the end of one of a lower level
 abbrev pub RankedTo : List ℕ → List Row → ℕ → Type 0
 RankedTo levels t n = (i j : ℕ) (x y : Row) → i < j → j < n → slice_get t i ≡ Some x → x.step ≡ Start → slice_get t j ≡ Some y → y.step ≡ End → level_of levels x.reaction ≤ level_of levels y.reaction
-
-module _ (levels : List ℕ) (t : List Row) (n : ℕ) (row : Row) (is_row : slice_get t n ≡ Some row) where
-  -- one row more: the greatest level of a start so far
-  pub starts_more : (most more : ℕ) → StartsWithin levels t n most → most ≤ more → (row.step ≡ Start → level_of levels row.reaction ≤ more) → StartsWithin levels t (n + 1) more
-  starts_more most more old up own i x l e s = go (ℕ_discrete i n)
-    where
-      go : Dec (i ≡ n) → level_of levels x.reaction ≤ more
-      go (no d) = let a = old i x (omega arith) e s in omega arith
-      go (yes d) = let q : row ≡ x = same_at t n i row x is_row e (sym d) in let a = own (ap (λ (z : Row). z.step) q ∙ s) in let b : level_of levels row.reaction ≡ level_of levels x.reaction = ap (λ (z : Row). level_of levels z.reaction) q in omega arith
-
-  -- one row more, which ends no run below that level
-  pub ranked_more : (most : ℕ) → StartsWithin levels t n most → (row.step ≡ End → most ≤ level_of levels row.reaction) → RankedTo levels t n → RankedTo levels t (n + 1)
-  ranked_more most starts own old i j x y less l e s f q = go (ℕ_discrete j n)
-    where
-      go : Dec (j ≡ n) → level_of levels x.reaction ≤ level_of levels y.reaction
-      go (no d) = old i j x y less (omega arith) e s f q
-      go (yes d) =
-          let z : row ≡ y = same_at t n j row y is_row f (sym d) in
-          let a = own (ap (λ (w : Row). w.step) z ∙ q) in
-          let b : level_of levels row.reaction ≡ level_of levels y.reaction = ap (λ (w : Row). level_of levels w.reaction) z in
-          let c = starts i x (omega arith) e s in
-          omega arith
 
 -- the levels of a graph are levels of its program
 module _ (program : Parts) (graph : GraphParts) (is : IsGraphOf program graph) where

@@ -1,7 +1,7 @@
 -- The judge's whole state: it begins right, stays right over the rows of a later tag, and accepts what is legal.
-use Rattle.std.proofs.Common.{◌≡◌, Bool, true, false, ℕ, ◌+◌, ◌<◌, ◌⊎◌, inl, inr, List, [], ◌∷◌, ◌++◌, length, refl, sym, ap, subst, arith, Option, None, Some, slice_get}
+use Rattle.std.proofs.Common.{◌≡◌, Bool, true, false, ℕ, ◌+◌, ◌<◌, List, [], ◌++◌, refl, sym, subst, arith, Option, None, Some, slice_get}
 use Rattle.lft_tag.specs.declared.Tag.{Tag}
-use Rattle.lft_tag.specs.Tags.{Before, UpTo}
+use Rattle.lft_tag.specs.Tags.{UpTo}
 use Rattle.lft_tag.proofs.Order.{UpTo-not, Before-UpTo}
 use Rattle.lft_flat.specs.Origins.{Origin}
 use Rattle.lft_flat.specs.declared.parts.Value.{Value}
@@ -21,14 +21,13 @@ use Rattle.lft_stream.specs.Counted.{IsCounted}
 use Rattle.lft_stream.specs.declared.due.Due.{Due}
 use Rattle.lft_stream.specs.Owed.{Listens, IsMet, IsApart}
 use Rattle.lft_stream.specs.Dues.{AreDues, IsTimed}
-use Rattle.lft_stream.specs.Lanes.{held, made, carried, IsLane}
-use Rattle.lft_stream.specs.Streams.{State, first_state, IsPlain, PortStands, IsStream, IsLeft, PortLeft, IsEnded, PortGrows, IsGrown, IsEased, IsMoved, MoveLaw}
+use Rattle.lft_stream.specs.Lanes.{made, carried, IsLane}
+use Rattle.lft_stream.specs.Streams.{State, first_state, IsPlain, PortStands, IsStream, PortEnds, IsEnded, PortGrows, IsGrown, IsMoved, MoveLaw}
 use Rattle.lft_stream.proofs.Settling.{step_law, legal_of}
 use Rattle.lft_stream.proofs.Counting.{count_law}
 use Rattle.lft_stream.proofs.Owing.{parts_law, due_law}
 use Rattle.lft_stream.proofs.Clashes.{clash_law}
-use Rattle.lft_stream.proofs.Lanes.{LaneLaw, lane_law, none_held}
-use Rattle.lft_lists.proofs.Members.{mem_contains}
+use Rattle.lft_stream.proofs.Lanes.{LaneLaw, lane_law}
 
 -- the whole: the first state is right for no rows, where each port that triggers a reaction has a lane; the rows of one later tag, right behind those so far, lead to a right state; and with a right state that has nothing left the rows are accepted, with its counts
 pub record StreamLaw (plan : PlanParts) : Type 0 where
@@ -87,22 +86,12 @@ module _ (plan : PlanParts) where
     }
 
   module _ (t : List Row) (s : State) (stream : IsStream plan t s) (ended : IsEnded plan t s) where
-    few_of : (n : Name) (queue : List (Tag × Value)) → IsLeft plan t n queue → (h : Tag) → UpTo h (stop plan t) → length (held queue h) < 2
-    few_of n queue (inr x) h up = x.1 h up
-    few_of n queue (inl x) h up =
-        let e : held queue h ≡ [] = none_held queue h (λ y m q. UpTo-not h (stop plan t) up (subst (λ (z : Tag). Before (stop plan t) z) q (x y (mem_contains y queue m)))) in
-        let f : length (held queue h) ≡ 0 = ap (λ (vs : List Value). length vs) e in omega arith
-
-    met_of : (n : Name) (low : Tag) (queue : List (Tag × Value)) → IsLane plan t n low queue → IsLeft plan t n queue → IsMet plan t (On n)
-    met_of n low queue lane (inl x) = laws.meets t n low queue x lane
-    met_of n low queue lane (inr x) = λ h r up z l. absurd (x.0 r l)
-
     port_met : (p o : ℕ) (ds : List ℕ) → Origin plan.program p o ds → IsMet plan t (On (Port p))
     port_met p o ds way = go (s.has_lane p) (stream.ports p o ds way) (ended.ports p o ds way)
       where
-        go : (b : Bool) → PortStands plan t s p b → PortLeft plan t s p b → IsMet plan t (On (Port p))
+        go : (b : Bool) → PortStands plan t s p b → PortEnds plan t s p b → IsMet plan t (On (Port p))
         go false plain x = λ h r up z l. absurd (plain.unheard r l)
-        go true lane left = met_of (Port p) (s.lows (Port p)) (s.queues (Port p)) lane left
+        go true lane past = (laws.ends t (Port p) (s.lows (Port p)) (s.queues (Port p)) past lane).0
 
     plain_apart : (p : ℕ) → IsPlain plan t p s.clash → (h : Tag) → UpTo h (stop plan t) → ¬ PortClash plan t h p
     plain_apart p plain h up c = let x = plain.clashes h c in UpTo-not h (stop plan t) up (Before-UpTo (stop plan t) x.0 h (ended.clash x.0 x.1) x.2)
@@ -110,17 +99,20 @@ module _ (plan : PlanParts) where
     port_apart : (p o : ℕ) (ds : List ℕ) → Origin plan.program p o ds → IsApart plan t (Port p)
     port_apart p o ds way = go (s.has_lane p) (stream.ports p o ds way) (ended.ports p o ds way)
       where
-        go : (b : Bool) → PortStands plan t s p b → PortLeft plan t s p b → IsApart plan t (Port p)
+        go : (b : Bool) → PortStands plan t s p b → PortEnds plan t s p b → IsApart plan t (Port p)
         go false plain x = λ h up c. plain_apart p plain h up c
-        go true lane left = laws.apart t (Port p) (s.lows (Port p)) (s.queues (Port p)) (few_of (Port p) (s.queues (Port p)) left) lane
+        go true lane past = (laws.ends t (Port p) (s.lows (Port p)) (s.queues (Port p)) past lane).1
+
+    action_ends : (a : ℕ) → IsMet plan t (On (Action a)) × IsApart plan t (Action a)
+    action_ends a = laws.ends t (Action a) (s.lows (Action a)) (s.queues (Action a)) (ended.actions a) (stream.actions a)
 
     name_met : (n : Name) → IsMet plan t (On n)
     name_met (Port p) = λ h r up z l. port_met p z.1.1.origin z.1.1.delays z.1.1.is_origin h r up z l
-    name_met (Action a) = met_of (Action a) (s.lows (Action a)) (s.queues (Action a)) (stream.actions a) (ended.actions a)
+    name_met (Action a) = (action_ends a).0
 
     name_apart : (n : Name) → IsApart plan t n
     name_apart (Port p) = λ h up c. port_apart p c.is_first.origin c.is_first.delays c.is_first.is_origin h up c
-    name_apart (Action a) = laws.apart t (Action a) (s.lows (Action a)) (s.queues (Action a)) (few_of (Action a) (s.queues (Action a)) (ended.actions a)) (stream.actions a)
+    name_apart (Action a) = (action_ends a).1
 
     timed_met : (x : Trigger) → IsTimed x → IsMet plan t x
     timed_met x timed = (due_law plan).meets t s.dues stream.dues ended.dues x timed
@@ -142,16 +134,8 @@ stream_law plan = record {
 }
 
 module _ (plan : PlanParts) (t : List Row) (old new : State) (stream : IsStream plan t old) (moved : IsMoved plan t old new) where
-  eased : (n : Name) (low high : Tag) (queue rest : List (Tag × Value)) → IsEased plan t n low queue high rest → IsLane plan t n low queue → IsLane plan t n high rest
-  eased n low high queue rest (up, after, inl alike) lane = (lane_law plan).rises t n low high rest after up ((lane_law plan).reorders t n low queue rest alike lane)
-  eased n low high queue rest (up, after, inr (x, alike, passed, ran)) lane = (lane_law plan).takes t n low high x rest passed after ran up ((lane_law plan).reorders t n low queue (x ∷ rest) alike lane)
-
   lane_moves : (n : Name) → IsLane plan t n (old.lows n) (old.queues n) → IsLane plan t n (new.lows n) (new.queues n)
-  lane_moves n lane = go (moved.lanes n)
-    where
-      go : (new.lows n ≡ old.lows n) × (new.queues n ≡ old.queues n) ⊎ IsEased plan t n (old.lows n) (old.queues n) (new.lows n) (new.queues n) → IsLane plan t n (new.lows n) (new.queues n)
-      go (inl (e, f)) = subst (λ (low : Tag). IsLane plan t n low (new.queues n)) (sym e) (subst (λ (queue : List (Tag × Value)). IsLane plan t n (old.lows n) queue) (sym f) lane)
-      go (inr x) = eased n (old.lows n) (new.lows n) (old.queues n) (new.queues n) x lane
+  lane_moves n lane = (lane_law plan).goes t n (old.lows n) (new.lows n) (old.queues n) (new.queues n) (moved.lanes n) lane
 
   port_moves : (p o : ℕ) (ds : List ℕ) → Origin plan.program p o ds → PortStands plan t new p (new.has_lane p)
   port_moves p o ds way = subst (λ (b : Bool). PortStands plan t new p b) (sym (moved.has_lane p)) (go (old.has_lane p) (stream.ports p o ds way))

@@ -1,5 +1,5 @@
 -- The judge's whole state, and when it may accept.
-use Rattle.std.specs.Prelude.{◌≡◌, Bool, true, false, ℕ, ◌+◌, ◌<◌, ◌⊎◌, List, ◌∷◌, ◌++◌, length, Option, Some, None, Contains}
+use Rattle.std.specs.Prelude.{◌≡◌, Bool, true, false, ℕ, ◌+◌, ◌<◌, List, ◌++◌, Option, Some, None}
 use Rattle.lft_tag.specs.declared.Tag.{Tag}
 use Rattle.lft_tag.specs.Tags.{Before, UpTo, after_all}
 use Rattle.lft_tag.specs.Shifts.{join_all, none}
@@ -11,14 +11,13 @@ use Rattle.lft_flat.specs.declared.parts.Trigger.TheVariants.{On}
 use Rattle.lft_trace.specs.declared.row.Row.{Row}
 use Rattle.lft_model.specs.Plans.{PlanParts}
 use Rattle.lft_model.specs.Presence.{stop, Last, PortClash}
-use Rattle.lft_model.specs.Runs.{Ran}
 use Rattle.lft_by_tag.specs.Slices.{runs_in}
 use Rattle.lft_stream.specs.Settled.{IsSettled}
 use Rattle.lft_stream.specs.Counted.{IsCounted}
 use Rattle.lft_stream.specs.declared.due.Due.{Due}
 use Rattle.lft_stream.specs.Owed.{Listens}
 use Rattle.lft_stream.specs.Dues.{AreDues, NoneOwed}
-use Rattle.lft_stream.specs.Lanes.{held, first_events, made, carried, IsLane, AreAlike}
+use Rattle.lft_stream.specs.Lanes.{first_events, made, carried, IsLane, GoesOn}
 
 -- what is kept: which ports have a lane, of each name its lane and the tag up to which it is done with, when each trigger is due, of the ports without a lane the tag before which none collides, and the numbers of runs and tags
 pub record State : Type 0 where
@@ -60,23 +59,17 @@ pub record IsStream (plan : PlanParts) (t : List Row) (s : State) : Type 0 where
   pub ports : (p o : ℕ) (delays : List ℕ) → Origin plan.program p o delays → PortStands plan t s p (s.has_lane p)
   pub dues : AreDues plan t s.dues
 
--- the events of a lane are after the stop; or no reaction is triggered by the name, and no two are at one tag up to the stop
-abbrev pub IsLeft : PlanParts → List Row → Name → List (Tag × Value) → Type 0
-IsLeft plan t n queue =
-    ((y : Tag × Value) → Contains queue y → Before (stop plan t) y.0)
-    ⊎ ((r : ℕ) → ¬ Listens plan r (On n)) × ((h : Tag) → UpTo h (stop plan t) → length (held queue h) < 2)
-
--- nothing is left of a port's lane, where it has one
-abbrev pub PortLeft : PlanParts → List Row → State → ℕ → Bool → Type 0
-PortLeft plan t s p true = IsLeft plan t (Port p) (s.queues (Port p))
-PortLeft plan t s p false = Unit {0}
+-- a port's lane, where it has one, is done with up to the stop
+abbrev pub PortEnds : PlanParts → List Row → State → ℕ → Bool → Type 0
+PortEnds plan t s p true = Before (stop plan t) (s.lows (Port p))
+PortEnds plan t s p false = Unit {0}
 
 -- nothing is left to be met up to the stop
 pub record IsEnded (plan : PlanParts) (t : List Row) (s : State) : Type 0 where
   pub dues : NoneOwed (stop plan t) s.dues
   pub clash : (c : Tag) → s.clash ≡ Some c → Before (stop plan t) c
-  pub actions : (a : ℕ) → IsLeft plan t (Action a) (s.queues (Action a))
-  pub ports : (p o : ℕ) (delays : List ℕ) → Origin plan.program p o delays → PortLeft plan t s p (s.has_lane p)
+  pub actions : (a : ℕ) → Before (stop plan t) (s.lows (Action a))
+  pub ports : (p o : ℕ) (delays : List ℕ) → Origin plan.program p o delays → PortEnds plan t s p (s.has_lane p)
 
 -- what the rows u at g do to a port: its lane has their event behind, or the bound of its collisions is early enough
 abbrev pub PortGrows : List Row → List Row → Tag → State → State → ℕ → ℕ → List ℕ → Bool → Type 0
@@ -95,19 +88,15 @@ pub record IsGrown (plan : PlanParts) (d u : List Row) (g : Tag) (old new : Stat
   pub runs : new.runs ≡ old.runs + runs_in u
   pub tags : new.tags ≡ old.tags + 1
 
--- a lane may be eased: its first event, in some order, leaves it where all listeners have their runs; and it may be done with up to its least event
-abbrev pub IsEased : PlanParts → List Row → Name → Tag → List (Tag × Value) → Tag → List (Tag × Value) → Type 0
-IsEased plan t n low queue high rest = UpTo low high × ((y : Tag × Value) → Contains rest y → UpTo high y.0) × (AreAlike queue rest ⊎ ((x : Tag × Value) × AreAlike queue (x ∷ rest) × Before x.0 high × ((r : ℕ) → Listens plan r (On n) → Ran t x.0 r)))
-
--- some lanes are eased, and all else is as it was
+-- lanes go on, and all else is as it was
 pub record IsMoved (plan : PlanParts) (t : List Row) (old new : State) : Type 0 where
   pub has_lane : (p : ℕ) → new.has_lane p ≡ old.has_lane p
-  pub lanes : (n : Name) → (new.lows n ≡ old.lows n) × (new.queues n ≡ old.queues n) ⊎ IsEased plan t n (old.lows n) (old.queues n) (new.lows n) (new.queues n)
+  pub lanes : (n : Name) → GoesOn plan t n (old.lows n) (old.queues n) (new.lows n) (new.queues n)
   pub dues : new.dues ≡ old.dues
   pub clash : new.clash ≡ old.clash
   pub runs : new.runs ≡ old.runs
   pub tags : new.tags ≡ old.tags
 
--- what is kept stays right where an event that all its listeners met leaves it
+-- what is kept stays right where lanes go on
 abbrev pub MoveLaw : PlanParts → Type 0
 MoveLaw plan = (t : List Row) (old new : State) → IsStream plan t old → IsMoved plan t old new → IsStream plan t new

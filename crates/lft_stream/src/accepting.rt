@@ -10,7 +10,7 @@ use lft_trace::Rows;
 use std::alloc::Global;
 
 /// The counts of rows that are legal. None says nothing of them: they may break a rule, memory may be
-/// refused, or the program may have more than timers.
+/// refused, or a reaction may have a port behind a delay among its inputs.
 pub fn accepts_rows(alloc: Global, plan: &Plan, rows: &Rows) -> Option<Counts>
     requires { RowsFit plan.now.program rows.now }
     ensures { IfSome result (λ c. IsAccepted plan.now rows.now c.runs c.tags) }

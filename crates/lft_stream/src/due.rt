@@ -1,13 +1,12 @@
 //! When a trigger that waits for no event is present next.
 
-ghost use Rattle.std.specs.Prelude.{◌≡◌, ◌↔◌, ℕ, List, [], ◌<◌, length, Some, IfSome, IsTrue, slice_get};
+ghost use Rattle.std.specs.Prelude.{◌≡◌, ◌↔◌, ℕ, List, [], ◌<◌, Some, IfSome, IsTrue};
 ghost use Rattle.lft_tag.specs.declared.Tag.{Tag as TheTag};
 ghost use Rattle.lft_flat.specs.Sound.{IsTriggerOf};
-ghost use Rattle.lft_flat.specs.declared.parts.Trigger.{Trigger as TheTrigger};
 ghost use Rattle.lft_trace.specs.declared.row.Row.{Row as TheRow};
 ghost use Rattle.lft_model.specs.Presence.{stop};
 ghost use Rattle.lft_model.specs.Runs.{Ran};
-ghost use Rattle.lft_stream.specs.Dues.{IsDue, AreDue, IsDueAt, IsOwed, SomeOccurs};
+ghost use Rattle.lft_stream.specs.Dues.{IsDue, IsDueAt, IsOwed};
 
 use lft_flat::{Timer, Trigger};
 use lft_lists::item_at;

@@ -1,24 +1,34 @@
 //! What is kept of the rows so far.
 
-ghost use Rattle.std.specs.Prelude.{◌≡◌, ℕ, List, [], ◌++◌, ◌+◌, ◌<◌, take, length, Some, None, IsTrue, IfSome, OnSome, slice_get, slice_range};
-ghost use Rattle.lft_tag.specs.declared.Tag.{Tag as TheTag};
+ghost use Rattle.std.specs.Prelude.{◌≡◌, ℕ, List, [], ◌++◌, ◌+◌, ◌<◌, take, length, Some, None, IsTrue, IfOk, IfSome};
 ghost use Rattle.lft_trace.specs.declared.row.Row.{Row as TheRow};
 ghost use Rattle.lft_trace.specs.Fits.{RowsFit};
 ghost use Rattle.lft_model.specs.Presence.{stop, Triggered};
 ghost use Rattle.lft_model.specs.Runs.{Ran};
 ghost use Rattle.lft_rows.specs.Firsts.{FirstRow};
+ghost use Rattle.lft_rows.specs.Marks.{AreMarks, AreBefore as HaveMarksTo};
 ghost use Rattle.lft_by_tag.specs.Slices.{IsSlice, Rises, runs_in};
 ghost use Rattle.lft_check.specs.Verdicts.{IsAccepted};
+ghost use Rattle.lft_stream.specs.AtOnce.{HasPortsAtOnce};
 ghost use Rattle.lft_stream.specs.Dues.{AreDues};
-ghost use Rattle.lft_stream.specs.Timers.{HasTimersAlone, AreQuiet, IsQuiet, IsLaterTime, IsStreamOf, RisesAt};
+ghost use Rattle.lft_stream.specs.Kept.{AreQuiet, IsQuiet, IsLaterTime, IsStreamOf, RisesAt, IsAtHand, IsJudged};
+ghost use Rattle.lft_stream.specs.Present.{AreShown};
 
+use crate::at_once::has_ports_at_once;
+use crate::coming::Coming;
 use crate::dues::Dues;
+use crate::effort::Effort;
+use crate::hearing::is_all_heard;
+use crate::listeners::Listeners;
 use crate::ranks::is_ranked;
+use crate::reads::{have_read, is_woken};
+use crate::scheduling::schedule_all;
+use crate::starts::Starts;
+use crate::writes::Writes;
 use lft_by_tag::Slice;
-use lft_flat::Program;
 use lft_model::Plan;
-use lft_rows::first_breach;
-use lft_tag::Tag;
+use lft_rows::{Marks, first_breach};
+use lft_tag::{NoMemory, Tag};
 use lft_trace::{Row, Step, is_start, row_at};
 use std::alloc::Global;
 
@@ -38,33 +48,25 @@ pub(crate) struct Stream {
     runs: u32,
     tags: u32,
     dues: Dues,
+    starts: Starts,
+    writes: Writes,
+    listeners: Listeners,
+    coming: Coming,
+    effort: Effort,
 }
 
-/// Whether no reaction has an input, and the world gives no event.
-fn has_timers_alone(plan: &Plan) -> bool
-    ensures { IsTrue result → HasTimersAlone plan.now }
-{
-    let program = plan.program();
-    for number in 0..program.reactions() {
-        let reaction = program.reaction(number as u32);
-        if !reaction.triggers.names().is_empty() || !reaction.uses.as_slice().is_empty() {
-            return false;
-        }
-    }
-    plan.externals().events().is_empty()
-}
-
-/// Whether the step schedules nothing and asks for no stop.
+/// Whether the step asks for no stop.
 fn is_quiet(step: &Step) -> bool
     ensures { IsTrue result → IsQuiet step.now }
 {
     match step {
-        Step::Start | Step::Read(_, _) | Step::Write(_, _) | Step::End => true,
-        Step::Schedule(_, _, _) | Step::Stop => false,
+        Step::Stop => false,
+        Step::Start | Step::Read(_, _) | Step::Write(_, _) => true,
+        Step::Schedule(_, _, _) | Step::End => true,
     }
 }
 
-/// Whether no row schedules anything or asks for a stop.
+/// Whether no row asks for a stop.
 fn are_quiet(rows: &[Row]) -> bool
     ensures { IsTrue result → AreQuiet rows.now }
 {
@@ -109,21 +111,58 @@ fn starts_in(rows: &[Row]) -> u32
     starts
 }
 
+/// Whether the reaction, which has a run at the tag, is triggered there, where the stop is the last.
+/// What was due there is due later now.
+fn is_triggered(
+    dues: &mut Dues,
+    writes: &Writes,
+    coming: &Coming,
+    plan: &Plan,
+    reaction: u32,
+    tag: Tag,
+    last: Tag,
+) -> bool
+    ghost parts: { List TheRow × List TheRow }
+    requires reaction { reaction < length plan.now.program.reactions }
+    requires ports { HasPortsAtOnce plan.now }
+    requires last { last ≡ stop plan.now (parts.0 ++ parts.1) }
+    requires ran { Ran (parts.0 ++ parts.1) tag reaction }
+    requires shown { AreShown plan.now parts.0 parts.1 tag writes.now coming.now.queue }
+    requires dues { AreDues plan.now (parts.0 ++ parts.1) dues.old }
+    ensures dues { AreDues plan.now (parts.0 ++ parts.1) dues.new }
+    ensures triggered { IsTrue result → Triggered plan.now (parts.0 ++ parts.1) tag reaction }
+{
+    // The dues go on wherever the reaction has a run, so they are asked first.
+    dues.run(plan, reaction, tag, last) || is_woken(writes, coming, plan, tag, reaction)
+}
+
 /// Whether each reaction that starts in the slice is triggered there, where the stop is the last. What
 /// was due there is due later now.
-fn are_triggered(dues: &mut Dues, plan: &Plan, rows: &[Row], slice: Slice, last: Tag) -> bool
-    ghost whole: { List TheRow }
+fn are_triggered(
+    dues: &mut Dues,
+    writes: &Writes,
+    coming: &Coming,
+    plan: &Plan,
+    rows: &[Row],
+    slice: Slice,
+    last: Tag,
+) -> bool
+    ghost parts: { List TheRow × List TheRow }
     requires fit { RowsFit plan.now.program rows.now }
     requires slice { IsSlice rows.now slice }
-    requires last { last ≡ stop plan.now whole }
-    requires ran { (r : ℕ) → Ran rows.now slice.tag r → Ran whole slice.tag r }
-    requires dues { AreDues plan.now whole dues.old }
-    ensures dues { AreDues plan.now whole dues.new }
-    ensures triggered { IsTrue result → (r : ℕ) → Ran rows.now slice.tag r → Triggered plan.now whole slice.tag r }
+    requires ports { HasPortsAtOnce plan.now }
+    requires last { last ≡ stop plan.now (parts.0 ++ parts.1) }
+    requires ran { (r : ℕ) → Ran rows.now slice.tag r → Ran (parts.0 ++ parts.1) slice.tag r }
+    requires shown { AreShown plan.now parts.0 parts.1 slice.tag writes.now coming.now.queue }
+    requires dues { AreDues plan.now (parts.0 ++ parts.1) dues.old }
+    ensures dues { AreDues plan.now (parts.0 ++ parts.1) dues.new }
+    ensures triggered { IsTrue result → (r : ℕ) → Ran rows.now slice.tag r → Triggered plan.now (parts.0 ++ parts.1) slice.tag r }
 {
     for place in slice.first..slice.end {
         let row = row_at(rows, place);
-        if is_start(&row.step) && !dues.run(plan, row.reaction, slice.tag, last) {
+        if is_start(&row.step)
+            && !is_triggered(dues, writes, coming, plan, row.reaction, slice.tag, last)
+        {
             return false;
         }
     }
@@ -131,22 +170,36 @@ fn are_triggered(dues: &mut Dues, plan: &Plan, rows: &[Row], slice: Slice, last:
 }
 
 impl Stream {
-    /// What is kept before the first row. None where the program has more than timers, or memory is
-    /// refused.
+    /// What is kept before the first row.
+    fn empty(alloc: Global, plan: &Plan) -> Result<Stream, NoMemory>
+        requires { HasPortsAtOnce plan.now }
+        ensures { IfOk result (IsStreamOf plan.now []) }
+    {
+        let program = plan.program();
+        Ok(Stream {
+            stop: plan.externals().stop(),
+            tag: None,
+            runs: 0,
+            tags: 0,
+            dues: Dues::new(alloc, plan)?,
+            starts: Starts::new(alloc, program)?,
+            writes: Writes::new(alloc, program)?,
+            listeners: Listeners::new(alloc, plan)?,
+            coming: Coming::new(alloc),
+            effort: Effort::new(),
+        })
+    }
+
+    /// What is kept before the first row. None where a reaction has a port behind a delay
+    /// among its inputs, or memory is refused.
     pub(crate) fn new(alloc: Global, plan: &Plan) -> Option<Stream>
         ensures { IfSome result (IsStreamOf plan.now []) }
     {
-        if !has_timers_alone(plan) {
+        if !has_ports_at_once(plan) {
             return None;
         }
-        match Dues::new(alloc, plan) {
-            Ok(dues) => Some(Stream {
-                stop: plan.externals().stop(),
-                tag: None,
-                runs: 0,
-                tags: 0,
-                dues,
-            }),
+        match Stream::empty(alloc, plan) {
+            Ok(stream) => Some(stream),
             Err(_) => None,
         }
     }
@@ -164,7 +217,12 @@ impl Stream {
 
     /// Adds a tag with so many runs. It is false where a count would be too great.
     fn count(&mut self, tag: Tag, runs: u32) -> bool
-        ensures kept { (self.new.stop ≡ self.old.stop) × (self.new.dues ≡ self.old.dues) }
+        ensures stop { self.new.stop ≡ self.old.stop }
+        ensures dues { self.new.dues ≡ self.old.dues }
+        ensures starts { self.new.starts ≡ self.old.starts }
+        ensures writes { self.new.writes ≡ self.old.writes }
+        ensures listeners { self.new.listeners ≡ self.old.listeners }
+        ensures coming { self.new.coming ≡ self.old.coming }
         ensures tag { IsTrue result → self.new.tag ≡ Some tag }
         ensures runs { IsTrue result → self.new.runs ≡ self.old.runs + runs }
         ensures tags { IsTrue result → self.new.tags ≡ self.old.tags + 1 }
@@ -180,42 +238,93 @@ impl Stream {
         }
     }
 
-    /// Goes on past the rows of a slice. It is false where they may break a rule.
-    fn add_slice(&mut self, plan: &Plan, rows: &[Row], slice: Slice) -> bool
+    /// Whether the runs of a slice are right, by what is kept; that goes on past the slice.
+    fn judge_slice(&mut self, plan: &Plan, marks: &Marks, rows: &[Row], slice: Slice) -> bool
+        ghost done: { List TheRow }
+        requires fit { RowsFit plan.now.program rows.now }
+        requires slice { IsSlice rows.now slice }
+        requires marks { AreMarks plan.now.program rows.now slice.first slice.end marks.now }
+        requires hand { IsAtHand plan.now done rows.now slice self.old }
+        ensures stop { self.new.stop ≡ self.old.stop }
+        ensures tag { self.new.tag ≡ self.old.tag }
+        ensures runs { self.new.runs ≡ self.old.runs }
+        ensures tags { self.new.tags ≡ self.old.tags }
+        ensures coming { self.new.coming ≡ self.old.coming }
+        ensures listeners { self.new.listeners ≡ self.old.listeners }
+        ensures judged { IsTrue result → IsJudged plan.now done rows.now slice self.new }
+    {
+        let program = plan.program();
+        let own = &rows[slice.first..slice.end];
+        let stop = self.stop;
+        self.writes.pass_all(program, own);
+        self.starts.pass_all(program, rows, slice);
+        are_triggered(
+            &mut self.dues,
+            &self.writes,
+            &self.coming,
+            plan,
+            rows,
+            slice,
+            stop,
+        ) && have_read(&self.writes, &self.coming, marks, plan, rows, slice)
+            && is_all_heard(
+                plan,
+                &self.coming,
+                &self.listeners,
+                &self.starts,
+                own,
+                slice.tag,
+            )
+    }
+
+    /// Goes on past the rows of a slice. It is false where they may break a rule, or too much is to be
+    /// looked at.
+    fn add_slice(&mut self, plan: &Plan, marks: &mut Marks, rows: &[Row], slice: Slice) -> bool
         ghost done: { List TheRow }
         requires fit { RowsFit plan.now.program rows.now }
         requires quiet { AreQuiet rows.now }
         requires kept { FirstRow self.old.stop plan.now rows.now None }
         requires slice { IsSlice rows.now slice }
+        requires marks { HaveMarksTo plan.now.program slice.first marks.old }
         requires stands { IsStreamOf plan.now (done ++ take slice.first rows.now) self.old }
         ensures stop { self.new.stop ≡ self.old.stop }
+        ensures marks { IsTrue result → HaveMarksTo plan.now.program slice.end marks.new }
         ensures stands { IsTrue result → IsStreamOf plan.now (done ++ take slice.end rows.now) self.new }
     {
+        let program = plan.program();
         let own = &rows[slice.first..slice.end];
-        if !self.is_later(slice.tag) || !is_ranked(plan, own) {
+        if !self.is_later(slice.tag)
+            || !is_ranked(plan, own)
+            || !self.effort.allows(program, &self.listeners, own)
+            || !self
+                .coming
+                .reach(plan.externals(), &self.listeners, slice.tag)
+        {
             return false;
         }
-        let stop = self.stop;
-        if !are_triggered(&mut self.dues, plan, rows, slice, stop) {
+        marks.pass_all(program, rows, slice.first, slice.end);
+        if !self.judge_slice(plan, marks, rows, slice) {
             return false;
         }
-        self.count(slice.tag, starts_in(own))
+        self.coming.drop_until(slice.tag);
+        schedule_all(&mut self.coming, plan, own) && self.count(slice.tag, starts_in(own))
     }
 
     /// Goes on past rows that break none of the rules 1 to 5, tag by tag. It is false where they may
-    /// break a rule.
-    fn add_kept(&mut self, plan: &Plan, rows: &[Row]) -> bool
+    /// break a rule, or too much is to be looked at.
+    fn add_kept(&mut self, plan: &Plan, marks: &mut Marks, rows: &[Row]) -> bool
         ghost done: { List TheRow }
         requires fit { RowsFit plan.now.program rows.now }
         requires quiet { AreQuiet rows.now }
         requires kept { FirstRow self.old.stop plan.now rows.now None }
+        requires marks { HaveMarksTo plan.now.program 0 marks.old }
         requires stands { IsStreamOf plan.now done self.old }
         ensures { IsTrue result → IsStreamOf plan.now (done ++ rows.now) self.new }
     {
         let mut first = 0;
         while first < rows.len() {
             let slice = slice_from(rows, first);
-            if !self.add_slice(plan, rows, slice) {
+            if !self.add_slice(plan, marks, rows, slice) {
                 return false;
             }
             first = slice.end;
@@ -223,8 +332,9 @@ impl Stream {
         true
     }
 
-    /// Goes on past more rows, of whole tags. It is false where they may break a rule. Each call looks
-    /// at the whole program, so it is to have many rows.
+    /// Goes on past more rows, of whole tags. It is false where they may break a rule, or too much is
+    /// to be looked at, or memory is refused. Each call looks at the whole program, so it is to have
+    /// many rows.
     pub(crate) fn add(&mut self, alloc: Global, plan: &Plan, rows: &[Row]) -> bool
         ghost done: { List TheRow }
         requires fit { RowsFit plan.now.program rows.now }
@@ -234,18 +344,24 @@ impl Stream {
         if !are_quiet(rows) {
             return false;
         }
+        let Ok(mut marks) = Marks::new(alloc, plan.program()) else {
+            return false;
+        };
         match first_breach(alloc, plan, self.stop, rows) {
-            Ok(None) => self.add_kept(plan, rows),
+            Ok(None) => self.add_kept(plan, &mut marks, rows),
             Ok(Some(_)) => false,
             Err(_) => false,
         }
     }
 
     /// The counts, where nothing is owed up to the stop.
-    pub(crate) fn finish(&self, plan: &Plan) -> Option<Counts>
-        ensures { IfSome result (λ c. (t : List TheRow) → IsStreamOf plan.now t self.now → IsAccepted plan.now t c.runs c.tags) }
+    pub(crate) fn finish(&mut self, plan: &Plan) -> Option<Counts>
+        ensures { IfSome result (λ c. (t : List TheRow) → IsStreamOf plan.now t self.old → IsAccepted plan.now t c.runs c.tags) }
     {
-        if self.dues.none_owed(self.stop) {
+        let stop = self.stop;
+        if self.dues.none_owed(stop)
+            && self.coming.is_over(plan.externals(), &self.listeners, stop)
+        {
             Some(Counts {
                 runs: self.runs,
                 tags: self.tags,

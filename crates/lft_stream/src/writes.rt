@@ -1,11 +1,11 @@
 //! What was written last to each port.
 
-ghost use Rattle.std.specs.Prelude.{◌≡◌, ℕ, List, [], ◌∷◌, ◌++◌, ◌<◌, length, Some, None, IfOk, MatchOption, slice_get};
+ghost use Rattle.std.specs.Prelude.{◌≡◌, ℕ, List, [], ◌∷◌, ◌++◌, ◌<◌, length, Some, None, IfOk, MatchOption};
 ghost use Rattle.lft_flat.specs.declared.parts.Name.TheVariants.{Port};
 ghost use Rattle.lft_trace.specs.declared.row.Step.TheVariants.{Write};
 ghost use Rattle.lft_model.specs.Presence.{value_written};
 ghost use Rattle.lft_trace.specs.declared.row.Row.{Row as TheRow};
-ghost use Rattle.lft_trace.specs.Fits.{RowFits};
+ghost use Rattle.lft_trace.specs.Fits.{RowFits, RowsFit};
 ghost use Rattle.lft_stream.specs.Settled.{AreBefore, AreAt};
 ghost use Rattle.lft_stream.specs.Shown.{last_write};
 ghost use Rattle.lft_stream.specs.Writes.{AreWrites};
@@ -13,7 +13,7 @@ ghost use Rattle.lft_stream.specs.Writes.{AreWrites};
 use lft_flat::{Name, Program, Value};
 use lft_lists::item_at;
 use lft_tag::{NoMemory, Tag};
-use lft_trace::{Row, Step};
+use lft_trace::{Row, Step, row_at};
 use std::alloc::Global;
 use std::marker::Model;
 
@@ -40,7 +40,7 @@ impl Model for Writes {
 }
 
 /// The port that the step writes, with the value, if it writes one.
-fn written_port(step: &Step) -> Option<(u32, Value)>
+pub(crate) fn written_port(step: &Step) -> Option<(u32, Value)>
     ensures { MatchOption result ((p : ℕ) → value_written p step.now ≡ None) (λ x. step.now ≡ Write (Port x.0) x.1) }
 {
     match step {
@@ -64,15 +64,27 @@ impl Writes {
     }
 
     /// Goes on past a row.
-    pub(crate) fn pass(&mut self, program: &Program, row: Row)
-        ghost rows: { List TheRow }
+    fn pass(&mut self, program: &Program, row: Row)
         requires fits { RowFits program.now row }
-        requires writes { AreWrites program.now rows self.old }
-        ensures { AreWrites program.now (rows ++ row ∷ []) self.new }
+        requires ports { length self.old ≡ length program.now.ports }
+        ensures ports { length self.new ≡ length program.now.ports }
+        ensures passed { (rows : List TheRow) → AreWrites program.now rows self.old → AreWrites program.now (rows ++ row ∷ []) self.new }
     {
         let tag = row.tag;
         if let Some((port, value)) = written_port(&row.step) {
             self.last[port as usize] = Some(Written { tag, value });
+        }
+    }
+
+    /// Goes on past more rows.
+    pub(crate) fn pass_all(&mut self, program: &Program, more: &[Row])
+        ghost rows: { List TheRow }
+        requires fit { RowsFit program.now more.now }
+        requires writes { AreWrites program.now rows self.old }
+        ensures { AreWrites program.now (rows ++ more.now) self.new }
+    {
+        for place in 0..more.len() {
+            self.pass(program, row_at(more, place));
         }
     }
 

@@ -14,9 +14,6 @@ use Rattle.lft_syntax.proofs.Once.{cut_once, fault_or_cut, fault_once}
 pub record Front (t : List ℕ) (i : ℕ) (tokens : List Token) : Type 0 where
   pub onto : (rest : List Token) (j : ℕ) → Cut t i rest j → Cut t 0 (tokens ++ rest) j
 
-pub front_start : (t : List ℕ) → Front t 0 []
-front_start t = record { onto = λ rest j cut. cut }
-
 pub front_blank : (t : List ℕ) (i m : ℕ) (kind : Option TokenKind) (tokens : List Token) → kind ≡ None → Piece t i kind m → Front t i tokens → Front t m tokens
 front_blank t i m kind tokens e p front = record { onto = λ rest j cut. front.onto rest j (piece (subst (λ (k : Option TokenKind). Piece t i k m) e p) cut) }
 

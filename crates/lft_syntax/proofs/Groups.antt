@@ -47,10 +47,6 @@ module _ (opening closing : Lexeme) (apart : opening ≡ closing → ⊥) where
   open_before ws zero i k j grow o = (o.0, grow o.0 o.1, o.2, o.3)
   open_before ws (suc d) i k j grow o = (o.0, grow o.0 o.1, o.2, o.3)
 
-  open_here : (ws : List Lexeme) (d i m j : ℕ) → Balanced opening closing ws i m → slice_get ws m ≡ Some closing → Opened ws d (m + 1) j → Opened ws (suc d) i j
-  unfolding Opened
-  open_here ws d i m j inner shut rest = (m, inner, shut, rest)
-
   open_nested : (ws : List Lexeme) (d i j : ℕ) → slice_get ws i ≡ Some opening → Opened ws (suc d) (i + 1) j → Opened ws d i j
   unfolding Opened
   open_nested ws d i j at o = open_before ws d i (o.0 + 1) j (λ m more. nested at o.1 o.2 more) o.3

@@ -1,5 +1,5 @@
 -- A group, one token at a time.
-use Rattle.std.proofs.Common.{◌≡◌, ℕ, zero, suc, ◌+◌, ◌≤◌, ◌<◌, List, length, Result, refl, sym, subst, ◌∙◌, arith}
+use Rattle.std.proofs.Common.{◌≡◌, ℕ, zero, suc, ◌+◌, ◌≤◌, ◌<◌, List, length, Result, sym, subst, ◌∙◌, arith}
 use Rattle.std.specs.Prelude.{slice_get}
 use Rattle.lft_syntax.specs.declared.parse_error.ParseError.{ParseError}
 use Rattle.lft_syntax.specs.Lexeme.{Lexeme}
@@ -12,9 +12,6 @@ pub record Within (opening closing : Lexeme) (ws : List Lexeme) (depth at : ℕ)
   pub enough : length ws < at + suc left
   pub shallow : depth ≤ at
   pub rest : inside_at opening closing (suc left) depth ws at ≡ total
-
-pub within_starts : (opening closing : Lexeme) (ws : List Lexeme) (at : ℕ) → Within opening closing ws 0 at (inside_at opening closing (suc (length ws)) 0 ws at)
-within_starts opening closing ws at = record { left = length ws; enough = omega arith; shallow = omega arith; rest = refl }
 
 module _ (opening closing : Lexeme) (ws : List Lexeme) (total : Result (Unit {0} × ℕ) ℕ) where
   -- what the rest is, once this token is read

@@ -191,17 +191,6 @@ ends_follower (Some (Number n)) q h e = cc
 ends_follower (Some Arrow) q h e = cc
 ends_follower (Some (Symbol s)) q h e = follower_symbol s h e
 
--- what ends a member is a closing brace or a word
-ends_of : (go : Test) → go None ≡ false → go (Some Code) ≡ false → go (Some Text) ≡ false → ((n : ℕ) → go (Some (Number n)) ≡ false) → go (Some Arrow) ≡ false → go (Some (Symbol 125)) ≡ false → ((x : List ℕ) → go (Some (Letters x)) ≡ false)
-    → (o q : Option Lexeme) → closes_at o q ≡ true → go o ≡ false
-ends_of go none code text num arrow brace word None q h = none
-ends_of go none code text num arrow brace word (Some Code) q h = code
-ends_of go none code text num arrow brace word (Some Text) q h = text
-ends_of go none code text num arrow brace word (Some (Letters x)) q h = word x
-ends_of go none code text num arrow brace word (Some (Number n)) q h = num n
-ends_of go none code text num arrow brace word (Some Arrow) q h = arrow
-ends_of go none code text num arrow brace word (Some (Symbol s)) q h = let s-is : s ≡ 125 = eqb-true s 125 h in rw s-is brace
-
 -- no member, and no end of a body, begins with this symbol
 pub no_symbol : (b : ℕ) → eqb b 125 ≡ false → (vs : List Lexeme) (m : ℕ) → Ends vs m → is (Symbol b) (slice_get vs m) ≡ false
 no_symbol b e vs m h = ends_symbol b e (slice_get vs m) (slice_get vs (m + 1)) h

@@ -20,8 +20,5 @@ range_cons t i j lt le =
 pub value_step : (t : List ℕ) (i j n : ℕ) → i < j → j ≤ length t → value_from n (slice_range t i j) ≡ value_from (n * 10 + (get_or t i 0 - 48)) (slice_range t (i + 1) j)
 value_step t i j n lt le = ap (value_from n) (range_cons t i j lt le)
 
-pub value_done : (t : List ℕ) (i n : ℕ) → value_from n (slice_range t i i) ≡ n
-value_done t i n = let k : i - i ≡ 0 = omega arith in ap (λ (m : ℕ). value_from n (take m (drop i t))) k
-
 pub value_large : (t : List ℕ) (i j n v : ℕ) → i < j → j ≤ length t → value_from n (slice_range t i j) ≡ v → 2 ^ 64 ≤ n * 10 + (get_or t i 0 - 48) → 2 ^ 64 ≤ v
 value_large t i j n v lt le e large = let h = value_grows (slice_range t (i + 1) j) (n * 10 + (get_or t i 0 - 48)) in let s = value_step t i j n lt le in omega (arith, h, s, e)

@@ -1,11 +1,10 @@
 -- What is known of the tokens of a text.
-use Rattle.std.proofs.Common.{◌≡◌, ℕ, ◌+◌, ◌-◌, ◌<◌, ◌≤◌, true, List, length, get_or, drop, Some, None, IsUtf8, IsAscii, sym, ap, subst, ◌∙◌, arith, length-take, length-drop}
+use Rattle.std.proofs.Common.{◌≡◌, ℕ, ◌+◌, ◌-◌, ◌<◌, ◌≤◌, true, List, length, get_or, drop, Some, None, IsAscii, sym, ap, subst, ◌∙◌, arith, length-take, length-drop}
 use Rattle.std.specs.Prelude.{slice_get, slice_index, slice_range}
 use Rattle.std.specs.List.{All}
 use Rattle.std.proofs.lemmas.List.{get_or-take, get_or-drop}
 use Rattle.std.proofs.lemmas.List.Elements.{All-nil, All-cons, All-get_or}
 use Rattle.std.proofs.lemmas.Option.{slice_get_within, get_or_from_slice_get}
-use Rattle.std.proofs.lemmas.Str.{IsUtf8-from_ascii}
 use Rattle.std.proofs.lemmas.Str.Ascii.{IsAscii-from_reads}
 use Rattle.std.proofs.lemmas.Bool.Decides.{nat_tests}
 use Rattle.lft_syntax.specs.declared.token.Token.{Token}
@@ -61,19 +60,10 @@ cut_tokens t done = All-nil (InText t)
 cut_tokens t (piece {kind = None} p rest) = cut_tokens t rest
 cut_tokens t (piece {i = i} {m = m} {kind = Some kind} {tokens = tokens} p rest) = All-cons (InText t) (record { kind = kind; start = i; end = m }) tokens (piece_token t i m kind p) (cut_tokens t rest)
 
-cut_few : (t : List ℕ) {i j : ℕ} {tokens : List Token} → Cut t i tokens j → i + length tokens ≤ j
-cut_few t done = omega arith
-cut_few t (piece {i = i} {m = m} {kind = None} p rest) = let h = cut_few t rest in let lt = piece_further t i None m p in omega arith
-cut_few t (piece {i = i} {m = m} {kind = Some kind} p rest) = let h = cut_few t rest in let lt = piece_further t i (Some kind) m p in omega arith
-
 -- each token of a text lies in it
 pub token_at : (t : List ℕ) (tokens : List Token) (n : ℕ) (k : Token) → Lexes t tokens → slice_get tokens n ≡ Some k → InText t k
 token_at t tokens n k whole there =
     subst (λ (x : Token). InText t x) (get_or_from_slice_get tokens n k k there) (All-get_or (InText t) tokens n k (slice_get_within tokens n k there) (cut_tokens t whole))
-
--- a text has no more tokens than bytes
-pub tokens_few : (t : List ℕ) (tokens : List Token) → Lexes t tokens → length tokens ≤ length t
-tokens_few t tokens whole = let h = cut_few t whole in omega arith
 
 pub word_ascii : (b : ℕ) → is_word b ≡ true → b < 128
 word_ascii b h = grind (arith, nat_tests)
@@ -88,6 +78,3 @@ name_ascii t tokens n k whole there e =
     let h = token_at t tokens n k whole there in
     let order = h.order in
     range_ascii t k.start k.end (omega arith) h.within (h.letters e)
-
-pub name_utf8 : (t : List ℕ) (tokens : List Token) (n : ℕ) (k : Token) → Lexes t tokens → slice_get tokens n ≡ Some k → k.kind ≡ kinds.Name → IsUtf8 (slice_range t k.start k.end)
-name_utf8 t tokens n k whole there e = IsUtf8-from_ascii (slice_range t k.start k.end) (name_ascii t tokens n k whole there e)

@@ -4,14 +4,12 @@
 
 ghost use Rattle.std.specs.Prelude.{◌≡◌, ◌↔◌, ℕ, List, ◌+◌, ◌≤◌, IsTrue, MatchOption};
 
-use std::alloc::{AllocError, AllocFailed};
+mod limits;
 
-/// The greatest time of a recorded tag and the greatest delay, in nanoseconds.
-pub const MAX_TIME: u64 = 1_000_000_000_000_000_000;
-/// The greatest microstep of a recorded tag.
-pub const MAX_MICRO: u32 = 1_000_000_000;
-/// The greatest number of microsteps that a shift adds.
-pub const MAX_STEPS: u32 = 100_000;
+pub use limits::{
+    MAX_INSTANCES, MAX_MICRO, MAX_REACTIONS, MAX_ROWS, MAX_RUNS, MAX_STEPS, MAX_THINGS, MAX_TIME,
+};
+use std::alloc::{AllocError, AllocFailed};
 
 /// A growth of memory was refused.
 #[derive(Clone, Copy, PartialEq, Eq, Debug)]
@@ -35,6 +33,14 @@ impl<T: Drop> From<AllocFailed<T>> for NoMemory {
 pub struct Tag {
     pub time: u64,
     pub micro: u32,
+}
+
+/// Where a connection into a port begins: the port there, and the delay of the connection in
+/// nanoseconds, if it has one.
+#[derive(Clone, Copy, PartialEq, Eq, Debug, Drop)]
+pub struct Source {
+    pub port: u32,
+    pub delay: Option<u64>,
 }
 
 /// The delays of a chain of connections, folded: nanoseconds to add, and microsteps after them.

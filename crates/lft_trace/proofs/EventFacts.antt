@@ -60,12 +60,6 @@ same_key j k h =
 key_itself : (j k : Key) → j.0 ≡ k.0 → j.1 ≡ k.1 → j.2 ≡ k.2 → key_cmp j k ≡ Equal
 key_itself j k a b c = rw (a, b, c, itself k.0, itself k.1) (itself k.2)
 
-pub key_of : Event → Key
-key_of e = (e.tag.time, e.tag.micro, e.action)
-
-tag_of : Key → Tag
-tag_of k = record { time = k.0; micro = k.1 }
-
 pub found : (es : List (Key × Value)) (e : Event) (w : Value) → lookup (is_at (key_cmp (e.tag.time, e.tag.micro, e.action))) es ≡ Some w → (d : Event) × Has (map event_at es) d × Clash d e
 found es e w h =
     let p = place_from_lookup (is_at (key_cmp (e.tag.time, e.tag.micro, e.action))) es w h in

@@ -1,8 +1,8 @@
 //! External inputs as tables.
 
-ghost use Rattle.std.specs.Prelude.{◌≡◌, ◌≢◌, ◌+◌, ℕ, List, length, IfSome, IfNone, IfOk, IfErr, IsTrue, ◌↔◌, true, false, is_some, not, ◌&&◌, ◌||◌, Some, None};
+ghost use Rattle.std.specs.Prelude.{◌≡◌, ◌≢◌, ◌+◌, ℕ, List, IfOk, IfErr, IsTrue, ◌↔◌, true, false, not, ◌&&◌, ◌||◌, Some, None};
 ghost use Rattle.csv.specs.Records.{fields_of};
-ghost use Rattle.lft_trace.specs.ExternalTables.{ExternalTable, ExternalFails, FaultAt, IsEntry, IsOfKind, header, has_numbers, word};
+ghost use Rattle.lft_trace.specs.ExternalTables.{ExternalTable, ExternalFails, FaultAt, IsEntry, IsOfKind, header};
 ghost use Rattle.lft_trace.specs.Faults.{is_told};
 ghost use Rattle.lft_trace.specs.Fits.{ExternalsFit};
 ghost use Rattle.lft_trace.specs.Inputs.{ExternalInputs, InOrder};

@@ -1,11 +1,11 @@
 //! External inputs.
 
-ghost use Rattle.std.specs.Prelude.{◌≡◌, ◌↔◌, IfOk, IsTrue, length};
+ghost use Rattle.std.specs.Prelude.{◌≡◌, ◌↔◌, IfOk, IsTrue};
 
-use crate::fits::{MAX_ROWS, event_fits, is_recorded};
+use crate::fits::{event_fits, is_recorded};
 use crate::same::same_events;
 use lft_flat::{Program, Value};
-use lft_tag::{NoMemory, Tag};
+use lft_tag::{MAX_ROWS, NoMemory, Tag};
 use std::alloc::Global;
 use std::marker::Model;
 

@@ -1,6 +1,6 @@
 //! The fields of records by their names.
 
-ghost use Rattle.std.specs.Prelude.{◌≡◌, ◌≢◌, ◌↔◌, IfSome, IfNone, IsTrue, length, ◌<◌, slice_index_or, []};
+ghost use Rattle.std.specs.Prelude.{◌≡◌, ◌≢◌, ◌↔◌, IfSome, IfNone, IsTrue, length, ◌<◌};
 ghost use Rattle.csv.specs.Records.{fields_of};
 ghost use Rattle.lft_trace.specs.Traces.{header, in_order, is_filled};
 ghost use Rattle.lft_trace.specs.ExternalTables.{header as external_header, in_order as externals_in_order, is_filled as is_filled_external};

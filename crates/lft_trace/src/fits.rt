@@ -10,9 +10,6 @@ use crate::row::{Row, Step};
 use lft_flat::{Name, Program};
 use lft_tag::{MAX_MICRO, MAX_TIME, Tag};
 
-/// The greatest number of rows or events. The readers keep it by `LAST_LINE` of `records.rt`.
-pub(crate) const MAX_ROWS: usize = 4_000_000;
-
 /// Whether a row is of the program, and its tag and its delay are within their limits.
 pub(crate) fn row_fits(row: Row, program: &Program) -> bool
     ensures { IsTrue result ↔ RowFits program.now row }

@@ -7,11 +7,11 @@ ghost use Rattle.lft_trace.specs.Records.{records_of, reader_left, IsPlain};
 
 use crate::fault::TraceFault;
 use csv::{ByteRecord, ErrorKind, Reader, ReaderBuilder};
+use lft_tag::MAX_ROWS;
 use std::alloc::Global;
 
-/// The line of the last row that a table may have: the header is line 1, so this is one more than
-/// `MAX_ROWS` of `fits.rt`.
-pub const LAST_LINE: u32 = 4_000_001;
+/// The line of the last row that a table may have. The header is line 1.
+pub const LAST_LINE: u32 = MAX_ROWS as u32 + 1;
 
 /// Why the records stop before their end.
 #[derive(Clone, Copy, PartialEq, Eq)]

@@ -1,10 +1,10 @@
 //! The rows of a trace.
 
-ghost use Rattle.std.specs.Prelude.{◌≡◌, ◌↔◌, ◌++◌, IsTrue, OnOk, OnErr, length, take};
+ghost use Rattle.std.specs.Prelude.{◌≡◌, ◌↔◌, ◌++◌, IsTrue, OnOk, OnErr, take};
 
-use crate::fits::{MAX_ROWS, row_fits};
+use crate::fits::row_fits;
 use lft_flat::{Name, Program, Value};
-use lft_tag::{NoMemory, Tag};
+use lft_tag::{MAX_ROWS, NoMemory, Tag};
 use std::marker::Model;
 
 /// What a row tells of a run. A schedule has the extra delay in nanoseconds.

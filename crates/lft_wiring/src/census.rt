@@ -4,7 +4,7 @@ ghost use Rattle.std.specs.Prelude.{◌≡◌, IfOk, IfSome};
 ghost use Rattle.lft_wiring.specs.Limits.{IsExcess, limit_of as the_limit_of};
 
 use crate::wiring::main_of;
-use lft_tag::NoMemory;
+use lft_tag::{MAX_INSTANCES, MAX_REACTIONS, MAX_THINGS, NoMemory};
 use lft_tree::{Member, Reactor};
 use std::alloc::Global;
 use std::collections::HashMap;
@@ -52,11 +52,12 @@ fn limit_of(kind: LimitedKind) -> u64
     ensures { result ≡ the_limit_of kind }
 {
     match kind {
-        LimitedKind::Instances | LimitedKind::Reactions => 10_000,
+        LimitedKind::Instances => MAX_INSTANCES as u64,
+        LimitedKind::Reactions => u64::from(MAX_REACTIONS),
         LimitedKind::Ports
         | LimitedKind::Connections
         | LimitedKind::Actions
-        | LimitedKind::Timers => 100_000,
+        | LimitedKind::Timers => u64::from(MAX_THINGS),
     }
 }
 

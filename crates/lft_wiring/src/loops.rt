@@ -2,7 +2,7 @@
 
 ghost use Rattle.std.specs.Prelude.{◌≡◌, ◌<◌, ◌++◌, ℕ, Some, IfOk, OnOk, find, length, slice_get, string_bytes};
 ghost use Rattle.lft_flat.specs.Parts.{inputs};
-ghost use Rattle.lft_wiring.specs.Loops.{between, fed, fed_of, has_port as has_that_port, is_fed as is_fed_by, is_port as is_that_port, loop_words, step_words, told_step, turned};
+ghost use Rattle.lft_wiring.specs.Loops.{between, fed, has_port as has_that_port, is_fed as is_fed_by, is_port as is_that_port, loop_words, step_words, told_step, turned};
 
 use lft_flat::{Name, Program, Reaction};
 use lft_lists::item_at;

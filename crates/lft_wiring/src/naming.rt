@@ -3,8 +3,8 @@
 ghost use Rattle.std.specs.Prelude.{◌≡◌, ◌++◌, ℕ, List, OnOk, string_bytes};
 
 use crate::joins::Port;
-use crate::wiring::{MOST_INSTANCES, Wiring};
-use lft_tag::NoMemory;
+use crate::wiring::Wiring;
+use lft_tag::{MAX_INSTANCES, NoMemory};
 use std::alloc::Global;
 
 impl<'a> Wiring<'a> {
@@ -12,7 +12,7 @@ impl<'a> Wiring<'a> {
     fn path(&self, alloc: Global, number: usize) -> Result<Vec<&'a str>, NoMemory> {
         let mut names = Vec::new(alloc);
         let mut at = number;
-        for _step in 0..MOST_INSTANCES {
+        for _step in 0..MAX_INSTANCES {
             if at >= self.instances.len() {
                 return Ok(names);
             }

@@ -8,13 +8,10 @@ ghost use Rattle.std.specs.Prelude.{◌≡◌, IfOk, IfSome};
 use crate::joins::{Join, Port};
 use lft_places::MemberPlace;
 use lft_scope::times::nanoseconds;
-use lft_tag::NoMemory;
+use lft_tag::{MAX_INSTANCES, NoMemory};
 use lft_tree::{Assignment, Connection, Member, Reactor, Reference, Time, TimeExpression};
 use std::alloc::Global;
 use std::collections::HashMap;
-
-/// More instances than a program may have aren't walked.
-pub(crate) const MOST_INSTANCES: usize = 10_000;
 
 /// The number of an instance, and a name there.
 pub(crate) type Named<'a> = (usize, &'a str);
@@ -184,7 +181,7 @@ impl<'a> Wiring<'a> {
     fn add_instances(&mut self, named: &HashMap<&'a str, Placed<'a>>) -> Result<(), NoMemory>
         ensures { self.new.reactors ≡ self.old.reactors }
     {
-        for number in 0..MOST_INSTANCES {
+        for number in 0..MAX_INSTANCES {
             if number >= self.instances.len() {
                 return Ok(());
             }

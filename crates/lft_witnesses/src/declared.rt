@@ -1,6 +1,6 @@
 //! Names that reactors declare, and names of reactors, that stand twice.
 
-ghost use Rattle.std.specs.Prelude.{◌≡◌, ◌++◌, IfOk, OnOk, IfSome, IsSomeAnd, filter_map, option_map, slice_get};
+ghost use Rattle.std.specs.Prelude.{◌≡◌, ◌++◌, IfOk, OnOk, IfSome, filter_map, option_map};
 ghost use Rattle.lft_tree.specs.View.{member_view, member_views, reactor_view};
 ghost use Rattle.lft_scope.specs.References.{reactor_trees};
 ghost use Rattle.lft_scope.specs.Tests.{texts};

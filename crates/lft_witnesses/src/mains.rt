@@ -1,8 +1,8 @@
 //! Main reactors, and parameters with long defaults.
 
-ghost use Rattle.std.specs.Prelude.{◌≡◌, ◌<◌, ℕ, Some, IfSome, IsSomeAnd, IsTrue, map, slice_get, true};
+ghost use Rattle.std.specs.Prelude.{◌≡◌, ◌<◌, ℕ, Some, IfSome, IsSomeAnd, map, slice_get, true};
 ghost use Rattle.lft_tree.specs.Tree.{nanoseconds};
-ghost use Rattle.lft_tree.specs.View.{parameter_view, reactor_view};
+ghost use Rattle.lft_tree.specs.View.{parameter_view};
 ghost use Rattle.lft_scope.specs.Causes.{longest};
 ghost use Rattle.lft_scope.specs.References.{reactor_trees};
 ghost use Rattle.lft_witnesses.specs.Witnesses.{Shows};

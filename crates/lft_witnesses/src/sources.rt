@@ -1,8 +1,8 @@
 //! Ports that are written at two places of a reactor.
 
-ghost use Rattle.std.specs.Prelude.{◌≡◌, ◌<◌, Some, IfOk, IfSome, IsTrue, length, slice_get};
+ghost use Rattle.std.specs.Prelude.{◌≡◌, ◌<◌, Some, IfOk, IfSome, IsTrue, length};
 ghost use Rattle.lft_tree.specs.View.{ref_view, reactor_view};
-ghost use Rattle.lft_scope.specs.References.{ref_trees, reactor_trees};
+ghost use Rattle.lft_scope.specs.References.{reactor_trees};
 ghost use Rattle.lft_witnesses.specs.Witnesses.{IsNamedAt, IsWrittenTwice, Shows};
 
 use crate::names::names_of;

@@ -1,5 +1,5 @@
 -- One more item of a list, as loops take it.
-use Rattle.std.proofs.Common.{◌≡◌, ℕ, zero, suc, ◌+◌, ◌≤◌, ◌∷◌, [], List, ◌++◌, length, take, take_all, drop, add-one, append-nil, append_assoc, sym, ap, ◌∙◌, refl, Some, slice_get, flat_map, fold}
+use Rattle.std.proofs.Common.{◌≡◌, ℕ, zero, suc, ◌+◌, ◌≤◌, ◌∷◌, [], List, ◌++◌, length, take, take_all, drop, add-one, append-nil, append_assoc, sym, ap, ◌∙◌, Some, slice_get, flat_map, fold}
 
 -- what is left from a place on begins with the item there
 pub drop_next : {X : Type 0} (xs : List X) (i : ℕ) (x : X) → slice_get xs i ≡ Some x → drop i xs ≡ x ∷ drop (suc i) xs

@@ -1,7 +1,6 @@
 //! Words of the text: numbers, times, tags, values and names.
 
 ghost use Rattle.std.specs.Prelude.{◌≡◌, ◌++◌, OnOk, decimal, string_bytes};
-ghost use Rattle.std.specs.Fmt.{signed_decimal};
 ghost use Rattle.lft_words.specs.Words.{time_words, tag_words, value_words, port_words, action_words, timer_words, reaction_words, name_words, trigger_words};
 
 use itoa::Buffer;

@@ -12,8 +12,8 @@ ghost use Rattle.lft_program.specs.declared.nesting.linking.LinkFault.TheVariant
 use crate::nesting::nest::Nest;
 use crate::nesting::tables::Tables;
 use lft_causes::has_long_time;
-use lft_instances::{OriginFault, Reached, Source, find_origins, find_sources};
-use lft_tag::{NoMemory, Shift};
+use lft_instances::{OriginFault, Reached, find_origins, find_sources};
+use lft_tag::{NoMemory, Shift, Source};
 use lft_tree::Ast;
 use std::alloc::{AllocFailed, Global};
 

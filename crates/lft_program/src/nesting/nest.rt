@@ -15,12 +15,8 @@ use crate::nesting::counts::{
 };
 use crate::nesting::tables::Tables;
 use lft_instances::{Children, Instance, Values, WalkFault, all_instances, first_numbers};
+use lft_tag::{MAX_REACTIONS, MAX_THINGS};
 use std::alloc::Global;
-
-/// The greatest number of reactions.
-const MAX_REACTIONS: u32 = 10_000;
-/// The greatest number of ports, of single connections, of actions, and of timers.
-const MAX_THINGS: u32 = 100_000;
 
 /// How things of one kind are numbered: how many of them each reactor declares, by the reactor's
 /// number, and the number of each instance's first one, by the instance's number.

@@ -1,7 +1,7 @@
 //! Contained instances and connections.
 
-ghost use Rattle.std.specs.Prelude.{◌≡◌, ℕ, [], ◌∷◌, map, option_map, codes};
-ghost use Rattle.lft_syntax.specs.Lexeme.{Symbol, Letters, is};
+ghost use Rattle.std.specs.Prelude.{◌≡◌, ℕ, [], ◌∷◌, map, option_map};
+ghost use Rattle.lft_syntax.specs.Lexeme.{Symbol, is};
 ghost use Rattle.lft_syntax.specs.View.{Gives};
 ghost use Rattle.lft_tree.specs.View.{time_view, assignment_view, instance_view, connection_view};
 ghost use Rattle.lft_syntax.specs.Reading.{after_comma, repeated, with_front, listed_at, given_value_at, assign_at, assigns_at, instance_at, after_at, connection_at};

@@ -1,7 +1,6 @@
 //! Single tokens: what stands at a place, and the place after one that must stand there.
 
 ghost use Rattle.std.specs.Prelude.{◌≡◌, ℕ, ◌<◌, ◌≤◌, ◌+◌, ◌-◌, ◌^◌, length, slice_get, Some, IfSome, IfOk};
-ghost use Rattle.std.specs.Str.{bytes_eq};
 ghost use Rattle.lft_syntax.specs.Lexeme as Lexeme;
 ghost use Rattle.lft_syntax.specs.Lexeme.{Code, Text, Letters, Arrow, Symbol, is};
 ghost use Rattle.lft_syntax.specs.View.{Gives, at_next};

@@ -3,7 +3,7 @@ use Rattle.lft_flat.specs.Parts.{Parts}
 use Rattle.lft_model.specs.Recorded.{instance_of}
 use Rattle.lft_contrast.specs.declared.contrasts.Contrast.TheVariants as contrast
 use Rattle.lft_contrast.specs.Counts.{Counts, StartsEarlier}
-use Rattle.lft_contrast.proofs.Added.{adds_one, adds_both, adds_reads}
+use Rattle.lft_contrast.proofs.Added.{adds_one, adds_both}
 use Rattle.lft_contrast.proofs.finding.add_reasons.Goals as goal
 
 pub returns-clause-holds : goal.returns-clause-holds

@@ -1,5 +1,4 @@
 use Rattle.std.proofs.Common.{List, Bool, Some, sym, subst}
-use Rattle.lft_facts.specs.Enough.{Adds}
 use Rattle.lft_facts.specs.Neighbours.{HaveRun}
 use Rattle.lft_facts.proofs.Added.{adds_holds, adds_gives}
 use Rattle.lft_facts.proofs.early.too_early.Goals as goal

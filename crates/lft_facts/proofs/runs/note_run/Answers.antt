@@ -1,5 +1,4 @@
 use Rattle.std.proofs.Common.{◌≡◌, Bool, false, true, refl, sym, ◌∙◌}
-use Rattle.lft_facts.specs.Runs.{StartsAt}
 use Rattle.lft_facts.proofs.Running.{run_same, run_more}
 use Rattle.lft_facts.proofs.runs.note_run.Goals as goal
 

@@ -7,7 +7,7 @@ use Rattle.lft_graph.specs.declared.levels.LevelStep.TheVariants.{Looped, First}
 use Rattle.lft_graph.proofs.Walking.{tally_written, tally_all}
 use Rattle.lft_graph.proofs.Settling.{Settling, settling_start, settling_level, settling_first, settling_looped, top_open, first_new}
 use Rattle.lft_graph.proofs.levels.settle.Goals as goal
-use Rattle.lft_graph.proofs.levels.settle.Goals.{In-Some, In-First, In-Level}
+use Rattle.lft_graph.proofs.levels.settle.Goals.{In-Some, In-First}
 
 pub walk-init : goal.walk-init
 walk-init c =

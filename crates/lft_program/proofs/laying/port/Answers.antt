@@ -14,4 +14,4 @@ pub returns : goal.returns
 returns c =
     let at = then_at _ _ _ _ c.requires.1 c.declarations_of-declarations.ensures in
     let same = item_same c.declarations_of-declarations.result.now.inputs.items c.args.thing.place c.requires.0 c.index.result.now at c.index.ensures in
-    record { instance = refl; direction = c.requires.1 ∙ ap Some same; source = c.source.ensures; origin = refl; shift = refl }
+    record { instance = refl; direction = c.requires.1 ∙ ap Some same; source = refl; origin = refl; shift = refl }

@@ -1,5 +1,4 @@
 use Rattle.std.proofs.Common.{string_bytes, arith}
-use Rattle.lft_quotes.specs.Quoted.{lines}
 use Rattle.lft_quotes.proofs.Lines.{lines_more, lines_end}
 use Rattle.lft_quotes.proofs.quoting.lines_of.Goals as goal
 

@@ -1,6 +1,5 @@
-use Rattle.std.proofs.Common.{◌≡◌, ◌+◌, ◌-◌, ◌∷◌, drop, slice_get, sym, ap, ◌∙◌, arith}
-use Rattle.csv.specs.Records.{fields_of}
-use Rattle.lft_trace.specs.Records.{reader_left, records_of}
+use Rattle.std.proofs.Common.{◌≡◌, ◌+◌, ◌-◌, ◌∷◌, slice_get, sym, ap, ◌∙◌, arith}
+use Rattle.lft_trace.specs.Records.{records_of}
 use Rattle.lft_refusals.proofs.Drops.{first_left, left_more}
 use Rattle.lft_refusals.proofs.record.record_of.Goals as goal
 

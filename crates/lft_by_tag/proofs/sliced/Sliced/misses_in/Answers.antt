@@ -1,8 +1,7 @@
-use Rattle.std.proofs.Common.{◌≡◌, ◌⊎◌, inl, inr, ◌+◌, ◌<◌, ℕ, List, Some, slice_get, ap, subst, sym, ◌∙◌, arith}
+use Rattle.std.proofs.Common.{◌≡◌, ◌⊎◌, inl, inr, ◌+◌, ◌<◌, ℕ, List, Some, slice_get, ap, subst, ◌∙◌, arith}
 use Rattle.std.proofs.lemmas.Bool.{cases_eq, false≢true}
 use Rattle.lft_flat.specs.Parts.{Parts, inputs}
 use Rattle.lft_flat.specs.declared.parts.Name.{Name}
-use Rattle.lft_flat.specs.declared.parts.Reaction.{Reaction}
 use Rattle.lft_lists.proofs.Places.{same_at, same_some}
 use Rattle.lft_by_tag.specs.Reads.{IsMissed}
 use Rattle.lft_by_tag.proofs.RightReads.{input_at}

@@ -1,7 +1,6 @@
-use Rattle.std.proofs.Common.{rules, arith, ◌≡◌, ◌∙◌, List, length, map, ap, to_z-of_z}
+use Rattle.std.proofs.Common.{arith, ◌≡◌, ◌∙◌, length, map, ap, to_z-of_z}
 use Rattle.std.specs.Int.{cast_signed, cast_unsigned, w64}
 use Rattle.std.proofs.lemmas.List.{take_all}
-use Rattle.lft_trace.specs.declared.row.Step.{Step}
 use Rattle.lft_record.specs.Scripts.{script_done, script_word, step_done}
 use Rattle.lft_pool.specs.declared.bodies.done.Done.{Done}
 use Rattle.lft_record.proofs.cards.answer.follow.Goals as goal

@@ -1,12 +1,10 @@
-use Rattle.std.proofs.Common.{rules, arith, ◌≡◌, ◌∙◌, ◌∷◌, [], List, ℕ, length, true, false, sym}
-use Rattle.std.specs.List.{All}
+use Rattle.std.proofs.Common.{rules, arith, ◌≡◌, ◌∙◌, ◌∷◌, [], List, ℕ, sym}
 use Rattle.csv.specs.Records.{fields_of}
 use Rattle.lft_trace.specs.Records.{IsPlain, reader_left, records_of}
 use Rattle.lft_record.specs.CardTables.{FaultAt, IsCard, header}
-use Rattle.lft_record.specs.CardFaults.{is_told}
-use Rattle.lft_record.specs.Scripts.{Adds, blank}
+use Rattle.lft_record.specs.Scripts.{blank}
 use Rattle.lft_record.specs.declared.cards.card.Card.{Card}
-use Rattle.lft_record.proofs.CardFacts.{bad, ended, one_more, past, refused, start}
+use Rattle.lft_record.proofs.CardFacts.{bad, ended, one_more, refused, start}
 use Rattle.lft_record.proofs.cards.card_table.read_records.Goals as goal
 
 pub loop-line-init : goal.loop-line-init

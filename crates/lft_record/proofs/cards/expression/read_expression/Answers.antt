@@ -4,7 +4,6 @@ use Rattle.std.proofs.lemmas.Iterator.Consumers.{YieldsList-turn, YieldsList-end
 use Rattle.std.proofs.lemmas.Iterator.Splits.{YieldsList-from_slice_split}
 use Rattle.std.proofs.lemmas.List.{map-append}
 use Rattle.lft_record.specs.Expressions.{IsTerm}
-use Rattle.lft_record.specs.declared.cards.expression.Term.{Term}
 use Rattle.lft_record.proofs.TermsDiffer.{no_term}
 use Rattle.lft_record.proofs.cards.expression.read_expression.Goals as goal
 use Rattle.std.proofs.lemmas.Slice.Zip.{all_zipped_more}

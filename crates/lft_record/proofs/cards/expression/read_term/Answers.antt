@@ -1,4 +1,3 @@
-use Rattle.std.proofs.Common.{rules}
 use Rattle.lft_record.specs.declared.cards.expression.Term.TheVariants as term
 use Rattle.lft_record.proofs.cards.expression.read_term.Goals as goal
 

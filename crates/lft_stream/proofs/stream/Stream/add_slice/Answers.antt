@@ -1,25 +1,49 @@
-use Rattle.std.proofs.Common.{◌+◌, ◌++◌, take, ◌∙◌, ap, refl, subst, sym, List}
-use Rattle.lft_stream.specs.declared.due.Due.{Due}
-use Rattle.lft_stream.specs.Dues.{AreDues}
-use Rattle.lft_stream.proofs.Timing.{own_kept, stop_there, ran_there, dues_there, slice_grows}
+use Rattle.std.proofs.Common.{ℕ, ◌+◌, ◌++◌, List, ◌∙◌, ap, refl, subst}
+use Rattle.lft_flat.specs.Parts.{Parts}
+use Rattle.lft_flat.specs.declared.parts.Value.{Value}
+use Rattle.lft_trace.specs.Inputs.{ExternalInputs}
+use Rattle.lft_rows.specs.Marks.{AreMarks}
+use Rattle.lft_stream.specs.Coming.{to_come, scheduled_by, IsReached}
+use Rattle.lft_stream.specs.declared.coming.Coming.{Coming}
+use Rattle.lft_stream.specs.Lanes.{held}
+use Rattle.lft_stream.proofs.Parting.{rows_of, part_fits}
+use Rattle.lft_stream.proofs.Keeping.{own_kept, at_hand, slice_grows}
 use Rattle.lft_stream.proofs.stream.Stream.add_slice.Goals as goal
 
-pub are_triggered-requires : goal.are_triggered-requires
-are_triggered-requires g c =
-    let later = c.if-not-is_later.ensures refl in
-    let quiet = c.requires.1.0 in
-    let kept = c.requires.1.1.0 in
-    let slice = c.requires.1.1.1.0 in
-    let stands = c.requires.1.1.1.1 in
-    (c.requires.0, (slice, (stop_there c.args.plan.now g.done c.args.rows.now c.args.slice slice c.args.self.now stands later quiet kept, (ran_there c.args.plan.now g.done c.args.rows.now c.args.slice slice c.args.self.now stands later quiet kept, dues_there c.args.plan.now g.done c.args.rows.now c.args.slice slice c.args.self.now stands later quiet kept))))
-
-pub returns-clause-stands : goal.returns-clause-stands
-returns-clause-stands g c = λ z.
-    let later = c.if-not-is_later.ensures refl in
-    let quiet = c.requires.1.0 in
-    let kept = c.requires.1.1.0 in
-    let slice = c.requires.1.1.1.0 in
-    let stands = c.requires.1.1.1.1 in
+pub judge_slice-requires : goal.judge_slice-requires
+judge_slice-requires g c =
+    let plan = c.args.plan.now in
+    let rows = c.args.rows.now in
     let s = c.args.slice in
-    let ranked = c.if-not-is_ranked.ensures refl c.args.self.now.stop (own_kept c.args.plan.now g.done c.args.rows.now s slice c.args.self.now stands later quiet kept) s.tag in
-    slice_grows c.args.plan.now g.done c.args.rows.now s slice c.args.self.now stands later quiet kept ranked (c.if-not-are_triggered.ensures.triggered refl) c.count.new.self c.count.ensures.kept.0 (c.count.ensures.tag z) (c.count.ensures.runs z ∙ ap (λ n. c.args.self.now.runs + n) c.starts_in.ensures) (c.count.ensures.tags z) (subst (λ (dues : List (List Due)). AreDues c.args.plan.now (g.done ++ take s.end c.args.rows.now) dues) (sym c.count.ensures.kept.1) c.are_triggered.ensures.dues)
+    let slice = c.requires.1.1.1.0 in
+    let reached = subst (λ (x : ExternalInputs). IsReached x.events c.args.self.now.listeners s.tag c.args.self.now.coming c.reach.new.self) c.externals.ensures.value (c.if-not-reach.ensures refl) in
+    let hand = at_hand plan g.done rows s slice c.args.self.now c.requires.1.1.1.1.1 (c.if-not-is_later.ensures refl) c.requires.1.0 c.requires.1.1.0 c.program-program.ensures.sound.sound (record { stop = c.args.self.now.stop; tag = c.args.self.now.tag; runs = c.args.self.now.runs; tags = c.args.self.now.tags; dues = c.args.self.now.dues; starts = c.args.self.now.starts; writes = c.args.self.now.writes; listeners = c.args.self.now.listeners; coming = c.reach.new.self; effort = c.allows.new.self }) reached refl refl refl refl refl in
+    (c.requires.0, (slice, (subst (λ (p : Parts). AreMarks p rows s.first s.end c.pass_all.new.self) c.program-program.ensures.value c.pass_all.ensures, hand)))
+
+pub schedule_all-requires : goal.schedule_all-requires
+schedule_all-requires g c =
+    let rows = c.args.rows.now in
+    let s = c.args.slice in
+    let slice = c.requires.1.1.1.0 in
+    part_fits rows s slice c.args.plan.now.program c.requires.0
+
+pub returns-then-schedule_all-clause-stands : goal.returns-then-schedule_all-clause-stands
+returns-then-schedule_all-clause-stands g c = λ z.
+    let plan = c.args.plan.now in
+    let events = plan.externals.events in
+    let rows = c.args.rows.now in
+    let s = c.args.slice in
+    let old = c.args.self.now in
+    let judged = c.judge_slice.new.self in
+    let later = c.if-not-is_later.ensures refl in
+    let quiet = c.requires.1.0 in
+    let kept = c.requires.1.1.0 in
+    let slice = c.requires.1.1.1.0 in
+    let stands = c.requires.1.1.1.1.1 in
+    let ranked = c.if-not-is_ranked.ensures refl old.stop (own_kept plan g.done rows s slice old stands later quiet kept) s.tag in
+    let reached = subst (λ (x : ExternalInputs). IsReached x.events old.listeners s.tag old.coming c.reach.new.self) c.externals.ensures.value (c.if-not-reach.ensures refl) in
+    let own = c.judge_slice.ensures in
+    let counted = c.count.ensures in
+    let runs = counted.runs z ∙ ap (λ (n : ℕ). n + c.starts_in.result) own.runs ∙ ap (λ (n : ℕ). old.runs + n) c.starts_in.ensures in
+    let tags = counted.tags z ∙ ap (λ (n : ℕ). n + 1) own.tags in
+    slice_grows plan g.done rows s slice old stands later quiet kept c.program-program.ensures.sound.sound c.reach.new.self reached ranked judged c.count.new.self (c.if-not-judge_slice.ensures.judged refl) own.coming own.listeners (counted.stop ∙ own.stop) (counted.tag z) runs tags counted.dues counted.starts counted.writes counted.listeners (λ h n b. ap (λ (k : Coming). to_come events k h n) counted.coming ∙ c.if-schedule_all.ensures refl events h n ∙ ap (λ (vs : List Value). vs ++ held (scheduled_by plan (rows_of rows s slice) n) h) (c.drop_until.ensures events h n b ∙ ap (λ (k : Coming). to_come events k h n) own.coming))

@@ -1,6 +1,8 @@
-use Rattle.std.proofs.Common.{refl}
-use Rattle.lft_stream.proofs.Timing.{accepts_timers}
+use Rattle.std.proofs.Common.{subst, refl}
+use Rattle.lft_trace.specs.Inputs.{ExternalInputs}
+use Rattle.lft_stream.specs.Coming.{AreOver}
+use Rattle.lft_stream.proofs.Keeping.{accepts_kept}
 use Rattle.lft_stream.proofs.stream.Stream.finish.Goals as goal
 
-pub returns-then-none_owed : goal.returns-then-none_owed
-returns-then-none_owed c = λ t is. accepts_timers c.args.plan.now t c.args.self.now is (c.if-none_owed.ensures refl)
+pub returns-then-is_over : goal.returns-then-is_over
+returns-then-is_over c = λ t is. accepts_kept c.args.plan.now t c.args.self.now is (c.if-none_owed.ensures refl) (subst (λ (x : ExternalInputs). AreOver x.events c.args.self.now.listeners c.args.self.now.stop c.args.self.now.coming) c.externals.ensures.value (c.if-is_over.ensures refl))

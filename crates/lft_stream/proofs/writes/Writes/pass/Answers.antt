@@ -6,13 +6,13 @@ use Rattle.lft_stream.specs.Writes.{AreWrites}
 use Rattle.lft_stream.proofs.Writing.{writes_stay, writes_set}
 use Rattle.lft_stream.proofs.writes.Writes.pass.Goals as goal
 
-pub returns-in-Some : goal.returns-in-Some
-returns-in-Some g c =
+pub returns-in-Some-clause-passed : goal.returns-in-Some-clause-passed
+returns-in-Some-clause-passed c = λ rows are.
     let program = c.args.program.now in
     let view : c.self.inside.last.items ≡ c.args.self.now = c.self.view_is in
-    let there : c.in-Some.port < length program.ports = subst (λ (s : Step). StepFits program s) c.in-Some.ensures c.requires.0.step in
-    let port : c.in-Some.port < length c.args.self.now = let a = c.requires.1.as_long in omega arith in
-    subst (λ (writes : List (Option Written)). AreWrites program (g.rows ++ c.args.row ∷ []) (slice_set writes c.in-Some.port (Some (record { tag = c.args.row.tag; value = c.in-Some.value })))) (sym view) (writes_set program g.rows c.args.row c.args.self.now c.in-Some.port c.in-Some.value port c.in-Some.ensures c.requires.1)
+    let there : c.in-Some.port < length program.ports = subst (λ (s : Step). StepFits program s) c.in-Some.ensures c.requires.fits.step in
+    let port : c.in-Some.port < length c.args.self.now = let a = c.requires.ports in omega arith in
+    subst (λ (writes : List (Option Written)). AreWrites program (rows ++ c.args.row ∷ []) (slice_set writes c.in-Some.port (Some (record { tag = c.args.row.tag; value = c.in-Some.value })))) (sym view) (writes_set program rows c.args.row c.args.self.now c.in-Some.port c.in-Some.value port c.in-Some.ensures are)
 
-pub returns-in_default : goal.returns-in_default
-returns-in_default g c = writes_stay c.args.program.now g.rows c.args.row c.args.self.now c.in_default.ensures c.requires.1
+pub returns-in_default-clause-passed : goal.returns-in_default-clause-passed
+returns-in_default-clause-passed c = λ rows are. writes_stay c.args.program.now rows c.args.row c.args.self.now c.in_default.ensures are

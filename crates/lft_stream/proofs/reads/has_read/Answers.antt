@@ -1,0 +1,18 @@
+use Rattle.std.proofs.Common.{◌≡◌, ◌++◌, ◌∙◌, List, Some, slice_get, ap, sym, arith}
+use Rattle.lft_flat.specs.Parts.{Parts, inputs}
+use Rattle.lft_flat.specs.declared.parts.Name.{Name}
+use Rattle.lft_model.proofs.Places.{slice_get_within}
+use Rattle.lft_stream.proofs.Present.{read_all}
+use Rattle.lft_stream.proofs.reads.has_read.Goals as goal
+
+pub returns : goal.returns
+returns g c = λ z.
+    let x = c.inputs-names.ensures.0 in
+    let names = c.inputs-names.result.now in
+    let own : names ≡ inputs x = c.inputs-names.ensures.2 in
+    let is : slice_get c.args.plan.now.program.reactions c.args.reaction ≡ Some x = ap (λ (p : Parts). slice_get p.reactions c.args.reaction) (sym c.program-program.ensures.value) ∙ c.inputs-names.ensures.1 in
+    read_all c.args.plan.now (g.parts.0 ++ g.parts.1) c.args.slice.tag c.args.reaction x is c.args.rows.now (λ k n e.
+    let at : slice_get names k ≡ Some n = ap (λ (ns : List Name). slice_get ns k) own ∙ e in
+    let a = slice_get_within names k n at in
+    let b = c.loop-seat-test.false in
+    c.loop-seat.invariant k n (omega arith) at)

@@ -1,0 +1,10 @@
+use Rattle.std.proofs.Common.{◌≡◌, ◌++◌, List, take}
+use Rattle.lft_tag.specs.declared.Tag.{Tag}
+use Rattle.lft_flat.specs.declared.parts.Name.{Name}
+use Rattle.lft_trace.specs.declared.externals.Event.{Event}
+use Rattle.lft_stream.specs.Coming.{to_come, scheduled_by}
+use Rattle.lft_stream.specs.Lanes.{held}
+use Rattle.lft_stream.proofs.scheduling.schedule_all.Given as goal
+
+abbrev pub invariant-loop-place : goal.invariant-loop-place
+invariant-loop-place l = (events : List Event) (h : Tag) (n : Name) → to_come events l.coming h n ≡ to_come events l.fn.coming h n ++ held (scheduled_by l.plan (take l.place l.rows) n) h

@@ -1,0 +1,72 @@
+//! How much is looked at before rows are given up.
+
+ghost use Rattle.std.specs.Prelude.{◌≡◌, ◌≤◌, ◌↔◌, length, IsTrue};
+ghost use Rattle.lft_trace.specs.Fits.{RowFits, RowsFit};
+
+use crate::listeners::Listeners;
+use crate::writes::written_port;
+use lft_flat::Program;
+use lft_trace::{Row, is_start, row_at};
+
+/// So many triggers, uses and listeners may be looked at for each row. Most programs need a few. One
+/// whose runs have hundreds of inputs is judged sooner with an index of what the rows cause.
+const PER_ROW: u64 = 16;
+
+/// So many more may be looked at, so that a reaction with many inputs may run once or twice.
+const FIRST: u64 = 1024;
+
+/// How many triggers, uses and listeners may still be looked at.
+#[derive(Clone, Copy, PartialEq, Eq, Drop)]
+pub(crate) struct Effort {
+    left: u64,
+}
+
+/// How many of them are looked at for a row.
+fn cost_of(program: &Program, listeners: &Listeners, row: Row) -> usize
+    requires fits { RowFits program.now row }
+    requires ports { length listeners.now.ports ≡ length program.now.ports }
+{
+    if is_start(&row.step) {
+        let reaction = program.reaction(row.reaction);
+        let uses = reaction.uses.as_slice().len();
+        return reaction.triggers.as_slice().len().saturating_add(uses);
+    }
+    match written_port(&row.step) {
+        Some((port, _)) => listeners.of(port).len(),
+        None => 0,
+    }
+}
+
+impl Effort {
+    /// What may be looked at before the first row.
+    pub(crate) fn new() -> Effort {
+        Effort { left: FIRST }
+    }
+
+    /// So much less may be looked at. It is false where less than that was left.
+    fn spend(&mut self, cost: u64) -> bool
+        ensures { IsTrue result ↔ cost ≤ self.old.left }
+    {
+        if cost > self.left {
+            return false;
+        }
+        self.left -= cost;
+        true
+    }
+
+    /// Whether all may be looked at that these rows need. No verdict hangs on the answer: it is
+    /// always allowed to give up.
+    pub(crate) fn allows(&mut self, program: &Program, listeners: &Listeners, rows: &[Row]) -> bool
+        requires fit { RowsFit program.now rows.now }
+        requires ports { length listeners.now.ports ≡ length program.now.ports }
+    {
+        for place in 0..rows.len() {
+            let cost = cost_of(program, listeners, row_at(rows, place));
+            self.left = self.left.saturating_add(PER_ROW);
+            if !self.spend(cost as u64) {
+                return false;
+            }
+        }
+        true
+    }
+}

@@ -1,0 +1,98 @@
+//! Whether each reaction that a written port triggers has a run.
+
+ghost use Rattle.std.specs.Prelude.{◌≡◌, ℕ, List, IsSome, IsTrue, Contains};
+ghost use Rattle.lft_trace.specs.declared.row.Row.{Row as TheRow};
+ghost use Rattle.lft_trace.specs.Fits.{RowsFit};
+ghost use Rattle.lft_model.specs.Runs.{Ran};
+ghost use Rattle.lft_stream.specs.AtOnce.{AreHeard};
+ghost use Rattle.lft_stream.specs.Listeners.{AreListeners, AreStarted};
+ghost use Rattle.lft_queue.specs.Pending.{value_of};
+ghost use Rattle.lft_flat.specs.declared.parts.Name.{Name as TheName};
+ghost use Rattle.lft_stream.specs.Starts.{AreStarts};
+
+use crate::coming::Coming;
+use crate::listeners::Listeners;
+use crate::starts::Starts;
+use crate::writes::written_port;
+use lft_flat::Program;
+use lft_lists::item_at;
+use lft_model::Plan;
+use lft_tag::Tag;
+use lft_trace::{Row, row_at};
+
+/// Whether each of the reactions started last at the tag.
+fn have_started(program: &Program, starts: &Starts, reactions: &[u32], tag: Tag) -> bool
+    ghost whole: { List TheRow }
+    requires starts { AreStarts program.now whole starts.now }
+    ensures { IsTrue result → (r : ℕ) → Contains reactions.now r → Ran whole tag r }
+{
+    for place in 0..reactions.len() {
+        if !starts.is_at(program, item_at(reactions, place), tag) {
+            return false;
+        }
+    }
+    true
+}
+
+/// Whether each reaction that one of the rows triggers at once, all at the tag, has a run there.
+fn are_heard(plan: &Plan, listeners: &Listeners, starts: &Starts, own: &[Row], tag: Tag) -> bool
+    ghost whole: { List TheRow }
+    requires fit { RowsFit plan.now.program own.now }
+    requires listeners { AreListeners plan.now listeners.now }
+    requires starts { AreStarts plan.now.program whole starts.now }
+    ensures { IsTrue result → AreHeard plan.now whole own.now tag }
+{
+    let program = plan.program();
+    for place in 0..own.len() {
+        let row = row_at(own, place);
+        if let Some((port, _)) = written_port(&row.step) {
+            if !have_started(program, starts, listeners.of(port), tag) {
+                return false;
+            }
+        }
+    }
+    true
+}
+
+/// Whether each reaction in the list of a name with an event at the tag in the queue has a run there.
+fn are_met(
+    program: &Program,
+    coming: &Coming,
+    listeners: &Listeners,
+    starts: &Starts,
+    tag: Tag,
+) -> bool
+    ghost whole: { List TheRow }
+    requires starts { AreStarts program.now whole starts.now }
+    ensures { IsTrue result → (n : TheName) → IsSome (value_of tag n coming.now.queue) → AreStarted whole tag listeners.now n }
+{
+    for name in coming.names_at(tag) {
+        if let Some(list) = listeners.get(name) {
+            if !have_started(program, starts, list, tag) {
+                return false;
+            }
+        }
+    }
+    true
+}
+
+/// Whether each reaction has a run at the tag that one of the rows there triggers at once, or an event of
+/// the queue.
+pub(crate) fn is_all_heard(
+    plan: &Plan,
+    coming: &Coming,
+    listeners: &Listeners,
+    starts: &Starts,
+    own: &[Row],
+    tag: Tag,
+) -> bool
+    ghost whole: { List TheRow }
+    requires fit { RowsFit plan.now.program own.now }
+    requires listeners { AreListeners plan.now listeners.now }
+    requires starts { AreStarts plan.now.program whole starts.now }
+    ensures heard { IsTrue result → AreHeard plan.now whole own.now tag }
+    ensures met { IsTrue result → (n : TheName) → IsSome (value_of tag n coming.now.queue) → AreStarted whole tag listeners.now n }
+{
+    are_heard(plan, listeners, starts, own, tag)
+        && are_met(plan.program(), coming, listeners, starts, tag)
+}

@@ -1,0 +1,48 @@
+//! The events that rows give actions.
+
+ghost use Rattle.std.specs.Prelude.{◌≡◌, ◌++◌, [], ◌∷◌, List, IsTrue};
+ghost use Rattle.lft_tag.specs.declared.Tag.{Tag as TheTag};
+ghost use Rattle.lft_flat.specs.declared.parts.Name.{Name as TheName};
+ghost use Rattle.lft_trace.specs.declared.externals.Event.{Event as TheEvent};
+ghost use Rattle.lft_trace.specs.Fits.{RowFits, RowsFit};
+ghost use Rattle.lft_stream.specs.Coming.{to_come, scheduled_by};
+ghost use Rattle.lft_stream.specs.Lanes.{held};
+
+use crate::coming::Coming;
+use lft_flat::{Name, Program};
+use lft_model::Plan;
+use lft_trace::{Row, Step, row_at};
+
+/// Puts the event in that the row schedules, if it schedules one. It is false where two events meet, or
+/// memory is refused.
+fn schedule(coming: &mut Coming, plan: &Plan, row: Row) -> bool
+    requires { RowFits plan.now.program row }
+    ensures { IsTrue result → (events : List TheEvent) (h : TheTag) (n : TheName) → to_come events coming.new h n ≡ to_come events coming.old h n ++ held (scheduled_by plan.now (row ∷ []) n) h }
+{
+    match row.step {
+        Step::Schedule(Name::Action(number), value, delay) => {
+            let min_delay = plan.program().action(number).min_delay;
+            let tag = row.tag.after(min_delay, delay);
+            coming.put(tag, Name::Action(number), value)
+        }
+        Step::Schedule(Name::Port(_), _, _) => true,
+        Step::Start => true,
+        Step::Read(_, _) => true,
+        Step::Write(_, _) => true,
+        Step::Stop => true,
+        Step::End => true,
+    }
+}
+
+/// Puts the events in that the rows schedule. It is false where two events meet, or memory is refused.
+pub(crate) fn schedule_all(coming: &mut Coming, plan: &Plan, rows: &[Row]) -> bool
+    requires { RowsFit plan.now.program rows.now }
+    ensures { IsTrue result → (events : List TheEvent) (h : TheTag) (n : TheName) → to_come events coming.new h n ≡ to_come events coming.old h n ++ held (scheduled_by plan.now rows.now n) h }
+{
+    for place in 0..rows.len() {
+        if !schedule(coming, plan, row_at(rows, place)) {
+            return false;
+        }
+    }
+    true
+}

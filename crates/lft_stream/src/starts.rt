@@ -1,0 +1,85 @@
+//! At which tag each reaction started last.
+
+ghost use Rattle.std.specs.Prelude.{◌≡◌, ℕ, List, [], ◌<◌, length, IfOk, IsTrue};
+ghost use Rattle.lft_trace.specs.declared.row.Row.{Row as TheRow};
+ghost use Rattle.lft_trace.specs.Fits.{RowsFit};
+ghost use Rattle.lft_model.specs.Runs.{Ran};
+ghost use Rattle.lft_by_tag.specs.Slices.{IsSlice};
+ghost use Rattle.lft_stream.specs.Starts.{AreStarts};
+
+use lft_by_tag::Slice;
+use lft_flat::Program;
+use lft_lists::item_at;
+use lft_tag::{NoMemory, Tag};
+use lft_trace::{Row, is_start, row_at};
+use std::alloc::Global;
+use std::marker::Model;
+
+/// For each reaction the tag at which it started last, if it did.
+#[derive(Drop)]
+pub(crate) struct Starts {
+    last: Vec<Option<Tag>>,
+}
+
+impl Model for Starts {
+    ghost use Rattle.std.specs.Prelude.{List, Option};
+    ghost use Rattle.lft_tag.specs.declared.Tag.{Tag};
+
+    ghost Value = { List (Option Tag) };
+
+    ghost view = { λ starts. starts.last.items };
+}
+
+impl Starts {
+    /// No reaction has started.
+    pub(crate) fn new(alloc: Global, program: &Program) -> Result<Starts, NoMemory>
+        ensures { IfOk result (AreStarts program.now []) }
+    {
+        let last = vec![in alloc; None; program.reactions()]?;
+        Ok(Starts { last })
+    }
+
+    /// The reaction has a run at the tag.
+    fn begin(&mut self, program: &Program, reaction: u32, tag: Tag)
+        ghost whole: { List TheRow }
+        requires reaction { reaction < length program.now.reactions }
+        requires ran { Ran whole tag reaction }
+        requires starts { AreStarts program.now whole self.old }
+        ensures { AreStarts program.now whole self.new }
+    {
+        self.last[reaction as usize] = Some(tag);
+    }
+
+    /// Goes on past the rows of a slice, whose runs are runs of the whole.
+    pub(crate) fn pass_all(&mut self, program: &Program, rows: &[Row], slice: Slice)
+        ghost whole: { List TheRow }
+        requires fit { RowsFit program.now rows.now }
+        requires slice { IsSlice rows.now slice }
+        requires ran { (r : ℕ) → Ran rows.now slice.tag r → Ran whole slice.tag r }
+        requires starts { AreStarts program.now whole self.old }
+        ensures { AreStarts program.now whole self.new }
+    {
+        for place in slice.first..slice.end {
+            let row = row_at(rows, place);
+            if is_start(&row.step) {
+                self.begin(program, row.reaction, slice.tag);
+            }
+        }
+    }
+
+    /// Whether the reaction started last at the tag.
+    pub(crate) fn is_at(&self, program: &Program, reaction: u32, tag: Tag) -> bool
+        ghost whole: { List TheRow }
+        requires starts { AreStarts program.now whole self.now }
+        ensures { IsTrue result → Ran whole tag reaction }
+    {
+        let number = reaction as usize;
+        if number >= program.reactions() {
+            return false;
+        }
+        match item_at(self.last.as_slice(), number) {
+            Some(last) => last.is_same(tag),
+            None => false,
+        }
+    }
+}
