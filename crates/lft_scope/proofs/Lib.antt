@@ -1,5 +1,6 @@
 pub mod Effects
 pub mod Files
+pub mod NamedMembers
 pub mod NamedReactors
 pub mod Owned
 pub mod Placing

@@ -1,6 +1,8 @@
--- Places of names, as lists grow.
-use Rattle.std.proofs.Common.{◌≡◌, ℕ, suc, Bool, true, false, cond, not, List, [], ◌∷◌, ◌++◌, map, length, slice_get, find, Option, Some, None, option_map, bytes_eq, refl, sym, ap, subst, ◌∙◌}
+-- Places of names, as lists grow, and what stands at a place.
+use Rattle.std.proofs.Common.{◌≡◌, ℕ, suc, Bool, true, false, cond, not, List, [], ◌∷◌, ◌++◌, map, length, slice_get, find, Option, Some, None, option_map, option_copied, Bor, bytes_eq, refl, sym, ap, subst, ◌∙◌}
 use Rattle.std.specs.Option.{option_and_then, is_none, is_some}
+use Rattle.std.specs.Slice.{IsItemAt}
+use Rattle.std.proofs.lemmas.Option.{slice_get-get_or, slice_get_past}
 use Rattle.std.proofs.lemmas.Slice.Eq.{bytes_eq-Decides}
 use Rattle.lft_scope.specs.Kinds.{or_else}
 use Rattle.lft_scope.specs.Places.{place}
@@ -127,3 +129,8 @@ something_there (Some x) e n = absurd (cc)
 pub not_some : {X : Type 0} (o : Option X) → is_some o ≡ false → o ≡ None
 not_some None e = refl
 not_some (Some x) e = absurd (cc)
+
+-- what is lent of a list at a place that may lie past its end
+pub lent : {X : Type 0} (xs : List X) (i : ℕ) (o : Option (Bor X)) → IsItemAt xs i o → option_copied o ≡ slice_get xs i
+lent xs i None is = sym (slice_get_past xs i is.3)
+lent xs i (Some x) is = ap Some is.1 ∙ sym (slice_get-get_or xs i x.now is.3.0)

@@ -2,7 +2,7 @@
 use Rattle.std.specs.Prelude.{◌≡◌, ℕ, Bool, true, List, Option, map, option_map, Any, bytes_eq}
 use Rattle.std.specs.Borrow.{Bor}
 use Rattle.std.specs.HashSet.{HashSet, contains_by}
-use Rattle.lft_tree.specs.Tree.{MemberTree, port_in, timer_in, action_in, instance_in}
+use Rattle.lft_tree.specs.Tree.{MemberTree, ReactorTree, port_in, timer_in, action_in, instance_in, ports_of, timers_of, actions_of, instances_of}
 use Rattle.lft_scope.specs.declared.names.Declared.{Declared}
 use Rattle.lft_scope.specs.declared.names.Declared.TheVariants.{Port, Timer, Action, Instance}
 
@@ -25,3 +25,10 @@ name_in Port m = option_map (λ x. x.name) (port_in m)
 name_in Timer m = option_map (λ x. x.name) (timer_in m)
 name_in Action m = option_map (λ x. x.name) (action_in m)
 name_in Instance m = option_map (λ x. x.name) (instance_in m)
+
+-- the names of the reactor's members of the kind, in order
+abbrev pub names_of : Declared → ReactorTree → List (List ℕ)
+names_of Port r = map (λ x. x.name) (ports_of r)
+names_of Timer r = map (λ x. x.name) (timers_of r)
+names_of Action r = map (λ x. x.name) (actions_of r)
+names_of Instance r = map (λ x. x.name) (instances_of r)

@@ -1,48 +1,21 @@
 //! What the reactors of a file show to those that contain them, and what names are.
 
-ghost use Rattle.std.specs.Prelude.{◌≡◌, List, ℕ, IfOk, MatchOption, Some, None, map, find, is_some, option_map, slice_get, bytes_eq};
+ghost use Rattle.std.specs.Prelude.{◌≡◌, List, IfOk, MatchOption, Some, None, find, is_some, option_map, bytes_eq};
 ghost use Rattle.lft_tree.specs.Tree.{ReactorTree, ports_of};
 ghost use Rattle.lft_tree.specs.View.{reactor_view, ref_view};
 ghost use Rattle.lft_scope.specs.Instances.{reactor_named};
 ghost use Rattle.lft_scope.specs.Kinds.{inner_port, kind_of};
-ghost use Rattle.lft_scope.specs.References.{port_trees, reactor_trees};
-ghost use Rattle.lft_scope.specs.Tests.{texts};
+ghost use Rattle.lft_scope.specs.References.{reactor_trees};
 ghost use Rattle.lft_scope.specs.Tables.{IsFile, IsOutside, IsOwn};
 
 use crate::index::Index;
 use crate::kinds::Kind;
 use crate::members;
-use crate::names::{parameter_names, reactor_names};
+use crate::names::{Declared, reactor_names};
 use crate::own::Own;
 use lft_tag::NoMemory;
 use lft_tree::{Port, Reactor, Reference};
 use std::alloc::Global;
-
-/// The names of the ports.
-fn port_names<'a>(alloc: Global, ports: &[&'a Port]) -> Result<Vec<&'a str>, NoMemory>
-    ensures { IfOk result (λ v. texts v.items ≡ map (λ x. x.name) (port_trees ports.now)) }
-{
-    let mut names = Vec::new(alloc);
-    for port in ports {
-        names.push(port.name.as_str())?;
-    }
-    Ok(names)
-}
-
-/// What the port at this place is to a reactor that contains an instance.
-fn port_at(ports: &[&Port], place: usize) -> Option<Kind>
-    ensures { result ≡ option_map (λ x. inner_port x.is_input) (slice_get (port_trees ports.now) place) }
-{
-    if place < ports.len() {
-        if ports[place].is_input {
-            Some(Kind::InnerInput)
-        } else {
-            Some(Kind::InnerOutput)
-        }
-    } else {
-        None
-    }
-}
 
 /// What a reactor shows to those that contain it: its ports and its parameters by name.
 #[derive(Drop)]
@@ -57,13 +30,10 @@ impl<'a> Outside<'a> {
     fn of(alloc: Global, reactor: &'a Reactor) -> Result<Outside<'a>, NoMemory>
         ensures { IfOk result (IsOutside (reactor_view reactor.now)) }
     {
-        let ports = members::ports(alloc, &reactor.members)?;
-        let names = port_names(alloc, &ports)?;
-        let parameters = parameter_names(alloc, &reactor.parameters)?;
         Ok(Outside {
-            names: Index::of(alloc, &names)?,
-            ports,
-            parameters: Index::of(alloc, &parameters)?,
+            names: Index::of_members(alloc, reactor, Declared::Port)?,
+            ports: members::ports(alloc, &reactor.members)?,
+            parameters: Index::of_parameters(alloc, reactor)?,
         })
     }
 
@@ -72,7 +42,11 @@ impl<'a> Outside<'a> {
         ensures { (r : ReactorTree) → IsOutside r self.now → result ≡ option_map (λ x. inner_port x.is_input) (find (λ x. bytes_eq name.now x.name) (ports_of r)) }
     {
         match self.names.get(name) {
-            Some(place) => port_at(&self.ports, place),
+            Some(place) => match self.ports.get(place) {
+                Some(port) if port.is_input => Some(Kind::InnerInput),
+                Some(_) => Some(Kind::InnerOutput),
+                None => None,
+            },
             None => None,
         }
     }
@@ -89,16 +63,6 @@ impl<'a> Outside<'a> {
         ensures { result.now ≡ self.now.parameters }
     {
         &self.parameters
-    }
-}
-
-fn outside_at<'b, 'a>(reactors: &'b [Outside<'a>], place: usize) -> Option<&'b Outside<'a>>
-    ensures { option_map (λ o. o.now) result ≡ slice_get reactors.now place }
-{
-    if place < reactors.len() {
-        Some(&reactors[place])
-    } else {
-        None
     }
 }
 
@@ -132,7 +96,7 @@ impl<'a> File<'a> {
         ensures { (rs : List ReactorTree) → IsFile rs self.now → MatchOption result (reactor_named rs name.now ≡ None) (λ o. (r : ReactorTree) × (reactor_named rs name.now ≡ Some r) × IsOutside r o.now) }
     {
         match self.names.get(name) {
-            Some(place) => outside_at(&self.reactors, place),
+            Some(place) => self.reactors.get(place),
             None => None,
         }
     }

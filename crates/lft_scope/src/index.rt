@@ -1,10 +1,13 @@
 //! Where names stand in a list.
 
-ghost use Rattle.std.specs.Prelude.{◌≡◌, ℕ, List, Some, None, cond, IfOk, OnOk, bytes_eq};
-ghost use Rattle.lft_scope.specs.Tests.{texts};
+ghost use Rattle.std.specs.Prelude.{◌≡◌, ℕ, List, Some, None, cond, map, IfOk, OnOk, bytes_eq};
+ghost use Rattle.lft_tree.specs.View.{reactor_view};
+ghost use Rattle.lft_scope.specs.Tests.{names_of, texts};
 ghost use Rattle.lft_scope.specs.Places.{IsIndexOf, place_in};
 
+use crate::names::{Declared, parameter_names, push_names};
 use lft_tag::NoMemory;
+use lft_tree::Reactor;
 use std::alloc::Global;
 use std::collections::HashMap;
 
@@ -51,5 +54,26 @@ impl<'a> Index<'a> {
             }
         }
         Ok(index)
+    }
+
+    /// Where the names of the parameters of a reactor stand.
+    pub fn of_parameters(alloc: Global, reactor: &'a Reactor) -> Result<Index<'a>, NoMemory>
+        ensures { IfOk result (λ index. IsIndexOf index (map (λ x. x.name) (reactor_view reactor.now).parameters)) }
+    {
+        let names = parameter_names(alloc, &reactor.parameters)?;
+        Index::of(alloc, &names)
+    }
+
+    /// Where the names of the members of this kind stand.
+    pub fn of_members(
+        alloc: Global,
+        reactor: &'a Reactor,
+        kind: Declared,
+    ) -> Result<Index<'a>, NoMemory>
+        ensures { IfOk result (λ index. IsIndexOf index (names_of kind (reactor_view reactor.now))) }
+    {
+        let mut names = Vec::new(alloc);
+        push_names(&mut names, &reactor.members, kind)?;
+        Index::of(alloc, &names)
     }
 }

@@ -1,11 +1,9 @@
 //! What the plain names of a reactor are.
 
-ghost use Rattle.std.specs.Prelude.{◌≡◌, ◌++◌, ℕ, IfOk, OnOk, map, filter_map, find, option_map, slice_get, bytes_eq};
+ghost use Rattle.std.specs.Prelude.{◌≡◌, ◌++◌, IfOk, OnOk, map, filter_map, find, option_map, bytes_eq};
 ghost use Rattle.lft_tree.specs.Tree.{ReactorTree, instances_of};
 ghost use Rattle.lft_tree.specs.View.{instance_view, member_view, member_views, parameter_view, reactor_view};
 ghost use Rattle.lft_scope.specs.Kinds.{kinds_in, own_kind};
-ghost use Rattle.lft_scope.specs.References.{instance_trees};
-ghost use Rattle.lft_scope.specs.Tests.{texts};
 ghost use Rattle.lft_scope.specs.Tables.{IsOwn, kind_in};
 ghost use Rattle.lft_scope.specs.declared.kinds.Kind.TheVariants.{OwnParameter};
 
@@ -67,27 +65,6 @@ fn kinds(alloc: Global, reactor: &Reactor) -> Result<Vec<Kind>, NoMemory>
     Ok(kinds)
 }
 
-/// The kind at a place that may lie past the end, as the definition has it (`slice_get`).
-fn kind_at(kinds: &[Kind], place: usize) -> Option<Kind>
-    ensures { result ≡ slice_get kinds.now place }
-{
-    if place < kinds.len() {
-        Some(kinds[place])
-    } else {
-        None
-    }
-}
-
-fn instance_at<'a>(instances: &[&'a Instance], place: usize) -> Option<&'a Instance>
-    ensures { option_map (λ i. instance_view i.now) result ≡ slice_get (instance_trees instances.now) place }
-{
-    if place < instances.len() {
-        Some(instances[place])
-    } else {
-        None
-    }
-}
-
 /// The names of a reactor with what they are, and its instances by name.
 #[derive(Drop)]
 pub struct Own<'a> {
@@ -103,13 +80,11 @@ impl<'a> Own<'a> {
         ensures { IfOk result (IsOwn (reactor_view reactor.now)) }
     {
         let names = declared_names(alloc, reactor)?;
-        let instances = members::instances(alloc, &reactor.members)?;
-        let contained = instance_names(alloc, &instances)?;
         Ok(Own {
             names: Index::of(alloc, &names)?,
             kinds: kinds(alloc, reactor)?,
-            contained: Index::of(alloc, &contained)?,
-            instances,
+            contained: Index::of_members(alloc, reactor, Declared::Instance)?,
+            instances: members::instances(alloc, &reactor.members)?,
         })
     }
 
@@ -118,7 +93,7 @@ impl<'a> Own<'a> {
         ensures { (r : ReactorTree) → IsOwn r self.now → result ≡ own_kind r name.now }
     {
         match self.names.get(name) {
-            Some(place) => kind_at(&self.kinds, place),
+            Some(place) => self.kinds.get(place).copied(),
             None => None,
         }
     }
@@ -128,19 +103,8 @@ impl<'a> Own<'a> {
         ensures { (r : ReactorTree) → IsOwn r self.now → option_map (λ i. instance_view i.now) result ≡ find (λ i. bytes_eq name.now i.name) (instances_of r) }
     {
         match self.contained.get(name) {
-            Some(place) => instance_at(&self.instances, place),
+            Some(place) => self.instances.get(place).copied(),
             None => None,
         }
     }
-}
-
-/// The names of the instances.
-fn instance_names<'a>(alloc: Global, instances: &[&'a Instance]) -> Result<Vec<&'a str>, NoMemory>
-    ensures { IfOk result (λ v. texts v.items ≡ map (λ x. x.name) (instance_trees instances.now)) }
-{
-    let mut names = Vec::new(alloc);
-    for instance in instances {
-        names.push(instance.name.as_str())?;
-    }
-    Ok(names)
 }

@@ -4,12 +4,13 @@ use Rattle.lft_scope.specs.Places.{place}
 use Rattle.lft_scope.specs.Tables.{with_name}
 use Rattle.lft_scope.proofs.Files.{named-place, table_at}
 use Rattle.lft_scope.proofs.NamedReactors.{named}
+use Rattle.lft_scope.proofs.Placing.{lent}
 use Rattle.lft_scope.proofs.file.File.reactor.Goals as goal
 
 pub returns-in-Some : goal.returns-in-Some
 returns-in-Some c rs is =
     let at : place c.args.name.now (named rs) ≡ Some c.in-Some.place = sym (is.names c.args.name.now) ∙ sym c.get.ensures ∙ c.in-Some.is in
-    table_at rs c.args.self.now.reactors.items c.args.name.now c.in-Some.place c.outside_at.result is.each at (c.outside_at.ensures ∙ ap (λ l. slice_get l c.in-Some.place) c.deref.ensures.value)
+    table_at rs c.args.self.now.reactors.items c.args.name.now c.in-Some.place c.get-in-Some.result is.each at (lent c.deref.result.now c.in-Some.place c.get-in-Some.result c.get-in-Some.ensures.lookup ∙ ap (λ l. slice_get l c.in-Some.place) c.deref.ensures.value)
 
 pub returns-in-None : goal.returns-in-None
 returns-in-None c rs is =
