@@ -7,7 +7,7 @@ use Rattle.lft_instances.specs.declared.settings.Clock.{Clock}
 use Rattle.lft_scope.proofs.Somes.{Any-head}
 use Rattle.lft_scope.specs.Causes.{IsLongTime}
 use Rattle.lft_scope.specs.Instances.{Inside}
-use Rattle.lft_reactors.specs.Sheets.{IsClockOrZero}
+use Rattle.lft_scope.specs.Sheets.{IsClockOrZero}
 use Rattle.lft_program.specs.Flattening.{time_or_zero}
 
 -- the value at the place of a name is the value of the name

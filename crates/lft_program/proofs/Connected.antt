@@ -11,7 +11,7 @@ use Rattle.lft_instances.specs.Joins.{AreSources, Joins, JoinPorts, LeadApart, H
 use Rattle.lft_instances.specs.Values.{clock_in}
 use Rattle.lft_scope.specs.Causes.{HasLongTime, IsLongTime}
 use Rattle.lft_scope.specs.Instances.{Inside, Thing, thing_at, Connects, stands_for, time_in}
-use Rattle.lft_reactors.specs.Sheets.{IsJoin, Single, singles_of}
+use Rattle.lft_scope.specs.Sheets.{IsJoin, Single, singles_of}
 use Rattle.lft_program.specs.Located.{Located, declared, ports_in}
 use Rattle.lft_program.specs.Nests.{IsNest}
 use Rattle.lft_program.specs.Tables.{AreTables, IsLawful}

@@ -9,7 +9,7 @@ use Rattle.lft_instances.specs.Containment.{Holds, HoldsDeep, one, more, IsRecur
 use Rattle.lft_instances.specs.declared.walk.Contents.{Contents}
 use Rattle.lft_scope.specs.Causes.{Holds as Has, HoldsDeep as HasDeep, directly, through, IsTwice, DuplicateName, NoneHolds, RecursiveReactor, first_causes}
 use Rattle.lft_scope.specs.Instances.{is_called, reactor_named}
-use Rattle.lft_reactors.specs.Numbers.{AreContents, IsContents, IsNumberOf}
+use Rattle.lft_scope.specs.Numbers.{AreContents, IsContents, IsNumberOf}
 use Rattle.lft_scope.proofs.Files.{AllZip-from}
 use Rattle.lft_scope.proofs.NamedReactors.{named}
 use Rattle.lft_scope.proofs.Twice.{Any-at, at-Any}

@@ -10,7 +10,7 @@ use Rattle.lft_scope.specs.Causes.{HasLongTime, IsLongTime, longest}
 use Rattle.lft_scope.specs.Instances.{Inside, time_in, value_of}
 use Rattle.lft_scope.specs.Kinds.{times_in, timer_times}
 use Rattle.lft_scope.specs.Places.{place}
-use Rattle.lft_reactors.specs.Sheets.{IsClock, IsDelay, kept}
+use Rattle.lft_scope.specs.Sheets.{IsClock, IsDelay, kept}
 use Rattle.lft_scope.proofs.Somes.{Any-right}
 use Rattle.lft_scope.proofs.Twice.{Any-at}
 

@@ -10,7 +10,7 @@ use Rattle.lft_instances.specs.Children.{child_of}
 use Rattle.lft_instances.specs.Joins.{port_at, port_of, Declares, IsPort}
 use Rattle.lft_instances.proofs.Orders.{along_kid}
 use Rattle.lft_scope.specs.Instances.{Inside, thing_at, stands_for, stands_inside, entered, main_instance, reactor_named, given_in}
-use Rattle.lft_reactors.specs.Sheets.{IsEnd, IsInner}
+use Rattle.lft_scope.specs.Sheets.{IsEnd, IsInner}
 use Rattle.lft_program.specs.Located.{Located, ports_in}
 use Rattle.lft_program.specs.Nests.{IsNest}
 use Rattle.lft_program.specs.declared.nesting.nest.Nest.{Nest}

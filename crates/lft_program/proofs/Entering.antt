@@ -7,7 +7,7 @@ use Rattle.lft_instances.specs.Contents.{contained}
 use Rattle.lft_instances.specs.declared.walk.Contents.{Contents}
 use Rattle.lft_instances.proofs.Simulation.{Simulates}
 use Rattle.lft_scope.specs.Instances.{Inside, entered, given_in, reactor_named}
-use Rattle.lft_reactors.specs.Numbers.{AreContents}
+use Rattle.lft_scope.specs.Numbers.{AreContents}
 use Rattle.lft_program.proofs.Containing.{inner_at, number_at}
 use Rattle.lft_program.proofs.Zipping.{then_some}
 

@@ -9,7 +9,7 @@ use Rattle.lft_scope.proofs.Somes.{Any-left, Any-right}
 use Rattle.lft_scope.specs.Causes.{HasLongTime, IsLongTime}
 use Rattle.lft_scope.specs.Instances.{stands_for, thing_at}
 use Rattle.lft_scope.specs.Kinds.{reads_of, ref_in, timer_times}
-use Rattle.lft_reactors.specs.Sheets.{is_timer, without_timers}
+use Rattle.lft_scope.specs.Sheets.{is_timer, without_timers}
 use Rattle.lft_program.specs.Located.{Located, Declared, declared, ports_in, actions_in, timers_in}
 use Rattle.lft_program.specs.Tables.{IsLawful}
 use Rattle.lft_program.proofs.Placed.{declared_from, thing_from, path_once}

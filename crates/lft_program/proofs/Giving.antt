@@ -16,7 +16,7 @@ use Rattle.lft_scope.specs.Causes.{DeclaresTwice, DuplicateName, HasLongTime, Is
 use Rattle.lft_scope.specs.Instances.{Inside, given_in, given_or_default, time_in, value_of}
 use Rattle.lft_scope.specs.Kinds.{timer_times}
 use Rattle.lft_scope.specs.Places.{place}
-use Rattle.lft_reactors.specs.Sheets.{IsClock, IsGiven, kept}
+use Rattle.lft_scope.specs.Sheets.{IsClock, IsGiven, kept}
 use Rattle.lft_scope.proofs.Somes.{Any-head, Any-left, Any-right, Any-tail}
 use Rattle.lft_scope.proofs.Twice.{Any-at, twice_left}
 use Rattle.lft_program.proofs.Counting.{flat_at}

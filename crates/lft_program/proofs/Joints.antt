@@ -13,8 +13,8 @@ use Rattle.lft_instances.specs.Joins.{HasJoin, JoinPorts, LeadApart}
 use Rattle.lft_scope.specs.Causes.{IsTwice}
 use Rattle.lft_scope.specs.Instances.{thing_at, reactor_named}
 use Rattle.lft_scope.specs.Kinds.{destinations_in}
-use Rattle.lft_reactors.specs.Sheets.{IsConnections, IsEnd, IsJoin, Single, singles_of}
-use Rattle.lft_reactors.proofs.Written.{own_written, inner_written}
+use Rattle.lft_scope.specs.Sheets.{IsConnections, IsEnd, IsJoin, Single, singles_of}
+use Rattle.lft_scope.proofs.Written.{own_written, inner_written}
 use Rattle.lft_program.specs.Located.{Located, ports_in}
 use Rattle.lft_program.specs.Nests.{IsNest}
 use Rattle.lft_program.specs.Tables.{AreTables, IsLawful}

@@ -11,10 +11,10 @@ use Rattle.lft_instances.specs.declared.settings.Clock.{Clock}
 use Rattle.lft_instances.specs.declared.walk.Instance.{Instance}
 use Rattle.lft_scope.specs.Causes.{IsLongTime, HasLongTime}
 use Rattle.lft_scope.specs.Kinds.{times_in, timer_times}
-use Rattle.lft_reactors.specs.Sheets.{IsDeclarations, IsTimerSheet, IsActionSheet, IsClockOrZero}
-use Rattle.lft_reactors.specs.declared.sheets.ActionSheet.{ActionSheet}
-use Rattle.lft_reactors.specs.declared.sheets.Declarations.{Declarations}
-use Rattle.lft_reactors.specs.declared.sheets.TimerSheet.{TimerSheet}
+use Rattle.lft_scope.specs.Sheets.{IsDeclarations, IsTimerSheet, IsActionSheet, IsClockOrZero}
+use Rattle.lft_scope.specs.declared.by_number.sheets.ActionSheet.{ActionSheet}
+use Rattle.lft_scope.specs.declared.by_number.sheets.Declarations.{Declarations}
+use Rattle.lft_scope.specs.declared.by_number.sheets.TimerSheet.{TimerSheet}
 use Rattle.lft_scope.proofs.Somes.{Any-left, Any-right}
 use Rattle.lft_program.specs.Located.{Located, Declared, declared}
 use Rattle.lft_program.specs.Nests.{IsInstanceOf, IsThingOf}

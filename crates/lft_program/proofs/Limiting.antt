@@ -10,7 +10,7 @@ use Rattle.lft_instances.specs.declared.walk.Contents.{Contents}
 use Rattle.lft_instances.proofs.Simulation.{along_back, along_forth}
 use Rattle.lft_scope.specs.Causes.{IsDeclaredAt}
 use Rattle.lft_scope.specs.Instances.{Inside, IsInside, entered, main_instance, main_of}
-use Rattle.lft_reactors.specs.Numbers.{AreContents}
+use Rattle.lft_scope.specs.Numbers.{AreContents}
 use Rattle.lft_program.proofs.Entering.{HasNumber, numbers_go_along}
 use Rattle.lft_program.proofs.Listing.{count_is}
 

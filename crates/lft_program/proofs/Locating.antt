@@ -15,8 +15,8 @@ use Rattle.lft_instances.specs.declared.walk.Instance.{Instance}
 use Rattle.lft_instances.proofs.Simulation.{along_back, pre_order_back}
 use Rattle.lft_scope.specs.Causes.{HasLongTime, NoneHolds, first_causes}
 use Rattle.lft_scope.specs.Instances.{entered, main_instance, main_of}
-use Rattle.lft_reactors.specs.Numbers.{AreContents}
-use Rattle.lft_reactors.specs.Sheets.{AreParameters}
+use Rattle.lft_scope.specs.Numbers.{AreContents}
+use Rattle.lft_scope.specs.Sheets.{AreParameters}
 use Rattle.lft_program.specs.Located.{AreLocated, Located}
 use Rattle.lft_program.specs.Nests.{IsInstanceOf}
 use Rattle.lft_program.proofs.Entering.{HasNumber, numbers_go_along}

@@ -3,7 +3,7 @@ use Rattle.std.proofs.Common.{◌≡◌, ℕ, List, slice_get, Some, sym, ap, su
 use Rattle.lft_lists.proofs.Places.{Some_same}
 use Rattle.lft_tree.specs.Tree.{FileTree, RefTree, TriggerTree, ReactionTree, ActionTree, TimerTree, AtStartup, AtShutdown, OnRef}
 use Rattle.lft_scope.specs.Instances.{Thing, stands_for}
-use Rattle.lft_reactors.specs.Sheets.{without_timers}
+use Rattle.lft_scope.specs.Sheets.{without_timers}
 use Rattle.lft_program.specs.Located.{Located, AreLocated, Declared, timers_in}
 use Rattle.lft_program.specs.Tables.{IsLawful}
 use Rattle.lft_program.specs.Flattening.{Means, IsName, IsTrigger, IsAction, IsTimer, IsReaction}

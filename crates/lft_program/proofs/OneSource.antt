@@ -12,11 +12,11 @@ use Rattle.lft_scope.specs.Causes.{IsTwice, TwoSources, WritesTwice}
 use Rattle.lft_scope.specs.Instances.{Inside, IsInside, Thing, thing_at, stands_for, stands_inside, time_in, Connects, entered, main_instance, reactor_named}
 use Rattle.lft_scope.specs.Kinds.{destinations_in}
 use Rattle.lft_scope.specs.Places.{place}
-use Rattle.lft_reactors.specs.Sheets.{IsInner, port_place}
+use Rattle.lft_scope.specs.Sheets.{IsInner, port_place}
 use Rattle.lft_scope.proofs.Effects.{port_found}
 use Rattle.lft_scope.proofs.Placing.{find-place}
 use Rattle.lft_scope.proofs.Twice.{Any-at}
-use Rattle.lft_reactors.proofs.Written.{own_written, inner_written}
+use Rattle.lft_scope.proofs.Written.{own_written, inner_written}
 use Rattle.lft_program.specs.Located.{Located, AreLocated, Declared, ports_in}
 use Rattle.lft_program.specs.Tables.{IsLawful}
 use Rattle.lft_program.proofs.Counting.{total, flat_at}

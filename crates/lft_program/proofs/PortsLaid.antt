@@ -7,7 +7,7 @@ use Rattle.lft_lists.proofs.Mapped.{mapped}
 use Rattle.lft_tree.specs.Tree.{FileTree, PortTree, ports_of}
 use Rattle.lft_instances.specs.declared.numbering.Thing.{Thing}
 use Rattle.lft_scope.specs.Instances.{Thing as Spoken, thing_at}
-use Rattle.lft_reactors.specs.Sheets.{IsDeclarations}
+use Rattle.lft_scope.specs.Sheets.{IsDeclarations}
 use Rattle.lft_program.specs.Links.{IsSource}
 use Rattle.lft_program.specs.Located.{Declared, declared, ports_in}
 use Rattle.lft_program.specs.Nests.{IsThingOf}

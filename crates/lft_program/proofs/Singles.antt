@@ -8,7 +8,7 @@ use Rattle.lft_lists.proofs.Mapped.{mapped, mapped_from, pair_at}
 use Rattle.lft_tree.specs.Tree.{ReactorTree, ConnectionTree, RefTree, TimeTree, connections_of}
 use Rattle.lft_scope.specs.Kinds.{destinations_in}
 use Rattle.lft_scope.specs.Places.{place}
-use Rattle.lft_reactors.specs.Sheets.{Single, singles_in, singles_of}
+use Rattle.lft_scope.specs.Sheets.{Single, singles_in, singles_of}
 use Rattle.lft_program.proofs.Counting.{total, flat_at}
 use Rattle.lft_program.proofs.Lists.{From, flat_back, pair_back}
 

@@ -10,12 +10,12 @@ use Rattle.lft_instances.specs.Joins.{port_at}
 use Rattle.lft_instances.specs.declared.numbering.Thing.{Thing}
 use Rattle.lft_scope.specs.Instances.{Thing as Spoken, thing_at, stands_inside, stands_for}
 use Rattle.lft_scope.specs.Places.{place}
-use Rattle.lft_reactors.specs.Sheets.{AreCues, IsCue, IsReactions, IsSpot, without_timers}
-use Rattle.lft_reactors.specs.declared.sheets.Cue.{Cue}
-use Rattle.lft_reactors.specs.declared.sheets.Cue.TheVariants as cues
-use Rattle.lft_reactors.specs.declared.sheets.Cues.{Cues}
-use Rattle.lft_reactors.specs.declared.sheets.Spot.{Spot}
-use Rattle.lft_reactors.specs.declared.sheets.Spot.TheVariants as spots
+use Rattle.lft_scope.specs.Sheets.{AreCues, IsCue, IsReactions, IsSpot, without_timers}
+use Rattle.lft_scope.specs.declared.by_number.sheets.Cue.{Cue}
+use Rattle.lft_scope.specs.declared.by_number.sheets.Cue.TheVariants as cues
+use Rattle.lft_scope.specs.declared.by_number.sheets.Cues.{Cues}
+use Rattle.lft_scope.specs.declared.by_number.sheets.Spot.{Spot}
+use Rattle.lft_scope.specs.declared.by_number.sheets.Spot.TheVariants as spots
 use Rattle.lft_program.specs.Located.{Located, Declared, declared, things}
 use Rattle.lft_program.specs.Nests.{IsNumbering, IsThingOf}
 use Rattle.lft_program.specs.declared.nesting.linking.Linked.{Linked}

@@ -11,8 +11,8 @@ use Rattle.lft_instances.specs.declared.walk.Contents.{Contents}
 use Rattle.lft_instances.proofs.Simulation.{Simulates}
 use Rattle.lft_scope.specs.Causes.{HasLongTime, NoneHolds, first_causes}
 use Rattle.lft_scope.specs.Instances.{Inside, entered, given_in, main_instance, reactor_named}
-use Rattle.lft_reactors.specs.Numbers.{AreContents}
-use Rattle.lft_reactors.specs.Sheets.{AreGiven, AreParameters, IsGiven, IsParameters}
+use Rattle.lft_scope.specs.Numbers.{AreContents}
+use Rattle.lft_scope.specs.Sheets.{AreGiven, AreParameters, IsGiven, IsParameters}
 use Rattle.lft_scope.proofs.Twice.{Any-at}
 use Rattle.lft_program.proofs.Containing.{inner_at}
 use Rattle.lft_program.proofs.Entering.{entered_by, enters, made_in, step_forth}

@@ -5,7 +5,7 @@ use Rattle.std.specs.Fmt.{decimal}
 use Rattle.lft_tree.specs.Tree.{FileTree, ReactorTree, PortTree, ActionTree, TimerTree, ReactionTree, TimeTree, RefTree, TriggerTree, AtStartup, AtShutdown, OnRef, instances_of, ports_of, actions_of, timers_of, reactions_of}
 use Rattle.lft_scope.specs.Causes.{NoneHolds, causes}
 use Rattle.lft_scope.specs.Instances.{Inside, time_in, entered, main_instance, Thing, thing_at, stands_for}
-use Rattle.lft_reactors.specs.Sheets.{without_timers}
+use Rattle.lft_scope.specs.Sheets.{without_timers}
 use Rattle.lft_program.specs.Links.{IsSource}
 use Rattle.lft_program.specs.Located.{Located, AreLocated, Declared, declared, ports_in, actions_in, timers_in}
 use Rattle.lft_flat.specs.Names.{ThingNames}

@@ -5,14 +5,14 @@ use Rattle.lft_instances.specs.Joins.{port_at, port_of}
 use Rattle.lft_instances.specs.Values.{clock_in}
 use Rattle.lft_instances.specs.declared.numbering.Thing.{Thing}
 use Rattle.lft_instances.specs.declared.settings.Clock.{Clock}
-use Rattle.lft_reactors.specs.declared.sheets.ActionSheet.{ActionSheet}
-use Rattle.lft_reactors.specs.declared.sheets.Cue.{Cue}
-use Rattle.lft_reactors.specs.declared.sheets.Cue.TheVariants as cues
-use Rattle.lft_reactors.specs.declared.sheets.Cues.{Cues}
-use Rattle.lft_reactors.specs.declared.sheets.Declarations.{Declarations}
-use Rattle.lft_reactors.specs.declared.sheets.Spot.{Spot}
-use Rattle.lft_reactors.specs.declared.sheets.Spot.TheVariants as spots
-use Rattle.lft_reactors.specs.declared.sheets.TimerSheet.{TimerSheet}
+use Rattle.lft_scope.specs.declared.by_number.sheets.ActionSheet.{ActionSheet}
+use Rattle.lft_scope.specs.declared.by_number.sheets.Cue.{Cue}
+use Rattle.lft_scope.specs.declared.by_number.sheets.Cue.TheVariants as cues
+use Rattle.lft_scope.specs.declared.by_number.sheets.Cues.{Cues}
+use Rattle.lft_scope.specs.declared.by_number.sheets.Declarations.{Declarations}
+use Rattle.lft_scope.specs.declared.by_number.sheets.Spot.{Spot}
+use Rattle.lft_scope.specs.declared.by_number.sheets.Spot.TheVariants as spots
+use Rattle.lft_scope.specs.declared.by_number.sheets.TimerSheet.{TimerSheet}
 use Rattle.lft_program.specs.declared.nesting.linking.Linked.{Linked}
 use Rattle.lft_program.specs.declared.nesting.nest.Nest.{Nest}
 use Rattle.lft_program.specs.declared.nesting.tables.Tables.{Tables}

@@ -17,7 +17,9 @@ use crate::nesting::{Linked, Nest, Tables, contains_itself, links};
 use crate::tree_names::tree_names;
 use lft_causes::{check_first, check_later};
 use lft_flat::Program;
-use lft_reactors::{connections, contents, declarations, main_number, parameters, reactions};
+use lft_scope::by_number::{
+    connections, contents, declarations, main_number, parameters, reactions,
+};
 use lft_tag::NoMemory;
 use lft_tree::Ast;
 use std::alloc::Global;

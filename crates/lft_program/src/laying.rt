@@ -10,16 +10,16 @@ ghost use Rattle.lft_program.specs.Laying.{HasCues, IsActionAt, IsPortAt, IsReac
 ghost use Rattle.lft_program.specs.OfTree.{AreOfTree};
 ghost use Rattle.lft_flat.specs.Parts.{Parts};
 ghost use Rattle.lft_flat.specs.Sound.{KeepsOrigins};
-ghost use Rattle.lft_reactors.specs.declared.sheets.ActionSheet.{ActionSheet};
-ghost use Rattle.lft_reactors.specs.declared.sheets.Cues.{Cues as CuesOf};
-ghost use Rattle.lft_reactors.specs.declared.sheets.Declarations.{Declarations as DeclarationsOf};
-ghost use Rattle.lft_reactors.specs.declared.sheets.TimerSheet.{TimerSheet};
+ghost use Rattle.lft_scope.specs.declared.by_number.sheets.ActionSheet.{ActionSheet};
+ghost use Rattle.lft_scope.specs.declared.by_number.sheets.Cues.{Cues as CuesOf};
+ghost use Rattle.lft_scope.specs.declared.by_number.sheets.Declarations.{Declarations as DeclarationsOf};
+ghost use Rattle.lft_scope.specs.declared.by_number.sheets.TimerSheet.{TimerSheet};
 
 use crate::nesting::{Linked, Nest, Tables};
 use crate::spots;
 use lft_flat::{Action, Port, Reaction, Timer};
 use lft_instances::Thing;
-use lft_reactors::{Cues, Declarations};
+use lft_scope::by_number::{Cues, Declarations};
 use lft_tag::NoMemory;
 use std::alloc::Global;
 

@@ -8,7 +8,7 @@ ghost use Rattle.lft_program.specs.Laying.{AreNames, AreTriggers, Each, HasName,
 use crate::nesting::{Nest, Numbering};
 use lft_flat::{Name, Names, Trigger, Triggers};
 use lft_instances::End;
-use lft_reactors::{Cue, Spot};
+use lft_scope::by_number::{Cue, Spot};
 use lft_tag::NoMemory;
 use std::alloc::Global;
 

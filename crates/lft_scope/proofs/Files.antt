@@ -1,8 +1,7 @@
 -- The reactors of a file that have a name, and what names are.
-use Rattle.std.proofs.Common.{◌≡◌, ℕ, ◌+◌, ◌<◌, zero, suc, Bool, true, false, cond, List, [], ◌∷◌, ◌++◌, map, take, length, get_or, slice_get, find, is_some, Option, Some, None, option_map, MatchOption, append-nil, Bor, String, string_bytes, bytes_eq, refl, sym, ap, subst, ◌∙◌}
+use Rattle.std.proofs.Common.{◌≡◌, ℕ, zero, suc, Bool, true, false, cond, List, [], ◌∷◌, ◌++◌, slice_get, find, is_some, Option, Some, None, option_map, MatchOption, Bor, String, string_bytes, bytes_eq, refl, sym, ap, subst, ◌∙◌}
 use Rattle.std.specs.List.{AllZip, cons_option}
 use Rattle.std.specs.Option.{option_and_then}
-use Rattle.std.proofs.lemmas.List.Elements.{filter-append}
 use Rattle.lft_tree.specs.Tree.{ReactorTree, InstanceTree, instances_of, ports_of}
 use Rattle.lft_scope.specs.Instances.{is_called, reactor_named}
 use Rattle.lft_scope.specs.Kinds.{inner_kind, inner_port}
@@ -11,7 +10,6 @@ use Rattle.lft_scope.specs.Tables.{IsOutside, with_name}
 use Rattle.lft_scope.specs.declared.file.Outside.{Outside}
 use Rattle.lft_scope.specs.declared.kinds.Kind.{Kind}
 use Rattle.lft_scope.proofs.NamedReactors.{named}
-use Rattle.lft_scope.proofs.Twice.{map_last}
 
 -- the reactor of a name is the one at the name's place
 pub named-place : (rs : List ReactorTree) (q : List ℕ) → reactor_named rs q ≡ option_and_then (slice_get (with_name rs)) (place q (named rs))
@@ -57,21 +55,6 @@ table_at rs tables q k None all at is = named-place rs q ∙ ap (option_and_then
 table_at rs tables q k (Some b) all at is =
     let from = AllZip-from IsOutside (with_name rs) tables all k b.now (sym is) in
     (from.0, named-place rs q ∙ ap (option_and_then (slice_get (with_name rs))) at ∙ from.1, from.2)
-
--- one more reactor, with a name or without
-module _ {C : Type 0} (v : C → ReactorTree) (xs : List C) (i : ℕ) (x : C) (lt : i < length xs) (is : get_or xs i x ≡ x) (tables : List Outside) (all : AllZip IsOutside (with_name (map v (take i xs))) tables) where
-  kept : with_name (map v (take (i + 1) xs)) ≡ with_name (map v (take i xs)) ++ with_name (v x ∷ [])
-  kept = ap with_name (map_last v xs i x lt is) ∙ filter-append (λ r. is_some r.name) (map v (take i xs)) (v x ∷ [])
-
-  pub table_more : (o : Outside) → is_some (v x).name ≡ true → IsOutside (v x) o → AllZip IsOutside (with_name (map v (take (i + 1) xs))) (tables ++ o ∷ [])
-  table_more o some one =
-      let here : with_name (v x ∷ []) ≡ v x ∷ [] = ap (λ b. cond b (v x ∷ []) []) some in
-      subst (λ l. AllZip IsOutside l (tables ++ o ∷ [])) (sym (kept ∙ ap (λ l. with_name (map v (take i xs)) ++ l) here)) (AllZip-last IsOutside (with_name (map v (take i xs))) tables (v x) o all one)
-
-  pub table_kept : is_some (v x).name ≡ false → AllZip IsOutside (with_name (map v (take (i + 1) xs))) tables
-  table_kept none =
-      let here : with_name (v x ∷ []) ≡ [] = ap (λ b. cond b (v x ∷ []) []) none in
-      subst (λ l. AllZip IsOutside l tables) (sym (kept ∙ ap (λ l. with_name (map v (take i xs)) ++ l) here ∙ append-nil (with_name (map v (take i xs))))) all
 
 -- what `x.y` is, from what x and its reactor are
 pub inner_found : (rs : List ReactorTree) (r : ReactorTree) (head name : List ℕ) (i : InstanceTree) (inner : ReactorTree) (k : Option Kind) → find (λ i. bytes_eq head i.name) (instances_of r) ≡ Some i → reactor_named rs i.reactor ≡ Some inner → k ≡ option_map (λ x. inner_port x.is_input) (find (λ x. bytes_eq name x.name) (ports_of inner)) → k ≡ inner_kind rs r head name

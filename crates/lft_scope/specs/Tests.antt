@@ -27,8 +27,8 @@ name_in Action m = option_map (λ x. x.name) (action_in m)
 name_in Instance m = option_map (λ x. x.name) (instance_in m)
 
 -- the names of the reactor's members of the kind, in order
-abbrev pub names_of : Declared → ReactorTree → List (List ℕ)
-names_of Port r = map (λ x. x.name) (ports_of r)
-names_of Timer r = map (λ x. x.name) (timers_of r)
-names_of Action r = map (λ x. x.name) (actions_of r)
-names_of Instance r = map (λ x. x.name) (instances_of r)
+abbrev pub member_names : Declared → ReactorTree → List (List ℕ)
+member_names Port r = map (λ x. x.name) (ports_of r)
+member_names Timer r = map (λ x. x.name) (timers_of r)
+member_names Action r = map (λ x. x.name) (actions_of r)
+member_names Instance r = map (λ x. x.name) (instances_of r)

@@ -2,7 +2,7 @@
 
 ghost use Rattle.std.specs.Prelude.{◌≡◌, ℕ, List, Some, None, cond, map, IfOk, OnOk, bytes_eq};
 ghost use Rattle.lft_tree.specs.View.{reactor_view};
-ghost use Rattle.lft_scope.specs.Tests.{names_of, texts};
+ghost use Rattle.lft_scope.specs.Tests.{member_names, texts};
 ghost use Rattle.lft_scope.specs.Places.{IsIndexOf, place_in};
 
 use crate::names::{Declared, parameter_names, push_names};
@@ -70,7 +70,7 @@ impl<'a> Index<'a> {
         reactor: &'a Reactor,
         kind: Declared,
     ) -> Result<Index<'a>, NoMemory>
-        ensures { IfOk result (λ index. IsIndexOf index (names_of kind (reactor_view reactor.now))) }
+        ensures { IfOk result (λ index. IsIndexOf index (member_names kind (reactor_view reactor.now))) }
     {
         let mut names = Vec::new(alloc);
         push_names(&mut names, &reactor.members, kind)?;

@@ -1,7 +1,8 @@
 #![tactic(auto)]
-//! What the names in the reactors of a file stand for, and the definitions of instances and of the
-//! causes of refusal.
+//! What the names in the reactors of a file stand for, the tables of reactors by number, and the
+//! definitions of instances and of the causes of refusal.
 
+pub mod by_number;
 mod fault;
 pub mod file;
 pub mod index;

@@ -4,7 +4,7 @@ use Rattle.std.specs.List.{AllZip}
 use Rattle.lft_tree.specs.Tree.{ReactorTree, InstanceTree, instances_of}
 use Rattle.lft_instances.specs.declared.walk.Contents.{Contents}
 use Rattle.lft_scope.specs.Instances.{reactor_named}
-use Rattle.lft_reactors.specs.Numbers.{IsNumberOf, IsContents, AreContents}
+use Rattle.lft_scope.specs.Numbers.{IsNumberOf, IsContents, AreContents}
 use Rattle.lft_witnesses.specs.Witnesses.{HoldsAt}
 use Rattle.lft_scope.proofs.Twice.{Any-at}
 

@@ -3,12 +3,12 @@
 ghost use Rattle.std.specs.Prelude.{◌≡◌, List, Some, IfOk, IfSome, IsTrue, slice_get};
 ghost use Rattle.lft_tree.specs.Tree.{ReactorTree, reactors_of};
 ghost use Rattle.lft_tree.specs.View.{tree_view};
-ghost use Rattle.lft_reactors.specs.Numbers.{AreContents};
+ghost use Rattle.lft_scope.specs.Numbers.{AreContents};
 ghost use Rattle.lft_witnesses.specs.Witnesses.{Closes, HoldsAt, IsCircle, LeadsOn};
 
 use lft_instances::Contents;
-use lft_reactors::contents;
 use lft_scope::ReactorFault;
+use lft_scope::by_number::contents;
 use lft_tag::NoMemory;
 use lft_tree::Ast;
 use std::alloc::Global;

@@ -3,7 +3,7 @@
 ghost use Rattle.std.specs.Prelude.{◌≡◌, IfOk, length, map};
 
 use lft_instances::Connections;
-use lft_reactors::{Declarations, Reactions};
+use lft_scope::by_number::{Declarations, Reactions};
 use lft_tag::NoMemory;
 use std::alloc::Global;
 

@@ -3,7 +3,7 @@
 ghost use Rattle.std.specs.Prelude.{◌↔◌, IsTrue, IfOk, List};
 ghost use Rattle.lft_tree.specs.Tree.{ReactorTree};
 ghost use Rattle.lft_scope.specs.Causes.{NoneHolds, RecursiveReactor, first_causes};
-ghost use Rattle.lft_reactors.specs.Numbers.{AreContents};
+ghost use Rattle.lft_scope.specs.Numbers.{AreContents};
 
 use lft_instances::{Contents, is_recursive};
 use lft_tag::NoMemory;

@@ -1,6 +1,6 @@
 use Rattle.std.proofs.Common.{◌≡◌, ◌++◌, ℕ, List, map, filter_map, ap, ◌∙◌}
 use Rattle.lft_tree.specs.View.{member_views, parameter_view, reactor_view}
-use Rattle.lft_scope.specs.Tests.{name_in, names_of, texts}
+use Rattle.lft_scope.specs.Tests.{name_in, member_names, texts}
 use Rattle.lft_scope.specs.declared.names.Declared.TheVariants.{Port, Timer, Action, Instance}
 use Rattle.lft_scope.proofs.NamedMembers.{named_members}
 use Rattle.lft_scope.proofs.names.declared_names.Goals as goal
@@ -13,8 +13,8 @@ pub returns : goal.returns
 returns c =
     let r = reactor_view c.args.reactor.now in
     let parameters : texts c.in_ok-names.names.items ≡ map (λ x. x.name) r.parameters = c.in_ok-names.ensures ∙ ap (λ l. map (λ x. x.name) (map parameter_view l)) c.deref.ensures.value in
-    let ports : texts c.push_names.new.names.items ≡ texts c.in_ok-names.names.items ++ names_of Port r = c.in_ok-push_names.ensures ∙ ap (λ l. texts c.in_ok-names.names.items ++ filter_map (name_in Port) (member_views l)) c.deref-2.ensures.value ∙ ap (λ l. texts c.in_ok-names.names.items ++ l) (named_members Port r) in
-    let timers : texts c.push_names-2.new.names.items ≡ texts c.push_names.new.names.items ++ names_of Timer r = c.in_ok-push_names-2.ensures ∙ ap (λ l. texts c.push_names.new.names.items ++ filter_map (name_in Timer) (member_views l)) c.deref-3.ensures.value ∙ ap (λ l. texts c.push_names.new.names.items ++ l) (named_members Timer r) in
-    let actions : texts c.push_names-3.new.names.items ≡ texts c.push_names-2.new.names.items ++ names_of Action r = c.in_ok-push_names-3.ensures ∙ ap (λ l. texts c.push_names-2.new.names.items ++ filter_map (name_in Action) (member_views l)) c.deref-4.ensures.value ∙ ap (λ l. texts c.push_names-2.new.names.items ++ l) (named_members Action r) in
-    let instances : texts c.push_names-4.new.names.items ≡ texts c.push_names-3.new.names.items ++ names_of Instance r = c.in_ok-push_names-4.ensures ∙ ap (λ l. texts c.push_names-3.new.names.items ++ filter_map (name_in Instance) (member_views l)) c.deref-5.ensures.value ∙ ap (λ l. texts c.push_names-3.new.names.items ++ l) (named_members Instance r) in
+    let ports : texts c.push_names.new.names.items ≡ texts c.in_ok-names.names.items ++ member_names Port r = c.in_ok-push_names.ensures ∙ ap (λ l. texts c.in_ok-names.names.items ++ filter_map (name_in Port) (member_views l)) c.deref-2.ensures.value ∙ ap (λ l. texts c.in_ok-names.names.items ++ l) (named_members Port r) in
+    let timers : texts c.push_names-2.new.names.items ≡ texts c.push_names.new.names.items ++ member_names Timer r = c.in_ok-push_names-2.ensures ∙ ap (λ l. texts c.push_names.new.names.items ++ filter_map (name_in Timer) (member_views l)) c.deref-3.ensures.value ∙ ap (λ l. texts c.push_names.new.names.items ++ l) (named_members Timer r) in
+    let actions : texts c.push_names-3.new.names.items ≡ texts c.push_names-2.new.names.items ++ member_names Action r = c.in_ok-push_names-3.ensures ∙ ap (λ l. texts c.push_names-2.new.names.items ++ filter_map (name_in Action) (member_views l)) c.deref-4.ensures.value ∙ ap (λ l. texts c.push_names-2.new.names.items ++ l) (named_members Action r) in
+    let instances : texts c.push_names-4.new.names.items ≡ texts c.push_names-3.new.names.items ++ member_names Instance r = c.in_ok-push_names-4.ensures ∙ ap (λ l. texts c.push_names-3.new.names.items ++ filter_map (name_in Instance) (member_views l)) c.deref-5.ensures.value ∙ ap (λ l. texts c.push_names-3.new.names.items ++ l) (named_members Instance r) in
     joined _ _ _ _ _ _ _ _ _ _ parameters ports timers actions instances

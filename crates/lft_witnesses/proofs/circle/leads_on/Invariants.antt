@@ -1,6 +1,6 @@
 use Rattle.std.proofs.Common.{◌≡◌, ℕ, ◌+◌, ◌<◌, List, Some, slice_get}
 use Rattle.lft_tree.specs.Tree.{ReactorTree}
-use Rattle.lft_reactors.specs.Numbers.{AreContents}
+use Rattle.lft_scope.specs.Numbers.{AreContents}
 use Rattle.lft_witnesses.specs.Witnesses.{HoldsAt}
 use Rattle.lft_witnesses.proofs.circle.leads_on.Given as goal
 

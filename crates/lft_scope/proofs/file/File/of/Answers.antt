@@ -1,4 +1,4 @@
-use Rattle.std.proofs.Common.{◌≡◌, take, sym, ap, subst, ◌∙◌, arith}
+use Rattle.std.proofs.Common.{◌≡◌, is_some, take, sym, ap, subst, ◌∙◌, arith}
 use Rattle.std.specs.List.{AllZip}
 use Rattle.std.proofs.lemmas.Grind.{common_steps}
 use Rattle.lft_tree.specs.View.{reactor_view}
@@ -6,7 +6,8 @@ use Rattle.lft_scope.specs.Places.{IsIndexOf}
 use Rattle.lft_scope.specs.References.{reactor_trees}
 use Rattle.lft_scope.specs.Tables.{IsOutside, with_name}
 use Rattle.lft_scope.specs.Tests.{texts}
-use Rattle.lft_scope.proofs.Files.{table_more, table_kept, named_some}
+use Rattle.lft_scope.proofs.Files.{named_some}
+use Rattle.lft_scope.proofs.Filtered.{filtered_more, filtered_kept}
 use Rattle.lft_scope.proofs.NamedReactors.{named}
 use Rattle.lft_scope.proofs.file.File.of.Goals as goal
 use Rattle.lft_scope.proofs.file.File.of.Goals.{then-is_some+in_ok-of+in_ok-push, else-is_some}
@@ -14,8 +15,8 @@ use Rattle.lft_scope.proofs.file.File.of.Goals.{then-is_some+in_ok-of+in_ok-push
 pub loop-reactor-preserved : goal.loop-reactor-preserved
 loop-reactor-preserved c =
     elim c.if-is_some.branch [
-      | then-is_some+in_ok-of+in_ok-push w ↦ rw (w.outsides-is, w.in_ok-push.ensures.items) (table_more (λ r. reactor_view r.now) c.args.reactors.now c.loop-reactor.reactor-index c.reactor-item.result c.loop-reactor-test.true (sym c.reactor-item.is) c.loop-reactor.outsides.items c.loop-reactor.invariant _ (named_some c.reactor-item.result.now.name ∙ sym c.is_some.ensures ∙ w.if-is_some.true) w.in_ok-of.ensures)
-      | else-is_some w ↦ rw w.outsides-is (table_kept (λ r. reactor_view r.now) c.args.reactors.now c.loop-reactor.reactor-index c.reactor-item.result c.loop-reactor-test.true (sym c.reactor-item.is) c.loop-reactor.outsides.items c.loop-reactor.invariant (named_some c.reactor-item.result.now.name ∙ sym c.is_some.ensures ∙ w.if-is_some.false))
+      | then-is_some+in_ok-of+in_ok-push w ↦ rw (w.outsides-is, w.in_ok-push.ensures.items) (filtered_more (λ r. is_some r.name) (λ r. reactor_view r.now) IsOutside c.args.reactors.now c.loop-reactor.reactor-index c.reactor-item.result c.loop-reactor-test.true (sym c.reactor-item.is) c.loop-reactor.outsides.items c.loop-reactor.invariant _ (named_some c.reactor-item.result.now.name ∙ sym c.is_some.ensures ∙ w.if-is_some.true) w.in_ok-of.ensures)
+      | else-is_some w ↦ rw w.outsides-is (filtered_kept (λ r. is_some r.name) (λ r. reactor_view r.now) IsOutside c.args.reactors.now c.loop-reactor.reactor-index c.reactor-item.result c.loop-reactor-test.true (sym c.reactor-item.is) c.loop-reactor.outsides.items c.loop-reactor.invariant (named_some c.reactor-item.result.now.name ∙ sym c.is_some.ensures ∙ w.if-is_some.false))
     ]
 
 pub returns : goal.returns

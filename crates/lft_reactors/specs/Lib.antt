@@ -1,4 +1,0 @@
-pub mod Numbers
-pub mod Sheets
-pub mod Lacking
-pub mod Directories
