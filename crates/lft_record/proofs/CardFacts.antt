@@ -1,14 +1,14 @@
 -- What one more record does to a table of cards.
 use Rattle.std.proofs.Common.{◌≡◌, ◌≢◌, ◌∙◌, inl, inr, ◌⊎◌, ◌+◌, ◌<◌, ◌≤◌, ◌==◌, ◌++◌, ℕ, List, [], ◌∷◌, length, Option, Some, None, Bool, true, false, filter_map, get_or, slice_get, refl, sym, ap, arith, append_assoc, append-nil, length-append}
 use Rattle.std.specs.Prelude.{not, is_some, option_to_list}
-use Rattle.std.specs.List.{All, AllZip}
+use Rattle.std.specs.List.{All}
 use Rattle.std.proofs.lemmas.Bool.{cases_Bool}
 use Rattle.std.proofs.lemmas.Bool.Decides.{nat_tests}
 use Rattle.std.proofs.lemmas.List.Elements.{filter_map-append}
 use Rattle.std.proofs.lemmas.Option.{slice_get-get_or, slice_get_within, get_or_from_slice_get}
+use Rattle.csv.specs.Records.{fields_of}
 use Rattle.lft_flat.specs.Parts.{Parts}
-use Rattle.lft_trace.proofs.Zips.{long}
-use Rattle.lft_record.specs.CardTables.{AreTold, Begins, CardTable, CardsFail, FaultAt, IsAgain, IsCard, IsScript, entries_of, entry_bodies, entry_of, entry_state, entry_step, header}
+use Rattle.lft_record.specs.CardTables.{AreTold, CardsFail, FaultAt, IsAgain, IsCard, IsScript, card_tables, entries_of, entry_bodies, entry_of, entry_state, entry_step, header}
 use Rattle.lft_record.specs.Scripts.{Adds, blank, is_taken, with_entry}
 use Rattle.lft_record.specs.declared.cards.card.Card.{Card}
 use Rattle.lft_record.specs.declared.cards.card.CardStep.{CardStep}
@@ -18,35 +18,26 @@ use Rattle.lft_record.specs.declared.cards.Script.{Script}
 use Rattle.lft_record.specs.declared.cards.expression.Term.{Term}
 use Rattle.lft_record.specs.declared.cards.fault.CardFault.{CardFault}
 use Rattle.lft_record.specs.declared.cards.fault.CardFault.TheVariants as fault
-use Rattle.std.proofs.lemmas.Slice.Zip.{all_zipped_more}
+use Rattle.lft_trace.specs.Records.{GoesOn, IsUnread, records_of}
+use Rattle.lft_trace.specs.declared.records.Records.{Records}
+use Rattle.lft_trace.proofs.TableFacts.{Read, Texts, bad as bad_record, one_more as read_more, start as first}
 
-abbrev pub Texts : Type 0
-Texts = List (List (List ℕ))
-
--- what is read before a line: the header and the records of some cards, the scripts that they tell, and the records left
-pub record Gathered (program : Parts) (records : Texts) (scripts : List Script) (left : Texts) (line : ℕ) : Type 0 where
-  pub first : Texts
+-- what is read up to a line: the header and the records of some cards, and the scripts that they tell
+pub record Gathered (program : Parts) (records : Texts) (scripts : List Script) (r : Records) : Type 0 where
   pub cards : List Card
-  pub under : records ≡ header ∷ (first ++ left)
-  pub each : AllZip (IsCard program) first cards
-  pub here : length first + 2 ≡ line
+  pub read : Read (card_tables program) records cards r
   pub told : AreTold program cards scripts
 
 blank_told : (r : ℕ) (script : Script) → script ≡ blank → IsScript [] script
 blank_told r script e = rw e (record { bodies = refl; steps = refl; state = refl })
 
-pub start : (program : Parts) (records left : Texts) (scripts : List Script) (f : List (List ℕ)) → records ≡ f ∷ left → f ≡ header → length scripts ≡ length program.reactions → All (λ script. script ≡ blank) scripts → Gathered program records scripts left 2
-start program records left scripts f e h l b = record {
-  first = [];
-  cards = [];
-  under = e ∙ ap (λ (g : List (List ℕ)). g ∷ left) h;
-  each = tt;
-  here = refl;
-  told = record {
-    long = l;
-    each = λ r script at. blank_told r script (sym (get_or_from_slice_get scripts r script blank at) ∙ b r blank (slice_get_within scripts r script at));
-  };
-}
+pub start : (program : Parts) (text : List ℕ) (scripts : List Script) (old new : Records) → IsUnread old text 4000001 → GoesOn old new → fields_of new.fields ≡ header → length scripts ≡ length program.reactions → All (λ script. script ≡ blank) scripts → Gathered program (records_of text) scripts new
+start program text scripts old new u g top l b =
+    let told : AreTold program [] scripts = record {
+      long = l;
+      each = λ r script at. blank_told r script (sym (get_or_from_slice_get scripts r script blank at) ∙ b r blank (slice_get_within scripts r script at));
+    } in
+    record { cards = []; read = first (card_tables program) text old new u g top (scripts, told); told = told }
 
 -- the entries of a reaction, with those of one card more
 pub entries_more : (r : ℕ) (cards : List Card) (card : Card) (o : Option CardEntry) → entry_of r card ≡ o → entries_of r (cards ++ (card ∷ [])) ≡ entries_of r cards ++ option_to_list o
@@ -107,32 +98,6 @@ told_more program cards scripts now card t within a = record {
   ];
 }
 
-pub one_more : (program : Parts) (records rest : Texts) (scripts now : List Script) (line : ℕ) (f : List (List ℕ)) (card : Card)
-    → Gathered program records scripts (f ∷ rest) line → IsCard program f card → card.reaction < length program.reactions → Adds scripts now card true → Gathered program records now rest (line + 1)
-one_more program records rest scripts now line f card r is within a = record {
-  first = r.first ++ (f ∷ []);
-  cards = r.cards ++ (card ∷ []);
-  under = r.under ∙ ap (λ (t : Texts). header ∷ t) (sym (append_assoc r.first (f ∷ []) rest));
-  each = all_zipped_more (IsCard program) r.first r.cards f card r.each is;
-  here = let e = length-append r.first (f ∷ []) in let h = r.here in omega (arith, e, h);
-  told = told_more program r.cards scripts now card r.told (let l = r.told.long in omega (arith, l, within)) a;
-}
-
-begins : (program : Parts) (records left : Texts) (scripts : List Script) (line : ℕ) (r : Gathered program records scripts left line) → Begins program records r.first left r.cards
-begins program records left scripts line r = record { under = r.under; each = r.each; scripts = scripts; told = r.told }
-
-pub bad : (program : Parts) (records rest : Texts) (scripts : List Script) (line : ℕ) (f : List (List ℕ)) (e : CardFault)
-    → Gathered program records scripts (f ∷ rest) line → line < 4000002 → ((before : List Card) → FaultAt program before line f e) → CardsFail program records e
-bad program records rest scripts line f e r small is = inr (inl (record {
-  first = r.first;
-  bad = f;
-  more = rest;
-  cards = r.cards;
-  begins = begins program records (f ∷ rest) scripts line r;
-  within = let h = r.here in omega (arith, h);
-  is = rw r.here (is r.cards);
-}))
-
 taken_again : (cards : List Card) (card : Card) (script : Script) → IsScript (entries_of card.reaction cards) script → is_taken script card.entry ≡ true → IsAgain cards card
 taken_again cards card script s taken = again card.entry refl taken
   where
@@ -145,29 +110,19 @@ taken_again cards card script s taken = again card.entry refl taken
     again (entry.Step x) e t = absurd (cc t)
     again (entry.State terms) e t = inr (terms, ap entry_state e, some script.state (filter_map entry_state (entries_of card.reaction cards)) t s.state)
 
-pub refused : (program : Parts) (records rest : Texts) (scripts now : List Script) (line : ℕ) (f : List (List ℕ)) (card : Card)
-    → Gathered program records scripts (f ∷ rest) line → line < 4000002 → IsCard program f card → card.reaction < length program.reactions → Adds scripts now card false → CardsFail program records (fault.GivenTwice line)
-refused program records rest scripts now line f card r small is within a =
-    let inside : card.reaction < length scripts = let l = r.told.long in omega (arith, l, within) in
-    let old = get_or scripts card.reaction blank in
-    let was : slice_get scripts card.reaction ≡ Some old = slice_get-get_or scripts card.reaction blank inside in
-    let again : IsAgain r.cards card = taken_again r.cards card old (r.told.each card.reaction old was) (not_true (is_taken old card.entry) (a.free old was)) in
-    inr (inl (record {
-      first = r.first;
-      bad = f;
-      more = rest;
-      cards = r.cards;
-      begins = begins program records (f ∷ rest) scripts line r;
-      within = let k = r.here in omega (arith, k);
-      is = (sym r.here, card, is, again);
-    }))
+module _ (program : Parts) (records : Texts) (scripts : List Script) (old new : Records) (r : Gathered program records scripts old) where
+  pub one_more : (now : List Script) (card : Card) → GoesOn old new → IsCard program (fields_of new.fields) card → card.reaction < length program.reactions → Adds scripts now card true → Gathered program records now new
+  one_more now card g is within a =
+      let told = told_more program r.cards scripts now card r.told (let l = r.told.long in omega (arith, l, within)) a in
+      record { cards = r.cards ++ (card ∷ []); read = read_more (card_tables program) records r.cards old new card r.read g is (now, told); told = told }
 
-pub ended : (program : Parts) (records : Texts) (scripts : List Script) (line : ℕ) → Gathered program records scripts [] line → line ≤ 4000002 → CardTable program records scripts
-ended program records scripts line r small = record {
-  rest = r.first;
-  cards = r.cards;
-  under = r.under ∙ ap (λ (t : Texts). header ∷ t) (append-nil r.first);
-  each = r.each;
-  few = let e = long (IsCard program) r.first r.cards r.each in let k = r.here in omega (arith, e, k);
-  told = r.told;
-}
+  pub bad : (e : CardFault) → GoesOn old new → ((before : List Card) → FaultAt program before new.line (fields_of new.fields) e) → CardsFail program records e
+  bad e g is = bad_record (card_tables program) records r.cards old new e r.read g (is r.cards)
+
+  pub refused : (now : List Script) (card : Card) → GoesOn old new → IsCard program (fields_of new.fields) card → card.reaction < length program.reactions → Adds scripts now card false → CardsFail program records (fault.GivenTwice new.line)
+  refused now card g is within a =
+      let inside : card.reaction < length scripts = let l = r.told.long in omega (arith, l, within) in
+      let old_script = get_or scripts card.reaction blank in
+      let was : slice_get scripts card.reaction ≡ Some old_script = slice_get-get_or scripts card.reaction blank inside in
+      let again : IsAgain r.cards card = taken_again r.cards card old_script (r.told.each card.reaction old_script was) (not_true (is_taken old_script card.entry) (a.free old_script was)) in
+      bad_record (card_tables program) records r.cards old new (fault.GivenTwice new.line) r.read g (refl, card, is, again)

@@ -1,24 +1,20 @@
 -- Records have one table of cards, or a fault.
-use Rattle.std.proofs.Common.{◌≡◌, ◌≢◌, ◌∙◌, inl, inr, ◌⊎◌, ◌+◌, ◌<◌, ◌≤◌, ◌==◌, ◌++◌, ℕ, zero, suc, List, [], ◌∷◌, length, Option, Some, None, filter_map, get_or, slice_get, refl, sym, ap, arith, length-append}
+use Rattle.std.proofs.Common.{◌≡◌, ◌≢◌, ◌∙◌, inl, inr, ◌⊎◌, ◌+◌, ◌<◌, ◌≤◌, ◌==◌, ◌++◌, ℕ, zero, suc, List, [], ◌∷◌, length, Option, Some, None, filter_map, get_or, slice_get, refl, sym, ap, arith}
 use Rattle.std.specs.Prelude.{option_to_list}
-use Rattle.std.specs.List.{AllZip}
 use Rattle.std.proofs.lemmas.List.Elements.{filter_map-append}
 use Rattle.std.proofs.lemmas.Option.{slice_get-get_or, slice_get_within}
 use Rattle.lft_flat.specs.Parts.{Parts}
 use Rattle.lft_flat.specs.Sound.{IsSound}
-use Rattle.lft_trace.proofs.Zips.{Parted, long, parted, same, same_rest}
-use Rattle.lft_record.specs.CardTables.{AreTold, CardTable, CardsFail, FailsAt, FaultAt, HasTooMany, IsCard, IsScript, entries_of, entry_bodies, entry_of, entry_state, header}
+use Rattle.lft_trace.proofs.TableFacts.{Texts, holds_no_fault, one_reading}
+use Rattle.lft_record.specs.CardTables.{AreTold, CardTable, CardsFail, FaultAt, IsCard, IsScript, card_tables, entries_of, entry_bodies, entry_of, entry_state}
 use Rattle.lft_record.specs.Scripts.{blank}
 use Rattle.lft_record.specs.declared.cards.card.Card.{Card}
 use Rattle.lft_record.specs.declared.cards.card.CardEntry.{CardEntry}
 use Rattle.lft_record.specs.declared.cards.Script.{Script}
 use Rattle.lft_record.specs.declared.cards.fault.CardFault.{CardFault}
 use Rattle.lft_record.specs.declared.cards.fault.CardFault.TheVariants as fault
-use Rattle.lft_record.proofs.CardFacts.{Texts, is_own}
+use Rattle.lft_record.proofs.CardFacts.{is_own}
 use Rattle.lft_record.proofs.CardsDiffer.{count_there, empty_there, kind_there, name_there, number_there, one_card, value_there}
-
-same_cards : (program : Parts) (rest : Texts) (a b : List Card) → IsSound program → AllZip (IsCard program) rest a → AllZip (IsCard program) rest b → a ≡ b
-same_cards program rest a b sound h k = same (IsCard program) (λ f x y p q. one_card program f x y sound p q) rest a b h k
 
 one_item : {X : Type 0} (a b : Option X) → option_to_list a ≡ option_to_list b → a ≡ b
 one_item None None h = refl
@@ -45,8 +41,7 @@ same_items (x ∷ xs) (y ∷ ys) h each =
 
 pub one_table : (program : Parts) (records : Texts) (scripts other : List Script) → IsSound program → CardTable program records scripts → CardTable program records other → other ≡ scripts
 one_table program records scripts other sound t u =
-    let r : t.rest ≡ u.rest = same_rest header records t.rest u.rest t.under u.under in
-    let e : t.cards ≡ u.cards = same_cards program u.rest t.cards u.cards sound (rw r at t.each) u.each in
+    let e : t.cards ≡ u.cards = one_reading (card_tables program) records (λ f x y. one_card program f x y sound) t.cards u.cards t.holds u.holds in
     let told : AreTold program u.cards scripts = rw e at t.told in
     let lengths : length other ≡ length scripts = u.told.long ∙ sym told.long in
     same_items other scripts lengths (λ i x y a b. one_script (entries_of i u.cards) x y (u.told.each i x a) (told.each i y b))
@@ -98,25 +93,7 @@ faulty program records scripts line bad fault.TooManyRows front back here sound 
 faulty program records scripts line bad fault.NotCsv front back here sound t whole is f = f
 faulty program records scripts line bad fault.NoMemory front back here sound t whole is f = f
 
-two_faults : (program : Parts) (records : Texts) (e : CardFault) (scripts : List Script) → IsSound program → FailsAt program records e → CardTable program records scripts → ⊥
-two_faults program records e scripts sound f t =
-    let s : t.rest ≡ f.first ++ (f.bad ∷ f.more) = same_rest header records t.rest (f.first ++ (f.bad ∷ f.more)) t.under f.begins.under in
-    let each : AllZip (IsCard program) (f.first ++ (f.bad ∷ f.more)) t.cards = rw s at t.each in
-    let p : Parted (IsCard program) f.first f.bad t.cards = parted (IsCard program) f.first f.bad f.more t.cards each in
-    let front : f.cards ≡ p.front = same_cards program f.first f.cards p.front sound f.begins.each p.each in
-    faulty program records scripts (length f.first + 2) f.bad e p.front p.back p.here sound t p.whole p.is (rw front at f.is)
-
-not_more : (program : Parts) (records : Texts) (scripts : List Script) → HasTooMany program records → CardTable program records scripts → ⊥
-not_more program records scripts f t =
-    let s : t.rest ≡ f.first ++ (f.next ∷ f.more) = same_rest header records t.rest (f.first ++ (f.next ∷ f.more)) t.under f.begins.under in
-    let l = ap length s in
-    let a = length-append f.first (f.next ∷ f.more) in
-    let z = long (IsCard program) t.rest t.cards t.each in
-    let few = t.few in
-    let full = f.full in
-    omega (arith, l, a, z, few, full)
-
 pub no_table : (program : Parts) (records : Texts) (e : CardFault) (scripts : List Script) → IsSound program → CardsFail program records e → CardTable program records scripts → ⊥
-no_table program records e scripts sound (inl h) t = h.1 t.rest t.under
-no_table program records e scripts sound (inr (inl h)) t = two_faults program records e scripts sound h t
-no_table program records e scripts sound (inr (inr h)) t = not_more program records scripts h.1 t
+no_table program records e scripts sound f t =
+    holds_no_fault (card_tables program) records (λ f x y. one_card program f x y sound) t.cards e
+    (λ front back here line bad e whole is fault. faulty program records scripts line bad e front back here sound t whole is fault) t.holds f

@@ -1,11 +1,11 @@
 -- Tables of cards: the scripts of their records, and their faults.
 use Rattle.std.specs.Prelude.{◌≡◌, ◌≢◌, ◌==◌, ◌≤◌, ◌<◌, ◌+◌, ◌⊎◌, ◌++◌, ℕ, List, [], ◌∷◌, length, codes, slice_get, filter_map, option_to_list, cond, Bool, true, false, not, ◌&&◌, ◌||◌, is_some, Option, Some, None}
-use Rattle.std.specs.List.{AllZip}
 use Rattle.lft_flat.specs.Names.{IsNamed}
 use Rattle.lft_flat.specs.Parts.{Parts}
 use Rattle.lft_flat.specs.declared.found.Found.TheVariants as found
 use Rattle.lft_flat.specs.declared.parts.Name.{Name}
 use Rattle.lft_trace.specs.Numbers.{number, number_or_zero}
+use Rattle.lft_trace.specs.Tables.{Fails, Holds, TableKind}
 use Rattle.lft_trace.specs.Traces.{IsThing, is_empty}
 use Rattle.lft_record.specs.Expressions.{IsExpression}
 use Rattle.lft_record.specs.declared.cards.card.Card.{Card}
@@ -129,15 +129,6 @@ pub record AreTold (program : Parts) (cards : List Card) (scripts : List Script)
   pub long : length scripts ≡ length program.reactions
   pub each : (r : ℕ) (script : Script) → slice_get scripts r ≡ Some script → IsScript (entries_of r cards) script
 
--- the records are the header and those of cards, which tell what the bodies of each reaction answer
-pub record CardTable (program : Parts) (records : List (List (List ℕ))) (scripts : List Script) : Type 0 where
-  pub rest : List (List (List ℕ))
-  pub cards : List Card
-  pub under : records ≡ header ∷ rest
-  pub each : AllZip (IsCard program) rest cards
-  pub few : length cards ≤ 4000000
-  pub told : AreTold program cards scripts
-
 -- the number that a record of this kind has, if it has one, is within its limit
 abbrev pub has_numbers : CardKind → CardFields → Bool
 has_numbers kind.Bodies c = is_some (number 1000000 c.value)
@@ -189,34 +180,16 @@ FaultAt program before line fields (fault.BadValue n) = (n ≡ line) × (c : Car
 FaultAt program before line fields (fault.GivenTwice n) = (n ≡ line) × (card : Card) × IsCard program fields card × IsAgain before card
 FaultAt program before line fields e = ⊥
 
--- the first records under the header are these cards, which can be told together, and the others come after them
-pub record Begins (program : Parts) (records first after : List (List (List ℕ))) (cards : List Card) : Type 0 where
-  pub under : records ≡ header ∷ (first ++ after)
-  pub each : AllZip (IsCard program) first cards
-  pub scripts : List Script
+-- tables of cards: those stand together that can be told together
+abbrev pub card_tables : Parts → TableKind Card CardFault
+card_tables program = record { header = header; Tells = IsCard program; Together = λ cards. (scripts : List Script) × AreTold program cards scripts; FaultAt = FaultAt program; no_header = fault.BadHeader; too_many = fault.TooManyRows }
+
+-- the records are the header and those of cards, which tell what the bodies of each reaction answer
+pub record CardTable (program : Parts) (records : List (List (List ℕ))) (scripts : List Script) : Type 0 where
+  pub cards : List Card
+  pub holds : Holds (card_tables program) records cards
   pub told : AreTold program cards scripts
-
--- a record within the limit has the fault, and those before it have none
-pub record FailsAt (program : Parts) (records : List (List (List ℕ))) (e : CardFault) : Type 0 where
-  pub first : List (List (List ℕ))
-  pub bad : List (List ℕ)
-  pub more : List (List (List ℕ))
-  pub cards : List Card
-  pub begins : Begins program records first (bad ∷ more) cards
-  pub within : length first < 4000000
-  pub is : FaultAt program cards (length first + 2) bad e
-
--- as many records as the limit allows have no fault, and there is one more
-pub record HasTooMany (program : Parts) (records : List (List (List ℕ))) : Type 0 where
-  pub first : List (List (List ℕ))
-  pub next : List (List ℕ)
-  pub more : List (List (List ℕ))
-  pub cards : List Card
-  pub begins : Begins program records first (next ∷ more) cards
-  pub full : length first ≡ 4000000
 
 -- the fault of records that are no table of cards: no header, else the fault of the least line, else too many rows
 abbrev pub CardsFail : Parts → List (List (List ℕ)) → CardFault → Type 0
-CardsFail program records e =
-    ((e ≡ fault.BadHeader) × ((rest : List (List (List ℕ))) → records ≢ header ∷ rest))
-    ⊎ (FailsAt program records e ⊎ ((e ≡ fault.TooManyRows) × HasTooMany program records))
+CardsFail program records e = Fails (card_tables program) records e

@@ -8,7 +8,7 @@ ghost use Rattle.lft_refusals.specs.Tables.{HasRecord, field_at};
 use crate::words::{push_blank_margin, push_blanks_below, push_bytes, push_margin, push_marks};
 use csv::ByteRecord;
 use lft_tag::NoMemory;
-use lft_trace::records::{open, read_next};
+use lft_trace::records::Records;
 use std::alloc::Global;
 
 /// A record of more bytes isn't quoted.
@@ -25,16 +25,15 @@ pub(crate) fn record_of(
     if number == 0 {
         return Ok(None);
     }
-    let mut reader = open(alloc, text);
-    let mut fields = ByteRecord::new(alloc);
+    let mut records = Records::new(alloc, text, number);
     for _before in 0..number {
-        match read_next(&mut reader, &mut fields) {
+        match records.next() {
             Ok(true) => {}
             Ok(false) => return Ok(None),
             Err(_) => return Ok(None),
         }
     }
-    Ok(Some(fields))
+    Ok(Some(records.fields))
 }
 
 /// The bytes of the record, its fields joined by commas.

@@ -1,6 +1,5 @@
 -- Records have one table of external inputs, or a fault, and what a table holds fits its program.
-use Rattle.std.proofs.Common.{◌≡◌, ◌≢◌, ◌∙◌, inl, inr, ◌+◌, ◌<◌, ◌≤◌, ◌++◌, ℕ, zero, suc, List, [], ◌∷◌, length, filter_map, Some, slice_get, refl, sym, ap, subst, arith, append-nil, length-append}
-use Rattle.std.specs.List.{AllZip}
+use Rattle.std.proofs.Common.{◌≡◌, ◌≢◌, ◌∙◌, inl, inr, ◌<◌, ◌≤◌, ◌++◌, ℕ, zero, suc, List, [], ◌∷◌, length, filter_map, Some, slice_get, refl, sym, ap, subst, arith}
 use Rattle.std.specs.List.Sorted.{IsPermutation}
 use Rattle.std.proofs.lemmas.List.Elements.{filter_map-append}
 use Rattle.std.proofs.lemmas.List.Sorted.{length_permutation}
@@ -9,7 +8,7 @@ use Rattle.lft_flat.specs.Parts.{Parts}
 use Rattle.lft_flat.specs.Sound.{IsSound}
 use Rattle.lft_tag.specs.declared.Tag.{Tag}
 use Rattle.lft_tag.specs.Tags.{IsRecorded}
-use Rattle.lft_trace.specs.ExternalTables.{ExternalFails, ExternalFields, ExternalTable, FailsAt, FaultAt, Has, HasNoStop, HasTooMany, IsEntry, IsOfKind, IsTag, event_of, header, stop_of}
+use Rattle.lft_trace.specs.ExternalTables.{ExternalFails, ExternalFields, ExternalTable, FaultAt, Has, IsEntry, IsOfKind, IsTag, event_of, external_tables, stop_of}
 use Rattle.lft_trace.specs.Fits.{EventFits, ExternalsFit}
 use Rattle.lft_trace.specs.Inputs.{ExternalInputs}
 use Rattle.lft_trace.specs.declared.external_table.Entry.{Entry}
@@ -22,22 +21,16 @@ use Rattle.lft_trace.specs.declared.kind.EntryKind.TheVariants as kind
 use Rattle.lft_trace.proofs.Ascending.{same_events}
 use Rattle.lft_trace.proofs.EntriesDiffer.{count_there, empty_there, kind_there, name_there, number_there, one_entry}
 use Rattle.lft_trace.proofs.Members.{at_front, at_middle, has_permuted, has_permuted_back}
-use Rattle.lft_trace.proofs.TableFacts.{within}
-use Rattle.lft_trace.proofs.Zips.{Parted, behind, long, parted, same, same_rest}
-
-abbrev Texts : Type 0
-Texts = List (List (List ℕ))
-
-same_entries : (program : Parts) (rest : Texts) (a b : List Entry) → IsSound program → AllZip (IsEntry program) rest a → AllZip (IsEntry program) rest b → a ≡ b
-same_entries program rest a b sound h k = same (IsEntry program) (λ f x y p q. one_entry program f x y sound.well_named.distinct p q) rest a b h k
+use Rattle.lft_trace.proofs.TableFacts.{Texts, holds_no_fault, one_reading}
+use Rattle.lft_trace.proofs.TraceFacts.{within}
+use Rattle.lft_trace.proofs.Zips.{behind}
 
 same_inputs : (a b : ExternalInputs) → a.stop ≡ b.stop → a.events ≡ b.events → a ≡ b
 same_inputs a b s e = λ i. record { stop = s i; events = e i }
 
 pub one_table : (program : Parts) (records : Texts) (inputs other : ExternalInputs) → IsSound program → ExternalTable program records inputs → ExternalTable program records other → other ≡ inputs
 one_table program records inputs other sound t u =
-    let r : t.rest ≡ u.rest = same_rest header records t.rest u.rest t.under u.under in
-    let e : t.entries ≡ u.entries = same_entries program u.rest t.entries u.entries sound (rw r at t.each) u.each in
+    let e : t.entries ≡ u.entries = one_reading (external_tables program) records (λ f a b. one_entry program f a b sound.well_named.distinct) t.entries u.entries t.holds u.holds in
     let one : filter_map stop_of u.entries ≡ inputs.stop ∷ [] = rw e at t.one_stop in
     let all : IsPermutation (filter_map event_of u.entries) inputs.events = rw e at t.same in
     let stops : ◌≡◌ {A = List Tag} (other.stop ∷ []) (inputs.stop ∷ []) = sym u.one_stop ∙ one in
@@ -83,37 +76,15 @@ faulty program records inputs line bad fault.TooManyRows front back here sound t
 faulty program records inputs line bad fault.NotCsv front back here sound t whole is f = absurd f
 faulty program records inputs line bad fault.NoMemory front back here sound t whole is f = absurd f
 
-two_faults : (program : Parts) (records : Texts) (e : TraceFault) (inputs : ExternalInputs) → IsSound program → FailsAt program records e → ExternalTable program records inputs → ⊥
-two_faults program records e inputs sound f t =
-    let s : t.rest ≡ f.first ++ (f.bad ∷ f.more) = same_rest header records t.rest (f.first ++ (f.bad ∷ f.more)) t.under f.begins.under in
-    let each : AllZip (IsEntry program) (f.first ++ (f.bad ∷ f.more)) t.entries = rw s at t.each in
-    let p : Parted (IsEntry program) f.first f.bad t.entries = parted (IsEntry program) f.first f.bad f.more t.entries each in
-    let front : f.entries ≡ p.front = same_entries program f.first f.entries p.front sound f.begins.each p.each in
-    faulty program records inputs (length f.first + 2) f.bad e p.front p.back p.here sound t p.whole p.is (rw front at f.is)
-
-not_more : (program : Parts) (records : Texts) (inputs : ExternalInputs) → HasTooMany program records → ExternalTable program records inputs → ⊥
-not_more program records inputs f t =
-    let s : t.rest ≡ f.first ++ (f.next ∷ f.more) = same_rest header records t.rest (f.first ++ (f.next ∷ f.more)) t.under f.begins.under in
-    let l = ap length s in
-    let a = length-append f.first (f.next ∷ f.more) in
-    let z = long (IsEntry program) t.rest t.entries t.each in
-    let few = t.few in
-    let full = f.full in
-    omega (arith, l, a, z, few, full)
-
-not_stopless : (program : Parts) (records : Texts) (inputs : ExternalInputs) → IsSound program → HasNoStop program records → ExternalTable program records inputs → ⊥
-not_stopless program records inputs sound f t =
-    let s : t.rest ≡ f.rest = cc (same_rest header records t.rest (f.rest ++ []) t.under f.begins.under, append-nil f.rest) in
-    let e : f.entries ≡ t.entries = same_entries program t.rest f.entries t.entries sound (rw (← s) at f.begins.each) t.each in
-    let n : filter_map stop_of t.entries ≡ [] = rw e at f.none in
+pub no_table : (program : Parts) (records : Texts) (e : TraceFault) (inputs : ExternalInputs) → IsSound program → ExternalFails program records e → ExternalTable program records inputs → ⊥
+no_table program records e inputs sound (inl f) t =
+    holds_no_fault (external_tables program) records (λ f a b. one_entry program f a b sound.well_named.distinct) t.entries e
+    (λ front back here line bad e whole is fault. faulty program records inputs line bad e front back here sound t whole is fault) t.holds f
+no_table program records e inputs sound (inr f) t =
+    let e : f.1.entries ≡ t.entries = one_reading (external_tables program) records (λ f a b. one_entry program f a b sound.well_named.distinct) f.1.entries t.entries f.1.holds t.holds in
+    let n : filter_map stop_of t.entries ≡ [] = rw e at f.1.none in
     let q : ◌≡◌ {A = List Tag} [] (inputs.stop ∷ []) = sym n ∙ t.one_stop in
     cc (q)
-
-pub no_table : (program : Parts) (records : Texts) (e : TraceFault) (inputs : ExternalInputs) → IsSound program → ExternalFails program records e → ExternalTable program records inputs → ⊥
-no_table program records e inputs sound (inl h) t = h.1 t.rest t.under
-no_table program records e inputs sound (inr (inl h)) t = two_faults program records e inputs sound h t
-no_table program records e inputs sound (inr (inr (inl h))) t = not_more program records inputs h.1 t
-no_table program records e inputs sound (inr (inr (inr h))) t = not_stopless program records inputs sound h.1 t
 
 -- ---- fits
 
@@ -148,11 +119,11 @@ stop_fits program kind.Stop c g h = let s : h.0 ≡ g = cc (h.4) in subst IsReco
 
 pub table_fits : (program : Parts) (records : Texts) (inputs : ExternalInputs) → ExternalTable program records inputs → ExternalsFit program inputs
 table_fits program records inputs t = record {
-  stop = let j = stop_behind t.entries inputs.stop t.one_stop in let b = behind (IsEntry program) t.rest t.entries j.0 (Stops inputs.stop) t.each j.1 in stop_fits program b.1.1 b.1.0 inputs.stop b.1.4;
-  few = let a = few_kept t.entries in let l = length_permutation (filter_map event_of t.entries) inputs.events t.same in let few = t.few in omega (arith, a, l, few);
+  stop = let j = stop_behind t.entries inputs.stop t.one_stop in let b = behind (IsEntry program) t.holds.rest t.entries j.0 (Stops inputs.stop) t.holds.each j.1 in stop_fits program b.1.1 b.1.0 inputs.stop b.1.4;
+  few = let a = few_kept t.entries in let l = length_permutation (filter_map event_of t.entries) inputs.events t.same in let few = t.holds.few in omega (arith, a, l, few);
   each = λ i e at.
       let h = has_permuted_back (filter_map event_of t.entries) inputs.events e t.same (i, at) in
       let j = event_behind t.entries h.0 e h.1 in
-      let b = behind (IsEntry program) t.rest t.entries j.0 (Happens e) t.each j.1 in
+      let b = behind (IsEntry program) t.holds.rest t.entries j.0 (Happens e) t.holds.each j.1 in
       event_fits program b.1.1 b.1.0 e b.1.4;
 }

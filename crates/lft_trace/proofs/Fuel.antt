@@ -3,13 +3,14 @@ use Rattle.std.proofs.Common.{◌≡◌, ◌∙◌, ◌+◌, ◌≤◌, ◌<◌,
 use Rattle.std.specs.Prelude.{⊤}
 use Rattle.std.proofs.lemmas.Bool.{cases_Bool}
 use Rattle.csv.specs.Machine.{Read, next_record, step, is_end, fields_after, field_after, ends_at_end}
-use Rattle.csv.specs.Reading.{Reached, ReadRecord, default_config, records_from, records_next, source_of}
+use Rattle.csv.specs.Reading.{Reached, ReadRecord, Ready, default_config, records_from, records_next}
 use Rattle.csv.specs.declared.parser.Config.{Config}
 use Rattle.csv.specs.declared.parser.State.{State}
 use Rattle.csv.specs.declared.parser.State.TheVariants as st
 use Rattle.csv.specs.declared.reader.Reader.{Reader}
 use Rattle.csv.proofs.ReadFacts.{rows-more, rows-end}
-use Rattle.lft_trace.specs.Records.{records_left}
+use Rattle.lft_trace.specs.Records.{IsPlain, records_left}
+use Rattle.lft_trace.specs.declared.records.Records.{Records}
 
 -- a record takes a byte, or is the last one
 abbrev pub Shorter : List ℕ → Option Read → Type 0
@@ -94,15 +95,12 @@ reached-one : (s s2 : State) (f : List (List ℕ)) (y z : List ℕ) → Reached 
 unfolding Reached
 reached-one s s2 f y z h = one-more default_config s y h.0 h.1 ∙ rw (h.2, h.3.0, h.3.1) refl
 
--- what a read that found a record leaves
-pub left-more : (a b : Reader (Bor (List ℕ))) (f : List (List ℕ)) (y : List ℕ) → a.config ≡ default_config → source_of (λ (s : Bor (List ℕ)). Some s.now) a ≡ Some y
-    → ReadRecord (λ (s : Bor (List ℕ)). Some s.now) a b true f
-    → (z : List ℕ) × (source_of (λ (s : Bor (List ℕ)). Some s.now) b ≡ Some z) × (records_left a.state (Some y) ≡ f ∷ records_left b.state (Some z))
-left-more a b f y config source r =
-    let m = rows-more (λ (s : Bor (List ℕ)). Some s.now) a b f default_config a.state y y [] config source (none-yet a.state y) r in
-    (m.0, m.1, reached-one a.state b.state f y m.0 m.2)
+-- a read that found a record leaves the others, and the reader as it was
+pub left-more : (a b : Records) (f : List (List ℕ)) → IsPlain a → Ready b.reader → ReadRecord (λ (s : Bor (List ℕ)). Some s.now) a.reader b.reader true f → IsPlain b × (records_left a ≡ f ∷ records_left b)
+left-more a b f p ready r =
+    let m = rows-more (λ (s : Bor (List ℕ)). Some s.now) a.reader b.reader f default_config a.reader.state p.3 p.3 [] p.2 p.4 (none-yet a.reader.state p.3) r in
+    ((r.3 ∙ p.0, ready, r.2 ∙ p.2, m.0, m.1), rw (p.4, m.1) (reached-one a.reader.state b.reader.state f p.3 m.0 m.2))
 
--- what a read that found none leaves
-pub left-none : (a b : Reader (Bor (List ℕ))) (f : List (List ℕ)) (y : List ℕ) → a.config ≡ default_config → source_of (λ (s : Bor (List ℕ)). Some s.now) a ≡ Some y
-    → ReadRecord (λ (s : Bor (List ℕ)). Some s.now) a b false f → records_left a.state (Some y) ≡ []
-left-none a b f y config source r = no-more default_config a.state y (rows-end (λ (s : Bor (List ℕ)). Some s.now) a b f default_config y config source r)
+-- a read that found none was at the end
+pub left-none : (a : Records) (b : Reader (Bor (List ℕ))) (f : List (List ℕ)) → IsPlain a → ReadRecord (λ (s : Bor (List ℕ)). Some s.now) a.reader b false f → records_left a ≡ []
+left-none a b f p r = rw p.4 (no-more default_config a.reader.state p.3 (rows-end (λ (s : Bor (List ℕ)). Some s.now) a.reader b f default_config p.3 p.2 p.4 r))

@@ -1,93 +1,124 @@
--- Records have one trace table, or a fault, and what a table holds fits its program.
-use Rattle.std.proofs.Common.{◌≡◌, ◌∙◌, inl, inr, ◌+◌, ◌≤◌, ◌++◌, ℕ, List, [], ◌∷◌, length, Some, None, refl, ap, arith, length-append, Bool, true, false, nat_le}
-use Rattle.std.specs.Prelude.{if◌then◌else◌, ◌&&◌}
-use Rattle.std.specs.Char.{is_ascii_digit}
-use Rattle.std.specs.List.{AllZip, list_all}
-use Rattle.std.proofs.lemmas.Bool.{leb-true}
-use Rattle.std.proofs.lemmas.Option.{slice_get_within}
-use Rattle.lft_flat.specs.Parts.{Parts}
-use Rattle.lft_flat.specs.Sound.{IsNameOf, IsSound}
-use Rattle.lft_flat.specs.declared.parts.Name.{Name}
-use Rattle.lft_flat.specs.declared.parts.Name.TheVariants.{Port, Action}
-use Rattle.lft_trace.specs.Fits.{RowFits, RowsFit, StepFits}
-use Rattle.lft_trace.specs.Numbers.{digits_after, number, number_or_zero}
-use Rattle.lft_trace.specs.Traces.{FailsAt, HasTooMany, IsRow, IsStep, IsThing, RowOf, Table, TraceFails, TraceFields, header}
-use Rattle.lft_trace.specs.declared.fault.TraceFault.{TraceFault}
-use Rattle.lft_trace.specs.declared.kind.RowKind.{RowKind}
-use Rattle.lft_trace.specs.declared.kind.RowKind.TheVariants.{Start, Read, Write, Schedule, Stop, End}
-use Rattle.lft_trace.specs.declared.row.Row.{Row}
-use Rattle.lft_trace.specs.declared.row.Step.{Step}
-use Rattle.lft_trace.proofs.RowsDiffer.{not_both, one_row}
-use Rattle.lft_trace.proofs.Zips.{behind, long, middle, same, same_rest}
+-- What one more record does to a table of any kind, and that records are one table or have a fault.
+use Rattle.std.proofs.Common.{◌≡◌, ◌∙◌, inl, inr, ◌+◌, ◌-◌, ◌<◌, ◌≤◌, ◌++◌, ℕ, List, [], ◌∷◌, length, refl, sym, ap, arith, append_assoc, append-nil, length-append}
+use Rattle.std.proofs.lemmas.Slice.Zip.{all_zipped_more}
+use Rattle.csv.specs.Records.{fields_of}
+use Rattle.lft_trace.specs.Records.{GoesOn, IsPast, IsPlain, IsUnread, records_left, records_of}
+use Rattle.lft_trace.specs.Tables.{Begins, FailsAt, Fails, HasTooMany, Holds, TableKind}
+use Rattle.lft_trace.specs.declared.records.Records.{Records}
+use Rattle.lft_trace.proofs.Zips.{Parted, long, parted, same, same_rest}
 
-abbrev Texts : Type 0
+abbrev pub Texts : Type 0
 Texts = List (List (List ℕ))
 
-pub one_table : (program : Parts) (records : Texts) (rows other : List Row) → IsSound program → Table program records rows → Table program records other → other ≡ rows
-one_table program records rows other sound t u =
-    let e : t.rest ≡ u.rest = same_rest header records t.rest u.rest t.under u.under in
-    let each : AllZip (IsRow program) u.rest rows = rw e at t.each in
-    same (IsRow program) (λ f a b x y. one_row program f a b sound.well_named.distinct x y) u.rest other rows u.each each
+-- what is read up to a line: the header and the records of these items, with the others left
+pub record Read {Item Fault : Type 0} (kind : TableKind Item Fault) (records : Texts) (items : List Item) (r : Records) : Type 0 where
+  pub plain : IsPlain r
+  pub begins : Begins kind records items (records_left r)
+  pub line : r.line ≡ length items + 1
+  pub few : length items ≤ 4000000
+  pub last : r.last ≡ 4000001
 
-two_faults : (program : Parts) (records : Texts) (e : TraceFault) (rows : List Row) → FailsAt program records e → Table program records rows → ⊥
-two_faults program records e rows f t =
-    let s : t.rest ≡ f.first ++ (f.bad ∷ f.more) = same_rest header records t.rest (f.first ++ (f.bad ∷ f.more)) t.under f.begins.under in
-    let each : AllZip (IsRow program) (f.first ++ (f.bad ∷ f.more)) rows = rw s at t.each in
-    let m = middle (IsRow program) f.first f.bad f.more rows each in
-    not_both program (length f.first + 2) f.bad e m.0 f.is m.1
+-- fewer lines may come
+pub fewer : (old new : Records) → GoesOn old new → new.last - new.line < old.last - old.line
+fewer old new g = let line = g.line in let last = g.last in let within = g.within in omega (arith, line, last, within)
 
-not_more : (program : Parts) (records : Texts) (rows : List Row) → HasTooMany program records → Table program records rows → ⊥
-not_more program records rows f t =
-    let s : t.rest ≡ f.first ++ (f.next ∷ f.more) = same_rest header records t.rest (f.first ++ (f.next ∷ f.more)) t.under f.begins.under in
-    let l = ap length s in
-    let a = length-append f.first (f.next ∷ f.more) in
-    let z = long (IsRow program) t.rest rows t.each in
-    let few = t.few in
-    let full = f.full in
-    omega (arith, l, a, z, few, full)
+module _ {Item Fault : Type 0} (kind : TableKind Item Fault) (text : List ℕ) (old new : Records) (unread : IsUnread old text 4000001) where
+  pub start : GoesOn old new → fields_of new.fields ≡ kind.header → kind.Together [] → Read kind (records_of text) [] new
+  start g top together = record {
+    plain = g.plain;
+    begins = record { first = []; under = sym unread.left ∙ g.left ∙ ap (λ (f : List (List ℕ)). f ∷ records_left new) top; each = tt; together = together };
+    line = let a = g.line in let b = unread.line in omega (arith, a, b);
+    few = omega arith;
+    last = g.last ∙ unread.last;
+  }
 
-pub no_table : (program : Parts) (records : Texts) (e : TraceFault) (rows : List Row) → TraceFails program records e → Table program records rows → ⊥
-no_table program records e rows (inl h) t = h.1 t.rest t.under
-no_table program records e rows (inr (inl h)) t = two_faults program records e rows h t
-no_table program records e rows (inr (inr h)) t = not_more program records rows h.1 t
+module _ {Item Fault : Type 0} (kind : TableKind Item Fault) (records : Texts) (items : List Item) where
+  pub begins_more : (f : List (List ℕ)) (rest : Texts) (item : Item) → Begins kind records items (f ∷ rest) → kind.Tells f item → kind.Together (items ++ (item ∷ [])) → Begins kind records (items ++ (item ∷ [])) rest
+  begins_more f rest item b is together = record {
+    first = b.first ++ (f ∷ []);
+    under = b.under ∙ ap (λ (t : Texts). kind.header ∷ t) (sym (append_assoc b.first (f ∷ []) rest));
+    each = all_zipped_more kind.Tells b.first items f item b.each is;
+    together = together;
+  }
 
-chosen : (b : Bool) (limit v n : ℕ) → (if b && nat_le v limit then Some v else None) ≡ Some n → n ≤ limit
-chosen true limit v n h = within_test (nat_le v limit) limit v n refl h
-  where
-    within_test : (t : Bool) (limit v n : ℕ) → nat_le v limit ≡ t → (if t then Some v else None) ≡ Some n → n ≤ limit
-    within_test true limit v n e h = let s : v ≡ n = cc (h) in rw s at (leb-true v limit e)
-    within_test false limit v n e h = absurd (cc (h))
-chosen false limit v n h = absurd (cc (h))
+  pub one_more : (old new : Records) (item : Item) → Read kind records items old → GoesOn old new → kind.Tells (fields_of new.fields) item → kind.Together (items ++ (item ∷ [])) → Read kind records (items ++ (item ∷ [])) new
+  one_more old new item r g is together =
+      let e = length-append items (item ∷ []) in
+      let here = r.line in
+      record {
+        plain = g.plain;
+        begins = begins_more (fields_of new.fields) (records_left new) item (rw g.left at r.begins) is together;
+        line = let next = g.line in omega (arith, e, here, next);
+        few = let inside = g.within in let last = r.last in omega (arith, e, here, inside, last);
+        last = g.last ∙ r.last;
+      }
 
-pub within : (limit : ℕ) (field : List ℕ) (n : ℕ) → number limit field ≡ Some n → n ≤ limit
-within limit [] n h = absurd (cc (h))
-within limit (d ∷ ds) n h = chosen (list_all is_ascii_digit (d ∷ ds)) limit (digits_after 0 (d ∷ ds)) n h
+  pub ended : (r : Records) → Read kind records items r → records_left r ≡ [] → Holds kind records items
+  ended r read none = record {
+    rest = read.begins.first;
+    under = read.begins.under ∙ ap (λ (t : Texts). kind.header ∷ (read.begins.first ++ t)) none ∙ ap (λ (t : Texts). kind.header ∷ t) (append-nil read.begins.first);
+    each = read.begins.each;
+    few = read.few;
+  }
 
-within_or_zero : (limit : ℕ) (field : List ℕ) (n : ℕ) → number_or_zero limit field ≡ Some n → n ≤ limit
-within_or_zero limit [] n h = let e : 0 ≡ n = cc (h) in omega arith
-within_or_zero limit (d ∷ ds) n h = within limit (d ∷ ds) n h
+  pub bad : (old new : Records) (e : Fault) → Read kind records items old → GoesOn old new → kind.FaultAt items new.line (fields_of new.fields) e → Fails kind records e
+  bad old new e r g is =
+      let here = r.line in
+      let next = g.line in
+      let line : new.line ≡ length items + 2 = omega (arith, here, next) in
+      inr (inl (record {
+        items = items;
+        bad = fields_of new.fields;
+        more = records_left new;
+        begins = rw g.left at r.begins;
+        within = let inside = g.within in let last = r.last in omega (arith, here, inside, last);
+        is = rw line at is;
+      }))
 
-thing_there : (program : Parts) (text : List ℕ) (n : Name) → IsSound program → IsThing program text n → IsNameOf program n
-thing_there program text (Port p) sound h = rw (← sound.well_named.ports) (slice_get_within program.names.ports p text h)
-thing_there program text (Action a) sound h = rw (← sound.well_named.actions) (slice_get_within program.names.actions a text h)
+  pub past : (old new : Records) → Read kind records items old → IsPast old new → Fails kind records kind.too_many
+  past old new r p = inr (inr (
+    refl,
+    record {
+      items = items;
+      next = fields_of new.fields;
+      more = records_left new;
+      begins = rw p.left at r.begins;
+      full = let full = p.full in let here = r.line in let last = r.last in let few = r.few in omega (arith, full, here, last, few);
+    },
+  ))
 
-step_fits : (program : Parts) (kind : RowKind) (c : TraceFields) (s : Step) → IsSound program → IsStep program kind c s → StepFits program s
-step_fits program Start c s sound h = rw h.3 tt
-step_fits program Read c s sound h = rw h.5 (thing_there program c.name h.0 sound h.2)
-step_fits program Write c s sound h = rw h.5 (thing_there program c.name h.0 sound h.2)
-step_fits program Schedule c s sound h = rw h.6 (thing_there program c.name h.0 sound h.3, within_or_zero 1000000000000000000 c.delay h.2 h.5)
-step_fits program Stop c s sound h = rw h.3 tt
-step_fits program End c s sound h = rw h.3 tt
+-- a record tells one item
+abbrev IsTold : {Item Fault : Type 0} → TableKind Item Fault → Type 0
+IsTold {Item} kind = (f : List (List ℕ)) (a b : Item) → kind.Tells f a → kind.Tells f b → a ≡ b
 
-row_fits : (program : Parts) (kind : RowKind) (c : TraceFields) (row : Row) → IsSound program → RowOf program kind c row → RowFits program row
-row_fits program kind c row sound h = record {
-  recorded = (within 1000000000000000000 c.time row.tag.time h.time, within 1000000000 c.microstep row.tag.micro h.microstep);
-  reaction = rw (← sound.well_named.reactions) (slice_get_within program.names.reactions row.reaction c.reaction h.reaction);
-  step = step_fits program kind c row.step sound h.step;
-}
+-- no record of these items has a fault
+abbrev IsFaultless : {Item Fault : Type 0} → TableKind Item Fault → List Item → Type 0
+IsFaultless {Item} {Fault} kind items = (front back : List Item) (here : Item) (line : ℕ) (bad : List (List ℕ)) (e : Fault) → items ≡ front ++ (here ∷ back) → kind.Tells bad here → kind.FaultAt front line bad e → ⊥
 
-pub table_fits : (program : Parts) (records : Texts) (rows : List Row) → IsSound program → Table program records rows → RowsFit program rows
-table_fits program records rows sound t = record {
-  few = t.few;
-  each = λ i row e. let b = behind (IsRow program) t.rest rows i row t.each e in row_fits program b.1.1 b.1.0 row sound b.1.3;
-}
+module _ {Item Fault : Type 0} (kind : TableKind Item Fault) (records : Texts) (one : IsTold kind) where
+  pub one_reading : (a b : List Item) → Holds kind records a → Holds kind records b → a ≡ b
+  one_reading a b h k = same kind.Tells one k.rest a b (rw (same_rest kind.header records h.rest k.rest h.under k.under) at h.each) k.each
+
+  fails_nowhere : (items : List Item) (e : Fault) → IsFaultless kind items → Holds kind records items → FailsAt kind records e → ⊥
+  fails_nowhere items e none h f =
+      let first = f.begins.first in
+      let rest = same_rest kind.header records h.rest (first ++ (f.bad ∷ f.more)) h.under f.begins.under in
+      let p : Parted kind.Tells first f.bad items = parted kind.Tells first f.bad f.more items (rw rest at h.each) in
+      let front : f.items ≡ p.front = same kind.Tells one first f.items p.front f.begins.each p.each in
+      none p.front p.back p.here (length p.front + 2) f.bad e p.whole p.is (rw front at f.is)
+
+  not_more : (items : List Item) → Holds kind records items → HasTooMany kind records → ⊥
+  not_more items h f =
+      let first = f.begins.first in
+      let l = ap length (same_rest kind.header records h.rest (first ++ (f.next ∷ f.more)) h.under f.begins.under) in
+      let a = length-append first (f.next ∷ f.more) in
+      let z = long kind.Tells h.rest items h.each in
+      let y = long kind.Tells first f.items f.begins.each in
+      let few = h.few in
+      let full = f.full in
+      omega (arith, l, a, z, y, few, full)
+
+  pub holds_no_fault : (items : List Item) (e : Fault) → IsFaultless kind items → Holds kind records items → Fails kind records e → ⊥
+  holds_no_fault items e none h (inl f) = f.1 h.rest h.under
+  holds_no_fault items e none h (inr (inl f)) = fails_nowhere items e none h f
+  holds_no_fault items e none h (inr (inr f)) = not_more items h f.1

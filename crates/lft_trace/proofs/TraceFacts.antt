@@ -1,61 +1,70 @@
--- What one more record does to a trace table, and what a table promises.
-use Rattle.std.proofs.Common.{◌≡◌, ◌∙◌, inl, inr, ◌+◌, ◌<◌, ◌≤◌, ◌++◌, ℕ, List, [], ◌∷◌, length, refl, sym, ap, arith, append_assoc, append-nil, length-append}
-use Rattle.std.specs.List.{AllZip}
+-- Records have one trace table, or a fault, and what a table holds fits its program.
+use Rattle.std.proofs.Common.{◌≡◌, ◌≤◌, ℕ, List, [], ◌∷◌, Some, None, refl, arith, Bool, true, false, nat_le}
+use Rattle.std.specs.Prelude.{if◌then◌else◌, ◌&&◌}
+use Rattle.std.specs.Char.{is_ascii_digit}
+use Rattle.std.specs.List.{list_all}
+use Rattle.std.proofs.lemmas.Bool.{leb-true}
+use Rattle.std.proofs.lemmas.Option.{slice_get_within}
 use Rattle.lft_flat.specs.Parts.{Parts}
-use Rattle.lft_trace.specs.Traces.{Begins, FaultAt, IsRow, Table, TraceFails, header}
+use Rattle.lft_flat.specs.Sound.{IsNameOf, IsSound}
+use Rattle.lft_flat.specs.declared.parts.Name.{Name}
+use Rattle.lft_flat.specs.declared.parts.Name.TheVariants.{Port, Action}
+use Rattle.lft_trace.specs.Fits.{RowFits, RowsFit, StepFits}
+use Rattle.lft_trace.specs.Numbers.{digits_after, number, number_or_zero}
+use Rattle.lft_trace.specs.Traces.{IsRow, IsStep, IsThing, RowOf, Table, TraceFails, TraceFields, trace_tables}
 use Rattle.lft_trace.specs.declared.fault.TraceFault.{TraceFault}
-use Rattle.lft_trace.specs.declared.fault.TraceFault.TheVariants as fault
+use Rattle.lft_trace.specs.declared.kind.RowKind.{RowKind}
+use Rattle.lft_trace.specs.declared.kind.RowKind.TheVariants.{Start, Read, Write, Schedule, Stop, End}
 use Rattle.lft_trace.specs.declared.row.Row.{Row}
-use Rattle.lft_trace.proofs.Zips.{long}
-use Rattle.std.proofs.lemmas.Slice.Zip.{all_zipped_more}
+use Rattle.lft_trace.specs.declared.row.Step.{Step}
+use Rattle.lft_trace.proofs.RowsDiffer.{not_both, one_row}
+use Rattle.lft_trace.proofs.TableFacts.{Texts, holds_no_fault, one_reading}
+use Rattle.lft_trace.proofs.Zips.{behind}
 
-abbrev pub Texts : Type 0
-Texts = List (List (List ℕ))
+pub one_table : (program : Parts) (records : Texts) (rows other : List Row) → IsSound program → Table program records rows → Table program records other → other ≡ rows
+one_table program records rows other sound t u = one_reading (trace_tables program) records (λ f a b x y. one_row program f a b sound.well_named.distinct x y) other rows u t
 
--- what is read before a line: the header and the records of the rows, with these records left
-pub record Read (program : Parts) (records : Texts) (rows : List Row) (left : Texts) (line : ℕ) : Type 0 where
-  pub first : Texts
-  pub under : records ≡ header ∷ (first ++ left)
-  pub each : AllZip (IsRow program) first rows
-  pub here : length first + 2 ≡ line
+pub no_table : (program : Parts) (records : Texts) (e : TraceFault) (rows : List Row) → IsSound program → TraceFails program records e → Table program records rows → ⊥
+no_table program records e rows sound f t =
+    holds_no_fault (trace_tables program) records (λ f a b x y. one_row program f a b sound.well_named.distinct x y) rows e (λ front back row line bad e whole is fault. not_both program line bad e row fault is) t f
 
-pub one_more : (program : Parts) (records rest : Texts) (rows : List Row) (line : ℕ) (f : List (List ℕ)) (row : Row) → Read program records rows (f ∷ rest) line → IsRow program f row → Read program records (rows ++ (row ∷ [])) rest (line + 1)
-one_more program records rest rows line f row r is = record {
-  first = r.first ++ (f ∷ []);
-  under = r.under ∙ ap (λ (t : Texts). header ∷ t) (sym (append_assoc r.first (f ∷ []) rest));
-  each = all_zipped_more (IsRow program) r.first rows f row r.each is;
-  here = let e = length-append r.first (f ∷ []) in let h = r.here in omega (arith, e, h);
+chosen : (b : Bool) (limit v n : ℕ) → (if b && nat_le v limit then Some v else None) ≡ Some n → n ≤ limit
+chosen true limit v n h = within_test (nat_le v limit) limit v n refl h
+  where
+    within_test : (t : Bool) (limit v n : ℕ) → nat_le v limit ≡ t → (if t then Some v else None) ≡ Some n → n ≤ limit
+    within_test true limit v n e h = let s : v ≡ n = cc (h) in rw s at (leb-true v limit e)
+    within_test false limit v n e h = absurd (cc (h))
+chosen false limit v n h = absurd (cc (h))
+
+pub within : (limit : ℕ) (field : List ℕ) (n : ℕ) → number limit field ≡ Some n → n ≤ limit
+within limit [] n h = absurd (cc (h))
+within limit (d ∷ ds) n h = chosen (list_all is_ascii_digit (d ∷ ds)) limit (digits_after 0 (d ∷ ds)) n h
+
+within_or_zero : (limit : ℕ) (field : List ℕ) (n : ℕ) → number_or_zero limit field ≡ Some n → n ≤ limit
+within_or_zero limit [] n h = let e : 0 ≡ n = cc (h) in omega arith
+within_or_zero limit (d ∷ ds) n h = within limit (d ∷ ds) n h
+
+thing_there : (program : Parts) (text : List ℕ) (n : Name) → IsSound program → IsThing program text n → IsNameOf program n
+thing_there program text (Port p) sound h = rw (← sound.well_named.ports) (slice_get_within program.names.ports p text h)
+thing_there program text (Action a) sound h = rw (← sound.well_named.actions) (slice_get_within program.names.actions a text h)
+
+step_fits : (program : Parts) (kind : RowKind) (c : TraceFields) (s : Step) → IsSound program → IsStep program kind c s → StepFits program s
+step_fits program Start c s sound h = rw h.3 tt
+step_fits program Read c s sound h = rw h.5 (thing_there program c.name h.0 sound h.2)
+step_fits program Write c s sound h = rw h.5 (thing_there program c.name h.0 sound h.2)
+step_fits program Schedule c s sound h = rw h.6 (thing_there program c.name h.0 sound h.3, within_or_zero 1000000000000000000 c.delay h.2 h.5)
+step_fits program Stop c s sound h = rw h.3 tt
+step_fits program End c s sound h = rw h.3 tt
+
+row_fits : (program : Parts) (kind : RowKind) (c : TraceFields) (row : Row) → IsSound program → RowOf program kind c row → RowFits program row
+row_fits program kind c row sound h = record {
+  recorded = (within 1000000000000000000 c.time row.tag.time h.time, within 1000000000 c.microstep row.tag.micro h.microstep);
+  reaction = rw (← sound.well_named.reactions) (slice_get_within program.names.reactions row.reaction c.reaction h.reaction);
+  step = step_fits program kind c row.step sound h.step;
 }
 
-pub ended : (program : Parts) (records : Texts) (rows : List Row) (line : ℕ) → Read program records rows [] line → line ≤ 4000002 → Table program records rows
-ended program records rows line r small = record {
-  rest = r.first;
-  under = r.under ∙ ap (λ (t : Texts). header ∷ t) (append-nil r.first);
-  each = r.each;
-  few = let e = long (IsRow program) r.first rows r.each in let h = r.here in omega (arith, e, h);
+pub table_fits : (program : Parts) (records : Texts) (rows : List Row) → IsSound program → Table program records rows → RowsFit program rows
+table_fits program records rows sound t = record {
+  few = t.few;
+  each = λ i row e. let b = behind (IsRow program) t.rest rows i row t.each e in row_fits program b.1.1 b.1.0 row sound b.1.3;
 }
-
-begins : (program : Parts) (records left : Texts) (rows : List Row) (line : ℕ) (r : Read program records rows left line) → Begins program records r.first left
-begins program records left rows line r = record { rows = rows; under = r.under; each = r.each }
-
-pub bad : (program : Parts) (records rest : Texts) (rows : List Row) (line : ℕ) (f : List (List ℕ)) (e : TraceFault) → Read program records rows (f ∷ rest) line → line < 4000002 → FaultAt program line f e → TraceFails program records e
-bad program records rest rows line f e r small is = inr (inl (record {
-  first = r.first;
-  bad = f;
-  more = rest;
-  begins = begins program records (f ∷ rest) rows line r;
-  within = let h = r.here in omega (arith, h);
-  is = rw r.here is;
-}))
-
-pub past : (program : Parts) (records rest : Texts) (rows : List Row) (line : ℕ) (f : List (List ℕ)) → Read program records rows (f ∷ rest) line → line ≡ 4000002 → TraceFails program records fault.TooManyRows
-past program records rest rows line f r e = inr (inr (
-  refl,
-  record {
-    first = r.first;
-    next = f;
-    more = rest;
-    begins = begins program records (f ∷ rest) rows line r;
-    full = let h = r.here in omega (arith, h, e);
-  },
-))

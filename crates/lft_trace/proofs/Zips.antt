@@ -17,13 +17,6 @@ same R one (x ∷ xs) [] zs h k = absurd h
 same R one (x ∷ xs) (y ∷ ys) [] h k = absurd k
 same R one (x ∷ xs) (y ∷ ys) (z ∷ zs) h k = let a = one x y z h.0 k.0 in let b = same R one xs ys zs h.1 k.1 in λ i. a i ∷ b i
 
--- what the item after the first ones is related to
-pub middle : {A B : Type 0} (R : A → B → Type 0) (xs : List A) (x : A) (more : List A) (ys : List B) → AllZip R (xs ++ (x ∷ more)) ys → (y : B) × R x y
-middle R [] x more [] h = absurd h
-middle R [] x more (y ∷ ys) h = (y, h.0)
-middle R (a ∷ xs) x more [] h = absurd h
-middle R (a ∷ xs) x more (y ∷ ys) h = middle R xs x more ys h.1
-
 -- what an item of the second list is related to
 pub behind : {A B : Type 0} (R : A → B → Type 0) (xs : List A) (ys : List B) (i : ℕ) (y : B) → AllZip R xs ys → slice_get ys i ≡ Some y → (x : A) × R x y
 behind R [] [] i y h e = absurd (cc)

@@ -1,6 +1,5 @@
 -- Tables of external inputs: the events and the stop of their records, and their faults.
-use Rattle.std.specs.Prelude.{◌≡◌, ◌≢◌, ◌≤◌, ◌<◌, ◌+◌, ◌⊎◌, ◌++◌, ℕ, List, [], ◌∷◌, length, codes, slice_get, filter_map, Bool, true, false, not, ◌&&◌, ◌||◌, is_some, Option, Some, None}
-use Rattle.std.specs.List.{AllZip}
+use Rattle.std.specs.Prelude.{◌≡◌, ◌≢◌, ◌≤◌, ◌⊎◌, ℕ, List, [], ◌∷◌, length, codes, slice_get, filter_map, Bool, true, false, not, ◌&&◌, ◌||◌, is_some, Option, Some, None}
 use Rattle.std.specs.List.Sorted.{IsPermutation}
 use Rattle.lft_flat.specs.Names.{IsNamed}
 use Rattle.lft_flat.specs.Parts.{Parts}
@@ -9,6 +8,7 @@ use Rattle.lft_flat.specs.declared.parts.Action.{Action as ActionOf}
 use Rattle.lft_tag.specs.declared.Tag.{Tag}
 use Rattle.lft_trace.specs.Inputs.{ExternalInputs, InOrder}
 use Rattle.lft_trace.specs.Numbers.{number, value}
+use Rattle.lft_trace.specs.Tables.{Fails, Holds, TableKind}
 use Rattle.lft_trace.specs.Traces.{is_empty}
 use Rattle.lft_trace.specs.declared.external_table.Entry.{Entry}
 use Rattle.lft_trace.specs.declared.external_table.Entry.TheVariants.{Happens, Stops}
@@ -74,18 +74,6 @@ Clash x y = (x.tag ≡ y.tag) × (x.action ≡ y.action)
 abbrev pub AreApart : List Event → Type 0
 AreApart events = (i j : ℕ) (x y : Event) → slice_get events i ≡ Some x → slice_get events j ≡ Some y → Clash x y → i ≡ j
 
--- the records are the header and those of the events, in any order, and of one stop; no two events are of one action at one tag
-pub record ExternalTable (program : Parts) (records : List (List (List ℕ))) (inputs : ExternalInputs) : Type 0 where
-  pub rest : List (List (List ℕ))
-  pub entries : List Entry
-  pub under : records ≡ header ∷ rest
-  pub each : AllZip (IsEntry program) rest entries
-  pub few : length entries ≤ 4000000
-  pub one_stop : filter_map stop_of entries ≡ inputs.stop ∷ []
-  pub apart : AreApart (filter_map event_of entries)
-  pub same : IsPermutation (filter_map event_of entries) inputs.events
-  pub order : InOrder inputs.events
-
 -- each number that a record of this kind has is one, and within its limit
 abbrev pub has_numbers : EntryKind → ExternalFields → Bool
 has_numbers kind.Event c = is_some (number 1000000000000000000 c.time) && is_some (number 1000000000 c.microstep) && is_some (value c.value)
@@ -116,42 +104,30 @@ FaultAt program before line fields (fault.DuplicateExternal n) = (n ≡ line) ×
 FaultAt program before line fields (fault.TwoStops n) = (n ≡ line) × (g : Tag) × IsEntry program fields (Stops g) × (filter_map stop_of before ≢ [])
 FaultAt program before line fields e = ⊥
 
--- the first records under the header have these entries, without a fault, and the others come after them
-pub record Begins (program : Parts) (records first after : List (List (List ℕ))) (entries : List Entry) : Type 0 where
-  pub under : records ≡ header ∷ (first ++ after)
-  pub each : AllZip (IsEntry program) first entries
-  pub stops : length (filter_map stop_of entries) ≤ 1
+-- at most one stop, and no two events of one action at one tag
+abbrev pub AreTogether : List Entry → Type 0
+AreTogether entries = (length (filter_map stop_of entries) ≤ 1) × AreApart (filter_map event_of entries)
+
+-- tables of external inputs
+abbrev pub external_tables : Parts → TableKind Entry TraceFault
+external_tables program = record { header = header; Tells = IsEntry program; Together = AreTogether; FaultAt = FaultAt program; no_header = fault.BadHeader; too_many = fault.TooManyRows }
+
+-- the records are the header and those of the events, in any order, and of one stop; no two events are of one action at one tag
+pub record ExternalTable (program : Parts) (records : List (List (List ℕ))) (inputs : ExternalInputs) : Type 0 where
+  pub entries : List Entry
+  pub holds : Holds (external_tables program) records entries
+  pub one_stop : filter_map stop_of entries ≡ inputs.stop ∷ []
   pub apart : AreApart (filter_map event_of entries)
-
--- a record within the limit has the fault, and those before it have none
-pub record FailsAt (program : Parts) (records : List (List (List ℕ))) (e : TraceFault) : Type 0 where
-  pub first : List (List (List ℕ))
-  pub bad : List (List ℕ)
-  pub more : List (List (List ℕ))
-  pub entries : List Entry
-  pub begins : Begins program records first (bad ∷ more) entries
-  pub within : length first < 4000000
-  pub is : FaultAt program entries (length first + 2) bad e
-
--- as many records as the limit allows have no fault, and there is one more
-pub record HasTooMany (program : Parts) (records : List (List (List ℕ))) : Type 0 where
-  pub first : List (List (List ℕ))
-  pub next : List (List ℕ)
-  pub more : List (List (List ℕ))
-  pub entries : List Entry
-  pub begins : Begins program records first (next ∷ more) entries
-  pub full : length first ≡ 4000000
+  pub same : IsPermutation (filter_map event_of entries) inputs.events
+  pub order : InOrder inputs.events
 
 -- no record has a fault, and none is a stop
 pub record HasNoStop (program : Parts) (records : List (List (List ℕ))) : Type 0 where
-  pub rest : List (List (List ℕ))
   pub entries : List Entry
-  pub begins : Begins program records rest [] entries
-  pub few : length rest ≤ 4000000
+  pub holds : Holds (external_tables program) records entries
+  pub apart : AreApart (filter_map event_of entries)
   pub none : filter_map stop_of entries ≡ []
 
 -- the fault of records that are no such table: no header, else the fault of the least line, else too many rows, else no stop
 abbrev pub ExternalFails : Parts → List (List (List ℕ)) → TraceFault → Type 0
-ExternalFails program records e =
-    ((e ≡ fault.BadHeader) × ((rest : List (List (List ℕ))) → records ≢ header ∷ rest))
-    ⊎ (FailsAt program records e ⊎ (((e ≡ fault.TooManyRows) × HasTooMany program records) ⊎ ((e ≡ fault.NoStop) × HasNoStop program records)))
+ExternalFails program records e = Fails (external_tables program) records e ⊎ ((e ≡ fault.NoStop) × HasNoStop program records)

@@ -2,6 +2,7 @@ pub mod Inputs
 pub mod Fits
 pub mod Records
 pub mod Numbers
+pub mod Tables
 pub mod Traces
 pub mod Seen
 pub mod Faults

@@ -1,6 +1,5 @@
 -- Trace tables: the rows of their records, and their faults.
-use Rattle.std.specs.Prelude.{◌≡◌, ◌≢◌, ◌≤◌, ◌<◌, ◌+◌, ◌⊎◌, ◌++◌, ℕ, List, [], ◌∷◌, length, codes, Bool, true, false, not, ◌&&◌, ◌||◌, is_some, ◌==◌, Some}
-use Rattle.std.specs.List.{AllZip}
+use Rattle.std.specs.Prelude.{◌≡◌, ◌≢◌, ◌⊎◌, ℕ, List, [], ◌∷◌, length, codes, Bool, true, false, not, ◌&&◌, ◌||◌, is_some, ◌==◌, Some}
 use Rattle.lft_flat.specs.Names.{IsNamed}
 use Rattle.lft_flat.specs.Parts.{Parts}
 use Rattle.lft_flat.specs.declared.found.Found.{Found}
@@ -9,6 +8,7 @@ use Rattle.lft_flat.specs.declared.parts.Name.{Name}
 use Rattle.lft_flat.specs.declared.parts.Name.TheVariants.{Port, Action}
 use Rattle.lft_flat.specs.declared.parts.Value.{Value}
 use Rattle.lft_trace.specs.Numbers.{number, number_or_zero, value}
+use Rattle.lft_trace.specs.Tables.{Fails, Holds, TableKind}
 use Rattle.lft_trace.specs.declared.fault.TraceFault.{TraceFault}
 use Rattle.lft_trace.specs.declared.fault.TraceFault.TheVariants as fault
 use Rattle.lft_trace.specs.declared.kind.RowKind.{RowKind}
@@ -74,13 +74,6 @@ pub record RowOf (program : Parts) (kind : RowKind) (c : TraceFields) (row : Row
 abbrev pub IsRow : Parts → List (List ℕ) → Row → Type 0
 IsRow program fields row = (c : TraceFields) × (kind : RowKind) × (fields ≡ in_order c) × RowOf program kind c row
 
--- the records are the header and those of the rows, one by one
-pub record Table (program : Parts) (records : List (List (List ℕ))) (rows : List Row) : Type 0 where
-  pub rest : List (List (List ℕ))
-  pub under : records ≡ header ∷ rest
-  pub each : AllZip (IsRow program) rest rows
-  pub few : length rows ≤ 4000000
-
 -- whether an event has a name and a value, and whether it has a delay
 abbrev pub has_name : RowKind → Bool
 has_name Start = false
@@ -129,31 +122,14 @@ FaultAt program line fields (fault.UnknownName n) = (n ≡ line) × (c : TraceFi
 FaultAt program line fields (fault.FieldInPlace n) = (n ≡ line) × (c : TraceFields) × (kind : RowKind) × IsOf kind c fields × (has_numbers kind c ≡ true) × (IsUnknown program kind c → ⊥) × (is_filled kind c ≡ true)
 FaultAt program line fields e = ⊥
 
--- the first records under the header are rows, and these come after them
-pub record Begins (program : Parts) (records first after : List (List (List ℕ))) : Type 0 where
-  pub rows : List Row
-  pub under : records ≡ header ∷ (first ++ after)
-  pub each : AllZip (IsRow program) first rows
+-- trace tables: any rows may stand together
+abbrev pub trace_tables : Parts → TableKind Row TraceFault
+trace_tables program = record { header = header; Tells = IsRow program; Together = λ rows. Unit {0}; FaultAt = λ before. FaultAt program; no_header = fault.BadHeader; too_many = fault.TooManyRows }
 
--- a record within the limit has the fault, and those before it are rows
-pub record FailsAt (program : Parts) (records : List (List (List ℕ))) (e : TraceFault) : Type 0 where
-  pub first : List (List (List ℕ))
-  pub bad : List (List ℕ)
-  pub more : List (List (List ℕ))
-  pub begins : Begins program records first (bad ∷ more)
-  pub within : length first < 4000000
-  pub is : FaultAt program (length first + 2) bad e
-
--- as many records as the limit allows are rows, and there is one more
-pub record HasTooMany (program : Parts) (records : List (List (List ℕ))) : Type 0 where
-  pub first : List (List (List ℕ))
-  pub next : List (List ℕ)
-  pub more : List (List (List ℕ))
-  pub begins : Begins program records first (next ∷ more)
-  pub full : length first ≡ 4000000
+-- the records are the header and those of the rows, one by one
+abbrev pub Table : Parts → List (List (List ℕ)) → List Row → Type 0
+Table program records rows = Holds (trace_tables program) records rows
 
 -- the fault of records that are no trace table: no header, else the fault of the least line, else too many rows
 abbrev pub TraceFails : Parts → List (List (List ℕ)) → TraceFault → Type 0
-TraceFails program records e =
-    ((e ≡ fault.BadHeader) × ((rest : List (List (List ℕ))) → records ≢ header ∷ rest))
-    ⊎ (FailsAt program records e ⊎ ((e ≡ fault.TooManyRows) × HasTooMany program records))
+TraceFails program records e = Fails (trace_tables program) records e

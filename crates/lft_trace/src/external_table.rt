@@ -17,7 +17,7 @@ use crate::fields::ExternalFields;
 use crate::kind::{EntryKind, read_entry_kind};
 use crate::names::read_physical;
 use crate::number::{read_tag, read_value};
-use crate::records::{LAST_LINE, open, read_next, stopped};
+use crate::records::{LAST_LINE, Records, stopped};
 use csv::ByteRecord;
 use lft_flat::{Program, Value};
 use lft_tag::Tag;
@@ -58,37 +58,31 @@ fn read_inputs(alloc: Global, program: &Program, text: &[u8]) -> Result<External
     ensures table { IfOk result (λ inputs. ExternalTable program.now (records_of text.now) inputs) }
     ensures fault { IfErr result (λ e. is_told e ≡ true → ExternalFails program.now (records_of text.now) e) }
 {
-    let mut reader = open(alloc, text);
-    let mut fields = ByteRecord::new(alloc);
-    match read_next(&mut reader, &mut fields) {
+    let mut records = Records::new(alloc, text, LAST_LINE);
+    match records.next() {
         Ok(true) => {}
         Ok(false) => return Err(TraceFault::BadHeader),
         Err(stop) => return Err(stopped(stop)),
     }
-    if !is_header(&fields) {
+    if !is_header(&records.fields) {
         return Err(TraceFault::BadHeader);
     }
     let mut stop = None;
     let mut events = EventMap::new(alloc);
-    for line in 2..=LAST_LINE {
-        match read_next(&mut reader, &mut fields) {
+    'lines: loop {
+        match records.next() {
             Ok(true) => {}
             Ok(false) => return finish(alloc, stop, events),
             Err(stop) => return Err(stopped(stop)),
         }
-        let entry = match read_entry(program, &fields, line) {
+        let entry = match read_entry(program, &records.fields, records.line) {
             Ok(entry) => entry,
             Err(fault) => return Err(fault),
         };
-        stop = match keep(entry, stop, &mut events, line) {
+        stop = match keep(entry, stop, &mut events, records.line) {
             Ok(stop) => stop,
             Err(fault) => return Err(fault),
         };
-    }
-    match read_next(&mut reader, &mut fields) {
-        Ok(true) => Err(TraceFault::TooManyRows),
-        Ok(false) => finish(alloc, stop, events),
-        Err(stop) => Err(stopped(stop)),
     }
 }
 

@@ -1,9 +1,9 @@
 //! The records of a text, one at a time.
 
-ghost use Rattle.std.specs.Prelude.{◌≡◌, ◌<◌, ◌∷◌, [], true, false, IfOk, length, slice_index_or};
+ghost use Rattle.std.specs.Prelude.{◌≡◌, ◌<◌, [], true, false, IfOk, IfErr, length, slice_index_or};
 ghost use Rattle.csv.specs.Records.{fields_of};
 ghost use Rattle.lft_trace.specs.Faults.{is_told};
-ghost use Rattle.lft_trace.specs.Records.{records_of, reader_left, IsPlain};
+ghost use Rattle.lft_trace.specs.Records.{GoesOn, IsPast, IsPlain, IsUnread, records_left};
 
 use crate::fault::TraceFault;
 use csv::{ByteRecord, ErrorKind, Reader, ReaderBuilder};
@@ -16,44 +16,70 @@ pub const LAST_LINE: u32 = MAX_ROWS as u32 + 1;
 /// Why the records stop before their end.
 #[derive(Clone, Copy, PartialEq, Eq)]
 pub enum Unread {
+    /// There are more than there may be.
+    TooMany,
     NotCsv,
     NoMemory,
 }
 
-/// The fault of a table whose records stop. It tells nothing of the text.
+/// The fault of a table whose records stop. Only that of too many tells something of the text.
 pub(crate) fn stopped(unread: Unread) -> TraceFault
-    ensures { is_told result ≡ false }
+    ensures { is_told result ≡ true → (unread ≡ Unread.TooMany) × (result ≡ TraceFault.TooManyRows) }
 {
     match unread {
+        Unread::TooMany => TraceFault::TooManyRows,
         Unread::NotCsv => TraceFault::NotCsv,
         Unread::NoMemory => TraceFault::NoMemory,
     }
 }
 
-/// A reader of the records of a text, the first one included. It takes no memory.
-pub fn open(alloc: Global, text: &[u8]) -> Reader<&[u8]>
-    ensures plain { IsPlain result }
-    ensures left { reader_left result ≡ records_of text.now }
-{
-    ReaderBuilder::new()
-        .has_headers(false)
-        .flexible(true)
-        .from_reader(alloc, text)
+/// The records of a text, the header included, one at a time. The first is line 1.
+#[derive(Drop)]
+pub struct Records<'a> {
+    reader: Reader<&'a [u8]>,
+    /// The record at hand.
+    pub fields: ByteRecord,
+    /// Its line.
+    pub line: u32,
+    last: u32,
 }
 
-/// Reads the next record, if there is one.
-pub fn read_next(reader: &mut Reader<&[u8]>, fields: &mut ByteRecord) -> Result<bool, Unread>
-    requires { IsPlain reader.old }
-    ensures plain { IfOk result (λ found. found ≡ true → IsPlain reader.new) }
-    ensures found { IfOk result (λ found. found ≡ true → reader_left reader.old ≡ fields_of fields.new ∷ reader_left reader.new) }
-    ensures none { IfOk result (λ found. found ≡ false → reader_left reader.old ≡ []) }
-{
-    match reader.read_byte_record(fields) {
-        Ok(found) => Ok(found),
-        Err(e) => match e.kind() {
-            ErrorKind::OutOfMemory => Err(Unread::NoMemory),
-            _ => Err(Unread::NotCsv),
-        },
+impl<'a> Records<'a> {
+    /// The records before the first one, of which there may be so many. It takes no memory.
+    pub fn new(alloc: Global, text: &'a [u8], last: u32) -> Records<'a>
+        ensures { IsUnread result text.now last }
+    {
+        Records {
+            reader: ReaderBuilder::new()
+                .has_headers(false)
+                .flexible(true)
+                .from_reader(alloc, text),
+            fields: ByteRecord::new(alloc),
+            line: 0,
+            last,
+        }
+    }
+
+    /// Goes on to the next record, if there is one.
+    pub fn next(&mut self) -> Result<bool, Unread>
+        requires { IsPlain self.old }
+        ensures found { IfOk result (λ found. found ≡ true → GoesOn self.old self.new) }
+        ensures none { IfOk result (λ found. found ≡ false → records_left self.old ≡ []) }
+        ensures many { IfErr result (λ e. e ≡ Unread.TooMany → IsPast self.old self.new) }
+    {
+        match self.reader.read_byte_record(&mut self.fields) {
+            Ok(true) => {}
+            Ok(false) => return Ok(false),
+            Err(e) => match e.kind() {
+                ErrorKind::OutOfMemory => return Err(Unread::NoMemory),
+                _ => return Err(Unread::NotCsv),
+            },
+        }
+        if self.line >= self.last {
+            return Err(Unread::TooMany);
+        }
+        self.line += 1;
+        Ok(true)
     }
 }
 

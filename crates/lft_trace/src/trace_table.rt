@@ -15,7 +15,7 @@ use crate::fields::TraceFields;
 use crate::kind::{RowKind, read_kind};
 use crate::names::{read_reaction, read_thing};
 use crate::number::{read_number, read_number_or_zero, read_tag, read_value};
-use crate::records::{LAST_LINE, open, read_next, stopped};
+use crate::records::{LAST_LINE, Records, stopped};
 use crate::row::{Row, Rows, Step};
 use csv::ByteRecord;
 use lft_flat::{Name, Program, Value};
@@ -45,25 +45,24 @@ fn read_rows(alloc: Global, program: &Program, text: &[u8]) -> Result<Vec<Row>, 
     ensures table { IfOk result (λ rows. Table program.now (records_of text.now) rows.items) }
     ensures fault { IfErr result (λ e. is_told e ≡ true → TraceFails program.now (records_of text.now) e) }
 {
-    let mut reader = open(alloc, text);
-    let mut fields = ByteRecord::new(alloc);
-    match read_next(&mut reader, &mut fields) {
+    let mut records = Records::new(alloc, text, LAST_LINE);
+    match records.next() {
         Ok(true) => {}
         Ok(false) => return Err(TraceFault::BadHeader),
         Err(stop) => return Err(stopped(stop)),
     }
-    if !is_header(&fields) {
+    if !is_header(&records.fields) {
         return Err(TraceFault::BadHeader);
     }
     let mut rows = Vec::new(alloc);
     let mut last = None;
-    for line in 2..=LAST_LINE {
-        match read_next(&mut reader, &mut fields) {
+    'lines: loop {
+        match records.next() {
             Ok(true) => {}
             Ok(false) => return Ok(rows),
             Err(stop) => return Err(stopped(stop)),
         }
-        let row = match read_row(program, last, &fields, line) {
+        let row = match read_row(program, last, &records.fields, records.line) {
             Ok(row) => row,
             Err(fault) => return Err(fault),
         };
@@ -71,11 +70,6 @@ fn read_rows(alloc: Global, program: &Program, text: &[u8]) -> Result<Vec<Row>, 
             return Err(TraceFault::NoMemory);
         }
         last = Some(row.reaction);
-    }
-    match read_next(&mut reader, &mut fields) {
-        Ok(true) => Err(TraceFault::TooManyRows),
-        Ok(false) => Ok(rows),
-        Err(stop) => Err(stopped(stop)),
     }
 }
 
@@ -86,18 +80,16 @@ fn read_rows(alloc: Global, program: &Program, text: &[u8]) -> Result<Vec<Row>, 
 pub fn read_part(alloc: Global, program: &Program, text: &[u8], most: u32) -> Option<Vec<Row>>
     ensures { IfSome result (λ rows. AllZip (IsRow program.now) (records_of text.now) rows.items) }
 {
-    let mut reader = open(alloc, text);
-    let mut fields = ByteRecord::new(alloc);
+    let mut records = Records::new(alloc, text, most);
     let mut rows = Vec::new(alloc);
     let mut last = None;
-    // One turn more than there may be rows: the last one finds the end.
-    for at in 0..=most {
-        match read_next(&mut reader, &mut fields) {
+    'lines: loop {
+        match records.next() {
             Ok(true) => {}
             Ok(false) => return Some(rows),
             Err(_) => return None,
         }
-        let Ok(row) = read_row(program, last, &fields, at) else {
+        let Ok(row) = read_row(program, last, &records.fields, records.line) else {
             return None;
         };
         if rows.push(row).is_err() {
@@ -105,7 +97,6 @@ pub fn read_part(alloc: Global, program: &Program, text: &[u8], most: u32) -> Op
         }
         last = Some(row.reaction);
     }
-    None
 }
 
 // Whether the record is the header.

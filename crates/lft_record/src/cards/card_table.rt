@@ -20,7 +20,7 @@ use lft_flat::{Name, Program};
 use lft_tag::{MAX_TIME, NoMemory};
 use lft_trace::names::{read_reaction, read_thing};
 use lft_trace::number::{read_number, read_number_or_zero};
-use lft_trace::records::{LAST_LINE, Unread, open, read_next};
+use lft_trace::records::{LAST_LINE, Records, Unread};
 use std::alloc::Global;
 
 /// The greatest number of bodies that a card may give a reaction.
@@ -42,11 +42,12 @@ pub fn read_cards(alloc: Global, program: &Program, text: &[u8]) -> Result<Cards
     read_records(alloc, program, text)
 }
 
-// The fault of a table whose records stop. It tells nothing of the text.
+// The fault of a table whose records stop. Only that of too many tells something of the text.
 fn stopped(unread: Unread) -> CardFault
-    ensures { is_told result ≡ false }
+    ensures { is_told result ≡ true → (unread ≡ Unread.TooMany) × (result ≡ CardFault.TooManyRows) }
 {
     match unread {
+        Unread::TooMany => CardFault::TooManyRows,
         Unread::NotCsv => CardFault::NotCsv,
         Unread::NoMemory => CardFault::NoMemory,
     }
@@ -56,39 +57,33 @@ fn read_records(alloc: Global, program: &Program, text: &[u8]) -> Result<Cards, 
     ensures table { IfOk result (λ cards. CardTable program.now (records_of text.now) cards) }
     ensures fault { IfErr result (λ e. is_told e ≡ true → CardsFail program.now (records_of text.now) e) }
 {
-    let mut reader = open(alloc, text);
-    let mut fields = ByteRecord::new(alloc);
-    match read_next(&mut reader, &mut fields) {
+    let mut records = Records::new(alloc, text, LAST_LINE);
+    match records.next() {
         Ok(true) => {}
         Ok(false) => return Err(CardFault::BadHeader),
         Err(stop) => return Err(stopped(stop)),
     }
-    if !is_header(&fields) {
+    if !is_header(&records.fields) {
         return Err(CardFault::BadHeader);
     }
     let Ok(mut cards) = Cards::new(alloc, program) else {
         return Err(CardFault::NoMemory);
     };
-    for line in 2..=LAST_LINE {
-        match read_next(&mut reader, &mut fields) {
+    'lines: loop {
+        match records.next() {
             Ok(true) => {}
             Ok(false) => return Ok(cards),
             Err(stop) => return Err(stopped(stop)),
         }
-        let card = match read_card(alloc, program, &fields, line) {
+        let card = match read_card(alloc, program, &records.fields, records.line) {
             Ok(card) => card,
             Err(fault) => return Err(fault),
         };
         match cards.add(card) {
             Ok(true) => {}
-            Ok(false) => return Err(CardFault::GivenTwice(line)),
+            Ok(false) => return Err(CardFault::GivenTwice(records.line)),
             Err(_) => return Err(CardFault::NoMemory),
         }
-    }
-    match read_next(&mut reader, &mut fields) {
-        Ok(true) => Err(CardFault::TooManyRows),
-        Ok(false) => Ok(cards),
-        Err(stop) => Err(stopped(stop)),
     }
 }
 

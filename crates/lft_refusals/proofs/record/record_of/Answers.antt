@@ -8,9 +8,9 @@ loop-before-preserved c =
     let all = records_of c.args.text.now in
     let n = c.loop-before._before in
     let found = c.in-Ok-true.ensures.found c.in-Ok-true.field-0-test in
-    let left = sym c.loop-before.invariant.left ∙ found in
+    let left = sym c.loop-before.invariant.left ∙ found.left in
     record {
-      plain = c.in-Ok-true.ensures.plain c.in-Ok-true.field-0-test;
+      plain = found.plain;
       left = sym (left_more all _ n _ left);
       last = λ _. ap (λ m. slice_get all m) (omega arith) ∙ first_left all _ n _ left;
     }

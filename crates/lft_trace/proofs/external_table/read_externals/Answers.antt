@@ -7,8 +7,8 @@ use Rattle.lft_trace.specs.Inputs.{ExternalInputs}
 use Rattle.lft_trace.specs.Records.{records_of}
 use Rattle.lft_trace.specs.ExternalTables.{ExternalFails, ExternalTable}
 use Rattle.lft_trace.specs.declared.fault.TraceFault.{TraceFault}
-use Rattle.lft_trace.proofs.ExternalFacts.{Texts}
 use Rattle.lft_trace.proofs.ExternalTableFacts.{no_table, one_table, table_fits}
+use Rattle.lft_trace.proofs.TableFacts.{Texts}
 use Rattle.lft_trace.proofs.external_table.read_externals.Goals as goal
 
 one : (program : Parts) (records : Texts) (r : Result ExternalInputs TraceFault) → IsSound program → IfOk r (ExternalTable program records) → IfOk r (λ inputs. (other : ExternalInputs) → ExternalTable program records other → other ≡ inputs)

@@ -1,6 +1,10 @@
-use Rattle.lft_trace.specs.Records.{IsPlain, reader_left, records_of}
+use Rattle.std.proofs.Common.{◌-◌}
+use Rattle.lft_trace.specs.Records.{records_of}
 use Rattle.lft_trace.proofs.ExternalFacts.{Gathered}
 use Rattle.lft_trace.proofs.external_table.read_inputs.Given as goal
 
-abbrev pub invariant-loop-line : goal.invariant-loop-line
-invariant-loop-line l = IsPlain l.reader × Gathered l.program (records_of l.fn.text) l.stop l.events (reader_left l.reader) l.line
+abbrev pub invariant-lines : goal.invariant-lines
+invariant-lines l = Gathered l.program (records_of l.fn.text) l.stop l.events l.records
+
+abbrev pub decreases-lines : goal.decreases-lines
+decreases-lines l = l.records.last - l.records.line

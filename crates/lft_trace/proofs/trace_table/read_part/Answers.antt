@@ -1,37 +1,44 @@
-use Rattle.std.proofs.Common.{rules, arith, ◌≡◌, ◌∙◌, ◌+◌, ◌++◌, ◌∷◌, [], sym, subst, append-nil, List, ℕ}
+use Rattle.std.proofs.Common.{rules, ◌≡◌, ◌∙◌, ◌++◌, ◌∷◌, [], append-nil, List, sym, ap, subst}
 use Rattle.std.specs.List.{AllZip}
 use Rattle.csv.specs.Records.{fields_of}
 use Rattle.lft_flat.specs.Parts.{Parts}
-use Rattle.lft_trace.specs.Records.{IsPlain, reader_left, records_of}
-use Rattle.lft_trace.specs.Traces.{IsRow, header}
+use Rattle.lft_trace.specs.Records.{GoesOn, records_left, records_of}
+use Rattle.lft_trace.specs.Tables.{Begins}
+use Rattle.lft_trace.specs.Traces.{IsRow, header, trace_tables}
 use Rattle.lft_trace.specs.declared.row.Row.{Row}
-use Rattle.lft_trace.proofs.TraceFacts.{Read, Texts, one_more}
+use Rattle.lft_trace.proofs.TableFacts.{Texts, begins_more, fewer}
 use Rattle.lft_trace.proofs.trace_table.read_part.Goals as goal
 
 -- with nothing left, the records under the header are those of the rows
-all_read : (program : Parts) (records : Texts) (rows : List Row) (line : ℕ) → Read program (header ∷ records) rows [] line → AllZip (IsRow program) records rows
-all_read program records rows line r =
-    let same : ◌≡◌ {A = Texts} (header ∷ records) (header ∷ (r.first ++ [])) = r.under in
-    let front : records ≡ r.first ++ [] = cc (same) in
-    subst (λ (t : Texts). AllZip (IsRow program) t rows) (sym (front ∙ append-nil r.first)) r.each
+all_read : (program : Parts) (records left : Texts) (rows : List Row) → Begins (trace_tables program) (header ∷ records) rows left → left ≡ [] → AllZip (IsRow program) records rows
+all_read program records left rows b none =
+    let same : ◌≡◌ {A = Texts} (header ∷ records) (header ∷ (b.first ++ left)) = b.under in
+    let front : records ≡ b.first ++ left = cc (same) in
+    subst (λ (t : Texts). AllZip (IsRow program) t rows) (sym (front ∙ ap (λ (t : Texts). b.first ++ t) none ∙ append-nil b.first)) b.each
 
--- the next place, and the line after this one
-next_line : (program : Parts) (records left : Texts) (rows : List Row) (at : ℕ) → Read program records rows left (at + 2 + 1) → Read program records rows left (at + 1 + 2)
-next_line program records left rows at r = record { first = r.first; under = r.under; each = r.each; here = let h = r.here in omega (arith, h) }
+pub lines-init : goal.lines-init
+lines-init c = record {
+  plain = c.new-records.ensures.plain;
+  begins = rw c.new-rows.ensures.items (record { first = []; under = ap (λ (t : Texts). header ∷ t) (sym c.new-records.ensures.left); each = tt; together = tt });
+  last = tt;
+}
+
+pub next-requires : goal.next-requires
+next-requires c = c.lines.invariant.plain
+
+pub read_row-requires : goal.read_row-requires
+read_row-requires c = c.lines.invariant.last
 
 pub returns-in-Ok-false : goal.returns-in-Ok-false
 returns-in-Ok-false c =
-    let none : reader_left c.loop-at.reader ≡ [] = search rules in
-    all_read c.args.program.now (records_of c.args.text.now) c.loop-at.rows.items (c.loop-at.at + 2) (rw none at c.loop-at.invariant.read)
+    all_read c.args.program.now (records_of c.args.text.now) (records_left c.lines.records) c.lines.rows.items c.lines.invariant.begins (c.in-Ok-false.ensures.none c.in-Ok-false.field-0-test)
 
-pub loop-at-preserved : goal.loop-at-preserved
-loop-at-preserved c =
-    let records = header ∷ records_of c.args.text.now in
-    let f = fields_of c.read_next.new.fields in
-    let rest = reader_left c.read_next.new.reader in
-    let found : reader_left c.loop-at.reader ≡ f ∷ rest = search rules in
-    let is : IsRow c.args.program.now f c.in-Ok.row = c.in-Ok.ensures.row in
-    let items : c.push.new.self.items ≡ c.loop-at.rows.items ++ (c.in-Ok.row ∷ []) = search rules in
-    let plain : IsPlain c.read_next.new.reader = search rules in
-    let more = one_more c.args.program.now records rest c.loop-at.rows.items (c.loop-at.at + 2) f c.in-Ok.row (rw found at c.loop-at.invariant.read) is in
-    record { plain = plain; read = rw items (next_line c.args.program.now records rest (c.loop-at.rows.items ++ (c.in-Ok.row ∷ [])) c.loop-at.at more); last = c.in-Ok.ensures.within }
+pub lines-smaller : goal.lines-smaller
+lines-smaller c = fewer c.lines.records c.next.new.self (c.in-Ok-true.ensures.found c.in-Ok-true.field-0-test)
+
+pub lines-preserved : goal.lines-preserved
+lines-preserved c =
+    let g : GoesOn c.lines.records c.next.new.self = c.in-Ok-true.ensures.found c.in-Ok-true.field-0-test in
+    let items : c.push.new.self.items ≡ c.lines.rows.items ++ (c.in-Ok.row ∷ []) = search rules in
+    let more = begins_more (trace_tables c.args.program.now) (header ∷ records_of c.args.text.now) c.lines.rows.items (fields_of c.next.new.self.fields) (records_left c.next.new.self) c.in-Ok.row (rw g.left at c.lines.invariant.begins) c.in-Ok.ensures.row tt in
+    record { plain = g.plain; begins = rw items more; last = c.in-Ok.ensures.within }

@@ -1,13 +1,16 @@
-use Rattle.std.proofs.Common.{◌<◌, ◌+◌, ◌∷◌, IfSome, length}
-use Rattle.lft_trace.specs.Records.{IsPlain, reader_left, records_of}
-use Rattle.lft_trace.specs.Traces.{header}
-use Rattle.lft_trace.proofs.TraceFacts.{Read}
+use Rattle.std.proofs.Common.{◌<◌, ◌-◌, ◌∷◌, IfSome, length}
+use Rattle.lft_trace.specs.Records.{IsPlain, records_left, records_of}
+use Rattle.lft_trace.specs.Tables.{Begins}
+use Rattle.lft_trace.specs.Traces.{header, trace_tables}
 use Rattle.lft_trace.proofs.trace_table.read_part.Given as goal
 
 -- as in a table whose header was read
-abbrev pub invariant-loop-at : goal.invariant-loop-at
-invariant-loop-at l = record {
-  plain : IsPlain l.reader;
-  read : Read l.program (header ∷ records_of l.fn.text) l.rows.items (reader_left l.reader) (l.at + 2);
+abbrev pub invariant-lines : goal.invariant-lines
+invariant-lines l = record {
+  plain : IsPlain l.records;
+  begins : Begins (trace_tables l.program) (header ∷ records_of l.fn.text) l.rows.items (records_left l.records);
   last : IfSome l.last (λ r. r < length l.program.reactions);
 }
+
+abbrev pub decreases-lines : goal.decreases-lines
+decreases-lines l = l.records.last - l.records.line

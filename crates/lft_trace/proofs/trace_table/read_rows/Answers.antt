@@ -1,41 +1,39 @@
-use Rattle.std.proofs.Common.{rules, arith, ◌≡◌, ◌++◌, ◌∷◌, []}
+use Rattle.std.proofs.Common.{rules, ◌≡◌, ◌++◌, ◌∷◌, []}
 use Rattle.csv.specs.Records.{fields_of}
-use Rattle.lft_trace.specs.Records.{IsPlain, reader_left, records_of}
-use Rattle.lft_trace.specs.Traces.{FaultAt, IsRow}
-use Rattle.lft_trace.proofs.TraceFacts.{bad, ended, one_more, past}
+use Rattle.lft_trace.specs.Records.{records_of}
+use Rattle.lft_trace.specs.Traces.{header, trace_tables}
+use Rattle.lft_trace.proofs.TableFacts.{bad, ended, fewer, one_more, past, start}
 use Rattle.lft_trace.proofs.trace_table.read_rows.Goals as goal
 
-pub returns-in-Ok-false-read_next-clause-table : goal.returns-in-Ok-false-read_next-clause-table
-returns-in-Ok-false-read_next-clause-table c =
-    let none : reader_left c.loop-line.reader ≡ [] = search rules in
-    ended c.args.program.now (records_of c.args.text.now) c.loop-line.rows.items c.loop-line.line (rw none at c.loop-line.invariant.read) (omega arith)
+pub lines-init : goal.lines-init
+lines-init c =
+    let top : fields_of c.next.new.self.fields ≡ header = search rules in
+    (rw c.new-rows.ensures.items (start (trace_tables c.args.program.now) c.args.text.now c.new-records.result c.next.new.self c.new-records.ensures (c.in-Ok-true.ensures.found c.in-Ok-true.field-0-test) top tt), tt)
+
+pub next-requires-in-lines : goal.next-requires-in-lines
+next-requires-in-lines c = c.lines.invariant.0.plain
+
+pub read_row-requires : goal.read_row-requires
+read_row-requires c = c.lines.invariant.1
+
+pub returns-in-Ok-false-next-clause-table : goal.returns-in-Ok-false-next-clause-table
+returns-in-Ok-false-next-clause-table c =
+    ended (trace_tables c.args.program.now) (records_of c.args.text.now) c.lines.rows.items c.lines.records c.lines.invariant.0 (c.in-Ok-false-next.ensures.none c.in-Ok-false-next.field-0-test)
+
+pub returns-in-Err-next-clause-fault : goal.returns-in-Err-next-clause-fault
+returns-in-Err-next-clause-fault c told =
+    let s = c.stopped-in-Err-next.ensures told in
+    rw s.1 (past (trace_tables c.args.program.now) (records_of c.args.text.now) c.lines.rows.items c.lines.records c.next-in-lines.new.self c.lines.invariant.0 (c.in-Err-next.ensures.many s.0))
 
 pub returns-in-Err-read_row-clause-fault : goal.returns-in-Err-read_row-clause-fault
-returns-in-Err-read_row-clause-fault c = λ told.
-    let f = fields_of c.read_next-in-loop-line.new.fields in
-    let rest = reader_left c.read_next-in-loop-line.new.reader in
-    let found : reader_left c.loop-line.reader ≡ f ∷ rest = search rules in
-    let is : FaultAt c.args.program.now c.loop-line.line f c.in-Err-read_row.fault = c.in-Err-read_row.ensures.fault in
-    bad c.args.program.now (records_of c.args.text.now) rest c.loop-line.rows.items c.loop-line.line f c.in-Err-read_row.fault (rw found at c.loop-line.invariant.read) (omega arith) is
+returns-in-Err-read_row-clause-fault c _ =
+    bad (trace_tables c.args.program.now) (records_of c.args.text.now) c.lines.rows.items c.lines.records c.next-in-lines.new.self c.in-Err-read_row.fault c.lines.invariant.0 (c.in-Ok-true-next.ensures.found c.in-Ok-true-next.field-0-test) c.in-Err-read_row.ensures.fault
 
-pub loop-line-preserved : goal.loop-line-preserved
-loop-line-preserved c =
-    let f = fields_of c.read_next-in-loop-line.new.fields in
-    let rest = reader_left c.read_next-in-loop-line.new.reader in
-    let found : reader_left c.loop-line.reader ≡ f ∷ rest = search rules in
-    let is : IsRow c.args.program.now f c.in-Ok.row = c.in-Ok.ensures.row in
-    let items : c.push.new.self.items ≡ c.loop-line.rows.items ++ (c.in-Ok.row ∷ []) = search rules in
-    let plain : IsPlain c.read_next-in-loop-line.new.reader = search rules in
-    record { plain = plain; read = rw items (one_more c.args.program.now (records_of c.args.text.now) rest c.loop-line.rows.items c.loop-line.line f c.in-Ok.row (rw found at c.loop-line.invariant.read) is); last = c.in-Ok.ensures.within }
+pub lines-smaller : goal.lines-smaller
+lines-smaller c = fewer c.lines.records c.next-in-lines.new.self (c.in-Ok-true-next.ensures.found c.in-Ok-true-next.field-0-test)
 
-pub returns-in-Ok-true-read_next-2-clause-fault : goal.returns-in-Ok-true-read_next-2-clause-fault
-returns-in-Ok-true-read_next-2-clause-fault c = λ told.
-    let f = fields_of c.read_next-2.new.fields in
-    let rest = reader_left c.read_next-2.new.reader in
-    let found : reader_left c.loop-line.reader ≡ f ∷ rest = search rules in
-    past c.args.program.now (records_of c.args.text.now) rest c.loop-line.rows.items c.loop-line.line f (rw found at c.loop-line.invariant.read) (omega arith)
-
-pub returns-in-Ok-false-read_next-2-clause-table : goal.returns-in-Ok-false-read_next-2-clause-table
-returns-in-Ok-false-read_next-2-clause-table c =
-    let none : reader_left c.loop-line.reader ≡ [] = search rules in
-    ended c.args.program.now (records_of c.args.text.now) c.loop-line.rows.items c.loop-line.line (rw none at c.loop-line.invariant.read) (omega arith)
+pub lines-preserved : goal.lines-preserved
+lines-preserved c =
+    let items : c.push.new.self.items ≡ c.lines.rows.items ++ (c.in-Ok.row ∷ []) = search rules in
+    let read = one_more (trace_tables c.args.program.now) (records_of c.args.text.now) c.lines.rows.items c.lines.records c.next-in-lines.new.self c.in-Ok.row c.lines.invariant.0 (c.in-Ok-true-next.ensures.found c.in-Ok-true-next.field-0-test) c.in-Ok.ensures.row tt in
+    (rw items read, c.in-Ok.ensures.within)

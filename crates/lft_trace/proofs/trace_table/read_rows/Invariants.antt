@@ -1,11 +1,11 @@
-use Rattle.std.proofs.Common.{◌<◌, IfSome, length}
-use Rattle.lft_trace.specs.Records.{IsPlain, reader_left, records_of}
-use Rattle.lft_trace.proofs.TraceFacts.{Read}
+use Rattle.std.proofs.Common.{◌<◌, ◌-◌, IfSome, length}
+use Rattle.lft_trace.specs.Records.{records_of}
+use Rattle.lft_trace.specs.Traces.{trace_tables}
+use Rattle.lft_trace.proofs.TableFacts.{Read}
 use Rattle.lft_trace.proofs.trace_table.read_rows.Given as goal
 
-abbrev pub invariant-loop-line : goal.invariant-loop-line
-invariant-loop-line l = record {
-  plain : IsPlain l.reader;
-  read : Read l.program (records_of l.fn.text) l.rows.items (reader_left l.reader) l.line;
-  last : IfSome l.last (λ r. r < length l.program.reactions);
-}
+abbrev pub invariant-lines : goal.invariant-lines
+invariant-lines l = Read (trace_tables l.program) (records_of l.fn.text) l.rows.items l.records × IfSome l.last (λ r. r < length l.program.reactions)
+
+abbrev pub decreases-lines : goal.decreases-lines
+decreases-lines l = l.records.last - l.records.line

@@ -1,6 +1,6 @@
 use Rattle.lft_trace.specs.Records.{records_of}
 use Rattle.lft_trace.specs.Traces.{TraceFails}
-use Rattle.lft_trace.proofs.TableFacts.{no_table, one_table, table_fits}
+use Rattle.lft_trace.proofs.TraceFacts.{no_table, one_table, table_fits}
 use Rattle.lft_trace.proofs.trace_table.read_trace.Goals as goal
 
 pub returns-in-Ok-clause-one : goal.returns-in-Ok-clause-one
@@ -14,4 +14,4 @@ returns-in-Ok-clause-fits c =
 pub returns-in-Err-clause-fault : goal.returns-in-Err-clause-fault
 returns-in-Err-clause-fault c = λ told.
     let f : TraceFails c.args.program.now (records_of c.args.text.now) c.in-Err.fault = c.in-Err.ensures.fault told in
-    (f, λ rows t. no_table c.args.program.now (records_of c.args.text.now) c.in-Err.fault rows f t)
+    (f, λ rows t. no_table c.args.program.now (records_of c.args.text.now) c.in-Err.fault rows c.keeps.ensures.sound f t)

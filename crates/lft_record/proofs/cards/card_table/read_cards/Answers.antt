@@ -6,7 +6,7 @@ use Rattle.lft_record.specs.CardTables.{CardTable, CardsFail}
 use Rattle.lft_record.specs.CardFaults.{is_told}
 use Rattle.lft_record.specs.declared.cards.Script.{Script}
 use Rattle.lft_record.specs.declared.cards.fault.CardFault.{CardFault}
-use Rattle.lft_record.proofs.CardFacts.{Texts}
+use Rattle.lft_trace.proofs.TableFacts.{Texts}
 use Rattle.lft_record.proofs.CardTableFacts.{no_table, one_table}
 use Rattle.lft_record.proofs.cards.card_table.read_cards.Goals as goal
 
