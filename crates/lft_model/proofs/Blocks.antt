@@ -8,12 +8,11 @@ use Rattle.lft_lists.proofs.Mapped.{mapped, mapped_from}
 use Rattle.lft_flat.specs.Parts.{Parts}
 use Rattle.lft_flat.specs.declared.parts.Value.{Value}
 use Rattle.lft_flat.specs.declared.parts.Name.{Name}
-use Rattle.lft_flat.specs.declared.parts.Name.TheVariants.{Port, Action}
 use Rattle.lft_trace.specs.declared.row.Row.{Row}
 use Rattle.lft_trace.specs.declared.row.Step.{Step}
 use Rattle.lft_trace.specs.declared.row.Step.TheVariants.{Start, Read, Write, Schedule, Stop, End}
 use Rattle.lft_model.specs.Runs.{Run, inputs_of, read_step, same_name, value_read, step_of, closing_steps, steps_of_run, rows_of_run, rows_of}
-use Rattle.lft_model.proofs.Steps.{both_true, same_tag_true}
+use Rattle.lft_model.proofs.Steps.{both_true, name_same, name_self, same_tag_true}
 use Rattle.lft_model.proofs.Counted.{NamesApart}
 use Rattle.lft_model.proofs.RunSteps.{read_part, write_part, schedule_part, in_reads, in_writes, in_schedules, row_with, mem_zip}
 use Rattle.lft_tag.proofs.Order.{same_tag_refl}
@@ -130,21 +129,11 @@ module _ (program : Parts) (u : Run) where
       closing false = inl refl
 
   -- what a run reads of an input is the one read step of that name
-  same_name_true : (m n : Name) → same_name m n ≡ true → m ≡ n
-  same_name_true (Port p) (Port q) e = ap Port (eqb-true p q e)
-  same_name_true (Port p) (Action b) e = absurd (cc)
-  same_name_true (Action a) (Port q) e = absurd (cc)
-  same_name_true (Action a) (Action b) e = ap Action (eqb-true a b e)
-
-  same_name_refl : (m : Name) → same_name m m ≡ true
-  same_name_refl (Port p) = eq-eqb p p refl
-  same_name_refl (Action a) = eq-eqb a a refl
-
   name_read : (m n : Name) (v : Value) → ¬ (m ≡ n) → value_read m (Read n v) ≡ None
   name_read m n v d = go (same_name m n) refl
     where
       go : (b : Bool) → same_name m n ≡ b → cond b (Some v) None ≡ None
-      go true e = absurd (d (same_name_true m n e))
+      go true e = absurd (d (name_same m n e))
       go false e = refl
 
   reads_none : (ns : List Name) (os : List (Option Value)) (n : Name) → ¬ Mem n ns → filter_map (value_read n) (filter_map read_step (zip ns os)) ≡ []
@@ -160,7 +149,7 @@ module _ (program : Parts) (u : Run) where
   reads_one (k ∷ ns) (Some v ∷ os) n o a (inl e) =
       let p : k ≡ n = ap (λ (x : Name × Option Value). x.0) e in
       let q : Some v ≡ o = ap (λ (x : Name × Option Value). x.1) e in
-      let r : same_name n k ≡ true = subst (λ (z : Name). same_name n z ≡ true) (sym p) (same_name_refl n) in
+      let r : same_name n k ≡ true = subst (λ (z : Name). same_name n z ≡ true) (sym p) (name_self n) in
       let s : filter_map (value_read n) (filter_map read_step (zip ns os)) ≡ [] = reads_none ns os n (λ m. a.0 n m (sym p)) in
       rw (r, s) (ap option_to_list q)
   reads_one (k ∷ ns) (None ∷ os) n o a (inr m) = reads_one ns os n o a.1 m
