@@ -112,7 +112,7 @@ impl<'a> Sliced<'a> {
     }
 
     /// The flat program.
-    pub(crate) fn program(&self) -> &Program
+    pub fn program(&self) -> &Program
         ensures value { result.now ≡ self.now.plan.program }
         ensures rules { IsCuttable self.now }
     {

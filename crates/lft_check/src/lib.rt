@@ -1,12 +1,10 @@
 #![tactic(auto)]
 //! The verdict on a trace.
 
-mod ancestors;
 mod examine;
 mod fault;
 mod judging;
 mod ranks;
-mod sets;
 mod shares;
 mod verdict;
 mod watch;

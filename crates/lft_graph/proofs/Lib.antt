@@ -7,3 +7,5 @@ pub mod Levelling
 pub mod Chains
 pub mod Cycles
 pub mod Arranging
+pub mod Bits
+pub mod Ancestry

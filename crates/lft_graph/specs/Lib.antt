@@ -3,3 +3,4 @@ pub mod Before
 pub mod Graph
 pub mod Loops
 pub mod Walks
+pub mod Sets

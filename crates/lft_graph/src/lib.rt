@@ -1,6 +1,7 @@
 #![tactic(auto)]
 //! Which reactions precede which at a tag: short lists and levels, or a causality loop.
 
+mod ancestors;
 mod before;
 mod fault;
 mod graph;
@@ -9,8 +10,11 @@ mod lists;
 mod loops;
 mod members;
 mod order;
+mod sets;
 mod writers;
 
+pub use ancestors::Ancestors;
 pub use fault::GraphFault;
 pub use graph::Graph;
 pub use lists::Loop;
+pub use sets::Set;

@@ -13,7 +13,7 @@ use Rattle.lft_model.specs.Runs.{start_row, end_row, Ran}
 use Rattle.lft_model.specs.Breaches.{IsTooEarly}
 use Rattle.lft_model.proofs.Places.{slice_get_within}
 use Rattle.lft_rows.specs.Firsts.{FirstRow}
-use Rattle.lft_check.proofs.Ancestry.{level_there, lower}
+use Rattle.lft_graph.proofs.Ancestry.{level_there, lower}
 use Rattle.lft_stream.proofs.Slicing.{ranked_law}
 
 abbrev pub level_of : List ℕ → ℕ → ℕ

@@ -7,8 +7,8 @@ use Rattle.lft_flat.specs.Parts.{Parts}
 use Rattle.lft_graph.specs.Precedence.{Precedes}
 use Rattle.lft_graph.specs.Graph.{GraphParts, IsGraphOf}
 use Rattle.lft_lists.proofs.Places.{contains_at, at_contains, get_there, same_at, get_write_cases, length_written}
-use Rattle.lft_model.proofs.Places.{slice_get_within}
-use Rattle.lft_check.specs.Sets.{Has, AreAncestors, HaveRoom, IsUnder, IsUnion}
+use Rattle.std.proofs.lemmas.Option.{slice_get_within}
+use Rattle.lft_graph.specs.Sets.{Has, AreAncestors, HaveRoom, IsUnder, IsUnion}
 use Rattle.lft_graph.proofs.Cycles.{from_there}
 
 pub precedes_known : (program : Parts) (a b : ℕ) → Precedes program a b → a < length program.reactions

@@ -1,6 +1,6 @@
 use Rattle.std.proofs.Common.{◌≤◌, length, sym, ap, arith}
-use Rattle.lft_check.proofs.Bits.{joined_has}
-use Rattle.lft_check.proofs.sets.Set.add_all.Goals as goal
+use Rattle.lft_graph.proofs.Bits.{joined_has}
+use Rattle.lft_graph.proofs.sets.Set.add_all.Goals as goal
 
 pub returns-clause-members : goal.returns-clause-members
 returns-clause-members c r =

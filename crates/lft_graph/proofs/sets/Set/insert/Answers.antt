@@ -1,6 +1,6 @@
 use Rattle.std.proofs.Common.{◌/◌, ◌<◌, length, sym, ap, arith}
-use Rattle.lft_check.proofs.Bits.{insert_has, word_at}
-use Rattle.lft_check.proofs.sets.Set.insert.Goals as goal
+use Rattle.lft_graph.proofs.Bits.{insert_has, word_at}
+use Rattle.lft_graph.proofs.sets.Set.insert.Goals as goal
 
 pub returns-clause-members : goal.returns-clause-members
 returns-clause-members c r =

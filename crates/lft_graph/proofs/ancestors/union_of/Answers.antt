@@ -1,7 +1,7 @@
 use Rattle.std.proofs.Common.{◌<◌, List, ℕ, Some, length, sym, ap, ◌∙◌}
 use Rattle.std.proofs.lemmas.Option.{slice_get-get_or}
-use Rattle.lft_check.proofs.Ancestry.{union_more}
-use Rattle.lft_check.proofs.ancestors.union_of.Goals as goal
+use Rattle.lft_graph.proofs.Ancestry.{union_more}
+use Rattle.lft_graph.proofs.ancestors.union_of.Goals as goal
 
 pub loop-place-preserved : goal.loop-place-preserved
 loop-place-preserved c =

@@ -1,7 +1,7 @@
 //! Sets of reactions, a bit for each.
 
 ghost use Rattle.std.specs.Prelude.{◌≡◌, ◌↔◌, ◌<◌, ◌≤◌, ◌⊎◌, ◌+◌, ◌*◌, ◌/◌, ℕ, [], length, IsTrue, IfOk};
-ghost use Rattle.lft_check.specs.Sets.{Has};
+ghost use Rattle.lft_graph.specs.Sets.{Has};
 
 use lft_lists::item_at;
 use lft_tag::NoMemory;
@@ -10,7 +10,7 @@ use std::marker::Model;
 
 /// A set of reactions: that of number r is bit r % 64 of word r / 64.
 #[derive(Drop)]
-pub(crate) struct Set {
+pub struct Set {
     words: Vec<u64>,
 }
 
@@ -24,7 +24,7 @@ impl Model for Set {
 
 impl Set {
     /// No reactions, and room for none.
-    pub(crate) fn empty(alloc: Global) -> Set
+    pub fn empty(alloc: Global) -> Set
         ensures { result ≡ [] }
     {
         Set {
@@ -33,7 +33,7 @@ impl Set {
     }
 
     /// No reactions, and room for those below a number.
-    pub(crate) fn with_room(alloc: Global, reactions: usize) -> Result<Set, NoMemory>
+    pub fn with_room(alloc: Global, reactions: usize) -> Result<Set, NoMemory>
         ensures room { IfOk result (λ set. length set ≡ reactions / 64 + 1) }
         ensures none { IfOk result (λ set. (r : ℕ) → Has set r → ⊥) }
     {
@@ -42,7 +42,7 @@ impl Set {
     }
 
     /// Adds the reaction.
-    pub(crate) fn insert(&mut self, reaction: u32)
+    pub fn insert(&mut self, reaction: u32)
         requires { reaction < 64 * length self.old }
         ensures room { length self.new ≡ length self.old }
         ensures members { (r : ℕ) → Has self.new r ↔ ((r ≡ reaction) ⊎ Has self.old r) }
@@ -52,7 +52,7 @@ impl Set {
     }
 
     /// Adds the reactions of another set.
-    pub(crate) fn add_all(&mut self, other: &Set)
+    pub fn add_all(&mut self, other: &Set)
         requires { length other.now ≤ length self.old }
         ensures room { length self.new ≡ length self.old }
         ensures members { (r : ℕ) → Has self.new r ↔ (Has self.old r ⊎ Has other.now r) }
@@ -63,7 +63,7 @@ impl Set {
     }
 
     /// Whether a reaction is in both sets.
-    pub(crate) fn meets(&self, other: &Set) -> bool
+    pub fn meets(&self, other: &Set) -> bool
         ensures { IsTrue result ↔ ((r : ℕ) × Has self.now r × Has other.now r) }
     {
         let words = self.words.len().min(other.words.len());

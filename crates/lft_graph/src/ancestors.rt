@@ -1,10 +1,12 @@
 //! What precedes each reaction.
 
 ghost use Rattle.std.specs.Prelude.{◌≡◌, ◌<◌, ◌≤◌, ◌+◌, ◌/◌, ℕ, [], length, replicate, Some, IfOk, slice_get};
-ghost use Rattle.lft_check.specs.Sets.{AreAncestors, HaveRoom, HasAll, IsUnion};
+ghost use Rattle.lft_graph.specs.Graph.{IsGraphOf};
+ghost use Rattle.lft_graph.specs.Sets.{AreAncestors, HaveRoom, HasAll, IsUnion};
 
+use crate::graph::Graph;
 use crate::sets::Set;
-use lft_by_tag::Sliced;
+use lft_flat::Program;
 use lft_lists::item_at;
 use lft_tag::NoMemory;
 use std::alloc::Global;
@@ -15,7 +17,7 @@ use std::marker::Model;
 // reaction to another may lead over all others. So the ways are gone through once, before the tags.
 // That takes a bit for each two reactions, 12.5 MB at most.
 #[derive(Drop)]
-pub(crate) struct Ancestors {
+pub struct Ancestors {
     sets: Vec<Set>,
 }
 
@@ -58,13 +60,13 @@ fn union_of(alloc: Global, list: &[u32], sets: &[Set]) -> Result<Set, NoMemory>
 }
 
 impl Ancestors {
-    /// What precedes each reaction of the rows' program.
-    pub(crate) fn new(alloc: Global, sliced: &Sliced) -> Result<Ancestors, NoMemory>
-        ensures { IfOk result (AreAncestors sliced.now.plan.program) }
+    /// What precedes each reaction of the program whose graph this is.
+    pub fn new(alloc: Global, program: &Program, graph: &Graph) -> Result<Ancestors, NoMemory>
+        requires { IsGraphOf program.now graph.now }
+        ensures { IfOk result (AreAncestors program.now) }
     {
-        let graph = sliced.graph();
         let order = graph.by_level();
-        let mut sets = empty_sets(alloc, sliced.reactions())?;
+        let mut sets = empty_sets(alloc, program.reactions())?;
         for place in 0..order.len() {
             let reaction = item_at(order, place);
             let union = union_of(alloc, graph.before(reaction), sets.as_slice())?;
@@ -74,7 +76,7 @@ impl Ancestors {
     }
 
     /// What precedes the reaction.
-    pub(crate) fn of(&self, reaction: u32) -> &Set
+    pub fn of(&self, reaction: u32) -> &Set
         requires { reaction < length self.now }
         ensures { slice_get self.now reaction ≡ Some result.now }
     {

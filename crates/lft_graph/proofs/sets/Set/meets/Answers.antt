@@ -3,8 +3,8 @@ use Rattle.std.specs.Prelude.{bit_and, slice_index}
 use native.Mathlib.Decide.{ℕ_discrete, dec_le}
 use Rattle.std.proofs.lemmas.Nat.{and_le_l}
 use Rattle.std.proofs.lemmas.Option.{get_or_from_slice_get}
-use Rattle.lft_check.proofs.Bits.{word_meets, none_meet, word_at}
-use Rattle.lft_check.proofs.sets.Set.meets.Goals as goal
+use Rattle.lft_graph.proofs.Bits.{word_meets, none_meet, word_at}
+use Rattle.lft_graph.proofs.sets.Set.meets.Goals as goal
 
 pub returns-then-word-index-ne0 : goal.returns-then-word-index-ne0
 returns-then-word-index-ne0 c =

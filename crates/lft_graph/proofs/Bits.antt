@@ -8,7 +8,7 @@ use Rattle.std.proofs.Math.Pow.{shl_exact}
 use Rattle.std.proofs.lemmas.Nat.Bits.{bit_at_or, bit_at_and, bit_at-zero, bit_at-suc, bit_at_lowest, bit_at-pow_same, bit_at-pow_other, bit_at-lt}
 use Rattle.std.proofs.lemmas.Option.{slice_get-get_or, get_or_from_slice_get}
 use native.Mathlib.Decide.{ℕ_discrete, dec_lt}
-use Rattle.lft_check.specs.Sets.{Has}
+use Rattle.lft_graph.specs.Sets.{Has}
 
 -- the word at a place that is there
 pub word_at : (words : List ℕ) (k word : ℕ) → k < length words → word ≡ get_or words k word → slice_index words k ≡ word

@@ -1,4 +1,4 @@
--- What precedes each reaction, as sets. This serves the proof of rule 9 alone.
+-- What precedes each reaction, as sets.
 use Rattle.std.specs.Prelude.{◌≡◌, ◌↔◌, ℕ, ◌+◌, ◌/◌, ◌%◌, ◌<◌, ◌≤◌, ◌⊎◌, List, length, Some, slice_get, slice_index}
 use Rattle.std.specs.Int.{bit_at}
 use Rattle.lft_flat.specs.Parts.{Parts}

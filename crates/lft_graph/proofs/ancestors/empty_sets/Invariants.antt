@@ -1,5 +1,5 @@
 use Rattle.std.proofs.Common.{◌≡◌, [], replicate}
-use Rattle.lft_check.proofs.ancestors.empty_sets.Given as goal
+use Rattle.lft_graph.proofs.ancestors.empty_sets.Given as goal
 
 abbrev pub invariant-loop : goal.invariant-loop
 invariant-loop l = l.sets.items ≡ replicate l.counter []
