@@ -31,6 +31,14 @@ rises_from last plan t kept i j x y l p q = go (order_cases y.tag x.tag)
     go (inr up) = up
     go (inl b) = absurd (kept (record { rule = 1; tag = y.tag; reaction = Some y.reaction; row = j + 2 }) (record { place = j; row = y; is_row = q; breaks = inl (refl, (i, x, l, p, b)); tag_is = refl; reaction_is = refl; row_is = refl }))
 
+-- rows from a place on up to another: they fit as all do, and with those before they are those up to the second
+module _ (t : List Row) (a b : ℕ) (up : a ≤ b) where
+  pub range_fits : b ≤ length t → (program : Parts) → RowsFit program t → RowsFit program (slice_range t a b)
+  range_fits within program fit = record { few = let l : length (slice_range t a b) ≡ b - a = length-range t a b within in let c = fit.few in omega arith; each = λ i x e. fit.each (a + i) x (sym (range-get t a b i (range-within t a b i x within e)) ∙ e) }
+
+  pub up_to_second : take a t ++ slice_range t a b ≡ take b t
+  up_to_second = sym (take-add a (b - a) t) ∙ ap (λ n. take n t) (let l : a + (b - a) ≡ b = omega arith in l)
+
 module _ (t : List Row) (s : Slice) (is : IsSlice t s) where
   -- the rows of the slice
   abbrev pub rows_of : List Row
@@ -40,7 +48,7 @@ module _ (t : List Row) (s : Slice) (is : IsSlice t s) where
   to_whole i x e = sym (range-get t s.first s.end i (range-within t s.first s.end i x is.within e)) ∙ e
 
   pub part_fits : (program : Parts) → RowsFit program t → RowsFit program rows_of
-  part_fits program fit = record { few = let a : length rows_of ≡ s.end - s.first = length-range t s.first s.end is.within in let b = is.within in let c = fit.few in omega arith; each = λ i x e. fit.each (s.first + i) x (to_whole i x e) }
+  part_fits = range_fits t s.first s.end (let l = is.some in omega arith) is.within
 
   pub are_at : AreAt rows_of s.tag
   are_at i x e = is.at_tag (s.first + i) x (to_whole i x e) (omega arith) (range-within t s.first s.end i x is.within e)
@@ -62,7 +70,7 @@ module _ (t : List Row) (s : Slice) (is : IsSlice t s) where
 
   -- the rows before the slice and its own are those before its end
   pub up_to_end : take s.first t ++ rows_of ≡ take s.end t
-  up_to_end = sym (take-add s.first (s.end - s.first) t) ∙ ap (λ n. take n t) (let a = is.some in let b : s.first + (s.end - s.first) ≡ s.end = omega arith in b)
+  up_to_end = up_to_second t s.first s.end (let l = is.some in omega arith)
 
   -- no other row has a step of a run at the tag
   pub steps_part : (r : ℕ) → steps_of t s.tag r ≡ steps_of rows_of s.tag r

@@ -1,20 +1,20 @@
--- Runs by the levels of their reactions.
-use Rattle.std.proofs.Common.{◌≡◌, ℕ, ◌+◌, ◌<◌, ◌≤◌, inl, inr, List, length, refl, arith, get_or, Some, None, slice_get}
-use Rattle.std.proofs.lemmas.Option.{get_or_from_slice_get}
+-- Runs by the levels of their reactions, and by what precedes them.
+use Rattle.std.proofs.Common.{◌≡◌, ℕ, ◌+◌, ◌<◌, ◌≤◌, ◌⊎◌, inl, inr, List, length, refl, sym, ap, subst, arith, get_or, Some, slice_get}
+use Rattle.std.specs.Prelude.{◌↔◌}
+use Rattle.std.proofs.lemmas.Option.{slice_get_within, get_or_from_slice_get}
+use native.Mathlib.Decide.{ℕ_discrete}
 use Rattle.lft_tag.specs.declared.Tag.{Tag}
+use Rattle.lft_lists.proofs.Places.{same_at}
 use Rattle.lft_flat.specs.Parts.{Parts}
 use Rattle.lft_graph.specs.Graph.{GraphParts, IsGraphOf}
-use Rattle.lft_graph.specs.Precedence.{IsLevelled, Direct, Precedes}
-use Rattle.lft_graph.proofs.Cycles.{from_there}
+use Rattle.lft_graph.specs.Precedence.{Precedes}
+use Rattle.lft_graph.specs.Sets.{Has, AreAncestors}
+use Rattle.lft_graph.proofs.Ancestry.{level_there, lower, precedes_known}
 use Rattle.lft_trace.specs.declared.row.Row.{Row}
 use Rattle.lft_trace.specs.declared.row.Step.TheVariants.{Start, End}
-use Rattle.lft_model.specs.Plans.{PlanParts}
-use Rattle.lft_model.specs.Runs.{start_row, end_row, Ran}
-use Rattle.lft_model.specs.Breaches.{IsTooEarly}
-use Rattle.lft_model.proofs.Places.{slice_get_within}
-use Rattle.lft_rows.specs.Firsts.{FirstRow}
-use Rattle.lft_graph.proofs.Ancestry.{level_there, lower}
-use Rattle.lft_stream.proofs.Slicing.{ranked_law}
+use Rattle.lft_trace.specs.Fits.{RowsFit}
+use Rattle.lft_model.specs.Runs.{start_row, end_row}
+use Rattle.lft_stream.specs.Slices.{IsOrdered}
 
 abbrev pub level_of : List ℕ → ℕ → ℕ
 level_of levels r = get_or levels r 0
@@ -27,23 +27,54 @@ StartsWithin levels t n most = (i : ℕ) (x : Row) → i < n → slice_get t i �
 abbrev pub RankedTo : List ℕ → List Row → ℕ → Type 0
 RankedTo levels t n = (i j : ℕ) (x y : Row) → i < j → j < n → slice_get t i ≡ Some x → x.step ≡ Start → slice_get t j ≡ Some y → y.step ≡ End → level_of levels x.reaction ≤ level_of levels y.reaction
 
--- the levels of a graph are levels of its program
-module _ (program : Parts) (graph : GraphParts) (is : IsGraphOf program graph) where
-  to_there : (a b : ℕ) → Direct program a b → b < length program.reactions
-  to_there a b (inl d) = slice_get_within program.reactions b d.second d.is_second
-  to_there a b (inr d) = slice_get_within program.reactions b d.reader d.is_reader
+-- then none starts before the end of one that precedes it
+pub ranked_ordered : (program : Parts) (graph : GraphParts) → IsGraphOf program graph → (t : List Row) → RowsFit program t → RankedTo graph.levels t (length t) → IsOrdered program t
+ranked_ordered program graph is t fit ranked i j v w g h r a before starts ends precedes =
+    let k = level_there program graph is a (precedes_known program a r precedes) in
+    let l = level_there program graph is r (fit.each i (start_row v g r) starts).reaction in
+    let m : k.0 < l.0 = lower program graph is (l.0 + 1) a r k.0 l.0 (omega arith) precedes k.1 l.1 in
+    let p : level_of graph.levels a ≡ k.0 = get_or_from_slice_get graph.levels a k.0 0 k.1 in
+    let q : level_of graph.levels r ≡ l.0 = get_or_from_slice_get graph.levels r l.0 0 l.1 in
+    let n : level_of graph.levels r ≤ level_of graph.levels a = ranked i j (start_row v g r) (end_row w h a) before (slice_get_within t j (end_row w h a) ends) starts refl ends refl in
+    omega arith
 
-  levels_rise : (a b : ℕ) → Direct program a b → level_of graph.levels a < level_of graph.levels b
-  levels_rise a b d =
-      let k = level_there program graph is a (from_there program a b d) in
-      let l = level_there program graph is b (to_there a b d) in
-      let m : k.0 < l.0 = lower program graph is (l.0 + 1) a b k.0 l.0 (omega arith) (Precedes.one d) k.1 l.1 in
-      let p : level_of graph.levels a ≡ k.0 = get_or_from_slice_get graph.levels a k.0 0 k.1 in
-      let q : level_of graph.levels b ≡ l.0 = get_or_from_slice_get graph.levels b l.0 0 l.1 in
-      omega arith
+-- from the place on no run starts before the end of one that precedes it
+abbrev pub OrderedFrom : Parts → List Row → ℕ → Type 0
+OrderedFrom program t n = (i j v w : ℕ) (g h : Tag) (r a : ℕ) → n ≤ i → i < j → slice_get t i ≡ Some (start_row v g r) → slice_get t j ≡ Some (end_row w h a) → ¬ Precedes program a r
 
-  abbrev levels_of : IsLevelled program
-  levels_of = record { level = level_of graph.levels; rises = levels_rise }
+-- the set has what ends from the place on
+abbrev pub HasEnded : List Row → ℕ → List ℕ → Type 0
+HasEnded t n set = (j w : ℕ) (h : Tag) (a : ℕ) → n ≤ j → slice_get t j ≡ Some (end_row w h a) → Has set a
 
-pub none_early : (plan : PlanParts) (graph : GraphParts) → IsGraphOf plan.program graph → (t : List Row) → RankedTo graph.levels t (length t) → (last : Tag) → FirstRow last plan t None → (g : Tag) (r : ℕ) → Ran t g r → ¬ IsTooEarly plan t g r
-none_early plan graph is t ranked last kept g r o = ranked_law plan last t (levels_of plan.program graph is) kept (λ i j v w h k a b l e f. ranked i j (start_row v h a) (end_row w k b) l (slice_get_within t j (end_row w k b) f) e refl f refl) g r o
+-- one row more, before the others
+module _ (program : Parts) (t : List Row) (n m : ℕ) (next : n + 1 ≡ m) (row : Row) (is_row : slice_get t n ≡ Some row) where
+  pub ended_more : (set more : List ℕ) → ((a : ℕ) → Has more a ↔ ((a ≡ row.reaction) ⊎ Has set a)) → HasEnded t m set → HasEnded t n more
+  ended_more set more inserted ended j w h a l e = (inserted a).1 (go (ℕ_discrete j n))
+    where
+      go : Dec (j ≡ n) → (a ≡ row.reaction) ⊎ Has set a
+      go (yes q) = let x : end_row w h a ≡ row = same_at t j n (end_row w h a) row e is_row q in inl (ap (λ (y : Row). y.reaction) x)
+      go (no k) = inr (ended j w h a (omega arith) e)
+
+  pub ended_stays : (set : List ℕ) → ¬ (row.step ≡ End) → HasEnded t m set → HasEnded t n set
+  ended_stays set is_none ended j w h a l e = go (ℕ_discrete j n)
+    where
+      go : Dec (j ≡ n) → Has set a
+      go (yes q) = let x : end_row w h a ≡ row = same_at t j n (end_row w h a) row e is_row q in absurd (is_none (ap (λ (y : Row). y.step) (sym x)))
+      go (no k) = ended j w h a (omega arith) e
+
+  pub ordered_stays : ¬ (row.step ≡ Start) → OrderedFrom program t m → OrderedFrom program t n
+  ordered_stays is_none ordered i j v w g h r a l b e f = go (ℕ_discrete i n)
+    where
+      go : Dec (i ≡ n) → ¬ Precedes program a r
+      go (yes q) = let x : start_row v g r ≡ row = same_at t i n (start_row v g r) row e is_row q in absurd (is_none (ap (λ (y : Row). y.step) (sym x)))
+      go (no k) = ordered i j v w g h r a (omega arith) b e f
+
+  pub ordered_more : (sets : List (List ℕ)) (own set : List ℕ) → AreAncestors program sets → slice_get sets row.reaction ≡ Some own → HasEnded t m set → ¬ ((a : ℕ) × Has own a × Has set a) → OrderedFrom program t m → OrderedFrom program t n
+  ordered_more sets own set ancestors is_own ended apart ordered i j v w g h r a l b e f = go (ℕ_discrete i n)
+    where
+      go : Dec (i ≡ n) → ¬ Precedes program a r
+      go (yes q) p =
+          let x : start_row v g r ≡ row = same_at t i n (start_row v g r) row e is_row q in
+          let k : r ≡ row.reaction = ap (λ (y : Row). y.reaction) x in
+          apart (a, (ancestors.right row.reaction own is_own a).1 (subst (λ z. Precedes program a z) k p), ended j w h a (omega arith) f)
+      go (no k) p = ordered i j v w g h r a (omega arith) b e f p

@@ -1,23 +1,67 @@
 //! Rows that are accepted.
 
-ghost use Rattle.std.specs.Prelude.{IfSome};
+ghost use Rattle.std.specs.Prelude.{◌≡◌, ◌<◌, ◌≤◌, List, length, take, IfSome, IsTrue};
+ghost use Rattle.lft_trace.specs.declared.row.Row.{Row as TheRow};
 ghost use Rattle.lft_trace.specs.Fits.{RowsFit};
 ghost use Rattle.lft_check.specs.Verdicts.{IsAccepted};
+ghost use Rattle.lft_stream.specs.Kept.{IsStreamOf};
 
 use crate::stream::{Counts, Stream};
 use lft_model::Plan;
-use lft_trace::Rows;
+use lft_trace::{Row, Rows, row_at};
 use std::alloc::Global;
+
+/// So many rows are taken together, and the other rows of their last tag. More wouldn't stay near the
+/// processor, and fewer would pay more often for a look at the whole program.
+const TOGETHER: usize = 32_768;
+
+/// Where the rows end that are taken together from the first on: behind a whole tag.
+fn end_of_part(rows: &[Row], first: usize) -> usize
+    requires { first < length rows.now }
+    ensures { (first < result) × (result ≤ length rows.now) }
+{
+    let mut end = rows.len().min(first.saturating_add(TOGETHER));
+    while end < rows.len() && row_at(rows, end).tag.is_same(row_at(rows, end - 1).tag) {
+        end += 1;
+    }
+    end
+}
+
+/// Goes on past the rows from the first on up to the end.
+fn add_part(
+    stream: &mut Stream,
+    alloc: Global,
+    plan: &Plan,
+    rows: &[Row],
+    first: usize,
+    end: usize,
+) -> bool
+    ghost done: { List TheRow }
+    requires fit { RowsFit plan.now.program rows.now }
+    requires range { (first ≤ end) × (end ≤ length rows.now) }
+    requires before { done ≡ take first rows.now }
+    requires stands { IsStreamOf plan.now done stream.old }
+    ensures { IsTrue result → IsStreamOf plan.now (take end rows.now) stream.new }
+{
+    stream.add(alloc, plan, &rows[first..end])
+}
 
 /// The counts of rows that are legal. None says nothing of them: they may break a rule, memory may be
 /// refused, or a reaction may have a port behind a delay among its inputs.
+// Where rows are given up, only those before and the part with them were looked at.
 pub fn accepts_rows(alloc: Global, plan: &Plan, rows: &Rows) -> Option<Counts>
     requires { RowsFit plan.now.program rows.now }
     ensures { IfSome result (λ c. IsAccepted plan.now rows.now c.runs c.tags) }
 {
+    let rows = rows.as_slice();
     let mut stream = Stream::new(alloc, plan)?;
-    if !stream.add(alloc, plan, rows.as_slice()) {
-        return None;
+    let mut first = 0;
+    while first < rows.len() {
+        let end = end_of_part(rows, first);
+        if !add_part(&mut stream, alloc, plan, rows, first, end) {
+            return None;
+        }
+        first = end;
     }
     stream.finish(plan)
 }

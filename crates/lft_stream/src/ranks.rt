@@ -1,20 +1,17 @@
 //! Whether runs follow each other by the levels of their reactions.
 
-ghost use Rattle.std.specs.Prelude.{ℕ, ◌≡◌, IsTrue, None};
-ghost use Rattle.lft_tag.specs.declared.Tag.{Tag as TheTag};
+ghost use Rattle.std.specs.Prelude.{ℕ, ◌≡◌, IsTrue};
 ghost use Rattle.lft_trace.specs.Fits.{RowsFit};
-ghost use Rattle.lft_model.specs.Breaches.{IsTooEarly};
-ghost use Rattle.lft_model.specs.Runs.{Ran};
-ghost use Rattle.lft_rows.specs.Firsts.{FirstRow};
+ghost use Rattle.lft_stream.specs.Slices.{IsOrdered};
 
 use lft_model::Plan;
 use lft_trace::{Row, is_end, is_start, row_at};
 
-/// Whether no run starts before the end of one of a lower level, where no row breaks one of the rules
-/// 1 to 5. Then none starts before the end of one that precedes it.
+/// Whether no run starts before the end of one of a lower level. Then none starts before the end of
+/// one that precedes it.
 pub(crate) fn is_ranked(plan: &Plan, rows: &[Row]) -> bool
     requires { RowsFit plan.now.program rows.now }
-    ensures { IsTrue result → (last : TheTag) → FirstRow last plan.now rows.now None → (g : TheTag) (r : ℕ) → Ran rows.now g r → IsTooEarly plan.now rows.now g r → ⊥ }
+    ensures { IsTrue result → IsOrdered plan.now.program rows.now }
 {
     let graph = plan.graph();
     let mut most = 0;

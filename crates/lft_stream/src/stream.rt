@@ -3,6 +3,7 @@
 ghost use Rattle.std.specs.Prelude.{◌≡◌, ℕ, List, [], ◌++◌, ◌+◌, ◌<◌, take, length, Some, None, IsTrue, IfOk, IfSome};
 ghost use Rattle.lft_trace.specs.declared.row.Row.{Row as TheRow};
 ghost use Rattle.lft_trace.specs.Fits.{RowsFit};
+ghost use Rattle.lft_graph.specs.Sets.{AreAncestors};
 ghost use Rattle.lft_model.specs.Presence.{stop, Triggered};
 ghost use Rattle.lft_model.specs.Runs.{Ran};
 ghost use Rattle.lft_rows.specs.Firsts.{FirstRow};
@@ -20,7 +21,7 @@ use crate::dues::Dues;
 use crate::effort::Effort;
 use crate::hearing::is_all_heard;
 use crate::listeners::Listeners;
-use crate::ranks::is_ranked;
+use crate::order::Order;
 use crate::reads::{have_read, is_woken};
 use crate::scheduling::schedule_all;
 use crate::starts::Starts;
@@ -279,7 +280,14 @@ impl Stream {
 
     /// Goes on past the rows of a slice. It is false where they may break a rule, or too much is to be
     /// looked at.
-    fn add_slice(&mut self, plan: &Plan, marks: &mut Marks, rows: &[Row], slice: Slice) -> bool
+    fn add_slice(
+        &mut self,
+        plan: &Plan,
+        order: &mut Order,
+        marks: &mut Marks,
+        rows: &[Row],
+        slice: Slice,
+    ) -> bool
         ghost done: { List TheRow }
         requires fit { RowsFit plan.now.program rows.now }
         requires quiet { AreQuiet rows.now }
@@ -287,6 +295,8 @@ impl Stream {
         requires slice { IsSlice rows.now slice }
         requires marks { HaveMarksTo plan.now.program slice.first marks.old }
         requires stands { IsStreamOf plan.now (done ++ take slice.first rows.now) self.old }
+        requires order { IfSome order.old (AreAncestors plan.now.program) }
+        ensures order { IfSome order.new (AreAncestors plan.now.program) }
         ensures stop { self.new.stop ≡ self.old.stop }
         ensures marks { IsTrue result → HaveMarksTo plan.now.program slice.end marks.new }
         ensures stands { IsTrue result → IsStreamOf plan.now (done ++ take slice.end rows.now) self.new }
@@ -294,8 +304,8 @@ impl Stream {
         let program = plan.program();
         let own = &rows[slice.first..slice.end];
         if !self.is_later(slice.tag)
-            || !is_ranked(plan, own)
             || !self.effort.allows(program, &self.listeners, own)
+            || !order.is_kept(plan, own)
             || !self
                 .coming
                 .reach(plan.externals(), &self.listeners, slice.tag)
@@ -312,19 +322,20 @@ impl Stream {
 
     /// Goes on past rows that break none of the rules 1 to 5, tag by tag. It is false where they may
     /// break a rule, or too much is to be looked at.
-    fn add_kept(&mut self, plan: &Plan, marks: &mut Marks, rows: &[Row]) -> bool
+    fn add_kept(&mut self, plan: &Plan, order: &mut Order, marks: &mut Marks, rows: &[Row]) -> bool
         ghost done: { List TheRow }
         requires fit { RowsFit plan.now.program rows.now }
         requires quiet { AreQuiet rows.now }
         requires kept { FirstRow self.old.stop plan.now rows.now None }
         requires marks { HaveMarksTo plan.now.program 0 marks.old }
         requires stands { IsStreamOf plan.now done self.old }
+        requires order { IfSome order.old (AreAncestors plan.now.program) }
         ensures { IsTrue result → IsStreamOf plan.now (done ++ rows.now) self.new }
     {
         let mut first = 0;
         while first < rows.len() {
             let slice = slice_from(rows, first);
-            if !self.add_slice(plan, marks, rows, slice) {
+            if !self.add_slice(plan, order, marks, rows, slice) {
                 return false;
             }
             first = slice.end;
@@ -348,7 +359,7 @@ impl Stream {
             return false;
         };
         match first_breach(alloc, plan, self.stop, rows) {
-            Ok(None) => self.add_kept(plan, &mut marks, rows),
+            Ok(None) => self.add_kept(plan, &mut Order::new(alloc), &mut marks, rows),
             Ok(Some(_)) => false,
             Err(_) => false,
         }

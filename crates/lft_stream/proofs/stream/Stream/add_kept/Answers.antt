@@ -13,4 +13,4 @@ pub add_slice-requires : goal.add_slice-requires
 add_slice-requires g c =
     let plan = c.args.plan.now in
     let rows = c.args.rows.now in
-    (c.requires.0, (c.requires.1.0, (subst (λ (last : Tag). FirstRow last plan rows None) (sym c.loop-first.invariant.stop) c.requires.1.1.0, (c.slice_from-slice.ensures.slice, (subst (λ n. AreBefore plan.program n c.loop-first.marks) (sym c.slice_from-slice.ensures.first) c.loop-first.invariant.marks, subst (λ n. IsStreamOf plan (g.done ++ take n rows) c.loop-first.self) (sym c.slice_from-slice.ensures.first) c.loop-first.invariant.stands)))))
+    (c.requires.0, (c.requires.1.0, (subst (λ (last : Tag). FirstRow last plan rows None) (sym c.loop-first.invariant.stop) c.requires.1.1.0, (c.slice_from-slice.ensures.slice, (subst (λ n. AreBefore plan.program n c.loop-first.marks) (sym c.slice_from-slice.ensures.first) c.loop-first.invariant.marks, (subst (λ n. IsStreamOf plan (g.done ++ take n rows) c.loop-first.self) (sym c.slice_from-slice.ensures.first) c.loop-first.invariant.stands, c.loop-first.invariant.order))))))

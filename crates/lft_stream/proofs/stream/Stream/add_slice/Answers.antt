@@ -17,7 +17,7 @@ judge_slice-requires g c =
     let s = c.args.slice in
     let slice = c.requires.1.1.1.0 in
     let reached = subst (λ (x : ExternalInputs). IsReached x.events c.args.self.now.listeners s.tag c.args.self.now.coming c.reach.new.self) c.externals.ensures.value (c.if-not-reach.ensures refl) in
-    let hand = at_hand plan g.done rows s slice c.args.self.now c.requires.1.1.1.1.1 (c.if-not-is_later.ensures refl) c.requires.1.0 c.requires.1.1.0 c.program-program.ensures.sound.sound (record { stop = c.args.self.now.stop; tag = c.args.self.now.tag; runs = c.args.self.now.runs; tags = c.args.self.now.tags; dues = c.args.self.now.dues; starts = c.args.self.now.starts; writes = c.args.self.now.writes; listeners = c.args.self.now.listeners; coming = c.reach.new.self; effort = c.allows.new.self }) reached refl refl refl refl refl in
+    let hand = at_hand plan g.done rows s slice c.args.self.now c.requires.1.1.1.1.1.0 (c.if-not-is_later.ensures refl) c.requires.1.0 c.requires.1.1.0 c.program-program.ensures.sound.sound (record { stop = c.args.self.now.stop; tag = c.args.self.now.tag; runs = c.args.self.now.runs; tags = c.args.self.now.tags; dues = c.args.self.now.dues; starts = c.args.self.now.starts; writes = c.args.self.now.writes; listeners = c.args.self.now.listeners; coming = c.reach.new.self; effort = c.allows.new.self }) reached refl refl refl refl refl in
     (c.requires.0, (slice, (subst (λ (p : Parts). AreMarks p rows s.first s.end c.pass_all.new.self) c.program-program.ensures.value c.pass_all.ensures, hand)))
 
 pub schedule_all-requires : goal.schedule_all-requires
@@ -39,11 +39,11 @@ returns-then-schedule_all-clause-stands g c = λ z.
     let quiet = c.requires.1.0 in
     let kept = c.requires.1.1.0 in
     let slice = c.requires.1.1.1.0 in
-    let stands = c.requires.1.1.1.1.1 in
-    let ranked = c.if-not-is_ranked.ensures refl old.stop (own_kept plan g.done rows s slice old stands later quiet kept) s.tag in
+    let stands = c.requires.1.1.1.1.1.0 in
+    let ordered = c.if-not-is_kept.ensures.kept refl old.stop (own_kept plan g.done rows s slice old stands later quiet kept) s.tag in
     let reached = subst (λ (x : ExternalInputs). IsReached x.events old.listeners s.tag old.coming c.reach.new.self) c.externals.ensures.value (c.if-not-reach.ensures refl) in
     let own = c.judge_slice.ensures in
     let counted = c.count.ensures in
     let runs = counted.runs z ∙ ap (λ (n : ℕ). n + c.starts_in.result) own.runs ∙ ap (λ (n : ℕ). old.runs + n) c.starts_in.ensures in
     let tags = counted.tags z ∙ ap (λ (n : ℕ). n + 1) own.tags in
-    slice_grows plan g.done rows s slice old stands later quiet kept c.program-program.ensures.sound.sound c.reach.new.self reached ranked judged c.count.new.self (c.if-not-judge_slice.ensures.judged refl) own.coming own.listeners (counted.stop ∙ own.stop) (counted.tag z) runs tags counted.dues counted.starts counted.writes counted.listeners (λ h n b. ap (λ (k : Coming). to_come events k h n) counted.coming ∙ c.if-schedule_all.ensures refl events h n ∙ ap (λ (vs : List Value). vs ++ held (scheduled_by plan (rows_of rows s slice) n) h) (c.drop_until.ensures events h n b ∙ ap (λ (k : Coming). to_come events k h n) own.coming))
+    slice_grows plan g.done rows s slice old stands later quiet kept c.program-program.ensures.sound.sound c.reach.new.self reached ordered judged c.count.new.self (c.if-not-judge_slice.ensures.judged refl) own.coming own.listeners (counted.stop ∙ own.stop) (counted.tag z) runs tags counted.dues counted.starts counted.writes counted.listeners (λ h n b. ap (λ (k : Coming). to_come events k h n) counted.coming ∙ c.if-schedule_all.ensures refl events h n ∙ ap (λ (vs : List Value). vs ++ held (scheduled_by plan (rows_of rows s slice) n) h) (c.drop_until.ensures events h n b ∙ ap (λ (k : Coming). to_come events k h n) own.coming))
