@@ -1,5 +1,6 @@
--- Ports that are reached without a delay, and the reactions that they trigger.
-use Rattle.std.proofs.Common.{◌≡◌, ◌≢◌, ℕ, ◌<◌, ◌⊎◌, inl, inr, ◌==◌, ◌&&◌, eqb-true, eq-eqb, Bool, true, false, cond, List, [], ◌∷◌, ◌++◌, length, refl, sym, ap, ◌∙◌, subst, arith, Option, Some, slice_get, slice_set, filter_map, option_map, unwrap_or, Contains}
+-- Ports that are reached without a delay, those behind one, and the reactions that they trigger.
+use Rattle.std.proofs.Common.{◌≡◌, ◌≢◌, ℕ, ◌<◌, ◌⊎◌, inl, inr, ◌==◌, ◌&&◌, eqb-true, eq-eqb, Bool, true, false, cond, List, [], ◌∷◌, ◌++◌, length, refl, sym, ap, ◌∙◌, subst, arith, Option, Some, None, slice_get, slice_set, filter_map, option_map, unwrap_or, Contains}
+use Rattle.std.proofs.lemmas.Bool.{false≢true}
 use Rattle.std.proofs.lemmas.Option.{slice_get_within}
 use Rattle.lft_tag.specs.Shifts.{join_all, none}
 use Rattle.lft_tag.proofs.Chains.{undelayed}
@@ -7,7 +8,7 @@ use Rattle.lft_lists.proofs.Members.{Mem, get_mem, mem_left, mem_right, mem_cont
 use Rattle.lft_lists.proofs.Places.{get_there, same_at, same_some, get_write_cases, length_written}
 use Rattle.lft_flat.specs.Naming.{named}
 use Rattle.lft_flat.specs.Origins.{Origin}
-use Rattle.lft_flat.specs.Parts.{Parts, inputs}
+use Rattle.lft_flat.specs.Parts.{Parts}
 use Rattle.lft_flat.specs.Sound.{IsSound}
 use Rattle.lft_flat.specs.declared.parts.Name.{Name}
 use Rattle.lft_flat.specs.declared.parts.Name.TheVariants.{Port, Action}
@@ -17,27 +18,25 @@ use Rattle.lft_flat.specs.declared.parts.Trigger.TheVariants.{On}
 use Rattle.lft_flat.proofs.Origins.{origin_unique, port_of}
 use Rattle.lft_model.specs.Plans.{PlanParts}
 use Rattle.lft_model.proofs.Steps.{both_true}
-use Rattle.lft_stream.specs.AtOnce.{IsAtOnce, HasPortsAtOnce, is_undelayed, HaveGrown}
+use Rattle.lft_stream.specs.AtOnce.{is_undelayed, origin_of, HasEvents, HaveGrown}
 use Rattle.lft_stream.specs.declared.listeners.Listeners.{Listeners}
 use Rattle.lft_stream.specs.Listeners.{list_of, heard_at, BothGrow, IsListed, AreListeners}
 use Rattle.lft_stream.specs.Owed.{Listens}
 
--- a port whose shift is nothing is reached without a delay
-pub at_once_of : (program : Parts) → IsSound program → (p : ℕ) (port : PortOf) → slice_get program.ports p ≡ Some port → port.shift.time ≡ 0 → port.shift.steps ≡ 0 → Origin program p port.origin []
-at_once_of program sound p port e time steps =
-    let kept = sound.origins p port e in
-    let zero : join_all none kept.0 ≡ none = kept.2 ∙ ap (λ (n : ℕ). (n, port.shift.steps)) time ∙ ap (λ (n : ℕ). (0, n)) steps in
-    subst (λ (ds : List ℕ). Origin program p port.origin ds) (undelayed kept.0 zero) kept.1
-
-test_of : (program : Parts) (p : ℕ) (port : PortOf) → slice_get program.ports p ≡ Some port → is_undelayed program p ≡ ((port.shift.time == 0) && (port.shift.steps == 0))
-test_of program p port e = ap (λ (o : Option PortOf). unwrap_or (option_map (λ (x : PortOf). (x.shift.time == 0) && (x.shift.steps == 0)) o) false) e
+-- what the test asks of a port
+pub test_of : (program : Parts) (p : ℕ) (port : PortOf) → slice_get program.ports p ≡ Some port → is_undelayed program p ≡ ((port.shift.time == 0) && (port.shift.steps == 0))
+test_of program p port e = ap (λ (o : Option PortOf). unwrap_or (option_map (λ (x : PortOf). (x.shift.time == 0) && (x.shift.steps == 0)) o) true) e
 
 -- the test says so of just these ports
+pub way_at_once : (program : Parts) → IsSound program → (p : ℕ) (port : PortOf) → slice_get program.ports p ≡ Some port → is_undelayed program p ≡ true → Origin program p port.origin []
+way_at_once program sound p port e h =
+    let both = both_true (port.shift.time == 0) (port.shift.steps == 0) (sym (test_of program p port e) ∙ h) in
+    let kept = sound.origins p port e in
+    let zero : join_all none kept.0 ≡ none = kept.2 ∙ ap (λ (n : ℕ). (n, port.shift.steps)) (eqb-true port.shift.time 0 both.0) ∙ ap (λ (n : ℕ). (0, n)) (eqb-true port.shift.steps 0 both.1) in
+    subst (λ (ds : List ℕ). Origin program p port.origin ds) (undelayed kept.0 zero) kept.1
+
 pub undelayed_way : (program : Parts) → IsSound program → (p o : ℕ) (delays : List ℕ) → Origin program p o delays → is_undelayed program p ≡ true → delays ≡ []
-undelayed_way program sound p o delays way h =
-    let x = port_of way in
-    let both = both_true (x.0.shift.time == 0) (x.0.shift.steps == 0) (sym (test_of program p x.0 x.1) ∙ h) in
-    (origin_unique way (at_once_of program sound p x.0 x.1 (eqb-true x.0.shift.time 0 both.0) (eqb-true x.0.shift.steps 0 both.1))).1
+undelayed_way program sound p o delays way h = let x = port_of way in (origin_unique way (way_at_once program sound p x.0 x.1 h)).1
 
 pub is_undelayed_way : (program : Parts) → IsSound program → (p o : ℕ) → Origin program p o [] → is_undelayed program p ≡ true
 is_undelayed_way program sound p o way =
@@ -48,12 +47,35 @@ is_undelayed_way program sound p o way =
     let steps : (x.0.shift.steps == 0) ≡ true = eq-eqb x.0.shift.steps 0 (sym (ap (λ (s : ℕ × ℕ). s.1) zero)) in
     test_of program p x.0 x.1 ∙ rw (time, steps) refl
 
--- what triggers a reaction is one of its inputs, and so it is reached without a delay
-pub trigger_at_once : (plan : PlanParts) → HasPortsAtOnce plan → (r : ℕ) (n : Name) → Listens plan r (On n) → IsAtOnce plan.program n
-trigger_at_once plan ports r n l =
-    let m : Mem n (inputs l.reaction) = mem_left n (filter_map named l.reaction.triggers) l.reaction.uses (mem_filter named (On n) n l.reaction.triggers (contains_mem (On n) l.reaction.triggers l.is_trigger) refl) in
-    let i = get_mem n (inputs l.reaction) m in
-    ports.at_once r l.reaction l.is_reaction i.0 n i.1
+-- a port behind a delay is one of the program's, and has such a chain of delays
+pub port_behind : (program : Parts) (p : ℕ) → is_undelayed program p ≡ false → (x : PortOf) × (slice_get program.ports p ≡ Some x)
+port_behind program p h = go (slice_get program.ports p) refl
+  where
+    go : (e : Option PortOf) → slice_get program.ports p ≡ e → (x : PortOf) × (slice_get program.ports p ≡ Some x)
+    go (Some x) q = (x, q)
+    go None q = absurd (false≢true (sym h ∙ ap (λ (o : Option PortOf). unwrap_or (option_map (λ (x : PortOf). (x.shift.time == 0) && (x.shift.steps == 0)) o) true) q))
+
+pub delayed_way : (program : Parts) → IsSound program → (p : ℕ) → is_undelayed program p ≡ false → (o e : ℕ) × (ds : List ℕ) × Origin program p o (e ∷ ds)
+delayed_way program sound p h =
+    let x = port_behind program p h in
+    let kept = sound.origins p x.0 x.1 in
+    go x.0.origin kept.0 kept.1
+  where
+    go : (o : ℕ) (ds : List ℕ) → Origin program p o ds → (q e : ℕ) × (es : List ℕ) × Origin program p q (e ∷ es)
+    go o [] way = absurd (false≢true (sym h ∙ is_undelayed_way program sound p o way))
+    go o (e ∷ ds) way = (o, e, ds, way)
+
+-- the origin that is kept is that of the chain
+pub origin_is : (program : Parts) → IsSound program → (p o : ℕ) (delays : List ℕ) → Origin program p o delays → origin_of program p ≡ o
+origin_is program sound p o delays way =
+    let x = port_of way in
+    let kept = sound.origins p x.0 x.1 in
+    ap (λ (e : Option PortOf). unwrap_or (option_map (λ (y : PortOf). y.origin) e) 0) x.1 ∙ sym (origin_unique way kept.1).0
+
+-- what has events is heard under its own name
+pub heard_there : (program : Parts) (n : Name) → HasEvents program n → heard_at program n ≡ n
+heard_there program (Port p) h = ap (λ (b : Bool). Port (cond b (origin_of program p) p)) h
+heard_there program (Action a) h = refl
 
 -- lists that grow
 pub same_lists : (lists : List (List ℕ)) → HaveGrown lists lists

@@ -1,16 +1,11 @@
 -- What is kept stays right over the rows of a tag, and accepts in the end.
-use Rattle.std.proofs.Common.{◌≡◌, ℕ, ◌+◌, ◌<◌, ◌⊎◌, inl, inr, Bool, true, false, List, [], ◌∷◌, ◌++◌, ◌-◌, append_assoc, take, map, length, refl, sym, ap, ◌∙◌, subst, arith, Option, Some, None, IsSome, slice_get, filter_map, option_map, unwrap_or, option_to_list, cond, Contains}
-use Rattle.std.specs.List.{cons_option}
-use Rattle.lft_flat.specs.Parts.{Parts}
-use Rattle.lft_flat.specs.declared.parts.Port.{Port as PortOf}
-use Rattle.lft_flat.proofs.Origins.{origin_unique, port_of}
-use Rattle.lft_model.proofs.Steps.{same_tag_true}
+use Rattle.std.proofs.Common.{◌≡◌, ℕ, ◌+◌, ◌<◌, ◌⊎◌, inl, inr, Bool, true, false, List, [], ◌∷◌, ◌++◌, ◌-◌, append_assoc, take, map, length, refl, sym, ap, ◌∙◌, subst, arith, Option, Some, None, IsSome, slice_get, filter_map, option_map, option_to_list, Contains}
 use Rattle.std.proofs.lemmas.List.{append-nil}
 use native.Mathlib.Decide.{dec_lt}
 use Rattle.lft_tag.specs.declared.Tag.{Tag}
-use Rattle.lft_tag.specs.Tags.{Before, UpTo, after, same_tag, earliest}
-use Rattle.lft_tag.proofs.Order.{UpTo-refl, UpTo-trans, UpTo_antisym, Before-UpTo, Before-irrefl, Before-weaken, order_cases, after_past}
-use Rattle.lft_lists.proofs.Members.{Mem, get_mem, mem_from_filter, contains_mem, mem_contains, last_mem, none_nil}
+use Rattle.lft_tag.specs.Tags.{Before, UpTo, after, earliest}
+use Rattle.lft_tag.proofs.Order.{UpTo-refl, UpTo-trans, UpTo_antisym, UpTo-Before, Before-UpTo, Before-weaken, order_cases, after_past}
+use Rattle.lft_lists.proofs.Members.{get_mem, contains_mem, mem_contains, none_nil}
 use Rattle.lft_lists.proofs.Places.{get_there, get_append_cases}
 use Rattle.lft_flat.proofs.Ranges.{length-range}
 use Rattle.lft_flat.specs.Origins.{Origin}
@@ -23,31 +18,33 @@ use Rattle.lft_trace.specs.declared.row.Row.{Row}
 use Rattle.lft_trace.specs.declared.row.Step.{Step}
 use Rattle.lft_trace.specs.declared.row.Step.TheVariants.{Start, Read, Write, Schedule, Stop, End}
 use Rattle.lft_model.specs.Plans.{PlanParts}
-use Rattle.lft_model.specs.Presence.{asked, requests, stop, given, written, Last, Shows, Inputs, Triggered}
+use Rattle.lft_model.specs.Presence.{asked, requests, stop, given, Shows, Inputs, Triggered}
 use Rattle.lft_model.specs.Runs.{Ran, inputs_of, read_of, reads_at}
 use Rattle.lft_model.specs.Breaches.{IsTooEarly}
-use Rattle.lft_model.proofs.Ended.{written_by}
 use Rattle.lft_rows.specs.Firsts.{FirstRow}
 use Rattle.lft_by_tag.specs.declared.slices.Slice.{Slice}
 use Rattle.lft_by_tag.specs.Slices.{IsSlice, runs_in}
 use Rattle.lft_check.specs.Verdicts.{IsAccepted}
 use Rattle.lft_stream.specs.declared.stream.Stream.{Stream}
-use Rattle.lft_stream.specs.AtOnce.{HasPortsAtOnce, is_undelayed, AreHeard}
-use Rattle.lft_stream.specs.Listeners.{AreListeners, AreStarted, IsUnheard}
+use Rattle.lft_stream.specs.AtOnce.{is_undelayed, origin_of, HasEvents, AreHeard}
+use Rattle.lft_stream.specs.Channels.{AreChannels, caused_by}
+use Rattle.lft_stream.specs.Listeners.{list_of, AreListeners, AreStarted, IsUnheard}
 use Rattle.lft_stream.specs.Settled.{AreBefore, AreAt, IsRightBehind}
 use Rattle.lft_stream.specs.Starts.{AreStarts}
 use Rattle.lft_stream.specs.Owed.{Listens}
 use Rattle.lft_stream.specs.Dues.{AreDues, NoneOwed}
-use Rattle.lft_stream.specs.Kept.{IsQuiet, AreQuiet, IsLaterTime, AreUpTo, low_of, state_of, IsStreamOf, IsAtHand, IsJudged}
-use Rattle.lft_stream.specs.Lanes.{held, first_events, made, carried, IsMetAt, GoesOn}
-use Rattle.lft_stream.specs.Coming.{to_come, scheduled_by, IsReached, AreOver, AreComing}
+use Rattle.lft_stream.specs.Kept.{IsQuiet, AreQuiet, IsLater, AreUpTo, low_of, state_of, IsStreamOf, IsAtHand, IsJudged}
+use Rattle.lft_stream.specs.Lanes.{held, first_events, IsMetAt, GoesOn}
+use Rattle.lft_stream.specs.Coming.{to_come, IsReached, AreOver, AreComing}
 use Rattle.lft_stream.specs.Shown.{IsInLane, last_write}
 use Rattle.lft_stream.specs.declared.coming.Coming.{Coming}
 use Rattle.lft_stream.specs.declared.listeners.Listeners.{Listeners}
 use Rattle.lft_queue.specs.Pending.{value_of}
-use Rattle.lft_stream.specs.Streams.{IsStream, PortGrows, IsGrown, PortEnds}
-use Rattle.lft_stream.specs.Writes.{AreWrites}
-use Rattle.lft_stream.proofs.AtOnce.{undelayed_way, is_undelayed_way, trigger_at_once}
+use Rattle.lft_stream.specs.Streams.{IsStream, IsGrown}
+use Rattle.lft_stream.specs.Writes.{AreEarlier}
+use Rattle.lft_stream.proofs.AtOnce.{undelayed_way, delayed_way, origin_is, heard_there}
+use Rattle.lft_stream.proofs.Carrying.{carried_is, one_held, held_one, none_after, none_now, at_once_held}
+use Rattle.lft_stream.proofs.Writing.{earlier_on}
 use Rattle.lft_stream.proofs.Before.{ran_whole}
 use Rattle.lft_stream.proofs.Lanes.{held_append, held_first}
 use Rattle.lft_stream.proofs.Owing.{due_law, ran_grows}
@@ -75,16 +72,6 @@ none_asked g (Schedule n v d) q = refl
 none_asked g Stop q = absurd q
 none_asked g End q = refl
 
--- the origin that is kept with a port
-abbrev origin_of : Parts → ℕ → ℕ
-origin_of program p = unwrap_or (option_map (λ x. x.origin) (slice_get program.ports p)) 0
-
-origin_is : (program : Parts) → IsSound program → (p o : ℕ) (delays : List ℕ) → Origin program p o delays → origin_of program p ≡ o
-origin_is program good p o delays way =
-    let x = port_of way in
-    let kept = good.origins p x.0 x.1 in
-    ap (λ (e : Option PortOf). unwrap_or (option_map (λ (y : PortOf). y.origin) e) 0) x.1 ∙ sym (origin_unique way kept.1).0
-
 -- a port without a delay that triggers something is reached from its origin
 listened_way : (plan : PlanParts) → IsSound plan.program → (p r : ℕ) → Listens plan r (On (Port p)) → is_undelayed plan.program p ≡ true → Origin plan.program p (origin_of plan.program p) []
 listened_way plan good p r l e =
@@ -94,44 +81,38 @@ listened_way plan good p r l e =
     let own = origin_is plan.program good p x.0.origin kept.0 kept.1 in
     subst (λ (o : ℕ). Origin plan.program p o []) (sym own) (subst (λ (ds : List ℕ). Origin plan.program p x.0.origin ds) none kept.1)
 
+-- a name that triggers something has a list
+listed_there : (plan : PlanParts) → IsSound plan.program → (listeners : Listeners) → AreListeners plan listeners → (n : Name) (r : ℕ) → Listens plan r (On n) → (list : List ℕ) × (list_of listeners n ≡ Some list)
+listed_there plan good listeners are (Port p) r l = get_there listeners.ports p (let a : p < length plan.program.ports = (good.exist r l.reaction l.is_reaction).triggers (On (Port p)) l.is_trigger in let f = are.ports in omega arith)
+listed_there plan good listeners are (Action a) r l = get_there listeners.actions a (let b : a < length plan.program.actions = (good.exist r l.reaction l.is_reaction).triggers (On (Action a)) l.is_trigger in let f = are.actions in omega arith)
+
+-- of a name with events, the list has each reaction that it triggers
+listener_of : (plan : PlanParts) (listeners : Listeners) → AreListeners plan listeners → (n : Name) → HasEvents plan.program n → (r : ℕ) (list : List ℕ) → Listens plan r (On n) → list_of listeners n ≡ Some list → Contains list r
+listener_of plan listeners are n has r list l e = are.each n r list l (ap (λ (m : Name). list_of listeners m) (heard_there plan.program n has) ∙ e)
+
 -- the first events are those that are to come first
 first_to_come : (plan : PlanParts) (n : Name) (h : Tag) → held (first_events plan n) h ≡ to_come plan.externals.events (record { queue = []; next = 0 }) h n
 first_to_come plan (Port p) h = refl
 first_to_come plan (Action a) h = held_first plan a h ∙ sym (append-nil (filter_map (given h a) plan.externals.events))
 
 -- an event of a name that triggers nothing is met
-unheard_met : (plan : PlanParts) (t : List Row) (h : Tag) (n : Name) (lane : List (Tag × Value)) (listeners : Listeners) → AreListeners plan listeners → ((p : ℕ) → n ≡ Port p → lane ≡ []) → length (held lane h) < 2 → ((v : Value) → Contains (held lane h) v → IsUnheard listeners n) → IsMetAt plan t n h lane
-unheard_met plan t h (Port p) lane listeners are none alone unheard = record { alone = alone; met = λ v k. absurd (contains_mem v [] (subst (λ (es : List (Tag × Value)). Contains (held es h) v) (none p refl) k)) }
-unheard_met plan t h (Action a) lane listeners are none alone unheard = record { alone = alone; met = λ v k r l. absurd (contains_mem r [] (are.each (Action a) r [] l (unheard v k))) }
+unheard_met : (plan : PlanParts) (t : List Row) (h : Tag) (n : Name) (lane : List (Tag × Value)) (listeners : Listeners) → AreListeners plan listeners → ((p : ℕ) → n ≡ Port p → is_undelayed plan.program p ≡ true → held lane h ≡ []) → length (held lane h) < 2 → ((v : Value) → Contains (held lane h) v → IsUnheard listeners n) → IsMetAt plan t n h lane
+unheard_met plan t h n lane listeners are none alone unheard = record { alone = alone; met = λ v k r l. go n none (unheard v k) v k r l }
+  where
+    silent : (m : Name) → HasEvents plan.program m → IsUnheard listeners m → (r : ℕ) → Listens plan r (On m) → Ran t h r
+    silent m has un r l = absurd (contains_mem r [] (listener_of plan listeners are m has r [] l un))
+
+    port : (p : ℕ) (b : Bool) → is_undelayed plan.program p ≡ b → (is_undelayed plan.program p ≡ true → held lane h ≡ []) → IsUnheard listeners (Port p) → (v : Value) → Contains (held lane h) v → (r : ℕ) → Listens plan r (On (Port p)) → Ran t h r
+    port p false e gone un v k r l = silent (Port p) e un r l
+    port p true e gone un v k r l = absurd (contains_mem v [] (subst (λ (vs : List Value). Contains vs v) (gone e) k))
+
+    go : (m : Name) → ((p : ℕ) → m ≡ Port p → is_undelayed plan.program p ≡ true → held lane h ≡ []) → IsUnheard listeners m → (v : Value) → Contains (held lane h) v → (r : ℕ) → Listens plan r (On m) → Ran t h r
+    go (Port p) gone un v k r l = port p (is_undelayed plan.program p) refl (gone p refl) un v k r l
+    go (Action a) gone un v k r l = silent (Action a) tt un r l
 
 in_lane : (lane : List (Tag × Value)) (g : Tag) (o : Option Value) → held lane g ≡ option_to_list o → IsInLane lane g o
 in_lane lane g None e = e
 in_lane lane g (Some v) e = subst (λ (vs : List Value). Contains vs v) (sym e) (mem_contains v (v ∷ []) (inl refl))
-
--- one event at a tag, if there is one
-one_held : (g h : Tag) (o : Option Value) → length (held (option_to_list (option_map (λ v. (g, v)) o)) h) < 2
-one_held g h None = omega arith
-one_held g h (Some v) = go (same_tag h g)
-  where
-    go : (b : Bool) → length (cons_option (cond b (Some v) None) []) < 2
-    go true = omega arith
-    go false = omega arith
-
-held_one : (g h : Tag) (o : Option Value) (v : Value) → Contains (held (option_to_list (option_map (λ w. (g, w)) o)) h) v → o ≡ Some v
-held_one g h None v c = absurd (contains_mem v [] c)
-held_one g h (Some w) v c = go (same_tag h g) c
-  where
-    go : (b : Bool) → Contains (cons_option (cond b (Some w) None) []) v → Some w ≡ Some v
-    go true k = item_of (Some w) v k
-    go false k = absurd (contains_mem v [] k)
-
-none_held : (g h : Tag) → Before g h → (o : Option Value) → held (option_to_list (option_map (λ v. (g, v)) o)) h ≡ []
-none_held g h b None = refl
-none_held g h b (Some v) = go (same_tag h g) refl
-  where
-    go : (z : Bool) → same_tag h g ≡ z → cons_option (cond z (Some v) None) [] ≡ []
-    go true e = absurd (Before-irrefl g (subst (λ (k : Tag). Before g k) (same_tag_true h g e) b))
-    go false e = refl
 
 up_to_last : (g h : Tag) → Before h (after g 0) → UpTo h g
 up_to_last g h (inl l) = inl l
@@ -141,41 +122,32 @@ up_to_last g h (inr p) = let l : h.micro < g.micro + 1 = p.1 in inr (p.0, omega 
 only_tag : (g h : Tag) → UpTo g h → Before h (after g 0) → h ≡ g
 only_tag g h up b = UpTo_antisym h g (up_to_last g h b) up
 
-pub begins_kept : (plan : PlanParts) → IsSound plan.program → HasPortsAtOnce plan → (s : Stream) → s.stop ≡ plan.externals.stop → s.tag ≡ None → s.runs ≡ 0 → s.tags ≡ 0 → AreDues plan [] s.dues → AreStarts plan.program [] s.starts → AreWrites plan.program [] s.writes → AreListeners plan s.listeners → s.coming ≡ record { queue = []; next = 0 } → IsStreamOf plan [] s
-begins_kept plan good ports s stops none runs tags dues starts writes listeners begins = record {
-  ports = ports;
+-- the tag behind one is up to each later one
+next_up : (g h : Tag) → Before g h → UpTo (after g 0) h
+next_up g h (inl l) = inl l
+next_up g h (inr p) = let l : g.micro < h.micro = p.1 in inr (p.0, omega arith)
+
+pub begins_kept : (plan : PlanParts) (s : Stream) → s.stop ≡ plan.externals.stop → s.tag ≡ None → s.runs ≡ 0 → s.tags ≡ 0 → AreDues plan [] s.dues → AreStarts plan.program [] s.starts → ((g : Tag) → AreEarlier plan.program g s.writes) → AreListeners plan s.listeners → AreChannels plan.program s.channels → s.coming ≡ record { queue = []; next = 0 } → IsStreamOf plan [] s
+begins_kept plan s stops none runs tags dues starts writes listeners channels begins = record {
   lanes = first_events plan;
-  none = λ p. refl;
+  none = λ p h e up. refl;
   coming = λ n h up. first_to_come plan n h ∙ ap (λ (c : Coming). to_come plan.externals.events c h n) (sym begins);
-  state = rw (none, runs, tags) ((stream_law plan).begins (is_undelayed plan.program) s.dues unheard dues);
+  state = rw (none, runs, tags) ((stream_law plan).begins s.dues dues);
   stop_is = stops;
   up_to = rw none refl;
-  writes = writes;
+  writes = writes (low_of s.tag);
   starts = starts;
   listeners = listeners;
+  channels = channels;
 }
-  where
-    unheard : (p r : ℕ) → is_undelayed plan.program p ≡ false → ¬ Listens plan r (On (Port p))
-    unheard p r e l = let way = trigger_at_once plan ports r (Port p) l in let both : false ≡ true = sym e ∙ is_undelayed_way plan.program good p way.0 way.1 in absurd (cc)
 
-module _ (plan : PlanParts) (d u : List Row) (g : Tag) (old : Stream) (is : IsStreamOf plan d old) (first : Row) (is_first : slice_get u 0 ≡ Some first) (at : AreAt u g) (later : IsLaterTime old.tag g) (quiet : AreQuiet u) (kept : FirstRow old.stop plan u None) where
-  -- all rows so far are of an earlier time
-  earlier_time : (i : ℕ) (x : Row) → slice_get d i ≡ Some x → x.tag.time < g.time
-  earlier_time i x e = go old.tag is.up_to later
-    where
-      go : (last : Option Tag) → AreUpTo d last → IsLaterTime last g → x.tag.time < g.time
-      go None none l = absurd (let a : None ≡ Some x = ap (λ (t : List Row). slice_get t i) (sym none) ∙ e in cc)
-      go (Some h) up l = by (up i x e)
-        where
-          by : UpTo x.tag h → x.tag.time < g.time
-          by (inl m) = omega arith
-          by (inr m) = let a : x.tag.time ≡ h.time = m.0 in omega arith
-
+module _ (plan : PlanParts) (d u : List Row) (g : Tag) (old : Stream) (is : IsStreamOf plan d old) (first : Row) (is_first : slice_get u 0 ≡ Some first) (at : AreAt u g) (later : IsLater old.tag g) (quiet : AreQuiet u) (kept : FirstRow old.stop plan u None) where
   pub before : AreBefore d g
-  before i x e = inl (earlier_time i x e)
-
-  before_mem : (x : Row) → Mem x d → Before x.tag g
-  before_mem x m = let i = get_mem x d m in before i.0 x i.1
+  before i x e = go old.tag is.up_to later
+    where
+      go : (last : Option Tag) → AreUpTo d last → IsLater last g → Before x.tag g
+      go None none l = absurd (let a : None ≡ Some x = ap (λ (t : List Row). slice_get t i) (sym none) ∙ e in cc)
+      go (Some h) up l = UpTo-Before x.tag h g (up i x e) l
 
   none_requested : requests u ≡ []
   none_requested = none_nil (λ (x : Row). asked x.tag x.step) u (λ i x e. none_asked x.tag x.step (quiet i x e))
@@ -192,17 +164,9 @@ module _ (plan : PlanParts) (d u : List Row) (g : Tag) (old : Stream) (is : IsSt
   some_ran : Ran u g first.reaction
   some_ran = subst (λ (k : Tag). Ran u k first.reaction) (at 0 first is_first) ((rows_law plan).some_run old.stop u first kept is_first)
 
-  bounded : (o : ℕ) (k : Tag) (v w : Value) → Last d k o v → Last u g o w → k.time ≡ g.time → ⊥
-  bounded o k v w l m e =
-      let x = mem_from_filter (written k o) d v (last_mem (filter_map (written k o) d) v l) in
-      let i = get_mem x.0 d x.1 in
-      let a : x.0.tag.time < g.time = earlier_time i.0 x.0 i.1 in
-      let b : x.0.tag.time ≡ k.time = ap (λ (z : Tag). z.time) (written_by k o x.0 v x.2).0 in
-      omega arith
-
-  passed : (last : Option Tag) → IsLaterTime last g → UpTo (low_of last) g
+  passed : (last : Option Tag) → IsLater last g → UpTo (low_of last) g
   passed None l = first_up g
-  passed (Some h) l = inl l
+  passed (Some h) l = next_up h g l
 
   -- what was to come before the tag triggered nothing
   module _ (good : IsSound plan.program) (c : Coming) (reached : IsReached plan.externals.events old.listeners g old.coming c) where
@@ -215,66 +179,64 @@ module _ (plan : PlanParts) (d u : List Row) (g : Tag) (old : Stream) (is : IsSt
     goes_up : (n : Name) → GoesOn plan d n (low_of old.tag) (is.lanes n) g (is.lanes n)
     goes_up n = record {
       up = passed old.tag later;
-      met = λ h up b. unheard_met plan d h n (is.lanes n) old.listeners is.listeners (λ p e. ap (λ (k : Name). is.lanes k) e ∙ is.none p) (rw (is.coming n h up) (reached.alone h n b)) (λ v k. reached.unheard h n v b (subst (λ (vs : List Value). Contains vs v) (is.coming n h up) k));
+      met = λ h up b. unheard_met plan d h n (is.lanes n) old.listeners is.listeners (λ p e z. ap (λ (k : Name). held (is.lanes k) h) e ∙ is.none p h z up) (rw (is.coming n h up) (reached.alone h n b)) (λ v k. reached.unheard h n v b (subst (λ (vs : List Value). Contains vs v) (is.coming n h up) k));
       same = λ h up. refl;
     }
 
-    there : IsStream plan d (state_of plan is.lanes g old)
-    there = move_law plan d (state_of plan is.lanes (low_of old.tag) old) (state_of plan is.lanes g old) is.state (record { has_lane = λ p. refl; lanes = goes_up; dues = refl; clash = refl; runs = refl; tags = refl })
+    there : IsStream plan d (state_of is.lanes g old)
+    there = move_law plan d (state_of is.lanes (low_of old.tag) old) (state_of is.lanes g old) is.state (record { lanes = goes_up; dues = refl; runs = refl; tags = refl })
 
-    pub shows : (a : ℕ) → Shows plan (d ++ u) g (Action a) (value_of g (Action a) c.queue)
-    shows a = (shows_law plan).action d u g g a (is.lanes (Action a)) (value_of g (Action a) c.queue) before at (UpTo-refl g) (there.actions a) (in_lane (is.lanes (Action a)) g (value_of g (Action a) c.queue) (in_queue (Action a)))
+    pub shows : (n : Name) → HasEvents plan.program n → Shows plan (d ++ u) g n (value_of g n c.queue)
+    shows (Action a) has = (shows_law plan).action d u g g a (is.lanes (Action a)) (value_of g (Action a) c.queue) before at (UpTo-refl g) (there.actions a) (in_lane (is.lanes (Action a)) g (value_of g (Action a) c.queue) (in_queue (Action a)))
+    shows (Port p) has =
+        let way = delayed_way plan.program good p has in
+        (shows_law plan).delayed d u g g p way.0 way.1 way.2 (is.lanes (Port p)) (value_of g (Port p) c.queue) before at way.3 (UpTo-refl g) (there.ports p way.0 (way.1 ∷ way.2) way.3) (in_lane (is.lanes (Port p)) g (value_of g (Port p) c.queue) (in_queue (Port p)))
 
-    -- the lanes once the rows have put their events behind: of a port without a delay its last write
+    -- the lanes once the rows have put their events behind
     abbrev lanes_at : Name → List (Tag × Value)
-    lanes_at (Port p) = cond (is_undelayed plan.program p) (option_to_list (option_map (λ v. (g, v)) (last_write u g (origin_of plan.program p)))) []
-    lanes_at (Action a) = is.lanes (Action a) ++ made plan u a
+    lanes_at n = is.lanes n ++ caused_by plan u g n
 
-    -- and once all is met that is at the tag
-    abbrev lanes_after : Name → List (Tag × Value)
-    lanes_after (Port p) = []
-    lanes_after (Action a) = is.lanes (Action a) ++ made plan u a
+    -- what the rows cause for a name with events is later
+    none_yet : (n : Name) → HasEvents plan.program n → held (caused_by plan u g n) g ≡ []
+    none_yet (Port p) has = none_now plan.program good u g p has
+    none_yet (Action a) has = none_at plan u g g (Action a) at (UpTo-refl g)
 
     module _ (heard : AreHeard plan (d ++ u) u g) (met : (n : Name) → IsSome (value_of g n c.queue) → AreStarted (d ++ u) g old.listeners n) where
-      -- the event of an action at the tag is met
-      action_met : (a : ℕ) → IsMetAt plan (d ++ u) (Action a) g (lanes_at (Action a))
-      action_met a = record { alone = rw own (few_of (value_of g (Action a) c.queue)); met = λ v k r l. ran v (item_of (value_of g (Action a) c.queue) v (subst (λ (vs : List Value). Contains vs v) own k)) r l }
+      -- the event at the tag is met
+      event_met : (n : Name) → HasEvents plan.program n → IsMetAt plan (d ++ u) n g (lanes_at n)
+      event_met n has = record { alone = rw own (few_of (value_of g n c.queue)); met = λ v k r l. ran v (item_of (value_of g n c.queue) v (subst (λ (vs : List Value). Contains vs v) own k)) r l }
         where
-          own : held (is.lanes (Action a) ++ made plan u a) g ≡ option_to_list (value_of g (Action a) c.queue)
-          own = held_append (is.lanes (Action a)) (made plan u a) g ∙ ap (λ (vs : List Value). held (is.lanes (Action a)) g ++ vs) (none_at plan u g g (Action a) at (UpTo-refl g)) ∙ append-nil (held (is.lanes (Action a)) g) ∙ in_queue (Action a)
+          own : held (lanes_at n) g ≡ option_to_list (value_of g n c.queue)
+          own = held_append (is.lanes n) (caused_by plan u g n) g ∙ ap (λ (vs : List Value). held (is.lanes n) g ++ vs) (none_yet n has) ∙ append-nil (held (is.lanes n) g) ∙ in_queue n
 
-          ran : (v : Value) → value_of g (Action a) c.queue ≡ Some v → (r : ℕ) → Listens plan r (On (Action a)) → Ran (d ++ u) g r
+          ran : (v : Value) → value_of g n c.queue ≡ Some v → (r : ℕ) → Listens plan r (On n) → Ran (d ++ u) g r
           ran v e r l =
-              let x = get_there old.listeners.actions a (let b : a < length plan.program.actions = (good.exist r l.reaction l.is_reaction).triggers (On (Action a)) l.is_trigger in let f = is.listeners.actions in omega arith) in
-              met (Action a) (subst (λ (o : Option Value). IsSome o) (sym e) refl) x.0 r x.1 (is.listeners.each (Action a) r x.0 l x.1)
+              let x = listed_there plan good old.listeners is.listeners n r l in
+              met n (subst (λ (o : Option Value). IsSome o) (sym e) refl) x.0 r x.1 (listener_of plan old.listeners is.listeners n has r x.0 l x.1)
 
       -- the write of a port at the tag is met
-      port_met : (p : ℕ) (b : Bool) → is_undelayed plan.program p ≡ b → IsMetAt plan (d ++ u) (Port p) g (cond b (option_to_list (option_map (λ v. (g, v)) (last_write u g (origin_of plan.program p)))) [])
-      port_met p false e = record { alone = omega arith; met = λ v k. absurd (contains_mem v [] k) }
-      port_met p true e = record {
-        alone = one_held g g (last_write u g (origin_of plan.program p));
-        met = λ v k r l.
-            let way = listened_way plan good p r l e in
-            heard p (origin_of plan.program p) r v way (held_one g g (last_write u g (origin_of plan.program p)) v k) l;
+      write_met : (p : ℕ) → is_undelayed plan.program p ≡ true → IsMetAt plan (d ++ u) (Port p) g (lanes_at (Port p))
+      write_met p e = record {
+        alone = rw own (one_held g g (last_write u g (origin_of plan.program p)));
+        met = λ v k r l. heard p (origin_of plan.program p) r v (listened_way plan good p r l e) (held_one g g (last_write u g (origin_of plan.program p)) v (subst (λ (vs : List Value). Contains vs v) own k)) l;
       }
+        where
+          own : held (lanes_at (Port p)) g ≡ held (option_to_list (option_map (λ v. (g, v)) (last_write u g (origin_of plan.program p)))) g
+          own = held_append (is.lanes (Port p)) (caused_by plan u g (Port p)) g ∙ ap (λ (vs : List Value). vs ++ held (caused_by plan u g (Port p)) g) (is.none p g e (passed old.tag later)) ∙ at_once_held plan.program u g p e
+
+      port_met : (p : ℕ) (b : Bool) → is_undelayed plan.program p ≡ b → IsMetAt plan (d ++ u) (Port p) g (lanes_at (Port p))
+      port_met p true e = write_met p e
+      port_met p false e = event_met (Port p) e
 
       lane_met : (n : Name) → IsMetAt plan (d ++ u) n g (lanes_at n)
       lane_met (Port p) = port_met p (is_undelayed plan.program p) refl
-      lane_met (Action a) = action_met a
+      lane_met (Action a) = event_met (Action a) tt
 
-      lane_same : (n : Name) (h : Tag) → Before g h → held (lanes_after n) h ≡ held (lanes_at n) h
-      lane_same (Action a) h b = refl
-      lane_same (Port p) h b = go (is_undelayed plan.program p)
-        where
-          go : (z : Bool) → [] ≡ held (cond z (option_to_list (option_map (λ v. (g, v)) (last_write u g (origin_of plan.program p)))) []) h
-          go true = sym (none_held g h b (last_write u g (origin_of plan.program p)))
-          go false = refl
-
-      goes_past : (n : Name) → GoesOn plan (d ++ u) n g (lanes_at n) (after g 0) (lanes_after n)
+      goes_past : (n : Name) → GoesOn plan (d ++ u) n g (lanes_at n) (after g 0) (lanes_at n)
       goes_past n = record {
         up = Before-weaken g (after g 0) (after_past g 0);
         met = λ h up b. subst (λ (k : Tag). IsMetAt plan (d ++ u) n k (lanes_at n)) (sym (only_tag g h up b)) (lane_met n);
-        same = λ h up. lane_same n h (Before-UpTo g (after g 0) h (after_past g 0) up);
+        same = λ h up. refl;
       }
 
       module _ (ranked : (r : ℕ) → Ran u g r → ¬ IsTooEarly plan u g r) (triggered : (r : ℕ) → Ran u g r → Triggered plan (d ++ u) g r) (reads : (r : ℕ) → Ran u g r → Inputs plan (d ++ u) g r (reads_at plan u g r)) where
@@ -282,50 +244,44 @@ module _ (plan : PlanParts) (d u : List Row) (g : Tag) (old : Stream) (is : IsSt
         right = record { earlier = before; at_tag = at; rows = kept_whole; triggered = triggered; in_order = ranked; reads = reads }
 
         module _ (new : Stream) (runs : new.runs ≡ old.runs + runs_in u) (tags : new.tags ≡ old.tags + 1) (dues : AreDues plan (d ++ u) new.dues) where
-          port_grows : (p o : ℕ) (delays : List ℕ) → Origin plan.program p o delays → (b : Bool) → is_undelayed plan.program p ≡ b → PortGrows d u g (state_of plan is.lanes g old) (state_of plan lanes_at g new) p o delays b
-          port_grows p o delays way false e = λ k v w l m same pos. absurd (bounded o k v w l m same)
-          port_grows p o delays way true e =
-              let none : delays ≡ [] = undelayed_way plan.program good p o delays way e in
-              let own : origin_of plan.program p ≡ o = origin_is plan.program good p o delays way in
-              ap (λ (b : Bool). cond b (option_to_list (option_map (λ v. (g, v)) (last_write u g (origin_of plan.program p)))) []) e ∙ ap (λ (k : ℕ). option_to_list (option_map (λ v. (g, v)) (last_write u g k))) own ∙ sym (ap (λ (ds : List ℕ). carried u g o ds) none) ∙ sym (ap (λ (es : List (Tag × Value)). es ++ carried u g o delays) (is.none p))
-
-          grown : IsGrown plan d u g (state_of plan is.lanes g old) (state_of plan lanes_at g new)
+          grown : IsGrown plan d u g (state_of is.lanes g old) (state_of lanes_at g new)
           grown = record {
-            has_lane = λ p. refl;
             lows = λ n. refl;
             reached = λ n. UpTo-refl g;
             actions = λ a. refl;
-            ports = λ p o delays way. port_grows p o delays way (is_undelayed plan.program p) refl;
-            clash = λ k e. absurd (cc);
+            ports = λ p o delays way. ap (λ (es : List (Tag × Value)). is.lanes (Port p) ++ es) (carried_is plan.program good u g p o delays way);
             dues = dues;
             runs = runs;
             tags = tags;
           }
 
-          stands : IsStream plan (d ++ u) (state_of plan lanes_after (after g 0) new)
-          stands = move_law plan (d ++ u) (state_of plan lanes_at g new) (state_of plan lanes_after (after g 0) new) ((stream_law plan).grows d u g first.reaction (state_of plan is.lanes g old) (state_of plan lanes_at g new) there right some_ran grown) (record { has_lane = λ p. refl; lanes = goes_past; dues = refl; clash = refl; runs = refl; tags = refl })
+          stands : IsStream plan (d ++ u) (state_of lanes_at (after g 0) new)
+          stands = move_law plan (d ++ u) (state_of lanes_at g new) (state_of lanes_at (after g 0) new) ((stream_law plan).grows d u g first.reaction (state_of is.lanes g old) (state_of lanes_at g new) there right some_ran grown) (record { lanes = goes_past; dues = refl; runs = refl; tags = refl })
 
           -- the state over the rows of a later tag
-          pub grows_kept : new.stop ≡ old.stop → new.tag ≡ Some g → AreStarts plan.program (d ++ u) new.starts → AreWrites plan.program (d ++ u) new.writes → AreListeners plan new.listeners → ((h : Tag) (n : Name) → Before g h → to_come plan.externals.events new.coming h n ≡ to_come plan.externals.events c h n ++ held (scheduled_by plan u n) h) → IsStreamOf plan (d ++ u) new
-          grows_kept stops tag starts writes listeners more = record {
-            ports = is.ports;
-            lanes = lanes_after;
-            none = λ p. refl;
-            coming = subst (λ (last : Option Tag). AreComing plan.externals.events (low_of last) lanes_after new.coming) (sym tag) (λ n h up. still n h (Before-UpTo g (after g 0) h (after_past g 0) up));
-            state = subst (λ (last : Option Tag). IsStream plan (d ++ u) (state_of plan lanes_after (low_of last) new)) (sym tag) stands;
+          pub grows_kept : new.stop ≡ old.stop → new.tag ≡ Some g → AreStarts plan.program (d ++ u) new.starts → AreEarlier plan.program (after g 0) new.writes → AreListeners plan new.listeners → AreChannels plan.program new.channels → ((h : Tag) (n : Name) → Before g h → to_come plan.externals.events new.coming h n ≡ to_come plan.externals.events c h n ++ held (caused_by plan u g n) h) → IsStreamOf plan (d ++ u) new
+          grows_kept stops tag starts writes listeners channels more = record {
+            lanes = lanes_at;
+            none = λ p h e up. none p h e (past h up);
+            coming = subst (λ (last : Option Tag). AreComing plan.externals.events (low_of last) lanes_at new.coming) (sym tag) (λ n h up. still n h (Before-UpTo g (after g 0) h (after_past g 0) up));
+            state = subst (λ (last : Option Tag). IsStream plan (d ++ u) (state_of lanes_at (low_of last) new)) (sym tag) stands;
             stop_is = stops ∙ is.stop_is ∙ sym stop_same;
             up_to = subst (λ (last : Option Tag). AreUpTo (d ++ u) last) (sym tag) up_to;
-            writes = writes;
+            writes = subst (λ (last : Option Tag). AreEarlier plan.program (low_of last) new.writes) (sym tag) writes;
             starts = starts;
             listeners = listeners;
+            channels = channels;
           }
             where
-              behind : (n : Name) (h : Tag) → Before g h → held (is.lanes n) h ++ held (scheduled_by plan u n) h ≡ to_come plan.externals.events new.coming h n
-              behind n h b = ap (λ (vs : List Value). vs ++ held (scheduled_by plan u n) h) (at_hand_at n h (Before-weaken g h b)) ∙ sym (more h n b)
+              past : (h : Tag) → UpTo (low_of new.tag) h → Before g h
+              past h up = Before-UpTo g (after g 0) h (after_past g 0) (subst (λ (last : Option Tag). UpTo (low_of last) h) tag up)
 
-              still : (n : Name) (h : Tag) → Before g h → held (lanes_after n) h ≡ to_come plan.externals.events new.coming h n
-              still (Port p) h b = sym (ap (λ (es : List (Tag × Value)). held es h ++ []) (is.none p)) ∙ behind (Port p) h b
-              still (Action a) h b = held_append (is.lanes (Action a)) (made plan u a) h ∙ behind (Action a) h b
+              -- a port without a delay has no event behind the tag
+              none : (p : ℕ) (h : Tag) → is_undelayed plan.program p ≡ true → Before g h → held (lanes_at (Port p)) h ≡ []
+              none p h e b = held_append (is.lanes (Port p)) (caused_by plan u g (Port p)) h ∙ ap (λ (vs : List Value). vs ++ held (caused_by plan u g (Port p)) h) (is.none p h e (UpTo-trans (low_of old.tag) g h (passed old.tag later) (Before-weaken g h b))) ∙ none_after plan.program u g h p e b
+
+              still : (n : Name) (h : Tag) → Before g h → held (lanes_at n) h ≡ to_come plan.externals.events new.coming h n
+              still n h b = held_append (is.lanes n) (caused_by plan u g n) h ∙ ap (λ (vs : List Value). vs ++ held (caused_by plan u g n) h) (at_hand_at n h (Before-weaken g h b)) ∙ sym (more h n b)
 
               up_to : (i : ℕ) (x : Row) → slice_get (d ++ u) i ≡ Some x → UpTo x.tag g
               up_to i x e = go (get_append_cases d u i x e)
@@ -340,33 +296,24 @@ accepts_kept plan t s is none over = by (order_cases (stop plan t) (low_of s.tag
     last : Tag
     last = stop plan t
 
-    ends : (low : Tag) → Before (stop plan t) low → IsStream plan t (state_of plan is.lanes low s) → IsAccepted plan t s.runs s.tags
-    ends low past stream = (stream_law plan).accepts t (state_of plan is.lanes low s) stream (record {
-      dues = subst (λ (k : Tag). NoneOwed k s.dues) is.stop_is none;
-      clash = λ c e. absurd (cc);
-      actions = λ a. past;
-      ports = λ p o ds way. port p (is_undelayed plan.program p);
-    })
-      where
-        port : (p : ℕ) (b : Bool) → PortEnds plan t (state_of plan is.lanes low s) p b
-        port p true = past
-        port p false = tt
+    ends : (low : Tag) → Before (stop plan t) low → IsStream plan t (state_of is.lanes low s) → IsAccepted plan t s.runs s.tags
+    ends low past stream = (stream_law plan).accepts t (state_of is.lanes low s) stream (record { dues = subst (λ (k : Tag). NoneOwed k s.dues) is.stop_is none; lows = λ n. past })
 
     goes : UpTo (low_of s.tag) (stop plan t) → (n : Name) → GoesOn plan t n (low_of s.tag) (is.lanes n) (after (stop plan t) 0) (is.lanes n)
     goes up n = record {
       up = UpTo-trans (low_of s.tag) last (after last 0) up (Before-weaken last (after last 0) (after_past last 0));
       met = λ h low b.
           let there : UpTo h s.stop = subst (λ (k : Tag). UpTo h k) (sym is.stop_is) (up_to_last last h b) in
-          unheard_met plan t h n (is.lanes n) s.listeners is.listeners (λ p e. ap (λ (k : Name). is.lanes k) e ∙ is.none p) (rw (is.coming n h low) (over.alone h n there)) (λ v k. over.unheard h n v there (subst (λ (vs : List Value). Contains vs v) (is.coming n h low) k));
+          unheard_met plan t h n (is.lanes n) s.listeners is.listeners (λ p e z. ap (λ (k : Name). held (is.lanes k) h) e ∙ is.none p h z low) (rw (is.coming n h low) (over.alone h n there)) (λ v k. over.unheard h n v there (subst (λ (vs : List Value). Contains vs v) (is.coming n h low) k));
       same = λ h far. refl;
     }
 
     by : Before (stop plan t) (low_of s.tag) ⊎ UpTo (low_of s.tag) (stop plan t) → IsAccepted plan t s.runs s.tags
     by (inl past) = ends (low_of s.tag) past is.state
-    by (inr up) = ends (after last 0) (after_past last 0) (move_law plan t (state_of plan is.lanes (low_of s.tag) s) (state_of plan is.lanes (after last 0) s) is.state (record { has_lane = λ p. refl; lanes = goes up; dues = refl; clash = refl; runs = refl; tags = refl }))
+    by (inr up) = ends (after last 0) (after_past last 0) (move_law plan t (state_of is.lanes (low_of s.tag) s) (state_of is.lanes (after last 0) s) is.state (record { lanes = goes up; dues = refl; runs = refl; tags = refl }))
 
 -- the same of a slice of more rows
-module _ (plan : PlanParts) (done rows : List Row) (s : Slice) (slice : IsSlice rows s) (old : Stream) (is : IsStreamOf plan (done ++ take s.first rows) old) (later : IsLaterTime old.tag s.tag) (quiet : AreQuiet rows) (kept : FirstRow old.stop plan rows None) where
+module _ (plan : PlanParts) (done rows : List Row) (s : Slice) (slice : IsSlice rows s) (old : Stream) (is : IsStreamOf plan (done ++ take s.first rows) old) (later : IsLater old.tag s.tag) (quiet : AreQuiet rows) (kept : FirstRow old.stop plan rows None) where
   abbrev so_far : List Row
   so_far = done ++ take s.first rows
 
@@ -397,20 +344,19 @@ module _ (plan : PlanParts) (done rows : List Row) (s : Slice) (slice : IsSlice 
   -- the rows of the slice are at hand
   pub at_hand : IsSound plan.program → (hand : Stream) → IsReached plan.externals.events old.listeners s.tag old.coming hand.coming → hand.stop ≡ old.stop → hand.dues ≡ old.dues → hand.writes ≡ old.writes → hand.starts ≡ old.starts → hand.listeners ≡ old.listeners → IsAtHand plan so_far rows s hand
   at_hand good hand reached stops dues writes starts listeners = record {
-    ports = is.ports;
     earlier = own_before;
     ran = own_ran;
     stop_is = stops ∙ is.stop_is ∙ sym (stop_same plan so_far own s.tag old is first.0 first.1 (are_at rows s slice) later own_quiet own_kept);
     dues = rw dues ((due_law plan).grows so_far own s.tag old.dues own_before own_in_time is.state.dues);
-    writes = rw writes is.writes;
+    writes = rw writes (earlier_on plan.program (low_of old.tag) s.tag old.writes (passed plan so_far own s.tag old is first.0 first.1 (are_at rows s slice) later own_quiet own_kept old.tag later) is.writes);
     starts = rw starts (record { as_long = is.starts.as_long; each = λ r g e. ran_grows so_far own g r (is.starts.each r g e) });
     listeners = rw listeners is.listeners;
-    actions = shows plan so_far own s.tag old is first.0 first.1 (are_at rows s slice) later own_quiet own_kept good hand.coming reached;
+    queued = shows plan so_far own s.tag old is first.0 first.1 (are_at rows s slice) later own_quiet own_kept good hand.coming reached;
   }
 
   -- and what is kept is right for them too, once they are judged
-  pub slice_grows : IsSound plan.program → (c : Coming) → IsReached plan.externals.events old.listeners s.tag old.coming c → ((r : ℕ) → Ran own s.tag r → ¬ IsTooEarly plan own s.tag r) → (judged new : Stream) → IsJudged plan so_far rows s judged → judged.coming ≡ c → judged.listeners ≡ old.listeners → new.stop ≡ old.stop → new.tag ≡ Some s.tag → new.runs ≡ old.runs + runs_in own → new.tags ≡ old.tags + 1 → new.dues ≡ judged.dues → new.starts ≡ judged.starts → new.writes ≡ judged.writes → new.listeners ≡ judged.listeners → ((h : Tag) (n : Name) → Before s.tag h → to_come plan.externals.events new.coming h n ≡ to_come plan.externals.events c h n ++ held (scheduled_by plan own n) h) → IsStreamOf plan (done ++ take s.end rows) new
-  slice_grows good c reached ranked judged new is_judged coming heard_by stops tag runs tags dues starts writes listeners more = subst (λ (t : List Row). IsStreamOf plan t new) together (grows_kept plan so_far own s.tag old is first.0 first.1 (are_at rows s slice) later own_quiet own_kept good c reached is_judged.heard met ranked (λ r o. is_judged.triggered r (ran_of rows s slice r o)) own_reads new runs tags (rw dues is_judged.dues) stops tag (rw starts is_judged.starts) (rw writes is_judged.writes) (rw listeners is_judged.listeners) more)
+  pub slice_grows : IsSound plan.program → (c : Coming) → IsReached plan.externals.events old.listeners s.tag old.coming c → ((r : ℕ) → Ran own s.tag r → ¬ IsTooEarly plan own s.tag r) → (judged new : Stream) → IsJudged plan so_far rows s judged → judged.coming ≡ c → judged.listeners ≡ old.listeners → new.stop ≡ old.stop → new.tag ≡ Some s.tag → new.runs ≡ old.runs + runs_in own → new.tags ≡ old.tags + 1 → new.dues ≡ judged.dues → new.starts ≡ judged.starts → AreEarlier plan.program (after s.tag 0) new.writes → new.listeners ≡ judged.listeners → new.channels ≡ old.channels → ((h : Tag) (n : Name) → Before s.tag h → to_come plan.externals.events new.coming h n ≡ to_come plan.externals.events c h n ++ held (caused_by plan own s.tag n) h) → IsStreamOf plan (done ++ take s.end rows) new
+  slice_grows good c reached ranked judged new is_judged coming heard_by stops tag runs tags dues starts writes listeners channels more = subst (λ (t : List Row). IsStreamOf plan t new) together (grows_kept plan so_far own s.tag old is first.0 first.1 (are_at rows s slice) later own_quiet own_kept good c reached is_judged.heard met ranked (λ r o. is_judged.triggered r (ran_of rows s slice r o)) own_reads new runs tags (rw dues is_judged.dues) stops tag (rw starts is_judged.starts) writes (rw listeners is_judged.listeners) (rw channels is.channels) more)
     where
       met : (n : Name) → IsSome (value_of s.tag n c.queue) → AreStarted (so_far ++ own) s.tag old.listeners n
       met n some = subst (λ (l : Listeners). AreStarted (so_far ++ own) s.tag l n) heard_by (is_judged.met n (subst (λ (k : Coming). IsSome (value_of s.tag n k.queue)) (sym coming) some))

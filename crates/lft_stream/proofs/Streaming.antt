@@ -1,8 +1,7 @@
 -- The judge's whole state: it begins right, stays right over the rows of a later tag, and accepts what is legal.
-use Rattle.std.proofs.Common.{◌≡◌, Bool, true, false, ℕ, ◌+◌, ◌<◌, List, [], ◌++◌, refl, sym, subst, arith, Option, None, Some, slice_get}
+use Rattle.std.proofs.Common.{◌≡◌, ℕ, ◌+◌, ◌<◌, List, [], ◌++◌, refl, sym, subst, arith, Some, slice_get}
 use Rattle.lft_tag.specs.declared.Tag.{Tag}
 use Rattle.lft_tag.specs.Tags.{UpTo}
-use Rattle.lft_tag.proofs.Order.{UpTo-not, Before-UpTo}
 use Rattle.lft_flat.specs.Origins.{Origin}
 use Rattle.lft_flat.specs.declared.parts.Value.{Value}
 use Rattle.lft_flat.specs.declared.parts.Name.{Name}
@@ -11,7 +10,6 @@ use Rattle.lft_flat.specs.declared.parts.Trigger.{Trigger}
 use Rattle.lft_flat.specs.declared.parts.Trigger.TheVariants.{Startup, Shutdown, Timer, On}
 use Rattle.lft_trace.specs.declared.row.Row.{Row}
 use Rattle.lft_model.specs.Plans.{PlanParts}
-use Rattle.lft_model.specs.Presence.{stop, PortClash}
 use Rattle.lft_model.specs.Runs.{start_row, Ran}
 use Rattle.lft_model.proofs.Places.{slice_get_within}
 use Rattle.lft_check.specs.Verdicts.{IsAccepted}
@@ -19,19 +17,18 @@ use Rattle.lft_by_tag.specs.Slices.{runs_in}
 use Rattle.lft_stream.specs.Settled.{IsRightBehind}
 use Rattle.lft_stream.specs.Counted.{IsCounted}
 use Rattle.lft_stream.specs.declared.due.Due.{Due}
-use Rattle.lft_stream.specs.Owed.{Listens, IsMet, IsApart}
+use Rattle.lft_stream.specs.Owed.{IsMet, IsApart}
 use Rattle.lft_stream.specs.Dues.{AreDues, IsTimed}
 use Rattle.lft_stream.specs.Lanes.{made, carried, IsLane}
-use Rattle.lft_stream.specs.Streams.{State, first_state, IsPlain, PortStands, IsStream, PortEnds, IsEnded, PortGrows, IsGrown, IsMoved, MoveLaw}
+use Rattle.lft_stream.specs.Streams.{State, first_state, IsStream, IsEnded, IsGrown, IsMoved, MoveLaw}
 use Rattle.lft_stream.proofs.Settling.{step_law, legal_of}
 use Rattle.lft_stream.proofs.Counting.{count_law}
 use Rattle.lft_stream.proofs.Owing.{parts_law, due_law}
-use Rattle.lft_stream.proofs.Clashes.{clash_law}
 use Rattle.lft_stream.proofs.Lanes.{LaneLaw, lane_law}
 
--- the whole: the first state is right for no rows, where each port that triggers a reaction has a lane; the rows of one later tag, right behind those so far, lead to a right state; and with a right state that has nothing left the rows are accepted, with its counts
+-- the whole: the first state is right for no rows; the rows of one later tag, right behind those so far, lead to a right state; and with a right state that has nothing left the rows are accepted, with its counts
 pub record StreamLaw (plan : PlanParts) : Type 0 where
-  pub begins : (has : ℕ → Bool) (dues : List (List Due)) → ((p r : ℕ) → has p ≡ false → ¬ Listens plan r (On (Port p))) → AreDues plan [] dues → IsStream plan [] (first_state plan has dues)
+  pub begins : (dues : List (List Due)) → AreDues plan [] dues → IsStream plan [] (first_state plan dues)
   pub grows : (d u : List Row) (g : Tag) (r : ℕ) (old new : State) → IsStream plan d old → IsRightBehind plan d u g → Ran u g r → IsGrown plan d u g old new → IsStream plan (d ++ u) new
   pub accepts : (t : List Row) (s : State) → IsStream plan t s → IsEnded plan t s → IsAccepted plan t s.runs s.tags
 
@@ -43,22 +40,15 @@ module _ (plan : PlanParts) where
   laws : LaneLaw plan
   laws = lane_law plan
 
-  begins_stream : (has : ℕ → Bool) (dues : List (List Due)) → ((p r : ℕ) → has p ≡ false → ¬ Listens plan r (On (Port p))) → AreDues plan [] dues → IsStream plan [] (first_state plan has dues)
-  begins_stream has dues unheard due = record {
+  begins_stream : (dues : List (List Due)) → AreDues plan [] dues → IsStream plan [] (first_state plan dues)
+  begins_stream dues due = record {
     settled = record { rows = λ b o. absurd (no_place o.place o.row o.is_row); runs = λ g r o. absurd (never g r o) };
     counted = record { runs_are = refl; tags_are = ([], record { ascending = λ j k g h l p q. absurd (no_place j g p); ran = λ k g p. absurd (no_place k g p); each = λ g r o. absurd (never g r o) }, refl) };
     actions = λ a. laws.begins (Action a);
-    ports = λ p o ds way. stands p (has p) refl;
+    ports = λ p o ds way. laws.begins (Port p);
     dues = due;
   }
     where
-      no_clash : (h : Tag) (p : ℕ) → ¬ PortClash plan [] h p
-      no_clash h p c = let e : None ≡ Some c.first_value = c.is_first.is_last in absurd (cc)
-
-      stands : (p : ℕ) (b : Bool) → has p ≡ b → PortStands plan [] (first_state plan has dues) p b
-      stands p true e = laws.begins (Port p)
-      stands p false e = record { unheard = λ r. unheard p r e; clashes = λ h c. absurd (no_clash h p c) }
-
       never : (g : Tag) (r : ℕ) → ¬ Ran [] g r
       never g r o = no_place o.place (start_row o.worker g r) o.starts
 
@@ -69,12 +59,8 @@ module _ (plan : PlanParts) where
     action_grows : (a : ℕ) → IsLane plan (d ++ u) (Action a) (new.lows (Action a)) (new.queues (Action a))
     action_grows a = moved (Action a) (old.queues (Action a) ++ made plan u a) (grown.actions a) (laws.schedules d u a (old.lows (Action a)) (old.queues (Action a)) (λ i x e. subst (λ (z : Tag). UpTo (old.lows (Action a)) z) (sym (right.at_tag i x e)) (grown.reached (Action a))) (stream.actions a))
 
-    port_grows : (p o : ℕ) (ds : List ℕ) → Origin plan.program p o ds → PortStands plan (d ++ u) new p (new.has_lane p)
-    port_grows p o ds way = subst (λ (b : Bool). PortStands plan (d ++ u) new p b) (sym (grown.has_lane p)) (go (old.has_lane p) (stream.ports p o ds way) (grown.ports p o ds way))
-      where
-        go : (b : Bool) → PortStands plan d old p b → PortGrows d u g old new p o ds b → PortStands plan (d ++ u) new p b
-        go true lane e = moved (Port p) (old.queues (Port p) ++ carried u g o ds) e (laws.writes d u g p o ds (old.lows (Port p)) (old.queues (Port p)) way right.earlier right.at_tag (grown.reached (Port p)) lane)
-        go false plain bounded = clash_law plan d u g p o ds old.clash new.clash way right.earlier right.at_tag grown.clash bounded plain
+    port_grows : (p o : ℕ) (ds : List ℕ) → Origin plan.program p o ds → IsLane plan (d ++ u) (Port p) (new.lows (Port p)) (new.queues (Port p))
+    port_grows p o ds way = moved (Port p) (old.queues (Port p) ++ carried u g o ds) (grown.ports p o ds way) (laws.writes d u g p o ds (old.lows (Port p)) (old.queues (Port p)) way right.earlier right.at_tag (grown.reached (Port p)) (stream.ports p o ds way))
 
     stream_grows : (r : ℕ) → Ran u g r → IsStream plan (d ++ u) new
     stream_grows r o = record {
@@ -86,32 +72,18 @@ module _ (plan : PlanParts) where
     }
 
   module _ (t : List Row) (s : State) (stream : IsStream plan t s) (ended : IsEnded plan t s) where
-    port_met : (p o : ℕ) (ds : List ℕ) → Origin plan.program p o ds → IsMet plan t (On (Port p))
-    port_met p o ds way = go (s.has_lane p) (stream.ports p o ds way) (ended.ports p o ds way)
-      where
-        go : (b : Bool) → PortStands plan t s p b → PortEnds plan t s p b → IsMet plan t (On (Port p))
-        go false plain x = λ h r up z l. absurd (plain.unheard r l)
-        go true lane past = (laws.ends t (Port p) (s.lows (Port p)) (s.queues (Port p)) past lane).0
-
-    plain_apart : (p : ℕ) → IsPlain plan t p s.clash → (h : Tag) → UpTo h (stop plan t) → ¬ PortClash plan t h p
-    plain_apart p plain h up c = let x = plain.clashes h c in UpTo-not h (stop plan t) up (Before-UpTo (stop plan t) x.0 h (ended.clash x.0 x.1) x.2)
-
-    port_apart : (p o : ℕ) (ds : List ℕ) → Origin plan.program p o ds → IsApart plan t (Port p)
-    port_apart p o ds way = go (s.has_lane p) (stream.ports p o ds way) (ended.ports p o ds way)
-      where
-        go : (b : Bool) → PortStands plan t s p b → PortEnds plan t s p b → IsApart plan t (Port p)
-        go false plain x = λ h up c. plain_apart p plain h up c
-        go true lane past = (laws.ends t (Port p) (s.lows (Port p)) (s.queues (Port p)) past lane).1
+    port_ends : (p o : ℕ) (ds : List ℕ) → Origin plan.program p o ds → IsMet plan t (On (Port p)) × IsApart plan t (Port p)
+    port_ends p o ds way = laws.ends t (Port p) (s.lows (Port p)) (s.queues (Port p)) (ended.lows (Port p)) (stream.ports p o ds way)
 
     action_ends : (a : ℕ) → IsMet plan t (On (Action a)) × IsApart plan t (Action a)
-    action_ends a = laws.ends t (Action a) (s.lows (Action a)) (s.queues (Action a)) (ended.actions a) (stream.actions a)
+    action_ends a = laws.ends t (Action a) (s.lows (Action a)) (s.queues (Action a)) (ended.lows (Action a)) (stream.actions a)
 
     name_met : (n : Name) → IsMet plan t (On n)
-    name_met (Port p) = λ h r up z l. port_met p z.1.1.origin z.1.1.delays z.1.1.is_origin h r up z l
+    name_met (Port p) = λ h r up z l. (port_ends p z.1.1.origin z.1.1.delays z.1.1.is_origin).0 h r up z l
     name_met (Action a) = (action_ends a).0
 
     name_apart : (n : Name) → IsApart plan t n
-    name_apart (Port p) = λ h up c. port_apart p c.is_first.origin c.is_first.delays c.is_first.is_origin h up c
+    name_apart (Port p) = λ h up c. (port_ends p c.is_first.origin c.is_first.delays c.is_first.is_origin).1 h up c
     name_apart (Action a) = (action_ends a).1
 
     timed_met : (x : Trigger) → IsTimed x → IsMet plan t x
@@ -128,7 +100,7 @@ module _ (plan : PlanParts) where
 
 pub stream_law : (plan : PlanParts) → StreamLaw plan
 stream_law plan = record {
-  begins = λ has dues unheard due. begins_stream plan has dues unheard due;
+  begins = λ dues due. begins_stream plan dues due;
   grows = λ d u g r old new stream right o grown. stream_grows plan d u g old new stream right grown r o;
   accepts = λ t s stream ended. stream_accepts plan t s stream ended;
 }
@@ -137,19 +109,12 @@ module _ (plan : PlanParts) (t : List Row) (old new : State) (stream : IsStream 
   lane_moves : (n : Name) → IsLane plan t n (old.lows n) (old.queues n) → IsLane plan t n (new.lows n) (new.queues n)
   lane_moves n lane = (lane_law plan).goes t n (old.lows n) (new.lows n) (old.queues n) (new.queues n) (moved.lanes n) lane
 
-  port_moves : (p o : ℕ) (ds : List ℕ) → Origin plan.program p o ds → PortStands plan t new p (new.has_lane p)
-  port_moves p o ds way = subst (λ (b : Bool). PortStands plan t new p b) (sym (moved.has_lane p)) (go (old.has_lane p) (stream.ports p o ds way))
-    where
-      go : (b : Bool) → PortStands plan t old p b → PortStands plan t new p b
-      go true lane = lane_moves (Port p) lane
-      go false plain = subst (λ (c : Option Tag). IsPlain plan t p c) (sym moved.clash) plain
-
   stream_moves : IsStream plan t new
   stream_moves = record {
     settled = stream.settled;
     counted = subst (λ (k : ℕ). IsCounted t k new.tags) (sym moved.runs) (subst (λ (k : ℕ). IsCounted t old.runs k) (sym moved.tags) stream.counted);
     actions = λ a. lane_moves (Action a) (stream.actions a);
-    ports = port_moves;
+    ports = λ p o ds way. lane_moves (Port p) (stream.ports p o ds way);
     dues = subst (λ (dues : List (List Due)). AreDues plan t dues) (sym moved.dues) stream.dues;
   }
 

@@ -1,12 +1,11 @@
--- Programs whose reactions wait for timers, for actions and for ports that are reached without a delay.
-use Rattle.std.specs.Prelude.{◌≡◌, ℕ, ◌==◌, ◌&&◌, Bool, false, List, [], length, Some, slice_get, Contains, unwrap_or, option_map}
+-- Ports that are reached without a delay, and those behind one.
+use Rattle.std.specs.Prelude.{◌≡◌, ℕ, ◌==◌, ◌&&◌, Bool, true, false, List, [], length, Some, slice_get, Contains, unwrap_or, option_map}
 use Rattle.lft_tag.specs.declared.Tag.{Tag}
-use Rattle.lft_flat.specs.Parts.{Parts, inputs}
+use Rattle.lft_flat.specs.Parts.{Parts}
 use Rattle.lft_flat.specs.Origins.{Origin}
 use Rattle.lft_flat.specs.declared.parts.Value.{Value}
 use Rattle.lft_flat.specs.declared.parts.Name.{Name}
 use Rattle.lft_flat.specs.declared.parts.Name.TheVariants.{Port, Action}
-use Rattle.lft_flat.specs.declared.parts.Reaction.{Reaction}
 use Rattle.lft_flat.specs.declared.parts.Trigger.TheVariants.{On}
 use Rattle.lft_trace.specs.declared.row.Row.{Row}
 use Rattle.lft_model.specs.Plans.{PlanParts}
@@ -14,22 +13,18 @@ use Rattle.lft_model.specs.Presence.{Last}
 use Rattle.lft_model.specs.Runs.{Ran}
 use Rattle.lft_stream.specs.Owed.{Listens}
 
--- a port that is reached without a delay, or an action
-abbrev pub IsAtOnce : Parts → Name → Type 0
-IsAtOnce program (Port p) = (o : ℕ) × Origin program p o []
-IsAtOnce program (Action a) = Unit {0}
-
--- each of the names is one of these
-abbrev pub AreAtOnce : Parts → List Name → Type 0
-AreAtOnce program names = (k : ℕ) (n : Name) → slice_get names k ≡ Some n → IsAtOnce program n
-
--- each input of a reaction is one of these
-pub record HasPortsAtOnce (plan : PlanParts) : Type 0 where
-  pub at_once : (r : ℕ) (x : Reaction) → slice_get plan.program.reactions r ≡ Some x → AreAtOnce plan.program (inputs x)
-
--- the test of a port that is reached without a delay
+-- the test of a port that lies behind no delay
 abbrev pub is_undelayed : Parts → ℕ → Bool
-is_undelayed program p = unwrap_or (option_map (λ x. (x.shift.time == 0) && (x.shift.steps == 0)) (slice_get program.ports p)) false
+is_undelayed program p = unwrap_or (option_map (λ x. (x.shift.time == 0) && (x.shift.steps == 0)) (slice_get program.ports p)) true
+
+-- the origin that is kept with a port
+abbrev pub origin_of : Parts → ℕ → ℕ
+origin_of program p = unwrap_or (option_map (λ x. x.origin) (slice_get program.ports p)) 0
+
+-- a name that has events: a port behind a delay, or an action
+abbrev pub HasEvents : Parts → Name → Type 0
+HasEvents program (Port p) = is_undelayed program p ≡ false
+HasEvents program (Action a) = Unit {0}
 
 -- as many lists, each with all that it had
 pub record HaveGrown (old new : List (List ℕ)) : Type 0 where

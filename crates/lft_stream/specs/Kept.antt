@@ -1,10 +1,10 @@
 -- What is kept of rows at finished tags, and what is asked of the next ones.
-use Rattle.std.specs.Prelude.{◌≡◌, ℕ, ◌<◌, ◌≤◌, List, [], ◌++◌, Option, Some, None, IsSome, MatchOption, slice_get, slice_range}
+use Rattle.std.specs.Prelude.{◌≡◌, true, ℕ, ◌<◌, ◌≤◌, List, [], ◌++◌, Option, Some, None, IsSome, MatchOption, slice_get, slice_range}
 use Rattle.lft_tag.specs.declared.Tag.{Tag}
 use Rattle.lft_tag.specs.Tags.{Before, UpTo, after}
 use Rattle.lft_flat.specs.declared.parts.Value.{Value}
 use Rattle.lft_flat.specs.declared.parts.Name.{Name}
-use Rattle.lft_flat.specs.declared.parts.Name.TheVariants.{Port, Action}
+use Rattle.lft_flat.specs.declared.parts.Name.TheVariants.{Port}
 use Rattle.lft_trace.specs.declared.row.Row.{Row}
 use Rattle.lft_trace.specs.declared.row.Step.{Step}
 use Rattle.lft_trace.specs.declared.row.Step.TheVariants.{Start, Read, Write, Schedule, Stop, End}
@@ -13,7 +13,9 @@ use Rattle.lft_model.specs.Presence.{stop, Triggered, Inputs, Shows}
 use Rattle.lft_model.specs.Runs.{Ran, reads_at}
 use Rattle.lft_by_tag.specs.declared.slices.Slice.{Slice}
 use Rattle.lft_stream.specs.declared.stream.Stream.{Stream}
-use Rattle.lft_stream.specs.AtOnce.{HasPortsAtOnce, is_undelayed, AreHeard}
+use Rattle.lft_stream.specs.AtOnce.{is_undelayed, HasEvents, AreHeard}
+use Rattle.lft_stream.specs.Channels.{AreChannels}
+use Rattle.lft_stream.specs.Lanes.{held}
 use Rattle.lft_stream.specs.Listeners.{AreListeners, AreStarted}
 use Rattle.lft_stream.specs.Coming.{AreComing}
 use Rattle.lft_queue.specs.Pending.{value_of}
@@ -21,7 +23,7 @@ use Rattle.lft_stream.specs.Dues.{AreDues}
 use Rattle.lft_stream.specs.Settled.{AreBefore}
 use Rattle.lft_stream.specs.Starts.{AreStarts}
 use Rattle.lft_stream.specs.Streams.{State, IsStream}
-use Rattle.lft_stream.specs.Writes.{AreWrites}
+use Rattle.lft_stream.specs.Writes.{AreWrites, AreEarlier}
 
 -- a step that asks for no stop
 abbrev pub IsQuiet : Step → Type 0
@@ -36,9 +38,9 @@ IsQuiet End = Unit {0}
 abbrev pub AreQuiet : List Row → Type 0
 AreQuiet t = (i : ℕ) (x : Row) → slice_get t i ≡ Some x → IsQuiet x.step
 
--- g is of a later time than the tag, if there is one
-abbrev pub IsLaterTime : Option Tag → Tag → Type 0
-IsLaterTime last g = MatchOption last (Unit {0}) (λ h. h.time < g.time)
+-- g is later than the tag, if there is one
+abbrev pub IsLater : Option Tag → Tag → Type 0
+IsLater last g = MatchOption last (Unit {0}) (λ h. Before h g)
 
 -- no row is past the tag; where there is none, there is no row
 abbrev pub AreUpTo : List Row → Option Tag → Type 0
@@ -49,38 +51,37 @@ abbrev pub low_of : Option Tag → Tag
 low_of None = record { time = 0; micro = 0 }
 low_of (Some g) = after g 0
 
--- the state that is kept, with these lanes, done with before a tag: a port without a delay has one, and every other port none
-abbrev pub state_of : PlanParts → (Name → List (Tag × Value)) → Tag → Stream → State
-state_of plan lanes low s = record { has_lane = is_undelayed plan.program; lows = λ n. low; queues = lanes; dues = s.dues; clash = None; runs = s.runs; tags = s.tags }
+-- the state that is kept, with these lanes, done with before a tag
+abbrev pub state_of : (Name → List (Tag × Value)) → Tag → Stream → State
+state_of lanes low s = record { lows = λ n. low; queues = lanes; dues = s.dues; runs = s.runs; tags = s.tags }
 
--- what is kept is right for the rows so far, all at finished tags, of a program of timers, actions and ports at once
+-- what is kept is right for the rows so far, all at finished tags
 pub record IsStreamOf (plan : PlanParts) (t : List Row) (s : Stream) : Type 0 where
-  pub ports : HasPortsAtOnce plan
   pub lanes : Name → List (Tag × Value)
-  pub none : (p : ℕ) → lanes (Port p) ≡ []
+  pub none : (p : ℕ) (h : Tag) → is_undelayed plan.program p ≡ true → UpTo (low_of s.tag) h → held (lanes (Port p)) h ≡ []
   pub coming : AreComing plan.externals.events (low_of s.tag) lanes s.coming
-  pub state : IsStream plan t (state_of plan lanes (low_of s.tag) s)
+  pub state : IsStream plan t (state_of lanes (low_of s.tag) s)
   pub stop_is : s.stop ≡ stop plan t
   pub up_to : AreUpTo t s.tag
-  pub writes : AreWrites plan.program t s.writes
+  pub writes : AreEarlier plan.program (low_of s.tag) s.writes
   pub starts : AreStarts plan.program t s.starts
   pub listeners : AreListeners plan s.listeners
+  pub channels : AreChannels plan.program s.channels
 
 -- each row before the place is at an earlier tag than each from there on
 abbrev pub RisesAt : List Row → ℕ → Type 0
 RisesAt t n = (i j : ℕ) (x y : Row) → i < n → n ≤ j → slice_get t i ≡ Some x → slice_get t j ≡ Some y → Before x.tag y.tag
 
--- the rows of a slice are at hand behind those that are done: what is kept is right for them, but for what is written and has started, which is right for those before
+-- the rows of a slice are at hand behind those that are done: what is kept is right for them, but for what is written, which is of those before
 pub record IsAtHand (plan : PlanParts) (done rows : List Row) (s : Slice) (stream : Stream) : Type 0 where
-  pub ports : HasPortsAtOnce plan
   pub earlier : AreBefore done s.tag
   pub ran : (r : ℕ) → Ran rows s.tag r → Ran (done ++ slice_range rows s.first s.end) s.tag r
   pub stop_is : stream.stop ≡ stop plan (done ++ slice_range rows s.first s.end)
   pub dues : AreDues plan (done ++ slice_range rows s.first s.end) stream.dues
-  pub writes : AreWrites plan.program done stream.writes
+  pub writes : AreEarlier plan.program s.tag stream.writes
   pub starts : AreStarts plan.program (done ++ slice_range rows s.first s.end) stream.starts
   pub listeners : AreListeners plan stream.listeners
-  pub actions : (a : ℕ) → Shows plan (done ++ slice_range rows s.first s.end) s.tag (Action a) (value_of s.tag (Action a) stream.coming.queue)
+  pub queued : (n : Name) → HasEvents plan.program n → Shows plan (done ++ slice_range rows s.first s.end) s.tag n (value_of s.tag n stream.coming.queue)
 
 -- the runs of the slice are triggered and read what is present, the ports that it writes and the events of the queue at its tag are heard, and what is kept is right for the slice too
 pub record IsJudged (plan : PlanParts) (done rows : List Row) (s : Slice) (stream : Stream) : Type 0 where
@@ -88,7 +89,7 @@ pub record IsJudged (plan : PlanParts) (done rows : List Row) (s : Slice) (strea
   pub reads : (r : ℕ) → Ran rows s.tag r → Inputs plan (done ++ slice_range rows s.first s.end) s.tag r (reads_at plan rows s.tag r)
   pub heard : AreHeard plan (done ++ slice_range rows s.first s.end) (slice_range rows s.first s.end) s.tag
   pub dues : AreDues plan (done ++ slice_range rows s.first s.end) stream.dues
-  pub writes : AreWrites plan.program (done ++ slice_range rows s.first s.end) stream.writes
+  pub writes : AreWrites plan.program (slice_range rows s.first s.end) s.tag stream.writes
   pub starts : AreStarts plan.program (done ++ slice_range rows s.first s.end) stream.starts
   pub listeners : AreListeners plan stream.listeners
   pub met : (n : Name) → IsSome (value_of s.tag n stream.coming.queue) → AreStarted (done ++ slice_range rows s.first s.end) s.tag stream.listeners n

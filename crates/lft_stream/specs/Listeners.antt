@@ -1,5 +1,5 @@
 -- Which reactions each port and each action triggers.
-use Rattle.std.specs.Prelude.{◌≡◌, ℕ, ◌<◌, cond, List, [], length, Option, Some, slice_get, Contains, unwrap_or, option_map}
+use Rattle.std.specs.Prelude.{◌≡◌, ℕ, ◌<◌, cond, List, [], length, Option, Some, slice_get, Contains}
 use Rattle.lft_flat.specs.Parts.{Parts}
 use Rattle.lft_flat.specs.declared.parts.Name.{Name}
 use Rattle.lft_flat.specs.declared.parts.Name.TheVariants.{Port, Action}
@@ -9,7 +9,7 @@ use Rattle.lft_trace.specs.declared.row.Row.{Row}
 use Rattle.lft_model.specs.Plans.{PlanParts}
 use Rattle.lft_model.specs.Runs.{Ran}
 use Rattle.lft_stream.specs.declared.listeners.Listeners.{Listeners}
-use Rattle.lft_stream.specs.AtOnce.{is_undelayed, HaveGrown}
+use Rattle.lft_stream.specs.AtOnce.{is_undelayed, origin_of, HaveGrown}
 use Rattle.lft_stream.specs.Owed.{Listens}
 
 -- the list of a name, if there is one
@@ -24,7 +24,7 @@ IsIn listeners (Action a) = a < length listeners.actions
 
 -- the name whose list has a name's listeners: a port that is reached without a delay is heard at its origin
 abbrev pub heard_at : Parts → Name → Name
-heard_at program (Port p) = Port (cond (is_undelayed program p) (unwrap_or (option_map (λ x. x.origin) (slice_get program.ports p)) 0) p)
+heard_at program (Port p) = Port (cond (is_undelayed program p) (origin_of program p) p)
 heard_at program (Action a) = Action a
 
 -- both have as many lists, each with all that it had

@@ -1,18 +1,19 @@
 -- What may be read at the tag at hand, by what is kept.
-use Rattle.std.specs.Prelude.{ℕ, List, ◌++◌, Option}
+use Rattle.std.specs.Prelude.{List, ◌++◌, Option}
 use Rattle.lft_tag.specs.declared.Tag.{Tag}
-use Rattle.lft_flat.specs.declared.parts.Name.TheVariants.{Action}
+use Rattle.lft_flat.specs.declared.parts.Name.{Name}
 use Rattle.lft_trace.specs.declared.row.Row.{Row}
 use Rattle.lft_model.specs.Plans.{PlanParts}
 use Rattle.lft_model.specs.Presence.{Shows}
 use Rattle.lft_queue.specs.Pending.{Pending, value_of}
 use Rattle.lft_stream.specs.declared.writes.Written.{Written}
+use Rattle.lft_stream.specs.AtOnce.{HasEvents}
 use Rattle.lft_stream.specs.Settled.{AreBefore, AreAt}
 use Rattle.lft_stream.specs.Writes.{AreWrites}
 
--- of the rows u at g behind rows d, the last writes are kept, and the queue has what each action shows at g
+-- of the rows u at g behind rows d, the last writes are kept, and the queue has what each name with events shows at g
 pub record AreShown (plan : PlanParts) (d u : List Row) (g : Tag) (writes : List (Option Written)) (queue : List Pending) : Type 0 where
   pub earlier : AreBefore d g
   pub at_tag : AreAt u g
-  pub written : AreWrites plan.program (d ++ u) writes
-  pub actions : (a : ℕ) → Shows plan (d ++ u) g (Action a) (value_of g (Action a) queue)
+  pub written : AreWrites plan.program u g writes
+  pub queued : (n : Name) → HasEvents plan.program n → Shows plan (d ++ u) g n (value_of g n queue)

@@ -46,15 +46,17 @@ fn add_part(
     stream.add(alloc, plan, &rows[first..end])
 }
 
-/// The counts of rows that are legal. None says nothing of them: they may break a rule, memory may be
-/// refused, or a reaction may have a port behind a delay among its inputs.
+/// The counts of rows that are legal. None says nothing of them: they may break a rule, or memory may be
+/// refused, or too much is to be looked at.
 // Where rows are given up, only those before and the part with them were looked at.
 pub fn accepts_rows(alloc: Global, plan: &Plan, rows: &Rows) -> Option<Counts>
     requires { RowsFit plan.now.program rows.now }
     ensures { IfSome result (λ c. IsAccepted plan.now rows.now c.runs c.tags) }
 {
     let rows = rows.as_slice();
-    let mut stream = Stream::new(alloc, plan)?;
+    let Ok(mut stream) = Stream::new(alloc, plan) else {
+        return None;
+    };
     let mut first = 0;
     while first < rows.len() {
         let end = end_of_part(rows, first);

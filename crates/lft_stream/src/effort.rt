@@ -4,27 +4,29 @@ ghost use Rattle.std.specs.Prelude.{◌≡◌, ◌≤◌, ◌↔◌, length, IsT
 ghost use Rattle.lft_trace.specs.Fits.{RowFits, RowsFit};
 
 use crate::listeners::Listeners;
+use crate::lists::Lists;
 use crate::writes::written_port;
 use lft_flat::Program;
 use lft_trace::{Row, is_start, row_at};
 
-/// So many triggers, uses and listeners may be looked at for each row. Most programs need a few. One
-/// whose runs have hundreds of inputs is judged sooner with an index of what the rows cause.
+/// So many triggers, uses, listeners and ports behind delays may be looked at for each row. Most programs
+/// need a few. One whose runs have hundreds of inputs is judged sooner with an index of what the rows cause.
 const PER_ROW: u64 = 16;
 
 /// So many more may be looked at, so that a reaction with many inputs may run once or twice.
 const FIRST: u64 = 1024;
 
-/// How many triggers, uses and listeners may still be looked at.
+/// How many of all these may still be looked at.
 #[derive(Clone, Copy, PartialEq, Eq, Drop)]
 pub(crate) struct Effort {
     left: u64,
 }
 
 /// How many of them are looked at for a row.
-fn cost_of(program: &Program, listeners: &Listeners, row: Row) -> usize
+fn cost_of(program: &Program, listeners: &Listeners, channels: &Lists, row: Row) -> usize
     requires fits { RowFits program.now row }
     requires ports { length listeners.now.ports ≡ length program.now.ports }
+    requires channels { length channels.now ≡ length program.now.ports }
 {
     if is_start(&row.step) {
         let reaction = program.reaction(row.reaction);
@@ -32,7 +34,10 @@ fn cost_of(program: &Program, listeners: &Listeners, row: Row) -> usize
         return reaction.triggers.as_slice().len().saturating_add(uses);
     }
     match written_port(&row.step) {
-        Some((port, _)) => listeners.of(port).len(),
+        Some((port, _)) => {
+            let targets = channels.of(port).len();
+            listeners.of(port).len().saturating_add(targets)
+        }
         None => 0,
     }
 }
@@ -56,12 +61,19 @@ impl Effort {
 
     /// Whether all may be looked at that these rows need. No verdict hangs on the answer: it is
     /// always allowed to give up.
-    pub(crate) fn allows(&mut self, program: &Program, listeners: &Listeners, rows: &[Row]) -> bool
+    pub(crate) fn allows(
+        &mut self,
+        program: &Program,
+        listeners: &Listeners,
+        channels: &Lists,
+        rows: &[Row],
+    ) -> bool
         requires fit { RowsFit program.now rows.now }
         requires ports { length listeners.now.ports ≡ length program.now.ports }
+        requires channels { length channels.now ≡ length program.now.ports }
     {
         for place in 0..rows.len() {
-            let cost = cost_of(program, listeners, row_at(rows, place));
+            let cost = cost_of(program, listeners, channels, row_at(rows, place));
             self.left = self.left.saturating_add(PER_ROW);
             if !self.spend(cost as u64) {
                 return false;

@@ -10,9 +10,10 @@ ghost use Rattle.lft_model.specs.Runs.{Ran, read_of, reads_at, steps_of};
 ghost use Rattle.lft_rows.specs.Marks.{AreMarks, HasSeat, width};
 ghost use Rattle.lft_by_tag.specs.Reads.{value_read as the_value_read};
 ghost use Rattle.lft_by_tag.specs.Slices.{IsSlice};
-ghost use Rattle.lft_stream.specs.AtOnce.{IsAtOnce, HasPortsAtOnce};
+ghost use Rattle.lft_flat.specs.Sound.{IsNameOf};
 ghost use Rattle.lft_stream.specs.Present.{AreShown};
 
+use crate::at_once::is_undelayed;
 use crate::coming::Coming;
 use crate::writes::Writes;
 use lft_by_tag::Slice;
@@ -27,13 +28,19 @@ use lft_trace::{Row, Step, is_start, row_at};
 /// earlier ones: its value, or that it is absent.
 fn shown(writes: &Writes, coming: &Coming, plan: &Plan, tag: Tag, name: Name) -> Option<Value>
     ghost parts: { List TheRow × List TheRow }
-    requires name { IsAtOnce plan.now.program name }
+    requires name { IsNameOf plan.now.program name }
     requires shown { AreShown plan.now parts.0 parts.1 tag writes.now coming.now.queue }
     ensures { Shows plan.now (parts.0 ++ parts.1) tag name result }
 {
     let program = plan.program();
     match name {
-        Name::Port(number) => writes.value_at(program, tag, program.port(number).origin),
+        Name::Port(number) => {
+            if is_undelayed(program, number) {
+                writes.value_at(tag, program.port(number).origin)
+            } else {
+                coming.value_at(tag, name)
+            }
+        }
         Name::Action(_) => coming.value_at(tag, name),
     }
 }
@@ -48,7 +55,6 @@ pub(crate) fn is_woken(
 ) -> bool
     ghost parts: { List TheRow × List TheRow }
     requires reaction { reaction < length plan.now.program.reactions }
-    requires ports { HasPortsAtOnce plan.now }
     requires shown { AreShown plan.now parts.0 parts.1 tag writes.now coming.now.queue }
     ensures { IsTrue result → Triggered plan.now (parts.0 ++ parts.1) tag reaction }
 {
@@ -120,7 +126,6 @@ fn has_read(
     requires fit { RowsFit plan.now.program rows.now }
     requires slice { IsSlice rows.now slice }
     requires reaction { reaction < length plan.now.program.reactions }
-    requires ports { HasPortsAtOnce plan.now }
     requires marks { AreMarks plan.now.program rows.now slice.first slice.end marks.now }
     requires shown { AreShown plan.now parts.0 parts.1 slice.tag writes.now coming.now.queue }
     ensures { IsTrue result → Inputs plan.now (parts.0 ++ parts.1) slice.tag reaction (reads_at plan.now rows.now slice.tag reaction) }
@@ -149,7 +154,6 @@ pub(crate) fn have_read(
     ghost parts: { List TheRow × List TheRow }
     requires fit { RowsFit plan.now.program rows.now }
     requires slice { IsSlice rows.now slice }
-    requires ports { HasPortsAtOnce plan.now }
     requires marks { AreMarks plan.now.program rows.now slice.first slice.end marks.now }
     requires shown { AreShown plan.now parts.0 parts.1 slice.tag writes.now coming.now.queue }
     ensures { IsTrue result → (r : ℕ) → Ran rows.now slice.tag r → Inputs plan.now (parts.0 ++ parts.1) slice.tag r (reads_at plan.now rows.now slice.tag r) }

@@ -1,16 +1,24 @@
-//! The events that rows give actions.
+//! The events that rows cause at later tags.
 
 ghost use Rattle.std.specs.Prelude.{◌≡◌, ◌++◌, [], ◌∷◌, List, IsTrue};
 ghost use Rattle.lft_tag.specs.declared.Tag.{Tag as TheTag};
 ghost use Rattle.lft_flat.specs.declared.parts.Name.{Name as TheName};
 ghost use Rattle.lft_trace.specs.declared.externals.Event.{Event as TheEvent};
 ghost use Rattle.lft_trace.specs.Fits.{RowFits, RowsFit};
+ghost use Rattle.lft_tag.specs.Tags.{Before, after};
+ghost use Rattle.lft_stream.specs.Channels.{AreChannels, caused_by};
 ghost use Rattle.lft_stream.specs.Coming.{to_come, scheduled_by};
 ghost use Rattle.lft_stream.specs.Lanes.{held};
+ghost use Rattle.lft_stream.specs.Settled.{AreAt};
+ghost use Rattle.lft_stream.specs.Writes.{AreWrites, AreEarlier};
 
+use crate::channels::carry_all;
 use crate::coming::Coming;
+use crate::lists::Lists;
+use crate::writes::Writes;
 use lft_flat::{Name, Program};
 use lft_model::Plan;
+use lft_tag::Tag;
 use lft_trace::{Row, Step, row_at};
 
 /// Puts the event in that the row schedules, if it schedules one. It is false where two events meet, or
@@ -35,7 +43,7 @@ fn schedule(coming: &mut Coming, plan: &Plan, row: Row) -> bool
 }
 
 /// Puts the events in that the rows schedule. It is false where two events meet, or memory is refused.
-pub(crate) fn schedule_all(coming: &mut Coming, plan: &Plan, rows: &[Row]) -> bool
+fn schedule_all(coming: &mut Coming, plan: &Plan, rows: &[Row]) -> bool
     requires { RowsFit plan.now.program rows.now }
     ensures { IsTrue result → (events : List TheEvent) (h : TheTag) (n : TheName) → to_come events coming.new h n ≡ to_come events coming.old h n ++ held (scheduled_by plan.now rows.now n) h }
 {
@@ -45,4 +53,26 @@ pub(crate) fn schedule_all(coming: &mut Coming, plan: &Plan, rows: &[Row]) -> bo
         }
     }
     true
+}
+
+/// Puts in what the rows, which are all at the tag, cause later: the events that they schedule, and what
+/// their last writes carry to the ports behind delays. It is false where two events meet, or memory is
+/// refused.
+pub(crate) fn pass_on(
+    coming: &mut Coming,
+    writes: &mut Writes,
+    channels: &Lists,
+    plan: &Plan,
+    rows: &[Row],
+    tag: Tag,
+) -> bool
+    requires fit { RowsFit plan.now.program rows.now }
+    requires at { AreAt rows.now tag }
+    requires channels { AreChannels plan.now.program channels.now }
+    requires writes { AreWrites plan.now.program rows.now tag writes.old }
+    ensures earlier { IsTrue result → AreEarlier plan.now.program (after tag 0) writes.new }
+    ensures caused { IsTrue result → (events : List TheEvent) (h : TheTag) (n : TheName) → Before tag h → to_come events coming.new h n ≡ to_come events coming.old h n ++ held (caused_by plan.now rows.now tag n) h }
+{
+    schedule_all(coming, plan, rows)
+        && carry_all(coming, writes, channels, plan.program(), rows, tag)
 }

@@ -10,20 +10,20 @@ ghost use Rattle.lft_rows.specs.Firsts.{FirstRow};
 ghost use Rattle.lft_rows.specs.Marks.{AreMarks, AreBefore as HaveMarksTo};
 ghost use Rattle.lft_by_tag.specs.Slices.{IsSlice, Rises, runs_in};
 ghost use Rattle.lft_check.specs.Verdicts.{IsAccepted};
-ghost use Rattle.lft_stream.specs.AtOnce.{HasPortsAtOnce};
 ghost use Rattle.lft_stream.specs.Dues.{AreDues};
-ghost use Rattle.lft_stream.specs.Kept.{AreQuiet, IsQuiet, IsLaterTime, IsStreamOf, RisesAt, IsAtHand, IsJudged};
+ghost use Rattle.lft_stream.specs.Kept.{AreQuiet, IsQuiet, IsLater, IsStreamOf, RisesAt, IsAtHand, IsJudged};
 ghost use Rattle.lft_stream.specs.Present.{AreShown};
 
-use crate::at_once::has_ports_at_once;
+use crate::channels::channels_of;
 use crate::coming::Coming;
 use crate::dues::Dues;
 use crate::effort::Effort;
 use crate::hearing::is_all_heard;
 use crate::listeners::Listeners;
+use crate::lists::Lists;
 use crate::order::Order;
 use crate::reads::{have_read, is_woken};
-use crate::scheduling::schedule_all;
+use crate::scheduling::pass_on;
 use crate::starts::Starts;
 use crate::writes::Writes;
 use lft_by_tag::Slice;
@@ -52,6 +52,8 @@ pub(crate) struct Stream {
     starts: Starts,
     writes: Writes,
     listeners: Listeners,
+    /// For each port, as an origin, the ports that lie behind a delay of it.
+    channels: Lists,
     coming: Coming,
     effort: Effort,
 }
@@ -125,7 +127,6 @@ fn is_triggered(
 ) -> bool
     ghost parts: { List TheRow × List TheRow }
     requires reaction { reaction < length plan.now.program.reactions }
-    requires ports { HasPortsAtOnce plan.now }
     requires last { last ≡ stop plan.now (parts.0 ++ parts.1) }
     requires ran { Ran (parts.0 ++ parts.1) tag reaction }
     requires shown { AreShown plan.now parts.0 parts.1 tag writes.now coming.now.queue }
@@ -151,7 +152,6 @@ fn are_triggered(
     ghost parts: { List TheRow × List TheRow }
     requires fit { RowsFit plan.now.program rows.now }
     requires slice { IsSlice rows.now slice }
-    requires ports { HasPortsAtOnce plan.now }
     requires last { last ≡ stop plan.now (parts.0 ++ parts.1) }
     requires ran { (r : ℕ) → Ran rows.now slice.tag r → Ran (parts.0 ++ parts.1) slice.tag r }
     requires shown { AreShown plan.now parts.0 parts.1 slice.tag writes.now coming.now.queue }
@@ -172,8 +172,7 @@ fn are_triggered(
 
 impl Stream {
     /// What is kept before the first row.
-    fn empty(alloc: Global, plan: &Plan) -> Result<Stream, NoMemory>
-        requires { HasPortsAtOnce plan.now }
+    pub(crate) fn new(alloc: Global, plan: &Plan) -> Result<Stream, NoMemory>
         ensures { IfOk result (IsStreamOf plan.now []) }
     {
         let program = plan.program();
@@ -186,32 +185,18 @@ impl Stream {
             starts: Starts::new(alloc, program)?,
             writes: Writes::new(alloc, program)?,
             listeners: Listeners::new(alloc, plan)?,
+            channels: channels_of(alloc, program)?,
             coming: Coming::new(alloc),
             effort: Effort::new(),
         })
     }
 
-    /// What is kept before the first row. None where a reaction has a port behind a delay
-    /// among its inputs, or memory is refused.
-    pub(crate) fn new(alloc: Global, plan: &Plan) -> Option<Stream>
-        ensures { IfSome result (IsStreamOf plan.now []) }
-    {
-        if !has_ports_at_once(plan) {
-            return None;
-        }
-        match Stream::empty(alloc, plan) {
-            Ok(stream) => Some(stream),
-            Err(_) => None,
-        }
-    }
-
-    /// Whether the tag is of a later time than the last row.
-    // At two tags of one time a port could be written twice and meet itself behind a delay.
+    /// Whether the tag is later than the last row's.
     fn is_later(&self, tag: Tag) -> bool
-        ensures { IsTrue result → IsLaterTime self.now.tag tag }
+        ensures { IsTrue result → IsLater self.now.tag tag }
     {
         match self.tag {
-            Some(last) => last.time < tag.time,
+            Some(last) => last.is_before(tag),
             None => true,
         }
     }
@@ -223,6 +208,7 @@ impl Stream {
         ensures starts { self.new.starts ≡ self.old.starts }
         ensures writes { self.new.writes ≡ self.old.writes }
         ensures listeners { self.new.listeners ≡ self.old.listeners }
+        ensures channels { self.new.channels ≡ self.old.channels }
         ensures coming { self.new.coming ≡ self.old.coming }
         ensures tag { IsTrue result → self.new.tag ≡ Some tag }
         ensures runs { IsTrue result → self.new.runs ≡ self.old.runs + runs }
@@ -252,12 +238,13 @@ impl Stream {
         ensures tags { self.new.tags ≡ self.old.tags }
         ensures coming { self.new.coming ≡ self.old.coming }
         ensures listeners { self.new.listeners ≡ self.old.listeners }
+        ensures channels { self.new.channels ≡ self.old.channels }
         ensures judged { IsTrue result → IsJudged plan.now done rows.now slice self.new }
     {
         let program = plan.program();
         let own = &rows[slice.first..slice.end];
         let stop = self.stop;
-        self.writes.pass_all(program, own);
+        self.writes.pass_all(program, own, slice.tag);
         self.starts.pass_all(program, rows, slice);
         are_triggered(
             &mut self.dues,
@@ -304,7 +291,9 @@ impl Stream {
         let program = plan.program();
         let own = &rows[slice.first..slice.end];
         if !self.is_later(slice.tag)
-            || !self.effort.allows(program, &self.listeners, own)
+            || !self
+                .effort
+                .allows(program, &self.listeners, &self.channels, own)
             || !order.is_kept(plan, own)
             || !self
                 .coming
@@ -317,7 +306,14 @@ impl Stream {
             return false;
         }
         self.coming.drop_until(slice.tag);
-        schedule_all(&mut self.coming, plan, own) && self.count(slice.tag, starts_in(own))
+        pass_on(
+            &mut self.coming,
+            &mut self.writes,
+            &self.channels,
+            plan,
+            own,
+            slice.tag,
+        ) && self.count(slice.tag, starts_in(own))
     }
 
     /// Goes on past rows that break none of the rules 1 to 5, tag by tag. It is false where they may

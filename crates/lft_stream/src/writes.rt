@@ -1,14 +1,15 @@
 //! What was written last to each port.
 
-ghost use Rattle.std.specs.Prelude.{◌≡◌, ℕ, List, [], ◌∷◌, ◌++◌, ◌<◌, length, Some, None, IfOk, MatchOption};
+ghost use Rattle.std.specs.Prelude.{◌≡◌, ℕ, List, Option, [], ◌∷◌, ◌++◌, ◌<◌, length, Some, None, IfOk, MatchOption, slice_get, slice_set};
+ghost use Rattle.lft_tag.specs.declared.Tag.{Tag as TheTag};
 ghost use Rattle.lft_flat.specs.declared.parts.Name.TheVariants.{Port};
 ghost use Rattle.lft_trace.specs.declared.row.Step.TheVariants.{Write};
 ghost use Rattle.lft_model.specs.Presence.{value_written};
 ghost use Rattle.lft_trace.specs.declared.row.Row.{Row as TheRow};
 ghost use Rattle.lft_trace.specs.Fits.{RowFits, RowsFit};
-ghost use Rattle.lft_stream.specs.Settled.{AreBefore, AreAt};
-ghost use Rattle.lft_stream.specs.Shown.{last_write};
-ghost use Rattle.lft_stream.specs.Writes.{AreWrites};
+ghost use Rattle.lft_stream.specs.Settled.{AreAt};
+ghost use Rattle.lft_stream.specs.declared.writes.Written.{Written as TheWritten};
+ghost use Rattle.lft_stream.specs.Writes.{value_at, AreWrites, AreEarlier};
 
 use lft_flat::{Name, Program, Value};
 use lft_lists::item_at;
@@ -57,7 +58,7 @@ pub(crate) fn written_port(step: &Step) -> Option<(u32, Value)>
 impl Writes {
     /// No port is written.
     pub(crate) fn new(alloc: Global, program: &Program) -> Result<Writes, NoMemory>
-        ensures { IfOk result (AreWrites program.now []) }
+        ensures { IfOk result (λ writes. (g : TheTag) → AreEarlier program.now g writes) }
     {
         let last = vec![in alloc; None; program.ports()]?;
         Ok(Writes { last })
@@ -68,7 +69,7 @@ impl Writes {
         requires fits { RowFits program.now row }
         requires ports { length self.old ≡ length program.now.ports }
         ensures ports { length self.new ≡ length program.now.ports }
-        ensures passed { (rows : List TheRow) → AreWrites program.now rows self.old → AreWrites program.now (rows ++ row ∷ []) self.new }
+        ensures passed { (rows : List TheRow) → AreWrites program.now rows row.tag self.old → AreWrites program.now (rows ++ row ∷ []) row.tag self.new }
     {
         let tag = row.tag;
         if let Some((port, value)) = written_port(&row.step) {
@@ -76,27 +77,22 @@ impl Writes {
         }
     }
 
-    /// Goes on past more rows.
-    pub(crate) fn pass_all(&mut self, program: &Program, more: &[Row])
-        ghost rows: { List TheRow }
+    /// Goes on past the rows of a later tag.
+    pub(crate) fn pass_all(&mut self, program: &Program, more: &[Row], tag: Tag)
         requires fit { RowsFit program.now more.now }
-        requires writes { AreWrites program.now rows self.old }
-        ensures { AreWrites program.now (rows ++ more.now) self.new }
+        requires at { AreAt more.now tag }
+        requires writes { AreEarlier program.now tag self.old }
+        ensures { AreWrites program.now more.now tag self.new }
     {
         for place in 0..more.len() {
             self.pass(program, row_at(more, place));
         }
     }
 
-    /// The value that is written last to the port at the tag, of rows that are at the tag behind
-    /// rows that are at earlier ones.
-    pub(crate) fn value_at(&self, program: &Program, tag: Tag, port: u32) -> Option<Value>
-        ghost parts: { List TheRow × List TheRow }
-        requires port { port < length program.now.ports }
-        requires earlier { AreBefore parts.0 tag }
-        requires at { AreAt parts.1 tag }
-        requires writes { AreWrites program.now (parts.0 ++ parts.1) self.now }
-        ensures { result ≡ last_write parts.1 tag port }
+    /// The value that is written last to the port, if that is at the tag.
+    pub(crate) fn value_at(&self, tag: Tag, port: u32) -> Option<Value>
+        requires { port < length self.now }
+        ensures { (w : Option TheWritten) → slice_get self.now port ≡ Some w → result ≡ value_at tag w }
     {
         match item_at(self.last.as_slice(), port as usize) {
             Some(write) => {
@@ -108,5 +104,16 @@ impl Writes {
             }
             None => None,
         }
+    }
+
+    /// The same, and the write is kept no more.
+    pub(crate) fn take(&mut self, tag: Tag, port: u32) -> Option<Value>
+        requires { port < length self.old }
+        ensures value { (w : Option TheWritten) → slice_get self.old port ≡ Some w → result ≡ value_at tag w }
+        ensures taken { self.new ≡ slice_set self.old port None }
+    {
+        let value = self.value_at(tag, port);
+        self.last[port as usize] = None;
+        value
     }
 }

@@ -1,12 +1,16 @@
-use Rattle.std.proofs.Common.{ℕ, ◌+◌, ◌++◌, List, ◌∙◌, ap, refl, subst}
+use Rattle.std.proofs.Common.{ℕ, ◌+◌, ◌++◌, List, Option, ◌∙◌, ap, refl, sym, subst}
+use Rattle.lft_tag.specs.Tags.{after}
 use Rattle.lft_flat.specs.Parts.{Parts}
 use Rattle.lft_flat.specs.declared.parts.Value.{Value}
 use Rattle.lft_trace.specs.Inputs.{ExternalInputs}
 use Rattle.lft_rows.specs.Marks.{AreMarks}
-use Rattle.lft_stream.specs.Coming.{to_come, scheduled_by, IsReached}
+use Rattle.lft_stream.specs.Channels.{caused_by}
+use Rattle.lft_stream.specs.Coming.{to_come, IsReached}
 use Rattle.lft_stream.specs.declared.coming.Coming.{Coming}
 use Rattle.lft_stream.specs.Lanes.{held}
-use Rattle.lft_stream.proofs.Parting.{rows_of, part_fits}
+use Rattle.lft_stream.specs.declared.writes.Written.{Written}
+use Rattle.lft_stream.specs.Writes.{AreEarlier}
+use Rattle.lft_stream.proofs.Parting.{rows_of, are_at, part_fits}
 use Rattle.lft_stream.proofs.Keeping.{own_kept, at_hand, slice_grows}
 use Rattle.lft_stream.proofs.stream.Stream.add_slice.Goals as goal
 
@@ -17,18 +21,17 @@ judge_slice-requires g c =
     let s = c.args.slice in
     let slice = c.requires.1.1.1.0 in
     let reached = subst (λ (x : ExternalInputs). IsReached x.events c.args.self.now.listeners s.tag c.args.self.now.coming c.reach.new.self) c.externals.ensures.value (c.if-not-reach.ensures refl) in
-    let hand = at_hand plan g.done rows s slice c.args.self.now c.requires.1.1.1.1.1.0 (c.if-not-is_later.ensures refl) c.requires.1.0 c.requires.1.1.0 c.program-program.ensures.sound.sound (record { stop = c.args.self.now.stop; tag = c.args.self.now.tag; runs = c.args.self.now.runs; tags = c.args.self.now.tags; dues = c.args.self.now.dues; starts = c.args.self.now.starts; writes = c.args.self.now.writes; listeners = c.args.self.now.listeners; coming = c.reach.new.self; effort = c.allows.new.self }) reached refl refl refl refl refl in
+    let hand = at_hand plan g.done rows s slice c.args.self.now c.requires.1.1.1.1.1.0 (c.if-not-is_later.ensures refl) c.requires.1.0 c.requires.1.1.0 c.program-program.ensures.sound.sound (record { stop = c.args.self.now.stop; tag = c.args.self.now.tag; runs = c.args.self.now.runs; tags = c.args.self.now.tags; dues = c.args.self.now.dues; starts = c.args.self.now.starts; writes = c.args.self.now.writes; listeners = c.args.self.now.listeners; channels = c.args.self.now.channels; coming = c.reach.new.self; effort = c.allows.new.self }) reached refl refl refl refl refl in
     (c.requires.0, (slice, (subst (λ (p : Parts). AreMarks p rows s.first s.end c.pass_all.new.self) c.program-program.ensures.value c.pass_all.ensures, hand)))
 
-pub schedule_all-requires : goal.schedule_all-requires
-schedule_all-requires g c =
-    let rows = c.args.rows.now in
-    let s = c.args.slice in
-    let slice = c.requires.1.1.1.0 in
-    part_fits rows s slice c.args.plan.now.program c.requires.0
+pub pass_on-requires-clause-fit : goal.pass_on-requires-clause-fit
+pass_on-requires-clause-fit g c = part_fits c.args.rows.now c.args.slice c.requires.1.1.1.0 c.args.plan.now.program c.requires.0
 
-pub returns-then-schedule_all-clause-stands : goal.returns-then-schedule_all-clause-stands
-returns-then-schedule_all-clause-stands g c = λ z.
+pub pass_on-requires-clause-at : goal.pass_on-requires-clause-at
+pass_on-requires-clause-at g c = are_at c.args.rows.now c.args.slice c.requires.1.1.1.0
+
+pub returns-then-pass_on-clause-stands : goal.returns-then-pass_on-clause-stands
+returns-then-pass_on-clause-stands g c = λ z.
     let plan = c.args.plan.now in
     let events = plan.externals.events in
     let rows = c.args.rows.now in
@@ -43,7 +46,9 @@ returns-then-schedule_all-clause-stands g c = λ z.
     let ordered = c.if-not-is_kept.ensures.kept refl old.stop (own_kept plan g.done rows s slice old stands later quiet kept) s.tag in
     let reached = subst (λ (x : ExternalInputs). IsReached x.events old.listeners s.tag old.coming c.reach.new.self) c.externals.ensures.value (c.if-not-reach.ensures refl) in
     let own = c.judge_slice.ensures in
+    let caused = c.if-pass_on.ensures in
     let counted = c.count.ensures in
     let runs = counted.runs z ∙ ap (λ (n : ℕ). n + c.starts_in.result) own.runs ∙ ap (λ (n : ℕ). old.runs + n) c.starts_in.ensures in
     let tags = counted.tags z ∙ ap (λ (n : ℕ). n + 1) own.tags in
-    slice_grows plan g.done rows s slice old stands later quiet kept c.program-program.ensures.sound.sound c.reach.new.self reached ordered judged c.count.new.self (c.if-not-judge_slice.ensures.judged refl) own.coming own.listeners (counted.stop ∙ own.stop) (counted.tag z) runs tags counted.dues counted.starts counted.writes counted.listeners (λ h n b. ap (λ (k : Coming). to_come events k h n) counted.coming ∙ c.if-schedule_all.ensures refl events h n ∙ ap (λ (vs : List Value). vs ++ held (scheduled_by plan (rows_of rows s slice) n) h) (c.drop_until.ensures events h n b ∙ ap (λ (k : Coming). to_come events k h n) own.coming))
+    let writes = subst (λ (ws : List (Option Written)). AreEarlier plan.program (after s.tag 0) ws) (sym counted.writes) (caused.earlier refl) in
+    slice_grows plan g.done rows s slice old stands later quiet kept c.program-program.ensures.sound.sound c.reach.new.self reached ordered judged c.count.new.self (c.if-not-judge_slice.ensures.judged refl) own.coming own.listeners (counted.stop ∙ own.stop) (counted.tag z) runs tags counted.dues counted.starts writes counted.listeners (counted.channels ∙ own.channels) (λ h n b. ap (λ (k : Coming). to_come events k h n) counted.coming ∙ caused.caused refl events h n b ∙ ap (λ (vs : List Value). vs ++ held (caused_by plan (rows_of rows s slice) s.tag n) h) (c.drop_until.ensures events h n b ∙ ap (λ (k : Coming). to_come events k h n) own.coming))

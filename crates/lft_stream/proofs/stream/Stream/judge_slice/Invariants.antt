@@ -2,10 +2,7 @@ use Rattle.std.proofs.Common.{◌++◌, slice_range}
 use Rattle.lft_stream.proofs.stream.Stream.judge_slice.Given as goal
 
 abbrev pub ghost-pass_all : goal.ghost-pass_all
-ghost-pass_all g a = g.done
-
-abbrev pub ghost-pass_all-2 : goal.ghost-pass_all-2
-ghost-pass_all-2 g a = g.done ++ slice_range a.rows.now a.slice.first a.slice.end
+ghost-pass_all g a = g.done ++ slice_range a.rows.now a.slice.first a.slice.end
 
 abbrev pub ghost-are_triggered : goal.ghost-are_triggered
 ghost-are_triggered g a = (g.done, slice_range a.rows.now a.slice.first a.slice.end)
