@@ -125,9 +125,6 @@ heard_origin program sound p o way =
     let same : x.0.origin ≡ o = sym (origin_unique way kept.1).0 in
     ap (λ (b : Bool). Port (cond b (unwrap_or (option_map (λ (y : PortOf). y.origin) (slice_get program.ports p)) 0) p)) (is_undelayed_way program sound p o way) ∙ ap (λ (e : Option PortOf). Port (unwrap_or (option_map (λ (y : PortOf). y.origin) e) 0)) x.1 ∙ ap Port same
 
-pub both_same : (listeners : Listeners) → BothGrow listeners listeners
-both_same listeners = (same_lists listeners.ports, same_lists listeners.actions)
-
 pub both_on : (old new newer : Listeners) → BothGrow old new → BothGrow new newer → BothGrow old newer
 both_on old new newer first second = (grown_on old.ports new.ports newer.ports first.0 second.0, grown_on old.actions new.actions newer.actions first.1 second.1)
 

@@ -6,10 +6,10 @@ use Rattle.std.proofs.lemmas.Bool.{cases_eq, false≢true}
 use Rattle.std.proofs.lemmas.Option.{none-some}
 use Rattle.std.proofs.lemmas.List.{append-nil}
 use Rattle.lft_tag.specs.declared.Tag.{Tag}
-use Rattle.lft_tag.specs.Tags.{Before, UpTo, after, after_all, same_tag}
+use Rattle.lft_tag.specs.Tags.{Before, UpTo, after_all, same_tag}
 use Rattle.lft_tag.specs.Shifts.{shifted}
 use Rattle.lft_tag.proofs.Chains.{shifted_chain}
-use Rattle.lft_tag.proofs.Order.{UpTo-Before, Before-irrefl, after_past, after_some_past, same_tag_refl}
+use Rattle.lft_tag.proofs.Order.{Before-irrefl, after_some_past, same_tag_refl}
 use Rattle.lft_lists.proofs.Members.{Mem, mem_get, get_mem, mem_filter, mem_from_filter, contains_mem, nil_of_none, last_mem, last_of_mem}
 use Rattle.lft_lists.proofs.Places.{same_at, get_written, get_unwritten, get_write_cases, length_written}
 use Rattle.lft_flat.specs.Origins.{Origin}
@@ -36,7 +36,7 @@ use Rattle.lft_stream.specs.declared.coming.Coming.{Coming}
 use Rattle.lft_stream.specs.declared.writes.Written.{Written}
 use Rattle.lft_stream.specs.Lanes.{held, carried}
 use Rattle.lft_stream.specs.Shown.{last_write}
-use Rattle.lft_stream.specs.Writes.{value_at, AreWrites, AreEarlier}
+use Rattle.lft_stream.specs.Writes.{value_at}
 use Rattle.lft_stream.proofs.AtOnce.{test_of, origin_is, port_behind, delayed_way}
 use Rattle.lft_stream.proofs.ToCome.{few_of}
 
@@ -182,15 +182,6 @@ module _ (program : Parts) (o : ℕ) (g : Tag) (v : Value) (targets : List ℕ) 
       go false e = here (behind_of program o p e own) (listed e there) (same_tag h (arrives_at program g p)) refl
       go true e = none_arrived (Port p) (λ q s k t. false≢true (sym (of_behind program o q k).1 ∙ ap (λ (j : ℕ). is_undelayed program j) (same_port q s) ∙ e)) ∙ sym (none_held (arrives_at program g p) h (λ q. Before-irrefl g (subst (λ (k : Tag). Before g k) (q ∙ arrives_now program g p e) b)) (Some v))
 
--- of the rows of a tag none has carried anything
-pub none_carried : (program : Parts) (u : List Row) (g : Tag) (start : Coming) (writes : List (Option Written)) → AreWrites program u g writes → AreCarried program u g 0 start start writes
-none_carried program u g start writes are = record {
-  as_long = are.as_long;
-  up_to = are.up_to;
-  actions = λ events h a. refl;
-  ports = λ p. inr (record { same = λ events h. refl; kept = are.each (origin_of program p); unwritten = λ i x v l. absurd (omega (arith, l)) });
-}
-
 module _ (program : Parts) (u : List Row) (count : ℕ) (row : Row) (is_row : slice_get u count ≡ Some row) (start old : Coming) (writes : List (Option Written)) (are : AreCarried program u row.tag count start old writes) where
   -- a row that doesn't write a port's origin leaves it to be carried
   still_unwritten : (p : ℕ) → ((v : Value) → row.step ≢ Write (Port (origin_of program p)) v) → ((i : ℕ) (x : Row) (v : Value) → i < count → slice_get u i ≡ Some x → x.step ≢ Write (Port (origin_of program p)) v) → (i : ℕ) (x : Row) (v : Value) → i < count + 1 → slice_get u i ≡ Some x → x.step ≢ Write (Port (origin_of program p)) v
@@ -278,9 +269,6 @@ module _ (program : Parts) (u : List Row) (count : ℕ) (row : Row) (is_row : sl
 
 -- once all rows of a tag have carried what they write
 module _ (program : Parts) (u : List Row) (g : Tag) (count : ℕ) (all : length u < count + 1) (start new : Coming) (writes : List (Option Written)) (are : AreCarried program u g count start new writes) where
-  pub all_earlier : AreEarlier program (after g 0) writes
-  all_earlier = record { as_long = are.as_long; each = λ p w e. UpTo-Before w.tag g (after g 0) (are.up_to p w e) (after_past g 0) }
-
   pub all_carried : (events : List Event) (h : Tag) (n : Name) → Before g h → to_come events new h n ≡ to_come events start h n ++ held (carried_by program u g n) h
   all_carried events h (Action a) b = are.actions events h a ∙ sym (append-nil (to_come events start h (Action a)))
   all_carried events h (Port p) b = go (are.ports p)
