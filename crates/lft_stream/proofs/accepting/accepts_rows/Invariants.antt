@@ -1,4 +1,4 @@
-use Rattle.std.proofs.Common.{◌≡◌, ◌-◌, ◌≤◌, take, length}
+use Rattle.std.proofs.Common.{◌-◌, ◌≤◌, take, length}
 use Rattle.lft_stream.specs.Kept.{IsStreamOf}
 use Rattle.lft_stream.proofs.accepting.accepts_rows.Given as goal
 
