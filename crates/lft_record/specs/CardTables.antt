@@ -1,5 +1,5 @@
 -- Tables of cards: the scripts of their records, and their faults.
-use Rattle.std.specs.Prelude.{◌≡◌, ◌≢◌, ◌==◌, ◌≤◌, ◌<◌, ◌+◌, ◌⊎◌, ◌++◌, ℕ, List, [], ◌∷◌, length, codes, slice_get, filter_map, option_to_list, cond, Bool, true, false, not, ◌&&◌, ◌||◌, is_some, Option, Some, None}
+use Rattle.std.specs.Prelude.{◌≡◌, ◌≢◌, ◌==◌, ◌⊎◌, ℕ, List, [], ◌∷◌, length, codes, slice_get, filter_map, option_to_list, cond, Bool, true, false, not, ◌&&◌, ◌||◌, is_some, Option, Some, None}
 use Rattle.lft_flat.specs.Names.{IsNamed}
 use Rattle.lft_flat.specs.Parts.{Parts}
 use Rattle.lft_flat.specs.declared.found.Found.TheVariants as found

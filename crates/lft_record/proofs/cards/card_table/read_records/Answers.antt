@@ -1,6 +1,6 @@
 use Rattle.std.proofs.Common.{rules, ◌≡◌}
 use Rattle.csv.specs.Records.{fields_of}
-use Rattle.lft_trace.specs.Records.{GoesOn, records_of}
+use Rattle.lft_trace.specs.Records.{records_of}
 use Rattle.lft_trace.proofs.TableFacts.{ended, fewer, past}
 use Rattle.lft_record.specs.CardTables.{card_tables, header}
 use Rattle.lft_record.proofs.CardFacts.{bad, one_more, refused, start}
