@@ -1,5 +1,5 @@
 -- What each hint says of a plan, the rows of a trace and a breach. A guess is no statement, and stands in the words alone.
-use Rattle.std.specs.Prelude.{◌≡◌, ◌≢◌, ℕ, ◌+◌, ◌*◌, ◌<◌, List, Some, slice_get, Contains}
+use Rattle.std.specs.Prelude.{◌≡◌, ◌≢◌, ℕ, ◌+◌, ◌*◌, ◌<◌, ◌≤◌, List, length, Some, slice_get, Contains}
 use Rattle.lft_tag.specs.declared.Tag.{Tag}
 use Rattle.lft_tag.specs.Tags.{Before}
 use Rattle.lft_flat.specs.Parts.{Parts}
@@ -45,9 +45,10 @@ pub record HasTrigger (program : Parts) (r : ℕ) (x : Trigger) : Type 0 where
 abbrev pub HasPort : Parts → ℕ → Type 0
 HasPort program r = (p : ℕ) × HasTrigger program r (On (Port p))
 
--- r is triggered at a thousand times the time of g, which isn't 0
+-- r is triggered at a thousand times the time of g, which isn't 0 and leads to a time that a trace may hold
 pub record IsThousandfold (plan : PlanParts) (t : List Row) (g : Tag) (r : ℕ) : Type 0 where
   pub later : 0 < g.time
+  pub recorded : g.time * 1000 ≤ 1000000000000000000
   pub triggered : Triggered plan t (record { time = g.time * 1000; micro = g.micro }) r
 
 -- the row schedules an action that triggers r, and its tag and its extra delay alone lead to g
@@ -83,7 +84,7 @@ OfRule8 plan t b h = (b.rule ≡ 8) × ((r : ℕ) × (b.reaction ≡ Some r) × 
 abbrev pub IsHint : PlanParts → List Row → Breach → Hint → Type 0
 IsHint plan t b hint.FirstOfWorker = (b.rule ≡ 1) × ((i : ℕ) × (b.row ≡ i + 2) × IsFirstOfWorker t i)
 IsHint plan t b hint.FirstRow = (b.rule ≡ 3) × (b.row ≡ 2)
-IsHint plan t b hint.TraceEnds = (b.rule ≡ 7) × AllBefore t b.tag × (stop plan t ≡ plan.externals.stop)
+IsHint plan t b hint.TraceEnds = (b.rule ≡ 7) × (0 < length t) × AllBefore t b.tag × (stop plan t ≡ plan.externals.stop)
 IsHint plan t b hint.NoReads = (b.rule ≡ 10) × NoneReads t
 IsHint plan t b hint.Thousandfold = OfRule8 plan t b hint.Thousandfold
 IsHint plan t b (hint.WholeDelay i) = OfRule8 plan t b (hint.WholeDelay i)

@@ -1,9 +1,10 @@
 //! Which hint a breach has.
 
-ghost use Rattle.std.specs.Prelude.{◌≡◌, ◌↔◌, ◌<◌, length, IsTrue, IfSome};
+ghost use Rattle.std.specs.Prelude.{◌≡◌, ◌↔◌, ◌<◌, ℕ, length, IsTrue, IfSome, IfNone};
 ghost use Rattle.lft_flat.specs.declared.parts.Trigger.TheVariants.{Shutdown};
 ghost use Rattle.lft_trace.specs.Fits.{RowsFit};
 ghost use Rattle.lft_model.specs.Presence.{stop};
+ghost use Rattle.lft_hints.specs.declared.hint.Hint.{Hint as TheHint};
 ghost use Rattle.lft_hints.specs.Hints.{HasPort, HasTrigger, HasWholeDelay, IsHint, IsThousandfold, IsUntriggeredHint, SchedulesWhole};
 
 use crate::hint::Hint;
@@ -11,13 +12,13 @@ use crate::rows::{all_before, is_first_of_worker, none_reads, none_writes};
 use lft_flat::{Name, Trigger};
 use lft_lists::item_at;
 use lft_model::{Breach, Plan, trace_stop, triggered_slow};
-use lft_tag::Tag;
+use lft_tag::{MAX_TIME, Tag};
 use lft_trace::{Row, Rows, Step, row_at};
 
 /// Whether the trigger is among those of the reaction.
 fn has_trigger(plan: &Plan, reaction: u32, trigger: Trigger) -> bool
     requires { reaction < length plan.now.program.reactions }
-    ensures { IsTrue result → HasTrigger plan.now.program reaction trigger }
+    ensures { IsTrue result ↔ HasTrigger plan.now.program reaction trigger }
 {
     let triggers = plan.program().reaction(reaction).triggers.as_slice();
     for place in 0..triggers.len() {
@@ -31,7 +32,7 @@ fn has_trigger(plan: &Plan, reaction: u32, trigger: Trigger) -> bool
 /// Whether a port is among the triggers of the reaction.
 fn has_port(plan: &Plan, reaction: u32) -> bool
     requires { reaction < length plan.now.program.reactions }
-    ensures { IsTrue result → HasPort plan.now.program reaction }
+    ensures { IsTrue result ↔ HasPort plan.now.program reaction }
 {
     let triggers = plan.program().reaction(reaction).triggers.as_slice();
     for place in 0..triggers.len() {
@@ -54,20 +55,20 @@ fn is_given_stop(plan: &Plan, rows: &[Row]) -> bool
 fn is_thousandfold(plan: &Plan, rows: &Rows, tag: Tag, reaction: u32) -> bool
     requires fit { RowsFit plan.now.program rows.now }
     requires reaction { reaction < length plan.now.program.reactions }
-    ensures { IsTrue result → IsThousandfold plan.now rows.now tag reaction }
+    ensures { IsTrue result ↔ IsThousandfold plan.now rows.now tag reaction }
 {
     if tag.time == 0 {
         return false;
     }
     match tag.time.checked_mul(1000) {
-        Some(time) => {
+        Some(time) if time <= MAX_TIME => {
             let later = Tag {
                 time,
                 micro: tag.micro,
             };
             triggered_slow(plan, rows, later, reaction)
         }
-        None => false,
+        _ => false,
     }
 }
 
@@ -75,7 +76,7 @@ fn is_thousandfold(plan: &Plan, rows: &Rows, tag: Tag, reaction: u32) -> bool
 /// whole one.
 fn schedules_whole(plan: &Plan, row: Row, tag: Tag, reaction: u32) -> bool
     requires { reaction < length plan.now.program.reactions }
-    ensures { IsTrue result → SchedulesWhole plan.now.program tag reaction row }
+    ensures { IsTrue result ↔ SchedulesWhole plan.now.program tag reaction row }
 {
     match row.step {
         Step::Schedule(Name::Action(action), _, extra) => {
@@ -93,7 +94,8 @@ fn schedules_whole(plan: &Plan, row: Row, tag: Tag, reaction: u32) -> bool
 fn whole_delay(plan: &Plan, rows: &[Row], tag: Tag, reaction: u32) -> Option<u32>
     requires few { length rows.now < 4294967296 }
     requires reaction { reaction < length plan.now.program.reactions }
-    ensures { IfSome result (HasWholeDelay plan.now.program rows.now tag reaction) }
+    ensures some { IfSome result (HasWholeDelay plan.now.program rows.now tag reaction) }
+    ensures none { IfNone result ((i : ℕ) → HasWholeDelay plan.now.program rows.now tag reaction i → ⊥) }
 {
     for place in 0..rows.len() {
         if schedules_whole(plan, row_at(rows, place), tag, reaction) {
@@ -107,7 +109,8 @@ fn whole_delay(plan: &Plan, rows: &[Row], tag: Tag, reaction: u32) -> Option<u32
 fn of_untriggered(plan: &Plan, rows: &Rows, tag: Tag, reaction: u32) -> Option<Hint>
     requires fit { RowsFit plan.now.program rows.now }
     requires reaction { reaction < length plan.now.program.reactions }
-    ensures { IfSome result (IsUntriggeredHint plan.now rows.now tag reaction) }
+    ensures some { IfSome result (IsUntriggeredHint plan.now rows.now tag reaction) }
+    ensures none { IfNone result ((hint : TheHint) → IsUntriggeredHint plan.now rows.now tag reaction hint → ⊥) }
 {
     if is_thousandfold(plan, rows, tag, reaction) {
         return Some(Hint::Thousandfold);
@@ -127,7 +130,8 @@ fn of_untriggered(plan: &Plan, rows: &Rows, tag: Tag, reaction: u32) -> Option<H
 /// The first of the hints that holds of the breach, if one does.
 pub fn hint_of(plan: &Plan, rows: &Rows, breach: Breach) -> Option<Hint>
     requires fit { RowsFit plan.now.program rows.now }
-    ensures { IfSome result (IsHint plan.now rows.now breach) }
+    ensures some { IfSome result (IsHint plan.now rows.now breach) }
+    ensures none { IfNone result ((hint : TheHint) → IsHint plan.now rows.now breach hint → ⊥) }
 {
     let all = rows.as_slice();
     match (breach.rule, breach.reaction) {

@@ -1,5 +1,5 @@
 -- What stands at a spot of a program's text.
-use Rattle.std.specs.Prelude.{◌≡◌, ℕ, ◌+◌, ◌≤◌, List, Option, Some, None, Contains, length, slice_range}
+use Rattle.std.specs.Prelude.{◌≡◌, ℕ, ◌+◌, ◌<◌, ◌≤◌, List, Option, Some, None, Contains, IsSomeAnd, length, slice_get, slice_range}
 use Rattle.lft_tree.specs.Tree.{RefTree, TimeTree, Written, Named}
 use Rattle.lft_syntax.specs.declared.token.Token.{Token}
 use Rattle.lft_syntax.specs.declared.token.TokenKind.TheVariants.{Code, Number}
@@ -31,10 +31,17 @@ abbrev pub TimeStandsAt : List ℕ → List Token → Spot → TimeTree → Type
 TimeStandsAt t tokens spot (Named name) = StandsAt t spot name
 TimeStandsAt t tokens spot (Written time) = (token : Token) × Contains tokens token × (token.start ≡ spot.start) × (token.kind ≡ Number time.count)
 
--- the word stands somewhere in code
-pub record HasCodeWith (t : List ℕ) (tokens : List Token) (word : List ℕ) : Type 0 where
-  pub code : Token
-  pub is_among : Contains tokens code
+-- the word stands somewhere in these bytes
+abbrev pub StandsIn : List ℕ → List ℕ → Type 0
+StandsIn bytes word = (place : ℕ) × (place < length bytes) × (slice_range bytes place (place + length word) ≡ word)
+
+-- the token is code of the text, and the word stands somewhere in it
+pub record IsCodeWith (t word : List ℕ) (code : Token) : Type 0 where
   pub is_code : code.kind ≡ Code
-  pub place : ℕ
-  pub there : slice_range (slice_range t code.start code.end) place (place + length word) ≡ word
+  pub order : code.start ≤ code.end
+  pub within : code.end ≤ length t
+  pub there : StandsIn (slice_range t code.start code.end) word
+
+-- the word stands somewhere in code
+abbrev pub HasCodeWith : List ℕ → List Token → List ℕ → Type 0
+HasCodeWith t tokens word = (i : ℕ) × IsSomeAnd (slice_get tokens i) (IsCodeWith t word)

@@ -2,7 +2,8 @@
 //!
 //! The text has a tree. So what begins at a token is known from the tree, and only its end is looked for.
 
-ghost use Rattle.std.specs.Prelude.{◌≡◌, ◌<◌, ◌+◌, ℕ, IfSome, IsTrue, length, slice_range};
+ghost use Rattle.std.specs.Prelude.{◌≡◌, ◌↔◌, ◌<◌, ◌≤◌, ◌+◌, IfSome, IsSome, IsTrue, length, slice_range};
+ghost use Rattle.lft_places.specs.Spots.{StandsIn};
 
 use lft_syntax::{Token, TokenKind};
 use lft_tree::Ast;
@@ -17,7 +18,8 @@ pub struct SourceText<'a> {
 
 /// The bytes of a token.
 pub(crate) fn spelling(text: &[u8], token: Token) -> Option<&[u8]>
-    ensures { IfSome result (λ bytes. bytes.now ≡ slice_range text.now token.start token.end) }
+    ensures some { IfSome result (λ bytes. bytes.now ≡ slice_range text.now token.start token.end) }
+    ensures inside { IsSome result ↔ ((token.start ≤ token.end) × (token.end ≤ length text.now)) }
 {
     if token.start <= token.end && token.end <= text.len() {
         Some(&text[token.start..token.end])
@@ -29,7 +31,7 @@ pub(crate) fn spelling(text: &[u8], token: Token) -> Option<&[u8]>
 /// Whether the bytes stand in the text at the place.
 fn stands_at(text: &[u8], bytes: &[u8], place: usize) -> bool
     requires { place < length text.now }
-    ensures { IsTrue result → slice_range text.now place (place + length bytes.now) ≡ bytes.now }
+    ensures { IsTrue result ↔ (slice_range text.now place (place + length bytes.now) ≡ bytes.now) }
 {
     if text.len() - place < bytes.len() {
         return false;
@@ -40,7 +42,7 @@ fn stands_at(text: &[u8], bytes: &[u8], place: usize) -> bool
 
 /// Whether the bytes stand somewhere in the text.
 pub(crate) fn holds(text: &[u8], bytes: &[u8]) -> bool
-    ensures { IsTrue result → (place : ℕ) × (slice_range text.now place (place + length bytes.now) ≡ bytes.now) }
+    ensures { IsTrue result ↔ StandsIn text.now bytes.now }
 {
     for start in 0..text.len() {
         if stands_at(text, bytes, start) {

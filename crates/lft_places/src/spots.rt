@@ -3,11 +3,11 @@
 //! Each part is looked for where the tree and the tokens have it. What is found there is compared with the
 //! name that is wanted, so a spot is never one of something else.
 
-ghost use Rattle.std.specs.Prelude.{◌≡◌, ◌≤◌, Contains, IfSome, IsTrue, codes};
+ghost use Rattle.std.specs.Prelude.{◌≡◌, ◌↔◌, ◌≤◌, Contains, IfSome, IsTrue, codes};
 ghost use Rattle.lft_syntax.specs.declared.token.Token.{Token as TheToken};
 ghost use Rattle.lft_syntax.specs.declared.token.TokenKind.TheVariants.{Number};
 ghost use Rattle.lft_tree.specs.View.{ref_view, time_view};
-ghost use Rattle.lft_places.specs.Spots.{HasCodeWith, NameStandsAt, StandAt, StandsAt, TimeStandsAt};
+ghost use Rattle.lft_places.specs.Spots.{HasCodeWith, IsCodeWith, NameStandsAt, StandAt, StandsAt, TimeStandsAt};
 
 use crate::source::{SourceText, holds, spelling};
 use lft_scope::kinds::Role;
@@ -209,14 +209,10 @@ impl<'a> SourceText<'a> {
         self.word(start, "reaction")
     }
 
-    /// Whether the bytes stand in the token, which is code.
-    fn is_code_with(&self, at: usize, word: &[u8]) -> bool
-        ensures { IsTrue result → HasCodeWith self.now.text.now self.now.tokens.now word.now }
+    /// Whether the token is code with those bytes.
+    fn is_code_with(&self, token: Token, word: &[u8]) -> bool
+        ensures { IsTrue result ↔ IsCodeWith self.now.text.now word.now token }
     {
-        if at >= self.tokens.len() {
-            return false;
-        }
-        let token = self.tokens[at];
         match spelling(self.text, token) {
             Some(spelled) => token.kind == TokenKind::Code && holds(spelled, word),
             None => false,
@@ -225,10 +221,10 @@ impl<'a> SourceText<'a> {
 
     /// Whether some code of the text has those bytes.
     pub fn has_code_with(&self, word: &[u8]) -> bool
-        ensures { IsTrue result → HasCodeWith self.now.text.now self.now.tokens.now word.now }
+        ensures { IsTrue result ↔ HasCodeWith self.now.text.now self.now.tokens.now word.now }
     {
         for at in 0..self.tokens.len() {
-            if self.is_code_with(at, word) {
+            if self.is_code_with(self.tokens[at], word) {
                 return true;
             }
         }
