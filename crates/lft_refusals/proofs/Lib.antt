@@ -1,1 +1,2 @@
 mod Drops
+mod Failing

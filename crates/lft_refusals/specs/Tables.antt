@@ -6,7 +6,9 @@ use Rattle.lft_flat.specs.Parts.{Parts}
 use Rattle.lft_flat.specs.declared.found.Found.TheVariants.{Reaction}
 use Rattle.lft_flat.specs.declared.parts.Name.{Name}
 use Rattle.lft_trace.specs.Numbers.{number, number_or_zero, value}
-use Rattle.lft_trace.specs.Traces.{IsThing}
+use Rattle.lft_trace.specs.ExternalTables.{ExternalFails}
+use Rattle.lft_trace.specs.ExternalTables as externals
+use Rattle.lft_trace.specs.Traces.{IsThing, FailsAt, TraceFails}
 use Rattle.lft_trace.specs.declared.fault.TraceFault.{TraceFault}
 use Rattle.lft_trace.specs.declared.fault.TraceFault.TheVariants as fault
 use Rattle.lft_refusals.specs.declared.fields.Wrong.{Wrong}
@@ -94,6 +96,35 @@ field_line e = None
 -- `TABLE, line L`
 abbrev pub line_words : List ℕ → ℕ → List ℕ
 line_words word line = word ++ codes ", line " ++ decimal line
+
+-- the words go on from these
+abbrev pub Begins : List ℕ → List ℕ → Type 0
+Begins start words = (rest : List ℕ) × (words ≡ start ++ rest)
+
+-- How the words of a fault begin: with the table, and the line of its record where it is of one.
+abbrev pub heading : List ℕ → TraceFault → List ℕ
+heading word fault.BadHeader = line_words word 1
+heading word (fault.BadFieldCount n) = line_words word n
+heading word (fault.BadEvent n) = line_words word n
+heading word (fault.BadNumber n) = line_words word n
+heading word (fault.UnknownName n) = line_words word n
+heading word (fault.FieldInPlace n) = line_words word n
+heading word (fault.DuplicateExternal n) = line_words word n
+heading word (fault.TwoStops n) = line_words word n
+heading word fault.NoStop = word
+heading word fault.TooManyRows = word
+heading word fault.NotCsv = []
+heading word fault.NoMemory = []
+
+-- The table has the fault.
+abbrev pub Fails : Parts → Table → List (List (List ℕ)) → TraceFault → Type 0
+Fails program (Trace word) records e = TraceFails program records e
+Fails program Externals records e = ExternalFails program records e
+
+-- The table fails at this record.
+abbrev pub FailsThere : Parts → Table → List (List (List ℕ)) → List (List ℕ) → TraceFault → Type 0
+FailsThere program (Trace word) records fields e = (fails : FailsAt program records e) × (fails.bad ≡ fields)
+FailsThere program Externals records fields e = (fails : externals.FailsAt program records e) × (fails.bad ≡ fields)
 
 -- `TABLE, line L, field K (NAME): `
 abbrev pub field_words : List ℕ → ℕ → Wrong → List ℕ

@@ -1,7 +1,11 @@
 //! Which field of a record is wrong, and what it may be.
 
-ghost use Rattle.std.specs.Prelude.{IfSome, codes};
+ghost use Rattle.std.specs.Prelude.{◌≡◌, ℕ, List, IfSome, IfNone, codes};
 ghost use Rattle.csv.specs.Records.{fields_of};
+ghost use Rattle.lft_flat.specs.Parts.{Parts};
+ghost use Rattle.lft_trace.specs.ExternalTables.{FailsAt};
+ghost use Rattle.lft_trace.specs.Traces.{FaultAt};
+ghost use Rattle.lft_trace.specs.declared.fault.TraceFault.TheVariants as fault;
 ghost use Rattle.lft_refusals.specs.Tables.{IsField, IsFilled, IsFilledThere, IsNoNumber, IsNoNumberThere, NamesNone};
 
 use crate::record::field;
@@ -26,11 +30,12 @@ const DIGITS: &str = "A number is written by digits alone.";
 const NANOSECONDS: &str =
     "Times and delays are whole nanoseconds, of at most 10^18. They count from the start of the run.";
 
-/// The first field of a row of a trace that is no number, if one isn't.
+/// The first field of a row of a trace that is no number, if one isn't. It is asked of a row in which a number
+/// is wanted and is none: in a row without a value or a delay that is one of the first three.
 pub(crate) fn number_of_trace(fields: &ByteRecord) -> Option<Wrong>
-    ensures { IfSome result (IsNoNumber (fields_of fields.now)) }
+    ensures some { IfSome result (IsNoNumber (fields_of fields.now)) }
+    ensures none { IfNone result ((program : Parts) (n line : ℕ) → FaultAt program line (fields_of fields.now) (fault.BadNumber n) → ⊥) }
 {
-    let has_value = has_value(field(fields, 0));
     if read_number(field(fields, 1), u32::MAX as u64).is_none() {
         return Some(wrong_at(
             1,
@@ -45,7 +50,7 @@ pub(crate) fn number_of_trace(fields: &ByteRecord) -> Option<Wrong>
     if read_number(field(fields, 3), MAX_MICRO as u64).is_none() {
         return Some(wrong_at(3, "microstep", "is no microstep", DIGITS));
     }
-    if has_value && read_value(field(fields, 6)).is_none() {
+    if read_value(field(fields, 6)).is_none() {
         return Some(wrong_at(6, "value", "is no value", VALUES));
     }
     if read_number_or_zero(field(fields, 7), MAX_TIME).is_none() {
@@ -58,7 +63,8 @@ const VALUES: &str = "A value is a whole number of 64 bits with a sign, or nothi
 
 /// The first field of a record of external inputs that is no number, if one isn't.
 pub(crate) fn number_of_externals(fields: &ByteRecord) -> Option<Wrong>
-    ensures { IfSome result (IsNoNumberThere (fields_of fields.now)) }
+    ensures some { IfSome result (IsNoNumberThere (fields_of fields.now)) }
+    ensures none { IfNone result ((program : Parts) (records : List (List (List ℕ))) (n : ℕ) (fails : FailsAt program records (fault.BadNumber n)) → fails.bad ≡ fields_of fields.now → ⊥) }
 {
     if read_number(field(fields, 1), MAX_TIME).is_none() {
         return Some(wrong_at(1, "time", "is no time", NANOSECONDS));
@@ -74,7 +80,8 @@ pub(crate) fn number_of_externals(fields: &ByteRecord) -> Option<Wrong>
 
 /// The field of a row of a trace that names nothing that it may name, if one does.
 pub(crate) fn name_of_trace(program: &Program, fields: &ByteRecord) -> Option<Wrong>
-    ensures { IfSome result (NamesNone program.now (fields_of fields.now)) }
+    ensures some { IfSome result (NamesNone program.now (fields_of fields.now)) }
+    ensures none { IfNone result ((n line : ℕ) → FaultAt program.now line (fields_of fields.now) (fault.UnknownName n) → ⊥) }
 {
     let reaction = field(fields, 4);
     if read_reaction(program, None, reaction).is_none() {

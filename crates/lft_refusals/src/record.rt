@@ -1,6 +1,6 @@
 //! One record of a table, with a mark below a field.
 
-ghost use Rattle.std.specs.Prelude.{◌≡◌, IfOk, IfSome};
+ghost use Rattle.std.specs.Prelude.{◌≡◌, ℕ, List, IfOk, IfSome, IfNone};
 ghost use Rattle.csv.specs.Records.{fields_of};
 ghost use Rattle.lft_trace.specs.Records.{records_of};
 ghost use Rattle.lft_refusals.specs.Tables.{HasRecord, field_at};
@@ -20,7 +20,8 @@ pub(crate) fn record_of(
     text: &[u8],
     number: u32,
 ) -> Result<Option<ByteRecord>, NoMemory>
-    ensures { IfOk result (λ found. IfSome found (λ r. HasRecord (records_of text.now) number (fields_of r))) }
+    ensures some { IfOk result (λ found. IfSome found (λ r. HasRecord (records_of text.now) number (fields_of r))) }
+    ensures none { IfOk result (λ found. IfNone found ((fields : List (List ℕ)) → HasRecord (records_of text.now) number fields → ⊥)) }
 {
     if number == 0 {
         return Ok(None);
@@ -30,7 +31,8 @@ pub(crate) fn record_of(
         match records.next() {
             Ok(true) => {}
             Ok(false) => return Ok(None),
-            Err(_) => return Ok(None),
+            // The table was read before, so that fails for want of memory.
+            Err(_) => return Err(NoMemory),
         }
     }
     Ok(Some(records.fields))

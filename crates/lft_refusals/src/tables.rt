@@ -1,10 +1,12 @@
 //! Why a table is refused, for people.
 
-ghost use Rattle.std.specs.Prelude.{◌≡◌, ◌++◌, [], ℕ, Some, false, ◌⊎◌, IfOk, IfSome, OnOk, codes, string_bytes};
+ghost use Rattle.std.specs.Prelude.{◌≡◌, ◌++◌, [], ℕ, List, Some, false, ◌⊎◌, IfOk, IfSome, IfNone, OnOk, codes, string_bytes};
 ghost use Rattle.csv.specs.Records.{fields_of};
 ghost use Rattle.lft_trace.specs.Faults.{is_told};
 ghost use Rattle.lft_trace.specs.Records.{records_of};
-ghost use Rattle.lft_refusals.specs.Tables.{IsWrong, IsWrongIn, IsWrongThere, NamesField, field_line, field_words, line_words, word_of};
+ghost use Rattle.lft_trace.specs.ExternalTables.{ExternalFails};
+ghost use Rattle.lft_trace.specs.Traces.{TraceFails};
+ghost use Rattle.lft_refusals.specs.Tables.{Begins, Fails, FailsThere, HasRecord, IsWrong, IsWrongIn, IsWrongThere, NamesField, field_line, field_words, heading, line_words, word_of};
 
 use crate::fields::{
     Wrong, filled_of_externals, filled_of_trace, name_of_externals, name_of_trace,
@@ -19,6 +21,10 @@ use lft_tag::NoMemory;
 use lft_trace::TraceFault;
 use lft_words::push_number;
 use std::alloc::Global;
+
+const NO_STOP: &str = ": there is no record stop,TIME,MICROSTEP,,\n";
+
+const TOO_MANY: &str = ": a table has at most 4,000,000 records.\n";
 
 /// The table that was read. A trace is called by a word, since there may be two.
 #[derive(Clone, Copy)]
@@ -65,6 +71,7 @@ pub fn tell_trace(
 ) -> Result<String, NoMemory>
     ensures untold { IfOk result (λ words. is_told fault ≡ false → string_bytes words ≡ []) }
     ensures field { IfOk result (λ words. (n : ℕ) → field_line fault ≡ Some n → (string_bytes words ≡ []) ⊎ NamesField (records_of text.now) word.now n (IsWrong program.now fault) (string_bytes words)) }
+    ensures told { IfOk result (λ words. TraceFails program.now (records_of text.now) fault → Begins (heading word.now fault) (string_bytes words)) }
 {
     tell(alloc, program, text, fault, Table::Trace(word))
 }
@@ -78,6 +85,7 @@ pub fn tell_externals(
 ) -> Result<String, NoMemory>
     ensures untold { IfOk result (λ words. is_told fault ≡ false → string_bytes words ≡ []) }
     ensures field { IfOk result (λ words. (n : ℕ) → field_line fault ≡ Some n → (string_bytes words ≡ []) ⊎ NamesField (records_of text.now) (codes "External inputs") n (IsWrongThere fault) (string_bytes words)) }
+    ensures told { IfOk result (λ words. ExternalFails program.now (records_of text.now) fault → Begins (heading (codes "External inputs") fault) (string_bytes words)) }
 {
     tell(alloc, program, text, fault, Table::Externals)
 }
@@ -92,6 +100,7 @@ fn tell(
 ) -> Result<String, NoMemory>
     ensures untold { IfOk result (λ words. is_told fault ≡ false → string_bytes words ≡ []) }
     ensures field { IfOk result (λ words. (n : ℕ) → field_line fault ≡ Some n → (string_bytes words ≡ []) ⊎ NamesField (records_of text.now) (word_of table) n (IsWrongIn program.now table fault) (string_bytes words)) }
+    ensures told { IfOk result (λ words. Fails program.now table (records_of text.now) fault → Begins (heading (word_of table) fault) (string_bytes words)) }
 {
     match fault {
         TraceFault::NotCsv | TraceFault::NoMemory => Ok(String::new(alloc)),
@@ -102,9 +111,9 @@ fn tell(
         TraceFault::BadFieldCount(line)
         | TraceFault::DuplicateExternal(line)
         | TraceFault::TwoStops(line) => tell_record(alloc, text, line, fault, table),
-        TraceFault::BadHeader | TraceFault::NoStop | TraceFault::TooManyRows => {
-            tell_whole(alloc, text, fault, table)
-        }
+        TraceFault::BadHeader => tell_header(alloc, text, table),
+        TraceFault::NoStop => tell_whole(alloc, table, NO_STOP),
+        TraceFault::TooManyRows => tell_whole(alloc, table, TOO_MANY),
     }
 }
 
@@ -117,7 +126,8 @@ fn tell_field(
     fault: TraceFault,
     table: Table,
 ) -> Result<String, NoMemory>
-    ensures { IfOk result (λ words. (string_bytes words ≡ []) ⊎ NamesField (records_of text.now) (word_of table) line (IsWrongIn program.now table fault) (string_bytes words)) }
+    ensures field { IfOk result (λ words. (string_bytes words ≡ []) ⊎ NamesField (records_of text.now) (word_of table) line (IsWrongIn program.now table fault) (string_bytes words)) }
+    ensures told { IfOk result (λ words. field_line fault ≡ Some line → (fields : List (List ℕ)) → HasRecord (records_of text.now) line fields → FailsThere program.now table (records_of text.now) fields fault → Begins (line_words (word_of table) line) (string_bytes words)) }
 {
     let Some(fields) = record_of(alloc, text, line)? else {
         return Ok(String::new(alloc));
@@ -139,59 +149,55 @@ fn tell_record(
     line: u32,
     fault: TraceFault,
     table: Table,
-) -> Result<String, NoMemory> {
-    let mut out = String::new(alloc);
+) -> Result<String, NoMemory>
+    ensures { IfOk result (λ words. (fields : List (List ℕ)) → HasRecord (records_of text.now) line fields → Begins (line_words (word_of table) line) (string_bytes words)) }
+{
     let Some(fields) = record_of(alloc, text, line)? else {
-        return Ok(out);
+        return Ok(String::new(alloc));
     };
-    let words = match fault {
-        TraceFault::DuplicateExternal(_) => "that action has an event at that tag already.",
-        TraceFault::TwoStops(_) => "a stop stands before it already.",
-        _ => {
-            push_count(alloc, &mut out, line, &fields, table)?;
-            return Ok(out);
-        }
-    };
-    push_whole(alloc, &mut out, line, &fields, table, words)?;
+    let mut out = String::new(alloc);
+    push_line(&mut out, line, table)?;
+    let rest = record_words(alloc, line, &fields, fault, table)?;
+    out.push_str(rest.as_str())?;
     Ok(out)
 }
 
 /// The same of a fault of no record.
-fn tell_whole(
-    alloc: Global,
-    text: &[u8],
-    fault: TraceFault,
-    table: Table,
-) -> Result<String, NoMemory> {
+fn tell_whole(alloc: Global, table: Table, is_wrong: &str) -> Result<String, NoMemory>
+    ensures { IfOk result (λ words. string_bytes words ≡ word_of table ++ is_wrong.now) }
+{
     let mut out = String::new(alloc);
-    match fault {
-        TraceFault::NoStop => {
-            out.push_str("External inputs: there is no record stop,TIME,MICROSTEP,,\n")?;
-        }
-        TraceFault::TooManyRows => {
-            out.push_str(table.word())?;
-            out.push_str(": a table has at most 4,000,000 records.\n")?;
-        }
-        _ => push_header(alloc, &mut out, text, table)?,
-    }
+    out.push_str(table.word())?;
+    out.push_str(is_wrong)?;
     Ok(out)
 }
 
-/// Puts behind the text that the table begins with another record than its header.
-fn push_header(alloc: Global, out: &mut String, text: &[u8], table: Table) -> Result<(), NoMemory> {
-    let first = first_line(text);
-    push_line(out, 1, table)?;
-    out.push_str(": this isn't the header.\n\n  wanted  ")?;
+/// The same of a table that begins with another record than its header.
+fn tell_header(alloc: Global, text: &[u8], table: Table) -> Result<String, NoMemory>
+    ensures { IfOk result (λ words. Begins (line_words (word_of table) 1) (string_bytes words)) }
+{
+    let mut out = String::new(alloc);
+    push_line(&mut out, 1, table)?;
+    let rest = header_words(alloc, text, table)?;
+    out.push_str(rest.as_str())?;
+    Ok(out)
+}
+
+/// What is said of a first record that isn't the header.
+fn header_words(alloc: Global, text: &[u8], table: Table) -> Result<String, NoMemory> {
+    let mut out = String::from_str(alloc, ": this isn't the header.\n\n  wanted  ")?;
     out.push_str(table.header())?;
     out.push_str("\n  found   ")?;
+    let first = first_line(text);
     if first.len() <= LONGEST {
-        push_bytes(alloc, out, first)?;
+        push_bytes(alloc, &mut out, first)?;
     } else {
         out.push_str("a line of more than 200 bytes")?;
     }
     out.push_str("\n")?;
     let words = String::from_utf8_lossy(alloc, first)?;
-    push_way(out, of_text(text, words.as_str()))
+    push_way(&mut out, of_text(text, words.as_str()))?;
+    Ok(out)
 }
 
 /// A line of more bytes isn't quoted.
@@ -214,7 +220,8 @@ fn wrong_field(
     fault: TraceFault,
     table: Table,
 ) -> Option<Wrong>
-    ensures { IfSome result (IsWrongIn program.now table fault (fields_of fields.now)) }
+    ensures some { IfSome result (IsWrongIn program.now table fault (fields_of fields.now)) }
+    ensures none { IfNone result ((n : ℕ) (records : List (List (List ℕ))) → field_line fault ≡ Some n → FailsThere program.now table records (fields_of fields.now) fault → ⊥) }
 {
     match (fault, table) {
         (TraceFault::BadEvent(_), Table::Trace(_)) => Some(EVENT),
@@ -253,22 +260,41 @@ fn push_line(out: &mut String, line: u32, table: Table) -> Result<(), NoMemory>
     Ok(())
 }
 
-/// Puts behind the text that a record has another number of fields.
-fn push_count(
+/// What is said of a record that is wrong as a whole.
+fn record_words(
     alloc: Global,
-    out: &mut String,
     line: u32,
     fields: &ByteRecord,
+    fault: TraceFault,
     table: Table,
-) -> Result<(), NoMemory> {
-    push_line(out, line, table)?;
+) -> Result<String, NoMemory> {
+    let mut out = String::new(alloc);
+    match fault {
+        TraceFault::DuplicateExternal(_) => {
+            out.push_str(": that action has an event at that tag already.\n")?;
+            push_record(alloc, &mut out, line, fields, 0)?;
+        }
+        TraceFault::TwoStops(_) => {
+            out.push_str(": a stop stands before it already.\n")?;
+            push_record(alloc, &mut out, line, fields, 0)?;
+        }
+        _ => {
+            push_count(&mut out, fields, table)?;
+            push_record(alloc, &mut out, line, fields, 0)?;
+            push_wanted(&mut out, table)?;
+        }
+    }
+    Ok(out)
+}
+
+/// Puts how many fields a record has, and how many are wanted, behind the text.
+fn push_count(out: &mut String, fields: &ByteRecord, table: Table) -> Result<(), NoMemory> {
     out.push_str(" has ")?;
     push_number(out, fields.len() as u64)?;
     out.push_str(" fields, and ")?;
     out.push_str(table.count())?;
     out.push_str(" are wanted.\n")?;
-    push_record(alloc, out, line, fields, 0)?;
-    push_wanted(out, table)
+    Ok(())
 }
 
 /// Puts the header behind the text.
@@ -277,22 +303,6 @@ fn push_wanted(out: &mut String, table: Table) -> Result<(), NoMemory> {
     out.push_str(table.header())?;
     out.push_str("\n")?;
     Ok(())
-}
-
-/// Puts behind the text what is wrong with a record as a whole.
-fn push_whole(
-    alloc: Global,
-    out: &mut String,
-    line: u32,
-    fields: &ByteRecord,
-    table: Table,
-    words: &str,
-) -> Result<(), NoMemory> {
-    push_line(out, line, table)?;
-    out.push_str(": ")?;
-    out.push_str(words)?;
-    out.push_str("\n")?;
-    push_record(alloc, out, line, fields, 0)
 }
 
 /// Puts which field is wrong behind the text.

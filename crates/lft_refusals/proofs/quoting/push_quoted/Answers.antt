@@ -1,4 +1,4 @@
-use Rattle.std.proofs.Common.{◌≡◌, ◌++◌, ap, ◌∙◌, string_bytes}
+use Rattle.std.proofs.Common.{◌++◌, ap, ◌∙◌, string_bytes}
 use Rattle.std.proofs.lemmas.Result.{on_ok_weaker}
 use Rattle.std.proofs.lemmas.Str.Ascii.{trim_ascii_end_is}
 use Rattle.lft_words.proofs.Steps.{also}

@@ -1,6 +1,6 @@
-use Rattle.std.proofs.Common.{◌≡◌, ◌+◌, ◌-◌, ◌∷◌, slice_get, sym, ap, ◌∙◌, arith}
+use Rattle.std.proofs.Common.{slice_get, sym, ap, ◌∙◌, arith}
 use Rattle.lft_trace.specs.Records.{records_of}
-use Rattle.lft_refusals.proofs.Drops.{first_left, left_more}
+use Rattle.lft_refusals.proofs.Drops.{first_left, left_more, none_left}
 use Rattle.lft_refusals.proofs.record.record_of.Goals as goal
 
 pub loop-before-preserved : goal.loop-before-preserved
@@ -14,3 +14,7 @@ loop-before-preserved c =
       left = sym (left_more all _ n _ left);
       last = λ _. ap (λ m. slice_get all m) (omega arith) ∙ first_left all _ n _ left;
     }
+
+pub returns-in-Ok-false-clause-none : goal.returns-in-Ok-false-clause-none
+returns-in-Ok-false-clause-none c fields (before, is, at) =
+    none_left (records_of c.args.text.now) c.loop-before._before before fields (sym c.loop-before.invariant.left ∙ c.in-Ok-false.ensures.none c.in-Ok-false.field-0-test) (omega arith) at
