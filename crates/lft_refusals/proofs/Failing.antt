@@ -1,9 +1,11 @@
 -- The record at which a table fails.
 use Rattle.std.proofs.Common.{◌≡◌, ℕ, ◌+◌, List, [], ◌∷◌, ◌++◌, Option, Some, None, IfNone, IfSome, is_some, true, inl, inr, length, slice_get, zero, suc, add-one, Result, Ok, Err, IfOk, sym, ap, subst, ◌∙◌, arith}
+use Rattle.std.proofs.lemmas.Slice.Zip.{AllZip-long}
 use Rattle.csv.specs.Records.{field_at as at_place}
 use Rattle.lft_flat.specs.Parts.{Parts}
-use Rattle.lft_trace.specs.Traces.{FailsAt}
-use Rattle.lft_trace.specs.ExternalTables as externals
+use Rattle.lft_trace.specs.ExternalTables.{external_tables}
+use Rattle.lft_trace.specs.Tables.{FailsAt, TableKind}
+use Rattle.lft_trace.specs.Traces.{trace_tables}
 use Rattle.lft_trace.specs.declared.fault.TraceFault.{TraceFault}
 use Rattle.lft_trace.specs.declared.fault.TraceFault.TheVariants as fault
 use Rattle.lft_refusals.specs.Tables.{Fails, FailsThere, HasRecord, field_at}
@@ -55,8 +57,12 @@ behind : (first more : List (List (List ℕ))) (bad : List (List ℕ)) → slice
 behind [] more bad = cc
 behind (x ∷ first) more bad = behind first more bad
 
-has_bad : (records first more : List (List (List ℕ))) (head bad : List (List ℕ)) → records ≡ head ∷ (first ++ bad ∷ more) → HasRecord records (length first + 2) bad
-has_bad records first more head bad under = (length first + 1, omega arith, ap (λ l. slice_get l (length first + 1)) under ∙ ap (λ k. slice_get (head ∷ (first ++ bad ∷ more)) k) (add-one (length first)) ∙ behind first more bad)
+has_bad : {Item Fault : Type 0} (kind : TableKind Item Fault) (records : List (List (List ℕ))) (e : Fault) (f : FailsAt kind records e) → HasRecord records (length f.items + 2) f.bad
+has_bad kind records e f =
+    let first = f.begins.first in
+    let all : List (List (List ℕ)) = kind.header ∷ (first ++ f.bad ∷ f.more) in
+    let long : length first ≡ length f.items = sym (AllZip-long kind.Tells first f.items f.begins.each) in
+    (length first + 1, omega arith, ap (λ l. slice_get l (length first + 1)) f.begins.under ∙ ap (λ k. slice_get all k) (add-one (length first)) ∙ behind first f.more f.bad)
 
 -- the number of the record of which a fault is
 abbrev pub line_in : TraceFault → Option ℕ
@@ -71,7 +77,7 @@ line_in e = None
 
 -- the number of the record at which a table fails is that of the fault
 module _ (p : Parts) (records : List (List (List ℕ))) where
-  at_line : (e : TraceFault) (n : ℕ) → line_in e ≡ Some n → (f : FailsAt p records e) → n ≡ length f.first + 2
+  at_line : (e : TraceFault) (n : ℕ) → line_in e ≡ Some n → (f : FailsAt (trace_tables p) records e) → n ≡ length f.items + 2
   at_line (fault.BadFieldCount k) n line f = (let is = f.is.0 in cc)
   at_line (fault.BadEvent k) n line f = (let is = f.is.0 in cc)
   at_line (fault.BadNumber k) n line f = (let is = f.is.0 in cc)
@@ -85,7 +91,7 @@ module _ (p : Parts) (records : List (List (List ℕ))) where
   at_line fault.NotCsv n line f = absurd (cc)
   at_line fault.NoMemory n line f = absurd (cc)
 
-  at_entry : (e : TraceFault) (n : ℕ) → line_in e ≡ Some n → (f : externals.FailsAt p records e) → n ≡ length f.first + 2
+  at_entry : (e : TraceFault) (n : ℕ) → line_in e ≡ Some n → (f : FailsAt (external_tables p) records e) → n ≡ length f.items + 2
   at_entry (fault.BadFieldCount k) n line f = (let is = f.is.0 in cc)
   at_entry (fault.BadEvent k) n line f = (let is = f.is.0 in cc)
   at_entry (fault.BadNumber k) n line f = (let is = f.is.0 in cc)
@@ -102,9 +108,9 @@ module _ (p : Parts) (records : List (List (List ℕ))) where
   -- a table with a fault of a record fails at that record
   pub failing : (table : Table) (e : TraceFault) (n : ℕ) → line_in e ≡ Some n → Fails p table records e → (fields : List (List ℕ)) × HasRecord records n fields × FailsThere p table records fields e
   failing (Trace word) e n line (inl head) = (let is = head.0 in absurd (cc))
-  failing (Trace word) e n line (inr (inl f)) = (f.bad, subst (λ m. HasRecord records m f.bad) (sym (at_line e n line f)) (has_bad records f.first f.more _ f.bad f.begins.under), (f, cc))
+  failing (Trace word) e n line (inr (inl f)) = (f.bad, subst (λ m. HasRecord records m f.bad) (sym (at_line e n line f)) (has_bad (trace_tables p) records e f), (f, cc))
   failing (Trace word) e n line (inr (inr many)) = (let is = many.0 in absurd (cc))
-  failing Externals e n line (inl head) = (let is = head.0 in absurd (cc))
-  failing Externals e n line (inr (inl f)) = (f.bad, subst (λ m. HasRecord records m f.bad) (sym (at_entry e n line f)) (has_bad records f.first f.more _ f.bad f.begins.under), (f, cc))
-  failing Externals e n line (inr (inr (inl many))) = (let is = many.0 in absurd (cc))
-  failing Externals e n line (inr (inr (inr none))) = (let is = none.0 in absurd (cc))
+  failing Externals e n line (inl (inl head)) = (let is = head.0 in absurd (cc))
+  failing Externals e n line (inl (inr (inl f))) = (f.bad, subst (λ m. HasRecord records m f.bad) (sym (at_entry e n line f)) (has_bad (external_tables p) records e f), (f, cc))
+  failing Externals e n line (inl (inr (inr many))) = (let is = many.0 in absurd (cc))
+  failing Externals e n line (inr none) = (let is = none.0 in absurd (cc))

@@ -6,9 +6,9 @@ use Rattle.lft_flat.specs.Parts.{Parts}
 use Rattle.lft_flat.specs.declared.found.Found.TheVariants.{Reaction}
 use Rattle.lft_flat.specs.declared.parts.Name.{Name}
 use Rattle.lft_trace.specs.Numbers.{number, number_or_zero, value}
-use Rattle.lft_trace.specs.ExternalTables.{ExternalFails}
-use Rattle.lft_trace.specs.ExternalTables as externals
-use Rattle.lft_trace.specs.Traces.{IsThing, FailsAt, TraceFails}
+use Rattle.lft_trace.specs.ExternalTables.{ExternalFails, external_tables}
+use Rattle.lft_trace.specs.Tables.{FailsAt}
+use Rattle.lft_trace.specs.Traces.{IsThing, TraceFails, trace_tables}
 use Rattle.lft_trace.specs.declared.fault.TraceFault.{TraceFault}
 use Rattle.lft_trace.specs.declared.fault.TraceFault.TheVariants as fault
 use Rattle.lft_refusals.specs.declared.fields.Wrong.{Wrong}
@@ -123,8 +123,8 @@ Fails program Externals records e = ExternalFails program records e
 
 -- The table fails at this record.
 abbrev pub FailsThere : Parts → Table → List (List (List ℕ)) → List (List ℕ) → TraceFault → Type 0
-FailsThere program (Trace word) records fields e = (fails : FailsAt program records e) × (fails.bad ≡ fields)
-FailsThere program Externals records fields e = (fails : externals.FailsAt program records e) × (fails.bad ≡ fields)
+FailsThere program (Trace word) records fields e = (fails : FailsAt (trace_tables program) records e) × (fails.bad ≡ fields)
+FailsThere program Externals records fields e = (fails : FailsAt (external_tables program) records e) × (fails.bad ≡ fields)
 
 -- `TABLE, line L, field K (NAME): `
 abbrev pub field_words : List ℕ → ℕ → Wrong → List ℕ

@@ -3,7 +3,8 @@
 ghost use Rattle.std.specs.Prelude.{◌≡◌, ℕ, List, IfSome, IfNone, codes};
 ghost use Rattle.csv.specs.Records.{fields_of};
 ghost use Rattle.lft_flat.specs.Parts.{Parts};
-ghost use Rattle.lft_trace.specs.ExternalTables.{FailsAt};
+ghost use Rattle.lft_trace.specs.ExternalTables.{external_tables};
+ghost use Rattle.lft_trace.specs.Tables.{FailsAt};
 ghost use Rattle.lft_trace.specs.Traces.{FaultAt};
 ghost use Rattle.lft_trace.specs.declared.fault.TraceFault.TheVariants as fault;
 ghost use Rattle.lft_refusals.specs.Tables.{IsField, IsFilled, IsFilledThere, IsNoNumber, IsNoNumberThere, NamesNone};
@@ -64,7 +65,7 @@ const VALUES: &str = "A value is a whole number of 64 bits with a sign, or nothi
 /// The first field of a record of external inputs that is no number, if one isn't.
 pub(crate) fn number_of_externals(fields: &ByteRecord) -> Option<Wrong>
     ensures some { IfSome result (IsNoNumberThere (fields_of fields.now)) }
-    ensures none { IfNone result ((program : Parts) (records : List (List (List ℕ))) (n : ℕ) (fails : FailsAt program records (fault.BadNumber n)) → fails.bad ≡ fields_of fields.now → ⊥) }
+    ensures none { IfNone result ((program : Parts) (records : List (List (List ℕ))) (n : ℕ) (fails : FailsAt (external_tables program) records (fault.BadNumber n)) → fails.bad ≡ fields_of fields.now → ⊥) }
 {
     if read_number(field(fields, 1), MAX_TIME).is_none() {
         return Some(wrong_at(1, "time", "is no time", NANOSECONDS));

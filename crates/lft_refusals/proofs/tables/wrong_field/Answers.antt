@@ -13,7 +13,7 @@ returns-in-BadNumber-Trace-clause-none c = weaker c.number_of_trace.result (λ n
     let fields = fields_of c.args.fields.now in
     let k = c.in-BadNumber-Trace.field-0-0 in
     let here : FailsThere program (Trace c.in-BadNumber-Trace.field-0-1) records fields (fault.BadNumber k) = subst (λ e. FailsThere program (Trace c.in-BadNumber-Trace.field-0-1) records fields e) c.in-BadNumber-Trace.is-0 (subst (λ t. FailsThere program t records fields c.args.fault) c.in-BadNumber-Trace.is-1 there) in
-    none program k (length here.0.first + 2) (subst (λ f. FaultAt program (length here.0.first + 2) f (fault.BadNumber k)) here.1 here.0.is)) c.number_of_trace.ensures.none
+    none program k (length here.0.items + 2) (subst (λ f. FaultAt program (length here.0.items + 2) f (fault.BadNumber k)) here.1 here.0.is)) c.number_of_trace.ensures.none
 
 pub returns-in-BadNumber-Externals-clause-none : goal.returns-in-BadNumber-Externals-clause-none
 returns-in-BadNumber-Externals-clause-none c = weaker c.number_of_externals.result (λ none n records line there.
@@ -29,4 +29,4 @@ returns-in-UnknownName-Trace-clause-none c = weaker c.name_of_trace.result (λ n
     let fields = fields_of c.args.fields.now in
     let k = c.in-UnknownName-Trace.field-0-0 in
     let here : FailsThere program (Trace c.in-UnknownName-Trace.field-0-1) records fields (fault.UnknownName k) = subst (λ e. FailsThere program (Trace c.in-UnknownName-Trace.field-0-1) records fields e) c.in-UnknownName-Trace.is-0 (subst (λ t. FailsThere program t records fields c.args.fault) c.in-UnknownName-Trace.is-1 there) in
-    none k (length here.0.first + 2) (subst (λ f. FaultAt program (length here.0.first + 2) f (fault.UnknownName k)) here.1 here.0.is)) c.name_of_trace.ensures.none
+    none k (length here.0.items + 2) (subst (λ f. FaultAt program (length here.0.items + 2) f (fault.UnknownName k)) here.1 here.0.is)) c.name_of_trace.ensures.none
