@@ -3,7 +3,9 @@
 //! The instances are listed as they are walked. For each port at which a connection ends stand the port
 //! where it begins, its delay, and its place in the text.
 
-ghost use Rattle.std.specs.Prelude.{◌≡◌, IfOk, IfSome};
+ghost use Rattle.std.specs.Prelude.{◌≡◌, IfOk, IfSome, IfNone};
+ghost use Rattle.lft_scope.specs.Causes.{NoMain};
+ghost use Rattle.lft_scope.specs.References.{reactor_trees};
 
 use crate::joins::{Join, Port};
 use lft_places::MemberPlace;
@@ -77,7 +79,9 @@ fn by_name<'a>(
 }
 
 /// The first main reactor.
-pub(crate) fn main_of<'a>(reactors: &'a [&'a Reactor]) -> Option<Placed<'a>> {
+pub(crate) fn main_of<'a>(reactors: &'a [&'a Reactor]) -> Option<Placed<'a>>
+    ensures { IfNone result (NoMain (reactor_trees reactors.now)) }
+{
     for place in 0..reactors.len() {
         let reactor = reactors[place];
         if reactor.is_main {
@@ -91,7 +95,8 @@ impl<'a> Wiring<'a> {
     /// The wiring of the program with these reactors, in the order of the file. None where none of them is a
     /// main one.
     pub fn of(alloc: Global, reactors: &'a [&'a Reactor]) -> Result<Option<Wiring<'a>>, NoMemory>
-        ensures { IfOk result (λ found. IfSome found (λ wiring. wiring.reactors.now ≡ reactors.now)) }
+        ensures reactors { IfOk result (λ found. IfSome found (λ wiring. wiring.reactors.now ≡ reactors.now)) }
+        ensures none { IfOk result (λ found. IfNone found (NoMain (reactor_trees reactors.now))) }
     {
         let Some(main) = main_of(reactors) else {
             return Ok(None);
