@@ -8,6 +8,8 @@ use Rattle.lft_scope.specs.declared.kinds.Kind.{Kind}
 use Rattle.lft_scope.specs.declared.kinds.Kind.TheVariants.{OwnParameter}
 use Rattle.lft_scope.specs.declared.kinds.Role.{Role}
 use Rattle.lft_witnesses.specs.Members.{names_of, times_of, given_of}
+use Rattle.lft_witnesses.specs.declared.members.Cause.{Cause}
+use Rattle.lft_witnesses.specs.declared.members.Cause.TheVariants as cause
 use Rattle.lft_witnesses.specs.declared.finding.Finding.{Finding}
 use Rattle.lft_witnesses.specs.declared.finding.Finding.TheVariants as finding
 
@@ -48,5 +50,32 @@ IsFinding reactors r m (finding.WrongTime n kind) = IsSomeAnd (slice_get (times_
 IsFinding reactors r m finding.MainHasPort = (r.is_main ≡ true) × IsSome (port_in m)
 IsFinding reactors r m finding.WidthMismatch = IsSomeAnd (connection_in m) (λ c. length c.sources ≢ length c.destinations)
 IsFinding reactors r m finding.NoTrigger = IsSomeAnd (reaction_in m) (λ x. x.triggers ≡ [])
-IsFinding reactors r m (finding.NamedTwice role first second) = IsTwiceAt (names_of role m) first second
+IsFinding reactors r m (finding.NamedTwice role first second) = IsSome (reaction_in m) × IsTwiceAt (names_of role m) first second
 IsFinding reactors r m (finding.LongTime n) = IsSomeAnd (slice_get (times_of m) n) IsLongTime
+
+-- the number of the cause that a finding shows
+abbrev pub cause_of : Finding → ℕ
+cause_of (finding.GivenTwice first second) = 3
+cause_of finding.UnknownReactor = 4
+cause_of (finding.UnknownName role n) = 6
+cause_of (finding.UnknownTime n) = 6
+cause_of (finding.UnknownParameter n) = 6
+cause_of (finding.WrongPlace role n kind) = 7
+cause_of (finding.WrongTime n kind) = 7
+cause_of finding.MainHasPort = 8
+cause_of finding.WidthMismatch = 11
+cause_of finding.NoTrigger = 12
+cause_of (finding.NamedTwice role first second) = 13
+cause_of (finding.LongTime n) = 14
+
+-- the number of a cause that one member can show
+abbrev pub number_of : Cause → ℕ
+number_of cause.DuplicateName = 3
+number_of cause.UnknownReactor = 4
+number_of cause.UnknownName = 6
+number_of cause.WrongPlace = 7
+number_of cause.MainHasPorts = 8
+number_of cause.WidthMismatch = 11
+number_of cause.NoTrigger = 12
+number_of cause.DuplicateInput = 13
+number_of cause.DelayTooLong = 14

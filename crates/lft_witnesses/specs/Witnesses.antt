@@ -2,9 +2,10 @@
 use Rattle.std.specs.Prelude.{◌≡◌, ◌≢◌, ℕ, ◌+◌, ◌<◌, ◌⊎◌, List, Some, true, length, slice_get, filter_map, IsSomeAnd}
 use Rattle.lft_tree.specs.Tree.{ReactorTree, RefTree, nanoseconds}
 use Rattle.lft_scope.specs.Causes.{Holds, longest}
-use Rattle.lft_scope.specs.declared.kinds.Role.TheVariants.{Destination}
+use Rattle.lft_scope.specs.declared.kinds.Role.{Role}
+use Rattle.lft_scope.specs.declared.kinds.Role.TheVariants.{Effect, Destination}
 use Rattle.lft_witnesses.specs.Members.{names_of, declarations}
-use Rattle.lft_witnesses.specs.Findings.{IsFinding, IsTwiceAt}
+use Rattle.lft_witnesses.specs.Findings.{IsFinding, IsTwiceAt, cause_of}
 use Rattle.lft_witnesses.specs.declared.finding.Finding.{Finding}
 use Rattle.lft_witnesses.specs.declared.witness.Naming.{Naming}
 use Rattle.lft_witnesses.specs.declared.witness.Witness.{Witness}
@@ -18,12 +19,18 @@ HasFinding reactors r n f = IsSomeAnd (slice_get r.members n) (λ m. IsFinding r
 abbrev pub IsNamedAt : ReactorTree → Naming → RefTree → Type 0
 IsNamedAt r place name = IsSomeAnd (slice_get r.members place.member) (λ m. slice_get (names_of place.role m) place.name ≡ Some name)
 
--- one name stands at both places of the reactor, which aren't one, and a connection ends at one of them
+-- what stands in this role is written: the end of a connection, or an effect of a reaction
+abbrev pub IsWriting : Role → Type 0
+IsWriting role = (role ≡ Destination) ⊎ (role ≡ Effect)
+
+-- one name is written at both places of the reactor, which aren't one, and a connection ends at one of them
 pub record IsWrittenTwice (r : ReactorTree) (first second : Naming) : Type 0 where
   pub name : RefTree
   pub at_first : IsNamedAt r first name
   pub at_second : IsNamedAt r second name
   pub apart : first ≢ second
+  pub first_writes : IsWriting first.role
+  pub second_writes : IsWriting second.role
   pub connected : (first.role ≡ Destination) ⊎ (second.role ≡ Destination)
 
 -- what the witness shows of a file that has these reactors
@@ -34,6 +41,15 @@ Shows reactors (witness.DeclaredTwice reactor first second) = IsSomeAnd (slice_g
 Shows reactors (witness.Member reactor member f) = IsSomeAnd (slice_get reactors reactor) (λ r. HasFinding reactors r member f)
 Shows reactors (witness.TwoSources reactor first second) = IsSomeAnd (slice_get reactors reactor) (λ r. IsWrittenTwice r first second)
 Shows reactors (witness.LongDefault reactor parameter) = IsSomeAnd (slice_get reactors reactor) (λ r. IsSomeAnd (slice_get r.parameters parameter) (λ p. longest < nanoseconds p.default))
+
+-- the number of the cause that a witness shows
+abbrev pub cause_shown : Witness → ℕ
+cause_shown (witness.TwoMains first second) = 2
+cause_shown (witness.SameReactors first second) = 3
+cause_shown (witness.DeclaredTwice reactor first second) = 3
+cause_shown (witness.Member reactor member f) = cause_of f
+cause_shown (witness.TwoSources reactor first second) = 9
+cause_shown (witness.LongDefault reactor parameter) = 14
 
 -- the reactor with the first place has an instance of that with the second
 pub record HoldsAt (reactors : List ReactorTree) (a b : ℕ) : Type 0 where

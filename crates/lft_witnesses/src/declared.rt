@@ -6,7 +6,7 @@ ghost use Rattle.lft_scope.specs.References.{reactor_trees};
 ghost use Rattle.lft_scope.specs.Tests.{texts};
 ghost use Rattle.lft_witnesses.specs.Findings.{IsTwiceAt};
 ghost use Rattle.lft_witnesses.specs.Members.{declared_name, declarations};
-ghost use Rattle.lft_witnesses.specs.Witnesses.{Shows};
+ghost use Rattle.lft_witnesses.specs.Witnesses.{Shows, cause_shown};
 
 use crate::twice::first_twice;
 use crate::witness::Witness;
@@ -65,7 +65,8 @@ pub(crate) fn some_declared_twice(
     alloc: Global,
     reactors: &[&Reactor],
 ) -> Result<Option<Witness>, NoMemory>
-    ensures { IfOk result (λ found. IfSome found (Shows (reactor_trees reactors.now))) }
+    ensures shows { IfOk result (λ found. IfSome found (Shows (reactor_trees reactors.now))) }
+    ensures cause { IfOk result (λ found. IfSome found (λ w. cause_shown w ≡ 3)) }
 {
     for reactor in 0..reactors.len() {
         if let Some((first, second)) = declared_twice(alloc, reactors[reactor])? {
@@ -84,7 +85,8 @@ pub(crate) fn same_reactors(
     alloc: Global,
     reactors: &[&Reactor],
 ) -> Result<Option<Witness>, NoMemory>
-    ensures { IfOk result (λ found. IfSome found (Shows (reactor_trees reactors.now))) }
+    ensures shows { IfOk result (λ found. IfSome found (Shows (reactor_trees reactors.now))) }
+    ensures cause { IfOk result (λ found. IfSome found (λ w. cause_shown w ≡ 3)) }
 {
     let names = reactor_names(alloc, reactors)?;
     match first_twice(alloc, &names)? {

@@ -6,7 +6,7 @@ ghost use Rattle.lft_tree.specs.View.{member_view, reactor_view, time_view};
 ghost use Rattle.lft_scope.specs.Causes.{IsLongTime};
 ghost use Rattle.lft_scope.specs.Tables.{IsFile};
 ghost use Rattle.lft_witnesses.specs.Members.{time_trees};
-ghost use Rattle.lft_witnesses.specs.Findings.{IsFinding};
+ghost use Rattle.lft_witnesses.specs.Findings.{IsFinding, cause_of};
 
 use crate::finding::Finding;
 use crate::names::times_of;
@@ -18,7 +18,8 @@ use std::alloc::Global;
 
 /// Whether the member is an instance of a reactor that isn't in the file.
 pub(crate) fn unknown_reactor(file: &File, member: &Member) -> Option<Finding>
-    ensures { (rs : List ReactorTree) (r : ReactorTree) → IsFile rs file.now → IfSome result (IsFinding rs r (member_view member.now)) }
+    ensures some { (rs : List ReactorTree) (r : ReactorTree) → IsFile rs file.now → IfSome result (IsFinding rs r (member_view member.now)) }
+    ensures cause { IfSome result (λ f. cause_of f ≡ 4) }
 {
     match member {
         Member::Instance(instance) if file.reactor(instance.reactor.as_str()).is_none() => {
@@ -30,7 +31,8 @@ pub(crate) fn unknown_reactor(file: &File, member: &Member) -> Option<Finding>
 
 /// Whether the member is a port of a main reactor.
 pub(crate) fn main_port(reactor: &Reactor, member: &Member) -> Option<Finding>
-    ensures { (rs : List ReactorTree) → IfSome result (IsFinding rs (reactor_view reactor.now) (member_view member.now)) }
+    ensures some { (rs : List ReactorTree) → IfSome result (IsFinding rs (reactor_view reactor.now) (member_view member.now)) }
+    ensures cause { IfSome result (λ f. cause_of f ≡ 8) }
 {
     match member {
         Member::Port(_) if reactor.is_main => Some(Finding::MainHasPort),
@@ -40,7 +42,8 @@ pub(crate) fn main_port(reactor: &Reactor, member: &Member) -> Option<Finding>
 
 /// Whether the member is a connection whose two lists differ in length.
 pub(crate) fn width(member: &Member) -> Option<Finding>
-    ensures { (rs : List ReactorTree) (r : ReactorTree) → IfSome result (IsFinding rs r (member_view member.now)) }
+    ensures some { (rs : List ReactorTree) (r : ReactorTree) → IfSome result (IsFinding rs r (member_view member.now)) }
+    ensures cause { IfSome result (λ f. cause_of f ≡ 11) }
 {
     match member {
         Member::Connection(connection)
@@ -53,7 +56,8 @@ pub(crate) fn width(member: &Member) -> Option<Finding>
 
 /// Whether the member is a reaction without a trigger.
 pub(crate) fn no_trigger(member: &Member) -> Option<Finding>
-    ensures { (rs : List ReactorTree) (r : ReactorTree) → IfSome result (IsFinding rs r (member_view member.now)) }
+    ensures some { (rs : List ReactorTree) (r : ReactorTree) → IfSome result (IsFinding rs r (member_view member.now)) }
+    ensures cause { IfSome result (λ f. cause_of f ≡ 12) }
 {
     match member {
         Member::Reaction(reaction) if reaction.triggers.is_empty() => Some(Finding::NoTrigger),
@@ -85,7 +89,8 @@ fn first_long(times: &[&TimeExpression]) -> Option<usize>
 
 /// The first time of the member that is past the greatest.
 pub(crate) fn long_time(alloc: Global, member: &Member) -> Result<Option<Finding>, NoMemory>
-    ensures { IfOk result (λ found. (rs : List ReactorTree) (r : ReactorTree) → IfSome found (IsFinding rs r (member_view member.now))) }
+    ensures some { IfOk result (λ found. (rs : List ReactorTree) (r : ReactorTree) → IfSome found (IsFinding rs r (member_view member.now))) }
+    ensures cause { IfOk result (λ found. IfSome found (λ f. cause_of f ≡ 14)) }
 {
     let times = times_of(alloc, member)?;
     match first_long(&times) {

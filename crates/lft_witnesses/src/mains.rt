@@ -1,11 +1,11 @@
 //! Main reactors, and parameters with long defaults.
 
-ghost use Rattle.std.specs.Prelude.{◌≡◌, ◌<◌, ℕ, Some, IfSome, IsSomeAnd, map, slice_get, true};
+ghost use Rattle.std.specs.Prelude.{◌≡◌, ◌<◌, ◌≤◌, ℕ, Some, IfSome, IsSomeAnd, map, slice_get, true};
 ghost use Rattle.lft_tree.specs.Tree.{nanoseconds};
 ghost use Rattle.lft_tree.specs.View.{parameter_view};
 ghost use Rattle.lft_scope.specs.Causes.{longest};
 ghost use Rattle.lft_scope.specs.References.{reactor_trees};
-ghost use Rattle.lft_witnesses.specs.Witnesses.{Shows};
+ghost use Rattle.lft_witnesses.specs.Witnesses.{Shows, cause_shown};
 
 use crate::witness::Witness;
 use lft_scope::times::nanoseconds;
@@ -13,7 +13,7 @@ use lft_tree::{Parameter, Reactor};
 
 /// The first main reactor at or behind the place.
 fn main_from(reactors: &[&Reactor], start: usize) -> Option<usize>
-    ensures { IfSome result (λ n. IsSomeAnd (slice_get (reactor_trees reactors.now) n) (λ r. r.is_main ≡ true)) }
+    ensures { IfSome result (λ n. (start ≤ n) × IsSomeAnd (slice_get (reactor_trees reactors.now) n) (λ r. r.is_main ≡ true)) }
 {
     for place in start..reactors.len() {
         if reactors[place].is_main {
@@ -25,15 +25,12 @@ fn main_from(reactors: &[&Reactor], start: usize) -> Option<usize>
 
 /// Two main reactors.
 pub(crate) fn two_mains(reactors: &[&Reactor]) -> Option<Witness>
-    ensures { IfSome result (Shows (reactor_trees reactors.now)) }
+    ensures shows { IfSome result (Shows (reactor_trees reactors.now)) }
+    ensures cause { IfSome result (λ w. cause_shown w ≡ 2) }
 {
     let first = main_from(reactors, 0)?;
     let second = main_from(reactors, first + 1)?;
-    if first < second {
-        Some(Witness::TwoMains { first, second })
-    } else {
-        None
-    }
+    Some(Witness::TwoMains { first, second })
 }
 
 /// The first of the parameters whose default is past the greatest time.
@@ -50,7 +47,8 @@ fn long_default_in(parameters: &[Parameter]) -> Option<usize>
 
 /// The first parameter of the file whose default is past the greatest time.
 pub(crate) fn long_default(reactors: &[&Reactor]) -> Option<Witness>
-    ensures { IfSome result (Shows (reactor_trees reactors.now)) }
+    ensures shows { IfSome result (Shows (reactor_trees reactors.now)) }
+    ensures cause { IfSome result (λ w. cause_shown w ≡ 14) }
 {
     for reactor in 0..reactors.len() {
         if let Some(parameter) = long_default_in(&reactors[reactor].parameters) {

@@ -1,12 +1,12 @@
 //! The first member of a file that shows a cause.
 
-ghost use Rattle.std.specs.Prelude.{◌<◌, List, IfOk, IfSome, length};
+ghost use Rattle.std.specs.Prelude.{◌≡◌, ◌<◌, List, IfOk, IfSome, length};
 ghost use Rattle.lft_tree.specs.Tree.{ReactorTree};
 ghost use Rattle.lft_tree.specs.View.{member_view, reactor_view};
 ghost use Rattle.lft_scope.specs.References.{reactor_trees};
 ghost use Rattle.lft_scope.specs.Tables.{IsFile, IsOwn};
-ghost use Rattle.lft_witnesses.specs.Findings.{IsFinding};
-ghost use Rattle.lft_witnesses.specs.Witnesses.{HasFinding, Shows};
+ghost use Rattle.lft_witnesses.specs.Findings.{IsFinding, cause_of, number_of};
+ghost use Rattle.lft_witnesses.specs.Witnesses.{HasFinding, Shows, cause_shown};
 
 use crate::finding::Finding;
 use crate::lone::{long_time, main_port, no_trigger, unknown_reactor, width};
@@ -43,7 +43,8 @@ fn in_member(
     reactor: &Reactor,
     member: &Member,
 ) -> Result<Option<Finding>, NoMemory>
-    ensures { IfOk result (λ found. (rs : List ReactorTree) → IsFile rs file.now → IsOwn (reactor_view reactor.now) own.now → IfSome found (IsFinding rs (reactor_view reactor.now) (member_view member.now))) }
+    ensures some { IfOk result (λ found. (rs : List ReactorTree) → IsFile rs file.now → IsOwn (reactor_view reactor.now) own.now → IfSome found (IsFinding rs (reactor_view reactor.now) (member_view member.now))) }
+    ensures cause { IfOk result (λ found. IfSome found (λ f. cause_of f ≡ number_of cause)) }
 {
     match cause {
         Cause::DuplicateName => given_twice(alloc, member),
@@ -68,7 +69,8 @@ fn at_place(
     place: usize,
 ) -> Result<Option<Finding>, NoMemory>
     requires { place < length reactor.now.members.items }
-    ensures { IfOk result (λ found. (rs : List ReactorTree) → IsFile rs file.now → IsOwn (reactor_view reactor.now) own.now → IfSome found (HasFinding rs (reactor_view reactor.now) place)) }
+    ensures some { IfOk result (λ found. (rs : List ReactorTree) → IsFile rs file.now → IsOwn (reactor_view reactor.now) own.now → IfSome found (HasFinding rs (reactor_view reactor.now) place)) }
+    ensures cause { IfOk result (λ found. IfSome found (λ f. cause_of f ≡ number_of cause)) }
 {
     in_member(alloc, cause, file, own, reactor, &reactor.members[place])
 }
@@ -81,7 +83,8 @@ fn first_place(
     own: &Own,
     reactor: &Reactor,
 ) -> Result<Option<(usize, Finding)>, NoMemory>
-    ensures { IfOk result (λ found. (rs : List ReactorTree) → IsFile rs file.now → IsOwn (reactor_view reactor.now) own.now → IfSome found (λ p. HasFinding rs (reactor_view reactor.now) p.0 p.1)) }
+    ensures some { IfOk result (λ found. (rs : List ReactorTree) → IsFile rs file.now → IsOwn (reactor_view reactor.now) own.now → IfSome found (λ p. HasFinding rs (reactor_view reactor.now) p.0 p.1)) }
+    ensures cause { IfOk result (λ found. IfSome found (λ p. cause_of p.1 ≡ number_of cause)) }
 {
     for place in 0..reactor.members.len() {
         if let Some(finding) = at_place(alloc, cause, file, own, reactor, place)? {
@@ -98,7 +101,8 @@ fn in_reactor(
     file: &File,
     reactor: &Reactor,
 ) -> Result<Option<(usize, Finding)>, NoMemory>
-    ensures { IfOk result (λ found. (rs : List ReactorTree) → IsFile rs file.now → IfSome found (λ p. HasFinding rs (reactor_view reactor.now) p.0 p.1)) }
+    ensures some { IfOk result (λ found. (rs : List ReactorTree) → IsFile rs file.now → IfSome found (λ p. HasFinding rs (reactor_view reactor.now) p.0 p.1)) }
+    ensures cause { IfOk result (λ found. IfSome found (λ p. cause_of p.1 ≡ number_of cause)) }
 {
     let own = Own::of(alloc, reactor)?;
     first_place(alloc, cause, file, &own, reactor)
@@ -110,7 +114,8 @@ pub(crate) fn first_member(
     cause: Cause,
     reactors: &[&Reactor],
 ) -> Result<Option<Witness>, NoMemory>
-    ensures { IfOk result (λ found. IfSome found (Shows (reactor_trees reactors.now))) }
+    ensures shows { IfOk result (λ found. IfSome found (Shows (reactor_trees reactors.now))) }
+    ensures cause { IfOk result (λ found. IfSome found (λ w. cause_shown w ≡ number_of cause)) }
 {
     let file = File::of(alloc, reactors)?;
     for reactor in 0..reactors.len() {

@@ -1,12 +1,12 @@
 //! Names that may not stand where they do, in one member.
 
-ghost use Rattle.std.specs.Prelude.{List, IfOk, IfSome, IsSomeAnd, slice_get};
+ghost use Rattle.std.specs.Prelude.{◌≡◌, List, IfOk, IfSome, IsSomeAnd, slice_get};
 ghost use Rattle.lft_tree.specs.Tree.{ReactorTree};
 ghost use Rattle.lft_tree.specs.View.{member_view, ref_view, time_view};
 ghost use Rattle.lft_scope.specs.References.{ref_trees};
 ghost use Rattle.lft_scope.specs.Tables.{IsFile, IsOwn};
 ghost use Rattle.lft_witnesses.specs.Members.{time_trees};
-ghost use Rattle.lft_witnesses.specs.Findings.{IsFinding, IsWrong, IsWrongTime};
+ghost use Rattle.lft_witnesses.specs.Findings.{IsFinding, IsWrong, IsWrongTime, cause_of};
 
 use crate::finding::{Finding, ROLES};
 use crate::names::{names_of, times_of};
@@ -46,7 +46,8 @@ fn misplaced_name(
     own: &Own,
     member: &Member,
 ) -> Result<Option<Finding>, NoMemory>
-    ensures { IfOk result (λ found. (rs : List ReactorTree) (r : ReactorTree) → IsFile rs file.now → IsOwn r own.now → IfSome found (IsFinding rs r (member_view member.now))) }
+    ensures some { IfOk result (λ found. (rs : List ReactorTree) (r : ReactorTree) → IsFile rs file.now → IsOwn r own.now → IfSome found (IsFinding rs r (member_view member.now))) }
+    ensures cause { IfOk result (λ found. IfSome found (λ f. cause_of f ≡ 7)) }
 {
     for role in ROLES {
         let names = names_of(alloc, member, role)?;
@@ -89,7 +90,8 @@ pub(crate) fn misplaced(
     own: &Own,
     member: &Member,
 ) -> Result<Option<Finding>, NoMemory>
-    ensures { IfOk result (λ found. (rs : List ReactorTree) (r : ReactorTree) → IsFile rs file.now → IsOwn r own.now → IfSome found (IsFinding rs r (member_view member.now))) }
+    ensures some { IfOk result (λ found. (rs : List ReactorTree) (r : ReactorTree) → IsFile rs file.now → IsOwn r own.now → IfSome found (IsFinding rs r (member_view member.now))) }
+    ensures cause { IfOk result (λ found. IfSome found (λ f. cause_of f ≡ 7)) }
 {
     if let Some(found) = misplaced_name(alloc, file, own, member)? {
         return Ok(Some(found));

@@ -1,9 +1,9 @@
 //! Ports that are written at two places of a reactor.
 
-ghost use Rattle.std.specs.Prelude.{◌≡◌, ◌<◌, Some, IfOk, IfSome, IsTrue, length};
+ghost use Rattle.std.specs.Prelude.{◌≡◌, ◌↔◌, ◌<◌, Some, IfOk, IfSome, IsTrue, length};
 ghost use Rattle.lft_tree.specs.View.{ref_view, reactor_view};
 ghost use Rattle.lft_scope.specs.References.{reactor_trees};
-ghost use Rattle.lft_witnesses.specs.Witnesses.{IsNamedAt, IsWrittenTwice, Shows};
+ghost use Rattle.lft_witnesses.specs.Witnesses.{IsNamedAt, IsWriting, IsWrittenTwice, Shows, cause_shown};
 
 use crate::names::names_of;
 use crate::twice::{is_same, name_at, port_of};
@@ -42,6 +42,13 @@ impl<'a> Writers<'a> {
     }
 }
 
+/// Whether a name with that role is written.
+fn is_writing(role: Role) -> bool
+    ensures { IsTrue result ↔ IsWriting role }
+{
+    role == Role::Destination || role == Role::Effect
+}
+
 /// The name that stands there.
 fn standing_at(
     alloc: Global,
@@ -68,6 +75,9 @@ fn is_written_twice(
     ensures { IfOk result (λ b. IsTrue b → IsWrittenTwice (reactor_view reactor.now) first second) }
 {
     if first.member == second.member && first.name == second.name {
+        return Ok(false);
+    }
+    if !is_writing(first.role) || !is_writing(second.role) {
         return Ok(false);
     }
     if first.role != Role::Destination && second.role != Role::Destination {
@@ -120,7 +130,8 @@ fn written_twice(alloc: Global, reactor: &Reactor) -> Result<Option<(Naming, Nam
 
 /// The first port of the file that is written at two places.
 pub(crate) fn two_sources(alloc: Global, reactors: &[&Reactor]) -> Result<Option<Witness>, NoMemory>
-    ensures { IfOk result (λ found. IfSome found (Shows (reactor_trees reactors.now))) }
+    ensures shows { IfOk result (λ found. IfSome found (Shows (reactor_trees reactors.now))) }
+    ensures cause { IfOk result (λ found. IfSome found (λ w. cause_shown w ≡ 9)) }
 {
     for reactor in 0..reactors.len() {
         if let Some((first, second)) = written_twice(alloc, reactors[reactor])? {

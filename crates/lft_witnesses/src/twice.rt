@@ -9,7 +9,7 @@ ghost use Rattle.lft_tree.specs.View.{assignment_view, member_view, ref_view};
 ghost use Rattle.lft_scope.specs.References.{ref_trees};
 ghost use Rattle.lft_scope.specs.Tests.{texts};
 ghost use Rattle.lft_witnesses.specs.Members.{given_of};
-ghost use Rattle.lft_witnesses.specs.Findings.{IsFinding, IsTwiceAt};
+ghost use Rattle.lft_witnesses.specs.Findings.{IsFinding, IsTwiceAt, cause_of};
 
 use crate::finding::{Finding, ROLES};
 use crate::names::names_of;
@@ -124,7 +124,8 @@ fn first_named_twice(
 
 /// The first of the reaction's names that stands in one role twice.
 pub(crate) fn named_twice(alloc: Global, member: &Member) -> Result<Option<Finding>, NoMemory>
-    ensures { IfOk result (λ found. (rs : List ReactorTree) (r : ReactorTree) → IfSome found (IsFinding rs r (member_view member.now))) }
+    ensures some { IfOk result (λ found. (rs : List ReactorTree) (r : ReactorTree) → IfSome found (IsFinding rs r (member_view member.now))) }
+    ensures cause { IfOk result (λ found. IfSome found (λ f. cause_of f ≡ 13)) }
 {
     if !matches!(member, Member::Reaction(_)) {
         return Ok(None);
@@ -165,7 +166,8 @@ fn names_in(alloc: Global, given: &[Assignment]) -> Result<Vec<&str>, NoMemory>
 
 /// The first parameter to which the member gives a second value.
 pub(crate) fn given_twice(alloc: Global, member: &Member) -> Result<Option<Finding>, NoMemory>
-    ensures { IfOk result (λ found. (rs : List ReactorTree) (r : ReactorTree) → IfSome found (IsFinding rs r (member_view member.now))) }
+    ensures some { IfOk result (λ found. (rs : List ReactorTree) (r : ReactorTree) → IfSome found (IsFinding rs r (member_view member.now))) }
+    ensures cause { IfOk result (λ found. IfSome found (λ f. cause_of f ≡ 3)) }
 {
     let names = given_names(alloc, member)?;
     match first_twice(alloc, &names)? {

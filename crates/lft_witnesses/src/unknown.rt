@@ -7,7 +7,7 @@ ghost use Rattle.lft_scope.specs.Causes.{IsUnknownTime, LacksParameter};
 ghost use Rattle.lft_scope.specs.References.{ref_trees};
 ghost use Rattle.lft_scope.specs.Tables.{IsFile, IsOutside, IsOwn};
 ghost use Rattle.lft_witnesses.specs.Members.{time_trees};
-ghost use Rattle.lft_witnesses.specs.Findings.{IsFinding, IsForNone, IsNothing};
+ghost use Rattle.lft_witnesses.specs.Findings.{IsFinding, IsForNone, IsNothing, cause_of};
 
 use crate::finding::{Finding, ROLES};
 use crate::names::{names_of, times_of};
@@ -36,7 +36,8 @@ fn unknown_name(
     own: &Own,
     member: &Member,
 ) -> Result<Option<Finding>, NoMemory>
-    ensures { IfOk result (λ found. (rs : List ReactorTree) (r : ReactorTree) → IsFile rs file.now → IsOwn r own.now → IfSome found (IsFinding rs r (member_view member.now))) }
+    ensures some { IfOk result (λ found. (rs : List ReactorTree) (r : ReactorTree) → IsFile rs file.now → IsOwn r own.now → IfSome found (IsFinding rs r (member_view member.now))) }
+    ensures cause { IfOk result (λ found. IfSome found (λ f. cause_of f ≡ 6)) }
 {
     for role in ROLES {
         let names = names_of(alloc, member, role)?;
@@ -116,7 +117,8 @@ fn unknown_value_or_time(
     own: &Own,
     member: &Member,
 ) -> Result<Option<Finding>, NoMemory>
-    ensures { IfOk result (λ found. (rs : List ReactorTree) (r : ReactorTree) → IsFile rs file.now → IsOwn r own.now → IfSome found (IsFinding rs r (member_view member.now))) }
+    ensures some { IfOk result (λ found. (rs : List ReactorTree) (r : ReactorTree) → IsFile rs file.now → IsOwn r own.now → IfSome found (IsFinding rs r (member_view member.now))) }
+    ensures cause { IfOk result (λ found. IfSome found (λ f. cause_of f ≡ 6)) }
 {
     let times = times_of(alloc, member)?;
     match (
@@ -137,7 +139,8 @@ pub(crate) fn unknown(
     own: &Own,
     member: &Member,
 ) -> Result<Option<Finding>, NoMemory>
-    ensures { IfOk result (λ found. (rs : List ReactorTree) (r : ReactorTree) → IsFile rs file.now → IsOwn r own.now → IfSome found (IsFinding rs r (member_view member.now))) }
+    ensures some { IfOk result (λ found. (rs : List ReactorTree) (r : ReactorTree) → IsFile rs file.now → IsOwn r own.now → IfSome found (IsFinding rs r (member_view member.now))) }
+    ensures cause { IfOk result (λ found. IfSome found (λ f. cause_of f ≡ 6)) }
 {
     match unknown_name(alloc, file, own, member)? {
         Some(found) => Ok(Some(found)),

@@ -1,8 +1,8 @@
 //! The witness of a fault.
 
-ghost use Rattle.std.specs.Prelude.{IfOk, IfSome};
+ghost use Rattle.std.specs.Prelude.{◌≡◌, IfOk, IfSome};
 ghost use Rattle.lft_scope.specs.References.{reactor_trees};
-ghost use Rattle.lft_witnesses.specs.Witnesses.{Shows};
+ghost use Rattle.lft_witnesses.specs.Witnesses.{Shows, cause_shown};
 
 use crate::declared::{same_reactors, some_declared_twice};
 use crate::mains::{long_default, two_mains};
@@ -15,7 +15,8 @@ use std::alloc::Global;
 
 /// Two reactors of one name, two things of one name, or two values for one parameter.
 fn duplicate_name(alloc: Global, reactors: &[&Reactor]) -> Result<Option<Witness>, NoMemory>
-    ensures { IfOk result (λ found. IfSome found (Shows (reactor_trees reactors.now))) }
+    ensures shows { IfOk result (λ found. IfSome found (Shows (reactor_trees reactors.now))) }
+    ensures cause { IfOk result (λ found. IfSome found (λ w. cause_shown w ≡ 3)) }
 {
     if let Some(found) = same_reactors(alloc, reactors)? {
         return Ok(Some(found));
@@ -28,7 +29,8 @@ fn duplicate_name(alloc: Global, reactors: &[&Reactor]) -> Result<Option<Witness
 
 /// A default or a time that is past the greatest.
 fn long_time(alloc: Global, reactors: &[&Reactor]) -> Result<Option<Witness>, NoMemory>
-    ensures { IfOk result (λ found. IfSome found (Shows (reactor_trees reactors.now))) }
+    ensures shows { IfOk result (λ found. IfSome found (Shows (reactor_trees reactors.now))) }
+    ensures cause { IfOk result (λ found. IfSome found (λ w. cause_shown w ≡ 14)) }
 {
     if let Some(found) = long_default(reactors) {
         return Ok(Some(found));
@@ -43,7 +45,8 @@ pub fn witness_of(
     reactors: &[&Reactor],
     cause: u32,
 ) -> Result<Option<Witness>, NoMemory>
-    ensures { IfOk result (λ found. IfSome found (Shows (reactor_trees reactors.now))) }
+    ensures shows { IfOk result (λ found. IfSome found (Shows (reactor_trees reactors.now))) }
+    ensures cause { IfOk result (λ found. IfSome found (λ w. cause_shown w ≡ cause)) }
 {
     match cause {
         2 => Ok(two_mains(reactors)),
