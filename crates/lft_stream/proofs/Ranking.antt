@@ -1,14 +1,11 @@
 -- Runs by the levels of their reactions, and by what precedes them.
-use Rattle.std.proofs.Common.{◌≡◌, ℕ, ◌+◌, ◌<◌, ◌≤◌, ◌⊎◌, inl, inr, List, length, refl, sym, ap, subst, arith, get_or, Some, slice_get}
-use Rattle.std.specs.Prelude.{◌↔◌}
+use Rattle.std.proofs.Common.{◌≡◌, ℕ, ◌+◌, ◌<◌, ◌≤◌, List, length, refl, arith, get_or, Some, slice_get}
 use Rattle.std.proofs.lemmas.Option.{slice_get_within, get_or_from_slice_get}
-use native.Mathlib.Decide.{ℕ_discrete}
 use Rattle.lft_tag.specs.declared.Tag.{Tag}
-use Rattle.lft_lists.proofs.Places.{same_at}
 use Rattle.lft_flat.specs.Parts.{Parts}
 use Rattle.lft_graph.specs.Graph.{GraphParts, IsGraphOf}
 use Rattle.lft_graph.specs.Precedence.{Precedes}
-use Rattle.lft_graph.specs.Sets.{Has, AreAncestors}
+use Rattle.lft_graph.specs.Sets.{Has}
 use Rattle.lft_graph.proofs.Ancestry.{level_there, lower, precedes_known}
 use Rattle.lft_trace.specs.declared.row.Row.{Row}
 use Rattle.lft_trace.specs.declared.row.Step.TheVariants.{Start, End}
@@ -45,36 +42,3 @@ OrderedFrom program t n = (i j v w : ℕ) (g h : Tag) (r a : ℕ) → n ≤ i �
 -- the set has what ends from the place on
 abbrev pub HasEnded : List Row → ℕ → List ℕ → Type 0
 HasEnded t n set = (j w : ℕ) (h : Tag) (a : ℕ) → n ≤ j → slice_get t j ≡ Some (end_row w h a) → Has set a
-
--- one row more, before the others
-module _ (program : Parts) (t : List Row) (n m : ℕ) (next : n + 1 ≡ m) (row : Row) (is_row : slice_get t n ≡ Some row) where
-  pub ended_more : (set more : List ℕ) → ((a : ℕ) → Has more a ↔ ((a ≡ row.reaction) ⊎ Has set a)) → HasEnded t m set → HasEnded t n more
-  ended_more set more inserted ended j w h a l e = (inserted a).1 (go (ℕ_discrete j n))
-    where
-      go : Dec (j ≡ n) → (a ≡ row.reaction) ⊎ Has set a
-      go (yes q) = let x : end_row w h a ≡ row = same_at t j n (end_row w h a) row e is_row q in inl (ap (λ (y : Row). y.reaction) x)
-      go (no k) = inr (ended j w h a (omega arith) e)
-
-  pub ended_stays : (set : List ℕ) → ¬ (row.step ≡ End) → HasEnded t m set → HasEnded t n set
-  ended_stays set is_none ended j w h a l e = go (ℕ_discrete j n)
-    where
-      go : Dec (j ≡ n) → Has set a
-      go (yes q) = let x : end_row w h a ≡ row = same_at t j n (end_row w h a) row e is_row q in absurd (is_none (ap (λ (y : Row). y.step) (sym x)))
-      go (no k) = ended j w h a (omega arith) e
-
-  pub ordered_stays : ¬ (row.step ≡ Start) → OrderedFrom program t m → OrderedFrom program t n
-  ordered_stays is_none ordered i j v w g h r a l b e f = go (ℕ_discrete i n)
-    where
-      go : Dec (i ≡ n) → ¬ Precedes program a r
-      go (yes q) = let x : start_row v g r ≡ row = same_at t i n (start_row v g r) row e is_row q in absurd (is_none (ap (λ (y : Row). y.step) (sym x)))
-      go (no k) = ordered i j v w g h r a (omega arith) b e f
-
-  pub ordered_more : (sets : List (List ℕ)) (own set : List ℕ) → AreAncestors program sets → slice_get sets row.reaction ≡ Some own → HasEnded t m set → ¬ ((a : ℕ) × Has own a × Has set a) → OrderedFrom program t m → OrderedFrom program t n
-  ordered_more sets own set ancestors is_own ended apart ordered i j v w g h r a l b e f = go (ℕ_discrete i n)
-    where
-      go : Dec (i ≡ n) → ¬ Precedes program a r
-      go (yes q) p =
-          let x : start_row v g r ≡ row = same_at t i n (start_row v g r) row e is_row q in
-          let k : r ≡ row.reaction = ap (λ (y : Row). y.reaction) x in
-          apart (a, (ancestors.right row.reaction own is_own a).1 (subst (λ z. Precedes program a z) k p), ended j w h a (omega arith) f)
-      go (no k) p = ordered i j v w g h r a (omega arith) b e f p
