@@ -1,5 +1,5 @@
 -- What is told of a program that has a tree and is refused.
-use Rattle.std.specs.Prelude.{◌≡◌, ℕ, ◌⊎◌, List, ◌++◌, codes}
+use Rattle.std.specs.Prelude.{◌≡◌, ℕ, ◌<◌, ◌≤◌, ◌⊎◌, List, ◌++◌, codes}
 use Rattle.lft_tree.specs.Tree.{FileTree}
 use Rattle.lft_syntax.specs.declared.token.Token.{Token}
 use Rattle.lft_syntax.specs.Lexes.{Lexes}
@@ -9,6 +9,10 @@ use Rattle.lft_scope.specs.Causes.{IsFirst, causes}
 use Rattle.lft_refusals.specs.Places.{IsPlace}
 use Rattle.lft_refusals.specs.Quotes.{place_words}
 use Rattle.lft_refusals.specs.declared.place.Place.{Place}
+
+-- the number of a cause of refusal
+abbrev pub IsCause : ℕ → Type 0
+IsCause cause = (0 < cause) × (cause ≤ 15)
 
 -- the text spells a tree, and of the causes of refusal the one with that number is the first that holds of it
 pub record IsRefusedFor (t : List ℕ) (cause : ℕ) : Type 0 where

@@ -1,5 +1,8 @@
 //! What is said of a witness, and of a cause that has none.
 
+ghost use Rattle.std.specs.Prelude.{IfOk, IfNone};
+ghost use Rattle.lft_reasons.specs.Reasons.{IsCause};
+
 use crate::reason::Reason;
 use crate::refused::Refused;
 use crate::words::{port_words, reactor_words};
@@ -156,7 +159,9 @@ impl<'a> Refused<'a> {
     }
 
     /// What is said of a cause that nothing shows.
-    pub(crate) fn of_cause(&self, cause: u32) -> Result<Option<Reason>, NoMemory> {
+    pub(crate) fn of_cause(&self, cause: u32) -> Result<Option<Reason>, NoMemory>
+        ensures { IfOk result (λ found. IfNone found (IsCause cause → ⊥)) }
+    {
         let Some(said) = cause_words(cause) else {
             return Ok(None);
         };
@@ -169,7 +174,9 @@ impl<'a> Refused<'a> {
 }
 
 /// What a cause says of the whole program.
-fn cause_words(cause: u32) -> Option<&'static str> {
+fn cause_words(cause: u32) -> Option<&'static str>
+    ensures { IfNone result (IsCause cause → ⊥) }
+{
     match cause {
         1 => Some("no reactor is the main one"),
         2 => Some("two reactors are main ones"),

@@ -1,10 +1,11 @@
 //! Why a program with a tree is refused, for people.
 
-ghost use Rattle.std.specs.Prelude.{◌≡◌, ◌⊎◌, IfOk, IfSome, IsTrue, codes, string_bytes};
+ghost use Rattle.std.specs.Prelude.{◌≡◌, ◌≢◌, ◌↔◌, ◌⊎◌, IfOk, IfSome, IfNone, IsTrue, codes, string_bytes};
 ghost use Rattle.lft_tree.specs.View.{tree_view};
 ghost use Rattle.lft_scope.specs.Causes.{IsFirst, causes};
 ghost use Rattle.lft_program.specs.Faults.{number_of as the_number_of};
-ghost use Rattle.lft_reasons.specs.Reasons.{BeginsThere, IsToldOf, SayPlace};
+ghost use Rattle.lft_refusals.specs.Refusals.{IsLong};
+ghost use Rattle.lft_reasons.specs.Reasons.{BeginsThere, IsCause, IsRefusedFor, IsToldOf, SayPlace};
 
 use crate::reason::Reason;
 use crate::refused::Refused;
@@ -25,7 +26,9 @@ fn reason_of(
     tokens: &Tokens,
     ast: &Ast,
     cause: u32,
-) -> Result<Option<Reason>, NoMemory> {
+) -> Result<Option<Reason>, NoMemory>
+    ensures { IfOk result (λ found. IfNone found (IsCause cause → ⊥)) }
+{
     let reactors = members::reactors(alloc, &ast.items)?;
     let refused = Refused {
         alloc,
@@ -99,7 +102,8 @@ fn lines(alloc: Global, text: &[u8], reason: &Reason) -> Result<String, NoMemory
 
 /// The number of the cause for which a program is refused.
 fn number_of(fault: ProgramFault) -> u32
-    ensures { result ≡ the_number_of fault }
+    ensures number { result ≡ the_number_of fault }
+    ensures cause { fault ≢ ProgramFault.NoMemory → IsCause result }
 {
     match fault {
         ProgramFault::NoMain => 1,
@@ -123,7 +127,8 @@ fn number_of(fault: ProgramFault) -> u32
 
 /// Whether the tree is refused for the cause with that number.
 fn is_refused_for(alloc: Global, ast: &Ast, cause: u32) -> Result<bool, NoMemory>
-    ensures { IfOk result (λ b. IsTrue b → IsFirst (causes (tree_view ast.now)) cause) }
+    ensures first { IfOk result (λ b. IsTrue b ↔ IsFirst (causes (tree_view ast.now)) cause) }
+    ensures cause { IfOk result (λ b. IsTrue b → IsCause cause) }
 {
     let Err(fault) = flatten(alloc, ast) else {
         return Ok(false);
@@ -137,9 +142,10 @@ fn is_refused_for(alloc: Global, ast: &Ast, cause: u32) -> Result<bool, NoMemory
 /// Why a program that has a tree is refused by the cause with that number, in lines that end with a line
 /// feed: the place, what is wrong there, the line with a mark, and what to write. Where something stands
 /// twice, both lines. Of several places the first in the text. None where the text has no tree, and where it
-/// isn't refused for that cause.
+/// isn't refused for that cause, and where it has more than `lft_syntax::MAX_LENGTH` bytes.
 pub fn tell_cause(alloc: Global, text: &[u8], cause: u32) -> Result<Option<String>, NoMemory>
-    ensures { IfOk result (λ told. IfSome told (λ words. IsToldOf text.now cause (string_bytes words))) }
+    ensures some { IfOk result (λ told. IfSome told (λ words. IsToldOf text.now cause (string_bytes words))) }
+    ensures none { IfOk result (λ told. IfNone told (IsLong text.now ⊎ (IsRefusedFor text.now cause → ⊥))) }
 {
     let tokens = match lex(alloc, text) {
         Ok(tokens) => tokens,

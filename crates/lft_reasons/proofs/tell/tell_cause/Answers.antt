@@ -1,9 +1,16 @@
-use Rattle.std.proofs.Common.{rules}
+use Rattle.std.proofs.Common.{rules, ◌≡◌, inr, refl, subst}
 use Rattle.lft_tree.specs.View.{tree_view}
+use Rattle.lft_scope.specs.Causes.{IsFirst, causes}
+use Rattle.lft_scope.proofs.Somes.{fails}
+use Rattle.lft_syntax.specs.Grammar.{Spells}
+use Rattle.lft_syntax.specs.View.{lexemes}
+use Rattle.lft_syntax.specs.declared.fault.SyntaxFault.{SyntaxFault}
+use Rattle.lft_syntax.specs.declared.fault.SyntaxFault.TheVariants as fault
+use Rattle.lft_reasons.specs.Reasons.{IsRefusedFor}
 use Rattle.lft_reasons.proofs.tell.tell_cause.Goals as goal
 
-pub returns-in-Some : goal.returns-in-Some
-returns-in-Some c = record {
+pub returns-in-Some-clause-some : goal.returns-in-Some-clause-some
+returns-in-Some-clause-some c = record {
   refused = record {
     tokens = c.in-Ok.tokens;
     lexes = c.in-Ok.ensures.tokens.0;
@@ -13,3 +20,21 @@ returns-in-Some c = record {
   };
   begins = search rules;
 }
+
+pub returns-in-Err-parse-clause-none : goal.returns-in-Err-parse-clause-none
+returns-in-Err-parse-clause-none c = inr (λ refused. none refused c.in-Err-parse.field-0 refl)
+  where
+    none : IsRefusedFor c.args.text.now c.args.cause → (e : SyntaxFault) → c.in-Err-parse.field-0 ≡ e → ⊥
+    none refused (fault.Unexpected k) is =
+        let text = c.args.text.now in
+        let spells : Spells refused.tree (lexemes text c.in-Ok.tokens) = subst (λ ts. Spells refused.tree (lexemes text ts)) (c.in-Ok.ensures.tokens.1 refused.tokens refused.lexes) refused.spells in
+        (c.in-Err-parse.ensures.unexpected k (cc)).2 (lexemes text c.in-Ok.tokens) refused.tree refl spells
+    none refused fault.NoMemory is = search rules
+
+pub returns-then-not-branch-clause-none : goal.returns-then-not-branch-clause-none
+returns-then-not-branch-clause-none c = inr (λ refused.
+    let text = c.args.text.now in
+    let spells : Spells refused.tree (lexemes text c.in-Ok.tokens) = subst (λ ts. Spells refused.tree (lexemes text ts)) (c.in-Ok.ensures.tokens.1 refused.tokens refused.lexes) refused.spells in
+    let tree : refused.tree ≡ tree_view c.in-Ok-parse.ast = c.in-Ok-parse.ensures.tree.1 refused.tree spells in
+    let first : IsFirst (causes (tree_view c.in-Ok-parse.ast)) c.args.cause = subst (λ t. IsFirst (causes t) c.args.cause) tree refused.first in
+    fails c.in_ok-is_refused_for.field-0 c.in_ok-is_refused_for.ensures.first c.if-not-branch.true first)
