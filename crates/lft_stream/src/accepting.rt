@@ -11,16 +11,19 @@ use lft_model::Plan;
 use lft_trace::{Row, Rows, row_at};
 use std::alloc::Global;
 
-/// So many rows are taken together, and the other rows of their last tag. More wouldn't stay near the
-/// processor, and fewer would pay more often for a look at the whole program.
+/// At least so many rows are taken together. More wouldn't stay near the processor.
 const TOGETHER: usize = 32_768;
 
+/// For each reaction so many: whoever takes rows together looks at the whole program first.
+const FOR_EACH_REACTION: usize = 32;
+
 /// Where the rows end that are taken together from the first on: behind a whole tag.
-fn end_of_part(rows: &[Row], first: usize) -> usize
-    requires { first < length rows.now }
+fn end_of_part(rows: &[Row], first: usize, together: usize) -> usize
+    requires first { first < length rows.now }
+    requires some { 0 < together }
     ensures { (first < result) × (result ≤ length rows.now) }
 {
-    let mut end = rows.len().min(first.saturating_add(TOGETHER));
+    let mut end = rows.len().min(first.saturating_add(together));
     while end < rows.len() && row_at(rows, end).tag.is_same(row_at(rows, end - 1).tag) {
         end += 1;
     }
@@ -57,9 +60,11 @@ pub fn accepts_rows(alloc: Global, plan: &Plan, rows: &Rows) -> Option<Counts>
     let Ok(mut stream) = Stream::new(alloc, plan) else {
         return None;
     };
+    let reactions = plan.program().reactions();
+    let together = TOGETHER.max(reactions.saturating_mul(FOR_EACH_REACTION));
     let mut first = 0;
     while first < rows.len() {
-        let end = end_of_part(rows, first);
+        let end = end_of_part(rows, first, together);
         if !add_part(&mut stream, alloc, plan, rows, first, end) {
             return None;
         }
