@@ -51,7 +51,7 @@ pub fn read_externals(
     read_inputs(alloc, program, text)
 }
 
-// `stop` is the tag of the stop row, and in the arms of `read_next` why the records stop. A fault
+// `stop` is the tag of the stop row, and in the arms of `next` why the records stop. A fault
 // is handed on by a `match` and not by `?`, here as in the other readers and where texts are
 // loaded: a clause speaks of the fault, and its proof then has it by its name.
 fn read_inputs(alloc: Global, program: &Program, text: &[u8]) -> Result<Externals, TraceFault>

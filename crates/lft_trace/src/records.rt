@@ -45,7 +45,8 @@ pub struct Records<'a> {
 }
 
 impl<'a> Records<'a> {
-    /// The records before the first one, of which there may be so many. It takes no memory.
+    /// The records of a text, before the first one is read. More than `last` are too many. It takes
+    /// no memory.
     pub fn new(alloc: Global, text: &'a [u8], last: u32) -> Records<'a>
         ensures { IsUnread result text.now last }
     {
