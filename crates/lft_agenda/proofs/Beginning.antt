@@ -1,7 +1,7 @@
 -- The agenda of no rows.
 use Rattle.std.proofs.Common.{◌≡◌, ℕ, List, [], length, replicate, refl, ap, ◌∙◌, subst, arith, Some, None, slice_get}
 use Rattle.lft_tag.specs.declared.Tag.{Tag}
-use Rattle.lft_tag.specs.Tags.{UpTo}
+use Rattle.lft_tag.proofs.Order.{from_first}
 use Rattle.lft_trace.specs.declared.row.Row.{Row}
 use Rattle.lft_queue.specs.Pending.{Pending}
 use Rattle.lft_graph.specs.Graph.{IsGraphOf}
@@ -25,9 +25,6 @@ no_row i x e = absurd (cc)
 
 quiet : OnlyEndedAnswer []
 quiet i x e a = absurd (no_row i x e)
-
-from_first : (h : Tag) → UpTo (record { time = 0; micro = 0 }) h
-from_first h = search arith
 
 -- no run is open
 pub none_open : ¬ IsAnyOpen []

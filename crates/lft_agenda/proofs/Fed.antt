@@ -15,11 +15,12 @@ use Rattle.lft_flat.specs.declared.parts.Port.{Port as PortOf}
 use Rattle.lft_flat.specs.declared.parts.Value.{Value}
 use Rattle.lft_flat.specs.declared.parts.Name.{Name}
 use Rattle.lft_flat.specs.declared.parts.Name.TheVariants.{Port, Action}
+use Rattle.lft_flat.specs.Naming.{same_name}
+use Rattle.lft_flat.proofs.Naming.{name_self}
 use Rattle.lft_trace.specs.declared.row.Row.{Row}
 use Rattle.lft_trace.specs.declared.row.Step.TheVariants.{Write}
 use Rattle.lft_lists.proofs.Picked.{take_one_more}
-use Rattle.lft_queue.specs.Pending.{Pending, value_of, same_name, same_key, Becomes}
-use Rattle.lft_queue.proofs.Tests.{name_refl}
+use Rattle.lft_queue.specs.Pending.{Pending, value_of, same_key, Becomes}
 use Rattle.lft_model.specs.Plans.{PlanParts, IsSoundPlan}
 use Rattle.lft_model.specs.Presence.{Last, IsWrittenFrom, At, PortClash, ClashesAt}
 use Rattle.lft_model.proofs.Places.{tag_discrete}
@@ -102,7 +103,7 @@ module _ (plan : PlanParts) (good : IsSoundPlan plan) (t : List Row) (x : Row) (
         gone : IsSome (value_of (shifted x.tag (port.shift.time, port.shift.steps)) (Port p) q1) → ⊥
         gone s =
             let a : same_tag (shifted x.tag (port.shift.time, port.shift.steps)) (shifted x.tag (port.shift.time, port.shift.steps)) ≡ true = same_tag_refl (shifted x.tag (port.shift.time, port.shift.steps)) (shifted x.tag (port.shift.time, port.shift.steps)) refl in
-            let c : same_name (Port p) (Port p) ≡ true = name_refl (Port p) in
+            let c : same_name (Port p) (Port p) ≡ true = name_self (Port p) in
             let k : same_key (shifted x.tag (port.shift.time, port.shift.steps)) (Port p) (shifted x.tag (port.shift.time, port.shift.steps)) (Port p) ≡ true = rw (a, c) refl in
             let none : value_of (shifted x.tag (port.shift.time, port.shift.steps)) (Port p) q1 ≡ None = out (shifted x.tag (port.shift.time, port.shift.steps)) (Port p) ∙ ap (λ (b : Bool). cond b None (value_of (shifted x.tag (port.shift.time, port.shift.steps)) (Port p) q0)) k in
             let q = some_there (value_of (shifted x.tag (port.shift.time, port.shift.steps)) (Port p) q1) s in

@@ -5,7 +5,7 @@ use Rattle.std.proofs.lemmas.Bool.{false≢true}
 use native.Mathlib.Decide.{dec_lt}
 use Rattle.lft_tag.specs.declared.Tag.{Tag}
 use Rattle.lft_tag.specs.Tags.{Before, UpTo, same_tag}
-use Rattle.lft_tag.proofs.Order.{Before-irrefl, UpTo-not, order_cases, same_tag_refl}
+use Rattle.lft_tag.proofs.Order.{Before-irrefl, UpTo-not, order_cases, same_tag_refl, same_tag_true}
 use Rattle.lft_flat.specs.Parts.{Parts, inputs}
 use Rattle.lft_flat.specs.declared.parts.Trigger.TheVariants.{On}
 use Rattle.lft_lists.proofs.Members.{Mem, mem_get, get_mem, mem_filter, mem_from_filter, mem_contains, contains_mem}
@@ -13,16 +13,17 @@ use Rattle.lft_flat.specs.declared.parts.Reaction.{Reaction}
 use Rattle.lft_flat.specs.declared.parts.Value.{Value}
 use Rattle.lft_flat.specs.declared.parts.Name.{Name}
 use Rattle.lft_flat.specs.declared.parts.Name.TheVariants.{Port, Action}
+use Rattle.lft_flat.specs.Naming.{same_name}
+use Rattle.lft_flat.proofs.Naming.{name_same, name_self}
 use Rattle.lft_trace.specs.declared.row.Row.{Row}
 use Rattle.lft_trace.specs.declared.externals.Event.{Event}
 use Rattle.lft_trace.specs.Inputs.{InOrder}
-use Rattle.lft_queue.specs.Pending.{Pending, value_of, same_name, same_key, Becomes}
-use Rattle.lft_queue.proofs.Tests.{name_same, name_refl}
+use Rattle.lft_queue.specs.Pending.{Pending, value_of, same_key, Becomes}
 use Rattle.lft_model.specs.Plans.{PlanParts, IsSoundPlan}
 use Rattle.lft_model.specs.Presence.{given, At, Shows, Inputs}
 use Rattle.lft_model.proofs.Places.{slice_get_within}
 use Rattle.lft_model.proofs.Counted.{get_or_get}
-use Rattle.lft_model.proofs.Steps.{both_true, same_tag_true}
+use Rattle.lft_model.proofs.Steps.{both_true}
 use Rattle.lft_model.proofs.Reached.{input_of_trigger}
 use Rattle.lft_model.proofs.Empty.{empty_so_far}
 use Rattle.lft_agenda.specs.Listeners.{IsListener}
@@ -103,7 +104,7 @@ module _ (events : List Event) (i : ℕ) (event : Event) (is_event : slice_get e
         where
           old : IsGiven events i h n v ⊎ ((event.tag ≡ h) × (Action event.action ≡ n) × (event.value ≡ v)) → IsGiven events i h n v
           old (inl k) = k
-          old (inr p) = let a : same_tag event.tag h ≡ true = same_tag_refl event.tag h p.0 in let b : same_name (Action event.action) n ≡ true = subst (λ (m : Name). same_name (Action event.action) m ≡ true) p.1 (name_refl (Action event.action)) in let s : same_key event.tag (Action event.action) h n ≡ true = rw (a, b) refl in absurd (false≢true (sym e ∙ s))
+          old (inr p) = let a : same_tag event.tag h ≡ true = same_tag_refl event.tag h p.0 in let b : same_name (Action event.action) n ≡ true = subst (λ (m : Name). same_name (Action event.action) m ≡ true) p.1 (name_self (Action event.action)) in let s : same_key event.tag (Action event.action) h n ≡ true = rw (a, b) refl in absurd (false≢true (sym e ∙ s))
 
   -- none is there already
   pub none_given : InOrder events → (q : List Pending) → UpTo event.tag stop → ((h : Tag) (n : Name) (v : Value) → UpTo h stop → (value_of h n q ≡ Some v) ↔ IsGiven events i h n v) → ¬ IsSome (value_of event.tag (Action event.action) q)

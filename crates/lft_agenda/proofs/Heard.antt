@@ -2,15 +2,16 @@
 use Rattle.std.proofs.Common.{◌≡◌, ◌↔◌, inl, inr, List, refl, sym, ap, ◌∙◌, subst, Option, Some, None, IsSome, Bool, true, false, cond, ◌&&◌}
 use Rattle.lft_tag.specs.declared.Tag.{Tag}
 use Rattle.lft_tag.specs.Tags.{Before, UpTo, same_tag}
-use Rattle.lft_tag.proofs.Order.{Before-trans, Before-irrefl, same_tag_refl}
+use Rattle.lft_tag.proofs.Order.{Before-trans, Before-irrefl, same_tag_refl, same_tag_true}
 use Rattle.lft_flat.specs.declared.parts.Value.{Value}
 use Rattle.lft_flat.specs.declared.parts.Name.{Name}
+use Rattle.lft_flat.specs.Naming.{same_name}
+use Rattle.lft_flat.proofs.Naming.{name_same, name_self}
 use Rattle.lft_trace.specs.declared.row.Row.{Row}
-use Rattle.lft_queue.specs.Pending.{Pending, value_of, same_name, same_key}
-use Rattle.lft_queue.proofs.Tests.{name_same, name_refl}
+use Rattle.lft_queue.specs.Pending.{Pending, value_of, same_key}
 use Rattle.lft_model.specs.Plans.{PlanParts}
 use Rattle.lft_model.specs.Presence.{At, ClashesAt}
-use Rattle.lft_model.proofs.Steps.{both_true, same_tag_true}
+use Rattle.lft_model.proofs.Steps.{both_true}
 use Rattle.lft_agenda.specs.Events.{IsEarlier, IsWanted, IsPut, IsWatchedName, HasEventsOf}
 
 pub iff_trans : {A B C : Type 0} → A ↔ B → B ↔ C → A ↔ C
@@ -104,7 +105,7 @@ module _ (plan : PlanParts) (seen now : Name → List Row) (from last : Tag) (cl
       go (inl p) = absurd (p.0 (b, subst (λ (o : Option Tag). IsEarlier o h) p.2 earlier))
       go (inr (inl p)) =
           let a : same_tag h h ≡ true = same_tag_refl h h refl in
-          let c : same_name n n ≡ true = name_refl n in
+          let c : same_name n n ≡ true = name_self n in
           let s : same_key h n h n ≡ true = rw (a, c) refl in
           let own : value_of h n q2 ≡ Some v = p.2 h n ∙ ap (λ (x : Bool). cond x (Some v) (value_of h n q1)) s in
           let f = (fresh p.0 p.1).0 u in

@@ -4,13 +4,15 @@ use Rattle.std.specs.List.{filter}
 use Rattle.std.proofs.lemmas.Bool.{false≢true}
 use Rattle.lft_tag.specs.declared.Tag.{Tag}
 use Rattle.lft_tag.specs.Tags.{Before, UpTo, is_before, same_tag}
-use Rattle.lft_tag.proofs.Order.{Before-irrefl, Before-UpTo, Before-weaken, UpTo-refl, UpTo-trans, UpTo_antisym, order_cases, UpTo-Before}
+use Rattle.lft_tag.proofs.Order.{Before-irrefl, Before-UpTo, Before-weaken, UpTo-refl, UpTo-trans, UpTo_antisym, order_cases, UpTo-Before, same_tag_true}
 use Rattle.lft_flat.specs.declared.parts.Name.{Name}
 use Rattle.lft_flat.specs.declared.parts.Value.{Value}
 use Rattle.lft_flat.specs.declared.parts.Trigger.{Trigger}
 use Rattle.lft_flat.specs.declared.parts.Trigger.TheVariants.{Startup, Shutdown, Timer, On}
+use Rattle.lft_flat.specs.Naming.{same_name}
 use Rattle.lft_trace.specs.declared.row.Row.{Row}
-use Rattle.lft_queue.specs.Pending.{Pending, value_of, same_name, same_key, is_after}
+use Rattle.lft_queue.specs.Pending.{Pending, value_of, same_key, is_after}
+use Rattle.lft_queue.proofs.Dropping.{later_value}
 use Rattle.lft_queue.proofs.Tests.{test_before, before_test}
 use Rattle.lft_agenda.specs.declared.turn.phase.Phase.{Phase}
 use Rattle.lft_agenda.specs.declared.turn.phase.Phase.TheVariants.{Idle, Waiting, Open}
@@ -24,7 +26,7 @@ use Rattle.lft_model.specs.Recorded.{SoFar, OnlyEndedAnswer}
 use Rattle.lft_lists.proofs.Places.{get_there}
 use Rattle.lft_lists.proofs.Members.{contains_mem}
 use Rattle.lft_model.proofs.Places.{slice_get_within}
-use Rattle.lft_model.proofs.Steps.{both_true, same_tag_true}
+use Rattle.lft_model.proofs.Steps.{both_true}
 use Rattle.lft_model.proofs.Quiet.{pending_now, pending_time, pending_triggered}
 use Rattle.lft_agenda.specs.Events.{IsWatchedName, HasEvents}
 use Rattle.lft_agenda.proofs.Given.{listened_watched}
@@ -57,21 +59,6 @@ value_there h n v (e ∷ q) z = go (same_key h n e.tag e.name) refl z (λ f. val
     go : (b : Bool) → same_key h n e.tag e.name ≡ b → cond b (Some e.value) (value_of h n q) ≡ Some v → (value_of h n q ≡ Some v → (d : Pending) × Contains q d × (d.tag ≡ h)) → (d : Pending) × Contains (e ∷ q) d × (d.tag ≡ h)
     go true s f rest = (e, (0, omega arith, refl), sym (same_tag_true h e.tag (both_true (same_tag h e.tag) (same_name n e.name) s).0))
     go false s f rest = later (rest f)
-
--- where the events up to a tag are taken out, the later ones stay
-pub later_value : (g h : Tag) (n : Name) → Before g h → (q : List Pending) → value_of h n (filter (λ e. is_after g e) q) ≡ value_of h n q
-later_value g h n b [] = refl
-later_value g h n b (e ∷ q) = go (is_before g e.tag) refl (later_value g h n b q)
-  where
-    other : (k : Bool) → is_before g e.tag ≡ false → same_key h n e.tag e.name ≡ k → value_of h n q ≡ cond k (Some e.value) (value_of h n q)
-    other false s z = refl
-    other true s z =
-        let p : h ≡ e.tag = same_tag_true h e.tag (both_true (same_tag h e.tag) (same_name n e.name) z).0 in
-        absurd (false≢true (sym s ∙ test_before g e.tag (subst (λ (k : Tag). Before g k) p b)))
-
-    go : (k : Bool) → is_before g e.tag ≡ k → value_of h n (filter (λ d. is_after g d) q) ≡ value_of h n q → value_of h n (cond k (e ∷ filter (λ d. is_after g d) q) (filter (λ d. is_after g d) q)) ≡ cond (same_key h n e.tag e.name) (Some e.value) (value_of h n q)
-    go true s rest = ap (λ (o : Option Value). cond (same_key h n e.tag e.name) (Some e.value) o) rest
-    go false s rest = rest ∙ other (same_key h n e.tag e.name) s refl
 
 pub later_event : (g : Tag) (q : List Pending) (e : Pending) → Contains (filter (λ d. is_after g d) q) e → Before g e.tag
 later_event g q e c = before_test g e.tag (filter_mem (λ d. is_after g d) q e (contains_mem e (filter (λ d. is_after g d) q) c)).1

@@ -17,7 +17,7 @@ use Rattle.lft_model.specs.Runs.{Ran, start_row, end_row, read_step, read_of, in
 use Rattle.lft_model.specs.Breaches.{IsOpen}
 use Rattle.lft_model.specs.Recorded.{run_row, begun_rows, committed_rows, MayAnswer}
 use Rattle.lft_model.proofs.Places.{slice_get_within}
-use Rattle.lft_model.proofs.Steps.{both_true, same_tag_true, in_reads}
+use Rattle.lft_model.proofs.Steps.{both_true, in_reads}
 use Rattle.lft_model.proofs.Blocks.{put_right}
 use Rattle.lft_model.proofs.Added.{added_row}
 use Rattle.lft_model.proofs.Begun.{steps_same, own_reads}
@@ -27,7 +27,7 @@ use Rattle.lft_recording.specs.Starts.{IsBusy}
 use Rattle.lft_agenda.specs.declared.open.OpenRun.{OpenRun}
 use Rattle.lft_agenda.specs.OpenRuns.{AreOpen, HasReads, is_run}
 use Rattle.lft_agenda.specs.Agendas.{MayBegin, MayEnd}
-use Rattle.lft_tag.proofs.Order.{same_tag_refl}
+use Rattle.lft_tag.proofs.Order.{same_tag_refl, same_tag_true}
 
 -- what a filter keeps
 pub filter_mem : {X : Type 0} (p : X → Bool) (xs : List X) (x : X) → Mem x (filter p xs) → Mem x xs × (p x ≡ true)

@@ -15,11 +15,12 @@ use Rattle.lft_flat.specs.declared.parts.Port.{Port as PortOf}
 use Rattle.lft_flat.specs.declared.parts.Value.{Value}
 use Rattle.lft_flat.specs.declared.parts.Name.{Name}
 use Rattle.lft_flat.specs.declared.parts.Name.TheVariants.{Port, Action}
+use Rattle.lft_flat.specs.Naming.{same_name}
+use Rattle.lft_flat.proofs.Naming.{name_self}
 use Rattle.lft_trace.specs.declared.row.Row.{Row}
 use Rattle.lft_trace.specs.declared.row.Step.{Step}
 use Rattle.lft_trace.specs.declared.row.Step.TheVariants.{Write, Schedule, End}
-use Rattle.lft_queue.specs.Pending.{Pending, value_of, same_name}
-use Rattle.lft_queue.proofs.Tests.{name_refl}
+use Rattle.lft_queue.specs.Pending.{Pending, value_of}
 use Rattle.lft_agenda.specs.Listeners.{IsArrival, IsWatched}
 use Rattle.lft_model.specs.Plans.{PlanParts, IsSoundPlan}
 use Rattle.lft_model.specs.Presence.{written, value_scheduled, scheduled, given, min_delay, events_of, Last, IsWrittenFrom, At, PortClash, ClashesAt}
@@ -223,7 +224,7 @@ module _ (plan : PlanParts) (t : List Row) (x : Row) (a d : ℕ) (v : Value) (sc
 
   module _ (last : Tag) (clash found : Option Tag) (q0 q2 : List Pending) (is : HasEvents plan t x.tag last clash q0) (put : IsPut last clash (after x.tag (min_delay plan.program a + d)) (Action a) v q0 q2 found) where
     one_heard : HasEventsOf plan (λ m. cond (same_name (Action a) m) (t ++ x ∷ []) t) x.tag last found q2
-    one_heard = heard plan (λ n. t) (λ m. cond (same_name (Action a) m) (t ++ x ∷ []) t) x.tag last clash found q0 q0 q2 is (Action a) (after x.tag (min_delay plan.program a + d)) v (λ m e. ap (λ (b : Bool). cond b (t ++ x ∷ []) t) e) t (t ++ x ∷ []) refl (ap (λ (b : Bool). cond b (t ++ x ∷ []) t) (name_refl (Action a))) (λ k u n. action_at plan (t ++ x ∷ []) t k a (same_events k a (λ z. n (sym z.1))) u) (λ k n. (action_clash plan (t ++ x ∷ []) t k a (same_events k a (λ z. n (sym z.1)))).0) (λ k c. (let l : 2 ≤ length (events_of plan t k a) = c in let m = grown k in omega arith)) (λ k m e. refl) put fresh twice
+    one_heard = heard plan (λ n. t) (λ m. cond (same_name (Action a) m) (t ++ x ∷ []) t) x.tag last clash found q0 q0 q2 is (Action a) (after x.tag (min_delay plan.program a + d)) v (λ m e. ap (λ (b : Bool). cond b (t ++ x ∷ []) t) e) t (t ++ x ∷ []) refl (ap (λ (b : Bool). cond b (t ++ x ∷ []) t) (name_self (Action a))) (λ k u n. action_at plan (t ++ x ∷ []) t k a (same_events k a (λ z. n (sym z.1))) u) (λ k n. (action_clash plan (t ++ x ∷ []) t k a (same_events k a (λ z. n (sym z.1)))).0) (λ k c. (let l : 2 ≤ length (events_of plan t k a) = c in let m = grown k in omega arith)) (λ k m e. refl) put fresh twice
       where
         value_old : IsWanted last clash (after x.tag (min_delay plan.program a + d)) → (u : Value) → (value_of (after x.tag (min_delay plan.program a + d)) (Action a) q0 ≡ Some u) ↔ At plan t (after x.tag (min_delay plan.program a + d)) (Action a) u
         value_old w u = is.values (after x.tag (min_delay plan.program a + d)) (Action a) u tt (Before-weaken x.tag (after x.tag (min_delay plan.program a + d)) (after_past x.tag (min_delay plan.program a + d))) w.0 w.1

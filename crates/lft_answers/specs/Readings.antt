@@ -5,8 +5,9 @@ use Rattle.std.specs.Ordering.{nat_cmp}
 use Rattle.lft_flat.specs.declared.parts.Name.{Name}
 use Rattle.lft_flat.specs.declared.parts.Name.TheVariants.{Port, Action}
 use Rattle.lft_flat.specs.declared.parts.Value.{Value}
+use Rattle.lft_flat.specs.Naming.{same_name}
 use Rattle.lft_trace.specs.declared.row.Step.{Step}
-use Rattle.lft_model.specs.Runs.{same_name, read_of}
+use Rattle.lft_model.specs.Runs.{read_of}
 use Rattle.lft_answers.specs.declared.readings.Readings.{Readings}
 
 -- the value that is kept of a port or an action

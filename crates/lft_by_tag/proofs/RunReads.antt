@@ -5,15 +5,17 @@ use Rattle.lft_tag.specs.declared.Tag.{Tag}
 use Rattle.lft_lists.proofs.Members.{filter_map-filter_map, Mem, get_mem, mem_from_filter, last_by_place, none_nil}
 use Rattle.lft_flat.specs.declared.parts.Value.{Value}
 use Rattle.lft_flat.specs.declared.parts.Name.{Name}
+use Rattle.lft_flat.specs.Naming.{same_name}
+use Rattle.lft_flat.proofs.Naming.{name_same, name_self}
 use Rattle.lft_trace.specs.declared.row.Row.{Row}
 use Rattle.lft_trace.specs.declared.row.Step.{Step}
 use Rattle.lft_trace.specs.declared.row.Step.TheVariants.{Start, Read, Write, Schedule, Stop, End}
-use Rattle.lft_model.specs.Runs.{read_of, steps_of, step_of, value_read as read_by, same_name}
+use Rattle.lft_model.specs.Runs.{read_of, steps_of, step_of, value_read as read_by}
 use Rattle.lft_model.specs.Plans.{PlanParts}
 use Rattle.lft_model.specs.Breaches.{WasRead, IsUndeclared}
 use Rattle.lft_model.proofs.Legality.{KeepsFour, keeps_four}
 use Rattle.lft_rows.proofs.Steps.{row_eq}
-use Rattle.lft_model.proofs.Steps.{step_row, row_step, name_same, name_self}
+use Rattle.lft_model.proofs.Steps.{step_row, row_step}
 use Rattle.lft_by_tag.specs.declared.slices.Slice.{Slice}
 use Rattle.lft_by_tag.specs.Slices.{IsSlice}
 use Rattle.lft_rows.specs.Marks.{ReadsFor, IsMark}

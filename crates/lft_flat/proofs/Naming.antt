@@ -1,7 +1,8 @@
 -- Which triggers name a port or an action.
-use Rattle.std.proofs.Common.{◌≡◌, refl, ap, Some, None, ◌⊎◌, inl, inr, ℕ, slice_get, filter_map, subst}
-use Rattle.lft_flat.specs.Naming.{named}
+use Rattle.std.proofs.Common.{◌≡◌, refl, ap, Some, None, ◌⊎◌, inl, inr, ℕ, true, eqb-true, eq-eqb, slice_get, filter_map, subst}
+use Rattle.lft_flat.specs.Naming.{named, same_name}
 use Rattle.lft_flat.specs.declared.parts.Name.{Name}
+use Rattle.lft_flat.specs.declared.parts.Name.TheVariants.{Port, Action}
 use Rattle.lft_flat.specs.declared.parts.Trigger.{Trigger}
 use Rattle.lft_flat.specs.declared.parts.Trigger.TheVariants.{Startup, Shutdown, Timer, On}
 use Rattle.lft_lists.proofs.Members.{Mem, mem_cases, mem_from_filter, mem_contains}
@@ -32,3 +33,13 @@ input_known program sound r x e n m = go (mem_cases n (filter_map named x.trigge
         let p = mem_from_filter named x.triggers n q in
         subst (λ (y : Trigger). IsTriggerOf program y) (named_on p.0 n p.2) ((sound.exist r x e).triggers p.0 (mem_contains p.0 x.triggers p.1))
     go (inr q) = (sound.exist r x e).uses n (mem_contains n x.uses q)
+
+pub name_same : (m n : Name) → same_name m n ≡ true → m ≡ n
+name_same (Port p) (Port q) e = ap Port (eqb-true p q e)
+name_same (Port p) (Action b) e = absurd (cc)
+name_same (Action a) (Port q) e = absurd (cc)
+name_same (Action a) (Action b) e = ap Action (eqb-true a b e)
+
+pub name_self : (n : Name) → same_name n n ≡ true
+name_self (Port p) = eq-eqb p p refl
+name_self (Action a) = eq-eqb a a refl

@@ -8,14 +8,16 @@ use Rattle.lft_lists.proofs.Mapped.{mapped, mapped_from}
 use Rattle.lft_flat.specs.Parts.{Parts}
 use Rattle.lft_flat.specs.declared.parts.Value.{Value}
 use Rattle.lft_flat.specs.declared.parts.Name.{Name}
+use Rattle.lft_flat.specs.Naming.{same_name}
+use Rattle.lft_flat.proofs.Naming.{name_same, name_self}
 use Rattle.lft_trace.specs.declared.row.Row.{Row}
 use Rattle.lft_trace.specs.declared.row.Step.{Step}
 use Rattle.lft_trace.specs.declared.row.Step.TheVariants.{Start, Read, Write, Schedule, Stop, End}
-use Rattle.lft_model.specs.Runs.{Run, inputs_of, read_step, same_name, value_read, step_of, closing_steps, steps_of_run, rows_of_run, rows_of}
-use Rattle.lft_model.proofs.Steps.{both_true, name_same, name_self, same_tag_true}
+use Rattle.lft_model.specs.Runs.{Run, inputs_of, read_step, value_read, step_of, closing_steps, steps_of_run, rows_of_run, rows_of}
+use Rattle.lft_model.proofs.Steps.{both_true}
 use Rattle.lft_model.proofs.Counted.{NamesApart}
 use Rattle.lft_model.proofs.RunSteps.{read_part, write_part, schedule_part, in_reads, in_writes, in_schedules, row_with, mem_zip}
-use Rattle.lft_tag.proofs.Order.{same_tag_refl}
+use Rattle.lft_tag.proofs.Order.{same_tag_refl, same_tag_true}
 use Rattle.std.proofs.lemmas.List.{length-map}
 
 -- lists by place

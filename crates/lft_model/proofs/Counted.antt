@@ -15,8 +15,8 @@ use Rattle.lft_trace.specs.declared.row.Step.TheVariants.{Start, Read, Write, Sc
 use Rattle.lft_model.specs.Plans.{PlanParts}
 use Rattle.lft_model.specs.Presence.{scheduled, value_scheduled}
 use Rattle.lft_model.specs.Runs.{Run, Outcome, inputs_of, effects_of, reads_at, run_at, ended_by, by_ends, rows_of_run, rows_of, read_step, write_step, step_of, steps_of, outcome_of, schedule_steps, closing_steps, request_of}
-use Rattle.lft_model.proofs.Steps.{in_reads, in_writes, both_true, same_tag_true, some_scheduled}
-use Rattle.lft_tag.proofs.Order.{same_tag_refl}
+use Rattle.lft_model.proofs.Steps.{in_reads, in_writes, both_true, some_scheduled}
+use Rattle.lft_tag.proofs.Order.{same_tag_refl, same_tag_true}
 
 abbrev pub Key : Type 0
 Key = Tag × ℕ

@@ -3,7 +3,7 @@ use Rattle.std.proofs.Common.{◌≡◌, ℕ, suc, ◌<◌, ◌≤◌, ◌⊎◌
 use Rattle.std.specs.List.{cons_option}
 use Rattle.lft_tag.specs.declared.Tag.{Tag}
 use Rattle.lft_tag.specs.Tags.{Before, same_tag}
-use Rattle.lft_tag.proofs.Order.{Before-irrefl}
+use Rattle.lft_tag.proofs.Order.{Before-irrefl, same_tag_true}
 use Rattle.lft_lists.proofs.Members.{Mem, get_mem, mem_from_filter}
 use Rattle.lft_flat.specs.declared.parts.Value.{Value}
 use Rattle.lft_flat.specs.declared.parts.Name.{Name}
@@ -12,7 +12,7 @@ use Rattle.lft_trace.specs.declared.externals.Event.{Event}
 use Rattle.lft_model.specs.Plans.{PlanParts, IsSoundPlan}
 use Rattle.lft_model.specs.Presence.{given, Collision, ClashesAt}
 use Rattle.lft_model.specs.Recorded.{SoFar}
-use Rattle.lft_model.proofs.Steps.{both_true, same_tag_true}
+use Rattle.lft_model.proofs.Steps.{both_true}
 use Rattle.lft_model.proofs.Counted.{get_or_get}
 use Rattle.std.proofs.NetLemmas.Options.{cond_some}
 

@@ -16,9 +16,9 @@ use Rattle.lft_model.specs.Presence.{written, value_written, scheduled, value_sc
 use Rattle.lft_model.specs.Runs.{Run, end_row, steps_of, effects_of, reads_at, run_at, ended_by, by_ends, steps_of_run, rows_of_run, rows_of}
 use Rattle.lft_model.proofs.Places.{slice_get_take, slice_get_taken}
 use Rattle.lft_model.proofs.Stops.{ask, asked_some, stop_more}
-use Rattle.lft_model.proofs.Steps.{OwnStep, own_step, RowOf, step_mem, written_some, some_written, scheduled_some, same_tag_true}
+use Rattle.lft_model.proofs.Steps.{OwnStep, own_step, RowOf, step_mem, written_some, some_written, scheduled_some}
 use Rattle.lft_model.proofs.Steps.OwnStep.{starts, reads, writes, schedules, stops, ends}
-use Rattle.lft_tag.proofs.Order.{same_tag_refl}
+use Rattle.lft_tag.proofs.Order.{same_tag_refl, same_tag_true}
 
 -- the runs of t that ended before place i
 abbrev pub ended_before : PlanParts → List Row → ℕ → List Run

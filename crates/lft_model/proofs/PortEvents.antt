@@ -20,8 +20,7 @@ use Rattle.lft_model.specs.Presence.{value_written, written, IsWrittenFrom, At, 
 use Rattle.lft_model.proofs.Places.{slice_get_within}
 use Rattle.lft_model.proofs.Counted.{get_or_get}
 use Rattle.lft_model.proofs.Ended.{written_by, by_written}
-use Rattle.lft_model.proofs.Steps.{same_tag_true}
-use Rattle.lft_tag.proofs.Order.{same_tag_refl}
+use Rattle.lft_tag.proofs.Order.{same_tag_refl, same_tag_true}
 
 -- the value that a row gives the port at tag g
 abbrev pub arriving : Tag → PortOf → Row → Option Value

@@ -10,20 +10,18 @@ use Rattle.lft_flat.specs.Parts.{Parts}
 use Rattle.lft_flat.specs.declared.parts.Value.{Value}
 use Rattle.lft_flat.specs.declared.parts.Name.{Name}
 use Rattle.lft_flat.specs.declared.parts.Name.TheVariants.{Port, Action}
+use Rattle.lft_flat.specs.Naming.{same_name}
 use Rattle.lft_trace.specs.declared.row.Row.{Row}
 use Rattle.lft_trace.specs.declared.row.Step.{Step}
 use Rattle.lft_trace.specs.declared.row.Step.TheVariants.{Start, Read, Write, Schedule, Stop, End}
 use Rattle.lft_model.specs.Presence.{value_written, value_scheduled}
-use Rattle.lft_model.specs.Runs.{Run, Outcome, step_of, steps_of, outcome_of, inputs_of, effects_of, read_step, write_step, schedule_steps, write_step_of, schedule_steps_of, closing_steps, request_of, steps_of_run, same_name}
+use Rattle.lft_model.specs.Runs.{Run, Outcome, step_of, steps_of, outcome_of, inputs_of, effects_of, read_step, write_step, schedule_steps, write_step_of, schedule_steps_of, closing_steps, request_of, steps_of_run}
 use Rattle.std.proofs.NetLemmas.Options.{cond_some}
 use Rattle.lft_tag.proofs.Order.{same_tag_refl}
 
 pub both_true : (a b : Bool) → a && b ≡ true → (a ≡ true) × (b ≡ true)
 both_true true b e = (refl, e)
 both_true false b e = absurd (cc)
-
-pub same_tag_true : (g h : Tag) → same_tag g h ≡ true → g ≡ h
-same_tag_true g h e = let p = both_true (g.time == h.time) (g.micro == h.micro) e in tag_of (eqb-true g.time h.time p.0) (eqb-true g.micro h.micro p.1)
 
 -- a step of the run of c at h is the step of a row
 pub step_row : (t : List Row) (h : Tag) (c : ℕ) (row : Row) (s : Step) → step_of h c row ≡ Some s → (row.tag ≡ h) × (row.reaction ≡ c) × (row.step ≡ s)
@@ -220,13 +218,3 @@ module _ (program : Parts) (t : List Row) (h : Tag) (c : ℕ) (reads : List (Opt
       let u : Mem (Schedule (Action a) v d) (flat_map schedule_steps (zip eff (map (outcome_of st) eff))) = mem_flat schedule_steps (Action a, outcome_of st (Action a)) (Schedule (Action a) v d) (zip eff (map (outcome_of st) eff)) y w in
       mem_left (Schedule (Action a) v d) (read_part ++ write_part ++ schedule_part) (closing_steps (request_of (steps_of t h c))) (mem_right (Schedule (Action a) v d) (read_part ++ write_part) schedule_part u)
 
--- the test of two names being one
-pub name_same : (m n : Name) → same_name m n ≡ true → m ≡ n
-name_same (Port p) (Port q) e = ap Port (eqb-true p q e)
-name_same (Port p) (Action b) e = absurd (cc)
-name_same (Action a) (Port q) e = absurd (cc)
-name_same (Action a) (Action b) e = ap Action (eqb-true a b e)
-
-pub name_self : (n : Name) → same_name n n ≡ true
-name_self (Port p) = eq-eqb p p refl
-name_self (Action a) = eq-eqb a a refl

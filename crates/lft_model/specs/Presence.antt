@@ -1,9 +1,10 @@
 -- What is present at a tag, by the rows of a trace and the external inputs.
-use Rattle.std.specs.Prelude.{◌≡◌, ◌≢◌, ℕ, ◌+◌, ◌*◌, ◌≤◌, Bool, cond, false, ◌&&◌, ◌==◌, List, ◌++◌, length, Option, Some, None, slice_get, Contains, filter_map, option_map, option_and_then, unwrap_or}
+use Rattle.std.specs.Prelude.{◌≡◌, ◌≢◌, ℕ, ◌+◌, ◌*◌, ◌≤◌, cond, ◌&&◌, ◌==◌, List, ◌++◌, length, Option, Some, None, slice_get, Contains, filter_map, option_map, option_and_then, unwrap_or}
 use Rattle.std.specs.List.{last_or, AllZip}
 use Rattle.lft_tag.specs.declared.Tag.{Tag}
 use Rattle.lft_tag.specs.Tags.{after, after_all, same_tag, earliest}
 use Rattle.lft_flat.specs.Parts.{Parts, inputs}
+use Rattle.lft_flat.specs.Naming.{is_port, is_action}
 use Rattle.lft_flat.specs.Origins.{Origin}
 use Rattle.lft_flat.specs.declared.parts.Value.{Value}
 use Rattle.lft_flat.specs.declared.parts.Name.{Name}
@@ -17,15 +18,6 @@ use Rattle.lft_trace.specs.declared.externals.Event.{Event}
 use Rattle.lft_trace.specs.declared.row.Step.{Step}
 use Rattle.lft_trace.specs.declared.row.Step.TheVariants.{Start, Read, Write, Schedule, Stop, End}
 use Rattle.lft_model.specs.Plans.{PlanParts}
-
--- the tests of names
-abbrev pub is_port : ℕ → Name → Bool
-is_port p (Port q) = p == q
-is_port p (Action b) = false
-
-abbrev pub is_action : ℕ → Name → Bool
-is_action a (Port q) = false
-is_action a (Action b) = a == b
 
 -- the value that a step writes to port p
 abbrev pub value_written : ℕ → Step → Option Value

@@ -7,11 +7,12 @@ use Rattle.lft_flat.specs.Parts.{Parts, inputs}
 use Rattle.lft_flat.specs.declared.parts.Value.{Value}
 use Rattle.lft_flat.specs.declared.parts.Name.{Name}
 use Rattle.lft_flat.specs.declared.parts.Name.TheVariants.{Port, Action}
+use Rattle.lft_flat.specs.Naming.{same_name}
 use Rattle.lft_trace.specs.declared.row.Row.{Row}
 use Rattle.lft_trace.specs.declared.row.Step.{Step}
 use Rattle.lft_trace.specs.declared.row.Step.TheVariants.{Start, Read, Write, Schedule, Stop, End}
 use Rattle.lft_model.specs.Plans.{PlanParts}
-use Rattle.lft_model.specs.Presence.{value_written, value_scheduled, is_port, is_action}
+use Rattle.lft_model.specs.Presence.{value_written, value_scheduled}
 
 -- what a run answered for one effect: the last value written to a port, or none; the schedulings of an action in order
 pub data Outcome : Type 0 where
@@ -49,10 +50,6 @@ step_of g r row = cond (same_tag g row.tag && (r == row.reaction)) (Some row.ste
 -- the steps of the run of r at g, in order
 abbrev pub steps_of : List Row → Tag → ℕ → List Step
 steps_of t g r = filter_map (step_of g r) t
-
-abbrev pub same_name : Name → Name → Bool
-same_name (Port p) n = is_port p n
-same_name (Action a) n = is_action a n
 
 abbrev pub value_read : Name → Step → Option Value
 value_read m (Read n v) = cond (same_name m n) (Some v) None

@@ -7,7 +7,7 @@ use Rattle.lft_flat.proofs.Origins.{origin_unique, origin_inside}
 use Rattle.lft_tag.specs.declared.Tag.{Tag}
 use Rattle.lft_tag.specs.Tags.{Before, UpTo, after, after_all, same_tag}
 use Rattle.lft_tag.specs.Shifts.{Folded, shifted}
-use Rattle.lft_tag.proofs.Order.{UpTo-not, Before-irrefl, same_tag_refl}
+use Rattle.lft_tag.proofs.Order.{UpTo-not, Before-irrefl, same_tag_refl, same_tag_true}
 use Rattle.lft_tag.proofs.Chains.{tag_of as tag_from, shifted_chain}
 use Rattle.lft_lists.proofs.Members.{Mem, mem_get, get_mem, mem_contains, contains_mem, mem_filter, mem_from_filter, mem_left, mem_right, mem_cases, last_at, last_by_place, last_of_mem}
 use Rattle.lft_flat.specs.Parts.{Parts}
@@ -26,7 +26,7 @@ use Rattle.lft_model.specs.Plans.{PlanParts}
 use Rattle.lft_model.specs.Presence.{value_written, written, value_scheduled, scheduled, given, min_delay, events_of, IsWrittenFrom, At, IsPresent}
 use Rattle.lft_model.proofs.Places.{slice_get_within}
 use Rattle.lft_model.proofs.Ended.{Schedules, written_by, by_written, scheduled_by, by_scheduled}
-use Rattle.lft_model.proofs.Steps.{written_some, some_written, scheduled_some, some_scheduled, same_tag_true, both_true}
+use Rattle.lft_model.proofs.Steps.{written_some, some_written, scheduled_some, some_scheduled, both_true}
 use Rattle.lft_presence.specs.declared.causes.Cause.{Cause}
 use Rattle.lft_presence.specs.Causes.{tag_of, cause, ComesUpTo, AreCauses, LiesBelow, IsPosition, Leads, IsLastCause, IsValueFrom, IsRowCause, IsEventCause, IsCause, Carries, value_of, write_cause, schedule_cause, step_cause, event_cause}
 use Rattle.lft_presence.proofs.Positions.{shifted_mono, tag_up, same_cause}

@@ -15,11 +15,12 @@ use Rattle.lft_model.specs.Plans.{PlanParts, IsSoundPlan}
 use Rattle.lft_model.specs.Presence.{scheduled, given, min_delay, events_of}
 use Rattle.lft_model.proofs.Places.{slice_get_within}
 use Rattle.lft_model.proofs.Ended.{scheduled_by, by_scheduled}
-use Rattle.lft_model.proofs.Steps.{same_tag_true, both_true}
+use Rattle.lft_model.proofs.Steps.{both_true}
 use Rattle.lft_presence.specs.declared.causes.Cause.{Cause}
 use Rattle.lft_presence.specs.Causes.{tag_of, cause, Leads, IsCause, Carries, step_cause}
 use Rattle.lft_presence.proofs.Presences.{step_schedules, schedules_step, none_leads, row_of, event_of, carrier, given_there}
 use Rattle.std.proofs.NetLemmas.Options.{cond_some}
+use Rattle.lft_tag.proofs.Order.{same_tag_true}
 
 -- an item of which a filter keeps something
 record Kept {X Y : Type 0} (h : X → Option Y) (xs : List X) : Type 0 where

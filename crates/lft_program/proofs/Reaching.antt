@@ -98,10 +98,6 @@ module _ {tree : FileTree} (located : List Located) {sources : List (Option Sour
         }
 
 -- what holds of the answer where something else holds of it
-pub ok_weaker : {A E : Type 0} (P Q : A → Type 0) (r : Result A E) → ((v : A) → P v → Q v) → IfOk r P → IfOk r Q
-ok_weaker P Q (Ok v) f p = f v p
-ok_weaker P Q (Err e) f p = p
-
 pub on_ok : {A E : Type 0} (P : A → Type 0) (Q : Type 0) (r : Result A E) → ((v : A) → P v → Q) → IfOk r P → OnOk r Q
 on_ok P Q (Ok v) f p = f v p
 on_ok P Q (Err e) f p = p

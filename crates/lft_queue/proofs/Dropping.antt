@@ -1,5 +1,5 @@
 -- The events after a tag, and those that aren't.
-use Rattle.std.proofs.Common.{◌≡◌, ◌∙◌, ℕ, ◌+◌, ◌-◌, ◌≤◌, ◌⊎◌, inl, inr, List, [], ◌∷◌, ◌++◌, length, length-append, map, Option, Some, None, IfSome, IfNone, arith, slice_get, refl, sym, ap, subst, Bool, true, false, not, cond, All}
+use Rattle.std.proofs.Common.{◌≡◌, ◌∙◌, ℕ, ◌+◌, ◌-◌, ◌≤◌, ◌⊎◌, inl, inr, List, [], ◌∷◌, ◌++◌, length, length-append, map, Option, Some, None, IfSome, IfNone, arith, slice_get, refl, sym, ap, subst, Bool, true, false, not, cond, ◌&&◌, All}
 use Rattle.std.specs.Cmp.{nat_cmp_is}
 use Rattle.std.specs.Ordering.{is_lt, nat_cmp}
 use Rattle.std.proofs.lemmas.Bool.{false≢true}
@@ -9,11 +9,13 @@ use Rattle.std.specs.List.Sorted.{IsStrictlySortedBy}
 use Rattle.std.specs.Map.{keys_of}
 use Rattle.std.specs.declared.cmp.Ordering.TheVariants.{Less, Equal}
 use Rattle.lft_tag.specs.declared.Tag.{Tag}
-use Rattle.lft_tag.specs.Tags.{Before, UpTo, is_before}
-use Rattle.lft_tag.proofs.Order.{Before-UpTo, UpTo-Before, order_cases}
+use Rattle.lft_tag.specs.Tags.{Before, UpTo, is_before, same_tag}
+use Rattle.lft_tag.proofs.Order.{Before-UpTo, UpTo-Before, order_cases, same_tag_true}
+use Rattle.lft_flat.specs.Naming.{same_name}
+use Rattle.lft_flat.specs.declared.parts.Name.{Name}
 use Rattle.lft_flat.specs.declared.parts.Value.{Value}
 use Rattle.lft_lists.proofs.Places.{get_last, same_some}
-use Rattle.lft_queue.specs.Pending.{Pending, is_after}
+use Rattle.lft_queue.specs.Pending.{Pending, is_after, same_key, value_of}
 use Rattle.lft_queue.specs.Keys.{Key, tag_of, pending_at, key_cmp}
 use Rattle.lft_queue.proofs.Entries.{follows}
 use Rattle.lft_queue.proofs.Tests.{test_before, not_before}
@@ -78,3 +80,22 @@ last_taken g (Some p) old new k v some none last b = (sym (last_dropped g p new 
 
     at_p : Before g (tag_of p.0)
     at_p = subst (λ (e : Key × Value). Before g (tag_of e.0)) (sym same) b
+
+-- where the events up to a tag are taken out, the later ones stay
+pub later_value : (g h : Tag) (n : Name) → Before g h → (q : List Pending) → value_of h n (filter (λ e. is_after g e) q) ≡ value_of h n q
+later_value g h n b [] = refl
+later_value g h n b (e ∷ q) = go (is_before g e.tag) refl (later_value g h n b q)
+  where
+    and_first : (a b : Bool) → (a && b) ≡ true → a ≡ true
+    and_first true b z = refl
+    and_first false b z = absurd (cc)
+
+    other : (k : Bool) → is_before g e.tag ≡ false → same_key h n e.tag e.name ≡ k → value_of h n q ≡ cond k (Some e.value) (value_of h n q)
+    other false s z = refl
+    other true s z =
+        let p : h ≡ e.tag = same_tag_true h e.tag (and_first (same_tag h e.tag) (same_name n e.name) z) in
+        absurd (false≢true (sym s ∙ test_before g e.tag (subst (λ (k : Tag). Before g k) p b)))
+
+    go : (k : Bool) → is_before g e.tag ≡ k → value_of h n (filter (λ d. is_after g d) q) ≡ value_of h n q → value_of h n (cond k (e ∷ filter (λ d. is_after g d) q) (filter (λ d. is_after g d) q)) ≡ cond (same_key h n e.tag e.name) (Some e.value) (value_of h n q)
+    go true s rest = ap (λ (o : Option Value). cond (same_key h n e.tag e.name) (Some e.value) o) rest
+    go false s rest = rest ∙ other (same_key h n e.tag e.name) s refl

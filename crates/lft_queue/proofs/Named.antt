@@ -15,10 +15,12 @@ use Rattle.lft_tag.proofs.Order.{Before-UpTo}
 use Rattle.lft_flat.specs.declared.parts.Value.{Value}
 use Rattle.lft_flat.specs.declared.parts.Name.{Name}
 use Rattle.lft_flat.specs.declared.parts.Name.TheVariants.{Port}
-use Rattle.lft_queue.specs.Pending.{Pending, same_name, value_of, is_at, names_at}
+use Rattle.lft_flat.specs.Naming.{same_name}
+use Rattle.lft_flat.proofs.Naming.{name_same, name_self}
+use Rattle.lft_queue.specs.Pending.{Pending, value_of, is_at, names_at}
 use Rattle.lft_queue.specs.Keys.{Key, key_of, tag_of, pending_at, key_cmp, AreFrom}
 use Rattle.lft_queue.proofs.Entries.{follows, equal_up}
-use Rattle.lft_queue.proofs.Tests.{name_same, name_refl, tag_apart, past}
+use Rattle.lft_queue.proofs.Tests.{tag_apart, past}
 
 contains_first : {X : Type 0} (x : X) (xs : List X) → Contains (x ∷ xs) x
 contains_first x xs = (0, omega arith, refl)
@@ -39,7 +41,7 @@ named g n [] = (λ c. (let l : c.0 < 0 = c.1 in absurd (omega arith)), λ s. abs
 named g n (e ∷ es) = go (same_tag g e.tag) (same_name n e.name) refl (named g n es)
   where
     rest : (e.name ≡ n) ⊎ Contains (names_at g es) n → same_name n e.name ≡ false → Contains (names_at g es) n
-    rest (inl same) q = absurd (false≢true (sym q ∙ subst (λ (m : Name). same_name n m ≡ true) (sym same) (name_refl n)))
+    rest (inl same) q = absurd (false≢true (sym q ∙ subst (λ (m : Name). same_name n m ≡ true) (sym same) (name_self n)))
     rest (inr c) q = c
 
     go : (a b : Bool) → same_name n e.name ≡ b → Contains (names_at g es) n ↔ IsSome (value_of g n es) → Contains (map (λ (x : Pending). x.name) (cond a (e ∷ filter (is_at g) es) (filter (is_at g) es))) n ↔ IsSome (cond (a && b) (Some e.value) (value_of g n es))

@@ -5,19 +5,6 @@ use Rattle.std.proofs.lemmas.Bool.{ltb-true}
 use Rattle.lft_tag.specs.declared.Tag.{Tag}
 use Rattle.lft_tag.specs.Tags.{Before, UpTo, same_tag, is_before}
 use Rattle.lft_tag.proofs.Order.{order_cases, UpTo_antisym}
-use Rattle.lft_flat.specs.declared.parts.Name.{Name}
-use Rattle.lft_flat.specs.declared.parts.Name.TheVariants.{Port, Action}
-use Rattle.lft_queue.specs.Pending.{same_name}
-
-pub name_same : (n m : Name) → same_name n m ≡ true → n ≡ m
-name_same (Port p) (Port q) e = ap Port (eqb-true p q e)
-name_same (Port p) (Action b) e = absurd (cc)
-name_same (Action a) (Port q) e = absurd (cc)
-name_same (Action a) (Action b) e = ap Action (eqb-true a b e)
-
-pub name_refl : (n : Name) → same_name n n ≡ true
-name_refl (Port p) = eq-eqb p p refl
-name_refl (Action a) = eq-eqb a a refl
 
 -- a tag is none of the later ones
 pub tag_apart : (g h : Tag) → Before g h → same_tag g h ≡ false

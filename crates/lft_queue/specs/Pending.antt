@@ -1,24 +1,17 @@
 -- What contracts see of a queue: the events that are to happen, as a map from tag and name to value.
-use Rattle.std.specs.Prelude.{◌≡◌, Bool, false, cond, ◌&&◌, ◌==◌, List, [], ◌∷◌, map, filter, Option, Some, None}
+use Rattle.std.specs.Prelude.{◌≡◌, Bool, false, cond, ◌&&◌, List, [], ◌∷◌, map, filter, Option, Some, None}
 use Rattle.std.specs.List.{AllPairs}
 use Rattle.lft_tag.specs.declared.Tag.{Tag}
 use Rattle.lft_tag.specs.Tags.{same_tag, is_before}
 use Rattle.lft_flat.specs.declared.parts.Value.{Value}
+use Rattle.lft_flat.specs.Naming.{same_name}
 use Rattle.lft_flat.specs.declared.parts.Name.{Name}
-use Rattle.lft_flat.specs.declared.parts.Name.TheVariants.{Port, Action}
 
 -- an event that is to happen
 pub record Pending : Type 0 where
   pub tag : Tag
   pub name : Name
   pub value : Value
-
--- the test of two ports or actions being the same
-abbrev pub same_name : Name → Name → Bool
-same_name (Port p) (Port q) = p == q
-same_name (Port p) (Action b) = false
-same_name (Action a) (Port q) = false
-same_name (Action a) (Action b) = a == b
 
 -- the test of two pairs of tag and name being the same
 abbrev pub same_key : Tag → Name → Tag → Name → Bool

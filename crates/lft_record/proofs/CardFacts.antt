@@ -8,6 +8,7 @@ use Rattle.std.proofs.lemmas.List.Elements.{filter_map-append}
 use Rattle.std.proofs.lemmas.Option.{slice_get-get_or, slice_get_within, get_or_from_slice_get}
 use Rattle.csv.specs.Records.{fields_of}
 use Rattle.lft_flat.specs.Parts.{Parts}
+use Rattle.lft_scope.proofs.Placing.{not_some}
 use Rattle.lft_record.specs.CardTables.{AreTold, CardsFail, FaultAt, IsAgain, IsCard, IsScript, card_tables, entries_of, entry_bodies, entry_of, entry_state, entry_step, header}
 use Rattle.lft_record.specs.Scripts.{Adds, blank, is_taken, with_entry}
 use Rattle.lft_record.specs.declared.cards.card.Card.{Card}
@@ -18,7 +19,7 @@ use Rattle.lft_record.specs.declared.cards.Script.{Script}
 use Rattle.lft_record.specs.declared.cards.expression.Term.{Term}
 use Rattle.lft_record.specs.declared.cards.fault.CardFault.{CardFault}
 use Rattle.lft_record.specs.declared.cards.fault.CardFault.TheVariants as fault
-use Rattle.lft_trace.specs.Records.{GoesOn, IsUnread, records_of}
+use Rattle.lft_trace.specs.Records.{IsNext, IsUnread, records_of}
 use Rattle.lft_trace.specs.declared.records.Records.{Records}
 use Rattle.lft_trace.proofs.TableFacts.{Read, Texts, bad as bad_record, one_more as read_more, start as first}
 
@@ -31,7 +32,7 @@ pub record Gathered (program : Parts) (records : Texts) (scripts : List Script) 
 blank_told : (r : ℕ) (script : Script) → script ≡ blank → IsScript [] script
 blank_told r script e = rw e (record { bodies = refl; steps = refl; state = refl })
 
-pub start : (program : Parts) (text : List ℕ) (scripts : List Script) (old new : Records) → IsUnread old text 4000001 → GoesOn old new → fields_of new.fields ≡ header → length scripts ≡ length program.reactions → All (λ script. script ≡ blank) scripts → Gathered program (records_of text) scripts new
+pub start : (program : Parts) (text : List ℕ) (scripts : List Script) (old new : Records) → IsUnread old text 4000001 → IsNext old new → fields_of new.fields ≡ header → length scripts ≡ length program.reactions → All (λ script. script ≡ blank) scripts → Gathered program (records_of text) scripts new
 start program text scripts old new u g top l b =
     let told : AreTold program [] scripts = record {
       long = l;
@@ -50,13 +51,9 @@ is_own r card e = let t : (r == card.reaction) ≡ true = grind (arith, nat_test
 is_other : (r : ℕ) (card : Card) → r ≢ card.reaction → entry_of r card ≡ None
 is_other r card e = let t : (r == card.reaction) ≡ false = grind (arith, nat_tests, e) in rw t refl
 
-none_taken : {X : Type 0} (o : Option X) → is_some o ≡ false → o ≡ None
-none_taken None h = refl
-none_taken (Some x) h = absurd (cc h)
-
 with_more : (entries : List CardEntry) (script : Script) (e : CardEntry) → IsScript entries script → is_taken script e ≡ false → IsScript (entries ++ (e ∷ [])) (with_entry script e)
 with_more entries script (entry.Bodies n) s free = record {
-  bodies = filter_map-append entry_bodies entries (entry.Bodies n ∷ []) ∙ ap (λ (l : List ℕ). l ++ (n ∷ [])) (s.bodies ∙ ap option_to_list (none_taken script.bodies free));
+  bodies = filter_map-append entry_bodies entries (entry.Bodies n ∷ []) ∙ ap (λ (l : List ℕ). l ++ (n ∷ [])) (s.bodies ∙ ap option_to_list (not_some script.bodies free));
   steps = filter_map-append entry_step entries (entry.Bodies n ∷ []) ∙ append-nil (filter_map entry_step entries) ∙ s.steps;
   state = filter_map-append entry_state entries (entry.Bodies n ∷ []) ∙ append-nil (filter_map entry_state entries) ∙ s.state;
 }
@@ -68,7 +65,7 @@ with_more entries script (entry.Step x) s free = record {
 with_more entries script (entry.State t) s free = record {
   bodies = filter_map-append entry_bodies entries (entry.State t ∷ []) ∙ append-nil (filter_map entry_bodies entries) ∙ s.bodies;
   steps = filter_map-append entry_step entries (entry.State t ∷ []) ∙ append-nil (filter_map entry_step entries) ∙ s.steps;
-  state = filter_map-append entry_state entries (entry.State t ∷ []) ∙ ap (λ (l : List (List Term)). l ++ (t ∷ [])) (s.state ∙ ap option_to_list (none_taken script.state free));
+  state = filter_map-append entry_state entries (entry.State t ∷ []) ∙ ap (λ (l : List (List Term)). l ++ (t ∷ [])) (s.state ∙ ap option_to_list (not_some script.state free));
 }
 
 not_false : (b : Bool) → true ≡ not b → b ≡ false
@@ -111,15 +108,15 @@ taken_again cards card script s taken = again card.entry refl taken
     again (entry.State terms) e t = inr (terms, ap entry_state e, some script.state (filter_map entry_state (entries_of card.reaction cards)) t s.state)
 
 module _ (program : Parts) (records : Texts) (scripts : List Script) (old new : Records) (r : Gathered program records scripts old) where
-  pub one_more : (now : List Script) (card : Card) → GoesOn old new → IsCard program (fields_of new.fields) card → card.reaction < length program.reactions → Adds scripts now card true → Gathered program records now new
+  pub one_more : (now : List Script) (card : Card) → IsNext old new → IsCard program (fields_of new.fields) card → card.reaction < length program.reactions → Adds scripts now card true → Gathered program records now new
   one_more now card g is within a =
       let told = told_more program r.cards scripts now card r.told (let l = r.told.long in omega (arith, l, within)) a in
       record { cards = r.cards ++ (card ∷ []); read = read_more (card_tables program) records r.cards old new card r.read g is (now, told); told = told }
 
-  pub bad : (e : CardFault) → GoesOn old new → ((before : List Card) → FaultAt program before new.line (fields_of new.fields) e) → CardsFail program records e
+  pub bad : (e : CardFault) → IsNext old new → ((before : List Card) → FaultAt program before new.line (fields_of new.fields) e) → CardsFail program records e
   bad e g is = bad_record (card_tables program) records r.cards old new e r.read g (is r.cards)
 
-  pub refused : (now : List Script) (card : Card) → GoesOn old new → IsCard program (fields_of new.fields) card → card.reaction < length program.reactions → Adds scripts now card false → CardsFail program records (fault.GivenTwice new.line)
+  pub refused : (now : List Script) (card : Card) → IsNext old new → IsCard program (fields_of new.fields) card → card.reaction < length program.reactions → Adds scripts now card false → CardsFail program records (fault.GivenTwice new.line)
   refused now card g is within a =
       let inside : card.reaction < length scripts = let l = r.told.long in omega (arith, l, within) in
       let old_script = get_or scripts card.reaction blank in

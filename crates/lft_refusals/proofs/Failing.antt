@@ -25,10 +25,6 @@ pub weaker : {X P Q : Type 0} (o : Option X) → (P → Q) → IfNone o P → If
 weaker None follows p = follows p
 weaker (Some x) follows p = p
 
-pub ok_weaker : {X E : Type 0} (P Q : X → Type 0) (r : Result X E) → ((x : X) → P x → Q x) → IfOk r P → IfOk r Q
-ok_weaker P Q (Ok x) follows p = follows x p
-ok_weaker P Q (Err e) follows p = p
-
 -- what is found is so, though nothing is
 pub found : {X : Type 0} (P : X → Type 0) (o : Option X) → is_some o ≡ true → IfSome o P → ((x : X) → P x → ⊥) → ⊥
 found P None e p none = absurd (cc)

@@ -9,7 +9,7 @@ use Rattle.lft_tag.specs.declared.Tag.{Tag}
 use Rattle.lft_tag.specs.Tags.{Before, UpTo, after_all, same_tag}
 use Rattle.lft_tag.specs.Shifts.{shifted}
 use Rattle.lft_tag.proofs.Chains.{shifted_chain}
-use Rattle.lft_tag.proofs.Order.{Before-irrefl, after_some_past, same_tag_refl}
+use Rattle.lft_tag.proofs.Order.{Before-irrefl, after_some_past, same_tag_refl, same_tag_true}
 use Rattle.lft_lists.proofs.Members.{Mem, mem_get, get_mem, mem_filter, mem_from_filter, contains_mem, nil_of_none, last_mem, last_of_mem}
 use Rattle.lft_lists.proofs.Places.{same_at, get_written, get_unwritten, get_write_cases, length_written}
 use Rattle.lft_flat.specs.Origins.{Origin}
@@ -20,6 +20,8 @@ use Rattle.lft_flat.specs.declared.parts.Name.TheVariants.{Port, Action}
 use Rattle.lft_flat.specs.declared.parts.Port.{Port as PortOf}
 use Rattle.lft_flat.specs.declared.parts.Value.{Value}
 use Rattle.lft_flat.proofs.Origins.{origin_unique, port_of}
+use Rattle.lft_flat.proofs.Naming.{name_same}
+use Rattle.lft_flat.specs.Naming.{same_name}
 use Rattle.lft_trace.specs.declared.externals.Event.{Event}
 use Rattle.lft_trace.specs.declared.row.Row.{Row}
 use Rattle.lft_trace.specs.declared.row.Step.{Step}
@@ -27,8 +29,8 @@ use Rattle.lft_trace.specs.declared.row.Step.TheVariants.{Write}
 use Rattle.lft_model.specs.Presence.{value_written, written}
 use Rattle.lft_model.proofs.Ended.{written_by, by_written}
 use Rattle.lft_model.proofs.Places.{slice_get_within}
-use Rattle.lft_model.proofs.Steps.{both_true, same_tag_true, name_same, written_some, some_written}
-use Rattle.lft_queue.specs.Pending.{value_of, same_name}
+use Rattle.lft_model.proofs.Steps.{both_true, written_some, some_written}
+use Rattle.lft_queue.specs.Pending.{value_of}
 use Rattle.lft_stream.specs.AtOnce.{is_undelayed, origin_of}
 use Rattle.lft_stream.specs.Channels.{is_behind, arrives_at, arrival, AreChannels, carried_to, carried_by, IsCarried, IsUncarried, AreCarried}
 use Rattle.lft_stream.specs.Coming.{to_come}

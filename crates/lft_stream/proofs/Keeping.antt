@@ -1,10 +1,9 @@
 -- What is kept stays right over the rows of a tag, and accepts in the end.
 use Rattle.std.proofs.Common.{◌≡◌, ℕ, ◌+◌, ◌<◌, ◌⊎◌, inl, inr, Bool, true, false, List, [], ◌∷◌, ◌++◌, ◌-◌, append_assoc, take, map, length, refl, sym, ap, ◌∙◌, subst, arith, Option, Some, None, IsSome, slice_get, filter_map, option_map, option_to_list, Contains}
 use Rattle.std.proofs.lemmas.List.{append-nil}
-use native.Mathlib.Decide.{dec_lt}
 use Rattle.lft_tag.specs.declared.Tag.{Tag}
 use Rattle.lft_tag.specs.Tags.{Before, UpTo, after, earliest}
-use Rattle.lft_tag.proofs.Order.{UpTo-refl, UpTo-trans, UpTo_antisym, UpTo-Before, Before-UpTo, Before-weaken, order_cases, after_past}
+use Rattle.lft_tag.proofs.Order.{UpTo-refl, UpTo-trans, UpTo_antisym, UpTo-Before, Before-UpTo, Before-weaken, order_cases, after_past, from_first}
 use Rattle.lft_lists.proofs.Members.{get_mem, contains_mem, mem_contains, none_nil}
 use Rattle.lft_lists.proofs.Places.{get_there, get_append_cases}
 use Rattle.lft_flat.proofs.Ranges.{length-range}
@@ -56,13 +55,6 @@ use Rattle.lft_stream.proofs.Streaming.{stream_law, move_law}
 use Rattle.lft_stream.proofs.Scheduled.{none_at}
 use Rattle.lft_stream.proofs.ToCome.{only_queue, item_of, few_of}
 use Rattle.lft_stream.proofs.Showing.{shows_law}
-
-first_up : (g : Tag) → UpTo (record { time = 0; micro = 0 }) g
-first_up g = go (dec_lt 0 g.time)
-  where
-    go : Dec (0 < g.time) → UpTo (record { time = 0; micro = 0 }) g
-    go (yes l) = inl l
-    go (no n) = inr (omega arith, omega arith)
 
 none_asked : (g : Tag) (s : Step) → IsQuiet s → asked g s ≡ None
 none_asked g Start q = refl
@@ -165,7 +157,7 @@ module _ (plan : PlanParts) (d u : List Row) (g : Tag) (old : Stream) (is : IsSt
   some_ran = subst (λ (k : Tag). Ran u k first.reaction) (at 0 first is_first) ((rows_law plan).some_run old.stop u first kept is_first)
 
   passed : (last : Option Tag) → IsLater last g → UpTo (low_of last) g
-  passed None l = first_up g
+  passed None l = from_first g
   passed (Some h) l = next_up h g l
 
   -- what was to come before the tag triggered nothing

@@ -5,7 +5,7 @@ use Rattle.std.specs.Option.{option_and_then, option_to_list}
 use Rattle.std.proofs.lemmas.List.Elements.{filter_map-append}
 use Rattle.lft_tag.specs.declared.Tag.{Tag}
 use Rattle.lft_tag.specs.Tags.{Before, UpTo, after, after_all, same_tag}
-use Rattle.lft_tag.proofs.Order.{order_cases, Before-UpTo, UpTo-Before, UpTo-trans}
+use Rattle.lft_tag.proofs.Order.{order_cases, Before-UpTo, UpTo-Before, UpTo-trans, same_tag_true}
 use Rattle.lft_lists.proofs.Members.{Mem, get_mem, mem_left, mem_right, mem_cases, mem_contains, contains_mem, mem_filter, mem_from_filter, last_mem, filter_map-filter_map}
 use Rattle.lft_flat.specs.Origins.{Origin}
 use Rattle.lft_flat.proofs.Origins.{origin_unique}
@@ -18,7 +18,6 @@ use Rattle.lft_trace.specs.declared.externals.Event.{Event}
 use Rattle.lft_model.specs.Plans.{PlanParts}
 use Rattle.lft_model.specs.Presence.{stop, value_scheduled, scheduled, given, min_delay, events_of, written, Last, IsWrittenFrom, At, PortClash}
 use Rattle.std.proofs.NetLemmas.Options.{cond_some}
-use Rattle.lft_model.proofs.Steps.{same_tag_true}
 use Rattle.lft_tag.proofs.Order.{same_tag_refl}
 use Rattle.lft_model.proofs.Ended.{written_by}
 use Rattle.lft_stream.specs.Settled.{AreBefore, AreAt}

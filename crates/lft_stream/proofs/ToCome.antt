@@ -10,38 +10,26 @@ use native.Mathlib.Decide.{dec_lt}
 use Rattle.lft_lists.proofs.Places.{same_at}
 use Rattle.lft_tag.specs.declared.Tag.{Tag}
 use Rattle.lft_tag.specs.Tags.{Before, UpTo, same_tag, is_before}
-use Rattle.lft_tag.proofs.Order.{UpTo-refl, Before-weaken, UpTo-Before, Before-UpTo, Before-trans, Before-irrefl, same_tag_refl, split_up, UpTo-not}
+use Rattle.lft_tag.proofs.Order.{UpTo-refl, Before-weaken, UpTo-Before, Before-UpTo, Before-trans, Before-irrefl, same_tag_refl, split_up, UpTo-not, same_tag_true}
 use Rattle.lft_lists.proofs.Members.{Mem, contains_mem, none_nil}
 use Rattle.lft_flat.proofs.Ranges.{slice_get-drop}
 use Rattle.lft_flat.specs.declared.parts.Value.{Value}
 use Rattle.lft_flat.specs.declared.parts.Name.{Name}
 use Rattle.lft_flat.specs.declared.parts.Name.TheVariants.{Port, Action}
+use Rattle.lft_flat.proofs.Naming.{name_same}
+use Rattle.lft_flat.specs.Naming.{same_name}
 use Rattle.lft_trace.specs.declared.externals.Event.{Event}
 use Rattle.lft_trace.specs.Inputs.{InOrder}
 use Rattle.lft_model.specs.Presence.{given}
-use Rattle.lft_model.proofs.Steps.{both_true, same_tag_true, name_same}
+use Rattle.lft_model.proofs.Steps.{both_true}
 use Rattle.lft_model.proofs.Places.{slice_get_within}
-use Rattle.lft_queue.specs.Pending.{Pending, value_of, same_name, same_key, is_after, Becomes}
+use Rattle.lft_queue.specs.Pending.{Pending, value_of, same_key, is_after, Becomes}
+use Rattle.lft_queue.proofs.Dropping.{later_value}
 use Rattle.lft_queue.proofs.Tests.{test_before, not_before, tag_apart}
 use Rattle.lft_stream.specs.declared.coming.Coming.{Coming}
 use Rattle.lft_stream.specs.declared.listeners.Listeners.{Listeners}
 use Rattle.lft_stream.specs.Coming.{given_from, to_come, put_at, AreBrought, ArePassed, IsReached, AreOver}
 use Rattle.lft_stream.specs.Listeners.{IsUnheard}
-
--- where the events up to a tag are taken out, the later ones stay
-pub later_stays : (g h : Tag) (n : Name) → Before g h → (q : List Pending) → value_of h n (filter (λ e. is_after g e) q) ≡ value_of h n q
-later_stays g h n b [] = refl
-later_stays g h n b (e ∷ q) = go (is_before g e.tag) refl (later_stays g h n b q)
-  where
-    other : (k : Bool) → is_before g e.tag ≡ false → same_key h n e.tag e.name ≡ k → value_of h n q ≡ cond k (Some e.value) (value_of h n q)
-    other false s z = refl
-    other true s z =
-        let p : h ≡ e.tag = same_tag_true h e.tag (both_true (same_tag h e.tag) (same_name n e.name) z).0 in
-        absurd (false≢true (sym s ∙ test_before g e.tag (subst (λ (k : Tag). Before g k) p b)))
-
-    go : (k : Bool) → is_before g e.tag ≡ k → value_of h n (filter (λ d. is_after g d) q) ≡ value_of h n q → value_of h n (cond k (e ∷ filter (λ d. is_after g d) q) (filter (λ d. is_after g d) q)) ≡ cond (same_key h n e.tag e.name) (Some e.value) (value_of h n q)
-    go true s rest = ap (λ (o : Option Value). cond (same_key h n e.tag e.name) (Some e.value) o) rest
-    go false s rest = rest ∙ other (same_key h n e.tag e.name) s refl
 
 -- an event of the queue is one at its tag
 pub value_there : (h : Tag) (n : Name) (v : Value) (q : List Pending) → value_of h n q ≡ Some v → (e : Pending) × Mem e q × (e.tag ≡ h)
@@ -90,7 +78,7 @@ module _ (listeners : Listeners) (g : Tag) where
   pub one_passed : (f : Tag) (old mid : List Pending) → Before f g → ((e : Pending) → Mem e mid → UpTo f e.tag) → ((n : Name) → IsUnheard listeners n ⊎ (value_of f n mid ≡ None)) → OnTheWay old mid → OnTheWay old (filter (λ e. is_after f e) mid)
   one_passed f old mid early least unheard way = record {
     gone = λ h n v b e. by h n v (way.gone h n v b e);
-    same = λ h n up. later_stays f h n (Before-UpTo f g h early up) mid ∙ way.same h n up;
+    same = λ h n up. later_value f h n (Before-UpTo f g h early up) mid ∙ way.same h n up;
   }
     where
       by : (h : Tag) (n : Name) (v : Value) → IsUnheard listeners n ⊎ (value_of h n mid ≡ Some v) → IsUnheard listeners n ⊎ (value_of h n (filter (λ e. is_after f e) mid) ≡ Some v)
@@ -105,7 +93,7 @@ module _ (listeners : Listeners) (g : Tag) where
           here q (inr z) = absurd (none-some v (sym z ∙ ap (λ (k : Tag). value_of k n mid) q ∙ e))
 
           go : Before f h ⊎ (f ≡ h) → IsUnheard listeners n ⊎ (value_of h n (filter (λ d. is_after f d) mid) ≡ Some v)
-          go (inl b) = inr (later_stays f h n b mid ∙ e)
+          go (inl b) = inr (later_value f h n b mid ∙ e)
           go (inr q) = inl (here q (unheard n))
 
 -- the external events from the place on are after g, so none is given up to there

@@ -4,7 +4,7 @@ use Rattle.std.specs.List.{last_or}
 use Rattle.std.proofs.lemmas.List.Elements.{filter_map-append}
 use Rattle.lft_tag.specs.declared.Tag.{Tag}
 use Rattle.lft_tag.specs.Tags.{Before, UpTo, same_tag}
-use Rattle.lft_tag.proofs.Order.{Before-irrefl, Before-weaken, Before-UpTo, UpTo-refl, same_tag_refl}
+use Rattle.lft_tag.proofs.Order.{Before-irrefl, Before-weaken, Before-UpTo, UpTo-refl, same_tag_refl, same_tag_true}
 use Rattle.lft_lists.proofs.Members.{last-append_nil, last-append_some}
 use Rattle.lft_lists.proofs.Places.{get_write_cases, length_written}
 use Rattle.lft_flat.specs.Parts.{Parts}
@@ -15,7 +15,6 @@ use Rattle.lft_trace.specs.declared.row.Step.{Step}
 use Rattle.lft_trace.specs.declared.row.Step.TheVariants.{Write}
 use Rattle.lft_model.specs.Presence.{value_written, written}
 use Rattle.lft_model.proofs.Ended.{by_written}
-use Rattle.lft_model.proofs.Steps.{same_tag_true}
 use Rattle.lft_stream.specs.declared.writes.Written.{Written}
 use Rattle.lft_stream.specs.Writes.{value_at, AreWrites, AreEarlier}
 

@@ -9,7 +9,7 @@ use Rattle.lft_flat.specs.Parts.{Parts}
 use Rattle.lft_tag.specs.declared.Tag.{Tag}
 use Rattle.lft_trace.specs.ExternalTables.{AreApart, ExternalFails, ExternalTable, FaultAt, IsEntry, event_of, external_tables, header, stop_of}
 use Rattle.lft_trace.specs.Inputs.{ExternalInputs, InOrder}
-use Rattle.lft_trace.specs.Records.{GoesOn, IsPast, IsUnread, records_left, records_of}
+use Rattle.lft_trace.specs.Records.{IsNext, IsPast, IsUnread, records_left, records_of}
 use Rattle.lft_trace.specs.SeenExternals.{Keeps, Refuses}
 use Rattle.lft_trace.specs.declared.external_table.Entry.{Entry}
 use Rattle.lft_trace.specs.declared.external_table.Entry.TheVariants.{Happens, Stops}
@@ -57,11 +57,11 @@ clash program line f (Happens x) entries stop events e is s p h = rw h.0 (refl, 
 clash program line f (Stops g) entries None events e is s p h = absurd (h.1 refl)
 clash program line f (Stops g) entries (Some o) events e is s p h = rw h.0 (refl, g, is, λ none. let q : ◌≡◌ {A = List Tag} [] (o ∷ []) = sym none ∙ s in cc (q))
 
-pub start : (program : Parts) (text : List ℕ) (old new : Records) → IsUnread old text 4000001 → GoesOn old new → fields_of new.fields ≡ header → Gathered program (records_of text) None [] new
+pub start : (program : Parts) (text : List ℕ) (old new : Records) → IsUnread old text 4000001 → IsNext old new → fields_of new.fields ≡ header → Gathered program (records_of text) None [] new
 start program text old new u g top = record { entries = []; read = first (external_tables program) text old new u g top (omega arith, λ i j x y a b same. cc (a)); stops = refl; same = IsPermutation-refl [] }
 
 module _ (program : Parts) (records : Texts) (stop : Option Tag) (events : List Event) (old : Records) (r : Gathered program records stop events old) where
-  pub one_more : (new : Records) (entry : Entry) (now : Option Tag) (events_now : List Event) → GoesOn old new → IsEntry program (fields_of new.fields) entry → Keeps entry stop events now events_now → Gathered program records now events_now new
+  pub one_more : (new : Records) (entry : Entry) (now : Option Tag) (events_now : List Event) → IsNext old new → IsEntry program (fields_of new.fields) entry → Keeps entry stop events now events_now → Gathered program records now events_now new
   one_more new entry now events_now g is k =
       let stops = stops_after r.entries entry stop now events events_now r.stops k in
       let apart = apart_after r.entries entry stop now events events_now r.read.begins.together.1 r.same k in
@@ -72,10 +72,10 @@ module _ (program : Parts) (records : Texts) (stop : Option Tag) (events : List 
         same = same_after r.entries entry stop now events events_now r.same k;
       }
 
-  pub bad : (new : Records) (e : TraceFault) → GoesOn old new → ((before : List Entry) → FaultAt program before new.line (fields_of new.fields) e) → ExternalFails program records e
+  pub bad : (new : Records) (e : TraceFault) → IsNext old new → ((before : List Entry) → FaultAt program before new.line (fields_of new.fields) e) → ExternalFails program records e
   bad new e g is = inl (bad_record (external_tables program) records r.entries old new e r.read g (is r.entries))
 
-  pub refused : (new : Records) (entry : Entry) (e : TraceFault) → GoesOn old new → IsEntry program (fields_of new.fields) entry → Refuses entry stop events new.line e → ExternalFails program records e
+  pub refused : (new : Records) (entry : Entry) (e : TraceFault) → IsNext old new → IsEntry program (fields_of new.fields) entry → Refuses entry stop events new.line e → ExternalFails program records e
   refused new entry e g is h = inl (bad_record (external_tables program) records r.entries old new e r.read g (clash program new.line (fields_of new.fields) entry r.entries stop events e is r.stops r.same h))
 
   pub past : (new : Records) → IsPast old new → ExternalFails program records fault.TooManyRows

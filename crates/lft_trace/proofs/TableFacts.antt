@@ -2,7 +2,7 @@
 use Rattle.std.proofs.Common.{◌≡◌, ◌∙◌, inl, inr, ◌+◌, ◌-◌, ◌<◌, ◌≤◌, ◌++◌, ℕ, List, [], ◌∷◌, length, refl, sym, ap, arith, append_assoc, append-nil, length-append}
 use Rattle.std.proofs.lemmas.Slice.Zip.{all_zipped_more}
 use Rattle.csv.specs.Records.{fields_of}
-use Rattle.lft_trace.specs.Records.{GoesOn, IsPast, IsPlain, IsUnread, records_left, records_of}
+use Rattle.lft_trace.specs.Records.{IsNext, IsPast, IsPlain, IsUnread, records_left, records_of}
 use Rattle.lft_trace.specs.Tables.{Begins, FailsAt, Fails, HasTooMany, Holds, TableKind}
 use Rattle.lft_trace.specs.declared.records.Records.{Records}
 use Rattle.lft_trace.proofs.Zips.{Parted, long, parted, same, same_rest}
@@ -19,11 +19,11 @@ pub record Read {Item Fault : Type 0} (kind : TableKind Item Fault) (records : T
   pub last : r.last ≡ 4000001
 
 -- fewer lines may come
-pub fewer : (old new : Records) → GoesOn old new → new.last - new.line < old.last - old.line
+pub fewer : (old new : Records) → IsNext old new → new.last - new.line < old.last - old.line
 fewer old new g = let line = g.line in let last = g.last in let within = g.within in omega (arith, line, last, within)
 
 module _ {Item Fault : Type 0} (kind : TableKind Item Fault) (text : List ℕ) (old new : Records) (unread : IsUnread old text 4000001) where
-  pub start : GoesOn old new → fields_of new.fields ≡ kind.header → kind.Together [] → Read kind (records_of text) [] new
+  pub start : IsNext old new → fields_of new.fields ≡ kind.header → kind.Together [] → Read kind (records_of text) [] new
   start g top together = record {
     plain = g.plain;
     begins = record { first = []; under = sym unread.left ∙ g.left ∙ ap (λ (f : List (List ℕ)). f ∷ records_left new) top; each = tt; together = together };
@@ -41,7 +41,7 @@ module _ {Item Fault : Type 0} (kind : TableKind Item Fault) (records : Texts) (
     together = together;
   }
 
-  pub one_more : (old new : Records) (item : Item) → Read kind records items old → GoesOn old new → kind.Tells (fields_of new.fields) item → kind.Together (items ++ (item ∷ [])) → Read kind records (items ++ (item ∷ [])) new
+  pub one_more : (old new : Records) (item : Item) → Read kind records items old → IsNext old new → kind.Tells (fields_of new.fields) item → kind.Together (items ++ (item ∷ [])) → Read kind records (items ++ (item ∷ [])) new
   one_more old new item r g is together =
       let e = length-append items (item ∷ []) in
       let here = r.line in
@@ -61,7 +61,7 @@ module _ {Item Fault : Type 0} (kind : TableKind Item Fault) (records : Texts) (
     few = read.few;
   }
 
-  pub bad : (old new : Records) (e : Fault) → Read kind records items old → GoesOn old new → kind.FaultAt items new.line (fields_of new.fields) e → Fails kind records e
+  pub bad : (old new : Records) (e : Fault) → Read kind records items old → IsNext old new → kind.FaultAt items new.line (fields_of new.fields) e → Fails kind records e
   bad old new e r g is =
       let here = r.line in
       let next = g.line in

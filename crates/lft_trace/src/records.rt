@@ -3,7 +3,7 @@
 ghost use Rattle.std.specs.Prelude.{◌≡◌, ◌<◌, [], true, false, IfOk, IfErr, length, slice_index_or};
 ghost use Rattle.csv.specs.Records.{fields_of};
 ghost use Rattle.lft_trace.specs.Faults.{is_told};
-ghost use Rattle.lft_trace.specs.Records.{GoesOn, IsPast, IsPlain, IsUnread, records_left};
+ghost use Rattle.lft_trace.specs.Records.{IsNext, IsPast, IsPlain, IsUnread, records_left};
 
 use crate::fault::TraceFault;
 use csv::{ByteRecord, ErrorKind, Reader, ReaderBuilder};
@@ -64,7 +64,7 @@ impl<'a> Records<'a> {
     /// Goes on to the next record, if there is one.
     pub fn next(&mut self) -> Result<bool, Unread>
         requires { IsPlain self.old }
-        ensures found { IfOk result (λ found. found ≡ true → GoesOn self.old self.new) }
+        ensures found { IfOk result (λ found. found ≡ true → IsNext self.old self.new) }
         ensures none { IfOk result (λ found. found ≡ false → records_left self.old ≡ []) }
         ensures many { IfErr result (λ e. e ≡ Unread.TooMany → IsPast self.old self.new) }
     {

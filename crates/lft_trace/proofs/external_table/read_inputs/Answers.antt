@@ -4,7 +4,7 @@ use Rattle.lft_flat.specs.Parts.{Parts}
 use Rattle.lft_tag.specs.declared.Tag.{Tag}
 use Rattle.lft_trace.specs.Faults.{is_told}
 use Rattle.lft_trace.specs.Inputs.{ExternalInputs, InOrder}
-use Rattle.lft_trace.specs.Records.{GoesOn, records_left, records_of}
+use Rattle.lft_trace.specs.Records.{IsNext, records_left, records_of}
 use Rattle.lft_trace.specs.ExternalTables.{ExternalFails, ExternalTable, header}
 use Rattle.lft_trace.specs.declared.externals.Event.{Event}
 use Rattle.lft_trace.specs.declared.fault.TraceFault.{TraceFault}
@@ -46,12 +46,12 @@ returns-in-Err-next-clause-fault c told =
 
 pub returns-in-Err-read_entry-clause-fault : goal.returns-in-Err-read_entry-clause-fault
 returns-in-Err-read_entry-clause-fault c _ =
-    let g : GoesOn c.lines.records c.next-in-lines.new.self = c.in-Ok-true-next.ensures.found c.in-Ok-true-next.field-0-test in
+    let g : IsNext c.lines.records c.next-in-lines.new.self = c.in-Ok-true-next.ensures.found c.in-Ok-true-next.field-0-test in
     bad c.args.program.now (records_of c.args.text.now) c.lines.stop c.lines.events c.lines.records c.lines.invariant c.next-in-lines.new.self c.in-Err-read_entry.fault g c.in-Err-read_entry.ensures.fault
 
 pub returns-in-Err-keep-clause-fault : goal.returns-in-Err-keep-clause-fault
 returns-in-Err-keep-clause-fault c told =
-    let g : GoesOn c.lines.records c.next-in-lines.new.self = c.in-Ok-true-next.ensures.found c.in-Ok-true-next.field-0-test in
+    let g : IsNext c.lines.records c.next-in-lines.new.self = c.in-Ok-true-next.ensures.found c.in-Ok-true-next.field-0-test in
     refused c.args.program.now (records_of c.args.text.now) c.lines.stop c.lines.events c.lines.records c.lines.invariant c.next-in-lines.new.self c.in-Ok.entry c.in-Err-keep.fault g c.in-Ok.ensures.entry (c.in-Err-keep.ensures.fault told)
 
 pub lines-smaller : goal.lines-smaller
@@ -59,5 +59,5 @@ lines-smaller c = fewer c.lines.records c.next-in-lines.new.self (c.in-Ok-true-n
 
 pub lines-preserved : goal.lines-preserved
 lines-preserved c =
-    let g : GoesOn c.lines.records c.next-in-lines.new.self = c.in-Ok-true-next.ensures.found c.in-Ok-true-next.field-0-test in
+    let g : IsNext c.lines.records c.next-in-lines.new.self = c.in-Ok-true-next.ensures.found c.in-Ok-true-next.field-0-test in
     one_more c.args.program.now (records_of c.args.text.now) c.lines.stop c.lines.events c.lines.records c.lines.invariant c.next-in-lines.new.self c.in-Ok.entry c.in-Ok-keep.stop c.keep.new.events g c.in-Ok.ensures.entry c.in-Ok-keep.ensures.kept

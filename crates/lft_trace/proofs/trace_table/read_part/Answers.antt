@@ -2,7 +2,7 @@ use Rattle.std.proofs.Common.{rules, ◌≡◌, ◌∙◌, ◌++◌, ◌∷◌, 
 use Rattle.std.specs.List.{AllZip}
 use Rattle.csv.specs.Records.{fields_of}
 use Rattle.lft_flat.specs.Parts.{Parts}
-use Rattle.lft_trace.specs.Records.{GoesOn, records_left, records_of}
+use Rattle.lft_trace.specs.Records.{IsNext, records_left, records_of}
 use Rattle.lft_trace.specs.Tables.{Begins}
 use Rattle.lft_trace.specs.Traces.{IsRow, header, trace_tables}
 use Rattle.lft_trace.specs.declared.row.Row.{Row}
@@ -38,7 +38,7 @@ lines-smaller c = fewer c.lines.records c.next.new.self (c.in-Ok-true.ensures.fo
 
 pub lines-preserved : goal.lines-preserved
 lines-preserved c =
-    let g : GoesOn c.lines.records c.next.new.self = c.in-Ok-true.ensures.found c.in-Ok-true.field-0-test in
+    let g : IsNext c.lines.records c.next.new.self = c.in-Ok-true.ensures.found c.in-Ok-true.field-0-test in
     let items : c.push.new.self.items ≡ c.lines.rows.items ++ (c.in-Ok.row ∷ []) = search rules in
     let more = begins_more (trace_tables c.args.program.now) (header ∷ records_of c.args.text.now) c.lines.rows.items (fields_of c.next.new.self.fields) (records_left c.next.new.self) c.in-Ok.row (rw g.left at c.lines.invariant.begins) c.in-Ok.ensures.row tt in
     record { plain = g.plain; begins = rw items more; last = c.in-Ok.ensures.within }
