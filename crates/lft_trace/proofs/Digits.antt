@@ -1,8 +1,9 @@
 -- Reading a number digit by digit.
-use Rattle.std.proofs.Common.{◌≡◌, ℕ, suc, ◌+◌, ◌-◌, ◌*◌, ◌<◌, ◌≤◌, List, [], ◌∷◌, length, get_or, drop, Bool, true, false, Option, Some, None, refl, arith, rules, add-one, nat_le}
+use Rattle.std.proofs.Common.{◌≡◌, ℕ, suc, ◌+◌, ◌-◌, ◌*◌, ◌^◌, ◌<◌, ◌≤◌, List, [], ◌∷◌, length, get_or, drop, Bool, true, false, Option, Some, None, refl, arith, rules, add-one, nat_le}
 use Rattle.std.specs.Prelude.{◌&&◌, if◌then◌else◌}
 use Rattle.std.specs.Char.{is_ascii_digit}
 use Rattle.std.specs.List.{list_all}
+use Rattle.std.proofs.Math.Nat.{pow-le-pow_right, pow-suc}
 use Rattle.std.proofs.Math.Seq.{drop-cons}
 use Rattle.std.proofs.Math.ListN.{drop_of_length-le}
 use Rattle.std.proofs.lemmas.Bool.{lt-leb}
@@ -51,3 +52,11 @@ done limit n i field h le = rw (drop_of_length-le field h) (all_read limit n le)
 
 pub is_small : (d : ℕ) → is_ascii_digit d ≡ true → (48 ≤ d) × (d ≤ 57)
 is_small d e = grind (arith, nat_tests)
+
+-- 18 digits and one more fit a u64
+pub room : (i n : ℕ) → i < 19 → n < 10 ^ i → n < 1000000000000000000
+room i n h small = let p : 10 ^ i ≤ 10 ^ 18 = pow-le-pow_right {n = 10} (omega arith) {i = i} {j = 18} (omega arith) in omega (arith, p)
+
+-- one more digit makes the number ten times as large at most
+pub grown : (i n d : ℕ) → n < 10 ^ i → d ≤ 57 → n * 10 + (d - 48) < 10 ^ (i + 1)
+grown i n d small digit = rw (add-one, pow-suc) (omega arith)

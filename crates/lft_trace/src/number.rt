@@ -1,16 +1,53 @@
 //! The numbers that fields write.
 
-ghost use Rattle.std.specs.Prelude.{◌≡◌, ◌≤◌, neg_ℤ, pos, IfSome, IfNone, Some, is_some, ◌&&◌, false};
+ghost use Rattle.std.specs.Prelude.{◌≡◌, ◌≤◌, neg_ℤ, pos, IfSome, IfNone, Some, is_some, length, ◌&&◌, false};
 ghost use Rattle.lft_trace.specs.Numbers.{number, number_or_zero, value};
 
 use lft_flat::Value;
 use lft_tag::{MAX_MICRO, MAX_TIME, Tag};
+
+/// The most digits that all fit a `u64`.
+const SHORT: usize = 19;
 
 /// The magnitude of the least `i64`.
 const LEAST: u64 = 9_223_372_036_854_775_808;
 
 /// An unsigned number.
 pub fn read_number(field: &[u8], limit: u64) -> Option<u64>
+    ensures value { result ≡ number limit field.now }
+    ensures within { IfSome result (λ n. n ≤ limit) }
+{
+    if field.len() <= SHORT {
+        read_short(field, limit)
+    } else {
+        read_long(field, limit)
+    }
+}
+
+// A number whose digits all fit a `u64`: the limit is asked for once, at the end.
+fn read_short(field: &[u8], limit: u64) -> Option<u64>
+    requires { length field.now ≤ 19 }
+    ensures value { result ≡ number limit field.now }
+    ensures within { IfSome result (λ n. n ≤ limit) }
+{
+    if field.is_empty() {
+        return None;
+    }
+    let mut number: u64 = 0;
+    for at in 0..field.len() {
+        if !field[at].is_ascii_digit() {
+            return None;
+        }
+        number = number * 10 + (field[at] - b'0') as u64;
+    }
+    if number > limit {
+        return None;
+    }
+    Some(number)
+}
+
+// A number that leading zeros may make long.
+fn read_long(field: &[u8], limit: u64) -> Option<u64>
     ensures value { result ≡ number limit field.now }
     ensures within { IfSome result (λ n. n ≤ limit) }
 {

@@ -1,10 +1,10 @@
-use Rattle.std.proofs.Common.{◌≡◌, ◌≤◌, drop}
+use Rattle.std.proofs.Common.{◌≡◌, ◌<◌, ◌^◌, drop}
 use Rattle.lft_trace.specs.Numbers.{number}
 use Rattle.lft_trace.proofs.Digits.{number_after}
-use Rattle.lft_trace.proofs.number.read_number.Given as goal
+use Rattle.lft_trace.proofs.number.read_short.Given as goal
 
 abbrev pub invariant-loop-at : goal.invariant-loop-at
 invariant-loop-at l = record {
-  small : l.number ≤ l.limit;
+  small : l.number < 10 ^ l.at;
   same : number_after l.limit l.number (drop l.at l.field) ≡ number l.limit l.field;
 }
