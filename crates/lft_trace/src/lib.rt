@@ -11,6 +11,7 @@ mod fields;
 mod fits;
 mod kind;
 pub mod names;
+mod next_names;
 pub mod number;
 pub mod records;
 mod row;

@@ -58,6 +58,38 @@ pub fn read_thing(program: &Program, field: &[u8]) -> Option<Name>
     }
 }
 
+/// The port or action of this name, where the guessed one is tried before all others.
+pub(crate) fn read_guessed(program: &Program, guess: Option<Name>, field: &[u8]) -> Option<Name>
+    ensures some { IfSome result (λ n. IsThing program.now field.now n) }
+    ensures none { IfNone result ((n : Name) → IsThing program.now field.now n → ⊥) }
+{
+    match guess {
+        Some(name) => {
+            if names_thing(program, name, field) {
+                Some(name)
+            } else {
+                read_thing(program, field)
+            }
+        }
+        None => read_thing(program, field),
+    }
+}
+
+// Whether the field names this port or action of the program.
+fn names_thing(program: &Program, name: Name, field: &[u8]) -> bool
+    ensures { IsTrue result ↔ IsThing program.now field.now name }
+{
+    match name {
+        Name::Port(number) => {
+            (number as usize) < program.ports() && field == program.name_of_port(number).as_bytes()
+        }
+        Name::Action(number) => {
+            (number as usize) < program.actions()
+                && field == program.name_of_action(number).as_bytes()
+        }
+    }
+}
+
 /// The physical action of this name.
 pub(crate) fn read_physical(program: &Program, field: &[u8]) -> Option<u32>
     ensures some { IfSome result (λ a. IsPhysical program.now field.now a) }

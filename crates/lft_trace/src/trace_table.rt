@@ -13,7 +13,8 @@ ghost use Rattle.lft_trace.specs.Seen.{FieldFault, NumbersOf, StepOf, trace_fiel
 use crate::fault::TraceFault;
 use crate::fields::TraceFields;
 use crate::kind::{RowKind, read_kind};
-use crate::names::{read_reaction, read_thing};
+use crate::names::{read_guessed, read_reaction};
+use crate::next_names::NextNames;
 use crate::number::{read_number, read_number_or_zero, read_tag, read_value};
 use crate::records::{LAST_LINE, Records, stopped};
 use crate::row::{Row, Rows, Step};
@@ -56,13 +57,14 @@ fn read_rows(alloc: Global, program: &Program, text: &[u8]) -> Result<Vec<Row>, 
     }
     let mut rows = Vec::new(alloc);
     let mut last = None;
+    let mut next = NextNames::first();
     'lines: loop {
         match records.next() {
             Ok(true) => {}
             Ok(false) => return Ok(rows),
             Err(stop) => return Err(stopped(stop)),
         }
-        let row = match read_row(program, last, &records.fields, records.line) {
+        let row = match read_row(program, last, next, &records.fields, records.line) {
             Ok(row) => row,
             Err(fault) => return Err(fault),
         };
@@ -70,6 +72,7 @@ fn read_rows(alloc: Global, program: &Program, text: &[u8]) -> Result<Vec<Row>, 
             return Err(TraceFault::NoMemory);
         }
         last = Some(row.reaction);
+        next = next.after(program, row);
     }
 }
 
@@ -83,19 +86,21 @@ pub fn read_part(alloc: Global, program: &Program, text: &[u8], most: u32) -> Op
     let mut records = Records::new(alloc, text, most);
     let mut rows = Vec::new(alloc);
     let mut last = None;
+    let mut next = NextNames::first();
     'lines: loop {
         match records.next() {
             Ok(true) => {}
             Ok(false) => return Some(rows),
             Err(_) => return None,
         }
-        let Ok(row) = read_row(program, last, &records.fields, records.line) else {
+        let Ok(row) = read_row(program, last, next, &records.fields, records.line) else {
             return None;
         };
         if rows.push(row).is_err() {
             return None;
         }
         last = Some(row.reaction);
+        next = next.after(program, row);
     }
 }
 
@@ -171,9 +176,11 @@ fn delay_of(kind: RowKind, field: &[u8]) -> Option<u64>
 }
 
 // The step of a record: what its name field names, with the value and the delay that were read.
+// The guessed name is tried first.
 fn read_step(
     program: &Program,
     kind: RowKind,
+    guess: Option<Name>,
     name: &[u8],
     value: Value,
     delay: u64,
@@ -185,25 +192,27 @@ fn read_step(
         RowKind::Start => Some(Step::Start),
         RowKind::Stop => Some(Step::Stop),
         RowKind::End => Some(Step::End),
-        RowKind::Read => match read_thing(program, name) {
+        RowKind::Read => match read_guessed(program, guess, name) {
             Some(name) => Some(Step::Read(name, value)),
             None => None,
         },
-        RowKind::Write => match read_thing(program, name) {
+        RowKind::Write => match read_guessed(program, guess, name) {
             Some(name) => Some(Step::Write(name, value)),
             None => None,
         },
-        RowKind::Schedule => match read_thing(program, name) {
+        RowKind::Schedule => match read_guessed(program, guess, name) {
             Some(name) => Some(Step::Schedule(name, value, delay)),
             None => None,
         },
     }
 }
 
-// The row of a record, or the first fault that it has. `last` is the reaction of the row before.
+// The row of a record, or the first fault that it has. `last` is the reaction of the row before,
+// `next` where its names are looked for first.
 fn read_row(
     program: &Program,
     last: Option<u32>,
+    next: NextNames,
     fields: &ByteRecord,
     line: u32,
 ) -> Result<Row, TraceFault>
@@ -214,7 +223,7 @@ fn read_row(
 {
     match TraceFields::of(fields) {
         Some(fields) => match read_kind(fields.event) {
-            Some(kind) => read_fields(program, kind, last, &fields, line),
+            Some(kind) => read_fields(program, kind, last, next, &fields, line),
             None => Err(TraceFault::BadEvent(line)),
         },
         None => Err(TraceFault::BadFieldCount(line)),
@@ -226,6 +235,7 @@ fn read_fields(
     program: &Program,
     kind: RowKind,
     last: Option<u32>,
+    next: NextNames,
     fields: &TraceFields,
     line: u32,
 ) -> Result<Row, TraceFault>
@@ -242,7 +252,15 @@ fn read_fields(
         Some(reaction) => reaction,
         None => return Err(TraceFault::UnknownName(line)),
     };
-    let step = match read_step(program, kind, fields.name, numbers.value, numbers.delay) {
+    let guess = next.guess(program, reaction, kind);
+    let step = match read_step(
+        program,
+        kind,
+        guess,
+        fields.name,
+        numbers.value,
+        numbers.delay,
+    ) {
         Some(step) => step,
         None => return Err(TraceFault::UnknownName(line)),
     };
