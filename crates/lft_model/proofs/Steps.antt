@@ -17,7 +17,7 @@ use Rattle.lft_trace.specs.declared.row.Step.TheVariants.{Start, Read, Write, Sc
 use Rattle.lft_model.specs.Presence.{value_written, value_scheduled}
 use Rattle.lft_model.specs.Runs.{Run, Outcome, step_of, steps_of, outcome_of, inputs_of, effects_of, read_step, write_step, schedule_steps, write_step_of, schedule_steps_of, closing_steps, request_of, steps_of_run}
 use Rattle.std.proofs.NetLemmas.Options.{cond_some}
-use Rattle.lft_tag.proofs.Order.{same_tag_refl}
+use Rattle.lft_tag.proofs.Order.{same_tag_refl, same_tag_true}
 
 pub both_true : (a b : Bool) → a && b ≡ true → (a ≡ true) × (b ≡ true)
 both_true true b e = (refl, e)

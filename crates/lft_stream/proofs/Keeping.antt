@@ -4,7 +4,7 @@ use Rattle.std.proofs.lemmas.List.{append-nil}
 use Rattle.lft_tag.specs.declared.Tag.{Tag}
 use Rattle.lft_tag.specs.Tags.{Before, UpTo, after, earliest}
 use Rattle.lft_tag.proofs.Order.{UpTo-refl, UpTo-trans, UpTo_antisym, UpTo-Before, Before-UpTo, Before-weaken, order_cases, after_past, from_first}
-use Rattle.lft_lists.proofs.Members.{get_mem, contains_mem, mem_contains, none_nil}
+use Rattle.lft_lists.proofs.Members.{get_mem, contains_mem, mem_contains}
 use Rattle.lft_lists.proofs.Places.{get_there, get_append_cases}
 use Rattle.lft_flat.proofs.Ranges.{length-range}
 use Rattle.lft_flat.specs.Origins.{Origin}
@@ -15,9 +15,8 @@ use Rattle.lft_flat.specs.declared.parts.Name.TheVariants.{Port, Action}
 use Rattle.lft_flat.specs.declared.parts.Trigger.TheVariants.{On}
 use Rattle.lft_trace.specs.declared.row.Row.{Row}
 use Rattle.lft_trace.specs.declared.row.Step.{Step}
-use Rattle.lft_trace.specs.declared.row.Step.TheVariants.{Start, Read, Write, Schedule, Stop, End}
 use Rattle.lft_model.specs.Plans.{PlanParts}
-use Rattle.lft_model.specs.Presence.{asked, requests, stop, given, Shows, Inputs, Triggered}
+use Rattle.lft_model.specs.Presence.{requests, stop, given, Shows, Inputs, Triggered}
 use Rattle.lft_model.specs.Runs.{Ran, inputs_of, read_of, reads_at}
 use Rattle.lft_model.specs.Breaches.{IsTooEarly}
 use Rattle.lft_rows.specs.Firsts.{FirstRow}
@@ -32,8 +31,8 @@ use Rattle.lft_stream.specs.Settled.{AreBefore, AreAt, IsRightBehind}
 use Rattle.lft_stream.specs.Starts.{AreStarts}
 use Rattle.lft_stream.specs.Owed.{Listens}
 use Rattle.lft_stream.specs.Dues.{AreDues, NoneOwed}
-use Rattle.lft_stream.specs.Kept.{IsQuiet, AreQuiet, IsLater, AreUpTo, low_of, state_of, IsStreamOf, IsAtHand, IsJudged}
-use Rattle.lft_stream.specs.Lanes.{held, first_events, IsMetAt, GoesOn}
+use Rattle.lft_stream.specs.Kept.{KeepRules, IsLater, AreUpTo, low_of, state_of, IsStreamOf, IsAtHand, IsJudged}
+use Rattle.lft_stream.specs.Lanes.{held, first_events, IsMetAt, LaneGoesOn}
 use Rattle.lft_stream.specs.Coming.{to_come, IsReached, AreOver, AreComing}
 use Rattle.lft_stream.specs.Shown.{IsInLane, last_write}
 use Rattle.lft_stream.specs.declared.coming.Coming.{Coming}
@@ -48,21 +47,12 @@ use Rattle.lft_stream.proofs.Before.{ran_whole}
 use Rattle.lft_stream.proofs.Lanes.{held_append, held_first}
 use Rattle.lft_stream.proofs.Owing.{due_law, ran_grows}
 use Rattle.lft_stream.proofs.Parting.{rows_of, to_whole, are_at, ran_part, ran_of, steps_part, up_to_end, part_kept}
-use Rattle.lft_stream.proofs.Settling.{rows_in_time}
 use Rattle.lft_stream.proofs.Stopping.{stop_law}
 use Rattle.lft_stream.proofs.Ruling.{rows_law}
 use Rattle.lft_stream.proofs.Streaming.{stream_law, move_law}
 use Rattle.lft_stream.proofs.Scheduled.{none_at}
 use Rattle.lft_stream.proofs.ToCome.{only_queue, item_of, few_of}
 use Rattle.lft_stream.proofs.Showing.{shows_law}
-
-none_asked : (g : Tag) (s : Step) → IsQuiet s → asked g s ≡ None
-none_asked g Start q = refl
-none_asked g (Read n v) q = refl
-none_asked g (Write n v) q = refl
-none_asked g (Schedule n v d) q = refl
-none_asked g Stop q = absurd q
-none_asked g End q = refl
 
 -- a port without a delay that triggers something is reached from its origin
 listened_way : (plan : PlanParts) → IsSound plan.program → (p r : ℕ) → Listens plan r (On (Port p)) → is_undelayed plan.program p ≡ true → Origin plan.program p (origin_of plan.program p) []
@@ -133,7 +123,7 @@ begins_kept plan s stops none runs tags dues starts writes listeners channels be
   channels = channels;
 }
 
-module _ (plan : PlanParts) (d u : List Row) (g : Tag) (old : Stream) (is : IsStreamOf plan d old) (first : Row) (is_first : slice_get u 0 ≡ Some first) (at : AreAt u g) (later : IsLater old.tag g) (quiet : AreQuiet u) (kept : FirstRow old.stop plan u None) where
+module _ (plan : PlanParts) (d u : List Row) (g : Tag) (old : Stream) (is : IsStreamOf plan d old) (first : Row) (is_first : slice_get u 0 ≡ Some first) (at : AreAt u g) (later : IsLater old.tag g) (reach : UpTo g old.stop) (kept : KeepRules plan u) where
   pub before : AreBefore d g
   before i x e = go old.tag is.up_to later
     where
@@ -141,20 +131,18 @@ module _ (plan : PlanParts) (d u : List Row) (g : Tag) (old : Stream) (is : IsSt
       go None none l = absurd (let a : None ≡ Some x = ap (λ (t : List Row). slice_get t i) (sym none) ∙ e in cc)
       go (Some h) up l = UpTo-Before x.tag h g (up i x e) l
 
-  none_requested : requests u ≡ []
-  none_requested = none_nil (λ (x : Row). asked x.tag x.step) u (λ i x e. none_asked x.tag x.step (quiet i x e))
-
-  pub stop_same : stop plan (d ++ u) ≡ stop plan d
-  stop_same = stop_law plan d u ∙ ap (λ (hs : List Tag). earliest (stop plan d) hs) none_requested
-
   pub in_time : UpTo g (stop plan d)
-  in_time = subst (λ (k : Tag). UpTo k (stop plan d)) (at 0 first is_first) (subst (λ (k : Tag). UpTo first.tag k) is.stop_is (rows_in_time plan u old.stop kept 0 first is_first))
+  in_time = subst (λ (k : Tag). UpTo g k) is.stop_is reach
+
+  -- the stop that the rows lead to
+  pub stop_now : earliest old.stop (requests u) ≡ stop plan (d ++ u)
+  stop_now = ap (λ (k : Tag). earliest k (requests u)) is.stop_is ∙ sym (stop_law plan d u)
 
   kept_whole : FirstRow (stop plan (d ++ u)) plan u None
-  kept_whole = subst (λ (k : Tag). FirstRow k plan u None) (is.stop_is ∙ sym stop_same) kept
+  kept_whole = (rows_law plan).with_them d u g kept.0 at in_time kept.1
 
   some_ran : Ran u g first.reaction
-  some_ran = subst (λ (k : Tag). Ran u k first.reaction) (at 0 first is_first) ((rows_law plan).some_run old.stop u first kept is_first)
+  some_ran = subst (λ (k : Tag). Ran u k first.reaction) (at 0 first is_first) ((rows_law plan).some_run kept.0 u first kept.1 is_first)
 
   passed : (last : Option Tag) → IsLater last g → UpTo (low_of last) g
   passed None l = from_first g
@@ -168,7 +156,7 @@ module _ (plan : PlanParts) (d u : List Row) (g : Tag) (old : Stream) (is : IsSt
     in_queue : (n : Name) → held (is.lanes n) g ≡ option_to_list (value_of g n c.queue)
     in_queue n = at_hand_at n g (UpTo-refl g) ∙ only_queue plan.externals.events c g g n reached.brought (UpTo-refl g)
 
-    goes_up : (n : Name) → GoesOn plan d n (low_of old.tag) (is.lanes n) g (is.lanes n)
+    goes_up : (n : Name) → LaneGoesOn plan d n (low_of old.tag) (is.lanes n) g (is.lanes n)
     goes_up n = record {
       up = passed old.tag later;
       met = λ h up b. unheard_met plan d h n (is.lanes n) old.listeners is.listeners (λ p e z. ap (λ (k : Name). held (is.lanes k) h) e ∙ is.none p h z up) (rw (is.coming n h up) (reached.alone h n b)) (λ v k. reached.unheard h n v b (subst (λ (vs : List Value). Contains vs v) (is.coming n h up) k));
@@ -224,7 +212,7 @@ module _ (plan : PlanParts) (d u : List Row) (g : Tag) (old : Stream) (is : IsSt
       lane_met (Port p) = port_met p (is_undelayed plan.program p) refl
       lane_met (Action a) = event_met (Action a) tt
 
-      goes_past : (n : Name) → GoesOn plan (d ++ u) n g (lanes_at n) (after g 0) (lanes_at n)
+      goes_past : (n : Name) → LaneGoesOn plan (d ++ u) n g (lanes_at n) (after g 0) (lanes_at n)
       goes_past n = record {
         up = Before-weaken g (after g 0) (after_past g 0);
         met = λ h up b. subst (λ (k : Tag). IsMetAt plan (d ++ u) n k (lanes_at n)) (sym (only_tag g h up b)) (lane_met n);
@@ -251,13 +239,13 @@ module _ (plan : PlanParts) (d u : List Row) (g : Tag) (old : Stream) (is : IsSt
           stands = move_law plan (d ++ u) (state_of lanes_at g new) (state_of lanes_at (after g 0) new) ((stream_law plan).grows d u g first.reaction (state_of is.lanes g old) (state_of lanes_at g new) there right some_ran grown) (record { lanes = goes_past; dues = refl; runs = refl; tags = refl })
 
           -- the state over the rows of a later tag
-          pub grows_kept : new.stop ≡ old.stop → new.tag ≡ Some g → AreStarts plan.program (d ++ u) new.starts → AreEarlier plan.program (after g 0) new.writes → AreListeners plan new.listeners → AreChannels plan.program new.channels → ((h : Tag) (n : Name) → Before g h → to_come plan.externals.events new.coming h n ≡ to_come plan.externals.events c h n ++ held (caused_by plan u g n) h) → IsStreamOf plan (d ++ u) new
+          pub grows_kept : new.stop ≡ earliest old.stop (requests u) → new.tag ≡ Some g → AreStarts plan.program (d ++ u) new.starts → AreEarlier plan.program (after g 0) new.writes → AreListeners plan new.listeners → AreChannels plan.program new.channels → ((h : Tag) (n : Name) → Before g h → to_come plan.externals.events new.coming h n ≡ to_come plan.externals.events c h n ++ held (caused_by plan u g n) h) → IsStreamOf plan (d ++ u) new
           grows_kept stops tag starts writes listeners channels more = record {
             lanes = lanes_at;
             none = λ p h e up. none p h e (past h up);
             coming = subst (λ (last : Option Tag). AreComing plan.externals.events (low_of last) lanes_at new.coming) (sym tag) (λ n h up. still n h (Before-UpTo g (after g 0) h (after_past g 0) up));
             state = subst (λ (last : Option Tag). IsStream plan (d ++ u) (state_of lanes_at (low_of last) new)) (sym tag) stands;
-            stop_is = stops ∙ is.stop_is ∙ sym stop_same;
+            stop_is = stops ∙ stop_now;
             up_to = subst (λ (last : Option Tag). AreUpTo (d ++ u) last) (sym tag) up_to;
             writes = subst (λ (last : Option Tag). AreEarlier plan.program (low_of last) new.writes) (sym tag) writes;
             starts = starts;
@@ -291,7 +279,7 @@ accepts_kept plan t s is none over = by (order_cases (stop plan t) (low_of s.tag
     ends : (low : Tag) → Before (stop plan t) low → IsStream plan t (state_of is.lanes low s) → IsAccepted plan t s.runs s.tags
     ends low past stream = (stream_law plan).accepts t (state_of is.lanes low s) stream (record { dues = subst (λ (k : Tag). NoneOwed k s.dues) is.stop_is none; lows = λ n. past })
 
-    goes : UpTo (low_of s.tag) (stop plan t) → (n : Name) → GoesOn plan t n (low_of s.tag) (is.lanes n) (after (stop plan t) 0) (is.lanes n)
+    goes : UpTo (low_of s.tag) (stop plan t) → (n : Name) → LaneGoesOn plan t n (low_of s.tag) (is.lanes n) (after (stop plan t) 0) (is.lanes n)
     goes up n = record {
       up = UpTo-trans (low_of s.tag) last (after last 0) up (Before-weaken last (after last 0) (after_past last 0));
       met = λ h low b.
@@ -305,7 +293,7 @@ accepts_kept plan t s is none over = by (order_cases (stop plan t) (low_of s.tag
     by (inr up) = ends (after last 0) (after_past last 0) (move_law plan t (state_of is.lanes (low_of s.tag) s) (state_of is.lanes (after last 0) s) is.state (record { lanes = goes up; dues = refl; runs = refl; tags = refl }))
 
 -- the same of a slice of more rows
-module _ (plan : PlanParts) (done rows : List Row) (s : Slice) (slice : IsSlice rows s) (old : Stream) (is : IsStreamOf plan (done ++ take s.first rows) old) (later : IsLater old.tag s.tag) (quiet : AreQuiet rows) (kept : FirstRow old.stop plan rows None) where
+module _ (plan : PlanParts) (done rows : List Row) (s : Slice) (slice : IsSlice rows s) (old : Stream) (is : IsStreamOf plan (done ++ take s.first rows) old) (later : IsLater old.tag s.tag) (reach : UpTo s.tag old.stop) (kept : KeepRules plan rows) where
   abbrev so_far : List Row
   so_far = done ++ take s.first rows
 
@@ -318,37 +306,34 @@ module _ (plan : PlanParts) (done rows : List Row) (s : Slice) (slice : IsSlice 
   first : (x : Row) × (slice_get own 0 ≡ Some x)
   first = get_there own 0 (let a = length-range rows s.first s.end slice.within in let b = slice.some in let c : length own ≡ s.end - s.first = a in omega arith)
 
-  own_quiet : AreQuiet own
-  own_quiet i x e = quiet (s.first + i) x (to_whole rows s slice i x e)
-
-  pub own_kept : FirstRow old.stop plan own None
-  own_kept = part_kept rows s slice old.stop plan kept
+  pub own_kept : KeepRules plan own
+  own_kept = (kept.0, part_kept rows s slice kept.0 plan kept.1)
 
   own_before : AreBefore so_far s.tag
-  own_before = before plan so_far own s.tag old is first.0 first.1 (are_at rows s slice) later own_quiet own_kept
+  own_before = before plan so_far own s.tag old is first.0 first.1 (are_at rows s slice) later reach own_kept
 
   own_in_time : UpTo s.tag (stop plan so_far)
-  own_in_time = in_time plan so_far own s.tag old is first.0 first.1 (are_at rows s slice) later own_quiet own_kept
+  own_in_time = in_time plan so_far own s.tag old is first.0 first.1 (are_at rows s slice) later reach own_kept
 
   own_ran : (r : ℕ) → Ran rows s.tag r → Ran (so_far ++ own) s.tag r
   own_ran r o = ran_whole plan so_far own s.tag (λ x m. let i = get_mem x so_far m in own_before i.0 x i.1) r (ran_part rows s slice r o)
 
   -- the rows of the slice are at hand
-  pub at_hand : IsSound plan.program → (hand : Stream) → IsReached plan.externals.events old.listeners s.tag old.coming hand.coming → hand.stop ≡ old.stop → hand.dues ≡ old.dues → hand.writes ≡ old.writes → hand.starts ≡ old.starts → hand.listeners ≡ old.listeners → IsAtHand plan so_far rows s hand
+  pub at_hand : IsSound plan.program → (hand : Stream) → IsReached plan.externals.events old.listeners s.tag old.coming hand.coming → hand.stop ≡ earliest old.stop (requests own) → hand.dues ≡ old.dues → hand.writes ≡ old.writes → hand.starts ≡ old.starts → hand.listeners ≡ old.listeners → IsAtHand plan so_far rows s hand
   at_hand good hand reached stops dues writes starts listeners = record {
     earlier = own_before;
     ran = own_ran;
-    stop_is = stops ∙ is.stop_is ∙ sym (stop_same plan so_far own s.tag old is first.0 first.1 (are_at rows s slice) later own_quiet own_kept);
+    stop_is = stops ∙ stop_now plan so_far own s.tag old is first.0 first.1 (are_at rows s slice) later reach own_kept;
     dues = rw dues ((due_law plan).grows so_far own s.tag old.dues own_before own_in_time is.state.dues);
-    writes = rw writes (earlier_on plan.program (low_of old.tag) s.tag old.writes (passed plan so_far own s.tag old is first.0 first.1 (are_at rows s slice) later own_quiet own_kept old.tag later) is.writes);
+    writes = rw writes (earlier_on plan.program (low_of old.tag) s.tag old.writes (passed plan so_far own s.tag old is first.0 first.1 (are_at rows s slice) later reach own_kept old.tag later) is.writes);
     starts = rw starts (record { as_long = is.starts.as_long; each = λ r g e. ran_grows so_far own g r (is.starts.each r g e) });
     listeners = rw listeners is.listeners;
-    queued = shows plan so_far own s.tag old is first.0 first.1 (are_at rows s slice) later own_quiet own_kept good hand.coming reached;
+    queued = shows plan so_far own s.tag old is first.0 first.1 (are_at rows s slice) later reach own_kept good hand.coming reached;
   }
 
   -- and what is kept is right for them too, once they are judged
-  pub slice_grows : IsSound plan.program → (c : Coming) → IsReached plan.externals.events old.listeners s.tag old.coming c → ((r : ℕ) → Ran own s.tag r → ¬ IsTooEarly plan own s.tag r) → (judged new : Stream) → IsJudged plan so_far rows s judged → judged.coming ≡ c → judged.listeners ≡ old.listeners → new.stop ≡ old.stop → new.tag ≡ Some s.tag → new.runs ≡ old.runs + runs_in own → new.tags ≡ old.tags + 1 → new.dues ≡ judged.dues → new.starts ≡ judged.starts → AreEarlier plan.program (after s.tag 0) new.writes → new.listeners ≡ judged.listeners → new.channels ≡ old.channels → ((h : Tag) (n : Name) → Before s.tag h → to_come plan.externals.events new.coming h n ≡ to_come plan.externals.events c h n ++ held (caused_by plan own s.tag n) h) → IsStreamOf plan (done ++ take s.end rows) new
-  slice_grows good c reached ranked judged new is_judged coming heard_by stops tag runs tags dues starts writes listeners channels more = subst (λ (t : List Row). IsStreamOf plan t new) together (grows_kept plan so_far own s.tag old is first.0 first.1 (are_at rows s slice) later own_quiet own_kept good c reached is_judged.heard met ranked (λ r o. is_judged.triggered r (ran_of rows s slice r o)) own_reads new runs tags (rw dues is_judged.dues) stops tag (rw starts is_judged.starts) writes (rw listeners is_judged.listeners) (rw channels is.channels) more)
+  pub slice_grows : IsSound plan.program → (c : Coming) → IsReached plan.externals.events old.listeners s.tag old.coming c → ((r : ℕ) → Ran own s.tag r → ¬ IsTooEarly plan own s.tag r) → (judged new : Stream) → IsJudged plan so_far rows s judged → judged.coming ≡ c → judged.listeners ≡ old.listeners → new.stop ≡ earliest old.stop (requests own) → new.tag ≡ Some s.tag → new.runs ≡ old.runs + runs_in own → new.tags ≡ old.tags + 1 → new.dues ≡ judged.dues → new.starts ≡ judged.starts → AreEarlier plan.program (after s.tag 0) new.writes → new.listeners ≡ judged.listeners → new.channels ≡ old.channels → ((h : Tag) (n : Name) → Before s.tag h → to_come plan.externals.events new.coming h n ≡ to_come plan.externals.events c h n ++ held (caused_by plan own s.tag n) h) → IsStreamOf plan (done ++ take s.end rows) new
+  slice_grows good c reached ranked judged new is_judged coming heard_by stops tag runs tags dues starts writes listeners channels more = subst (λ (t : List Row). IsStreamOf plan t new) together (grows_kept plan so_far own s.tag old is first.0 first.1 (are_at rows s slice) later reach own_kept good c reached is_judged.heard met ranked (λ r o. is_judged.triggered r (ran_of rows s slice r o)) own_reads new runs tags (rw dues is_judged.dues) stops tag (rw starts is_judged.starts) writes (rw listeners is_judged.listeners) (rw channels is.channels) more)
     where
       met : (n : Name) → IsSome (value_of s.tag n c.queue) → AreStarted (so_far ++ own) s.tag old.listeners n
       met n some = subst (λ (l : Listeners). AreStarted (so_far ++ own) s.tag l n) heard_by (is_judged.met n (subst (λ (k : Coming). IsSome (value_of s.tag n k.queue)) (sym coming) some))

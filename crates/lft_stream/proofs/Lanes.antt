@@ -22,7 +22,7 @@ use Rattle.lft_tag.proofs.Order.{same_tag_refl}
 use Rattle.lft_model.proofs.Ended.{written_by}
 use Rattle.lft_stream.specs.Settled.{AreBefore, AreAt}
 use Rattle.lft_stream.specs.Owed.{IsMet, IsApart}
-use Rattle.lft_stream.specs.Lanes.{at_tag, held, coming, given_to, first_events, made, carried, IsDone, IsKept, IsLane, GoesOn}
+use Rattle.lft_stream.specs.Lanes.{at_tag, held, coming, given_to, first_events, made, carried, IsDone, IsKept, IsLane, LaneGoesOn}
 use Rattle.lft_stream.proofs.Behind.{at_back, clash_back}
 use Rattle.lft_stream.proofs.Hand.{last_old, last_whole, last_now, last_then}
 use Rattle.lft_stream.proofs.Owing.{ran_grows}
@@ -32,7 +32,7 @@ pub record LaneLaw (plan : PlanParts) : Type 0 where
   pub begins : (n : Name) → IsLane plan [] n (record { time = 0; micro = 0 }) (first_events plan n)
   pub schedules : (t u : List Row) (a : ℕ) (low : Tag) (queue : List (Tag × Value)) → ((i : ℕ) (x : Row) → slice_get u i ≡ Some x → UpTo low x.tag) → IsLane plan t (Action a) low queue → IsLane plan (t ++ u) (Action a) low (queue ++ made plan u a)
   pub writes : (t u : List Row) (g : Tag) (p o : ℕ) (delays : List ℕ) (low : Tag) (queue : List (Tag × Value)) → Origin plan.program p o delays → AreBefore t g → AreAt u g → UpTo low g → IsLane plan t (Port p) low queue → IsLane plan (t ++ u) (Port p) low (queue ++ carried u g o delays)
-  pub goes : (t : List Row) (n : Name) (low high : Tag) (queue rest : List (Tag × Value)) → GoesOn plan t n low queue high rest → IsLane plan t n low queue → IsLane plan t n high rest
+  pub goes : (t : List Row) (n : Name) (low high : Tag) (queue rest : List (Tag × Value)) → LaneGoesOn plan t n low queue high rest → IsLane plan t n low queue → IsLane plan t n high rest
   pub ends : (t : List Row) (n : Name) (low : Tag) (queue : List (Tag × Value)) → Before (stop plan t) low → IsLane plan t n low queue → IsMet plan t (On n) × IsApart plan t n
 
 -- an event of a list at its tag
@@ -274,7 +274,7 @@ module _ (plan : PlanParts) (t u : List Row) (g : Tag) (p o : ℕ) (ds : List �
   writes_lane = record { past = λ h b. done_grows plan t u (Port p) h (λ x m. let i = get_mem x u m in subst (λ (z : Tag). Before h z) (sym (at i.0 x i.1)) (Before-UpTo h low g b reached)) (lane.past h b); ahead = λ h up. port_kept h up }
 
 module _ (plan : PlanParts) (t : List Row) (n : Name) (low : Tag) (queue : List (Tag × Value)) (lane : IsLane plan t n low queue) where
-  goes_lane : (high : Tag) (rest : List (Tag × Value)) → GoesOn plan t n low queue high rest → IsLane plan t n high rest
+  goes_lane : (high : Tag) (rest : List (Tag × Value)) → LaneGoesOn plan t n low queue high rest → IsLane plan t n high rest
   goes_lane high rest on = record { past = past; ahead = ahead }
     where
       past : (h : Tag) → Before h high → IsDone plan t n h

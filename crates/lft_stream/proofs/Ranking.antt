@@ -11,7 +11,7 @@ use Rattle.lft_trace.specs.declared.row.Row.{Row}
 use Rattle.lft_trace.specs.declared.row.Step.TheVariants.{Start, End}
 use Rattle.lft_trace.specs.Fits.{RowsFit}
 use Rattle.lft_model.specs.Runs.{start_row, end_row}
-use Rattle.lft_stream.specs.Slices.{IsOrdered}
+use Rattle.lft_stream.specs.Ordered.{IsOrdered}
 
 abbrev pub level_of : List ℕ → ℕ → ℕ
 level_of levels r = get_or levels r 0

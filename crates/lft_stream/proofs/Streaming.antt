@@ -19,8 +19,8 @@ use Rattle.lft_stream.specs.Counted.{IsCounted}
 use Rattle.lft_stream.specs.declared.due.Due.{Due}
 use Rattle.lft_stream.specs.Owed.{IsMet, IsApart}
 use Rattle.lft_stream.specs.Dues.{AreDues, IsTimed}
-use Rattle.lft_stream.specs.Lanes.{made, carried, IsLane}
-use Rattle.lft_stream.specs.Streams.{State, first_state, IsStream, IsEnded, IsGrown, IsMoved, MoveLaw}
+use Rattle.lft_stream.specs.Lanes.{made, carried, IsLane, LaneGoesOn}
+use Rattle.lft_stream.specs.Streams.{State, first_state, IsStream, IsEnded, IsGrown}
 use Rattle.lft_stream.proofs.Settling.{step_law, legal_of}
 use Rattle.lft_stream.proofs.Counting.{count_law}
 use Rattle.lft_stream.proofs.Owing.{parts_law, due_law}
@@ -104,6 +104,17 @@ stream_law plan = record {
   grows = λ d u g r old new stream right o grown. stream_grows plan d u g old new stream right grown r o;
   accepts = λ t s stream ended. stream_accepts plan t s stream ended;
 }
+
+-- lanes go on, and all else is as it was
+pub record IsMoved (plan : PlanParts) (t : List Row) (old new : State) : Type 0 where
+  pub lanes : (n : Name) → LaneGoesOn plan t n (old.lows n) (old.queues n) (new.lows n) (new.queues n)
+  pub dues : new.dues ≡ old.dues
+  pub runs : new.runs ≡ old.runs
+  pub tags : new.tags ≡ old.tags
+
+-- what is kept stays right where lanes go on
+abbrev pub MoveLaw : PlanParts → Type 0
+MoveLaw plan = (t : List Row) (old new : State) → IsStream plan t old → IsMoved plan t old new → IsStream plan t new
 
 module _ (plan : PlanParts) (t : List Row) (old new : State) (stream : IsStream plan t old) (moved : IsMoved plan t old new) where
   lane_moves : (n : Name) → IsLane plan t n (old.lows n) (old.queues n) → IsLane plan t n (new.lows n) (new.queues n)

@@ -6,11 +6,10 @@ use Rattle.lft_flat.specs.declared.parts.Value.{Value}
 use Rattle.lft_flat.specs.declared.parts.Name.{Name}
 use Rattle.lft_flat.specs.declared.parts.Name.TheVariants.{Port}
 use Rattle.lft_trace.specs.declared.row.Row.{Row}
-use Rattle.lft_trace.specs.declared.row.Step.{Step}
-use Rattle.lft_trace.specs.declared.row.Step.TheVariants.{Start, Read, Write, Schedule, Stop, End}
 use Rattle.lft_model.specs.Plans.{PlanParts}
 use Rattle.lft_model.specs.Presence.{stop, Triggered, Inputs, Shows}
 use Rattle.lft_model.specs.Runs.{Ran, reads_at}
+use Rattle.lft_rows.specs.Firsts.{FirstRow}
 use Rattle.lft_by_tag.specs.declared.slices.Slice.{Slice}
 use Rattle.lft_stream.specs.declared.stream.Stream.{Stream}
 use Rattle.lft_stream.specs.AtOnce.{is_undelayed, HasEvents, AreHeard}
@@ -25,18 +24,9 @@ use Rattle.lft_stream.specs.Starts.{AreStarts}
 use Rattle.lft_stream.specs.Streams.{State, IsStream}
 use Rattle.lft_stream.specs.Writes.{AreWrites, AreEarlier}
 
--- a step that asks for no stop
-abbrev pub IsQuiet : Step → Type 0
-IsQuiet Start = Unit {0}
-IsQuiet (Read n v) = Unit {0}
-IsQuiet (Write n v) = Unit {0}
-IsQuiet (Schedule n v d) = Unit {0}
-IsQuiet Stop = ⊥
-IsQuiet End = Unit {0}
-
--- each row has such a step
-abbrev pub AreQuiet : List Row → Type 0
-AreQuiet t = (i : ℕ) (x : Row) → slice_get t i ≡ Some x → IsQuiet x.step
+-- no row breaks one of the rules 1 to 5, with some stop
+abbrev pub KeepRules : PlanParts → List Row → Type 0
+KeepRules plan t = (last : Tag) × FirstRow last plan t None
 
 -- g is later than the tag, if there is one
 abbrev pub IsLater : Option Tag → Tag → Type 0

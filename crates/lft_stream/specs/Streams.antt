@@ -14,7 +14,7 @@ use Rattle.lft_stream.specs.Settled.{IsSettled}
 use Rattle.lft_stream.specs.Counted.{IsCounted}
 use Rattle.lft_stream.specs.declared.due.Due.{Due}
 use Rattle.lft_stream.specs.Dues.{AreDues, NoneOwed}
-use Rattle.lft_stream.specs.Lanes.{first_events, made, carried, IsLane, GoesOn}
+use Rattle.lft_stream.specs.Lanes.{first_events, made, carried, IsLane, LaneGoesOn}
 
 -- what is kept: of each name its lane and the tag up to which it is done with, when each trigger is due, and the numbers of runs and tags
 pub record State : Type 0 where
@@ -50,14 +50,3 @@ pub record IsGrown (plan : PlanParts) (d u : List Row) (g : Tag) (old new : Stat
   pub dues : AreDues plan (d ++ u) new.dues
   pub runs : new.runs ≡ old.runs + runs_in u
   pub tags : new.tags ≡ old.tags + 1
-
--- lanes go on, and all else is as it was
-pub record IsMoved (plan : PlanParts) (t : List Row) (old new : State) : Type 0 where
-  pub lanes : (n : Name) → GoesOn plan t n (old.lows n) (old.queues n) (new.lows n) (new.queues n)
-  pub dues : new.dues ≡ old.dues
-  pub runs : new.runs ≡ old.runs
-  pub tags : new.tags ≡ old.tags
-
--- what is kept stays right where lanes go on
-abbrev pub MoveLaw : PlanParts → Type 0
-MoveLaw plan = (t : List Row) (old new : State) → IsStream plan t old → IsMoved plan t old new → IsStream plan t new

@@ -7,7 +7,7 @@ ghost use Rattle.lft_graph.specs.Sets.{AreAncestors};
 ghost use Rattle.lft_model.specs.Breaches.{IsTooEarly};
 ghost use Rattle.lft_model.specs.Runs.{Ran};
 ghost use Rattle.lft_rows.specs.Firsts.{FirstRow};
-ghost use Rattle.lft_stream.specs.Slices.{IsOrdered};
+ghost use Rattle.lft_stream.specs.Ordered.{IsOrdered};
 
 use crate::ranks::is_ranked;
 use lft_graph::{Ancestors, Set};

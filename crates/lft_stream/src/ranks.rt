@@ -2,7 +2,7 @@
 
 ghost use Rattle.std.specs.Prelude.{ℕ, ◌≡◌, IsTrue};
 ghost use Rattle.lft_trace.specs.Fits.{RowsFit};
-ghost use Rattle.lft_stream.specs.Slices.{IsOrdered};
+ghost use Rattle.lft_stream.specs.Ordered.{IsOrdered};
 
 use lft_model::Plan;
 use lft_trace::{Row, is_end, is_start, row_at};

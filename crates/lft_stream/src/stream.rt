@@ -4,14 +4,15 @@ ghost use Rattle.std.specs.Prelude.{◌≡◌, ℕ, List, [], ◌++◌, ◌+◌,
 ghost use Rattle.lft_trace.specs.declared.row.Row.{Row as TheRow};
 ghost use Rattle.lft_trace.specs.Fits.{RowsFit};
 ghost use Rattle.lft_graph.specs.Sets.{AreAncestors};
-ghost use Rattle.lft_model.specs.Presence.{stop, Triggered};
+ghost use Rattle.lft_tag.specs.Tags.{UpTo, earliest};
+ghost use Rattle.lft_model.specs.Presence.{stop, requests, Triggered};
 ghost use Rattle.lft_model.specs.Runs.{Ran};
 ghost use Rattle.lft_rows.specs.Firsts.{FirstRow};
 ghost use Rattle.lft_rows.specs.Marks.{AreMarks, AreBefore as HaveMarksTo};
 ghost use Rattle.lft_by_tag.specs.Slices.{IsSlice, Rises, runs_in};
 ghost use Rattle.lft_check.specs.Verdicts.{IsAccepted};
 ghost use Rattle.lft_stream.specs.Dues.{AreDues};
-ghost use Rattle.lft_stream.specs.Kept.{AreQuiet, IsQuiet, IsLater, IsStreamOf, RisesAt, IsAtHand, IsJudged};
+ghost use Rattle.lft_stream.specs.Kept.{KeepRules, IsLater, IsStreamOf, RisesAt, IsAtHand, IsJudged};
 ghost use Rattle.lft_stream.specs.Present.{AreShown};
 
 use crate::channels::channels_of;
@@ -27,10 +28,11 @@ use crate::scheduling::pass_on;
 use crate::starts::Starts;
 use crate::writes::Writes;
 use lft_by_tag::Slice;
+use lft_flat::Program;
 use lft_model::Plan;
 use lft_rows::{Marks, first_breach};
 use lft_tag::{NoMemory, Tag};
-use lft_trace::{Row, Step, is_start, row_at};
+use lft_trace::{Row, is_start, is_stop, row_at};
 use std::alloc::Global;
 
 /// How many runs legal rows have, and at how many different tags.
@@ -43,6 +45,7 @@ pub struct Counts {
 /// What is kept of rows at finished tags.
 #[derive(Drop)]
 pub(crate) struct Stream {
+    /// The external stop, or what the rows so far ask for.
     stop: Tag,
     /// The tag of the last row.
     tag: Option<Tag>,
@@ -58,28 +61,22 @@ pub(crate) struct Stream {
     effort: Effort,
 }
 
-/// Whether the step asks for no stop.
-fn is_quiet(step: &Step) -> bool
-    ensures { IsTrue result → IsQuiet step.now }
+/// The stop of rows, where these stand behind others with this stop.
+fn stop_behind(program: &Program, stop: Tag, rows: &[Row]) -> Tag
+    requires { RowsFit program.now rows.now }
+    ensures { result ≡ earliest stop (requests rows.now) }
 {
-    match step {
-        Step::Stop => false,
-        Step::Start | Step::Read(_, _) | Step::Write(_, _) => true,
-        Step::Schedule(_, _, _) | Step::End => true,
-    }
-}
-
-/// Whether no row asks for a stop.
-fn are_quiet(rows: &[Row]) -> bool
-    ensures { IsTrue result → AreQuiet rows.now }
-{
+    let mut last = stop;
     for place in 0..rows.len() {
         let row = row_at(rows, place);
-        if !is_quiet(&row.step) {
-            return false;
+        if is_stop(&row.step) {
+            let asked = row.tag.after(0, 0);
+            if asked.is_before(last) {
+                last = asked;
+            }
         }
     }
-    true
+    last
 }
 
 /// The rows at the tag of the row at the place, where this is the first of them.
@@ -191,14 +188,16 @@ impl Stream {
         })
     }
 
-    /// Whether the tag is later than the last row's.
-    fn is_later(&self, tag: Tag) -> bool
-        ensures { IsTrue result → IsLater self.now.tag tag }
+    /// Whether the tag is later than the last row's, and up to the stop.
+    fn may_reach(&self, tag: Tag) -> bool
+        ensures later { IsTrue result → IsLater self.now.tag tag }
+        ensures in_time { IsTrue result → UpTo tag self.now.stop }
     {
-        match self.tag {
+        let is_later = match self.tag {
             Some(last) => last.is_before(tag),
             None => true,
-        }
+        };
+        is_later && !self.stop.is_before(tag)
     }
 
     /// Adds a tag with so many runs. It is false where a count would be too great.
@@ -277,20 +276,18 @@ impl Stream {
     ) -> bool
         ghost done: { List TheRow }
         requires fit { RowsFit plan.now.program rows.now }
-        requires quiet { AreQuiet rows.now }
-        requires kept { FirstRow self.old.stop plan.now rows.now None }
+        requires kept { KeepRules plan.now rows.now }
         requires slice { IsSlice rows.now slice }
         requires marks { HaveMarksTo plan.now.program slice.first marks.old }
         requires stands { IsStreamOf plan.now (done ++ take slice.first rows.now) self.old }
         requires order { IfSome order.old (AreAncestors plan.now.program) }
         ensures order { IfSome order.new (AreAncestors plan.now.program) }
-        ensures stop { self.new.stop ≡ self.old.stop }
         ensures marks { IsTrue result → HaveMarksTo plan.now.program slice.end marks.new }
         ensures stands { IsTrue result → IsStreamOf plan.now (done ++ take slice.end rows.now) self.new }
     {
         let program = plan.program();
         let own = &rows[slice.first..slice.end];
-        if !self.is_later(slice.tag)
+        if !self.may_reach(slice.tag)
             || !self
                 .effort
                 .allows(program, &self.listeners, &self.channels, own)
@@ -301,6 +298,8 @@ impl Stream {
         {
             return false;
         }
+        // A request of the tag holds for its runs too: one microstep later is the stop.
+        self.stop = stop_behind(program, self.stop, own);
         marks.pass_all(program, rows, slice.first, slice.end);
         if !self.judge_slice(plan, marks, rows, slice) {
             return false;
@@ -321,8 +320,7 @@ impl Stream {
     fn add_kept(&mut self, plan: &Plan, order: &mut Order, marks: &mut Marks, rows: &[Row]) -> bool
         ghost done: { List TheRow }
         requires fit { RowsFit plan.now.program rows.now }
-        requires quiet { AreQuiet rows.now }
-        requires kept { FirstRow self.old.stop plan.now rows.now None }
+        requires kept { KeepRules plan.now rows.now }
         requires marks { HaveMarksTo plan.now.program 0 marks.old }
         requires stands { IsStreamOf plan.now done self.old }
         requires order { IfSome order.old (AreAncestors plan.now.program) }
@@ -348,9 +346,6 @@ impl Stream {
         requires stands { IsStreamOf plan.now done self.old }
         ensures { IsTrue result → IsStreamOf plan.now (done ++ rows.now) self.new }
     {
-        if !are_quiet(rows) {
-            return false;
-        }
         let Ok(mut marks) = Marks::new(alloc, plan.program()) else {
             return false;
         };

@@ -1,6 +1,6 @@
 use Rattle.std.proofs.Common.{◌≡◌, true, false, sym, ◌∙◌, refl}
-use Rattle.lft_stream.specs.Slices.{IsOrdered}
-use Rattle.lft_stream.proofs.Slicing.{ordered_law}
+use Rattle.lft_stream.specs.Ordered.{IsOrdered}
+use Rattle.lft_stream.proofs.Ordering.{ordered_law}
 use Rattle.lft_stream.proofs.order.Order.is_kept.Goals as goal
 use Rattle.lft_stream.proofs.order.Order.is_kept.Goals.{in-Some, in-None}
 

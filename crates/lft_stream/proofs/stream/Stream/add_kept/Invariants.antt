@@ -9,7 +9,7 @@ abbrev pub ghost-add_slice : goal.ghost-add_slice
 ghost-add_slice g a = g.done
 
 abbrev pub invariant-loop-first : goal.invariant-loop-first
-invariant-loop-first g l = record { within : l.first ≤ length l.rows; rises : RisesAt l.rows l.first; stop : l.self.stop ≡ l.fn.self.stop; marks : AreBefore l.plan.program l.first l.marks; stands : IsStreamOf l.plan (g.done ++ take l.first l.rows) l.self; order : IfSome l.order (AreAncestors l.plan.program) }
+invariant-loop-first g l = record { within : l.first ≤ length l.rows; rises : RisesAt l.rows l.first; marks : AreBefore l.plan.program l.first l.marks; stands : IsStreamOf l.plan (g.done ++ take l.first l.rows) l.self; order : IfSome l.order (AreAncestors l.plan.program) }
 
 abbrev pub decreases-loop-first : goal.decreases-loop-first
 decreases-loop-first g l = length l.rows - l.first

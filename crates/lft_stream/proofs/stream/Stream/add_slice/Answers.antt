@@ -19,16 +19,16 @@ judge_slice-requires g c =
     let plan = c.args.plan.now in
     let rows = c.args.rows.now in
     let s = c.args.slice in
-    let slice = c.requires.1.1.1.0 in
+    let slice = c.requires.1.1.0 in
     let reached = subst (λ (x : ExternalInputs). IsReached x.events c.args.self.now.listeners s.tag c.args.self.now.coming c.reach.new.self) c.externals.ensures.value (c.if-not-reach.ensures refl) in
-    let hand = at_hand plan g.done rows s slice c.args.self.now c.requires.1.1.1.1.1.0 (c.if-not-is_later.ensures refl) c.requires.1.0 c.requires.1.1.0 c.program-program.ensures.sound.sound (record { stop = c.args.self.now.stop; tag = c.args.self.now.tag; runs = c.args.self.now.runs; tags = c.args.self.now.tags; dues = c.args.self.now.dues; starts = c.args.self.now.starts; writes = c.args.self.now.writes; listeners = c.args.self.now.listeners; channels = c.args.self.now.channels; coming = c.reach.new.self; effort = c.allows.new.self }) reached refl refl refl refl refl in
+    let hand = at_hand plan g.done rows s slice c.args.self.now c.requires.1.1.1.1.0 (c.if-not-may_reach.ensures.later refl) (c.if-not-may_reach.ensures.in_time refl) c.requires.1.0 c.program-program.ensures.sound.sound (record { stop = c.stop_behind.result; tag = c.args.self.now.tag; runs = c.args.self.now.runs; tags = c.args.self.now.tags; dues = c.args.self.now.dues; starts = c.args.self.now.starts; writes = c.args.self.now.writes; listeners = c.args.self.now.listeners; channels = c.args.self.now.channels; coming = c.reach.new.self; effort = c.allows.new.self }) reached c.stop_behind.ensures refl refl refl refl in
     (c.requires.0, (slice, (subst (λ (p : Parts). AreMarks p rows s.first s.end c.pass_all.new.self) c.program-program.ensures.value c.pass_all.ensures, hand)))
 
 pub pass_on-requires-clause-fit : goal.pass_on-requires-clause-fit
-pass_on-requires-clause-fit g c = part_fits c.args.rows.now c.args.slice c.requires.1.1.1.0 c.args.plan.now.program c.requires.0
+pass_on-requires-clause-fit g c = part_fits c.args.rows.now c.args.slice c.requires.1.1.0 c.args.plan.now.program c.requires.0
 
 pub pass_on-requires-clause-at : goal.pass_on-requires-clause-at
-pass_on-requires-clause-at g c = are_at c.args.rows.now c.args.slice c.requires.1.1.1.0
+pass_on-requires-clause-at g c = are_at c.args.rows.now c.args.slice c.requires.1.1.0
 
 pub returns-then-pass_on-clause-stands : goal.returns-then-pass_on-clause-stands
 returns-then-pass_on-clause-stands g c = λ z.
@@ -38,12 +38,13 @@ returns-then-pass_on-clause-stands g c = λ z.
     let s = c.args.slice in
     let old = c.args.self.now in
     let judged = c.judge_slice.new.self in
-    let later = c.if-not-is_later.ensures refl in
-    let quiet = c.requires.1.0 in
-    let kept = c.requires.1.1.0 in
-    let slice = c.requires.1.1.1.0 in
-    let stands = c.requires.1.1.1.1.1.0 in
-    let ordered = c.if-not-is_kept.ensures.kept refl old.stop (own_kept plan g.done rows s slice old stands later quiet kept) s.tag in
+    let later = c.if-not-may_reach.ensures.later refl in
+    let reach = c.if-not-may_reach.ensures.in_time refl in
+    let kept = c.requires.1.0 in
+    let slice = c.requires.1.1.0 in
+    let stands = c.requires.1.1.1.1.0 in
+    let own_rules = own_kept plan g.done rows s slice old stands later reach kept in
+    let ordered = c.if-not-is_kept.ensures.kept refl own_rules.0 own_rules.1 s.tag in
     let reached = subst (λ (x : ExternalInputs). IsReached x.events old.listeners s.tag old.coming c.reach.new.self) c.externals.ensures.value (c.if-not-reach.ensures refl) in
     let own = c.judge_slice.ensures in
     let caused = c.if-pass_on.ensures in
@@ -51,4 +52,4 @@ returns-then-pass_on-clause-stands g c = λ z.
     let runs = counted.runs z ∙ ap (λ (n : ℕ). n + c.starts_in.result) own.runs ∙ ap (λ (n : ℕ). old.runs + n) c.starts_in.ensures in
     let tags = counted.tags z ∙ ap (λ (n : ℕ). n + 1) own.tags in
     let writes = subst (λ (ws : List (Option Written)). AreEarlier plan.program (after s.tag 0) ws) (sym counted.writes) (caused.earlier refl) in
-    slice_grows plan g.done rows s slice old stands later quiet kept c.program-program.ensures.sound.sound c.reach.new.self reached ordered judged c.count.new.self (c.if-not-judge_slice.ensures.judged refl) own.coming own.listeners (counted.stop ∙ own.stop) (counted.tag z) runs tags counted.dues counted.starts writes counted.listeners (counted.channels ∙ own.channels) (λ h n b. ap (λ (k : Coming). to_come events k h n) counted.coming ∙ caused.caused refl events h n b ∙ ap (λ (vs : List Value). vs ++ held (caused_by plan (rows_of rows s slice) s.tag n) h) (c.drop_until.ensures events h n b ∙ ap (λ (k : Coming). to_come events k h n) own.coming))
+    slice_grows plan g.done rows s slice old stands later reach kept c.program-program.ensures.sound.sound c.reach.new.self reached ordered judged c.count.new.self (c.if-not-judge_slice.ensures.judged refl) own.coming own.listeners (counted.stop ∙ own.stop ∙ c.stop_behind.ensures) (counted.tag z) runs tags counted.dues counted.starts writes counted.listeners (counted.channels ∙ own.channels) (λ h n b. ap (λ (k : Coming). to_come events k h n) counted.coming ∙ caused.caused refl events h n b ∙ ap (λ (vs : List Value). vs ++ held (caused_by plan (rows_of rows s slice) s.tag n) h) (c.drop_until.ensures events h n b ∙ ap (λ (k : Coming). to_come events k h n) own.coming))
