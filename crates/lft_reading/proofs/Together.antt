@@ -17,7 +17,8 @@ no_quote_in_both [] b x y i = y i
 no_quote_in_both (c ∷ a) b x y zero = x zero
 no_quote_in_both (c ∷ a) b x y (suc i) = no_quote_in_both a b (λ j. x (suc j)) y i
 
-zipped : {A B : Type 0} (R : A → B → Type 0) (xs more : List A) (ys others : List B) → AllZip R xs ys → AllZip R more others → AllZip R (xs ++ more) (ys ++ others)
+-- lists that go together one by one, put behind lists that do
+pub zipped : {A B : Type 0} (R : A → B → Type 0) (xs more : List A) (ys others : List B) → AllZip R xs ys → AllZip R more others → AllZip R (xs ++ more) (ys ++ others)
 zipped R [] more [] others h k = k
 zipped R [] more (y ∷ ys) others h k = absurd h
 zipped R (x ∷ xs) more [] others h k = absurd h
@@ -48,11 +49,27 @@ quiet (c ∷ text) h (suc i) e = quiet text (second (not (c == 34)) (list_all (�
 abbrev pub line : List ℕ
 line = codes "event,worker,time,microstep,reaction,name,value,delay"
 
+-- the header's line with a carriage return before its end
+abbrev pub csv_line : List ℕ
+csv_line = line ++ 13 ∷ []
+
 one_record : records_of (line ++ 10 ∷ []) ≡ header ∷ []
 unfolding records_from next_record strip_bom
 one_record = refl
 
+one_csv_record : records_of (csv_line ++ 10 ∷ []) ≡ header ∷ []
+unfolding records_from next_record strip_bom
+one_csv_record = refl
+
+-- the records of a text that begins with a line that is the header
+under_line : (first text rest : List ℕ) → list_all (λ (c : ℕ). not (c == 34)) (first ++ 10 ∷ []) ≡ true → records_of (first ++ 10 ∷ []) ≡ header ∷ [] → text ≡ (first ++ 10 ∷ []) ++ rest → BeginsPlain rest → records_of text ≡ header ∷ records_of rest
+under_line first text rest none one is plain =
+    ap records_of is ∙ records_cut (first ++ 10 ∷ []) rest (quiet (first ++ 10 ∷ []) none) (first, refl) plain ∙ ap (λ (t : List (List (List ℕ))). t ++ records_of rest) one
+
 -- the records of a text that begins with the header
 pub under_header : (text rest : List ℕ) → text ≡ (line ++ 10 ∷ []) ++ rest → BeginsPlain rest → records_of text ≡ header ∷ records_of rest
-under_header text rest is plain =
-    ap records_of is ∙ records_cut (line ++ 10 ∷ []) rest (quiet (line ++ 10 ∷ []) refl) (line, refl) plain ∙ ap (λ (t : List (List (List ℕ))). t ++ records_of rest) one_record
+under_header text rest is plain = under_line line text rest refl one_record is plain
+
+-- the same where a carriage return stands before the end of the header's line
+pub under_csv_header : (text rest : List ℕ) → text ≡ (csv_line ++ 10 ∷ []) ++ rest → BeginsPlain rest → records_of text ≡ header ∷ records_of rest
+under_csv_header text rest is plain = under_line csv_line text rest refl one_csv_record is plain

@@ -1,9 +1,12 @@
 #![tactic(auto)]
-//! Trace tables read in parts by several workers.
+//! Trace tables read in batches, and in parts by several workers.
 
+mod batch;
 mod batches;
 mod lines;
 mod shared;
 mod workers;
 
+pub use batch::read_batch;
+pub use lines::below_header;
 pub use shared::read_trace_shared;

@@ -8,16 +8,29 @@ ghost use Rattle.lft_reading.specs.Parts.{BeginsPlain, EndsLine};
 /// The header as it is mostly written.
 const HEADER: &[u8] = b"event,worker,time,microstep,reaction,name,value,delay\n";
 
+/// The same header as writers of tables in CSV mostly end their lines.
+const HEADER_OF_CSV: &[u8] = b"event,worker,time,microstep,reaction,name,value,delay\r\n";
+
 /// The first byte of a byte order mark. A reader takes the mark off where a text begins, and
 /// nowhere else.
 const MARK: u8 = 239;
 
-/// What comes below the header, where the text begins with just these bytes and no byte order mark
-/// may stand below them.
-pub(crate) fn below_header(text: &[u8]) -> Option<&[u8]>
+/// What stands behind the header, where the text begins with just its bytes.
+fn strip_header(text: &[u8]) -> Option<&[u8]>
+    ensures { IfSome result (λ rest. BeginsPlain rest.now → records_of text.now ≡ header ∷ records_of rest.now) }
+{
+    if let Some(rest) = text.strip_prefix(HEADER) {
+        return Some(rest);
+    }
+    text.strip_prefix(HEADER_OF_CSV)
+}
+
+/// What comes below the header, where the text begins with just its bytes and no byte order mark may
+/// stand below them.
+pub fn below_header(text: &[u8]) -> Option<&[u8]>
     ensures { IfSome result (λ rest. records_of text.now ≡ header ∷ records_of rest.now) }
 {
-    let rest = text.strip_prefix(HEADER)?;
+    let rest = strip_header(text)?;
     if may_begin_with_mark(rest) {
         return None;
     }

@@ -65,7 +65,7 @@ fn read_alone(alloc: Global, program: &Program, text: &[u8]) -> Option<Vec<Vec<R
 
 // The rows of a text, by one worker. A line may end within quotes: no place of such a text is known
 // to be one where a record begins.
-fn read_plain(alloc: Global, program: &Program, text: &[u8]) -> Option<Vec<Row>>
+pub(crate) fn read_plain(alloc: Global, program: &Program, text: &[u8]) -> Option<Vec<Row>>
     ensures { IfSome result (λ rows. HoldsRows program.now text.now rows.items) }
 {
     if memchr(b'"', text).is_some() {

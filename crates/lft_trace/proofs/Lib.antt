@@ -16,3 +16,4 @@ pub mod TableFacts
 pub mod TraceFacts
 mod WrittenSamples
 pub mod Zips
+pub mod Telling

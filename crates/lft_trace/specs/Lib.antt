@@ -11,3 +11,4 @@ pub mod SeenExternals
 pub mod Keys
 pub mod Written
 pub mod SeenWriting
+pub mod Telling
