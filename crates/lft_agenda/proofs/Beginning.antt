@@ -1,6 +1,5 @@
 -- The agenda of no rows.
-use Rattle.std.proofs.Common.{◌≡◌, ℕ, List, [], length, replicate, refl, ap, ◌∙◌, subst, arith, Some, None, slice_get}
-use Rattle.lft_tag.specs.declared.Tag.{Tag}
+use Rattle.std.proofs.Common.{◌≡◌, ℕ, List, [], length, replicate, refl, ap, ◌∙◌, subst, Some, None, slice_get}
 use Rattle.lft_tag.proofs.Order.{from_first}
 use Rattle.lft_trace.specs.declared.row.Row.{Row}
 use Rattle.lft_queue.specs.Pending.{Pending}

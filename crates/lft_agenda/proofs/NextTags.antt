@@ -1,9 +1,8 @@
 -- What is triggered at a tag by the queue, and what the agenda is at the next tag.
 use Rattle.std.proofs.Common.{◌≡◌, ◌↔◌, ℕ, suc, ◌+◌, ◌-◌, ◌*◌, ◌<◌, ◌⊎◌, inl, inr, List, [], ◌∷◌, length, refl, sym, ap, ◌∙◌, subst, arith, Option, Some, None, is_some, slice_get, Bool, true, false, cond, Contains}
 use Rattle.std.specs.List.{filter}
-use Rattle.std.proofs.lemmas.Bool.{false≢true}
 use Rattle.lft_tag.specs.declared.Tag.{Tag}
-use Rattle.lft_tag.specs.Tags.{Before, UpTo, is_before, same_tag}
+use Rattle.lft_tag.specs.Tags.{Before, UpTo, same_tag}
 use Rattle.lft_tag.proofs.Order.{Before-irrefl, Before-UpTo, Before-weaken, UpTo-refl, UpTo-trans, UpTo_antisym, order_cases, UpTo-Before, same_tag_true}
 use Rattle.lft_flat.specs.declared.parts.Name.{Name}
 use Rattle.lft_flat.specs.declared.parts.Value.{Value}
@@ -13,7 +12,7 @@ use Rattle.lft_flat.specs.Naming.{same_name}
 use Rattle.lft_trace.specs.declared.row.Row.{Row}
 use Rattle.lft_queue.specs.Pending.{Pending, value_of, same_key, is_after}
 use Rattle.lft_queue.proofs.Dropping.{later_value}
-use Rattle.lft_queue.proofs.Tests.{test_before, before_test}
+use Rattle.lft_queue.proofs.Tests.{before_test}
 use Rattle.lft_agenda.specs.declared.turn.phase.Phase.{Phase}
 use Rattle.lft_agenda.specs.declared.turn.phase.Phase.TheVariants.{Idle, Waiting, Open}
 use Rattle.lft_agenda.specs.Turns.{TurnParts, NonePending}

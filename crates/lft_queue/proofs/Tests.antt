@@ -1,5 +1,5 @@
 -- The tests of names and tags.
-use Rattle.std.proofs.Common.{◌≡◌, ◌⊎◌, inl, inr, ◌<◌, refl, ap, arith, Bool, true, false, ◌&&◌, ◌||◌, ◌==◌, ltb, eqb-true, eq-eqb, ne_eqb}
+use Rattle.std.proofs.Common.{◌≡◌, ◌⊎◌, inl, inr, ◌<◌, refl, arith, Bool, true, false, ◌&&◌, ◌||◌, ◌==◌, ltb, eqb-true, eq-eqb, ne_eqb}
 use Rattle.std.proofs.lemmas.Bool.Decides.{nat_tests}
 use Rattle.std.proofs.lemmas.Bool.{ltb-true}
 use Rattle.lft_tag.specs.declared.Tag.{Tag}

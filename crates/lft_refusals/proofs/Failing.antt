@@ -1,5 +1,5 @@
 -- The record at which a table fails.
-use Rattle.std.proofs.Common.{◌≡◌, ℕ, ◌+◌, List, [], ◌∷◌, ◌++◌, Option, Some, None, IfNone, IfSome, is_some, true, inl, inr, length, slice_get, zero, suc, add-one, Result, Ok, Err, IfOk, sym, ap, subst, ◌∙◌, arith}
+use Rattle.std.proofs.Common.{◌≡◌, ℕ, ◌+◌, List, [], ◌∷◌, ◌++◌, Option, Some, None, IfNone, IfSome, is_some, true, inl, inr, length, slice_get, zero, suc, add-one, sym, ap, subst, ◌∙◌, arith}
 use Rattle.std.proofs.lemmas.Slice.Zip.{AllZip-long}
 use Rattle.csv.specs.Records.{field_at as at_place}
 use Rattle.lft_flat.specs.Parts.{Parts}

@@ -1,5 +1,5 @@
 -- The rows that a text tells, computed from it, so that a term can name them. They mean something only where its records are rows.
-use Rattle.std.specs.Prelude.{ℕ, List, [], codes, Option, Some, None, option_and_then, option_map, position, filter_map, if◌then◌else◌, MatchOption, slice_index_or}
+use Rattle.std.specs.Prelude.{ℕ, List, [], codes, Option, Some, None, option_and_then, option_map, position, filter_map, if◌then◌else◌, slice_index_or}
 use Rattle.std.specs.Str.{bytes_eq}
 use Rattle.lft_flat.specs.Parts.{Parts}
 use Rattle.lft_flat.specs.declared.parts.Name.{Name}
