@@ -184,7 +184,7 @@ module _ (program : Parts) (o : ℕ) (g : Tag) (v : Value) (targets : List ℕ) 
       go false e = here (behind_of program o p e own) (listed e there) (same_tag h (arrives_at program g p)) refl
       go true e = none_arrived (Port p) (λ q s k t. false≢true (sym (of_behind program o q k).1 ∙ ap (λ (j : ℕ). is_undelayed program j) (same_port q s) ∙ e)) ∙ sym (none_held (arrives_at program g p) h (λ q. Before-irrefl g (subst (λ (k : Tag). Before g k) (q ∙ arrives_now program g p e) b)) (Some v))
 
-module _ (program : Parts) (u : List Row) (count : ℕ) (row : Row) (is_row : slice_get u count ≡ Some row) (start old : Coming) (writes : List (Option Written)) (are : AreCarried program u row.tag count start old writes) where
+module _ (program : Parts) (u : List Row) (count : ℕ) (row : Row) (is_row : slice_get u count ≡ Some row) (start old : Coming) (writes : List (Option Written)) (last : Tag) (are : AreCarried program u row.tag last count start old writes) where
   -- a row that doesn't write a port's origin leaves it to be carried
   still_unwritten : (p : ℕ) → ((v : Value) → row.step ≢ Write (Port (origin_of program p)) v) → ((i : ℕ) (x : Row) (v : Value) → i < count → slice_get u i ≡ Some x → x.step ≢ Write (Port (origin_of program p)) v) → (i : ℕ) (x : Row) (v : Value) → i < count + 1 → slice_get u i ≡ Some x → x.step ≢ Write (Port (origin_of program p)) v
   still_unwritten p other none i x v l e s = go (cases_eq i count)
@@ -193,10 +193,10 @@ module _ (program : Parts) (u : List Row) (count : ℕ) (row : Row) (is_row : sl
       go (inl q) = other v (ap (λ (y : Row). y.step) (same_at u count i row x is_row e (sym q)) ∙ s)
       go (inr d) = none i x v (omega (arith, l, d)) e s
 
-  pub carried_stays : ((p : ℕ) → value_written p row.step ≡ None) → AreCarried program u row.tag (count + 1) start old writes
+  pub carried_stays : ((p : ℕ) → value_written p row.step ≡ None) → AreCarried program u row.tag last (count + 1) start old writes
   carried_stays none = record { as_long = are.as_long; up_to = are.up_to; actions = are.actions; ports = λ p. go p (are.ports p) }
     where
-      go : (p : ℕ) → IsCarried program u row.tag p start old writes ⊎ IsUncarried program u row.tag count p start old writes → IsCarried program u row.tag p start old writes ⊎ IsUncarried program u row.tag (count + 1) p start old writes
+      go : (p : ℕ) → IsCarried program u row.tag last p start old writes ⊎ IsUncarried program u row.tag last count p start old writes → IsCarried program u row.tag last p start old writes ⊎ IsUncarried program u row.tag last (count + 1) p start old writes
       go p (inl c) = inl c
       go p (inr r) = inr (record { same = r.same; kept = r.kept; unwritten = still_unwritten p (λ v s. none-some v (sym (none (origin_of program p)) ∙ ap (λ (z : Step). value_written (origin_of program p) z) s ∙ some_written (origin_of program p) v)) r.unwritten })
 
@@ -221,16 +221,16 @@ module _ (program : Parts) (u : List Row) (count : ℕ) (row : Row) (is_row : sl
     here p q = ap (λ (k : ℕ). slice_get writes k) q ∙ is
 
     -- one step: another origin's port is as it was, and each of this origin's has its event
-    module _ (new : Coming) (actions : (events : List Event) (h : Tag) (a : ℕ) → to_come events new h (Action a) ≡ to_come events old h (Action a)) (others : (p : ℕ) → origin_of program p ≢ o → (events : List Event) (h : Tag) → to_come events new h (Port p) ≡ to_come events old h (Port p)) (own : (p : ℕ) → origin_of program p ≡ o → IsCarried program u row.tag p start old writes ⊎ IsUncarried program u row.tag count p start old writes → (events : List Event) (h : Tag) → Before row.tag h → to_come events new h (Port p) ≡ to_come events start h (Port p) ++ held (carried_to program u row.tag p) h) where
-      other : (p : ℕ) → origin_of program p ≢ o → IsCarried program u row.tag p start old writes ⊎ IsUncarried program u row.tag count p start old writes → IsCarried program u row.tag p start new rest ⊎ IsUncarried program u row.tag (count + 1) p start new rest
-      other p n (inl c) = inl (record { put = λ events h b. others p n events h ∙ c.put events h b; gone = λ x e. c.gone x (sym (get_unwritten writes o (origin_of program p) None n) ∙ e) })
-      other p n (inr r) = inr (record { same = λ events h. others p n events h ∙ r.same events h; kept = λ x e. r.kept x (sym (get_unwritten writes o (origin_of program p) None n) ∙ e); unwritten = still_unwritten p (λ z s. let both : Write (Port o) v ≡ Write (Port (origin_of program p)) z = sym step ∙ s in let q : o ≡ origin_of program p = cc in n (sym q)) r.unwritten })
+    module _ (new : Coming) (actions : (events : List Event) (h : Tag) (a : ℕ) → UpTo h last → to_come events new h (Action a) ≡ to_come events old h (Action a)) (others : (p : ℕ) → origin_of program p ≢ o → (events : List Event) (h : Tag) → UpTo h last → to_come events new h (Port p) ≡ to_come events old h (Port p)) (own : (p : ℕ) → origin_of program p ≡ o → IsCarried program u row.tag last p start old writes ⊎ IsUncarried program u row.tag last count p start old writes → (events : List Event) (h : Tag) → Before row.tag h → UpTo h last → to_come events new h (Port p) ≡ to_come events start h (Port p) ++ held (carried_to program u row.tag p) h) where
+      other : (p : ℕ) → origin_of program p ≢ o → IsCarried program u row.tag last p start old writes ⊎ IsUncarried program u row.tag last count p start old writes → IsCarried program u row.tag last p start new rest ⊎ IsUncarried program u row.tag last (count + 1) p start new rest
+      other p n (inl c) = inl (record { put = λ events h b up. others p n events h up ∙ c.put events h b up; gone = λ x e. c.gone x (sym (get_unwritten writes o (origin_of program p) None n) ∙ e) })
+      other p n (inr r) = inr (record { same = λ events h up. others p n events h up ∙ r.same events h up; kept = λ x e. r.kept x (sym (get_unwritten writes o (origin_of program p) None n) ∙ e); unwritten = still_unwritten p (λ z s. let both : Write (Port o) v ≡ Write (Port (origin_of program p)) z = sym step ∙ s in let q : o ≡ origin_of program p = cc in n (sym q)) r.unwritten })
 
-      port : (p : ℕ) → IsCarried program u row.tag p start new rest ⊎ IsUncarried program u row.tag (count + 1) p start new rest
+      port : (p : ℕ) → IsCarried program u row.tag last p start new rest ⊎ IsUncarried program u row.tag last (count + 1) p start new rest
       port p = go (cases_eq (origin_of program p) o)
         where
-          go : (origin_of program p ≡ o) ⊎ (origin_of program p ≡ o → ⊥) → IsCarried program u row.tag p start new rest ⊎ IsUncarried program u row.tag (count + 1) p start new rest
-          go (inl q) = inl (record { put = λ events h b. own p q (are.ports p) events h b; gone = gone p q })
+          go : (origin_of program p ≡ o) ⊎ (origin_of program p ≡ o → ⊥) → IsCarried program u row.tag last p start new rest ⊎ IsUncarried program u row.tag last (count + 1) p start new rest
+          go (inl q) = inl (record { put = λ events h b up. own p q (are.ports p) events h b up; gone = gone p q })
           go (inr n) = other p n (are.ports p)
 
       still_up_to : (p : ℕ) (x : Written) → slice_get rest p ≡ Some (Some x) → UpTo x.tag row.tag
@@ -240,42 +240,42 @@ module _ (program : Parts) (u : List Row) (count : ℕ) (row : Row) (is_row : sl
           go (inl (s, f)) = absurd (cc)
           go (inr (n, f)) = are.up_to p x f
 
-      stepped : AreCarried program u row.tag (count + 1) start new rest
-      stepped = record { as_long = length_written writes o None ∙ are.as_long; up_to = still_up_to; actions = λ events h a. actions events h a ∙ are.actions events h a; ports = port }
+      stepped : AreCarried program u row.tag last (count + 1) start new rest
+      stepped = record { as_long = length_written writes o None ∙ are.as_long; up_to = still_up_to; actions = λ events h a up. actions events h a up ∙ are.actions events h a up; ports = port }
 
     -- a write that is kept no more is carried already
-    pub carried_again : value_at row.tag w ≡ None → AreCarried program u row.tag (count + 1) start old rest
-    carried_again none = stepped old (λ events h a. refl) (λ p n events h. refl) (λ p q. own p q)
+    pub carried_again : value_at row.tag w ≡ None → AreCarried program u row.tag last (count + 1) start old rest
+    carried_again none = stepped old (λ events h a up. refl) (λ p n events h up. refl) (λ p q. own p q)
       where
-        own : (p : ℕ) → origin_of program p ≡ o → IsCarried program u row.tag p start old writes ⊎ IsUncarried program u row.tag count p start old writes → (events : List Event) (h : Tag) → Before row.tag h → to_come events old h (Port p) ≡ to_come events start h (Port p) ++ held (carried_to program u row.tag p) h
-        own p q (inl c) events h b = c.put events h b
-        own p q (inr r) events h b = absurd (some_last (ap (λ (k : ℕ). last_write u row.tag k) (sym q) ∙ sym (r.kept w (here p q)) ∙ none))
+        own : (p : ℕ) → origin_of program p ≡ o → IsCarried program u row.tag last p start old writes ⊎ IsUncarried program u row.tag last count p start old writes → (events : List Event) (h : Tag) → Before row.tag h → UpTo h last → to_come events old h (Port p) ≡ to_come events start h (Port p) ++ held (carried_to program u row.tag p) h
+        own p q (inl c) events h b up = c.put events h b up
+        own p q (inr r) events h b up = absurd (some_last (ap (λ (k : ℕ). last_write u row.tag k) (sym q) ∙ sym (r.kept w (here p q)) ∙ none))
 
     -- and one that is kept is carried now
-    pub carried_now : (lists : List (List ℕ)) → AreChannels program lists → (targets : List ℕ) → slice_get lists o ≡ Some targets → (last : Value) → value_at row.tag w ≡ Some last → (new : Coming) → ((events : List Event) (h : Tag) (n : Name) → to_come events new h n ≡ to_come events old h n ++ filter_map (arrival program o row.tag last h n) targets) → AreCarried program u row.tag (count + 1) start new rest
-    carried_now lists channels targets list last some new put = stepped new (λ events h a. put events h (Action a) ∙ ap (λ (vs : List Value). to_come events old h (Action a) ++ vs) (no_action program o row.tag last targets h a) ∙ append-nil (to_come events old h (Action a))) (λ p n events h. put events h (Port p) ∙ ap (λ (vs : List Value). to_come events old h (Port p) ++ vs) (no_other program o row.tag last targets h p n) ∙ append-nil (to_come events old h (Port p))) (λ p q. own p q)
+    pub carried_now : (lists : List (List ℕ)) → AreChannels program lists → (targets : List ℕ) → slice_get lists o ≡ Some targets → (value : Value) → value_at row.tag w ≡ Some value → (new : Coming) → ((events : List Event) (h : Tag) (n : Name) → UpTo h last → to_come events new h n ≡ to_come events old h n ++ filter_map (arrival program o row.tag value h n) targets) → AreCarried program u row.tag last (count + 1) start new rest
+    carried_now lists channels targets list value some new put = stepped new (λ events h a up. put events h (Action a) up ∙ ap (λ (vs : List Value). to_come events old h (Action a) ++ vs) (no_action program o row.tag value targets h a) ∙ append-nil (to_come events old h (Action a))) (λ p n events h up. put events h (Port p) up ∙ ap (λ (vs : List Value). to_come events old h (Port p) ++ vs) (no_other program o row.tag value targets h p n) ∙ append-nil (to_come events old h (Port p))) (λ p q. own p q)
       where
         listed : (p : ℕ) → origin_of program p ≡ o → (z : Bool) → is_undelayed program p ≡ z → Contains targets p ⊎ (is_undelayed program p ≡ true)
         listed p q true e = inr e
         listed p q false e = let x = port_behind program p e in inl (channels.each p x.0 targets x.1 e (ap (λ (k : ℕ). slice_get lists k) (sym (origin_at program p x.0 x.1) ∙ q) ∙ list))
 
-        own : (p : ℕ) → origin_of program p ≡ o → IsCarried program u row.tag p start old writes ⊎ IsUncarried program u row.tag count p start old writes → (events : List Event) (h : Tag) → Before row.tag h → to_come events new h (Port p) ≡ to_come events start h (Port p) ++ held (carried_to program u row.tag p) h
-        own p q (inl c) events h b = absurd (none-some last (sym (c.gone w (here p q)) ∙ some))
-        own p q (inr r) events h b = put events h (Port p) ∙ ap (λ (vs : List Value). vs ++ filter_map (arrival program o row.tag last h (Port p)) targets) (r.same events h) ∙ ap (λ (vs : List Value). to_come events start h (Port p) ++ vs) (own_event program o row.tag last targets h u p q (sym (r.kept w (here p q)) ∙ some) b (listed p q (is_undelayed program p) refl) few)
+        own : (p : ℕ) → origin_of program p ≡ o → IsCarried program u row.tag last p start old writes ⊎ IsUncarried program u row.tag last count p start old writes → (events : List Event) (h : Tag) → Before row.tag h → UpTo h last → to_come events new h (Port p) ≡ to_come events start h (Port p) ++ held (carried_to program u row.tag p) h
+        own p q (inl c) events h b up = absurd (none-some value (sym (c.gone w (here p q)) ∙ some))
+        own p q (inr r) events h b up = put events h (Port p) up ∙ ap (λ (vs : List Value). vs ++ filter_map (arrival program o row.tag value h (Port p)) targets) (r.same events h up) ∙ ap (λ (vs : List Value). to_come events start h (Port p) ++ vs) (own_event program o row.tag value targets h u p q (sym (r.kept w (here p q)) ∙ some) b (listed p q (is_undelayed program p) refl) few)
           where
-            few : length (filter_map (arrival program o row.tag last h (Port p)) targets) < 2
+            few : length (filter_map (arrival program o row.tag value h (Port p)) targets) < 2
             few =
                 let a : length (to_come events new h (Port p)) < 2 = few_of (value_of h (Port p) new.queue) in
-                let c : length (to_come events new h (Port p)) ≡ length (to_come events old h (Port p)) + length (filter_map (arrival program o row.tag last h (Port p)) targets) = ap (λ (vs : List Value). length vs) (put events h (Port p)) ∙ length-append (to_come events old h (Port p)) (filter_map (arrival program o row.tag last h (Port p)) targets) in
+                let c : length (to_come events new h (Port p)) ≡ length (to_come events old h (Port p)) + length (filter_map (arrival program o row.tag value h (Port p)) targets) = ap (λ (vs : List Value). length vs) (put events h (Port p) up) ∙ length-append (to_come events old h (Port p)) (filter_map (arrival program o row.tag value h (Port p)) targets) in
                 omega arith
 
 -- once all rows of a tag have carried what they write
-module _ (program : Parts) (u : List Row) (g : Tag) (count : ℕ) (all : length u < count + 1) (start new : Coming) (writes : List (Option Written)) (are : AreCarried program u g count start new writes) where
-  pub all_carried : (events : List Event) (h : Tag) (n : Name) → Before g h → to_come events new h n ≡ to_come events start h n ++ held (carried_by program u g n) h
-  all_carried events h (Action a) b = are.actions events h a ∙ sym (append-nil (to_come events start h (Action a)))
-  all_carried events h (Port p) b = go (are.ports p)
+module _ (program : Parts) (u : List Row) (g : Tag) (count : ℕ) (all : length u < count + 1) (start new : Coming) (writes : List (Option Written)) (last : Tag) (are : AreCarried program u g last count start new writes) where
+  pub all_carried : (events : List Event) (h : Tag) (n : Name) → Before g h → UpTo h last → to_come events new h n ≡ to_come events start h n ++ held (carried_by program u g n) h
+  all_carried events h (Action a) b up = are.actions events h a up ∙ sym (append-nil (to_come events start h (Action a)))
+  all_carried events h (Port p) b up = go (are.ports p)
     where
-      none : IsUncarried program u g count p start new writes → last_write u g (origin_of program p) ≡ None
+      none : IsUncarried program u g last count p start new writes → last_write u g (origin_of program p) ≡ None
       none r = by (last_write u g (origin_of program p)) refl
         where
           by : (z : Option Value) → last_write u g (origin_of program p) ≡ z → last_write u g (origin_of program p) ≡ None
@@ -286,6 +286,6 @@ module _ (program : Parts) (u : List Row) (g : Tag) (count : ℕ) (all : length 
               let l = slice_get_within u i.0 x.0 i.1 in
               absurd (r.unwritten i.0 x.0 v (omega (arith, l, all)) i.1 (written_some (origin_of program p) x.0.step v (written_by g (origin_of program p) x.0 v x.2).1))
 
-      go : IsCarried program u g p start new writes ⊎ IsUncarried program u g count p start new writes → to_come events new h (Port p) ≡ to_come events start h (Port p) ++ held (carried_to program u g p) h
-      go (inl c) = c.put events h b
-      go (inr r) = r.same events h ∙ sym (append-nil (to_come events start h (Port p))) ∙ ap (λ (z : Option Value). to_come events start h (Port p) ++ held (option_to_list (option_map (λ v. (arrives_at program g p, v)) z)) h) (sym (none r))
+      go : IsCarried program u g last p start new writes ⊎ IsUncarried program u g last count p start new writes → to_come events new h (Port p) ≡ to_come events start h (Port p) ++ held (carried_to program u g p) h
+      go (inl c) = c.put events h b up
+      go (inr r) = r.same events h up ∙ sym (append-nil (to_come events start h (Port p))) ∙ ap (λ (z : Option Value). to_come events start h (Port p) ++ held (option_to_list (option_map (λ v. (arrives_at program g p, v)) z)) h) (sym (none r))

@@ -46,7 +46,8 @@ use Rattle.lft_stream.proofs.Writing.{earlier_on}
 use Rattle.lft_stream.proofs.Before.{ran_whole}
 use Rattle.lft_stream.proofs.Lanes.{held_append, held_first}
 use Rattle.lft_stream.proofs.Owing.{due_law, ran_grows}
-use Rattle.lft_stream.proofs.Parting.{rows_of, to_whole, are_at, ran_part, ran_of, steps_part, up_to_end, part_kept}
+use Rattle.lft_stream.proofs.Parting.{rows_of, are_at, ran_part, ran_of, steps_part, up_to_end, part_kept}
+use Rattle.lft_model.proofs.Stops.{stop_append}
 use Rattle.lft_stream.proofs.Stopping.{stop_law}
 use Rattle.lft_stream.proofs.Ruling.{rows_law}
 use Rattle.lft_stream.proofs.Streaming.{stream_law, move_law}
@@ -113,7 +114,7 @@ pub begins_kept : (plan : PlanParts) (s : Stream) → s.stop ≡ plan.externals.
 begins_kept plan s stops none runs tags dues starts writes listeners channels begins = record {
   lanes = first_events plan;
   none = λ p h e up. refl;
-  coming = λ n h up. first_to_come plan n h ∙ ap (λ (c : Coming). to_come plan.externals.events c h n) (sym begins);
+  coming = λ n h up far. first_to_come plan n h ∙ ap (λ (c : Coming). to_come plan.externals.events c h n) (sym begins);
   state = rw (none, runs, tags) ((stream_law plan).begins s.dues dues);
   stop_is = stops;
   up_to = rw none refl;
@@ -150,16 +151,19 @@ module _ (plan : PlanParts) (d u : List Row) (g : Tag) (old : Stream) (is : IsSt
 
   -- what was to come before the tag triggered nothing
   module _ (good : IsSound plan.program) (c : Coming) (reached : IsReached plan.externals.events old.listeners g old.coming c) where
-    at_hand_at : (n : Name) (h : Tag) → UpTo g h → held (is.lanes n) h ≡ to_come plan.externals.events c h n
-    at_hand_at n h up = is.coming n h (UpTo-trans (low_of old.tag) g h (passed old.tag later) up) ∙ sym (reached.same h n up)
+    at_hand_at : (n : Name) (h : Tag) → UpTo g h → UpTo h old.stop → held (is.lanes n) h ≡ to_come plan.externals.events c h n
+    at_hand_at n h up near = is.coming n h (UpTo-trans (low_of old.tag) g h (passed old.tag later) up) near ∙ sym (reached.same h n up)
 
     in_queue : (n : Name) → held (is.lanes n) g ≡ option_to_list (value_of g n c.queue)
-    in_queue n = at_hand_at n g (UpTo-refl g) ∙ only_queue plan.externals.events c g g n reached.brought (UpTo-refl g)
+    in_queue n = at_hand_at n g (UpTo-refl g) reach ∙ only_queue plan.externals.events c g g n reached.brought (UpTo-refl g)
+
+    near : (h : Tag) → Before h g → UpTo h old.stop
+    near h b = UpTo-trans h g old.stop (Before-weaken h g b) reach
 
     goes_up : (n : Name) → LaneGoesOn plan d n (low_of old.tag) (is.lanes n) g (is.lanes n)
     goes_up n = record {
       up = passed old.tag later;
-      met = λ h up b. unheard_met plan d h n (is.lanes n) old.listeners is.listeners (λ p e z. ap (λ (k : Name). held (is.lanes k) h) e ∙ is.none p h z up) (rw (is.coming n h up) (reached.alone h n b)) (λ v k. reached.unheard h n v b (subst (λ (vs : List Value). Contains vs v) (is.coming n h up) k));
+      met = λ h up b. unheard_met plan d h n (is.lanes n) old.listeners is.listeners (λ p e z. ap (λ (k : Name). held (is.lanes k) h) e ∙ is.none p h z up) (rw (is.coming n h up (near h b)) (reached.alone h n b)) (λ v k. reached.unheard h n v b (subst (λ (vs : List Value). Contains vs v) (is.coming n h up (near h b)) k));
       same = λ h up. refl;
     }
 
@@ -239,11 +243,11 @@ module _ (plan : PlanParts) (d u : List Row) (g : Tag) (old : Stream) (is : IsSt
           stands = move_law plan (d ++ u) (state_of lanes_at g new) (state_of lanes_at (after g 0) new) ((stream_law plan).grows d u g first.reaction (state_of is.lanes g old) (state_of lanes_at g new) there right some_ran grown) (record { lanes = goes_past; dues = refl; runs = refl; tags = refl })
 
           -- the state over the rows of a later tag
-          pub grows_kept : new.stop ≡ earliest old.stop (requests u) → new.tag ≡ Some g → AreStarts plan.program (d ++ u) new.starts → AreEarlier plan.program (after g 0) new.writes → AreListeners plan new.listeners → AreChannels plan.program new.channels → ((h : Tag) (n : Name) → Before g h → to_come plan.externals.events new.coming h n ≡ to_come plan.externals.events c h n ++ held (caused_by plan u g n) h) → IsStreamOf plan (d ++ u) new
+          pub grows_kept : new.stop ≡ earliest old.stop (requests u) → new.tag ≡ Some g → AreStarts plan.program (d ++ u) new.starts → AreEarlier plan.program (after g 0) new.writes → AreListeners plan new.listeners → AreChannels plan.program new.channels → ((h : Tag) (n : Name) → Before g h → UpTo h new.stop → to_come plan.externals.events new.coming h n ≡ to_come plan.externals.events c h n ++ held (caused_by plan u g n) h) → IsStreamOf plan (d ++ u) new
           grows_kept stops tag starts writes listeners channels more = record {
             lanes = lanes_at;
             none = λ p h e up. none p h e (past h up);
-            coming = subst (λ (last : Option Tag). AreComing plan.externals.events (low_of last) lanes_at new.coming) (sym tag) (λ n h up. still n h (Before-UpTo g (after g 0) h (after_past g 0) up));
+            coming = subst (λ (last : Option Tag). AreComing plan.externals.events (low_of last) new.stop lanes_at new.coming) (sym tag) (λ n h up far. still n h (Before-UpTo g (after g 0) h (after_past g 0) up) far);
             state = subst (λ (last : Option Tag). IsStream plan (d ++ u) (state_of lanes_at (low_of last) new)) (sym tag) stands;
             stop_is = stops ∙ stop_now;
             up_to = subst (λ (last : Option Tag). AreUpTo (d ++ u) last) (sym tag) up_to;
@@ -260,8 +264,12 @@ module _ (plan : PlanParts) (d u : List Row) (g : Tag) (old : Stream) (is : IsSt
               none : (p : ℕ) (h : Tag) → is_undelayed plan.program p ≡ true → Before g h → held (lanes_at (Port p)) h ≡ []
               none p h e b = held_append (is.lanes (Port p)) (caused_by plan u g (Port p)) h ∙ ap (λ (vs : List Value). vs ++ held (caused_by plan u g (Port p)) h) (is.none p h e (UpTo-trans (low_of old.tag) g h (passed old.tag later) (Before-weaken g h b))) ∙ none_after plan.program u g h p e b
 
-              still : (n : Name) (h : Tag) → Before g h → held (lanes_at n) h ≡ to_come plan.externals.events new.coming h n
-              still n h b = held_append (is.lanes n) (caused_by plan u g n) h ∙ ap (λ (vs : List Value). vs ++ held (caused_by plan u g n) h) (at_hand_at n h (Before-weaken g h b)) ∙ sym (more h n b)
+              -- the stop goes no further than it did
+              no_later : UpTo new.stop old.stop
+              no_later = subst (λ (k : Tag). UpTo k old.stop) (sym (stops ∙ stop_now)) (subst (λ (k : Tag). UpTo (stop plan (d ++ u)) k) (sym is.stop_is) (stop_append plan d u))
+
+              still : (n : Name) (h : Tag) → Before g h → UpTo h new.stop → held (lanes_at n) h ≡ to_come plan.externals.events new.coming h n
+              still n h b far = held_append (is.lanes n) (caused_by plan u g n) h ∙ ap (λ (vs : List Value). vs ++ held (caused_by plan u g n) h) (at_hand_at n h (Before-weaken g h b) (UpTo-trans h new.stop old.stop far no_later)) ∙ sym (more h n b far)
 
               up_to : (i : ℕ) (x : Row) → slice_get (d ++ u) i ≡ Some x → UpTo x.tag g
               up_to i x e = go (get_append_cases d u i x e)
@@ -284,7 +292,7 @@ accepts_kept plan t s is none over = by (order_cases (stop plan t) (low_of s.tag
       up = UpTo-trans (low_of s.tag) last (after last 0) up (Before-weaken last (after last 0) (after_past last 0));
       met = λ h low b.
           let there : UpTo h s.stop = subst (λ (k : Tag). UpTo h k) (sym is.stop_is) (up_to_last last h b) in
-          unheard_met plan t h n (is.lanes n) s.listeners is.listeners (λ p e z. ap (λ (k : Name). held (is.lanes k) h) e ∙ is.none p h z low) (rw (is.coming n h low) (over.alone h n there)) (λ v k. over.unheard h n v there (subst (λ (vs : List Value). Contains vs v) (is.coming n h low) k));
+          unheard_met plan t h n (is.lanes n) s.listeners is.listeners (λ p e z. ap (λ (k : Name). held (is.lanes k) h) e ∙ is.none p h z low) (rw (is.coming n h low there) (over.alone h n there)) (λ v k. over.unheard h n v there (subst (λ (vs : List Value). Contains vs v) (is.coming n h low there) k));
       same = λ h far. refl;
     }
 
@@ -332,7 +340,7 @@ module _ (plan : PlanParts) (done rows : List Row) (s : Slice) (slice : IsSlice 
   }
 
   -- and what is kept is right for them too, once they are judged
-  pub slice_grows : IsSound plan.program → (c : Coming) → IsReached plan.externals.events old.listeners s.tag old.coming c → ((r : ℕ) → Ran own s.tag r → ¬ IsTooEarly plan own s.tag r) → (judged new : Stream) → IsJudged plan so_far rows s judged → judged.coming ≡ c → judged.listeners ≡ old.listeners → new.stop ≡ earliest old.stop (requests own) → new.tag ≡ Some s.tag → new.runs ≡ old.runs + runs_in own → new.tags ≡ old.tags + 1 → new.dues ≡ judged.dues → new.starts ≡ judged.starts → AreEarlier plan.program (after s.tag 0) new.writes → new.listeners ≡ judged.listeners → new.channels ≡ old.channels → ((h : Tag) (n : Name) → Before s.tag h → to_come plan.externals.events new.coming h n ≡ to_come plan.externals.events c h n ++ held (caused_by plan own s.tag n) h) → IsStreamOf plan (done ++ take s.end rows) new
+  pub slice_grows : IsSound plan.program → (c : Coming) → IsReached plan.externals.events old.listeners s.tag old.coming c → ((r : ℕ) → Ran own s.tag r → ¬ IsTooEarly plan own s.tag r) → (judged new : Stream) → IsJudged plan so_far rows s judged → judged.coming ≡ c → judged.listeners ≡ old.listeners → new.stop ≡ earliest old.stop (requests own) → new.tag ≡ Some s.tag → new.runs ≡ old.runs + runs_in own → new.tags ≡ old.tags + 1 → new.dues ≡ judged.dues → new.starts ≡ judged.starts → AreEarlier plan.program (after s.tag 0) new.writes → new.listeners ≡ judged.listeners → new.channels ≡ old.channels → ((h : Tag) (n : Name) → Before s.tag h → UpTo h new.stop → to_come plan.externals.events new.coming h n ≡ to_come plan.externals.events c h n ++ held (caused_by plan own s.tag n) h) → IsStreamOf plan (done ++ take s.end rows) new
   slice_grows good c reached ranked judged new is_judged coming heard_by stops tag runs tags dues starts writes listeners channels more = subst (λ (t : List Row). IsStreamOf plan t new) together (grows_kept plan so_far own s.tag old is first.0 first.1 (are_at rows s slice) later reach own_kept good c reached is_judged.heard met ranked (λ r o. is_judged.triggered r (ran_of rows s slice r o)) own_reads new runs tags (rw dues is_judged.dues) stops tag (rw starts is_judged.starts) writes (rw listeners is_judged.listeners) (rw channels is.channels) more)
     where
       met : (n : Name) → IsSome (value_of s.tag n c.queue) → AreStarted (so_far ++ own) s.tag old.listeners n

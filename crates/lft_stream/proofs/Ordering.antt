@@ -1,5 +1,5 @@
 -- Runs that keep the order of precedence aren't too early.
-use Rattle.std.proofs.Common.{◌≡◌, ℕ, ◌<◌, inr, List, refl, sym, ap, ◌∙◌, arith, Some, None, slice_get}
+use Rattle.std.proofs.Common.{◌≡◌, ℕ, ◌+◌, ◌<◌, inr, List, refl, sym, ap, ◌∙◌, arith, Some, None, slice_get}
 use native.Mathlib.Decide.{ℕ_discrete, dec_lt}
 use Rattle.lft_tag.specs.declared.Tag.{Tag}
 use Rattle.lft_trace.specs.declared.row.Row.{Row}

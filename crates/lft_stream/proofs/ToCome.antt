@@ -9,7 +9,7 @@ use Rattle.std.proofs.Math.Seq.{drop-cons}
 use native.Mathlib.Decide.{dec_lt}
 use Rattle.lft_lists.proofs.Places.{same_at}
 use Rattle.lft_tag.specs.declared.Tag.{Tag}
-use Rattle.lft_tag.specs.Tags.{Before, UpTo, same_tag, is_before}
+use Rattle.lft_tag.specs.Tags.{Before, UpTo, same_tag}
 use Rattle.lft_tag.proofs.Order.{UpTo-refl, Before-weaken, UpTo-Before, Before-UpTo, Before-trans, Before-irrefl, same_tag_refl, split_up, UpTo-not, same_tag_true}
 use Rattle.lft_lists.proofs.Members.{Mem, contains_mem, none_nil}
 use Rattle.lft_flat.proofs.Ranges.{slice_get-drop}
@@ -25,7 +25,7 @@ use Rattle.lft_model.proofs.Steps.{both_true}
 use Rattle.lft_model.proofs.Places.{slice_get_within}
 use Rattle.lft_queue.specs.Pending.{Pending, value_of, same_key, is_after, Becomes}
 use Rattle.lft_queue.proofs.Dropping.{later_value}
-use Rattle.lft_queue.proofs.Tests.{test_before, not_before, tag_apart}
+use Rattle.lft_queue.proofs.Tests.{not_before, tag_apart}
 use Rattle.lft_stream.specs.declared.coming.Coming.{Coming}
 use Rattle.lft_stream.specs.declared.listeners.Listeners.{Listeners}
 use Rattle.lft_stream.specs.Coming.{given_from, to_come, put_at, AreBrought, ArePassed, IsReached, AreOver}
@@ -124,6 +124,14 @@ put_adds events old new g n v next none becomes h m = ap (λ (k : ℕ). given_fr
         let e : value_of h m old.queue ≡ None = sym (ap (λ (k : Tag). value_of k m old.queue) (same_tag_true g h p.0)) ∙ sym (ap (λ (k : Name). value_of g k old.queue) (name_same n m p.1)) ∙ none in
         sym (ap (λ (o : Option Value). (front ++ option_to_list o) ++ v ∷ []) e ∙ ap (λ (vs : List Value). vs ++ v ∷ []) (append-nil front))
     go false s = sym (append-nil (front ++ option_to_list (value_of h m old.queue)))
+
+-- an event behind the stop is none up to it
+pub none_put : (last g : Tag) (n : Name) (v : Value) → Before last g → (values : List Value) (h : Tag) (m : Name) → UpTo h last → values ≡ values ++ put_at g n v h m
+none_put last g n v behind values h m up = let apart : same_tag g h ≡ false = go (same_tag g h) refl in sym (ap (λ (b : Bool). values ++ cond (b && same_name n m) (v ∷ []) []) apart ∙ append-nil values)
+  where
+    go : (b : Bool) → same_tag g h ≡ b → same_tag g h ≡ false
+    go false e = e
+    go true e = absurd (UpTo-not h last up (subst (λ (k : Tag). Before last k) (same_tag_true g h e) behind))
 
 module _ (events : List Event) (order : InOrder events) (k : ℕ) (x : Event) (is_event : slice_get events k ≡ Some x) where
   -- a later event follows by tag, or by action

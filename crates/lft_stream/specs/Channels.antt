@@ -52,20 +52,20 @@ abbrev pub caused_by : PlanParts → List Row → Tag → Name → List (Tag × 
 caused_by plan u g (Port p) = carried_to plan.program u g p
 caused_by plan u g (Action a) = made plan u a
 
--- the event of port p is put, and the write that makes it is kept no more
-pub record IsCarried (program : Parts) (u : List Row) (g : Tag) (p : ℕ) (old new : Coming) (writes : List (Option Written)) : Type 0 where
-  pub put : (events : List Event) (h : Tag) → Before g h → to_come events new h (Port p) ≡ to_come events old h (Port p) ++ held (carried_to program u g p) h
+-- the event of port p is put, where it is up to the stop tag, and the write that makes it is kept no more
+pub record IsCarried (program : Parts) (u : List Row) (g last : Tag) (p : ℕ) (old new : Coming) (writes : List (Option Written)) : Type 0 where
+  pub put : (events : List Event) (h : Tag) → Before g h → UpTo h last → to_come events new h (Port p) ≡ to_come events old h (Port p) ++ held (carried_to program u g p) h
   pub gone : (w : Option Written) → slice_get writes (origin_of program p) ≡ Some w → value_at g w ≡ None
 
--- no event of port p is put yet: none of so many first rows writes its origin, and the last write is kept
-pub record IsUncarried (program : Parts) (u : List Row) (g : Tag) (count p : ℕ) (old new : Coming) (writes : List (Option Written)) : Type 0 where
-  pub same : (events : List Event) (h : Tag) → to_come events new h (Port p) ≡ to_come events old h (Port p)
+-- no event of port p up to the stop tag is put yet: none of so many first rows writes its origin, and the last write is kept
+pub record IsUncarried (program : Parts) (u : List Row) (g last : Tag) (count p : ℕ) (old new : Coming) (writes : List (Option Written)) : Type 0 where
+  pub same : (events : List Event) (h : Tag) → UpTo h last → to_come events new h (Port p) ≡ to_come events old h (Port p)
   pub kept : (w : Option Written) → slice_get writes (origin_of program p) ≡ Some w → value_at g w ≡ last_write u g (origin_of program p)
   pub unwritten : (i : ℕ) (x : Row) (v : Value) → i < count → slice_get u i ≡ Some x → x.step ≢ Write (Port (origin_of program p)) v
 
--- so many first rows of u, all at g, have carried what they write: each port has its event, or none yet
-pub record AreCarried (program : Parts) (u : List Row) (g : Tag) (count : ℕ) (old new : Coming) (writes : List (Option Written)) : Type 0 where
+-- so many first rows of u, all at g, have carried what they write up to the stop tag: each port has its event, or none yet
+pub record AreCarried (program : Parts) (u : List Row) (g last : Tag) (count : ℕ) (old new : Coming) (writes : List (Option Written)) : Type 0 where
   pub as_long : length writes ≡ length program.ports
   pub up_to : (p : ℕ) (w : Written) → slice_get writes p ≡ Some (Some w) → UpTo w.tag g
-  pub actions : (events : List Event) (h : Tag) (a : ℕ) → to_come events new h (Action a) ≡ to_come events old h (Action a)
-  pub ports : (p : ℕ) → IsCarried program u g p old new writes ⊎ IsUncarried program u g count p old new writes
+  pub actions : (events : List Event) (h : Tag) (a : ℕ) → UpTo h last → to_come events new h (Action a) ≡ to_come events old h (Action a)
+  pub ports : (p : ℕ) → IsCarried program u g last p old new writes ⊎ IsUncarried program u g last count p old new writes

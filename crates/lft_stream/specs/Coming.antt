@@ -49,9 +49,9 @@ pub record AreOver (events : List Event) (listeners : Listeners) (g : Tag) (comi
   pub unheard : (h : Tag) (n : Name) (v : Value) → UpTo h g → Contains (to_come events coming h n) v → IsUnheard listeners n
   pub alone : (h : Tag) (n : Name) → UpTo h g → length (to_come events coming h n) < 2
 
--- the lanes have from a tag on what is to come
-abbrev pub AreComing : List Event → Tag → (Name → List (Tag × Value)) → Coming → Type 0
-AreComing events low lanes coming = (n : Name) (h : Tag) → UpTo low h → held (lanes n) h ≡ to_come events coming h n
+-- the lanes have from a tag on, up to a last one, what is to come
+abbrev pub AreComing : List Event → Tag → Tag → (Name → List (Tag × Value)) → Coming → Type 0
+AreComing events low last lanes coming = (n : Name) (h : Tag) → UpTo low h → UpTo h last → held (lanes n) h ≡ to_come events coming h n
 
 -- the events that the rows u give a name that has its events in the queue
 abbrev pub scheduled_by : PlanParts → List Row → Name → List (Tag × Value)

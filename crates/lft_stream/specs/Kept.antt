@@ -49,7 +49,7 @@ state_of lanes low s = record { lows = λ n. low; queues = lanes; dues = s.dues;
 pub record IsStreamOf (plan : PlanParts) (t : List Row) (s : Stream) : Type 0 where
   pub lanes : Name → List (Tag × Value)
   pub none : (p : ℕ) (h : Tag) → is_undelayed plan.program p ≡ true → UpTo (low_of s.tag) h → held (lanes (Port p)) h ≡ []
-  pub coming : AreComing plan.externals.events (low_of s.tag) lanes s.coming
+  pub coming : AreComing plan.externals.events (low_of s.tag) s.stop lanes s.coming
   pub state : IsStream plan t (state_of lanes (low_of s.tag) s)
   pub stop_is : s.stop ≡ stop plan t
   pub up_to : AreUpTo t s.tag

@@ -2,7 +2,7 @@
 
 ghost use Rattle.std.specs.Prelude.{◌≡◌, ◌+◌, ◌<◌, ◌++◌, ℕ, List, IfOk, IsTrue, length, filter_map, slice_get, Some};
 ghost use Rattle.lft_tag.specs.declared.Tag.{Tag as TheTag};
-ghost use Rattle.lft_tag.specs.Tags.{IsRecorded, Before, after};
+ghost use Rattle.lft_tag.specs.Tags.{IsRecorded, Before, UpTo, after};
 ghost use Rattle.lft_flat.specs.declared.parts.Name.{Name as TheName};
 ghost use Rattle.lft_trace.specs.declared.externals.Event.{Event as TheEvent};
 ghost use Rattle.lft_trace.specs.declared.row.Row.{Row as TheRow};
@@ -48,7 +48,7 @@ fn is_behind(program: &Program, origin: u32, number: u32) -> bool
 }
 
 /// Puts an event in for each of the ports that lies behind a delay of the origin, which is written at the
-/// tag. It is false where two events meet, or memory is refused.
+/// tag, where it arrives up to the stop. It is false where two events meet, or memory is refused.
 fn carry(
     coming: &mut Coming,
     program: &Program,
@@ -56,15 +56,16 @@ fn carry(
     origin: u32,
     tag: Tag,
     value: Value,
+    last: Tag,
 ) -> bool
     requires { IsRecorded tag }
-    ensures { IsTrue result → (events : List TheEvent) (h : TheTag) (n : TheName) → to_come events coming.new h n ≡ to_come events coming.old h n ++ filter_map (arrival program.now origin tag value h n) targets.now }
+    ensures { IsTrue result → (events : List TheEvent) (h : TheTag) (n : TheName) → UpTo h last → to_come events coming.new h n ≡ to_come events coming.old h n ++ filter_map (arrival program.now origin tag value h n) targets.now }
 {
     for place in 0..targets.len() {
         let target = item_at(targets, place);
         if is_behind(program, origin, target) {
             let arrives = tag.plus(program.port(target).shift);
-            if !coming.put(arrives, Name::Port(target), value) {
+            if !coming.put_until(last, arrives, Name::Port(target), value) {
                 return false;
             }
         }
@@ -72,19 +73,20 @@ fn carry(
     true
 }
 
-/// Where the row writes a port, puts in what the port's last write carries to those behind its delays. A
-/// write is kept no more then, so a second row that writes the port finds none.
+/// Where the row writes a port, puts in what the port's last write carries to those behind its delays, up
+/// to the stop. A write is kept no more then, so a second row that writes the port finds none.
 fn carry_row(
     coming: &mut Coming,
     writes: &mut Writes,
     channels: &Lists,
     program: &Program,
     row: Row,
+    last: Tag,
 ) -> bool
     requires fits { RowFits program.now row }
     requires ports { length writes.old ≡ length program.now.ports }
     requires channels { AreChannels program.now channels.now }
-    ensures { IsTrue result → (u : List TheRow) (count : ℕ) (start : TheComing) → slice_get u count ≡ Some row → AreCarried program.now u row.tag count start coming.old writes.old → AreCarried program.now u row.tag (count + 1) start coming.new writes.new }
+    ensures { IsTrue result → (u : List TheRow) (count : ℕ) (start : TheComing) → slice_get u count ≡ Some row → AreCarried program.now u row.tag last count start coming.old writes.old → AreCarried program.now u row.tag last (count + 1) start coming.new writes.new }
 {
     let Some((port, _)) = written_port(&row.step) else {
         return true;
@@ -92,11 +94,19 @@ fn carry_row(
     let Some(value) = writes.take(row.tag, port) else {
         return true;
     };
-    carry(coming, program, channels.of(port), port, row.tag, value)
+    carry(
+        coming,
+        program,
+        channels.of(port),
+        port,
+        row.tag,
+        value,
+        last,
+    )
 }
 
-/// Puts in what the last writes of the rows, which are all at the tag, carry to the ports behind delays.
-/// It is false where two events meet, or memory is refused.
+/// Puts in what the last writes of the rows, which are all at the tag, carry to the ports behind delays, up
+/// to the stop. It is false where two events meet, or memory is refused.
 pub(crate) fn carry_all(
     coming: &mut Coming,
     writes: &mut Writes,
@@ -104,16 +114,17 @@ pub(crate) fn carry_all(
     program: &Program,
     rows: &[Row],
     tag: Tag,
+    last: Tag,
 ) -> bool
     requires fit { RowsFit program.now rows.now }
     requires at { AreAt rows.now tag }
     requires channels { AreChannels program.now channels.now }
     requires writes { AreWrites program.now rows.now tag writes.old }
     ensures earlier { IsTrue result → AreEarlier program.now (after tag 0) writes.new }
-    ensures carried { IsTrue result → (events : List TheEvent) (h : TheTag) (n : TheName) → Before tag h → to_come events coming.new h n ≡ to_come events coming.old h n ++ held (carried_by program.now rows.now tag n) h }
+    ensures carried { IsTrue result → (events : List TheEvent) (h : TheTag) (n : TheName) → Before tag h → UpTo h last → to_come events coming.new h n ≡ to_come events coming.old h n ++ held (carried_by program.now rows.now tag n) h }
 {
     for place in 0..rows.len() {
-        if !carry_row(coming, writes, channels, program, row_at(rows, place)) {
+        if !carry_row(coming, writes, channels, program, row_at(rows, place), last) {
             return false;
         }
     }

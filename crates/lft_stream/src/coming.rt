@@ -1,12 +1,12 @@
 //! The events to come.
 
-ghost use Rattle.std.specs.Prelude.{◌≡◌, ◌↔◌, ◌⊎◌, [], List, Some, None, IsSome, IsTrue, Contains};
+ghost use Rattle.std.specs.Prelude.{◌≡◌, ◌↔◌, ◌⊎◌, ◌++◌, [], List, Some, None, IsSome, IsTrue, Contains};
 ghost use Rattle.lft_tag.specs.declared.Tag.{Tag as TheTag};
-ghost use Rattle.lft_tag.specs.Tags.{Before};
+ghost use Rattle.lft_tag.specs.Tags.{Before, UpTo};
 ghost use Rattle.lft_flat.specs.declared.parts.Name.{Name as TheName};
 ghost use Rattle.lft_trace.specs.declared.externals.Event.{Event as TheEvent};
 ghost use Rattle.lft_queue.specs.Pending.{value_of, Becomes};
-ghost use Rattle.lft_stream.specs.Coming.{to_come, AreBrought, ArePassed, IsReached, AreOver};
+ghost use Rattle.lft_stream.specs.Coming.{put_at, to_come, AreBrought, ArePassed, IsReached, AreOver};
 ghost use Rattle.lft_stream.specs.Listeners.{IsUnheard};
 
 use crate::listeners::Listeners;
@@ -38,7 +38,7 @@ impl Coming {
 
     /// Puts an event in. It is false where the name has an event at the tag already, or memory is
     /// refused.
-    pub(crate) fn put(&mut self, tag: Tag, name: Name, value: Value) -> bool
+    fn put(&mut self, tag: Tag, name: Name, value: Value) -> bool
         ensures next { self.new.next ≡ self.old.next }
         ensures absent { IsTrue result → value_of tag name self.old.queue ≡ None }
         ensures put { IsTrue result → Becomes self.old.queue self.new.queue tag name (Some value) }
@@ -47,6 +47,17 @@ impl Coming {
             Ok(()) => true,
             Err(_) => false,
         }
+    }
+
+    /// Puts an event in, where it is up to the stop: behind that nobody waits for one. It is false where
+    /// the name has an event at the tag already, or memory is refused.
+    pub(crate) fn put_until(&mut self, last: Tag, tag: Tag, name: Name, value: Value) -> bool
+        ensures { IsTrue result → (events : List TheEvent) (h : TheTag) (n : TheName) → UpTo h last → to_come events self.new h n ≡ to_come events self.old h n ++ put_at tag name value h n }
+    {
+        if last.is_before(tag) {
+            return true;
+        }
+        self.put(tag, name, value)
     }
 
     /// Puts the external events up to the tag into the queue. It is false where one meets an event of

@@ -5,7 +5,7 @@ ghost use Rattle.lft_tag.specs.declared.Tag.{Tag as TheTag};
 ghost use Rattle.lft_flat.specs.declared.parts.Name.{Name as TheName};
 ghost use Rattle.lft_trace.specs.declared.externals.Event.{Event as TheEvent};
 ghost use Rattle.lft_trace.specs.Fits.{RowFits, RowsFit};
-ghost use Rattle.lft_tag.specs.Tags.{Before, after};
+ghost use Rattle.lft_tag.specs.Tags.{Before, UpTo, after};
 ghost use Rattle.lft_stream.specs.Channels.{AreChannels, caused_by};
 ghost use Rattle.lft_stream.specs.Coming.{to_come, scheduled_by};
 ghost use Rattle.lft_stream.specs.Lanes.{held};
@@ -21,17 +21,17 @@ use lft_model::Plan;
 use lft_tag::Tag;
 use lft_trace::{Row, Step, row_at};
 
-/// Puts the event in that the row schedules, if it schedules one. It is false where two events meet, or
-/// memory is refused.
-fn schedule(coming: &mut Coming, plan: &Plan, row: Row) -> bool
+/// Puts the event in that the row schedules up to the stop, if it schedules one. It is false where two
+/// events meet, or memory is refused.
+fn schedule(coming: &mut Coming, plan: &Plan, row: Row, last: Tag) -> bool
     requires { RowFits plan.now.program row }
-    ensures { IsTrue result → (events : List TheEvent) (h : TheTag) (n : TheName) → to_come events coming.new h n ≡ to_come events coming.old h n ++ held (scheduled_by plan.now (row ∷ []) n) h }
+    ensures { IsTrue result → (events : List TheEvent) (h : TheTag) (n : TheName) → UpTo h last → to_come events coming.new h n ≡ to_come events coming.old h n ++ held (scheduled_by plan.now (row ∷ []) n) h }
 {
     match row.step {
         Step::Schedule(Name::Action(number), value, delay) => {
             let min_delay = plan.program().action(number).min_delay;
             let tag = row.tag.after(min_delay, delay);
-            coming.put(tag, Name::Action(number), value)
+            coming.put_until(last, tag, Name::Action(number), value)
         }
         Step::Schedule(Name::Port(_), _, _) => true,
         Step::Start => true,
@@ -42,22 +42,23 @@ fn schedule(coming: &mut Coming, plan: &Plan, row: Row) -> bool
     }
 }
 
-/// Puts the events in that the rows schedule. It is false where two events meet, or memory is refused.
-fn schedule_all(coming: &mut Coming, plan: &Plan, rows: &[Row]) -> bool
+/// Puts the events in that the rows schedule up to the stop. It is false where two events meet, or memory
+/// is refused.
+fn schedule_all(coming: &mut Coming, plan: &Plan, rows: &[Row], last: Tag) -> bool
     requires { RowsFit plan.now.program rows.now }
-    ensures { IsTrue result → (events : List TheEvent) (h : TheTag) (n : TheName) → to_come events coming.new h n ≡ to_come events coming.old h n ++ held (scheduled_by plan.now rows.now n) h }
+    ensures { IsTrue result → (events : List TheEvent) (h : TheTag) (n : TheName) → UpTo h last → to_come events coming.new h n ≡ to_come events coming.old h n ++ held (scheduled_by plan.now rows.now n) h }
 {
     for place in 0..rows.len() {
-        if !schedule(coming, plan, row_at(rows, place)) {
+        if !schedule(coming, plan, row_at(rows, place), last) {
             return false;
         }
     }
     true
 }
 
-/// Puts in what the rows, which are all at the tag, cause later: the events that they schedule, and what
-/// their last writes carry to the ports behind delays. It is false where two events meet, or memory is
-/// refused.
+/// Puts in what the rows, which are all at the tag, cause later and up to the stop: the events that they
+/// schedule, and what their last writes carry to the ports behind delays. It is false where two events
+/// meet, or memory is refused.
 pub(crate) fn pass_on(
     coming: &mut Coming,
     writes: &mut Writes,
@@ -65,14 +66,15 @@ pub(crate) fn pass_on(
     plan: &Plan,
     rows: &[Row],
     tag: Tag,
+    last: Tag,
 ) -> bool
     requires fit { RowsFit plan.now.program rows.now }
     requires at { AreAt rows.now tag }
     requires channels { AreChannels plan.now.program channels.now }
     requires writes { AreWrites plan.now.program rows.now tag writes.old }
     ensures earlier { IsTrue result → AreEarlier plan.now.program (after tag 0) writes.new }
-    ensures caused { IsTrue result → (events : List TheEvent) (h : TheTag) (n : TheName) → Before tag h → to_come events coming.new h n ≡ to_come events coming.old h n ++ held (caused_by plan.now rows.now tag n) h }
+    ensures caused { IsTrue result → (events : List TheEvent) (h : TheTag) (n : TheName) → Before tag h → UpTo h last → to_come events coming.new h n ≡ to_come events coming.old h n ++ held (caused_by plan.now rows.now tag n) h }
 {
-    schedule_all(coming, plan, rows)
-        && carry_all(coming, writes, channels, plan.program(), rows, tag)
+    schedule_all(coming, plan, rows, last)
+        && carry_all(coming, writes, channels, plan.program(), rows, tag, last)
 }

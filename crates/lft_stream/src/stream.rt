@@ -7,7 +7,6 @@ ghost use Rattle.lft_graph.specs.Sets.{AreAncestors};
 ghost use Rattle.lft_tag.specs.Tags.{UpTo, earliest};
 ghost use Rattle.lft_model.specs.Presence.{stop, requests, Triggered};
 ghost use Rattle.lft_model.specs.Runs.{Ran};
-ghost use Rattle.lft_rows.specs.Firsts.{FirstRow};
 ghost use Rattle.lft_rows.specs.Marks.{AreMarks, AreBefore as HaveMarksTo};
 ghost use Rattle.lft_by_tag.specs.Slices.{IsSlice, Rises, runs_in};
 ghost use Rattle.lft_check.specs.Verdicts.{IsAccepted};
@@ -312,6 +311,7 @@ impl Stream {
             plan,
             own,
             slice.tag,
+            self.stop,
         ) && self.count(slice.tag, starts_in(own))
     }
 

@@ -1,5 +1,6 @@
 use Rattle.std.proofs.Common.{◌≡◌, ◌++◌, List, take, filter_map}
 use Rattle.lft_tag.specs.declared.Tag.{Tag}
+use Rattle.lft_tag.specs.Tags.{UpTo}
 use Rattle.lft_flat.specs.declared.parts.Name.{Name}
 use Rattle.lft_trace.specs.declared.externals.Event.{Event}
 use Rattle.lft_stream.specs.Channels.{arrival}
@@ -7,4 +8,4 @@ use Rattle.lft_stream.specs.Coming.{to_come}
 use Rattle.lft_stream.proofs.channels.carry.Given as goal
 
 abbrev pub invariant-loop-place : goal.invariant-loop-place
-invariant-loop-place l = (events : List Event) (h : Tag) (n : Name) → to_come events l.coming h n ≡ to_come events l.fn.coming h n ++ filter_map (arrival l.program l.origin l.tag l.value h n) (take l.place l.targets)
+invariant-loop-place l = (events : List Event) (h : Tag) (n : Name) → UpTo h l.last → to_come events l.coming h n ≡ to_come events l.fn.coming h n ++ filter_map (arrival l.program l.origin l.tag l.value h n) (take l.place l.targets)

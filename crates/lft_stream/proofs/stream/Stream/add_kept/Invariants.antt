@@ -1,4 +1,4 @@
-use Rattle.std.proofs.Common.{◌≡◌, ◌++◌, ◌-◌, ◌≤◌, take, length}
+use Rattle.std.proofs.Common.{◌++◌, ◌-◌, ◌≤◌, take, length}
 use Rattle.std.specs.Prelude.{IfSome}
 use Rattle.lft_graph.specs.Sets.{AreAncestors}
 use Rattle.lft_rows.specs.Marks.{AreBefore}

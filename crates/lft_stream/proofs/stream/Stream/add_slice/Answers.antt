@@ -1,5 +1,6 @@
 use Rattle.std.proofs.Common.{ℕ, ◌+◌, ◌++◌, List, Option, ◌∙◌, ap, refl, sym, subst}
-use Rattle.lft_tag.specs.Tags.{after}
+use Rattle.lft_tag.specs.declared.Tag.{Tag}
+use Rattle.lft_tag.specs.Tags.{UpTo, after}
 use Rattle.lft_flat.specs.Parts.{Parts}
 use Rattle.lft_flat.specs.declared.parts.Value.{Value}
 use Rattle.lft_trace.specs.Inputs.{ExternalInputs}
@@ -21,7 +22,7 @@ judge_slice-requires g c =
     let s = c.args.slice in
     let slice = c.requires.1.1.0 in
     let reached = subst (λ (x : ExternalInputs). IsReached x.events c.args.self.now.listeners s.tag c.args.self.now.coming c.reach.new.self) c.externals.ensures.value (c.if-not-reach.ensures refl) in
-    let hand = at_hand plan g.done rows s slice c.args.self.now c.requires.1.1.1.1.0 (c.if-not-may_reach.ensures.later refl) (c.if-not-may_reach.ensures.in_time refl) c.requires.1.0 c.program-program.ensures.sound.sound (record { stop = c.stop_behind.result; tag = c.args.self.now.tag; runs = c.args.self.now.runs; tags = c.args.self.now.tags; dues = c.args.self.now.dues; starts = c.args.self.now.starts; writes = c.args.self.now.writes; listeners = c.args.self.now.listeners; channels = c.args.self.now.channels; coming = c.reach.new.self; effort = c.allows.new.self }) reached c.stop_behind.ensures refl refl refl refl in
+    let hand = at_hand plan g.done rows s slice c.args.self.now c.requires.1.1.1.1.0 (c.if-not-may_reach.ensures.later refl) (c.if-not-may_reach.ensures.in_time refl) c.requires.1.0 c.program-program.ensures.sound.sound (record { stop = c.stop_behind-self.result; tag = c.args.self.now.tag; runs = c.args.self.now.runs; tags = c.args.self.now.tags; dues = c.args.self.now.dues; starts = c.args.self.now.starts; writes = c.args.self.now.writes; listeners = c.args.self.now.listeners; channels = c.args.self.now.channels; coming = c.reach.new.self; effort = c.allows.new.self }) reached c.stop_behind-self.ensures refl refl refl refl in
     (c.requires.0, (slice, (subst (λ (p : Parts). AreMarks p rows s.first s.end c.pass_all.new.self) c.program-program.ensures.value c.pass_all.ensures, hand)))
 
 pub pass_on-requires-clause-fit : goal.pass_on-requires-clause-fit
@@ -52,4 +53,4 @@ returns-then-pass_on-clause-stands g c = λ z.
     let runs = counted.runs z ∙ ap (λ (n : ℕ). n + c.starts_in.result) own.runs ∙ ap (λ (n : ℕ). old.runs + n) c.starts_in.ensures in
     let tags = counted.tags z ∙ ap (λ (n : ℕ). n + 1) own.tags in
     let writes = subst (λ (ws : List (Option Written)). AreEarlier plan.program (after s.tag 0) ws) (sym counted.writes) (caused.earlier refl) in
-    slice_grows plan g.done rows s slice old stands later reach kept c.program-program.ensures.sound.sound c.reach.new.self reached ordered judged c.count.new.self (c.if-not-judge_slice.ensures.judged refl) own.coming own.listeners (counted.stop ∙ own.stop ∙ c.stop_behind.ensures) (counted.tag z) runs tags counted.dues counted.starts writes counted.listeners (counted.channels ∙ own.channels) (λ h n b. ap (λ (k : Coming). to_come events k h n) counted.coming ∙ caused.caused refl events h n b ∙ ap (λ (vs : List Value). vs ++ held (caused_by plan (rows_of rows s slice) s.tag n) h) (c.drop_until.ensures events h n b ∙ ap (λ (k : Coming). to_come events k h n) own.coming))
+    slice_grows plan g.done rows s slice old stands later reach kept c.program-program.ensures.sound.sound c.reach.new.self reached ordered judged c.count.new.self (c.if-not-judge_slice.ensures.judged refl) own.coming own.listeners (counted.stop ∙ own.stop ∙ c.stop_behind-self.ensures) (counted.tag z) runs tags counted.dues counted.starts writes counted.listeners (counted.channels ∙ own.channels) (λ h n b up. ap (λ (k : Coming). to_come events k h n) counted.coming ∙ caused.caused refl events h n b (subst (λ (k : Tag). UpTo h k) counted.stop up) ∙ ap (λ (vs : List Value). vs ++ held (caused_by plan (rows_of rows s slice) s.tag n) h) (c.drop_until.ensures events h n b ∙ ap (λ (k : Coming). to_come events k h n) own.coming))
