@@ -17,6 +17,13 @@ const TOGETHER: usize = 32_768;
 /// For each reaction so many: whoever takes rows together looks at the whole program first.
 const FOR_EACH_REACTION: usize = 32;
 
+/// How many rows of a program are to be taken together.
+pub(crate) fn rows_together(plan: &Plan) -> usize
+    ensures { 0 < result }
+{
+    TOGETHER.max(plan.program().reactions().saturating_mul(FOR_EACH_REACTION))
+}
+
 /// Where the rows end that are taken together from the first on: behind a whole tag.
 fn end_of_part(rows: &[Row], first: usize, together: usize) -> usize
     requires first { first < length rows.now }
@@ -60,8 +67,7 @@ pub fn accepts_rows(alloc: Global, plan: &Plan, rows: &Rows) -> Option<Counts>
     let Ok(mut stream) = Stream::new(alloc, plan) else {
         return None;
     };
-    let reactions = plan.program().reactions();
-    let together = TOGETHER.max(reactions.saturating_mul(FOR_EACH_REACTION));
+    let together = rows_together(plan);
     let mut first = 0;
     while first < rows.len() {
         let end = end_of_part(rows, first, together);
