@@ -4,12 +4,14 @@
 //! - `judge`: of the rows of a trace table under its header, the verdict by the given program and
 //!   external inputs. A number beside the word is that of the workers. Where none stands there, the
 //!   trace is judged by the call that starts no thread, and by 1, 2, 3 and 64 workers; what these say
-//!   is written only where it is something else.
+//!   is written only where it is something else. A last line says so where an accepted trace is known
+//!   to be legal by the checker alone, and not by going through it tag by tag.
 //! - `judge-text`: the same of a whole table.
 //! - `bundle`: of a text, the three texts that it bundles.
 //!
 //! A line that tells the status is written at the end.
 
+use crate::accepting::is_known;
 use crate::given::{CaseTexts, trace_table};
 use lft_check::Verdict;
 use lft_front::{
@@ -81,6 +83,9 @@ pub(crate) fn judge_text<R: Threads + Sync>(
             writeln!(told, "by {number} workers:")?;
             told.write_all(others.as_slice())?;
         }
+    }
+    if lines.as_slice().starts_with(b"accepted") && !is_known(alloc, given, trace) {
+        writeln!(told, "by the checker alone")?;
     }
     Ok(())
 }
