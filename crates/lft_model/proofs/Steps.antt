@@ -215,4 +215,3 @@ module _ (program : Parts) (t : List Row) (h : Tag) (c : ℕ) (reads : List (Opt
       let w : Mem (Schedule (Action a) v d) (schedule_steps (Action a, outcome_of st (Action a))) = mem_map (λ (y : ℕ × Value). Schedule (Action a) y.1 y.0) (d, v) (filter_map (value_scheduled a) st) e in
       let u : Mem (Schedule (Action a) v d) (flat_map schedule_steps (zip eff (map (outcome_of st) eff))) = mem_flat schedule_steps (Action a, outcome_of st (Action a)) (Schedule (Action a) v d) (zip eff (map (outcome_of st) eff)) y w in
       mem_left (Schedule (Action a) v d) (read_part ++ write_part ++ schedule_part) (closing_steps (request_of (steps_of t h c))) (mem_right (Schedule (Action a) v d) (read_part ++ write_part) schedule_part u)
-
