@@ -32,11 +32,10 @@ impl NextNames {
     pub(crate) fn guess(self, program: &Program, reaction: u32, kind: RowKind) -> Option<Name>
         requires { reaction < length program.now.reactions }
     {
-        let reaction = program.reaction(reaction);
         match kind {
-            RowKind::Read => input_at(reaction, self.input),
-            RowKind::Write => effect_at(reaction, self.effect),
-            RowKind::Schedule => effect_at(reaction, self.effect),
+            RowKind::Read => input_at(program.reaction(reaction), self.input),
+            RowKind::Write => effect_at(program.reaction(reaction), self.effect),
+            RowKind::Schedule => effect_at(program.reaction(reaction), self.effect),
             RowKind::Start => None,
             RowKind::Stop => None,
             RowKind::End => None,
@@ -47,12 +46,11 @@ impl NextNames {
     pub(crate) fn after(self, program: &Program, row: Row) -> NextNames
         requires { row.reaction < length program.now.reactions }
     {
-        let reaction = program.reaction(row.reaction);
         match row.step {
             Step::Start => NextNames::first(),
-            Step::Read(name, _) => self.after_input(reaction, name),
-            Step::Write(name, _) => self.after_effect(reaction, name),
-            Step::Schedule(name, _, _) => self.after_effect(reaction, name),
+            Step::Read(name, _) => self.after_input(program.reaction(row.reaction), name),
+            Step::Write(name, _) => self.after_effect(program.reaction(row.reaction), name),
+            Step::Schedule(name, _, _) => self.after_effect(program.reaction(row.reaction), name),
             Step::Stop => self,
             Step::End => self,
         }
