@@ -1,3 +1,4 @@
 pub mod Findings
 pub mod Members
+pub mod Shown
 pub mod Witnesses
