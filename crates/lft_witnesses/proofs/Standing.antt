@@ -1,6 +1,5 @@
 -- Where names of one role stand in a reactor, by their places among all of that role.
-use Rattle.std.proofs.Common.{◌≡◌, ◌≢◌, ℕ, zero, suc, ◌+◌, ◌<◌, ◌≤◌, List, [], ◌∷◌, ◌++◌, flat_map, filter_map, take, length, slice_get, Option, Some, None, IsSomeAnd, ◌⊎◌, inl, inr, zero-add, length-append, refl, sym, ap, subst, ◌∙◌, arith}
-use Rattle.std.proofs.lemmas.Option.{slice_get_within}
+use Rattle.std.proofs.Common.{◌≡◌, ◌≢◌, ℕ, zero, suc, ◌+◌, ◌<◌, List, [], ◌∷◌, ◌++◌, flat_map, filter_map, take, length, slice_get, Some, IsSomeAnd, inl, inr, zero-add, length-append, refl, sym, ap, subst, ◌∙◌, arith}
 use Rattle.lft_tree.specs.Tree.{ReactorTree, MemberTree, RefTree, PortMember, TimerMember, ActionMember, StateMember, PreambleMember, ReactionMember, InstanceMember, ConnectionMember, connection_in, reaction_in}
 use Rattle.lft_scope.specs.Kinds.{destinations_in, effects_in}
 use Rattle.lft_scope.specs.declared.kinds.Role.{Role}

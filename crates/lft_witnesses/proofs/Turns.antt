@@ -1,7 +1,5 @@
 -- What an answer says that found something, or found none.
-use Rattle.std.proofs.Common.{◌≡◌, ℕ, zero, suc, ◌+◌, ◌<◌, ◌≤◌, ◌⊎◌, inl, inr, ⊎_elim, List, [], ◌∷◌, Option, Some, None, Result, Ok, Err, IfOk, IfNone, IfSome, IsSomeAnd, Any, length, map, take, get_or, slice_get, sym, ap, subst, arith}
-use Rattle.std.proofs.lemmas.Bool.{cases_lt}
-use Rattle.std.proofs.lemmas.Option.{slice_get_within}
+use Rattle.std.proofs.Common.{◌≡◌, ℕ, zero, suc, ◌<◌, ◌≤◌, List, [], ◌∷◌, Option, Some, None, Result, Ok, Err, IfOk, IfNone, IfSome, IsSomeAnd, Any, length, map, get_or, slice_get, sym, ap, subst, arith}
 use Rattle.lft_scope.proofs.Twice.{at-Any}
 
 -- what is seen of the item at a place
@@ -38,6 +36,10 @@ lacking P (Some x) p e = absurd (cc)
 pub weaker : {X E : Type 0} (P Q : X → Type 0) (r : Result X E) → ((x : X) → P x → Q x) → IfOk r P → IfOk r Q
 weaker P Q (Ok x) follows p = follows x p
 weaker P Q (Err e) follows p = p
+
+pub some_weaker : {X : Type 0} (P Q : X → Type 0) (o : Option X) → ((x : X) → P x → Q x) → IfSome o P → IfSome o Q
+some_weaker P Q None follows p = p
+some_weaker P Q (Some x) follows p = follows x p
 
 pub none_weaker : {X : Type 0} (P Q : Type 0) (o : Option X) → (P → Q) → IfNone o P → IfNone o Q
 none_weaker P Q None follows p = follows p

@@ -1,5 +1,5 @@
 -- Two main reactors, by their places.
-use Rattle.std.proofs.Common.{◌≡◌, ℕ, zero, suc, ◌<◌, Bool, true, false, cond, List, [], ◌∷◌, length, Some, IsSomeAnd, slice_get, refl, arith}
+use Rattle.std.proofs.Common.{◌≡◌, ℕ, zero, suc, ◌<◌, Bool, true, false, cond, List, [], ◌∷◌, length, refl, arith}
 use Rattle.lft_tree.specs.Tree.{ReactorTree}
 use Rattle.lft_scope.specs.Causes.{TwoMains, mains}
 use Rattle.lft_witnesses.specs.Witnesses.{IsMainAt}

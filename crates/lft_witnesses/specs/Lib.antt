@@ -1,3 +1,4 @@
+pub mod Circles
 pub mod Findings
 pub mod Members
 pub mod Shown

@@ -1,4 +1,4 @@
-use Rattle.std.proofs.Common.{◌≡◌, ◌<◌, true, inl, inr, length, sym, subst, arith}
+use Rattle.std.proofs.Common.{◌≡◌, true, inl, inr, length, sym, subst, arith}
 use Rattle.std.proofs.lemmas.Bool.{cases_lt}
 use Rattle.lft_tree.specs.View.{reactor_view}
 use Rattle.lft_scope.specs.References.{reactor_trees}

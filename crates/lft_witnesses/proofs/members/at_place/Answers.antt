@@ -1,4 +1,4 @@
-use Rattle.std.proofs.Common.{◌≡◌, List, IfNone, IsSomeAnd, slice_get, sym, subst}
+use Rattle.std.proofs.Common.{List, IfNone, IsSomeAnd, slice_get, sym}
 use Rattle.lft_tree.specs.Tree.{ReactorTree}
 use Rattle.lft_tree.specs.View.{member_view, reactor_view}
 use Rattle.lft_scope.specs.Tables.{IsFile, IsOwn}

@@ -1,7 +1,7 @@
 use Rattle.std.proofs.Common.{rules, Any, IsSomeAnd, slice_get, sym, subst}
 use Rattle.lft_tree.specs.View.{reactor_view}
 use Rattle.lft_scope.specs.References.{reactor_trees}
-use Rattle.lft_scope.proofs.Somes.{Any-nil, none_more, none_done}
+use Rattle.lft_scope.proofs.Somes.{none_more, none_done}
 use Rattle.lft_witnesses.specs.Shown.{ShowsCause}
 use Rattle.lft_witnesses.specs.Witnesses.{HasFinding}
 use Rattle.lft_witnesses.proofs.Turns.{found, lacking, view_at}

@@ -1,4 +1,4 @@
-use Rattle.std.proofs.Common.{◌≡◌, ◌<◌, inl, inr, length, IsSomeAnd, slice_get, subst, arith}
+use Rattle.std.proofs.Common.{◌≡◌, inl, inr, length, IsSomeAnd, slice_get, subst, arith}
 use Rattle.std.proofs.lemmas.Bool.{cases_lt}
 use Rattle.lft_tree.specs.View.{member_view, reactor_view}
 use Rattle.lft_witnesses.specs.Shown.{ShowsCause}

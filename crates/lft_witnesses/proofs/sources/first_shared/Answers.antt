@@ -1,4 +1,4 @@
-use Rattle.std.proofs.Common.{◌≡◌, Any, Contains, sym, ap, subst, ◌∙◌, false, Some, None}
+use Rattle.std.proofs.Common.{◌≡◌, Contains, sym, ◌∙◌, false}
 use Rattle.lft_tree.specs.View.{ref_view}
 use Rattle.lft_causes.specs.Seen.{has_seen}
 use Rattle.lft_scope.specs.References.{ref_trees}

@@ -1,7 +1,6 @@
 use Rattle.std.proofs.Common.{◌≡◌, ◌+◌, ◌-◌, ◌<◌, length, flat_map, take, sym, ap, ◌∙◌, arith}
 use Rattle.std.proofs.lemmas.List.{length-map}
 use Rattle.lft_tree.specs.View.{member_view, ref_view, reactor_view}
-use Rattle.lft_scope.specs.References.{ref_trees}
 use Rattle.lft_witnesses.specs.Members.{names_of}
 use Rattle.lft_witnesses.proofs.Standing.{flat_next}
 use Rattle.lft_witnesses.proofs.Turns.{view_at}

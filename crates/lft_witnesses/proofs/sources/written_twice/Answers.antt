@@ -1,6 +1,6 @@
 use Rattle.std.proofs.Common.{◌≡◌, Any, Contains, ⊎_elim, sym, ap, subst, ◌∙◌}
 use Rattle.lft_tree.specs.View.{reactor_view}
-use Rattle.lft_scope.specs.Causes.{IsTwice, WritesTwice}
+use Rattle.lft_scope.specs.Causes.{IsTwice}
 use Rattle.lft_scope.specs.Kinds.{destinations_in, effects_in}
 use Rattle.lft_scope.specs.References.{ref_trees}
 use Rattle.lft_witnesses.proofs.Standing.{all_destinations, all_effects}

@@ -1,4 +1,4 @@
-use Rattle.std.proofs.Common.{◌⊎◌, ⊎_elim, IsSomeAnd}
+use Rattle.std.proofs.Common.{⊎_elim, IsSomeAnd}
 use Rattle.lft_tree.specs.Tree.{MemberTree, ReactionMember, reaction_in}
 use Rattle.lft_tree.specs.View.{member_view}
 use Rattle.lft_scope.specs.Causes.{IsTwice, NamesTwice}

@@ -1,4 +1,4 @@
-use Rattle.std.proofs.Common.{◌≡◌, ℕ, ◌<◌, List, Some, Any, slice_get, take}
+use Rattle.std.proofs.Common.{◌≡◌, ℕ, List, Some, Any, slice_get, take}
 use Rattle.lft_scope.specs.Tests.{texts}
 use Rattle.lft_witnesses.proofs.twice.text_before.Given as goal
 

@@ -1,4 +1,4 @@
-use Rattle.std.proofs.Common.{◌≡◌, List, None, Any, IfNone, IsSomeAnd, ⊎_elim}
+use Rattle.std.proofs.Common.{List, Any, IfNone, IsSomeAnd, ⊎_elim}
 use Rattle.lft_tree.specs.Tree.{ReactorTree, instance_in}
 use Rattle.lft_tree.specs.View.{member_view}
 use Rattle.lft_scope.specs.Causes.{GivesUnknown, IsUnknownTime}

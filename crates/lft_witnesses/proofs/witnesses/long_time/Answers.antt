@@ -1,5 +1,4 @@
-use Rattle.std.proofs.Common.{◌<◌, Any, ⊎_elim}
-use Rattle.lft_tree.specs.Tree.{nanoseconds}
+use Rattle.std.proofs.Common.{Any, ⊎_elim}
 use Rattle.lft_scope.specs.References.{reactor_trees}
 use Rattle.lft_scope.specs.Causes.{HasLongTime}
 use Rattle.lft_witnesses.specs.Shown.{SomeShows}
