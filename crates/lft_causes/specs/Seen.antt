@@ -1,4 +1,4 @@
--- The names that were met. The contracts of the crate's own functions alone need this file.
+-- The names that were met.
 use Rattle.std.specs.Prelude.{◌&&◌, ℕ, Bool, false, List, Option, Some, None, bytes_eq}
 use Rattle.std.specs.HashSet.{contains_by}
 use Rattle.lft_tree.specs.Tree.{RefTree}

@@ -9,7 +9,7 @@ mod long_times;
 mod mains;
 mod no_triggers;
 mod references;
-mod seen;
+pub mod seen;
 mod two_sources;
 mod unknown_names;
 mod unknown_reactors;

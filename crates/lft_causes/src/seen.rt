@@ -13,14 +13,14 @@ use std::collections::HashSet;
 /// The names that were met so far: those of the reactor's own things, and those of ports of
 /// contained instances.
 #[derive(Drop)]
-pub(crate) struct SeenNames<'a> {
+pub struct SeenNames<'a> {
     own: HashSet<&'a str>,
     inner: HashSet<(&'a str, &'a str)>,
 }
 
 impl<'a> SeenNames<'a> {
     /// None was met.
-    pub(crate) fn new(alloc: Global) -> SeenNames<'a>
+    pub fn new(alloc: Global) -> SeenNames<'a>
         ensures { (q : RefTree) → has_seen result q ≡ false }
     {
         SeenNames {
@@ -30,7 +30,7 @@ impl<'a> SeenNames<'a> {
     }
 
     /// Whether the name was met.
-    pub(crate) fn has(&self, reference: &Reference) -> bool
+    pub fn has(&self, reference: &Reference) -> bool
         ensures { result ≡ has_seen self.now (ref_view reference.now) }
     {
         match &reference.port {
@@ -42,7 +42,7 @@ impl<'a> SeenNames<'a> {
     }
 
     /// Notes the name; false where it was met before.
-    pub(crate) fn add(&mut self, reference: &'a Reference) -> Result<bool, NoMemory>
+    pub fn add(&mut self, reference: &'a Reference) -> Result<bool, NoMemory>
         ensures new { IfOk result (λ new. new ≡ not (has_seen self.old (ref_view reference.now))) }
         ensures added { OnOk result ((q : RefTree) → has_seen self.new q ≡ cond (same_ref (ref_view reference.now) q) true (has_seen self.old q)) }
     {

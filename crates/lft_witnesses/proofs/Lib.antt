@@ -1,1 +1,10 @@
+pub mod Causes
 pub mod Circles
+pub mod Covered
+pub mod DeclaredNames
+pub mod Founding
+pub mod Roles
+pub mod Searching
+pub mod Standing
+pub mod Turns
+pub mod TwoMains

@@ -1,3 +1,5 @@
+pub mod Circles
 pub mod Findings
 pub mod Members
+pub mod Shown
 pub mod Witnesses

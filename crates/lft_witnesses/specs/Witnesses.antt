@@ -1,6 +1,6 @@
 -- What each witness shows of the reactors of a file.
-use Rattle.std.specs.Prelude.{◌≡◌, ◌≢◌, ℕ, ◌+◌, ◌<◌, ◌⊎◌, List, Some, true, length, slice_get, filter_map, IsSomeAnd}
-use Rattle.lft_tree.specs.Tree.{ReactorTree, RefTree, nanoseconds}
+use Rattle.std.specs.Prelude.{◌≡◌, ◌≢◌, ℕ, ◌+◌, ◌<◌, ◌⊎◌, List, Some, true, length, slice_get, filter_map, flat_map, take, IsSomeAnd}
+use Rattle.lft_tree.specs.Tree.{ReactorTree, MemberTree, RefTree, nanoseconds}
 use Rattle.lft_scope.specs.Causes.{Holds, longest}
 use Rattle.lft_scope.specs.declared.kinds.Role.{Role}
 use Rattle.lft_scope.specs.declared.kinds.Role.TheVariants.{Effect, Destination}
@@ -19,6 +19,18 @@ HasFinding reactors r n f = IsSomeAnd (slice_get r.members n) (λ m. IsFinding r
 abbrev pub IsNamedAt : ReactorTree → Naming → RefTree → Type 0
 IsNamedAt r place name = IsSomeAnd (slice_get r.members place.member) (λ m. slice_get (names_of place.role m) place.name ≡ Some name)
 
+-- the name at that place among those that have the role in the reactor stands there
+pub record IsPlaceOf (r : ReactorTree) (role : Role) (place : ℕ) (n : Naming) : Type 0 where
+  pub is_role : n.role ≡ role
+  pub member : MemberTree
+  pub is_member : slice_get r.members n.member ≡ Some member
+  pub within : n.name < length (names_of role member)
+  pub at : length (flat_map (names_of role) (take n.member r.members)) + n.name ≡ place
+
+-- one name stands at a place of the one list and at a place of the other
+abbrev pub IsSharedAt : List RefTree → ℕ → List RefTree → ℕ → Type 0
+IsSharedAt xs i ys j = (x : RefTree) × (slice_get xs i ≡ Some x) × (slice_get ys j ≡ Some x)
+
 -- what stands in this role is written: the end of a connection, or an effect of a reaction
 abbrev pub IsWriting : Role → Type 0
 IsWriting role = (role ≡ Destination) ⊎ (role ≡ Effect)
@@ -33,9 +45,13 @@ pub record IsWrittenTwice (r : ReactorTree) (first second : Naming) : Type 0 whe
   pub second_writes : IsWriting second.role
   pub connected : (first.role ≡ Destination) ⊎ (second.role ≡ Destination)
 
+-- the reactor with that place is a main one
+abbrev pub IsMainAt : List ReactorTree → ℕ → Type 0
+IsMainAt reactors n = IsSomeAnd (slice_get reactors n) (λ r. r.is_main ≡ true)
+
 -- what the witness shows of a file that has these reactors
 abbrev pub Shows : List ReactorTree → Witness → Type 0
-Shows reactors (witness.TwoMains first second) = (first < second) × IsSomeAnd (slice_get reactors first) (λ r. r.is_main ≡ true) × IsSomeAnd (slice_get reactors second) (λ r. r.is_main ≡ true)
+Shows reactors (witness.TwoMains first second) = (first < second) × IsMainAt reactors first × IsMainAt reactors second
 Shows reactors (witness.SameReactors first second) = IsTwiceAt (filter_map (λ r. r.name) reactors) first second
 Shows reactors (witness.DeclaredTwice reactor first second) = IsSomeAnd (slice_get reactors reactor) (λ r. IsTwiceAt (declarations r) first second)
 Shows reactors (witness.Member reactor member f) = IsSomeAnd (slice_get reactors reactor) (λ r. HasFinding reactors r member f)

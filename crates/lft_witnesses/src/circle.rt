@@ -1,12 +1,19 @@
 //! Reactors that contain one another in a circle.
+//!
+//! The search goes down from a reactor into what it contains. The path has the reactors that contain the
+//! last one.
 
-ghost use Rattle.std.specs.Prelude.{◌≡◌, List, Some, IfOk, IfSome, IsTrue, slice_get};
-ghost use Rattle.lft_tree.specs.Tree.{ReactorTree, reactors_of};
+ghost use Rattle.std.specs.Prelude.{◌≡◌, ◌≢◌, ◌≤◌, ◌<◌, ◌↔◌, ℕ, List, [], Some, IfOk, IfSome, IfNone, IsTrue, drop, length, map, slice_get};
+ghost use Rattle.lft_tree.specs.Tree.{reactors_of};
 ghost use Rattle.lft_tree.specs.View.{tree_view};
-ghost use Rattle.lft_scope.specs.Numbers.{AreContents};
-ghost use Rattle.lft_witnesses.specs.Witnesses.{Closes, HoldsAt, IsCircle, LeadsOn};
+ghost use Rattle.lft_instances.specs.Contents.{contained};
+ghost use Rattle.lft_scope.specs.Causes.{RecursiveReactor, UnknownReactor};
+ghost use Rattle.lft_witnesses.specs.Circles.{AllFounded, DoneBetween, IsDone, IsRound, IsSearched, IsVisitAt, KeepsNew, OnlyDone};
+ghost use Rattle.lft_witnesses.specs.Witnesses.{IsCircle};
+ghost use Rattle.lft_witnesses.specs.declared.circle.Stage.TheVariants.{New};
 
 use lft_instances::Contents;
+use lft_lists::item_at;
 use lft_scope::ReactorFault;
 use lft_scope::by_number::contents;
 use lft_tag::NoMemory;
@@ -28,190 +35,147 @@ struct Visit {
     next: usize,
 }
 
-/// The search goes down from a reactor into what it contains. The path has the reactors that contain the
-/// last one.
-#[derive(Drop)]
-struct Search<'a> {
-    contents: &'a [Contents],
-    stages: Vec<Stage>,
-    path: Vec<Visit>,
-}
-
-/// The reactor with that place among those that a reactor contains.
-fn contained(contents: &[Contents], reactor: usize, place: usize) -> Option<usize> {
-    if reactor < contents.len() && place < contents[reactor].instances.len() {
-        Some(contents[reactor].instances[place] as usize)
-    } else {
-        None
-    }
-}
-
-impl<'a> Search<'a> {
-    fn stage(&self, reactor: usize) -> Stage {
-        if reactor < self.stages.len() {
-            self.stages[reactor]
-        } else {
-            Stage::Done
-        }
-    }
-
-    fn set_stage(&mut self, reactor: usize, stage: Stage) {
-        if reactor < self.stages.len() {
-            self.stages[reactor] = stage;
-        }
-    }
-
-    /// Puts a reactor at the end of the path.
-    fn enter(&mut self, reactor: usize) -> Result<(), NoMemory> {
-        self.set_stage(reactor, Stage::Open);
-        self.path.push(Visit { reactor, next: 0 })?;
-        Ok(())
-    }
-
-    /// Goes one step on. The reactor that the path leads back to, if it does.
-    fn step(&mut self) -> Result<Option<usize>, NoMemory> {
-        let Some(visit) = self.path.pop() else {
-            return Ok(None);
-        };
-        let Some(inner) = contained(self.contents, visit.reactor, visit.next) else {
-            self.set_stage(visit.reactor, Stage::Done);
-            return Ok(None);
-        };
-        self.path.push(Visit {
-            reactor: visit.reactor,
-            next: visit.next.saturating_add(1),
-        })?;
-        match self.stage(inner) {
-            Stage::Open => return Ok(Some(inner)),
-            Stage::New => self.enter(inner)?,
-            Stage::Done => {}
-        }
-        Ok(None)
-    }
-
-    /// Goes on until the path leads back to a reactor on it, or is at its end.
-    fn run(&mut self, steps: usize) -> Result<Option<usize>, NoMemory> {
-        for _step in 0..steps {
-            if self.path.is_empty() {
-                return Ok(None);
-            }
-            let back = self.step()?;
-            if back.is_some() {
-                return Ok(back);
-            }
-        }
-        Ok(None)
-    }
-
-    /// The reactors of the path from that one on.
-    fn path_from(&self, alloc: Global, first: usize) -> Result<Vec<usize>, NoMemory> {
-        let mut found = Vec::new(alloc);
-        for visit in &self.path {
-            if visit.reactor == first || !found.is_empty() {
-                found.push(visit.reactor)?;
-            }
-        }
-        Ok(found)
-    }
-}
-
-/// A bound on the steps of the search: each reactor is entered and left once, and each instance looked at.
-fn most_steps(contents: &[Contents]) -> usize {
-    let mut steps: usize = 0;
-    for reactor in contents {
-        steps = steps.saturating_add(reactor.instances.len().saturating_add(2));
-    }
-    steps
-}
-
-/// Reactors of which each seems to contain the next, and the last the first. None if there are none.
-fn guessed(alloc: Global, contents: &[Contents]) -> Result<Vec<usize>, NoMemory> {
-    let mut stages = Vec::new(alloc);
-    for _reactor in contents {
-        stages.push(Stage::New)?;
-    }
-    let steps = most_steps(contents);
-    let mut search = Search {
-        contents,
-        stages,
-        path: Vec::new(alloc),
-    };
-    for reactor in 0..contents.len() {
-        if search.stage(reactor) == Stage::New {
-            search.enter(reactor)?;
-            if let Some(first) = search.run(steps)? {
-                return search.path_from(alloc, first);
-            }
-        }
-    }
-    Ok(Vec::new(alloc))
-}
-
-/// Where the number stands in the list.
-fn place_of(numbers: &[u32], wanted: usize) -> Option<usize>
-    ensures { IfSome result (λ n. slice_get numbers.now n ≡ Some wanted) }
+/// Whether the search is done with the reactor. A number past the end stands for none.
+fn is_done(stages: &[Stage], reactor: usize) -> bool
+    ensures { IsTrue result ↔ IsDone stages.now reactor }
 {
-    for place in 0..numbers.len() {
-        if numbers[place] as usize == wanted {
+    reactor >= stages.len() || stages[reactor] == Stage::Done
+}
+
+/// The first of the numbers, from that place on, of a reactor that the search isn't done with.
+fn first_left(numbers: &[u32], stages: &[Stage], start: usize) -> Option<(usize, usize)>
+    ensures some { IfSome result (λ p. (slice_get numbers.now p.0 ≡ Some p.1) × (¬ IsDone stages.now p.1) × DoneBetween stages.now (slice_get numbers.now) start p.0) }
+    ensures none { IfNone result (OnlyDone stages.now (slice_get numbers.now) start) }
+{
+    for place in start..numbers.len() {
+        let inner = numbers[place] as usize;
+        if !is_done(stages, inner) {
+            return Some((place, inner));
+        }
+    }
+    None
+}
+
+/// The next instance in a reactor of one that the search isn't done with: its place, and its reactor.
+fn next_inside(contents: &[Contents], stages: &[Stage], visit: Visit) -> Option<(usize, usize)>
+    ensures some { IfSome result (λ p. (contained contents.now visit.reactor p.0 ≡ Some p.1) × (¬ IsDone stages.now p.1) × DoneBetween stages.now (contained contents.now visit.reactor) visit.next p.0) }
+    ensures none { IfNone result (OnlyDone stages.now (contained contents.now visit.reactor) visit.next) }
+{
+    if visit.reactor >= contents.len() {
+        return None;
+    }
+    first_left(&contents[visit.reactor].instances, stages, visit.next)
+}
+
+/// Where the reactor is on the path.
+fn place_on(path: &[Visit], reactor: usize) -> Option<usize>
+    ensures some { IfSome result (λ n. IsVisitAt path.now n reactor) }
+    ensures none { IfNone result ((n : ℕ) → ¬ IsVisitAt path.now n reactor) }
+{
+    for place in 0..path.len() {
+        if path[place].reactor == reactor {
             return Some(place);
         }
     }
     None
 }
 
-/// Whether the first reactor contains an instance of the second.
-fn holds(contents: &[Contents], outer: usize, inner: usize) -> bool
-    ensures { IsTrue result → (rs : List ReactorTree) → AreContents rs contents.now → HoldsAt rs outer inner }
+/// The reactors of the path from that place on.
+fn reactors_from(alloc: Global, path: &[Visit], place: usize) -> Result<Vec<usize>, NoMemory>
+    requires { place ≤ length path.now }
+    ensures { IfOk result (λ v. v.items ≡ map (λ a. a.reactor) (drop place path.now)) }
 {
-    if outer >= contents.len() {
-        return false;
+    let mut found = Vec::new(alloc);
+    for visit in &path[place..] {
+        found.push(visit.reactor)?;
     }
-    match place_of(&contents[outer].instances, inner) {
-        Some(_) => true,
-        None => false,
+    Ok(found)
+}
+
+/// The reactors of the path from the one with that number on.
+fn round_at(alloc: Global, path: &[Visit], reactor: usize) -> Result<Vec<usize>, NoMemory>
+    requires { (n : ℕ) × IsVisitAt path.now n reactor }
+    ensures { IfOk result (λ v. (n : ℕ) × IsVisitAt path.now n reactor × (v.items ≡ map (λ a. a.reactor) (drop n path.now))) }
+{
+    match place_on(path, reactor) {
+        Some(place) => reactors_from(alloc, path, place),
+        None => Ok(Vec::new(alloc)),
     }
 }
 
-/// Whether each reactor contains an instance of the next.
-fn leads_on(contents: &[Contents], reactors: &[usize]) -> bool
-    ensures { IsTrue result → (rs : List ReactorTree) → AreContents rs contents.now → LeadsOn rs reactors.now }
+/// Goes down from the reactor, if it wasn't met before. Reactors of which each contains the next, and the
+/// last the first. Where there are none, the search is done with all that it met.
+fn explore(
+    alloc: Global,
+    contents: &[Contents],
+    stages: &mut [Stage],
+    start: usize,
+) -> Result<Vec<usize>, NoMemory>
+    requires within { start < length contents.now }
+    requires searched { IsSearched contents.now stages.old }
+    ensures round { IfOk result (λ v. IsRound contents.now v.items) }
+    ensures searched { IfOk result (λ v. v.items ≡ [] → IsSearched contents.now stages.new) }
+    ensures looked { IfOk result (λ v. v.items ≡ [] → slice_get stages.new start ≢ Some New) }
+    ensures kept { IfOk result (λ v. v.items ≡ [] → KeepsNew stages.old stages.new) }
 {
-    for place in 1..reactors.len() {
-        if !holds(contents, reactors[place - 1], reactors[place]) {
-            return false;
+    match item_at(stages, start) {
+        Stage::New => {}
+        _ => return Ok(Vec::new(alloc)),
+    }
+    let mut path = Vec::new(alloc);
+    stages[start] = Stage::Open;
+    path.push(Visit {
+        reactor: start,
+        next: 0,
+    })?;
+    'visits: while let Some(top) = path.pop() {
+        match next_inside(contents, stages, top) {
+            None => {
+                stages[top.reactor] = Stage::Done;
+            }
+            Some((next, inner)) => {
+                path.push(Visit {
+                    reactor: top.reactor,
+                    next,
+                })?;
+                match item_at(stages, inner) {
+                    Stage::New => {}
+                    _ => return round_at(alloc, &path, inner),
+                }
+                stages[inner] = Stage::Open;
+                path.push(Visit {
+                    reactor: inner,
+                    next: 0,
+                })?;
+            }
         }
     }
-    true
+    Ok(Vec::new(alloc))
 }
 
-/// Whether the last reactor contains an instance of the first.
-fn closes(contents: &[Contents], reactors: &[usize]) -> bool
-    ensures { IsTrue result → (rs : List ReactorTree) → AreContents rs contents.now → Closes rs reactors.now }
+/// Reactors of which each contains the next, and the last the first. Empty where there are none.
+fn round_among(alloc: Global, contents: &[Contents]) -> Result<Vec<usize>, NoMemory>
+    ensures round { IfOk result (λ v. IsRound contents.now v.items) }
+    ensures none { IfOk result (λ v. v.items ≡ [] → AllFounded contents.now) }
 {
-    reactors.is_empty() || holds(contents, reactors[reactors.len() - 1], reactors[0])
-}
-
-/// The reactors, if they are a circle; else none.
-fn checked(alloc: Global, contents: &[Contents], reactors: Vec<usize>) -> Vec<usize>
-    ensures { (rs : List ReactorTree) → AreContents rs contents.now → IsCircle rs result.items }
-{
-    if leads_on(contents, &reactors) && closes(contents, &reactors) {
-        reactors
-    } else {
-        Vec::new(alloc)
+    let mut stages = vec![in alloc; Stage::New; contents.len()]?;
+    'reactors: for reactor in 0..contents.len() {
+        let found = explore(alloc, contents, &mut stages, reactor)?;
+        if !found.is_empty() {
+            return Ok(found);
+        }
     }
+    Ok(Vec::new(alloc))
 }
 
 /// Reactors by their places in the file, of which each has an instance of the next, and the last of the
 /// first. Empty where there are none.
 pub fn circle_of(alloc: Global, ast: &Ast) -> Result<Vec<usize>, NoMemory>
-    ensures { IfOk result (λ v. IsCircle (reactors_of (tree_view ast.now)) v.items) }
+    ensures circle { IfOk result (λ v. IsCircle (reactors_of (tree_view ast.now)) v.items) }
+    ensures some { IfOk result (λ v. ¬ UnknownReactor (reactors_of (tree_view ast.now)) → RecursiveReactor (reactors_of (tree_view ast.now)) → v.items ≢ []) }
 {
     match contents(alloc, ast) {
-        Ok(contents) => {
-            let found = guessed(alloc, &contents)?;
-            Ok(checked(alloc, &contents, found))
-        }
+        Ok(contents) => round_among(alloc, &contents),
         Err(ReactorFault::NoMemory) => Err(NoMemory),
         Err(_) => Ok(Vec::new(alloc)),
     }

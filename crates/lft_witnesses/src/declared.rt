@@ -1,7 +1,9 @@
 //! Names that reactors declare, and names of reactors, that stand twice.
 
-ghost use Rattle.std.specs.Prelude.{◌≡◌, ◌++◌, IfOk, OnOk, IfSome, filter_map, option_map};
+ghost use Rattle.std.specs.Prelude.{◌≡◌, ◌++◌, Any, IfOk, OnOk, IfSome, IfNone, filter_map, option_map};
 ghost use Rattle.lft_tree.specs.View.{member_view, member_views, reactor_view};
+ghost use Rattle.lft_scope.specs.Causes.{IsTwice};
+ghost use Rattle.lft_scope.specs.Kinds.{names_in};
 ghost use Rattle.lft_scope.specs.References.{reactor_trees};
 ghost use Rattle.lft_scope.specs.Tests.{texts};
 ghost use Rattle.lft_witnesses.specs.Findings.{IsTwiceAt};
@@ -54,7 +56,8 @@ fn declarations(alloc: Global, reactor: &Reactor) -> Result<Vec<&str>, NoMemory>
 
 /// The first thing that a reactor declares under a name that it has declared, and where that was.
 fn declared_twice(alloc: Global, reactor: &Reactor) -> Result<Option<(usize, usize)>, NoMemory>
-    ensures { IfOk result (λ found. IfSome found (λ p. IsTwiceAt (declarations (reactor_view reactor.now)) p.0 p.1)) }
+    ensures some { IfOk result (λ found. IfSome found (λ p. IsTwiceAt (declarations (reactor_view reactor.now)) p.0 p.1)) }
+    ensures none { IfOk result (λ found. IfNone found (¬ IsTwice (names_in (reactor_view reactor.now)))) }
 {
     let names = declarations(alloc, reactor)?;
     first_twice(alloc, &names)
@@ -67,6 +70,7 @@ pub(crate) fn some_declared_twice(
 ) -> Result<Option<Witness>, NoMemory>
     ensures shows { IfOk result (λ found. IfSome found (Shows (reactor_trees reactors.now))) }
     ensures cause { IfOk result (λ found. IfSome found (λ w. cause_shown w ≡ 3)) }
+    ensures none { IfOk result (λ found. IfNone found (¬ Any (λ r. IsTwice (names_in r)) (reactor_trees reactors.now))) }
 {
     for reactor in 0..reactors.len() {
         if let Some((first, second)) = declared_twice(alloc, reactors[reactor])? {
@@ -87,6 +91,7 @@ pub(crate) fn same_reactors(
 ) -> Result<Option<Witness>, NoMemory>
     ensures shows { IfOk result (λ found. IfSome found (Shows (reactor_trees reactors.now))) }
     ensures cause { IfOk result (λ found. IfSome found (λ w. cause_shown w ≡ 3)) }
+    ensures none { IfOk result (λ found. IfNone found (¬ IsTwice (filter_map (λ r. r.name) (reactor_trees reactors.now)))) }
 {
     let names = reactor_names(alloc, reactors)?;
     match first_twice(alloc, &names)? {

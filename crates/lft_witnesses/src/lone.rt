@@ -1,12 +1,14 @@
 //! What one member shows without the names around it.
 
-ghost use Rattle.std.specs.Prelude.{◌≡◌, List, None, IfOk, IfSome, IsTrue, IsSomeAnd, slice_get};
+ghost use Rattle.std.specs.Prelude.{◌≡◌, ◌↔◌, List, None, Any, IfOk, IfSome, IfNone, IsTrue, IsSomeAnd, slice_get};
 ghost use Rattle.lft_tree.specs.Tree.{ReactorTree};
 ghost use Rattle.lft_tree.specs.View.{member_view, reactor_view, time_view};
 ghost use Rattle.lft_scope.specs.Causes.{IsLongTime};
 ghost use Rattle.lft_scope.specs.Tables.{IsFile};
 ghost use Rattle.lft_witnesses.specs.Members.{time_trees};
 ghost use Rattle.lft_witnesses.specs.Findings.{IsFinding, cause_of};
+ghost use Rattle.lft_witnesses.specs.Shown.{ShowsCause};
+ghost use Rattle.lft_witnesses.specs.declared.members.Cause.TheVariants as causes;
 
 use crate::finding::Finding;
 use crate::names::times_of;
@@ -20,12 +22,15 @@ use std::alloc::Global;
 pub(crate) fn unknown_reactor(file: &File, member: &Member) -> Option<Finding>
     ensures some { (rs : List ReactorTree) (r : ReactorTree) → IsFile rs file.now → IfSome result (IsFinding rs r (member_view member.now)) }
     ensures cause { IfSome result (λ f. cause_of f ≡ 4) }
+    ensures none { (rs : List ReactorTree) (r : ReactorTree) → IsFile rs file.now → IfNone result (¬ ShowsCause rs r (member_view member.now) causes.UnknownReactor) }
 {
     match member {
-        Member::Instance(instance) if file.reactor(instance.reactor.as_str()).is_none() => {
-            Some(Finding::UnknownReactor)
-        }
-        _ => None,
+        Member::Instance(instance) => match file.reactor(instance.reactor.as_str()) {
+            Some(_) => None,
+            None => Some(Finding::UnknownReactor),
+        },
+        Member::Port(_) | Member::Timer(_) | Member::Action(_) | Member::State(_) => None,
+        Member::Preamble(_) | Member::Reaction(_) | Member::Connection(_) => None,
     }
 }
 
@@ -33,10 +38,15 @@ pub(crate) fn unknown_reactor(file: &File, member: &Member) -> Option<Finding>
 pub(crate) fn main_port(reactor: &Reactor, member: &Member) -> Option<Finding>
     ensures some { (rs : List ReactorTree) → IfSome result (IsFinding rs (reactor_view reactor.now) (member_view member.now)) }
     ensures cause { IfSome result (λ f. cause_of f ≡ 8) }
+    ensures none { (rs : List ReactorTree) → IfNone result (¬ ShowsCause rs (reactor_view reactor.now) (member_view member.now) causes.MainHasPorts) }
 {
+    if !reactor.is_main {
+        return None;
+    }
     match member {
-        Member::Port(_) if reactor.is_main => Some(Finding::MainHasPort),
-        _ => None,
+        Member::Port(_) => Some(Finding::MainHasPort),
+        Member::Timer(_) | Member::Action(_) | Member::State(_) | Member::Preamble(_) => None,
+        Member::Instance(_) | Member::Reaction(_) | Member::Connection(_) => None,
     }
 }
 
@@ -44,13 +54,18 @@ pub(crate) fn main_port(reactor: &Reactor, member: &Member) -> Option<Finding>
 pub(crate) fn width(member: &Member) -> Option<Finding>
     ensures some { (rs : List ReactorTree) (r : ReactorTree) → IfSome result (IsFinding rs r (member_view member.now)) }
     ensures cause { IfSome result (λ f. cause_of f ≡ 11) }
+    ensures none { (rs : List ReactorTree) (r : ReactorTree) → IfNone result (¬ ShowsCause rs r (member_view member.now) causes.WidthMismatch) }
 {
     match member {
-        Member::Connection(connection)
-            if connection.sources.len() != connection.destinations.len() => {
-            Some(Finding::WidthMismatch)
+        Member::Connection(connection) => {
+            if connection.sources.len() != connection.destinations.len() {
+                Some(Finding::WidthMismatch)
+            } else {
+                None
+            }
         }
-        _ => None,
+        Member::Port(_) | Member::Timer(_) | Member::Action(_) | Member::State(_) => None,
+        Member::Preamble(_) | Member::Instance(_) | Member::Reaction(_) => None,
     }
 }
 
@@ -58,16 +73,24 @@ pub(crate) fn width(member: &Member) -> Option<Finding>
 pub(crate) fn no_trigger(member: &Member) -> Option<Finding>
     ensures some { (rs : List ReactorTree) (r : ReactorTree) → IfSome result (IsFinding rs r (member_view member.now)) }
     ensures cause { IfSome result (λ f. cause_of f ≡ 12) }
+    ensures none { (rs : List ReactorTree) (r : ReactorTree) → IfNone result (¬ ShowsCause rs r (member_view member.now) causes.NoTrigger) }
 {
     match member {
-        Member::Reaction(reaction) if reaction.triggers.is_empty() => Some(Finding::NoTrigger),
-        _ => None,
+        Member::Reaction(reaction) => {
+            if reaction.triggers.is_empty() {
+                Some(Finding::NoTrigger)
+            } else {
+                None
+            }
+        }
+        Member::Port(_) | Member::Timer(_) | Member::Action(_) | Member::State(_) => None,
+        Member::Preamble(_) | Member::Instance(_) | Member::Connection(_) => None,
     }
 }
 
 /// Whether the time is written and past the greatest.
 fn is_long(time: &TimeExpression) -> bool
-    ensures { IsTrue result → IsLongTime (time_view time.now) }
+    ensures { IsTrue result ↔ IsLongTime (time_view time.now) }
 {
     match time {
         TimeExpression::Written(written) => nanoseconds(*written).is_none(),
@@ -77,7 +100,8 @@ fn is_long(time: &TimeExpression) -> bool
 
 /// The first of the times that is past the greatest.
 fn first_long(times: &[&TimeExpression]) -> Option<usize>
-    ensures { IfSome result (λ n. IsSomeAnd (slice_get (time_trees times.now) n) IsLongTime) }
+    ensures some { IfSome result (λ n. IsSomeAnd (slice_get (time_trees times.now) n) IsLongTime) }
+    ensures none { IfNone result (¬ Any IsLongTime (time_trees times.now)) }
 {
     for time in 0..times.len() {
         if is_long(times[time]) {
@@ -91,6 +115,7 @@ fn first_long(times: &[&TimeExpression]) -> Option<usize>
 pub(crate) fn long_time(alloc: Global, member: &Member) -> Result<Option<Finding>, NoMemory>
     ensures some { IfOk result (λ found. (rs : List ReactorTree) (r : ReactorTree) → IfSome found (IsFinding rs r (member_view member.now))) }
     ensures cause { IfOk result (λ found. IfSome found (λ f. cause_of f ≡ 14)) }
+    ensures none { IfOk result (λ found. (rs : List ReactorTree) (r : ReactorTree) → IfNone found (¬ ShowsCause rs r (member_view member.now) causes.DelayTooLong)) }
 {
     let times = times_of(alloc, member)?;
     match first_long(&times) {

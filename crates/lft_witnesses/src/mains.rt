@@ -1,11 +1,11 @@
 //! Main reactors, and parameters with long defaults.
 
-ghost use Rattle.std.specs.Prelude.{◌≡◌, ◌<◌, ◌≤◌, ℕ, Some, IfSome, IsSomeAnd, map, slice_get, true};
+ghost use Rattle.std.specs.Prelude.{◌≡◌, ◌<◌, ◌≤◌, ℕ, Some, Any, IfSome, IfNone, IsSomeAnd, length, map, slice_get, true};
 ghost use Rattle.lft_tree.specs.Tree.{nanoseconds};
 ghost use Rattle.lft_tree.specs.View.{parameter_view};
-ghost use Rattle.lft_scope.specs.Causes.{longest};
+ghost use Rattle.lft_scope.specs.Causes.{TwoMains, longest};
 ghost use Rattle.lft_scope.specs.References.{reactor_trees};
-ghost use Rattle.lft_witnesses.specs.Witnesses.{Shows, cause_shown};
+ghost use Rattle.lft_witnesses.specs.Witnesses.{IsMainAt, Shows, cause_shown};
 
 use crate::witness::Witness;
 use lft_scope::times::nanoseconds;
@@ -13,7 +13,10 @@ use lft_tree::{Parameter, Reactor};
 
 /// The first main reactor at or behind the place.
 fn main_from(reactors: &[&Reactor], start: usize) -> Option<usize>
-    ensures { IfSome result (λ n. (start ≤ n) × IsSomeAnd (slice_get (reactor_trees reactors.now) n) (λ r. r.is_main ≡ true)) }
+    ensures some { IfSome result (λ n. (start ≤ n) × IsMainAt (reactor_trees reactors.now) n) }
+    ensures within { IfSome result (λ n. n < length reactors.now) }
+    ensures first { IfSome result (λ n. (k : ℕ) → start ≤ k → k < n → ¬ IsMainAt (reactor_trees reactors.now) k) }
+    ensures none { IfNone result ((k : ℕ) → start ≤ k → ¬ IsMainAt (reactor_trees reactors.now) k) }
 {
     for place in start..reactors.len() {
         if reactors[place].is_main {
@@ -27,6 +30,7 @@ fn main_from(reactors: &[&Reactor], start: usize) -> Option<usize>
 pub(crate) fn two_mains(reactors: &[&Reactor]) -> Option<Witness>
     ensures shows { IfSome result (Shows (reactor_trees reactors.now)) }
     ensures cause { IfSome result (λ w. cause_shown w ≡ 2) }
+    ensures none { IfNone result (¬ TwoMains (reactor_trees reactors.now)) }
 {
     let first = main_from(reactors, 0)?;
     let second = main_from(reactors, first + 1)?;
@@ -35,7 +39,8 @@ pub(crate) fn two_mains(reactors: &[&Reactor]) -> Option<Witness>
 
 /// The first of the parameters whose default is past the greatest time.
 fn long_default_in(parameters: &[Parameter]) -> Option<usize>
-    ensures { IfSome result (λ n. IsSomeAnd (slice_get (map parameter_view parameters.now) n) (λ p. longest < nanoseconds p.default)) }
+    ensures some { IfSome result (λ n. IsSomeAnd (slice_get (map parameter_view parameters.now) n) (λ p. longest < nanoseconds p.default)) }
+    ensures none { IfNone result (¬ Any (λ p. longest < nanoseconds p.default) (map parameter_view parameters.now)) }
 {
     for place in 0..parameters.len() {
         if nanoseconds(parameters[place].default).is_none() {
@@ -49,6 +54,7 @@ fn long_default_in(parameters: &[Parameter]) -> Option<usize>
 pub(crate) fn long_default(reactors: &[&Reactor]) -> Option<Witness>
     ensures shows { IfSome result (Shows (reactor_trees reactors.now)) }
     ensures cause { IfSome result (λ w. cause_shown w ≡ 14) }
+    ensures none { IfNone result (¬ Any (λ r. Any (λ p. longest < nanoseconds p.default) r.parameters) (reactor_trees reactors.now)) }
 {
     for reactor in 0..reactors.len() {
         if let Some(parameter) = long_default_in(&reactors[reactor].parameters) {

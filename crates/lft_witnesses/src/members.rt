@@ -1,11 +1,12 @@
 //! The first member of a file that shows a cause.
 
-ghost use Rattle.std.specs.Prelude.{◌≡◌, ◌<◌, List, IfOk, IfSome, length};
+ghost use Rattle.std.specs.Prelude.{◌≡◌, ◌<◌, List, Any, IfOk, IfSome, IfNone, length, slice_get, IsSomeAnd};
 ghost use Rattle.lft_tree.specs.Tree.{ReactorTree};
 ghost use Rattle.lft_tree.specs.View.{member_view, reactor_view};
 ghost use Rattle.lft_scope.specs.References.{reactor_trees};
 ghost use Rattle.lft_scope.specs.Tables.{IsFile, IsOwn};
 ghost use Rattle.lft_witnesses.specs.Findings.{IsFinding, cause_of, number_of};
+ghost use Rattle.lft_witnesses.specs.Shown.{ShowsCause, SomeShows};
 ghost use Rattle.lft_witnesses.specs.Witnesses.{HasFinding, Shows, cause_shown};
 
 use crate::finding::Finding;
@@ -45,6 +46,7 @@ fn in_member(
 ) -> Result<Option<Finding>, NoMemory>
     ensures some { IfOk result (λ found. (rs : List ReactorTree) → IsFile rs file.now → IsOwn (reactor_view reactor.now) own.now → IfSome found (IsFinding rs (reactor_view reactor.now) (member_view member.now))) }
     ensures cause { IfOk result (λ found. IfSome found (λ f. cause_of f ≡ number_of cause)) }
+    ensures none { IfOk result (λ found. (rs : List ReactorTree) → IsFile rs file.now → IsOwn (reactor_view reactor.now) own.now → IfNone found (¬ ShowsCause rs (reactor_view reactor.now) (member_view member.now) cause)) }
 {
     match cause {
         Cause::DuplicateName => given_twice(alloc, member),
@@ -71,6 +73,7 @@ fn at_place(
     requires { place < length reactor.now.members.items }
     ensures some { IfOk result (λ found. (rs : List ReactorTree) → IsFile rs file.now → IsOwn (reactor_view reactor.now) own.now → IfSome found (HasFinding rs (reactor_view reactor.now) place)) }
     ensures cause { IfOk result (λ found. IfSome found (λ f. cause_of f ≡ number_of cause)) }
+    ensures none { IfOk result (λ found. (rs : List ReactorTree) → IsFile rs file.now → IsOwn (reactor_view reactor.now) own.now → IfNone found (¬ IsSomeAnd (slice_get (reactor_view reactor.now).members place) (λ m. ShowsCause rs (reactor_view reactor.now) m cause))) }
 {
     in_member(alloc, cause, file, own, reactor, &reactor.members[place])
 }
@@ -85,6 +88,7 @@ fn first_place(
 ) -> Result<Option<(usize, Finding)>, NoMemory>
     ensures some { IfOk result (λ found. (rs : List ReactorTree) → IsFile rs file.now → IsOwn (reactor_view reactor.now) own.now → IfSome found (λ p. HasFinding rs (reactor_view reactor.now) p.0 p.1)) }
     ensures cause { IfOk result (λ found. IfSome found (λ p. cause_of p.1 ≡ number_of cause)) }
+    ensures none { IfOk result (λ found. (rs : List ReactorTree) → IsFile rs file.now → IsOwn (reactor_view reactor.now) own.now → IfNone found (¬ Any (λ m. ShowsCause rs (reactor_view reactor.now) m cause) (reactor_view reactor.now).members)) }
 {
     for place in 0..reactor.members.len() {
         if let Some(finding) = at_place(alloc, cause, file, own, reactor, place)? {
@@ -103,6 +107,7 @@ fn in_reactor(
 ) -> Result<Option<(usize, Finding)>, NoMemory>
     ensures some { IfOk result (λ found. (rs : List ReactorTree) → IsFile rs file.now → IfSome found (λ p. HasFinding rs (reactor_view reactor.now) p.0 p.1)) }
     ensures cause { IfOk result (λ found. IfSome found (λ p. cause_of p.1 ≡ number_of cause)) }
+    ensures none { IfOk result (λ found. (rs : List ReactorTree) → IsFile rs file.now → IfNone found (¬ Any (λ m. ShowsCause rs (reactor_view reactor.now) m cause) (reactor_view reactor.now).members)) }
 {
     let own = Own::of(alloc, reactor)?;
     first_place(alloc, cause, file, &own, reactor)
@@ -116,6 +121,7 @@ pub(crate) fn first_member(
 ) -> Result<Option<Witness>, NoMemory>
     ensures shows { IfOk result (λ found. IfSome found (Shows (reactor_trees reactors.now))) }
     ensures cause { IfOk result (λ found. IfSome found (λ w. cause_shown w ≡ number_of cause)) }
+    ensures none { IfOk result (λ found. IfNone found (¬ SomeShows (reactor_trees reactors.now) cause)) }
 {
     let file = File::of(alloc, reactors)?;
     for reactor in 0..reactors.len() {

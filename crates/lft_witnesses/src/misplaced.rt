@@ -1,12 +1,14 @@
 //! Names that may not stand where they do, in one member.
 
-ghost use Rattle.std.specs.Prelude.{◌≡◌, List, IfOk, IfSome, IsSomeAnd, slice_get};
+ghost use Rattle.std.specs.Prelude.{◌≡◌, List, Any, IfOk, IfSome, IfNone, IsSomeAnd, slice_get};
 ghost use Rattle.lft_tree.specs.Tree.{ReactorTree};
 ghost use Rattle.lft_tree.specs.View.{member_view, ref_view, time_view};
+ghost use Rattle.lft_scope.specs.Causes.{IsMisplaced, IsMisplacedTime};
 ghost use Rattle.lft_scope.specs.References.{ref_trees};
 ghost use Rattle.lft_scope.specs.Tables.{IsFile, IsOwn};
-ghost use Rattle.lft_witnesses.specs.Members.{time_trees};
+ghost use Rattle.lft_witnesses.specs.Members.{names_of, time_trees};
 ghost use Rattle.lft_witnesses.specs.Findings.{IsFinding, IsWrong, IsWrongTime, cause_of};
+ghost use Rattle.lft_witnesses.specs.Shown.{ShowsMisplaced, SomeName};
 
 use crate::finding::{Finding, ROLES};
 use crate::names::{names_of, times_of};
@@ -19,17 +21,21 @@ use std::alloc::Global;
 
 /// What the name is, if it may not have that role.
 fn wrong_kind(file: &File, own: &Own, role: Role, name: &Reference) -> Option<Kind>
-    ensures { (rs : List ReactorTree) (r : ReactorTree) → IsFile rs file.now → IsOwn r own.now → IfSome result (λ kind. IsWrong rs r role kind (ref_view name.now)) }
+    ensures some { (rs : List ReactorTree) (r : ReactorTree) → IsFile rs file.now → IsOwn r own.now → IfSome result (λ kind. IsWrong rs r role kind (ref_view name.now)) }
+    ensures none { (rs : List ReactorTree) (r : ReactorTree) → IsFile rs file.now → IsOwn r own.now → IfNone result (¬ IsMisplaced rs r (role, ref_view name.now)) }
 {
-    match kind_of(file, own, name) {
-        Some(kind) if !may_stand(role, kind) => Some(kind),
-        _ => None,
+    let kind = kind_of(file, own, name)?;
+    if may_stand(role, kind) {
+        None
+    } else {
+        Some(kind)
     }
 }
 
 /// The first of the names that may not have that role, and what it is.
 fn first_wrong(file: &File, own: &Own, role: Role, names: &[&Reference]) -> Option<(usize, Kind)>
-    ensures { (rs : List ReactorTree) (r : ReactorTree) → IsFile rs file.now → IsOwn r own.now → IfSome result (λ p. IsSomeAnd (slice_get (ref_trees names.now) p.0) (IsWrong rs r role p.1)) }
+    ensures some { (rs : List ReactorTree) (r : ReactorTree) → IsFile rs file.now → IsOwn r own.now → IfSome result (λ p. IsSomeAnd (slice_get (ref_trees names.now) p.0) (IsWrong rs r role p.1)) }
+    ensures none { (rs : List ReactorTree) (r : ReactorTree) → IsFile rs file.now → IsOwn r own.now → IfNone result (¬ Any (λ ref. IsMisplaced rs r (role, ref)) (ref_trees names.now)) }
 {
     for name in 0..names.len() {
         if let Some(kind) = wrong_kind(file, own, role, names[name]) {
@@ -37,6 +43,25 @@ fn first_wrong(file: &File, own: &Own, role: Role, names: &[&Reference]) -> Opti
         }
     }
     None
+}
+
+/// The first of the member's names in that role that may not have it.
+fn misplaced_in_role(
+    alloc: Global,
+    file: &File,
+    own: &Own,
+    member: &Member,
+    role: Role,
+) -> Result<Option<Finding>, NoMemory>
+    ensures some { IfOk result (λ found. (rs : List ReactorTree) (r : ReactorTree) → IsFile rs file.now → IsOwn r own.now → IfSome found (IsFinding rs r (member_view member.now))) }
+    ensures cause { IfOk result (λ found. IfSome found (λ f. cause_of f ≡ 7)) }
+    ensures none { IfOk result (λ found. (rs : List ReactorTree) (r : ReactorTree) → IsFile rs file.now → IsOwn r own.now → IfNone found (¬ Any (λ ref. IsMisplaced rs r (role, ref)) (names_of role (member_view member.now)))) }
+{
+    let names = names_of(alloc, member, role)?;
+    match first_wrong(file, own, role, &names) {
+        Some((name, kind)) => Ok(Some(Finding::WrongPlace { role, name, kind })),
+        None => Ok(None),
+    }
 }
 
 /// The first of the member's names that may not stand where it does.
@@ -48,11 +73,11 @@ fn misplaced_name(
 ) -> Result<Option<Finding>, NoMemory>
     ensures some { IfOk result (λ found. (rs : List ReactorTree) (r : ReactorTree) → IsFile rs file.now → IsOwn r own.now → IfSome found (IsFinding rs r (member_view member.now))) }
     ensures cause { IfOk result (λ found. IfSome found (λ f. cause_of f ≡ 7)) }
+    ensures none { IfOk result (λ found. (rs : List ReactorTree) (r : ReactorTree) → IsFile rs file.now → IsOwn r own.now → IfNone found (¬ SomeName (IsMisplaced rs r) (member_view member.now))) }
 {
     for role in ROLES {
-        let names = names_of(alloc, member, role)?;
-        if let Some((name, kind)) = first_wrong(file, own, role, &names) {
-            return Ok(Some(Finding::WrongPlace { role, name, kind }));
+        if let Some(found) = misplaced_in_role(alloc, file, own, member, role)? {
+            return Ok(Some(found));
         }
     }
     Ok(None)
@@ -60,20 +85,26 @@ fn misplaced_name(
 
 /// What the time names, if that is no parameter.
 fn wrong_time_kind(own: &Own, time: &TimeExpression) -> Option<Kind>
-    ensures { (r : ReactorTree) → IsOwn r own.now → IfSome result (λ kind. IsWrongTime r kind (time_view time.now)) }
+    ensures some { (r : ReactorTree) → IsOwn r own.now → IfSome result (λ kind. IsWrongTime r kind (time_view time.now)) }
+    ensures none { (r : ReactorTree) → IsOwn r own.now → IfNone result (¬ IsMisplacedTime r (time_view time.now)) }
 {
     match time {
         TimeExpression::Written(_) => None,
-        TimeExpression::Parameter(name) => match own.kind(name.as_str()) {
-            Some(kind) if kind != Kind::OwnParameter => Some(kind),
-            _ => None,
-        },
+        TimeExpression::Parameter(name) => {
+            let kind = own.kind(name.as_str())?;
+            if kind == Kind::OwnParameter {
+                None
+            } else {
+                Some(kind)
+            }
+        }
     }
 }
 
 /// The first of the times that names no parameter, and what it names.
 fn first_wrong_time(own: &Own, times: &[&TimeExpression]) -> Option<(usize, Kind)>
-    ensures { (r : ReactorTree) → IsOwn r own.now → IfSome result (λ p. IsSomeAnd (slice_get (time_trees times.now) p.0) (IsWrongTime r p.1)) }
+    ensures some { (r : ReactorTree) → IsOwn r own.now → IfSome result (λ p. IsSomeAnd (slice_get (time_trees times.now) p.0) (IsWrongTime r p.1)) }
+    ensures none { (r : ReactorTree) → IsOwn r own.now → IfNone result (¬ Any (IsMisplacedTime r) (time_trees times.now)) }
 {
     for time in 0..times.len() {
         if let Some(kind) = wrong_time_kind(own, times[time]) {
@@ -92,6 +123,7 @@ pub(crate) fn misplaced(
 ) -> Result<Option<Finding>, NoMemory>
     ensures some { IfOk result (λ found. (rs : List ReactorTree) (r : ReactorTree) → IsFile rs file.now → IsOwn r own.now → IfSome found (IsFinding rs r (member_view member.now))) }
     ensures cause { IfOk result (λ found. IfSome found (λ f. cause_of f ≡ 7)) }
+    ensures none { IfOk result (λ found. (rs : List ReactorTree) (r : ReactorTree) → IsFile rs file.now → IsOwn r own.now → IfNone found (¬ ShowsMisplaced rs r (member_view member.now))) }
 {
     if let Some(found) = misplaced_name(alloc, file, own, member)? {
         return Ok(Some(found));

@@ -1,137 +1,158 @@
 //! Ports that are written at two places of a reactor.
 
-ghost use Rattle.std.specs.Prelude.{◌≡◌, ◌↔◌, ◌<◌, Some, IfOk, IfSome, IsTrue, length};
-ghost use Rattle.lft_tree.specs.View.{ref_view, reactor_view};
-ghost use Rattle.lft_scope.specs.References.{reactor_trees};
-ghost use Rattle.lft_witnesses.specs.Witnesses.{IsNamedAt, IsWriting, IsWrittenTwice, Shows, cause_shown};
+ghost use Rattle.std.specs.Prelude.{◌≡◌, ◌+◌, ◌≤◌, ◌⊎◌, Any, Contains, IfOk, IfSome, IfNone, IsSomeAnd, OnOk, length};
+ghost use Rattle.lft_tree.specs.View.{reactor_view};
+ghost use Rattle.lft_causes.specs.Seen.{has_seen};
+ghost use Rattle.lft_scope.specs.Causes.{TwoSources, WritesTwice};
+ghost use Rattle.lft_scope.specs.References.{reactor_trees, ref_trees};
+ghost use Rattle.lft_scope.specs.Tests.{IsTestOf};
+ghost use Rattle.lft_scope.specs.declared.kinds.Role.TheVariants as roles;
+ghost use Rattle.lft_witnesses.specs.Findings.{IsTwiceAt};
+ghost use Rattle.lft_witnesses.specs.Shown.{all_names};
+ghost use Rattle.lft_witnesses.specs.Witnesses.{IsPlaceOf, IsSharedAt, IsWrittenTwice, Shows, cause_shown};
 
 use crate::names::names_of;
-use crate::twice::{is_same, name_at, port_of};
+use crate::twice::{first_named_twice, place_of};
 use crate::witness::{Naming, Witness};
+use lft_causes::seen::SeenNames;
 use lft_scope::kinds::Role;
 use lft_tag::NoMemory;
 use lft_tree::{Reactor, Reference};
 use std::alloc::Global;
-use std::collections::HashMap;
 
-/// Where ports are written, by instance and port: by connections, and by reactions.
-#[derive(Drop)]
-struct Writers<'a> {
-    connected: HashMap<(&'a str, &'a str), Naming>,
-    written: HashMap<(&'a str, &'a str), Naming>,
-}
-
-impl<'a> Writers<'a> {
-    fn new(alloc: Global) -> Writers<'a> {
-        Writers {
-            connected: HashMap::new(alloc),
-            written: HashMap::new(alloc),
-        }
-    }
-
-    /// Where the port was written before so that it may not be written there, if it was. Notes the
-    /// place.
-    fn add(&mut self, name: &'a Reference, place: Naming) -> Result<Option<Naming>, NoMemory> {
-        let key = (name.head.as_str(), port_of(name));
-        if place.role == Role::Destination {
-            let before = self.connected.insert(key, place)?;
-            return Ok(before.or(self.written.get(&key).copied()));
-        }
-        self.written.insert(key, place)?;
-        Ok(self.connected.get(&key).copied())
-    }
-}
-
-/// Whether a name with that role is written.
-fn is_writing(role: Role) -> bool
-    ensures { IsTrue result ↔ IsWriting role }
+/// The names that have the role in the reactor, in the order of the text.
+fn all_names(alloc: Global, reactor: &Reactor, role: Role) -> Result<Vec<&Reference>, NoMemory>
+    ensures { IfOk result (λ v. ref_trees v.items ≡ all_names role (reactor_view reactor.now)) }
 {
-    role == Role::Destination || role == Role::Effect
+    let mut found = Vec::new(alloc);
+    for member in &reactor.members {
+        let names = names_of(alloc, member, role)?;
+        found.extend_from_slice(names.as_slice())?;
+    }
+    Ok(found)
 }
 
-/// The name that stands there.
-fn standing_at(
+/// Where a name stands that has that place among those of its role in the reactor.
+fn placed(
     alloc: Global,
     reactor: &Reactor,
-    place: Naming,
-) -> Result<Option<&Reference>, NoMemory>
-    ensures { IfOk result (λ found. IfSome found (λ x. IsNamedAt (reactor_view reactor.now) place (ref_view x.now))) }
+    role: Role,
+    place: usize,
+) -> Result<Option<Naming>, NoMemory>
+    ensures some { IfOk result (λ found. IfSome found (IsPlaceOf (reactor_view reactor.now) role place)) }
+    ensures none { IfOk result (λ found. IfNone found (length (all_names role (reactor_view reactor.now)) ≤ place)) }
 {
-    if place.member >= reactor.members.len() {
-        return Ok(None);
-    }
-    let names = names_of(alloc, &reactor.members[place.member], place.role)?;
-    Ok(name_at(&names, place.name))
-}
-
-/// Whether the port that is written at both places is one, and a connection ends at the first or the
-/// second.
-fn is_written_twice(
-    alloc: Global,
-    reactor: &Reactor,
-    first: Naming,
-    second: Naming,
-) -> Result<bool, NoMemory>
-    ensures { IfOk result (λ b. IsTrue b → IsWrittenTwice (reactor_view reactor.now) first second) }
-{
-    if first.member == second.member && first.name == second.name {
-        return Ok(false);
-    }
-    if !is_writing(first.role) || !is_writing(second.role) {
-        return Ok(false);
-    }
-    if first.role != Role::Destination && second.role != Role::Destination {
-        return Ok(false);
-    }
-    let one = standing_at(alloc, reactor, first)?;
-    let other = standing_at(alloc, reactor, second)?;
-    match (one, other) {
-        (Some(one), Some(other)) => Ok(is_same(one, other)),
-        _ => Ok(false),
-    }
-}
-
-/// Notes where the member writes ports; the first place where one may not be written again, with where it
-/// was before.
-fn add_member<'a>(
-    alloc: Global,
-    writers: &mut Writers<'a>,
-    reactor: &'a Reactor,
-    member: usize,
-) -> Result<Option<(Naming, Naming)>, NoMemory>
-    requires { member < length reactor.now.members.items }
-{
-    for role in [Role::Effect, Role::Destination] {
-        let names = names_of(alloc, &reactor.members[member], role)?;
-        for name in 0..names.len() {
-            let place = Naming { member, role, name };
-            if let Some(before) = writers.add(names[name], place)? {
-                return Ok(Some((before, place)));
-            }
-        }
-    }
-    Ok(None)
-}
-
-/// Where the reactor writes a port a second time, and where it did before.
-fn written_twice(alloc: Global, reactor: &Reactor) -> Result<Option<(Naming, Naming)>, NoMemory>
-    ensures { IfOk result (λ found. IfSome found (λ p. IsWrittenTwice (reactor_view reactor.now) p.0 p.1)) }
-{
-    let mut writers = Writers::new(alloc);
+    let mut left = place;
     for member in 0..reactor.members.len() {
-        if let Some((first, second)) = add_member(alloc, &mut writers, reactor, member)? {
-            if is_written_twice(alloc, reactor, first, second)? {
-                return Ok(Some((first, second)));
-            }
+        let names = names_of(alloc, &reactor.members[member], role)?;
+        if left < names.len() {
+            return Ok(Some(Naming {
+                member,
+                role,
+                name: left,
+            }));
+        }
+        left -= names.len();
+    }
+    Ok(None)
+}
+
+/// The names as a set.
+fn set_of<'a>(alloc: Global, names: &[&'a Reference]) -> Result<SeenNames<'a>, NoMemory>
+    ensures { IfOk result (λ set. IsTestOf (has_seen set) (ref_trees names.now)) }
+{
+    let mut set = SeenNames::new(alloc);
+    for name in names {
+        set.add(name)?;
+    }
+    Ok(set)
+}
+
+/// The first destination that is an effect too, and where it is first among the effects.
+fn first_shared(
+    alloc: Global,
+    destinations: &[&Reference],
+    effects: &[&Reference],
+) -> Result<Option<(usize, usize)>, NoMemory>
+    ensures some { IfOk result (λ found. IfSome found (λ p. IsSharedAt (ref_trees destinations.now) p.0 (ref_trees effects.now) p.1)) }
+    ensures none { IfOk result (λ found. IfNone found (¬ Any (λ ref. Contains (ref_trees effects.now) ref) (ref_trees destinations.now))) }
+{
+    let written = set_of(alloc, effects)?;
+    for place in 0..destinations.len() {
+        let name = destinations[place];
+        if written.has(name) {
+            return match place_of(effects, name) {
+                Some(effect) => Ok(Some((place, effect))),
+                None => Ok(None),
+            };
         }
     }
     Ok(None)
+}
+
+/// Both places of a port at which connections end twice.
+fn joined_twice(
+    alloc: Global,
+    reactor: &Reactor,
+    first: usize,
+    second: usize,
+) -> Result<Option<(Naming, Naming)>, NoMemory>
+    requires { IsTwiceAt (all_names roles.Destination (reactor_view reactor.now)) first second }
+    ensures { IfOk result (λ found. IsSomeAnd found (λ p. IsWrittenTwice (reactor_view reactor.now) p.0 p.1)) }
+{
+    let Some(one) = placed(alloc, reactor, Role::Destination, first)? else {
+        return Ok(None);
+    };
+    let Some(other) = placed(alloc, reactor, Role::Destination, second)? else {
+        return Ok(None);
+    };
+    Ok(Some((one, other)))
+}
+
+/// Both places of a port at which a connection ends and that a reaction writes, in the order of the text.
+fn joined_and_written(
+    alloc: Global,
+    reactor: &Reactor,
+    destination: usize,
+    effect: usize,
+) -> Result<Option<(Naming, Naming)>, NoMemory>
+    requires { IsSharedAt (all_names roles.Destination (reactor_view reactor.now)) destination (all_names roles.Effect (reactor_view reactor.now)) effect }
+    ensures { IfOk result (λ found. IsSomeAnd found (λ p. IsWrittenTwice (reactor_view reactor.now) p.0 p.1)) }
+{
+    let Some(joined) = placed(alloc, reactor, Role::Destination, destination)? else {
+        return Ok(None);
+    };
+    let Some(written) = placed(alloc, reactor, Role::Effect, effect)? else {
+        return Ok(None);
+    };
+    if written.member < joined.member {
+        Ok(Some((written, joined)))
+    } else {
+        Ok(Some((joined, written)))
+    }
+}
+
+/// Two places at which the reactor writes one port.
+fn written_twice(alloc: Global, reactor: &Reactor) -> Result<Option<(Naming, Naming)>, NoMemory>
+    ensures some { IfOk result (λ found. IfSome found (λ p. IsWrittenTwice (reactor_view reactor.now) p.0 p.1)) }
+    ensures none { IfOk result (λ found. IfNone found (¬ WritesTwice (reactor_view reactor.now))) }
+{
+    let destinations = all_names(alloc, reactor, Role::Destination)?;
+    if let Some((first, second)) = first_named_twice(alloc, &destinations)? {
+        return joined_twice(alloc, reactor, first, second);
+    }
+    let effects = all_names(alloc, reactor, Role::Effect)?;
+    match first_shared(alloc, &destinations, &effects)? {
+        Some((destination, effect)) => joined_and_written(alloc, reactor, destination, effect),
+        None => Ok(None),
+    }
 }
 
 /// The first port of the file that is written at two places.
 pub(crate) fn two_sources(alloc: Global, reactors: &[&Reactor]) -> Result<Option<Witness>, NoMemory>
     ensures shows { IfOk result (λ found. IfSome found (Shows (reactor_trees reactors.now))) }
     ensures cause { IfOk result (λ found. IfSome found (λ w. cause_shown w ≡ 9)) }
+    ensures none { IfOk result (λ found. IfNone found (¬ TwoSources (reactor_trees reactors.now))) }
 {
     for reactor in 0..reactors.len() {
         if let Some((first, second)) = written_twice(alloc, reactors[reactor])? {

@@ -1,73 +1,56 @@
 //! Names that stand twice.
 //!
-//! A map says where a name may have stood before. What it says is looked at again: so what is told of
-//! two places needs no fact about the map.
+//! A set has the names that were met. Where a name stood before is looked for only once it was met.
 
-ghost use Rattle.std.specs.Prelude.{◌≡◌, List, Some, IfOk, IfSome, IsTrue, map, slice_get};
-ghost use Rattle.lft_tree.specs.Tree.{ReactorTree};
+ghost use Rattle.std.specs.Prelude.{◌≡◌, ◌<◌, ◌↔◌, ℕ, List, Some, Any, IfOk, IfSome, IfNone, IsSome, IsSomeAnd, IsTrue, length, map, slice_get, take};
+ghost use Rattle.lft_tree.specs.Tree.{ReactorTree, RefTree, instance_in, reaction_in};
 ghost use Rattle.lft_tree.specs.View.{assignment_view, member_view, ref_view};
+ghost use Rattle.lft_scope.specs.Causes.{GivesTwice, IsTwice, NamesTwice};
 ghost use Rattle.lft_scope.specs.References.{ref_trees};
 ghost use Rattle.lft_scope.specs.Tests.{texts};
-ghost use Rattle.lft_witnesses.specs.Members.{given_of};
+ghost use Rattle.lft_witnesses.specs.Members.{given_of, names_of};
 ghost use Rattle.lft_witnesses.specs.Findings.{IsFinding, IsTwiceAt, cause_of};
 
-use crate::finding::{Finding, ROLES};
+use crate::finding::Finding;
 use crate::names::names_of;
+use lft_causes::seen::SeenNames;
+use lft_scope::kinds::Role;
 use lft_tag::NoMemory;
 use lft_tree::{Assignment, Member, Reference};
 use std::alloc::Global;
-use std::collections::HashMap;
+use std::collections::HashSet;
 
-/// The name at the place.
-fn text_at<'a>(names: &[&'a str], place: usize) -> Option<&'a str>
-    ensures { IfSome result (λ x. slice_get (texts names.now) place ≡ Some x.now) }
+/// Where a name stood before the place, with the place.
+fn text_before(names: &[&str], place: usize) -> Option<(usize, usize)>
+    requires { place < length names.now }
+    ensures some { IfSome result (λ p. IsTwiceAt (texts names.now) p.0 p.1) }
+    ensures none { IfNone result ((x : List ℕ) → slice_get (texts names.now) place ≡ Some x → ¬ Any (λ y. y ≡ x) (texts (take place names.now))) }
 {
-    if place < names.len() {
-        Some(names[place])
-    } else {
-        None
+    for before in 0..place {
+        if names[before] == names[place] {
+            return Some((before, place));
+        }
     }
-}
-
-/// Whether the name stands at both places, the first before the second.
-fn is_twice(names: &[&str], first: usize, second: usize) -> bool
-    ensures { IsTrue result → IsTwiceAt (texts names.now) first second }
-{
-    if second <= first {
-        return false;
-    }
-    match (text_at(names, first), text_at(names, second)) {
-        (Some(one), Some(other)) => one == other,
-        _ => false,
-    }
+    None
 }
 
 /// Where a name stands that stood before, and where that was.
 pub(crate) fn first_twice(alloc: Global, names: &[&str]) -> Result<Option<(usize, usize)>, NoMemory>
-    ensures { IfOk result (λ found. IfSome found (λ p. IsTwiceAt (texts names.now) p.0 p.1)) }
+    ensures some { IfOk result (λ found. IfSome found (λ p. IsTwiceAt (texts names.now) p.0 p.1)) }
+    ensures none { IfOk result (λ found. IfNone found (¬ IsTwice (texts names.now))) }
 {
-    let mut seen = HashMap::new(alloc);
+    let mut seen = HashSet::new(alloc);
     for place in 0..names.len() {
-        if let Some(before) = seen.insert(names[place], place)? {
-            if is_twice(names, before, place) {
-                return Ok(Some((before, place)));
-            }
+        if !seen.insert(names[place])? {
+            return Ok(text_before(names, place));
         }
     }
     Ok(None)
 }
 
-/// The name of the port, or nothing where there is none.
-pub(crate) fn port_of(name: &Reference) -> &str {
-    match &name.port {
-        Some(port) => port.as_str(),
-        None => "",
-    }
-}
-
 /// Whether two names are the same.
 pub(crate) fn is_same(a: &Reference, b: &Reference) -> bool
-    ensures { IsTrue result → ref_view a.now ≡ ref_view b.now }
+    ensures { IsTrue result ↔ (ref_view a.now ≡ ref_view b.now) }
 {
     if a.head.as_str() != b.head.as_str() {
         return false;
@@ -79,68 +62,84 @@ pub(crate) fn is_same(a: &Reference, b: &Reference) -> bool
     }
 }
 
-/// The name at the place.
-pub(crate) fn name_at<'a>(names: &[&'a Reference], place: usize) -> Option<&'a Reference>
-    ensures { IfSome result (λ x. slice_get (ref_trees names.now) place ≡ Some (ref_view x.now)) }
+/// Where the name stands first in the list.
+pub(crate) fn place_of(names: &[&Reference], name: &Reference) -> Option<usize>
+    ensures some { IfSome result (λ n. slice_get (ref_trees names.now) n ≡ Some (ref_view name.now)) }
+    ensures none { IfNone result (¬ Any (λ y. y ≡ ref_view name.now) (ref_trees names.now)) }
 {
-    if place < names.len() {
-        Some(names[place])
-    } else {
-        None
+    for place in 0..names.len() {
+        if is_same(names[place], name) {
+            return Some(place);
+        }
     }
+    None
 }
 
-/// Whether one name stands at both places, the first before the second.
-fn is_named_twice(names: &[&Reference], first: usize, second: usize) -> bool
-    ensures { IsTrue result → IsTwiceAt (ref_trees names.now) first second }
+/// Where a name stood before the place, with the place.
+fn name_before(names: &[&Reference], place: usize) -> Option<(usize, usize)>
+    requires { place < length names.now }
+    ensures some { IfSome result (λ p. IsTwiceAt (ref_trees names.now) p.0 p.1) }
+    ensures none { IfNone result ((x : RefTree) → slice_get (ref_trees names.now) place ≡ Some x → ¬ Any (λ y. y ≡ x) (ref_trees (take place names.now))) }
 {
-    if second <= first {
-        return false;
+    for before in 0..place {
+        if is_same(names[before], names[place]) {
+            return Some((before, place));
+        }
     }
-    match (name_at(names, first), name_at(names, second)) {
-        (Some(one), Some(other)) => is_same(one, other),
-        _ => false,
-    }
+    None
 }
 
 /// Where a name stands that stood before, and where that was.
-fn first_named_twice(
+pub(crate) fn first_named_twice(
     alloc: Global,
     names: &[&Reference],
 ) -> Result<Option<(usize, usize)>, NoMemory>
-    ensures { IfOk result (λ found. IfSome found (λ p. IsTwiceAt (ref_trees names.now) p.0 p.1)) }
+    ensures some { IfOk result (λ found. IfSome found (λ p. IsTwiceAt (ref_trees names.now) p.0 p.1)) }
+    ensures none { IfOk result (λ found. IfNone found (¬ IsTwice (ref_trees names.now))) }
 {
-    let mut seen = HashMap::new(alloc);
+    let mut seen = SeenNames::new(alloc);
     for place in 0..names.len() {
-        let key = (names[place].head.as_str(), port_of(names[place]));
-        if let Some(before) = seen.insert(key, place)? {
-            if is_named_twice(names, before, place) {
-                return Ok(Some((before, place)));
-            }
+        if !seen.add(names[place])? {
+            return Ok(name_before(names, place));
         }
     }
     Ok(None)
+}
+
+/// The first of the member's names in that role that stands there twice.
+fn twice_in_role(alloc: Global, member: &Member, role: Role) -> Result<Option<Finding>, NoMemory>
+    requires { IsSome (reaction_in (member_view member.now)) }
+    ensures some { IfOk result (λ found. (rs : List ReactorTree) (r : ReactorTree) → IfSome found (IsFinding rs r (member_view member.now))) }
+    ensures cause { IfOk result (λ found. IfSome found (λ f. cause_of f ≡ 13)) }
+    ensures none { IfOk result (λ found. IfNone found (¬ IsTwice (names_of role (member_view member.now)))) }
+{
+    let names = names_of(alloc, member, role)?;
+    match first_named_twice(alloc, &names)? {
+        Some((first, second)) => Ok(Some(Finding::NamedTwice {
+            role,
+            first,
+            second,
+        })),
+        None => Ok(None),
+    }
 }
 
 /// The first of the reaction's names that stands in one role twice.
 pub(crate) fn named_twice(alloc: Global, member: &Member) -> Result<Option<Finding>, NoMemory>
     ensures some { IfOk result (λ found. (rs : List ReactorTree) (r : ReactorTree) → IfSome found (IsFinding rs r (member_view member.now))) }
     ensures cause { IfOk result (λ found. IfSome found (λ f. cause_of f ≡ 13)) }
+    ensures none { IfOk result (λ found. IfNone found (¬ IsSomeAnd (reaction_in (member_view member.now)) NamesTwice)) }
 {
-    if !matches!(member, Member::Reaction(_)) {
-        return Ok(None);
-    }
-    for role in ROLES {
-        let names = names_of(alloc, member, role)?;
-        if let Some((first, second)) = first_named_twice(alloc, &names)? {
-            return Ok(Some(Finding::NamedTwice {
-                role,
-                first,
-                second,
-            }));
+    match member {
+        Member::Reaction(_) => {
+            if let Some(found) = twice_in_role(alloc, member, Role::Read)? {
+                return Ok(Some(found));
+            }
+            twice_in_role(alloc, member, Role::Effect)
         }
+        Member::Port(_) | Member::Timer(_) | Member::Action(_) | Member::State(_) => Ok(None),
+        Member::Preamble(_) | Member::Instance(_) | Member::Connection(_) => Ok(None),
     }
-    Ok(None)
 }
 
 /// The names of parameters for which the member gives values.
@@ -168,6 +167,7 @@ fn names_in(alloc: Global, given: &[Assignment]) -> Result<Vec<&str>, NoMemory>
 pub(crate) fn given_twice(alloc: Global, member: &Member) -> Result<Option<Finding>, NoMemory>
     ensures some { IfOk result (λ found. (rs : List ReactorTree) (r : ReactorTree) → IfSome found (IsFinding rs r (member_view member.now))) }
     ensures cause { IfOk result (λ found. IfSome found (λ f. cause_of f ≡ 3)) }
+    ensures none { IfOk result (λ found. IfNone found (¬ IsSomeAnd (instance_in (member_view member.now)) GivesTwice)) }
 {
     let names = given_names(alloc, member)?;
     match first_twice(alloc, &names)? {

@@ -1,7 +1,9 @@
 //! The witness of a fault.
 
-ghost use Rattle.std.specs.Prelude.{◌≡◌, IfOk, IfSome};
+ghost use Rattle.std.specs.Prelude.{◌≡◌, Any, IfOk, IfSome, IfNone};
+ghost use Rattle.lft_scope.specs.Causes.{DuplicateName, HasLongTime};
 ghost use Rattle.lft_scope.specs.References.{reactor_trees};
+ghost use Rattle.lft_witnesses.specs.Shown.{NoneWith, shown_causes};
 ghost use Rattle.lft_witnesses.specs.Witnesses.{Shows, cause_shown};
 
 use crate::declared::{same_reactors, some_declared_twice};
@@ -17,6 +19,7 @@ use std::alloc::Global;
 fn duplicate_name(alloc: Global, reactors: &[&Reactor]) -> Result<Option<Witness>, NoMemory>
     ensures shows { IfOk result (λ found. IfSome found (Shows (reactor_trees reactors.now))) }
     ensures cause { IfOk result (λ found. IfSome found (λ w. cause_shown w ≡ 3)) }
+    ensures none { IfOk result (λ found. IfNone found (¬ DuplicateName (reactor_trees reactors.now))) }
 {
     if let Some(found) = same_reactors(alloc, reactors)? {
         return Ok(Some(found));
@@ -31,6 +34,7 @@ fn duplicate_name(alloc: Global, reactors: &[&Reactor]) -> Result<Option<Witness
 fn long_time(alloc: Global, reactors: &[&Reactor]) -> Result<Option<Witness>, NoMemory>
     ensures shows { IfOk result (λ found. IfSome found (Shows (reactor_trees reactors.now))) }
     ensures cause { IfOk result (λ found. IfSome found (λ w. cause_shown w ≡ 14)) }
+    ensures none { IfOk result (λ found. IfNone found (¬ Any HasLongTime (reactor_trees reactors.now))) }
 {
     if let Some(found) = long_default(reactors) {
         return Ok(Some(found));
@@ -39,7 +43,7 @@ fn long_time(alloc: Global, reactors: &[&Reactor]) -> Result<Option<Witness>, No
 }
 
 /// What shows the cause with that number in a file that has these reactors. None for the causes 1, 5, 10
-/// and 15, which no place shows by itself, and where the cause doesn't hold.
+/// and 15, which no place shows by itself, and for sums of delays that are past the greatest time.
 pub fn witness_of(
     alloc: Global,
     reactors: &[&Reactor],
@@ -47,6 +51,7 @@ pub fn witness_of(
 ) -> Result<Option<Witness>, NoMemory>
     ensures shows { IfOk result (λ found. IfSome found (Shows (reactor_trees reactors.now))) }
     ensures cause { IfOk result (λ found. IfSome found (λ w. cause_shown w ≡ cause)) }
+    ensures none { IfOk result (λ found. IfNone found (NoneWith (shown_causes (reactor_trees reactors.now)) cause)) }
 {
     match cause {
         2 => Ok(two_mains(reactors)),
