@@ -2,18 +2,27 @@
 //!
 //! The text has a tree. So what begins at a token is known from the tree, and only its end is looked for.
 
-ghost use Rattle.std.specs.Prelude.{◌≡◌, ◌↔◌, ◌<◌, ◌≤◌, ◌+◌, IfSome, IsSome, IsTrue, length, slice_range};
+ghost use Rattle.std.specs.Prelude.{◌≡◌, ◌↔◌, ℕ, ◌<◌, ◌≤◌, ◌+◌, IfSome, IsSome, IsTrue, Some, length, map, slice_get, slice_range};
+ghost use Rattle.lft_tree.specs.View.{tree_view};
+ghost use Rattle.lft_syntax.specs.declared.token.Token.{Token as TheToken};
+ghost use Rattle.lft_syntax.specs.Lexeme.{Letters, is};
+ghost use Rattle.lft_syntax.specs.Grammar.{Spells};
+ghost use Rattle.lft_syntax.specs.View.{lexemes};
+ghost use Rattle.lft_syntax.specs.Places.{file_begins, begins_view};
 ghost use Rattle.lft_places.specs.Spots.{StandsIn};
 
-use lft_syntax::{Token, TokenKind};
+use lft_syntax::{ReactorPlaces, Token, TokenKind};
 use lft_tree::Ast;
 
-/// A program's text with its tokens and its tree.
+/// A program's text with its tokens and its tree, and where the reactors and their members begin.
 #[derive(Clone, Copy)]
 pub struct SourceText<'a> {
     pub text: &'a [u8],
     pub tokens: &'a [Token],
     pub ast: &'a Ast,
+    pub places: &'a [ReactorPlaces],
+    ghost in_text: { (i : ℕ) (t : TheToken) → slice_get tokens.now i ≡ Some t → (t.start ≤ t.end) × (t.end ≤ length text.now) },
+    ghost placed: { (s : Spells (tree_view ast.now) (lexemes text.now tokens.now)) → map begins_view places.now ≡ file_begins (lexemes text.now tokens.now) (tree_view ast.now) s },
 }
 
 /// The bytes of a token.
@@ -53,6 +62,17 @@ pub(crate) fn holds(text: &[u8], bytes: &[u8]) -> bool
 }
 
 impl<'a> SourceText<'a> {
+    /// The token with that number.
+    pub(crate) fn token(&self, at: usize) -> Option<Token>
+        ensures { result ≡ slice_get self.now.tokens.now at }
+    {
+        if at < self.tokens.len() {
+            Some(self.tokens[at])
+        } else {
+            None
+        }
+    }
+
     /// What the token is.
     fn kind(&self, at: usize) -> Option<TokenKind> {
         if at < self.tokens.len() {
@@ -82,37 +102,17 @@ impl<'a> SourceText<'a> {
         self.kind(at) == Some(TokenKind::Arrow)
     }
 
-    /// Whether the token has that spelling.
-    pub(crate) fn is_word(&self, at: usize, word: &[u8]) -> bool {
-        if at >= self.tokens.len() {
-            return false;
-        }
-        match spelling(self.text, self.tokens[at]) {
-            Some(bytes) => bytes == word,
+    /// Whether the token is a name or a word with that spelling.
+    pub(crate) fn is_word(&self, at: usize, word: &[u8]) -> bool
+        ensures { result ≡ is (Letters word.now) (slice_get (lexemes self.now.text.now self.now.tokens.now) at) }
+    {
+        match self.token(at) {
+            Some(token) => match token.kind {
+                TokenKind::Name => word == &self.text[token.start..token.end],
+                _ => false,
+            },
             None => false,
         }
-    }
-
-    /// Whether the token goes on with a type: a type has no two names side by side.
-    fn goes_on_with_type(&self, at: usize) -> bool {
-        match self.kind(at) {
-            Some(TokenKind::Symbol(b'.' | b':' | b'*' | b'[' | b']') | TokenKind::Number(_)) =>
-                true,
-            Some(TokenKind::Name | TokenKind::Code) => {
-                at > 0 && (self.is_sign(at - 1, b'.') || self.is_sign(at - 1, b':'))
-            }
-            _ => false,
-        }
-    }
-
-    /// Where the type that may begin there ends.
-    pub(crate) fn type_end(&self, start: usize) -> usize {
-        for at in start..self.tokens.len() {
-            if !self.goes_on_with_type(at) {
-                return at;
-            }
-        }
-        self.tokens.len()
     }
 
     /// Where the group of parentheses that may begin there ends.

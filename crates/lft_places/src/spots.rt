@@ -3,12 +3,16 @@
 //! Each part is looked for where the tree and the tokens have it. What is found there is compared with the
 //! name that is wanted, so a spot is never one of something else.
 
-ghost use Rattle.std.specs.Prelude.{◌≡◌, ◌↔◌, ◌≤◌, Contains, IfSome, IsTrue, codes};
+ghost use Rattle.std.specs.Prelude.{◌≡◌, ◌↔◌, ℕ, ◌+◌, ◌≤◌, Contains, IfSome, IsTrue, Some, true, codes, slice_get, slice_range};
 ghost use Rattle.lft_syntax.specs.declared.token.Token.{Token as TheToken};
 ghost use Rattle.lft_syntax.specs.declared.token.TokenKind.TheVariants.{Number};
-ghost use Rattle.lft_tree.specs.View.{ref_view, time_view};
+ghost use Rattle.lft_syntax.specs.View.{lexemes};
+ghost use Rattle.lft_tree.specs.Tree.{ReactorTree, MemberTree, InstanceTree, ReactionTree, InstanceMember, ReactionMember};
+ghost use Rattle.lft_tree.specs.View.{ref_view, time_view, tree_view};
+ghost use Rattle.lft_places.specs.Places.{IsMemberAt, IsPairSpot, IsReactorAt, IsTokenSpot, declared_token, name_declared, name_token};
 ghost use Rattle.lft_places.specs.Spots.{HasCodeWith, IsCodeWith, NameStandsAt, StandAt, StandsAt, TimeStandsAt};
 
+use crate::places::name_offset;
 use crate::source::{SourceText, holds, spelling};
 use lft_scope::kinds::Role;
 use lft_syntax::{Token, TokenKind};
@@ -47,18 +51,30 @@ impl Spot {
 impl<'a> SourceText<'a> {
     /// The bytes of the token, if it spells the word.
     fn word(&self, at: usize, word: &str) -> Option<Spot>
-        ensures { IfSome result (λ s. StandsAt self.now.text.now s word.now) }
+        ensures spelled { IfSome result (λ s. StandsAt self.now.text.now s word.now) }
+        ensures place { IfSome result (λ s. IsTokenSpot self.now.tokens.now at (Some s)) }
+        ensures found { (token : TheToken) → slice_get self.now.tokens.now at ≡ Some token → slice_range self.now.text.now token.start token.end ≡ word.now → IsTokenSpot self.now.tokens.now at result }
     {
-        if at >= self.tokens.len() {
-            return None;
-        }
-        let token = self.tokens[at];
-        match spelling(self.text, token) {
-            Some(bytes) if bytes == word.as_bytes() => Some(Spot {
+        let token = self.token(at)?;
+        if &self.text[token.start..token.end] == word.as_bytes() {
+            Some(Spot {
                 start: token.start,
                 end: token.end,
-            }),
-            _ => None,
+            })
+        } else {
+            None
+        }
+    }
+
+    /// The bytes of the token so many behind, if it spells the word.
+    fn word_behind(&self, start: usize, by: usize, word: &str) -> Option<Spot>
+        ensures spelled { IfSome result (λ s. StandsAt self.now.text.now s word.now) }
+        ensures found { (token : TheToken) → slice_get self.now.tokens.now (start + by) ≡ Some token → slice_range self.now.text.now token.start token.end ≡ word.now → IsTokenSpot self.now.tokens.now (start + by) result }
+    {
+        if start < self.tokens.len() && by < self.tokens.len() - start {
+            self.word(start + by, word)
+        } else {
+            None
         }
     }
 
@@ -125,15 +141,17 @@ impl<'a> SourceText<'a> {
 
     /// The name of a reactor.
     pub fn reactor_spot(&self, reactor: usize, name: &str) -> Option<Spot>
-        ensures { IfSome result (λ s. StandsAt self.now.text.now s name.now) }
+        ensures spelled { IfSome result (λ s. StandsAt self.now.text.now s name.now) }
+        ensures place { (r : ReactorTree) (start : ℕ) → IsReactorAt (lexemes self.now.text.now self.now.tokens.now) (tree_view self.now.ast.now) reactor r start → r.name ≡ Some name.now → IsTokenSpot self.now.tokens.now (name_token r start) result }
     {
         let (reactor, start) = self.reactor(reactor)?;
-        self.word(self.reactor_name(reactor, start), name)
+        self.word_behind(start, name_offset(reactor), name)
     }
 
     /// The words `main reactor`.
     pub fn main_spot(&self, reactor: usize) -> Option<Spot>
-        ensures { IfSome result (λ s. StandAt self.now.text.now s (codes "main") (codes "reactor")) }
+        ensures spelled { IfSome result (λ s. StandAt self.now.text.now s (codes "main") (codes "reactor")) }
+        ensures place { (r : ReactorTree) (start : ℕ) → IsReactorAt (lexemes self.now.text.now self.now.tokens.now) (tree_view self.now.ast.now) reactor r start → r.is_main ≡ true → IsPairSpot self.now.tokens.now start result }
     {
         let (_, start) = self.reactor(reactor)?;
         self.words(start, "main", start.saturating_add(1), "reactor")
@@ -149,10 +167,11 @@ impl<'a> SourceText<'a> {
 
     /// The name that a member declares.
     pub fn declared_spot(&self, at: MemberPlace, name: &str) -> Option<Spot>
-        ensures { IfSome result (λ s. StandsAt self.now.text.now s name.now) }
+        ensures spelled { IfSome result (λ s. StandsAt self.now.text.now s name.now) }
+        ensures place { (m : MemberTree) (start : ℕ) → IsMemberAt (lexemes self.now.text.now self.now.tokens.now) (tree_view self.now.ast.now) at m start → name_declared m ≡ Some name.now → IsTokenSpot self.now.tokens.now (declared_token (lexemes self.now.text.now self.now.tokens.now) m start) result }
     {
         let (member, start) = self.member(at)?;
-        self.word(self.declared(member, start), name)
+        self.word_behind(start, self.declared_offset(member, start), name)
     }
 
     /// A name of a member, by its role and its place there.
@@ -187,10 +206,11 @@ impl<'a> SourceText<'a> {
 
     /// The name of the reactor of which a member is an instance.
     pub fn instance_spot(&self, at: MemberPlace, name: &str) -> Option<Spot>
-        ensures { IfSome result (λ s. StandsAt self.now.text.now s name.now) }
+        ensures spelled { IfSome result (λ s. StandsAt self.now.text.now s name.now) }
+        ensures place { (x : InstanceTree) (start : ℕ) → IsMemberAt (lexemes self.now.text.now self.now.tokens.now) (tree_view self.now.ast.now) at (InstanceMember x) start → x.reactor ≡ name.now → IsTokenSpot self.now.tokens.now (start + 3) result }
     {
         let (_, start) = self.member(at)?;
-        self.word(start.saturating_add(3), name)
+        self.word_behind(start, 3, name)
     }
 
     /// The arrow of a connection.
@@ -203,7 +223,8 @@ impl<'a> SourceText<'a> {
 
     /// The word with which a reaction begins.
     pub fn reaction_spot(&self, at: MemberPlace) -> Option<Spot>
-        ensures { IfSome result (λ s. StandsAt self.now.text.now s (codes "reaction")) }
+        ensures spelled { IfSome result (λ s. StandsAt self.now.text.now s (codes "reaction")) }
+        ensures place { (x : ReactionTree) (start : ℕ) → IsMemberAt (lexemes self.now.text.now self.now.tokens.now) (tree_view self.now.ast.now) at (ReactionMember x) start → IsTokenSpot self.now.tokens.now start result }
     {
         let (_, start) = self.member(at)?;
         self.word(start, "reaction")
