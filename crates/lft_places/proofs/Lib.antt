@@ -1,2 +1,3 @@
 pub mod Words
 pub mod Placed
+pub mod Lexed

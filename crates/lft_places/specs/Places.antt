@@ -56,7 +56,7 @@ abbrev pub IsTokenSpot : List Token → ℕ → Option Spot → Type 0
 IsTokenSpot tokens k None = ⊥
 IsTokenSpot tokens k (Some spot) = (token : Token) × (slice_get tokens k ≡ Some token) × (spot.start ≡ token.start) × (spot.end ≡ token.end)
 
--- the answer is the spot of two tokens, of which the first has that number, and of what is between them
-abbrev pub IsPairSpot : List Token → ℕ → Option Spot → Type 0
-IsPairSpot tokens k None = ⊥
-IsPairSpot tokens k (Some spot) = (first last : Token) × (slice_get tokens k ≡ Some first) × (slice_get tokens (k + 1) ≡ Some last) × (spot.start ≡ first.start) × (spot.end ≡ last.end)
+-- the answer is the spot from the one token up to the end of the other
+abbrev pub IsSpanSpot : List Token → ℕ → ℕ → Option Spot → Type 0
+IsSpanSpot tokens k l None = ⊥
+IsSpanSpot tokens k l (Some spot) = (first last : Token) × (slice_get tokens k ≡ Some first) × (slice_get tokens l ≡ Some last) × (spot.start ≡ first.start) × (spot.end ≡ last.end)

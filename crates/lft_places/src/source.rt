@@ -5,6 +5,7 @@
 ghost use Rattle.std.specs.Prelude.{◌≡◌, ◌↔◌, ℕ, ◌<◌, ◌≤◌, ◌+◌, IfSome, IsSome, IsTrue, Some, length, map, slice_get, slice_range};
 ghost use Rattle.lft_tree.specs.View.{tree_view};
 ghost use Rattle.lft_syntax.specs.declared.token.Token.{Token as TheToken};
+ghost use Rattle.lft_syntax.specs.Lexes.{Lexes};
 ghost use Rattle.lft_syntax.specs.Lexeme.{Letters, is};
 ghost use Rattle.lft_syntax.specs.Grammar.{Spells};
 ghost use Rattle.lft_syntax.specs.View.{lexemes};
@@ -21,6 +22,7 @@ pub struct SourceText<'a> {
     pub tokens: &'a [Token],
     pub ast: &'a Ast,
     pub places: &'a [ReactorPlaces],
+    ghost lexed: { ∥ Lexes text.now tokens.now ∥₁ },
     ghost in_text: { (i : ℕ) (t : TheToken) → slice_get tokens.now i ≡ Some t → (t.start ≤ t.end) × (t.end ≤ length text.now) },
     ghost placed: { (s : Spells (tree_view ast.now) (lexemes text.now tokens.now)) → map begins_view places.now ≡ file_begins (lexemes text.now tokens.now) (tree_view ast.now) s },
 }

@@ -3,13 +3,13 @@
 //! Each part is looked for where the tree and the tokens have it. What is found there is compared with the
 //! name that is wanted, so a spot is never one of something else.
 
-ghost use Rattle.std.specs.Prelude.{◌≡◌, ◌↔◌, ℕ, ◌+◌, ◌≤◌, Contains, IfSome, IsTrue, Some, true, codes, slice_get, slice_range};
+ghost use Rattle.std.specs.Prelude.{◌≡◌, ◌↔◌, ℕ, ◌+◌, ◌≤◌, Contains, IfSome, IsSome, IsTrue, Some, true, codes, slice_get, slice_range};
 ghost use Rattle.lft_syntax.specs.declared.token.Token.{Token as TheToken};
 ghost use Rattle.lft_syntax.specs.declared.token.TokenKind.TheVariants.{Number};
 ghost use Rattle.lft_syntax.specs.View.{lexemes};
 ghost use Rattle.lft_tree.specs.Tree.{ReactorTree, MemberTree, InstanceTree, ReactionTree, InstanceMember, ReactionMember};
 ghost use Rattle.lft_tree.specs.View.{ref_view, time_view, tree_view};
-ghost use Rattle.lft_places.specs.Places.{IsMemberAt, IsPairSpot, IsReactorAt, IsTokenSpot, declared_token, name_declared, name_token};
+ghost use Rattle.lft_places.specs.Places.{IsMemberAt, IsSpanSpot, IsReactorAt, IsTokenSpot, declared_token, name_declared, name_token};
 ghost use Rattle.lft_places.specs.Spots.{HasCodeWith, IsCodeWith, NameStandsAt, StandAt, StandsAt, TimeStandsAt};
 
 use crate::places::name_offset;
@@ -35,7 +35,8 @@ pub struct MemberPlace {
 impl Spot {
     /// From the start of one spot to the end of another one behind it.
     fn up_to(self, last: Spot) -> Option<Spot>
-        ensures { IfSome result (λ s. (s.start ≡ self.start) × (self.end ≤ last.start) × (s.end ≡ last.end)) }
+        ensures spans { IfSome result (λ s. (s.start ≡ self.start) × (self.end ≤ last.start) × (s.end ≡ last.end)) }
+        ensures found { self.end ≤ last.start → IsSome result }
     {
         if self.end <= last.start {
             Some(Spot {
@@ -78,11 +79,12 @@ impl<'a> SourceText<'a> {
         }
     }
 
-    /// The bytes from one token up to another, if they spell these words.
-    fn words(&self, first: usize, word: &str, last: usize, other: &str) -> Option<Spot>
-        ensures { IfSome result (λ s. StandAt self.now.text.now s word.now other.now) }
+    /// The bytes from one token up to the one so many behind, if they spell these words.
+    fn words(&self, first: usize, word: &str, by: usize, other: &str) -> Option<Spot>
+        ensures spelled { IfSome result (λ s. StandAt self.now.text.now s word.now other.now) }
+        ensures found { (a b : TheToken) → slice_get self.now.tokens.now first ≡ Some a → slice_get self.now.tokens.now (first + by) ≡ Some b → slice_range self.now.text.now a.start a.end ≡ word.now → slice_range self.now.text.now b.start b.end ≡ other.now → a.end ≤ b.start → IsSpanSpot self.now.tokens.now first (first + by) result }
     {
-        match (self.word(first, word), self.word(last, other)) {
+        match (self.word(first, word), self.word_behind(first, by, other)) {
             (Some(one), Some(other)) => one.up_to(other),
             _ => None,
         }
@@ -94,10 +96,7 @@ impl<'a> SourceText<'a> {
     {
         match &name.port {
             None => self.word(at, name.head.as_str()),
-            Some(port) => {
-                let last = at.saturating_add(2);
-                self.words(at, name.head.as_str(), last, port.as_str())
-            }
+            Some(port) => self.words(at, name.head.as_str(), 2, port.as_str()),
         }
     }
 
@@ -151,10 +150,10 @@ impl<'a> SourceText<'a> {
     /// The words `main reactor`.
     pub fn main_spot(&self, reactor: usize) -> Option<Spot>
         ensures spelled { IfSome result (λ s. StandAt self.now.text.now s (codes "main") (codes "reactor")) }
-        ensures place { (r : ReactorTree) (start : ℕ) → IsReactorAt (lexemes self.now.text.now self.now.tokens.now) (tree_view self.now.ast.now) reactor r start → r.is_main ≡ true → IsPairSpot self.now.tokens.now start result }
+        ensures place { (r : ReactorTree) (start : ℕ) → IsReactorAt (lexemes self.now.text.now self.now.tokens.now) (tree_view self.now.ast.now) reactor r start → r.is_main ≡ true → IsSpanSpot self.now.tokens.now start (start + 1) result }
     {
         let (_, start) = self.reactor(reactor)?;
-        self.words(start, "main", start.saturating_add(1), "reactor")
+        self.words(start, "main", 1, "reactor")
     }
 
     /// The name of a parameter where its reactor declares it.
