@@ -1,3 +1,5 @@
 pub mod Words
 pub mod Placed
 pub mod Lexed
+pub mod Arrows
+pub mod Free

@@ -1,8 +1,8 @@
 -- The words at the tokens of a tree's parts.
-use Rattle.std.proofs.Common.{◌≡◌, ℕ, ◌+◌, Bool, true, false, cond, List, Option, Some, None, refl, sym, ap, subst, ◌∙◌, arith, inl, inr}
+use Rattle.std.proofs.Common.{◌≡◌, ℕ, ◌+◌, ◌<◌, length, Bool, true, false, cond, List, Option, Some, None, refl, sym, ap, subst, ◌∙◌, arith, inl, inr}
 use Rattle.std.specs.Prelude.{slice_get, slice_range, option_map, codes, if◌then◌else◌}
 use Rattle.std.specs.Str.{bytes_eq}
-use Rattle.std.proofs.lemmas.Option.{slice_get-map}
+use Rattle.std.proofs.lemmas.Option.{slice_get-map, slice_get_cases}
 use Rattle.lft_syntax.specs.declared.token.Token.{Token}
 use Rattle.lft_syntax.specs.declared.token.TokenKind.{TokenKind}
 use Rattle.lft_syntax.specs.declared.token.TokenKind.TheVariants as kinds
@@ -40,7 +40,7 @@ name_seen (Some (Number n)) x e = absurd cc
 name_seen (Some Arrow) x e = absurd cc
 name_seen (Some (Symbol b)) x e = absurd cc
 
-name_word : (ws : List Lexeme) (i j : ℕ) (x : List ℕ) → name ws i j x → IsWord ws i x
+pub name_word : (ws : List Lexeme) (i j : ℕ) (x : List ℕ) → name ws i j x → IsWord ws i x
 name_word ws i j x s = name_seen (slice_get ws i) x s.0
 
 -- ---- the name of a reactor, and `main reactor`
@@ -226,3 +226,48 @@ word_is t tokens k w token there named = sym (at_token t tokens k w token there 
 
 pub word_not : (t : List ℕ) (tokens : List Token) (k : ℕ) (w : List ℕ) (token : Token) → slice_get tokens k ≡ Some token → (token.kind ≡ kinds.Name → ⊥) → false ≡ is (Letters w) (slice_get (lexemes t tokens) k)
 word_not t tokens k w token there other = sym (at_token t tokens k w token there ∙ other_kind token.kind (slice_range t token.start token.end) w other)
+
+-- ---- whether an arrow stands at a token
+
+arrow_kind : (kind : TokenKind) (bytes : List ℕ) → ◌≡◌ {A = Option Lexeme} (Some (lexeme_from kind bytes)) (Some Arrow) → kind ≡ kinds.Arrow
+arrow_kind kinds.Code bytes e = absurd cc
+arrow_kind kinds.Text bytes e = absurd cc
+arrow_kind kinds.Name bytes e = absurd cc
+arrow_kind (kinds.Number n) bytes e = absurd cc
+arrow_kind kinds.Arrow bytes e = refl
+arrow_kind (kinds.Symbol b) bytes e = absurd cc
+
+arrow_there : (t : List ℕ) (o : Option Token) → option_map (lexeme_of t) o ≡ Some Arrow → (token : Token) × (o ≡ Some token) × (token.kind ≡ kinds.Arrow)
+arrow_there t None e = absurd cc
+arrow_there t (Some token) e = (token, refl, arrow_kind token.kind (slice_range t token.start token.end) e)
+
+-- an arrow of the grammar is a token of its kind
+pub arrow_token : (t : List ℕ) (tokens : List Token) (k : ℕ) → slice_get (lexemes t tokens) k ≡ Some Arrow → (token : Token) × (slice_get tokens k ≡ Some token) × (token.kind ≡ kinds.Arrow)
+arrow_token t tokens k h = arrow_there t (slice_get tokens k) (sym (seen_at t tokens k) ∙ h)
+
+is_arrow_kind : (kind : TokenKind) (bytes : List ℕ) → kind ≡ kinds.Arrow → is Arrow (Some (lexeme_from kind bytes)) ≡ true
+is_arrow_kind kind bytes e = ap (λ (k : TokenKind). is Arrow (Some (lexeme_from k bytes))) e
+
+no_arrow_kind : (kind : TokenKind) (bytes : List ℕ) → (kind ≡ kinds.Arrow → ⊥) → is Arrow (Some (lexeme_from kind bytes)) ≡ false
+no_arrow_kind kinds.Code bytes other = refl
+no_arrow_kind kinds.Text bytes other = refl
+no_arrow_kind kinds.Name bytes other = refl
+no_arrow_kind (kinds.Number n) bytes other = refl
+no_arrow_kind kinds.Arrow bytes other = absurd (other refl)
+no_arrow_kind (kinds.Symbol b) bytes other = refl
+
+pub arrow_is : (t : List ℕ) (tokens : List Token) (k : ℕ) (token : Token) → slice_get tokens k ≡ Some token → token.kind ≡ kinds.Arrow → true ≡ is Arrow (slice_get (lexemes t tokens) k)
+arrow_is t tokens k token there e = sym (ap (is Arrow) (seen_at t tokens k ∙ ap (option_map (lexeme_of t)) there) ∙ is_arrow_kind token.kind (slice_range t token.start token.end) e)
+
+pub arrow_not : (t : List ℕ) (tokens : List Token) (k : ℕ) (token : Token) → slice_get tokens k ≡ Some token → (token.kind ≡ kinds.Arrow → ⊥) → false ≡ is Arrow (slice_get (lexemes t tokens) k)
+arrow_not t tokens k token there other = sym (ap (is Arrow) (seen_at t tokens k ∙ ap (option_map (lexeme_of t)) there) ∙ no_arrow_kind token.kind (slice_range t token.start token.end) other)
+
+pub arrow_past : (t : List ℕ) (tokens : List Token) (k : ℕ) → slice_get tokens k ≡ None → false ≡ is Arrow (slice_get (lexemes t tokens) k)
+arrow_past t tokens k none = sym (ap (is Arrow) (seen_at t tokens k ∙ ap (option_map (lexeme_of t)) none))
+
+pub arrow_within : (t : List ℕ) (tokens : List Token) (k : ℕ) → is Arrow (slice_get (lexemes t tokens) k) ≡ true → k < length tokens
+arrow_within t tokens k is_there =
+    elim (slice_get_cases tokens k).1 [
+      | inl a ↦ a.1
+      | inr b ↦ absurd (let no = arrow_past t tokens k b.1 in cc (no, is_there))
+    ]

@@ -2,11 +2,11 @@
 //!
 //! The text has a tree. So what begins at a token is known from the tree, and only its end is looked for.
 
-ghost use Rattle.std.specs.Prelude.{◌≡◌, ◌↔◌, ℕ, ◌<◌, ◌≤◌, ◌+◌, IfSome, IsSome, IsTrue, Some, length, map, slice_get, slice_range};
+ghost use Rattle.std.specs.Prelude.{◌≡◌, ◌↔◌, ℕ, ◌<◌, ◌≤◌, ◌+◌, IfSome, IsSome, IsTrue, Some, false, true, length, map, slice_get, slice_range};
 ghost use Rattle.lft_tree.specs.View.{tree_view};
 ghost use Rattle.lft_syntax.specs.declared.token.Token.{Token as TheToken};
 ghost use Rattle.lft_syntax.specs.Lexes.{Lexes};
-ghost use Rattle.lft_syntax.specs.Lexeme.{Letters, is};
+ghost use Rattle.lft_syntax.specs.Lexeme.{Arrow, Letters, is};
 ghost use Rattle.lft_syntax.specs.Grammar.{Spells};
 ghost use Rattle.lft_syntax.specs.View.{lexemes};
 ghost use Rattle.lft_syntax.specs.Places.{file_begins, begins_view};
@@ -100,8 +100,16 @@ impl<'a> SourceText<'a> {
     }
 
     /// Whether the token is an arrow.
-    fn is_arrow(&self, at: usize) -> bool {
-        self.kind(at) == Some(TokenKind::Arrow)
+    fn is_arrow(&self, at: usize) -> bool
+        ensures { result ≡ is Arrow (slice_get (lexemes self.now.text.now self.now.tokens.now) at) }
+    {
+        match self.token(at) {
+            Some(token) => match token.kind {
+                TokenKind::Arrow => true,
+                _ => false,
+            },
+            None => false,
+        }
     }
 
     /// Whether the token is a name or a word with that spelling.
@@ -150,7 +158,9 @@ impl<'a> SourceText<'a> {
     }
 
     /// The first arrow at or behind the token, else the number of tokens.
-    pub(crate) fn arrow_from(&self, start: usize) -> usize {
+    pub(crate) fn arrow_from(&self, start: usize) -> usize
+        ensures { (k : ℕ) → start ≤ k → is Arrow (slice_get (lexemes self.now.text.now self.now.tokens.now) k) ≡ true → ((i : ℕ) → start ≤ i → i < k → is Arrow (slice_get (lexemes self.now.text.now self.now.tokens.now) i) ≡ false) → result ≡ k }
+    {
         for at in start..self.tokens.len() {
             if self.is_arrow(at) {
                 return at;

@@ -6,8 +6,10 @@
 ghost use Rattle.std.specs.Prelude.{◌≡◌, ◌↔◌, ℕ, ◌+◌, ◌≤◌, Contains, IfSome, IsSome, IsTrue, Some, true, codes, slice_get, slice_range};
 ghost use Rattle.lft_syntax.specs.declared.token.Token.{Token as TheToken};
 ghost use Rattle.lft_syntax.specs.declared.token.TokenKind.TheVariants.{Number};
+ghost use Rattle.lft_syntax.specs.Lexeme.{Arrow};
+ghost use Rattle.lft_syntax.specs.Grammar.{refs};
 ghost use Rattle.lft_syntax.specs.View.{lexemes};
-ghost use Rattle.lft_tree.specs.Tree.{ReactorTree, MemberTree, InstanceTree, ReactionTree, InstanceMember, ReactionMember};
+ghost use Rattle.lft_tree.specs.Tree.{ReactorTree, MemberTree, InstanceTree, ReactionTree, ConnectionTree, InstanceMember, ReactionMember, ConnectionMember};
 ghost use Rattle.lft_tree.specs.View.{ref_view, time_view, tree_view};
 ghost use Rattle.lft_places.specs.Places.{IsMemberAt, IsSpanSpot, IsReactorAt, IsTokenSpot, declared_token, name_declared, name_token};
 ghost use Rattle.lft_places.specs.Spots.{HasCodeWith, IsCodeWith, NameStandsAt, StandAt, StandsAt, TimeStandsAt};
@@ -214,7 +216,8 @@ impl<'a> SourceText<'a> {
 
     /// The arrow of a connection.
     pub fn arrow_spot(&self, at: MemberPlace) -> Option<Spot>
-        ensures { IfSome result (λ s. StandsAt self.now.text.now s (codes "->")) }
+        ensures spelled { IfSome result (λ s. StandsAt self.now.text.now s (codes "->")) }
+        ensures place { (x : ConnectionTree) (start k : ℕ) → IsMemberAt (lexemes self.now.text.now self.now.tokens.now) (tree_view self.now.ast.now) at (ConnectionMember x) start → refs (lexemes self.now.text.now self.now.tokens.now) start k x.sources → slice_get (lexemes self.now.text.now self.now.tokens.now) k ≡ Some Arrow → IsTokenSpot self.now.tokens.now k result }
     {
         let (_, start) = self.member(at)?;
         self.word(self.arrow_from(start), "->")
