@@ -1,7 +1,6 @@
 -- Tokens without an arrow.
-use Rattle.std.proofs.Common.{◌≡◌, ℕ, ◌+◌, ◌<◌, ◌≤◌, Bool, true, false, List, [], ◌∷◌, Option, Some, None, refl, sym, ap, subst, ◌∙◌, arith, inl, inr}
+use Rattle.std.proofs.Common.{◌≡◌, ℕ, ◌+◌, ◌<◌, ◌≤◌, false, List, [], ◌∷◌, Option, Some, None, refl, ap, subst, ◌∙◌, arith, inl, inr}
 use Rattle.std.specs.Prelude.{slice_get}
-use Rattle.std.proofs.lemmas.Bool.{cases_order}
 use Rattle.lft_syntax.specs.Lexeme.{Lexeme, Letters, Arrow, Symbol, is}
 use Rattle.lft_syntax.specs.Language.{◌>>◌, optional, many}
 use Rattle.lft_tree.specs.Tree.{RefTree}
@@ -9,7 +8,7 @@ use Rattle.lft_syntax.specs.Grammar.{symbol, name, ref, refs}
 use Rattle.lft_syntax.proofs.Once.{three_ways}
 use Rattle.lft_syntax.proofs.Algebra.{Any}
 use Rattle.lft_syntax.proofs.Rules.{leads_one}
-use Rattle.lft_places.proofs.Words.{IsWord, name_word}
+use Rattle.lft_places.proofs.Words.{name_word}
 
 -- none of these tokens is an arrow, and there is one at least, or more
 pub record Free (ws : List Lexeme) (i j : ℕ) : Type 0 where

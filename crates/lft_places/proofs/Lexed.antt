@@ -1,11 +1,9 @@
 -- What the cutting of a text says of its tokens.
-use Rattle.std.proofs.Common.{◌≡◌, ℕ, zero, suc, ◌+◌, ◌<◌, ◌≤◌, List, [], ◌∷◌, Option, Some, None, refl, sym, ap, subst, ◌∙◌, arith}
-use Rattle.std.specs.Prelude.{slice_get, slice_range, codes}
+use Rattle.std.proofs.Common.{◌≡◌, ℕ, zero, suc, ◌<◌, ◌≤◌, List, Some, None, ap, arith}
+use Rattle.std.specs.Prelude.{slice_get}
 use Rattle.std.proofs.Math.Logic.{∥∥₁_elim}
 use Rattle.std.proofs.Math.Bridge.{le_prop}
 use Rattle.lft_syntax.specs.declared.token.Token.{Token}
-use Rattle.lft_syntax.specs.declared.token.TokenKind.{TokenKind}
-use Rattle.lft_syntax.specs.declared.token.TokenKind.TheVariants as kinds
 use Rattle.lft_syntax.specs.Lexes.{Cut, done, piece, Lexes}
 use Rattle.lft_syntax.proofs.Options.{some_is}
 use Rattle.lft_syntax.proofs.Pieces.{piece_further}

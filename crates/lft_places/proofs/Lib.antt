@@ -3,3 +3,4 @@ pub mod Placed
 pub mod Lexed
 pub mod Arrows
 pub mod Free
+pub mod Walk

@@ -1,12 +1,12 @@
 -- What is spelled at the place of a reactor or a member.
-use Rattle.std.proofs.Common.{◌≡◌, ℕ, zero, suc, List, [], ◌∷◌, length, Option, Some, None, refl, sym, ap, subst, ◌∙◌, inl, inr}
+use Rattle.std.proofs.Common.{◌≡◌, ℕ, zero, suc, List, [], ◌∷◌, length, Some, refl, sym, ap, subst, ◌∙◌, inl, inr}
 use Rattle.std.specs.Prelude.{slice_get, filter_map}
 use Rattle.lft_syntax.specs.Lexeme.{Lexeme}
 use Rattle.lft_syntax.specs.Language.{many}
-use Rattle.lft_tree.specs.Tree.{FileTree, ItemTree, ReactorTree, MemberTree, PreambleItem, ReactorItem, reactor_in, reactors_of}
-use Rattle.lft_syntax.specs.Grammar.{member, reactor, item, Spells, file_of}
+use Rattle.lft_tree.specs.Tree.{FileTree, ItemTree, ReactorTree, MemberTree, reactor_in, reactors_of}
+use Rattle.lft_syntax.specs.Grammar.{member, reactor, item, Spells}
 use Rattle.lft_syntax.specs.Places.{Begins, starts, reactor_begins, item_begins, items_begin, file_begins}
-use Rattle.lft_syntax.proofs.Options.{some, some_is}
+use Rattle.lft_syntax.proofs.Options.{some_is}
 use Rattle.lft_places.specs.declared.spots.MemberPlace.{MemberPlace}
 use Rattle.lft_places.specs.Places.{IsReactorAt, IsMemberAt, IsReactorIn, IsMemberIn}
 

@@ -9,7 +9,7 @@ use Rattle.lft_syntax.specs.declared.token.TokenKind.TheVariants as kinds
 use Rattle.lft_syntax.specs.View.{lexeme_from, lexeme_of, lexemes}
 use Rattle.lft_places.specs.declared.spots.Spot.{Spot}
 use Rattle.lft_syntax.specs.Lexeme.{Lexeme, Code, Text, Letters, Number, Arrow, Symbol, is, same, is_reserved, name_in}
-use Rattle.lft_syntax.specs.Language.{Spelling, look, ◌&◌, ◌>>◌, ◌<<◌, ◌or◌, optional, made, ignored}
+use Rattle.lft_syntax.specs.Language.{look, ◌&◌, ◌>>◌, ◌or◌, optional, made}
 use Rattle.lft_tree.specs.Tree.{ParameterTree, TimeTree, ReactorTree, MemberTree, PortTree, TimerTree, ActionTree, ReactionTree, InstanceTree, PortMember, TimerMember, ActionMember, StateMember, PreambleMember, ReactionMember, InstanceMember, ConnectionMember}
 use Rattle.lft_syntax.specs.Grammar.{key, name, params, body, timer_of, logical_is, physical_is, port, timer, action, reaction, instance, member, reactor}
 use Rattle.lft_syntax.proofs.Options.{some, some_is}
@@ -21,7 +21,7 @@ use Rattle.lft_places.specs.Places.{IsTokenSpot, name_token, name_declared, decl
 abbrev pub IsWord : List Lexeme → ℕ → List ℕ → Type 0
 IsWord ws i w = slice_get ws i ≡ Some (Letters w)
 
-moved : (ws : List Lexeme) (i k : ℕ) (w : List ℕ) → k ≡ i → IsWord ws k w → IsWord ws i w
+pub moved : (ws : List Lexeme) (i k : ℕ) (w : List ℕ) → k ≡ i → IsWord ws k w → IsWord ws i w
 moved ws i k w e h = subst (λ (n : ℕ). IsWord ws n w) e h
 
 key_word : (ws : List Lexeme) (i j : ℕ) (w : List ℕ) → key w ws i j tt → IsWord ws i w

@@ -5,15 +5,17 @@
 
 ghost use Rattle.std.specs.Prelude.{◌≡◌, ℕ, ◌+◌, map, option_map, slice_get, Some, MatchOption};
 ghost use Rattle.lft_tree.specs.Tree.{ReactorTree, MemberTree, reactors_of};
-ghost use Rattle.lft_tree.specs.View.{member_view, reactor_view, tree_view};
+ghost use Rattle.lft_tree.specs.View.{member_view, reactor_view, ref_view, ref_views, tree_view};
 ghost use Rattle.lft_syntax.specs.Places.{Begins, begins_view};
+ghost use Rattle.lft_syntax.specs.Grammar.{ref};
 ghost use Rattle.lft_syntax.specs.View.{lexemes};
+ghost use Rattle.lft_places.specs.Lists.{IsListAt, IsNameIn, names_in};
 ghost use Rattle.lft_places.specs.Places.{IsReactorIn, IsMemberIn, declared_token, name_token};
 
 use crate::source::SourceText;
 use crate::spots::MemberPlace;
 use lft_scope::kinds::Role;
-use lft_tree::{Connection, Item, Member, Reactor, TimeExpression};
+use lft_tree::{Item, Member, Reactor, Reference};
 
 /// How many tokens behind the first one of a reactor its name stands.
 pub(crate) fn name_offset(reactor: &Reactor) -> usize
@@ -130,6 +132,38 @@ impl<'a> SourceText<'a> {
         None
     }
 
+    /// The token behind the name that begins there.
+    fn name_end(&self, at: usize, name: &Reference) -> usize
+        ensures { (end : ℕ) → ref (lexemes self.now.text.now self.now.tokens.now) at end (ref_view name.now) → result ≡ end }
+    {
+        match &name.port {
+            None => self.behind(at, 1),
+            Some(_) => self.behind(at, 3),
+        }
+    }
+
+    /// The first token of the name with that place in a list that begins there.
+    fn name_start(&self, first: usize, names: &[Reference], place: usize) -> Option<usize>
+        ensures { (k : ℕ) → IsNameIn (lexemes self.now.text.now self.now.tokens.now) (ref_views names.now) first place k → result ≡ Some k }
+    {
+        let mut at = first;
+        for before in 0..place {
+            if before >= names.len() {
+                return None;
+            }
+            at = self.behind(self.name_end(at, &names[before]), 1);
+        }
+        Some(at)
+    }
+
+    /// The first token of a name that the reaction reads, by its place.
+    fn read_start(&self, start: usize, place: usize) -> Option<usize> {
+        let code = self.code_from(start);
+        let arrow = self.arrow_from(start);
+        let end = if arrow < code { arrow } else { code };
+        self.name_among(self.triggers(start), end, place)
+    }
+
     /// The first token of a name of the member that begins there, by its role and place.
     pub(crate) fn name(
         &self,
@@ -137,18 +171,20 @@ impl<'a> SourceText<'a> {
         start: usize,
         role: Role,
         place: usize,
-    ) -> Option<usize> {
-        let code = self.code_from(start);
-        let arrow = self.arrow_from(start);
+    ) -> Option<usize>
+        ensures { (first k : ℕ) → IsListAt (lexemes self.now.text.now self.now.tokens.now) role start first → IsNameIn (lexemes self.now.text.now self.now.tokens.now) (names_in role (member_view member.now)) first place k → result ≡ Some k }
+    {
+        let behind = self.behind(self.arrow_from(start), 1);
         match (member, role) {
-            (Member::Reaction(_), Role::Read) => {
-                let open = self.triggers(start);
-                self.name_among(open, if arrow < code { arrow } else { code }, place)
+            (Member::Reaction(_), Role::Read) => self.read_start(start, place),
+            (Member::Reaction(reaction), Role::Effect) => {
+                self.name_start(behind, &reaction.effects, place)
             }
-            (Member::Reaction(_), _) => self.name_among(arrow, code, place),
-            (Member::Connection(_), Role::Source) => self.name_among(start, arrow, place),
-            (Member::Connection(_), _) => {
-                self.name_among(arrow, self.connected_end(start), place)
+            (Member::Connection(connection), Role::Source) => {
+                self.name_start(start, &connection.sources, place)
+            }
+            (Member::Connection(connection), Role::Destination) => {
+                self.name_start(behind, &connection.destinations, place)
             }
             _ => None,
         }

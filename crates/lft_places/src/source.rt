@@ -75,6 +75,18 @@ impl<'a> SourceText<'a> {
         }
     }
 
+    /// The token so many behind, if there is one, or that behind the last one.
+    pub(crate) fn behind(&self, at: usize, by: usize) -> usize
+        ensures { at + by ≤ length self.now.tokens.now → result ≡ at + by }
+    {
+        let count = self.tokens.len();
+        if at <= count && by <= count - at {
+            at + by
+        } else {
+            count
+        }
+    }
+
     /// What the token is.
     fn kind(&self, at: usize) -> Option<TokenKind> {
         if at < self.tokens.len() {

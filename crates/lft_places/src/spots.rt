@@ -11,6 +11,7 @@ ghost use Rattle.lft_syntax.specs.Grammar.{refs};
 ghost use Rattle.lft_syntax.specs.View.{lexemes};
 ghost use Rattle.lft_tree.specs.Tree.{ReactorTree, MemberTree, InstanceTree, ReactionTree, ConnectionTree, InstanceMember, ReactionMember, ConnectionMember};
 ghost use Rattle.lft_tree.specs.View.{ref_view, time_view, tree_view};
+ghost use Rattle.lft_places.specs.Lists.{IsListAt, IsNameIn, IsNameSpot, NameAt, names_in};
 ghost use Rattle.lft_places.specs.Places.{IsMemberAt, IsSpanSpot, IsReactorAt, IsTokenSpot, declared_token, name_declared, name_token};
 ghost use Rattle.lft_places.specs.Spots.{HasCodeWith, IsCodeWith, NameStandsAt, StandAt, StandsAt, TimeStandsAt};
 
@@ -94,7 +95,8 @@ impl<'a> SourceText<'a> {
 
     /// The bytes of a name, of which that is the first token.
     fn reference(&self, at: usize, name: &Reference) -> Option<Spot>
-        ensures { IfSome result (λ s. NameStandsAt self.now.text.now s (ref_view name.now)) }
+        ensures spelled { IfSome result (λ s. NameStandsAt self.now.text.now s (ref_view name.now)) }
+        ensures found { NameAt (lexemes self.now.text.now self.now.tokens.now) at (ref_view name.now) → IsNameSpot self.now.tokens.now at (ref_view name.now) result }
     {
         match &name.port {
             None => self.word(at, name.head.as_str()),
@@ -183,7 +185,8 @@ impl<'a> SourceText<'a> {
         place: usize,
         name: &Reference,
     ) -> Option<Spot>
-        ensures { IfSome result (λ s. NameStandsAt self.now.text.now s (ref_view name.now)) }
+        ensures spelled { IfSome result (λ s. NameStandsAt self.now.text.now s (ref_view name.now)) }
+        ensures place { (m : MemberTree) (start first k : ℕ) → IsMemberAt (lexemes self.now.text.now self.now.tokens.now) (tree_view self.now.ast.now) at m start → IsListAt (lexemes self.now.text.now self.now.tokens.now) role start first → IsNameIn (lexemes self.now.text.now self.now.tokens.now) (names_in role m) first place k → slice_get (names_in role m) place ≡ Some (ref_view name.now) → IsNameSpot self.now.tokens.now k (ref_view name.now) result }
     {
         let (member, start) = self.member(at)?;
         self.reference(self.name(member, start, role, place)?, name)

@@ -1,7 +1,6 @@
-use Rattle.std.proofs.Common.{◌≡◌, ℕ, ◌+◌, ◌≤◌, sym, ap, subst, ◌∙◌}
+use Rattle.std.proofs.Common.{◌≡◌, ℕ, sym, ap, subst, ◌∙◌}
 use Rattle.std.specs.Prelude.{slice_get}
 use Rattle.lft_tree.specs.Tree.{ConnectionMember}
-use Rattle.lft_tree.specs.View.{tree_view}
 use Rattle.lft_syntax.specs.Lexeme.{Arrow, is}
 use Rattle.lft_syntax.specs.View.{lexemes}
 use Rattle.lft_places.specs.Places.{IsTokenSpot}

@@ -1,8 +1,7 @@
-use Rattle.std.proofs.Common.{◌≡◌, ℕ, ◌+◌, sym, ap, subst, ◌∙◌}
+use Rattle.std.proofs.Common.{◌≡◌, ℕ, ◌+◌, ap, ◌∙◌}
 use Rattle.lft_tree.specs.Tree.{MemberTree}
 use Rattle.lft_tree.specs.View.{tree_view, member_view}
 use Rattle.lft_syntax.specs.View.{lexemes}
-use Rattle.lft_syntax.specs.Places.{begins_view}
 use Rattle.lft_places.specs.Places.{declared_token}
 use Rattle.lft_places.proofs.Placed.{member_in_table, member_there}
 use Rattle.lft_places.proofs.Words.{declared_word, spot_found}

@@ -1,4 +1,4 @@
-use Rattle.std.proofs.Common.{◌≡◌, sym, ◌∙◌}
+use Rattle.std.proofs.Common.{sym, ◌∙◌}
 use Rattle.lft_places.proofs.Words.{word_is, word_not, word_past}
 use Rattle.lft_places.proofs.source.SourceText.is_word.Goals as goal
 

@@ -1,6 +1,5 @@
-use Rattle.std.proofs.Common.{◌≡◌, ℕ, ◌+◌, ◌<◌, sym, ap, subst, ◌∙◌, arith}
+use Rattle.std.proofs.Common.{ℕ, ◌+◌, ap, subst, ◌∙◌, arith}
 use Rattle.std.specs.Prelude.{slice_get}
-use Rattle.lft_tree.specs.Tree.{ReactorTree}
 use Rattle.lft_tree.specs.View.{tree_view}
 use Rattle.lft_syntax.specs.View.{lexemes}
 use Rattle.lft_places.specs.Places.{IsSpanSpot}

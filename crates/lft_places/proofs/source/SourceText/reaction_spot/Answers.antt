@@ -1,8 +1,6 @@
-use Rattle.std.proofs.Common.{◌≡◌, ℕ, ◌+◌, sym, ap, subst, ◌∙◌}
 use Rattle.lft_tree.specs.Tree.{ReactionMember}
 use Rattle.lft_tree.specs.View.{tree_view}
 use Rattle.lft_syntax.specs.View.{lexemes}
-use Rattle.lft_syntax.specs.Places.{begins_view}
 use Rattle.lft_places.proofs.Placed.{member_in_table, member_there}
 use Rattle.lft_places.proofs.Words.{reaction_word, spot_found}
 use Rattle.lft_places.proofs.source.SourceText.reaction_spot.Goals as goal

@@ -1,8 +1,7 @@
-use Rattle.std.proofs.Common.{◌≡◌, ℕ, ◌+◌, sym, ap, subst, ◌∙◌}
+use Rattle.std.proofs.Common.{◌≡◌, ℕ, ◌+◌, ap, ◌∙◌}
 use Rattle.lft_tree.specs.Tree.{ReactorTree}
 use Rattle.lft_tree.specs.View.{tree_view, reactor_view}
 use Rattle.lft_syntax.specs.View.{lexemes}
-use Rattle.lft_syntax.specs.Places.{begins_view}
 use Rattle.lft_places.specs.Places.{name_token}
 use Rattle.lft_places.proofs.Placed.{reactor_in_table, reactor_there}
 use Rattle.lft_places.proofs.Words.{reactor_word, spot_found}
