@@ -1,115 +1,109 @@
 //! Where the parts of a tree stand among the tokens of its text.
 //!
-//! The tree is walked in step with the tokens, so a place is never one of another member, of a type, of a
-//! state variable or of a target's block.
+//! Where each reactor and each member begins is known. So a place is never one of another member, of a type,
+//! of a state variable or of a target's block.
+
+ghost use Rattle.std.specs.Prelude.{◌≡◌, ℕ, ◌+◌, map, option_map, slice_get, Some, MatchOption};
+ghost use Rattle.lft_tree.specs.Tree.{ReactorTree, MemberTree, reactors_of};
+ghost use Rattle.lft_tree.specs.View.{member_view, reactor_view, ref_view, ref_views, tree_view};
+ghost use Rattle.lft_syntax.specs.Places.{Begins, begins_view};
+ghost use Rattle.lft_syntax.specs.Grammar.{ref};
+ghost use Rattle.lft_syntax.specs.View.{lexemes};
+ghost use Rattle.lft_places.specs.Lists.{IsListAt, IsNameIn, names_in};
+ghost use Rattle.lft_places.specs.Places.{IsReactorIn, IsMemberIn, declared_token, name_token};
 
 use crate::source::SourceText;
 use crate::spots::MemberPlace;
 use lft_scope::kinds::Role;
-use lft_tree::{Connection, Item, Member, Reactor, TimeExpression};
+use lft_tree::{Item, Member, Reactor, Reference};
+
+/// How many tokens behind the first one of a reactor its name stands.
+pub(crate) fn name_offset(reactor: &Reactor) -> usize
+    ensures { (start : ℕ) → start + result ≡ name_token (reactor_view reactor.now) start }
+{
+    if reactor.is_main { 2 } else { 1 }
+}
 
 impl<'a> SourceText<'a> {
-    /// The token behind the delay of a connection whose names end there.
-    fn delay_end(&self, connection: &Connection, at: usize) -> usize {
-        match &connection.delay {
-            None => at,
-            Some(TimeExpression::Parameter(_)) => at.saturating_add(2),
-            Some(TimeExpression::Written(time)) if time.unit.is_none() => at.saturating_add(2),
-            Some(TimeExpression::Written(_)) => at.saturating_add(3),
-        }
-    }
-
     /// The token behind the names of a connection.
     fn connected_end(&self, start: usize) -> usize {
         self.names_end(self.arrow_from(start).saturating_add(1))
     }
 
-    /// The token of the name that the member declares, or its first one.
-    pub(crate) fn declared(&self, member: &Member, start: usize) -> usize {
+    /// How many tokens behind the first one of the member the name stands that it declares.
+    pub(crate) fn declared_offset(&self, member: &Member, start: usize) -> usize
+        ensures { start + result ≡ declared_token (lexemes self.now.text.now self.now.tokens.now) (member_view member.now) start }
+    {
         match member {
-            Member::Port(_) if self.is_word(start, b"mutable") => start.saturating_add(2),
-            Member::Port(_) | Member::Timer(_) => start.saturating_add(1),
-            Member::Action(_) => start.saturating_add(2),
-            Member::Instance(_) | Member::State(_) | Member::Preamble(_) => start,
-            Member::Reaction(_) | Member::Connection(_) => start,
-        }
-    }
-
-    /// The token behind the member that begins there.
-    fn member_end(&self, member: &Member, start: usize) -> usize {
-        match member {
-            Member::Port(_) => self.type_end(self.declared(member, start).saturating_add(1)),
-            Member::Timer(_) => self.group_end(start.saturating_add(2)),
-            Member::Action(_) => self.type_end(self.group_end(start.saturating_add(3))),
-            Member::State(range) | Member::Preamble(range) => range.end,
-            Member::Reaction(_) => self.code_from(start).saturating_add(1),
-            Member::Instance(_) => self.group_end(start.saturating_add(4)),
-            Member::Connection(connection) => {
-                self.delay_end(connection, self.connected_end(start))
-            }
-        }
-    }
-
-    /// The token of a reactor's name, or its first one.
-    pub(crate) fn reactor_name(&self, reactor: &Reactor, start: usize) -> usize {
-        match &reactor.name {
-            Some(_) if reactor.is_main => start.saturating_add(2),
-            Some(_) => start.saturating_add(1),
-            None => start,
+            Member::Port(_) => if self.is_word(start, b"mutable") {
+                2
+            } else {
+                1
+            },
+            Member::Timer(_) => 1,
+            Member::Action(_) => 2,
+            Member::Instance(_) | Member::State(_) | Member::Preamble(_) => 0,
+            Member::Reaction(_) | Member::Connection(_) => 0,
         }
     }
 
     /// The token behind the name of a reactor, with which its parameters or its body begin.
     pub(crate) fn head_end(&self, reactor: &Reactor, start: usize) -> usize {
         match &reactor.name {
-            Some(_) => self.reactor_name(reactor, start).saturating_add(1),
+            Some(_) => start.saturating_add(name_offset(reactor)).saturating_add(1),
             None => start.saturating_add(2),
         }
     }
 
-    /// The first token of the member with that place in the reactor, or of what is behind all of them.
-    fn member_start(&self, reactor: &Reactor, start: usize, place: usize) -> usize {
-        let body = self.group_end(self.head_end(reactor, start));
-        let mut at = body.saturating_add(1);
-        for before in 0..reactor.members.len() {
-            if before == place {
-                return at;
-            }
-            at = self.member_end(&reactor.members[before], at);
-        }
-        at
-    }
-
-    /// The reactor with that place in the file, and its first token.
-    pub(crate) fn reactor(&self, place: usize) -> Option<(&'a Reactor, usize)> {
-        let mut at = match self.ast.target {
-            Some(range) => range.end,
-            None => 0,
-        };
-        let mut before: usize = 0;
+    /// The reactor with that place in the file.
+    fn reactor_of(&self, place: usize) -> Option<&'a Reactor>
+        ensures { option_map (λ r. reactor_view r.now) result ≡ slice_get (reactors_of (tree_view self.now.ast.now)) place }
+    {
+        let mut left = place;
         for item in &self.ast.items {
-            match item {
-                Item::Preamble(range) => at = range.end,
-                Item::Reactor(reactor) => {
-                    if before == place {
-                        return Some((reactor, at));
-                    }
-                    before = before.saturating_add(1);
-                    at = self
-                        .member_start(reactor, at, reactor.members.len())
-                        .saturating_add(1);
+            if let Item::Reactor(reactor) = item {
+                if left == 0 {
+                    return Some(reactor);
                 }
+                left -= 1;
             }
         }
         None
     }
 
+    /// The reactor with that place in the file, and its first token.
+    pub(crate) fn reactor(&self, place: usize) -> Option<(&'a Reactor, usize)>
+        ensures { (r : ReactorTree) (start : ℕ) → IsReactorIn (tree_view self.now.ast.now) (map begins_view self.now.places.now) place r start → MatchOption result ⊥ (λ x. (reactor_view x.0.now ≡ r) × (x.1 ≡ start)) }
+    {
+        let reactor = self.reactor_of(place)?;
+        if place < self.places.len() {
+            Some((reactor, self.places[place].start))
+        } else {
+            None
+        }
+    }
+
+    /// The first token of the member with that place.
+    fn member_start(&self, place: MemberPlace) -> Option<usize>
+        ensures { (b : Begins) (start : ℕ) → slice_get (map begins_view self.now.places.now) place.reactor ≡ Some b → slice_get b.members place.member ≡ Some start → result ≡ Some start }
+    {
+        if place.reactor >= self.places.len() {
+            return None;
+        }
+        self.places[place.reactor]
+            .members
+            .get(place.member)
+            .copied()
+    }
+
     /// The member, and its first token.
-    pub(crate) fn member(&self, place: MemberPlace) -> Option<(&'a Member, usize)> {
-        let (reactor, start) = self.reactor(place.reactor)?;
+    pub(crate) fn member(&self, place: MemberPlace) -> Option<(&'a Member, usize)>
+        ensures { (m : MemberTree) (start : ℕ) → IsMemberIn (tree_view self.now.ast.now) (map begins_view self.now.places.now) place m start → MatchOption result ⊥ (λ x. (member_view x.0.now ≡ m) × (x.1 ≡ start)) }
+    {
+        let reactor = self.reactor_of(place.reactor)?;
+        let start = self.member_start(place)?;
         if place.member < reactor.members.len() {
-            let at = self.member_start(reactor, start, place.member);
-            Some((&reactor.members[place.member], at))
+            Some((&reactor.members[place.member], start))
         } else {
             None
         }
@@ -138,6 +132,38 @@ impl<'a> SourceText<'a> {
         None
     }
 
+    /// The token behind the name that begins there.
+    fn name_end(&self, at: usize, name: &Reference) -> usize
+        ensures { (end : ℕ) → ref (lexemes self.now.text.now self.now.tokens.now) at end (ref_view name.now) → result ≡ end }
+    {
+        match &name.port {
+            None => self.behind(at, 1),
+            Some(_) => self.behind(at, 3),
+        }
+    }
+
+    /// The first token of the name with that place in a list that begins there.
+    fn name_start(&self, first: usize, names: &[Reference], place: usize) -> Option<usize>
+        ensures { (k : ℕ) → IsNameIn (lexemes self.now.text.now self.now.tokens.now) (ref_views names.now) first place k → result ≡ Some k }
+    {
+        let mut at = first;
+        for before in 0..place {
+            if before >= names.len() {
+                return None;
+            }
+            at = self.behind(self.name_end(at, &names[before]), 1);
+        }
+        Some(at)
+    }
+
+    /// The first token of a name that the reaction reads, by its place.
+    fn read_start(&self, start: usize, place: usize) -> Option<usize> {
+        let code = self.code_from(start);
+        let arrow = self.arrow_from(start);
+        let end = if arrow < code { arrow } else { code };
+        self.name_among(self.triggers(start), end, place)
+    }
+
     /// The first token of a name of the member that begins there, by its role and place.
     pub(crate) fn name(
         &self,
@@ -145,18 +171,20 @@ impl<'a> SourceText<'a> {
         start: usize,
         role: Role,
         place: usize,
-    ) -> Option<usize> {
-        let code = self.code_from(start);
-        let arrow = self.arrow_from(start);
+    ) -> Option<usize>
+        ensures { (first k : ℕ) → IsListAt (lexemes self.now.text.now self.now.tokens.now) role start first → IsNameIn (lexemes self.now.text.now self.now.tokens.now) (names_in role (member_view member.now)) first place k → result ≡ Some k }
+    {
+        let behind = self.behind(self.arrow_from(start), 1);
         match (member, role) {
-            (Member::Reaction(_), Role::Read) => {
-                let open = self.triggers(start);
-                self.name_among(open, if arrow < code { arrow } else { code }, place)
+            (Member::Reaction(_), Role::Read) => self.read_start(start, place),
+            (Member::Reaction(reaction), Role::Effect) => {
+                self.name_start(behind, &reaction.effects, place)
             }
-            (Member::Reaction(_), _) => self.name_among(arrow, code, place),
-            (Member::Connection(_), Role::Source) => self.name_among(start, arrow, place),
-            (Member::Connection(_), _) => {
-                self.name_among(arrow, self.connected_end(start), place)
+            (Member::Connection(connection), Role::Source) => {
+                self.name_start(start, &connection.sources, place)
+            }
+            (Member::Connection(connection), Role::Destination) => {
+                self.name_start(behind, &connection.destinations, place)
             }
             _ => None,
         }

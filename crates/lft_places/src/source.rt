@@ -2,18 +2,29 @@
 //!
 //! The text has a tree. So what begins at a token is known from the tree, and only its end is looked for.
 
-ghost use Rattle.std.specs.Prelude.{◌≡◌, ◌↔◌, ◌<◌, ◌≤◌, ◌+◌, IfSome, IsSome, IsTrue, length, slice_range};
+ghost use Rattle.std.specs.Prelude.{◌≡◌, ◌↔◌, ℕ, ◌<◌, ◌≤◌, ◌+◌, IfSome, IsSome, IsTrue, Some, false, true, length, map, slice_get, slice_range};
+ghost use Rattle.lft_tree.specs.View.{tree_view};
+ghost use Rattle.lft_syntax.specs.declared.token.Token.{Token as TheToken};
+ghost use Rattle.lft_syntax.specs.Lexes.{Lexes};
+ghost use Rattle.lft_syntax.specs.Lexeme.{Arrow, Letters, is};
+ghost use Rattle.lft_syntax.specs.Grammar.{Spells};
+ghost use Rattle.lft_syntax.specs.View.{lexemes};
+ghost use Rattle.lft_syntax.specs.Places.{file_begins, begins_view};
 ghost use Rattle.lft_places.specs.Spots.{StandsIn};
 
-use lft_syntax::{Token, TokenKind};
+use lft_syntax::{ReactorPlaces, Token, TokenKind};
 use lft_tree::Ast;
 
-/// A program's text with its tokens and its tree.
+/// A program's text with its tokens and its tree, and where the reactors and their members begin.
 #[derive(Clone, Copy)]
 pub struct SourceText<'a> {
     pub text: &'a [u8],
     pub tokens: &'a [Token],
     pub ast: &'a Ast,
+    pub places: &'a [ReactorPlaces],
+    ghost lexed: { ∥ Lexes text.now tokens.now ∥₁ },
+    ghost in_text: { (i : ℕ) (t : TheToken) → slice_get tokens.now i ≡ Some t → (t.start ≤ t.end) × (t.end ≤ length text.now) },
+    ghost placed: { (s : Spells (tree_view ast.now) (lexemes text.now tokens.now)) → map begins_view places.now ≡ file_begins (lexemes text.now tokens.now) (tree_view ast.now) s },
 }
 
 /// The bytes of a token.
@@ -53,6 +64,29 @@ pub(crate) fn holds(text: &[u8], bytes: &[u8]) -> bool
 }
 
 impl<'a> SourceText<'a> {
+    /// The token with that number.
+    pub(crate) fn token(&self, at: usize) -> Option<Token>
+        ensures { result ≡ slice_get self.now.tokens.now at }
+    {
+        if at < self.tokens.len() {
+            Some(self.tokens[at])
+        } else {
+            None
+        }
+    }
+
+    /// The token so many behind, if there is one, or that behind the last one.
+    pub(crate) fn behind(&self, at: usize, by: usize) -> usize
+        ensures { at + by ≤ length self.now.tokens.now → result ≡ at + by }
+    {
+        let count = self.tokens.len();
+        if at <= count && by <= count - at {
+            at + by
+        } else {
+            count
+        }
+    }
+
     /// What the token is.
     fn kind(&self, at: usize) -> Option<TokenKind> {
         if at < self.tokens.len() {
@@ -78,41 +112,29 @@ impl<'a> SourceText<'a> {
     }
 
     /// Whether the token is an arrow.
-    fn is_arrow(&self, at: usize) -> bool {
-        self.kind(at) == Some(TokenKind::Arrow)
-    }
-
-    /// Whether the token has that spelling.
-    pub(crate) fn is_word(&self, at: usize, word: &[u8]) -> bool {
-        if at >= self.tokens.len() {
-            return false;
-        }
-        match spelling(self.text, self.tokens[at]) {
-            Some(bytes) => bytes == word,
+    fn is_arrow(&self, at: usize) -> bool
+        ensures { result ≡ is Arrow (slice_get (lexemes self.now.text.now self.now.tokens.now) at) }
+    {
+        match self.token(at) {
+            Some(token) => match token.kind {
+                TokenKind::Arrow => true,
+                _ => false,
+            },
             None => false,
         }
     }
 
-    /// Whether the token goes on with a type: a type has no two names side by side.
-    fn goes_on_with_type(&self, at: usize) -> bool {
-        match self.kind(at) {
-            Some(TokenKind::Symbol(b'.' | b':' | b'*' | b'[' | b']') | TokenKind::Number(_)) =>
-                true,
-            Some(TokenKind::Name | TokenKind::Code) => {
-                at > 0 && (self.is_sign(at - 1, b'.') || self.is_sign(at - 1, b':'))
-            }
-            _ => false,
+    /// Whether the token is a name or a word with that spelling.
+    pub(crate) fn is_word(&self, at: usize, word: &[u8]) -> bool
+        ensures { result ≡ is (Letters word.now) (slice_get (lexemes self.now.text.now self.now.tokens.now) at) }
+    {
+        match self.token(at) {
+            Some(token) => match token.kind {
+                TokenKind::Name => word == &self.text[token.start..token.end],
+                _ => false,
+            },
+            None => false,
         }
-    }
-
-    /// Where the type that may begin there ends.
-    pub(crate) fn type_end(&self, start: usize) -> usize {
-        for at in start..self.tokens.len() {
-            if !self.goes_on_with_type(at) {
-                return at;
-            }
-        }
-        self.tokens.len()
     }
 
     /// Where the group of parentheses that may begin there ends.
@@ -148,7 +170,9 @@ impl<'a> SourceText<'a> {
     }
 
     /// The first arrow at or behind the token, else the number of tokens.
-    pub(crate) fn arrow_from(&self, start: usize) -> usize {
+    pub(crate) fn arrow_from(&self, start: usize) -> usize
+        ensures { (k : ℕ) → start ≤ k → is Arrow (slice_get (lexemes self.now.text.now self.now.tokens.now) k) ≡ true → ((i : ℕ) → start ≤ i → i < k → is Arrow (slice_get (lexemes self.now.text.now self.now.tokens.now) i) ≡ false) → result ≡ k }
+    {
         for at in start..self.tokens.len() {
             if self.is_arrow(at) {
                 return at;

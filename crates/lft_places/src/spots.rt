@@ -3,12 +3,19 @@
 //! Each part is looked for where the tree and the tokens have it. What is found there is compared with the
 //! name that is wanted, so a spot is never one of something else.
 
-ghost use Rattle.std.specs.Prelude.{◌≡◌, ◌↔◌, ◌≤◌, Contains, IfSome, IsTrue, codes};
+ghost use Rattle.std.specs.Prelude.{◌≡◌, ◌↔◌, ℕ, ◌+◌, ◌≤◌, Contains, IfSome, IsSome, IsTrue, Some, true, codes, slice_get, slice_range};
 ghost use Rattle.lft_syntax.specs.declared.token.Token.{Token as TheToken};
 ghost use Rattle.lft_syntax.specs.declared.token.TokenKind.TheVariants.{Number};
-ghost use Rattle.lft_tree.specs.View.{ref_view, time_view};
+ghost use Rattle.lft_syntax.specs.Lexeme.{Arrow};
+ghost use Rattle.lft_syntax.specs.Grammar.{refs};
+ghost use Rattle.lft_syntax.specs.View.{lexemes};
+ghost use Rattle.lft_tree.specs.Tree.{ReactorTree, MemberTree, InstanceTree, ReactionTree, ConnectionTree, InstanceMember, ReactionMember, ConnectionMember};
+ghost use Rattle.lft_tree.specs.View.{ref_view, time_view, tree_view};
+ghost use Rattle.lft_places.specs.Lists.{IsListAt, IsNameIn, IsNameSpot, NameAt, names_in};
+ghost use Rattle.lft_places.specs.Places.{IsMemberAt, IsSpanSpot, IsReactorAt, IsTokenSpot, declared_token, name_declared, name_token};
 ghost use Rattle.lft_places.specs.Spots.{HasCodeWith, IsCodeWith, NameStandsAt, StandAt, StandsAt, TimeStandsAt};
 
+use crate::places::name_offset;
 use crate::source::{SourceText, holds, spelling};
 use lft_scope::kinds::Role;
 use lft_syntax::{Token, TokenKind};
@@ -31,7 +38,8 @@ pub struct MemberPlace {
 impl Spot {
     /// From the start of one spot to the end of another one behind it.
     fn up_to(self, last: Spot) -> Option<Spot>
-        ensures { IfSome result (λ s. (s.start ≡ self.start) × (self.end ≤ last.start) × (s.end ≡ last.end)) }
+        ensures spans { IfSome result (λ s. (s.start ≡ self.start) × (self.end ≤ last.start) × (s.end ≡ last.end)) }
+        ensures found { self.end ≤ last.start → IsSome result }
     {
         if self.end <= last.start {
             Some(Spot {
@@ -47,26 +55,39 @@ impl Spot {
 impl<'a> SourceText<'a> {
     /// The bytes of the token, if it spells the word.
     fn word(&self, at: usize, word: &str) -> Option<Spot>
-        ensures { IfSome result (λ s. StandsAt self.now.text.now s word.now) }
+        ensures spelled { IfSome result (λ s. StandsAt self.now.text.now s word.now) }
+        ensures place { IfSome result (λ s. IsTokenSpot self.now.tokens.now at (Some s)) }
+        ensures found { (token : TheToken) → slice_get self.now.tokens.now at ≡ Some token → slice_range self.now.text.now token.start token.end ≡ word.now → IsTokenSpot self.now.tokens.now at result }
     {
-        if at >= self.tokens.len() {
-            return None;
-        }
-        let token = self.tokens[at];
-        match spelling(self.text, token) {
-            Some(bytes) if bytes == word.as_bytes() => Some(Spot {
+        let token = self.token(at)?;
+        if &self.text[token.start..token.end] == word.as_bytes() {
+            Some(Spot {
                 start: token.start,
                 end: token.end,
-            }),
-            _ => None,
+            })
+        } else {
+            None
         }
     }
 
-    /// The bytes from one token up to another, if they spell these words.
-    fn words(&self, first: usize, word: &str, last: usize, other: &str) -> Option<Spot>
-        ensures { IfSome result (λ s. StandAt self.now.text.now s word.now other.now) }
+    /// The bytes of the token so many behind, if it spells the word.
+    fn word_behind(&self, start: usize, by: usize, word: &str) -> Option<Spot>
+        ensures spelled { IfSome result (λ s. StandsAt self.now.text.now s word.now) }
+        ensures found { (token : TheToken) → slice_get self.now.tokens.now (start + by) ≡ Some token → slice_range self.now.text.now token.start token.end ≡ word.now → IsTokenSpot self.now.tokens.now (start + by) result }
     {
-        match (self.word(first, word), self.word(last, other)) {
+        if start < self.tokens.len() && by < self.tokens.len() - start {
+            self.word(start + by, word)
+        } else {
+            None
+        }
+    }
+
+    /// The bytes from one token up to the one so many behind, if they spell these words.
+    fn words(&self, first: usize, word: &str, by: usize, other: &str) -> Option<Spot>
+        ensures spelled { IfSome result (λ s. StandAt self.now.text.now s word.now other.now) }
+        ensures found { (a b : TheToken) → slice_get self.now.tokens.now first ≡ Some a → slice_get self.now.tokens.now (first + by) ≡ Some b → slice_range self.now.text.now a.start a.end ≡ word.now → slice_range self.now.text.now b.start b.end ≡ other.now → a.end ≤ b.start → IsSpanSpot self.now.tokens.now first (first + by) result }
+    {
+        match (self.word(first, word), self.word_behind(first, by, other)) {
             (Some(one), Some(other)) => one.up_to(other),
             _ => None,
         }
@@ -74,14 +95,12 @@ impl<'a> SourceText<'a> {
 
     /// The bytes of a name, of which that is the first token.
     fn reference(&self, at: usize, name: &Reference) -> Option<Spot>
-        ensures { IfSome result (λ s. NameStandsAt self.now.text.now s (ref_view name.now)) }
+        ensures spelled { IfSome result (λ s. NameStandsAt self.now.text.now s (ref_view name.now)) }
+        ensures found { NameAt (lexemes self.now.text.now self.now.tokens.now) at (ref_view name.now) → IsNameSpot self.now.tokens.now at (ref_view name.now) result }
     {
         match &name.port {
             None => self.word(at, name.head.as_str()),
-            Some(port) => {
-                let last = at.saturating_add(2);
-                self.words(at, name.head.as_str(), last, port.as_str())
-            }
+            Some(port) => self.words(at, name.head.as_str(), 2, port.as_str()),
         }
     }
 
@@ -125,18 +144,20 @@ impl<'a> SourceText<'a> {
 
     /// The name of a reactor.
     pub fn reactor_spot(&self, reactor: usize, name: &str) -> Option<Spot>
-        ensures { IfSome result (λ s. StandsAt self.now.text.now s name.now) }
+        ensures spelled { IfSome result (λ s. StandsAt self.now.text.now s name.now) }
+        ensures place { (r : ReactorTree) (start : ℕ) → IsReactorAt (lexemes self.now.text.now self.now.tokens.now) (tree_view self.now.ast.now) reactor r start → r.name ≡ Some name.now → IsTokenSpot self.now.tokens.now (name_token r start) result }
     {
         let (reactor, start) = self.reactor(reactor)?;
-        self.word(self.reactor_name(reactor, start), name)
+        self.word_behind(start, name_offset(reactor), name)
     }
 
     /// The words `main reactor`.
     pub fn main_spot(&self, reactor: usize) -> Option<Spot>
-        ensures { IfSome result (λ s. StandAt self.now.text.now s (codes "main") (codes "reactor")) }
+        ensures spelled { IfSome result (λ s. StandAt self.now.text.now s (codes "main") (codes "reactor")) }
+        ensures place { (r : ReactorTree) (start : ℕ) → IsReactorAt (lexemes self.now.text.now self.now.tokens.now) (tree_view self.now.ast.now) reactor r start → r.is_main ≡ true → IsSpanSpot self.now.tokens.now start (start + 1) result }
     {
         let (_, start) = self.reactor(reactor)?;
-        self.words(start, "main", start.saturating_add(1), "reactor")
+        self.words(start, "main", 1, "reactor")
     }
 
     /// The name of a parameter where its reactor declares it.
@@ -149,10 +170,11 @@ impl<'a> SourceText<'a> {
 
     /// The name that a member declares.
     pub fn declared_spot(&self, at: MemberPlace, name: &str) -> Option<Spot>
-        ensures { IfSome result (λ s. StandsAt self.now.text.now s name.now) }
+        ensures spelled { IfSome result (λ s. StandsAt self.now.text.now s name.now) }
+        ensures place { (m : MemberTree) (start : ℕ) → IsMemberAt (lexemes self.now.text.now self.now.tokens.now) (tree_view self.now.ast.now) at m start → name_declared m ≡ Some name.now → IsTokenSpot self.now.tokens.now (declared_token (lexemes self.now.text.now self.now.tokens.now) m start) result }
     {
         let (member, start) = self.member(at)?;
-        self.word(self.declared(member, start), name)
+        self.word_behind(start, self.declared_offset(member, start), name)
     }
 
     /// A name of a member, by its role and its place there.
@@ -163,7 +185,8 @@ impl<'a> SourceText<'a> {
         place: usize,
         name: &Reference,
     ) -> Option<Spot>
-        ensures { IfSome result (λ s. NameStandsAt self.now.text.now s (ref_view name.now)) }
+        ensures spelled { IfSome result (λ s. NameStandsAt self.now.text.now s (ref_view name.now)) }
+        ensures place { (m : MemberTree) (start first k : ℕ) → IsMemberAt (lexemes self.now.text.now self.now.tokens.now) (tree_view self.now.ast.now) at m start → IsListAt (lexemes self.now.text.now self.now.tokens.now) role start first → IsNameIn (lexemes self.now.text.now self.now.tokens.now) (names_in role m) first place k → slice_get (names_in role m) place ≡ Some (ref_view name.now) → IsNameSpot self.now.tokens.now k (ref_view name.now) result }
     {
         let (member, start) = self.member(at)?;
         self.reference(self.name(member, start, role, place)?, name)
@@ -187,15 +210,17 @@ impl<'a> SourceText<'a> {
 
     /// The name of the reactor of which a member is an instance.
     pub fn instance_spot(&self, at: MemberPlace, name: &str) -> Option<Spot>
-        ensures { IfSome result (λ s. StandsAt self.now.text.now s name.now) }
+        ensures spelled { IfSome result (λ s. StandsAt self.now.text.now s name.now) }
+        ensures place { (x : InstanceTree) (start : ℕ) → IsMemberAt (lexemes self.now.text.now self.now.tokens.now) (tree_view self.now.ast.now) at (InstanceMember x) start → x.reactor ≡ name.now → IsTokenSpot self.now.tokens.now (start + 3) result }
     {
         let (_, start) = self.member(at)?;
-        self.word(start.saturating_add(3), name)
+        self.word_behind(start, 3, name)
     }
 
     /// The arrow of a connection.
     pub fn arrow_spot(&self, at: MemberPlace) -> Option<Spot>
-        ensures { IfSome result (λ s. StandsAt self.now.text.now s (codes "->")) }
+        ensures spelled { IfSome result (λ s. StandsAt self.now.text.now s (codes "->")) }
+        ensures place { (x : ConnectionTree) (start k : ℕ) → IsMemberAt (lexemes self.now.text.now self.now.tokens.now) (tree_view self.now.ast.now) at (ConnectionMember x) start → refs (lexemes self.now.text.now self.now.tokens.now) start k x.sources → slice_get (lexemes self.now.text.now self.now.tokens.now) k ≡ Some Arrow → IsTokenSpot self.now.tokens.now k result }
     {
         let (_, start) = self.member(at)?;
         self.word(self.arrow_from(start), "->")
@@ -203,7 +228,8 @@ impl<'a> SourceText<'a> {
 
     /// The word with which a reaction begins.
     pub fn reaction_spot(&self, at: MemberPlace) -> Option<Spot>
-        ensures { IfSome result (λ s. StandsAt self.now.text.now s (codes "reaction")) }
+        ensures spelled { IfSome result (λ s. StandsAt self.now.text.now s (codes "reaction")) }
+        ensures place { (x : ReactionTree) (start : ℕ) → IsMemberAt (lexemes self.now.text.now self.now.tokens.now) (tree_view self.now.ast.now) at (ReactionMember x) start → IsTokenSpot self.now.tokens.now start result }
     {
         let (_, start) = self.member(at)?;
         self.word(start, "reaction")

@@ -20,7 +20,7 @@ inside go past ws at t =
     ]
 
 -- an item takes a token, and ends within the text
-item_ends : {A : Type 0} {P : Spelling A} {F : Follow} {e h : Horizon} {p : Reading A} (n : ℕ) → Right P F e h (suc n) p → (ws : List Lexeme) (at : ℕ) → at ≤ length ws → (x : A) (j : ℕ) → p ws at ≡ Ok (x, j)
+pub item_ends : {A : Type 0} {P : Spelling A} {F : Follow} {e h : Horizon} {p : Reading A} (n : ℕ) → Right P F e h (suc n) p → (ws : List Lexeme) (at : ℕ) → at ≤ length ws → (x : A) (j : ℕ) → p ws at ≡ Ok (x, j)
     → (at < j) × (j ≤ length ws)
 item_ends {A = A} {P = P} {F = F} {e = e} {h = h} {p = p} n right ws at le x j r =
     let k : Known P F e h (suc n) ws at x j = subst (λ (o : Result (A × ℕ) ℕ). Outcome P F e h (suc n) ws at o) r (right.at ws at le) in

@@ -178,7 +178,7 @@ shut_no_name (Some (Number n)) e = refl
 shut_no_name (Some Arrow) e = refl
 shut_no_name (Some (Symbol b)) e = refl
 
-starts_member : Starts member is_inside true
+pub starts_member : Starts member is_inside true
 starts_member = from_port is_inside true (named is_inside true (λ x. refl) starts_others) refl refl refl refl refl refl refl refl refl refl refl
 
 name_closes_with : (x : List ℕ) (q : Option Lexeme) (a b : Bool) → is_one_of member_keys x ≡ a → is_reserved x ≡ b → negated b ≡ true → is_follower q ≡ true → closes_at (Some (Letters x)) q ≡ true

@@ -228,9 +228,13 @@ reactor = made reactor_of (key (codes "reactor") >> name & optional params & bod
 abbrev pub target : Spelling Range
 target = range (key (codes "target") >> ignored name >> ignored (optional braces))
 
--- [target] {preamble | reactor}
+-- preamble | reactor
+abbrev pub item : Spelling ItemTree
+item = made PreambleItem preamble or made ReactorItem reactor
+
+-- [target] {item}
 abbrev pub file : Spelling FileTree
-file = made file_of (optional target & many (made PreambleItem preamble or made ReactorItem reactor))
+file = made file_of (optional target & many item)
 
 -- the tokens are those of the tree
 abbrev pub Spells : FileTree → List Lexeme → Type 0

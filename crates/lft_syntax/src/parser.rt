@@ -16,6 +16,7 @@ mod groups;
 mod instances;
 mod members;
 mod names;
+mod places;
 mod reactions;
 mod reactors;
 mod references;
@@ -29,6 +30,7 @@ use crate::input::Input;
 use crate::parse_error::ParseError;
 use crate::token::Tokens;
 use lft_tree::Ast;
+pub use places::{ReactorPlaces, places_of};
 use std::alloc::Global;
 
 /// The tree of a program text, from the text and its tokens. Where they spell none, the fault has

@@ -38,7 +38,7 @@ fn target(input: &Input, at: usize) -> Result<(TokenRange, usize), ParseError>
 }
 
 /// The target, which may be left out.
-fn left_out_target(input: &Input, at: usize) -> Result<(Option<TokenRange>, usize), ParseError>
+pub fn left_out_target(input: &Input, at: usize) -> Result<(Option<TokenRange>, usize), ParseError>
     ensures { Gives (λ x. (option_map range_view x.0, x.1)) result (maybe (is (Letters (codes "target"))) target_at (words input.now) at) }
 {
     if !is_key(input, at, b"target") {

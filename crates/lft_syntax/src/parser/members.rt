@@ -40,7 +40,7 @@ fn named_member(input: &Input, at: usize) -> Result<(Member, usize), ParseError>
 }
 
 #[tactic(auto, unfolding(crate::specs::Reading::member_at))]
-fn member(input: &Input, at: usize) -> Result<(Member, usize), ParseError>
+pub fn member(input: &Input, at: usize) -> Result<(Member, usize), ParseError>
     ensures { Gives (λ x. (member_view x.0, x.1)) result (member_at (words input.now) at) }
 {
     if is_port_key(input, at) {

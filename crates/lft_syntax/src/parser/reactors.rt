@@ -1,12 +1,12 @@
 //! Reactors and their parameters.
 
-ghost use Rattle.std.specs.Prelude.{◌≡◌, ℕ, [], ◌∷◌, codes, map, option_map, string_bytes};
+ghost use Rattle.std.specs.Prelude.{◌≡◌, ℕ, ◌≤◌, [], ◌∷◌, codes, length, map, option_map, string_bytes, IfOk};
 ghost use Rattle.lft_syntax.specs.Lexeme as Lexeme;
 ghost use Rattle.lft_syntax.specs.Lexeme.{Symbol, is};
 ghost use Rattle.lft_syntax.specs.Grammar.{or_empty, reactor_of, main_of};
-ghost use Rattle.lft_syntax.specs.View.{Gives};
+ghost use Rattle.lft_syntax.specs.View.{Gives, at_next};
 ghost use Rattle.lft_tree.specs.View.{parameter_view, reactor_view};
-ghost use Rattle.lft_syntax.specs.Reading.{after_comma, repeated, with_front, listed_at, apply, both, second, key_at, maybe, name_at, body_at, default_at, param_at, params_at, reactor_at};
+ghost use Rattle.lft_syntax.specs.Reading.{after_comma, repeated, with_front, listed_at, apply, both, second, key_at, maybe, name_at, body_at, default_at, param_at, params_at, plain_head_at, main_head_at, head_at, reactor_at};
 ghost use Rattle.lft_syntax.specs.Parsing.{words};
 
 use crate::input::Input;
@@ -109,6 +109,44 @@ fn main_name(input: &Input, at: usize) -> Result<(Option<String>, usize), ParseE
     }
     let (name, at) = name(input, at)?;
     Ok((Some(name), at))
+}
+
+/// A reactor up to the brace that opens its body.
+#[tactic(auto, unfolding(crate::specs::Reading::plain_head_at))]
+fn plain_head(input: &Input, at: usize) -> Result<usize, ParseError>
+    ensures gives { Gives at_next result (plain_head_at (words input.now) at) }
+    ensures within { IfOk result (λ j. j ≤ length (words input.now)) }
+{
+    let at = key(input, at, b"reactor")?;
+    let (_, at) = name(input, at)?;
+    let (_, at) = left_out_parameters(input, at)?;
+    symbol(input, at, b'{')
+}
+
+/// The main reactor up to the brace that opens its body.
+#[tactic(auto, unfolding(crate::specs::Reading::main_head_at))]
+fn main_head(input: &Input, at: usize) -> Result<usize, ParseError>
+    ensures gives { Gives at_next result (main_head_at (words input.now) at) }
+    ensures within { IfOk result (λ j. j ≤ length (words input.now)) }
+{
+    let at = key(input, at, b"main")?;
+    let at = key(input, at, b"reactor")?;
+    let (_, at) = main_name(input, at)?;
+    let (_, at) = left_out_parameters(input, at)?;
+    symbol(input, at, b'{')
+}
+
+/// What stands before the members of a reactor.
+#[tactic(auto, unfolding(crate::specs::Reading::head_at))]
+pub fn head(input: &Input, at: usize) -> Result<usize, ParseError>
+    ensures gives { Gives at_next result (head_at (words input.now) at) }
+    ensures within { IfOk result (λ j. j ≤ length (words input.now)) }
+{
+    if is_key(input, at, b"reactor") {
+        plain_head(input, at)
+    } else {
+        main_head(input, at)
+    }
 }
 
 fn plain_reactor(input: &Input, at: usize) -> Result<(Reactor, usize), ParseError>

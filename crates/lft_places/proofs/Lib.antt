@@ -1,0 +1,6 @@
+pub mod Words
+pub mod Placed
+pub mod Lexed
+pub mod Arrows
+pub mod Free
+pub mod Walk

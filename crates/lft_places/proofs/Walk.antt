@@ -1,0 +1,191 @@
+-- A walk along a list with commas.
+use Rattle.std.proofs.Common.{◌≡◌, ℕ, zero, suc, ◌+◌, ◌<◌, ◌≤◌, true, false, List, [], ◌∷◌, length, get_or, drop, Option, Some, None, refl, sym, ap, subst, ◌∙◌, arith}
+use Rattle.std.specs.Prelude.{slice_get, option_map}
+use Rattle.std.proofs.lemmas.List.{length-map}
+use Rattle.std.proofs.lemmas.Option.{slice_get_within, slice_get_read, slice_get-map}
+use Rattle.lft_tree.specs.declared.tree.Reference.{Reference}
+use Rattle.lft_tree.specs.View.{ref_view, ref_views}
+use Rattle.lft_syntax.specs.declared.token.Token.{Token}
+use Rattle.lft_syntax.specs.View.{lexeme_of, lexemes}
+use Rattle.lft_tree.specs.Tree.{RefTree}
+use Rattle.lft_syntax.specs.Lexeme.{Lexeme, Code, Text, Letters, Number, Arrow, Symbol, is}
+use Rattle.lft_syntax.specs.Language.{Spelling, ◌>>◌, optional, many}
+use Rattle.lft_syntax.specs.Grammar.{symbol, name, listed, ref}
+use Rattle.lft_syntax.proofs.Options.{some_is}
+use Rattle.lft_syntax.proofs.Algebra.{Any}
+use Rattle.lft_syntax.proofs.Rules.{leads_one}
+use Rattle.lft_places.specs.Lists.{after_commas, listed_starts, IsFirstArrow, IsNameIn, NameAt, PortAt}
+use Rattle.lft_places.proofs.Words.{moved, name_word}
+
+drop_next : {A : Type 0} (q : ℕ) (xs : List A) (x : A) (ys : List A) → drop q xs ≡ x ∷ ys → drop (suc q) xs ≡ ys
+drop_next zero [] x ys e = absurd cc
+drop_next zero (z ∷ zs) x ys e = cc
+drop_next (suc q) [] x ys e = absurd cc
+drop_next (suc q) (z ∷ zs) x ys e = drop_next q zs x ys e
+
+pub drop_item : {A : Type 0} (q : ℕ) (xs : List A) (x : A) (ys : List A) → drop q xs ≡ x ∷ ys → slice_get xs q ≡ Some x
+drop_item zero [] x ys e = absurd cc
+drop_item zero (z ∷ zs) x ys e = cc
+drop_item (suc q) [] x ys e = absurd cc
+drop_item (suc q) (z ∷ zs) x ys e = drop_item q zs x ys e
+
+-- from the q-th part on the list is spelled from this token on, and of what is left the part with that place begins at k
+pub record Rest {A : Type 0} (P : Spelling A) (ws : List Lexeme) (xs : List A) (q at place k : ℕ) : Type 0 where
+  pub item : A
+  pub items : List A
+  pub end : ℕ
+  pub last : ℕ
+  pub here : P ws at end item
+  pub behind : many (symbol 44 >> P) ws end last items
+  pub left : drop q xs ≡ item ∷ items
+  pub ahead : ℕ
+  pub count : q + ahead ≡ place
+  pub found : slice_get (at ∷ after_commas P ws end last items behind) ahead ≡ Some k
+
+pub rest_starts : {A : Type 0} (P : Spelling A) (ws : List Lexeme) (first j : ℕ) (xs : List A) (s : listed P ws first j xs) (place k : ℕ) → slice_get (listed_starts P ws first j xs s) place ≡ Some k → Rest P ws xs 0 first place k
+rest_starts P ws first j xs s place k h = record {
+  item = s.0.0;
+  items = s.0.1;
+  end = s.1.0;
+  last = j;
+  here = s.1.1;
+  behind = s.1.2;
+  left = sym s.2;
+  ahead = place;
+  count = omega arith;
+  found = h;
+}
+
+turn_from : {A : Type 0} (P : Spelling A) (ws : List Lexeme) (xs : List A) (q at place k end last : ℕ) (item : A) (items : List A) (behind : many (symbol 44 >> P) ws end last items) (ahead : ℕ)
+    → drop q xs ≡ item ∷ items → q + ahead ≡ place → slice_get (at ∷ after_commas P ws end last items behind) ahead ≡ Some k → q < place → Rest P ws xs (suc q) (end + 1) place k
+turn_from P ws xs q at place k end last item items behind zero left count found lt = absurd (omega (arith, count, lt))
+turn_from P ws xs q at place k end last item [] behind (suc ahead) left count found lt = absurd cc
+turn_from P ws xs q at place k end last item (z ∷ zs) behind (suc ahead) left count found lt =
+    let step = behind.1.1.1 in
+    subst (λ (n : ℕ). Rest P ws xs (suc q) n place k) step (record {
+      item = z;
+      items = zs;
+      end = behind.0;
+      last = last;
+      here = behind.1.2;
+      behind = behind.2;
+      left = drop_next q xs item (z ∷ zs) left;
+      ahead = ahead;
+      count = omega (arith, count);
+      found = found;
+    })
+
+pub rest_turns : {A : Type 0} (P : Spelling A) (ws : List Lexeme) (xs : List A) (q at place k next : ℕ) (r : Rest P ws xs q at place k) → q < place → next ≡ r.end + 1 → Rest P ws xs (q + 1) next place k
+rest_turns P ws xs q at place k next r lt e =
+    let turned : Rest P ws xs (suc q) (r.end + 1) place k = turn_from P ws xs q at place k r.end r.last r.item r.items r.behind r.ahead r.left r.count r.found lt in
+    let one : suc q ≡ q + 1 = omega arith in
+    subst (λ (n : ℕ). Rest P ws xs n next place k) one (subst (λ (n : ℕ). Rest P ws xs (suc q) n place k) (sym e) turned)
+
+pub rest_done : {A : Type 0} (P : Spelling A) (ws : List Lexeme) (xs : List A) (at place k : ℕ) → Rest P ws xs place at place k → at ≡ k
+rest_done P ws xs at place k r =
+    let count = r.count in
+    let none : r.ahead ≡ 0 = omega (arith, count) in
+    some_is at k (ap (slice_get (at ∷ after_commas P ws r.end r.last r.items r.behind)) (sym none) ∙ r.found)
+
+-- the next token stands there
+pub rest_more : {A : Type 0} (P : Spelling A) (ws : List Lexeme) (xs : List A) (q at place k : ℕ) (r : Rest P ws xs q at place k) → q < place → r.end < length ws
+rest_more P ws xs q at place k r lt = more r.end r.last r.items r.behind r.ahead r.count r.found
+  where
+    more : (end last : ℕ) (items : List _) (behind : many (symbol 44 >> P) ws end last items) (ahead : ℕ) → q + ahead ≡ place → slice_get (at ∷ after_commas P ws end last items behind) ahead ≡ Some k → end < length ws
+    more end last items behind zero count found = absurd (omega (arith, count, lt))
+    more end last [] behind (suc ahead) count found = absurd cc
+    more end last (z ∷ zs) behind (suc ahead) count found = slice_get_within ws end _ (leads_one (Symbol 44) Any ws end behind.1.0 tt behind.1.1 tt)
+
+-- ---- names
+
+-- how many tokens a name has
+abbrev pub port_size : Option (List ℕ) → ℕ
+port_size None = 1
+port_size (Some port) = 3
+
+port_end : (ws : List Lexeme) (i j : ℕ) (o : Option (List ℕ)) → optional (symbol 46 >> name) ws i j o → j + 1 ≡ i + port_size o
+port_end ws i j None s = omega (arith, s)
+port_end ws i j (Some x) s = let dot = s.1.1 in let port = s.2.1 in omega (arith, dot, port)
+
+-- a name ends behind its tokens
+pub name_ends : (ws : List Lexeme) (i j : ℕ) (x : RefTree) → ref ws i j x → j ≡ i + port_size x.port
+name_ends ws i j x s =
+    let head = s.1.1.1 in
+    let rest = port_end ws s.1.0 j s.0.1 s.1.2 in
+    let end : j ≡ i + port_size s.0.1 = omega (arith, head, rest) in
+    subst (λ (r : RefTree). j ≡ i + port_size r.port) s.2 end
+
+port_words : (ws : List Lexeme) (i m j : ℕ) (o : Option (List ℕ)) → m ≡ i + 1 → optional (symbol 46 >> name) ws m j o → PortAt ws i o
+port_words ws i m j None e s = tt
+port_words ws i m j (Some x) e s = let dot = s.1.1 in moved ws (i + 2) s.0 x (omega (arith, e, dot)) (name_word ws s.0 j x s.2)
+
+-- the words of a name stand where it is spelled
+pub name_words : (ws : List Lexeme) (i j : ℕ) (x : RefTree) → ref ws i j x → NameAt ws i x
+name_words ws i j x s = subst (λ (r : RefTree). NameAt ws i r) s.2 (name_word ws i s.1.0 s.0.0 s.1.1, port_words ws i s.1.0 j s.0.1 s.1.1.1 s.1.2)
+
+-- and no further than the text
+port_within : (ws : List Lexeme) (i m j : ℕ) (o : Option (List ℕ)) → m ≤ length ws → optional (symbol 46 >> name) ws m j o → j ≤ length ws
+port_within ws i m j None le s = omega (arith, le, s)
+port_within ws i m j (Some x) le s = let port = s.2.1 in let there = slice_get_within ws s.0 _ (name_word ws s.0 j x s.2) in omega (arith, there, port)
+
+pub name_within : (ws : List Lexeme) (i j : ℕ) (x : RefTree) → ref ws i j x → j ≤ length ws
+name_within ws i j x s =
+    let head = s.1.1.1 in
+    let there = slice_get_within ws i _ (name_word ws i s.1.0 s.0.0 s.1.1) in
+    port_within ws i s.1.0 j s.0.1 (omega (arith, head, there)) s.1.2
+
+-- the name with that place is spelled where it begins
+listed_item : {A : Type 0} (P : Spelling A) (ws : List Lexeme) (at end last : ℕ) (item : A) (items : List A) (here : P ws at end item) (behind : many (symbol 44 >> P) ws end last items) (place k : ℕ) (x : A)
+    → slice_get (item ∷ items) place ≡ Some x → slice_get (at ∷ after_commas P ws end last items behind) place ≡ Some k → (e : ℕ) × P ws k e x
+listed_item P ws at end last item items here behind zero k x e f = (end, subst (λ (n : ℕ). P ws n end x) (some_is at k f) (subst (λ y. P ws at end y) (some_is item x e) here))
+listed_item P ws at end last item [] here behind (suc place) k x e f = absurd cc
+listed_item P ws at end last item (z ∷ zs) here behind (suc place) k x e f = listed_item P ws behind.1.0 behind.0 last z zs behind.1.2 behind.2 place k x e f
+
+pub name_in_list : (ws : List Lexeme) (names : List RefTree) (first place k : ℕ) (x : RefTree) → IsNameIn ws names first place k → slice_get names place ≡ Some x → NameAt ws k x
+name_in_list ws names first place k x h e =
+    let s = h.spelled in
+    let item = listed_item ref ws first s.1.0 h.end s.0.0 s.0.1 s.1.1 s.1.2 place k x (ap (λ (l : List RefTree). slice_get l place) s.2 ∙ e) h.is_start in
+    name_words ws k item.0 x item.1
+
+-- ---- for the walk in the code
+
+pub same_length : (t : List ℕ) (tokens : List Token) → length (lexemes t tokens) ≡ length tokens
+unfolding lexemes
+same_length t tokens = length-map tokens (lexeme_of t)
+
+pub name_ended : (t : List ℕ) (tokens : List Token) (at end by result : ℕ) (x : RefTree) (o : Option (List ℕ)) → x.port ≡ o → port_size o ≡ by → ref (lexemes t tokens) at end x → (at + by ≤ length tokens → result ≡ at + by) → result ≡ end
+name_ended t tokens at end by result x o p size s behind =
+    let ends = name_ends (lexemes t tokens) at end x s in
+    let within = name_within (lexemes t tokens) at end x s in
+    let count = same_length t tokens in
+    let sized : port_size x.port ≡ by = ap port_size p ∙ size in
+    let there = behind (omega (arith, ends, within, count, sized)) in
+    omega (arith, ends, sized, there)
+
+pub item_seen : (names : List Reference) (q : ℕ) (x : Reference) → q < length names → x ≡ get_or names q x → slice_get (ref_views names) q ≡ Some (ref_view x)
+item_seen names q x lt is = slice_get-map ref_view names q ∙ ap (option_map ref_view) (slice_get_read names (length names) q x refl lt is)
+
+pub item_within : (names : List Reference) (q : ℕ) (x : RefTree) → slice_get (ref_views names) q ≡ Some x → q < length names
+item_within names q x there = let lt = slice_get_within (ref_views names) q x there in let count = length-map names ref_view in omega (arith, lt, count)
+
+arrow_seen : (o : Option Lexeme) → (o ≡ Some Arrow → ⊥) → is Arrow o ≡ false
+arrow_seen None other = refl
+arrow_seen (Some Code) other = refl
+arrow_seen (Some Text) other = refl
+arrow_seen (Some (Letters x)) other = refl
+arrow_seen (Some (Number n)) other = refl
+arrow_seen (Some Arrow) other = absurd (other refl)
+arrow_seen (Some (Symbol b)) other = refl
+
+-- what is behind the first arrow
+pub behind_arrow : (t : List ℕ) (tokens : List Token) (start first arrow behind : ℕ) → (k : ℕ) × IsFirstArrow (lexemes t tokens) start k × (first ≡ k + 1)
+    → ((k : ℕ) → start ≤ k → is Arrow (slice_get (lexemes t tokens) k) ≡ true → ((i : ℕ) → start ≤ i → i < k → is Arrow (slice_get (lexemes t tokens) i) ≡ false) → arrow ≡ k)
+    → (arrow + 1 ≤ length tokens → behind ≡ arrow + 1) → behind ≡ first
+behind_arrow t tokens start first arrow behind h finds next =
+    let k = h.0 in
+    let place : arrow ≡ k = finds k h.1.order (ap (is Arrow) h.1.there) (λ i le lt. arrow_seen (slice_get (lexemes t tokens) i) (h.1.first i le lt)) in
+    let within = slice_get_within (lexemes t tokens) k Arrow h.1.there in
+    let count = same_length t tokens in
+    let there = next (omega (arith, place, within, count)) in
+    let first-is = h.2 in
+    omega (arith, there, place, first-is)

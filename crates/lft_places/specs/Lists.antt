@@ -1,0 +1,63 @@
+-- Where the names of a member stand among the tokens of its text.
+use Rattle.std.specs.Prelude.{◌≡◌, ℕ, ◌+◌, ◌<◌, ◌≤◌, List, [], ◌∷◌, Option, Some, None, slice_get}
+use Rattle.lft_tree.specs.Tree.{RefTree, MemberTree, ReactionMember, ConnectionMember}
+use Rattle.lft_syntax.specs.declared.token.Token.{Token}
+use Rattle.lft_syntax.specs.Lexeme.{Lexeme, Letters, Arrow}
+use Rattle.lft_syntax.specs.Language.{Spelling, ◌>>◌, many}
+use Rattle.lft_syntax.specs.Grammar.{symbol, listed, ref, refs}
+use Rattle.lft_scope.specs.declared.kinds.Role.{Role}
+use Rattle.lft_scope.specs.declared.kinds.Role.TheVariants.{Effect, Source, Destination}
+use Rattle.lft_places.specs.declared.spots.Spot.{Spot}
+use Rattle.lft_places.specs.Places.{IsTokenSpot, IsSpanSpot}
+
+-- where each part behind a comma begins, in this spelling of them
+abbrev pub after_commas : {A : Type 0} (P : Spelling A) (ws : List Lexeme) (i j : ℕ) (xs : List A) → many (symbol 44 >> P) ws i j xs → List ℕ
+after_commas P ws i j [] s = []
+after_commas P ws i j (x ∷ xs) s = s.1.0 ∷ after_commas P ws s.0 j xs s.2
+
+-- where each part of a list with commas begins, in this spelling of it
+abbrev pub listed_starts : {A : Type 0} (P : Spelling A) (ws : List Lexeme) (i j : ℕ) (xs : List A) → listed P ws i j xs → List ℕ
+listed_starts P ws i j xs s = i ∷ after_commas P ws s.1.0 j s.0.1 s.1.2
+
+-- the names of a connection's sources and destinations, and of a reaction's effects
+abbrev pub names_in : Role → MemberTree → List RefTree
+names_in Source (ConnectionMember x) = x.sources
+names_in Destination (ConnectionMember x) = x.destinations
+names_in Effect (ReactionMember x) = x.effects
+names_in _ _ = []
+
+-- this token is the first arrow of the member that begins at that one
+pub record IsFirstArrow (ws : List Lexeme) (start k : ℕ) : Type 0 where
+  pub order : start ≤ k
+  pub there : slice_get ws k ≡ Some Arrow
+  pub first : (i : ℕ) → start ≤ i → i < k → slice_get ws i ≡ Some Arrow → ⊥
+
+-- sources begin with their connection, destinations and effects behind the arrow
+abbrev pub IsListAt : List Lexeme → Role → ℕ → ℕ → Type 0
+IsListAt ws Source start a = a ≡ start
+IsListAt ws Destination start a = (k : ℕ) × IsFirstArrow ws start k × (a ≡ k + 1)
+IsListAt ws Effect start a = (k : ℕ) × IsFirstArrow ws start k × (a ≡ k + 1)
+IsListAt ws _ start a = ⊥
+
+-- these names are spelled from that token on, and the one with this place among them begins at the token k
+pub record IsNameIn (ws : List Lexeme) (names : List RefTree) (first place k : ℕ) : Type 0 where
+  pub end : ℕ
+  pub spelled : refs ws first end names
+  pub is_start : slice_get (listed_starts ref ws first end names spelled) place ≡ Some k
+
+-- the port, if there is one, stands two tokens behind
+abbrev pub PortAt : List Lexeme → ℕ → Option (List ℕ) → Type 0
+PortAt ws k None = Unit {0}
+PortAt ws k (Some port) = slice_get ws (k + 2) ≡ Some (Letters port)
+
+-- the words of the name stand there
+abbrev pub NameAt : List Lexeme → ℕ → RefTree → Type 0
+NameAt ws k name = (slice_get ws k ≡ Some (Letters name.head)) × PortAt ws k name.port
+
+-- the answer is the spot of that name: its one token, or from the instance up to the port
+abbrev pub IsPortSpot : List Token → ℕ → Option (List ℕ) → Option Spot → Type 0
+IsPortSpot tokens k None spot = IsTokenSpot tokens k spot
+IsPortSpot tokens k (Some port) spot = IsSpanSpot tokens k (k + 2) spot
+
+abbrev pub IsNameSpot : List Token → ℕ → RefTree → Option Spot → Type 0
+IsNameSpot tokens k name spot = IsPortSpot tokens k name.port spot
