@@ -1,18 +1,19 @@
-//! The rows of a text without a header, read by one worker a batch at a time.
+//! The rows of a text without a header, read a batch at a time.
 
-ghost use Rattle.std.specs.Prelude.{◌<◌, length, IfSome};
+ghost use Rattle.std.specs.Prelude.{◌<◌, ◌≤◌, length, IfSome, IsTrue};
 ghost use Rattle.lft_trace.specs.Fits.{RowsFit};
-ghost use Rattle.lft_reading.specs.Parts.{BeginsWith, IsCut};
+ghost use Rattle.lft_reading.specs.Parts.{BeginsWith, HoldsRows, IsCut, rows_of};
 
 use crate::lines::cut_behind;
-use crate::workers::read_plain;
+use crate::workers::{read_parts, read_plain};
 use lft_flat::Program;
 use lft_tag::MAX_ROWS;
 use lft_trace::Row;
 use std::alloc::Global;
+use std::thread::Threads;
 
 /// The first lines of a text, of so many bytes or a few more, and what comes behind them.
-fn first_lines(text: &[u8], bytes: usize) -> (&[u8], &[u8])
+pub fn first_lines(text: &[u8], bytes: usize) -> (&[u8], &[u8])
     ensures cut { IsCut text.now result.0.now result.1.now }
     ensures shorter { 0 < length text.now → length result.1.now < length text.now }
 {
@@ -45,4 +46,40 @@ pub fn read_batch<'a>(
         return None;
     }
     Some((rows, behind))
+}
+
+/// Whether a table may have as many rows as the parts together.
+fn are_few(parts: &[Vec<Row>]) -> bool
+    ensures { IsTrue result → length (rows_of parts.now) ≤ 4000000 }
+{
+    let mut left = MAX_ROWS;
+    for place in 0..parts.len() {
+        let rows = parts[place].len();
+        if left < rows {
+            return false;
+        }
+        left -= rows;
+    }
+    true
+}
+
+/// The rows of lines, read in parts by so many workers: those of each part are in a list of their own.
+/// None as for `read_batch`.
+pub fn read_lines<R: Threads + Sync>(
+    rt: &R,
+    alloc: Global,
+    program: &Program,
+    lines: &[u8],
+    workers: u32,
+) -> Option<Vec<Vec<Row>>>
+    ensures rows { IfSome result (λ parts. HoldsRows program.now lines.now (rows_of parts.items)) }
+    ensures fit { IfSome result (λ parts. RowsFit program.now (rows_of parts.items)) }
+{
+    // Asked for what every program keeps: no two of its things have one name.
+    program.keeps();
+    let parts = read_parts(rt, alloc, program, lines, workers)?;
+    if !are_few(parts.as_slice()) {
+        return None;
+    }
+    Some(parts)
 }

@@ -7,6 +7,6 @@ mod lines;
 mod shared;
 mod workers;
 
-pub use batch::read_batch;
+pub use batch::{first_lines, read_batch, read_lines};
 pub use lines::below_header;
 pub use shared::read_trace_shared;

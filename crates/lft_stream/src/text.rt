@@ -31,7 +31,7 @@ pub(crate) struct Front {
 
 impl Front {
     /// Before the first row of any text.
-    fn new(alloc: Global, plan: &Plan) -> Result<Front, NoMemory>
+    pub(crate) fn new(alloc: Global, plan: &Plan) -> Result<Front, NoMemory>
         ensures stands { IfOk result (λ front. (body : List ℕ) → IsFront plan.now body front) }
         ensures none { IfOk result (λ front. front.judged ≡ 0) }
     {
@@ -43,7 +43,7 @@ impl Front {
 
     /// Judges the rows that come next in the text, whole tags always. It is false where they may break a
     /// rule, or too much is to be looked at, or memory is refused, or a table may not have as many.
-    fn judge(&mut self, alloc: Global, plan: &Plan, body: &[u8], rows: &[Row]) -> bool
+    pub(crate) fn judge(&mut self, alloc: Global, plan: &Plan, body: &[u8], rows: &[Row]) -> bool
         requires fit { RowsFit plan.now.program rows.now }
         requires stands { IsFront plan.now body.now self.old }
         requires next { IsNextBehind plan.now body.now self.old rows.now }
@@ -61,6 +61,18 @@ impl Front {
         self.judged += rows.len();
         true
     }
+
+    /// The counts, where nothing is owed up to the stop.
+    pub(crate) fn finish(&mut self, plan: &Plan) -> Option<Counts>
+        ensures { IfSome result (λ c. (t : List TheRow) → IsStreamOf plan.now t self.old.stream → IsAccepted plan.now t c.runs c.tags) }
+    {
+        self.stream.finish(plan)
+    }
+}
+
+/// The bytes of a batch of which rows are to be taken together.
+pub(crate) fn batch_bytes(plan: &Plan) -> usize {
+    rows_together(plan).saturating_mul(BYTES_OF_A_ROW)
 }
 
 /// Goes on past rows that come next in the text, of which so many are judged.
@@ -127,7 +139,7 @@ fn put_behind(rows: Vec<Row>, more: &[Row]) -> Option<Vec<Row>>
 
 /// Goes on past a batch of rows. Those at its last tag are given back: more may follow at that tag,
 /// and so they are judged with the next batch that has a later one.
-fn add_batch(
+pub(crate) fn add_batch(
     front: &mut Front,
     alloc: Global,
     plan: &Plan,
@@ -169,7 +181,7 @@ pub fn accepts_text(alloc: Global, plan: &Plan, text: &[u8]) -> Option<Counts>
     let Ok(mut front) = Front::new(alloc, plan) else {
         return None;
     };
-    let bytes = rows_together(plan).saturating_mul(BYTES_OF_A_ROW);
+    let bytes = batch_bytes(plan);
     let mut waiting = Vec::new(alloc);
     let mut rest = body;
     while !rest.is_empty() {
@@ -180,5 +192,5 @@ pub fn accepts_text(alloc: Global, plan: &Plan, text: &[u8]) -> Option<Counts>
     if !front.judge(alloc, plan, body, waiting.as_slice()) {
         return None;
     }
-    front.stream.finish(plan)
+    front.finish(plan)
 }

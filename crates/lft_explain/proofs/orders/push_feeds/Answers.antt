@@ -1,4 +1,4 @@
-use Rattle.std.proofs.Common.{◌++◌, ◌∙◌, codes}
+use Rattle.std.proofs.Common.{◌++◌, ap, ◌∙◌, codes, string_bytes}
 use Rattle.lft_words.specs.Words.{port_words, reaction_words}
 use Rattle.lft_explain.specs.Orders.{origin_of}
 use Rattle.lft_words.proofs.Steps.{also}

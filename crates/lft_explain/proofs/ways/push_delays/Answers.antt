@@ -1,5 +1,5 @@
 use Rattle.std.proofs.Common.{◌≡◌, ◌++◌, codes, string_bytes, subst}
-use Rattle.lft_words.specs.Words.{time_words}
+use Rattle.lft_words.specs.Words.{time_words, tag_words}
 use Rattle.lft_explain.specs.Ways.{least_delay, extra_at}
 use Rattle.lft_words.proofs.Steps.{also}
 use Rattle.lft_explain.proofs.ways.push_delays.Goals as goal
