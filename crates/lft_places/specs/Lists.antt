@@ -54,10 +54,11 @@ PortAt ws k (Some port) = slice_get ws (k + 2) ≡ Some (Letters port)
 abbrev pub NameAt : List Lexeme → ℕ → RefTree → Type 0
 NameAt ws k name = (slice_get ws k ≡ Some (Letters name.head)) × PortAt ws k name.port
 
--- the answer is the spot of that name: its one token, or from the instance up to the port
+-- the answer is the spot of one token, or, with a port, from the token of the instance up to that of the port
 abbrev pub IsPortSpot : List Token → ℕ → Option (List ℕ) → Option Spot → Type 0
 IsPortSpot tokens k None spot = IsTokenSpot tokens k spot
 IsPortSpot tokens k (Some port) spot = IsSpanSpot tokens k (k + 2) spot
 
+-- the answer is the spot of that name, which begins at this token
 abbrev pub IsNameSpot : List Token → ℕ → RefTree → Option Spot → Type 0
 IsNameSpot tokens k name spot = IsPortSpot tokens k name.port spot

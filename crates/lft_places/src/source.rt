@@ -12,7 +12,7 @@ ghost use Rattle.lft_syntax.specs.View.{lexemes};
 ghost use Rattle.lft_syntax.specs.Places.{file_begins, begins_view};
 ghost use Rattle.lft_places.specs.Spots.{StandsIn};
 
-use lft_syntax::{ReactorPlaces, Token, TokenKind};
+use lft_syntax::{ReactorPlaces, Token, TokenKind, Tokens};
 use lft_tree::Ast;
 
 /// A program's text with its tokens and its tree, and where the reactors and their members begin.
@@ -64,6 +64,25 @@ pub(crate) fn holds(text: &[u8], bytes: &[u8]) -> bool
 }
 
 impl<'a> SourceText<'a> {
+    /// A text that has this tree, with its tokens and with what `places_of` says of it.
+    pub fn of(
+        text: &'a [u8],
+        tokens: &'a Tokens,
+        ast: &'a Ast,
+        places: &'a Vec<ReactorPlaces>,
+    ) -> SourceText<'a>
+        requires lexed { Lexes text.now tokens.now }
+        requires placed { (s : Spells (tree_view ast.now) (lexemes text.now tokens.now)) → map begins_view places.now.items ≡ file_begins (lexemes text.now tokens.now) (tree_view ast.now) s }
+        ensures { (result.text.now ≡ text.now) × (result.ast.now ≡ ast.now) × (result.tokens.now ≡ tokens.now) × (result.places.now ≡ places.now.items) }
+    {
+        SourceText {
+            text,
+            tokens: tokens.as_slice(),
+            ast,
+            places: places.as_slice(),
+        }
+    }
+
     /// The token with that number.
     pub(crate) fn token(&self, at: usize) -> Option<Token>
         ensures { result ≡ slice_get self.now.tokens.now at }

@@ -1,6 +1,9 @@
 //! Why a program with a tree is refused, for people.
 
 ghost use Rattle.std.specs.Prelude.{◌≡◌, ◌≢◌, ◌↔◌, ◌⊎◌, IfOk, IfSome, IfNone, IsTrue, codes, string_bytes};
+ghost use Rattle.lft_syntax.specs.Lexes.{Lexes};
+ghost use Rattle.lft_syntax.specs.Grammar.{Spells};
+ghost use Rattle.lft_syntax.specs.View.{lexemes};
 ghost use Rattle.lft_tree.specs.View.{tree_view};
 ghost use Rattle.lft_scope.specs.Causes.{IsFirst, causes};
 ghost use Rattle.lft_program.specs.Faults.{number_of as the_number_of};
@@ -13,7 +16,7 @@ use lft_places::{SourceText, Spot};
 use lft_program::{ProgramFault, flatten};
 use lft_refusals::{place_of, push_line, push_place};
 use lft_scope::members;
-use lft_syntax::{LexFault, SyntaxFault, Tokens, lex, parse};
+use lft_syntax::{LexFault, SyntaxFault, Tokens, lex, parse, places_of};
 use lft_tag::NoMemory;
 use lft_tree::Ast;
 use lft_witnesses::witness_of;
@@ -27,16 +30,17 @@ fn reason_of(
     ast: &Ast,
     cause: u32,
 ) -> Result<Option<Reason>, NoMemory>
+    requires lexed { Lexes text.now tokens.now }
+    requires spelled { Spells (tree_view ast.now) (lexemes text.now tokens.now) }
     ensures { IfOk result (λ found. IfNone found (IsCause cause → ⊥)) }
 {
     let reactors = members::reactors(alloc, &ast.items)?;
+    let Ok(places) = places_of(alloc, text, tokens) else {
+        return Err(NoMemory);
+    };
     let refused = Refused {
         alloc,
-        source: SourceText {
-            text,
-            tokens: tokens.as_slice(),
-            ast,
-        },
+        source: SourceText::of(text, tokens, ast, &places),
         reactors: &reactors,
     };
     let shown = match witness_of(alloc, &reactors, cause)? {
