@@ -31,6 +31,7 @@ pub record TraceFields : Type 0 where
 abbrev pub in_order : TraceFields → List (List ℕ)
 in_order c = c.event ∷ c.worker ∷ c.time ∷ c.microstep ∷ c.reaction ∷ c.name ∷ c.value ∷ c.delay ∷ []
 
+-- the first record of a trace table
 abbrev pub header : List (List ℕ)
 header = codes "event" ∷ codes "worker" ∷ codes "time" ∷ codes "microstep" ∷ codes "reaction" ∷ codes "name" ∷ codes "value" ∷ codes "delay" ∷ []
 
