@@ -6,3 +6,4 @@ pub mod Explaining
 pub mod PairExplaining
 pub mod Telling
 pub mod Missing
+pub mod Answering

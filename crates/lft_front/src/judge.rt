@@ -1,6 +1,6 @@
 //! The verdict on three texts.
 
-ghost use Rattle.std.specs.Prelude.{◌≡◌, ◌≢◌, ◌⊎◌, true, OnOk, IfOk, IfErr, List};
+ghost use Rattle.std.specs.Prelude.{◌≡◌, ◌≢◌, ◌⊎◌, ℕ, true, OnOk, IfOk, IfErr, IfSome, List};
 ghost use Rattle.std.specs.Io.KnownBytes.{Appends, Keeps};
 ghost use Rattle.lft_trace.specs.Fits.{RowsFit};
 ghost use Rattle.lft_trace.specs.declared.row.Row.{Row};
@@ -10,14 +10,16 @@ ghost use Rattle.lft_check.specs.declared.verdict.Verdict.TheVariants.{Broken};
 ghost use Rattle.lft_model.specs.Workers.{IsWorkers};
 ghost use Rattle.lft_check.specs.Verdicts.{IsVerdict};
 ghost use Rattle.lft_front.specs.Lines.{line_of, HasReaction};
+ghost use Rattle.lft_front.specs.Accepting.{IsAcceptedTable, IsAnswer};
 ghost use Rattle.lft_front.specs.Meaning.{IsMeaning, Mean};
+ghost use Rattle.lft_load.specs.Meaning.{IsOnly, IsPlanOf};
 ghost use Rattle.lft_front.specs.Judged.{AcceptedRuns, IsJudged};
 ghost use Rattle.lft_load.specs.Refusals.{is_of_text};
 ghost use Rattle.lft_front.specs.Refusals.{JudgeRefusal, JudgingRefusal, CheckRefusal, TextsRefusal, IsRefusedGrowth};
 ghost use Rattle.lft_load.specs.Written.{AppendsFront};
 ghost use Rattle.lft_load.specs.declared.fault.Part.TheVariants as part;
 
-use crate::accepting::accepted;
+use crate::accepting::{accepted, is_odd, tell_accepted};
 use crate::line::verdict_line;
 use lft_check::{CheckFault, NoWatch, Verdict, judge};
 use lft_flat::Program;
@@ -25,6 +27,7 @@ use lft_load::{Fault, Part, load, write_text};
 use lft_model::Plan;
 use lft_model::laws::law_one_worker;
 use lft_reading::read_trace_shared;
+use lft_stream::{Counts, accepts_text};
 use lft_trace::Rows;
 use std::alloc::Global;
 use std::io::Write;
@@ -62,8 +65,8 @@ pub(crate) fn read_texts<R: Threads + Sync>(
     }
 }
 
-/// The verdict on rows by so many workers, whose number is tested first.
-pub(crate) fn verdict_of<R: Threads + Sync>(
+/// The verdict of the checker on rows by so many workers, whose number is tested first.
+fn checked<R: Threads + Sync>(
     rt: &R,
     alloc: Global,
     plan: &Plan,
@@ -78,17 +81,56 @@ pub(crate) fn verdict_of<R: Threads + Sync>(
 {
     // Called for its clause: of an accepted trace it says that the runs are an execution.
     law_one_worker(plan);
+    match judge(rt, alloc, plan, rows, workers, &NoWatch) {
+        Ok(verdict) => Ok(verdict),
+        Err(CheckFault::BadWorkers) => Err(Fault::plain(Part::Check, 1, "BadWorkers")),
+        Err(CheckFault::NoMemory) => Err(Fault::plain(Part::Check, 3, "NoMemory")),
+    }
+}
+
+/// The verdict on rows by so many workers.
+pub(crate) fn verdict_of<R: Threads + Sync>(
+    rt: &R,
+    alloc: Global,
+    plan: &Plan,
+    rows: &Rows,
+    workers: u32,
+) -> Result<Verdict, Fault>
+    requires fit { RowsFit plan.now.program rows.now }
+    ensures verdict { IfOk result (IsVerdict plan.now rows.now) }
+    ensures one_worker { IfOk result (AcceptedRuns plan.now rows.now) }
+    ensures workers { OnOk result (IsWorkers workers) }
+    ensures fault { IfErr result (CheckRefusal workers) }
+{
+    law_one_worker(plan);
     // Several workers share the checker's work, and a short look has one.
     if workers == 1 {
         if let Some(verdict) = accepted(alloc, plan, rows) {
             return Ok(verdict);
         }
     }
-    match judge(rt, alloc, plan, rows, workers, &NoWatch) {
-        Ok(verdict) => Ok(verdict),
-        Err(CheckFault::BadWorkers) => Err(Fault::plain(Part::Check, 1, "BadWorkers")),
-        Err(CheckFault::NoMemory) => Err(Fault::plain(Part::Check, 3, "NoMemory")),
+    checked(rt, alloc, plan, rows, workers)
+}
+
+/// The verdict on rows by so many workers. They are gone through first where nobody has done so.
+fn verdict_behind<R: Threads + Sync>(
+    rt: &R,
+    alloc: Global,
+    plan: &Plan,
+    rows: &Rows,
+    first_look: bool,
+    workers: u32,
+) -> Result<Verdict, Fault>
+    requires fit { RowsFit plan.now.program rows.now }
+    ensures verdict { IfOk result (IsVerdict plan.now rows.now) }
+    ensures one_worker { IfOk result (AcceptedRuns plan.now rows.now) }
+    ensures workers { OnOk result (IsWorkers workers) }
+    ensures fault { IfErr result (CheckRefusal workers) }
+{
+    if first_look {
+        return verdict_of(rt, alloc, plan, rows, workers);
     }
+    checked(rt, alloc, plan, rows, workers)
 }
 
 /// Writes the line of a verdict.
@@ -115,6 +157,7 @@ fn judge_rows<W: Write, R: Threads + Sync>(
     alloc: Global,
     plan: &Plan,
     rows: &Rows,
+    first_look: bool,
     workers: u32,
     out: &mut W,
 ) -> Result<Verdict, Fault>
@@ -126,13 +169,47 @@ fn judge_rows<W: Write, R: Threads + Sync>(
     ensures refused { IfErr result (JudgingRefusal plan.now rows.now workers (W.contents out.old) (W.contents out.new)) }
     ensures kept { IfErr result (λ f. f.part ≢ part.Write → Keeps (W.contents out.old) (W.contents out.new)) }
 {
-    let verdict = match verdict_of(rt, alloc, plan, rows, workers) {
+    let verdict = match verdict_behind(rt, alloc, plan, rows, first_look, workers) {
         Ok(verdict) => verdict,
         Err(fault) => return Err(fault),
     };
     match report(alloc, plan.program(), verdict, out) {
         Ok(()) => Ok(verdict),
         Err(fault) => Err(fault),
+    }
+}
+
+/// The counts of a trace table that is accepted from its text, by a lawful number of workers.
+fn accepts(alloc: Global, plan: &Plan, trace: &[u8], workers: u32) -> Option<Counts>
+    ensures table { IfSome result (IsAcceptedTable plan.now trace.now) }
+    ensures workers { IfSome result (λ counts. IsWorkers workers) }
+{
+    if workers != 1 {
+        return None;
+    }
+    accepts_text(alloc, plan, trace)
+}
+
+/// Judges a trace table of a plan by so many workers and writes the verdict's line. Of a table that is
+/// accepted from its text no list of rows is made.
+fn judge_trace<W: Write, R: Threads + Sync>(
+    rt: &R,
+    alloc: Global,
+    plan: &Plan,
+    trace: &[u8],
+    workers: u32,
+    out: &mut W,
+) -> Result<Verdict, Fault>
+    ensures answer { (program externals : List ℕ) → IsOnly (IsPlanOf program externals) plan.now → IsAnswer program externals trace.now workers (W.contents out.old) (W.contents out.new) result }
+    ensures workers { OnOk result (IsWorkers workers) }
+    ensures kept { IfErr result (λ f. f.part ≢ part.Write → Keeps (W.contents out.old) (W.contents out.new)) }
+{
+    if let Some(counts) = accepts(alloc, plan, trace, workers) {
+        return tell_accepted(alloc, plan, counts, out);
+    }
+    match read_trace_shared(rt, alloc, plan.program(), trace, workers) {
+        Ok(rows) => judge_rows(rt, alloc, plan, &rows, is_odd(trace), workers, out),
+        Err(fault) => Err(Fault::trace(fault)),
     }
 }
 
@@ -155,8 +232,8 @@ pub fn judge_texts<W: Write, R: Threads + Sync>(
     ensures none { IfErr result (λ f. is_of_text f.part f.number ≡ true → (plan : PlanParts) (rows : List Row) → Mean program.now externals.now trace.now plan rows → ⊥) }
     ensures kept { IfErr result (λ f. f.part ≢ part.Write → Keeps (W.contents out.old) (W.contents out.new)) }
 {
-    match read_texts(rt, alloc, program, externals, trace, workers) {
-        Ok(given) => judge_rows(rt, alloc, &given.plan, &given.rows, workers, out),
+    match load(alloc, program, externals) {
+        Ok(plan) => judge_trace(rt, alloc, &plan, trace, workers, out),
         Err(fault) => Err(fault),
     }
 }
