@@ -111,7 +111,7 @@ impl<'a> Refused<'a> {
 
     /// Which limit the program passes, and how many there are.
     pub(crate) fn too_many(&self) -> Result<Option<Reason>, NoMemory> {
-        let Some(excess) = passed_limit(self.alloc, self.reactors)? else {
+        let Some(excess) = passed_limit(self.alloc, self.source.ast)? else {
             return Ok(None);
         };
         let (mut counted, mut most) = (Buffer::new(), Buffer::new());

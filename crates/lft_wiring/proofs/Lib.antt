@@ -1,3 +1,4 @@
 mod Firsts
 mod Turned
 mod Mains
+mod Limited

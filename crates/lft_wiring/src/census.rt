@@ -1,13 +1,22 @@
 //! What a program has too much of: which limit it passes, and by how much.
 
-ghost use Rattle.std.specs.Prelude.{◌≡◌, IfOk, IfSome};
-ghost use Rattle.lft_wiring.specs.Limits.{IsExcess, limit_of as the_limit_of};
+ghost use Rattle.std.specs.Prelude.{◌≡◌, ◌≤◌, IfOk, IfSome, IfNone, flat_map, length, map, min};
+ghost use Rattle.lft_tree.specs.Tree.{FileTree, reactors_of};
+ghost use Rattle.lft_tree.specs.View.{reactor_view, tree_view};
+ghost use Rattle.lft_instances.specs.Numbers.{count_of, things};
+ghost use Rattle.lft_scope.specs.Causes.{NoMain, TooMany, UnknownReactor};
+ghost use Rattle.lft_scope.specs.Numbers.{AreContents};
+ghost use Rattle.lft_scope.specs.References.{connection_trees, reactor_trees};
+ghost use Rattle.lft_wiring.specs.Limits.{IsExcess, KeepsLimit, declared_in, limit_of as the_limit_of};
 
 use crate::wiring::main_of;
+use lft_instances::{Contents, Instance, WalkFault, all_instances};
+use lft_lists::item_at;
+use lft_scope::by_number::contents;
+use lft_scope::{ReactorFault, members};
 use lft_tag::{MAX_INSTANCES, MAX_REACTIONS, MAX_THINGS, NoMemory};
-use lft_tree::{Member, Reactor};
+use lft_tree::{Ast, Connection, Reactor};
 use std::alloc::Global;
-use std::collections::HashMap;
 
 /// More instances aren't counted.
 const MOST_COUNTED: usize = 1_000_000;
@@ -23,6 +32,16 @@ pub enum LimitedKind {
     Timers,
 }
 
+/// The kinds, in the order in which their limits are looked at.
+const KINDS: [LimitedKind; 6] = [
+    LimitedKind::Instances,
+    LimitedKind::Reactions,
+    LimitedKind::Ports,
+    LimitedKind::Connections,
+    LimitedKind::Actions,
+    LimitedKind::Timers,
+];
+
 /// A limit that is passed.
 #[derive(Clone, Copy)]
 pub struct Excess {
@@ -33,18 +52,6 @@ pub struct Excess {
     pub is_more: bool,
     /// How many there may be.
     pub limit: u64,
-}
-
-/// How many instances, and how much they declare of each kind.
-#[derive(Clone, Copy)]
-struct Census {
-    instances: u64,
-    reactions: u64,
-    ports: u64,
-    connections: u64,
-    actions: u64,
-    timers: u64,
-    is_more: bool,
 }
 
 /// How many of a kind there may be.
@@ -61,126 +68,199 @@ fn limit_of(kind: LimitedKind) -> u64
     }
 }
 
-impl Census {
-    /// One instance of the reactor more, with what it declares.
-    fn add(&mut self, reactor: &Reactor) {
-        self.instances = self.instances.saturating_add(1);
-        for member in &reactor.members {
-            match member {
-                Member::Port(_) => self.ports = self.ports.saturating_add(1),
-                Member::Timer(_) => self.timers = self.timers.saturating_add(1),
-                Member::Action(_) => self.actions = self.actions.saturating_add(1),
-                Member::Reaction(_) => self.reactions = self.reactions.saturating_add(1),
-                Member::Connection(connection) => {
-                    let joins = connection.sources.len() as u64;
-                    self.connections = self.connections.saturating_add(joins);
-                }
-                Member::Instance(_) | Member::State(_) | Member::Preamble(_) => {}
-            }
+/// How many names stand on the left of the connections. More than a number holds aren't to be had in memory.
+fn sources_in(connections: &[&Connection]) -> Result<usize, NoMemory>
+    ensures { IfOk result (λ n. n ≡ length (flat_map (λ c. c.sources) (connection_trees connections.now))) }
+{
+    let mut count: usize = 0;
+    for connection in connections {
+        match count.checked_add(connection.sources.len()) {
+            Some(more) => count = more,
+            None => return Err(NoMemory),
         }
     }
+    Ok(count)
+}
 
-    /// The excess of a kind, if there are more than there may be.
-    fn passed(&self, kind: LimitedKind, count: u64) -> Option<Excess>
-        ensures { IfSome result IsExcess }
-    {
-        let limit = limit_of(kind);
-        if count > limit {
-            Some(Excess {
-                kind,
-                count,
-                is_more: self.is_more,
-                limit,
-            })
-        } else {
-            None
+/// How many of the kind an instance of the reactor adds.
+fn declared_in(alloc: Global, reactor: &Reactor, kind: LimitedKind) -> Result<usize, NoMemory>
+    ensures { IfOk result (λ n. n ≡ declared_in kind (reactor_view reactor.now)) }
+{
+    match kind {
+        LimitedKind::Instances => Ok(1),
+        LimitedKind::Reactions => {
+            let found = members::reactions(alloc, &reactor.members)?;
+            Ok(found.len())
+        }
+        LimitedKind::Ports => {
+            let found = members::ports(alloc, &reactor.members)?;
+            Ok(found.len())
+        }
+        LimitedKind::Connections => {
+            let found = members::connections(alloc, &reactor.members)?;
+            sources_in(&found)
+        }
+        LimitedKind::Actions => {
+            let found = members::actions(alloc, &reactor.members)?;
+            Ok(found.len())
+        }
+        LimitedKind::Timers => {
+            let found = members::timers(alloc, &reactor.members)?;
+            Ok(found.len())
         }
     }
+}
 
-    /// The first limit that is passed. Where not all instances were counted, it is theirs.
-    fn excess(&self) -> Option<Excess>
-        ensures { IfSome result IsExcess }
-    {
-        let kinds = [
-            (LimitedKind::Instances, self.instances),
-            (LimitedKind::Reactions, self.reactions),
-            (LimitedKind::Ports, self.ports),
-            (LimitedKind::Connections, self.connections),
-            (LimitedKind::Actions, self.actions),
-            (LimitedKind::Timers, self.timers),
-        ];
-        for place in 0..kinds.len() {
-            let (kind, count) = kinds[place];
-            let found = self.passed(kind, count);
-            if found.is_some() {
-                return found;
-            }
-        }
+/// How many of the kind an instance of each reactor adds.
+fn counts_of(
+    alloc: Global,
+    reactors: &[&Reactor],
+    kind: LimitedKind,
+) -> Result<Vec<usize>, NoMemory>
+    ensures { IfOk result (λ v. v.items ≡ map (declared_in kind) (reactor_trees reactors.now)) }
+{
+    let mut counts = Vec::new(alloc);
+    for reactor in reactors {
+        let count = declared_in(alloc, *reactor, kind)?;
+        counts.push(count)?;
+    }
+    Ok(counts)
+}
+
+/// How many an instance of the reactor adds.
+fn count_at(counts: &[usize], reactor: u32) -> usize
+    ensures { result ≡ count_of counts.now reactor }
+{
+    counts.get(reactor as usize).copied().unwrap_or(0)
+}
+
+/// How many all instances have, or the greatest number where that is less.
+fn total_of(counts: &[usize], instances: &[Instance]) -> usize
+    ensures { result ≡ min (things counts.now instances.now) usize.MAX }
+{
+    let mut total: usize = 0;
+    for number in 0..instances.len() {
+        total = total.saturating_add(count_at(counts, item_at(instances, number).reactor));
+    }
+    total
+}
+
+/// The excess of a kind, if there are more than there may be.
+fn passed(kind: LimitedKind, count: u64) -> Option<Excess>
+    ensures some { IfSome result IsExcess }
+    ensures none { IfNone result (count ≤ the_limit_of kind) }
+{
+    let limit = limit_of(kind);
+    if count > limit {
+        Some(Excess {
+            kind,
+            count,
+            is_more: false,
+            limit,
+        })
+    } else {
         None
     }
 }
 
-/// The numbers of the reactors of which one contains an instance, by the number of that one.
-fn contained(alloc: Global, reactors: &[&Reactor]) -> Result<Vec<Vec<usize>>, NoMemory> {
-    let mut numbers: HashMap<&str, usize> = HashMap::new(alloc);
-    for place in 0..reactors.len() {
-        let reactor = reactors[place];
-        if let Some(name) = &reactor.name {
-            numbers.insert(name.as_str(), place)?;
-        }
-    }
-    let mut found = Vec::new(alloc);
-    for reactor in reactors {
-        let mut inner = Vec::new(alloc);
-        for member in &reactor.members {
-            if let Member::Instance(instance) = member {
-                if let Some(number) = numbers.get(instance.reactor.as_str()).copied() {
-                    inner.push(number)?;
-                }
-            }
-        }
-        found.push(inner)?;
-    }
-    Ok(found)
+/// The excess of a kind, if the instances of these reactors have more than there may be.
+fn excess_of(
+    alloc: Global,
+    reactors: &[&Reactor],
+    instances: &[Instance],
+    kind: LimitedKind,
+) -> Result<Option<Excess>, NoMemory>
+    ensures some { IfOk result (λ found. IfSome found IsExcess) }
+    ensures none { IfOk result (λ found. IfNone found (KeepsLimit (reactor_trees reactors.now) instances.now kind)) }
+{
+    let counts = counts_of(alloc, reactors, kind)?;
+    Ok(passed(kind, total_of(&counts, instances) as u64))
 }
 
-/// The census of the program with that main reactor. It ends at a million instances.
-fn count_all(alloc: Global, reactors: &[&Reactor], main: usize) -> Result<Census, NoMemory> {
-    let contained = contained(alloc, reactors)?;
-    let mut census = Census {
-        instances: 0,
-        reactions: 0,
-        ports: 0,
-        connections: 0,
-        actions: 0,
-        timers: 0,
-        is_more: false,
-    };
+/// The first limit that the instances of these reactors pass.
+fn first_excess(
+    alloc: Global,
+    reactors: &[&Reactor],
+    instances: &[Instance],
+) -> Result<Option<Excess>, NoMemory>
+    ensures some { IfOk result (λ found. IfSome found IsExcess) }
+    ensures none { IfOk result (λ found. IfNone found ((kind : LimitedKind) → KeepsLimit (reactor_trees reactors.now) instances.now kind)) }
+{
+    for kind in KINDS {
+        if let Some(found) = excess_of(alloc, reactors, instances, kind)? {
+            return Ok(Some(found));
+        }
+    }
+    Ok(None)
+}
+
+/// How many instances there are up to a million, and whether there are more.
+fn count_instances(
+    alloc: Global,
+    contents: &[Contents],
+    main: u32,
+) -> Result<(usize, bool), NoMemory> {
     let mut left = Vec::new(alloc);
     left.push(main)?;
     for counted in 0..MOST_COUNTED {
         let Some(number) = left.pop() else {
-            return Ok(census);
+            return Ok((counted, false));
         };
-        if number < reactors.len() && number < contained.len() {
-            census.add(reactors[number]);
-            // What is left to count takes memory: no more than there is to count.
-            if left.len() <= MOST_COUNTED - counted {
-                left.extend_from_slice(contained[number].as_slice())?;
-            }
+        let reactor = number as usize;
+        // What is left to count takes memory: no more than there is to count.
+        if reactor < contents.len() && left.len() <= MOST_COUNTED - counted {
+            left.extend_from_slice(contents[reactor].instances.as_slice())?;
         }
     }
-    census.is_more = !left.is_empty();
-    Ok(census)
+    Ok((MOST_COUNTED, !left.is_empty()))
 }
 
-/// Which limit the program with these reactors passes, and how many there are. None where it passes none.
-pub fn passed_limit(alloc: Global, reactors: &[&Reactor]) -> Result<Option<Excess>, NoMemory>
-    ensures { IfOk result (λ found. IfSome found IsExcess) }
+/// The excess of a program with more instances than there may be.
+fn excess_of_instances(alloc: Global, contents: &[Contents], main: u32) -> Result<Excess, NoMemory>
+    ensures { IfOk result IsExcess }
+{
+    let (count, is_more) = count_instances(alloc, contents, main)?;
+    let least = limit_of(LimitedKind::Instances) + 1;
+    Ok(Excess {
+        kind: LimitedKind::Instances,
+        count: least.max(count as u64),
+        is_more,
+        limit: limit_of(LimitedKind::Instances),
+    })
+}
+
+/// Which limit the program with these reactors and contents passes.
+fn limit_among(
+    alloc: Global,
+    reactors: &[&Reactor],
+    contents: &[Contents],
+) -> Result<Option<Excess>, NoMemory>
+    ensures some { IfOk result (λ found. IfSome found IsExcess) }
+    ensures none { IfOk result (λ found. IfNone found ((tree : FileTree) → reactors_of tree ≡ reactor_trees reactors.now → AreContents (reactor_trees reactors.now) contents.now → ¬ NoMain (reactor_trees reactors.now) → ¬ TooMany tree)) }
 {
     let Some(main) = main_of(reactors) else {
         return Ok(None);
     };
-    let census = count_all(alloc, reactors, main.place)?;
-    Ok(census.excess())
+    let Ok(number) = u32::try_from(main.place) else {
+        return Err(NoMemory);
+    };
+    match all_instances(alloc, contents, number) {
+        Ok(instances) => first_excess(alloc, reactors, &instances),
+        Err(WalkFault::TooMany) => Ok(Some(excess_of_instances(alloc, contents, number)?)),
+        Err(WalkFault::NoMemory) => Err(NoMemory),
+    }
+}
+
+/// Which limit the program passes, and how many there are. None where it passes none, and where there is no
+/// main reactor or an instance is of no reactor of the file.
+pub fn passed_limit(alloc: Global, ast: &Ast) -> Result<Option<Excess>, NoMemory>
+    ensures excess { IfOk result (λ found. IfSome found IsExcess) }
+    ensures none { IfOk result (λ found. IfNone found (¬ NoMain (reactors_of (tree_view ast.now)) → ¬ UnknownReactor (reactors_of (tree_view ast.now)) → ¬ TooMany (tree_view ast.now))) }
+{
+    let reactors = members::reactors(alloc, &ast.items)?;
+    match contents(alloc, ast) {
+        Ok(contents) => limit_among(alloc, &reactors, &contents),
+        Err(ReactorFault::NoMemory) => Err(NoMemory),
+        Err(_) => Ok(None),
+    }
 }

@@ -3,7 +3,8 @@
 //! The instances are listed as they are walked. For each port at which a connection ends stand the port
 //! where it begins, its delay, and its place in the text.
 
-ghost use Rattle.std.specs.Prelude.{◌≡◌, IfOk, IfSome, IfNone};
+ghost use Rattle.std.specs.Prelude.{◌≡◌, Some, IfOk, IfSome, IfNone, find, slice_get};
+ghost use Rattle.lft_tree.specs.Tree.{ReactorTree};
 ghost use Rattle.lft_scope.specs.Causes.{NoMain};
 ghost use Rattle.lft_scope.specs.References.{reactor_trees};
 
@@ -80,7 +81,8 @@ fn by_name<'a>(
 
 /// The first main reactor.
 pub(crate) fn main_of<'a>(reactors: &'a [&'a Reactor]) -> Option<Placed<'a>>
-    ensures { IfNone result (NoMain (reactor_trees reactors.now)) }
+    ensures some { IfSome result (λ main. (r : ReactorTree) × (find (λ r. r.is_main) (reactor_trees reactors.now) ≡ Some r) × (slice_get (reactor_trees reactors.now) main.place ≡ Some r)) }
+    ensures none { IfNone result (NoMain (reactor_trees reactors.now)) }
 {
     for place in 0..reactors.len() {
         let reactor = reactors[place];
