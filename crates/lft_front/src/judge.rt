@@ -24,14 +24,17 @@ use crate::line::verdict_line;
 use lft_check::{CheckFault, NoWatch, Verdict, judge};
 use lft_flat::Program;
 use lft_load::{Fault, Part, load, write_text};
-use lft_model::Plan;
 use lft_model::laws::law_one_worker;
+use lft_model::{Plan, is_workers};
 use lft_reading::read_trace_shared;
-use lft_stream::{Counts, accepts_text};
+use lft_stream::{Counts, accepts_text, accepts_text_shared};
 use lft_trace::Rows;
 use std::alloc::Global;
 use std::io::Write;
 use std::thread::Threads;
+
+/// Texts of fewer bytes are gone through by one worker: of them a thread costs more than it brings.
+const SHORT: usize = 1 << 20;
 
 /// The plan and the rows of three texts.
 #[derive(Drop)]
@@ -180,14 +183,23 @@ fn judge_rows<W: Write, R: Threads + Sync>(
 }
 
 /// The counts of a trace table that is accepted from its text, by a lawful number of workers.
-fn accepts(alloc: Global, plan: &Plan, trace: &[u8], workers: u32) -> Option<Counts>
+fn accepts<R: Threads + Sync>(
+    rt: &R,
+    alloc: Global,
+    plan: &Plan,
+    trace: &[u8],
+    workers: u32,
+) -> Option<Counts>
     ensures table { IfSome result (IsAcceptedTable plan.now trace.now) }
     ensures workers { IfSome result (λ counts. IsWorkers workers) }
 {
-    if workers != 1 {
+    if !is_workers(workers) {
         return None;
     }
-    accepts_text(alloc, plan, trace)
+    if workers == 1 || trace.len() < SHORT {
+        return accepts_text(alloc, plan, trace);
+    }
+    accepts_text_shared(rt, alloc, plan, trace, workers)
 }
 
 /// Judges a trace table of a plan by so many workers and writes the verdict's line. Of a table that is
@@ -204,7 +216,7 @@ fn judge_trace<W: Write, R: Threads + Sync>(
     ensures workers { OnOk result (IsWorkers workers) }
     ensures kept { IfErr result (λ f. f.part ≢ part.Write → Keeps (W.contents out.old) (W.contents out.new)) }
 {
-    if let Some(counts) = accepts(alloc, plan, trace, workers) {
+    if let Some(counts) = accepts(rt, alloc, plan, trace, workers) {
         return tell_accepted(alloc, plan, counts, out);
     }
     match read_trace_shared(rt, alloc, plan.program(), trace, workers) {
