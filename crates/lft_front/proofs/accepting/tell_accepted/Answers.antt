@@ -21,10 +21,10 @@ returns-in-Ok-clause-told g c = λ trace workers lawful accepted.
     record {
       rows = accepted.0;
       table = accepted.1;
-      one = λ other h. one_table plan.program (records_of trace) accepted.0 other c.program.ensures.sound.sound accepted.1 h;
+      one = λ other h. one_table plan.program (records_of trace) accepted.0 other c.program-program.ensures.sound.sound accepted.1 h;
       right = accepted.2;
       one_worker = accepted_runs plan accepted.0 c.law_one_worker.ensures.runs c.law_one_worker.ensures.precedence verdict accepted.2;
-      written = subst (λ (p : Parts). Appends (g.W.Write.contents c.args.out.now) (g.W.Write.contents c.report.new.out) (line_of p verdict)) c.program.ensures.value c.in-Ok.ensures.written;
+      written = subst (λ (p : Parts). Appends (g.W.Write.contents c.args.out.now) (g.W.Write.contents c.report.new.out) (line_of p verdict)) c.program-program.ensures.value c.in-Ok.ensures.written;
       refused = tt;
     }
 
@@ -35,12 +35,12 @@ returns-in-Err-clause-told g c = λ trace workers lawful accepted.
     record {
       rows = accepted.0;
       table = accepted.1;
-      one = λ other h. one_table plan.program (records_of trace) accepted.0 other c.program.ensures.sound.sound accepted.1 h;
+      one = λ other h. one_table plan.program (records_of trace) accepted.0 other c.program-program.ensures.sound.sound accepted.1 h;
       right = tt;
       one_worker = tt;
       written = tt;
       refused = elim c.in-Err.ensures.front [
         | inl x ↦ by_check (by_growth x lawful)
-        | inr x ↦ by_writer verdict x.0 x.1 accepted.2 (subst (λ (p : Parts). AppendsFront (g.W.Write.contents c.args.out.now) (g.W.Write.contents c.report.new.out) (line_of p verdict)) c.program.ensures.value x.2)
+        | inr x ↦ by_writer verdict x.0 x.1 accepted.2 (subst (λ (p : Parts). AppendsFront (g.W.Write.contents c.args.out.now) (g.W.Write.contents c.report.new.out) (line_of p verdict)) c.program-program.ensures.value x.2)
       ];
     }
