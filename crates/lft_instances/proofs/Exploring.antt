@@ -2,7 +2,7 @@
 use Rattle.std.proofs.Common.{◌≡◌, ◌≢◌, ℕ, zero, suc, ◌+◌, ◌-◌, ◌<◌, ◌≤◌, ◌⊎◌, inl, inr, List, [], ◌∷◌, ◌++◌, length, refl, sym, ap, ◌∙◌, subst, arith, Option, Some, None, slice_get, slice_set}
 use Rattle.std.proofs.lemmas.Bool.{cases_lt}
 use Rattle.std.proofs.lemmas.Option.{slice_get_within}
-use Rattle.lft_lists.proofs.Places.{get_there, get_written, get_unwritten, get_write_cases, length_written}
+use Rattle.lft_lists.proofs.Places.{get_there, get_written, get_unwritten, get_write_cases, length_written, same_some}
 use Rattle.lft_lists.proofs.Members.{Mem, mem_left, mem_right, mem_cases}
 use Rattle.lft_instances.specs.declared.walk.Contents.{Contents}
 use Rattle.lft_instances.specs.declared.recursion.Stage.{Stage}
@@ -80,16 +80,13 @@ pub record Exploring (table : List Contents) (before : List Stage) (start : ℕ)
   pub kept : KeepsExplored before stages
   pub looked : slice_get stages start ≢ Some New
 
-not_both : (o : Option Stage) (x y : Stage) → o ≡ Some x → o ≡ Some y → x ≡ y
-not_both o x y a b = cc
-
 -- what is past stays so where a reactor that isn't done gets another stage
 past_written : (stages : List Stage) (i b : ℕ) (x y : Stage) → slice_get stages i ≡ Some x → x ≢ Done → IsPast stages b → IsPast (slice_set stages i y) b
-past_written stages i b x y e n (inl d) = inl (get_unwritten stages i b y (λ s. n (let f : slice_get stages i ≡ Some Done = subst (λ j. slice_get stages j ≡ Some Done) s d in not_both (slice_get stages i) x Done e f)) ∙ d)
+past_written stages i b x y e n (inl d) = inl (get_unwritten stages i b y (λ s. n (let f : slice_get stages i ≡ Some Done = subst (λ j. slice_get stages j ≡ Some Done) s d in same_some (slice_get stages i) x Done e f)) ∙ d)
 past_written stages i b x y e n (inr l) = inr (let s = length_written stages i y in omega arith)
 
 open_not_past : (table : List Contents) (stages : List Stage) (r : ℕ) → slice_get stages r ≡ Some Open → IsPast stages r → ⊥
-open_not_past table stages r e (inl d) = let q : Open ≡ Done = not_both (slice_get stages r) Open Done e d in cc
+open_not_past table stages r e (inl d) = let q : Open ≡ Done = same_some (slice_get stages r) Open Done e d in cc
 open_not_past table stages r e (inr l) = let k = slice_get_within stages r Open e in omega arith
 
 -- marking a reactor as open changes nothing of what is explored
@@ -209,7 +206,7 @@ exploring_enter table before stages start c visits top inner w n at next = recor
     within = slice_get_within stages c New is_new
 
     apart : (x : ℕ) → Mem x on → x ≢ c
-    apart x m e = let q : New ≡ Open = not_both (slice_get stages x) New Open (subst (λ k. slice_get stages k ≡ Some New) (sym e) is_new) (w.are_open x m) in cc
+    apart x m e = let q : New ≡ Open = same_some (slice_get stages x) New Open (subst (λ k. slice_get stages k ≡ Some New) (sym e) is_new) (w.are_open x m) in cc
 
     deep : (x : ℕ) → Mem x (reactors_of visits) ⊎ Mem x (top.reactor ∷ []) → HoldsDeep table x c
     deep x (inl m) = holds_on table x top.reactor c (pairs_last (Above table) (reactors_of visits) top.reactor (subst (λ l. Pairs (Above table) l) (reactors_push visits top) w.chain) x m).0 (top.next, n.0)

@@ -2,3 +2,4 @@ pub mod Picked
 pub mod Places
 pub mod Mapped
 pub mod Members
+pub mod Options

@@ -1,5 +1,5 @@
 -- What mapped and numbered lists have at their places.
-use Rattle.std.proofs.Common.{◌≡◌, ℕ, zero, suc, ◌+◌, List, [], ◌∷◌, map, Option, Some, None, option_map, slice_get, refl, ap, ◌∙◌, arith, inl, inr, sym}
+use Rattle.std.proofs.Common.{◌≡◌, ℕ, zero, suc, ◌+◌, ◌<◌, List, [], ◌∷◌, map, Option, Some, None, option_map, slice_get, get_or, length, refl, ap, ◌∙◌, arith, inl, inr, sym}
 use Rattle.std.specs.List.{enumerate_from, zip}
 use Rattle.lft_lists.proofs.Members.{Mem}
 
@@ -7,6 +7,12 @@ pub mapped : {X Y : Type 0} (f : X → Y) (xs : List X) (k : ℕ) (x : X) → sl
 mapped f [] k x e = absurd (cc)
 mapped f (z ∷ xs) zero x e = let q : z ≡ x = cc in ap (λ w. Some (f w)) q
 mapped f (z ∷ xs) (suc k) x e = mapped f xs k x e
+
+-- the item at an index, seen by f
+pub mapped_at : {X Y : Type 0} (f : X → Y) (xs : List X) (i : ℕ) (x : X) → i < length xs → get_or xs i x ≡ x → slice_get (map f xs) i ≡ Some (f x)
+mapped_at f [] i x within is = absurd (omega arith)
+mapped_at f (y ∷ xs) zero x within is = ap (λ z. Some (f z)) is
+mapped_at f (y ∷ xs) (suc i) x within is = mapped_at f xs i x (omega arith) is
 
 -- and from what
 pub mapped_from : {X Y : Type 0} (f : X → Y) (xs : List X) (i : ℕ) (y : Y) → slice_get (map f xs) i ≡ Some y → (x : X) × (slice_get xs i ≡ Some x) × (f x ≡ y)

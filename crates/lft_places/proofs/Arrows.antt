@@ -1,8 +1,7 @@
 -- Arrows: how they are written, and that the names before one have none.
-use Rattle.std.proofs.Common.{◌≡◌, ℕ, zero, suc, ◌+◌, ◌-◌, Bool, true, false, List, [], ◌∷◌, Option, Some, None, if◌then◌else◌, refl, ap, subst, ◌∙◌, arith}
-use Rattle.std.specs.Prelude.{slice_get, slice_range, nat_eq, codes, ◌&&◌}
+use Rattle.std.proofs.Common.{◌≡◌, ℕ, zero, suc, ◌+◌, ◌-◌, List, [], ◌∷◌, Option, Some, None, if◌then◌else◌, refl, ap, subst, ◌∙◌, arith}
+use Rattle.std.specs.Prelude.{slice_get, slice_range, codes, ◌&&◌}
 use Rattle.std.proofs.Math.Logic.{∥∥₁_elim}
-use Rattle.std.proofs.lemmas.Bool.{eqb-true}
 use Rattle.std.proofs.lemmas.Option.{slice_get_within, get_or_from_slice_get}
 use Rattle.std.proofs.Props.{props}
 use Rattle.lft_syntax.specs.declared.token.Token.{Token}
@@ -10,49 +9,16 @@ use Rattle.lft_syntax.specs.declared.token.TokenKind.{TokenKind}
 use Rattle.lft_syntax.specs.declared.token.TokenKind.TheVariants as kinds
 use Rattle.lft_syntax.specs.declared.form.Form.{Form}
 use Rattle.lft_syntax.specs.declared.form.Form.TheVariants.{Space, LineComment, StarComment, Code, Text, Name, Digits, Arrow, Symbol, Unknown}
-use Rattle.lft_tree.specs.Bytes.{within, is_space, is_letter, is_digit, is_byte}
+use Rattle.lft_tree.specs.Bytes.{within}
 use Rattle.lft_syntax.specs.Lexes.{Reads, Piece, Cut, done, piece, Lexes, form_of}
 use Rattle.lft_syntax.proofs.Options.{some, some_is}
+use Rattle.lft_syntax.proofs.Pieces.{Begins, begins}
 use Rattle.lft_syntax.proofs.Numbers.{range_cons}
 
 -- ---- how an arrow is written
 
--- the bytes with which an arrow begins
-abbrev ArrowBytes : ℕ → Option ℕ → Form → Type 0
-ArrowBytes b next Arrow = (b ≡ 45) × (next ≡ Some 62)
-ArrowBytes b next _ = Unit {0}
-
-byte_there : (b : ℕ) (o : Option ℕ) → is_byte b o ≡ true → o ≡ Some b
-byte_there b None e = absurd cc
-byte_there b (Some c) e = ap some (eqb-true c b e)
-
-two : (b : ℕ) (next : Option ℕ) → (nat_eq b 45 && is_byte 62 next) ≡ true → (b ≡ 45) × (next ≡ Some 62)
-two b next e = both (nat_eq b 45) (is_byte 62 next) e (eqb-true b 45) (byte_there 62 next)
-  where
-    both : (x y : Bool) → (x && y) ≡ true → (x ≡ true → b ≡ 45) → (y ≡ true → next ≡ Some 62) → (b ≡ 45) × (next ≡ Some 62)
-    both true y e f g = (f refl, g e)
-    both false y e f g = absurd cc
-
-either : (P : Form → Type 0) (c : Bool) (x y : Form) → (c ≡ true → P x) → P y → P (if c then x else y)
-either P true x y here there = here refl
-either P false x y here there = there
-
-arrow_bytes : (b : ℕ) (next : Option ℕ) → ArrowBytes b next (form_of b next)
-arrow_bytes b next =
-    let P = λ (f : Form). ArrowBytes b next f in
-    either P (is_space b) Space _ (λ e. tt)
-    (either P (nat_eq b 35) LineComment _ (λ e. tt)
-    (either P (nat_eq b 47 && is_byte 47 next) LineComment _ (λ e. tt)
-    (either P (nat_eq b 47 && is_byte 42 next) StarComment _ (λ e. tt)
-    (either P (nat_eq b 123 && is_byte 61 next) Code _ (λ e. tt)
-    (either P (nat_eq b 34) Text _ (λ e. tt)
-    (either P (is_letter b) Name _ (λ e. tt)
-    (either P (is_digit b) Digits _ (λ e. tt)
-    (either P (nat_eq b 45 && is_byte 62 next) Arrow _ (two b next)
-    (either P (within 33 126 b) Symbol Unknown (λ e. tt) tt)))))))))
-
 -- a piece that is an arrow has these two bytes
-arrow_reads : (t : List ℕ) (i b j : ℕ) (next : Option ℕ) (f : Form) (kind : TokenKind) → ArrowBytes b next f → Reads t i b f j (Some kind) → kind ≡ kinds.Arrow → (j ≡ i + 2) × (b ≡ 45) × (next ≡ Some 62)
+arrow_reads : (t : List ℕ) (i b j : ℕ) (next : Option ℕ) (f : Form) (kind : TokenKind) → Begins b next f → Reads t i b f j (Some kind) → kind ≡ kinds.Arrow → (j ≡ i + 2) × (b ≡ 45) × (next ≡ Some 62)
 arrow_reads t i b j next Space kind h r e = let n = r.1 in absurd cc
 arrow_reads t i b j next LineComment kind h r e = let n = r.1 in absurd cc
 arrow_reads t i b j next StarComment kind h r e = let n = r.1 in absurd cc
@@ -77,7 +43,7 @@ arrow_range t i j first second e =
 piece_arrow : (t : List ℕ) (i j : ℕ) (kind : TokenKind) → Piece t i (Some kind) j → kind ≡ kinds.Arrow → slice_range t i j ≡ codes "->"
 piece_arrow t i j kind p e =
     let next = slice_get t (i + 1) in
-    let h = arrow_reads t i p.byte j next (form_of p.byte next) kind (arrow_bytes p.byte next) p.reads e in
+    let h = arrow_reads t i p.byte j next (form_of p.byte next) kind (begins p.byte next) p.reads e in
     let end = h.0 in
     arrow_range t i j (p.there ∙ ap some h.1) h.2 (omega (arith, end))
 

@@ -1,5 +1,5 @@
 -- The record at which a table fails.
-use Rattle.std.proofs.Common.{◌≡◌, ℕ, ◌+◌, List, [], ◌∷◌, ◌++◌, Option, Some, None, IfNone, IfSome, is_some, true, inl, inr, length, slice_get, zero, suc, add-one, sym, ap, subst, ◌∙◌, arith}
+use Rattle.std.proofs.Common.{◌≡◌, ℕ, ◌+◌, List, [], ◌∷◌, ◌++◌, Option, Some, None, IfSome, is_some, true, inl, inr, length, slice_get, zero, suc, add-one, sym, ap, subst, ◌∙◌, arith}
 use Rattle.std.proofs.lemmas.Slice.Zip.{AllZip-long}
 use Rattle.csv.specs.Records.{field_at as at_place}
 use Rattle.lft_flat.specs.Parts.{Parts}
@@ -12,23 +12,10 @@ use Rattle.lft_refusals.specs.Tables.{Fails, FailsThere, HasRecord, field_at}
 use Rattle.lft_refusals.specs.declared.tables.Table.{Table}
 use Rattle.lft_refusals.specs.declared.tables.Table.TheVariants.{Trace, Externals}
 
--- what is known of an answer of nothing
-pub known : {X P : Type 0} (o : Option X) → IfNone o P → o ≡ None → P
-known None p e = p
-known (Some x) p e = absurd (cc)
-
-pub known_some : {X : Type 0} (P : X → Type 0) (o : Option X) (x : X) → IfSome o P → o ≡ Some x → P x
-known_some P None x p e = absurd (cc)
-known_some P (Some y) x p e = subst P (let same : y ≡ x = cc in same) p
-
-pub weaker : {X P Q : Type 0} (o : Option X) → (P → Q) → IfNone o P → IfNone o Q
-weaker None follows p = follows p
-weaker (Some x) follows p = p
-
 -- what is found is so, though nothing is
-pub found : {X : Type 0} (P : X → Type 0) (o : Option X) → is_some o ≡ true → IfSome o P → ((x : X) → P x → ⊥) → ⊥
-found P None e p none = absurd (cc)
-found P (Some x) e p none = none x p
+pub found_none : {X : Type 0} (P : X → Type 0) (o : Option X) → is_some o ≡ true → IfSome o P → ((x : X) → P x → ⊥) → ⊥
+found_none P None e p none = absurd (cc)
+found_none P (Some x) e p none = none x p
 
 -- the field that stands at a place
 pub there : (fields : List (List ℕ)) (k : ℕ) (f : List ℕ) → slice_get fields k ≡ Some f → field_at fields k ≡ f

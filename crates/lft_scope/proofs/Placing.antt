@@ -1,5 +1,5 @@
 -- Places of names, as lists grow, and what stands at a place.
-use Rattle.std.proofs.Common.{◌≡◌, ℕ, ◌<◌, zero, suc, Bool, true, false, cond, not, List, [], ◌∷◌, ◌++◌, map, length, get_or, slice_get, find, Option, Some, None, option_map, option_copied, Bor, bytes_eq, refl, sym, ap, subst, ◌∙◌, arith}
+use Rattle.std.proofs.Common.{◌≡◌, ℕ, ◌<◌, suc, Bool, true, false, cond, not, List, [], ◌∷◌, ◌++◌, map, length, slice_get, find, Option, Some, None, option_map, option_copied, Bor, bytes_eq, refl, sym, ap, subst, ◌∙◌}
 use Rattle.std.specs.Option.{option_and_then, is_none, is_some}
 use Rattle.std.specs.Slice.{IsItemAt}
 use Rattle.std.proofs.lemmas.Option.{slice_get-get_or, slice_get_past}
@@ -133,12 +133,6 @@ not_some (Some x) e = absurd (cc)
 -- what stands at a name's first place is what is first found
 pub place_found : {X : Type 0} (name : X → List ℕ) (q : List ℕ) (xs : List X) (k : ℕ) (x : X) → place q (map name xs) ≡ Some k → slice_get xs k ≡ Some x → find (λ y. bytes_eq q (name y)) xs ≡ Some x
 place_found name q xs k x at is = find-place name q xs ∙ ap (option_and_then (slice_get xs)) at ∙ is
-
--- the element at an index, seen by v
-pub stands_there : {A C : Type 0} (v : C → A) (xs : List C) (i : ℕ) (x : C) → i < length xs → get_or xs i x ≡ x → slice_get (map v xs) i ≡ Some (v x)
-stands_there v [] i x within is = absurd (omega arith)
-stands_there v (y ∷ xs) zero x within is = ap (λ z. Some (v z)) is
-stands_there v (y ∷ xs) (suc i) x within is = stands_there v xs i x (omega arith) is
 
 -- what is lent of a list at a place that may lie past its end
 pub lent : {X : Type 0} (xs : List X) (i : ℕ) (o : Option (Bor X)) → IsItemAt xs i o → option_copied o ≡ slice_get xs i

@@ -3,7 +3,7 @@ use Rattle.std.proofs.Common.{◌≡◌, ℕ, suc, Bool, true, false, List, leng
 use Rattle.std.proofs.lemmas.Option.{slice_get_past}
 use Rattle.std.specs.Prelude.{slice_get, codes}
 use Rattle.lft_syntax.specs.Lexeme.{Lexeme, Letters, Symbol, is, is_there, is_word_of, preamble_keys, name_in}
-use Rattle.lft_syntax.specs.Language.{Spelling, ◌or◌, optional, many, made, ignored}
+use Rattle.lft_syntax.specs.Language.{◌or◌, optional, many, ignored}
 use Rattle.lft_tree.specs.Tree.{ItemTree, PreambleItem, ReactorItem, FileTree}
 use Rattle.lft_syntax.specs.Grammar.{name, braces, preamble, reactor, target, item, file, file_of, Spells}
 use Rattle.lft_syntax.specs.Reading.{maybe, target_at, item_at, items_at, file_at}

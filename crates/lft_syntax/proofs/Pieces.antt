@@ -1,7 +1,7 @@
 -- How far a piece reaches.
 use Rattle.std.proofs.Common.{◌≡◌, ℕ, ◌+◌, ◌<◌, ◌≤◌, Bool, true, false, List, length, Option, Some, if◌then◌else◌, refl, sym, ap, ◌∙◌, arith, inl, inr}
 use Rattle.std.specs.Prelude.{slice_get, slice_index, nat_eq, ◌&&◌, ◌||◌}
-use Rattle.std.proofs.lemmas.Option.{slice_get_within, slice_get_past, slice_get-get_or}
+use Rattle.std.proofs.lemmas.Option.{slice_get_within, slice_get-get_or}
 use Rattle.std.proofs.lemmas.Bool.{eqb-true}
 use Rattle.lft_syntax.specs.declared.token.TokenKind.{TokenKind}
 use Rattle.lft_syntax.specs.declared.form.Form.{Form}
@@ -15,7 +15,7 @@ abbrev pub Begins : ℕ → Option ℕ → Form → Type 0
 Begins b next LineComment = is_in_line b ≡ true
 Begins b next Name = is_letter b ≡ true
 Begins b next Digits = is_digit b ≡ true
-Begins b next Arrow = is_byte 62 next ≡ true
+Begins b next Arrow = (b ≡ 45) × (next ≡ Some 62)
 Begins b next _ = Unit {0}
 
 either : (P : Form → Type 0) (c : Bool) (x y : Form) → (c ≡ true → P x) → P y → P (if c then x else y)
@@ -35,10 +35,18 @@ slash_in_line b next e = let at : b ≡ 47 = eqb-true b 47 (first (nat_eq b 47) 
 letter_in_word : (b : ℕ) → is_letter b ≡ true → is_word b ≡ true
 letter_in_word b e = ap (λ (x : Bool). x || is_digit b) e
 
-second : (x y : Bool) → (x && y) ≡ true → y ≡ true
-second true y e = e
-second false y e = cc
+byte_there : (b : ℕ) (o : Option ℕ) → is_byte b o ≡ true → o ≡ Some b
+byte_there b None e = absurd cc
+byte_there b (Some c) e = ap Some (eqb-true c b e)
 
+arrow_there : (b : ℕ) (next : Option ℕ) → (nat_eq b 45 && is_byte 62 next) ≡ true → (b ≡ 45) × (next ≡ Some 62)
+arrow_there b next e = both (nat_eq b 45) (is_byte 62 next) e (eqb-true b 45) (byte_there 62 next)
+  where
+    both : (x y : Bool) → (x && y) ≡ true → (x ≡ true → b ≡ 45) → (y ≡ true → next ≡ Some 62) → (b ≡ 45) × (next ≡ Some 62)
+    both true y e f g = (f refl, g e)
+    both false y e f g = absurd cc
+
+-- each form begins so
 pub begins : (b : ℕ) (next : Option ℕ) → Begins b next (form_of b next)
 begins b next =
     let P = λ (f : Form). Begins b next f in
@@ -50,7 +58,7 @@ begins b next =
     (either P (nat_eq b 34) Text _ (λ e. tt)
     (either P (is_letter b) Name _ (λ e. e)
     (either P (is_digit b) Digits _ (λ e. e)
-    (either P (nat_eq b 45 && is_byte 62 next) Arrow _ (second (nat_eq b 45) (is_byte 62 next))
+    (either P (nat_eq b 45 && is_byte 62 next) Arrow _ (arrow_there b next)
     (either P (within 33 126 b) Symbol Unknown (λ e. tt) tt)))))))))
 
 true_is_false : true ≡ false → ⊥
@@ -97,13 +105,6 @@ reads_further t i b Arrow j kind e h r = omega (arith, r.0)
 reads_further t i b Symbol j kind e h r = omega (arith, r.0)
 reads_further t i b Unknown j kind e h r = absurd r
 
--- a byte stands where a test of it holds
-stands : (t : List ℕ) (i b : ℕ) → is_byte b (slice_get t i) ≡ true → i < length t
-stands t i b e = elim (three_ways i (length t)) [
-  | inl lt ↦ lt
-  | inr o ↦ absurd (true_is_false (sym e ∙ ap (is_byte b) (slice_get_past t i (elim o [ inl same ↦ omega arith | inr gt ↦ omega arith ]))))
-]
-
 reads_within : (t : List ℕ) (i b : ℕ) (f : Form) (j : ℕ) (kind : Option TokenKind) → slice_get t i ≡ Some b → Begins b (slice_get t (i + 1)) f → Reads t i b f j kind → j ≤ length t
 reads_within t i b Space j kind e h r = let lt = slice_get_within t i b e in omega (arith, r.0)
 reads_within t i b LineComment j kind e h r = r.0.within
@@ -112,7 +113,7 @@ reads_within t i b Code j kind e h r = let lt = slice_get_within t (r.0.place + 
 reads_within t i b Text j kind e h r = quoted_within t r.0
 reads_within t i b Name j kind e h r = r.0.within
 reads_within t i b Digits j kind e h r = r.0.within
-reads_within t i b Arrow j kind e h r = let lt = stands t (i + 1) 62 h in omega (arith, r.0)
+reads_within t i b Arrow j kind e h r = let lt = slice_get_within t (i + 1) 62 h.1 in omega (arith, r.0)
 reads_within t i b Symbol j kind e h r = let lt = slice_get_within t i b e in omega (arith, r.0)
 reads_within t i b Unknown j kind e h r = absurd r
 

@@ -1,17 +1,17 @@
 -- What is read again stands where each spelling has it.
-use Rattle.std.proofs.Common.{◌≡◌, ℕ, ◌+◌, ◌<◌, ◌≤◌, Bool, true, false, List, [], ◌∷◌, ◌++◌, length, map, Some, None, Result, Ok, Err, refl, sym, ap, subst, ◌∙◌, append_assoc, arith, inl, inr}
-use Rattle.std.specs.Prelude.{slice_get, codes}
+use Rattle.std.proofs.Common.{◌≡◌, ℕ, ◌+◌, ◌<◌, ◌≤◌, true, false, List, [], ◌∷◌, ◌++◌, length, Result, Ok, Err, refl, sym, ap, subst, ◌∙◌, append_assoc, arith, inl, inr}
+use Rattle.std.specs.Prelude.{slice_get}
 use Rattle.std.proofs.lemmas.List.{append-nil}
 use Rattle.std.proofs.lemmas.Option.{slice_get_past}
 use Rattle.lft_syntax.specs.declared.parse_error.ParseError.{ParseError}
 use Rattle.lft_syntax.specs.declared.parse_error.ParseError.TheVariants as errors
-use Rattle.lft_syntax.specs.Lexeme.{Lexeme, Letters, Symbol, is, is_there, is_word_of, negated, preamble_keys}
-use Rattle.lft_syntax.specs.Language.{Spelling, many, made}
+use Rattle.lft_syntax.specs.Lexeme.{Lexeme, Symbol, is, is_there, is_word_of, negated, preamble_keys}
+use Rattle.lft_syntax.specs.Language.{Spelling, many}
 use Rattle.lft_tree.specs.Tree.{MemberTree, ReactorTree, ItemTree, FileTree, Range}
-use Rattle.lft_syntax.specs.Grammar.{symbol, member, preamble, reactor, item, Spells}
+use Rattle.lft_syntax.specs.Grammar.{symbol, member, reactor, item, Spells}
 use Rattle.lft_syntax.specs.View.{Gives, Fails}
-use Rattle.lft_syntax.specs.Reading.{Reading, is_inside, member_at, preamble_at, reactor_at, head_at}
-use Rattle.lft_syntax.specs.Places.{Begins, Finds, IsMemory, starts, body_first, body_starts, reactor_begins, item_begins, items_begin, file_begins}
+use Rattle.lft_syntax.specs.Reading.{Reading, member_at, preamble_at}
+use Rattle.lft_syntax.specs.Places.{Begins, Finds, IsMemory, starts, body_first, reactor_begins, item_begins, items_begin, file_begins}
 use Rattle.lft_syntax.proofs.Algebra.{Follow, Horizon, Right, Known, Outcome, Any, read_so}
 use Rattle.lft_syntax.proofs.Rules.{Here, here, leads_one}
 use Rattle.lft_syntax.proofs.Lookahead.{Ends, bracket_ends}

@@ -1,5 +1,5 @@
 -- Limits of the tree, and the counts of its instances.
-use Rattle.std.proofs.Common.{◌≡◌, ℕ, ◌≤◌, ◌<◌, ⊎_elim, List, [], ◌∷◌, Option, Some, None, Result, Ok, Err, IfNone, IfOk, length, get_or, map, slice_get, refl, sym, ap, subst, ◌∙◌, arith}
+use Rattle.std.proofs.Common.{◌≡◌, ℕ, ◌≤◌, ◌<◌, ⊎_elim, List, [], ◌∷◌, Some, length, get_or, map, slice_get, refl, sym, ap, subst, ◌∙◌, arith}
 use Rattle.std.proofs.lemmas.Option.{get_or_from_slice_get}
 use Rattle.lft_tree.specs.Tree.{FileTree, ReactorTree, actions_of, ports_of, reactions_of, reactors_of, timers_of}
 use Rattle.lft_instances.specs.Contents.{contained, IsWalk}
@@ -70,17 +70,3 @@ limit_small Ports = omega arith
 limit_small Connections = omega arith
 limit_small Actions = omega arith
 limit_small Timers = omega arith
-
--- ---- what an answer says that found none
-
-pub lacking : {X : Type 0} (P : Type 0) (o : Option X) → IfNone o P → o ≡ None → P
-lacking P None p e = p
-lacking P (Some x) p e = absurd (cc)
-
-pub none_weaker : {X : Type 0} (P Q : Type 0) (o : Option X) → (P → Q) → IfNone o P → IfNone o Q
-none_weaker P Q None follows p = follows p
-none_weaker P Q (Some x) follows p = p
-
-pub ok_none : {X E : Type 0} (P Q : Type 0) (r : Result (Option X) E) → (P → Q) → IfOk r (λ o. IfNone o P) → IfOk r (λ o. IfNone o Q)
-ok_none P Q (Ok o) follows p = none_weaker P Q o follows p
-ok_none P Q (Err e) follows p = p

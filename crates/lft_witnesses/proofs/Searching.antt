@@ -1,9 +1,10 @@
 -- What the search for a circle keeps.
-use Rattle.std.proofs.Common.{◌≡◌, ◌≢◌, ℕ, zero, suc, ◌+◌, ◌-◌, ◌<◌, ◌≤◌, inl, inr, List, [], ◌∷◌, ◌++◌, length, drop, map, option_map, refl, sym, ap, ◌∙◌, subst, arith, Option, Some, None, slice_get, slice_set, replicate}
+use Rattle.std.proofs.Common.{◌≡◌, ◌≢◌, ℕ, zero, suc, ◌+◌, ◌-◌, ◌<◌, ◌≤◌, inl, inr, List, [], ◌∷◌, ◌++◌, length, drop, map, refl, sym, ap, ◌∙◌, subst, arith, Some, None, slice_get, slice_set, replicate}
 use Rattle.std.specs.Option.{option_and_then}
 use Rattle.std.proofs.lemmas.Bool.{cases_lt, cases_eq}
 use Rattle.std.proofs.lemmas.Option.{slice_get_within, slice_get_past, slice_get-map}
-use Rattle.lft_lists.proofs.Places.{get_there, get_written, get_unwritten, get_write_cases, length_written, get_push, get_last, get_push_cases, get_same, length_same}
+use Rattle.lft_lists.proofs.Mapped.{option_map_some}
+use Rattle.lft_lists.proofs.Places.{get_there, get_written, get_unwritten, get_write_cases, length_written, get_push, get_last, get_push_cases, get_same, length_same, same_some}
 use Rattle.lft_instances.specs.Containment.{Holds}
 use Rattle.lft_instances.specs.Contents.{contained}
 use Rattle.lft_instances.specs.declared.walk.Contents.{Contents}
@@ -46,10 +47,6 @@ pub record Searching (table : List Contents) (before : List Stage) (start : ℕ)
   pub kept : KeepsNew before stages
   pub looked : slice_get stages start ≢ Some New
 
--- a reactor with a stage isn't one with another
-stage_once : (o : Option Stage) (x y : Stage) → o ≡ Some x → o ≡ Some y → x ≡ y
-stage_once o x y a b = cc
-
 done_not_new : (stages : List Stage) (r : ℕ) → slice_get stages r ≡ Some New → IsDone stages r → ⊥
 done_not_new stages r new done = let e : New ≡ Done = done New new in cc
 
@@ -83,7 +80,7 @@ searching_start table stages start is new = record {
   links = λ i a b at bt. absurd (pair i a b at bt);
   passed = λ i v at k r lt inside. absurd (fresh i v at k lt);
   kept = λ r at. elim (get_write_cases stages start r Open New within at) [ inl q ↦ absurd (let e : Open ≡ New = q.1 in cc) | inr q ↦ q.1 ];
-  looked = λ at. let w = get_written stages start Open within in let e : Open ≡ New = stage_once (slice_get (slice_set stages start Open) start) Open New w at in absurd (cc);
+  looked = λ at. let w = get_written stages start Open within in let e : Open ≡ New = same_some (slice_get (slice_set stages start Open) start) Open New w at in absurd (cc);
 }
   where
     first : Visit
@@ -245,10 +242,6 @@ length_map : {X Y : Type 0} (f : X → Y) (xs : List X) → length (map f xs) �
 length_map f [] = refl
 length_map f (x ∷ xs) = let r = length_map f xs in omega (arith, r)
 
-from_map : {X Y : Type 0} (f : X → Y) (o : Option X) (y : Y) → option_map f o ≡ Some y → (x : X) × (o ≡ Some x) × (f x ≡ y)
-from_map f None y e = absurd (cc)
-from_map f (Some x) y e = (x, refl, (cc))
-
 -- the path from a reactor that the last one contains is a circle
 module _ (table : List Contents) (before stages : List Stage) (start : ℕ) (path : List Visit) (top : Visit) (inner : ℕ) (s : Searching table before start stages (path ++ top ∷ [])) (held : Holds table top.reactor inner) (n : ℕ) (on : IsVisitAt (path ++ top ∷ []) n inner) where
   abbrev whole : List Visit
@@ -259,7 +252,7 @@ module _ (table : List Contents) (before stages : List Stage) (start : ℕ) (pat
 
   visit_at : (i a : ℕ) → slice_get places i ≡ Some a → (v : Visit) × (slice_get whole (n + i) ≡ Some v) × (v.reactor ≡ a)
   visit_at i a at =
-      let m = from_map (λ w. w.reactor) (slice_get (drop n whole) i) a (sym (slice_get-map (λ w. w.reactor) (drop n whole) i) ∙ at) in
+      let m = option_map_some (λ w. w.reactor) (slice_get (drop n whole) i) a (sym (slice_get-map (λ w. w.reactor) (drop n whole) i) ∙ at) in
       (m.0, sym (at_drop n whole i) ∙ m.1, m.2)
 
   as_many : length places ≡ length whole - n
@@ -305,7 +298,7 @@ round_of table before stages start path top inner s held seen same found (n, on,
 pub met_is_open : (stages : List Stage) (r : ℕ) (x : Stage) → slice_get stages r ≡ Some x → (IsDone stages r → ⊥) → (x ≡ New → ⊥) → slice_get stages r ≡ Some Open
 met_is_open stages r New at left met = absurd (met refl)
 met_is_open stages r Open at left met = at
-met_is_open stages r Done at left met = absurd (left (λ st is. stage_once (slice_get stages r) st Done is at))
+met_is_open stages r Done at left met = absurd (left (λ st is. same_some (slice_get stages r) st Done is at))
 
 -- where each reactor was looked at, no way down goes on for ever
 pub all_founded : (table : List Contents) (stages : List Stage) → IsSearched table stages → ((r : ℕ) → r < length table → slice_get stages r ≢ Some New) → AllFounded table

@@ -1,16 +1,11 @@
 -- What an answer says that found something, or found none.
-use Rattle.std.proofs.Common.{◌≡◌, ℕ, zero, suc, ◌<◌, ◌≤◌, List, [], ◌∷◌, Option, Some, None, Result, Ok, Err, IfOk, IfNone, IfSome, IsSomeAnd, Any, length, map, get_or, slice_get, sym, ap, subst, arith}
+use Rattle.std.proofs.Common.{◌≡◌, ℕ, zero, suc, ◌<◌, ◌≤◌, List, [], ◌∷◌, Option, Some, None, Result, Ok, Err, IfOk, IfNone, IfSome, IsSomeAnd, Any, length, map, get_or, slice_get, sym, subst, arith}
+use Rattle.lft_lists.proofs.Mapped.{mapped_at}
 use Rattle.lft_scope.proofs.Twice.{at-Any}
-
--- what is seen of the item at a place
-pub view_at : {A C : Type 0} (v : C → A) (xs : List C) (i : ℕ) (x : C) → i < length xs → get_or xs i x ≡ x → slice_get (map v xs) i ≡ Some (v x)
-view_at v [] i x within is = absurd (omega arith)
-view_at v (y ∷ xs) zero x within is = ap (λ z. Some (v z)) is
-view_at v (y ∷ xs) (suc i) x within is = view_at v xs i x (omega arith) is
 
 -- what is so at a place is so of the item there
 pub so_at : {A C : Type 0} (v : C → A) (P : A → Type 0) (xs : List C) (i : ℕ) (x : C) → i < length xs → get_or xs i x ≡ x → IsSomeAnd (slice_get (map v xs) i) P → P (v x)
-so_at v P xs i x within is so = subst (λ o. IsSomeAnd o P) (view_at v xs i x within is) so
+so_at v P xs i x within is so = subst (λ o. IsSomeAnd o P) (mapped_at v xs i x within is) so
 
 -- nothing is so past the end
 pub none_past : {A C : Type 0} (v : C → A) (P : A → Type 0) (xs : List C) (i : ℕ) → length xs ≤ i → IsSomeAnd (slice_get (map v xs) i) P → ⊥
@@ -22,16 +17,6 @@ none_past v P (x ∷ xs) (suc i) past so = none_past v P xs i (omega arith) so
 pub some_place : {A : Type 0} (P : A → Type 0) (xs : List A) → Any P xs → (i : ℕ) × IsSomeAnd (slice_get xs i) P
 some_place P xs a = let at = at-Any P xs a in (at.0, subst (λ o. IsSomeAnd o P) (sym at.2) at.3)
 
--- what is so of what was found
-pub found : {X : Type 0} (P : X → Type 0) (o : Option X) (x : X) → IfSome o P → o ≡ Some x → P x
-found P None x p e = absurd (cc)
-found P (Some y) x p e = subst P (let same : y ≡ x = cc in same) p
-
--- what is so where none was found
-pub lacking : {X : Type 0} (P : Type 0) (o : Option X) → IfNone o P → o ≡ None → P
-lacking P None p e = p
-lacking P (Some x) p e = absurd (cc)
-
 -- what follows from what an answer says is said of it too
 pub weaker : {X E : Type 0} (P Q : X → Type 0) (r : Result X E) → ((x : X) → P x → Q x) → IfOk r P → IfOk r Q
 weaker P Q (Ok x) follows p = follows x p
@@ -40,14 +25,6 @@ weaker P Q (Err e) follows p = p
 pub some_weaker : {X : Type 0} (P Q : X → Type 0) (o : Option X) → ((x : X) → P x → Q x) → IfSome o P → IfSome o Q
 some_weaker P Q None follows p = p
 some_weaker P Q (Some x) follows p = follows x p
-
-pub none_weaker : {X : Type 0} (P Q : Type 0) (o : Option X) → (P → Q) → IfNone o P → IfNone o Q
-none_weaker P Q None follows p = follows p
-none_weaker P Q (Some x) follows p = p
-
-pub ok_none : {X E : Type 0} (P Q : Type 0) (r : Result (Option X) E) → (P → Q) → IfOk r (λ o. IfNone o P) → IfOk r (λ o. IfNone o Q)
-ok_none P Q (Ok o) follows p = none_weaker P Q o follows p
-ok_none P Q (Err e) follows p = p
 
 -- two things that an answer says
 pub both : {X E : Type 0} (P Q : X → Type 0) (r : Result X E) → IfOk r P → IfOk r Q → IfOk r (λ x. P x × Q x)

@@ -3,7 +3,7 @@
 //! The search goes down from a reactor into what it contains. The path has the reactors that contain the
 //! last one.
 
-ghost use Rattle.std.specs.Prelude.{◌≡◌, ◌≢◌, ◌≤◌, ◌<◌, ◌↔◌, ℕ, List, [], Some, IfOk, IfSome, IfNone, IsTrue, drop, length, map, slice_get};
+ghost use Rattle.std.specs.Prelude.{◌≡◌, ◌≢◌, ◌≤◌, ◌<◌, ◌↔◌, ℕ, [], Some, IfOk, IfSome, IfNone, IsTrue, drop, length, map, slice_get};
 ghost use Rattle.lft_tree.specs.Tree.{reactors_of};
 ghost use Rattle.lft_tree.specs.View.{tree_view};
 ghost use Rattle.lft_instances.specs.Contents.{contained};

@@ -1,6 +1,6 @@
 //! Main reactors, and parameters with long defaults.
 
-ghost use Rattle.std.specs.Prelude.{◌≡◌, ◌<◌, ◌≤◌, ℕ, Some, Any, IfSome, IfNone, IsSomeAnd, length, map, slice_get, true};
+ghost use Rattle.std.specs.Prelude.{◌≡◌, ◌<◌, ◌≤◌, ℕ, Some, Any, IfSome, IfNone, IsSomeAnd, length, map, slice_get};
 ghost use Rattle.lft_tree.specs.Tree.{nanoseconds};
 ghost use Rattle.lft_tree.specs.View.{parameter_view};
 ghost use Rattle.lft_scope.specs.Causes.{TwoMains, longest};

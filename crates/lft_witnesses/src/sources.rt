@@ -1,6 +1,6 @@
 //! Ports that are written at two places of a reactor.
 
-ghost use Rattle.std.specs.Prelude.{◌≡◌, ◌+◌, ◌≤◌, ◌⊎◌, Any, Contains, IfOk, IfSome, IfNone, IsSomeAnd, OnOk, length};
+ghost use Rattle.std.specs.Prelude.{◌≡◌, ◌+◌, ◌≤◌, ◌⊎◌, Any, Contains, IfOk, IfSome, IfNone, IsSomeAnd, length};
 ghost use Rattle.lft_tree.specs.View.{reactor_view};
 ghost use Rattle.lft_causes.specs.Seen.{has_seen};
 ghost use Rattle.lft_scope.specs.Causes.{TwoSources, WritesTwice};

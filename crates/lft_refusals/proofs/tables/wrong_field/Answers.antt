@@ -4,11 +4,11 @@ use Rattle.lft_trace.specs.Traces.{FaultAt}
 use Rattle.lft_trace.specs.declared.fault.TraceFault.TheVariants as fault
 use Rattle.lft_refusals.specs.Tables.{FailsThere}
 use Rattle.lft_refusals.specs.declared.tables.Table.TheVariants.{Trace, Externals}
-use Rattle.lft_refusals.proofs.Failing.{weaker}
+use Rattle.lft_lists.proofs.Options.{none_weaker}
 use Rattle.lft_refusals.proofs.tables.wrong_field.Goals as goal
 
 pub returns-in-BadNumber-Trace-clause-none : goal.returns-in-BadNumber-Trace-clause-none
-returns-in-BadNumber-Trace-clause-none c = weaker c.number_of_trace.result (λ none n records line there.
+returns-in-BadNumber-Trace-clause-none c = none_weaker _ _ c.number_of_trace.result (λ none n records line there.
     let program = c.args.program.now in
     let fields = fields_of c.args.fields.now in
     let k = c.in-BadNumber-Trace.field-0-0 in
@@ -16,7 +16,7 @@ returns-in-BadNumber-Trace-clause-none c = weaker c.number_of_trace.result (λ n
     none program k (length here.0.items + 2) (subst (λ f. FaultAt program (length here.0.items + 2) f (fault.BadNumber k)) here.1 here.0.is)) c.number_of_trace.ensures.none
 
 pub returns-in-BadNumber-Externals-clause-none : goal.returns-in-BadNumber-Externals-clause-none
-returns-in-BadNumber-Externals-clause-none c = weaker c.number_of_externals.result (λ none n records line there.
+returns-in-BadNumber-Externals-clause-none c = none_weaker _ _ c.number_of_externals.result (λ none n records line there.
     let program = c.args.program.now in
     let fields = fields_of c.args.fields.now in
     let k = c.in-BadNumber-Externals.field-0-0 in
@@ -24,7 +24,7 @@ returns-in-BadNumber-Externals-clause-none c = weaker c.number_of_externals.resu
     none program records k here.0 here.1) c.number_of_externals.ensures.none
 
 pub returns-in-UnknownName-Trace-clause-none : goal.returns-in-UnknownName-Trace-clause-none
-returns-in-UnknownName-Trace-clause-none c = weaker c.name_of_trace.result (λ none n records line there.
+returns-in-UnknownName-Trace-clause-none c = none_weaker _ _ c.name_of_trace.result (λ none n records line there.
     let program = c.args.program.now in
     let fields = fields_of c.args.fields.now in
     let k = c.in-UnknownName-Trace.field-0-0 in

@@ -2,7 +2,8 @@ use Rattle.std.proofs.Common.{◌≡◌, ◌≤◌, map, ◌∙◌, arith}
 use Rattle.lft_instances.specs.Numbers.{things}
 use Rattle.lft_scope.specs.References.{reactor_trees}
 use Rattle.lft_wiring.specs.Limits.{declared_in, limit_of}
-use Rattle.lft_wiring.proofs.Limited.{limit_small, none_weaker}
+use Rattle.lft_lists.proofs.Options.{none_weaker}
+use Rattle.lft_wiring.proofs.Limited.{limit_small}
 use Rattle.lft_wiring.proofs.census.excess_of.Goals as goal
 
 pub returns-clause-none : goal.returns-clause-none

@@ -3,7 +3,8 @@ use Rattle.std.proofs.lemmas.Bool.{cases_lt}
 use Rattle.lft_scope.specs.References.{reactor_trees}
 use Rattle.lft_wiring.specs.Limits.{KeepsLimit}
 use Rattle.lft_wiring.specs.declared.census.LimitedKind.TheVariants.{Instances}
-use Rattle.lft_wiring.proofs.Limited.{kinds, kind_there, lacking, last, place_of_kind, place_within}
+use Rattle.lft_lists.proofs.Options.{lacking}
+use Rattle.lft_wiring.proofs.Limited.{kinds, kind_there, last, place_of_kind, place_within}
 use Rattle.lft_wiring.proofs.census.first_excess.Goals as goal
 
 pub loop-kind-preserved : goal.loop-kind-preserved

@@ -6,7 +6,8 @@ use Rattle.lft_scope.specs.Numbers.{AreContents}
 use Rattle.lft_scope.specs.References.{reactor_trees}
 use Rattle.lft_wiring.specs.Limits.{KeepsLimit}
 use Rattle.lft_wiring.specs.declared.census.LimitedKind.{LimitedKind}
-use Rattle.lft_wiring.proofs.Limited.{none_too_many, ok_none}
+use Rattle.lft_lists.proofs.Options.{ok_none}
+use Rattle.lft_wiring.proofs.Limited.{none_too_many}
 use Rattle.lft_wiring.proofs.census.limit_among.Goals as goal
 
 pub returns-in-Ok-all_instances-clause-none : goal.returns-in-Ok-all_instances-clause-none

@@ -3,7 +3,8 @@ use Rattle.std.specs.Option.{option_and_then}
 use Rattle.std.proofs.lemmas.Option.{slice_get-get_or}
 use Rattle.lft_instances.specs.Contents.{contained}
 use Rattle.lft_witnesses.specs.Circles.{DoneBetween, IsDone, OnlyDone}
-use Rattle.lft_witnesses.proofs.Turns.{none_weaker, some_weaker}
+use Rattle.lft_lists.proofs.Options.{none_weaker}
+use Rattle.lft_witnesses.proofs.Turns.{some_weaker}
 use Rattle.lft_witnesses.proofs.circle.next_inside.Goals as goal
 
 -- what the reactor contains is what its numbers are

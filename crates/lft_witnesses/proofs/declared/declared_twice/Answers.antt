@@ -5,7 +5,7 @@ use Rattle.lft_scope.specs.Kinds.{names_in}
 use Rattle.lft_scope.specs.Tests.{texts}
 use Rattle.lft_witnesses.specs.Members.{declarations}
 use Rattle.lft_witnesses.proofs.DeclaredNames.{declared_twice}
-use Rattle.lft_witnesses.proofs.Turns.{ok_none}
+use Rattle.lft_lists.proofs.Options.{ok_none}
 use Rattle.lft_witnesses.proofs.declared.declared_twice.Goals as goal
 
 pub returns-clause-none : goal.returns-clause-none

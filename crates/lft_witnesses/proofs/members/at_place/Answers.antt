@@ -3,7 +3,8 @@ use Rattle.lft_tree.specs.Tree.{ReactorTree}
 use Rattle.lft_tree.specs.View.{member_view, reactor_view}
 use Rattle.lft_scope.specs.Tables.{IsFile, IsOwn}
 use Rattle.lft_witnesses.specs.Shown.{ShowsCause}
-use Rattle.lft_witnesses.proofs.Turns.{weaker, none_weaker, so_at}
+use Rattle.lft_lists.proofs.Options.{none_weaker}
+use Rattle.lft_witnesses.proofs.Turns.{weaker, so_at}
 use Rattle.lft_witnesses.proofs.members.at_place.Goals as goal
 
 pub returns-clause-none : goal.returns-clause-none

@@ -4,14 +4,15 @@ use Rattle.lft_scope.specs.References.{reactor_trees}
 use Rattle.lft_scope.proofs.Somes.{none_more, none_done}
 use Rattle.lft_witnesses.specs.Shown.{ShowsCause}
 use Rattle.lft_witnesses.specs.Witnesses.{HasFinding}
-use Rattle.lft_witnesses.proofs.Turns.{found, lacking, view_at}
+use Rattle.lft_lists.proofs.Mapped.{mapped_at}
+use Rattle.lft_lists.proofs.Options.{found, lacking}
 use Rattle.lft_witnesses.proofs.members.first_member.Goals as goal
 
 pub returns-in-Some-clause-shows : goal.returns-in-Some-clause-shows
 returns-in-Some-clause-shows c =
     let rs = reactor_trees c.args.reactors.now in
     let item = c.index-reactors-reactor.result in
-    let at = view_at (λ r. reactor_view r.now) c.args.reactors.now c.loop-reactor.reactor item c.loop-reactor-test.true (sym c.index-reactors-reactor.is) in
+    let at = mapped_at (λ r. reactor_view r.now) c.args.reactors.now c.loop-reactor.reactor item c.loop-reactor-test.true (sym c.index-reactors-reactor.is) in
     let shows = found (λ p. HasFinding rs (reactor_view item.now) p.0 p.1) c.in_ok-member.field-0 _ (c.in_ok-member.ensures.some rs c.loop-reactor.invariant.tables) c.in-Some.is in
     let there : IsSomeAnd (slice_get rs c.loop-reactor.reactor) (λ r. HasFinding rs r c.in-Some.member c.in-Some.finding) = subst (λ o. IsSomeAnd o (λ r. HasFinding rs r c.in-Some.member c.in-Some.finding)) (sym at) shows in
     search rules

@@ -3,7 +3,7 @@ use Rattle.lft_tree.specs.View.{member_view}
 use Rattle.lft_scope.specs.Causes.{IsMisplaced, IsMisplacedTime}
 use Rattle.lft_witnesses.specs.Members.{time_trees, times_of}
 use Rattle.lft_witnesses.specs.Shown.{SomeName}
-use Rattle.lft_witnesses.proofs.Turns.{lacking}
+use Rattle.lft_lists.proofs.Options.{lacking}
 use Rattle.lft_witnesses.proofs.misplaced.misplaced.Goals as goal
 
 pub returns-clause-none : goal.returns-clause-none

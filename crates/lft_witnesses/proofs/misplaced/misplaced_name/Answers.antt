@@ -5,7 +5,7 @@ use Rattle.lft_scope.specs.Causes.{IsMisplaced}
 use Rattle.lft_scope.specs.declared.kinds.Role.TheVariants.{Read}
 use Rattle.lft_witnesses.specs.Members.{names_of}
 use Rattle.lft_witnesses.proofs.Roles.{roles, place_of_role, role_there, place_within, last}
-use Rattle.lft_witnesses.proofs.Turns.{lacking}
+use Rattle.lft_lists.proofs.Options.{lacking}
 use Rattle.lft_witnesses.proofs.misplaced.misplaced_name.Goals as goal
 
 pub loop-role-preserved : goal.loop-role-preserved

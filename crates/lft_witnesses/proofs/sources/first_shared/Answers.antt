@@ -3,7 +3,7 @@ use Rattle.lft_tree.specs.View.{ref_view}
 use Rattle.lft_causes.specs.Seen.{has_seen}
 use Rattle.lft_scope.specs.References.{ref_trees}
 use Rattle.lft_scope.proofs.Somes.{none_more, none_done, Contains-Any}
-use Rattle.lft_witnesses.proofs.Turns.{view_at}
+use Rattle.lft_lists.proofs.Mapped.{mapped_at}
 use Rattle.lft_witnesses.proofs.sources.first_shared.Goals.{in-Some, in-None}
 use Rattle.lft_witnesses.proofs.sources.first_shared.Goals as goal
 
@@ -11,7 +11,7 @@ pub returns-then-has-clause-some : goal.returns-then-has-clause-some
 returns-then-has-clause-some c =
     let item = c.index-destinations-place.result in
     elim c.match-place_of.branch [
-      | in-Some w ↦ rw w.result-is (ref_view item.now, view_at (λ r. ref_view r.now) c.args.destinations.now c.loop-place.place item c.loop-place-test.true (sym c.index-destinations-place.is), w.in-Some.ensures.some)
+      | in-Some w ↦ rw w.result-is (ref_view item.now, mapped_at (λ r. ref_view r.now) c.args.destinations.now c.loop-place.place item c.loop-place-test.true (sym c.index-destinations-place.is), w.in-Some.ensures.some)
       | in-None w ↦ rw w.result-is tt
     ]
 

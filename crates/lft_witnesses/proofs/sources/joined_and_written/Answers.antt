@@ -2,7 +2,7 @@ use Rattle.lft_tree.specs.View.{reactor_view}
 use Rattle.lft_scope.specs.declared.kinds.Role.TheVariants.{Effect, Destination}
 use Rattle.lft_witnesses.specs.Witnesses.{IsPlaceOf}
 use Rattle.lft_witnesses.proofs.Standing.{joined_first, written_first}
-use Rattle.lft_witnesses.proofs.Turns.{found}
+use Rattle.lft_lists.proofs.Options.{found}
 use Rattle.lft_witnesses.proofs.sources.joined_and_written.Goals as goal
 
 pub returns-then-written-joined : goal.returns-then-written-joined

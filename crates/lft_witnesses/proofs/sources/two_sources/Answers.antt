@@ -2,7 +2,7 @@ use Rattle.std.proofs.Common.{sym}
 use Rattle.lft_tree.specs.View.{reactor_view}
 use Rattle.lft_scope.specs.Causes.{TwoSources, WritesTwice}
 use Rattle.lft_scope.proofs.Somes.{none_more, none_done}
-use Rattle.lft_witnesses.proofs.Turns.{lacking}
+use Rattle.lft_lists.proofs.Options.{lacking}
 use Rattle.lft_witnesses.proofs.sources.two_sources.Goals as goal
 
 pub loop-reactor-preserved : goal.loop-reactor-preserved

@@ -4,7 +4,7 @@ use Rattle.lft_scope.specs.Causes.{IsTwice}
 use Rattle.lft_scope.specs.Kinds.{destinations_in, effects_in}
 use Rattle.lft_scope.specs.References.{ref_trees}
 use Rattle.lft_witnesses.proofs.Standing.{all_destinations, all_effects}
-use Rattle.lft_witnesses.proofs.Turns.{lacking}
+use Rattle.lft_lists.proofs.Options.{lacking}
 use Rattle.lft_witnesses.proofs.sources.written_twice.Goals as goal
 
 pub returns-clause-none : goal.returns-clause-none

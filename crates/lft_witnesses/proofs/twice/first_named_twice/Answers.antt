@@ -6,7 +6,8 @@ use Rattle.lft_scope.specs.References.{ref_trees}
 use Rattle.lft_scope.specs.Tests.{IsTestOf}
 use Rattle.lft_scope.proofs.Tested.{test_none, test_more, was_new, was_met}
 use Rattle.lft_scope.proofs.Twice.{map_last, once_more, once_done, once_none}
-use Rattle.lft_witnesses.proofs.Turns.{none_weaker, view_at}
+use Rattle.lft_lists.proofs.Mapped.{mapped_at}
+use Rattle.lft_lists.proofs.Options.{none_weaker}
 use Rattle.lft_witnesses.proofs.twice.first_named_twice.Goals as goal
 
 pub loop-place-init : goal.loop-place-init
@@ -18,7 +19,7 @@ returns-then-not-branch-clause-none c =
     let place = c.loop-place.place in
     let item = c.index-names-place.result in
     let met = was_met (has_seen c.loop-place.seen) (ref_trees (take place names)) (ref_view item.now) c.in_ok-add.field-0 c.loop-place.invariant.0 c.in_ok-add.ensures.new c.if-not-branch.true in
-    none_weaker _ _ c.name_before.result (λ none. absurd (none (ref_view item.now) (view_at (λ r. ref_view r.now) names place item c.loop-place-test.true (sym c.index-names-place.is)) met)) c.name_before.ensures.none
+    none_weaker _ _ c.name_before.result (λ none. absurd (none (ref_view item.now) (mapped_at (λ r. ref_view r.now) names place item c.loop-place-test.true (sym c.index-names-place.is)) met)) c.name_before.ensures.none
 
 pub loop-place-preserved : goal.loop-place-preserved
 loop-place-preserved c =

@@ -3,7 +3,8 @@ use Rattle.std.proofs.lemmas.Slice.Eq.{bytes_eq-Decides}
 use Rattle.lft_scope.specs.Tests.{IsTestOf, has_text, texts}
 use Rattle.lft_scope.proofs.Tested.{test_more, was_new, was_met}
 use Rattle.lft_scope.proofs.Twice.{get_or-itself, map_last, once_more, once_done}
-use Rattle.lft_witnesses.proofs.Turns.{none_weaker, view_at}
+use Rattle.lft_lists.proofs.Mapped.{mapped_at}
+use Rattle.lft_lists.proofs.Options.{none_weaker}
 use Rattle.lft_witnesses.proofs.twice.first_twice.Goals as goal
 
 abbrev text : List ℕ → Bor (List ℕ)
@@ -16,7 +17,7 @@ returns-then-not-branch-clause-none c =
     let item = get_or names place (text []) in
     let same : get_or names place item ≡ item = get_or-itself names place (text []) c.loop-place-test.true in
     let met = was_met (has_text c.loop-place.seen) (texts (take place names)) item.now c.in_ok-insert.field-0 c.loop-place.invariant.0 c.in_ok-insert.ensures.added c.if-not-branch.true in
-    none_weaker _ _ c.text_before.result (λ none. absurd (none item.now (view_at (λ t. t.now) names place item c.loop-place-test.true same) met)) c.text_before.ensures.none
+    none_weaker _ _ c.text_before.result (λ none. absurd (none item.now (mapped_at (λ t. t.now) names place item c.loop-place-test.true same) met)) c.text_before.ensures.none
 
 pub loop-place-preserved : goal.loop-place-preserved
 loop-place-preserved c =

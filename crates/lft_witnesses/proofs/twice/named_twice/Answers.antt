@@ -5,7 +5,7 @@ use Rattle.lft_scope.specs.Causes.{IsTwice, NamesTwice}
 use Rattle.lft_scope.specs.declared.kinds.Role.TheVariants.{Read, Effect}
 use Rattle.lft_witnesses.specs.Findings.{IsFinding}
 use Rattle.lft_witnesses.specs.Members.{names_of}
-use Rattle.lft_witnesses.proofs.Turns.{found, lacking, ok_none}
+use Rattle.lft_lists.proofs.Options.{found, lacking, ok_none}
 use Rattle.lft_witnesses.proofs.twice.named_twice.Goals as goal
 
 twice_named : (m : MemberTree) → (IsTwice (names_of Read m) → ⊥) → (IsTwice (names_of Effect m) → ⊥) → IsSomeAnd (reaction_in m) NamesTwice → ⊥

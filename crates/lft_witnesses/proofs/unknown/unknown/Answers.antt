@@ -6,7 +6,8 @@ use Rattle.lft_scope.specs.Tables.{IsFile, IsOwn}
 use Rattle.lft_witnesses.specs.Findings.{IsNothing}
 use Rattle.lft_witnesses.specs.Members.{times_of}
 use Rattle.lft_witnesses.specs.Shown.{ShowsUnknown, SomeName}
-use Rattle.lft_witnesses.proofs.Turns.{both, lacking, none_both, none_weaker, weaker}
+use Rattle.lft_lists.proofs.Options.{lacking, none_weaker}
+use Rattle.lft_witnesses.proofs.Turns.{both, none_both, weaker}
 use Rattle.lft_witnesses.proofs.unknown.unknown.Goals as goal
 
 pub returns-in-None-clause-none : goal.returns-in-None-clause-none

@@ -6,7 +6,7 @@ use Rattle.lft_scope.proofs.Lacking.{Any-either}
 use Rattle.lft_witnesses.specs.Shown.{SomeShows}
 use Rattle.lft_witnesses.specs.declared.members.Cause.TheVariants as cause
 use Rattle.lft_witnesses.proofs.Causes.{shows_given_twice}
-use Rattle.lft_witnesses.proofs.Turns.{lacking, ok_none}
+use Rattle.lft_lists.proofs.Options.{lacking, ok_none}
 use Rattle.lft_witnesses.proofs.witnesses.duplicate_name.Goals as goal
 
 pub returns-clause-none : goal.returns-clause-none

@@ -4,7 +4,7 @@ use Rattle.lft_scope.specs.Causes.{HasLongTime}
 use Rattle.lft_witnesses.specs.Shown.{SomeShows}
 use Rattle.lft_witnesses.specs.declared.members.Cause.TheVariants as cause
 use Rattle.lft_witnesses.proofs.Causes.{long}
-use Rattle.lft_witnesses.proofs.Turns.{ok_none}
+use Rattle.lft_lists.proofs.Options.{ok_none}
 use Rattle.lft_witnesses.proofs.witnesses.long_time.Goals as goal
 
 pub returns-clause-none : goal.returns-clause-none

@@ -3,7 +3,7 @@ use Rattle.lft_witnesses.specs.Shown.{SomeShows, NoneWith, shown_causes}
 use Rattle.lft_witnesses.specs.declared.members.Cause.TheVariants as cause
 use Rattle.lft_witnesses.proofs.Causes.{shows_unknown_reactor, shows_unknown_name, shows_wrong_place, shows_main_port, shows_width, shows_no_trigger, shows_duplicate_input}
 use Rattle.lft_witnesses.proofs.Covered.{no_unknown_reactor, no_unknown_name, no_wrong_place, no_main_has_ports, no_width_mismatch, no_no_trigger, no_duplicate_input}
-use Rattle.lft_witnesses.proofs.Turns.{ok_none}
+use Rattle.lft_lists.proofs.Options.{ok_none}
 use Rattle.lft_witnesses.proofs.witnesses.witness_of.Goals as goal
 
 pub returns-in-4-clause-none : goal.returns-in-4-clause-none

@@ -1,10 +1,10 @@
 use Rattle.std.proofs.Common.{◌≡◌, Any, true, take, sym, subst, arith}
 use Rattle.std.proofs.lemmas.Grind.{common_steps}
+use Rattle.lft_lists.proofs.Mapped.{mapped_at}
 use Rattle.lft_tree.specs.View.{reactor_view}
 use Rattle.lft_scope.specs.Causes.{NoMain}
 use Rattle.lft_scope.specs.References.{reactor_trees}
 use Rattle.lft_scope.proofs.Firsts.{first_found, none_passes}
-use Rattle.lft_scope.proofs.Placing.{stands_there}
 use Rattle.lft_scope.proofs.by_number.main_place.number_of_main.Goals as goal
 
 pub returns-then-reactor : goal.returns-then-reactor
@@ -12,7 +12,7 @@ returns-then-reactor c =
     let here = c.index-reactors-number.result in (
       reactor_view here.now,
       first_found (λ r. reactor_view r.now) (λ r. r.is_main) c.args.reactors.now c.loop-number.number here c.loop-number-test.true (sym c.index-reactors-number.is) c.loop-number.invariant c.if-reactor.true,
-      stands_there (λ r. reactor_view r.now) c.args.reactors.now c.loop-number.number here c.loop-number-test.true (sym c.index-reactors-number.is),
+      mapped_at (λ r. reactor_view r.now) c.args.reactors.now c.loop-number.number here c.loop-number-test.true (sym c.index-reactors-number.is),
     )
 
 pub returns : goal.returns

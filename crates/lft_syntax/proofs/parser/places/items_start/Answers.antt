@@ -1,9 +1,6 @@
-use Rattle.std.proofs.Common.{◌≡◌, ℕ, Bool, List, Result, Ok, subst, arith}
-use Rattle.std.specs.Prelude.{codes, option_map}
-use Rattle.lft_tree.specs.Tree.{Range}
+use Rattle.std.proofs.Common.{◌≡◌, ℕ, arith}
+use Rattle.std.specs.Prelude.{option_map}
 use Rattle.lft_tree.specs.View.{range_view}
-use Rattle.lft_syntax.specs.Lexeme.{Letters, is}
-use Rattle.lft_syntax.specs.Reading.{maybe, target_at}
 use Rattle.lft_syntax.specs.Parsing.{words}
 use Rattle.lft_syntax.proofs.Files.{target_read, right_maybe_target}
 use Rattle.lft_syntax.proofs.Places.{fails_none, ends_within, same_end}

@@ -1,11 +1,10 @@
-use Rattle.std.proofs.Common.{◌≡◌, ◌++◌, ◌∷◌, [], sym, ◌∙◌, ap, subst, arith}
+use Rattle.std.proofs.Common.{◌≡◌, ◌++◌, ◌∷◌, sym, ◌∙◌, arith}
 use Rattle.std.proofs.lemmas.Result.{err_from_is_err_and}
 use Rattle.lft_tree.specs.View.{member_view}
-use Rattle.lft_syntax.specs.Reading.{member_at}
 use Rattle.lft_syntax.specs.Parsing.{words}
 use Rattle.lft_syntax.proofs.Loop.{item_ends}
 use Rattle.lft_syntax.proofs.Members.{right_member}
-use Rattle.lft_syntax.proofs.Places.{MembersLeft, members_begin, members_turn, members_fail, members_done}
+use Rattle.lft_syntax.proofs.Places.{members_begin, members_turn, members_fail, members_done}
 use Rattle.lft_syntax.proofs.parser.places.member_starts.Goals as goal
 
 pub list-init : goal.list-init

@@ -1,4 +1,4 @@
-use Rattle.std.proofs.Common.{◌≡◌, ◌++◌, ◌∷◌, [], map, sym, ◌∙◌, ap, subst, arith}
+use Rattle.std.proofs.Common.{◌≡◌, ◌++◌, ◌∷◌, [], map, sym, ◌∙◌, arith}
 use Rattle.std.proofs.lemmas.Result.{err_from_is_err_and}
 use Rattle.std.proofs.lemmas.List.{map_push}
 use Rattle.lft_tree.specs.View.{range_view}
@@ -6,7 +6,7 @@ use Rattle.lft_syntax.specs.Parsing.{words}
 use Rattle.lft_syntax.specs.Places.{begins_view}
 use Rattle.lft_syntax.proofs.Loop.{item_ends}
 use Rattle.lft_syntax.proofs.Declarations.{right_preamble}
-use Rattle.lft_syntax.proofs.Places.{ItemsLeft, items_start, preamble_turn, preamble_fails, reactor_turn, reactor_fails, items_done}
+use Rattle.lft_syntax.proofs.Places.{items_start, preamble_turn, preamble_fails, reactor_turn, reactor_fails, items_done}
 use Rattle.lft_syntax.proofs.parser.places.places_from.Goals as goal
 
 pub list-init : goal.list-init
