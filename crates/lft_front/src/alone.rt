@@ -17,11 +17,11 @@ ghost use Rattle.lft_load.specs.declared.fault.Part.TheVariants as part;
 
 use crate::accepting::{accepted, is_odd, tell_accepted};
 use crate::judge::report;
+use lft_batches::accepts_text;
 use lft_check::{NoWatch, Verdict, judge_alone};
 use lft_load::{Fault, Part, load};
 use lft_model::Plan;
 use lft_model::laws::law_one_worker;
-use lft_stream::accepts_text;
 use lft_trace::{Rows, read_trace};
 use std::alloc::Global;
 use std::io::Write;

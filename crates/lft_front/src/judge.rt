@@ -21,13 +21,14 @@ ghost use Rattle.lft_load.specs.declared.fault.Part.TheVariants as part;
 
 use crate::accepting::{accepted, is_odd, tell_accepted};
 use crate::line::verdict_line;
+use lft_batches::{accepts_text, accepts_text_shared};
 use lft_check::{CheckFault, NoWatch, Verdict, judge};
 use lft_flat::Program;
 use lft_load::{Fault, Part, load, write_text};
 use lft_model::laws::law_one_worker;
 use lft_model::{Plan, is_workers};
 use lft_reading::read_trace_shared;
-use lft_stream::{Counts, accepts_text, accepts_text_shared};
+use lft_stream::Counts;
 use lft_trace::Rows;
 use std::alloc::Global;
 use std::io::Write;

@@ -18,7 +18,7 @@ const TOGETHER: usize = 32_768;
 const FOR_EACH_REACTION: usize = 32;
 
 /// How many rows of a program are to be taken together.
-pub(crate) fn rows_together(plan: &Plan) -> usize
+pub fn rows_together(plan: &Plan) -> usize
     ensures { 0 < result }
 {
     TOGETHER.max(plan.program().reactions().saturating_mul(FOR_EACH_REACTION))

@@ -43,7 +43,7 @@ pub struct Counts {
 
 /// What is kept of rows at finished tags.
 #[derive(Drop)]
-pub(crate) struct Stream {
+pub struct Stream {
     /// The external stop, or what the rows so far ask for.
     stop: Tag,
     /// The tag of the last row.
@@ -168,7 +168,7 @@ fn are_triggered(
 
 impl Stream {
     /// What is kept before the first row.
-    pub(crate) fn new(alloc: Global, plan: &Plan) -> Result<Stream, NoMemory>
+    pub fn new(alloc: Global, plan: &Plan) -> Result<Stream, NoMemory>
         ensures { IfOk result (IsStreamOf plan.now []) }
     {
         let program = plan.program();
@@ -340,7 +340,7 @@ impl Stream {
     /// Goes on past more rows, of whole tags. It is false where they may break a rule, or too much is
     /// to be looked at, or memory is refused. Each call looks at the whole program, so it is to have
     /// many rows.
-    pub(crate) fn add(&mut self, alloc: Global, plan: &Plan, rows: &[Row]) -> bool
+    pub fn add(&mut self, alloc: Global, plan: &Plan, rows: &[Row]) -> bool
         ghost done: { List TheRow }
         requires fit { RowsFit plan.now.program rows.now }
         requires stands { IsStreamOf plan.now done self.old }
@@ -357,7 +357,7 @@ impl Stream {
     }
 
     /// The counts, where nothing is owed up to the stop.
-    pub(crate) fn finish(&mut self, plan: &Plan) -> Option<Counts>
+    pub fn finish(&mut self, plan: &Plan) -> Option<Counts>
         ensures { IfSome result (λ c. (t : List TheRow) → IsStreamOf plan.now t self.old → IsAccepted plan.now t c.runs c.tags) }
     {
         let stop = self.stop;

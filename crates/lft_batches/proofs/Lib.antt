@@ -1,0 +1,3 @@
+pub mod Fronting
+pub mod Reading
+pub mod Sharing

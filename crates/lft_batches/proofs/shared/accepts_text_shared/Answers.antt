@@ -1,0 +1,43 @@
+use Rattle.std.proofs.Common.{◌≡◌, ◌∙◌, ◌++◌, List, [], Vec, ap, length, refl, rules, subst, sym}
+use Rattle.std.specs.declared.alloc.Global.{Global}
+use Rattle.std.proofs.lemmas.Bool.{eqb-true}
+use Rattle.std.proofs.lemmas.Option.{IfSome_then}
+use Rattle.lft_flat.specs.Parts.{Parts}
+use Rattle.lft_trace.specs.declared.row.Row.{Row}
+use Rattle.lft_reading.specs.Parts.{BeginsWith, rows_of}
+use Rattle.lft_reading.proofs.Beginning.{begins_lines}
+use Rattle.lft_batches.specs.Fronts.{IsNextBehind, judged_rows}
+use Rattle.lft_batches.proofs.Reading.{gone_on, nothing_read, read_all}
+use Rattle.lft_batches.proofs.Sharing.{rows_behind}
+use Rattle.lft_batches.proofs.shared.accepts_text_shared.Goals as goal
+
+pub loop-rest-init : goal.loop-rest-init
+loop-rest-init g c =
+    let none = nothing_read c.args.plan.now c.in_ok-body.body.now c.in-Ok.front (c.new-waiting.result.items ++ rows_of c.new-parts.result.items) c.in-Ok.ensures.none (ap (λ (t : List Row). t ++ rows_of c.new-parts.result.items) c.new-waiting.ensures.items ∙ ap rows_of c.new-parts.ensures.items) in
+    record { stands = c.in-Ok.ensures.stands c.in_ok-body.body.now; fit = search rules; parts_fit = search rules; next = none.0; begins = none.1 }
+
+pub loop-rest-preserved : goal.loop-rest-preserved
+loop-rest-preserved g c =
+    let plan = c.args.plan.now in
+    let body = c.in_ok-body.body.now in
+    let rest = c.loop-rest.rest.now in
+    let lines = c.first_lines.result.0.now in
+    let behind = c.first_lines.result.1.now in
+    let waiting = c.loop-rest.waiting.items ++ rows_of c.loop-rest.parts.items in
+    let read = rows_of c.in_ok-gone.read.items in
+    let gone = c.in_ok-gone.ensures in
+    let more = begins_lines plan.program rest lines behind read c.first_lines.ensures.cut gone.read in
+    let same = rows_behind (judged_rows plan body c.loop-rest.front) waiting (judged_rows plan body c.in_ok-gone.gone) c.in_ok-gone.left.items read gone.rows in
+    let on = gone_on plan body c.loop-rest.front waiting rest behind read c.loop-rest.invariant.begins more c.in_ok-gone.gone (c.in_ok-gone.left.items ++ read) c.program.ensures.sound.sound same in
+    record { stands = gone.stands; fit = gone.fit; parts_fit = gone.read_fit; next = on.0; begins = on.1 }
+
+pub returns : goal.returns
+returns g c =
+    let plan = c.args.plan.now in
+    let body = c.in_ok-body.body.now in
+    let front = c.judge.new.self in
+    let stands = c.if-not-judge.ensures.stands refl in
+    let all = c.if-not-judge.ensures.rows refl ∙ ap (λ (t : List Row). judged_rows plan body c.in_ok-front.front ++ t) c.as_slice.ensures.value ∙ c.in_ok-front.ensures.rows in
+    let begins = subst (λ (t : List Row). BeginsWith plan.program body t c.loop-rest.rest.now) (sym all) c.loop-rest.invariant.begins in
+    let table = read_all plan c.args.text.now body c.loop-rest.rest.now front stands c.in_ok-body.ensures begins (eqb-true (length c.loop-rest.rest.now) 0 (sym c.is_empty.ensures ∙ c.loop-rest-test.false)) in
+    IfSome_then c.finish.result c.finish.ensures (λ counts accepted. (judged_rows plan body front, table, accepted (judged_rows plan body front) stands.stands))

@@ -1,0 +1,1 @@
+use Rattle.lft_batches.proofs.shared.go_beside.Goals as goal

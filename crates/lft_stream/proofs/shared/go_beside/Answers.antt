@@ -1,1 +1,0 @@
-use Rattle.lft_stream.proofs.shared.go_beside.Goals as goal
