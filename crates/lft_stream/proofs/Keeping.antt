@@ -28,7 +28,7 @@ use Rattle.lft_stream.specs.AtOnce.{is_undelayed, origin_of, HasEvents, AreHeard
 use Rattle.lft_stream.specs.Channels.{AreChannels, caused_by}
 use Rattle.lft_stream.specs.Listeners.{list_of, AreListeners, AreStarted, IsUnheard}
 use Rattle.lft_stream.specs.Settled.{AreBefore, AreAt, IsRightBehind}
-use Rattle.lft_stream.specs.Starts.{AreStarts}
+use Rattle.lft_stream.specs.StartTags.{AreStartTags}
 use Rattle.lft_stream.specs.Owed.{Listens}
 use Rattle.lft_stream.specs.Dues.{AreDues, NoneOwed}
 use Rattle.lft_stream.specs.Kept.{KeepRules, IsLater, AreUpTo, low_of, state_of, IsStreamOf, IsAtHand, IsJudged}
@@ -110,7 +110,7 @@ next_up : (g h : Tag) → Before g h → UpTo (after g 0) h
 next_up g h (inl l) = inl l
 next_up g h (inr p) = let l : g.micro < h.micro = p.1 in inr (p.0, omega arith)
 
-pub begins_kept : (plan : PlanParts) (s : Stream) → s.stop ≡ plan.externals.stop → s.tag ≡ None → s.runs ≡ 0 → s.tags ≡ 0 → AreDues plan [] s.dues → AreStarts plan.program [] s.starts → ((g : Tag) → AreEarlier plan.program g s.writes) → AreListeners plan s.listeners → AreChannels plan.program s.channels → s.coming ≡ record { queue = []; next = 0 } → IsStreamOf plan [] s
+pub begins_kept : (plan : PlanParts) (s : Stream) → s.stop ≡ plan.externals.stop → s.tag ≡ None → s.runs ≡ 0 → s.tags ≡ 0 → AreDues plan [] s.dues → AreStartTags plan.program [] s.starts → ((g : Tag) → AreEarlier plan.program g s.writes) → AreListeners plan s.listeners → AreChannels plan.program s.channels → s.coming ≡ record { queue = []; next = 0 } → IsStreamOf plan [] s
 begins_kept plan s stops none runs tags dues starts writes listeners channels begins = record {
   lanes = first_events plan;
   none = λ p h e up. refl;
@@ -243,7 +243,7 @@ module _ (plan : PlanParts) (d u : List Row) (g : Tag) (old : Stream) (is : IsSt
           stands = move_law plan (d ++ u) (state_of lanes_at g new) (state_of lanes_at (after g 0) new) ((stream_law plan).grows d u g first.reaction (state_of is.lanes g old) (state_of lanes_at g new) there right some_ran grown) (record { lanes = goes_past; dues = refl; runs = refl; tags = refl })
 
           -- the state over the rows of a later tag
-          pub grows_kept : new.stop ≡ earliest old.stop (requests u) → new.tag ≡ Some g → AreStarts plan.program (d ++ u) new.starts → AreEarlier plan.program (after g 0) new.writes → AreListeners plan new.listeners → AreChannels plan.program new.channels → ((h : Tag) (n : Name) → Before g h → UpTo h new.stop → to_come plan.externals.events new.coming h n ≡ to_come plan.externals.events c h n ++ held (caused_by plan u g n) h) → IsStreamOf plan (d ++ u) new
+          pub grows_kept : new.stop ≡ earliest old.stop (requests u) → new.tag ≡ Some g → AreStartTags plan.program (d ++ u) new.starts → AreEarlier plan.program (after g 0) new.writes → AreListeners plan new.listeners → AreChannels plan.program new.channels → ((h : Tag) (n : Name) → Before g h → UpTo h new.stop → to_come plan.externals.events new.coming h n ≡ to_come plan.externals.events c h n ++ held (caused_by plan u g n) h) → IsStreamOf plan (d ++ u) new
           grows_kept stops tag starts writes listeners channels more = record {
             lanes = lanes_at;
             none = λ p h e up. none p h e (past h up);

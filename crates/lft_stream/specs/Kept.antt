@@ -20,7 +20,7 @@ use Rattle.lft_stream.specs.Coming.{AreComing}
 use Rattle.lft_queue.specs.Pending.{value_of}
 use Rattle.lft_stream.specs.Dues.{AreDues}
 use Rattle.lft_stream.specs.Settled.{AreBefore}
-use Rattle.lft_stream.specs.Starts.{AreStarts}
+use Rattle.lft_stream.specs.StartTags.{AreStartTags}
 use Rattle.lft_stream.specs.Streams.{State, IsStream}
 use Rattle.lft_stream.specs.Writes.{AreWrites, AreEarlier}
 
@@ -54,7 +54,7 @@ pub record IsStreamOf (plan : PlanParts) (t : List Row) (s : Stream) : Type 0 wh
   pub stop_is : s.stop ≡ stop plan t
   pub up_to : AreUpTo t s.tag
   pub writes : AreEarlier plan.program (low_of s.tag) s.writes
-  pub starts : AreStarts plan.program t s.starts
+  pub starts : AreStartTags plan.program t s.starts
   pub listeners : AreListeners plan s.listeners
   pub channels : AreChannels plan.program s.channels
 
@@ -69,7 +69,7 @@ pub record IsAtHand (plan : PlanParts) (done rows : List Row) (s : Slice) (strea
   pub stop_is : stream.stop ≡ stop plan (done ++ slice_range rows s.first s.end)
   pub dues : AreDues plan (done ++ slice_range rows s.first s.end) stream.dues
   pub writes : AreEarlier plan.program s.tag stream.writes
-  pub starts : AreStarts plan.program (done ++ slice_range rows s.first s.end) stream.starts
+  pub starts : AreStartTags plan.program (done ++ slice_range rows s.first s.end) stream.starts
   pub listeners : AreListeners plan stream.listeners
   pub queued : (n : Name) → HasEvents plan.program n → Shows plan (done ++ slice_range rows s.first s.end) s.tag n (value_of s.tag n stream.coming.queue)
 
@@ -80,6 +80,6 @@ pub record IsJudged (plan : PlanParts) (done rows : List Row) (s : Slice) (strea
   pub heard : AreHeard plan (done ++ slice_range rows s.first s.end) (slice_range rows s.first s.end) s.tag
   pub dues : AreDues plan (done ++ slice_range rows s.first s.end) stream.dues
   pub writes : AreWrites plan.program (slice_range rows s.first s.end) s.tag stream.writes
-  pub starts : AreStarts plan.program (done ++ slice_range rows s.first s.end) stream.starts
+  pub starts : AreStartTags plan.program (done ++ slice_range rows s.first s.end) stream.starts
   pub listeners : AreListeners plan stream.listeners
   pub met : (n : Name) → IsSome (value_of s.tag n stream.coming.queue) → AreStarted (done ++ slice_range rows s.first s.end) s.tag stream.listeners n

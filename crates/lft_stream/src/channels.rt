@@ -16,7 +16,7 @@ ghost use Rattle.lft_stream.specs.Writes.{AreWrites, AreEarlier};
 
 use crate::at_once::is_undelayed;
 use crate::coming::Coming;
-use crate::lists::Lists;
+use crate::number_lists::NumberLists;
 use crate::writes::{Writes, written_port};
 use lft_flat::{Name, Program, Value};
 use lft_lists::item_at;
@@ -25,10 +25,10 @@ use lft_trace::{Row, row_at};
 use std::alloc::Global;
 
 /// For each port, as an origin, the ports that lie behind a delay of it.
-pub(crate) fn channels_of(alloc: Global, program: &Program) -> Result<Lists, NoMemory>
+pub(crate) fn channels_of(alloc: Global, program: &Program) -> Result<NumberLists, NoMemory>
     ensures { IfOk result (AreChannels program.now) }
 {
-    let mut channels = Lists::empty(alloc, program.ports())?;
+    let mut channels = NumberLists::empty(alloc, program.ports())?;
     for number in 0..program.ports() as u32 {
         if !is_undelayed(program, number) {
             channels.push(program.port(number).origin, number)?;
@@ -78,7 +78,7 @@ fn carry(
 fn carry_row(
     coming: &mut Coming,
     writes: &mut Writes,
-    channels: &Lists,
+    channels: &NumberLists,
     program: &Program,
     row: Row,
     last: Tag,
@@ -110,7 +110,7 @@ fn carry_row(
 pub(crate) fn carry_all(
     coming: &mut Coming,
     writes: &mut Writes,
-    channels: &Lists,
+    channels: &NumberLists,
     program: &Program,
     rows: &[Row],
     tag: Tag,

@@ -4,7 +4,7 @@ ghost use Rattle.std.specs.Prelude.{◌≡◌, ◌≤◌, ◌↔◌, length, IsT
 ghost use Rattle.lft_trace.specs.Fits.{RowFits, RowsFit};
 
 use crate::listeners::Listeners;
-use crate::lists::Lists;
+use crate::number_lists::NumberLists;
 use crate::writes::written_port;
 use lft_flat::Program;
 use lft_trace::{Row, is_start, row_at};
@@ -23,7 +23,7 @@ pub(crate) struct Effort {
 }
 
 /// How many of them are looked at for a row.
-fn cost_of(program: &Program, listeners: &Listeners, channels: &Lists, row: Row) -> usize
+fn cost_of(program: &Program, listeners: &Listeners, channels: &NumberLists, row: Row) -> usize
     requires fits { RowFits program.now row }
     requires ports { length listeners.now.ports ≡ length program.now.ports }
     requires channels { length channels.now ≡ length program.now.ports }
@@ -65,7 +65,7 @@ impl Effort {
         &mut self,
         program: &Program,
         listeners: &Listeners,
-        channels: &Lists,
+        channels: &NumberLists,
         rows: &[Row],
     ) -> bool
         requires fit { RowsFit program.now rows.now }

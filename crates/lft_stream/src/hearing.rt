@@ -8,11 +8,11 @@ ghost use Rattle.lft_stream.specs.AtOnce.{AreHeard};
 ghost use Rattle.lft_stream.specs.Listeners.{AreListeners, AreStarted};
 ghost use Rattle.lft_queue.specs.Pending.{value_of};
 ghost use Rattle.lft_flat.specs.declared.parts.Name.{Name as TheName};
-ghost use Rattle.lft_stream.specs.Starts.{AreStarts};
+ghost use Rattle.lft_stream.specs.StartTags.{AreStartTags};
 
 use crate::coming::Coming;
 use crate::listeners::Listeners;
-use crate::starts::Starts;
+use crate::start_tags::StartTags;
 use crate::writes::written_port;
 use lft_flat::Program;
 use lft_lists::item_at;
@@ -21,9 +21,9 @@ use lft_tag::Tag;
 use lft_trace::{Row, row_at};
 
 /// Whether each of the reactions started last at the tag.
-fn have_started(program: &Program, starts: &Starts, reactions: &[u32], tag: Tag) -> bool
+fn have_started(program: &Program, starts: &StartTags, reactions: &[u32], tag: Tag) -> bool
     ghost whole: { List TheRow }
-    requires starts { AreStarts program.now whole starts.now }
+    requires starts { AreStartTags program.now whole starts.now }
     ensures { IsTrue result → (r : ℕ) → Contains reactions.now r → Ran whole tag r }
 {
     for place in 0..reactions.len() {
@@ -35,11 +35,11 @@ fn have_started(program: &Program, starts: &Starts, reactions: &[u32], tag: Tag)
 }
 
 /// Whether each reaction that one of the rows triggers at once, all at the tag, has a run there.
-fn are_heard(plan: &Plan, listeners: &Listeners, starts: &Starts, own: &[Row], tag: Tag) -> bool
+fn are_heard(plan: &Plan, listeners: &Listeners, starts: &StartTags, own: &[Row], tag: Tag) -> bool
     ghost whole: { List TheRow }
     requires fit { RowsFit plan.now.program own.now }
     requires listeners { AreListeners plan.now listeners.now }
-    requires starts { AreStarts plan.now.program whole starts.now }
+    requires starts { AreStartTags plan.now.program whole starts.now }
     ensures { IsTrue result → AreHeard plan.now whole own.now tag }
 {
     let program = plan.program();
@@ -59,11 +59,11 @@ fn are_met(
     program: &Program,
     coming: &Coming,
     listeners: &Listeners,
-    starts: &Starts,
+    starts: &StartTags,
     tag: Tag,
 ) -> bool
     ghost whole: { List TheRow }
-    requires starts { AreStarts program.now whole starts.now }
+    requires starts { AreStartTags program.now whole starts.now }
     ensures { IsTrue result → (n : TheName) → IsSome (value_of tag n coming.now.queue) → AreStarted whole tag listeners.now n }
 {
     for name in coming.names_at(tag) {
@@ -82,14 +82,14 @@ pub(crate) fn is_all_heard(
     plan: &Plan,
     coming: &Coming,
     listeners: &Listeners,
-    starts: &Starts,
+    starts: &StartTags,
     own: &[Row],
     tag: Tag,
 ) -> bool
     ghost whole: { List TheRow }
     requires fit { RowsFit plan.now.program own.now }
     requires listeners { AreListeners plan.now listeners.now }
-    requires starts { AreStarts plan.now.program whole starts.now }
+    requires starts { AreStartTags plan.now.program whole starts.now }
     ensures heard { IsTrue result → AreHeard plan.now whole own.now tag }
     ensures met { IsTrue result → (n : TheName) → IsSome (value_of tag n coming.now.queue) → AreStarted whole tag listeners.now n }
 {

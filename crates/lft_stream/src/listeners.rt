@@ -7,7 +7,7 @@ ghost use Rattle.lft_stream.specs.AtOnce.{is_undelayed};
 ghost use Rattle.lft_stream.specs.Listeners.{list_of, heard_at as is_heard_at, IsIn, BothGrow, IsListed, IsUnheard, AreListeners};
 
 use crate::at_once::is_undelayed;
-use crate::lists::Lists;
+use crate::number_lists::NumberLists;
 use lft_flat::{Name, Program};
 use lft_lists::item_at;
 use lft_model::Plan;
@@ -18,8 +18,8 @@ use std::alloc::Global;
 /// without a delay are its origin's.
 #[derive(Drop)]
 pub(crate) struct Listeners {
-    ports: Lists,
-    actions: Lists,
+    ports: NumberLists,
+    actions: NumberLists,
 }
 
 /// The name whose list has the listeners of the name.
@@ -47,8 +47,8 @@ impl Listeners {
         ensures actions { IfOk result (λ listeners. length listeners.actions ≡ length program.now.actions) }
     {
         Ok(Listeners {
-            ports: Lists::empty(alloc, program.ports())?,
-            actions: Lists::empty(alloc, program.actions())?,
+            ports: NumberLists::empty(alloc, program.ports())?,
+            actions: NumberLists::empty(alloc, program.actions())?,
         })
     }
 

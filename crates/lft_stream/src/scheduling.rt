@@ -14,7 +14,7 @@ ghost use Rattle.lft_stream.specs.Writes.{AreWrites, AreEarlier};
 
 use crate::channels::carry_all;
 use crate::coming::Coming;
-use crate::lists::Lists;
+use crate::number_lists::NumberLists;
 use crate::writes::Writes;
 use lft_flat::{Name, Program};
 use lft_model::Plan;
@@ -62,7 +62,7 @@ fn schedule_all(coming: &mut Coming, plan: &Plan, rows: &[Row], last: Tag) -> bo
 pub(crate) fn pass_on(
     coming: &mut Coming,
     writes: &mut Writes,
-    channels: &Lists,
+    channels: &NumberLists,
     plan: &Plan,
     rows: &[Row],
     tag: Tag,

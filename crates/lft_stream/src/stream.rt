@@ -20,11 +20,11 @@ use crate::dues::Dues;
 use crate::effort::Effort;
 use crate::hearing::is_all_heard;
 use crate::listeners::Listeners;
-use crate::lists::Lists;
+use crate::number_lists::NumberLists;
 use crate::order::Order;
 use crate::reads::{have_read, is_woken};
 use crate::scheduling::pass_on;
-use crate::starts::Starts;
+use crate::start_tags::StartTags;
 use crate::writes::Writes;
 use lft_by_tag::Slice;
 use lft_flat::Program;
@@ -51,11 +51,11 @@ pub struct Stream {
     runs: u32,
     tags: u32,
     dues: Dues,
-    starts: Starts,
+    starts: StartTags,
     writes: Writes,
     listeners: Listeners,
     /// For each port, as an origin, the ports that lie behind a delay of it.
-    channels: Lists,
+    channels: NumberLists,
     coming: Coming,
     effort: Effort,
 }
@@ -178,7 +178,7 @@ impl Stream {
             runs: 0,
             tags: 0,
             dues: Dues::new(alloc, plan)?,
-            starts: Starts::new(alloc, program)?,
+            starts: StartTags::new(alloc, program)?,
             writes: Writes::new(alloc, program)?,
             listeners: Listeners::new(alloc, plan)?,
             channels: channels_of(alloc, program)?,

@@ -3,7 +3,7 @@ use Rattle.lft_tag.specs.declared.Tag.{Tag}
 use Rattle.lft_flat.specs.Parts.{Parts}
 use Rattle.lft_trace.specs.Inputs.{ExternalInputs}
 use Rattle.lft_stream.specs.Channels.{AreChannels}
-use Rattle.lft_stream.specs.Starts.{AreStarts}
+use Rattle.lft_stream.specs.StartTags.{AreStartTags}
 use Rattle.lft_stream.specs.Writes.{AreEarlier}
 use Rattle.lft_stream.proofs.Keeping.{begins_kept}
 use Rattle.lft_stream.proofs.stream.Stream.new.Goals as goal
@@ -12,7 +12,7 @@ pub returns : goal.returns
 returns c =
     let plan = c.args.plan.now in
     let is = c.program-program.ensures.value in
-    let starts = subst (λ (p : Parts). AreStarts p [] c.in_ok-new-2.field-0) is c.in_ok-new-2.ensures in
+    let starts = subst (λ (p : Parts). AreStartTags p [] c.in_ok-new-2.field-0) is c.in_ok-new-2.ensures in
     let writes = subst (λ (p : Parts). (g : Tag) → AreEarlier p g c.in_ok-new-3.field-0) is c.in_ok-new-3.ensures in
     let channels = subst (λ (p : Parts). AreChannels p c.in_ok-channels_of.field-0) is c.in_ok-channels_of.ensures in
     begins_kept plan (record { stop = c.stop.result; tag = None; runs = 0; tags = 0; dues = c.in_ok-new.field-0; starts = c.in_ok-new-2.field-0; writes = c.in_ok-new-3.field-0; listeners = c.in_ok-new-4.field-0; channels = c.in_ok-channels_of.field-0; coming = c.new-5.result; effort = c.new-6.result }) (c.stop.ensures ∙ ap (λ (x : ExternalInputs). x.stop) c.externals.ensures.value) refl refl refl c.in_ok-new.ensures starts writes c.in_ok-new-4.ensures channels c.new-5.ensures

@@ -6,6 +6,6 @@ use Rattle.lft_trace.specs.declared.row.Row.{Row}
 use Rattle.lft_model.specs.Runs.{Ran}
 
 -- the tag that is kept of a reaction is one at which it has a run
-pub record AreStarts (program : Parts) (t : List Row) (starts : List (Option Tag)) : Type 0 where
+pub record AreStartTags (program : Parts) (t : List Row) (starts : List (Option Tag)) : Type 0 where
   pub as_long : length starts ≡ length program.reactions
   pub each : (r : ℕ) (g : Tag) → slice_get starts r ≡ Some (Some g) → Ran t g r

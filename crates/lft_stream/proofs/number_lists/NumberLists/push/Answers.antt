@@ -2,7 +2,7 @@ use Rattle.std.proofs.Common.{◌++◌, ◌∷◌, [], ap, ◌∙◌, slice_get,
 use Rattle.std.proofs.lemmas.List.{map-set}
 use Rattle.std.proofs.lemmas.Option.{get_or_from_slice_get}
 use Rattle.lft_lists.proofs.Mapped.{mapped_from}
-use Rattle.lft_stream.proofs.lists.Lists.push.Goals as goal
+use Rattle.lft_stream.proofs.number_lists.NumberLists.push.Goals as goal
 
 pub returns : goal.returns
 returns c list e =

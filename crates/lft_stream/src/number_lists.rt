@@ -8,11 +8,11 @@ use std::marker::Model;
 
 /// For each number, from 0 on, a list of numbers.
 #[derive(Drop)]
-pub(crate) struct Lists {
+pub(crate) struct NumberLists {
     lists: Vec<Vec<u32>>,
 }
 
-impl Model for Lists {
+impl Model for NumberLists {
     ghost use Rattle.std.specs.Prelude.{List, ℕ, map};
 
     ghost Value = { List (List ℕ) };
@@ -20,9 +20,9 @@ impl Model for Lists {
     ghost view = { λ lists. map (λ list. list.items) lists.lists.items };
 }
 
-impl Lists {
+impl NumberLists {
     /// So many empty lists.
-    pub(crate) fn empty(alloc: Global, count: usize) -> Result<Lists, NoMemory>
+    pub(crate) fn empty(alloc: Global, count: usize) -> Result<NumberLists, NoMemory>
         ensures { IfOk result (λ lists. length lists ≡ count) }
     {
         let mut lists = Vec::new(alloc);
@@ -30,7 +30,7 @@ impl Lists {
             lists.reserve(1)?;
             lists.push_reserved(Vec::new(alloc));
         }
-        Ok(Lists { lists })
+        Ok(NumberLists { lists })
     }
 
     /// The list of the number.

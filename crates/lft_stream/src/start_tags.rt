@@ -5,7 +5,7 @@ ghost use Rattle.lft_trace.specs.declared.row.Row.{Row as TheRow};
 ghost use Rattle.lft_trace.specs.Fits.{RowsFit};
 ghost use Rattle.lft_model.specs.Runs.{Ran};
 ghost use Rattle.lft_by_tag.specs.Slices.{IsSlice};
-ghost use Rattle.lft_stream.specs.Starts.{AreStarts};
+ghost use Rattle.lft_stream.specs.StartTags.{AreStartTags};
 
 use lft_by_tag::Slice;
 use lft_flat::Program;
@@ -17,11 +17,11 @@ use std::marker::Model;
 
 /// For each reaction the tag at which it started last, if it did.
 #[derive(Drop)]
-pub(crate) struct Starts {
+pub(crate) struct StartTags {
     last: Vec<Option<Tag>>,
 }
 
-impl Model for Starts {
+impl Model for StartTags {
     ghost use Rattle.std.specs.Prelude.{List, Option};
     ghost use Rattle.lft_tag.specs.declared.Tag.{Tag};
 
@@ -30,13 +30,13 @@ impl Model for Starts {
     ghost view = { λ starts. starts.last.items };
 }
 
-impl Starts {
+impl StartTags {
     /// No reaction has started.
-    pub(crate) fn new(alloc: Global, program: &Program) -> Result<Starts, NoMemory>
-        ensures { IfOk result (AreStarts program.now []) }
+    pub(crate) fn new(alloc: Global, program: &Program) -> Result<StartTags, NoMemory>
+        ensures { IfOk result (AreStartTags program.now []) }
     {
         let last = vec![in alloc; None; program.reactions()]?;
-        Ok(Starts { last })
+        Ok(StartTags { last })
     }
 
     /// The reaction has a run at the tag.
@@ -44,8 +44,8 @@ impl Starts {
         ghost whole: { List TheRow }
         requires reaction { reaction < length program.now.reactions }
         requires ran { Ran whole tag reaction }
-        requires starts { AreStarts program.now whole self.old }
-        ensures { AreStarts program.now whole self.new }
+        requires starts { AreStartTags program.now whole self.old }
+        ensures { AreStartTags program.now whole self.new }
     {
         self.last[reaction as usize] = Some(tag);
     }
@@ -56,8 +56,8 @@ impl Starts {
         requires fit { RowsFit program.now rows.now }
         requires slice { IsSlice rows.now slice }
         requires ran { (r : ℕ) → Ran rows.now slice.tag r → Ran whole slice.tag r }
-        requires starts { AreStarts program.now whole self.old }
-        ensures { AreStarts program.now whole self.new }
+        requires starts { AreStartTags program.now whole self.old }
+        ensures { AreStartTags program.now whole self.new }
     {
         for place in slice.first..slice.end {
             let row = row_at(rows, place);
@@ -70,7 +70,7 @@ impl Starts {
     /// Whether the reaction started last at the tag.
     pub(crate) fn is_at(&self, program: &Program, reaction: u32, tag: Tag) -> bool
         ghost whole: { List TheRow }
-        requires starts { AreStarts program.now whole self.now }
+        requires starts { AreStartTags program.now whole self.now }
         ensures { IsTrue result → Ran whole tag reaction }
     {
         let number = reaction as usize;

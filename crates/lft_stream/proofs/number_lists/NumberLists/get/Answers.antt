@@ -2,7 +2,7 @@ use Rattle.std.proofs.Common.{◌≡◌, map, length, Some, None, sym, ap, ◌�
 use Rattle.std.proofs.lemmas.Option.{slice_get-get_or, slice_get_past}
 use Rattle.std.proofs.lemmas.List.{length-map}
 use Rattle.lft_lists.proofs.Mapped.{mapped}
-use Rattle.lft_stream.proofs.lists.Lists.get.Goals as goal
+use Rattle.lft_stream.proofs.number_lists.NumberLists.get.Goals as goal
 
 pub returns-then-place-len : goal.returns-then-place-len
 returns-then-place-len c =

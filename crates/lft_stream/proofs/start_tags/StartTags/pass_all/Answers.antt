@@ -4,7 +4,7 @@ use Rattle.lft_trace.specs.declared.row.Row.{Row}
 use Rattle.lft_trace.specs.declared.row.Step.TheVariants.{Start}
 use Rattle.lft_model.specs.Runs.{start_row}
 use Rattle.lft_rows.proofs.Steps.{row_eq}
-use Rattle.lft_stream.proofs.starts.Starts.pass_all.Goals as goal
+use Rattle.lft_stream.proofs.start_tags.StartTags.pass_all.Goals as goal
 
 pub begin-requires : goal.begin-requires
 begin-requires g c =
