@@ -26,7 +26,7 @@ use std::alloc::Global;
 
 /// The tables of the tree's reactors, if none of the causes that are looked for in each reactor
 /// holds.
-fn tables(alloc: Global, ast: &Ast) -> Result<Tables, ProgramFault>
+pub fn tables(alloc: Global, ast: &Ast) -> Result<Tables, ProgramFault>
     ensures tables { IfOk result (AreTables (tree_view ast.now)) }
     ensures none { OnOk result (NoneHolds (reactor_causes (tree_view ast.now))) }
     ensures first { IfErr result (λ f. f ≢ faults.NoMemory → IsFirst (reactor_causes (tree_view ast.now)) (number_of f)) }

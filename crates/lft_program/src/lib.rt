@@ -14,7 +14,10 @@ mod tree_lists;
 mod tree_names;
 
 pub use fault::ProgramFault;
-pub use flattening::flatten;
+pub use flattening::{flatten, tables};
 pub use lft_flat::{
     Action, Found, Name, Names, Port, Program, Reaction, Source, Timer, Trigger, Triggers, Value,
 };
+pub use naming::OwnName;
+pub use nesting::{Nest, NestFault, Numbering, Tables};
+pub use tree_lists::Lists;

@@ -12,11 +12,11 @@ use std::hash::{DefaultHasher, Hasher};
 
 /// A thing that an instance declares under a name of its own: an instance, port, action or timer.
 #[derive(Clone, Copy)]
-pub(crate) struct OwnName<'a> {
+pub struct OwnName<'a> {
     /// The number of the instance that declares it; of an instance, the one that contains it.
-    pub(crate) instance: u32,
+    pub instance: u32,
     /// Its name in that instance.
-    pub(crate) name: &'a str,
+    pub name: &'a str,
 }
 
 /// A reaction of an instance.

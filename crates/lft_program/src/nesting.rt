@@ -8,6 +8,6 @@ mod tables;
 mod things;
 
 pub(crate) use linking::{LinkFault, Linked, links};
-pub(crate) use nest::{Nest, NestFault, Numbering};
+pub use nest::{Nest, NestFault, Numbering};
 pub(crate) use recursion::contains_itself;
-pub(crate) use tables::Tables;
+pub use tables::Tables;

@@ -18,9 +18,9 @@ use std::alloc::Global;
 
 /// What the instances of a nest declare, by kind and in the order of the numbers.
 #[derive(Drop)]
-pub(crate) struct Lists<'a> {
-    pub(crate) instances: Vec<OwnName<'a>>,
-    pub(crate) ports: Vec<OwnName<'a>>,
+pub struct Lists<'a> {
+    pub instances: Vec<OwnName<'a>>,
+    pub ports: Vec<OwnName<'a>>,
     pub(crate) actions: Vec<OwnName<'a>>,
     pub(crate) timers: Vec<OwnName<'a>>,
     pub(crate) reactions: Vec<Placed>,
@@ -107,11 +107,7 @@ fn placed(alloc: Global, things: &[Thing]) -> Result<Vec<Placed>, NoMemory>
 
 impl<'a> Lists<'a> {
     /// The lists of a nest's instances, whose reactors these are by number.
-    pub(crate) fn of(
-        alloc: Global,
-        reactors: &[&'a Reactor],
-        nest: &Nest,
-    ) -> Result<Lists<'a>, NoMemory>
+    pub fn of(alloc: Global, reactors: &[&'a Reactor], nest: &Nest) -> Result<Lists<'a>, NoMemory>
         requires { length nest.now.instances.items ≤ 10000 }
         ensures { IfOk result (λ l. (tree : FileTree) (tables : Tables) (n : IsNest tree tables nest.now)
             → reactor_trees reactors.now ≡ reactors_of tree → AreLists tree tables nest.now n l) }

@@ -21,7 +21,7 @@ use std::alloc::Global;
 /// How things of one kind are numbered: how many of them each reactor declares, by the reactor's
 /// number, and the number of each instance's first one, by the instance's number.
 #[derive(Drop)]
-pub(crate) struct Numbering {
+pub struct Numbering {
     pub counts: Vec<u32>,
     pub firsts: Vec<u32>,
 }
@@ -29,7 +29,7 @@ pub(crate) struct Numbering {
 /// The instances in pre-order, of which the main one is the first, with the instances that each
 /// contains, the values of its parameters in nanoseconds, and the numbers of what it declares.
 #[derive(Drop)]
-pub(crate) struct Nest {
+pub struct Nest {
     pub instances: Vec<Instance>,
     pub children: Children,
     pub values: Values,
@@ -41,7 +41,7 @@ pub(crate) struct Nest {
 
 /// Why there is no nest.
 #[derive(Clone, Copy, PartialEq, Eq, Drop)]
-pub(crate) enum NestFault {
+pub enum NestFault {
     /// A limit on the number of instances, reactions, ports, single connections, actions or timers
     /// is passed.
     TooMany,
@@ -96,7 +96,7 @@ fn numbered(
 impl Nest {
     /// The nest of the tree whose reactors have these tables. Nothing is made past a limit. The
     /// order of the limits means nothing, since each gives the same fault.
-    pub(crate) fn of(alloc: Global, tables: &Tables) -> Result<Nest, NestFault>
+    pub fn of(alloc: Global, tables: &Tables) -> Result<Nest, NestFault>
         ensures nest { IfOk result (λ n. (tree : FileTree) → AreTables tree tables.now → IsLawful tree → IsNest tree tables.now n) }
         ensures within { OnOk result ((tree : FileTree) → AreTables tree tables.now → IsLawful tree → TooMany tree → ⊥) }
         ensures too_many { result ≡ Err NestFault.TooMany → (tree : FileTree) → AreTables tree tables.now → IsLawful tree → TooMany tree }

@@ -6,7 +6,7 @@ use lft_scope::by_number::{Declarations, Reactions};
 /// The reactors of a file as tables, by number, and the number of the main reactor. Reactors are
 /// numbered from 0 in the order of the file.
 #[derive(Drop)]
-pub(crate) struct Tables {
+pub struct Tables {
     pub main: u32,
     pub contents: Vec<Contents>,
     pub parameters: Vec<Parameters>,
