@@ -9,7 +9,7 @@ pub mod Locating
 pub mod WholeNest
 pub mod Valuing
 pub mod Zipping
-pub mod Lists
+pub mod Elements
 pub mod Nested
 pub mod Ports
 pub mod Singles

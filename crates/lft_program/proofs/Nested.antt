@@ -14,7 +14,7 @@ use Rattle.lft_program.specs.Located.{Located}
 use Rattle.lft_program.specs.Nests.{IsNest, IsInstanceOf}
 use Rattle.lft_program.specs.declared.nesting.nest.Nest.{Nest}
 use Rattle.lft_program.specs.declared.nesting.tables.Tables.{Tables}
-use Rattle.lft_program.proofs.Lists.{some_step}
+use Rattle.lft_program.proofs.Elements.{some_step}
 use Rattle.lft_program.proofs.Zipping.{zip_at, zip_back}
 
 module _ (tree : FileTree) (tables : Tables) (nest : Nest) (n : IsNest tree tables nest) where

@@ -18,7 +18,7 @@ use Rattle.lft_program.specs.declared.nesting.nest.Nest.{Nest}
 use Rattle.lft_program.specs.declared.nesting.nest.Numbering.{Numbering}
 use Rattle.lft_program.specs.declared.nesting.tables.Tables.{Tables}
 use Rattle.lft_program.proofs.Counting.{total, base, declared_at}
-use Rattle.lft_program.proofs.Lists.{From, flat_back, enumerate_back}
+use Rattle.lft_program.proofs.Elements.{From, flat_back, enumerate_back}
 use Rattle.lft_program.proofs.Nested.{one_number, instance_of}
 
 -- how many each instance declares

@@ -10,7 +10,7 @@ use Rattle.lft_scope.specs.Kinds.{destinations_in}
 use Rattle.lft_scope.specs.Places.{place}
 use Rattle.lft_scope.specs.Sheets.{Single, singles_in, singles_of}
 use Rattle.lft_program.proofs.Counting.{total, flat_at}
-use Rattle.lft_program.proofs.Lists.{From, flat_back, pair_back}
+use Rattle.lft_program.proofs.Elements.{From, flat_back, pair_back}
 
 -- the connection that a single one is of
 pub record IsOf (r : ReactorTree) (s : Single) : Type 0 where
