@@ -3,4 +3,5 @@ pub mod Placed
 pub mod Lexed
 pub mod Arrows
 pub mod Free
+pub mod Listed
 pub mod Walk

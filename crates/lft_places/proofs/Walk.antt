@@ -1,10 +1,8 @@
 -- A walk along a list with commas.
-use Rattle.std.proofs.Common.{◌≡◌, ℕ, zero, suc, ◌+◌, ◌<◌, ◌≤◌, true, false, List, [], ◌∷◌, length, get_or, drop, Option, Some, None, refl, sym, ap, subst, ◌∙◌, arith}
+use Rattle.std.proofs.Common.{◌≡◌, ℕ, zero, suc, ◌+◌, ◌<◌, ◌≤◌, true, false, List, [], ◌∷◌, length, get_or, drop, map, Option, Some, None, refl, sym, ap, subst, ◌∙◌, arith}
 use Rattle.std.specs.Prelude.{slice_get, option_map}
 use Rattle.std.proofs.lemmas.List.{length-map}
 use Rattle.std.proofs.lemmas.Option.{slice_get_within, slice_get_read, slice_get-map}
-use Rattle.lft_tree.specs.declared.tree.Reference.{Reference}
-use Rattle.lft_tree.specs.View.{ref_view, ref_views}
 use Rattle.lft_syntax.specs.declared.token.Token.{Token}
 use Rattle.lft_syntax.specs.View.{lexeme_of, lexemes}
 use Rattle.lft_tree.specs.Tree.{RefTree}
@@ -14,7 +12,10 @@ use Rattle.lft_syntax.specs.Grammar.{symbol, name, listed, ref}
 use Rattle.lft_syntax.proofs.Options.{some_is}
 use Rattle.lft_syntax.proofs.Algebra.{Any}
 use Rattle.lft_syntax.proofs.Rules.{leads_one}
-use Rattle.lft_places.specs.Lists.{after_commas, listed_starts, IsFirstArrow, IsNameIn, NameAt, PortAt}
+use Rattle.lft_places.specs.Lists.{IsFirstArrow, IsNameIn, NameAt, PortAt}
+use Rattle.lft_places.specs.Parts.{after_commas, listed_starts}
+use Rattle.lft_lists.proofs.Mapped.{mapped_at}
+use Rattle.lft_places.proofs.Listed.{part_spelled}
 use Rattle.lft_places.proofs.Words.{moved, name_word}
 
 drop_next : {A : Type 0} (q : ℕ) (xs : List A) (x : A) (ys : List A) → drop q xs ≡ x ∷ ys → drop (suc q) xs ≡ ys
@@ -134,18 +135,8 @@ name_within ws i j x s =
     let there = slice_get_within ws i _ (name_word ws i s.1.0 s.0.0 s.1.1) in
     port_within ws i s.1.0 j s.0.1 (omega (arith, head, there)) s.1.2
 
--- the name with that place is spelled where it begins
-listed_item : {A : Type 0} (P : Spelling A) (ws : List Lexeme) (at end last : ℕ) (item : A) (items : List A) (here : P ws at end item) (behind : many (symbol 44 >> P) ws end last items) (place k : ℕ) (x : A)
-    → slice_get (item ∷ items) place ≡ Some x → slice_get (at ∷ after_commas P ws end last items behind) place ≡ Some k → (e : ℕ) × P ws k e x
-listed_item P ws at end last item items here behind zero k x e f = (end, subst (λ (n : ℕ). P ws n end x) (some_is at k f) (subst (λ y. P ws at end y) (some_is item x e) here))
-listed_item P ws at end last item [] here behind (suc place) k x e f = absurd cc
-listed_item P ws at end last item (z ∷ zs) here behind (suc place) k x e f = listed_item P ws behind.1.0 behind.0 last z zs behind.1.2 behind.2 place k x e f
-
 pub name_in_list : (ws : List Lexeme) (names : List RefTree) (first place k : ℕ) (x : RefTree) → IsNameIn ws names first place k → slice_get names place ≡ Some x → NameAt ws k x
-name_in_list ws names first place k x h e =
-    let s = h.spelled in
-    let item = listed_item ref ws first s.1.0 h.end s.0.0 s.0.1 s.1.1 s.1.2 place k x (ap (λ (l : List RefTree). slice_get l place) s.2 ∙ e) h.is_start in
-    name_words ws k item.0 x item.1
+name_in_list ws names first place k x h e = let item = part_spelled ref ws names first place k x h e in name_words ws k item.0 x item.1
 
 -- ---- for the walk in the code
 
@@ -162,11 +153,32 @@ name_ended t tokens at end by result x o p size s behind =
     let there = behind (omega (arith, ends, within, count, sized)) in
     omega (arith, ends, sized, there)
 
-pub item_seen : (names : List Reference) (q : ℕ) (x : Reference) → q < length names → x ≡ get_or names q x → slice_get (ref_views names) q ≡ Some (ref_view x)
-item_seen names q x lt is = slice_get-map ref_view names q ∙ ap (option_map ref_view) (slice_get_read names (length names) q x refl lt is)
+-- the code is at an item of its list
+pub walk_within : {X A : Type 0} (view : X → A) (P : Spelling A) (ws : List Lexeme) (xs : List X) (q at place k : ℕ) → Rest P ws (map view xs) q at place k → q < length xs
+walk_within view P ws xs q at place k r =
+    let lt = slice_get_within (map view xs) q r.item (drop_item q (map view xs) r.item r.items r.left) in
+    let count = length-map xs view in
+    omega (arith, lt, count)
 
-pub item_within : (names : List Reference) (q : ℕ) (x : RefTree) → slice_get (ref_views names) q ≡ Some x → q < length names
-item_within names q x there = let lt = slice_get_within (ref_views names) q x there in let count = length-map names ref_view in omega (arith, lt, count)
+-- the code goes on behind the item that it is at
+pub walk_turns : {X A : Type 0} (view : X → A) (P : Spelling A) (t : List ℕ) (tokens : List Token) (xs : List X) (q at place k end next : ℕ) (x : X) → Rest P (lexemes t tokens) (map view xs) q at place k → q < place → q < length xs → x ≡ get_or xs q x
+    → ((e : ℕ) → e ≤ length tokens → P (lexemes t tokens) at e (view x) → end ≡ e) → (end + 1 ≤ length tokens → next ≡ end + 1) → Rest P (lexemes t tokens) (map view xs) (q + 1) next place k
+walk_turns view P t tokens xs q at place k end next x r lt within is ends behind =
+    let ws = lexemes t tokens in
+    let seen : slice_get (map view xs) q ≡ Some (view x) = mapped_at view xs q x within (sym is) in
+    let same : view x ≡ r.item = some_is (view x) r.item (sym seen ∙ drop_item q (map view xs) r.item r.items r.left) in
+    let more = rest_more P ws (map view xs) q at place k r lt in
+    let count = same_length t tokens in
+    let ended : end ≡ r.end = ends r.end (omega (arith, more, count)) (subst (λ y. P ws at r.end y) (sym same) r.here) in
+    let there = behind (omega (arith, ended, more, count)) in
+    rest_turns P ws (map view xs) q at place k next r lt (omega (arith, there, ended))
+
+-- the code is at the item with that place
+pub walk_done : {A : Type 0} (P : Spelling A) (ws : List Lexeme) (xs : List A) (q at place k : ℕ) → Rest P ws xs q at place k → place ≤ q → at ≡ k
+walk_done P ws xs q at place k r past =
+    let count = r.count in
+    let end : q ≡ place = omega (arith, count, past) in
+    rest_done P ws xs at place k (subst (λ (n : ℕ). Rest P ws xs n at place k) end r)
 
 arrow_seen : (o : Option Lexeme) → (o ≡ Some Arrow → ⊥) → is Arrow o ≡ false
 arrow_seen None other = refl

@@ -1,6 +1,6 @@
 -- The words at the tokens of a tree's parts.
 use Rattle.std.proofs.Common.{◌≡◌, ℕ, ◌+◌, ◌<◌, length, Bool, true, false, cond, List, Option, Some, None, refl, sym, ap, subst, ◌∙◌, arith, inl, inr}
-use Rattle.std.specs.Prelude.{slice_get, slice_range, option_map, codes, if◌then◌else◌}
+use Rattle.std.specs.Prelude.{slice_get, slice_range, option_map, codes, nat_eq, if◌then◌else◌}
 use Rattle.std.specs.Str.{bytes_eq}
 use Rattle.std.proofs.lemmas.Option.{slice_get-map, slice_get_cases}
 use Rattle.lft_syntax.specs.declared.token.Token.{Token}
@@ -200,12 +200,13 @@ spot_found t tokens k at w result same h search_finds =
 
 -- ---- whether a word stands at a token
 
-seen_at : (t : List ℕ) (tokens : List Token) (k : ℕ) → slice_get (lexemes t tokens) k ≡ option_map (lexeme_of t) (slice_get tokens k)
+pub seen_at : (t : List ℕ) (tokens : List Token) (k : ℕ) → slice_get (lexemes t tokens) k ≡ option_map (lexeme_of t) (slice_get tokens k)
 unfolding lexemes
 seen_at t tokens k = slice_get-map (lexeme_of t) tokens k
 
-pub word_past : (t : List ℕ) (tokens : List Token) (k : ℕ) (w : List ℕ) → slice_get tokens k ≡ None → false ≡ is (Letters w) (slice_get (lexemes t tokens) k)
-word_past t tokens k w none = sym (ap (is (Letters w)) (seen_at t tokens k ∙ ap (option_map (lexeme_of t)) none))
+-- nothing stands behind the last token
+pub past_not : (t : List ℕ) (tokens : List Token) (k : ℕ) (w : Lexeme) → slice_get tokens k ≡ None → false ≡ is w (slice_get (lexemes t tokens) k)
+past_not t tokens k w none = sym (ap (is w) (seen_at t tokens k ∙ ap (option_map (lexeme_of t)) none))
 
 at_token : (t : List ℕ) (tokens : List Token) (k : ℕ) (w : List ℕ) (token : Token) → slice_get tokens k ≡ Some token → is (Letters w) (slice_get (lexemes t tokens) k) ≡ same (Letters w) (lexeme_of t token)
 at_token t tokens k w token there = ap (is (Letters w)) (seen_at t tokens k ∙ ap (option_map (lexeme_of t)) there)
@@ -226,6 +227,25 @@ word_is t tokens k w token there named = sym (at_token t tokens k w token there 
 
 pub word_not : (t : List ℕ) (tokens : List Token) (k : ℕ) (w : List ℕ) (token : Token) → slice_get tokens k ≡ Some token → (token.kind ≡ kinds.Name → ⊥) → false ≡ is (Letters w) (slice_get (lexemes t tokens) k)
 word_not t tokens k w token there other = sym (at_token t tokens k w token there ∙ other_kind token.kind (slice_range t token.start token.end) w other)
+
+-- ---- whether a sign stands at a token
+
+sign_kind : (kind : TokenKind) (bytes : List ℕ) (sign byte : ℕ) → kind ≡ kinds.Symbol byte → is (Symbol sign) (Some (lexeme_from kind bytes)) ≡ nat_eq sign byte
+sign_kind kind bytes sign byte e = ap (λ (k : TokenKind). is (Symbol sign) (Some (lexeme_from k bytes))) e
+
+no_sign_kind : (kind : TokenKind) (bytes : List ℕ) (sign : ℕ) → ((byte : ℕ) → kind ≡ kinds.Symbol byte → ⊥) → is (Symbol sign) (Some (lexeme_from kind bytes)) ≡ false
+no_sign_kind kinds.Code bytes sign other = refl
+no_sign_kind kinds.Text bytes sign other = refl
+no_sign_kind kinds.Name bytes sign other = refl
+no_sign_kind (kinds.Number n) bytes sign other = refl
+no_sign_kind kinds.Arrow bytes sign other = refl
+no_sign_kind (kinds.Symbol b) bytes sign other = absurd (other b refl)
+
+pub sign_is : (t : List ℕ) (tokens : List Token) (k sign byte : ℕ) (token : Token) → slice_get tokens k ≡ Some token → token.kind ≡ kinds.Symbol byte → nat_eq sign byte ≡ is (Symbol sign) (slice_get (lexemes t tokens) k)
+sign_is t tokens k sign byte token there e = sym (ap (is (Symbol sign)) (seen_at t tokens k ∙ ap (option_map (lexeme_of t)) there) ∙ sign_kind token.kind (slice_range t token.start token.end) sign byte e)
+
+pub sign_not : (t : List ℕ) (tokens : List Token) (k sign : ℕ) (token : Token) → slice_get tokens k ≡ Some token → ((byte : ℕ) → token.kind ≡ kinds.Symbol byte → ⊥) → false ≡ is (Symbol sign) (slice_get (lexemes t tokens) k)
+sign_not t tokens k sign token there other = sym (ap (is (Symbol sign)) (seen_at t tokens k ∙ ap (option_map (lexeme_of t)) there) ∙ no_sign_kind token.kind (slice_range t token.start token.end) sign other)
 
 -- ---- whether an arrow stands at a token
 
@@ -262,12 +282,9 @@ arrow_is t tokens k token there e = sym (ap (is Arrow) (seen_at t tokens k ∙ a
 pub arrow_not : (t : List ℕ) (tokens : List Token) (k : ℕ) (token : Token) → slice_get tokens k ≡ Some token → (token.kind ≡ kinds.Arrow → ⊥) → false ≡ is Arrow (slice_get (lexemes t tokens) k)
 arrow_not t tokens k token there other = sym (ap (is Arrow) (seen_at t tokens k ∙ ap (option_map (lexeme_of t)) there) ∙ no_arrow_kind token.kind (slice_range t token.start token.end) other)
 
-pub arrow_past : (t : List ℕ) (tokens : List Token) (k : ℕ) → slice_get tokens k ≡ None → false ≡ is Arrow (slice_get (lexemes t tokens) k)
-arrow_past t tokens k none = sym (ap (is Arrow) (seen_at t tokens k ∙ ap (option_map (lexeme_of t)) none))
-
 pub arrow_within : (t : List ℕ) (tokens : List Token) (k : ℕ) → is Arrow (slice_get (lexemes t tokens) k) ≡ true → k < length tokens
 arrow_within t tokens k is_there =
     elim (slice_get_cases tokens k).1 [
       | inl a ↦ a.1
-      | inr b ↦ absurd (let no = arrow_past t tokens k b.1 in cc (no, is_there))
+      | inr b ↦ absurd (let no = past_not t tokens k Arrow b.1 in cc (no, is_there))
     ]

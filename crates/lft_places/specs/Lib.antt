@@ -1,3 +1,4 @@
 pub mod Spots
 pub mod Places
+pub mod Parts
 pub mod Lists

@@ -1,23 +1,14 @@
 -- Where the names of a member stand among the tokens of its text.
-use Rattle.std.specs.Prelude.{◌≡◌, ℕ, ◌+◌, ◌<◌, ◌≤◌, List, [], ◌∷◌, Option, Some, None, slice_get}
+use Rattle.std.specs.Prelude.{◌≡◌, ℕ, ◌+◌, ◌<◌, ◌≤◌, List, [], Option, Some, None, slice_get}
 use Rattle.lft_tree.specs.Tree.{RefTree, MemberTree, ReactionMember, ConnectionMember}
 use Rattle.lft_syntax.specs.declared.token.Token.{Token}
 use Rattle.lft_syntax.specs.Lexeme.{Lexeme, Letters, Arrow}
-use Rattle.lft_syntax.specs.Language.{Spelling, ◌>>◌, many}
-use Rattle.lft_syntax.specs.Grammar.{symbol, listed, ref, refs}
+use Rattle.lft_syntax.specs.Grammar.{ref}
 use Rattle.lft_scope.specs.declared.kinds.Role.{Role}
 use Rattle.lft_scope.specs.declared.kinds.Role.TheVariants.{Effect, Source, Destination}
 use Rattle.lft_places.specs.declared.spots.Spot.{Spot}
 use Rattle.lft_places.specs.Places.{IsTokenSpot, IsSpanSpot}
-
--- where each part behind a comma begins, in this spelling of them
-abbrev pub after_commas : {A : Type 0} (P : Spelling A) (ws : List Lexeme) (i j : ℕ) (xs : List A) → many (symbol 44 >> P) ws i j xs → List ℕ
-after_commas P ws i j [] s = []
-after_commas P ws i j (x ∷ xs) s = s.1.0 ∷ after_commas P ws s.0 j xs s.2
-
--- where each part of a list with commas begins, in this spelling of it
-abbrev pub listed_starts : {A : Type 0} (P : Spelling A) (ws : List Lexeme) (i j : ℕ) (xs : List A) → listed P ws i j xs → List ℕ
-listed_starts P ws i j xs s = i ∷ after_commas P ws s.1.0 j s.0.1 s.1.2
+use Rattle.lft_places.specs.Parts.{IsPartIn}
 
 -- the names of a connection's sources and destinations, and of a reaction's effects
 abbrev pub names_in : Role → MemberTree → List RefTree
@@ -40,10 +31,8 @@ IsListAt ws Effect start a = (k : ℕ) × IsFirstArrow ws start k × (a ≡ k + 
 IsListAt ws _ start a = ⊥
 
 -- these names are spelled from that token on, and the one with this place among them begins at the token k
-pub record IsNameIn (ws : List Lexeme) (names : List RefTree) (first place k : ℕ) : Type 0 where
-  pub end : ℕ
-  pub spelled : refs ws first end names
-  pub is_start : slice_get (listed_starts ref ws first end names spelled) place ≡ Some k
+abbrev pub IsNameIn : List Lexeme → List RefTree → ℕ → ℕ → ℕ → Type 0
+IsNameIn ws names first place k = IsPartIn ref ws names first place k
 
 -- the port, if there is one, stands two tokens behind
 abbrev pub PortAt : List Lexeme → ℕ → Option (List ℕ) → Type 0

@@ -47,14 +47,6 @@ impl<'a> SourceText<'a> {
         }
     }
 
-    /// The token behind the name of a reactor, with which its parameters or its body begin.
-    pub(crate) fn head_end(&self, reactor: &Reactor, start: usize) -> usize {
-        match &reactor.name {
-            Some(_) => start.saturating_add(name_offset(reactor)).saturating_add(1),
-            None => start.saturating_add(2),
-        }
-    }
-
     /// The reactor with that place in the file.
     fn reactor_of(&self, place: usize) -> Option<&'a Reactor>
         ensures { option_map (λ r. reactor_view r.now) result ≡ slice_get (reactors_of (tree_view self.now.ast.now)) place }
@@ -130,30 +122,6 @@ impl<'a> SourceText<'a> {
             }
         }
         None
-    }
-
-    /// The token behind the name that begins there.
-    fn name_end(&self, at: usize, name: &Reference) -> usize
-        ensures { (end : ℕ) → ref (lexemes self.now.text.now self.now.tokens.now) at end (ref_view name.now) → result ≡ end }
-    {
-        match &name.port {
-            None => self.behind(at, 1),
-            Some(_) => self.behind(at, 3),
-        }
-    }
-
-    /// The first token of the name with that place in a list that begins there.
-    fn name_start(&self, first: usize, names: &[Reference], place: usize) -> Option<usize>
-        ensures { (k : ℕ) → IsNameIn (lexemes self.now.text.now self.now.tokens.now) (ref_views names.now) first place k → result ≡ Some k }
-    {
-        let mut at = first;
-        for before in 0..place {
-            if before >= names.len() {
-                return None;
-            }
-            at = self.behind(self.name_end(at, &names[before]), 1);
-        }
-        Some(at)
     }
 
     /// The first token of a name that the reaction reads, by its place.
@@ -233,21 +201,6 @@ impl<'a> SourceText<'a> {
         for at in start..self.tokens.len() {
             if self.is_sign(at, b',') {
                 return Some(at + 1);
-            }
-        }
-        None
-    }
-
-    /// The token of a parameter's name in the reactor that begins there.
-    pub(crate) fn parameter(&self, reactor: &Reactor, start: usize, place: usize) -> Option<usize> {
-        let open = self.head_end(reactor, start);
-        let mut before: usize = 0;
-        for at in open..self.group_end(open) {
-            if self.is_sign(at.saturating_add(1), b':') && self.is_name(at) {
-                if before == place {
-                    return Some(at);
-                }
-                before = before.saturating_add(1);
             }
         }
         None

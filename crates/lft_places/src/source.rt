@@ -6,7 +6,7 @@ ghost use Rattle.std.specs.Prelude.{◌≡◌, ◌↔◌, ℕ, ◌<◌, ◌≤�
 ghost use Rattle.lft_tree.specs.View.{tree_view};
 ghost use Rattle.lft_syntax.specs.declared.token.Token.{Token as TheToken};
 ghost use Rattle.lft_syntax.specs.Lexes.{Lexes};
-ghost use Rattle.lft_syntax.specs.Lexeme.{Arrow, Letters, is};
+ghost use Rattle.lft_syntax.specs.Lexeme.{Arrow, Letters, Symbol, is};
 ghost use Rattle.lft_syntax.specs.Grammar.{Spells};
 ghost use Rattle.lft_syntax.specs.View.{lexemes};
 ghost use Rattle.lft_syntax.specs.Places.{file_begins, begins_view};
@@ -116,8 +116,16 @@ impl<'a> SourceText<'a> {
     }
 
     /// Whether the token is this sign.
-    pub(crate) fn is_sign(&self, at: usize, sign: u8) -> bool {
-        self.kind(at) == Some(TokenKind::Symbol(sign))
+    pub(crate) fn is_sign(&self, at: usize, sign: u8) -> bool
+        ensures { result ≡ is (Symbol sign) (slice_get (lexemes self.now.text.now self.now.tokens.now) at) }
+    {
+        match self.token(at) {
+            Some(token) => match token.kind {
+                TokenKind::Symbol(byte) => sign == byte,
+                _ => false,
+            },
+            None => false,
+        }
     }
 
     /// Whether the token is a name or a word.

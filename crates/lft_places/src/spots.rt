@@ -7,11 +7,12 @@ ghost use Rattle.std.specs.Prelude.{◌≡◌, ◌↔◌, ℕ, ◌+◌, ◌≤�
 ghost use Rattle.lft_syntax.specs.declared.token.Token.{Token as TheToken};
 ghost use Rattle.lft_syntax.specs.declared.token.TokenKind.TheVariants.{Number};
 ghost use Rattle.lft_syntax.specs.Lexeme.{Arrow};
-ghost use Rattle.lft_syntax.specs.Grammar.{refs};
+ghost use Rattle.lft_syntax.specs.Grammar.{param, refs};
 ghost use Rattle.lft_syntax.specs.View.{lexemes};
-ghost use Rattle.lft_tree.specs.Tree.{ReactorTree, MemberTree, InstanceTree, ReactionTree, ConnectionTree, InstanceMember, ReactionMember, ConnectionMember};
+ghost use Rattle.lft_tree.specs.Tree.{ParameterTree, ReactorTree, MemberTree, InstanceTree, ReactionTree, ConnectionTree, InstanceMember, ReactionMember, ConnectionMember};
 ghost use Rattle.lft_tree.specs.View.{ref_view, time_view, tree_view};
 ghost use Rattle.lft_places.specs.Lists.{IsListAt, IsNameIn, IsNameSpot, NameAt, names_in};
+ghost use Rattle.lft_places.specs.Parts.{IsPartIn, parameters_token};
 ghost use Rattle.lft_places.specs.Places.{IsMemberAt, IsSpanSpot, IsReactorAt, IsTokenSpot, declared_token, name_declared, name_token};
 ghost use Rattle.lft_places.specs.Spots.{HasCodeWith, IsCodeWith, NameStandsAt, StandAt, StandsAt, TimeStandsAt};
 
@@ -162,10 +163,12 @@ impl<'a> SourceText<'a> {
 
     /// The name of a parameter where its reactor declares it.
     pub fn parameter_spot(&self, reactor: usize, parameter: usize, name: &str) -> Option<Spot>
-        ensures { IfSome result (λ s. StandsAt self.now.text.now s name.now) }
+        ensures spelled { IfSome result (λ s. StandsAt self.now.text.now s name.now) }
+        ensures place { (r : ReactorTree) (start : ℕ) (p : ParameterTree) → IsReactorAt (lexemes self.now.text.now self.now.tokens.now) (tree_view self.now.ast.now) reactor r start → slice_get r.parameters parameter ≡ Some p → p.name ≡ name.now → (k : ℕ) × IsPartIn param (lexemes self.now.text.now self.now.tokens.now) r.parameters (parameters_token r start) parameter k × IsTokenSpot self.now.tokens.now k result }
     {
         let (reactor, start) = self.reactor(reactor)?;
-        self.word(self.parameter(reactor, start, parameter)?, name)
+        let first = self.parameters_first(reactor, start);
+        self.word(self.parameter_start(first, &reactor.parameters, parameter)?, name)
     }
 
     /// The name that a member declares.
