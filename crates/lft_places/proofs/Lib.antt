@@ -3,5 +3,6 @@ pub mod Placed
 pub mod Lexed
 pub mod Arrows
 pub mod Free
+pub mod Members
 pub mod Listed
 pub mod Walk

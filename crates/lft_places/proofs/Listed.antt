@@ -3,7 +3,7 @@ use Rattle.std.proofs.Common.{◌≡◌, ℕ, zero, suc, ◌+◌, ◌<◌, ◌�
 use Rattle.std.specs.Prelude.{slice_get}
 use Rattle.std.proofs.lemmas.Option.{slice_get_within}
 use Rattle.lft_tree.specs.declared.tree.Time.{Time}
-use Rattle.lft_tree.specs.Tree.{TimeTree, ParameterTree, AssignmentTree, InstanceTree, ReactorTree, FileTree}
+use Rattle.lft_tree.specs.Tree.{TimeTree, ParameterTree, AssignmentTree, InstanceTree, ReactorTree, FileTree, InstanceMember}
 use Rattle.lft_syntax.specs.Lexeme.{Lexeme, Symbol, is}
 use Rattle.lft_syntax.specs.Language.{Spelling, ◌>>◌, ◌<<◌, ◌or◌, optional, many, made}
 use Rattle.lft_syntax.specs.Grammar.{symbol, name, listed, enclosed, or_empty, time, ptime, param, params, assign, instance, reactor}
@@ -11,9 +11,11 @@ use Rattle.lft_syntax.proofs.Options.{some_is}
 use Rattle.lft_syntax.proofs.Algebra.{Any}
 use Rattle.lft_syntax.proofs.Rules.{leads_one}
 use Rattle.lft_places.specs.Parts.{after_commas, listed_starts, IsPartIn, name_tokens, parameters_token, unit_tokens, value_tokens}
-use Rattle.lft_places.specs.Places.{IsReactorAt}
+use Rattle.lft_places.specs.declared.spots.MemberPlace.{MemberPlace}
+use Rattle.lft_places.specs.Places.{IsReactorAt, IsMemberAt}
 use Rattle.lft_places.proofs.Words.{IsWord, name_word}
-use Rattle.lft_places.proofs.Placed.{reactor_there}
+use Rattle.lft_places.proofs.Placed.{member_there, reactor_there}
+use Rattle.lft_places.proofs.Members.{spelled_so}
 
 -- ---- where a part begins
 
@@ -173,6 +175,16 @@ given_spelled ws i j x place a s e =
     let list = enclosed_list assign ws s.1.0 j s.0.1 place a s.1.2 (ap (λ (q : InstanceTree). slice_get q.given place) s.2 ∙ e) in
     let token : s.1.0 + 1 ≡ i + 5 = omega (arith, first, second, third, fourth) in
     subst (λ (q : InstanceTree). (end : ℕ) × listed assign ws (i + 5) end q.given) s.2 (list.0, subst (λ (n : ℕ). listed assign ws n list.0 s.0.1) token list.1)
+
+-- where the value with that place begins, there is the name of its parameter
+pub given_there : (ws : List Lexeme) (tree : FileTree) (at : MemberPlace) (x : InstanceTree) (start place : ℕ) (a : AssignmentTree) → IsMemberAt ws tree at (InstanceMember x) start → slice_get x.given place ≡ Some a
+    → (k : ℕ) × IsPartIn assign ws x.given (start + 5) place k × IsWord ws k a.name
+given_there ws tree at x start place a h e =
+    let there = member_there ws tree at (InstanceMember x) start h in
+    let list = given_spelled ws start there.0 x place a (spelled_so ws start there.0 (InstanceMember x) there.1) e in
+    let part = part_begins assign ws x.given (start + 5) list.0 place a list.1 e in
+    let spelled = part_spelled assign ws x.given (start + 5) place part.0 a part.1 e in
+    (part.0, part.1, assignment_word ws part.0 spelled.0 a spelled.1)
 
 -- and no value is without a token
 pub given_within : (ws : List Lexeme) (xs : List AssignmentTree) (first place k : ℕ) → IsPartIn assign ws xs first place k → first < length ws

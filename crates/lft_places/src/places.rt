@@ -5,17 +5,18 @@
 
 ghost use Rattle.std.specs.Prelude.{◌≡◌, ℕ, ◌+◌, map, option_map, slice_get, Some, MatchOption};
 ghost use Rattle.lft_tree.specs.Tree.{ReactorTree, MemberTree, reactors_of};
-ghost use Rattle.lft_tree.specs.View.{member_view, reactor_view, ref_view, ref_views, tree_view};
+ghost use Rattle.lft_tree.specs.View.{instance_view, member_view, reactor_view, tree_view};
 ghost use Rattle.lft_syntax.specs.Places.{Begins, begins_view};
-ghost use Rattle.lft_syntax.specs.Grammar.{ref};
+ghost use Rattle.lft_syntax.specs.Grammar.{assign};
 ghost use Rattle.lft_syntax.specs.View.{lexemes};
 ghost use Rattle.lft_places.specs.Lists.{IsListAt, IsNameIn, names_in};
+ghost use Rattle.lft_places.specs.Parts.{IsPartIn};
 ghost use Rattle.lft_places.specs.Places.{IsReactorIn, IsMemberIn, declared_token, name_token};
 
 use crate::source::SourceText;
 use crate::spots::MemberPlace;
 use lft_scope::kinds::Role;
-use lft_tree::{Item, Member, Reactor, Reference};
+use lft_tree::{Instance, Item, Member, Reactor};
 
 /// How many tokens behind the first one of a reactor its name stands.
 pub(crate) fn name_offset(reactor: &Reactor) -> usize
@@ -168,20 +169,10 @@ impl<'a> SourceText<'a> {
     }
 
     /// The first token of a value of the instance that begins there: that of the parameter's name.
-    pub(crate) fn value(&self, start: usize, place: usize) -> Option<usize> {
-        let open = start.saturating_add(4);
-        let mut before: usize = 0;
-        for at in open..self.group_end(open) {
-            let next = at.saturating_add(1);
-            let is_given = self.is_sign(next, b'=') || self.is_sign(next, b'(');
-            if is_given && self.is_name(at) {
-                if before == place {
-                    return Some(at);
-                }
-                before = before.saturating_add(1);
-            }
-        }
-        None
+    pub(crate) fn value(&self, instance: &Instance, start: usize, place: usize) -> Option<usize>
+        ensures { (k : ℕ) → IsPartIn assign (lexemes self.now.text.now self.now.tokens.now) (instance_view instance.now).given (start + 5) place k → result ≡ Some k }
+    {
+        self.assignment_start(self.behind(start, 5), &instance.given, place)
     }
 
     /// The first token of a time of the member that begins there.
@@ -190,7 +181,9 @@ impl<'a> SourceText<'a> {
             Member::Timer(_) if place == 0 => Some(start.saturating_add(3)),
             Member::Timer(_) => self.behind_comma(start),
             Member::Action(_) => Some(start.saturating_add(4)),
-            Member::Instance(_) => Some(self.value(start, place)?.saturating_add(2)),
+            Member::Instance(instance) => {
+                Some(self.value(instance, start, place)?.saturating_add(2))
+            }
             Member::Connection(_) => Some(self.connected_end(start).saturating_add(1)),
             Member::Port(_) | Member::State(_) | Member::Preamble(_) | Member::Reaction(_) => None,
         }

@@ -7,9 +7,9 @@ ghost use Rattle.std.specs.Prelude.{◌≡◌, ◌↔◌, ℕ, ◌+◌, ◌≤�
 ghost use Rattle.lft_syntax.specs.declared.token.Token.{Token as TheToken};
 ghost use Rattle.lft_syntax.specs.declared.token.TokenKind.TheVariants.{Number};
 ghost use Rattle.lft_syntax.specs.Lexeme.{Arrow};
-ghost use Rattle.lft_syntax.specs.Grammar.{param, refs};
+ghost use Rattle.lft_syntax.specs.Grammar.{assign, param, refs};
 ghost use Rattle.lft_syntax.specs.View.{lexemes};
-ghost use Rattle.lft_tree.specs.Tree.{ParameterTree, ReactorTree, MemberTree, InstanceTree, ReactionTree, ConnectionTree, InstanceMember, ReactionMember, ConnectionMember};
+ghost use Rattle.lft_tree.specs.Tree.{AssignmentTree, ParameterTree, ReactorTree, MemberTree, InstanceTree, ReactionTree, ConnectionTree, InstanceMember, ReactionMember, ConnectionMember};
 ghost use Rattle.lft_tree.specs.View.{ref_view, time_view, tree_view};
 ghost use Rattle.lft_places.specs.Lists.{IsListAt, IsNameIn, IsNameSpot, NameAt, names_in};
 ghost use Rattle.lft_places.specs.Parts.{IsPartIn, parameters_token};
@@ -20,7 +20,7 @@ use crate::places::name_offset;
 use crate::source::{SourceText, holds, spelling};
 use lft_scope::kinds::Role;
 use lft_syntax::{Token, TokenKind};
-use lft_tree::{Reference, Time, TimeExpression};
+use lft_tree::{Member, Reference, Time, TimeExpression};
 
 /// Bytes of a text, from the start up to the end.
 #[derive(Clone, Copy)]
@@ -205,10 +205,14 @@ impl<'a> SourceText<'a> {
 
     /// The name of the parameter to which an instance gives a value, by the place of the value.
     pub fn value_spot(&self, at: MemberPlace, place: usize, name: &str) -> Option<Spot>
-        ensures { IfSome result (λ s. StandsAt self.now.text.now s name.now) }
+        ensures spelled { IfSome result (λ s. StandsAt self.now.text.now s name.now) }
+        ensures place { (x : InstanceTree) (start : ℕ) (a : AssignmentTree) → IsMemberAt (lexemes self.now.text.now self.now.tokens.now) (tree_view self.now.ast.now) at (InstanceMember x) start → slice_get x.given place ≡ Some a → a.name ≡ name.now → (k : ℕ) × IsPartIn assign (lexemes self.now.text.now self.now.tokens.now) x.given (start + 5) place k × IsTokenSpot self.now.tokens.now k result }
     {
-        let (_, start) = self.member(at)?;
-        self.word(self.value(start, place)?, name)
+        let (member, start) = self.member(at)?;
+        match member {
+            Member::Instance(instance) => self.word(self.value(instance, start, place)?, name),
+            _ => None,
+        }
     }
 
     /// The name of the reactor of which a member is an instance.
