@@ -6,3 +6,4 @@ pub mod Free
 pub mod Members
 pub mod Listed
 pub mod Walk
+pub mod Timed

@@ -43,6 +43,19 @@ part_spelled {A = A} P ws xs first place k x h e =
     let s = h.spelled in
     item_spelled P ws first s.1.0 h.end s.0.0 s.0.1 s.1.1 s.1.2 place k x (ap (λ (l : List A). slice_get l place) s.2 ∙ e) h.is_start
 
+last_begins : {A : Type 0} (P : Spelling A) (ws : List Lexeme) (at end last : ℕ) (item : A) (items : List A) → P ws at end item → (behind : many (symbol 44 >> P) ws end last items)
+    → (k : ℕ) × (x : A) × (slice_get (item ∷ items) (length items) ≡ Some x) × (slice_get (at ∷ after_commas P ws end last items behind) (length items) ≡ Some k) × P ws k last x
+last_begins P ws at end last item [] here behind = (at, item, refl, refl, subst (λ (n : ℕ). P ws at n item) (sym behind) here)
+last_begins P ws at end last item (z ∷ zs) here behind = last_begins P ws behind.1.0 behind.0 last z zs behind.1.2 behind.2
+
+-- a list ends with its last part
+pub last_part : {A : Type 0} (P : Spelling A) (ws : List Lexeme) (xs : List A) (first end : ℕ) → listed P ws first end xs
+    → (n : ℕ) × (k : ℕ) × (x : A) × (length xs ≡ n + 1) × (slice_get xs n ≡ Some x) × IsPartIn P ws xs first n k × P ws k end x
+last_part {A = A} P ws xs first end s =
+    let l = last_begins P ws first s.1.0 end s.0.0 s.0.1 s.1.1 s.1.2 in
+    let count : length (s.0.0 ∷ s.0.1) ≡ length s.0.1 + 1 = omega arith in
+    (length s.0.1, l.0, l.1, ap length (sym s.2) ∙ count, ap (λ (q : List A). slice_get q (length s.0.1)) (sym s.2) ∙ l.2, record { end = end; spelled = s; is_start = l.3 }, l.4)
+
 -- ---- lists in parentheses
 
 no_item : {A : Type 0} (place : ℕ) (x : A) → slice_get [] place ≡ Some x → ⊥

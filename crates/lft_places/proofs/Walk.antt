@@ -13,9 +13,9 @@ use Rattle.lft_syntax.proofs.Options.{some_is}
 use Rattle.lft_syntax.proofs.Algebra.{Any}
 use Rattle.lft_syntax.proofs.Rules.{leads_one}
 use Rattle.lft_places.specs.Lists.{IsFirstArrow, IsNameIn, NameAt, PortAt}
-use Rattle.lft_places.specs.Parts.{after_commas, listed_starts}
+use Rattle.lft_places.specs.Parts.{after_commas, listed_starts, IsPartIn}
 use Rattle.lft_lists.proofs.Mapped.{mapped_at}
-use Rattle.lft_places.proofs.Listed.{part_spelled}
+use Rattle.lft_places.proofs.Listed.{part_spelled, last_part}
 use Rattle.lft_places.proofs.Words.{moved, name_word}
 
 drop_next : {A : Type 0} (q : ℕ) (xs : List A) (x : A) (ys : List A) → drop q xs ≡ x ∷ ys → drop (suc q) xs ≡ ys
@@ -179,6 +179,19 @@ walk_done P ws xs q at place k r past =
     let count = r.count in
     let end : q ≡ place = omega (arith, count, past) in
     rest_done P ws xs at place k (subst (λ (n : ℕ). Rest P ws xs n at place k) end r)
+
+-- the code is at the last item of a list: there the list ends
+pub walk_last : {X A : Type 0} (view : X → A) (P : Spelling A) (ws : List Lexeme) (xs : List X) (first end at : ℕ) → listed P ws first end (map view xs) → at + 1 ≡ length xs
+    → (k : ℕ) × IsPartIn P ws (map view xs) first at k × ((x : X) → at < length xs → x ≡ get_or xs at x → P ws k end (view x))
+walk_last view P ws xs first end at s count =
+    let last = last_part P ws (map view xs) first end s in
+    let all = length-map xs view in
+    let size = last.3 in
+    let place : last.0 ≡ at = omega (arith, all, size, count) in
+    (last.1, subst (λ (n : ℕ). IsPartIn P ws (map view xs) first n last.1) place last.5, λ x within is.
+        let seen : slice_get (map view xs) at ≡ Some (view x) = mapped_at view xs at x within (sym is) in
+        let same : last.2 ≡ view x = some_is last.2 (view x) (sym last.4 ∙ ap (slice_get (map view xs)) place ∙ seen) in
+        subst (λ y. P ws last.1 end y) same last.6)
 
 arrow_seen : (o : Option Lexeme) → (o ≡ Some Arrow → ⊥) → is Arrow o ≡ false
 arrow_seen None other = refl

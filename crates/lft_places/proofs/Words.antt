@@ -105,7 +105,7 @@ timer_word ws i j x s =
     let same : s.0.0 ≡ x.name = sym (timer_name s.0.0 s.0.1) ∙ ap (λ (q : TimerTree). q.name) s.2 in
     subst (λ (w : List ℕ). IsWord ws (i + 1) w) same h
 
-origin_next : (ws : List Lexeme) (i m : ℕ) (b : Bool) → (made logical_is (key (codes "logical")) or made physical_is (key (codes "physical"))) ws i m b → m ≡ i + 1
+pub origin_next : (ws : List Lexeme) (i m : ℕ) (b : Bool) → (made logical_is (key (codes "logical")) or made physical_is (key (codes "physical"))) ws i m b → m ≡ i + 1
 origin_next ws i m b (inl s) = s.1.1
 origin_next ws i m b (inr s) = s.1.1
 

@@ -2,3 +2,4 @@ pub mod Spots
 pub mod Places
 pub mod Parts
 pub mod Lists
+pub mod Times

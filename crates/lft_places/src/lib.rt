@@ -5,6 +5,7 @@ mod parts;
 mod places;
 mod source;
 mod spots;
+mod times;
 
 pub use source::SourceText;
 pub use spots::{MemberPlace, Spot};

@@ -5,7 +5,7 @@
 ghost use Rattle.std.specs.Prelude.{◌≡◌, ℕ, ◌+◌, ◌≤◌, Some, length, map, slice_get, if◌then◌else◌};
 ghost use Rattle.lft_tree.specs.View.{assignment_view, parameter_view, reactor_view, ref_view, ref_views, time_view};
 ghost use Rattle.lft_syntax.specs.Lexeme.{Symbol, is};
-ghost use Rattle.lft_syntax.specs.Grammar.{assign, param, ref};
+ghost use Rattle.lft_syntax.specs.Grammar.{assign, param, ref, refs};
 ghost use Rattle.lft_syntax.specs.View.{lexemes};
 ghost use Rattle.lft_places.specs.Lists.{IsNameIn};
 ghost use Rattle.lft_places.specs.Parts.{IsPartIn, parameters_token, unit_tokens, value_tokens};
@@ -137,5 +137,17 @@ impl<'a> SourceText<'a> {
             at = self.behind(self.name_end(at, &names[before]), 1);
         }
         Some(at)
+    }
+    /// The token behind the last name of a list that begins there.
+    pub(crate) fn names_end(&self, first: usize, names: &[Reference]) -> Option<usize>
+        ensures { (end : ℕ) → refs (lexemes self.now.text.now self.now.tokens.now) first end (ref_views names.now) → result ≡ Some end }
+    {
+        let count = names.len();
+        if count == 0 {
+            return None;
+        }
+        let at = count - 1;
+        let last = self.name_start(first, names, at)?;
+        Some(self.name_end(last, &names[at]))
     }
 }

@@ -26,11 +26,6 @@ pub(crate) fn name_offset(reactor: &Reactor) -> usize
 }
 
 impl<'a> SourceText<'a> {
-    /// The token behind the names of a connection.
-    fn connected_end(&self, start: usize) -> usize {
-        self.names_end(self.arrow_from(start).saturating_add(1))
-    }
-
     /// How many tokens behind the first one of the member the name stands that it declares.
     pub(crate) fn declared_offset(&self, member: &Member, start: usize) -> usize
         ensures { start + result ≡ declared_token (lexemes self.now.text.now self.now.tokens.now) (member_view member.now) start }
@@ -173,29 +168,5 @@ impl<'a> SourceText<'a> {
         ensures { (k : ℕ) → IsPartIn assign (lexemes self.now.text.now self.now.tokens.now) (instance_view instance.now).given (start + 5) place k → result ≡ Some k }
     {
         self.assignment_start(self.behind(start, 5), &instance.given, place)
-    }
-
-    /// The first token of a time of the member that begins there.
-    pub(crate) fn time_start(&self, member: &Member, start: usize, place: usize) -> Option<usize> {
-        match member {
-            Member::Timer(_) if place == 0 => Some(start.saturating_add(3)),
-            Member::Timer(_) => self.behind_comma(start),
-            Member::Action(_) => Some(start.saturating_add(4)),
-            Member::Instance(instance) => {
-                Some(self.value(instance, start, place)?.saturating_add(2))
-            }
-            Member::Connection(_) => Some(self.connected_end(start).saturating_add(1)),
-            Member::Port(_) | Member::State(_) | Member::Preamble(_) | Member::Reaction(_) => None,
-        }
-    }
-
-    /// The token behind the next comma.
-    fn behind_comma(&self, start: usize) -> Option<usize> {
-        for at in start..self.tokens.len() {
-            if self.is_sign(at, b',') {
-                return Some(at + 1);
-            }
-        }
-        None
     }
 }

@@ -164,38 +164,6 @@ impl<'a> SourceText<'a> {
         }
     }
 
-    /// Where the group of parentheses that may begin there ends.
-    pub(crate) fn group_end(&self, start: usize) -> usize {
-        if !self.is_sign(start, b'(') {
-            return start;
-        }
-        let mut open: usize = 0;
-        for at in start..self.tokens.len() {
-            if self.is_sign(at, b'(') {
-                open = open.saturating_add(1);
-            }
-            if self.is_sign(at, b')') {
-                open = open.saturating_sub(1);
-            }
-            if open == 0 {
-                return at + 1;
-            }
-        }
-        self.tokens.len()
-    }
-
-    /// Where the list of names that begins there ends.
-    pub(crate) fn names_end(&self, start: usize) -> usize {
-        for at in start..self.tokens.len() {
-            let is_joined = self.is_sign(at, b'.') || self.is_sign(at, b',');
-            let is_named = at == start || (self.is_name(at) && !self.is_name(at - 1));
-            if !is_joined && !is_named {
-                return at;
-            }
-        }
-        self.tokens.len()
-    }
-
     /// The first arrow at or behind the token, else the number of tokens.
     pub(crate) fn arrow_from(&self, start: usize) -> usize
         ensures { (k : ℕ) → start ≤ k → is Arrow (slice_get (lexemes self.now.text.now self.now.tokens.now) k) ≡ true → ((i : ℕ) → start ≤ i → i < k → is Arrow (slice_get (lexemes self.now.text.now self.now.tokens.now) i) ≡ false) → result ≡ k }

@@ -3,17 +3,19 @@
 //! Each part is looked for where the tree and the tokens have it. What is found there is compared with the
 //! name that is wanted, so a spot is never one of something else.
 
-ghost use Rattle.std.specs.Prelude.{◌≡◌, ◌↔◌, ℕ, ◌+◌, ◌≤◌, Contains, IfSome, IsSome, IsTrue, Some, true, codes, slice_get, slice_range};
+ghost use Rattle.std.specs.Prelude.{◌≡◌, ◌↔◌, ℕ, ◌+◌, ◌<◌, ◌≤◌, Contains, IfSome, IsSome, IsTrue, Some, true, codes, length, slice_get, slice_range};
 ghost use Rattle.lft_syntax.specs.declared.token.Token.{Token as TheToken};
 ghost use Rattle.lft_syntax.specs.declared.token.TokenKind.TheVariants.{Number};
 ghost use Rattle.lft_syntax.specs.Lexeme.{Arrow};
+ghost use Rattle.lft_syntax.specs.Grammar as Grammar;
 ghost use Rattle.lft_syntax.specs.Grammar.{assign, param, refs};
 ghost use Rattle.lft_syntax.specs.View.{lexemes};
 ghost use Rattle.lft_tree.specs.Tree.{AssignmentTree, ParameterTree, ReactorTree, MemberTree, InstanceTree, ReactionTree, ConnectionTree, InstanceMember, ReactionMember, ConnectionMember};
 ghost use Rattle.lft_tree.specs.View.{ref_view, time_view, tree_view};
 ghost use Rattle.lft_places.specs.Lists.{IsListAt, IsNameIn, IsNameSpot, NameAt, names_in};
-ghost use Rattle.lft_places.specs.Parts.{IsPartIn, parameters_token};
+ghost use Rattle.lft_places.specs.Parts.{IsPartIn, parameters_token, unit_tokens};
 ghost use Rattle.lft_places.specs.Places.{IsMemberAt, IsSpanSpot, IsReactorAt, IsTokenSpot, declared_token, name_declared, name_token};
+ghost use Rattle.lft_places.specs.Times.{IsTimeAt, IsTimeSpot, times_in};
 ghost use Rattle.lft_places.specs.Spots.{HasCodeWith, IsCodeWith, NameStandsAt, StandAt, StandsAt, TimeStandsAt};
 
 use crate::places::name_offset;
@@ -105,28 +107,27 @@ impl<'a> SourceText<'a> {
         }
     }
 
-    /// The end of the token behind a number, if the number has a unit.
-    fn unit_end(&self, number: Token, at: usize, time: Time) -> usize {
-        let unit = at.saturating_add(1);
-        if time.unit.is_some() && unit < self.tokens.len() {
-            self.tokens[unit].end
-        } else {
-            number.end
+    /// The last token of a written time, of which that is the first: its unit, or else its number.
+    fn last_of(&self, at: usize, time: Time) -> Option<Token>
+        ensures { (last : ℕ) → last + 1 ≡ at + unit_tokens time.unit → last < length self.now.tokens.now → result ≡ slice_get self.now.tokens.now last }
+    {
+        match time.unit {
+            Some(_) => self.token(self.behind(at, 1)),
+            None => self.token(at),
         }
     }
 
     /// The bytes of a time that is written, of which that is the first token.
     fn written(&self, at: usize, time: Time) -> Option<Spot>
-        ensures { IfSome result (λ s. (token : TheToken) × Contains self.now.tokens.now token × (token.start ≡ s.start) × (token.kind ≡ Number time.count)) }
+        ensures spelled { IfSome result (λ s. (token : TheToken) × Contains self.now.tokens.now token × (token.start ≡ s.start) × (token.kind ≡ Number time.count)) }
+        ensures found { (last : ℕ) → Grammar.time (lexemes self.now.text.now self.now.tokens.now) at (last + 1) time → IsSpanSpot self.now.tokens.now at last result }
     {
-        if at >= self.tokens.len() {
-            return None;
-        }
-        let token = self.tokens[at];
+        let token = self.token(at)?;
+        let last = self.last_of(at, time)?;
         if token.kind == TokenKind::Number(time.count) {
             Some(Spot {
                 start: token.start,
-                end: self.unit_end(token, at, time),
+                end: last.end,
             })
         } else {
             None
@@ -135,7 +136,8 @@ impl<'a> SourceText<'a> {
 
     /// The bytes of a time, of which that is the first token.
     fn time(&self, at: usize, time: &TimeExpression) -> Option<Spot>
-        ensures { IfSome result (λ s. TimeStandsAt self.now.text.now self.now.tokens.now s (time_view time.now)) }
+        ensures spelled { IfSome result (λ s. TimeStandsAt self.now.text.now self.now.tokens.now s (time_view time.now)) }
+        ensures found { (last : ℕ) → Grammar.ptime (lexemes self.now.text.now self.now.tokens.now) at (last + 1) (time_view time.now) → IsSpanSpot self.now.tokens.now at last result }
     {
         match time {
             TimeExpression::Parameter(name) => self.word(at, name.as_str()),
@@ -197,7 +199,8 @@ impl<'a> SourceText<'a> {
 
     /// A time of a member, by its place there.
     pub fn time_spot(&self, at: MemberPlace, place: usize, time: &TimeExpression) -> Option<Spot>
-        ensures { IfSome result (λ s. TimeStandsAt self.now.text.now self.now.tokens.now s (time_view time.now)) }
+        ensures spelled { IfSome result (λ s. TimeStandsAt self.now.text.now self.now.tokens.now s (time_view time.now)) }
+        ensures place { (m : MemberTree) (start : ℕ) → IsMemberAt (lexemes self.now.text.now self.now.tokens.now) (tree_view self.now.ast.now) at m start → slice_get (times_in m) place ≡ Some (time_view time.now) → (k : ℕ) × IsTimeAt (lexemes self.now.text.now self.now.tokens.now) m start place k × IsTimeSpot (lexemes self.now.text.now self.now.tokens.now) self.now.tokens.now k (time_view time.now) result }
     {
         let (member, start) = self.member(at)?;
         self.time(self.time_start(member, start, place)?, time)
