@@ -7,3 +7,5 @@ pub mod Members
 pub mod Listed
 pub mod Walk
 pub mod Timed
+pub mod Reading
+pub mod Counts

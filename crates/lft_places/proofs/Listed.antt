@@ -10,7 +10,7 @@ use Rattle.lft_syntax.specs.Grammar.{symbol, name, listed, enclosed, or_empty, t
 use Rattle.lft_syntax.proofs.Options.{some_is}
 use Rattle.lft_syntax.proofs.Algebra.{Any}
 use Rattle.lft_syntax.proofs.Rules.{leads_one}
-use Rattle.lft_places.specs.Parts.{after_commas, listed_starts, IsPartIn, name_tokens, parameters_token, unit_tokens, value_tokens}
+use Rattle.lft_places.specs.Parts.{after_commas, IsPartIn, name_tokens, parameters_token, unit_tokens, value_tokens}
 use Rattle.lft_places.specs.declared.spots.MemberPlace.{MemberPlace}
 use Rattle.lft_places.specs.Places.{IsReactorAt, IsMemberAt}
 use Rattle.lft_places.proofs.Words.{IsWord, name_word}
@@ -61,15 +61,31 @@ last_part {A = A} P ws xs first end s =
 no_item : {A : Type 0} (place : ℕ) (x : A) → slice_get [] place ≡ Some x → ⊥
 no_item place x e = absurd cc
 
-inner_list : {A : Type 0} (P : Spelling A) (ws : List Lexeme) (i j : ℕ) (o : Option (List A)) (xs : List A) (place : ℕ) (x : A) → optional (listed P) ws i j o → or_empty o ≡ xs → slice_get xs place ≡ Some x → listed P ws i j xs
+pub inner_list : {A : Type 0} (P : Spelling A) (ws : List Lexeme) (i j : ℕ) (o : Option (List A)) (xs : List A) (place : ℕ) (x : A) → optional (listed P) ws i j o → or_empty o ≡ xs → slice_get xs place ≡ Some x → listed P ws i j xs
 inner_list {A = A} P ws i j None xs place x s e f = absurd (no_item place x (ap (λ (l : List A). slice_get l place) e ∙ f))
 inner_list {A = A} P ws i j (Some ys) xs place x s e f = subst (λ (l : List A). listed P ws i j l) e s
 
--- a list in parentheses that has a part is spelled behind the first of them
-pub enclosed_list : {A : Type 0} (P : Spelling A) (ws : List Lexeme) (i j : ℕ) (xs : List A) (place : ℕ) (x : A) → made or_empty (enclosed (listed P)) ws i j xs → slice_get xs place ≡ Some x → (end : ℕ) × listed P ws (i + 1) end xs
-enclosed_list {A = A} P ws i j xs place x s e =
+-- a list in parentheses that has a part is spelled between them
+pub enclosed_whole : {A : Type 0} (P : Spelling A) (ws : List Lexeme) (i j : ℕ) (xs : List A) (place : ℕ) (x : A) → made or_empty (enclosed (listed P)) ws i j xs → slice_get xs place ≡ Some x → (end : ℕ) × listed P ws (i + 1) end xs × (j ≡ end + 1)
+enclosed_whole {A = A} P ws i j xs place x s e =
     let inner = s.1.1 in
-    (s.1.0, subst (λ (n : ℕ). listed P ws n s.1.0 xs) inner.1.1 (inner_list P ws inner.0 s.1.0 s.0 xs place x inner.2 s.2 e))
+    (s.1.0, subst (λ (n : ℕ). listed P ws n s.1.0 xs) inner.1.1 (inner_list P ws inner.0 s.1.0 s.0 xs place x inner.2 s.2 e), s.1.2.1)
+
+pub enclosed_list : {A : Type 0} (P : Spelling A) (ws : List Lexeme) (i j : ℕ) (xs : List A) (place : ℕ) (x : A) → made or_empty (enclosed (listed P)) ws i j xs → slice_get xs place ≡ Some x → (end : ℕ) × listed P ws (i + 1) end xs
+enclosed_list P ws i j xs place x s e = let whole = enclosed_whole P ws i j xs place x s e in (whole.0, whole.1)
+
+left_out : {A : Type 0} (P : Spelling A) (ws : List Lexeme) (i j : ℕ) (o : Option (List A)) → optional (listed P) ws i j o → length (or_empty o) ≡ 0 → j ≡ i
+left_out P ws i j None s e = s
+left_out {A = A} P ws i j (Some xs) s e = absurd (let count : length (s.0.0 ∷ s.0.1) ≡ 0 = ap length s.2 ∙ e in omega (arith, count))
+
+-- one without a part is two parentheses
+pub enclosed_none : {A : Type 0} (P : Spelling A) (ws : List Lexeme) (i j : ℕ) (xs : List A) → made or_empty (enclosed (listed P)) ws i j xs → length xs ≡ 0 → j ≡ i + 2
+enclosed_none P ws i j xs s e =
+    let inner = s.1.1 in
+    let first = inner.1.1 in
+    let none = left_out P ws inner.0 s.1.0 s.0 inner.2 (ap length s.2 ∙ e) in
+    let last = s.1.2.1 in
+    omega (arith, first, none, last)
 
 -- ---- the parameters of a reactor
 

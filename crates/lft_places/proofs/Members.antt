@@ -1,10 +1,11 @@
 -- Members: their productions, and what the code knows of them.
 use Rattle.std.proofs.Common.{◌≡◌, ℕ, List, refl, sym, ap, subst, ◌∙◌, inl, inr}
 use Rattle.lft_tree.specs.declared.tree.Instance.{Instance}
+use Rattle.lft_tree.specs.declared.tree.Reaction.{Reaction}
 use Rattle.lft_tree.specs.declared.tree.Member.{Member}
 use Rattle.lft_tree.specs.declared.tree.Member.TheVariants as members
-use Rattle.lft_tree.specs.Tree.{InstanceTree, MemberTree, PortMember, TimerMember, ActionMember, StateMember, PreambleMember, ReactionMember, InstanceMember, ConnectionMember}
-use Rattle.lft_tree.specs.View.{instance_view, member_view}
+use Rattle.lft_tree.specs.Tree.{InstanceTree, ReactionTree, MemberTree, TimerMember, ActionMember, ReactionMember, InstanceMember, ConnectionMember}
+use Rattle.lft_tree.specs.View.{instance_view, member_view, reaction_view}
 use Rattle.lft_syntax.specs.Lexeme.{Lexeme}
 use Rattle.lft_syntax.specs.Grammar.{timer, action, reaction, instance, connection, member}
 
@@ -42,3 +43,17 @@ instance_seen (members.Connection p) x e = absurd cc
 -- and this one
 pub instance_is : (m : Member) (i : Instance) (x : InstanceTree) → m ≡ members.Instance i → member_view m ≡ InstanceMember x → instance_view i ≡ x
 instance_is m i x is e = let same : InstanceMember (instance_view i) ≡ InstanceMember x = sym (ap member_view is) ∙ e in cc
+
+-- the same of a reaction
+pub reaction_seen : (m : Member) (x : ReactionTree) → member_view m ≡ ReactionMember x → (i : Reaction) × (m ≡ members.Reaction i)
+reaction_seen (members.Port p) x e = absurd cc
+reaction_seen (members.Timer p) x e = absurd cc
+reaction_seen (members.Action p) x e = absurd cc
+reaction_seen (members.State p) x e = absurd cc
+reaction_seen (members.Preamble p) x e = absurd cc
+reaction_seen (members.Reaction p) x e = (p, refl)
+reaction_seen (members.Instance p) x e = absurd cc
+reaction_seen (members.Connection p) x e = absurd cc
+
+pub reaction_is : (m : Member) (i : Reaction) (x : ReactionTree) → m ≡ members.Reaction i → member_view m ≡ ReactionMember x → reaction_view i ≡ x
+reaction_is m i x is e = let same : ReactionMember (reaction_view i) ≡ ReactionMember x = sym (ap member_view is) ∙ e in cc

@@ -1,5 +1,5 @@
 -- The times of members: where they are spelled, and their tokens.
-use Rattle.std.proofs.Common.{◌≡◌, ℕ, zero, suc, ◌+◌, ◌-◌, ◌<◌, ◌≤◌, length, List, [], ◌∷◌, Option, Some, None, refl, sym, ap, subst, ◌∙◌, arith, inl, inr}
+use Rattle.std.proofs.Common.{◌≡◌, ℕ, zero, suc, ◌+◌, ◌<◌, length, List, ◌∷◌, Option, Some, None, refl, sym, ap, subst, ◌∙◌, arith, inl, inr}
 use Rattle.std.specs.Prelude.{IsSomeAnd, slice_get, slice_range, option_map, option_to_list, codes, map}
 use Rattle.std.proofs.lemmas.Option.{slice_get_within}
 use Rattle.lft_tree.specs.declared.tree.Time.{Time}
@@ -8,18 +8,18 @@ use Rattle.lft_tree.specs.Tree.{FileTree, TimeTree, Written, Named, TimerTree, A
 use Rattle.lft_syntax.specs.declared.token.Token.{Token}
 use Rattle.lft_syntax.specs.declared.token.TokenKind.{TokenKind}
 use Rattle.lft_syntax.specs.declared.token.TokenKind.TheVariants as kinds
-use Rattle.lft_syntax.specs.Lexeme.{Lexeme, Code, Text, Letters, Number, Arrow, Symbol, is, name_in, number_in, unit_in}
-use Rattle.lft_syntax.specs.Language.{Spelling, look, ◌&◌, ◌>>◌, ◌<<◌, ◌or◌, optional, made}
-use Rattle.lft_syntax.specs.Grammar.{key, symbol, name, number, unit, enclosed, flat, time, ptime, refs, timer, timer_of, action, assign, instance, connection, connection_of, member}
+use Rattle.lft_syntax.specs.Lexeme.{Lexeme, Code, Text, Letters, Number, Arrow, Symbol, name_in, number_in, unit_in}
+use Rattle.lft_syntax.specs.Language.{look, ◌&◌, ◌>>◌, ◌<<◌, ◌or◌, optional}
+use Rattle.lft_syntax.specs.Grammar.{key, symbol, name, enclosed, flat, time, ptime, refs, timer, timer_of, action, assign, instance, connection, connection_of}
 use Rattle.lft_syntax.specs.View.{lexeme_of, lexeme_from, lexemes}
-use Rattle.lft_syntax.proofs.Options.{some, some_is}
+use Rattle.lft_syntax.proofs.Options.{some_is}
 use Rattle.lft_syntax.proofs.Algebra.{Any}
 use Rattle.lft_syntax.proofs.Rules.{leads_one}
 use Rattle.lft_syntax.proofs.Times.{look_within}
 use Rattle.lft_places.specs.declared.spots.MemberPlace.{MemberPlace}
 use Rattle.lft_places.specs.declared.spots.Spot.{Spot}
 use Rattle.lft_places.specs.Places.{IsMemberAt, IsTokenSpot, IsSpanSpot}
-use Rattle.lft_places.specs.Parts.{IsPartIn, unit_tokens, value_tokens}
+use Rattle.lft_places.specs.Parts.{unit_tokens, value_tokens}
 use Rattle.lft_places.specs.Lists.{IsFirstArrow}
 use Rattle.lft_places.specs.Times.{times_in, IsTimerTime, IsTimeAt}
 use Rattle.lft_places.proofs.Placed.{member_there}

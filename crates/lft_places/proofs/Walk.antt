@@ -1,21 +1,22 @@
 -- A walk along a list with commas.
 use Rattle.std.proofs.Common.{◌≡◌, ℕ, zero, suc, ◌+◌, ◌<◌, ◌≤◌, true, false, List, [], ◌∷◌, length, get_or, drop, map, Option, Some, None, refl, sym, ap, subst, ◌∙◌, arith}
-use Rattle.std.specs.Prelude.{slice_get, option_map}
+use Rattle.std.specs.Prelude.{slice_get}
 use Rattle.std.proofs.lemmas.List.{length-map}
-use Rattle.std.proofs.lemmas.Option.{slice_get_within, slice_get_read, slice_get-map}
+use Rattle.std.proofs.lemmas.Option.{slice_get_within}
 use Rattle.lft_syntax.specs.declared.token.Token.{Token}
 use Rattle.lft_syntax.specs.View.{lexeme_of, lexemes}
 use Rattle.lft_tree.specs.Tree.{RefTree}
 use Rattle.lft_syntax.specs.Lexeme.{Lexeme, Code, Text, Letters, Number, Arrow, Symbol, is}
-use Rattle.lft_syntax.specs.Language.{Spelling, ◌>>◌, optional, many}
-use Rattle.lft_syntax.specs.Grammar.{symbol, name, listed, ref}
+use Rattle.lft_syntax.specs.Language.{Spelling, ◌>>◌, optional, many, made}
+use Rattle.lft_syntax.specs.Grammar.{symbol, name, listed, enclosed, or_empty, ref}
 use Rattle.lft_syntax.proofs.Options.{some_is}
 use Rattle.lft_syntax.proofs.Algebra.{Any}
 use Rattle.lft_syntax.proofs.Rules.{leads_one}
 use Rattle.lft_places.specs.Lists.{IsFirstArrow, IsNameIn, NameAt, PortAt}
 use Rattle.lft_places.specs.Parts.{after_commas, listed_starts, IsPartIn}
 use Rattle.lft_lists.proofs.Mapped.{mapped_at}
-use Rattle.lft_places.proofs.Listed.{part_spelled, last_part}
+use Rattle.lft_lists.proofs.Places.{get_there}
+use Rattle.lft_places.proofs.Listed.{part_spelled, last_part, enclosed_whole}
 use Rattle.lft_places.proofs.Words.{moved, name_word}
 
 drop_next : {A : Type 0} (q : ℕ) (xs : List A) (x : A) (ys : List A) → drop q xs ≡ x ∷ ys → drop (suc q) xs ≡ ys
@@ -187,11 +188,27 @@ walk_last view P ws xs first end at s count =
     let last = last_part P ws (map view xs) first end s in
     let all = length-map xs view in
     let size = last.3 in
-    let place : last.0 ≡ at = omega (arith, all, size, count) in
-    (last.1, subst (λ (n : ℕ). IsPartIn P ws (map view xs) first n last.1) place last.5, λ x within is.
-        let seen : slice_get (map view xs) at ≡ Some (view x) = mapped_at view xs at x within (sym is) in
-        let same : last.2 ≡ view x = some_is last.2 (view x) (sym last.4 ∙ ap (slice_get (map view xs)) place ∙ seen) in
-        subst (λ y. P ws last.1 end y) same last.6)
+    let place : last.0 ≡ at = omega (arith, all, size, count) in (
+      last.1,
+      subst (λ (n : ℕ). IsPartIn P ws (map view xs) first n last.1) place last.5,
+      λ x within is.
+          let seen : slice_get (map view xs) at ≡ Some (view x) = mapped_at view xs at x within (sym is) in
+          let same : last.2 ≡ view x = some_is last.2 (view x) (sym last.4 ∙ ap (slice_get (map view xs)) place ∙ seen) in
+          subst (λ y. P ws last.1 end y) same last.6,
+    )
+
+-- the same of a list in parentheses
+pub walk_enclosed : {X A : Type 0} (view : X → A) (P : Spelling A) (t : List ℕ) (tokens : List Token) (xs : List X) (i j at : ℕ) → made or_empty (enclosed (listed P)) (lexemes t tokens) i j (map view xs) → at + 1 ≡ length xs
+    → (k e : ℕ) × IsPartIn P (lexemes t tokens) (map view xs) (i + 1) at k × (j ≡ e + 1) × (i < length tokens) × ((x : X) → at < length xs → x ≡ get_or xs at x → P (lexemes t tokens) k e (view x))
+walk_enclosed view P t tokens xs i j at s count =
+    let ws = lexemes t tokens in
+    let all = length-map xs view in
+    let item = get_there (map view xs) at (omega (arith, all, count)) in
+    let whole = enclosed_whole P ws i j (map view xs) at item.0 s item.1 in
+    let last = walk_last view P ws xs (i + 1) whole.0 at whole.1 count in
+    let opens = slice_get_within ws i _ (leads_one (Symbol 40) Any ws i s.1.1.0 tt s.1.1.1 tt) in
+    let size = same_length t tokens in
+    (last.0, whole.0, last.1, whole.2, omega (arith, opens, size), last.2)
 
 arrow_seen : (o : Option Lexeme) → (o ≡ Some Arrow → ⊥) → is Arrow o ≡ false
 arrow_seen None other = refl

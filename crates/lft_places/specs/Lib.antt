@@ -3,3 +3,4 @@ pub mod Places
 pub mod Parts
 pub mod Lists
 pub mod Times
+pub mod Reads

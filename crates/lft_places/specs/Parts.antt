@@ -1,6 +1,5 @@
 -- Where the parts of a list with commas stand among the tokens of its text, and those of a reactor and of an instance.
 use Rattle.std.specs.Prelude.{◌≡◌, ℕ, ◌+◌, List, [], ◌∷◌, Option, Some, None, slice_get}
-use Rattle.lft_tree.specs.declared.tree.Time.{Time}
 use Rattle.lft_tree.specs.declared.tree.TimeUnit.{TimeUnit}
 use Rattle.lft_tree.specs.Tree.{ReactorTree, TimeTree, Written, Named}
 use Rattle.lft_syntax.specs.Lexeme.{Lexeme}

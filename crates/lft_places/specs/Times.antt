@@ -1,5 +1,5 @@
 -- Where the times of a member stand among the tokens of its text.
-use Rattle.std.specs.Prelude.{◌≡◌, ℕ, zero, suc, ◌+◌, List, [], Option, Some, IsSomeAnd, map, option_to_list}
+use Rattle.std.specs.Prelude.{◌≡◌, ℕ, zero, suc, ◌+◌, List, [], Option, IsSomeAnd, map, option_to_list}
 use Rattle.lft_tree.specs.Tree.{TimeTree, TimerTree, MemberTree, TimerMember, ActionMember, InstanceMember, ConnectionMember}
 use Rattle.lft_scope.specs.Kinds.{timer_times}
 use Rattle.lft_syntax.specs.declared.token.Token.{Token}

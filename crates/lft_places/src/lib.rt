@@ -3,6 +3,7 @@
 
 mod parts;
 mod places;
+mod reads;
 mod source;
 mod spots;
 mod times;

@@ -111,7 +111,7 @@ impl<'a> SourceText<'a> {
     }
 
     /// The token behind the name that begins there.
-    fn name_end(&self, at: usize, name: &Reference) -> usize
+    pub(crate) fn name_end(&self, at: usize, name: &Reference) -> usize
         ensures { (end : ℕ) → ref (lexemes self.now.text.now self.now.tokens.now) at end (ref_view name.now) → result ≡ end }
     {
         match &name.port {

@@ -97,38 +97,7 @@ impl<'a> SourceText<'a> {
         }
     }
 
-    /// The token at which a name begins in a list of names, if one does.
-    fn begins_name(&self, at: usize) -> bool {
-        let goes_on = at > 0 && self.is_sign(at - 1, b'.');
-        self.is_name(at)
-            && !goes_on
-            && !self.is_word(at, b"startup")
-            && !self.is_word(at, b"shutdown")
-    }
-
-    /// The first token of the name with that place among those from one token up to another.
-    fn name_among(&self, start: usize, end: usize, place: usize) -> Option<usize> {
-        let mut before: usize = 0;
-        for at in start..end {
-            if self.begins_name(at) {
-                if before == place {
-                    return Some(at);
-                }
-                before = before.saturating_add(1);
-            }
-        }
-        None
-    }
-
-    /// The first token of a name that the reaction reads, by its place.
-    fn read_start(&self, start: usize, place: usize) -> Option<usize> {
-        let code = self.code_from(start);
-        let arrow = self.arrow_from(start);
-        let end = if arrow < code { arrow } else { code };
-        self.name_among(self.triggers(start), end, place)
-    }
-
-    /// The first token of a name of the member that begins there, by its role and place.
+    /// The first token of a name of the member that begins there, by its role and place, but for those that are read.
     pub(crate) fn name(
         &self,
         member: &Member,
@@ -140,7 +109,6 @@ impl<'a> SourceText<'a> {
     {
         let behind = self.behind(self.arrow_from(start), 1);
         match (member, role) {
-            (Member::Reaction(_), Role::Read) => self.read_start(start, place),
             (Member::Reaction(reaction), Role::Effect) => {
                 self.name_start(behind, &reaction.effects, place)
             }
@@ -151,15 +119,6 @@ impl<'a> SourceText<'a> {
                 self.name_start(behind, &connection.destinations, place)
             }
             _ => None,
-        }
-    }
-
-    /// The first token behind the parenthesis that opens the triggers of the reaction that begins there.
-    fn triggers(&self, start: usize) -> usize {
-        if self.is_sign(start.saturating_add(1), b'(') {
-            start.saturating_add(2)
-        } else {
-            start.saturating_add(3)
         }
     }
 

@@ -106,15 +106,6 @@ impl<'a> SourceText<'a> {
         }
     }
 
-    /// What the token is.
-    fn kind(&self, at: usize) -> Option<TokenKind> {
-        if at < self.tokens.len() {
-            Some(self.tokens[at].kind)
-        } else {
-            None
-        }
-    }
-
     /// Whether the token is this sign.
     pub(crate) fn is_sign(&self, at: usize, sign: u8) -> bool
         ensures { result ≡ is (Symbol sign) (slice_get (lexemes self.now.text.now self.now.tokens.now) at) }
@@ -126,16 +117,6 @@ impl<'a> SourceText<'a> {
             },
             None => false,
         }
-    }
-
-    /// Whether the token is a name or a word.
-    pub(crate) fn is_name(&self, at: usize) -> bool {
-        self.kind(at) == Some(TokenKind::Name)
-    }
-
-    /// Whether the token is code.
-    fn is_code(&self, at: usize) -> bool {
-        self.kind(at) == Some(TokenKind::Code)
     }
 
     /// Whether the token is an arrow.
@@ -170,16 +151,6 @@ impl<'a> SourceText<'a> {
     {
         for at in start..self.tokens.len() {
             if self.is_arrow(at) {
-                return at;
-            }
-        }
-        self.tokens.len()
-    }
-
-    /// The first code at or behind the token, else the number of tokens.
-    pub(crate) fn code_from(&self, start: usize) -> usize {
-        for at in start..self.tokens.len() {
-            if self.is_code(at) {
                 return at;
             }
         }

@@ -11,11 +11,14 @@ ghost use Rattle.lft_syntax.specs.Grammar as Grammar;
 ghost use Rattle.lft_syntax.specs.Grammar.{assign, param, refs};
 ghost use Rattle.lft_syntax.specs.View.{lexemes};
 ghost use Rattle.lft_tree.specs.Tree.{AssignmentTree, ParameterTree, ReactorTree, MemberTree, InstanceTree, ReactionTree, ConnectionTree, InstanceMember, ReactionMember, ConnectionMember};
-ghost use Rattle.lft_tree.specs.View.{ref_view, time_view, tree_view};
+ghost use Rattle.lft_tree.specs.View.{member_view, ref_view, time_view, tree_view};
 ghost use Rattle.lft_places.specs.Lists.{IsListAt, IsNameIn, IsNameSpot, NameAt, names_in};
 ghost use Rattle.lft_places.specs.Parts.{IsPartIn, parameters_token, unit_tokens};
 ghost use Rattle.lft_places.specs.Places.{IsMemberAt, IsSpanSpot, IsReactorAt, IsTokenSpot, declared_token, name_declared, name_token};
 ghost use Rattle.lft_places.specs.Times.{IsTimeAt, IsTimeSpot, times_in};
+ghost use Rattle.lft_places.specs.Reads.{IsReadAt};
+ghost use Rattle.lft_scope.specs.Kinds.{reads_of};
+ghost use Rattle.lft_scope.specs.declared.kinds.Role.TheVariants.{Read};
 ghost use Rattle.lft_places.specs.Spots.{HasCodeWith, IsCodeWith, NameStandsAt, StandAt, StandsAt, TimeStandsAt};
 
 use crate::places::name_offset;
@@ -170,7 +173,10 @@ impl<'a> SourceText<'a> {
     {
         let (reactor, start) = self.reactor(reactor)?;
         let first = self.parameters_first(reactor, start);
-        self.word(self.parameter_start(first, &reactor.parameters, parameter)?, name)
+        self.word(
+            self.parameter_start(first, &reactor.parameters, parameter)?,
+            name,
+        )
     }
 
     /// The name that a member declares.
@@ -180,6 +186,26 @@ impl<'a> SourceText<'a> {
     {
         let (member, start) = self.member(at)?;
         self.word_behind(start, self.declared_offset(member, start), name)
+    }
+
+    /// The bytes of a name that the reaction which begins there reads, by its place.
+    fn read_spot(
+        &self,
+        member: &Member,
+        start: usize,
+        place: usize,
+        name: &Reference,
+    ) -> Option<Spot>
+        ensures spelled { IfSome result (λ s. NameStandsAt self.now.text.now s (ref_view name.now)) }
+        ensures found { (x : ReactionTree) (k : ℕ) → member_view member.now ≡ ReactionMember x → k < length self.now.tokens.now → IsReadAt (lexemes self.now.text.now self.now.tokens.now) x start place k → NameAt (lexemes self.now.text.now self.now.tokens.now) k (ref_view name.now) → IsNameSpot self.now.tokens.now k (ref_view name.now) result }
+    {
+        match member {
+            Member::Reaction(reaction) => {
+                let first = self.read_start(reaction, start, place)?;
+                self.reference(first, name)
+            }
+            _ => None,
+        }
     }
 
     /// A name of a member, by its role and its place there.
@@ -192,9 +218,13 @@ impl<'a> SourceText<'a> {
     ) -> Option<Spot>
         ensures spelled { IfSome result (λ s. NameStandsAt self.now.text.now s (ref_view name.now)) }
         ensures place { (m : MemberTree) (start first k : ℕ) → IsMemberAt (lexemes self.now.text.now self.now.tokens.now) (tree_view self.now.ast.now) at m start → IsListAt (lexemes self.now.text.now self.now.tokens.now) role start first → IsNameIn (lexemes self.now.text.now self.now.tokens.now) (names_in role m) first place k → slice_get (names_in role m) place ≡ Some (ref_view name.now) → IsNameSpot self.now.tokens.now k (ref_view name.now) result }
+        ensures read { (x : ReactionTree) (start : ℕ) → role ≡ Read → IsMemberAt (lexemes self.now.text.now self.now.tokens.now) (tree_view self.now.ast.now) at (ReactionMember x) start → slice_get (reads_of x) place ≡ Some (ref_view name.now) → (k : ℕ) × IsReadAt (lexemes self.now.text.now self.now.tokens.now) x start place k × IsNameSpot self.now.tokens.now k (ref_view name.now) result }
     {
         let (member, start) = self.member(at)?;
-        self.reference(self.name(member, start, role, place)?, name)
+        match role {
+            Role::Read => self.read_spot(member, start, place, name),
+            _ => self.reference(self.name(member, start, role, place)?, name),
+        }
     }
 
     /// A time of a member, by its place there.

@@ -1,4 +1,4 @@
-use Rattle.std.proofs.Common.{◌≡◌, ◌+◌, refl, sym, ap, ◌∙◌, arith}
+use Rattle.std.proofs.Common.{◌≡◌, ◌+◌, refl, ap, arith}
 use Rattle.lft_syntax.proofs.Options.{some, some_is}
 use Rattle.lft_places.proofs.Walk.{behind_arrow}
 use Rattle.lft_places.proofs.source.SourceText.delay.Goals as goal

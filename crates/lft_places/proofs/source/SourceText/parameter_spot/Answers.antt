@@ -1,4 +1,4 @@
-use Rattle.std.proofs.Common.{◌≡◌, ℕ, ap, map, sym, subst, ◌∙◌, arith}
+use Rattle.std.proofs.Common.{◌≡◌, ap, map, sym, subst, ◌∙◌, arith}
 use Rattle.lft_tree.specs.Tree.{ReactorTree}
 use Rattle.lft_tree.specs.View.{tree_view, parameter_view, reactor_view}
 use Rattle.lft_syntax.specs.Grammar.{param}

@@ -1,4 +1,4 @@
-use Rattle.std.proofs.Common.{◌≡◌, ℕ, ◌+◌, sym, subst, ◌∙◌}
+use Rattle.std.proofs.Common.{ℕ, ◌+◌, sym, subst, ◌∙◌}
 use Rattle.lft_places.specs.Places.{IsSpanSpot}
 use Rattle.lft_places.proofs.Words.{word_token}
 use Rattle.lft_places.proofs.Timed.{one_spans, named_word, written_time}

@@ -1,6 +1,6 @@
-use Rattle.std.proofs.Common.{◌≡◌, ℕ, ◌+◌, ap, sym, subst, ◌∙◌}
-use Rattle.lft_tree.specs.Tree.{InstanceTree, MemberTree, InstanceMember}
-use Rattle.lft_tree.specs.View.{tree_view, instance_view, member_view}
+use Rattle.std.proofs.Common.{◌≡◌, ℕ, ◌+◌, ap, subst}
+use Rattle.lft_tree.specs.Tree.{InstanceTree, InstanceMember}
+use Rattle.lft_tree.specs.View.{tree_view, instance_view}
 use Rattle.lft_syntax.specs.Grammar.{assign}
 use Rattle.lft_syntax.specs.View.{lexemes}
 use Rattle.lft_syntax.proofs.Options.{some_is}
