@@ -1,13 +1,13 @@
 -- How many names stand among triggers.
-use Rattle.std.proofs.Common.{◌≡◌, ℕ, zero, suc, ◌+◌, ◌<◌, ◌≤◌, length, take, List, [], ◌∷◌, Some, None, get_or, map, Bool, true, false, refl, sym, ap, ◌∙◌, arith, inl, inr}
-use Rattle.std.specs.Prelude.{slice_get, is_some}
+use Rattle.std.proofs.Common.{◌≡◌, ℕ, zero, suc, ◌+◌, ◌<◌, ◌≤◌, length, take, List, [], ◌∷◌, Some, None, get_or, map, Bool, true, false, refl, sym, ap, ◌∙◌, arith, inl, inr, length-append, append-nil}
+use Rattle.std.specs.Prelude.{slice_get, filter_map, is_some}
 use Rattle.lft_tree.specs.Tree.{RefTree, TriggerTree, AtStartup, AtShutdown, OnRef}
 use Rattle.lft_tree.specs.declared.tree.Trigger.{Trigger}
 use Rattle.lft_tree.specs.View.{trigger_view}
 use Rattle.lft_scope.specs.Kinds.{ref_in}
 use Rattle.lft_lists.proofs.Mapped.{mapped_at}
+use Rattle.lft_lists.proofs.Picked.{kept_more}
 use Rattle.lft_syntax.proofs.Once.{three_ways}
-use Rattle.lft_syntax.proofs.Options.{some_is}
 use Rattle.lft_places.specs.declared.reads.ReadPlace.TheVariants as places
 use Rattle.lft_places.specs.Reads.{names_among}
 
@@ -32,30 +32,12 @@ counted_in_all (AtStartup ∷ xs) (suc n) r e = counted_in_all xs n r e
 counted_in_all (AtShutdown ∷ xs) (suc n) r e = counted_in_all xs n r e
 counted_in_all (OnRef q ∷ xs) (suc n) r e = let l = counted_in_all xs n r e in omega (arith, l)
 
-named_next : (xs : List TriggerTree) (n : ℕ) (r : RefTree) → slice_get xs n ≡ Some (OnRef r) → names_among (take (suc n) xs) ≡ suc (names_among (take n xs))
-named_next [] n r e = absurd cc
-named_next (AtStartup ∷ xs) zero r e = absurd cc
-named_next (AtShutdown ∷ xs) zero r e = absurd cc
-named_next (OnRef q ∷ xs) zero r e = refl
-named_next (AtStartup ∷ xs) (suc n) r e = named_next xs n r e
-named_next (AtShutdown ∷ xs) (suc n) r e = named_next xs n r e
-named_next (OnRef q ∷ xs) (suc n) r e = ap suc (named_next xs n r e)
-
 -- how many are counted one further
 pub count_named : (xs : List TriggerTree) (n : ℕ) (r : RefTree) → slice_get xs n ≡ Some (OnRef r) → names_among (take (n + 1) xs) ≡ names_among (take n xs) + 1
-count_named xs n r e = let one : n + 1 ≡ suc n = omega arith in let more = ap (λ (m : ℕ). names_among (take m xs)) one ∙ named_next xs n r e in omega (arith, more)
-
-other_next : (xs : List TriggerTree) (n : ℕ) (x : TriggerTree) → slice_get xs n ≡ Some x → ref_in x ≡ None → names_among (take (suc n) xs) ≡ names_among (take n xs)
-other_next [] n x e none = absurd cc
-other_next (AtStartup ∷ xs) zero x e none = refl
-other_next (AtShutdown ∷ xs) zero x e none = refl
-other_next (OnRef q ∷ xs) zero x e none = absurd (let same : OnRef q ≡ x = some_is (OnRef q) x e in let named : ref_in (OnRef q) ≡ None = ap ref_in same ∙ none in cc named)
-other_next (AtStartup ∷ xs) (suc n) x e none = other_next xs n x e none
-other_next (AtShutdown ∷ xs) (suc n) x e none = other_next xs n x e none
-other_next (OnRef q ∷ xs) (suc n) x e none = ap suc (other_next xs n x e none)
+count_named xs n r e = ap length (kept_more ref_in xs n (OnRef r) (Some r) e refl) ∙ length-append (filter_map ref_in (take n xs)) (r ∷ [])
 
 pub count_other : (xs : List TriggerTree) (n : ℕ) (x : TriggerTree) → slice_get xs n ≡ Some x → ref_in x ≡ None → names_among (take (n + 1) xs) ≡ names_among (take n xs)
-count_other xs n x e none = let one : n + 1 ≡ suc n = omega arith in ap (λ (m : ℕ). names_among (take m xs)) one ∙ other_next xs n x e none
+count_other xs n x e none = ap length (kept_more ref_in xs n x None e (sym none) ∙ append-nil (filter_map ref_in (take n xs)))
 
 pub count_whole : (xs : List TriggerTree) (n : ℕ) → length xs ≤ n → names_among (take n xs) ≡ names_among xs
 count_whole [] zero le = refl

@@ -29,4 +29,4 @@ returns c end s =
     let last = walk_last ref_view ref ws c.args.names.now c.args.first end (length c.args.names.now - 1) s (omega (arith, other)) in
     let place : c.in_ok-last.last ≡ last.0 = some_is c.in_ok-last.last last.0 (c.in_ok-last.ensures last.0 last.1) in
     let here = last.2 c.index-names-at.result (omega (arith, other)) c.index-names-at.is in
-    ap some (c.name_end.ensures end (subst (λ (n : ℕ). ref ws n end (ref_view c.index-names-at.result)) (sym place) here))
+    ap some (c.name_end.ensures end (rw place here))
