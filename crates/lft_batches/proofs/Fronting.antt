@@ -1,34 +1,12 @@
 -- A text's rows, judged batch by batch.
-use Rattle.std.proofs.Common.{◌≡◌, ◌∙◌, ℕ, ◌+◌, ◌≤◌, List, ◌++◌, length, take, slice_range, sym, ap, subst, arith, ⊎_elim}
-use Rattle.std.proofs.lemmas.List.{append_assoc, length-append, length-take-le}
-use Rattle.std.proofs.Math.Seq.{take-append_seam, take-length}
+use Rattle.std.proofs.Common.{◌≡◌, ◌∙◌, ℕ, ◌+◌, ◌≤◌, List, ◌++◌, length, slice_range, sym, ap, subst, arith, ⊎_elim}
+use Rattle.std.proofs.lemmas.List.{append_assoc}
+use Rattle.std.proofs.Math.Seq.{take-length}
 use Rattle.lft_flat.specs.Parts.{Parts}
 use Rattle.lft_lists.proofs.Places.{get_append_cases}
 use Rattle.lft_trace.specs.Fits.{RowsFit}
-use Rattle.lft_trace.specs.Telling.{rows_in}
 use Rattle.lft_trace.specs.declared.row.Row.{Row}
-use Rattle.lft_model.specs.Plans.{PlanParts}
-use Rattle.lft_batches.specs.Fronts.{IsFront, IsNextBehind, judged_rows}
-use Rattle.lft_stream.specs.Kept.{IsStreamOf}
-use Rattle.lft_stream.specs.declared.stream.Stream.{Stream}
-use Rattle.lft_batches.specs.declared.text.Front.{Front}
 use Rattle.lft_stream.proofs.Parting.{range_fits, up_to_second}
-
--- rows that come next, behind those that are judged
-module _ (plan : PlanParts) (body : List ℕ) (front : Front) (rows : List Row) (is : IsFront plan body front) (next : IsNextBehind plan body front rows) where
-  count : length (judged_rows plan body front ++ rows) ≡ front.judged + length rows
-  count = length-append (judged_rows plan body front) rows ∙ ap (λ n. n + length rows) (length-take-le front.judged (rows_in plan.program body) is.within)
-
-  pub with_next : take (front.judged + length rows) (rows_in plan.program body) ≡ judged_rows plan body front ++ rows
-  with_next = ap (λ n. take n (rows_in plan.program body)) (sym count) ∙ ap (λ (t : List Row). take (length (judged_rows plan body front ++ rows)) t) next.1 ∙ take-append_seam (judged_rows plan body front ++ rows) next.0
-
-  -- once they are judged, they are among those
-  pub front_on : (s : Stream) → front.judged + length rows ≤ 4000000 → IsStreamOf plan (judged_rows plan body front ++ rows) s → IsFront plan body (record { stream = s; judged = front.judged + length rows })
-  front_on s few stands = record {
-    stands = subst (λ (t : List Row). IsStreamOf plan t s) (sym with_next) stands;
-    within = omega (arith, count, ap length next.1 ∙ length-append (judged_rows plan body front ++ rows) next.0);
-    few = few;
-  }
 
 -- a batch in three parts: what stands at the tag of the rows that wait, what is finished, and what stands at its last tag
 module _ (b : List Row) (s e : ℕ) (up : s ≤ e) (within : e ≤ length b) where

@@ -1,6 +1,5 @@
 -- How far the rows of a text are judged.
 use Rattle.std.specs.Prelude.{◌≡◌, ◌++◌, ◌≤◌, ℕ, List, length, take}
-use Rattle.lft_trace.specs.Fits.{RowsFit}
 use Rattle.lft_trace.specs.Telling.{rows_in}
 use Rattle.lft_trace.specs.declared.row.Row.{Row}
 use Rattle.lft_model.specs.Plans.{PlanParts}

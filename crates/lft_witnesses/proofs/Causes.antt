@@ -92,10 +92,6 @@ module _ (P : TimeTree → Type 0) where
 
 -- ---- causes
 
--- one of two things that some element has
-either : {X : Type 0} (P Q : X → Type 0) (xs : List X) → Any P xs ⊎ Any Q xs → Any (λ x. P x ⊎ Q x) xs
-either P Q xs a = ⊎_elim (λ p. Any-weaker P (λ x. P x ⊎ Q x) (λ x h. inl h) xs p) (λ q. Any-weaker Q (λ x. P x ⊎ Q x) (λ x h. inr h) xs q) a
-
 module _ (rs : List ReactorTree) where
   pub shows_unknown_reactor : UnknownReactor rs → SomeShows rs cause.UnknownReactor
   unfolding UnknownReactor

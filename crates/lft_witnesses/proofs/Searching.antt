@@ -70,36 +70,6 @@ done_finished stages i r within done s at = elim (get_write_cases stages i r Don
 finished_done : (stages : List Stage) (i r : ℕ) → r ≢ i → IsDone (slice_set stages i Done) r → IsDone stages r
 finished_done stages i r n done s at = done s (get_unwritten stages i r Done n ∙ at)
 
--- the first reactor is met
-pub searching_start : (table : List Contents) (stages : List Stage) (start : ℕ) → IsSearched table stages → slice_get stages start ≡ Some New → Searching table stages start (slice_set stages start Open) (record { reactor = start; next = 0 } ∷ [])
-searching_start table stages start is new = record {
-  as_long = length_written stages start Open ∙ is.as_long;
-  ends = λ r d. is.ends r (opened_done stages start r new d);
-  open_on = λ r at. elim (get_write_cases stages start r Open Open within at) [ inl q ↦ (0, (record { reactor = start; next = 0 }, refl, sym q.0)) | inr q ↦ absurd (is.rests r q.1) ];
-  within = λ i v at. alone i v at;
-  links = λ i a b at bt. absurd (pair i a b at bt);
-  passed = λ i v at k r lt inside. absurd (fresh i v at k lt);
-  kept = λ r at. elim (get_write_cases stages start r Open New within at) [ inl q ↦ absurd (let e : Open ≡ New = q.1 in cc) | inr q ↦ q.1 ];
-  looked = λ at. let w = get_written stages start Open within in let e : Open ≡ New = same_some (slice_get (slice_set stages start Open) start) Open New w at in absurd (cc);
-}
-  where
-    first : Visit
-    first = record { reactor = start; next = 0 }
-
-    within : start < length stages
-    within = slice_get_within stages start New new
-
-    alone : (i : ℕ) (v : Visit) → slice_get (record { reactor = start; next = 0 } ∷ []) i ≡ Some v → v.reactor < length table
-    alone zero v at = let e : v.reactor ≡ start = (let f : Path Visit (record { reactor = start; next = 0 }) v = cc in ap (λ w. w.reactor) (sym f)) in let l = is.as_long in omega (arith, within, e, l)
-    alone (suc i) v at = absurd (cc)
-
-    pair : (i : ℕ) (a b : Visit) → slice_get (record { reactor = start; next = 0 } ∷ []) i ≡ Some a → slice_get (record { reactor = start; next = 0 } ∷ []) (i + 1) ≡ Some b → ⊥
-    pair i a b at bt = let l = slice_get_within (record { reactor = start; next = 0 } ∷ []) (i + 1) b bt in absurd (omega (arith, l))
-
-    fresh : (i : ℕ) (v : Visit) → slice_get (record { reactor = start; next = 0 } ∷ []) i ≡ Some v → (k : ℕ) → k < v.next → ⊥
-    fresh zero v at k lt = let e : v.next ≡ 0 = (let f : Path Visit (record { reactor = start; next = 0 }) v = cc in ap (λ w. w.next) (sym f)) in omega (arith, lt, e)
-    fresh (suc i) v at k lt = absurd (cc)
-
 -- the last reactor of the path is done
 pub searching_done : (table : List Contents) (before stages : List Stage) (start : ℕ) (path : List Visit) (top : Visit) → Searching table before start stages (path ++ top ∷ []) → OnlyDone stages (contained table top.reactor) top.next → Searching table before start (slice_set stages top.reactor Done) path
 searching_done table before stages start path top s only = record {
@@ -219,14 +189,6 @@ module _ (table : List Contents) (before stages : List Stage) (start : ℕ) (pat
     kept = λ r at. elim (get_write_cases stages inner r Open New met_within at) [ inl q ↦ absurd (let e : Open ≡ New = q.1 in cc) | inr q ↦ s.kept r q.1 ];
     looked = λ at. elim (get_write_cases stages inner start Open New met_within at) [ inl q ↦ absurd (let e : Open ≡ New = q.1 in cc) | inr q ↦ s.looked q.1 ];
   }
-
--- where nothing is left on the path
-pub searching_rests : (table : List Contents) (before stages : List Stage) (start : ℕ) (path : List Visit) → path ≡ [] → Searching table before start stages path → IsSearched table stages
-searching_rests table before stages start path empty s = record {
-  as_long = s.as_long;
-  ends = s.ends;
-  rests = λ r at. (let on = s.open_on r at in absurd (let l = slice_get_within path on.0 on.1.0 on.1.1 in let e : length path ≡ 0 = ap length empty in omega (arith, l, e)));
-}
 
 at_drop : {X : Type 0} (n : ℕ) (xs : List X) (i : ℕ) → slice_get (drop n xs) i ≡ slice_get xs (n + i)
 at_drop zero xs i = (let e : i ≡ 0 + i = omega arith in ap (slice_get xs) e)

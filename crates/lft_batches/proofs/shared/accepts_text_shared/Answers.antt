@@ -1,12 +1,10 @@
-use Rattle.std.proofs.Common.{◌≡◌, ◌∙◌, ◌++◌, List, [], Vec, ap, length, refl, rules, subst, sym}
-use Rattle.std.specs.declared.alloc.Global.{Global}
+use Rattle.std.proofs.Common.{◌≡◌, ◌∙◌, ◌++◌, List, ap, length, refl, rules, subst, sym}
 use Rattle.std.proofs.lemmas.Bool.{eqb-true}
 use Rattle.std.proofs.lemmas.Option.{IfSome_then}
-use Rattle.lft_flat.specs.Parts.{Parts}
 use Rattle.lft_trace.specs.declared.row.Row.{Row}
 use Rattle.lft_reading.specs.Parts.{BeginsWith, rows_of}
 use Rattle.lft_reading.proofs.Beginning.{begins_lines}
-use Rattle.lft_batches.specs.Fronts.{IsNextBehind, judged_rows}
+use Rattle.lft_batches.specs.Fronts.{judged_rows}
 use Rattle.lft_batches.proofs.Reading.{gone_on, nothing_read, read_all}
 use Rattle.lft_batches.proofs.Sharing.{rows_behind}
 use Rattle.lft_batches.proofs.shared.accepts_text_shared.Goals as goal

@@ -1,6 +1,5 @@
-use Rattle.std.proofs.Common.{◌≡◌, ◌∙◌, ◌+◌, ◌++◌, List, Vec, Some, ap, arith, length, refl, slice_get, subst, sym}
+use Rattle.std.proofs.Common.{◌≡◌, ◌∙◌, ◌+◌, ◌++◌, List, ap, arith, length, refl, subst, sym}
 use Rattle.std.proofs.lemmas.Option.{slice_get_read}
-use Rattle.std.specs.declared.alloc.Global.{Global}
 use Rattle.lft_trace.specs.Fits.{RowsFit}
 use Rattle.lft_trace.specs.Telling.{rows_in}
 use Rattle.lft_trace.specs.declared.row.Row.{Row}

@@ -1,1 +1,0 @@
-use Rattle.lft_batches.proofs.shared.go_beside.Goals as goal
