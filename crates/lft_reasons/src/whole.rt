@@ -7,7 +7,7 @@ use itoa::Buffer;
 use lft_places::Spot;
 use lft_scope::kinds::Role;
 use lft_tag::NoMemory;
-use lft_wiring::{Join, LimitedKind, Wiring, passed_limit};
+use lft_wiring::{Join, LimitedKind, Told, Wiring, long_chain_of, passed_limit, ring_of};
 
 /// More ports of a loop aren't named.
 const MOST_NAMES: usize = 12;
@@ -69,16 +69,13 @@ impl<'a> Refused<'a> {
 
     /// Connections alone form a loop. The place is the end of one of them.
     pub(crate) fn cycle(&self) -> Result<Option<Reason>, NoMemory> {
-        let Some(wiring) = Wiring::of(self.alloc, self.reactors)? else {
+        let Some(told) = ring_of(self.alloc, self.source.ast)? else {
             return Ok(None);
         };
-        let Some(ring) = wiring.ring(self.alloc)? else {
+        let Some(first) = told.joins.first().copied() else {
             return Ok(None);
         };
-        let Some(first) = ring.first().copied() else {
-            return Ok(None);
-        };
-        let words = self.ring_words(&wiring, first, &ring)?;
+        let words = self.ring_words(&told.wiring, first, &told.joins)?;
         let reason = Reason::of(self.alloc, "connections alone form a loop")?
             .at(self.end_spot(first)?)
             .way(words.as_str())?;
@@ -89,13 +86,10 @@ impl<'a> Refused<'a> {
     /// The delays of a chain of connections sum to more than the greatest time. The place is the delay with
     /// which they do.
     pub(crate) fn long_chain(&self) -> Result<Option<Reason>, NoMemory> {
-        let Some(wiring) = Wiring::of(self.alloc, self.reactors)? else {
+        let Some(Told { wiring, joins }) = long_chain_of(self.alloc, self.source.ast)? else {
             return Ok(None);
         };
-        let Some(chain) = wiring.long_chain(self.alloc)? else {
-            return Ok(None);
-        };
-        let (Some(last), Some(first)) = (chain.first().copied(), chain.last().copied()) else {
+        let (Some(last), Some(first)) = (joins.first().copied(), joins.last().copied()) else {
             return Ok(None);
         };
         let mut ports = String::new(self.alloc);

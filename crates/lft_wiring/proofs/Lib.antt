@@ -1,4 +1,11 @@
 mod Firsts
-mod Turned
-mod Mains
+mod Going
 mod Limited
+mod Mains
+mod Ringing
+mod Sited
+mod Standing
+mod Summing
+mod Telling
+mod Turned
+mod Wired

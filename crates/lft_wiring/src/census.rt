@@ -9,7 +9,7 @@ ghost use Rattle.lft_scope.specs.Numbers.{AreContents};
 ghost use Rattle.lft_scope.specs.References.{connection_trees, reactor_trees};
 ghost use Rattle.lft_wiring.specs.Limits.{IsExcess, KeepsLimit, declared_in, limit_of as the_limit_of};
 
-use crate::wiring::main_of;
+use crate::main_reactor::main_of;
 use lft_instances::{Contents, Instance, WalkFault, all_instances};
 use lft_lists::item_at;
 use lft_scope::by_number::contents;
@@ -241,7 +241,7 @@ fn limit_among(
     let Some(main) = main_of(reactors) else {
         return Ok(None);
     };
-    let Ok(number) = u32::try_from(main.place) else {
+    let Ok(number) = u32::try_from(main) else {
         return Err(NoMemory);
     };
     match all_instances(alloc, contents, number) {

@@ -2,8 +2,8 @@
 
 ghost use Rattle.std.specs.Prelude.{◌≡◌, ◌++◌, ℕ, List, OnOk, string_bytes};
 
-use crate::joins::Port;
 use crate::wiring::Wiring;
+use lft_program::OwnName;
 use lft_tag::{MAX_INSTANCES, NoMemory};
 use std::alloc::Global;
 
@@ -16,11 +16,13 @@ impl<'a> Wiring<'a> {
             if at >= self.instances.len() {
                 return Ok(names);
             }
-            names.push(self.instances[at].name)?;
+            // The main instance has no name in another one.
             if at == 0 {
+                names.push("main")?;
                 return Ok(names);
             }
-            at = self.instances[at].parent;
+            names.push(self.instances[at].name)?;
+            at = self.instances[at].instance as usize;
         }
         Ok(names)
     }
@@ -37,10 +39,15 @@ impl<'a> Wiring<'a> {
     }
 
     /// Puts the full name of a port behind the text: it ends with the port's own.
-    pub fn push_port(&self, alloc: Global, out: &mut String, port: Port<'a>) -> Result<(), NoMemory>
+    pub fn push_port(
+        &self,
+        alloc: Global,
+        out: &mut String,
+        port: OwnName<'a>,
+    ) -> Result<(), NoMemory>
         ensures { OnOk result ((head : List ℕ) × (string_bytes out.new ≡ string_bytes out.old ++ (head ++ port.entry.name.now))) }
     {
-        let head = self.head(alloc, port.instance)?;
+        let head = self.head(alloc, port.instance as usize)?;
         out.push_str(head.as_str())?;
         out.push_str(port.name)?;
         Ok(())

@@ -1,85 +1,61 @@
-//! Connections that alone form a loop. It is found by going back from port to port.
+//! Connections that alone form a loop.
 
-ghost use Rattle.std.specs.Prelude.{IfOk, IfSome};
-ghost use Rattle.lft_scope.specs.References.{reactor_trees};
+ghost use Rattle.std.specs.Prelude.{◌≡◌, ℕ, Some, IfOk, IfSome, IfNone, slice_get};
+ghost use Rattle.std.specs.List.{AllZip};
+ghost use Rattle.lft_tree.specs.Tree.{reactors_of};
+ghost use Rattle.lft_tree.specs.View.{tree_view};
+ghost use Rattle.lft_scope.specs.Causes.{ConnectionCycle, NoneHolds, TooMany};
+ghost use Rattle.lft_program.specs.Faults.{reactor_causes};
 ghost use Rattle.lft_wiring.specs.Joins.{IsRing};
+ghost use Rattle.lft_wiring.specs.Wired.{IsInto};
+ghost use Rattle.lft_wiring.specs.declared.joins.Join.{Join as TheJoin};
 
-use crate::joins::{Join, Port, are_joins, closes, lead_back};
-use crate::wiring::{Named, Wiring};
+use crate::joins::Join;
+use crate::ways::find_ring;
+use crate::wiring::Wiring;
 use lft_tag::NoMemory;
+use lft_tree::Ast;
 use std::alloc::Global;
-use std::collections::HashMap;
+
+/// Connections of a program, and the wiring that has the names of their ports.
+#[derive(Drop)]
+pub struct Told<'a> {
+    pub wiring: Wiring<'a>,
+    pub joins: Vec<Join<'a>>,
+}
 
 impl<'a> Wiring<'a> {
-    /// Goes back from a port. A port of a loop, if that leads into one that isn't known.
-    fn back_from(
-        &self,
-        seen: &mut HashMap<Named<'a>, usize>,
-        start: usize,
-    ) -> Result<Option<Port<'a>>, NoMemory> {
-        if start >= self.ends.len() {
-            return Ok(None);
-        }
-        let mut at = self.ends[start];
-        for _step in 0..self.ends.len() {
-            match seen.insert(at.key(), start)? {
-                Some(before) if before == start => return Ok(Some(at)),
-                Some(_) => return Ok(None),
-                None => {}
-            }
-            match self.joined(at) {
-                Some(join) => at = join.from,
-                None => return Ok(None),
-            }
-        }
-        Ok(Some(at))
-    }
-
-    /// A port of a loop.
-    fn looped(&self, alloc: Global) -> Result<Option<Port<'a>>, NoMemory> {
-        let mut seen = HashMap::new(alloc);
-        for start in 0..self.ends.len() {
-            let found = self.back_from(&mut seen, start)?;
-            if found.is_some() {
-                return Ok(found);
-            }
-        }
-        Ok(None)
-    }
-
-    /// The connections back from the port, up to the one that begins there.
-    fn back_to(&self, alloc: Global, port: Port<'a>) -> Result<Vec<Join<'a>>, NoMemory> {
+    /// The connections that lead into these ports.
+    pub(crate) fn joins_into(&self, alloc: Global, ports: &[u32]) -> Result<Vec<Join<'a>>, NoMemory>
+        requires { (i p : ℕ) → slice_get ports.now i ≡ Some p → (join : TheJoin) × (slice_get self.now.joins.items p ≡ Some (Some join)) }
+        ensures { IfOk result (λ v. AllZip (IsInto self.now.joins.items) ports.now v.items) }
+    {
         let mut found = Vec::new(alloc);
-        let mut at = port;
-        for _step in 0..self.ends.len() {
-            let Some(join) = self.joined(at) else {
-                return Ok(found);
-            };
-            found.push(join)?;
-            if join.from.is_same(port) {
-                return Ok(found);
+        for port in ports {
+            match self.joins[*port as usize] {
+                Some(join) => found.push(join)?,
+                None => unreachable!(),
             }
-            at = join.from;
         }
         Ok(found)
     }
+}
 
-    /// Connections of which each begins where the next one ends, and the last where the first does. None
-    /// where there are none.
-    pub fn ring(&self, alloc: Global) -> Result<Option<Vec<Join<'a>>>, NoMemory>
-        ensures { IfOk result (λ found. IfSome found (λ v. IsRing (reactor_trees self.now.reactors.now) self.now.instances.items v.items)) }
-    {
-        let Some(port) = self.looped(alloc)? else {
-            return Ok(None);
-        };
-        let found = self.back_to(alloc, port)?;
-        if are_joins(self.reactors, &self.instances, &found)
-            && lead_back(&found)
-            && closes(&found)
-        {
-            Ok(Some(found))
-        } else {
-            Ok(None)
+/// Connections of which each begins where the next one ends, and the last where the first does. None where
+/// there are none, and where a cause of refusal holds that is answered before.
+pub fn ring_of<'a>(alloc: Global, ast: &'a Ast) -> Result<Option<Told<'a>>, NoMemory>
+    ensures some { IfOk result (λ found. IfSome found (λ told. IsRing (reactors_of (tree_view ast.now)) told.wiring.instances.items told.joins.items)) }
+    ensures cycle { IfOk result (λ found. IfSome found (λ _. ConnectionCycle (tree_view ast.now))) }
+    ensures none { IfOk result (λ found. IfNone found (NoneHolds (reactor_causes (tree_view ast.now)) → ¬ TooMany (tree_view ast.now) → ¬ ConnectionCycle (tree_view ast.now))) }
+{
+    let Some(wiring) = Wiring::of(alloc, ast)? else {
+        return Ok(None);
+    };
+    match find_ring(alloc, &wiring.sources, &wiring.ends)? {
+        Some(ports) => {
+            let joins = wiring.joins_into(alloc, &ports)?;
+            Ok(Some(Told { wiring, joins }))
         }
+        None => Ok(None),
     }
 }

@@ -16,7 +16,7 @@ returns-in-Ok-all_instances-clause-none c =
     let table = c.args.contents.now in
     let main = c.in-Some.ensures.some in
     let instances = c.deref.result.now in
-    let number : c.in-Ok.number ≡ c.in-Some.main.place = first_of (search (rules, c.in-Ok.ensures), omega (arith, c.in-Ok.ensures)) in
+    let number : c.in-Ok.number ≡ c.in-Some.main = first_of (search (rules, c.in-Ok.ensures), omega (arith, c.in-Ok.ensures)) in
     let walk : IsWalk table c.in-Ok.number instances = subst (IsWalk table c.in-Ok.number) (sym c.deref.ensures.value) c.in-Ok-all_instances.ensures.made.0 in
     let there : slice_get rs c.in-Ok.number ≡ Some main.0 = ap (slice_get rs) number ∙ main.2 in
     ok_none ((kind : LimitedKind) → KeepsLimit rs instances kind) ((tree : FileTree) → reactors_of tree ≡ rs → AreContents rs table → (NoMain rs → ⊥) → TooMany tree → ⊥) c.first_excess.result
