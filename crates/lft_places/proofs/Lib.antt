@@ -8,4 +8,5 @@ pub mod Listed
 pub mod Walk
 pub mod Timed
 pub mod Reading
+pub mod Named
 pub mod Counts

@@ -7,6 +7,7 @@ use Rattle.lft_tree.specs.Tree.{TimeTree, ParameterTree, AssignmentTree, Instanc
 use Rattle.lft_syntax.specs.Lexeme.{Lexeme, Symbol, is}
 use Rattle.lft_syntax.specs.Language.{Spelling, ◌>>◌, ◌<<◌, ◌or◌, optional, many, made}
 use Rattle.lft_syntax.specs.Grammar.{symbol, name, listed, enclosed, or_empty, time, ptime, param, params, assign, instance, reactor}
+use Rattle.lft_lists.proofs.Places.{get_there}
 use Rattle.lft_syntax.proofs.Options.{some_is}
 use Rattle.lft_syntax.proofs.Algebra.{Any}
 use Rattle.lft_syntax.proofs.Rules.{leads_one}
@@ -71,21 +72,12 @@ enclosed_whole {A = A} P ws i j xs place x s e =
     let inner = s.1.1 in
     (s.1.0, subst (λ (n : ℕ). listed P ws n s.1.0 xs) inner.1.1 (inner_list P ws inner.0 s.1.0 s.0 xs place x inner.2 s.2 e), s.1.2.1)
 
+-- the same, by how many parts it has
+pub enclosed_some : {A : Type 0} (P : Spelling A) (ws : List Lexeme) (i j : ℕ) (xs : List A) → made or_empty (enclosed (listed P)) ws i j xs → 0 < length xs → (end : ℕ) × listed P ws (i + 1) end xs × (j ≡ end + 1)
+enclosed_some P ws i j xs s some = let item = get_there xs 0 some in enclosed_whole P ws i j xs 0 item.0 s item.1
+
 pub enclosed_list : {A : Type 0} (P : Spelling A) (ws : List Lexeme) (i j : ℕ) (xs : List A) (place : ℕ) (x : A) → made or_empty (enclosed (listed P)) ws i j xs → slice_get xs place ≡ Some x → (end : ℕ) × listed P ws (i + 1) end xs
 enclosed_list P ws i j xs place x s e = let whole = enclosed_whole P ws i j xs place x s e in (whole.0, whole.1)
-
-left_out : {A : Type 0} (P : Spelling A) (ws : List Lexeme) (i j : ℕ) (o : Option (List A)) → optional (listed P) ws i j o → length (or_empty o) ≡ 0 → j ≡ i
-left_out P ws i j None s e = s
-left_out {A = A} P ws i j (Some xs) s e = absurd (let count : length (s.0.0 ∷ s.0.1) ≡ 0 = ap length s.2 ∙ e in omega (arith, count))
-
--- one without a part is two parentheses
-pub enclosed_none : {A : Type 0} (P : Spelling A) (ws : List Lexeme) (i j : ℕ) (xs : List A) → made or_empty (enclosed (listed P)) ws i j xs → length xs ≡ 0 → j ≡ i + 2
-enclosed_none P ws i j xs s e =
-    let inner = s.1.1 in
-    let first = inner.1.1 in
-    let none = left_out P ws inner.0 s.1.0 s.0 inner.2 (ap length s.2 ∙ e) in
-    let last = s.1.2.1 in
-    omega (arith, first, none, last)
 
 -- ---- the parameters of a reactor
 

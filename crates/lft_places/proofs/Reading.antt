@@ -5,8 +5,8 @@ use Rattle.std.proofs.lemmas.Option.{slice_get_within}
 use Rattle.lft_tree.specs.Tree.{FileTree, RefTree, TriggerTree, AtStartup, AtShutdown, OnRef, ReactionTree, ReactionMember}
 use Rattle.lft_scope.specs.Kinds.{ref_in, reads_of}
 use Rattle.lft_lists.proofs.Places.{get_append_cases}
-use Rattle.lft_syntax.specs.Lexeme.{Lexeme, Letters, Symbol, is}
-use Rattle.lft_syntax.specs.Language.{optional, made}
+use Rattle.lft_syntax.specs.Lexeme.{Lexeme, Letters, Arrow, Symbol, is}
+use Rattle.lft_syntax.specs.Language.{◌>>◌, one, optional, made}
 use Rattle.lft_syntax.specs.Grammar.{name, enclosed, listed, or_empty, ref, refs, trigger, reaction}
 use Rattle.lft_syntax.proofs.Options.{some_is}
 use Rattle.lft_syntax.proofs.Algebra.{Any}
@@ -77,8 +77,9 @@ pub record Reaction (ws : List Lexeme) (i : ℕ) (x : ReactionTree) : Type 0 whe
   pub triggers : made or_empty (enclosed (listed trigger)) ws opening end x.triggers
   pub last : ℕ
   pub uses : (o : Option (List RefTree)) × optional refs ws end last o × (or_empty o ≡ x.uses)
+  pub effects : (e : ℕ) × (o : Option (List RefTree)) × optional (one Arrow >> refs) ws last e o × (or_empty o ≡ x.effects)
 
-parts_of : (ws : List Lexeme) (i j : ℕ) (x : ReactionTree) → reaction ws i j x → Reaction ws i x
+pub parts_of : (ws : List Lexeme) (i j : ℕ) (x : ReactionTree) → reaction ws i j x → Reaction ws i x
 parts_of ws i j x s =
     let uses = s.1.1.1 in
     let words = uses.1 in
@@ -89,6 +90,7 @@ parts_of ws i j x s =
       triggers = subst (λ (q : ReactionTree). made or_empty (enclosed (listed trigger)) ws words.0 uses.0 q.triggers) s.2 words.2;
       last = s.1.1.0;
       uses = (s.0.0.1, uses.2, ap (λ (q : ReactionTree). q.uses) s.2);
+      effects = (s.1.0, s.0.1, s.1.1.2, ap (λ (q : ReactionTree). q.effects) s.2);
     }
 
 read_stands : (ws : List Lexeme) (i j : ℕ) (x : ReactionTree) (place : ℕ) (r : RefTree) → reaction ws i j x → slice_get (reads_of x) place ≡ Some r → Stands ws x i place r

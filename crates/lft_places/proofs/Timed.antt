@@ -4,7 +4,7 @@ use Rattle.std.specs.Prelude.{IsSomeAnd, slice_get, slice_range, option_map, opt
 use Rattle.std.proofs.lemmas.Option.{slice_get_within}
 use Rattle.lft_tree.specs.declared.tree.Time.{Time}
 use Rattle.lft_tree.specs.declared.tree.TimeUnit.{TimeUnit}
-use Rattle.lft_tree.specs.Tree.{FileTree, TimeTree, Written, Named, TimerTree, ActionTree, InstanceTree, ConnectionTree, AssignmentTree, RefTree, MemberTree, PortMember, TimerMember, ActionMember, StateMember, PreambleMember, ReactionMember, InstanceMember, ConnectionMember}
+use Rattle.lft_tree.specs.Tree.{FileTree, TimeTree, Written, Named, TimerTree, ActionTree, InstanceTree, ConnectionTree, AssignmentTree, MemberTree, PortMember, TimerMember, ActionMember, StateMember, PreambleMember, ReactionMember, InstanceMember, ConnectionMember}
 use Rattle.lft_syntax.specs.declared.token.Token.{Token}
 use Rattle.lft_syntax.specs.declared.token.TokenKind.{TokenKind}
 use Rattle.lft_syntax.specs.declared.token.TokenKind.TheVariants as kinds
@@ -20,10 +20,9 @@ use Rattle.lft_places.specs.declared.spots.MemberPlace.{MemberPlace}
 use Rattle.lft_places.specs.declared.spots.Spot.{Spot}
 use Rattle.lft_places.specs.Places.{IsMemberAt, IsTokenSpot, IsSpanSpot}
 use Rattle.lft_places.specs.Parts.{unit_tokens, value_tokens}
-use Rattle.lft_places.specs.Lists.{IsFirstArrow}
 use Rattle.lft_places.specs.Times.{times_in, IsTimerTime, IsTimeAt}
 use Rattle.lft_places.proofs.Placed.{member_there}
-use Rattle.lft_places.proofs.Free.{refs_free}
+use Rattle.lft_places.proofs.Free.{first_arrow, refs_free}
 use Rattle.lft_scope.specs.Kinds.{timer_times}
 use Rattle.lft_lists.proofs.Mapped.{mapped_from}
 use Rattle.lft_places.proofs.Listed.{ptime_ends, given_spelled, part_begins, part_spelled}
@@ -132,19 +131,11 @@ delay_value ws m j None place t s h = absurd cc
 delay_value ws m j (Some q) zero t s h = (s.0, s.1.1, subst (λ (y : TimeTree). ptime ws s.0 j y) (some_is q t h) s.2)
 delay_value ws m j (Some q) (suc place) t s h = absurd cc
 
--- the arrow behind names is the first one
-first_arrow : (ws : List Lexeme) (i k : ℕ) (xs : List RefTree) → refs ws i k xs → slice_get ws k ≡ Some Arrow → IsFirstArrow ws i k
-first_arrow ws i k xs s there = let free = refs_free ws i k xs s in record {
-  order = free.order;
-  there = there;
-  first = λ n le lt e. let no = free.each n le lt in cc (no, e);
-}
-
 connection_stands : (ws : List Lexeme) (i j : ℕ) (x : ConnectionTree) (place : ℕ) (t : TimeTree) → connection ws i j x → slice_get (option_to_list x.delay) place ≡ Some t → Stands ws (ConnectionMember x) i place t
 connection_stands ws i j x place t s h =
     let sides = s.1.1 in
     let from = sides.1 in
-    let arrow = first_arrow ws i from.0 s.0.0.0 from.1 (leads_one Arrow Any ws from.0 sides.0 tt from.2 tt) in
+    let arrow = first_arrow ws i from.0 (refs_free ws i from.0 s.0.0.0 from.1) (leads_one Arrow Any ws from.0 sides.0 tt from.2 tt) in
     let value = delay_value ws s.1.0 j s.0.1 place t s.1.2 (ap (λ (q : ConnectionTree). slice_get (option_to_list q.delay) place) s.2 ∙ h) in
     subst (λ (q : ConnectionTree). Stands ws (ConnectionMember q) i place t) s.2
     (stands ws (ConnectionMember (connection_of s.0)) i place value.0 j t (from.0, s.1.0, arrow, subst (λ (n : ℕ). refs ws n s.1.0 s.0.0.1) from.2.1 sides.2, value.1) value.2)

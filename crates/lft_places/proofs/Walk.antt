@@ -7,16 +7,15 @@ use Rattle.lft_syntax.specs.declared.token.Token.{Token}
 use Rattle.lft_syntax.specs.View.{lexeme_of, lexemes}
 use Rattle.lft_tree.specs.Tree.{RefTree}
 use Rattle.lft_syntax.specs.Lexeme.{Lexeme, Code, Text, Letters, Number, Arrow, Symbol, is}
-use Rattle.lft_syntax.specs.Language.{Spelling, ◌>>◌, optional, many, made}
-use Rattle.lft_syntax.specs.Grammar.{symbol, name, listed, enclosed, or_empty, ref}
+use Rattle.lft_syntax.specs.Language.{Spelling, ◌>>◌, optional, many}
+use Rattle.lft_syntax.specs.Grammar.{symbol, name, listed, ref}
 use Rattle.lft_syntax.proofs.Options.{some_is}
 use Rattle.lft_syntax.proofs.Algebra.{Any}
 use Rattle.lft_syntax.proofs.Rules.{leads_one}
 use Rattle.lft_places.specs.Lists.{IsFirstArrow, IsNameIn, NameAt, PortAt}
 use Rattle.lft_places.specs.Parts.{after_commas, listed_starts, IsPartIn}
 use Rattle.lft_lists.proofs.Mapped.{mapped_at}
-use Rattle.lft_lists.proofs.Places.{get_there}
-use Rattle.lft_places.proofs.Listed.{part_spelled, last_part, enclosed_whole}
+use Rattle.lft_places.proofs.Listed.{part_spelled, last_part}
 use Rattle.lft_places.proofs.Words.{moved, name_word}
 
 drop_next : {A : Type 0} (q : ℕ) (xs : List A) (x : A) (ys : List A) → drop q xs ≡ x ∷ ys → drop (suc q) xs ≡ ys
@@ -197,19 +196,6 @@ walk_last view P ws xs first end at s count =
           subst (λ y. P ws last.1 end y) same last.6,
     )
 
--- the same of a list in parentheses
-pub walk_enclosed : {X A : Type 0} (view : X → A) (P : Spelling A) (t : List ℕ) (tokens : List Token) (xs : List X) (i j at : ℕ) → made or_empty (enclosed (listed P)) (lexemes t tokens) i j (map view xs) → at + 1 ≡ length xs
-    → (k e : ℕ) × IsPartIn P (lexemes t tokens) (map view xs) (i + 1) at k × (j ≡ e + 1) × (i < length tokens) × ((x : X) → at < length xs → x ≡ get_or xs at x → P (lexemes t tokens) k e (view x))
-walk_enclosed view P t tokens xs i j at s count =
-    let ws = lexemes t tokens in
-    let all = length-map xs view in
-    let item = get_there (map view xs) at (omega (arith, all, count)) in
-    let whole = enclosed_whole P ws i j (map view xs) at item.0 s item.1 in
-    let last = walk_last view P ws xs (i + 1) whole.0 at whole.1 count in
-    let opens = slice_get_within ws i _ (leads_one (Symbol 40) Any ws i s.1.1.0 tt s.1.1.1 tt) in
-    let size = same_length t tokens in
-    (last.0, whole.0, last.1, whole.2, omega (arith, opens, size), last.2)
-
 arrow_seen : (o : Option Lexeme) → (o ≡ Some Arrow → ⊥) → is Arrow o ≡ false
 arrow_seen None other = refl
 arrow_seen (Some Code) other = refl
@@ -219,13 +205,17 @@ arrow_seen (Some (Number n)) other = refl
 arrow_seen (Some Arrow) other = absurd (other refl)
 arrow_seen (Some (Symbol b)) other = refl
 
--- what is behind the first arrow
+-- the arrow that the code finds is the first one
+pub arrow_found : (ws : List Lexeme) (start k arrow : ℕ) → IsFirstArrow ws start k → ((k : ℕ) → start ≤ k → is Arrow (slice_get ws k) ≡ true → ((i : ℕ) → start ≤ i → i < k → is Arrow (slice_get ws i) ≡ false) → arrow ≡ k) → arrow ≡ k
+arrow_found ws start k arrow h finds = finds k h.order (ap (is Arrow) h.there) (λ i le lt. arrow_seen (slice_get ws i) (h.first i le lt))
+
+-- what is behind it
 pub behind_arrow : (t : List ℕ) (tokens : List Token) (start first arrow behind : ℕ) → (k : ℕ) × IsFirstArrow (lexemes t tokens) start k × (first ≡ k + 1)
     → ((k : ℕ) → start ≤ k → is Arrow (slice_get (lexemes t tokens) k) ≡ true → ((i : ℕ) → start ≤ i → i < k → is Arrow (slice_get (lexemes t tokens) i) ≡ false) → arrow ≡ k)
     → (arrow + 1 ≤ length tokens → behind ≡ arrow + 1) → behind ≡ first
 behind_arrow t tokens start first arrow behind h finds next =
     let k = h.0 in
-    let place : arrow ≡ k = finds k h.1.order (ap (is Arrow) h.1.there) (λ i le lt. arrow_seen (slice_get (lexemes t tokens) i) (h.1.first i le lt)) in
+    let place : arrow ≡ k = arrow_found (lexemes t tokens) start k arrow h.1 finds in
     let within = slice_get_within (lexemes t tokens) k Arrow h.1.there in
     let count = same_length t tokens in
     let there = next (omega (arith, place, within, count)) in

@@ -1,6 +1,7 @@
 #![tactic(auto)]
 //! Where the parts of a program's tree stand in its text.
 
+mod lists;
 mod parts;
 mod places;
 mod reads;

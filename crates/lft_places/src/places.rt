@@ -110,13 +110,13 @@ impl<'a> SourceText<'a> {
         let behind = self.behind(self.arrow_from(start), 1);
         match (member, role) {
             (Member::Reaction(reaction), Role::Effect) => {
-                self.name_start(behind, &reaction.effects, place)
+                self.part_start(behind, &reaction.effects, place)
             }
             (Member::Connection(connection), Role::Source) => {
-                self.name_start(start, &connection.sources, place)
+                self.part_start(start, &connection.sources, place)
             }
             (Member::Connection(connection), Role::Destination) => {
-                self.name_start(behind, &connection.destinations, place)
+                self.part_start(behind, &connection.destinations, place)
             }
             _ => None,
         }
@@ -126,6 +126,6 @@ impl<'a> SourceText<'a> {
     pub(crate) fn value(&self, instance: &Instance, start: usize, place: usize) -> Option<usize>
         ensures { (k : ℕ) → IsPartIn assign (lexemes self.now.text.now self.now.tokens.now) (instance_view instance.now).given (start + 5) place k → result ≡ Some k }
     {
-        self.assignment_start(self.behind(start, 5), &instance.given, place)
+        self.part_start(self.behind(start, 5), &instance.given, place)
     }
 }

@@ -1,7 +1,7 @@
 //! Where the names stand that a reaction reads.
 
 ghost use Rattle.std.specs.Prelude.{◌≡◌, ℕ, ◌+◌, ◌≤◌, Some, is_some, length, map, slice_get, take};
-ghost use Rattle.lft_tree.specs.Tree.{OnRef, RefTree};
+ghost use Rattle.lft_tree.specs.Tree.{OnRef, RefTree, TriggerTree};
 ghost use Rattle.lft_tree.specs.View.{reaction_view, trigger_view};
 ghost use Rattle.lft_scope.specs.Kinds.{ref_in};
 ghost use Rattle.lft_syntax.specs.Lexeme.{Symbol};
@@ -9,10 +9,10 @@ ghost use Rattle.lft_syntax.specs.Language.{made};
 ghost use Rattle.lft_syntax.specs.Grammar as Grammar;
 ghost use Rattle.lft_syntax.specs.Grammar.{enclosed, listed, or_empty};
 ghost use Rattle.lft_syntax.specs.View.{lexemes};
-ghost use Rattle.lft_places.specs.Parts.{IsPartIn};
 ghost use Rattle.lft_places.specs.Reads.{IsOpening, IsReadAt, names_among};
 ghost use Rattle.lft_places.specs.declared.reads.ReadPlace.TheVariants as places;
 
+use crate::lists::ListPart;
 use crate::source::SourceText;
 use lft_tree::{Reaction, Trigger};
 
@@ -51,6 +51,23 @@ fn read_place(triggers: &[Trigger], place: usize) -> ReadPlace
     ReadPlace::Use(left)
 }
 
+/// A trigger: a name, `startup` or `shutdown`.
+impl ListPart for Trigger {
+    ghost Tree = { TriggerTree };
+
+    ghost view = { trigger_view };
+
+    ghost spelling = { Grammar.trigger };
+
+    fn end_in(&self, source: &SourceText, at: usize) -> usize {
+        match self {
+            Trigger::Startup => source.behind(at, 1),
+            Trigger::Shutdown => source.behind(at, 1),
+            Trigger::Reference(name) => name.end_in(source, at),
+        }
+    }
+}
+
 impl<'a> SourceText<'a> {
     /// The parenthesis that opens the triggers of the reaction that begins there.
     fn opening(&self, start: usize) -> usize
@@ -64,44 +81,15 @@ impl<'a> SourceText<'a> {
         }
     }
 
-    /// The token behind the trigger that begins there.
-    fn trigger_end(&self, at: usize, trigger: &Trigger) -> usize
-        ensures { (end : ℕ) → end ≤ length self.now.tokens.now → Grammar.trigger (lexemes self.now.text.now self.now.tokens.now) at end (trigger_view trigger.now) → result ≡ end }
-    {
-        match trigger {
-            Trigger::Startup => self.behind(at, 1),
-            Trigger::Shutdown => self.behind(at, 1),
-            Trigger::Reference(name) => self.name_end(at, name),
-        }
-    }
-
-    /// The first token of the trigger with that place in a list that begins there.
-    fn trigger_start(&self, first: usize, triggers: &[Trigger], place: usize) -> Option<usize>
-        ensures { (k : ℕ) → IsPartIn Grammar.trigger (lexemes self.now.text.now self.now.tokens.now) (map trigger_view triggers.now) first place k → result ≡ Some k }
-    {
-        let mut at = first;
-        for before in 0..place {
-            if before >= triggers.len() {
-                return None;
-            }
-            at = self.behind(self.trigger_end(at, &triggers[before]), 1);
-        }
-        Some(at)
-    }
-
     /// The token behind the parentheses of triggers, of which that is the first one.
     fn triggers_end(&self, opening: usize, triggers: &[Trigger]) -> Option<usize>
         ensures { (end : ℕ) → end ≤ length self.now.tokens.now → made or_empty (enclosed (listed Grammar.trigger)) (lexemes self.now.text.now self.now.tokens.now) opening end (map trigger_view triggers.now) → result ≡ Some end }
     {
-        let count = triggers.len();
-        if count == 0 {
-            let end = self.behind(opening, 2);
-            return Some(end);
-        }
-        let at = count - 1;
         let first = self.behind(opening, 1);
-        let last = self.trigger_start(first, triggers, at)?;
-        let closing = self.trigger_end(last, &triggers[at]);
+        if triggers.is_empty() {
+            return Some(self.behind(first, 1));
+        }
+        let closing = self.parts_end(first, triggers)?;
         Some(self.behind(closing, 1))
     }
 
@@ -120,11 +108,11 @@ impl<'a> SourceText<'a> {
         match read_place(triggers, place) {
             ReadPlace::Trigger(number) => {
                 let first = self.behind(opening, 1);
-                self.trigger_start(first, triggers, number)
+                self.part_start(first, triggers, number)
             }
             ReadPlace::Use(number) => {
                 let first = self.triggers_end(opening, triggers)?;
-                self.name_start(first, uses, number)
+                self.part_start(first, uses, number)
             }
         }
     }

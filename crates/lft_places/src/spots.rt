@@ -6,13 +6,12 @@
 ghost use Rattle.std.specs.Prelude.{◌≡◌, ◌↔◌, ℕ, ◌+◌, ◌<◌, ◌≤◌, Contains, IfSome, IsSome, IsTrue, Some, true, codes, length, slice_get, slice_range};
 ghost use Rattle.lft_syntax.specs.declared.token.Token.{Token as TheToken};
 ghost use Rattle.lft_syntax.specs.declared.token.TokenKind.TheVariants.{Number};
-ghost use Rattle.lft_syntax.specs.Lexeme.{Arrow};
 ghost use Rattle.lft_syntax.specs.Grammar as Grammar;
-ghost use Rattle.lft_syntax.specs.Grammar.{assign, param, refs};
+ghost use Rattle.lft_syntax.specs.Grammar.{assign, param};
 ghost use Rattle.lft_syntax.specs.View.{lexemes};
 ghost use Rattle.lft_tree.specs.Tree.{AssignmentTree, ParameterTree, ReactorTree, MemberTree, InstanceTree, ReactionTree, ConnectionTree, InstanceMember, ReactionMember, ConnectionMember};
 ghost use Rattle.lft_tree.specs.View.{member_view, ref_view, time_view, tree_view};
-ghost use Rattle.lft_places.specs.Lists.{IsListAt, IsNameIn, IsNameSpot, NameAt, names_in};
+ghost use Rattle.lft_places.specs.Lists.{IsFirstArrow, IsListAt, IsNameIn, IsNameSpot, NameAt, names_in};
 ghost use Rattle.lft_places.specs.Parts.{IsPartIn, parameters_token, unit_tokens};
 ghost use Rattle.lft_places.specs.Places.{IsMemberAt, IsSpanSpot, IsReactorAt, IsTokenSpot, declared_token, name_declared, name_token};
 ghost use Rattle.lft_places.specs.Times.{IsTimeAt, IsTimeSpot, times_in};
@@ -174,7 +173,7 @@ impl<'a> SourceText<'a> {
         let (reactor, start) = self.reactor(reactor)?;
         let first = self.parameters_first(reactor, start);
         self.word(
-            self.parameter_start(first, &reactor.parameters, parameter)?,
+            self.part_start(first, &reactor.parameters, parameter)?,
             name,
         )
     }
@@ -217,7 +216,7 @@ impl<'a> SourceText<'a> {
         name: &Reference,
     ) -> Option<Spot>
         ensures spelled { IfSome result (λ s. NameStandsAt self.now.text.now s (ref_view name.now)) }
-        ensures place { (m : MemberTree) (start first k : ℕ) → IsMemberAt (lexemes self.now.text.now self.now.tokens.now) (tree_view self.now.ast.now) at m start → IsListAt (lexemes self.now.text.now self.now.tokens.now) role start first → IsNameIn (lexemes self.now.text.now self.now.tokens.now) (names_in role m) first place k → slice_get (names_in role m) place ≡ Some (ref_view name.now) → IsNameSpot self.now.tokens.now k (ref_view name.now) result }
+        ensures place { (m : MemberTree) (start : ℕ) → IsMemberAt (lexemes self.now.text.now self.now.tokens.now) (tree_view self.now.ast.now) at m start → slice_get (names_in role m) place ≡ Some (ref_view name.now) → (first k : ℕ) × IsListAt (lexemes self.now.text.now self.now.tokens.now) role start first × IsNameIn (lexemes self.now.text.now self.now.tokens.now) (names_in role m) first place k × IsNameSpot self.now.tokens.now k (ref_view name.now) result }
         ensures read { (x : ReactionTree) (start : ℕ) → role ≡ Read → IsMemberAt (lexemes self.now.text.now self.now.tokens.now) (tree_view self.now.ast.now) at (ReactionMember x) start → slice_get (reads_of x) place ≡ Some (ref_view name.now) → (k : ℕ) × IsReadAt (lexemes self.now.text.now self.now.tokens.now) x start place k × IsNameSpot self.now.tokens.now k (ref_view name.now) result }
     {
         let (member, start) = self.member(at)?;
@@ -260,7 +259,7 @@ impl<'a> SourceText<'a> {
     /// The arrow of a connection.
     pub fn arrow_spot(&self, at: MemberPlace) -> Option<Spot>
         ensures spelled { IfSome result (λ s. StandsAt self.now.text.now s (codes "->")) }
-        ensures place { (x : ConnectionTree) (start k : ℕ) → IsMemberAt (lexemes self.now.text.now self.now.tokens.now) (tree_view self.now.ast.now) at (ConnectionMember x) start → refs (lexemes self.now.text.now self.now.tokens.now) start k x.sources → slice_get (lexemes self.now.text.now self.now.tokens.now) k ≡ Some Arrow → IsTokenSpot self.now.tokens.now k result }
+        ensures place { (x : ConnectionTree) (start : ℕ) → IsMemberAt (lexemes self.now.text.now self.now.tokens.now) (tree_view self.now.ast.now) at (ConnectionMember x) start → (k : ℕ) × IsFirstArrow (lexemes self.now.text.now self.now.tokens.now) start k × IsTokenSpot self.now.tokens.now k result }
     {
         let (_, start) = self.member(at)?;
         self.word(self.arrow_from(start), "->")

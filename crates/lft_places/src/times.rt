@@ -34,7 +34,7 @@ impl<'a> SourceText<'a> {
         ensures { (arrow end : ℕ) → end + 1 ≤ length self.now.tokens.now → IsFirstArrow (lexemes self.now.text.now self.now.tokens.now) start arrow → refs (lexemes self.now.text.now self.now.tokens.now) (arrow + 1) end (connection_view connection.now).destinations → result ≡ Some (end + 1) }
     {
         let first = self.behind(self.arrow_from(start), 1);
-        let end = self.names_end(first, &connection.destinations)?;
+        let end = self.parts_end(first, &connection.destinations)?;
         Some(self.behind(end, 1))
     }
 

@@ -1,13 +1,13 @@
 -- What going back along connections keeps.
-use Rattle.std.proofs.Common.{◌≡◌, ◌≢◌, ℕ, zero, suc, ◌+◌, ◌-◌, ◌<◌, ◌≤◌, ◌⊎◌, inl, inr, List, [], ◌∷◌, ◌++◌, length, drop, refl, sym, ap, ◌∙◌, subst, arith, Option, Some, None, slice_get, slice_set, get_or, length-append, length-drop, replicate}
+use Rattle.std.proofs.Common.{◌≡◌, ◌≢◌, ℕ, zero, suc, ◌+◌, ◌-◌, ◌<◌, ◌≤◌, ◌⊎◌, inl, inr, List, [], ◌∷◌, ◌++◌, length, drop, refl, sym, ap, ◌∙◌, subst, arith, Option, Some, None, slice_get, slice_set, get_or, length-append, length-drop}
 use Rattle.std.proofs.lemmas.Bool.{cases_lt}
 use Rattle.std.proofs.lemmas.Option.{slice_get-get_or, slice_get_within}
 use Rattle.lft_flat.proofs.Ranges.{slice_get-drop}
-use Rattle.lft_lists.proofs.Places.{get_last, get_push, get_push_cases, get_same, get_there, get_unwritten, get_write_cases, get_written, length_same, length_written, same_some}
+use Rattle.lft_lists.proofs.Places.{get_last, get_push, get_push_cases, get_there, get_unwritten, get_write_cases, get_written, length_written, same_some}
 use Rattle.lft_tag.specs.declared.Source.{Source}
 use Rattle.lft_instances.specs.Sources.{AreInside, Leads, Origin, itself, over, one, more}
 use Rattle.lft_instances.proofs.Settled.{ends_once}
-use Rattle.lft_wiring.specs.Ways.{AreStarts, Ended, Ends, IsMet, IsPortRing, IsWay, before}
+use Rattle.lft_wiring.specs.Ways.{AreStarts, Ended, Ends, IsMet, IsPortRing, before}
 
 -- with this weight, the ports that weren't met are counted
 abbrev pub unmet : Option ℕ → ℕ
@@ -41,17 +41,6 @@ ends_over sources p q e (o, ds, w) =
 ends_here : (sources : List (Option Source)) (p : ℕ) → p < length sources → before sources p ≡ None → Ends sources p
 ends_here sources p low e = (p, [], itself (before_none sources p low e))
 
--- no port was met
-pub ended_start : (sources : List (Option Source)) (ports : ℕ) → ports ≡ length sources → Ended sources [] (replicate ports None)
-ended_start sources ports long = record {
-  as_long = length_same ports None ∙ long;
-  stands = λ p place e. absurd (none p place e);
-  ends = λ p m. absurd (none p m.0 m.1);
-}
-  where
-    none : (p place : ℕ) → slice_get (replicate ports None) p ≡ Some (Some place) → ⊥
-    none p place e = let z : Some place ≡ None = get_same ports p None (Some place) e in cc
-
 -- on the way from the start: the ports from the place `first` on are met on it
 pub record Going (sources : List (Option Source)) (start : ℕ) (old : List ℕ) (kept : List (Option ℕ)) (met : List ℕ) (places : List (Option ℕ)) (next : Option ℕ) : Type 0 where
   pub as_long : length places ≡ length sources
@@ -65,21 +54,6 @@ pub record Going (sources : List (Option Source)) (start : ℕ) (old : List ℕ)
   pub starts : length met ≡ length old → next ≡ Some start
   pub started : length old < length met → slice_get met (length old) ≡ Some start
   pub keeps : (p : ℕ) → IsMet kept p → IsMet places p
-
-pub going_start : (sources : List (Option Source)) (start : ℕ) (met : List ℕ) (places : List (Option ℕ)) → start < length sources → Ended sources met places → Going sources start met places met places (Some start)
-going_start sources start met places low w = record {
-  as_long = w.as_long;
-  stands = w.stands;
-  known = λ place p late e. absurd (let l = slice_get_within met place p e in omega arith);
-  ends = λ p place _ e. w.ends p (place, e);
-  within = omega arith;
-  next_inside = λ q e. (let z : start ≡ q = cc in subst (λ k. k < length sources) z low);
-  goes_back = λ i p q late e _. absurd (let l = slice_get_within met i p e in omega arith);
-  last = λ i p late e f. absurd (let l = slice_get_within met i p f in omega arith);
-  starts = λ _. refl;
-  started = λ l. absurd (omega arith);
-  keeps = λ p m. m;
-}
 
 -- one more port is met
 pub going_more : (sources : List (Option Source)) → AreInside sources → (start : ℕ) (old : List ℕ) (kept : List (Option ℕ)) (met : List ℕ) (places : List (Option ℕ)) (port : ℕ) → Going sources start old kept met places (Some port) → slice_get places port ≡ Some None → Going sources start old kept (met ++ port ∷ []) (slice_set places port (Some (length met))) (before sources port)
@@ -185,18 +159,6 @@ going_ring sources start old kept met places port place w again late = record {
 
     at : (i : ℕ) → slice_get (drop place met) i ≡ slice_get met (place + i)
     at i = slice_get-drop met place i
-
--- a way that begins the trail is the whole way, where it meets no port again
-pub going_way : (sources : List (Option Source)) (start : ℕ) (kept : List (Option ℕ)) (met : List ℕ) (places : List (Option ℕ)) → Going sources start [] kept met places None → IsWay sources start met
-going_way sources start kept met places w = record {
-  is_first = w.started (some (cases_lt 0 (length met)));
-  goes_back = λ i p q e f. w.goes_back i p q (omega arith) e f;
-  ends = λ i p e f. w.last i p (omega arith) e f;
-}
-  where
-    some : (0 < length met) ⊎ (length met ≤ 0) → 0 < length met
-    some (inl l) = l
-    some (inr l) = absurd (let e : None ≡ Some start = w.starts (omega arith) in cc)
 
 -- ---- all ports
 

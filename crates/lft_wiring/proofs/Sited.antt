@@ -1,8 +1,8 @@
 -- The joins that lead into ports so far, in a pass over the joins of each instance.
-use Rattle.std.proofs.Common.{◌≡◌, ◌≢◌, ℕ, ◌+◌, ◌<◌, ◌≤◌, ◌⊎◌, inl, inr, List, [], ◌∷◌, ◌++◌, length, replicate, sym, ap, ◌∙◌, subst, arith, Option, Some, None, slice_get, slice_set}
+use Rattle.std.proofs.Common.{◌≡◌, ◌≢◌, ℕ, ◌+◌, ◌<◌, ◌≤◌, ◌⊎◌, inl, inr, List, [], ◌∷◌, ◌++◌, length, sym, ap, ◌∙◌, subst, arith, Option, Some, slice_get, slice_set}
 use Rattle.std.proofs.lemmas.Bool.{cases_lt}
 use Rattle.std.proofs.lemmas.Option.{slice_get_within}
-use Rattle.lft_lists.proofs.Places.{get_last, get_push, get_push_cases, get_unwritten, get_written, length_same, length_written, same_some}
+use Rattle.lft_lists.proofs.Places.{get_last, get_push, get_push_cases, get_unwritten, get_written, length_written, same_some}
 use Rattle.lft_instances.specs.declared.walk.Instance.{Instance}
 use Rattle.lft_instances.specs.declared.joins.Join.{Join}
 use Rattle.lft_instances.specs.declared.joins.Connections.{Connections}
@@ -28,18 +28,6 @@ one_more number place n k (inr x) = by (cases_lt k place)
     by (inr l) = inr (x.0, let m : k < place + 1 = x.1 in omega arith)
 
 module _ (table : List Connections) (instances : List Instance) (firsts : List ℕ) (children : List (List ℕ)) (ports : ℕ) where
-  none_before : (n k : ℕ) → Earlier 0 0 n k → ⊥
-  none_before n k (inl x) = omega arith
-  none_before n k (inr x) = let y : k < 0 = x.1 in omega arith
-
-  pub sited_start : Sited table instances firsts children ports 0 0 (replicate ports None) []
-  sited_start = record {
-    as_long = length_same ports None;
-    inside = λ i b e. absurd (cc);
-    kept = λ n k b low l a. absurd (none_before n k a);
-    listed = λ n k b low l a. absurd (none_before n k a);
-  }
-
   -- no more joins in this instance
   pub sited_next : (number place : ℕ) (sites : List (Option Site)) (ends : List ℕ) (i : Instance) → Sited table instances firsts children ports number place sites ends → slice_get instances number ≡ Some i → length (joins_of table i.reactor) ≤ place → Sited table instances firsts children ports (number + 1) 0 sites ends
   sited_next number place sites ends i w e l = record {

@@ -15,8 +15,8 @@ use lft_tree::Ast;
 use std::alloc::Global;
 
 /// Connections of which each begins where the next one ends, and whose delays sum to more than the greatest
-/// time: from the last one back to the first of their chain. None where there are none, where a cause of refusal
-/// holds that is answered before, and where a time alone is longer.
+/// time: from the last one back to the first of their chain. None where there are none, or where a cause of
+/// refusal holds that is answered before. It may be None too where a time alone is longer.
 pub fn long_chain_of<'a>(alloc: Global, ast: &'a Ast) -> Result<Option<Told<'a>>, NoMemory>
     ensures some { IfOk result (λ found. IfSome found (λ told. IsLongChain (reactors_of (tree_view ast.now)) told.wiring.instances.items told.joins.items)) }
     ensures none { IfOk result (λ found. IfNone found (NoneHolds (reactor_causes (tree_view ast.now)) → ¬ TooMany (tree_view ast.now) → ¬ ConnectionCycle (tree_view ast.now) → ¬ Any HasLongTime (reactors_of (tree_view ast.now)) → ¬ HasLongChain (tree_view ast.now))) }

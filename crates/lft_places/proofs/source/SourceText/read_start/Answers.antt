@@ -19,7 +19,7 @@ returns-in-Trigger c k within h =
     let first : c.behind-first.result ≡ h.0 + 1 = omega (arith, behind, opens) in
     elim h.4 [
       | inl x ↦ let number = same_trigger c.in-Trigger.number x.number (c.in-Trigger.ensures.trigger x.number x.name (rw c.as_slice-triggers.ensures.value x.is_name) (rw c.as_slice-triggers.ensures.value x.before)) in
-          c.trigger_start.ensures k (rw (c.as_slice-triggers.ensures.value, first, number) x.there)
+          c.part_start.ensures k (rw (c.as_slice-triggers.ensures.value, first, number) x.there)
       | inr x ↦ absurd (let other = c.in-Trigger.ensures.uses x.number (rw c.as_slice-triggers.ensures.value x.before) in cc other)
     ]
 
@@ -48,5 +48,5 @@ returns-in_ok-first-in-Use c k within h =
           let inside = use_within ws (reaction_view c.args.reaction.now).uses h.1 x.number k x.there in
           let first : c.in_ok-first-in-Use.first ≡ h.1 = some_is c.in_ok-first-in-Use.first h.1 (c.in_ok-first-in-Use.ensures h.1 (omega (arith, inside, count)) (rw (c.as_slice-triggers.ensures.value, opens) h.3)) in
           let number = same_use c.in-Use.number x.number (c.in-Use.ensures.uses x.number (rw c.as_slice-triggers.ensures.value x.before)) in
-          c.name_start.ensures k (rw (c.as_slice-uses.ensures.value, first, number) x.there)
+          c.part_start-in-Use.ensures k (rw (c.as_slice-uses.ensures.value, first, number) x.there)
     ]

@@ -13,4 +13,4 @@ returns c k h =
     let within = given_within ws xs (c.args.start + 5) c.args.place k h in
     let count = same_length c.args.self.now.text.now c.args.self.now.tokens.now in
     let first = c.behind.ensures (omega (arith, within, count)) in
-    c.assignment_start.ensures k (part_same assign ws _ xs _ (c.args.start + 5) c.args.place k (ap (map assignment_view) c.deref.ensures.value) first h)
+    c.part_start.ensures k (part_same assign ws _ xs _ (c.args.start + 5) c.args.place k (ap (map assignment_view) c.deref.ensures.value) first h)

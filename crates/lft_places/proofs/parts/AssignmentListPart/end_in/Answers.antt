@@ -3,11 +3,11 @@ use Rattle.lft_tree.specs.View.{assignment_view}
 use Rattle.lft_syntax.specs.View.{lexemes}
 use Rattle.lft_places.specs.Parts.{value_tokens}
 use Rattle.lft_places.proofs.Listed.{EndsGiven, assignment_ends, given_found}
-use Rattle.lft_places.proofs.source.SourceText.assignment_end.Goals as goal
+use Rattle.lft_places.proofs.parts.AssignmentListPart.end_in.Goals as goal
 
 pub returns : goal.returns
 returns c end within s =
-    let ws = lexemes c.args.self.now.text.now c.args.self.now.tokens.now in
-    let count = length c.args.self.now.tokens.now in
-    given_found ws count c.args.at 1 c.behind.result (value_tokens (assignment_view c.args.assignment.now).value) end c.given_end.result (assignment_ends ws c.args.at end (assignment_view c.args.assignment.now) s) within c.behind.ensures
+    let ws = lexemes c.args.source.now.text.now c.args.source.now.tokens.now in
+    let count = length c.args.source.now.tokens.now in
+    given_found ws count c.args.at 1 c.behind.result (value_tokens (assignment_view c.args.self.now).value) end c.given_end.result (assignment_ends ws c.args.at end (assignment_view c.args.self.now) s) within c.behind.ensures
     (subst (λ (n : ℕ). (e : ℕ) → EndsGiven ws c.behind.result n e → e ≤ count → c.given_end.result ≡ e) c.value_size.ensures c.given_end.ensures)
