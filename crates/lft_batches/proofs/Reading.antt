@@ -1,5 +1,5 @@
 -- A text that is read batch by batch while its rows are judged.
-use Rattle.std.proofs.Common.{◌≡◌, ◌∙◌, ℕ, ◌≤◌, List, [], ◌∷◌, ◌++◌, length, take, ap, sym, subst, arith}
+use Rattle.std.proofs.Common.{◌≡◌, ◌∙◌, ℕ, List, [], ◌∷◌, ◌++◌, length, take, ap, sym, subst, arith}
 use Rattle.std.proofs.lemmas.List.{append_assoc, length-take-le}
 use Rattle.lft_flat.specs.Sound.{IsSound}
 use Rattle.lft_trace.specs.Records.{records_of}

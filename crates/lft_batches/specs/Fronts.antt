@@ -3,7 +3,7 @@ use Rattle.std.specs.Prelude.{◌≡◌, ◌++◌, ◌≤◌, ℕ, List, length,
 use Rattle.lft_trace.specs.Telling.{rows_in}
 use Rattle.lft_trace.specs.declared.row.Row.{Row}
 use Rattle.lft_model.specs.Plans.{PlanParts}
-use Rattle.lft_stream.specs.Kept.{IsStreamOf}
+use Rattle.lft_stream.specs.Kept.{IsAcceptorOf}
 use Rattle.lft_batches.specs.declared.text.Front.{Front}
 
 -- the rows of the text that are judged
@@ -12,7 +12,7 @@ judged_rows plan body front = take front.judged (rows_in plan.program body)
 
 -- what is kept is right for the rows that are judged, which are no more than the text and a table have
 pub record IsFront (plan : PlanParts) (body : List ℕ) (front : Front) : Type 0 where
-  pub stands : IsStreamOf plan (judged_rows plan body front) front.stream
+  pub stands : IsAcceptorOf plan (judged_rows plan body front) front.acceptor
   pub within : front.judged ≤ length (rows_in plan.program body)
   pub few : front.judged ≤ 4000000
 

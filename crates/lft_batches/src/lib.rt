@@ -1,8 +1,10 @@
 #![tactic(auto)]
-//! Trace tables that are accepted from their texts, a batch of rows at a time.
+//! Rows and trace tables that are accepted, a batch of rows at a time.
 
+mod rows;
 mod shared;
 mod text;
 
+pub use rows::accepts_rows;
 pub use shared::accepts_text_shared;
 pub use text::accepts_text;

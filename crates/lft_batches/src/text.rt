@@ -7,12 +7,13 @@ ghost use Rattle.lft_trace.specs.Telling.{rows_in};
 ghost use Rattle.lft_trace.specs.Traces.{Table};
 ghost use Rattle.lft_trace.specs.declared.row.Row.{Row as TheRow};
 ghost use Rattle.lft_check.specs.Verdicts.{IsAccepted};
-ghost use Rattle.lft_stream.specs.Kept.{IsStreamOf};
+ghost use Rattle.lft_stream.specs.Kept.{IsAcceptorOf};
 ghost use Rattle.lft_batches.specs.Fronts.{IsFront, IsNextBehind, judged_rows};
 
+use crate::rows::rows_together;
 use lft_model::Plan;
 use lft_reading::{below_header, read_batch};
-use lft_stream::{Counts, Stream, rows_together};
+use lft_stream::{Acceptor, Counts};
 use lft_tag::{MAX_ROWS, NoMemory};
 use lft_trace::{Row, row_at};
 use std::alloc::Global;
@@ -23,7 +24,7 @@ const BYTES_OF_A_ROW: usize = 32;
 /// How far a text's rows are judged.
 #[derive(Drop)]
 pub(crate) struct Front {
-    stream: Stream,
+    acceptor: Acceptor,
     /// So many rows are judged, from the first on.
     judged: usize,
 }
@@ -35,7 +36,7 @@ impl Front {
         ensures none { IfOk result (λ front. front.judged ≡ 0) }
     {
         Ok(Front {
-            stream: Stream::new(alloc, plan)?,
+            acceptor: Acceptor::new(alloc, plan)?,
             judged: 0,
         })
     }
@@ -53,7 +54,7 @@ impl Front {
             return true;
         }
         if rows.len() > MAX_ROWS - self.judged
-            || !add_rows(&mut self.stream, alloc, plan, body, self.judged, rows)
+            || !add_rows(&mut self.acceptor, alloc, plan, body, self.judged, rows)
         {
             return false;
         }
@@ -63,9 +64,9 @@ impl Front {
 
     /// The counts, where nothing is owed up to the stop.
     pub(crate) fn finish(&mut self, plan: &Plan) -> Option<Counts>
-        ensures { IfSome result (λ c. (t : List TheRow) → IsStreamOf plan.now t self.old.stream → IsAccepted plan.now t c.runs c.tags) }
+        ensures { IfSome result (λ c. (t : List TheRow) → IsAcceptorOf plan.now t self.old.acceptor → IsAccepted plan.now t c.runs c.tags) }
     {
-        self.stream.finish(plan)
+        self.acceptor.finish(plan)
     }
 }
 
@@ -77,7 +78,7 @@ pub(crate) fn batch_bytes(plan: &Plan) -> usize {
 /// Goes on past rows that come next in the text, of which so many are judged.
 // The text is passed for what the contract says of it: its rows stand in no list.
 fn add_rows(
-    stream: &mut Stream,
+    acceptor: &mut Acceptor,
     alloc: Global,
     plan: &Plan,
     body: &[u8],
@@ -87,10 +88,10 @@ fn add_rows(
     ghost done: { List TheRow }
     requires fit { RowsFit plan.now.program rows.now }
     requires before { done ≡ take judged (rows_in plan.now.program body.now) }
-    requires stands { IsStreamOf plan.now done stream.old }
-    ensures { IsTrue result → IsStreamOf plan.now (take judged (rows_in plan.now.program body.now) ++ rows.now) stream.new }
+    requires stands { IsAcceptorOf plan.now done acceptor.old }
+    ensures { IsTrue result → IsAcceptorOf plan.now (take judged (rows_in plan.now.program body.now) ++ rows.now) acceptor.new }
 {
-    stream.add(alloc, plan, rows)
+    acceptor.add(alloc, plan, rows)
 }
 
 /// How many rows from the first on stand at the tag of the last one before.

@@ -7,8 +7,8 @@
 
 use crate::given::{CaseTexts, trace_table};
 use crate::presence::recorded;
-use lft_batches::accepts_text;
-use lft_stream::{Counts, accepts_rows};
+use lft_batches::{accepts_rows, accepts_text};
+use lft_stream::Counts;
 use std::alloc::Global;
 use std::io;
 use std::io::Write;

@@ -9,12 +9,13 @@ ghost use Rattle.lft_load.specs.declared.fault.Part.TheVariants as part;
 ghost use Rattle.lft_front.specs.Accepting.{IsAcceptedTable, IsTold};
 
 use crate::judge::report;
+use lft_batches::accepts_rows;
 use lft_check::Verdict;
 use lft_load::Fault;
 use lft_model::Plan;
 use lft_model::laws::law_one_worker;
 use lft_reading::below_header;
-use lft_stream::{Counts, accepts_rows};
+use lft_stream::Counts;
 use lft_trace::Rows;
 use std::alloc::Global;
 use std::io::Write;

@@ -153,6 +153,24 @@ module _ (program : Parts) (sound : IsSound program) (t : List Row) (low i : ℕ
 pub marks_begin : (program : Parts) (t : List Row) (low : ℕ) (marks : Marks) → AreBefore program low marks → AreMarks program t low low marks
 marks_begin program t low marks h = record { are_before = h; right = λ r k m x n ex seat mark. inl (h.none (mark.0 + k) m mark.2, λ j row a b e y. absurd (omega arith)) }
 
+pub zeros_more : (places : List ℕ) (seat : ℕ) → seat < length places → ((k m : ℕ) → k < seat → slice_get places k ≡ Some m → m ≤ 0) → (k m : ℕ) → k < seat + 1 → slice_get (slice_set places seat 0) k ≡ Some m → m ≤ 0
+zeros_more places seat room none k m low e = by (get_write_cases places seat k 0 m room e)
+  where
+    by : ((k ≡ seat) × (0 ≡ m)) ⊎ ((k ≢ seat) × (slice_get places k ≡ Some m)) → m ≤ 0
+    by (inl a) = let z = a.1 in omega (arith, z)
+    by (inr a) = elim (cases_lt k seat) [ inl l ↦ none k m l a.1 | inr l ↦ absurd (a.0 (omega arith)) ]
+
+-- the same marks with 0 in place of each number tell of no row
+pub all_cleared : (program : Parts) (old new : Marks) → IsLaid program old → new.inputs.items ≡ old.inputs.items → new.firsts.items ≡ old.firsts.items → length new.places.items ≡ length old.places.items → AreNoneFrom 0 new.places.items → AreBefore program 0 new
+all_cleared program old new laid inputs firsts count none = record {
+  is_laid = record {
+    inputs_are = λ r x e. ap (λ (l : List (List Name)). slice_get l r) inputs ∙ laid.inputs_are r x e;
+    as_long = ap length firsts ∙ laid.as_long;
+    laid = subst (λ n. AreLaid program.reactions new.firsts.items n) (sym count) (subst (λ fs. AreLaid program.reactions fs (length old.places.items)) (sym firsts) laid.laid);
+  };
+  none = none;
+}
+
 pub before_on : (program : Parts) (i j : ℕ) (marks : Marks) → i ≤ j → AreBefore program i marks → AreBefore program j marks
 before_on program i j marks l h = record { is_laid = h.is_laid; none = λ k m e. let a : m ≤ i = h.none k m e in omega arith }
 

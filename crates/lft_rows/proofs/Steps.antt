@@ -1,5 +1,5 @@
 -- One row more, and what the code asks of the open runs.
-use Rattle.std.proofs.Common.{◌≡◌, ℕ, ◌+◌, ◌<◌, ◌≤◌, ◌⊎◌, inr, is_some, List, refl, sym, ap, ◌∙◌, subst, Option, Some, None, slice_get, cond, true, false, Bool, ◌==◌, ne_eqb, not}
+use Rattle.std.proofs.Common.{◌≡◌, ℕ, ◌+◌, ◌≤◌, ◌⊎◌, inr, is_some, List, refl, sym, ap, ◌∙◌, subst, Option, Some, None, slice_get, cond, true, false, Bool, ◌==◌, ne_eqb, not}
 use Rattle.std.proofs.lemmas.Bool.{eq-eqb}
 use native.Mathlib.Decide.{ℕ_discrete}
 use Rattle.lft_tag.specs.declared.Tag.{Tag}

@@ -11,7 +11,9 @@ use Rattle.lft_model.specs.Breaches.{BreaksRowUntil, IsUnended, WasRead}
 use Rattle.lft_rows.specs.declared.open.OpenRuns.{OpenRuns}
 use Rattle.lft_rows.specs.declared.pass.Known.{Known}
 use Rattle.lft_rows.specs.declared.pass.Early.{Early}
-use Rattle.lft_rows.specs.Marks.{AreMarks}
+use Rattle.lft_rows.specs.declared.pass.Pass.{Pass}
+use Rattle.lft_rows.specs.Effects.{AreEffects}
+use Rattle.lft_rows.specs.Marks.{AreMarks, IsLaid}
 use Rattle.lft_rows.specs.Places.{place_of, last_of}
 
 -- the row at place j starts a run of r at g by worker w, which has no end row from there up to place i
@@ -65,11 +67,16 @@ pub record IsKnown (program : Parts) (t : List Row) (i : ℕ) (known : Known) : 
   pub marked : AreMarks program t 0 i known.marks
 
 -- the pass ended at the first row that breaks one of the rules 1 to 4, or past the last row
-pub record IsEarly (stop : Tag) (plan : PlanParts) (t : List Row) (early : Early) : Type 0 where
+pub record IsEarly (stop : Tag) (plan : PlanParts) (t : List Row) (runs : OpenRuns) (early : Early) : Type 0 where
   pub within : early.place ≤ length t
   pub kept : KeepsEarly stop plan t early.place
-  pub held : Holds t early.place early.place early.runs
+  pub held : Holds t early.place early.place runs
   pub rule : MatchOption early.rule (early.place ≡ length t) (λ k. (row : Row) × (slice_get t early.place ≡ Some row) × BreaksRowUntil stop plan t early.place row k × (k < 5) × ((m : ℕ) → m < k → ¬ BreaksRowUntil stop plan t early.place row m))
+
+-- what passes go by is of this program
+pub record IsPass (program : Parts) (pass : Pass) : Type 0 where
+  pub effects : AreEffects program pass.effects
+  pub laid : IsLaid program pass.known.marks
 
 -- the row at place s is the first before place p that breaks rule 5, if any
 abbrev pub FirstUnended : List Row → ℕ → Option ℕ → Type 0

@@ -11,4 +11,4 @@ mod seats;
 
 pub use marks::Marks;
 pub use parts::first_breach_shared;
-pub use pass::first_breach;
+pub use pass::{Pass, first_breach};

@@ -1,7 +1,7 @@
 //! Where each reaction read each of its inputs last.
 
 ghost use Rattle.std.specs.Prelude.{◌≡◌, ℕ, ◌+◌, ◌<◌, ◌≤◌, length, Some, IfOk, OnOk, MatchOption, slice_get};
-ghost use Rattle.lft_flat.specs.Parts.{inputs as the_inputs};
+ghost use Rattle.lft_flat.specs.Parts.{Parts, inputs as the_inputs};
 ghost use Rattle.lft_flat.specs.declared.parts.Reaction.{Reaction as TheReaction};
 ghost use Rattle.lft_trace.specs.Fits.{RowsFit};
 ghost use Rattle.lft_rows.specs.Marks.{width, HasSeat, AreNoneFrom, IsLaid, Mark, IsMarkedBy, AreMarks, AreBefore};
@@ -57,6 +57,15 @@ impl Marks {
             places,
             guess: 0,
         })
+    }
+
+    /// No row has read, once more.
+    pub fn clear(&mut self)
+        ensures { (program : Parts) → IsLaid program self.old → AreBefore program 0 self.new }
+    {
+        for seat in 0..self.places.len() {
+            self.places[seat] = 0;
+        }
     }
 
     /// The mark of the input that stands at the seat of the reaction.

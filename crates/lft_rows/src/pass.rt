@@ -9,8 +9,9 @@ ghost use Rattle.lft_model.specs.Plans.{PlanParts};
 ghost use Rattle.lft_model.specs.Breaches.{IsOutOfOrder};
 ghost use Rattle.lft_rows.specs.Effects.{AreEffects};
 ghost use Rattle.lft_rows.specs.Firsts.{FirstRow};
+ghost use Rattle.lft_rows.specs.Marks.{IsLaid};
 ghost use Rattle.lft_rows.specs.Places.{last_of};
-ghost use Rattle.lft_rows.specs.Passes.{IsLatest, LastStart, Holds, HasOpen, IsKnown, FirstUnended, KeepsEarly, EarlyRule, IsEarly};
+ghost use Rattle.lft_rows.specs.Passes.{IsLatest, LastStart, Holds, HasOpen, IsKnown, FirstUnended, KeepsEarly, EarlyRule, IsEarly, IsPass};
 
 use crate::declared::is_undeclared;
 use crate::effects::Effects;
@@ -32,11 +33,18 @@ struct Known {
 }
 
 /// Where a pass ended, and why: the rule that the row at the place breaks, if any.
-#[derive(Drop)]
+#[derive(Clone, Copy)]
 struct Early {
     place: usize,
     rule: Option<u8>,
-    runs: OpenRuns,
+}
+
+/// What passes over the rows of a program go by. Whoever makes it looks at the whole program, so it is
+/// kept for many of them.
+#[derive(Drop)]
+pub struct Pass {
+    effects: Effects,
+    known: Known,
 }
 
 /// Whether the open run of the row's worker is of the row's tag and reaction.
@@ -129,6 +137,18 @@ impl Known {
         })
     }
 
+    /// Nothing is known of any row, once more.
+    fn clear(&mut self, alloc: Global, program: &Program) -> Result<(), NoMemory>
+        requires { IsLaid program.now self.old.marks }
+        ensures { OnOk result ((t : List TheRow) → IsKnown program.now t 0 self.new) }
+    {
+        self.last = Tag { time: 0, micro: 0 };
+        self.starts = LastStarts::new(alloc, program.reactions())?;
+        self.runs = OpenRuns::new(alloc)?;
+        self.marks.clear();
+        Ok(())
+    }
+
     /// The least of the rules 1 to 4 that the row at the place breaks.
     fn rule(
         &self,
@@ -180,19 +200,25 @@ impl Known {
 }
 
 /// Goes over the rows up to the first that breaks one of the rules 1 to 4.
-fn early_rows(alloc: Global, plan: &Plan, stop: Tag, rows: &[Row]) -> Result<Early, NoMemory>
+fn early_rows(
+    known: &mut Known,
+    effects: &Effects,
+    plan: &Plan,
+    stop: Tag,
+    rows: &[Row],
+) -> Result<Early, NoMemory>
     requires fit { RowsFit plan.now.program rows.now }
-    ensures { IfOk result (IsEarly stop plan.now rows.now) }
+    requires effects { AreEffects plan.now.program effects.now }
+    requires known { IsKnown plan.now.program rows.now 0 known.old }
+    ensures early { IfOk result (IsEarly stop plan.now rows.now known.new.runs) }
+    ensures laid { OnOk result (IsLaid plan.now.program known.new.marks) }
 {
     let program = plan.program();
-    let effects = Effects::new(alloc, program)?;
-    let mut known = Known::new(alloc, program)?;
     for place in 0..rows.len() {
-        if let Some(rule) = known.rule(plan, &effects, stop, rows, place) {
+        if let Some(rule) = known.rule(plan, effects, stop, rows, place) {
             return Ok(Early {
                 place,
                 rule: Some(rule),
-                runs: known.runs,
             });
         }
         known.add(program, rows, place)?;
@@ -200,12 +226,47 @@ fn early_rows(alloc: Global, plan: &Plan, stop: Tag, rows: &[Row]) -> Result<Ear
     Ok(Early {
         place: rows.len(),
         rule: None,
-        runs: known.runs,
     })
 }
 
-/// The first row that breaks one of the rules 1 to 5, and the least of these that it breaks, where
-/// the stop tag is this one: for a whole trace its own stop, for some rows of it that of the whole.
+impl Pass {
+    /// Before the first pass.
+    pub fn new(alloc: Global, program: &Program) -> Result<Pass, NoMemory>
+        ensures { IfOk result (IsPass program.now) }
+    {
+        let effects = Effects::new(alloc, program)?;
+        let known = Known::new(alloc, program)?;
+        Ok(Pass { effects, known })
+    }
+
+    /// The first row that breaks one of the rules 1 to 5, and the least of these that it breaks, where
+    /// the stop tag is this one: for a whole trace its own stop, for some rows of it that of the whole.
+    pub fn first_breach(
+        &mut self,
+        alloc: Global,
+        plan: &Plan,
+        stop: Tag,
+        rows: &[Row],
+    ) -> Result<Option<Breach>, NoMemory>
+        requires fit { RowsFit plan.now.program rows.now }
+        requires pass { IsPass plan.now.program self.old }
+        ensures first { IfOk result (FirstRow stop plan.now rows.now) }
+        ensures pass { OnOk result (IsPass plan.now.program self.new) }
+    {
+        self.known.clear(alloc, plan.program())?;
+        let early = early_rows(&mut self.known, &self.effects, plan, stop, rows)?;
+        close_rest(rows, early.place, &mut self.known.runs);
+        match least_open(rows, early.place, &self.known.runs) {
+            Some(start) => Ok(Some(breach(rows, start, 5))),
+            None => match early.rule {
+                Some(rule) => Ok(Some(breach(rows, early.place, rule))),
+                None => Ok(None),
+            },
+        }
+    }
+}
+
+/// What a pass answers that is made for these rows alone.
 pub fn first_breach(
     alloc: Global,
     plan: &Plan,
@@ -215,15 +276,7 @@ pub fn first_breach(
     requires fit { RowsFit plan.now.program rows.now }
     ensures { IfOk result (FirstRow stop plan.now rows.now) }
 {
-    let mut early = early_rows(alloc, plan, stop, rows)?;
-    close_rest(rows, early.place, &mut early.runs);
-    match least_open(rows, early.place, &early.runs) {
-        Some(start) => Ok(Some(breach(rows, start, 5))),
-        None => match early.rule {
-            Some(rule) => Ok(Some(breach(rows, early.place, rule))),
-            None => Ok(None),
-        },
-    }
+    Pass::new(alloc, plan.program())?.first_breach(alloc, plan, stop, rows)
 }
 
 /// The breach of the rule by the row at the place.

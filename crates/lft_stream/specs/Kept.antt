@@ -1,5 +1,5 @@
 -- What is kept of rows at finished tags, and what is asked of the next ones.
-use Rattle.std.specs.Prelude.{◌≡◌, true, ℕ, ◌<◌, ◌≤◌, List, [], ◌++◌, Option, Some, None, IsSome, MatchOption, slice_get, slice_range}
+use Rattle.std.specs.Prelude.{◌≡◌, true, ℕ, ◌<◌, ◌≤◌, List, [], ◌++◌, Option, Some, None, IsSome, MatchOption, IfSome, slice_get, slice_range}
 use Rattle.lft_tag.specs.declared.Tag.{Tag}
 use Rattle.lft_tag.specs.Tags.{Before, UpTo, after}
 use Rattle.lft_flat.specs.declared.parts.Value.{Value}
@@ -9,8 +9,12 @@ use Rattle.lft_trace.specs.declared.row.Row.{Row}
 use Rattle.lft_model.specs.Plans.{PlanParts}
 use Rattle.lft_model.specs.Presence.{stop, Triggered, Inputs, Shows}
 use Rattle.lft_model.specs.Runs.{Ran, reads_at}
+use Rattle.lft_graph.specs.Sets.{AreAncestors}
 use Rattle.lft_rows.specs.Firsts.{FirstRow}
+use Rattle.lft_rows.specs.Marks.{IsLaid}
+use Rattle.lft_rows.specs.Passes.{IsPass}
 use Rattle.lft_by_tag.specs.declared.slices.Slice.{Slice}
+use Rattle.lft_stream.specs.declared.acceptor.Acceptor.{Acceptor}
 use Rattle.lft_stream.specs.declared.stream.Stream.{Stream}
 use Rattle.lft_stream.specs.AtOnce.{is_undelayed, HasEvents, AreHeard}
 use Rattle.lft_stream.specs.Channels.{AreChannels}
@@ -57,6 +61,13 @@ pub record IsStreamOf (plan : PlanParts) (t : List Row) (s : Stream) : Type 0 wh
   pub starts : AreStartTags plan.program t s.starts
   pub listeners : AreListeners plan s.listeners
   pub channels : AreChannels plan.program s.channels
+
+-- what is kept is right for the rows so far, and what they are looked up in is of the program
+pub record IsAcceptorOf (plan : PlanParts) (t : List Row) (a : Acceptor) : Type 0 where
+  pub stands : IsStreamOf plan t a.stream
+  pub pass : IsPass plan.program a.pass
+  pub laid : IsLaid plan.program a.marks
+  pub order : IfSome a.order (AreAncestors plan.program)
 
 -- each row before the place is at an earlier tag than each from there on
 abbrev pub RisesAt : List Row → ℕ → Type 0

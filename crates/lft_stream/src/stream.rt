@@ -7,7 +7,7 @@ ghost use Rattle.lft_graph.specs.Sets.{AreAncestors};
 ghost use Rattle.lft_tag.specs.Tags.{UpTo, earliest};
 ghost use Rattle.lft_model.specs.Presence.{stop, requests, Triggered};
 ghost use Rattle.lft_model.specs.Runs.{Ran};
-ghost use Rattle.lft_rows.specs.Marks.{AreMarks, AreBefore as HaveMarksTo};
+ghost use Rattle.lft_rows.specs.Marks.{AreMarks, AreBefore as HaveMarksTo, IsLaid};
 ghost use Rattle.lft_by_tag.specs.Slices.{IsSlice, Rises, runs_in};
 ghost use Rattle.lft_check.specs.Verdicts.{IsAccepted};
 ghost use Rattle.lft_stream.specs.Dues.{AreDues};
@@ -29,7 +29,7 @@ use crate::writes::Writes;
 use lft_by_tag::Slice;
 use lft_flat::Program;
 use lft_model::Plan;
-use lft_rows::{Marks, first_breach};
+use lft_rows::Marks;
 use lft_tag::{NoMemory, Tag};
 use lft_trace::{Row, is_start, is_stop, row_at};
 use std::alloc::Global;
@@ -43,9 +43,9 @@ pub struct Counts {
 
 /// What is kept of rows at finished tags.
 #[derive(Drop)]
-pub struct Stream {
+pub(crate) struct Stream {
     /// The external stop, or what the rows so far ask for.
-    stop: Tag,
+    pub stop: Tag,
     /// The tag of the last row.
     tag: Option<Tag>,
     runs: u32,
@@ -168,7 +168,7 @@ fn are_triggered(
 
 impl Stream {
     /// What is kept before the first row.
-    pub fn new(alloc: Global, plan: &Plan) -> Result<Stream, NoMemory>
+    pub(crate) fn new(alloc: Global, plan: &Plan) -> Result<Stream, NoMemory>
         ensures { IfOk result (IsStreamOf plan.now []) }
     {
         let program = plan.program();
@@ -317,14 +317,22 @@ impl Stream {
 
     /// Goes on past rows that break none of the rules 1 to 5, tag by tag. It is false where they may
     /// break a rule, or too much is to be looked at.
-    fn add_kept(&mut self, plan: &Plan, order: &mut Order, marks: &mut Marks, rows: &[Row]) -> bool
+    pub(crate) fn add_kept(
+        &mut self,
+        plan: &Plan,
+        order: &mut Order,
+        marks: &mut Marks,
+        rows: &[Row],
+    ) -> bool
         ghost done: { List TheRow }
         requires fit { RowsFit plan.now.program rows.now }
         requires kept { KeepRules plan.now rows.now }
         requires marks { HaveMarksTo plan.now.program 0 marks.old }
         requires stands { IsStreamOf plan.now done self.old }
         requires order { IfSome order.old (AreAncestors plan.now.program) }
-        ensures { IsTrue result → IsStreamOf plan.now (done ++ rows.now) self.new }
+        ensures stands { IsTrue result → IsStreamOf plan.now (done ++ rows.now) self.new }
+        ensures order { IfSome order.new (AreAncestors plan.now.program) }
+        ensures laid { IsTrue result → IsLaid plan.now.program marks.new }
     {
         let mut first = 0;
         while first < rows.len() {
@@ -337,27 +345,8 @@ impl Stream {
         true
     }
 
-    /// Goes on past more rows, of whole tags. It is false where they may break a rule, or too much is
-    /// to be looked at, or memory is refused. Each call looks at the whole program, so it is to have
-    /// many rows.
-    pub fn add(&mut self, alloc: Global, plan: &Plan, rows: &[Row]) -> bool
-        ghost done: { List TheRow }
-        requires fit { RowsFit plan.now.program rows.now }
-        requires stands { IsStreamOf plan.now done self.old }
-        ensures { IsTrue result → IsStreamOf plan.now (done ++ rows.now) self.new }
-    {
-        let Ok(mut marks) = Marks::new(alloc, plan.program()) else {
-            return false;
-        };
-        match first_breach(alloc, plan, self.stop, rows) {
-            Ok(None) => self.add_kept(plan, &mut Order::new(alloc), &mut marks, rows),
-            Ok(Some(_)) => false,
-            Err(_) => false,
-        }
-    }
-
     /// The counts, where nothing is owed up to the stop.
-    pub fn finish(&mut self, plan: &Plan) -> Option<Counts>
+    pub(crate) fn finish(&mut self, plan: &Plan) -> Option<Counts>
         ensures { IfSome result (λ c. (t : List TheRow) → IsStreamOf plan.now t self.old → IsAccepted plan.now t c.runs c.tags) }
     {
         let stop = self.stop;

@@ -1,4 +1,4 @@
-use Rattle.std.proofs.Common.{◌≡◌, ◌∙◌, ◌++◌, List, ap, length, refl, rules, subst, sym}
+use Rattle.std.proofs.Common.{◌∙◌, ◌++◌, List, ap, length, refl, rules, subst, sym}
 use Rattle.std.proofs.lemmas.Bool.{eqb-true}
 use Rattle.std.proofs.lemmas.Option.{IfSome_then}
 use Rattle.lft_trace.specs.declared.row.Row.{Row}

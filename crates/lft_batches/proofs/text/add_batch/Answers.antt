@@ -1,4 +1,4 @@
-use Rattle.std.proofs.Common.{◌≡◌, ◌∙◌, ◌++◌, ◌≤◌, List, length, ap, arith, refl, sym, subst, slice_range}
+use Rattle.std.proofs.Common.{◌∙◌, ◌++◌, List, length, ap, arith, refl, sym, subst, slice_range}
 use Rattle.std.proofs.lemmas.Option.{IfSome_then}
 use Rattle.lft_trace.specs.Fits.{RowsFit}
 use Rattle.lft_trace.specs.Telling.{rows_in}

@@ -6,10 +6,10 @@ use Rattle.lft_rows.proofs.Whole.{keep_more}
 use Rattle.lft_rows.proofs.pass.early_rows.Goals as goal
 
 pub loop-place-init : goal.loop-place-init
-loop-place-init c = record { known = subst (λ (p : Parts). IsKnown p c.args.rows.now 0 c.in_ok-known.known) c.program-program.ensures.value (c.in_ok-known.ensures c.args.rows.now); kept = λ j row k l. absurd (omega arith) }
+loop-place-init c = record { known = c.requires.known; kept = λ j row k l. absurd (omega arith) }
 
-pub returns-in-Some : goal.returns-in-Some
-returns-in-Some c =
+pub returns-in-Some-clause-early : goal.returns-in-Some-clause-early
+returns-in-Some-clause-early c =
     let l : c.loop-place.place < length c.args.rows.now = omega arith in
     let x = get_there c.args.rows.now c.loop-place.place l in
     let e = c.in-Some.ensures x.0 x.1 in
@@ -21,7 +21,7 @@ add-requires-clause-kept c = let l : c.loop-place.place < length c.args.rows.now
 pub loop-place-preserved : goal.loop-place-preserved
 loop-place-preserved c = let l : c.loop-place.place < length c.args.rows.now = omega arith in record { known = subst (λ (p : Parts). IsKnown p c.args.rows.now (c.loop-place.place + 1) c.add.new.self) c.program-program.ensures.value c.in_ok-add.ensures; kept = keep_more c.args.stop c.args.plan.now c.args.rows.now c.loop-place.place l c.loop-place.invariant.kept c.in_default.ensures }
 
-pub returns : goal.returns
-returns c =
+pub returns-clause-early : goal.returns-clause-early
+returns-clause-early c =
     let e : c.loop-place.place ≡ length c.args.rows.now = omega arith in
     record { within = omega arith; kept = subst (λ z. KeepsEarly c.args.stop c.args.plan.now c.args.rows.now z) e c.loop-place.invariant.kept; held = subst (λ z. Holds c.args.rows.now z z c.loop-place.known.runs) e c.loop-place.invariant.known.held; rule = refl }

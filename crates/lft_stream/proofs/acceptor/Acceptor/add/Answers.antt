@@ -2,12 +2,12 @@ use Rattle.std.proofs.Common.{rules, Option, subst}
 use Rattle.lft_model.specs.declared.breach.Breach.{Breach}
 use Rattle.lft_rows.specs.Firsts.{FirstRow}
 use Rattle.lft_stream.specs.Kept.{KeepRules}
-use Rattle.lft_stream.proofs.stream.Stream.add.Goals as goal
+use Rattle.lft_stream.proofs.acceptor.Acceptor.add.Goals as goal
 
 pub add_kept-requires : goal.add_kept-requires
 add_kept-requires g c =
-    let last = c.args.self.now.stop in
+    let last = c.args.self.now.stream.stop in
     let plan = c.args.plan.now in
     let rows = c.args.rows.now in
-    let kept : KeepRules plan rows = (last, subst (λ (o : Option Breach). FirstRow last plan rows o) c.in-Ok-None.field-0-is c.in-Ok-None.ensures) in
+    let kept : KeepRules plan rows = (last, subst (λ (o : Option Breach). FirstRow last plan rows o) c.in-Ok-None.field-0-is c.in-Ok-None.ensures.first) in
     search (rules, kept)

@@ -1,5 +1,5 @@
 use Rattle.std.proofs.Common.{◌-◌, ◌<◌, ◌≤◌, length}
-use Rattle.lft_stream.proofs.accepting.end_of_part.Given as goal
+use Rattle.lft_batches.proofs.rows.end_of_part.Given as goal
 
 abbrev pub invariant-loop-end : goal.invariant-loop-end
 invariant-loop-end l = record { past : l.first < l.end; within : l.end ≤ length l.rows }

@@ -1,24 +1,24 @@
-//! Rows that are accepted.
+//! Rows that are accepted, part by part.
 
 ghost use Rattle.std.specs.Prelude.{◌≡◌, ◌<◌, ◌≤◌, List, length, take, IfSome, IsTrue};
 ghost use Rattle.lft_trace.specs.declared.row.Row.{Row as TheRow};
 ghost use Rattle.lft_trace.specs.Fits.{RowsFit};
 ghost use Rattle.lft_check.specs.Verdicts.{IsAccepted};
-ghost use Rattle.lft_stream.specs.Kept.{IsStreamOf};
+ghost use Rattle.lft_stream.specs.Kept.{IsAcceptorOf};
 
-use crate::stream::{Counts, Stream};
 use lft_model::Plan;
+use lft_stream::{Acceptor, Counts};
 use lft_trace::{Row, Rows, row_at};
 use std::alloc::Global;
 
 /// At least so many rows are taken together. More wouldn't stay near the processor.
 const TOGETHER: usize = 32_768;
 
-/// For each reaction so many: whoever takes rows together looks at the whole program first.
-const FOR_EACH_REACTION: usize = 32;
+/// For each reaction so many, so that what is looked up of a reaction stays near too.
+const FOR_EACH_REACTION: usize = 8;
 
 /// How many rows of a program are to be taken together.
-pub fn rows_together(plan: &Plan) -> usize
+pub(crate) fn rows_together(plan: &Plan) -> usize
     ensures { 0 < result }
 {
     TOGETHER.max(plan.program().reactions().saturating_mul(FOR_EACH_REACTION))
@@ -39,7 +39,7 @@ fn end_of_part(rows: &[Row], first: usize, together: usize) -> usize
 
 /// Goes on past the rows from the first on up to the end.
 fn add_part(
-    stream: &mut Stream,
+    acceptor: &mut Acceptor,
     alloc: Global,
     plan: &Plan,
     rows: &[Row],
@@ -50,10 +50,10 @@ fn add_part(
     requires fit { RowsFit plan.now.program rows.now }
     requires range { (first ≤ end) × (end ≤ length rows.now) }
     requires before { done ≡ take first rows.now }
-    requires stands { IsStreamOf plan.now done stream.old }
-    ensures { IsTrue result → IsStreamOf plan.now (take end rows.now) stream.new }
+    requires stands { IsAcceptorOf plan.now done acceptor.old }
+    ensures { IsTrue result → IsAcceptorOf plan.now (take end rows.now) acceptor.new }
 {
-    stream.add(alloc, plan, &rows[first..end])
+    acceptor.add(alloc, plan, &rows[first..end])
 }
 
 /// The counts of rows that are legal. None says nothing of them: they may break a rule, or memory may be
@@ -64,17 +64,17 @@ pub fn accepts_rows(alloc: Global, plan: &Plan, rows: &Rows) -> Option<Counts>
     ensures { IfSome result (λ c. IsAccepted plan.now rows.now c.runs c.tags) }
 {
     let rows = rows.as_slice();
-    let Ok(mut stream) = Stream::new(alloc, plan) else {
+    let Ok(mut acceptor) = Acceptor::new(alloc, plan) else {
         return None;
     };
     let together = rows_together(plan);
     let mut first = 0;
     while first < rows.len() {
         let end = end_of_part(rows, first, together);
-        if !add_part(&mut stream, alloc, plan, rows, first, end) {
+        if !add_part(&mut acceptor, alloc, plan, rows, first, end) {
             return None;
         }
         first = end;
     }
-    stream.finish(plan)
+    acceptor.finish(plan)
 }

@@ -1,0 +1,67 @@
+//! Rows that are gone over part by part.
+
+ghost use Rattle.std.specs.Prelude.{List, [], ◌++◌, IsTrue, IfOk, IfSome};
+ghost use Rattle.lft_trace.specs.declared.row.Row.{Row as TheRow};
+ghost use Rattle.lft_trace.specs.Fits.{RowsFit};
+ghost use Rattle.lft_check.specs.Verdicts.{IsAccepted};
+ghost use Rattle.lft_stream.specs.Kept.{IsAcceptorOf};
+
+use crate::order::Order;
+use crate::stream::{Counts, Stream};
+use lft_model::Plan;
+use lft_rows::{Marks, Pass};
+use lft_tag::NoMemory;
+use lft_trace::Row;
+use std::alloc::Global;
+
+/// What is kept of rows at finished tags, and what they are looked up in.
+// Whoever makes the latter looks at the whole program. So they are made once, and a part of the rows
+// may be short enough to stay near the processor.
+#[derive(Drop)]
+pub struct Acceptor {
+    stream: Stream,
+    pass: Pass,
+    marks: Marks,
+    order: Order,
+}
+
+impl Acceptor {
+    /// Before the first row.
+    pub fn new(alloc: Global, plan: &Plan) -> Result<Acceptor, NoMemory>
+        ensures { IfOk result (IsAcceptorOf plan.now []) }
+    {
+        let program = plan.program();
+        Ok(Acceptor {
+            stream: Stream::new(alloc, plan)?,
+            pass: Pass::new(alloc, program)?,
+            marks: Marks::new(alloc, program)?,
+            order: Order::new(alloc),
+        })
+    }
+
+    /// Goes on past more rows, of whole tags. It is false where they may break a rule, or too much is
+    /// to be looked at, or memory is refused.
+    pub fn add(&mut self, alloc: Global, plan: &Plan, rows: &[Row]) -> bool
+        ghost done: { List TheRow }
+        requires fit { RowsFit plan.now.program rows.now }
+        requires stands { IsAcceptorOf plan.now done self.old }
+        ensures { IsTrue result → IsAcceptorOf plan.now (done ++ rows.now) self.new }
+    {
+        let stop = self.stream.stop;
+        self.marks.clear();
+        match self.pass.first_breach(alloc, plan, stop, rows) {
+            Ok(None) => self
+                .stream
+                .add_kept(plan, &mut self.order, &mut self.marks, rows),
+            Ok(Some(_)) => false,
+            Err(_) => false,
+        }
+    }
+
+    /// The counts, where nothing is owed up to the stop.
+    pub fn finish(&mut self, plan: &Plan) -> Option<Counts>
+        ensures { IfSome result (λ c. (t : List TheRow) → IsAcceptorOf plan.now t self.old → IsAccepted plan.now t c.runs c.tags) }
+    {
+        self.stream.finish(plan)
+    }
+}
