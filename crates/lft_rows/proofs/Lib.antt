@@ -6,3 +6,4 @@ pub mod Declares
 pub mod Marked
 pub mod Rereads
 pub mod Together
+pub mod Growing

@@ -1,5 +1,5 @@
 -- What a pass over the rows knows after some of them. This serves the proof of the pass alone.
-use Rattle.std.specs.Prelude.{◌≡◌, ℕ, ◌<◌, ◌≤◌, ◌⊎◌, List, length, Option, Some, MatchOption, slice_get, Contains}
+use Rattle.std.specs.Prelude.{◌≡◌, ℕ, ◌<◌, ◌≤◌, ◌⊎◌, List, ◌++◌, length, Option, Some, MatchOption, slice_get, Contains}
 use Rattle.lft_tag.specs.declared.Tag.{Tag}
 use Rattle.lft_tag.specs.Tags.{UpTo}
 use Rattle.lft_flat.specs.Parts.{Parts}
@@ -90,3 +90,21 @@ pub record RisesTo (t : List Row) (i : ℕ) (g : Tag) : Type 0 where
 -- the name isn't among the inputs of the row's reaction, or a row of its run before place i reads it
 abbrev pub IsBadRead : Parts → List Row → ℕ → Row → Name → Type 0
 IsBadRead program t i row n = (¬ Contains (inputs_of program row.reaction) n) ⊎ WasRead t i row.tag row.reaction n
+
+-- the pass has gone over the rows before place i, none of which breaks one of the rules 1 to 4
+pub record HasPassed (stop : Tag) (plan : PlanParts) (t : List Row) (i : ℕ) (pass : Pass) : Type 0 where
+  pub effects : AreEffects plan.program pass.effects
+  pub known : IsKnown plan.program t i pass.known
+  pub kept : KeepsEarly stop plan t i
+
+-- the pass has gone over all rows, or up to the first that breaks one of the rules 1 to 4, with the least of these
+abbrev pub HasGoneOn : Tag → PlanParts → List Row → Pass → Option (ℕ × ℕ) → Type 0
+HasGoneOn stop plan t pass o = MatchOption o (HasPassed stop plan t (length t) pass) (λ x. (row : Row) × (slice_get t x.0 ≡ Some row) × HasPassed stop plan t x.0 pass × EarlyRule stop plan t x.0 row (Some x.1))
+
+-- what a pass has gone over it has gone over still when more rows come behind
+abbrev pub GrownLaw : PlanParts → Type 0
+GrownLaw plan = (stop : Tag) (t u : List Row) (i : ℕ) (pass : Pass) → i ≤ length t → HasPassed stop plan t i pass → HasPassed stop plan (t ++ u) i pass
+
+-- and when the stop comes nearer, or is another, where the rows that it has gone over are up to that
+abbrev pub NearerLaw : PlanParts → Type 0
+NearerLaw plan = (stop other : Tag) (t : List Row) (i : ℕ) (pass : Pass) → ((j : ℕ) (x : Row) → j < i → slice_get t j ≡ Some x → UpTo x.tag other) → HasPassed stop plan t i pass → HasPassed other plan t i pass

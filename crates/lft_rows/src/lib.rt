@@ -3,12 +3,14 @@
 
 mod declared;
 mod effects;
+mod laws;
 mod marks;
 mod open;
 mod parts;
 mod pass;
 mod seats;
 
+pub use laws::law_pass;
 pub use marks::Marks;
 pub use parts::first_breach_shared;
 pub use pass::{Pass, first_breach};

@@ -11,7 +11,7 @@ ghost use Rattle.lft_rows.specs.Effects.{AreEffects};
 ghost use Rattle.lft_rows.specs.Firsts.{FirstRow};
 ghost use Rattle.lft_rows.specs.Marks.{IsLaid};
 ghost use Rattle.lft_rows.specs.Places.{last_of};
-ghost use Rattle.lft_rows.specs.Passes.{IsLatest, LastStart, Holds, HasOpen, IsKnown, FirstUnended, KeepsEarly, EarlyRule, IsEarly, IsPass};
+ghost use Rattle.lft_rows.specs.Passes.{IsLatest, LastStart, Holds, HasOpen, IsKnown, FirstUnended, KeepsEarly, EarlyRule, IsEarly, IsPass, HasPassed, HasGoneOn};
 
 use crate::declared::is_undeclared;
 use crate::effects::Effects;
@@ -110,6 +110,21 @@ fn is_out_of_order(rows: &[Row], place: usize, row: Row, known: &Known) -> bool
 fn least_open(rows: &[Row], end: usize, runs: &OpenRuns) -> Option<usize>
     requires end { end ≤ length rows.now }
     requires held { Holds rows.now end (length rows.now) runs.now }
+    ensures { FirstUnended rows.now end result }
+{
+    for place in 0..end {
+        let row = row_at(rows, place);
+        if is_start(&row.step) && runs.of(row.worker) == Some(place) {
+            return Some(place);
+        }
+    }
+    None
+}
+
+/// The same, of the runs that are open behind all rows.
+fn open_before(rows: &[Row], end: usize, runs: &OpenRuns) -> Option<usize>
+    requires end { end ≤ length rows.now }
+    requires held { Holds rows.now (length rows.now) (length rows.now) runs.now }
     ensures { FirstUnended rows.now end result }
 {
     for place in 0..end {
@@ -263,6 +278,51 @@ impl Pass {
                 None => Ok(None),
             },
         }
+    }
+}
+
+impl Pass {
+    /// Before the first of some rows.
+    pub fn begin(&mut self, alloc: Global, plan: &Plan) -> Result<(), NoMemory>
+        requires { IsPass plan.now.program self.old }
+        ensures { OnOk result ((stop : TheTag) (t : List TheRow) → HasPassed stop plan.now t 0 self.new) }
+    {
+        self.known.clear(alloc, plan.program())?;
+        Ok(())
+    }
+
+    /// Goes on over the rows from the place on, up to the first that breaks one of the rules 1 to 4:
+    /// its place, and the least of these that it breaks.
+    pub fn go_on(
+        &mut self,
+        plan: &Plan,
+        stop: Tag,
+        rows: &[Row],
+        from: usize,
+    ) -> Result<Option<(usize, u8)>, NoMemory>
+        requires fit { RowsFit plan.now.program rows.now }
+        requires from { from ≤ length rows.now }
+        requires passed { HasPassed stop plan.now rows.now from self.old }
+        ensures { IfOk result (HasGoneOn stop plan.now rows.now self.new) }
+    {
+        let program = plan.program();
+        for place in from..rows.len() {
+            if let Some(rule) = self.known.rule(plan, &self.effects, stop, rows, place) {
+                return Ok(Some((place, rule)));
+            }
+            self.known.add(program, rows, place)?;
+        }
+        Ok(None)
+    }
+
+    /// The first place before the end whose row starts a run that none of the rows ends, all of which
+    /// were gone over.
+    pub fn first_open(&self, rows: &[Row], end: usize) -> Option<usize>
+        requires end { end ≤ length rows.now }
+        requires passed { (stop : TheTag) × (plan : PlanParts) × HasPassed stop plan rows.now (length rows.now) self.now }
+        ensures { FirstUnended rows.now end result }
+    {
+        open_before(rows, end, &self.known.runs)
     }
 }
 

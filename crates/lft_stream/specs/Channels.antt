@@ -14,7 +14,7 @@ use Rattle.lft_trace.specs.declared.externals.Event.{Event}
 use Rattle.lft_model.specs.Plans.{PlanParts}
 use Rattle.lft_queue.specs.Pending.{same_key}
 use Rattle.lft_stream.specs.AtOnce.{is_undelayed, origin_of}
-use Rattle.lft_stream.specs.Coming.{to_come}
+use Rattle.lft_stream.specs.Coming.{to_come, IsClear, IsNoLater}
 use Rattle.lft_stream.specs.declared.coming.Coming.{Coming}
 use Rattle.lft_stream.specs.declared.writes.Written.{Written}
 use Rattle.lft_stream.specs.Lanes.{held, made}
@@ -69,3 +69,10 @@ pub record AreCarried (program : Parts) (u : List Row) (g last : Tag) (count : �
   pub up_to : (p : ℕ) (w : Written) → slice_get writes p ≡ Some (Some w) → UpTo w.tag g
   pub actions : (events : List Event) (h : Tag) (a : ℕ) → UpTo h last → to_come events new h (Action a) ≡ to_come events old h (Action a)
   pub ports : (p : ℕ) → IsCarried program u g last p old new writes ⊎ IsUncarried program u g last count p old new writes
+
+-- so many first rows have carried what they write, of all tags that are clear of what is noted
+pub record AreCarriedClear (program : Parts) (u : List Row) (g last : Tag) (count : ℕ) (clash noted : Option Tag) (old new : Coming) (writes : List (Option Written)) : Type 0 where
+  pub as_long : length writes ≡ length program.ports
+  pub up_to : (p : ℕ) (w : Written) → slice_get writes p ≡ Some (Some w) → UpTo w.tag g
+  pub no_later : IsNoLater clash noted
+  pub carried : (h : Tag) → UpTo h last → IsClear noted h → AreCarried program u g h count old new writes

@@ -1,5 +1,5 @@
 -- The events to come: those in a queue, and the external ones from a place on.
-use Rattle.std.specs.Prelude.{◌≡◌, ℕ, ◌<◌, ◌≤◌, cond, List, [], ◌∷◌, ◌++◌, drop, length, Some, slice_get, filter_map, option_to_list, Contains}
+use Rattle.std.specs.Prelude.{◌≡◌, ℕ, ◌<◌, ◌≤◌, cond, List, [], ◌∷◌, ◌++◌, drop, length, Option, Some, MatchOption, slice_get, filter_map, option_to_list, Contains}
 use Rattle.lft_tag.specs.declared.Tag.{Tag}
 use Rattle.lft_tag.specs.Tags.{Before, UpTo}
 use Rattle.lft_flat.specs.declared.parts.Value.{Value}
@@ -57,3 +57,11 @@ AreComing events low last lanes coming = (n : Name) (h : Tag) → UpTo low h →
 abbrev pub scheduled_by : PlanParts → List Row → Name → List (Tag × Value)
 scheduled_by plan u (Port p) = []
 scheduled_by plan u (Action a) = made plan u a
+
+-- h is before the tag at which two events are known to meet, if there is one
+abbrev pub IsClear : Option Tag → Tag → Type 0
+IsClear clash h = MatchOption clash (Unit {0}) (λ c. Before h c)
+
+-- what is clear of the new tag is clear of the old one
+abbrev pub IsNoLater : Option Tag → Option Tag → Type 0
+IsNoLater old new = (h : Tag) → IsClear new h → IsClear old h

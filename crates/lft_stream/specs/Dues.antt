@@ -1,7 +1,7 @@
 -- When triggers that wait for no event are due: at the tags where their reactions have no run yet.
 use Rattle.std.specs.Prelude.{◌≡◌, ℕ, ◌+◌, ◌*◌, ◌<◌, List, length, Some, slice_get, Contains}
 use Rattle.lft_tag.specs.declared.Tag.{Tag}
-use Rattle.lft_tag.specs.Tags.{UpTo}
+use Rattle.lft_tag.specs.Tags.{Before, UpTo}
 use Rattle.lft_flat.specs.declared.parts.Reaction.{Reaction}
 use Rattle.lft_flat.specs.declared.parts.Trigger.{Trigger}
 use Rattle.lft_flat.specs.declared.parts.Trigger.TheVariants.{Startup, Shutdown, Timer, On}
@@ -65,6 +65,16 @@ IsOwed last Never = ⊥
 -- nothing is due up to the stop
 abbrev pub NoneOwed : Tag → List (List Due) → Type 0
 NoneOwed last dues = (r k : ℕ) (list : List Due) (due : Due) → slice_get dues r ≡ Some list → slice_get list k ≡ Some due → ¬ IsOwed last due
+
+-- what is due is so before low, where the stop tag is last
+abbrev pub IsDueBefore : Tag → Tag → Due → Type 0
+IsDueBefore last low (AtTag g) = Before g low
+IsDueBefore last low AtStop = Before last low
+IsDueBefore last low Never = ⊥
+
+-- nothing is due before low
+abbrev pub NoneDueBefore : Tag → Tag → List (List Due) → Type 0
+NoneDueBefore last low dues = (r k : ℕ) (list : List Due) (due : Due) → slice_get dues r ≡ Some list → slice_get list k ≡ Some due → ¬ IsDueBefore last low due
 
 -- some trigger of the list is present at g
 abbrev pub SomeOccurs : PlanParts → List Row → Tag → List Trigger → Type 0

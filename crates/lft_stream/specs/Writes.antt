@@ -23,3 +23,8 @@ pub record AreWrites (program : Parts) (u : List Row) (g : Tag) (writes : List (
 pub record AreEarlier (program : Parts) (g : Tag) (writes : List (Option Written)) : Type 0 where
   pub as_long : length writes ≡ length program.ports
   pub each : (p : ℕ) (w : Written) → slice_get writes p ≡ Some (Some w) → Before w.tag g
+
+-- the same writes are kept, or fewer
+pub record AreFewer (old new : List (Option Written)) : Type 0 where
+  pub as_long : length new ≡ length old
+  pub each : (p : ℕ) (w : Written) → slice_get new p ≡ Some (Some w) → slice_get old p ≡ Some (Some w)

@@ -4,13 +4,14 @@ ghost use Rattle.std.specs.Prelude.{List, [], ◌++◌, IsTrue, IfOk, IfSome};
 ghost use Rattle.lft_trace.specs.declared.row.Row.{Row as TheRow};
 ghost use Rattle.lft_trace.specs.Fits.{RowsFit};
 ghost use Rattle.lft_check.specs.Verdicts.{IsAccepted};
+ghost use Rattle.lft_stream.specs.Dues.{NoneDueBefore};
 ghost use Rattle.lft_stream.specs.Kept.{IsAcceptorOf};
 
 use crate::order::Order;
 use crate::stream::{Counts, Stream};
 use lft_model::Plan;
 use lft_rows::{Marks, Pass};
-use lft_tag::NoMemory;
+use lft_tag::{NoMemory, Tag};
 use lft_trace::Row;
 use std::alloc::Global;
 
@@ -56,6 +57,14 @@ impl Acceptor {
             Ok(Some(_)) => false,
             Err(_) => false,
         }
+    }
+
+    /// Whether nothing is due before the tag. A timer or the startup may be due at a tag that is finished:
+    /// that is found by this call, when the reaction runs next, or at the end.
+    pub fn is_timely(&self, low: Tag) -> bool
+        ensures { IsTrue result → NoneDueBefore self.now.stream.stop low self.now.stream.dues }
+    {
+        self.stream.is_timely(low)
     }
 
     /// The counts, where nothing is owed up to the stop.

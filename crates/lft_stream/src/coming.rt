@@ -1,19 +1,19 @@
 //! The events to come.
 
-ghost use Rattle.std.specs.Prelude.{◌≡◌, ◌↔◌, ◌⊎◌, ◌++◌, [], List, Some, None, IsSome, IsTrue, Contains};
+ghost use Rattle.std.specs.Prelude.{◌≡◌, ◌↔◌, ◌⊎◌, ◌++◌, [], List, Some, None, IsSome, IsTrue, IfOk, Contains};
 ghost use Rattle.lft_tag.specs.declared.Tag.{Tag as TheTag};
 ghost use Rattle.lft_tag.specs.Tags.{Before, UpTo};
 ghost use Rattle.lft_flat.specs.declared.parts.Name.{Name as TheName};
 ghost use Rattle.lft_trace.specs.declared.externals.Event.{Event as TheEvent};
 ghost use Rattle.lft_queue.specs.Pending.{value_of, Becomes};
-ghost use Rattle.lft_stream.specs.Coming.{put_at, to_come, AreBrought, ArePassed, IsReached, AreOver};
+ghost use Rattle.lft_stream.specs.Coming.{put_at, to_come, AreBrought, ArePassed, IsReached, AreOver, IsClear, IsNoLater};
 ghost use Rattle.lft_stream.specs.Listeners.{IsUnheard};
 
 use crate::listeners::Listeners;
 use lft_flat::{Name, Value};
 use lft_lists::item_at;
-use lft_queue::{NamesAt, Queue};
-use lft_tag::Tag;
+use lft_queue::{NamesAt, Queue, QueueFault};
+use lft_tag::{NoMemory, Tag};
 use lft_trace::Externals;
 use std::alloc::Global;
 
@@ -23,6 +23,17 @@ pub(crate) struct Coming {
     queue: Queue,
     /// The place of the first external event that isn't in the queue.
     next: usize,
+}
+
+/// The earlier of a tag and another, if there is one.
+fn earlier_of(clash: Option<Tag>, tag: Tag) -> Tag
+    ensures before { (h : TheTag) → Before h result → IsClear clash h × Before h tag }
+    ensures one { (result ≡ tag) ⊎ (clash ≡ Some result) }
+{
+    match clash {
+        Some(other) => { if other.is_before(tag) { other } else { tag } }
+        None => tag,
+    }
 }
 
 impl Coming {
@@ -58,6 +69,31 @@ impl Coming {
             return true;
         }
         self.put(tag, name, value)
+    }
+
+    /// Puts an event in, where it is up to the stop. Where the name has an event at the tag already, this
+    /// one stays, and the tag is noted, if none before it was: two events meet there. Gives the tag that is
+    /// noted now.
+    pub(crate) fn note_until(
+        &mut self,
+        clash: Option<Tag>,
+        last: Tag,
+        tag: Tag,
+        name: Name,
+        value: Value,
+    ) -> Result<Option<Tag>, NoMemory>
+        ensures no_later { IfOk result (IsNoLater clash) }
+        ensures put { IfOk result (λ new. (events : List TheEvent) (h : TheTag) (n : TheName) → UpTo h last → IsClear new h → to_come events self.new h n ≡ to_come events self.old h n ++ put_at tag name value h n) }
+        ensures met { IfOk result (λ new. (new ≡ clash) ⊎ (new ≡ Some tag) × IsSome (value_of tag name self.old.queue)) }
+    {
+        if last.is_before(tag) {
+            return Ok(clash);
+        }
+        match self.queue.put(tag, name, value) {
+            Ok(()) => Ok(clash),
+            Err(QueueFault::NoMemory) => Err(NoMemory),
+            Err(QueueFault::Collision) => Ok(Some(earlier_of(clash, tag))),
+        }
     }
 
     /// Puts the external events up to the tag into the queue. It is false where one meets an event of

@@ -6,7 +6,7 @@ ghost use Rattle.lft_flat.specs.Sound.{IsTriggerOf};
 ghost use Rattle.lft_trace.specs.declared.row.Row.{Row as TheRow};
 ghost use Rattle.lft_model.specs.Presence.{stop};
 ghost use Rattle.lft_model.specs.Runs.{Ran};
-ghost use Rattle.lft_stream.specs.Dues.{IsDue, IsDueAt, IsOwed};
+ghost use Rattle.lft_stream.specs.Dues.{IsDue, IsDueAt, IsOwed, IsDueBefore};
 
 use lft_flat::{Timer, Trigger};
 use lft_lists::item_at;
@@ -63,6 +63,17 @@ impl Due {
         match self {
             Due::AtTag(next) => !last.is_before(next),
             Due::AtStop => true,
+            Due::Never => false,
+        }
+    }
+
+    /// Whether this is before the tag, where the stop is the last.
+    pub(crate) fn is_before(self, low: Tag, last: Tag) -> bool
+        ensures { IsTrue result ↔ IsDueBefore last low self }
+    {
+        match self {
+            Due::AtTag(next) => next.is_before(low),
+            Due::AtStop => last.is_before(low),
             Due::Never => false,
         }
     }

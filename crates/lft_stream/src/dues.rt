@@ -7,7 +7,7 @@ ghost use Rattle.lft_trace.specs.declared.row.Row.{Row as TheRow};
 ghost use Rattle.lft_model.specs.Presence.{stop, Triggered};
 ghost use Rattle.lft_model.specs.Runs.{Ran};
 ghost use Rattle.lft_stream.specs.declared.due.Due.{Due as TheDue};
-ghost use Rattle.lft_stream.specs.Dues.{AreDue, AreDues, IsOwed, NoneOwed, SomeOccurs};
+ghost use Rattle.lft_stream.specs.Dues.{AreDue, AreDues, IsOwed, NoneOwed, IsDueBefore, NoneDueBefore, SomeOccurs};
 
 use crate::due::Due;
 use lft_flat::Trigger;
@@ -50,6 +50,18 @@ fn none_owed(dues: &[Due], last: Tag) -> bool
 {
     for place in 0..dues.len() {
         if item_at(dues, place).is_owed(last) {
+            return false;
+        }
+    }
+    true
+}
+
+/// Whether none of these is before the tag, where the stop is the last.
+fn none_before(dues: &[Due], low: Tag, last: Tag) -> bool
+    ensures { IsTrue result → (k : ℕ) (due : TheDue) → slice_get dues.now k ≡ Some due → ¬ IsDueBefore last low due }
+{
+    for place in 0..dues.len() {
+        if item_at(dues, place).is_before(low, last) {
             return false;
         }
     }
@@ -133,6 +145,18 @@ impl Dues {
     {
         for number in 0..self.lists.len() {
             if !none_owed(self.of(number), last) {
+                return false;
+            }
+        }
+        true
+    }
+
+    /// Whether nothing is due before the tag, where the stop is the last.
+    pub(crate) fn none_before(&self, low: Tag, last: Tag) -> bool
+        ensures { IsTrue result → NoneDueBefore last low self.now }
+    {
+        for number in 0..self.lists.len() {
+            if !none_before(self.of(number), low, last) {
                 return false;
             }
         }

@@ -10,7 +10,7 @@ ghost use Rattle.lft_model.specs.Runs.{Ran};
 ghost use Rattle.lft_rows.specs.Marks.{AreMarks, AreBefore as HaveMarksTo, IsLaid};
 ghost use Rattle.lft_by_tag.specs.Slices.{IsSlice, Rises, runs_in};
 ghost use Rattle.lft_check.specs.Verdicts.{IsAccepted};
-ghost use Rattle.lft_stream.specs.Dues.{AreDues};
+ghost use Rattle.lft_stream.specs.Dues.{AreDues, NoneDueBefore};
 ghost use Rattle.lft_stream.specs.Kept.{KeepRules, IsLater, IsStreamOf, RisesAt, IsAtHand, IsJudged};
 ghost use Rattle.lft_stream.specs.Present.{AreShown};
 
@@ -343,6 +343,13 @@ impl Stream {
             first = slice.end;
         }
         true
+    }
+
+    /// Whether nothing is due before the tag.
+    pub(crate) fn is_timely(&self, low: Tag) -> bool
+        ensures { IsTrue result → NoneDueBefore self.now.stop low self.now.dues }
+    {
+        self.dues.none_before(low, self.stop)
     }
 
     /// The counts, where nothing is owed up to the stop.

@@ -1,0 +1,12 @@
+pub mod Behind
+pub mod Before
+pub mod Same
+pub mod Finished
+pub mod Rows
+pub mod Whole
+pub mod Dropped
+pub mod Later
+pub mod Keeping
+pub mod Coming
+pub mod Going
+pub mod Staying

@@ -1,0 +1,45 @@
+//! Rows that come one after another, of which nothing is broken so far.
+
+ghost use Rattle.std.specs.Prelude.{◌≡◌, ◌<◌, ◌-◌, ℕ, List, ◌++◌, length, Some, IsTrue, slice_get};
+ghost use Rattle.lft_tag.specs.Tags.{UpTo, after};
+ghost use Rattle.lft_trace.specs.declared.row.Row.{Row as TheRow};
+ghost use Rattle.lft_trace.specs.Fits.{RowsFit};
+ghost use Rattle.lft_stream.specs.Kept.{IsAcceptorOf, low_of};
+ghost use Rattle.lft_follow.specs.Sure.{IsUnbroken};
+
+use lft_model::Plan;
+use lft_stream::Acceptor;
+use lft_tag::Tag;
+use lft_trace::{Row, row_at};
+use std::alloc::Global;
+
+/// Whether nothing is broken so far, of tags before this one. It is false too where that isn't known.
+// The plan is passed for what the contract says of it.
+pub fn is_unbroken(acceptor: &Acceptor, plan: &Plan, low: Tag) -> bool
+    ghost rows: { List TheRow }
+    requires stands { IsAcceptorOf plan.now rows acceptor.now }
+    requires low { UpTo low (low_of acceptor.now.stream.tag) }
+    ensures { IsTrue result → IsUnbroken plan.now rows low }
+{
+    let _ = plan;
+    acceptor.is_timely(low)
+}
+
+/// Goes on past more rows, of whole tags. Where it is true nothing is broken up to the tag of the last row,
+/// whatever rows come at later tags. Where it is false the rows may break a rule, or too much is to be
+/// looked at, or memory is refused.
+pub fn go_on(acceptor: &mut Acceptor, alloc: Global, plan: &Plan, rows: &[Row]) -> bool
+    ghost done: { List TheRow }
+    requires fit { RowsFit plan.now.program rows.now }
+    requires some { 0 < length rows.now }
+    requires stands { IsAcceptorOf plan.now done acceptor.old }
+    ensures stands { IsTrue result → IsAcceptorOf plan.now (done ++ rows.now) acceptor.new }
+    ensures unbroken { IsTrue result → (x : TheRow) → slice_get rows.now (length rows.now - 1) ≡ Some x → IsUnbroken plan.now (done ++ rows.now) (after x.tag 0) }
+{
+    let last = row_at(rows, rows.len() - 1);
+    let low = last.tag.after(0, 0);
+    if !acceptor.add(alloc, plan, rows) {
+        return false;
+    }
+    acceptor.is_timely(low)
+}

@@ -1,0 +1,7 @@
+use Rattle.std.proofs.Common.{◌≡◌, ℕ, ◌<◌, List, Some, slice_get}
+use Rattle.lft_stream.specs.declared.due.Due.{Due}
+use Rattle.lft_stream.specs.Dues.{IsDueBefore}
+use Rattle.lft_stream.proofs.dues.Dues.none_before.Given as goal
+
+abbrev pub invariant-loop-number : goal.invariant-loop-number
+invariant-loop-number l = (r k : ℕ) (list : List Due) (due : Due) → r < l.number → slice_get l.self r ≡ Some list → slice_get list k ≡ Some due → ¬ IsDueBefore l.last l.low due
