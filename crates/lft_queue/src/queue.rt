@@ -74,6 +74,13 @@ impl Queue {
         }
     }
 
+    /// How many events there are. It takes no memory.
+    pub fn len(&self) -> usize
+        ensures { result ≡ length self.now }
+    {
+        self.values.len()
+    }
+
     /// Puts an event in. Where the port or action has an event at the tag, or memory is refused,
     /// the queue stays as it was.
     pub fn put(&mut self, tag: Tag, name: Name, value: Value) -> Result<(), QueueFault>

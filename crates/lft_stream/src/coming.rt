@@ -17,6 +17,10 @@ use lft_tag::{NoMemory, Tag};
 use lft_trace::Externals;
 use std::alloc::Global;
 
+/// So many events may be in the queue at once, which is some 25 MB. A program whose delays keep more
+/// on their way is judged with less memory by an index of what the rows cause.
+const MOST: usize = 262_144;
+
 /// The events that are still to be met: those in the queue, and the external ones from a place on.
 #[derive(Drop)]
 pub(crate) struct Coming {
@@ -47,13 +51,16 @@ impl Coming {
         }
     }
 
-    /// Puts an event in. It is false where the name has an event at the tag already, or memory is
-    /// refused.
+    /// Puts an event in. It is false where the name has an event at the tag already, too many events
+    /// are in the queue, or memory is refused.
     fn put(&mut self, tag: Tag, name: Name, value: Value) -> bool
         ensures next { self.new.next ≡ self.old.next }
         ensures absent { IsTrue result → value_of tag name self.old.queue ≡ None }
         ensures put { IsTrue result → Becomes self.old.queue self.new.queue tag name (Some value) }
     {
+        if self.queue.len() >= MOST {
+            return false;
+        }
         match self.queue.put(tag, name, value) {
             Ok(()) => true,
             Err(_) => false,
