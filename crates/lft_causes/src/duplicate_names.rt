@@ -7,6 +7,7 @@ ghost use Rattle.lft_scope.specs.Causes.{DeclaresTwice, DuplicateName, GivesTwic
 ghost use Rattle.lft_scope.specs.References.{reactor_trees};
 ghost use Rattle.lft_scope.specs.Tests.{texts};
 
+use lft_scope::hashing::NameHash;
 use lft_scope::names::{declared_names, reactor_names};
 use lft_tag::NoMemory;
 use lft_tree::{Assignment, Instance, Member, Reactor};
@@ -17,7 +18,7 @@ use std::collections::HashSet;
 fn has_twice(alloc: Global, names: &[&str]) -> Result<bool, NoMemory>
     ensures { IfOk result (λ b. IsTrue b ↔ IsTwice (texts names.now)) }
 {
-    let mut seen = HashSet::new(alloc);
+    let mut seen = HashSet::with_hasher(alloc, NameHash::of(names));
     for name in names {
         if !seen.insert(*name)? {
             return Ok(true);

@@ -7,6 +7,7 @@ ghost use Rattle.lft_scope.specs.Kinds.{ref_in, reads_of};
 ghost use Rattle.lft_scope.specs.References.{ref_trees};
 
 use crate::seen::SeenNames;
+use lft_scope::hashing::NameHash;
 use lft_tag::NoMemory;
 use lft_tree::{Reaction, Reference, Trigger};
 use std::alloc::Global;
@@ -15,7 +16,7 @@ use std::alloc::Global;
 pub(crate) fn has_twice(alloc: Global, references: &[&Reference]) -> Result<bool, NoMemory>
     ensures { IfOk result (λ b. IsTrue b ↔ IsTwice (ref_trees references.now)) }
 {
-    let mut seen = SeenNames::new(alloc);
+    let mut seen = SeenNames::new(alloc, NameHash::of_references(references));
     for reference in references {
         if !seen.add(reference)? {
             return Ok(true);

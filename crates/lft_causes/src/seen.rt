@@ -5,6 +5,7 @@ ghost use Rattle.lft_tree.specs.Tree.{RefTree};
 ghost use Rattle.lft_tree.specs.View.{ref_view};
 ghost use Rattle.lft_causes.specs.Seen.{has_seen, same_ref};
 
+use lft_scope::hashing::NameHash;
 use lft_tag::NoMemory;
 use lft_tree::Reference;
 use std::alloc::Global;
@@ -14,18 +15,18 @@ use std::collections::HashSet;
 /// contained instances.
 #[derive(Drop)]
 pub struct SeenNames<'a> {
-    own: HashSet<&'a str>,
-    inner: HashSet<(&'a str, &'a str)>,
+    own: HashSet<&'a str, NameHash>,
+    inner: HashSet<(&'a str, &'a str), NameHash>,
 }
 
 impl<'a> SeenNames<'a> {
-    /// None was met.
-    pub fn new(alloc: Global) -> SeenNames<'a>
+    /// None was met. It is best if the hash depends on all the names to come.
+    pub fn new(alloc: Global, hash: NameHash) -> SeenNames<'a>
         ensures { (q : RefTree) → has_seen result q ≡ false }
     {
         SeenNames {
-            own: HashSet::new(alloc),
-            inner: HashSet::new(alloc),
+            own: HashSet::with_hasher(alloc, hash),
+            inner: HashSet::with_hasher(alloc, hash),
         }
     }
 

@@ -10,6 +10,7 @@ ghost use Rattle.lft_scope.specs.Tests.{IsTestOf};
 
 use crate::references::push_all;
 use crate::seen::SeenNames;
+use lft_scope::hashing::NameHash;
 use lft_scope::members;
 use lft_tag::NoMemory;
 use lft_tree::{Reactor, Reference};
@@ -43,7 +44,7 @@ fn effects(alloc: Global, reactor: &Reactor) -> Result<Vec<&Reference>, NoMemory
 fn set_of<'a>(alloc: Global, references: &[&'a Reference]) -> Result<SeenNames<'a>, NoMemory>
     ensures { IfOk result (λ set. IsTestOf (has_seen set) (ref_trees references.now)) }
 {
-    let mut set = SeenNames::new(alloc);
+    let mut set = SeenNames::new(alloc, NameHash::of_references(references));
     for reference in references {
         set.add(reference)?;
     }
@@ -59,7 +60,7 @@ fn meets(
     ensures { IfOk result (λ b. IsTrue b ↔ (IsTwice (ref_trees destinations.now) ⊎ Any (λ ref. Contains (ref_trees effects.now) ref) (ref_trees destinations.now))) }
 {
     let written = set_of(alloc, effects)?;
-    let mut joined = SeenNames::new(alloc);
+    let mut joined = SeenNames::new(alloc, NameHash::of_references(destinations));
     for destination in destinations {
         if written.has(destination) {
             return Ok(true);

@@ -7,6 +7,7 @@ ghost use Rattle.lft_scope.specs.Causes.{UnknownReactor};
 ghost use Rattle.lft_scope.specs.References.{reactor_trees};
 ghost use Rattle.lft_scope.specs.Tests.{IsTestOf, has_text, texts};
 
+use lft_scope::hashing::NameHash;
 use lft_scope::names::reactor_names;
 use lft_tag::NoMemory;
 use lft_tree::{Member, Reactor};
@@ -14,10 +15,10 @@ use std::alloc::Global;
 use std::collections::HashSet;
 
 /// The names as a set.
-fn set_of<'a>(alloc: Global, names: &[&'a str]) -> Result<HashSet<&'a str>, NoMemory>
+fn set_of<'a>(alloc: Global, names: &[&'a str]) -> Result<HashSet<&'a str, NameHash>, NoMemory>
     ensures { IfOk result (λ set. IsTestOf (has_text set) (texts names.now)) }
 {
-    let mut set = HashSet::new(alloc);
+    let mut set = HashSet::with_hasher(alloc, NameHash::of(names));
     for name in names {
         set.insert(*name)?;
     }
@@ -25,7 +26,7 @@ fn set_of<'a>(alloc: Global, names: &[&'a str]) -> Result<HashSet<&'a str>, NoMe
 }
 
 /// Whether the member is an instance of a reactor that has none of these names.
-fn is_unknown(names: &HashSet<&str>, member: &Member) -> bool
+fn is_unknown(names: &HashSet<&str, NameHash>, member: &Member) -> bool
     ensures { IsTrue result ↔ IsSomeAnd (instance_in (member_view member.now)) (λ i. has_text names.now i.reactor ≡ false) }
 {
     match member {
@@ -36,7 +37,7 @@ fn is_unknown(names: &HashSet<&str>, member: &Member) -> bool
 }
 
 /// Whether the reactor contains an instance of a reactor that has none of these names.
-fn has_unknown(names: &HashSet<&str>, reactor: &Reactor) -> bool
+fn has_unknown(names: &HashSet<&str, NameHash>, reactor: &Reactor) -> bool
     ensures { IsTrue result ↔ Any (λ i. has_text names.now i.reactor ≡ false) (instances_of (reactor_view reactor.now)) }
 {
     for member in &reactor.members {
@@ -48,7 +49,7 @@ fn has_unknown(names: &HashSet<&str>, reactor: &Reactor) -> bool
 }
 
 /// Whether some reactor has one that contains an instance of a reactor with none of these names.
-fn some_has_unknown(names: &HashSet<&str>, reactors: &[&Reactor]) -> bool
+fn some_has_unknown(names: &HashSet<&str, NameHash>, reactors: &[&Reactor]) -> bool
     ensures { IsTrue result ↔ Any (λ r. Any (λ i. has_text names.now i.reactor ≡ false) (instances_of r)) (reactor_trees reactors.now) }
 {
     for reactor in reactors {

@@ -2,6 +2,7 @@
 
 use crate::near::nearest;
 use crate::refused::Refused;
+use lft_scope::hashing::NameHash;
 use lft_scope::names::{Declared, declared_names, parameter_names, push_names, reactor_names};
 use lft_tag::NoMemory;
 use lft_tree::{Member, Reactor};
@@ -47,8 +48,9 @@ impl<'a> Refused<'a> {
     }
 
     /// The names of the reactors that have a port of that name.
-    fn with_port(&self, wanted: &str) -> Result<HashSet<&'a str>, NoMemory> {
-        let mut found = HashSet::new(self.alloc);
+    fn with_port(&self, wanted: &str) -> Result<HashSet<&'a str, NameHash>, NoMemory> {
+        let names = reactor_names(self.alloc, self.reactors)?;
+        let mut found = HashSet::with_hasher(self.alloc, NameHash::of(&names));
         for reactor in self.reactors {
             if let Some(name) = &reactor.name {
                 if has_port(reactor, wanted) {

@@ -5,6 +5,7 @@ ghost use Rattle.lft_tree.specs.View.{reactor_view};
 ghost use Rattle.lft_scope.specs.Tests.{member_names, texts};
 ghost use Rattle.lft_scope.specs.Places.{IsIndexOf, place_in};
 
+use crate::hashing::NameHash;
 use crate::names::{Declared, parameter_names, push_names};
 use lft_tag::NoMemory;
 use lft_tree::Reactor;
@@ -14,16 +15,16 @@ use std::collections::HashMap;
 /// Where each name of a list stands in it first.
 #[derive(Drop)]
 pub struct Index<'a> {
-    places: HashMap<&'a str, usize>,
+    places: HashMap<&'a str, usize, NameHash>,
 }
 
 impl<'a> Index<'a> {
     /// An index of no names.
-    fn new(alloc: Global) -> Index<'a>
+    fn new(alloc: Global, hash: NameHash) -> Index<'a>
         ensures { (q : List ℕ) → place_in result q ≡ None }
     {
         Index {
-            places: HashMap::new(alloc),
+            places: HashMap::with_hasher(alloc, hash),
         }
     }
 
@@ -46,7 +47,7 @@ impl<'a> Index<'a> {
     pub fn of(alloc: Global, names: &[&'a str]) -> Result<Index<'a>, NoMemory>
         ensures { IfOk result (λ index. IsIndexOf index (texts names.now)) }
     {
-        let mut index = Index::new(alloc);
+        let mut index = Index::new(alloc, NameHash::of(names));
         for place in 0..names.len() {
             let name = names[place];
             if index.get(name).is_none() {

@@ -5,6 +5,7 @@
 pub mod by_number;
 mod fault;
 pub mod file;
+pub mod hashing;
 pub mod index;
 pub mod kinds;
 pub mod members;

@@ -15,6 +15,7 @@ use crate::names::names_of;
 use crate::twice::{first_named_twice, place_of};
 use crate::witness::{Naming, Witness};
 use lft_causes::seen::SeenNames;
+use lft_scope::hashing::NameHash;
 use lft_scope::kinds::Role;
 use lft_tag::NoMemory;
 use lft_tree::{Reactor, Reference};
@@ -61,7 +62,7 @@ fn placed(
 fn set_of<'a>(alloc: Global, names: &[&'a Reference]) -> Result<SeenNames<'a>, NoMemory>
     ensures { IfOk result (λ set. IsTestOf (has_seen set) (ref_trees names.now)) }
 {
-    let mut set = SeenNames::new(alloc);
+    let mut set = SeenNames::new(alloc, NameHash::of_references(names));
     for name in names {
         set.add(name)?;
     }

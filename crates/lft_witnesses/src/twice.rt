@@ -14,6 +14,7 @@ ghost use Rattle.lft_witnesses.specs.Findings.{IsFinding, IsTwiceAt, cause_of};
 use crate::finding::Finding;
 use crate::names::names_of;
 use lft_causes::seen::SeenNames;
+use lft_scope::hashing::NameHash;
 use lft_scope::kinds::Role;
 use lft_tag::NoMemory;
 use lft_tree::{Assignment, Member, Reference};
@@ -39,7 +40,7 @@ pub(crate) fn first_twice(alloc: Global, names: &[&str]) -> Result<Option<(usize
     ensures some { IfOk result (λ found. IfSome found (λ p. IsTwiceAt (texts names.now) p.0 p.1)) }
     ensures none { IfOk result (λ found. IfNone found (¬ IsTwice (texts names.now))) }
 {
-    let mut seen = HashSet::new(alloc);
+    let mut seen = HashSet::with_hasher(alloc, NameHash::of(names));
     for place in 0..names.len() {
         if !seen.insert(names[place])? {
             return Ok(text_before(names, place));
@@ -97,7 +98,7 @@ pub(crate) fn first_named_twice(
     ensures some { IfOk result (λ found. IfSome found (λ p. IsTwiceAt (ref_trees names.now) p.0 p.1)) }
     ensures none { IfOk result (λ found. IfNone found (¬ IsTwice (ref_trees names.now))) }
 {
-    let mut seen = SeenNames::new(alloc);
+    let mut seen = SeenNames::new(alloc, NameHash::of_references(names));
     for place in 0..names.len() {
         if !seen.add(names[place])? {
             return Ok(name_before(names, place));
