@@ -1,5 +1,5 @@
 -- What is told of the effects of two runs.
-use Rattle.std.proofs.Common.{◌≡◌, ◌≢◌, ℕ, zero, suc, ◌+◌, ◌<◌, ◌≤◌, ◌⊎◌, inl, inr, List, [], ◌∷◌, ◌++◌, All, Contains, length, map, sym, ap, ◌∙◌, refl, subst, arith, Option, Some, None, slice_get, MatchOption, Result, Ok, Err, IfOk}
+use Rattle.std.proofs.Common.{◌≡◌, ℕ, zero, suc, ◌+◌, ◌<◌, ◌≤◌, inl, inr, List, [], ◌∷◌, ◌++◌, All, Contains, length, map, sym, ap, ◌∙◌, refl, subst, arith, Option, Some, None, slice_get, MatchOption}
 use Rattle.std.proofs.lemmas.List.Elements.{All-nil, All-push, Contains-append_left, Contains-append_right}
 use native.Mathlib.Decide.{ℕ_discrete}
 use Rattle.lft_lists.proofs.Members.{mem_contains, contains_mem, mem_get, get_mem}
@@ -42,9 +42,8 @@ port_told g r mine theirs p n is o x = subst (λ (m : Name). MatchOption o (Have
     go None e = same_written mine theirs p e
     go (Some c) y = y
 
-pub action_told : (g : Tag) (r : ℕ) (mine theirs : List Placed) (a : ℕ) (n : Name) → n ≡ Action a → {E : Type 0} (result : Result (Option Contrast) E) → IfOk result (λ o. MatchOption o (events (schedulings mine a) ≡ events (schedulings theirs a)) (TellsOf g r mine theirs (Action a))) → IfOk result (λ o. MatchOption o (HaveSameOutcome mine theirs n) (TellsOf g r mine theirs n))
-action_told g r mine theirs a n is (Err e) x = tt
-action_told g r mine theirs a n is (Ok o) x = subst (λ (m : Name). MatchOption o (HaveSameOutcome mine theirs m) (TellsOf g r mine theirs m)) (sym is) (go o x)
+pub action_told : (g : Tag) (r : ℕ) (mine theirs : List Placed) (a : ℕ) (n : Name) → n ≡ Action a → (o : Option Contrast) → MatchOption o (events (schedulings mine a) ≡ events (schedulings theirs a)) (TellsOf g r mine theirs (Action a)) → MatchOption o (HaveSameOutcome mine theirs n) (TellsOf g r mine theirs n)
+action_told g r mine theirs a n is o x = subst (λ (m : Name). MatchOption o (HaveSameOutcome mine theirs m) (TellsOf g r mine theirs m)) (sym is) (go o x)
   where
     go : (u : Option Contrast) → MatchOption u (events (schedulings mine a) ≡ events (schedulings theirs a)) (TellsOf g r mine theirs (Action a)) → MatchOption u (HaveSameOutcome mine theirs (Action a)) (TellsOf g r mine theirs (Action a))
     go None e = same_scheduled mine theirs a e
@@ -56,6 +55,10 @@ of_some P Q o c e m = subst (λ (u : Option Contrast). MatchOption u P Q) e m
 
 pub of_none : (P : Type 0) (Q : Contrast → Type 0) (o : Option Contrast) → o ≡ None → MatchOption o P Q → P
 of_none P Q o e m = subst (λ (u : Option Contrast). MatchOption u P Q) e m
+
+-- what is found of two runs that are known
+pub of_runs : (g : Tag) (r : ℕ) (n : Name) (mine theirs first second : List Placed) (o : Option Contrast) → first ≡ mine → second ≡ theirs → MatchOption o (HaveSameOutcome first second n) (TellsOf g r first second n) → MatchOption o (HaveSameOutcome mine theirs n) (TellsOf g r mine theirs n)
+of_runs g r n mine theirs first second o p q m = subst (λ (xs : List Placed). MatchOption o (HaveSameOutcome xs theirs n) (TellsOf g r xs theirs n)) p (subst (λ (ys : List Placed). MatchOption o (HaveSameOutcome first ys n) (TellsOf g r first ys n)) q m)
 
 -- what is told of the first effects
 pub record ToldTo (g : Tag) (r : ℕ) (effects : List Name) (mine theirs : List Placed) (place : ℕ) (told : List Contrast) : Type 0 where

@@ -1,5 +1,6 @@
 pub mod Placing
 pub mod Outcomes
+pub mod Answered
 pub mod Differing
 pub mod Counting
 pub mod Added

@@ -1,4 +1,5 @@
 pub mod Runs
+pub mod Answered
 pub mod Counts
 pub mod Contrasts
 pub mod Enough

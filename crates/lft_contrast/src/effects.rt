@@ -7,7 +7,7 @@ ghost use Rattle.lft_contrast.specs.Runs.{last_write as the_last_write, scheduli
 ghost use Rattle.lft_contrast.specs.Contrasts.{value_of as the_value_of, event_of as the_event_of, events};
 ghost use Rattle.lft_contrast.specs.Enough.{HaveSameOutcome, TellsOf, TellsStop, IsToldOf, IsOfEffect};
 
-use crate::answers::{last_request, last_write, schedulings};
+use crate::answers::{Answered, last_request};
 use crate::contrasts::{Contrast, LastWrite, Placed, Scheduling};
 use lft_flat::{Name, Value};
 use lft_lists::item_at;
@@ -40,13 +40,13 @@ fn written(
     tag: Tag,
     reaction: u32,
     port: u32,
-    mine: &[Placed],
-    theirs: &[Placed],
+    mine: &Answered,
+    theirs: &Answered,
 ) -> Option<Contrast>
     ensures { MatchOption result (the_value_of (the_last_write mine.now port) ≡ the_value_of (the_last_write theirs.now port)) (TellsOf tag reaction mine.now theirs.now (Port port)) }
 {
-    let first = last_write(mine, port);
-    let second = last_write(theirs, port);
+    let first = mine.last_write(port);
+    let second = theirs.last_write(port);
     if is_same_value(first, second) {
         return None;
     }
@@ -70,23 +70,15 @@ fn is_same_event(first: Option<Scheduling>, second: Option<Scheduling>) -> bool
     }
 }
 
-/// The scheduling at the place, if there is one.
-fn scheduling_at(list: &[Scheduling], place: usize) -> Option<Scheduling>
-    ensures { result ≡ slice_get list.now place }
+/// The first place at which the schedulings of the action aren't the same in two runs.
+fn first_other(mine: &Answered, theirs: &Answered, action: u32) -> Option<usize>
+    ensures { MatchOption result (events (the_schedulings mine.now action) ≡ events (the_schedulings theirs.now action)) (λ k. ¬ (the_event_of (slice_get (the_schedulings mine.now action) k) ≡ the_event_of (slice_get (the_schedulings theirs.now action) k))) }
 {
-    if place < list.len() {
-        Some(item_at(list, place))
-    } else {
-        None
-    }
-}
-
-/// The first place at which two lists of schedulings aren't the same.
-fn first_other(mine: &[Scheduling], theirs: &[Scheduling]) -> Option<usize>
-    ensures { MatchOption result (events mine.now ≡ events theirs.now) (λ k. ¬ (the_event_of (slice_get mine.now k) ≡ the_event_of (slice_get theirs.now k))) }
-{
-    for place in 0..mine.len().max(theirs.len()) {
-        if !is_same_event(scheduling_at(mine, place), scheduling_at(theirs, place)) {
+    for place in 0..mine.count(action).max(theirs.count(action)) {
+        if !is_same_event(
+            mine.scheduling(action, place),
+            theirs.scheduling(action, place),
+        ) {
             return Some(place);
         }
     }
@@ -95,44 +87,38 @@ fn first_other(mine: &[Scheduling], theirs: &[Scheduling]) -> Option<usize>
 
 /// The first scheduling of the action that isn't the same in two runs.
 fn scheduled(
-    alloc: Global,
     tag: Tag,
     reaction: u32,
     action: u32,
-    mine: &[Placed],
-    theirs: &[Placed],
-) -> Result<Option<Contrast>, NoMemory>
-    ensures { IfOk result (λ told. MatchOption told (events (the_schedulings mine.now action) ≡ events (the_schedulings theirs.now action)) (TellsOf tag reaction mine.now theirs.now (Action action))) }
+    mine: &Answered,
+    theirs: &Answered,
+) -> Option<Contrast>
+    ensures { MatchOption result (events (the_schedulings mine.now action) ≡ events (the_schedulings theirs.now action)) (TellsOf tag reaction mine.now theirs.now (Action action)) }
 {
-    let all = schedulings(alloc, mine, action)?;
-    let others = schedulings(alloc, theirs, action)?;
-    let Some(place) = first_other(all.as_slice(), others.as_slice()) else {
-        return Ok(None);
-    };
-    Ok(Some(Contrast::Scheduled {
+    let place = first_other(mine, theirs, action)?;
+    Some(Contrast::Scheduled {
         tag,
         reaction,
         action,
         place,
-        first: scheduling_at(all.as_slice(), place),
-        second: scheduling_at(others.as_slice(), place),
-    }))
+        first: mine.scheduling(action, place),
+        second: theirs.scheduling(action, place),
+    })
 }
 
 /// What two runs answered for the effect, where it isn't the same.
 fn effect(
-    alloc: Global,
     tag: Tag,
     reaction: u32,
     effect: Name,
-    mine: &[Placed],
-    theirs: &[Placed],
-) -> Result<Option<Contrast>, NoMemory>
-    ensures { IfOk result (λ told. MatchOption told (HaveSameOutcome mine.now theirs.now effect) (TellsOf tag reaction mine.now theirs.now effect)) }
+    mine: &Answered,
+    theirs: &Answered,
+) -> Option<Contrast>
+    ensures { MatchOption result (HaveSameOutcome mine.now theirs.now effect) (TellsOf tag reaction mine.now theirs.now effect) }
 {
     match effect {
-        Name::Port(port) => Ok(written(tag, reaction, port, mine, theirs)),
-        Name::Action(action) => scheduled(alloc, tag, reaction, action, mine, theirs),
+        Name::Port(port) => written(tag, reaction, port, mine, theirs),
+        Name::Action(action) => scheduled(tag, reaction, action, mine, theirs),
     }
 }
 
@@ -148,16 +134,11 @@ pub(crate) fn effect_contrasts(
     ensures right { IfOk result (λ list. All (IsOfEffect tag reaction effects.now mine.now theirs.now) list.items) }
     ensures all { IfOk result (λ list. (n : TheName) → Contains effects.now n → IsToldOf tag reaction mine.now theirs.now list.items n) }
 {
+    let first = Answered::new(alloc, mine)?;
+    let second = Answered::new(alloc, theirs)?;
     let mut told = Vec::new(alloc);
     for place in 0..effects.len() {
-        if let Some(contrast) = effect(
-            alloc,
-            tag,
-            reaction,
-            item_at(effects, place),
-            mine,
-            theirs,
-        )? {
+        if let Some(contrast) = effect(tag, reaction, item_at(effects, place), &first, &second) {
             told.push(contrast)?;
         }
     }

@@ -1,7 +1,7 @@
 use Rattle.std.proofs.Common.{List, ◌+◌, ap, ◌∙◌, sym, subst, arith}
 use Rattle.lft_contrast.specs.declared.contrasts.Contrast.{Contrast}
 use Rattle.lft_contrast.specs.Enough.{HaveSameOutcome, TellsOf}
-use Rattle.lft_contrast.proofs.Differing.{ToldTo, told_none, told_same, told_other, told_end, of_some, of_none}
+use Rattle.lft_contrast.proofs.Differing.{ToldTo, told_none, told_same, told_other, told_end, of_some, of_none, of_runs}
 use Rattle.lft_contrast.proofs.effects.effect_contrasts.Goals as goal
 use Rattle.lft_contrast.proofs.effects.effect_contrasts.Goals.{in-Some+in_ok-push, in_default}
 
@@ -12,9 +12,15 @@ pub loop-place-preserved : goal.loop-place-preserved
 loop-place-preserved c =
     let i = c.loop-place.place in
     let told = c.loop-place.told.items in
-    elim c.match-branch-2.branch [
-      | in-Some+in_ok-push w ↦ told_other c.args.tag c.args.reaction c.args.effects.now c.args.mine.now c.args.theirs.now i c.item_at.result c.item_at.ensures told c.match-branch-2.told.items w.in-Some.contrast (of_some (HaveSameOutcome c.args.mine.now c.args.theirs.now c.item_at.result) (TellsOf c.args.tag c.args.reaction c.args.mine.now c.args.theirs.now c.item_at.result) c.in_ok-contrast.field-0 w.in-Some.contrast w.in-Some.is c.in_ok-contrast.ensures) (ap (λ v. v.items) w.told-is ∙ w.in_ok-push.ensures.items) c.loop-place.invariant
-      | in_default w ↦ subst (λ (cs : List Contrast). ToldTo c.args.tag c.args.reaction c.args.effects.now c.args.mine.now c.args.theirs.now (i + 1) cs) (sym (ap (λ v. v.items) w.told-is)) (told_same c.args.tag c.args.reaction c.args.effects.now c.args.mine.now c.args.theirs.now i c.item_at.result c.item_at.ensures told (of_none (HaveSameOutcome c.args.mine.now c.args.theirs.now c.item_at.result) (TellsOf c.args.tag c.args.reaction c.args.mine.now c.args.theirs.now c.item_at.result) c.in_ok-contrast.field-0 w.in_default.is c.in_ok-contrast.ensures) c.loop-place.invariant)
+    let g = c.args.tag in
+    let r = c.args.reaction in
+    let mine = c.args.mine.now in
+    let theirs = c.args.theirs.now in
+    let n = c.item_at.result in
+    let found = of_runs g r n mine theirs c.in_ok-first.first c.in_ok-second.second c.effect.result c.in_ok-first.ensures c.in_ok-second.ensures c.effect.ensures in
+    elim c.match-effect.branch [
+      | in-Some+in_ok-push w ↦ told_other g r c.args.effects.now mine theirs i n c.item_at.ensures told c.match-effect.told.items w.in-Some.contrast (of_some (HaveSameOutcome mine theirs n) (TellsOf g r mine theirs n) c.effect.result w.in-Some.contrast w.in-Some.is found) (ap (λ v. v.items) w.told-is ∙ w.in_ok-push.ensures.items) c.loop-place.invariant
+      | in_default w ↦ subst (λ (cs : List Contrast). ToldTo g r c.args.effects.now mine theirs (i + 1) cs) (sym (ap (λ v. v.items) w.told-is)) (told_same g r c.args.effects.now mine theirs i n c.item_at.ensures told (of_none (HaveSameOutcome mine theirs n) (TellsOf g r mine theirs n) c.effect.result w.in_default.is found) c.loop-place.invariant)
     ]
 
 pub returns-clause-all : goal.returns-clause-all

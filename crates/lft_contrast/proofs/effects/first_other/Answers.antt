@@ -1,6 +1,10 @@
 use Rattle.std.proofs.Common.{arith}
+use Rattle.lft_contrast.specs.Runs.{schedulings}
 use Rattle.lft_contrast.proofs.Differing.{same_events}
 use Rattle.lft_contrast.proofs.effects.first_other.Goals as goal
 
 pub returns : goal.returns
-returns c = same_events c.args.mine.now c.args.theirs.now c.loop-place.place (let p = c.loop-place-test.false in omega arith) (let p = c.loop-place-test.false in omega arith) c.loop-place.invariant
+returns c =
+    let first = c.count.ensures in
+    let second = c.count-2.ensures in
+    same_events (schedulings c.args.mine.now c.args.action) (schedulings c.args.theirs.now c.args.action) c.loop-place.place (let p = c.loop-place-test.false in omega arith) (let p = c.loop-place-test.false in omega arith) c.loop-place.invariant
