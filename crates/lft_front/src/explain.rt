@@ -32,7 +32,7 @@ fn guess(alloc: Global, plan: &Plan, rows: &Rows, breach: Breach) -> Result<Stri
     requires fit { RowsFit plan.now.program rows.now }
     ensures { IfOk result (λ text. MayGuess plan.now rows.now breach (string_bytes text)) }
 {
-    match hint_of(plan, rows, breach) {
+    match hint_of(alloc, plan, rows, breach)? {
         Some(hint) => {
             let text = tell_hint(alloc, hint)?;
             Ok(text)

@@ -1,2 +1,3 @@
 pub mod Hints
+pub mod Actions
 pub mod Words

@@ -1,19 +1,23 @@
 //! Which hint a breach has.
 
-ghost use Rattle.std.specs.Prelude.{◌≡◌, ◌↔◌, ◌<◌, ℕ, length, IsTrue, IfSome, IfNone};
+ghost use Rattle.std.specs.Prelude.{◌≡◌, ◌≢◌, ◌↔◌, ◌<◌, ℕ, length, IsTrue, IfSome, IfNone, IfOk};
 ghost use Rattle.lft_flat.specs.declared.parts.Trigger.TheVariants.{Shutdown};
 ghost use Rattle.lft_trace.specs.Fits.{RowsFit};
-ghost use Rattle.lft_model.specs.Presence.{stop};
+ghost use Rattle.lft_model.specs.Presence.{stop, Triggered};
 ghost use Rattle.lft_hints.specs.declared.hint.Hint.{Hint as TheHint};
+ghost use Rattle.lft_hints.specs.Actions.{AreActions};
 ghost use Rattle.lft_hints.specs.Hints.{HasPort, HasTrigger, HasWholeDelay, IsHint, IsThousandfold, IsUntriggeredHint, SchedulesWhole};
 
 use crate::hint::Hint;
 use crate::rows::{all_before, is_first_of_worker, none_reads, none_writes};
 use lft_flat::{Name, Trigger};
 use lft_lists::item_at;
-use lft_model::{Breach, Plan, trace_stop, triggered_slow};
-use lft_tag::{MAX_TIME, Tag};
+use lft_model::{Breach, Plan, trace_stop};
+use lft_presence::presence_of;
+use lft_tag::{MAX_TIME, NoMemory, Tag};
 use lft_trace::{Row, Rows, Step, row_at};
+use std::alloc::Global;
+use std::collections::BTreeMap;
 
 /// Whether the trigger is among those of the reaction.
 fn has_trigger(plan: &Plan, reaction: u32, trigger: Trigger) -> bool
@@ -51,14 +55,37 @@ fn is_given_stop(plan: &Plan, rows: &[Row]) -> bool
     trace_stop(plan, rows).is_same(plan.externals().stop())
 }
 
-/// Whether the reaction is triggered at a thousand times the time of the tag.
-fn is_thousandfold(plan: &Plan, rows: &Rows, tag: Tag, reaction: u32) -> bool
+/// Whether the reaction is triggered at the tag. Its triggers are looked up in the causes of events, and
+/// the rows are gone through once, not once for each trigger.
+fn is_triggered(
+    alloc: Global,
+    plan: &Plan,
+    rows: &[Row],
+    tag: Tag,
+    reaction: u32,
+) -> Result<bool, NoMemory>
     requires fit { RowsFit plan.now.program rows.now }
     requires reaction { reaction < length plan.now.program.reactions }
-    ensures { IsTrue result ↔ IsThousandfold plan.now rows.now tag reaction }
+    ensures { IfOk result (λ is. IsTrue is ↔ Triggered plan.now rows.now tag reaction) }
+{
+    let presence = presence_of(alloc, plan, rows, trace_stop(plan, rows))?;
+    Ok(presence.triggered(tag, reaction))
+}
+
+/// Whether the reaction is triggered at a thousand times the time of the tag.
+fn is_thousandfold(
+    alloc: Global,
+    plan: &Plan,
+    rows: &[Row],
+    tag: Tag,
+    reaction: u32,
+) -> Result<bool, NoMemory>
+    requires fit { RowsFit plan.now.program rows.now }
+    requires reaction { reaction < length plan.now.program.reactions }
+    ensures { IfOk result (λ is. IsTrue is ↔ IsThousandfold plan.now rows.now tag reaction) }
 {
     if tag.time == 0 {
-        return false;
+        return Ok(false);
     }
     match tag.time.checked_mul(1000) {
         Some(time) if time <= MAX_TIME => {
@@ -66,16 +93,41 @@ fn is_thousandfold(plan: &Plan, rows: &Rows, tag: Tag, reaction: u32) -> bool
                 time,
                 micro: tag.micro,
             };
-            triggered_slow(plan, rows, later, reaction)
+            is_triggered(alloc, plan, rows, later, reaction)
         }
-        _ => false,
+        _ => Ok(false),
     }
 }
 
-/// Whether the row schedules an action that triggers the reaction for the tag, if its delay is taken for the
-/// whole one.
-fn schedules_whole(plan: &Plan, row: Row, tag: Tag, reaction: u32) -> bool
+/// The actions among the triggers of the reaction, each with its place there.
+fn trigger_actions(
+    alloc: Global,
+    plan: &Plan,
+    reaction: u32,
+) -> Result<BTreeMap<u32, usize>, NoMemory>
     requires { reaction < length plan.now.program.reactions }
+    ensures { IfOk result (AreActions plan.now.program reaction) }
+{
+    let triggers = plan.program().reaction(reaction).triggers.as_slice();
+    let mut actions = BTreeMap::new(alloc);
+    for place in 0..triggers.len() {
+        if let Trigger::On(Name::Action(action)) = item_at(triggers, place) {
+            let _before = actions.insert(action, place)?;
+        }
+    }
+    Ok(actions)
+}
+
+/// Whether the row schedules one of the actions, which trigger the reaction, for the tag, if its delay is
+/// taken for the whole one.
+fn schedules_whole(
+    plan: &Plan,
+    actions: &BTreeMap<u32, usize>,
+    row: Row,
+    tag: Tag,
+    reaction: u32,
+) -> bool
+    requires { AreActions plan.now.program reaction actions.now }
     ensures { IsTrue result ↔ SchedulesWhole plan.now.program tag reaction row }
 {
     match row.step {
@@ -84,87 +136,117 @@ fn schedules_whole(plan: &Plan, row: Row, tag: Tag, reaction: u32) -> bool
                 && tag.micro == 0
                 && row.tag.time < tag.time
                 && tag.time - row.tag.time == extra
-                && has_trigger(plan, reaction, Trigger::On(Name::Action(action)))
+                && actions.get(&action).is_some()
         }
         _ => false,
     }
 }
 
 /// The place of the first such row.
-fn whole_delay(plan: &Plan, rows: &[Row], tag: Tag, reaction: u32) -> Option<u32>
+fn whole_delay(
+    alloc: Global,
+    plan: &Plan,
+    rows: &[Row],
+    tag: Tag,
+    reaction: u32,
+) -> Result<Option<u32>, NoMemory>
     requires few { length rows.now < 4294967296 }
     requires reaction { reaction < length plan.now.program.reactions }
-    ensures some { IfSome result (HasWholeDelay plan.now.program rows.now tag reaction) }
-    ensures none { IfNone result ((i : ℕ) → HasWholeDelay plan.now.program rows.now tag reaction i → ⊥) }
+    ensures some { IfOk result (λ found. IfSome found (HasWholeDelay plan.now.program rows.now tag reaction)) }
+    ensures none { IfOk result (λ found. IfNone found ((i : ℕ) → HasWholeDelay plan.now.program rows.now tag reaction i → ⊥)) }
 {
+    let actions = trigger_actions(alloc, plan, reaction)?;
     for place in 0..rows.len() {
-        if schedules_whole(plan, row_at(rows, place), tag, reaction) {
-            return Some(place as u32);
+        if schedules_whole(plan, &actions, row_at(rows, place), tag, reaction) {
+            return Ok(Some(place as u32));
         }
     }
-    None
+    Ok(None)
 }
 
 /// What may be behind a run that nothing triggers.
-fn of_untriggered(plan: &Plan, rows: &Rows, tag: Tag, reaction: u32) -> Option<Hint>
+fn of_untriggered(
+    alloc: Global,
+    plan: &Plan,
+    rows: &[Row],
+    tag: Tag,
+    reaction: u32,
+) -> Result<Option<Hint>, NoMemory>
     requires fit { RowsFit plan.now.program rows.now }
     requires reaction { reaction < length plan.now.program.reactions }
-    ensures some { IfSome result (IsUntriggeredHint plan.now rows.now tag reaction) }
-    ensures none { IfNone result ((hint : TheHint) → IsUntriggeredHint plan.now rows.now tag reaction hint → ⊥) }
+    ensures some { IfOk result (λ hint. IfSome hint (IsUntriggeredHint plan.now rows.now tag reaction)) }
+    ensures none { IfOk result (λ hint. IfNone hint ((other : TheHint) → IsUntriggeredHint plan.now rows.now tag reaction other → ⊥)) }
 {
-    if is_thousandfold(plan, rows, tag, reaction) {
-        return Some(Hint::Thousandfold);
+    if is_thousandfold(alloc, plan, rows, tag, reaction)? {
+        return Ok(Some(Hint::Thousandfold));
     }
-    if let Some(row) = whole_delay(plan, rows.as_slice(), tag, reaction) {
-        return Some(Hint::WholeDelay { row });
+    if let Some(row) = whole_delay(alloc, plan, rows, tag, reaction)? {
+        return Ok(Some(Hint::WholeDelay { row }));
     }
     if has_trigger(plan, reaction, Trigger::Shutdown) {
-        return Some(Hint::RunsAtStop);
+        return Ok(Some(Hint::RunsAtStop));
     }
-    if none_writes(rows.as_slice()) && has_port(plan, reaction) {
-        return Some(Hint::NoWrites);
+    if none_writes(rows) && has_port(plan, reaction) {
+        return Ok(Some(Hint::NoWrites));
     }
-    None
+    Ok(None)
 }
 
-/// The first of the hints that holds of the breach, if one does.
-pub fn hint_of(plan: &Plan, rows: &Rows, breach: Breach) -> Option<Hint>
+/// The first of the hints on the rules 1, 3, 7 and 10 that holds of the breach, if one does. It takes no
+/// memory.
+fn of_other_rules(plan: &Plan, rows: &[Row], breach: Breach) -> Option<Hint>
     requires fit { RowsFit plan.now.program rows.now }
+    requires other { breach.rule ≢ 8 }
     ensures some { IfSome result (IsHint plan.now rows.now breach) }
     ensures none { IfNone result ((hint : TheHint) → IsHint plan.now rows.now breach hint → ⊥) }
 {
-    let all = rows.as_slice();
-    match (breach.rule, breach.reaction) {
-        (1, _) => {
+    match breach.rule {
+        1 => {
             let place = (breach.row as usize).checked_sub(2)?;
-            if place < all.len() && is_first_of_worker(all, place) {
+            if place < rows.len() && is_first_of_worker(rows, place) {
                 Some(Hint::FirstOfWorker)
             } else {
                 None
             }
         }
-        (3, _) => if breach.row == 2 {
+        3 => if breach.row == 2 {
             Some(Hint::FirstRow)
         } else {
             None
         },
-        (7, _) => if !all.is_empty() && all_before(all, breach.tag) && is_given_stop(plan, all) {
+        7 => if !rows.is_empty() && all_before(rows, breach.tag) && is_given_stop(plan, rows) {
             Some(Hint::TraceEnds)
         } else {
             None
         },
-        (8, Some(reaction)) => {
-            if (reaction as usize) < plan.program().reactions() {
-                of_untriggered(plan, rows, breach.tag, reaction)
-            } else {
-                None
-            }
-        }
-        (10, _) => if none_reads(all) {
+        10 => if none_reads(rows) {
             Some(Hint::NoReads)
         } else {
             None
         },
         _ => None,
+    }
+}
+
+/// The first of the hints that holds of the breach, if one does.
+pub fn hint_of(
+    alloc: Global,
+    plan: &Plan,
+    rows: &Rows,
+    breach: Breach,
+) -> Result<Option<Hint>, NoMemory>
+    requires fit { RowsFit plan.now.program rows.now }
+    ensures some { IfOk result (λ hint. IfSome hint (IsHint plan.now rows.now breach)) }
+    ensures none { IfOk result (λ hint. IfNone hint ((other : TheHint) → IsHint plan.now rows.now breach other → ⊥)) }
+{
+    let rows = rows.as_slice();
+    if breach.rule != 8 {
+        return Ok(of_other_rules(plan, rows, breach));
+    }
+    match breach.reaction {
+        Some(reaction) if (reaction as usize) < plan.program().reactions() => {
+            of_untriggered(alloc, plan, rows, breach.tag, reaction)
+        }
+        _ => Ok(None),
     }
 }

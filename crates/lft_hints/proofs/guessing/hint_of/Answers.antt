@@ -1,4 +1,4 @@
-use Rattle.std.proofs.Common.{◌≡◌, ◌<◌, ℕ, List, Option, Some, None, IfNone, length, ap, subst, arith}
+use Rattle.std.proofs.Common.{◌≡◌, ◌<◌, ℕ, List, Option, Some, None, IfNone, IfOk, Result, Ok, Err, length, ap, subst, arith}
 use Rattle.std.proofs.lemmas.Option.{slice_get_within}
 use Rattle.lft_trace.specs.declared.row.Row.{Row}
 use Rattle.lft_model.specs.declared.breach.Breach.{Breach}
@@ -12,6 +12,10 @@ use Rattle.lft_hints.proofs.guessing.hint_of.Goals as goal
 weaker : {X P Q : Type 0} (o : Option X) → (P → Q) → IfNone o P → IfNone o Q
 weaker None follows p = follows p
 weaker (Some x) follows p = p
+
+weaker_ok : {X E P Q : Type 0} (result : Result (Option X) E) → (P → Q) → IfOk result (λ o. IfNone o P) → IfOk result (λ o. IfNone o Q)
+weaker_ok (Ok o) follows p = weaker o follows p
+weaker_ok (Err e) follows p = p
 
 -- of a breach of rule 8 only the hints of its run are hints
 module _ (plan : PlanParts) (t : List Row) (b : Breach) (r : ℕ) (rule : b.rule ≡ 8) (run : b.reaction ≡ Some r) where
@@ -39,9 +43,9 @@ is_reaction plan t b r hint.FirstRow is = absurd is
 is_reaction plan t b r hint.TraceEnds is = absurd is
 is_reaction plan t b r hint.NoReads is = absurd is
 
-pub returns-then-reaction-reactions-clause-none : goal.returns-then-reaction-reactions-clause-none
-returns-then-reaction-reactions-clause-none c = weaker c.of_untriggered.result (no_hint c.args.plan.now c.args.rows.now c.args.breach c.in-8-Some.reaction (cc) (cc)) c.of_untriggered.ensures.none
+pub returns-in-Some-clause-none : goal.returns-in-Some-clause-none
+returns-in-Some-clause-none c = weaker_ok c.of_untriggered.result (no_hint c.args.plan.now c.args.rows.now c.args.breach c.in-Some.reaction (let e = c.if-breach-ne8.false in cc) (let e = c.in-Some.is in cc)) (subst (λ t. IfOk c.of_untriggered.result (λ hint. IfNone hint ((other : TheHint) → IsUntriggeredHint c.args.plan.now t c.args.breach.tag c.in-Some.reaction other → ⊥))) c.as_slice-rows.ensures c.of_untriggered.ensures.none)
 
-pub returns-else-reaction-reactions-clause-none : goal.returns-else-reaction-reactions-clause-none
-returns-else-reaction-reactions-clause-none c = no_hint c.args.plan.now c.args.rows.now c.args.breach c.in-8-Some.reaction (cc) (cc)
-    (λ h is. let same : length c.program.result.now.reactions ≡ length c.args.plan.now.program.reactions = ap (λ p. length p.reactions) c.program.ensures.value in let within = is_reaction c.args.plan.now c.args.rows.now c.args.breach c.in-8-Some.reaction h is in let past = c.if-reaction-reactions.false in absurd (omega arith))
+pub returns-in_default-clause-none : goal.returns-in_default-clause-none
+returns-in_default-clause-none c = no_hint c.args.plan.now c.args.rows.now c.args.breach c.in-Some.reaction (let e = c.if-breach-ne8.false in cc) (let e = c.in-Some.is in cc)
+    (λ h is. let same : length c.program.result.now.reactions ≡ length c.args.plan.now.program.reactions = ap (λ p. length p.reactions) c.program.ensures.value in let count = c.reactions.ensures.count in let within = is_reaction c.args.plan.now c.args.rows.now c.args.breach c.in-Some.reaction h is in let past = c.if-reaction-reactions.false in absurd (omega arith))
