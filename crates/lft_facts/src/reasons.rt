@@ -8,16 +8,17 @@ ghost use Rattle.lft_trace.specs.Fits.{RowsFit};
 ghost use Rattle.lft_model.specs.Presence.{Occurs};
 ghost use Rattle.lft_presence.specs.Causes.{AreCauses};
 ghost use Rattle.lft_facts.specs.Facts.{IsFact, IsCause, AreFacts};
-ghost use Rattle.lft_facts.specs.Reasons.{IsNearest};
+ghost use Rattle.lft_facts.specs.Reasons.{IsNearest, IsReason};
 ghost use Rattle.lft_facts.specs.Enough.{Adds, Extends};
 
+use crate::adding::add;
 use crate::cause::name_cause;
 use crate::facts::{Cause, Fact, Facts, Reason};
 use crate::firings::add_firings;
 use crate::hops::add_hops;
 use crate::nearest::{event_after, event_before};
 use crate::neighbours::{add_last_row, add_runs};
-use crate::stopping::add_stop;
+use crate::stopping::stop_reason;
 use lft_flat::{Name, Trigger};
 use lft_lists::item_at;
 use lft_model::Plan;
@@ -26,8 +27,7 @@ use lft_tag::{NoMemory, Tag};
 use lft_trace::{Row, row_at};
 use std::alloc::Global;
 
-/// Puts the way on which the event came behind the facts, where it is of a port, and what makes the
-/// stop, where something is present there.
+/// Puts the way on which the event came behind the facts, where it is of a port.
 fn add_way(
     alloc: Global,
     plan: &Plan,
@@ -44,7 +44,6 @@ fn add_way(
             let from = row_at(rows, row as usize).tag;
             add_hops(alloc, plan.program(), from, port, facts)
         }
-        Cause::AtShutdown { .. } => add_stop(plan, rows, facts),
         _ => Ok(()),
     }
 }
@@ -126,51 +125,56 @@ fn add_near(
 }
 
 /// Puts what is nearest to the tag of a trigger that is absent there behind the facts: events, firings,
-/// or the stop.
+/// or what makes the stop.
 fn add_absent(
     alloc: Global,
     plan: &Plan,
     rows: &[Row],
     causes: &[EventCause],
+    stop: Option<Reason>,
     tag: Tag,
     trigger: Trigger,
     facts: &mut Vec<Fact>,
 ) -> Result<(), NoMemory>
     requires fit { RowsFit plan.now.program rows.now }
     requires causes { AreCauses plan.now rows.now causes.now }
+    requires stop { IfSome stop (IsReason plan.now rows.now) }
     requires trigger { IsKnown plan.now.program trigger }
     requires absent { ¬ Occurs plan.now rows.now tag trigger }
     ensures { OnOk result (Adds plan.now rows.now facts.old.items facts.new.items) }
 {
     match trigger {
         Trigger::Startup => Ok(()),
-        Trigger::Shutdown => add_stop(plan, rows, facts),
+        Trigger::Shutdown => add(facts, stop),
         Trigger::Timer(timer) => add_firings(plan, rows, tag, timer, facts),
         Trigger::On(name) => add_near(alloc, plan, rows, causes, tag, name, facts),
     }
 }
 
-/// Puts what stands right behind the fact behind the others: the way of an event, and what is nearest to
-/// a trigger that is absent.
+/// Puts what stands right behind the fact behind the others: the way of an event, what makes the stop,
+/// where something is present there, and what is nearest to a trigger that is absent.
 fn add_details(
     alloc: Global,
     plan: &Plan,
     rows: &[Row],
     causes: &[EventCause],
+    stop: Option<Reason>,
     fact: Fact,
     facts: &mut Vec<Fact>,
 ) -> Result<(), NoMemory>
     requires fit { RowsFit plan.now.program rows.now }
     requires causes { AreCauses plan.now rows.now causes.now }
+    requires stop { IfSome stop (IsReason plan.now rows.now) }
     requires fact { IsFact plan.now rows.now fact }
     ensures { OnOk result (Adds plan.now rows.now facts.old.items facts.new.items) }
 {
     // Asked for what every plan keeps: what its reactions name is of its program.
     plan.keeps();
     match fact {
+        Fact::Cause(Cause::AtShutdown { .. }) => add(facts, stop),
         Fact::Cause(cause) => add_way(alloc, plan, rows, cause, facts),
         Fact::Untriggered { tag, trigger, .. } => {
-            add_absent(alloc, plan, rows, causes, tag, trigger, facts)
+            add_absent(alloc, plan, rows, causes, stop, tag, trigger, facts)
         }
         _ => Ok(()),
     }
@@ -233,11 +237,13 @@ pub(crate) fn with_reasons(
     requires holds { AreFacts plan.now rows.now facts.items }
     ensures { IfOk result (Extends plan.now rows.now facts.items) }
 {
+    // Many facts may be of the stop: a reaction may name `shutdown` again and again.
+    let stop = stop_reason(plan, rows);
     let mut all = Vec::new(alloc);
     for place in 0..facts.len() {
         let fact = item_at(facts.as_slice(), place);
         all.push(fact)?;
-        add_details(alloc, plan, rows, causes, fact, &mut all)?;
+        add_details(alloc, plan, rows, causes, stop, fact, &mut all)?;
     }
     for place in 0..facts.len() {
         let fact = item_at(facts.as_slice(), place);

@@ -1,14 +1,11 @@
 //! What makes the stop.
 
-ghost use Rattle.std.specs.Prelude.{◌≡◌, IfSome, OnOk};
+ghost use Rattle.std.specs.Prelude.{◌≡◌, IfSome};
 ghost use Rattle.lft_trace.specs.Fits.{RowsFit};
 ghost use Rattle.lft_facts.specs.Reasons.{IsReason};
-ghost use Rattle.lft_facts.specs.Enough.{Adds};
 
-use crate::adding::add;
-use crate::facts::{Fact, Reason};
+use crate::facts::Reason;
 use lft_model::{Plan, trace_stop};
-use lft_tag::NoMemory;
 use lft_trace::{Row, is_stop, row_at};
 
 /// The stop, and what makes it: the external inputs, or else the first row that asks for it.
@@ -28,12 +25,4 @@ pub(crate) fn stop_reason(plan: &Plan, rows: &[Row]) -> Option<Reason>
         }
     }
     None
-}
-
-/// Puts the stop, and what makes it, behind the facts.
-pub(crate) fn add_stop(plan: &Plan, rows: &[Row], facts: &mut Vec<Fact>) -> Result<(), NoMemory>
-    requires { RowsFit plan.now.program rows.now }
-    ensures { OnOk result (Adds plan.now rows.now facts.old.items facts.new.items) }
-{
-    add(facts, stop_reason(plan, rows))
 }
