@@ -1,5 +1,5 @@
 -- Pieces of a text, and what the first of some facts says.
-use Rattle.std.proofs.Common.{◌≡◌, ℕ, List, ◌∷◌, ◌++◌, append_assoc, ap, ◌∙◌}
+use Rattle.std.proofs.Common.{◌≡◌, ℕ, List, ◌++◌, append_assoc, ap, ◌∙◌}
 use Rattle.lft_flat.specs.Parts.{Parts}
 use Rattle.lft_facts.specs.declared.facts.Fact.{Fact}
 use Rattle.lft_trace.specs.declared.row.Row.{Row}

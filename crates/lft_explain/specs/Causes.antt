@@ -9,6 +9,7 @@ use Rattle.lft_words.specs.Words.{time_words, tag_words, port_words, action_word
 use Rattle.lft_words.specs.Lines.{line_words, tag_at, value_at}
 use Rattle.lft_explain.specs.Orders.{origin_of}
 use Rattle.lft_explain.specs.Ways.{delays_words}
+use Rattle.lft_explain.specs.Hops.{way_at}
 
 -- `startup is present at (0, 0).`
 abbrev pub startup_words : Tag → List ℕ
@@ -41,9 +42,9 @@ gets_words t g i = codes " gets " ++ value_at t i ++ codes " at " ++ tag_words g
 abbrev pub last_write_words : Parts → List Row → ℕ → ℕ → List ℕ
 last_write_words program t p i = line_words i ++ codes " is the last write of " ++ port_words program (origin_of program p) ++ codes " at " ++ tag_at t i ++ codes "\n"
 
--- `P gets V at G:`, and the line of the last write of its origin
+-- `P gets V at G:`, the line of the last write of its origin, and the way from there
 abbrev pub written_words : Parts → List Row → Tag → ℕ → ℕ → List ℕ
-written_words program t g p i = codes "  " ++ port_words program p ++ gets_words t g i ++ last_write_words program t p i
+written_words program t g p i = codes "  " ++ port_words program p ++ gets_words t g i ++ last_write_words program t p i ++ way_at program t p i
 
 -- the line that schedules an action
 abbrev pub schedules_words : List Row → ℕ → List ℕ

@@ -1,5 +1,6 @@
 pub mod Orders
 pub mod Ways
+pub mod Hops
 pub mod Causes
 pub mod Rows
 pub mod Runs

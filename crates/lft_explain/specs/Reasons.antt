@@ -14,7 +14,7 @@ use Rattle.lft_words.specs.Lines.{line_words, tag_at, worker_at}
 use Rattle.lft_explain.specs.Rows.{run_words}
 use Rattle.lft_explain.specs.Neighbours.{never_words, run_before_words, run_after_words, last_row_words}
 use Rattle.lft_explain.specs.Orders.{passed_by_words}
-use Rattle.lft_explain.specs.Ways.{hop_words, nearest_words}
+use Rattle.lft_explain.specs.Ways.{nearest_words}
 
 -- `The stop is G, as the external inputs say.`
 abbrev pub given_stop_words : Tag → List ℕ
@@ -72,7 +72,6 @@ last_of_worker_words t i k = codes "  The last row of worker " ++ worker_at t i 
 
 -- the text of a reason
 abbrev pub reason_words : Parts → List Row → Reason → List ℕ
-reason_words program t (reason.Hop hop) = hop_words program hop
 reason_words program t (reason.Nearest g x h) = nearest_words program x g h
 reason_words program t (reason.PassedBy g r) = passed_by_words program g r
 reason_words program t (reason.NeverRuns r) = never_words program r

@@ -8,8 +8,7 @@ use Rattle.lft_flat.specs.declared.parts.Trigger.TheVariants.{Startup, Shutdown,
 use Rattle.lft_trace.specs.declared.row.Row.{Row}
 use Rattle.lft_trace.specs.declared.row.Step.{Step}
 use Rattle.lft_trace.specs.declared.row.Step.TheVariants.{Start, Read, Write, Schedule, Stop, End}
-use Rattle.lft_facts.specs.declared.facts.Hop.{Hop}
-use Rattle.lft_words.specs.Words.{time_words, tag_words, port_words, trigger_words}
+use Rattle.lft_words.specs.Words.{time_words, tag_words, trigger_words}
 
 -- the delay of the connection into a port, if it has one
 abbrev pub delay_into : Parts → ℕ → Option ℕ
@@ -19,10 +18,6 @@ delay_into program p = option_and_then (λ (port : PortOf). option_and_then (λ 
 abbrev pub arrow_words : Option ℕ → List ℕ
 arrow_words None = codes " --> "
 arrow_words (Some delay) = codes " --" ++ time_words delay ++ codes "--> "
-
--- `P G --D--> Q H`
-abbrev pub hop_words : Parts → Hop → List ℕ
-hop_words program hop = codes "    " ++ port_words program hop.from ++ codes " " ++ tag_words hop.before ++ arrow_words (delay_into program hop.to) ++ port_words program hop.to ++ codes " " ++ tag_words hop.after ++ codes "\n"
 
 -- the least delay of an action
 abbrev pub least_delay : Parts → ℕ → ℕ

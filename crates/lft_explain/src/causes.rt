@@ -1,8 +1,10 @@
 //! The text of why something is present.
 
 ghost use Rattle.std.specs.Prelude.{◌≡◌, ◌++◌, OnOk, string_bytes};
+ghost use Rattle.lft_trace.specs.Fits.{RowsFit};
 ghost use Rattle.lft_explain.specs.Causes.{startup_words, shutdown_words, offset_of, period_of, periods_words, fires_words, gets_words, last_write_words, written_words, schedules_words, scheduled_words, given_words, cause_words};
 
+use crate::hops::push_way_at;
 use crate::orders::origin;
 use crate::ways::push_delays;
 use lft_facts::Cause;
@@ -13,7 +15,7 @@ use lft_words::{
     push_action, push_line, push_number, push_port, push_tag, push_tag_at, push_time, push_timer,
     push_value_at,
 };
-use std::alloc::AllocError;
+use std::alloc::{AllocError, Global};
 
 /// Puts that startup is present at the end of the text.
 fn push_startup(text: &mut String, tag: Tag) -> Result<(), AllocError>
@@ -117,8 +119,9 @@ fn push_last_write(
     Ok(())
 }
 
-/// Puts which row gives a port an event at the end of the text.
+/// Puts which row gives a port an event, and by which way, at the end of the text.
 fn push_written(
+    alloc: Global,
     text: &mut String,
     program: &Program,
     rows: &[Row],
@@ -126,12 +129,14 @@ fn push_written(
     port: u32,
     row: u32,
 ) -> Result<(), AllocError>
+    requires { RowsFit program.now rows.now }
     ensures { OnOk result (string_bytes text.new ≡ string_bytes text.old ++ written_words program.now rows.now tag port row) }
 {
     text.push_str("  ")?;
     push_port(text, program, port)?;
     push_gets(text, rows, tag, row)?;
     push_last_write(text, program, rows, port, row)?;
+    push_way_at(alloc, text, program, rows, port, row)?;
     Ok(())
 }
 
@@ -179,18 +184,22 @@ fn push_given(text: &mut String, program: &Program, tag: Tag, action: u32) -> Re
 
 /// Puts why something is present at the end of the text.
 pub(crate) fn push_cause(
+    alloc: Global,
     text: &mut String,
     program: &Program,
     rows: &[Row],
     cause: Cause,
 ) -> Result<(), AllocError>
+    requires { RowsFit program.now rows.now }
     ensures { OnOk result (string_bytes text.new ≡ string_bytes text.old ++ cause_words program.now rows.now cause) }
 {
     match cause {
         Cause::AtStartup { tag } => push_startup(text, tag),
         Cause::AtShutdown { tag } => push_shutdown(text, tag),
         Cause::Fires { tag, timer, count } => push_fires(text, program, tag, timer, count),
-        Cause::Written { tag, port, row } => push_written(text, program, rows, tag, port, row),
+        Cause::Written { tag, port, row } => push_written(
+            alloc, text, program, rows, tag, port, row,
+        ),
         Cause::Scheduled { tag, action, row } => {
             push_scheduled(text, program, rows, tag, action, row)
         }

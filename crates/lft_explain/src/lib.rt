@@ -3,6 +3,7 @@
 
 mod causes;
 mod explaining;
+mod hops;
 mod neighbours;
 mod orders;
 mod reads;

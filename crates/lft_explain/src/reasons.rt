@@ -7,7 +7,7 @@ ghost use Rattle.lft_explain.specs.Reasons.{given_stop_words, asked_stop_words, 
 use crate::neighbours::{push_last_row, push_never, push_run_after, push_run_before};
 use crate::orders::push_passed_by;
 use crate::rows::push_run;
-use crate::ways::{push_hop, push_nearest};
+use crate::ways::push_nearest;
 use lft_facts::{Reason, ThingKind};
 use lft_flat::{Name, Program};
 use lft_lists::item_at;
@@ -247,7 +247,6 @@ pub(crate) fn push_reason(
     ensures { OnOk result (string_bytes text.new ≡ string_bytes text.old ++ reason_words program.now rows.now reason) }
 {
     match reason {
-        Reason::Hop(hop) => push_hop(text, program, hop)?,
         Reason::Nearest { tag, trigger, at } => push_nearest(text, program, trigger, tag, at)?,
         Reason::PassedBy { tag, reaction } => push_passed_by(text, program, tag, reaction)?,
         Reason::NeverRuns { reaction } => push_never(text, program, reaction)?,

@@ -26,6 +26,7 @@ fn push_fact(
     rows: &[Row],
     fact: Fact,
 ) -> Result<(), NoMemory>
+    requires { RowsFit program.now rows.now }
     ensures { OnOk result (string_bytes text.new ≡ string_bytes text.old ++ fact_words program.now rows.now fact) }
 {
     match fact {
@@ -34,7 +35,7 @@ fn push_fact(
         | Fact::NoRun { .. }
         | Fact::Runs { .. }
         | Fact::Reads { .. } => {}
-        Fact::Cause(cause) => push_cause(text, program, rows, cause)?,
+        Fact::Cause(cause) => push_cause(alloc, text, program, rows, cause)?,
         Fact::HasTrigger { reaction, trigger } => {
             push_trigger_of(text, program, reaction, trigger)?
         }
@@ -59,6 +60,7 @@ fn details(
     rows: &[Row],
     facts: &[Fact],
 ) -> Result<String, NoMemory>
+    requires { RowsFit program.now rows.now }
     ensures { IfOk result (λ text. string_bytes text ≡ the_details program.now rows.now facts.now) }
 {
     let mut text = String::new(alloc);

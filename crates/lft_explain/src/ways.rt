@@ -1,17 +1,16 @@
 //! The text of where delays lead, and of what is nearest.
 
 ghost use Rattle.std.specs.Prelude.{◌≡◌, ◌++◌, OnOk, string_bytes};
-ghost use Rattle.lft_explain.specs.Ways.{delay_into as the_delay_into, arrow_words, hop_words, least_delay as the_least_delay, extra_of as the_extra_of, extra_at as the_extra_at, delays_words, side_words, happening as the_happening, nearest_of, nearest_words};
+ghost use Rattle.lft_explain.specs.Ways.{delay_into as the_delay_into, arrow_words, least_delay as the_least_delay, extra_of as the_extra_of, extra_at as the_extra_at, delays_words, side_words, happening as the_happening, nearest_of, nearest_words};
 
-use lft_facts::Hop;
 use lft_flat::{Program, Trigger};
 use lft_tag::Tag;
 use lft_trace::{Row, Step, row_at};
-use lft_words::{push_port, push_tag, push_time, push_trigger};
+use lft_words::{push_tag, push_time, push_trigger};
 use std::alloc::AllocError;
 
 /// The delay of the connection into the port, if there is one that has one.
-fn delay_into(program: &Program, port: u32) -> Option<u64>
+pub(crate) fn delay_into(program: &Program, port: u32) -> Option<u64>
     ensures { result ≡ the_delay_into program.now port }
 {
     if (port as usize) < program.ports() {
@@ -25,7 +24,7 @@ fn delay_into(program: &Program, port: u32) -> Option<u64>
 }
 
 /// Puts the arrow of a connection at the end of the text.
-fn push_arrow(text: &mut String, delay: Option<u64>) -> Result<(), AllocError>
+pub(crate) fn push_arrow(text: &mut String, delay: Option<u64>) -> Result<(), AllocError>
     ensures { OnOk result (string_bytes text.new ≡ string_bytes text.old ++ arrow_words delay) }
 {
     match delay {
@@ -36,22 +35,6 @@ fn push_arrow(text: &mut String, delay: Option<u64>) -> Result<(), AllocError>
             text.push_str("--> ")?;
         }
     }
-    Ok(())
-}
-
-/// Puts a connection, with the tags before and after it, at the end of the text.
-pub(crate) fn push_hop(text: &mut String, program: &Program, hop: Hop) -> Result<(), AllocError>
-    ensures { OnOk result (string_bytes text.new ≡ string_bytes text.old ++ hop_words program.now hop) }
-{
-    text.push_str("    ")?;
-    push_port(text, program, hop.from)?;
-    text.push_str(" ")?;
-    push_tag(text, hop.before)?;
-    push_arrow(text, delay_into(program, hop.to))?;
-    push_port(text, program, hop.to)?;
-    text.push_str(" ")?;
-    push_tag(text, hop.after)?;
-    text.push_str("\n")?;
     Ok(())
 }
 

@@ -17,7 +17,7 @@ use Rattle.lft_trace.specs.declared.row.Row.{Row}
 use Rattle.lft_model.specs.declared.breach.Breach.{Breach}
 use Rattle.lft_model.specs.Plans.{PlanParts}
 use Rattle.lft_facts.specs.declared.facts.Fact.{Fact}
-use Rattle.lft_facts.specs.Facts.{IsFact, AreFacts, IsRead, IsUntriggered}
+use Rattle.lft_facts.specs.Facts.{IsFact, IsShown, AreFacts, AreShown, IsRead, IsUntriggered}
 use Rattle.lft_facts.specs.Enough.{Adds, Extends, Gives, ProvesTag, ProvesRow}
 use Rattle.lft_facts.proofs.Lists.{all_left}
 
@@ -37,10 +37,10 @@ module _ (plan : PlanParts) (t : List Row) where
 
 -- more facts give the same breach
 pub adds_row : (plan : PlanParts) (t : List Row) (old new : List Fact) (b : Breach) → Adds plan t old new → ProvesRow old b → ProvesRow new b
-adds_row plan t old new b a gives other s all = gives other s (all_left (IsFact other s) old a.more (subst (λ (fs : List Fact). AreFacts other s fs) a.is all))
+adds_row plan t old new b a gives other s all = gives other s (all_left (IsShown other s) old a.more (subst (λ (fs : List Fact). AreShown other s fs) a.is all))
 
 pub adds_gives : (plan : PlanParts) (t : List Row) (old new : List Fact) (g : Tag) (o : Option ℕ) (k : ℕ) → Adds plan t old new → Gives old g o k → Gives new g o k
-adds_gives plan t old new g o k a gives other s all = gives other s (all_left (IsFact other s) old a.more (subst (λ (fs : List Fact). AreFacts other s fs) a.is all))
+adds_gives plan t old new g o k a gives other s all = gives other s (all_left (IsShown other s) old a.more (subst (λ (fs : List Fact). AreShown other s fs) a.is all))
 
 -- facts so far, among them the first of some others
 pub record ExtendsTo (plan : PlanParts) (t : List Row) (old : List Fact) (n : ℕ) (new : List Fact) : Type 0 where
@@ -66,7 +66,7 @@ module _ (plan : PlanParts) (t : List Row) (old : List Fact) where
 
   -- more facts give as much
   pub extends_proves : (new : List Fact) (b : Breach) → Extends plan t old new → ProvesTag old b → ProvesTag new b
-  extends_proves new b x proves other s all kept up = proves other s (All-weaker (Contains new) (IsFact other s) (λ f c. All-contains (IsFact other s) new f all c) old x.kept) kept up
+  extends_proves new b x proves other s all kept up = proves other s (All-weaker (Contains new) (IsShown other s) (λ f c. All-contains (IsShown other s) new f all c) old x.kept) kept up
 
 -- what a fact names is of the program
 pub read_known : (plan : PlanParts) (sound : IsSound plan.program) (t : List Row) (g : Tag) (r k : ℕ) (n : Name) (read present : Option Value) → IsRead plan t g r k n read present → IsNameOf plan.program n

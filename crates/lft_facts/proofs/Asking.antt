@@ -1,5 +1,5 @@
 -- Why a row asks for the stop, what feeds a port, and what a reaction declares.
-use Rattle.std.proofs.Common.{◌≡◌, ◌≢◌, ℕ, ◌<◌, List, [], length, ap, ◌∙◌, sym, unwrap_or, option_map, Option, Some, None, IfSome}
+use Rattle.std.proofs.Common.{◌≡◌, ℕ, ◌<◌, List, [], length, ap, sym, unwrap_or, option_map, Option, Some, None, IfSome}
 use Rattle.lft_lists.proofs.Places.{get_there}
 use Rattle.lft_flat.specs.Parts.{Parts, inputs}
 use Rattle.lft_flat.specs.declared.parts.Reaction.{Reaction}

@@ -28,7 +28,7 @@ use Rattle.lft_facts.specs.declared.facts.Fact.{Fact}
 use Rattle.lft_facts.specs.declared.facts.Fact.TheVariants as fact
 use Rattle.lft_facts.specs.declared.facts.Cause.{Cause}
 use Rattle.lft_facts.specs.declared.facts.Cause.TheVariants as cause
-use Rattle.lft_facts.specs.Facts.{IsFact, AreFacts, IsWrittenIn}
+use Rattle.lft_facts.specs.Facts.{IsShown, AreShown, IsWrittenIn}
 use Rattle.lft_facts.specs.Enough.{Gives, GivesClash}
 use Rattle.lft_presence.specs.Lookups.{IsFirstCause}
 use Rattle.lft_presence.proofs.Lookups.{in_order}
@@ -108,8 +108,8 @@ places_clash n g a x y f h xr xe yr ye apart = go (cases_lt x n) (cases_lt y n)
 -- two facts that give two causes give the breach
 pub clash_gives : (g : Tag) (f h : Cause) (facts : List Fact) → facts ≡ fact.Cause f ∷ fact.Cause h ∷ [] → GivesClash f h g → Gives facts g None 6
 clash_gives g f h facts is gives plan t all kept =
-    let each : AreFacts plan t (fact.Cause f ∷ fact.Cause h ∷ []) = subst (λ (fs : List Fact). AreFacts plan t fs) is all in
-    (refl, gives plan t (All-head (IsFact plan t) (fact.Cause f) (fact.Cause h ∷ []) each) (All-head (IsFact plan t) (fact.Cause h) [] (All-tail (IsFact plan t) (fact.Cause f) (fact.Cause h ∷ []) each)))
+    let each : AreShown plan t (fact.Cause f ∷ fact.Cause h ∷ []) = subst (λ (fs : List Fact). AreShown plan t fs) is all in
+    (refl, gives plan t (All-head (IsShown plan t) (fact.Cause f) (fact.Cause h ∷ []) each) (All-head (IsShown plan t) (fact.Cause h) [] (All-tail (IsShown plan t) (fact.Cause f) (fact.Cause h ∷ []) each)))
 
 -- causes of one place are one
 same_place : (plan : PlanParts) (t : List Row) (causes : List Event) → AreCauses plan t causes → (x y : Event) → IsEventCause plan t x → IsEventCause plan t y → x.place ≡ y.place → x ≡ y

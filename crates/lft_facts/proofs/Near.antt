@@ -1,19 +1,12 @@
--- The nearest events, and the connections on the way of an event.
-use Rattle.std.proofs.Common.{◌≡◌, ◌⊎◌, inl, inr, ℕ, ◌<◌, List, [], ◌∷◌, ◌++◌, length, refl, sym, ap, ◌∙◌, subst, Some, None, slice_get}
+-- The nearest events.
+use Rattle.std.proofs.Common.{ℕ, List, refl, sym, ◌∙◌, subst, Some}
 use Rattle.lft_tag.specs.declared.Tag.{Tag}
 use Rattle.lft_tag.specs.Tags.{Before, UpTo}
 use Rattle.lft_tag.specs.Shifts.{Folded, shifted}
 use Rattle.lft_tag.proofs.Order.{Before-irrefl, Before-trans, UpTo-not}
-use Rattle.lft_flat.specs.Parts.{Parts}
 use Rattle.lft_flat.specs.Sound.{IsSound}
-use Rattle.lft_flat.specs.Origins.{Origin}
-use Rattle.lft_flat.specs.Origins.Origin.{itself, over}
-use Rattle.lft_flat.proofs.Origins.{origin_within}
-use Rattle.lft_flat.specs.declared.parts.Port.{Port as PortOf}
-use Rattle.lft_tag.specs.declared.Source.{Source}
 use Rattle.lft_flat.specs.declared.parts.Name.{Name}
 use Rattle.lft_flat.specs.declared.parts.Trigger.TheVariants.{On}
-use Rattle.lft_lists.proofs.Places.{get_push_cases}
 use Rattle.lft_trace.specs.declared.row.Row.{Row}
 use Rattle.lft_trace.specs.Fits.{RowsFit}
 use Rattle.lft_model.specs.Plans.{PlanParts}
@@ -23,7 +16,6 @@ use Rattle.lft_presence.specs.Causes.{tag_of}
 use Rattle.lft_presence.proofs.Positions.{shifted_mono}
 use Rattle.lft_presence.proofs.Presences.{present_cause, cause_present}
 use Rattle.lft_facts.specs.Reasons.{IsNearest}
-use Rattle.lft_facts.specs.Ways.{AreThere}
 use Rattle.lft_facts.specs.Causes.{StandsFor}
 use Rattle.lft_presence.specs.Lookups.{IsLastBefore, IsFirstAfter}
 use Rattle.lft_presence.proofs.Lookups.{in_order}
@@ -46,24 +38,3 @@ module _ (plan : PlanParts) (t : List Row) (sound : IsSound plan.program) (fit :
           let d = present_cause plan t sound fit k n key s stands x in
           let up = in_order c d.0 (first.1.0 ∙ sym d.2.0) (first.2 d.0 d.1 (d.2.0, subst (λ (z : Tag). Before g z) (sym d.2.1) a)) in
           UpTo-not (shifted (tag_of c) s) k (subst (λ (z : Tag). UpTo (shifted (tag_of c) s) z) d.2.1 (shifted_mono (tag_of c) (tag_of d.0) s up)) b
-
--- the source of a port is a port
-source_of : {program : Parts} {p o : ℕ} {ds : List ℕ} → Origin program p o ds → (port : PortOf) (source : Source) → slice_get program.ports p ≡ Some port → port.source ≡ Some source → source.port < length program.ports
-source_of (itself x e n) port source f s = let a : Some x ≡ Some port = sym e ∙ f in let b : x ≡ port = cc in let c : None ≡ Some source = sym n ∙ ap (λ z. z.source) b ∙ s in absurd (cc)
-source_of {program} (over x u first e m way l) port source f s =
-    let a : Some x ≡ Some port = sym e ∙ f in
-    let b : x ≡ port = cc in
-    let c : Some u ≡ Some source = sym m ∙ ap (λ z. z.source) b ∙ s in
-    let d : u ≡ source = cc in
-    subst (λ (z : Source). z.port < length program.ports) d (origin_within way)
-
-pub source_known : (program : Parts) → IsSound program → (p : ℕ) (port : PortOf) (source : Source) → slice_get program.ports p ≡ Some port → port.source ≡ Some source → source.port < length program.ports
-source_known program sound p port source e s = source_of (sound.origins p port e).1 port source e s
-
--- one more number below the limit
-pub there_more : (limit : ℕ) (xs ys : List ℕ) (p : ℕ) → AreThere limit xs → p < limit → ys ≡ xs ++ p ∷ [] → AreThere limit ys
-there_more limit xs ys p all l e i a f = go (get_push_cases xs p i a (subst (λ (zs : List ℕ). slice_get zs i ≡ Some a) e f))
-  where
-    go : (slice_get xs i ≡ Some a) ⊎ ((i ≡ length xs) × (p ≡ a)) → a < limit
-    go (inl q) = all i a q
-    go (inr q) = subst (λ z. z < limit) q.1 l

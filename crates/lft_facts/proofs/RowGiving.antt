@@ -10,7 +10,7 @@ use Rattle.lft_model.specs.Breaches.{IsOpen, IsUndeclared, BreaksRow, RowBreach}
 use Rattle.lft_facts.specs.declared.facts.Fact.{Fact}
 use Rattle.lft_facts.specs.declared.facts.Fact.TheVariants as fact
 use Rattle.lft_facts.specs.declared.facts.RowFact.{RowFact}
-use Rattle.lft_facts.specs.Facts.{IsFact, IsRowFact, AreFacts, IsRowOf}
+use Rattle.lft_facts.specs.Facts.{IsFact, IsShown, IsRowFact, AreFacts, AreShown, IsRowOf}
 use Rattle.lft_facts.specs.Runs.{IsOpenSince}
 use Rattle.lft_facts.specs.Enough.{GivesRow, ProvesRow}
 
@@ -27,9 +27,9 @@ breaks_4 plan t i row (inr (inr (inr (inr x)))) = let e = x.0 in absurd (omega a
 -- the row of a breach, and a fact that gives its rule
 pub row_proves : (b : Breach) (g : Tag) (r i : ℕ) (f : RowFact) (facts : List Fact) → facts ≡ fact.RowIs g r i ∷ fact.Row f ∷ [] → b.tag ≡ g → b.reaction ≡ Some r → b.row ≡ i + 2 → GivesRow f i b.rule → ProvesRow facts b
 row_proves b g r i f facts is tag reaction line gives plan t all =
-    let each : AreFacts plan t (fact.RowIs g r i ∷ fact.Row f ∷ []) = subst (λ (fs : List Fact). AreFacts plan t fs) is all in
-    let of : IsRowOf t g r i = All-head (IsFact plan t) (fact.RowIs g r i) (fact.Row f ∷ []) each in
-    let x = gives plan t (All-head (IsFact plan t) (fact.Row f) [] (All-tail (IsFact plan t) (fact.RowIs g r i) (fact.Row f ∷ []) each)) in
+    let each : AreShown plan t (fact.RowIs g r i ∷ fact.Row f ∷ []) = subst (λ (fs : List Fact). AreShown plan t fs) is all in
+    let of : IsRowOf t g r i = All-head (IsShown plan t) (fact.RowIs g r i) (fact.Row f ∷ []) each in
+    let x = gives plan t (All-head (IsShown plan t) (fact.Row f) [] (All-tail (IsShown plan t) (fact.RowIs g r i) (fact.Row f ∷ []) each)) in
     let same : of.row ≡ x.0 = same_at t i i of.row x.0 of.is_row x.1 refl in
     record { place = i; row = x.0; is_row = x.1; breaks = x.2; tag_is = tag ∙ sym of.tag_is ∙ ap (λ (y : Row). y.tag) same; reaction_is = reaction ∙ ap Some (sym of.reaction_is ∙ ap (λ (y : Row). y.reaction) same); row_is = line }
 

@@ -7,7 +7,7 @@ use Rattle.lft_trace.specs.declared.row.Row.{Row}
 use Rattle.lft_model.specs.Runs.{start_row, end_row}
 use Rattle.lft_model.proofs.Places.{slice_get_within}
 use Rattle.lft_facts.specs.Runs.{StartsAt, EndsAt}
-use Rattle.lft_facts.specs.Ways.{IsMarked, EndsMarked, IsLeastEnd}
+use Rattle.lft_facts.specs.Ways.{IsMarked, EndsMarked, IsLeastEnd, IsLeastOfAll}
 use Rattle.lft_facts.specs.Neighbours.{HaveRunBefore, HaveRun}
 
 pub run_none : (t : List Row) (g : Tag) (n : ℕ) (ran : List Bool) → ran ≡ replicate n false → HaveRunBefore t g 0 ran
@@ -95,3 +95,22 @@ module _ (t : List Row) (g : Tag) (next : List (Option ℕ)) (start i : ℕ) (al
 
   pub least_all : (end : ℕ × ℕ) → IsLeastEnd t g next start i (Some end) → (j a : ℕ) → start < j → EndsAt t g a j → IsMarked next a → end.0 ≤ a
   least_all end so_far j a b s m = so_far.3 j a b (within j a s) s m
+
+module _ (t : List Row) (g : Tag) (next : List (Option ℕ)) (start : ℕ) where
+  pub all_some : ((j : ℕ) × (start < j) × EndsMarked t g next j) → ¬ IsLeastOfAll t g next start None
+  all_some x least = least_some t g next start least.0 least.1 x least.2
+
+  pub all_none : IsLeastOfAll t g next start None → (j a : ℕ) → start < j → EndsAt t g a j → ¬ IsMarked next a
+  all_none least j a b s m = all_some (j, b, (a, s, m)) least
+
+  pub all_marked : (end : ℕ × ℕ) → IsLeastOfAll t g next start (Some end) → IsMarked next end.0
+  all_marked end least = least.2.1
+
+  pub all_ends : (end : ℕ × ℕ) → IsLeastOfAll t g next start (Some end) → EndsAt t g end.0 end.1
+  all_ends end least = least.2.0
+
+  pub all_after : (end : ℕ × ℕ) → IsLeastOfAll t g next start (Some end) → start < end.1
+  all_after end least = least.2.2
+
+  pub all_least : (end : ℕ × ℕ) → IsLeastOfAll t g next start (Some end) → (j a : ℕ) → start < j → EndsAt t g a j → IsMarked next a → IsMarked next end.0 × (end.0 ≤ a)
+  all_least end least j a b s m = (least.2.1, least_all t g next start least.0 least.1 end least.2 j a b s m)

@@ -1,9 +1,9 @@
 -- Ways along the short lists of a graph, found from the greatest level down.
-use Rattle.std.proofs.Common.{◌≡◌, ◌≢◌, ℕ, zero, suc, ◌+◌, ◌-◌, ◌<◌, ◌≤◌, ◌⊎◌, inl, inr, List, [], ◌∷◌, ◌++◌, length, take, refl, sym, ap, ◌∙◌, subst, arith, Option, Some, None, slice_get, slice_set, slice_index_or, Contains}
+use Rattle.std.proofs.Common.{◌≡◌, ◌≢◌, ℕ, zero, suc, ◌+◌, ◌-◌, ◌<◌, ◌≤◌, ◌⊎◌, inl, inr, List, [], ◌∷◌, ◌++◌, length, replicate, take, refl, sym, ap, ◌∙◌, subst, arith, Option, Some, None, slice_get, slice_set, slice_index_or, Contains}
 use native.Mathlib.Decide.{ℕ_discrete}
 use Rattle.std.proofs.lemmas.List.Elements.{All-push}
 use Rattle.std.proofs.lemmas.Option.{get_or_from_slice_get}
-use Rattle.lft_lists.proofs.Places.{get_there, same_at, get_write_cases, get_written, get_unwritten, length_written, contains_at, at_contains}
+use Rattle.lft_lists.proofs.Places.{get_there, get_same, length_same, same_at, get_write_cases, get_written, get_unwritten, length_written, contains_at, at_contains}
 use Rattle.lft_flat.specs.Parts.{Parts}
 use Rattle.lft_trace.specs.declared.row.Row.{Row}
 use Rattle.lft_graph.specs.Before.{IsDeclaredJustBefore, FeedsLast}
@@ -14,9 +14,9 @@ use Rattle.lft_graph.proofs.Chains.{snoc}
 use Rattle.lft_model.specs.Plans.{PlanParts}
 use Rattle.lft_model.proofs.Places.{slice_get_within, slice_get_take, slice_get_taken}
 use Rattle.lft_facts.specs.declared.facts.Fact.{Fact}
-use Rattle.lft_facts.specs.Facts.{AreFacts, IsFact}
+use Rattle.lft_facts.specs.Facts.{AreFacts, IsFact, IsShown}
 use Rattle.lft_facts.specs.Enough.{GivesDirect, GivesChain}
-use Rattle.lft_facts.specs.Ways.{IsMarked, IsMarking, AreThere, InList, LeadsOn, AreWays}
+use Rattle.lft_facts.specs.Ways.{IsMarked, IsMarking, AreThere, InList, LeadsOn, AreWays, AreSteps}
 use Rattle.lft_facts.proofs.Lists.{all_left, all_last}
 
 module _ (list : List ℕ) (i a : ℕ) (is : slice_get list i ≡ Some a) (b : ℕ) (old next : List (Option ℕ)) (so_far : IsMarking (take i list) b old next) where
@@ -279,8 +279,8 @@ module _ (plan : PlanParts) (graph : GraphParts) (next : List (Option ℕ)) (fir
   chain_more ways facts at after f new so_far e holds gives is_new = subst (λ (fs : List Fact). ChainTo plan graph next fs first after last) (sym is_new) (record { leads = (ways.steps at after e).1; holds = λ t. All-push (IsFact plan t) facts f (so_far.holds t) (holds t); gives = inr (go so_far.gives) })
     where
       go : ((first ≡ at) × IsMarked next first) ⊎ GivesChain facts first at → GivesChain (facts ++ f ∷ []) first after
-      go (inl q) p t all = one (subst (λ (x : ℕ). Direct p.program x after) (sym q.0) (gives p t (all_last (IsFact p t) facts f all)))
-      go (inr q) p t all = snoc p.program first at after (q p t (all_left (IsFact p t) facts (f ∷ []) all)) (gives p t (all_last (IsFact p t) facts f all))
+      go (inl q) p t all = one (subst (λ (x : ℕ). Direct p.program x after) (sym q.0) (gives p t (all_last (IsShown p t) facts f all)))
+      go (inr q) p t all = snoc p.program first at after (q p t (all_left (IsShown p t) facts (f ∷ []) all)) (gives p t (all_last (IsShown p t) facts f all))
 
   pub chain_ends : (facts : List Fact) (at : ℕ) → ChainTo plan graph next facts first at last → ¬ IsMarked next at → GivesChain facts first last
   chain_ends facts at so_far n = go so_far.leads so_far.gives
@@ -289,3 +289,21 @@ module _ (plan : PlanParts) (graph : GraphParts) (next : List (Option ℕ)) (fir
       go (inr m) g = absurd (n m)
       go (inl e) (inl q) = absurd (n (subst (λ (x : ℕ). IsMarked next x) q.0 q.1))
       go (inl e) (inr q) = subst (λ (x : ℕ). GivesChain facts first x) e q
+
+-- the places that the short list of the last reaction marks are those of the list
+pub steps_marked : (graph : GraphParts) (last : ℕ) (list : List ℕ) → slice_get graph.before last ≡ Some list → (n : ℕ) → n ≡ length graph.before → (old new : List (Option ℕ)) → old ≡ replicate n None → IsMarking list last old new → AreSteps graph last new
+steps_marked graph last list is_list n as_many old new is_old marking = record { as_long = marking.as_long ∙ ap length is_old ∙ length_same n None ∙ as_many; marked = λ a. (in_list a, is_marked a) }
+  where
+    in_list : (a : ℕ) → IsMarked new a → InList graph a last
+    in_list a m = go (marking.only a m.0 m.1)
+      where
+        go : (slice_get old a ≡ Some (Some m.0)) ⊎ ((m.0 ≡ last) × ((i : ℕ) × (slice_get list i ≡ Some a))) → InList graph a last
+        go (inl p) = let z : Some m.0 ≡ None = get_same n a None (Some m.0) (ap (λ os. slice_get os a) (sym is_old) ∙ p) in absurd (cc)
+        go (inr p) = (list, p.1.0, is_list, p.1.1)
+
+    is_marked : (a : ℕ) → InList graph a last → IsMarked new a
+    is_marked a i = let z : Some i.0 ≡ Some list = sym i.2 ∙ is_list in let s : i.0 ≡ list = cc in marking.all i.1 a (ap (λ (xs : List ℕ). slice_get xs i.1) (sym s) ∙ i.3)
+
+-- from a reaction in the short list of the last one a way leads on
+pub step_leads : (graph : GraphParts) (last : ℕ) (near next : List (Option ℕ)) → AreSteps graph last near → AreWays graph last next → (a : ℕ) → IsMarked near a → IsMarked next a
+step_leads graph last near next steps ways a m = ways.all a last (inl refl) ((steps.marked a).0 m)

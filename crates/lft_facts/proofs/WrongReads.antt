@@ -18,7 +18,7 @@ use Rattle.lft_model.specs.Runs.{inputs_of, reads_at, read_of, steps_of}
 use Rattle.lft_model.proofs.Places.{slice_get_within}
 use Rattle.lft_facts.specs.declared.facts.Fact.{Fact}
 use Rattle.lft_facts.specs.declared.facts.Fact.TheVariants as fact
-use Rattle.lft_facts.specs.Facts.{IsFact, AreFacts, IsRead}
+use Rattle.lft_facts.specs.Facts.{IsFact, IsShown, AreFacts, IsRead}
 use Rattle.lft_facts.specs.Runs.{StartsAt}
 use Rattle.lft_facts.specs.Enough.{Gives}
 use Rattle.lft_facts.proofs.Giving.{ran_there, same_reaction}
@@ -104,7 +104,7 @@ module _ (plan : PlanParts) (t : List Row) (g : Tag) (r start : ℕ) (x : Reacti
 
   -- the facts of all inputs give the breach, where what was read isn't what is present
   pub told_gives : (place : ℕ) (facts : List Fact) → length names ≤ place → Told plan t g r start names read present place facts → ¬ Inputs plan t g r (reads_at plan t g r) → Gives facts g (Some r) 10
-  told_gives place facts l told wrong other s all kept = inr (inr (inr (refl, ran_there s g r start (All-contains (IsFact other s) facts (fact.Runs g r start) all told.runs), right)))
+  told_gives place facts l told wrong other s all kept = inr (inr (inr (refl, ran_there s g r start (All-contains (IsShown other s) facts (fact.Runs g r start) all told.runs), right)))
     where
       right : ¬ Inputs other s g r (reads_at other s g r)
       right o = wrong (subst (λ (os : List (Option Value)). Inputs plan t g r os) (sym same ∙ was_read) is_present)
@@ -116,7 +116,7 @@ module _ (plan : PlanParts) (t : List Row) (g : Tag) (r start : ℕ) (x : Reacti
               n = let m : k < length read = slice_get_within read k p e in let w : length read ≡ length names = read_long in get_there names k (omega arith)
 
               is : IsRead other s g r k n.0 p q
-              is = All-contains (IsFact other s) facts (fact.Reads g r k n.0 p q) all (told.each k n.0 p q (let m : k < length names = slice_get_within names k n.0 n.1 in omega arith) n.1 e f)
+              is = All-contains (IsShown other s) facts (fact.Reads g r k n.0 p q) all (told.each k n.0 p q (let m : k < length names = slice_get_within names k n.0 n.1 in omega arith) n.1 e f)
 
               its : slice_get (inputs o.reaction) k ≡ Some n.0
               its = ap (λ (y : Reaction). slice_get (inputs y) k) (same_reaction other.program.reactions r o.reaction is.reaction o.is_reaction is.is_reaction) ∙ is.is_input

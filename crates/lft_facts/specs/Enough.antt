@@ -1,4 +1,4 @@
--- What some facts give, of whatever plan and rows they hold.
+-- What some facts give, of whatever plan and rows show them.
 use Rattle.std.specs.Prelude.{◌≡◌, ℕ, ◌<◌, List, ◌++◌, Option, Some, slice_get, Contains, All}
 use Rattle.lft_tag.specs.declared.Tag.{Tag}
 use Rattle.lft_tag.specs.Tags.{UpTo}
@@ -13,11 +13,11 @@ use Rattle.lft_answers.specs.Answers.{KeepsRows}
 use Rattle.lft_facts.specs.declared.facts.Fact.{Fact}
 use Rattle.lft_facts.specs.declared.facts.Cause.{Cause}
 use Rattle.lft_facts.specs.declared.facts.RowFact.{RowFact}
-use Rattle.lft_facts.specs.Facts.{IsFact, IsCause, IsRowFact, AreFacts}
+use Rattle.lft_facts.specs.Facts.{IsShown, IsCause, IsRowFact, AreFacts, AreShown}
 
--- of whatever plan and rows the facts hold: where no row breaks one of the rules 1 to 5, the rule is broken at g
+-- of whatever plan and rows show the facts: where no row breaks one of the rules 1 to 5, the rule is broken at g
 abbrev pub Gives : List Fact → Tag → Option ℕ → ℕ → Type 0
-Gives facts g o k = (plan : PlanParts) (t : List Row) → AreFacts plan t facts → KeepsRows plan t → BreaksAt plan t g o k
+Gives facts g o k = (plan : PlanParts) (t : List Row) → AreShown plan t facts → KeepsRows plan t → BreaksAt plan t g o k
 
 -- facts that hold stand behind others
 pub record Adds (plan : PlanParts) (t : List Row) (old new : List Fact) : Type 0 where
@@ -30,13 +30,13 @@ pub record Extends (plan : PlanParts) (t : List Row) (old new : List Fact) : Typ
   pub holds : AreFacts plan t new
   pub kept : All (Contains new) old
 
--- of whatever plan and rows the facts hold, they give the breach of a rule by a row
+-- of whatever plan and rows show the facts, they give the breach of a rule by a row
 abbrev pub ProvesRow : List Fact → Breach → Type 0
-ProvesRow facts b = (plan : PlanParts) (t : List Row) → AreFacts plan t facts → RowBreach plan t b
+ProvesRow facts b = (plan : PlanParts) (t : List Row) → AreShown plan t facts → RowBreach plan t b
 
--- of whatever plan and rows the facts hold, they give the breach of a rule at a tag: where no row breaks one of the rules 1 to 5 and the tag is up to the stop
+-- of whatever plan and rows show the facts, they give the breach of a rule at a tag: where no row breaks one of the rules 1 to 5 and the tag is up to the stop
 abbrev pub ProvesTag : List Fact → Breach → Type 0
-ProvesTag facts b = (plan : PlanParts) (t : List Row) → AreFacts plan t facts → KeepsRows plan t → UpTo b.tag (stop plan t) → TagBreach plan t b
+ProvesTag facts b = (plan : PlanParts) (t : List Row) → AreShown plan t facts → KeepsRows plan t → UpTo b.tag (stop plan t) → TagBreach plan t b
 
 -- the facts give the breach: of a row where it has one, else of a tag
 pub record Proves (facts : List Fact) (b : Breach) : Type 0 where
@@ -51,13 +51,13 @@ GivesRow f i k = (plan : PlanParts) (t : List Row) → IsRowFact plan t f → (r
 abbrev pub GivesTrigger : Cause → Tag → Trigger → Type 0
 GivesTrigger c g x = (plan : PlanParts) (t : List Row) → IsCause plan t c → Occurs plan t g x
 
--- of whatever plan and rows the fact holds: a directly precedes b
+-- of whatever plan and rows show the fact: a directly precedes b
 abbrev pub GivesDirect : Fact → ℕ → ℕ → Type 0
-GivesDirect f a b = (plan : PlanParts) (t : List Row) → IsFact plan t f → Direct plan.program a b
+GivesDirect f a b = (plan : PlanParts) (t : List Row) → IsShown plan t f → Direct plan.program a b
 
--- of whatever plan and rows the facts hold: a precedes b
+-- of whatever plan and rows show the facts: a precedes b
 abbrev pub GivesChain : List Fact → ℕ → ℕ → Type 0
-GivesChain facts a b = (plan : PlanParts) (t : List Row) → AreFacts plan t facts → Precedes plan.program a b
+GivesChain facts a b = (plan : PlanParts) (t : List Row) → AreShown plan t facts → Precedes plan.program a b
 
 -- of whatever plan and rows the two causes hold: some port or action has two causes at g
 abbrev pub GivesClash : Cause → Cause → Tag → Type 0

@@ -10,15 +10,15 @@ use Rattle.lft_flat.specs.declared.parts.Value.{Value}
 use Rattle.lft_flat.specs.declared.parts.Reaction.{Reaction}
 use Rattle.lft_flat.specs.declared.parts.Timer.{Timer as TimerOf}
 use Rattle.lft_flat.specs.declared.parts.Trigger.{Trigger}
-use Rattle.lft_graph.specs.Precedence.{IsDeclaredFirst}
+use Rattle.lft_graph.specs.Precedence.{IsDeclaredFirst, Precedes}
 use Rattle.lft_trace.specs.declared.row.Row.{Row}
 use Rattle.lft_trace.specs.declared.row.Step.{Step}
 use Rattle.lft_trace.specs.declared.row.Step.TheVariants.{Start, Read, Write, Schedule, Stop, End}
 use Rattle.lft_trace.specs.declared.externals.Event.{Event}
 use Rattle.lft_model.specs.Plans.{PlanParts}
-use Rattle.lft_model.specs.Presence.{stop, value_written, min_delay, Occurs, Shows}
+use Rattle.lft_model.specs.Presence.{stop, value_written, min_delay, Occurs, Triggered, Shows}
 use Rattle.lft_model.specs.Runs.{Ran, steps_of, read_of, inputs_of}
-use Rattle.lft_model.specs.Breaches.{IsOpen, IsUnended, MayWrite, MaySchedule}
+use Rattle.lft_model.specs.Breaches.{IsOpen, IsUnended, EndsBefore, MayWrite, MaySchedule}
 use Rattle.lft_facts.specs.Runs.{StartsAt, EndsAt, IsOpenSince}
 use Rattle.lft_facts.specs.Reasons.{IsReason}
 use Rattle.lft_facts.specs.declared.facts.Fact.{Fact}
@@ -29,10 +29,21 @@ use Rattle.lft_facts.specs.declared.facts.RowFact.{RowFact}
 use Rattle.lft_facts.specs.declared.facts.RowFact.TheVariants as row_fact
 
 -- r starts at g in one row, and a ends at g in a later row
-pub record IsEarlyStart (t : List Row) (g : Tag) (a r start end : ℕ) : Type 0 where
+pub record StartsBefore (t : List Row) (g : Tag) (a r start end : ℕ) : Type 0 where
   pub starts : StartsAt t g r start
   pub ends : EndsAt t g a end
   pub before : start < end
+
+-- a precedes r and hadn't ended at g before r started there: r starts in one row, and a ends in a later row
+pub record IsEarlyStart (plan : PlanParts) (t : List Row) (g : Tag) (a r start end : ℕ) : Type 0 where
+  pub precedes : Precedes plan.program a r
+  pub not_ended : ¬ EndsBefore t g a r
+  pub rows : StartsBefore t g a r start end
+
+-- r is triggered at g and has no run there
+pub record IsMissing (plan : PlanParts) (t : List Row) (g : Tag) (r : ℕ) : Type 0 where
+  pub triggered : Triggered plan t g r
+  pub none : ¬ Ran t g r
 
 -- a may write the origin of port p, which is an input of b and is reached without a delay
 pub record FeedsBy (program : Parts) (a b p : ℕ) : Type 0 where
@@ -218,10 +229,10 @@ IsRowFact plan t (row_fact.Unended i) = IsNeverEnded t i
 
 -- the fact holds of the plan and the rows
 abbrev pub IsFact : PlanParts → List Row → Fact → Type 0
-IsFact plan t (fact.StartsEarly g a r start end) = IsEarlyStart t g a r start end
+IsFact plan t (fact.StartsEarly g a r start end) = IsEarlyStart plan t g a r start end
 IsFact plan t (fact.DeclaredFirst a b) = IsDeclaredFirst plan.program a b
 IsFact plan t (fact.Feeds a b p) = FeedsBy plan.program a b p
-IsFact plan t (fact.NoRun g r) = ¬ Ran t g r
+IsFact plan t (fact.NoRun g r) = IsMissing plan t g r
 IsFact plan t (fact.Runs g r start) = StartsAt t g r start
 IsFact plan t (fact.HasTrigger r x) = IsTriggerOf plan.program r x
 IsFact plan t (fact.TriggerCount r count) = HasTriggers plan.program r count
@@ -235,3 +246,23 @@ IsFact plan t (fact.Reason x) = IsReason plan t x
 -- all of the facts hold
 abbrev pub AreFacts : PlanParts → List Row → List Fact → Type 0
 AreFacts plan t facts = All (IsFact plan t) facts
+
+-- what the plan and the rows show of a fact by itself: of an early start not that the one reaction precedes the other, and of a run that is missing not that it is triggered. Other facts are to give that
+abbrev pub IsShown : PlanParts → List Row → Fact → Type 0
+IsShown plan t (fact.StartsEarly g a r start end) = StartsBefore t g a r start end
+IsShown plan t (fact.DeclaredFirst a b) = IsFact plan t (fact.DeclaredFirst a b)
+IsShown plan t (fact.Feeds a b p) = IsFact plan t (fact.Feeds a b p)
+IsShown plan t (fact.NoRun g r) = ¬ Ran t g r
+IsShown plan t (fact.Runs g r start) = IsFact plan t (fact.Runs g r start)
+IsShown plan t (fact.HasTrigger r x) = IsFact plan t (fact.HasTrigger r x)
+IsShown plan t (fact.TriggerCount r count) = IsFact plan t (fact.TriggerCount r count)
+IsShown plan t (fact.Untriggered g r k x) = IsFact plan t (fact.Untriggered g r k x)
+IsShown plan t (fact.Cause c) = IsFact plan t (fact.Cause c)
+IsShown plan t (fact.RowIs g r i) = IsFact plan t (fact.RowIs g r i)
+IsShown plan t (fact.Row f) = IsFact plan t (fact.Row f)
+IsShown plan t (fact.Reads g r k n read present) = IsFact plan t (fact.Reads g r k n read present)
+IsShown plan t (fact.Reason x) = IsFact plan t (fact.Reason x)
+
+-- what the plan and the rows show of all of the facts
+abbrev pub AreShown : PlanParts → List Row → List Fact → Type 0
+AreShown plan t facts = All (IsShown plan t) facts

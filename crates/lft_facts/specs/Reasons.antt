@@ -1,14 +1,12 @@
 -- What a reader asks next: statements beside those that are enough for a breach.
-use Rattle.std.specs.Prelude.{◌≡◌, ◌≢◌, ℕ, ◌+◌, ◌<◌, Bool, true, false, List, length, Some, slice_get, option_to_list}
+use Rattle.std.specs.Prelude.{◌≡◌, ◌≢◌, ℕ, ◌+◌, ◌<◌, Bool, true, false, List, length, Some, slice_get}
 use Rattle.lft_tag.specs.declared.Tag.{Tag}
-use Rattle.lft_tag.specs.Tags.{Before, after_all}
+use Rattle.lft_tag.specs.Tags.{Before}
 use Rattle.lft_flat.specs.Parts.{Parts, inputs}
 use Rattle.lft_flat.specs.Origins.{Origin}
 use Rattle.lft_flat.specs.declared.parts.Action.{Action as ActionOf}
 use Rattle.lft_flat.specs.declared.parts.Name.{Name}
 use Rattle.lft_flat.specs.declared.parts.Name.TheVariants.{Port, Action}
-use Rattle.lft_flat.specs.declared.parts.Port.{Port as PortOf}
-use Rattle.lft_tag.specs.declared.Source.{Source}
 use Rattle.lft_flat.specs.declared.parts.Reaction.{Reaction}
 use Rattle.lft_flat.specs.declared.parts.Trigger.{Trigger}
 use Rattle.lft_trace.specs.declared.row.Row.{Row}
@@ -16,20 +14,10 @@ use Rattle.lft_model.specs.Plans.{PlanParts}
 use Rattle.lft_model.specs.Presence.{stop, asked, Occurs}
 use Rattle.lft_model.specs.Runs.{start_row, end_row, Ran, inputs_of, effects_of}
 use Rattle.lft_facts.specs.Runs.{StartsAt, IsOpenSince}
-use Rattle.lft_facts.specs.declared.facts.Hop.{Hop}
 use Rattle.lft_facts.specs.declared.facts.ThingKind.{ThingKind}
 use Rattle.lft_facts.specs.declared.facts.ThingKind.TheVariants as kind
 use Rattle.lft_facts.specs.declared.facts.Reason.{Reason}
 use Rattle.lft_facts.specs.declared.facts.Reason.TheVariants as reason
-
--- a connection leads into a port from its source, and its delay, if it has one, from the tag before it to the one after it
-pub record IsHop (program : Parts) (hop : Hop) : Type 0 where
-  pub port : PortOf
-  pub source : Source
-  pub is_port : slice_get program.ports hop.to ≡ Some port
-  pub is_source : port.source ≡ Some source
-  pub from_there : source.port ≡ hop.from
-  pub leads : hop.after ≡ after_all hop.before (option_to_list source.delay)
 
 -- x is present at h, which isn't g, and nowhere between the two
 pub record IsNearest (plan : PlanParts) (t : List Row) (g : Tag) (x : Trigger) (h : Tag) : Type 0 where
@@ -150,7 +138,6 @@ pub record IsLastOfWorker (t : List Row) (i k : ℕ) : Type 0 where
 
 -- the reason holds of the plan and the rows
 abbrev pub IsReason : PlanParts → List Row → Reason → Type 0
-IsReason plan t (reason.Hop hop) = IsHop plan.program hop
 IsReason plan t (reason.Nearest g x h) = IsNearest plan t g x h
 IsReason plan t (reason.PassedBy g r) = ¬ Ran t g r
 IsReason plan t (reason.NeverRuns r) = (g : Tag) → ¬ Ran t g r

@@ -1,5 +1,5 @@
 -- Ways along the short lists of a graph. The contracts of private functions alone need this file.
-use Rattle.std.specs.Prelude.{◌≡◌, ℕ, ◌<◌, ◌≤◌, ◌⊎◌, MatchOption, List, [], length, Option, Some, slice_get, slice_index_or, Contains}
+use Rattle.std.specs.Prelude.{◌≡◌, ◌↔◌, ℕ, ◌<◌, ◌≤◌, ◌⊎◌, MatchOption, List, [], length, Option, Some, slice_get, slice_index_or, Contains}
 use Rattle.lft_tag.specs.declared.Tag.{Tag}
 use Rattle.lft_flat.specs.Parts.{Parts}
 use Rattle.lft_flat.specs.Origins.{Origin}
@@ -44,6 +44,11 @@ pub record AreWays (graph : GraphParts) (last : ℕ) (next : List (Option ℕ)) 
   pub below : (a : ℕ) → IsMarked next a → slice_index_or graph.levels a 0 < slice_index_or graph.levels last 0
   pub all : (a b : ℕ) → LeadsOn last next b → InList graph a b → IsMarked next a
 
+-- just the reactions in the short list of the last one have a next one
+pub record AreSteps (graph : GraphParts) (last : ℕ) (near : List (Option ℕ)) : Type 0 where
+  pub as_long : length near ≡ length graph.before
+  pub marked : (a : ℕ) → IsMarked near a ↔ InList graph a last
+
 -- the row at place i ends a run at g of a reaction that has a next one
 abbrev pub EndsMarked : List Row → Tag → List (Option ℕ) → ℕ → Type 0
 EndsMarked t g next i = (a : ℕ) × EndsAt t g a i × IsMarked next a
@@ -51,3 +56,7 @@ EndsMarked t g next i = (a : ℕ) × EndsAt t g a i × IsMarked next a
 -- of the reactions with a next one that end at g in the rows between two places the least, if any: itself and its place
 abbrev pub IsLeastEnd : List Row → Tag → List (Option ℕ) → ℕ → ℕ → Option (ℕ × ℕ) → Type 0
 IsLeastEnd t g next start i o = MatchOption o ((j a : ℕ) → start < j → j < i → EndsAt t g a j → ¬ IsMarked next a) (λ end. EndsAt t g end.0 end.1 × IsMarked next end.0 × (start < end.1) × ((j a : ℕ) → start < j → j < i → EndsAt t g a j → IsMarked next a → end.0 ≤ a))
+
+-- the same of all rows behind the start
+abbrev pub IsLeastOfAll : List Row → Tag → List (Option ℕ) → ℕ → Option (ℕ × ℕ) → Type 0
+IsLeastOfAll t g next start o = (i : ℕ) × (length t ≤ i) × IsLeastEnd t g next start i o

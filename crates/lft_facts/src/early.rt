@@ -9,13 +9,13 @@ ghost use Rattle.lft_answers.specs.Answers.{KeepsRows};
 ghost use Rattle.lft_facts.specs.Runs.{EndsAt};
 ghost use Rattle.lft_facts.specs.Facts.{AreFacts};
 ghost use Rattle.lft_facts.specs.Enough.{Gives};
-ghost use Rattle.lft_facts.specs.Ways.{IsMarked, EndsMarked, IsLeastEnd};
+ghost use Rattle.lft_facts.specs.Ways.{IsMarked, EndsMarked, IsLeastEnd, IsLeastOfAll};
 
 use crate::chain::chain;
 use crate::facts::Fact;
 use crate::passing::add_passed_by;
 use crate::runs::{runs_at, start_of};
-use crate::ways::{is_marked, ways};
+use crate::ways::{is_marked, steps, ways};
 use lft_model::Plan;
 use lft_tag::{NoMemory, Tag};
 use lft_trace::{Row, is_end, row_at};
@@ -64,22 +64,45 @@ fn lesser(
     }
 }
 
-/// Of the reactions from which a way leads on, and which end at the tag behind the place, the least:
-/// itself and its place.
-fn late_end(rows: &[Row], tag: Tag, start: u32, next: &[Option<u32>]) -> (u32, u32)
+/// Of the reactions from which a way leads on, and which end at the tag behind the place, the least, if
+/// there are any: itself and its place.
+fn least_end(rows: &[Row], tag: Tag, start: u32, next: &[Option<u32>]) -> Option<(u32, u32)>
     requires few { length rows.now ≤ 4000000 }
     requires known { (i : ℕ) → (row : TheRow) → slice_get rows.now i ≡ Some row → row.reaction < length next.now }
-    requires some { (i : ℕ) × (start < i) × EndsMarked rows.now tag next.now i }
-    ensures marked { IsMarked next.now result.0 }
-    ensures ends { EndsAt rows.now tag result.0 result.1 }
-    ensures after { start < result.1 }
-    ensures least { (i a : ℕ) → start < i → EndsAt rows.now tag a i → IsMarked next.now a → result.0 ≤ a }
+    ensures { IsLeastOfAll rows.now tag next.now start result }
 {
     let mut least = None;
     for place in start as usize + 1..rows.len() {
         least = lesser(rows, tag, start, next, least, place);
     }
-    let Some(end) = least else { unreachable!() };
+    least
+}
+
+/// Of the reactions which end at the tag behind the place the least of those that are just before, and
+/// where there are none of those from which a way leads on: itself and its place.
+fn late_end(
+    rows: &[Row],
+    tag: Tag,
+    start: u32,
+    near: &[Option<u32>],
+    next: &[Option<u32>],
+) -> (u32, u32)
+    requires few { length rows.now ≤ 4000000 }
+    requires near { (i : ℕ) → (row : TheRow) → slice_get rows.now i ≡ Some row → row.reaction < length near.now }
+    requires known { (i : ℕ) → (row : TheRow) → slice_get rows.now i ≡ Some row → row.reaction < length next.now }
+    requires leads { (a : ℕ) → IsMarked near.now a → IsMarked next.now a }
+    requires some { (i : ℕ) × (start < i) × EndsMarked rows.now tag next.now i }
+    ensures marked { IsMarked next.now result.0 }
+    ensures ends { EndsAt rows.now tag result.0 result.1 }
+    ensures after { start < result.1 }
+    ensures nearest { (i a : ℕ) → start < i → EndsAt rows.now tag a i → IsMarked near.now a → IsMarked near.now result.0 × (result.0 ≤ a) }
+{
+    if let Some(end) = least_end(rows, tag, start, near) {
+        return end;
+    }
+    let Some(end) = least_end(rows, tag, start, next) else {
+        unreachable!()
+    };
     end
 }
 
@@ -100,9 +123,11 @@ fn early_chain(
 {
     let graph = plan.graph();
     let start = start_of(rows, tag, reaction);
-    let next = ways(alloc, graph, plan.program().reactions(), reaction)?;
-    let (earlier, end) = late_end(rows, tag, start, next.as_slice());
-    let steps = chain(alloc, plan, graph, next.as_slice(), earlier, reaction)?;
+    let reactions = plan.program().reactions();
+    let next = ways(alloc, graph, reactions, reaction)?;
+    let near = steps(alloc, graph, reactions, reaction)?;
+    let (earlier, end) = late_end(rows, tag, start, near.as_slice(), next.as_slice());
+    let way = chain(alloc, plan, graph, next.as_slice(), earlier, reaction)?;
     let mut facts = Vec::new(alloc);
     facts.push(Fact::StartsEarly {
         tag,
@@ -111,7 +136,7 @@ fn early_chain(
         start,
         end,
     })?;
-    facts.extend_from_slice(steps.as_slice())?;
+    facts.extend_from_slice(way.as_slice())?;
     Ok(facts)
 }
 

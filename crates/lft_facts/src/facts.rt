@@ -44,16 +44,6 @@ pub enum RowFact {
     Unended { row: u32 },
 }
 
-/// A connection between two ports, and where its delay leads: from the tag before it to the one
-/// after it.
-#[derive(Clone, Copy, Drop)]
-pub struct Hop {
-    pub from: u32,
-    pub to: u32,
-    pub before: Tag,
-    pub after: Tag,
-}
-
 /// What a port or an action is.
 #[derive(Clone, Copy, Drop)]
 pub enum ThingKind {
@@ -68,8 +58,6 @@ pub enum ThingKind {
 /// A statement beside those that are enough for a breach: what a reader asks next.
 #[derive(Clone, Copy, Drop)]
 pub enum Reason {
-    /// A connection on the way of an event.
-    Hop(Hop),
     /// The trigger is present at another tag, and nowhere between the two tags.
     Nearest {
         tag: Tag,

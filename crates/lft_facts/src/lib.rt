@@ -10,7 +10,6 @@ mod facts;
 mod feeding;
 mod finding;
 mod firings;
-mod hops;
 mod nearest;
 mod neighbours;
 mod ordering;
@@ -24,5 +23,5 @@ mod stopping;
 mod triggers;
 mod ways;
 
-pub use facts::{Cause, Fact, Facts, Hop, Reason, RowFact, ThingKind};
+pub use facts::{Cause, Fact, Facts, Reason, RowFact, ThingKind};
 pub use finding::find;

@@ -1,4 +1,4 @@
-//! Facts beside those that are enough: the way of an event, causes of what is present, and what is
+//! Facts beside those that are enough: causes of what is present, what makes the stop, and what is
 //! nearest to what is absent.
 
 ghost use Rattle.std.specs.Prelude.{IfOk, IfSome, OnOk};
@@ -7,7 +7,7 @@ ghost use Rattle.lft_flat.specs.declared.parts.Trigger.TheVariants.{On as TheNam
 ghost use Rattle.lft_trace.specs.Fits.{RowsFit};
 ghost use Rattle.lft_model.specs.Presence.{Occurs};
 ghost use Rattle.lft_presence.specs.Causes.{AreCauses};
-ghost use Rattle.lft_facts.specs.Facts.{IsFact, IsCause, AreFacts};
+ghost use Rattle.lft_facts.specs.Facts.{IsFact, AreFacts};
 ghost use Rattle.lft_facts.specs.Reasons.{IsNearest, IsReason};
 ghost use Rattle.lft_facts.specs.Enough.{Adds, Extends};
 
@@ -15,7 +15,6 @@ use crate::adding::add;
 use crate::cause::name_cause;
 use crate::facts::{Cause, Fact, Facts, Reason};
 use crate::firings::add_firings;
-use crate::hops::add_hops;
 use crate::nearest::{event_after, event_before};
 use crate::neighbours::{add_last_row, add_runs};
 use crate::stopping::stop_reason;
@@ -24,33 +23,11 @@ use lft_lists::item_at;
 use lft_model::Plan;
 use lft_presence::Cause as EventCause;
 use lft_tag::{NoMemory, Tag};
-use lft_trace::{Row, row_at};
+use lft_trace::Row;
 use std::alloc::Global;
-
-/// Puts the way on which the event came behind the facts, where it is of a port.
-fn add_way(
-    alloc: Global,
-    plan: &Plan,
-    rows: &[Row],
-    cause: Cause,
-    facts: &mut Vec<Fact>,
-) -> Result<(), NoMemory>
-    requires fit { RowsFit plan.now.program rows.now }
-    requires cause { IsCause plan.now rows.now cause }
-    ensures { OnOk result (Adds plan.now rows.now facts.old.items facts.new.items) }
-{
-    match cause {
-        Cause::Written { port, row, .. } => {
-            let from = row_at(rows, row as usize).tag;
-            add_hops(alloc, plan.program(), from, port, facts)
-        }
-        _ => Ok(()),
-    }
-}
 
 /// Puts why the port or action has an event at the tag behind the facts, if it has one.
 fn add_event(
-    alloc: Global,
     plan: &Plan,
     rows: &[Row],
     causes: &[EventCause],
@@ -66,7 +43,7 @@ fn add_event(
     match name_cause(plan, rows, causes, tag, name) {
         Some(cause) => {
             facts.push(Fact::Cause(cause))?;
-            add_way(alloc, plan, rows, cause, facts)
+            Ok(())
         }
         None => Ok(()),
     }
@@ -74,7 +51,6 @@ fn add_event(
 
 /// Puts that an event of the port or action is nearest to the tag behind the facts, and its cause.
 fn add_nearest(
-    alloc: Global,
     plan: &Plan,
     rows: &[Row],
     causes: &[EventCause],
@@ -96,7 +72,7 @@ fn add_nearest(
                 trigger: Trigger::On(name),
                 at,
             }))?;
-            add_event(alloc, plan, rows, causes, at, name, facts)
+            add_event(plan, rows, causes, at, name, facts)
         }
         None => Ok(()),
     }
@@ -104,7 +80,6 @@ fn add_nearest(
 
 /// Puts the events of the port or action that are nearest to the tag behind the facts.
 fn add_near(
-    alloc: Global,
     plan: &Plan,
     rows: &[Row],
     causes: &[EventCause],
@@ -118,16 +93,15 @@ fn add_near(
     ensures { OnOk result (Adds plan.now rows.now facts.old.items facts.new.items) }
 {
     let before = event_before(plan, rows, causes, tag, name);
-    add_nearest(alloc, plan, rows, causes, tag, name, before, facts)?;
+    add_nearest(plan, rows, causes, tag, name, before, facts)?;
     let after = event_after(plan, rows, causes, tag, name);
-    add_nearest(alloc, plan, rows, causes, tag, name, after, facts)?;
+    add_nearest(plan, rows, causes, tag, name, after, facts)?;
     Ok(())
 }
 
 /// Puts what is nearest to the tag of a trigger that is absent there behind the facts: events, firings,
 /// or what makes the stop.
 fn add_absent(
-    alloc: Global,
     plan: &Plan,
     rows: &[Row],
     causes: &[EventCause],
@@ -147,14 +121,13 @@ fn add_absent(
         Trigger::Startup => Ok(()),
         Trigger::Shutdown => add(facts, stop),
         Trigger::Timer(timer) => add_firings(plan, rows, tag, timer, facts),
-        Trigger::On(name) => add_near(alloc, plan, rows, causes, tag, name, facts),
+        Trigger::On(name) => add_near(plan, rows, causes, tag, name, facts),
     }
 }
 
-/// Puts what stands right behind the fact behind the others: the way of an event, what makes the stop,
-/// where something is present there, and what is nearest to a trigger that is absent.
+/// Puts what stands right behind the fact behind the others: what makes the stop, where something is
+/// present there, and what is nearest to a trigger that is absent.
 fn add_details(
-    alloc: Global,
     plan: &Plan,
     rows: &[Row],
     causes: &[EventCause],
@@ -172,9 +145,8 @@ fn add_details(
     plan.keeps();
     match fact {
         Fact::Cause(Cause::AtShutdown { .. }) => add(facts, stop),
-        Fact::Cause(cause) => add_way(alloc, plan, rows, cause, facts),
         Fact::Untriggered { tag, trigger, .. } => {
-            add_absent(alloc, plan, rows, causes, stop, tag, trigger, facts)
+            add_absent(plan, rows, causes, stop, tag, trigger, facts)
         }
         _ => Ok(()),
     }
@@ -184,7 +156,6 @@ fn add_details(
 /// read otherwise: why it is present, or the events that are nearest to it. Of a run that is missing:
 /// the runs that are nearest to it, and where the trace ends.
 fn add_reasons(
-    alloc: Global,
     plan: &Plan,
     rows: &[Row],
     causes: &[EventCause],
@@ -209,9 +180,9 @@ fn add_reasons(
             if read == present {
                 Ok(())
             } else if present.is_some() {
-                add_event(alloc, plan, rows, causes, tag, name, facts)
+                add_event(plan, rows, causes, tag, name, facts)
             } else {
-                add_near(alloc, plan, rows, causes, tag, name, facts)
+                add_near(plan, rows, causes, tag, name, facts)
             }
         }
         Fact::NoRun { tag, reaction } => {
@@ -243,11 +214,11 @@ pub(crate) fn with_reasons(
     for place in 0..facts.len() {
         let fact = item_at(facts.as_slice(), place);
         all.push(fact)?;
-        add_details(alloc, plan, rows, causes, stop, fact, &mut all)?;
+        add_details(plan, rows, causes, stop, fact, &mut all)?;
     }
     for place in 0..facts.len() {
         let fact = item_at(facts.as_slice(), place);
-        add_reasons(alloc, plan, rows, causes, fact, &mut all)?;
+        add_reasons(plan, rows, causes, fact, &mut all)?;
     }
     Ok(Facts::from_vec(all))
 }

@@ -3,7 +3,7 @@
 ghost use Rattle.std.specs.Prelude.{◌≡◌, ◌↔◌, ◌<◌, Some, length, slice_get, IsTrue, IfOk};
 ghost use Rattle.lft_graph.specs.Graph.{IsGraphOf};
 ghost use Rattle.lft_flat.specs.Parts.{Parts};
-ghost use Rattle.lft_facts.specs.Ways.{AreWays, IsMarked, IsMarking, AreThere, LeadsOn};
+ghost use Rattle.lft_facts.specs.Ways.{AreWays, AreSteps, IsMarked, IsMarking, AreThere, LeadsOn};
 
 use lft_graph::Graph;
 use lft_lists::item_at;
@@ -74,4 +74,21 @@ pub(crate) fn ways(
         }
     }
     Ok(next)
+}
+
+/// For each reaction that is just before the last one, that one.
+pub(crate) fn steps(
+    alloc: Global,
+    graph: &Graph,
+    reactions: usize,
+    last: u32,
+) -> Result<Vec<Option<u32>>, NoMemory>
+    requires graph { (program : Parts) × IsGraphOf program graph.now }
+    requires reactions { reactions ≡ length graph.now.before }
+    requires last { last < length graph.now.before }
+    ensures { IfOk result (λ near. AreSteps graph.now last near.items) }
+{
+    let mut near = vec![in alloc; None; reactions]?;
+    mark(near.as_mut_slice(), graph.before(last), last);
+    Ok(near)
 }

@@ -39,7 +39,6 @@ row_fact_names (row_fact.Unended i) = []
 
 -- the rows that a reason names
 abbrev pub reason_names : Reason → List Quote
-reason_names (reason.Hop hop) = []
 reason_names (reason.Nearest g x h) = []
 reason_names (reason.PassedBy g r) = []
 reason_names (reason.NeverRuns r) = []

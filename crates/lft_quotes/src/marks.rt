@@ -121,8 +121,7 @@ fn push_reason(quotes: &mut Vec<Quote>, reason: Reason) -> Result<(), AllocError
         Reason::StartsIn { start, .. } => push(quotes, start, RowMark::LaterStart),
         Reason::EndsOther { end, .. } => push(quotes, end, RowMark::OtherEnd),
         Reason::LastOfWorker { last, .. } => push(quotes, last, RowMark::LastRow),
-        Reason::Hop(_)
-        | Reason::Nearest { .. }
+        Reason::Nearest { .. }
         | Reason::PassedBy { .. }
         | Reason::NeverRuns { .. }
         | Reason::RunBefore { .. }

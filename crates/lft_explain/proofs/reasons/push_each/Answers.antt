@@ -1,4 +1,4 @@
-use Rattle.std.proofs.Common.{string_bytes, arith, ◌∙◌}
+use Rattle.std.proofs.Common.{string_bytes, arith}
 use Rattle.lft_explain.specs.Reasons.{spaced}
 use Rattle.lft_words.proofs.Steps.{also}
 use Rattle.lft_words.proofs.Steps.{said_more, said_all}

@@ -1,13 +1,13 @@
-use Rattle.std.proofs.Common.{ℕ, ◌+◌, subst, arith, Option}
-use Rattle.lft_facts.specs.Ways.{IsLeastEnd}
-use Rattle.lft_facts.proofs.Running.{least_none, least_some, least_all}
+use Rattle.std.proofs.Common.{ℕ, subst, Option}
+use Rattle.lft_facts.specs.Ways.{IsLeastOfAll}
+use Rattle.lft_facts.proofs.Running.{all_some, all_none, all_least}
 use Rattle.lft_facts.proofs.early.late_end.Goals as goal
 
-pub loop-place-init : goal.loop-place-init
-loop-place-init c = least_none c.args.rows.now c.args.tag c.args.next.now c.args.start (c.args.start + 1) (omega arith)
-
 pub unreachable-requires : goal.unreachable-requires
-unreachable-requires c = least_some c.args.rows.now c.args.tag c.args.next.now c.args.start c.loop-place.place (let n = c.loop-place-test.false in omega arith) c.requires.some (subst (λ (o : Option (ℕ × ℕ)). IsLeastEnd c.args.rows.now c.args.tag c.args.next.now c.args.start c.loop-place.place o) c.in_default.is c.loop-place.invariant)
+unreachable-requires c = all_some c.args.rows.now c.args.tag c.args.next.now c.args.start c.requires.some (subst (λ (o : Option (ℕ × ℕ)). IsLeastOfAll c.args.rows.now c.args.tag c.args.next.now c.args.start o) c.in_default-least_end.is c.least_end-2.ensures)
 
-pub returns-clause-least : goal.returns-clause-least
-returns-clause-least c = least_all c.args.rows.now c.args.tag c.args.next.now c.args.start c.loop-place.place (let n = c.loop-place-test.false in omega arith) c.in-Some.end (subst (λ (o : Option (ℕ × ℕ)). IsLeastEnd c.args.rows.now c.args.tag c.args.next.now c.args.start c.loop-place.place o) c.in-Some.is c.loop-place.invariant)
+pub returns-in-Some-clause-nearest : goal.returns-in-Some-clause-nearest
+returns-in-Some-clause-nearest c = all_least c.args.rows.now c.args.tag c.args.near.now c.args.start c.in-Some.end (subst (λ (o : Option (ℕ × ℕ)). IsLeastOfAll c.args.rows.now c.args.tag c.args.near.now c.args.start o) c.in-Some.is c.least_end.ensures)
+
+pub returns-clause-nearest : goal.returns-clause-nearest
+returns-clause-nearest c i a l e m = absurd (all_none c.args.rows.now c.args.tag c.args.near.now c.args.start (subst (λ (o : Option (ℕ × ℕ)). IsLeastOfAll c.args.rows.now c.args.tag c.args.near.now c.args.start o) c.in_default.is c.least_end.ensures) i a l e m)

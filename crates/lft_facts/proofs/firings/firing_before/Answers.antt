@@ -1,4 +1,4 @@
-use Rattle.std.proofs.Common.{◌≡◌, false, true, ◌∙◌, ◌-◌, ◌/◌, ◌%◌, refl, div-add-mod', mod-lt, arith}
+use Rattle.std.proofs.Common.{◌-◌, ◌/◌, ◌%◌, refl, div-add-mod', mod-lt, arith}
 use Rattle.lft_facts.proofs.Firing.{first_before, last_before, from_first}
 use Rattle.lft_facts.proofs.firings.firing_before.Goals as goal
 

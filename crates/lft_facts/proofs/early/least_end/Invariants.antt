@@ -1,5 +1,5 @@
 use Rattle.lft_facts.specs.Ways.{IsLeastEnd}
-use Rattle.lft_facts.proofs.early.late_end.Given as goal
+use Rattle.lft_facts.proofs.early.least_end.Given as goal
 
 abbrev pub invariant-loop-place : goal.invariant-loop-place
 invariant-loop-place l = IsLeastEnd l.rows l.tag l.next l.start l.place l.least

@@ -1,0 +1,156 @@
+//! The text of the way of an event: the connections from the origin of a port to the port.
+
+ghost use Rattle.std.specs.Prelude.{◌≡◌, ◌++◌, length, unwrap_or, IfOk, OnOk, string_bytes};
+ghost use Rattle.lft_tag.specs.Tags.{IsRecorded};
+ghost use Rattle.lft_trace.specs.Fits.{RowsFit};
+ghost use Rattle.lft_explain.specs.Hops.{source_into as the_source_into, way_back as the_way_back, reached as the_reached, end_words, hop_words, told_back, hops_words, way_words, way_at};
+
+use crate::ways::{delay_into, push_arrow};
+use lft_flat::Program;
+use lft_lists::item_at;
+use lft_tag::Tag;
+use lft_trace::{Row, row_at};
+use lft_words::{push_port, push_tag};
+use std::alloc::{AllocError, Global};
+
+/// The port from which the connection into the port comes, if there is one.
+fn source_into(program: &Program, port: u32) -> Option<u32>
+    ensures { result ≡ the_source_into program.now port }
+{
+    if (port as usize) < program.ports() {
+        match program.port(port).source {
+            Some(source) => Some(source.port),
+            None => None,
+        }
+    } else {
+        None
+    }
+}
+
+/// The port from which the connection into the port comes; a port without one is its own.
+fn before(program: &Program, port: u32) -> u32
+    ensures { result ≡ unwrap_or (the_source_into program.now port) port }
+{
+    match source_into(program, port) {
+        Some(source) => source,
+        None => port,
+    }
+}
+
+/// The ports into which the connections on the way to the port lead, the last first.
+fn way_back(alloc: Global, program: &Program, port: u32) -> Result<Vec<u32>, AllocError>
+    ensures { IfOk result (λ way. way.items ≡ the_way_back program.now (length program.now.ports) port) }
+{
+    let mut way = Vec::new(alloc);
+    let mut at = port;
+    // A way that comes to a port twice has no end, and no program has one.
+    let mut left = program.ports();
+    while left > 0 {
+        left -= 1;
+        match source_into(program, at) {
+            Some(source) => {
+                way.push(at)?;
+                at = source;
+            }
+            None => return Ok(way),
+        }
+    }
+    Ok(way)
+}
+
+/// The tag at which the port gets what is written to its origin at the tag; a number that is of no port
+/// has the tag itself.
+fn reached(program: &Program, tag: Tag, port: u32) -> Tag
+    requires { IsRecorded tag }
+    ensures { result ≡ the_reached program.now tag port }
+{
+    if (port as usize) < program.ports() {
+        tag.plus(program.port(port).shift)
+    } else {
+        tag
+    }
+}
+
+/// Puts a port, and when it gets what is written to its origin at the tag, at the end of the text.
+fn push_end(text: &mut String, program: &Program, tag: Tag, port: u32) -> Result<(), AllocError>
+    requires { IsRecorded tag }
+    ensures { OnOk result (string_bytes text.new ≡ string_bytes text.old ++ end_words program.now tag port) }
+{
+    push_port(text, program, port)?;
+    text.push_str(" ")?;
+    push_tag(text, reached(program, tag, port))?;
+    Ok(())
+}
+
+/// Puts the connection into the port, with the tags before and after it, at the end of the text.
+fn push_hop(text: &mut String, program: &Program, tag: Tag, port: u32) -> Result<(), AllocError>
+    requires { IsRecorded tag }
+    ensures { OnOk result (string_bytes text.new ≡ string_bytes text.old ++ hop_words program.now tag port) }
+{
+    text.push_str("    ")?;
+    push_end(text, program, tag, before(program, port))?;
+    push_arrow(text, delay_into(program, port))?;
+    push_end(text, program, tag, port)?;
+    text.push_str("\n")?;
+    Ok(())
+}
+
+/// Puts the connections into the ports, the last first, at the end of the text.
+fn push_hops(
+    text: &mut String,
+    program: &Program,
+    tag: Tag,
+    ports: &[u32],
+) -> Result<(), AllocError>
+    requires { IsRecorded tag }
+    ensures { OnOk result (string_bytes text.new ≡ string_bytes text.old ++ told_back (hop_words program.now tag) ports.now) }
+{
+    let mut left = ports.len();
+    while left > 0 {
+        left -= 1;
+        push_hop(text, program, tag, item_at(ports, left))?;
+    }
+    Ok(())
+}
+
+/// Puts the connections into the ports, the last first, at the end of the text: all, or of more than 20
+/// ten at each end.
+fn push_some(
+    text: &mut String,
+    program: &Program,
+    tag: Tag,
+    ports: &[u32],
+) -> Result<(), AllocError>
+    requires { IsRecorded tag }
+    ensures { OnOk result (string_bytes text.new ≡ string_bytes text.old ++ hops_words program.now tag ports.now) }
+{
+    let count = ports.len();
+    if 20 < count {
+        push_hops(text, program, tag, &ports[count - 10..count])?;
+        text.push_str("    ..\n")?;
+        push_hops(text, program, tag, &ports[0..10])?;
+    } else {
+        push_hops(text, program, tag, ports)?;
+    }
+    Ok(())
+}
+
+/// Puts the way to the port of what the row at the place writes to its origin at the end of the text.
+pub(crate) fn push_way_at(
+    alloc: Global,
+    text: &mut String,
+    program: &Program,
+    rows: &[Row],
+    port: u32,
+    row: u32,
+) -> Result<(), AllocError>
+    requires { RowsFit program.now rows.now }
+    ensures { OnOk result (string_bytes text.new ≡ string_bytes text.old ++ way_at program.now rows.now port row) }
+{
+    if (row as usize) < rows.len() {
+        let tag = row_at(rows, row as usize).tag;
+        let ports = way_back(alloc, program, port)?;
+        push_some(text, program, tag, ports.as_slice())?;
+    }
+    Ok(())
+}
