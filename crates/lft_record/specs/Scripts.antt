@@ -68,3 +68,7 @@ script_done script g word reads = record {
 -- what a body of reaction r answers by the cards
 abbrev pub card_done : List Script → ℕ → Tag → ℤ → List (Option Value) → Done
 card_done scripts r g word reads = script_done (unwrap_or (slice_get scripts r) blank) g word reads
+
+-- the law that an answer is what these scripts say
+abbrev pub card_law : List Script → ℕ → Tag → ℤ → List (Option Value) → Done → Type 0
+card_law scripts r g word reads done = done ≡ card_done scripts r g word reads

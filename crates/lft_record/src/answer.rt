@@ -1,15 +1,19 @@
 //! From texts to a recording.
 
-ghost use Rattle.std.specs.Prelude.{◌≡◌, IfOk, IfErr, true};
+ghost use Rattle.std.specs.Prelude.{◌≡◌, IfOk, IfErr, OnOk, true};
 ghost use Rattle.lft_record.specs.Answers.{AnswerRefusal, IsAnswer};
+ghost use Rattle.lft_record.specs.Recordings.{IsRecorded, RecordRefusal};
+ghost use Rattle.lft_record.specs.Scripts.{card_law};
 
-use crate::bodies::card_bodies;
-use crate::cards::read_cards;
+use crate::bodies::{FollowsCards, Scripted, card_bodies};
+use crate::cards::{Cards, read_cards};
 use crate::fault::cards_fault;
 use crate::recording::record_to;
 use lft_load::{Fault, load};
+use lft_model::Plan;
 use std::alloc::Global;
 use std::io::Write;
+use std::marker::Brand;
 use std::sync::Wait;
 use std::thread::Threads;
 
@@ -39,12 +43,28 @@ pub fn record_answer<R: Threads + Wait + Sync, W: Write>(
         Ok(cards) => cards,
         Err(fault) => return Err(cards_fault(fault)),
     };
-    let bodies = match card_bodies(alloc, plan.program(), &cards, max_runs) {
-        Ok(bodies) => bodies,
-        Err(_) => return Err(Fault::no_memory()),
-    };
-    match record_to(rt, alloc, plan, bodies, workers, max_runs, out) {
+    match record_cards::<Brand, R, W>(rt, alloc, plan, &cards, workers, max_runs, out) {
         Ok(()) => Ok(true),
         Err(fault) => Err(fault),
+    }
+}
+
+// Records the plan with the bodies of the cards.
+fn record_cards<S: Scripted + Send, R: Threads + Wait + Sync, W: Write>(
+    rt: &R,
+    alloc: Global,
+    plan: Plan,
+    cards: &Cards,
+    workers: u32,
+    max_runs: u32,
+    out: &mut W,
+) -> Result<(), Fault>
+    requires { cards.now ≡ S.scripts }
+    ensures recorded { OnOk result (IsRecorded (card_law cards.now) plan workers max_runs (W.contents out.old) (W.contents out.new)) }
+    ensures refused { IfErr result (RecordRefusal (card_law cards.now) plan workers max_runs (W.contents out.old) (W.contents out.new)) }
+{
+    match card_bodies::<S>(alloc, plan.program(), cards, max_runs) {
+        Ok(bodies) => record_to(rt, alloc, plan, bodies, workers, max_runs, out),
+        Err(_) => Err(Fault::no_memory()),
     }
 }

@@ -1,4 +1,4 @@
-//! The bodies of a recording by cards.
+//! The bodies of a recording by cards, and the law that they meet.
 
 ghost use Rattle.std.specs.Prelude.{◌≡◌, ◌<◌, ℕ, IfOk, length, min, slice_index};
 ghost use Rattle.lft_record.specs.Scripts.{bodies_at};
@@ -6,9 +6,37 @@ ghost use Rattle.lft_record.specs.Scripts.{bodies_at};
 use crate::cards::{Cards, card_answer};
 use lft_flat::Program;
 use lft_model::Reads;
-use lft_pool::{AnyAnswer, Bodies, Code, Done};
+use lft_pool::{Bodies, Code, Done, Law};
 use lft_tag::{NoMemory, Tag};
 use std::alloc::Global;
+use std::marker::{Brand, PhantomData};
+
+/// The scripts that a recording is to follow, for contracts alone. They are known only at run time,
+/// so a call at `Brand` picks them in its proof: those of the cards that it has.
+pub trait Scripted {
+    ghost use Rattle.std.specs.Prelude.{List};
+    ghost use Rattle.lft_record.specs.declared.cards.Script.{Script};
+
+    ghost scripts: { List Script };
+}
+
+impl Scripted for Brand {
+    ghost use Rattle.std.specs.Prelude.{[]};
+
+    ghost scripts = { [] };
+}
+
+/// The law that an answer is what these scripts say for its reaction, at its tag, with the state word
+/// before the run and what it reads.
+pub struct FollowsCards<S: Scripted> {
+    scripts: PhantomData<S>,
+}
+
+impl<S: Scripted> Law for FollowsCards<S> {
+    ghost use Rattle.lft_record.specs.Scripts.{card_law};
+
+    ghost holds = { card_law S.scripts };
+}
 
 /// The code of a body of this reaction: it answers what the cards say.
 #[derive(Drop)]
@@ -43,12 +71,14 @@ impl Code for CardCode<'_> {
 
 /// The bodies that the cards give each reaction of the program, or `max_runs` of them where the cards
 /// give more: no recording takes more. Those of a reaction are kept by their count, whatever it is.
-pub fn card_bodies<'a>(
+/// Each answers what the cards say of its reaction.
+pub fn card_bodies<'a, S: Scripted>(
     alloc: Global,
     program: &Program,
     cards: &'a Cards,
     max_runs: u32,
-) -> Result<Bodies<AnyAnswer, CardCode<'a>>, NoMemory>
+) -> Result<Bodies<FollowsCards<S>, CardCode<'a>>, NoMemory>
+    requires { cards.now ≡ S.scripts }
     ensures lists { IfOk result (λ bodies. length bodies ≡ length program.now.reactions) }
     ensures counts { IfOk result (λ bodies. (r : ℕ) → r < length program.now.reactions → slice_index bodies r ≡ min (bodies_at cards.now r) max_runs) }
 {

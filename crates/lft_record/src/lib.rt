@@ -8,7 +8,7 @@ mod fault;
 mod recording;
 
 pub use answer::record_answer;
-pub use bodies::{CardCode, card_bodies};
+pub use bodies::{CardCode, FollowsCards, Scripted, card_bodies};
 pub use cards::{
     CardFault, CardStep, CardSteps, CardValue, Cards, Expression, Script, Term, card_answer,
     read_cards,

@@ -22,4 +22,4 @@ returns-in-Err-read_cards-clause-refused g c =
 pub returns-clause-refused : goal.returns-clause-refused
 returns-clause-refused g c =
     let table = subst (λ (p : Parts). CardTable p (records_of c.args.cards.now) c.in-Ok-read_cards.cards) c.program.ensures.value c.in-Ok-read_cards.ensures.table in
-    by_recording c.in-Ok.plan c.in-Ok-read_cards.cards c.in-Ok.ensures.plan table c.in-Err-record_to.ensures.refused
+    by_recording c.in-Ok.plan c.in-Ok-read_cards.cards c.in-Ok.ensures.plan table c.in-Err-record_cards.ensures.refused

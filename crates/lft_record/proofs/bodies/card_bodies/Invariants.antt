@@ -4,7 +4,7 @@ use Rattle.lft_record.specs.Scripts.{bodies_at}
 use Rattle.lft_record.proofs.bodies.card_bodies.Given as goal
 
 abbrev pub invariant-loop-reaction : goal.invariant-loop-reaction
-invariant-loop-reaction l = record {
+invariant-loop-reaction g l = record {
   long : length l.bodies ≡ length l.program.reactions;
   done : (r : ℕ) → r < l.reaction → slice_index l.bodies r ≡ min (bodies_at l.cards r) l.fn.max_runs;
   none : (r : ℕ) → l.reaction ≤ r → r < length l.bodies → slice_index l.bodies r ≡ 0;
