@@ -7,7 +7,7 @@ ghost use Rattle.lft_trace.specs.Fits.{RowsFit};
 ghost use Rattle.lft_trace.specs.Records.{records_of};
 ghost use Rattle.lft_trace.specs.Traces.{Table};
 ghost use Rattle.lft_trace.specs.declared.row.Row.{Row as TheRow};
-ghost use Rattle.lft_check.specs.Verdicts.{IsAccepted};
+ghost use Rattle.lft_rows.specs.Accepted.{IsAccepted};
 ghost use Rattle.lft_reading.specs.Parts.{HoldsRows, rows_of};
 ghost use Rattle.lft_batches.specs.Fronts.{IsFront, IsNextBehind, judged_rows};
 

@@ -23,9 +23,10 @@ use Rattle.lft_presence.specs.Traces.{TraceParts, IsSooner}
 use Rattle.lft_presence.proofs.Presences.{IsKey, present_cause}
 use Rattle.lft_presence.proofs.Skips.{leads_up, names_up}
 use Rattle.lft_by_tag.specs.declared.absences.Absences.{Absences}
-use Rattle.lft_by_tag.specs.declared.slices.Slice.{Slice}
+use Rattle.lft_rows.specs.declared.slices.Slice.{Slice}
 use Rattle.lft_by_tag.specs.Absences.{IsEarlier, IsAbsentUntil, AreAbsences, AreAbsentUntil, IsUnknown}
-use Rattle.lft_by_tag.specs.Slices.{IsCuttable, IsSlice}
+use Rattle.lft_rows.specs.Slices.{IsSlice}
+use Rattle.lft_by_tag.specs.Slices.{IsCuttable}
 use Rattle.lft_by_tag.specs.declared.walk.Walk.{Walk}
 use Rattle.lft_by_tag.specs.Walks.{IsPast, IsBefore, HasWalked}
 use Rattle.lft_rows.proofs.Marked.{before_on}

@@ -17,7 +17,7 @@ use Rattle.lft_flat.proofs.Ranges.{slice_get-drop}
 use Rattle.lft_presence.specs.Traces.{TraceParts, LeastTag}
 use Rattle.lft_presence.proofs.Leasts.{least_as}
 use Rattle.lft_by_tag.specs.declared.started.Started.{Started}
-use Rattle.lft_by_tag.specs.Slices.{AreTags}
+use Rattle.lft_rows.specs.Slices.{AreTags}
 use Rattle.lft_by_tag.specs.Slices.{IsCuttable, IsMissing, IsVacant}
 use Rattle.lft_by_tag.specs.Least.{HasTag, AreTriggered, Lacks}
 use Rattle.lft_by_tag.specs.Indexes.{AreStartsOf, HasRunsTo, HasRuns, AreDue, AreMarkedTo}

@@ -6,7 +6,8 @@ use Rattle.lft_model.specs.Plans.{PlanParts, IsSoundPlan}
 use Rattle.lft_model.proofs.Legality.{four, rising}
 use Rattle.lft_model.specs.Presence.{stop}
 use Rattle.lft_rows.specs.Firsts.{FirstRow}
-use Rattle.lft_by_tag.specs.Slices.{IsCuttable, Rises}
+use Rattle.lft_rows.specs.Slices.{Rises}
+use Rattle.lft_by_tag.specs.Slices.{IsCuttable}
 
 pub rises_of : (plan : PlanParts) (t : List Row) → FirstRow (stop plan t) plan t None → Rises t
 rises_of plan t kept i j x y l p q = rising plan t (four plan t kept) i j x y l p q

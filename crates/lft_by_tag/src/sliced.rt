@@ -6,13 +6,14 @@ ghost use Rattle.lft_graph.specs.Graph.{IsGraphOf};
 ghost use Rattle.lft_trace.specs.declared.row.Row.{Row as TheRow};
 ghost use Rattle.lft_model.specs.Presence.{At, IsPresent, Triggered};
 ghost use Rattle.lft_presence.specs.Clashes.{IsClash};
-ghost use Rattle.lft_by_tag.specs.Slices.{AreSlices, IsCuttable, IsFirstMissing, runs_in};
+ghost use Rattle.lft_rows.specs.Slices.{runs_in};
+ghost use Rattle.lft_by_tag.specs.Slices.{AreSlices, IsCuttable, IsFirstMissing};
 
-use crate::slices::Slice;
 use crate::slicing::Caused;
 use lft_flat::{Name, Program, Value};
 use lft_graph::Graph;
 use lft_presence::Presence;
+use lft_rows::Slice;
 use lft_tag::Tag;
 use lft_trace::{Row, row_at};
 use std::marker::Model;

@@ -5,15 +5,14 @@ ghost use Rattle.lft_flat.specs.declared.parts.Reaction.{Reaction as TheReaction
 ghost use Rattle.lft_flat.specs.declared.parts.Name.{Name as TheName};
 ghost use Rattle.lft_model.specs.Runs.{read_of, steps_of};
 ghost use Rattle.lft_rows.specs.Marks.{HasSeat, width};
-ghost use Rattle.lft_by_tag.specs.Reads.{value_read as the_value_read};
-ghost use Rattle.lft_by_tag.specs.Slices.{IsSlice};
+ghost use Rattle.lft_rows.specs.Reads.{value_read as the_value_read};
+ghost use Rattle.lft_rows.specs.Slices.{IsSlice};
 ghost use Rattle.lft_by_tag.specs.Walks.{IsBefore, HasWalked};
 
 use crate::absences::{Absences, absences_of};
 use crate::sliced::Sliced;
-use crate::slices::Slice;
 use lft_flat::Value;
-use lft_rows::Marks;
+use lft_rows::{Marks, Slice};
 use lft_tag::NoMemory;
 use lft_trace::{Step, row_at};
 use std::alloc::Global;

@@ -6,7 +6,8 @@ use Rattle.lft_trace.specs.Records.{records_of}
 use Rattle.lft_trace.specs.Traces.{Table}
 use Rattle.lft_model.specs.Plans.{PlanParts}
 use Rattle.lft_check.specs.declared.verdict.Verdict.{Verdict}
-use Rattle.lft_check.specs.Verdicts.{IsAccepted, IsVerdict}
+use Rattle.lft_rows.specs.Accepted.{IsAccepted}
+use Rattle.lft_check.specs.Verdicts.{IsVerdict}
 use Rattle.lft_stream.specs.declared.stream.Counts.{Counts}
 use Rattle.lft_load.specs.Refusals.{is_of_text}
 use Rattle.lft_load.specs.declared.fault.Fault.{Fault}

@@ -9,7 +9,7 @@ use Rattle.lft_model.specs.Plans.{PlanParts}
 use Rattle.lft_model.specs.Runs.{by_ends}
 use Rattle.lft_model.specs.Breaches.{Legal, First}
 use Rattle.lft_model.specs.OneWorker.{OneWorker, InOrderOfPrecedence}
-use Rattle.lft_check.specs.Verdicts.{IsAccepted}
+use Rattle.lft_rows.specs.Accepted.{IsAccepted}
 use Rattle.lft_pair.specs.declared.comparison.Pair.TheVariants as pair
 use Rattle.lft_pair.specs.Pairs.{IsComparison}
 use Rattle.lft_front.specs.declared.paired.Paired.{Paired}

@@ -6,7 +6,7 @@ ghost use Rattle.lft_trace.specs.Fits.{RowsFit};
 ghost use Rattle.lft_trace.specs.declared.row.Row.{Row};
 ghost use Rattle.lft_model.specs.Plans.{PlanParts};
 ghost use Rattle.lft_model.specs.Workers.{IsWorkers};
-ghost use Rattle.lft_check.specs.Verdicts.{IsAccepted};
+ghost use Rattle.lft_rows.specs.Accepted.{IsAccepted};
 ghost use Rattle.lft_front.specs.Lines.{line_of_pair};
 ghost use Rattle.lft_front.specs.Pairs.{AreAccepted, AreMeaning, IsExecution, IsPaired, IsPairing, MeanBoth, NamesReaction};
 ghost use Rattle.lft_front.specs.PairRefusals.{PairRefusal, PairingRefusal, TextPairRefusal};

@@ -9,8 +9,10 @@ mod open;
 mod parts;
 mod pass;
 mod seats;
+mod slices;
 
 pub use laws::law_pass;
 pub use marks::Marks;
 pub use parts::first_breach_shared;
 pub use pass::{Pass, first_breach};
+pub use slices::Slice;

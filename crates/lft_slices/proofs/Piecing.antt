@@ -26,11 +26,11 @@ use Rattle.lft_model.proofs.Blocks.{put_right}
 use Rattle.lft_model.proofs.Ended.{row_is}
 use Rattle.lft_model.proofs.Legality.{four, one_start, one_end, ended, ran_at}
 use Rattle.lft_model.proofs.Places.{slice_get_within}
-use Rattle.lft_by_tag.specs.declared.slices.Slice.{Slice}
+use Rattle.lft_rows.specs.declared.slices.Slice.{Slice}
 use Rattle.lft_slices.specs.declared.pieces.Piece.{Piece}
-use Rattle.lft_by_tag.specs.Slices.{IsCuttable, IsSlice, AreSlices}
+use Rattle.lft_rows.specs.Slices.{IsSlice, AreTags}
+use Rattle.lft_by_tag.specs.Slices.{IsCuttable, AreSlices}
 use Rattle.lft_slices.specs.declared.pieces.Pieces.{Pieces}
-use Rattle.lft_by_tag.specs.Slices.{AreTags}
 use Rattle.lft_slices.specs.Pieces.{IsPiece, AreRuns, AreEndsTo, AreStartsTo, AreRunsIn, ArePiecesTo, ArePieces, IsTagAt}
 
 -- no two pieces of the list are of one reaction

@@ -8,7 +8,7 @@ use Rattle.lft_lists.proofs.Places.{get_left, get_right, get_push, get_last, get
 use Rattle.lft_trace.specs.declared.row.Row.{Row}
 use Rattle.lft_model.specs.Runs.{start_row, Ran}
 use Rattle.lft_model.proofs.Places.{slice_get_within}
-use Rattle.lft_by_tag.specs.Slices.{begins, runs_in, AreTags}
+use Rattle.lft_rows.specs.Slices.{begins, runs_in, AreTags}
 use Rattle.lft_stream.specs.Settled.{AreBefore, AreAt}
 use Rattle.lft_stream.specs.Counted.{IsCounted}
 

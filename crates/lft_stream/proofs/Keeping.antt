@@ -20,9 +20,9 @@ use Rattle.lft_model.specs.Presence.{requests, stop, given, Shows, Inputs, Trigg
 use Rattle.lft_model.specs.Runs.{Ran, inputs_of, read_of, reads_at}
 use Rattle.lft_model.specs.Breaches.{IsTooEarly}
 use Rattle.lft_rows.specs.Firsts.{FirstRow}
-use Rattle.lft_by_tag.specs.declared.slices.Slice.{Slice}
-use Rattle.lft_by_tag.specs.Slices.{IsSlice, runs_in}
-use Rattle.lft_check.specs.Verdicts.{IsAccepted}
+use Rattle.lft_rows.specs.declared.slices.Slice.{Slice}
+use Rattle.lft_rows.specs.Slices.{IsSlice, runs_in}
+use Rattle.lft_rows.specs.Accepted.{IsAccepted}
 use Rattle.lft_stream.specs.declared.stream.Stream.{Stream}
 use Rattle.lft_stream.specs.AtOnce.{is_undelayed, origin_of, HasEvents, AreHeard}
 use Rattle.lft_stream.specs.Channels.{AreChannels, caused_by}

@@ -19,8 +19,8 @@ use Rattle.lft_model.proofs.Steps.{step_row}
 use Rattle.lft_lists.proofs.Members.{none_nil}
 use Rattle.lft_model.specs.Breaches.{IsOpen, IsOutOfOrder, IsUndeclared, BreaksRowUntil}
 use Rattle.lft_rows.specs.Firsts.{FirstRow}
-use Rattle.lft_by_tag.specs.declared.slices.Slice.{Slice}
-use Rattle.lft_by_tag.specs.Slices.{IsSlice, Rises}
+use Rattle.lft_rows.specs.declared.slices.Slice.{Slice}
+use Rattle.lft_rows.specs.Slices.{IsSlice, Rises}
 use Rattle.lft_stream.specs.Settled.{AreAt}
 
 -- tags don't fall where no row breaks a rule

@@ -13,7 +13,7 @@ use Rattle.lft_graph.specs.Sets.{AreAncestors}
 use Rattle.lft_rows.specs.Firsts.{FirstRow}
 use Rattle.lft_rows.specs.Marks.{IsLaid}
 use Rattle.lft_rows.specs.Passes.{IsPass}
-use Rattle.lft_by_tag.specs.declared.slices.Slice.{Slice}
+use Rattle.lft_rows.specs.declared.slices.Slice.{Slice}
 use Rattle.lft_stream.specs.declared.acceptor.Acceptor.{Acceptor}
 use Rattle.lft_stream.specs.declared.stream.Stream.{Stream}
 use Rattle.lft_stream.specs.AtOnce.{is_undelayed, HasEvents, AreHeard}

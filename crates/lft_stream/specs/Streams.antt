@@ -9,7 +9,7 @@ use Rattle.lft_flat.specs.declared.parts.Name.TheVariants.{Port, Action}
 use Rattle.lft_trace.specs.declared.row.Row.{Row}
 use Rattle.lft_model.specs.Plans.{PlanParts}
 use Rattle.lft_model.specs.Presence.{stop}
-use Rattle.lft_by_tag.specs.Slices.{runs_in}
+use Rattle.lft_rows.specs.Slices.{runs_in}
 use Rattle.lft_stream.specs.Settled.{IsSettled}
 use Rattle.lft_stream.specs.Counted.{IsCounted}
 use Rattle.lft_stream.specs.declared.due.Due.{Due}

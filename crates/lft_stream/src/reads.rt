@@ -8,19 +8,18 @@ ghost use Rattle.lft_trace.specs.Fits.{RowsFit};
 ghost use Rattle.lft_model.specs.Presence.{Shows, Inputs, Triggered};
 ghost use Rattle.lft_model.specs.Runs.{Ran, read_of, reads_at, steps_of};
 ghost use Rattle.lft_rows.specs.Marks.{AreMarks, HasSeat, width};
-ghost use Rattle.lft_by_tag.specs.Reads.{value_read as the_value_read};
-ghost use Rattle.lft_by_tag.specs.Slices.{IsSlice};
+ghost use Rattle.lft_rows.specs.Reads.{value_read as the_value_read};
+ghost use Rattle.lft_rows.specs.Slices.{IsSlice};
 ghost use Rattle.lft_flat.specs.Sound.{IsNameOf};
 ghost use Rattle.lft_stream.specs.Present.{AreShown};
 
 use crate::at_once::is_undelayed;
 use crate::coming::Coming;
 use crate::writes::Writes;
-use lft_by_tag::Slice;
 use lft_flat::{Name, Program, Value};
 use lft_lists::item_at;
 use lft_model::Plan;
-use lft_rows::Marks;
+use lft_rows::{Marks, Slice};
 use lft_tag::Tag;
 use lft_trace::{Row, Step, is_start, row_at};
 

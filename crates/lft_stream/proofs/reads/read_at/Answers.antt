@@ -1,5 +1,5 @@
 use Rattle.std.proofs.Common.{◌≡◌, ◌-◌, ◌+◌, ◌<◌, ◌≤◌, ◌∙◌, arith}
-use Rattle.lft_by_tag.proofs.RunReads.{no_read, last_read}
+use Rattle.lft_rows.proofs.RunReads.{no_read, last_read}
 use Rattle.lft_stream.proofs.reads.read_at.Goals as goal
 
 pub returns-then-mark-slice : goal.returns-then-mark-slice

@@ -1,6 +1,6 @@
 use Rattle.std.proofs.Common.{◌≡◌, ◌-◌, ◌+◌, ◌<◌, ◌≤◌, List, subst, ◌∙◌, arith, Some, slice_get}
 use Rattle.lft_trace.specs.declared.row.Row.{Row}
-use Rattle.lft_by_tag.proofs.RunReads.{no_read, last_read}
+use Rattle.lft_rows.proofs.RunReads.{no_read, last_read}
 use Rattle.lft_by_tag.proofs.sliced.Sliced.read_at.Goals as goal
 
 pub returns-then-mark-slice : goal.returns-then-mark-slice

@@ -6,7 +6,7 @@ use Rattle.lft_trace.specs.declared.row.Row.{Row}
 use Rattle.lft_trace.specs.declared.row.Step.{Step}
 use Rattle.lft_trace.specs.declared.row.Step.TheVariants.{Start, Read, Write, Schedule, Stop, End}
 use Rattle.lft_model.proofs.Places.{slice_get_within}
-use Rattle.lft_by_tag.specs.Slices.{begins, runs_in}
+use Rattle.lft_rows.specs.Slices.{begins, runs_in}
 
 not_begins : (s : Step) → ¬ (s ≡ Start) → begins s ≡ false
 not_begins Start n = absurd (n refl)

@@ -16,10 +16,10 @@ use Rattle.lft_model.specs.Breaches.{WasRead, IsUndeclared}
 use Rattle.lft_model.proofs.Legality.{KeepsFour, keeps_four}
 use Rattle.lft_rows.proofs.Steps.{row_eq}
 use Rattle.lft_model.proofs.Steps.{step_row, row_step}
-use Rattle.lft_by_tag.specs.declared.slices.Slice.{Slice}
-use Rattle.lft_by_tag.specs.Slices.{IsSlice}
+use Rattle.lft_rows.specs.declared.slices.Slice.{Slice}
+use Rattle.lft_rows.specs.Slices.{IsSlice}
 use Rattle.lft_rows.specs.Marks.{ReadsFor, IsMark}
-use Rattle.lft_by_tag.specs.Reads.{value_read}
+use Rattle.lft_rows.specs.Reads.{value_read}
 use Rattle.lft_rows.proofs.Marked.{same_here}
 use Rattle.std.proofs.NetLemmas.Options.{cond_some}
 
