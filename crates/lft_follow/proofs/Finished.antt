@@ -11,7 +11,7 @@ use Rattle.lft_model.specs.Presence.{stop}
 use Rattle.lft_model.specs.Breaches.{TagBreach, TagOrder}
 use Rattle.lft_follow.specs.Sure.{AreFrom, FinishedLaw, ToldLaw}
 use Rattle.lft_follow.proofs.Same.{SameAt, same_breach}
-use Rattle.lft_follow.proofs.Behind.{ran_added, ran_back, too_early_added, too_early_back, reads_added, reads_back, in_time_added, in_time_back, triggered_added, triggered_back, collision_added, collision_back}
+use Rattle.lft_stream.proofs.Behind.{ran_added, ran_back, too_early_added, too_early_back, reads_added, reads_back, in_time_added, in_time_back, triggered_added, triggered_back, collision_added, collision_back}
 
 module _ (plan : PlanParts) (d u : List Row) (low : Tag) (from : AreFrom u low) (h : Tag) (before : Before h low) where
   later : (x : Row) → Mem x u → Before h x.tag

@@ -9,14 +9,11 @@ use Rattle.lft_model.specs.declared.breach.Breach.{Breach}
 use Rattle.lft_model.specs.Plans.{PlanParts}
 use Rattle.lft_model.specs.Presence.{stop, written, scheduled, given, min_delay}
 use Rattle.lft_model.specs.Breaches.{RowBreach, TagBreach, TagBreachUntil, RowOrder, TagOrder, First, Legal}
+use Rattle.lft_stream.specs.Settled.{AreBefore}
 
 -- no row is before the tag
 abbrev pub AreFrom : List Row → Tag → Type 0
 AreFrom t low = (i : ℕ) (x : Row) → slice_get t i ≡ Some x → UpTo low x.tag
-
--- each row is before the tag
-abbrev pub AreUnder : List Row → Tag → Type 0
-AreUnder t low = (i : ℕ) (x : Row) → slice_get t i ≡ Some x → Before x.tag low
 
 -- the breach is sure once a row at the tag low is there: a row breaks one of the rules 1 to 4, a run before low has no end, or one of the rules 6 to 10 is broken before low
 abbrev pub IsSure : PlanParts → List Row → Tag → Breach → Type 0
@@ -65,7 +62,7 @@ pub record CauseSame (plan : PlanParts) (d e : List Row) (low : Tag) : Type 0 wh
 
 -- with any stop, rows before low may be dropped but for those that cause something from low on: nothing changes of what the rules 6 to 10 ask for from there on
 abbrev pub DroppedLaw : PlanParts → Type 0
-DroppedLaw plan = (last : Tag) (d e u : List Row) (low : Tag) (b : Breach) → AreUnder d low → AreUnder e low → CauseSame plan d e low → UpTo low b.tag → TagBreachUntil last plan (d ++ u) b ↔ TagBreachUntil last plan (e ++ u) b
+DroppedLaw plan = (last : Tag) (d e u : List Row) (low : Tag) (b : Breach) → AreBefore d low → AreBefore e low → CauseSame plan d e low → UpTo low b.tag → TagBreachUntil last plan (d ++ u) b ↔ TagBreachUntil last plan (e ++ u) b
 
 -- the plan with other external inputs
 abbrev pub with_inputs : PlanParts → ExternalInputs → PlanParts
