@@ -20,7 +20,7 @@ use Rattle.lft_model.specs.Breaches.{BreaksTagUntil, BreaksAtUntil}
 use Rattle.lft_model.proofs.Places.{slice_get_within}
 use Rattle.lft_stream.specs.declared.due.Due.{Due}
 use Rattle.lft_stream.specs.declared.due.Due.TheVariants.{AtTag, AtStop, Never}
-use Rattle.lft_stream.specs.Owed.{Listens}
+use Rattle.lft_coming.specs.Listens.{Listens}
 use Rattle.lft_stream.specs.Dues.{firing, IsNextFiring, IsDue, AreDue, IsTimed, IsDueBefore}
 use Rattle.lft_stream.specs.Streams.{State, IsStream}
 use Rattle.lft_stream.proofs.Owing.{due_occurs}

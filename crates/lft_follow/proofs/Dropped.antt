@@ -16,7 +16,7 @@ use Rattle.lft_trace.specs.declared.row.Row.{Row}
 use Rattle.lft_model.specs.Plans.{PlanParts}
 use Rattle.lft_model.specs.Presence.{written, scheduled, given, min_delay, events_of, IsWrittenFrom, At, Shows, Inputs, OccursUntil, TriggeredUntil, ClashesAt, Collision}
 use Rattle.lft_model.specs.Runs.{reads_at}
-use Rattle.lft_stream.specs.Settled.{AreBefore}
+use Rattle.lft_coming.specs.AtTag.{AreBefore}
 use Rattle.lft_follow.specs.Sure.{CauseSame, DroppedLaw}
 use Rattle.lft_follow.proofs.Same.{SameAt, same_breach}
 use Rattle.lft_stream.proofs.Before.{ran_second, ran_whole, too_early_second, too_early_whole, reads_second}

@@ -17,7 +17,7 @@ use Rattle.lft_lists.proofs.Picked.{kept_more}
 use Rattle.lft_trace.specs.declared.row.Row.{Row}
 use Rattle.lft_model.specs.Plans.{PlanParts}
 use Rattle.lft_model.specs.Presence.{scheduled, written, min_delay}
-use Rattle.lft_stream.specs.Settled.{AreBefore}
+use Rattle.lft_coming.specs.AtTag.{AreBefore}
 use Rattle.lft_follow.specs.Sure.{CauseSame}
 
 -- of the ports before a number, those of the origin are reached before low

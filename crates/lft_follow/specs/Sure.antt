@@ -9,7 +9,7 @@ use Rattle.lft_model.specs.declared.breach.Breach.{Breach}
 use Rattle.lft_model.specs.Plans.{PlanParts}
 use Rattle.lft_model.specs.Presence.{stop, written, scheduled, given, min_delay}
 use Rattle.lft_model.specs.Breaches.{RowBreach, TagBreach, TagBreachUntil, RowOrder, TagOrder, First, Legal}
-use Rattle.lft_stream.specs.Settled.{AreBefore}
+use Rattle.lft_coming.specs.AtTag.{AreBefore}
 
 -- no row is before the tag
 abbrev pub AreFrom : List Row → Tag → Type 0

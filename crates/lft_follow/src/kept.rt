@@ -6,7 +6,7 @@ ghost use Rattle.lft_tag.specs.Tags.{IsRecorded, Before, UpTo, after_all};
 ghost use Rattle.lft_flat.specs.Origins.{Origin};
 ghost use Rattle.lft_trace.specs.Fits.{RowFits, RowsFit};
 ghost use Rattle.lft_model.specs.Presence.{scheduled, written, min_delay};
-ghost use Rattle.lft_stream.specs.Settled.{AreBefore};
+ghost use Rattle.lft_coming.specs.AtTag.{AreBefore};
 ghost use Rattle.lft_follow.specs.Sure.{CauseSame};
 
 use lft_flat::{Name, Program};

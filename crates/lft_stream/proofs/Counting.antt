@@ -9,7 +9,7 @@ use Rattle.lft_trace.specs.declared.row.Row.{Row}
 use Rattle.lft_model.specs.Runs.{start_row, Ran}
 use Rattle.lft_model.proofs.Places.{slice_get_within}
 use Rattle.lft_rows.specs.Slices.{begins, runs_in, AreTags}
-use Rattle.lft_stream.specs.Settled.{AreBefore, AreAt}
+use Rattle.lft_coming.specs.AtTag.{AreBefore, AreAt}
 use Rattle.lft_stream.specs.Counted.{IsCounted}
 
 -- a later tag with a run adds its runs, and one tag

@@ -20,9 +20,9 @@ use Rattle.lft_model.specs.Presence.{stop, value_scheduled, scheduled, given, mi
 use Rattle.std.proofs.NetLemmas.Options.{cond_some}
 use Rattle.lft_tag.proofs.Order.{same_tag_refl}
 use Rattle.lft_model.proofs.Ended.{written_by}
-use Rattle.lft_stream.specs.Settled.{AreBefore, AreAt}
+use Rattle.lft_coming.specs.AtTag.{AreBefore, AreAt}
 use Rattle.lft_stream.specs.Owed.{IsMet, IsApart}
-use Rattle.lft_stream.specs.Lanes.{at_tag, held, coming, given_to, first_events, made, carried, IsDone, IsKept, IsLane, LaneGoesOn}
+use Rattle.lft_coming.specs.Lanes.{at_tag, held, coming, given_to, first_events, made, carried, IsDone, IsKept, IsLane, LaneGoesOn}
 use Rattle.lft_stream.proofs.Behind.{at_back, clash_back}
 use Rattle.lft_stream.proofs.Hand.{last_old, last_whole, last_now, last_then}
 use Rattle.lft_stream.proofs.Owing.{ran_grows}

@@ -21,7 +21,7 @@ use Rattle.lft_model.specs.Breaches.{IsOpen, IsOutOfOrder, IsUndeclared, BreaksR
 use Rattle.lft_rows.specs.Firsts.{FirstRow}
 use Rattle.lft_rows.specs.declared.slices.Slice.{Slice}
 use Rattle.lft_rows.specs.Slices.{IsSlice, Rises}
-use Rattle.lft_stream.specs.Settled.{AreAt}
+use Rattle.lft_coming.specs.AtTag.{AreAt}
 
 -- tags don't fall where no row breaks a rule
 pub rises_from : (last : Tag) (plan : PlanParts) (t : List Row) → FirstRow last plan t None → Rises t

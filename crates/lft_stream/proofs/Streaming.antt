@@ -19,7 +19,7 @@ use Rattle.lft_stream.specs.Counted.{IsCounted}
 use Rattle.lft_stream.specs.declared.due.Due.{Due}
 use Rattle.lft_stream.specs.Owed.{IsMet, IsApart}
 use Rattle.lft_stream.specs.Dues.{AreDues, IsTimed}
-use Rattle.lft_stream.specs.Lanes.{made, carried, IsLane, LaneGoesOn}
+use Rattle.lft_coming.specs.Lanes.{made, carried, IsLane, LaneGoesOn}
 use Rattle.lft_stream.specs.Streams.{State, first_state, IsStream, IsEnded, IsGrown}
 use Rattle.lft_stream.proofs.Settling.{step_law, legal_of}
 use Rattle.lft_stream.proofs.Counting.{count_law}

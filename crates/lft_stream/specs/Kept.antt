@@ -16,17 +16,17 @@ use Rattle.lft_rows.specs.Passes.{IsPass}
 use Rattle.lft_rows.specs.declared.slices.Slice.{Slice}
 use Rattle.lft_stream.specs.declared.acceptor.Acceptor.{Acceptor}
 use Rattle.lft_stream.specs.declared.stream.Stream.{Stream}
-use Rattle.lft_stream.specs.AtOnce.{is_undelayed, HasEvents, AreHeard}
-use Rattle.lft_stream.specs.Channels.{AreChannels}
-use Rattle.lft_stream.specs.Lanes.{held}
-use Rattle.lft_stream.specs.Listeners.{AreListeners, AreStarted}
-use Rattle.lft_stream.specs.Coming.{AreComing}
+use Rattle.lft_coming.specs.AtOnce.{is_undelayed, HasEvents, AreHeard}
+use Rattle.lft_coming.specs.Channels.{AreChannels}
+use Rattle.lft_coming.specs.Lanes.{held}
+use Rattle.lft_coming.specs.Listeners.{AreListeners, AreStarted}
+use Rattle.lft_coming.specs.Coming.{AreComing}
 use Rattle.lft_queue.specs.Pending.{value_of}
 use Rattle.lft_stream.specs.Dues.{AreDues}
-use Rattle.lft_stream.specs.Settled.{AreBefore}
+use Rattle.lft_coming.specs.AtTag.{AreBefore}
 use Rattle.lft_stream.specs.StartTags.{AreStartTags}
 use Rattle.lft_stream.specs.Streams.{State, IsStream}
-use Rattle.lft_stream.specs.Writes.{AreWrites, AreEarlier}
+use Rattle.lft_coming.specs.Writes.{AreWrites, AreEarlier}
 
 -- no row breaks one of the rules 1 to 5, with some stop
 abbrev pub KeepRules : PlanParts → List Row → Type 0

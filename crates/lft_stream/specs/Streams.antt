@@ -14,7 +14,7 @@ use Rattle.lft_stream.specs.Settled.{IsSettled}
 use Rattle.lft_stream.specs.Counted.{IsCounted}
 use Rattle.lft_stream.specs.declared.due.Due.{Due}
 use Rattle.lft_stream.specs.Dues.{AreDues, NoneOwed}
-use Rattle.lft_stream.specs.Lanes.{first_events, made, carried, IsLane}
+use Rattle.lft_coming.specs.Lanes.{first_events, made, carried, IsLane}
 
 -- what is kept: of each name its lane and the tag up to which it is done with, when each trigger is due, and the numbers of runs and tags
 pub record State : Type 0 where

@@ -3,9 +3,7 @@
 ghost use Rattle.std.specs.Prelude.{◌≡◌, ◌≤◌, ◌↔◌, length, IsTrue};
 ghost use Rattle.lft_trace.specs.Fits.{RowFits, RowsFit};
 
-use crate::listeners::Listeners;
-use crate::number_lists::NumberLists;
-use crate::writes::written_port;
+use lft_coming::{Listeners, NumberLists, written_port};
 use lft_flat::Program;
 use lft_trace::{Row, is_start, row_at};
 

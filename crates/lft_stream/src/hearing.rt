@@ -4,16 +4,14 @@ ghost use Rattle.std.specs.Prelude.{◌≡◌, ℕ, List, IsSome, IsTrue, Contai
 ghost use Rattle.lft_trace.specs.declared.row.Row.{Row as TheRow};
 ghost use Rattle.lft_trace.specs.Fits.{RowsFit};
 ghost use Rattle.lft_model.specs.Runs.{Ran};
-ghost use Rattle.lft_stream.specs.AtOnce.{AreHeard};
-ghost use Rattle.lft_stream.specs.Listeners.{AreListeners, AreStarted};
+ghost use Rattle.lft_coming.specs.AtOnce.{AreHeard};
+ghost use Rattle.lft_coming.specs.Listeners.{AreListeners, AreStarted};
 ghost use Rattle.lft_queue.specs.Pending.{value_of};
 ghost use Rattle.lft_flat.specs.declared.parts.Name.{Name as TheName};
 ghost use Rattle.lft_stream.specs.StartTags.{AreStartTags};
 
-use crate::coming::Coming;
-use crate::listeners::Listeners;
 use crate::start_tags::StartTags;
-use crate::writes::written_port;
+use lft_coming::{Coming, Listeners, written_port};
 use lft_flat::Program;
 use lft_lists::item_at;
 use lft_model::Plan;

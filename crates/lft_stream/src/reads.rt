@@ -13,9 +13,7 @@ ghost use Rattle.lft_rows.specs.Slices.{IsSlice};
 ghost use Rattle.lft_flat.specs.Sound.{IsNameOf};
 ghost use Rattle.lft_stream.specs.Present.{AreShown};
 
-use crate::at_once::is_undelayed;
-use crate::coming::Coming;
-use crate::writes::Writes;
+use lft_coming::{Coming, Writes, is_undelayed};
 use lft_flat::{Name, Program, Value};
 use lft_lists::item_at;
 use lft_model::Plan;
