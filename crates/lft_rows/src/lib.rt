@@ -8,6 +8,7 @@ mod marks;
 mod open;
 mod parts;
 mod pass;
+mod reads;
 mod seats;
 mod slices;
 
