@@ -8,7 +8,7 @@ use Rattle.lft_trace.specs.declared.row.Row.{Row}
 use Rattle.lft_model.specs.declared.breach.Breach.{Breach}
 use Rattle.lft_model.specs.Plans.{PlanParts}
 use Rattle.lft_model.specs.Presence.{stop, written, scheduled, given, min_delay}
-use Rattle.lft_model.specs.Breaches.{RowBreach, TagBreach, TagBreachUntil, RowOrder, TagOrder, First, Legal}
+use Rattle.lft_model.specs.Breaches.{RowBreach, TagBreach, TagBreachUntil, TagOrder, First, Legal}
 use Rattle.lft_coming.specs.AtTag.{AreBefore}
 
 -- no row is before the tag
@@ -48,12 +48,6 @@ WholeLaw plan = (t : List Row) → IsUnbroken plan t (after (stop plan t) 0) ↔
 -- what is sure stays sure, whatever rows come from low on
 abbrev pub SureLaw : PlanParts → Type 0
 SureLaw plan = (d u : List Row) (low high : Tag) (b : Breach) → AreFrom u low → UpTo low high → IsSure plan d low b → IsSure plan (d ++ u) high b
-
--- b is the first breach of what is sure: a row's, or where no row's is sure, a tag's
-abbrev pub IsFirstSure : PlanParts → List Row → Tag → Breach → Type 0
-IsFirstSure plan t low b =
-    RowBreach plan t b × ((b.rule ≤ 4) ⊎ Before b.tag low) × ((c : Breach) → RowBreach plan t c → (c.rule ≤ 4) ⊎ Before c.tag low → RowOrder b c)
-    ⊎ ((c : Breach) → RowBreach plan t c → (c.rule ≤ 4) ⊎ Before c.tag low → ⊥) × IsFirstBefore plan t low b
 
 -- two lists of rows cause the same from low on: the same is scheduled for each tag from there on, the same is written wherever delays lead there
 pub record CauseSame (plan : PlanParts) (d e : List Row) (low : Tag) : Type 0 where

@@ -105,6 +105,6 @@ HasGoneOn stop plan t pass o = MatchOption o (HasPassed stop plan t (length t) p
 abbrev pub GrownLaw : PlanParts → Type 0
 GrownLaw plan = (stop : Tag) (t u : List Row) (i : ℕ) (pass : Pass) → i ≤ length t → HasPassed stop plan t i pass → HasPassed stop plan (t ++ u) i pass
 
--- and when the stop comes nearer, or is another, where the rows that it has gone over are up to that
+-- what a pass has gone over it has gone over still with another stop, where none of these rows is behind that
 abbrev pub NearerLaw : PlanParts → Type 0
 NearerLaw plan = (stop other : Tag) (t : List Row) (i : ℕ) (pass : Pass) → ((j : ℕ) (x : Row) → j < i → slice_get t j ≡ Some x → UpTo x.tag other) → HasPassed stop plan t i pass → HasPassed other plan t i pass

@@ -279,9 +279,7 @@ impl Pass {
             },
         }
     }
-}
 
-impl Pass {
     /// Before the first of some rows.
     pub fn begin(&mut self, alloc: Global, plan: &Plan) -> Result<(), NoMemory>
         requires { IsPass plan.now.program self.old }
@@ -315,8 +313,8 @@ impl Pass {
         Ok(None)
     }
 
-    /// The first place before the end whose row starts a run that none of the rows ends, all of which
-    /// were gone over.
+    /// The place of the first row before the end that starts a run without an end row. All rows were
+    /// gone over.
     pub fn first_open(&self, rows: &[Row], end: usize) -> Option<usize>
         requires end { end ≤ length rows.now }
         requires passed { (stop : TheTag) × (plan : PlanParts) × HasPassed stop plan rows.now (length rows.now) self.now }
