@@ -1,7 +1,7 @@
 -- What sliced rows keep is right for their plan and rows.
 use Rattle.std.proofs.Common.{List, None}
-use Rattle.lft_trace.specs.declared.row.Row.{Row}
-use Rattle.lft_trace.specs.Fits.{RowsFit}
+use Rattle.lft_steps.specs.declared.row.Row.{Row}
+use Rattle.lft_steps.specs.Fits.{RowsFit}
 use Rattle.lft_model.specs.Plans.{PlanParts, IsSoundPlan}
 use Rattle.lft_model.proofs.Legality.{four, rising}
 use Rattle.lft_model.specs.Presence.{stop}

@@ -1,7 +1,7 @@
 //! From rows to slices, by several workers.
 
 ghost use Rattle.std.specs.Prelude.{◌≡◌, length, IfOk, IfErr};
-ghost use Rattle.lft_trace.specs.Fits.{RowsFit};
+ghost use Rattle.lft_steps.specs.Fits.{RowsFit};
 ghost use Rattle.lft_model.specs.Plans.{PlanParts};
 ghost use Rattle.lft_model.specs.Presence.{stop as the_stop};
 ghost use Rattle.lft_by_tag.specs.Indexes.{HasRuns, IsCaused};
@@ -17,8 +17,8 @@ use crate::stops::trace_stop_shared;
 use lft_model::Plan;
 use lft_presence::{Presence, presence_of};
 use lft_rows::{Slice, first_breach_shared};
+use lft_steps::{Row, Rows};
 use lft_tag::{NoMemory, Tag};
-use lft_trace::{Row, Rows};
 use std::alloc::Global;
 use std::thread::{Threads, join};
 

@@ -22,10 +22,10 @@ use Rattle.lft_flat.specs.declared.parts.Value.{Value}
 use Rattle.lft_flat.proofs.Origins.{origin_unique, port_of}
 use Rattle.lft_flat.proofs.Naming.{name_same}
 use Rattle.lft_flat.specs.Naming.{same_name}
-use Rattle.lft_trace.specs.declared.externals.Event.{Event}
-use Rattle.lft_trace.specs.declared.row.Row.{Row}
-use Rattle.lft_trace.specs.declared.row.Step.{Step}
-use Rattle.lft_trace.specs.declared.row.Step.TheVariants.{Write}
+use Rattle.lft_steps.specs.declared.externals.Event.{Event}
+use Rattle.lft_steps.specs.declared.row.Row.{Row}
+use Rattle.lft_steps.specs.declared.row.Step.{Step}
+use Rattle.lft_steps.specs.declared.row.Step.TheVariants.{Write}
 use Rattle.lft_model.specs.Presence.{value_written, written}
 use Rattle.lft_model.proofs.Ended.{written_by, by_written}
 use Rattle.lft_model.proofs.Places.{slice_get_within}

@@ -18,8 +18,8 @@ use Rattle.lft_flat.specs.declared.parts.Name.{Name}
 use Rattle.lft_flat.specs.declared.parts.Name.TheVariants.{Port, Action}
 use Rattle.lft_flat.proofs.Naming.{name_same}
 use Rattle.lft_flat.specs.Naming.{same_name}
-use Rattle.lft_trace.specs.declared.externals.Event.{Event}
-use Rattle.lft_trace.specs.Inputs.{InOrder}
+use Rattle.lft_steps.specs.declared.externals.Event.{Event}
+use Rattle.lft_steps.specs.Inputs.{InOrder}
 use Rattle.lft_model.specs.Presence.{given}
 use Rattle.lft_model.proofs.Steps.{both_true}
 use Rattle.lft_model.proofs.Places.{slice_get_within}

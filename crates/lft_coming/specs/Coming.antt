@@ -5,8 +5,8 @@ use Rattle.lft_tag.specs.Tags.{Before, UpTo}
 use Rattle.lft_flat.specs.declared.parts.Value.{Value}
 use Rattle.lft_flat.specs.declared.parts.Name.{Name}
 use Rattle.lft_flat.specs.declared.parts.Name.TheVariants.{Port, Action}
-use Rattle.lft_trace.specs.declared.externals.Event.{Event}
-use Rattle.lft_trace.specs.declared.row.Row.{Row}
+use Rattle.lft_steps.specs.declared.externals.Event.{Event}
+use Rattle.lft_steps.specs.declared.row.Row.{Row}
 use Rattle.lft_model.specs.Plans.{PlanParts}
 use Rattle.lft_model.specs.Presence.{given}
 use Rattle.lft_queue.specs.Pending.{Pending, value_of, same_key}

@@ -3,7 +3,7 @@ use Rattle.std.specs.Prelude.{◌≡◌, ℕ, List, [], Option, None, MatchOptio
 use Rattle.std.specs.List.{last_or}
 use Rattle.lft_tag.specs.declared.Tag.{Tag}
 use Rattle.lft_flat.specs.declared.parts.Value.{Value}
-use Rattle.lft_trace.specs.declared.row.Row.{Row}
+use Rattle.lft_steps.specs.declared.row.Row.{Row}
 use Rattle.lft_model.specs.Presence.{written}
 use Rattle.lft_coming.specs.Lanes.{held}
 

@@ -4,9 +4,9 @@ ghost use Rattle.std.specs.Prelude.{◌≡◌, ◌+◌, ◌<◌, ◌++◌, ℕ, 
 ghost use Rattle.lft_tag.specs.declared.Tag.{Tag as TheTag};
 ghost use Rattle.lft_tag.specs.Tags.{IsRecorded, Before, UpTo, after};
 ghost use Rattle.lft_flat.specs.declared.parts.Name.{Name as TheName};
-ghost use Rattle.lft_trace.specs.declared.externals.Event.{Event as TheEvent};
-ghost use Rattle.lft_trace.specs.declared.row.Row.{Row as TheRow};
-ghost use Rattle.lft_trace.specs.Fits.{RowFits, RowsFit};
+ghost use Rattle.lft_steps.specs.declared.externals.Event.{Event as TheEvent};
+ghost use Rattle.lft_steps.specs.declared.row.Row.{Row as TheRow};
+ghost use Rattle.lft_steps.specs.Fits.{RowFits, RowsFit};
 ghost use Rattle.lft_coming.specs.Channels.{is_behind as lies_behind, arrival, AreChannels, AreCarried, carried_by};
 ghost use Rattle.lft_coming.specs.Coming.{to_come, IsClear, IsNoLater};
 ghost use Rattle.lft_coming.specs.declared.coming.Coming.{Coming as TheComing};
@@ -20,8 +20,8 @@ use crate::number_lists::NumberLists;
 use crate::writes::{Writes, written_port};
 use lft_flat::{Name, Program, Value};
 use lft_lists::item_at;
+use lft_steps::{Row, row_at};
 use lft_tag::{NoMemory, Tag};
-use lft_trace::{Row, row_at};
 use std::alloc::Global;
 
 /// For each port, as an origin, the ports that lie behind a delay of it.

@@ -4,7 +4,7 @@ ghost use Rattle.std.specs.Prelude.{◌≡◌, ◌↔◌, ◌⊎◌, ◌++◌, [
 ghost use Rattle.lft_tag.specs.declared.Tag.{Tag as TheTag};
 ghost use Rattle.lft_tag.specs.Tags.{Before, UpTo};
 ghost use Rattle.lft_flat.specs.declared.parts.Name.{Name as TheName};
-ghost use Rattle.lft_trace.specs.declared.externals.Event.{Event as TheEvent};
+ghost use Rattle.lft_steps.specs.declared.externals.Event.{Event as TheEvent};
 ghost use Rattle.lft_queue.specs.Pending.{value_of, Becomes};
 ghost use Rattle.lft_coming.specs.Coming.{put_at, to_come, AreBrought, ArePassed, IsReached, AreOver, IsClear, IsNoLater};
 ghost use Rattle.lft_coming.specs.Listeners.{IsUnheard};
@@ -13,8 +13,8 @@ use crate::listeners::Listeners;
 use lft_flat::{Name, Value};
 use lft_lists::item_at;
 use lft_queue::{NamesAt, Queue, QueueFault};
+use lft_steps::Externals;
 use lft_tag::{NoMemory, Tag};
-use lft_trace::Externals;
 use std::alloc::Global;
 
 /// So many events may be in the queue at once, which is some 25 MB. A program whose delays keep more

@@ -3,8 +3,8 @@
 ghost use Rattle.std.specs.Prelude.{◌≡◌, ◌++◌, [], ◌∷◌, List, IsTrue, IfOk, OnOk};
 ghost use Rattle.lft_tag.specs.declared.Tag.{Tag as TheTag};
 ghost use Rattle.lft_flat.specs.declared.parts.Name.{Name as TheName};
-ghost use Rattle.lft_trace.specs.declared.externals.Event.{Event as TheEvent};
-ghost use Rattle.lft_trace.specs.Fits.{RowFits, RowsFit};
+ghost use Rattle.lft_steps.specs.declared.externals.Event.{Event as TheEvent};
+ghost use Rattle.lft_steps.specs.Fits.{RowFits, RowsFit};
 ghost use Rattle.lft_tag.specs.Tags.{Before, UpTo, after};
 ghost use Rattle.lft_coming.specs.Channels.{AreChannels, caused_by};
 ghost use Rattle.lft_coming.specs.Coming.{to_come, scheduled_by, IsClear, IsNoLater};
@@ -18,8 +18,8 @@ use crate::number_lists::NumberLists;
 use crate::writes::Writes;
 use lft_flat::{Name, Program};
 use lft_model::Plan;
+use lft_steps::{Row, Step, row_at};
 use lft_tag::{NoMemory, Tag};
-use lft_trace::{Row, Step, row_at};
 
 /// Puts the event in that the row schedules up to the stop, if it schedules one. It is false where two
 /// events meet, or memory is refused.

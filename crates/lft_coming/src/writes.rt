@@ -3,18 +3,18 @@
 ghost use Rattle.std.specs.Prelude.{◌≡◌, ℕ, List, Option, [], ◌∷◌, ◌++◌, ◌<◌, length, Some, None, IfOk, MatchOption, slice_get, slice_set};
 ghost use Rattle.lft_tag.specs.declared.Tag.{Tag as TheTag};
 ghost use Rattle.lft_flat.specs.declared.parts.Name.TheVariants.{Port};
-ghost use Rattle.lft_trace.specs.declared.row.Step.TheVariants.{Write};
+ghost use Rattle.lft_steps.specs.declared.row.Step.TheVariants.{Write};
 ghost use Rattle.lft_model.specs.Presence.{value_written};
-ghost use Rattle.lft_trace.specs.declared.row.Row.{Row as TheRow};
-ghost use Rattle.lft_trace.specs.Fits.{RowFits, RowsFit};
+ghost use Rattle.lft_steps.specs.declared.row.Row.{Row as TheRow};
+ghost use Rattle.lft_steps.specs.Fits.{RowFits, RowsFit};
 ghost use Rattle.lft_coming.specs.AtTag.{AreAt};
 ghost use Rattle.lft_coming.specs.declared.writes.Written.{Written as TheWritten};
 ghost use Rattle.lft_coming.specs.Writes.{value_at, AreWrites, AreEarlier};
 
 use lft_flat::{Name, Program, Value};
 use lft_lists::item_at;
+use lft_steps::{Row, Step, row_at};
 use lft_tag::{NoMemory, Tag};
-use lft_trace::{Row, Step, row_at};
 use std::alloc::Global;
 use std::marker::Model;
 

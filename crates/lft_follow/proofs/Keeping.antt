@@ -14,7 +14,7 @@ use Rattle.lft_flat.specs.declared.parts.Port.{Port as PortOf}
 use Rattle.lft_flat.proofs.Origins.{origin_unique}
 use Rattle.lft_lists.proofs.Members.{Mem, mem_cases, mem_get, get_mem}
 use Rattle.lft_lists.proofs.Picked.{kept_more}
-use Rattle.lft_trace.specs.declared.row.Row.{Row}
+use Rattle.lft_steps.specs.declared.row.Row.{Row}
 use Rattle.lft_model.specs.Plans.{PlanParts}
 use Rattle.lft_model.specs.Presence.{scheduled, written, min_delay}
 use Rattle.lft_coming.specs.AtTag.{AreBefore}

@@ -3,7 +3,7 @@
 ghost use Rattle.std.specs.Prelude.{◌≡◌, ◌<◌, Some, slice_get};
 ghost use Rattle.lft_flat.specs.declared.parts.Name.{Name as TheName};
 ghost use Rattle.lft_flat.specs.declared.parts.Reaction.{Reaction as TheReaction};
-ghost use Rattle.lft_trace.specs.Fits.{RowsFit};
+ghost use Rattle.lft_steps.specs.Fits.{RowsFit};
 ghost use Rattle.lft_model.specs.Runs.{read_of, steps_of};
 ghost use Rattle.lft_rows.specs.Marks.{AreMarks, HasSeat, width};
 ghost use Rattle.lft_rows.specs.Reads.{value_read as the_value_read};
@@ -12,7 +12,7 @@ ghost use Rattle.lft_rows.specs.Slices.{IsSlice};
 use crate::marks::Marks;
 use crate::slices::Slice;
 use lft_flat::{Program, Value};
-use lft_trace::{Row, Step, row_at};
+use lft_steps::{Row, Step, row_at};
 
 /// The value that a step reads, if it reads one.
 fn value_read(step: &Step) -> Option<Value>

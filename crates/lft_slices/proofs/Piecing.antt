@@ -15,9 +15,9 @@ use Rattle.lft_tag.specs.declared.Tag.{Tag}
 use Rattle.lft_tag.specs.Tags.{Before}
 use Rattle.lft_tag.proofs.Order.{Before-irrefl, Before-trans}
 use Rattle.lft_flat.proofs.Ranges.{range-get, range-within}
-use Rattle.lft_trace.specs.declared.row.Row.{Row}
-use Rattle.lft_trace.specs.declared.row.Step.{Step}
-use Rattle.lft_trace.specs.declared.row.Step.TheVariants.{Start, End}
+use Rattle.lft_steps.specs.declared.row.Row.{Row}
+use Rattle.lft_steps.specs.declared.row.Step.{Step}
+use Rattle.lft_steps.specs.declared.row.Step.TheVariants.{Start, End}
 use Rattle.lft_lists.proofs.Places.{get_there, same_at, get_write_cases, get_written, get_unwritten, get_push, get_last, get_push_cases, length_written, get_append_cases, get_left}
 use Rattle.lft_lists.proofs.Members.{mem_get, get_mem, mem_contains, contains_mem}
 use Rattle.lft_model.specs.Plans.{PlanParts}

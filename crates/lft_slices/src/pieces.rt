@@ -8,8 +8,8 @@ ghost use Rattle.lft_slices.specs.Pieces.{AreRuns, AreEndsTo, AreStartsTo, ArePi
 
 use lft_lists::item_at;
 use lft_rows::Slice;
+use lft_steps::{Row, is_end, is_start, row_at};
 use lft_tag::{NoMemory, Tag};
-use lft_trace::{Row, is_end, is_start, row_at};
 use std::alloc::Global;
 
 /// A run: its reaction, and the places of its start row and of its end row among all rows, counted

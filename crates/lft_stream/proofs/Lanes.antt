@@ -13,8 +13,8 @@ use Rattle.lft_flat.specs.declared.parts.Value.{Value}
 use Rattle.lft_flat.specs.declared.parts.Name.{Name}
 use Rattle.lft_flat.specs.declared.parts.Name.TheVariants.{Port, Action}
 use Rattle.lft_flat.specs.declared.parts.Trigger.TheVariants.{On}
-use Rattle.lft_trace.specs.declared.row.Row.{Row}
-use Rattle.lft_trace.specs.declared.externals.Event.{Event}
+use Rattle.lft_steps.specs.declared.row.Row.{Row}
+use Rattle.lft_steps.specs.declared.externals.Event.{Event}
 use Rattle.lft_model.specs.Plans.{PlanParts}
 use Rattle.lft_model.specs.Presence.{stop, value_scheduled, scheduled, given, min_delay, events_of, written, Last, IsWrittenFrom, At, PortClash}
 use Rattle.std.proofs.NetLemmas.Options.{cond_some}

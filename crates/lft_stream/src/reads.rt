@@ -1,8 +1,8 @@
 //! What the runs at the tag at hand may read, and what they read.
 
 ghost use Rattle.std.specs.Prelude.{◌≡◌, ℕ, ◌<◌, ◌++◌, List, length, IsTrue};
-ghost use Rattle.lft_trace.specs.declared.row.Row.{Row as TheRow};
-ghost use Rattle.lft_trace.specs.Fits.{RowsFit};
+ghost use Rattle.lft_steps.specs.declared.row.Row.{Row as TheRow};
+ghost use Rattle.lft_steps.specs.Fits.{RowsFit};
 ghost use Rattle.lft_model.specs.Presence.{Shows, Inputs, Triggered};
 ghost use Rattle.lft_model.specs.Runs.{Ran, reads_at};
 ghost use Rattle.lft_rows.specs.Marks.{AreMarks};
@@ -15,8 +15,8 @@ use lft_flat::{Name, Value};
 use lft_lists::item_at;
 use lft_model::Plan;
 use lft_rows::{Marks, Slice};
+use lft_steps::{Row, is_start, row_at};
 use lft_tag::Tag;
-use lft_trace::{Row, is_start, row_at};
 
 /// What may be read of the name at the tag, of rows that are at the tag behind rows that are at
 /// earlier ones: its value, or that it is absent.

@@ -1,8 +1,8 @@
 //! What is kept of the rows so far.
 
 ghost use Rattle.std.specs.Prelude.{◌≡◌, ℕ, List, [], ◌++◌, ◌+◌, ◌<◌, take, length, Some, None, IsTrue, IfOk, IfSome};
-ghost use Rattle.lft_trace.specs.declared.row.Row.{Row as TheRow};
-ghost use Rattle.lft_trace.specs.Fits.{RowsFit};
+ghost use Rattle.lft_steps.specs.declared.row.Row.{Row as TheRow};
+ghost use Rattle.lft_steps.specs.Fits.{RowsFit};
 ghost use Rattle.lft_graph.specs.Sets.{AreAncestors};
 ghost use Rattle.lft_tag.specs.Tags.{UpTo, earliest};
 ghost use Rattle.lft_model.specs.Presence.{stop, requests, Triggered};
@@ -24,8 +24,8 @@ use lft_coming::{Coming, Listeners, NumberLists, Writes, channels_of, pass_on};
 use lft_flat::Program;
 use lft_model::Plan;
 use lft_rows::{Marks, Slice};
+use lft_steps::{Row, is_start, is_stop, row_at};
 use lft_tag::{NoMemory, Tag};
-use lft_trace::{Row, is_start, is_stop, row_at};
 use std::alloc::Global;
 
 /// How many runs legal rows have, and at how many different tags.

@@ -2,7 +2,7 @@ use Rattle.std.proofs.Common.{◌≡◌, ◌++◌, List, take, filter_map}
 use Rattle.lft_tag.specs.declared.Tag.{Tag}
 use Rattle.lft_tag.specs.Tags.{UpTo}
 use Rattle.lft_flat.specs.declared.parts.Name.{Name}
-use Rattle.lft_trace.specs.declared.externals.Event.{Event}
+use Rattle.lft_steps.specs.declared.externals.Event.{Event}
 use Rattle.lft_coming.specs.Channels.{arrival}
 use Rattle.lft_coming.specs.Coming.{to_come, IsClear, IsNoLater}
 use Rattle.lft_coming.proofs.channels.note_carry.Given as goal

@@ -1,7 +1,7 @@
 use Rattle.std.proofs.Common.{◌+◌, ◌<◌, List, Option, length, sym, subst, arith}
 use Rattle.lft_lists.proofs.Places.{get_there}
-use Rattle.lft_trace.specs.declared.row.Step.{Step}
-use Rattle.lft_trace.specs.Fits.{StepFits}
+use Rattle.lft_steps.specs.declared.row.Step.{Step}
+use Rattle.lft_steps.specs.Fits.{StepFits}
 use Rattle.lft_coming.specs.Channels.{AreCarried}
 use Rattle.lft_coming.specs.Writes.{AreFewer}
 use Rattle.lft_coming.specs.declared.writes.Written.{Written}

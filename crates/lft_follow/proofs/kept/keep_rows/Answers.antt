@@ -1,5 +1,5 @@
 use Rattle.std.proofs.Common.{◌+◌, List, sym, ap, ◌∙◌, subst}
-use Rattle.lft_trace.specs.declared.row.Row.{Row}
+use Rattle.lft_steps.specs.declared.row.Row.{Row}
 use Rattle.lft_follow.proofs.Keeping.{AreKept, kept_one, kept_none, kept_before}
 use Rattle.lft_follow.proofs.kept.keep_rows.Goals as goal
 use Rattle.lft_follow.proofs.kept.keep_rows.Goals.{then-causes_from+in_ok-push, else-causes_from}

@@ -1,8 +1,8 @@
 use Rattle.std.proofs.Common.{◌≡◌, ℕ, inl, inr, Some, None, refl, sym, ap, ◌∙◌, slice_get, filter_map, arith}
 use Rattle.std.proofs.lemmas.Bool.{cases_eq}
-use Rattle.lft_trace.specs.declared.row.Row.{Row}
-use Rattle.lft_trace.specs.declared.row.Step.{Step}
-use Rattle.lft_trace.specs.declared.row.Step.TheVariants.{Write}
+use Rattle.lft_steps.specs.declared.row.Row.{Row}
+use Rattle.lft_steps.specs.declared.row.Step.{Step}
+use Rattle.lft_steps.specs.declared.row.Step.TheVariants.{Write}
 use Rattle.lft_flat.specs.declared.parts.Name.{Name}
 use Rattle.lft_flat.specs.declared.parts.Name.TheVariants.{Port}
 use Rattle.lft_lists.proofs.Places.{same_at}

@@ -1,6 +1,6 @@
 use Rattle.std.proofs.Common.{◌≡◌, ◌∙◌, List, Some, slice_get, sym, ap, subst}
 use Rattle.lft_flat.specs.Parts.{Parts}
-use Rattle.lft_trace.specs.declared.row.Row.{Row}
+use Rattle.lft_steps.specs.declared.row.Row.{Row}
 use Rattle.lft_model.specs.Runs.{read_of, steps_of}
 use Rattle.lft_by_tag.proofs.sliced.Sliced.read_at.Goals as goal
 

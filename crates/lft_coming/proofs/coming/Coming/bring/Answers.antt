@@ -1,6 +1,6 @@
 use Rattle.std.proofs.Common.{◌≡◌, ◌+◌, Some, List, length, sym, ap, ◌∙◌, slice_get, refl, arith, add-one}
 use Rattle.lft_model.proofs.Places.{slice_get_within}
-use Rattle.lft_trace.specs.declared.externals.Event.{Event}
+use Rattle.lft_steps.specs.declared.externals.Event.{Event}
 use Rattle.lft_coming.proofs.ToCome.{brought_here, brings}
 use Rattle.lft_coming.proofs.coming.Coming.bring.Goals as goal
 

@@ -1,6 +1,6 @@
 use Rattle.std.proofs.Common.{◌≡◌, ◌∷◌, ◌++◌, [], ◌<◌, length, List, Option, Some, sym, subst, arith, slice_set}
-use Rattle.lft_trace.specs.declared.row.Step.{Step}
-use Rattle.lft_trace.specs.Fits.{StepFits}
+use Rattle.lft_steps.specs.declared.row.Step.{Step}
+use Rattle.lft_steps.specs.Fits.{StepFits}
 use Rattle.lft_coming.specs.declared.writes.Written.{Written}
 use Rattle.lft_coming.specs.Writes.{AreWrites}
 use Rattle.lft_coming.proofs.Writing.{writes_stay, writes_set}

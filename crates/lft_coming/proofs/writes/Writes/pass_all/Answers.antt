@@ -2,7 +2,7 @@ use Rattle.std.proofs.Common.{◌≡◌, ◌+◌, ◌++◌, ◌∷◌, [], take,
 use Rattle.std.proofs.lemmas.Option.{get_or_from_slice_get}
 use Rattle.lft_tag.specs.declared.Tag.{Tag}
 use Rattle.lft_lists.proofs.Picked.{take_one_more}
-use Rattle.lft_trace.specs.declared.row.Row.{Row}
+use Rattle.lft_steps.specs.declared.row.Row.{Row}
 use Rattle.lft_coming.specs.Writes.{AreWrites}
 use Rattle.lft_coming.proofs.Writing.{none_yet}
 use Rattle.lft_coming.proofs.writes.Writes.pass_all.Goals as goal

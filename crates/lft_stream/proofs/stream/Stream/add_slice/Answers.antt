@@ -3,7 +3,7 @@ use Rattle.lft_tag.specs.declared.Tag.{Tag}
 use Rattle.lft_tag.specs.Tags.{UpTo, after}
 use Rattle.lft_flat.specs.Parts.{Parts}
 use Rattle.lft_flat.specs.declared.parts.Value.{Value}
-use Rattle.lft_trace.specs.Inputs.{ExternalInputs}
+use Rattle.lft_steps.specs.Inputs.{ExternalInputs}
 use Rattle.lft_rows.specs.Marks.{AreMarks}
 use Rattle.lft_coming.specs.Channels.{caused_by}
 use Rattle.lft_coming.specs.Coming.{to_come, IsReached}

@@ -1,7 +1,7 @@
 use Rattle.std.proofs.Common.{None, [], refl, ap, ◌∙◌, subst}
 use Rattle.lft_tag.specs.declared.Tag.{Tag}
 use Rattle.lft_flat.specs.Parts.{Parts}
-use Rattle.lft_trace.specs.Inputs.{ExternalInputs}
+use Rattle.lft_steps.specs.Inputs.{ExternalInputs}
 use Rattle.lft_coming.specs.Channels.{AreChannels}
 use Rattle.lft_stream.specs.StartTags.{AreStartTags}
 use Rattle.lft_coming.specs.Writes.{AreEarlier}

@@ -3,7 +3,7 @@
 ghost use Rattle.std.specs.Prelude.{◌≡◌, ◌↔◌, IsTrue};
 ghost use Rattle.lft_flat.specs.Sound.{IsNameOf};
 ghost use Rattle.lft_tag.specs.Tags.{IsRecorded};
-ghost use Rattle.lft_trace.specs.Fits.{EventFits, RowFits, StepFits};
+ghost use Rattle.lft_steps.specs.Fits.{EventFits, RowFits, StepFits};
 
 use crate::externals::Event;
 use crate::row::{Row, Step};

@@ -1,7 +1,7 @@
 //! A row at a place, and tests of steps.
 
 ghost use Rattle.std.specs.Prelude.{◌≡◌, ◌<◌, length, Some, IsTrue, ◌↔◌, slice_get};
-ghost use Rattle.lft_trace.specs.declared.row.Step.TheVariants.{Start, Stop, End};
+ghost use Rattle.lft_steps.specs.declared.row.Step.TheVariants.{Start, Stop, End};
 
 use crate::row::{Row, Step};
 

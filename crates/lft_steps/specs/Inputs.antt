@@ -2,7 +2,7 @@
 use Rattle.std.specs.Prelude.{◌≡◌, ◌<◌, ◌⊎◌, List, AllPairs}
 use Rattle.lft_tag.specs.declared.Tag.{Tag}
 use Rattle.lft_tag.specs.Tags.{Before}
-use Rattle.lft_trace.specs.declared.externals.Event.{Event}
+use Rattle.lft_steps.specs.declared.externals.Event.{Event}
 
 -- the stop tag and the events of physical actions, which the world gives and the trace doesn't
 pub record ExternalInputs : Type 0 where

@@ -26,23 +26,23 @@ pub struct Externals {
 }
 
 impl Model for Externals {
-    ghost use Rattle.lft_trace.specs.Inputs.{ExternalInputs};
+    ghost use Rattle.lft_steps.specs.Inputs.{ExternalInputs};
 
     ghost Value = { ExternalInputs };
 
     ghost view = { λ a. record { stop = a.stop; events = a.events.items } };
 
-    ghost use Rattle.lft_trace.specs.Inputs.{InOrder};
+    ghost use Rattle.lft_steps.specs.Inputs.{InOrder};
 
     ghost invariant = { λ a. InOrder a.events.items };
 }
 
 impl Externals {
-    ghost use Rattle.lft_trace.specs.Fits.{ExternalsFit};
-    ghost use Rattle.lft_trace.specs.Inputs.{InOrder};
+    ghost use Rattle.lft_steps.specs.Fits.{ExternalsFit};
+    ghost use Rattle.lft_steps.specs.Inputs.{InOrder};
 
     /// The external inputs of a stop tag and of events in their order. It takes no memory.
-    pub(crate) fn from_parts(stop: Tag, events: Vec<Event>) -> Externals
+    pub fn from_parts(stop: Tag, events: Vec<Event>) -> Externals
         requires { InOrder events.items }
         ensures { result ≡ record { stop = stop; events = events.items } }
     {

@@ -39,7 +39,7 @@ pub struct Rows {
 
 impl Model for Rows {
     ghost use Rattle.std.specs.Prelude.{List};
-    ghost use Rattle.lft_trace.specs.declared.row.Row.{Row};
+    ghost use Rattle.lft_steps.specs.declared.row.Row.{Row};
 
     ghost Value = { List Row };
 
@@ -47,7 +47,7 @@ impl Model for Rows {
 }
 
 impl Rows {
-    ghost use Rattle.lft_trace.specs.Fits.{RowsFit};
+    ghost use Rattle.lft_steps.specs.Fits.{RowsFit};
 
     /// The rows of the list. It takes no memory.
     pub fn from_vec(items: Vec<Row>) -> Rows

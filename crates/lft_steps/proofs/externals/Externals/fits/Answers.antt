@@ -2,10 +2,10 @@ use Rattle.std.proofs.Common.{rules, arith, ◌≡◌, ◌∙◌, ◌≤◌, ℕ
 use Rattle.std.proofs.lemmas.Option.{slice_get_read, slice_get_within}
 use borrow.Author.Count.{below_more}
 use Rattle.lft_tag.specs.Tags.{IsRecorded}
-use Rattle.lft_trace.specs.Fits.{EventFits}
-use Rattle.lft_trace.specs.Inputs.{ExternalInputs}
-use Rattle.lft_trace.specs.declared.externals.Event.{Event}
-use Rattle.lft_trace.proofs.externals.Externals.fits.Goals as goal
+use Rattle.lft_steps.specs.Fits.{EventFits}
+use Rattle.lft_steps.specs.Inputs.{ExternalInputs}
+use Rattle.lft_steps.specs.declared.externals.Event.{Event}
+use Rattle.lft_steps.proofs.externals.Externals.fits.Goals as goal
 
 pub loop-at-preserved : goal.loop-at-preserved
 loop-at-preserved c =
