@@ -4,6 +4,8 @@
 //! `lft_refused_tests`.
 
 #[cfg(test)]
+mod calls;
+#[cfg(test)]
 mod limits;
 #[cfg(test)]
 mod long_texts;
