@@ -1,8 +1,10 @@
 #![tactic(auto)]
 //! The tests of the calls on texts that need code: long texts and tables, many workers, readers and writers that
-//! are interrupted or fail. What is data is a case of `lft_cases`, and refused growths stand in
-//! `lft_refused_tests`.
+//! are interrupted or fail, and what no command gives or shows. What is data is a case in the folder
+//! `cases`, and refused growths stand in `lft_refused_tests`.
 
+#[cfg(test)]
+mod calls;
 #[cfg(test)]
 mod limits;
 #[cfg(test)]

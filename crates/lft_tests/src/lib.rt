@@ -1,7 +1,7 @@
 #![tactic(auto)]
 //! The tests below the calls on texts that need code: tags; what fits a program; who is told of a
 //! tag, by a copy of a plan and by two workers at a time; queues, books driven by hand, and
-//! recordings. What is data is a case of `lft_cases`.
+//! recordings. What is data is a case in the folder `cases`.
 
 #[cfg(test)]
 mod answers;

@@ -1,0 +1,207 @@
+"""The kinds of cases that the command line shows, each as what it asks of the built program.
+
+What is told of a case is mostly what the program writes on standard output, then what it writes on standard
+error, and `status N`.
+
+- `show`: of the text of a program.
+- `judge`: of the rows of a trace table under its header, by the given program and external inputs. A number
+  beside the word is that of the workers. Where none stands there, the three texts are judged as a bundle too,
+  and by 2, 3 and 64 workers; what these say is told only where it is something else.
+- `pair`: of the rows of a second trace beside the given one, in the same way.
+- `explain`: of the rows of a trace, by one worker; what 3 say is told where it is something else.
+- `explain-pair`: of the rows of a second trace beside the given one.
+- `bundle`, `explain-bundle`: of a text on standard input.
+- `refused`: why `explain` says that the text of a program is refused: its standard output alone. Status 2 and
+  the line of a fault have to come too.
+- `refused-externals`, `refused-trace`: the same of a whole table of what is given. `refused-bundle`: of a bundle.
+- `record WORKERS MAX_RUNS`: of the rows of a table of cards. Behind the status of a recording that came to its
+  stop stands what `judge` says of it.
+- `recordings TIMES WORKERS`: how many of so many recordings by so many workers are accepted.
+- `fronts PLACE`: what is told of each front of a text, from none of its bytes to all. It stands in the place of
+  the given `program`, `externals` or `trace`, which are judged by one worker and by three, or it is the table of
+  `cards` by which the given program is recorded, at most ten runs. Where something else is told from a length
+  on, the length is told, and the lines.
+
+`judge-text`, `pair-text` and `record-text` have a whole table, header and all.
+"""
+import concurrent.futures
+import os
+import pathlib
+import re
+import subprocess
+import tempfile
+
+HEADERS = {
+    "externals": b"kind,time,microstep,name,value\n",
+    "trace": b"event,worker,time,microstep,reaction,name,value,delay\n",
+    "cards": b"kind,reaction,name,delay,value\n",
+}
+# Which of the texts a part gives.
+GIVEN = {"program": "program", "externals": "externals", "externals-text": "externals", "trace": "trace"}
+# A trace of fewer bytes is judged by one worker.
+SHORT = 1 << 20
+FAULT = re.compile(rb"fault [a-z]+ \d+ .*\n")
+
+
+class Runs:
+    """Runs of the built program, with texts as files of a folder."""
+
+    def __init__(self, program, folder):
+        self.program, self.folder = program, pathlib.Path(folder)
+
+    def ask(self, command, texts, *more):
+        """The standard output, the standard error and the status of a command on texts."""
+        paths = [self.folder / str(place) for place in range(len(texts))]
+        for path, text in zip(paths, texts):
+            path.write_bytes(text)
+        return self.read(b"", command, *paths, *more)
+
+    def read(self, text, *words):
+        """The same of any words, with a text as standard input."""
+        done = subprocess.run([self.program, *words], check=False, input=text, capture_output=True, timeout=300)
+        return done.stdout, done.stderr, done.returncode
+
+
+def whole(answer):
+    """All that an answer tells."""
+    out, err, status = answer
+    return out + err + b"status %d\n" % status
+
+
+def spread(table):
+    """The same records with empty lines between them, so many that several workers share the table."""
+    ends = table.count(b"\n")
+    # In an open quote an empty line would be a part of a field.
+    if not ends or b'"' in table:
+        return table
+    return table.replace(b"\n", b"\n" * (SHORT // ends + 1))
+
+
+def texts_of(case):
+    """The given program and external inputs."""
+    return [case.given["program"], case.given["externals"]]
+
+
+def bundled(texts):
+    """Three texts as a bundle; None where they can't stand in one."""
+    if any(b"--- " in text or text[-1:] not in (b"", b"\n") for text in texts[:2]):
+        return None
+    return b"--- program\n%s--- externals\n%s--- trace\n%s" % tuple(texts)
+
+
+def by_workers(runs, command, texts, tables, number):
+    """What is told of tables, the last of the texts, that so many workers share."""
+    return whole(runs.ask(command, texts + [spread(table) for table in tables], "--workers", str(number)))
+
+
+def shared(runs, command, texts, tables, numbers):
+    """What one worker tells of tables, and what others tell where it is something else."""
+    told = whole(runs.ask(command, texts + tables))
+    others = [(number, by_workers(runs, command, texts, tables, number)) for number in numbers]
+    return told, b"".join(b"by %d workers:\n%s" % other for other in others if other[1] != told)
+
+
+def judged(runs, case, table):
+    """What is told of a trace table."""
+    texts = texts_of(case)
+    if case.words:
+        return by_workers(runs, "judge", texts, [table], case.words)
+    told, others = shared(runs, "judge", texts, [table], (2, 3, 64))
+    bundle = bundled([*texts, table])
+    alone = told if bundle is None else whole(runs.read(bundle))
+    return told + others + (b"as a bundle:\n" + alone if alone != told else b"")
+
+
+def paired(runs, case, second):
+    """What is told of a second trace table beside the given one."""
+    tables = [case.given["trace"], second]
+    if case.words:
+        return by_workers(runs, "pair", texts_of(case), tables, case.words)
+    return b"".join(shared(runs, "pair", texts_of(case), tables, (2, 3, 64)))
+
+
+def explained(runs, case):
+    """What is told of a trace and explains it."""
+    return b"".join(shared(runs, "explain", texts_of(case), [HEADERS["trace"] + case.text], (3,)))
+
+
+def explained_pair(runs, case):
+    """What is told of two traces and explains it."""
+    return whole(runs.ask("explain", [*texts_of(case), case.given["trace"], HEADERS["trace"] + case.text]))
+
+
+def refused(answer):
+    """Why a text is refused. Where none is, all that is told."""
+    out, err, status = answer
+    return out if status == 2 and FAULT.fullmatch(err) else whole(answer)
+
+
+def recorded(runs, case, cards):
+    """What is told of a recording by cards, and of what it wrote."""
+    workers, most = case.words.split()
+    table, err, status = runs.ask("record", [*texts_of(case), cards], "--workers", workers, "--max-runs", most)
+    told = whole((table, err, status))
+    return told if status else told + b"".join(runs.ask("judge", [*texts_of(case), table])[:2])
+
+
+def each(runs, ask, values):
+    """What `ask` answers to each of the values, several at a time, each with a folder of its own."""
+
+    def one(value):
+        with tempfile.TemporaryDirectory(dir=runs.folder) as folder:
+            return ask(Runs(runs.program, folder), value)
+
+    with concurrent.futures.ThreadPoolExecutor(os.cpu_count()) as pool:
+        return list(pool.map(one, values))
+
+
+def recordings(runs, case):
+    """How many recordings are accepted."""
+    times, workers = case.words.split()
+    texts = texts_of(case)
+
+    def is_accepted(own, _):
+        table, _, status = own.ask("record", [*texts, HEADERS["cards"] + case.text], "--workers", workers)
+        return status == 0 and own.ask("judge", [*texts, table])[2] == 0
+
+    return b"accepted %d\n" % sum(each(runs, is_accepted, range(int(times))))
+
+
+def fronts(runs, case):
+    """What is told of each front of a text, where it is something else than of the one before."""
+
+    def of_length(own, length):
+        given = {**case.given, case.words: case.text[:length]}
+        if case.words == "cards":
+            return [own.ask("record", [given["program"], given["externals"], given["cards"]], "--max-runs", "10")]
+        texts, trace = [given["program"], given["externals"]], given["trace"]
+        return [own.ask("judge", [*texts, trace]), own.ask("judge", [*texts, spread(trace)], "--workers", "3")]
+
+    told, last = b"", b""
+    for length, answers in enumerate(each(runs, of_length, range(len(case.text) + 1))):
+        for out, err, _ in answers:
+            if out + err != last:
+                last = out + err
+                told += b"%d: %s" % (length, last)
+    return told
+
+
+KINDS = {
+    "show": lambda runs, case: whole(runs.ask("show", [case.text])),
+    "judge": lambda runs, case: judged(runs, case, HEADERS["trace"] + case.text),
+    "judge-text": lambda runs, case: judged(runs, case, case.text),
+    "pair": lambda runs, case: paired(runs, case, HEADERS["trace"] + case.text),
+    "pair-text": lambda runs, case: paired(runs, case, case.text),
+    "explain": explained,
+    "explain-pair": explained_pair,
+    "bundle": lambda runs, case: whole(runs.read(case.text)),
+    "explain-bundle": lambda runs, case: whole(runs.read(case.text, "explain")),
+    "refused": lambda runs, case: refused(runs.ask("explain", [case.text, b"", b""])),
+    "refused-externals": lambda runs, case: refused(runs.ask("explain", [case.given["program"], case.text, b""])),
+    "refused-trace": lambda runs, case: refused(runs.ask("explain", [*texts_of(case), case.text])),
+    "refused-bundle": lambda runs, case: refused(runs.read(case.text, "explain")),
+    "record": lambda runs, case: recorded(runs, case, HEADERS["cards"] + case.text),
+    "record-text": lambda runs, case: recorded(runs, case, case.text),
+    "recordings": recordings,
+    "fronts": fronts,
+}
