@@ -2,8 +2,9 @@
 
 use crate::texts::{externals, program};
 use lft_flat::{Name, Program, Value};
+use lft_steps::{Row, Rows, Step};
 use lft_tag::{NoMemory, Tag};
-use lft_trace::{Row, Rows, Step, TraceFault};
+use lft_trace::TraceFault;
 use std::alloc::Global;
 use std::test::Fail;
 

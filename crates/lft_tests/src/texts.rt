@@ -1,15 +1,16 @@
 //! Programs and external inputs, their plans, and what is asked of rows.
 
 ghost use Rattle.std.specs.Prelude.{IfOk};
-ghost use Rattle.lft_trace.specs.Fits.{ExternalsFit, RowsFit};
+ghost use Rattle.lft_steps.specs.Fits.{ExternalsFit, RowsFit};
 
 use lft_check::{NoWatch, Verdict, judge_alone};
 use lft_flat::Program;
 use lft_model::Plan;
 use lft_program::flatten;
+use lft_steps::{Externals, Rows};
 use lft_syntax::{lex, parse};
 use lft_tag::NoMemory;
-use lft_trace::{Externals, Rows, TraceFault, read_externals, write_trace};
+use lft_trace::{TraceFault, read_externals, write_trace};
 use std::alloc::Global;
 use std::test::Fail;
 
