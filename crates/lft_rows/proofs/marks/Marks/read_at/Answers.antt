@@ -1,6 +1,6 @@
 use Rattle.std.proofs.Common.{◌≡◌, ◌-◌, ◌+◌, ◌<◌, ◌≤◌, ◌∙◌, arith}
 use Rattle.lft_rows.proofs.RunReads.{no_read, last_read}
-use Rattle.lft_rows.proofs.reads.Marks.read_at.Goals as goal
+use Rattle.lft_rows.proofs.marks.Marks.read_at.Goals as goal
 
 pub returns-then-mark-slice : goal.returns-then-mark-slice
 returns-then-mark-slice c x n is seat =
