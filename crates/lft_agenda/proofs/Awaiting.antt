@@ -1,7 +1,7 @@
 -- What is pending in a recording so far is a reaction, and open where it has run; what is open is pending.
 use Rattle.std.proofs.Common.{ℕ, ◌<◌, List, [], length}
 use Rattle.lft_tag.specs.declared.Tag.{Tag}
-use Rattle.lft_trace.specs.declared.row.Row.{Row}
+use Rattle.lft_steps.specs.declared.row.Row.{Row}
 use Rattle.lft_model.specs.Plans.{PlanParts, IsSoundPlan}
 use Rattle.lft_model.specs.Presence.{Triggered}
 use Rattle.lft_model.specs.Runs.{Ran, start_row, by_ends}

@@ -1,7 +1,7 @@
 -- The agenda of no rows.
 use Rattle.std.proofs.Common.{◌≡◌, ℕ, List, [], length, replicate, refl, ap, ◌∙◌, subst, Some, None, slice_get}
 use Rattle.lft_tag.proofs.Order.{from_first}
-use Rattle.lft_trace.specs.declared.row.Row.{Row}
+use Rattle.lft_steps.specs.declared.row.Row.{Row}
 use Rattle.lft_queue.specs.Pending.{Pending}
 use Rattle.lft_graph.specs.Graph.{IsGraphOf}
 use Rattle.lft_lists.proofs.Places.{get_same, length_same}

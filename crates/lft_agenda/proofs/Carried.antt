@@ -6,7 +6,7 @@ use Rattle.lft_tag.specs.Shifts.{Folded, shifted}
 use Rattle.lft_tag.proofs.Order.{UpTo-Before}
 use Rattle.lft_tag.proofs.Chains.{tag_of, shifted_same}
 use Rattle.lft_flat.specs.declared.parts.Port.{Port as PortOf}
-use Rattle.lft_trace.specs.declared.row.Row.{Row}
+use Rattle.lft_steps.specs.declared.row.Row.{Row}
 use Rattle.lft_agenda.specs.Listeners.{IsArrival, IsWatched, arrival, IsFirstDelayed}
 use Rattle.lft_agenda.proofs.Watching.{delayed_first}
 use Rattle.lft_model.specs.Plans.{PlanParts, IsSoundPlan}

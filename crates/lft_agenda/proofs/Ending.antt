@@ -7,8 +7,8 @@ use Rattle.lft_tag.proofs.Order.{UpTo-refl, UpTo-trans, UpTo_antisym, Before-wea
 use Rattle.lft_lists.proofs.Members.{Mem, get_mem, mem_get}
 use Rattle.lft_lists.proofs.Places.{get_append_cases, get_left}
 use Rattle.lft_flat.specs.declared.parts.Value.{Value}
-use Rattle.lft_trace.specs.declared.row.Row.{Row}
-use Rattle.lft_trace.specs.declared.row.Step.{Step}
+use Rattle.lft_steps.specs.declared.row.Row.{Row}
+use Rattle.lft_steps.specs.declared.row.Step.{Step}
 use Rattle.lft_queue.specs.Pending.{Pending}
 use Rattle.lft_agenda.specs.declared.turn.phase.Phase.TheVariants.{Idle, Waiting, Open}
 use Rattle.lft_agenda.specs.Turns.{TurnParts}

@@ -17,8 +17,8 @@ use Rattle.lft_flat.specs.declared.parts.Name.{Name}
 use Rattle.lft_flat.specs.declared.parts.Name.TheVariants.{Port, Action}
 use Rattle.lft_flat.specs.Naming.{same_name}
 use Rattle.lft_flat.proofs.Naming.{name_self}
-use Rattle.lft_trace.specs.declared.row.Row.{Row}
-use Rattle.lft_trace.specs.declared.row.Step.TheVariants.{Write}
+use Rattle.lft_steps.specs.declared.row.Row.{Row}
+use Rattle.lft_steps.specs.declared.row.Step.TheVariants.{Write}
 use Rattle.lft_lists.proofs.Picked.{take_one_more}
 use Rattle.lft_queue.specs.Pending.{Pending, value_of, same_key, Becomes}
 use Rattle.lft_model.specs.Plans.{PlanParts, IsSoundPlan}

@@ -9,7 +9,7 @@ use Rattle.lft_flat.specs.declared.parts.Value.{Value}
 use Rattle.lft_flat.specs.declared.parts.Trigger.{Trigger}
 use Rattle.lft_flat.specs.declared.parts.Trigger.TheVariants.{Startup, Shutdown, Timer, On}
 use Rattle.lft_flat.specs.Naming.{same_name}
-use Rattle.lft_trace.specs.declared.row.Row.{Row}
+use Rattle.lft_steps.specs.declared.row.Row.{Row}
 use Rattle.lft_queue.specs.Pending.{Pending, value_of, same_key, is_after}
 use Rattle.lft_queue.proofs.Dropping.{later_value}
 use Rattle.lft_queue.proofs.Tests.{before_test}

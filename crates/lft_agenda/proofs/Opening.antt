@@ -8,9 +8,9 @@ use Rattle.lft_tag.specs.Tags.{UpTo, same_tag}
 use Rattle.lft_lists.proofs.Members.{Mem, mem_get, get_mem, mem_cases}
 use Rattle.lft_lists.proofs.Places.{get_append_cases, get_left}
 use Rattle.lft_flat.specs.declared.parts.Value.{Value}
-use Rattle.lft_trace.specs.declared.row.Row.{Row}
-use Rattle.lft_trace.specs.declared.row.Step.{Step}
-use Rattle.lft_trace.specs.declared.row.Step.TheVariants.{Start, Read, End}
+use Rattle.lft_steps.specs.declared.row.Row.{Row}
+use Rattle.lft_steps.specs.declared.row.Step.{Step}
+use Rattle.lft_steps.specs.declared.row.Step.TheVariants.{Start, Read, End}
 use Rattle.lft_model.specs.Plans.{PlanParts, IsSoundPlan}
 use Rattle.lft_model.specs.Presence.{stop}
 use Rattle.lft_model.specs.Runs.{Ran, start_row, end_row, read_step, read_of, inputs_of, reads_at}

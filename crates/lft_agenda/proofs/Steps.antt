@@ -17,9 +17,9 @@ use Rattle.lft_flat.specs.declared.parts.Name.{Name}
 use Rattle.lft_flat.specs.declared.parts.Name.TheVariants.{Port, Action}
 use Rattle.lft_flat.specs.Naming.{same_name}
 use Rattle.lft_flat.proofs.Naming.{name_self}
-use Rattle.lft_trace.specs.declared.row.Row.{Row}
-use Rattle.lft_trace.specs.declared.row.Step.{Step}
-use Rattle.lft_trace.specs.declared.row.Step.TheVariants.{Write, Schedule, End}
+use Rattle.lft_steps.specs.declared.row.Row.{Row}
+use Rattle.lft_steps.specs.declared.row.Step.{Step}
+use Rattle.lft_steps.specs.declared.row.Step.TheVariants.{Write, Schedule, End}
 use Rattle.lft_queue.specs.Pending.{Pending, value_of}
 use Rattle.lft_agenda.specs.Listeners.{IsArrival, IsWatched}
 use Rattle.lft_model.specs.Plans.{PlanParts, IsSoundPlan}

@@ -8,7 +8,7 @@ use Rattle.lft_flat.specs.declared.parts.Port.{Port as PortOf}
 use Rattle.lft_flat.specs.declared.parts.Value.{Value}
 use Rattle.lft_flat.specs.declared.parts.Name.{Name}
 use Rattle.lft_flat.specs.declared.parts.Name.TheVariants.{Port, Action}
-use Rattle.lft_trace.specs.declared.row.Row.{Row}
+use Rattle.lft_steps.specs.declared.row.Row.{Row}
 use Rattle.lft_agenda.specs.Listeners.{IsWatched}
 use Rattle.lft_queue.specs.Pending.{Pending, value_of, Becomes}
 use Rattle.lft_model.specs.Plans.{PlanParts}

@@ -2,7 +2,7 @@
 use Rattle.std.specs.Prelude.{◌≡◌, ℕ, List, Option, Some, slice_get, length}
 use Rattle.lft_tag.specs.declared.Tag.{Tag}
 use Rattle.lft_tag.specs.Tags.{Before, UpTo}
-use Rattle.lft_trace.specs.declared.row.Row.{Row}
+use Rattle.lft_steps.specs.declared.row.Row.{Row}
 use Rattle.lft_graph.specs.Graph.{IsGraphOf}
 use Rattle.lft_agenda.specs.declared.turn.phase.Phase.{Phase}
 use Rattle.lft_agenda.specs.declared.turn.phase.Phase.TheVariants.{Idle, Waiting, Open}

@@ -4,7 +4,7 @@ ghost use Rattle.std.specs.Prelude.{◌≡◌, ◌≤◌, ◌<◌, length, Some,
 ghost use Rattle.lft_tag.specs.declared.Tag.{Tag as TagOf};
 ghost use Rattle.lft_tag.specs.Tags.{Before, UpTo};
 ghost use Rattle.lft_flat.specs.Parts.{Parts};
-ghost use Rattle.lft_trace.specs.declared.row.Row.{Row as RowOf};
+ghost use Rattle.lft_steps.specs.declared.row.Row.{Row as RowOf};
 ghost use Rattle.lft_queue.specs.Pending.{Pending};
 ghost use Rattle.lft_agenda.specs.Listeners.{AreListeners};
 ghost use Rattle.lft_agenda.specs.Waits.{IsBetween, IsCovered};

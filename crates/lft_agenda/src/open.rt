@@ -2,7 +2,7 @@
 
 ghost use Rattle.std.specs.Prelude.{◌≡◌, ◌↔◌, ◌<◌, List, filter, not, IsTrue};
 ghost use Rattle.lft_model.specs.Plans.{PlanParts};
-ghost use Rattle.lft_trace.specs.declared.row.Row.{Row};
+ghost use Rattle.lft_steps.specs.declared.row.Row.{Row};
 ghost use Rattle.lft_recording.specs.Starts.{IsBusy};
 ghost use Rattle.lft_agenda.specs.OpenRuns.{AreOpen, HasReads, is_run};
 

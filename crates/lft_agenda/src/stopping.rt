@@ -2,14 +2,14 @@
 
 ghost use Rattle.std.specs.Prelude.{◌≡◌, ◌≤◌, ◌↔◌, ◌++◌, ◌⊎◌, ℕ, List, IsTrue};
 ghost use Rattle.lft_tag.specs.Tags.{IsRecorded};
-ghost use Rattle.lft_trace.specs.declared.row.Row.{Row as RowOf};
+ghost use Rattle.lft_steps.specs.declared.row.Row.{Row as RowOf};
 ghost use Rattle.lft_model.specs.Plans.{PlanParts};
 ghost use Rattle.lft_model.specs.Presence.{stop as the_stop};
 ghost use Rattle.lft_model.specs.Recorded.{committed_rows};
 ghost use Rattle.lft_agenda.specs.Agendas.{AsksStop};
 
+use lft_steps::{Step, is_stop};
 use lft_tag::Tag;
-use lft_trace::{Step, is_stop};
 
 // Whether one of the steps requests a stop.
 fn asks_stop(steps: &[Step]) -> bool

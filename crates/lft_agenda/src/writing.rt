@@ -12,8 +12,8 @@ use crate::turn::Turn;
 use lft_flat::{Name, Trigger};
 use lft_lists::item_at;
 use lft_model::Plan;
+use lft_steps::Step;
 use lft_tag::Tag;
-use lft_trace::Step;
 
 // Those that listen to a port where a write of the origin at the tag arrives at once.
 fn tell_write(

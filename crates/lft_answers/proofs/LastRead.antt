@@ -3,7 +3,7 @@ use Rattle.std.proofs.Common.{◌≡◌, ℕ, ◌+◌, List, take, refl, sym, ap
 use Rattle.lft_flat.specs.declared.parts.Name.{Name}
 use Rattle.lft_flat.specs.declared.parts.Value.{Value}
 use Rattle.lft_flat.specs.Naming.{same_name}
-use Rattle.lft_trace.specs.declared.row.Step.{Step}
+use Rattle.lft_steps.specs.declared.row.Step.{Step}
 use Rattle.lft_model.specs.Runs.{value_read, read_of}
 use Rattle.lft_answers.specs.Readings.{last_of, read_as, AreReadBy, IsPut}
 use Rattle.lft_answers.specs.declared.readings.Readings.{Readings}

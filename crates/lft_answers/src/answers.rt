@@ -9,8 +9,8 @@ ghost use Rattle.lft_answers.specs.Answers.{as_outcome, answer_of};
 use crate::outcomes::{Answer, Outcome, Schedulings};
 use lft_flat::{Name, Value};
 use lft_lists::item_at;
+use lft_steps::{Step, is_stop};
 use lft_tag::NoMemory;
-use lft_trace::{Step, is_stop};
 use std::alloc::Global;
 
 /// The value that the step writes to the port, if it writes one.

@@ -7,8 +7,8 @@ ghost use Rattle.lft_answers.specs.Readings.{last_of, read_as, AreReadBy, IsPut}
 
 use lft_flat::{Name, Value};
 use lft_lists::item_at;
+use lft_steps::Step;
 use lft_tag::NoMemory;
-use lft_trace::Step;
 use std::alloc::Global;
 use std::collections::BTreeMap;
 

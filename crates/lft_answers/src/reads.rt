@@ -8,8 +8,8 @@ ghost use Rattle.lft_answers.specs.Answers.{reads_of};
 use crate::readings::readings_of;
 use lft_flat::{Name, Reaction, Trigger};
 use lft_model::Reads;
+use lft_steps::Step;
 use lft_tag::NoMemory;
-use lft_trace::Step;
 use std::alloc::Global;
 
 /// The port or action that the trigger names, if it names one.

@@ -1,8 +1,8 @@
 //! What the run that starts in a row read and answered.
 
 ghost use Rattle.std.specs.Prelude.{◌≡◌, Some, slice_get, IfOk};
-ghost use Rattle.lft_trace.specs.Fits.{RowsFit};
-ghost use Rattle.lft_trace.specs.declared.row.Step.TheVariants.{Start};
+ghost use Rattle.lft_steps.specs.Fits.{RowsFit};
+ghost use Rattle.lft_steps.specs.declared.row.Step.TheVariants.{Start};
 ghost use Rattle.lft_model.specs.Runs.{reads_at, answer_at};
 ghost use Rattle.lft_answers.specs.Answers.{KeepsRows};
 
@@ -11,8 +11,8 @@ use crate::outcomes::Answer;
 use crate::reads::reads_of_steps;
 use crate::steps::read_steps;
 use lft_model::{Plan, Reads};
+use lft_steps::Row;
 use lft_tag::NoMemory;
-use lft_trace::Row;
 use std::alloc::Global;
 
 /// What the run that starts in the row at the place read. It looks at the rows up to its end row once.

@@ -1,13 +1,13 @@
 //! The steps of one run.
 
 ghost use Rattle.std.specs.Prelude.{◌≡◌, ◌↔◌, Some, slice_get, OnOk, IsTrue};
-ghost use Rattle.lft_trace.specs.declared.row.Step.TheVariants.{Start};
+ghost use Rattle.lft_steps.specs.declared.row.Step.TheVariants.{Start};
 ghost use Rattle.lft_model.specs.Plans.{PlanParts};
 ghost use Rattle.lft_model.specs.Runs.{steps_of};
 ghost use Rattle.lft_answers.specs.Answers.{KeepsRows};
 
+use lft_steps::{Row, Step, is_end, row_at};
 use lft_tag::NoMemory;
-use lft_trace::{Row, Step, is_end, row_at};
 
 /// Whether the two rows are of one tag and reaction.
 fn is_of_run(row: Row, start: Row) -> bool

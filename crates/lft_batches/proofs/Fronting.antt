@@ -4,8 +4,8 @@ use Rattle.std.proofs.lemmas.List.{append_assoc}
 use Rattle.std.proofs.Math.Seq.{take-length}
 use Rattle.lft_flat.specs.Parts.{Parts}
 use Rattle.lft_lists.proofs.Places.{get_append_cases}
-use Rattle.lft_trace.specs.Fits.{RowsFit}
-use Rattle.lft_trace.specs.declared.row.Row.{Row}
+use Rattle.lft_steps.specs.Fits.{RowsFit}
+use Rattle.lft_steps.specs.declared.row.Row.{Row}
 use Rattle.lft_stream.proofs.Parting.{range_fits, up_to_second}
 
 -- a batch in three parts: what stands at the tag of the rows that wait, what is finished, and what stands at its last tag

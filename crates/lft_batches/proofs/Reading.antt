@@ -5,7 +5,7 @@ use Rattle.lft_flat.specs.Sound.{IsSound}
 use Rattle.lft_trace.specs.Records.{records_of}
 use Rattle.lft_trace.specs.Telling.{rows_in}
 use Rattle.lft_trace.specs.Traces.{Table, header}
-use Rattle.lft_trace.specs.declared.row.Row.{Row}
+use Rattle.lft_steps.specs.declared.row.Row.{Row}
 use Rattle.lft_model.specs.Plans.{PlanParts}
 use Rattle.lft_reading.specs.Parts.{BeginsWith}
 use Rattle.lft_reading.proofs.Beginning.{begins_all, begins_more, begins_none}

@@ -7,8 +7,8 @@ use Rattle.std.proofs.lemmas.Option.{get_or_from_slice_get, slice_get_within}
 use Rattle.std.proofs.Math.Seq.{take-suc}
 use Rattle.lft_flat.specs.Parts.{Parts}
 use Rattle.lft_lists.proofs.Places.{get_left, get_right}
-use Rattle.lft_trace.specs.Fits.{RowsFit}
-use Rattle.lft_trace.specs.declared.row.Row.{Row}
+use Rattle.lft_steps.specs.Fits.{RowsFit}
+use Rattle.lft_steps.specs.declared.row.Row.{Row}
 use Rattle.lft_reading.specs.Parts.{rows_of}
 
 module _ (parts : List (Vec Row Global)) (n : ℕ) (part : Vec Row Global) (at : slice_get parts n ≡ Some part) where

@@ -1,7 +1,7 @@
 -- How far the rows of a text are judged.
 use Rattle.std.specs.Prelude.{◌≡◌, ◌++◌, ◌≤◌, ℕ, List, length, take}
 use Rattle.lft_trace.specs.Telling.{rows_in}
-use Rattle.lft_trace.specs.declared.row.Row.{Row}
+use Rattle.lft_steps.specs.declared.row.Row.{Row}
 use Rattle.lft_model.specs.Plans.{PlanParts}
 use Rattle.lft_stream.specs.Kept.{IsAcceptorOf}
 use Rattle.lft_batches.specs.declared.text.Front.{Front}

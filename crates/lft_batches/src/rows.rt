@@ -1,14 +1,14 @@
 //! Rows that are accepted, part by part.
 
 ghost use Rattle.std.specs.Prelude.{◌≡◌, ◌<◌, ◌≤◌, List, length, take, IfSome, IsTrue};
-ghost use Rattle.lft_trace.specs.declared.row.Row.{Row as TheRow};
-ghost use Rattle.lft_trace.specs.Fits.{RowsFit};
-ghost use Rattle.lft_check.specs.Verdicts.{IsAccepted};
+ghost use Rattle.lft_steps.specs.declared.row.Row.{Row as TheRow};
+ghost use Rattle.lft_steps.specs.Fits.{RowsFit};
+ghost use Rattle.lft_rows.specs.Accepted.{IsAccepted};
 ghost use Rattle.lft_stream.specs.Kept.{IsAcceptorOf};
 
 use lft_model::Plan;
+use lft_steps::{Row, Rows, row_at};
 use lft_stream::{Acceptor, Counts};
-use lft_trace::{Row, Rows, row_at};
 use std::alloc::Global;
 
 /// At least so many rows are taken together. More wouldn't stay near the processor.

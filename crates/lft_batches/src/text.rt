@@ -1,21 +1,21 @@
 //! Trace tables that are accepted from their texts.
 
 ghost use Rattle.std.specs.Prelude.{◌≡◌, ◌++◌, ◌+◌, ◌≤◌, ℕ, List, length, take, IfOk, IfSome, IsTrue};
-ghost use Rattle.lft_trace.specs.Fits.{RowsFit};
+ghost use Rattle.lft_steps.specs.Fits.{RowsFit};
 ghost use Rattle.lft_trace.specs.Records.{records_of};
 ghost use Rattle.lft_trace.specs.Telling.{rows_in};
 ghost use Rattle.lft_trace.specs.Traces.{Table};
-ghost use Rattle.lft_trace.specs.declared.row.Row.{Row as TheRow};
-ghost use Rattle.lft_check.specs.Verdicts.{IsAccepted};
+ghost use Rattle.lft_steps.specs.declared.row.Row.{Row as TheRow};
+ghost use Rattle.lft_rows.specs.Accepted.{IsAccepted};
 ghost use Rattle.lft_stream.specs.Kept.{IsAcceptorOf};
 ghost use Rattle.lft_batches.specs.Fronts.{IsFront, IsNextBehind, judged_rows};
 
 use crate::rows::rows_together;
 use lft_model::Plan;
 use lft_reading::{below_header, read_batch};
+use lft_steps::{Row, row_at};
 use lft_stream::{Acceptor, Counts};
 use lft_tag::{MAX_ROWS, NoMemory};
-use lft_trace::{Row, row_at};
 use std::alloc::Global;
 
 /// Rows have some bytes fewer in a text, so a batch has a few more rows than are to be taken together.

@@ -10,8 +10,8 @@ use Rattle.lft_tag.proofs.Order.{Before-UpTo, Before-weaken, UpTo-not, UpTo-tran
 use Rattle.lft_flat.specs.Sound.{IsSound}
 use Rattle.lft_flat.specs.declared.parts.Name.{Name}
 use Rattle.lft_flat.specs.declared.parts.Reaction.{Reaction}
-use Rattle.lft_trace.specs.declared.row.Row.{Row}
-use Rattle.lft_trace.specs.Fits.{RowsFit}
+use Rattle.lft_steps.specs.declared.row.Row.{Row}
+use Rattle.lft_steps.specs.Fits.{RowsFit}
 use Rattle.lft_lists.proofs.Places.{get_write_cases, length_written, same_at, get_there}
 use Rattle.lft_model.specs.Plans.{PlanParts}
 use Rattle.lft_model.specs.Presence.{IsPresent}
@@ -23,9 +23,10 @@ use Rattle.lft_presence.specs.Traces.{TraceParts, IsSooner}
 use Rattle.lft_presence.proofs.Presences.{IsKey, present_cause}
 use Rattle.lft_presence.proofs.Skips.{leads_up, names_up}
 use Rattle.lft_by_tag.specs.declared.absences.Absences.{Absences}
-use Rattle.lft_by_tag.specs.declared.slices.Slice.{Slice}
+use Rattle.lft_rows.specs.declared.slices.Slice.{Slice}
 use Rattle.lft_by_tag.specs.Absences.{IsEarlier, IsAbsentUntil, AreAbsences, AreAbsentUntil, IsUnknown}
-use Rattle.lft_by_tag.specs.Slices.{IsCuttable, IsSlice}
+use Rattle.lft_rows.specs.Slices.{IsSlice}
+use Rattle.lft_by_tag.specs.Slices.{IsCuttable}
 use Rattle.lft_by_tag.specs.declared.walk.Walk.{Walk}
 use Rattle.lft_by_tag.specs.Walks.{IsPast, IsBefore, HasWalked}
 use Rattle.lft_rows.proofs.Marked.{before_on}

@@ -4,8 +4,8 @@ use native.Mathlib.Decide.{ℕ_discrete}
 use Rattle.lft_tag.specs.declared.Tag.{Tag}
 use Rattle.lft_tag.specs.Tags.{Before, UpTo}
 use Rattle.lft_tag.proofs.Order.{order_cases, UpTo_antisym}
-use Rattle.lft_trace.specs.declared.row.Row.{Row}
-use Rattle.lft_trace.specs.declared.row.Step.TheVariants.{Start}
+use Rattle.lft_steps.specs.declared.row.Row.{Row}
+use Rattle.lft_steps.specs.declared.row.Step.TheVariants.{Start}
 use Rattle.lft_lists.proofs.Places.{get_there, same_at, get_write_cases, get_written, get_unwritten, get_push, get_last, get_push_cases, length_written, get_same, get_append_cases}
 use Rattle.lft_model.specs.Plans.{PlanParts}
 use Rattle.lft_model.specs.Presence.{Triggered}
@@ -17,7 +17,7 @@ use Rattle.lft_flat.proofs.Ranges.{slice_get-drop}
 use Rattle.lft_presence.specs.Traces.{TraceParts, LeastTag}
 use Rattle.lft_presence.proofs.Leasts.{least_as}
 use Rattle.lft_by_tag.specs.declared.started.Started.{Started}
-use Rattle.lft_by_tag.specs.Slices.{AreTags}
+use Rattle.lft_rows.specs.Slices.{AreTags}
 use Rattle.lft_by_tag.specs.Slices.{IsCuttable, IsMissing, IsVacant}
 use Rattle.lft_by_tag.specs.Least.{HasTag, AreTriggered, Lacks}
 use Rattle.lft_by_tag.specs.Indexes.{AreStartsOf, HasRunsTo, HasRuns, AreDue, AreMarkedTo}

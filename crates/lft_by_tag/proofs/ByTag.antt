@@ -6,10 +6,11 @@ use Rattle.lft_tag.specs.Tags.{Before, UpTo}
 use Rattle.lft_tag.proofs.Order.{Before-irrefl, Before-UpTo, UpTo_antisym, order_cases}
 use Rattle.lft_lists.proofs.Places.{get_there, get_left, get_last, get_push_cases}
 use Rattle.lft_presence.proofs.Presences.{same_row}
-use Rattle.lft_trace.specs.declared.row.Row.{Row}
+use Rattle.lft_steps.specs.declared.row.Row.{Row}
 use Rattle.lft_model.proofs.Places.{slice_get_within, tag_discrete}
-use Rattle.lft_by_tag.specs.declared.slices.Slice.{Slice}
-use Rattle.lft_by_tag.specs.Slices.{Rises, IsSlice, AreSlices}
+use Rattle.lft_rows.specs.declared.slices.Slice.{Slice}
+use Rattle.lft_rows.specs.Slices.{Rises, IsSlice}
+use Rattle.lft_by_tag.specs.Slices.{AreSlices}
 
 -- no row of the tag stands at the place
 abbrev pub IsOther : List Row → ℕ → Tag → Type 0

@@ -1,12 +1,13 @@
 -- What sliced rows keep is right for their plan and rows.
 use Rattle.std.proofs.Common.{List, None}
-use Rattle.lft_trace.specs.declared.row.Row.{Row}
-use Rattle.lft_trace.specs.Fits.{RowsFit}
+use Rattle.lft_steps.specs.declared.row.Row.{Row}
+use Rattle.lft_steps.specs.Fits.{RowsFit}
 use Rattle.lft_model.specs.Plans.{PlanParts, IsSoundPlan}
 use Rattle.lft_model.proofs.Legality.{four, rising}
 use Rattle.lft_model.specs.Presence.{stop}
 use Rattle.lft_rows.specs.Firsts.{FirstRow}
-use Rattle.lft_by_tag.specs.Slices.{IsCuttable, Rises}
+use Rattle.lft_rows.specs.Slices.{Rises}
+use Rattle.lft_by_tag.specs.Slices.{IsCuttable}
 
 pub rises_of : (plan : PlanParts) (t : List Row) → FirstRow (stop plan t) plan t None → Rises t
 rises_of plan t kept i j x y l p q = rising plan t (four plan t kept) i j x y l p q

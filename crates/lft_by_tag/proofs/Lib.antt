@@ -4,10 +4,8 @@ pub mod Missed
 pub mod Needing
 pub mod Indexed
 pub mod Absent
-pub mod RunReads
 pub mod RightReads
 pub mod Walks
 pub mod Searched
 pub mod Begun
-pub mod Counted
 pub mod Stopped

@@ -9,14 +9,14 @@ use Rattle.lft_flat.specs.declared.parts.Value.{Value}
 use Rattle.lft_flat.specs.declared.parts.Name.{Name}
 use Rattle.lft_flat.specs.declared.parts.Name.TheVariants.{Port, Action}
 use Rattle.lft_flat.specs.declared.parts.Reaction.{Reaction}
-use Rattle.lft_trace.specs.declared.row.Row.{Row}
+use Rattle.lft_steps.specs.declared.row.Row.{Row}
 use Rattle.lft_model.specs.Plans.{PlanParts}
 use Rattle.lft_model.specs.Presence.{At, IsPresent, Shows, Inputs, Collision, written, events_of}
 use Rattle.lft_model.specs.Runs.{read_of, steps_of, inputs_of, reads_at}
 use Rattle.lft_lists.proofs.Members.{Mem, mem_get, get_mem, contains_mem}
 use Rattle.lft_flat.proofs.Naming.{input_known}
 use Rattle.lft_model.proofs.Places.{tag_discrete}
-use Rattle.lft_trace.specs.declared.row.Step.TheVariants.{Start, Read}
+use Rattle.lft_steps.specs.declared.row.Step.TheVariants.{Start, Read}
 use Rattle.lft_by_tag.specs.Reads.{IsRight, MissesInput, TellsWrongRead}
 
 -- without a collision a name shows one thing

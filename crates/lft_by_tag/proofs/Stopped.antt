@@ -7,7 +7,7 @@ use Rattle.lft_tag.proofs.Order.{UpTo-trans, UpTo_antisym}
 use Rattle.lft_lists.proofs.Members.{Mem, mem_right}
 use Rattle.lft_lists.proofs.Places.{get_left, get_right}
 use Rattle.lft_flat.specs.Parts.{Parts}
-use Rattle.lft_trace.specs.declared.row.Row.{Row}
+use Rattle.lft_steps.specs.declared.row.Row.{Row}
 use Rattle.lft_model.specs.Plans.{PlanParts}
 use Rattle.lft_model.specs.Fitting.{EachFits}
 use Rattle.lft_model.specs.Presence.{requests, stop}

@@ -2,14 +2,15 @@
 use Rattle.std.specs.Prelude.{◌≡◌, ℕ, ◌<◌, Bool, true, List, length, Option, Some, slice_get}
 use Rattle.lft_tag.specs.declared.Tag.{Tag}
 use Rattle.lft_tag.specs.Tags.{Before}
-use Rattle.lft_trace.specs.declared.row.Row.{Row}
+use Rattle.lft_steps.specs.declared.row.Row.{Row}
 use Rattle.lft_model.specs.Presence.{Triggered}
 use Rattle.lft_model.specs.Runs.{start_row}
 use Rattle.lft_presence.specs.Traces.{TraceParts}
-use Rattle.lft_by_tag.specs.declared.slices.Slice.{Slice}
+use Rattle.lft_rows.specs.declared.slices.Slice.{Slice}
 use Rattle.lft_by_tag.specs.declared.started.Started.{Started}
 use Rattle.lft_by_tag.specs.declared.slicing.Caused.{Caused}
-use Rattle.lft_by_tag.specs.Slices.{IsCuttable, AreSlices, IsFirstMissing, runs_in}
+use Rattle.lft_rows.specs.Slices.{runs_in}
+use Rattle.lft_by_tag.specs.Slices.{IsCuttable, AreSlices, IsFirstMissing}
 
 -- the tags of the starts of r before place i, ascending, and their places
 pub record AreStartsOf (t : List Row) (i r : ℕ) (tags : List Tag) (places : List ℕ) : Type 0 where

@@ -2,8 +2,8 @@
 use Rattle.std.specs.Prelude.{◌≡◌, ◌<◌, ℕ, List, Some, slice_get}
 use Rattle.lft_tag.specs.declared.Tag.{Tag}
 use Rattle.lft_tag.specs.Tags.{Before}
-use Rattle.lft_trace.specs.declared.row.Row.{Row}
-use Rattle.lft_by_tag.specs.declared.slices.Slice.{Slice}
+use Rattle.lft_steps.specs.declared.row.Row.{Row}
+use Rattle.lft_rows.specs.declared.slices.Slice.{Slice}
 use Rattle.lft_by_tag.specs.declared.walk.Walk.{Walk}
 use Rattle.lft_by_tag.specs.Absences.{AreAbsences}
 use Rattle.lft_rows.specs.Marks.{AreBefore, AreMarks}

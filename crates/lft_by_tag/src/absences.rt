@@ -13,15 +13,15 @@ ghost use Rattle.lft_flat.specs.declared.parts.Reaction.{Reaction as TheReaction
 ghost use Rattle.lft_model.specs.Presence.{IsPresent};
 ghost use Rattle.lft_rows.specs.Marks.{HasSeat};
 ghost use Rattle.lft_by_tag.specs.Absences.{IsAbsentUntil, AreAbsentUntil, IsUnknown, IsEarlier};
-ghost use Rattle.lft_by_tag.specs.Slices.{IsSlice};
+ghost use Rattle.lft_rows.specs.Slices.{IsSlice};
 ghost use Rattle.lft_by_tag.specs.Walks.{HasWalked};
 
 use crate::sliced::Sliced;
-use crate::slices::Slice;
 use crate::walk::Walk;
 use lft_flat::{Name, Program};
 use lft_lists::item_at;
 use lft_presence::{cause_tag, moved, position, sooner};
+use lft_rows::Slice;
 use lft_tag::{NoMemory, Shift, Tag};
 use std::alloc::Global;
 

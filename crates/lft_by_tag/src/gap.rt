@@ -1,6 +1,7 @@
 //! The first tag without any run at which a reaction is triggered.
 
-ghost use Rattle.lft_by_tag.specs.Slices.{AreTags, IsGap};
+ghost use Rattle.lft_rows.specs.Slices.{AreTags};
+ghost use Rattle.lft_by_tag.specs.Slices.{IsGap};
 
 use crate::missing::{first_of, lacked};
 use crate::sliced::Sliced;

@@ -5,20 +5,20 @@ ghost use Rattle.lft_flat.specs.Parts.{inputs};
 ghost use Rattle.lft_flat.specs.Sound.{IsNameOf};
 ghost use Rattle.lft_flat.specs.declared.parts.Name.{Name as TheName};
 ghost use Rattle.lft_flat.specs.declared.parts.Reaction.{Reaction as TheReaction};
-ghost use Rattle.lft_trace.specs.declared.row.Row.{Row as TheRow};
+ghost use Rattle.lft_steps.specs.declared.row.Row.{Row as TheRow};
 ghost use Rattle.lft_model.specs.Presence.{Collision};
 ghost use Rattle.lft_rows.specs.Marks.{HasSeat};
 ghost use Rattle.lft_by_tag.specs.Reads.{IsMissed, MissesInput, TellsWrongRead};
-ghost use Rattle.lft_by_tag.specs.Slices.{IsSlice};
+ghost use Rattle.lft_rows.specs.Slices.{IsSlice};
 ghost use Rattle.lft_by_tag.specs.Walks.{HasWalked};
 
 use crate::absences::{BLOCK, end_of};
 use crate::sliced::Sliced;
-use crate::slices::Slice;
 use crate::walk::Walk;
 use lft_flat::{Name, Value};
 use lft_lists::item_at;
-use lft_trace::{Step, row_at};
+use lft_rows::Slice;
+use lft_steps::{Step, row_at};
 
 /// Whether the two are one value, or both none.
 fn same_values(a: Option<Value>, b: Option<Value>) -> bool

@@ -19,6 +19,5 @@ mod walk;
 pub use fault::CutFault;
 pub use sharing::slice_rows_shared;
 pub use sliced::Sliced;
-pub use slices::Slice;
 pub use slicing::slice_rows;
 pub use walk::Walk;

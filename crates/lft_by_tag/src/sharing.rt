@@ -1,23 +1,24 @@
 //! From rows to slices, by several workers.
 
 ghost use Rattle.std.specs.Prelude.{◌≡◌, length, IfOk, IfErr};
-ghost use Rattle.lft_trace.specs.Fits.{RowsFit};
+ghost use Rattle.lft_steps.specs.Fits.{RowsFit};
 ghost use Rattle.lft_model.specs.Plans.{PlanParts};
 ghost use Rattle.lft_model.specs.Presence.{stop as the_stop};
 ghost use Rattle.lft_by_tag.specs.Indexes.{HasRuns, IsCaused};
-ghost use Rattle.lft_by_tag.specs.Slices.{Rises, AreSlices, IsCuttable, IsCutFault};
+ghost use Rattle.lft_rows.specs.Slices.{Rises};
+ghost use Rattle.lft_by_tag.specs.Slices.{AreSlices, IsCuttable, IsCutFault};
 
 use crate::fault::CutFault;
 use crate::sliced::Sliced;
-use crate::slices::{Slice, slices_of};
+use crate::slices::slices_of;
 use crate::slicing::{Caused, caused_by};
 use crate::started::{Started, started_of};
 use crate::stops::trace_stop_shared;
 use lft_model::Plan;
 use lft_presence::{Presence, presence_of};
-use lft_rows::first_breach_shared;
+use lft_rows::{Slice, first_breach_shared};
+use lft_steps::{Row, Rows};
 use lft_tag::{NoMemory, Tag};
-use lft_trace::{Row, Rows};
 use std::alloc::Global;
 use std::thread::{Threads, join};
 

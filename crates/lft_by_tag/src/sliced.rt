@@ -3,18 +3,19 @@
 ghost use Rattle.std.specs.Prelude.{◌≡◌, ◌<◌, ◌≤◌, ◌↔◌, length, Some, IsTrue, IfSome, IfNone, slice_get};
 ghost use Rattle.lft_flat.specs.Sound.{IsNameOf};
 ghost use Rattle.lft_graph.specs.Graph.{IsGraphOf};
-ghost use Rattle.lft_trace.specs.declared.row.Row.{Row as TheRow};
+ghost use Rattle.lft_steps.specs.declared.row.Row.{Row as TheRow};
 ghost use Rattle.lft_model.specs.Presence.{At, IsPresent, Triggered};
 ghost use Rattle.lft_presence.specs.Clashes.{IsClash};
-ghost use Rattle.lft_by_tag.specs.Slices.{AreSlices, IsCuttable, IsFirstMissing, runs_in};
+ghost use Rattle.lft_rows.specs.Slices.{runs_in};
+ghost use Rattle.lft_by_tag.specs.Slices.{AreSlices, IsCuttable, IsFirstMissing};
 
-use crate::slices::Slice;
 use crate::slicing::Caused;
 use lft_flat::{Name, Program, Value};
 use lft_graph::Graph;
 use lft_presence::Presence;
+use lft_rows::Slice;
+use lft_steps::{Row, row_at};
 use lft_tag::Tag;
-use lft_trace::{Row, row_at};
 use std::marker::Model;
 
 /// The rows of a plan's trace, sliced by tag, with what they cause: all that the rules 6 to 10 are

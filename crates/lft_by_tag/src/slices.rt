@@ -1,20 +1,14 @@
 //! The rows cut where the tag changes.
 
 ghost use Rattle.std.specs.Prelude.{◌≡◌, Some, IsTrue, ◌↔◌, IfOk, slice_get};
-ghost use Rattle.lft_trace.specs.declared.row.Row.{Row as TheRow};
-ghost use Rattle.lft_by_tag.specs.Slices.{Rises, AreSlices};
+ghost use Rattle.lft_steps.specs.declared.row.Row.{Row as TheRow};
+ghost use Rattle.lft_rows.specs.Slices.{Rises};
+ghost use Rattle.lft_by_tag.specs.Slices.{AreSlices};
 
+use lft_rows::Slice;
+use lft_steps::{Row, row_at};
 use lft_tag::{NoMemory, Tag};
-use lft_trace::{Row, row_at};
 use std::alloc::Global;
-
-/// The rows at one tag: those from the first place up to, without, the end, counted from 0.
-#[derive(Clone, Copy, PartialEq, Eq, Debug, Drop)]
-pub struct Slice {
-    pub tag: Tag,
-    pub first: usize,
-    pub end: usize,
-}
 
 /// Whether there is no row at the place, or one of another tag.
 fn is_other(rows: &[Row], place: usize, tag: Tag) -> bool

@@ -1,7 +1,7 @@
 //! From rows to slices.
 
 ghost use Rattle.std.specs.Prelude.{◌≡◌, length, IfOk, IfErr};
-ghost use Rattle.lft_trace.specs.Fits.{RowsFit};
+ghost use Rattle.lft_steps.specs.Fits.{RowsFit};
 ghost use Rattle.lft_model.specs.Presence.{stop as the_stop};
 ghost use Rattle.lft_by_tag.specs.Indexes.{HasRuns, IsCaused};
 ghost use Rattle.lft_by_tag.specs.Slices.{IsCuttable, IsCutFault};
@@ -14,8 +14,8 @@ use crate::started::{Started, started_of};
 use lft_model::{Plan, trace_stop};
 use lft_presence::{Presence, presence_of};
 use lft_rows::first_breach;
+use lft_steps::{Row, Rows};
 use lft_tag::{NoMemory, Tag};
-use lft_trace::{Row, Rows};
 use std::alloc::Global;
 
 /// Slices the rows by tag. `Broken` has the first breach where a row breaks one of the rules 1 to 5,

@@ -6,8 +6,8 @@ ghost use Rattle.lft_by_tag.specs.Slices.{IsCuttable};
 ghost use Rattle.lft_by_tag.specs.Indexes.{HasRuns};
 
 use crate::lists::ByReaction;
+use lft_steps::{Row, is_start, row_at};
 use lft_tag::{NoMemory, Tag};
-use lft_trace::{Row, is_start, row_at};
 use std::alloc::Global;
 
 /// The runs of each reaction: their tags, ascending, and the places of their start rows; and how many

@@ -7,8 +7,8 @@ ghost use Rattle.lft_model.specs.Fitting.{EachFits};
 ghost use Rattle.lft_model.specs.Presence.{stop as the_stop};
 
 use lft_model::{Plan, trace_stop};
+use lft_steps::Row;
 use lft_tag::Tag;
-use lft_trace::Row;
 use std::thread::{Threads, join};
 
 /// Fewer rows are gone over by one worker: of them a thread costs more than it brings.

@@ -5,17 +5,14 @@ ghost use Rattle.lft_flat.specs.declared.parts.Reaction.{Reaction as TheReaction
 ghost use Rattle.lft_flat.specs.declared.parts.Name.{Name as TheName};
 ghost use Rattle.lft_model.specs.Runs.{read_of, steps_of};
 ghost use Rattle.lft_rows.specs.Marks.{HasSeat, width};
-ghost use Rattle.lft_by_tag.specs.Reads.{value_read as the_value_read};
-ghost use Rattle.lft_by_tag.specs.Slices.{IsSlice};
+ghost use Rattle.lft_rows.specs.Slices.{IsSlice};
 ghost use Rattle.lft_by_tag.specs.Walks.{IsBefore, HasWalked};
 
 use crate::absences::{Absences, absences_of};
 use crate::sliced::Sliced;
-use crate::slices::Slice;
 use lft_flat::Value;
-use lft_rows::Marks;
+use lft_rows::{Marks, Slice};
 use lft_tag::NoMemory;
-use lft_trace::{Step, row_at};
 use std::alloc::Global;
 
 /// How far a walk over the tags of sliced rows has come.
@@ -23,20 +20,6 @@ use std::alloc::Global;
 pub struct Walk {
     pub(crate) marks: Marks,
     pub(crate) absences: Vec<Absences>,
-}
-
-/// The value that a step reads, if it reads one.
-fn value_read(step: &Step) -> Option<Value>
-    ensures { result ≡ the_value_read step.now }
-{
-    match step {
-        Step::Read(_, value) => Some(*value),
-        Step::Start => None,
-        Step::Write(_, _) => None,
-        Step::Schedule(_, _, _) => None,
-        Step::Stop => None,
-        Step::End => None,
-    }
 }
 
 impl<'a> Sliced<'a> {
@@ -72,13 +55,7 @@ impl<'a> Sliced<'a> {
         requires seat { (x : TheReaction) × (slice_get self.now.plan.program.reactions reaction ≡ Some x) × (seat < width x) }
         ensures { (x : TheReaction) (n : TheName) → slice_get self.now.plan.program.reactions reaction ≡ Some x → HasSeat x n seat → result ≡ read_of (steps_of self.now.rows slice.tag reaction) n }
     {
-        let rows = self.rows();
-        let mark = walk.marks.of(self.program(), reaction, seat) as usize;
-        if mark > slice.first {
-            let row = row_at(rows, mark - 1);
-            value_read(&row.step)
-        } else {
-            None
-        }
+        walk.marks
+            .read_at(self.program(), self.rows(), slice, reaction, seat)
     }
 }

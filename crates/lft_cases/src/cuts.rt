@@ -7,14 +7,14 @@
 //! Where the rows can't be cut, the fault is the one line that is written.
 
 ghost use Rattle.std.specs.Prelude.{◌≡◌};
-ghost use Rattle.lft_trace.specs.Fits.{RowsFit};
+ghost use Rattle.lft_steps.specs.Fits.{RowsFit};
 
 use crate::given::{CaseTexts, trace_table};
 use crate::presence::recorded;
 use lft_model::{Plan, clash_slow};
 use lft_slices::{Cut, cut};
+use lft_steps::Rows;
 use lft_tag::Tag;
-use lft_trace::Rows;
 use std::alloc::Global;
 use std::io;
 use std::io::Write;

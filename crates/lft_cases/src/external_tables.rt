@@ -10,7 +10,8 @@
 use crate::case_text::lines_of;
 use crate::given::{CaseTexts, external_table, joined};
 use crate::programs::program_of;
-use lft_trace::{Externals, read_externals};
+use lft_steps::Externals;
+use lft_trace::read_externals;
 use std::alloc::Global;
 use std::io;
 use std::io::Write;

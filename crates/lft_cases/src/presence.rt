@@ -10,7 +10,7 @@
 //! Where there is no plan, its refusal is the one line that is written.
 
 ghost use Rattle.std.specs.Prelude.{IfOk, IfSome, ◌<◌, length};
-ghost use Rattle.lft_trace.specs.Fits.{RowsFit};
+ghost use Rattle.lft_steps.specs.Fits.{RowsFit};
 
 use crate::case_text::lines_of;
 use crate::given::CaseTexts;
@@ -18,8 +18,9 @@ use crate::programs::program_of;
 use crate::refusal::Refusal;
 use lft_model::{Plan, clash_slow, inputs_slow, present_slow, triggered_slow};
 use lft_program::{Found, Name};
+use lft_steps::Rows;
 use lft_tag::Tag;
-use lft_trace::{Rows, read_externals, read_trace};
+use lft_trace::{read_externals, read_trace};
 use std::alloc::Global;
 use std::io;
 use std::io::Write;

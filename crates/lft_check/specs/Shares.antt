@@ -3,7 +3,7 @@ use Rattle.std.specs.Prelude.{◌≡◌, ℕ, ◌+◌, ◌*◌, ◌/◌, ◌<◌
 use Rattle.lft_tag.specs.declared.Tag.{Tag}
 use Rattle.lft_tag.specs.declared.NoMemory.{NoMemory}
 use Rattle.lft_model.specs.declared.breach.Breach.{Breach}
-use Rattle.lft_by_tag.specs.declared.slices.Slice.{Slice}
+use Rattle.lft_rows.specs.declared.slices.Slice.{Slice}
 use Rattle.lft_presence.specs.Traces.{TraceParts}
 use Rattle.lft_check.specs.Verdicts.{LeastOf, BreachIn}
 

@@ -9,10 +9,11 @@ ghost use Rattle.lft_check.specs.Shares.{share_start, IsLeastOfShare, AreShares,
 
 use crate::judging::{first_in, lesser};
 use crate::watch::Watch;
-use lft_by_tag::{Slice, Sliced};
+use lft_by_tag::Sliced;
 use lft_graph::Ancestors;
 use lft_lists::item_at;
 use lft_model::Breach;
+use lft_rows::Slice;
 use lft_tag::{NoMemory, Tag};
 use std::alloc::Global;
 use std::thread;

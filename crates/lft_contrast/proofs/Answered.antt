@@ -10,8 +10,8 @@ use Rattle.lft_lists.proofs.Picked.{kept_more}
 use Rattle.lft_lists.proofs.Places.{get_last}
 use Rattle.lft_tag.proofs.Comparing.{not_equal}
 use Rattle.lft_flat.specs.declared.parts.Name.TheVariants.{Port, Action}
-use Rattle.lft_trace.specs.declared.row.Step.{Step}
-use Rattle.lft_trace.specs.declared.row.Step.TheVariants.{Start, Read, Write, Schedule, Stop, End}
+use Rattle.lft_steps.specs.declared.row.Step.{Step}
+use Rattle.lft_steps.specs.declared.row.Step.TheVariants.{Start, Read, Write, Schedule, Stop, End}
 use Rattle.lft_answers.proofs.Stepping.{last_stays, last_changes}
 use Rattle.lft_pair.specs.Answering.{place_cmp}
 use Rattle.lft_contrast.specs.declared.contrasts.Placed.{Placed}

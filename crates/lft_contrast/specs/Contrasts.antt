@@ -5,7 +5,7 @@ use Rattle.lft_tag.specs.Tags.{Before}
 use Rattle.lft_flat.specs.declared.parts.Name.{Name}
 use Rattle.lft_flat.specs.declared.parts.Name.TheVariants.{Port, Action}
 use Rattle.lft_flat.specs.declared.parts.Value.{Value}
-use Rattle.lft_trace.specs.declared.row.Row.{Row}
+use Rattle.lft_steps.specs.declared.row.Row.{Row}
 use Rattle.lft_model.specs.Plans.{PlanParts}
 use Rattle.lft_model.specs.Runs.{inputs_of, effects_of, read_of, steps_of}
 use Rattle.lft_model.specs.Recorded.{SameHistory, instance_of}

@@ -9,8 +9,8 @@ ghost use Rattle.lft_contrast.specs.Answered.{writing as the_writing, scheduled 
 use crate::contrasts::{LastWrite, Placed, Scheduling};
 use lft_flat::Name;
 use lft_lists::item_at;
+use lft_steps::Step;
 use lft_tag::NoMemory;
-use lft_trace::Step;
 use std::alloc::Global;
 use std::collections::BTreeMap;
 use std::marker::Model;

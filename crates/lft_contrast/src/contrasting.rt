@@ -1,7 +1,7 @@
 //! Where two traces differ.
 
 ghost use Rattle.std.specs.Prelude.{IfOk, string_bytes};
-ghost use Rattle.lft_trace.specs.Fits.{RowsFit};
+ghost use Rattle.lft_steps.specs.Fits.{RowsFit};
 ghost use Rattle.lft_model.specs.Breaches.{Legal};
 ghost use Rattle.lft_pair.specs.Pairs.{IsDifference};
 ghost use Rattle.lft_contrast.specs.Shown.{ShowsDifference};
@@ -9,8 +9,8 @@ ghost use Rattle.lft_contrast.specs.Shown.{ShowsDifference};
 use crate::finding::find;
 use crate::telling::tell;
 use lft_model::Plan;
+use lft_steps::Rows;
 use lft_tag::{NoMemory, Tag};
-use lft_trace::Rows;
 use std::alloc::Global;
 
 /// The text of the difference of two legal traces: for which effects the reaction's runs at the tag

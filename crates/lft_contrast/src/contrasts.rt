@@ -1,8 +1,8 @@
 //! What two runs of one reaction at one tag show beside one another.
 
 use lft_flat::{Name, Value};
+use lft_steps::Step;
 use lft_tag::Tag;
-use lft_trace::Step;
 use std::marker::Model;
 
 /// A step of a run, and the place of its row.

@@ -5,8 +5,8 @@ ghost use Rattle.lft_model.specs.Recorded.{instance_of as the_instance_of};
 ghost use Rattle.lft_contrast.specs.Counts.{Counts, StartsBefore, StartsEarlier};
 
 use lft_flat::Program;
+use lft_steps::{Row, is_start, row_at};
 use lft_tag::Tag;
-use lft_trace::{Row, is_start, row_at};
 
 /// The instance of the reaction; 0 for a number that is of no reaction.
 pub(crate) fn instance_of(program: &Program, reaction: u32) -> u32

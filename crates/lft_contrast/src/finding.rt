@@ -1,7 +1,7 @@
 //! What two traces show beside one another where they differ.
 
 ghost use Rattle.std.specs.Prelude.{IfOk, OnOk};
-ghost use Rattle.lft_trace.specs.Fits.{RowsFit};
+ghost use Rattle.lft_steps.specs.Fits.{RowsFit};
 ghost use Rattle.lft_model.specs.Breaches.{Legal};
 ghost use Rattle.lft_pair.specs.Pairs.{IsDifference};
 ghost use Rattle.lft_contrast.specs.Contrasts.{AreContrasts};
@@ -13,8 +13,8 @@ use crate::effects::{effect_contrasts, stop_contrast};
 use crate::reads::add_reads;
 use crate::runs::{placed_steps, start_of};
 use lft_model::Plan;
+use lft_steps::{Row, Rows};
 use lft_tag::{NoMemory, Tag};
-use lft_trace::{Row, Rows};
 use std::alloc::Global;
 
 /// What the runs of the reaction at the tag answered, where it isn't the same.

@@ -1,7 +1,7 @@
 //! What two runs read.
 
 ghost use Rattle.std.specs.Prelude.{◌≡◌, IfOk, OnOk};
-ghost use Rattle.lft_trace.specs.Fits.{RowsFit};
+ghost use Rattle.lft_steps.specs.Fits.{RowsFit};
 ghost use Rattle.lft_model.specs.Runs.{reads_at};
 ghost use Rattle.lft_answers.specs.Answers.{KeepsRows};
 ghost use Rattle.lft_contrast.specs.Enough.{Adds, TellsReads};
@@ -11,8 +11,8 @@ use crate::contrasts::Contrast;
 use lft_answers::reads_of_run;
 use lft_lists::item_at;
 use lft_model::{Plan, Reads};
+use lft_steps::{Row, row_at};
 use lft_tag::{NoMemory, Tag};
-use lft_trace::{Row, row_at};
 use std::alloc::Global;
 
 /// What the run that starts in the row at the place read of its inputs.

@@ -5,8 +5,8 @@ ghost use Rattle.lft_model.specs.Runs.{Ran, step_of as the_step_of};
 ghost use Rattle.lft_contrast.specs.Runs.{placed_steps as the_placed_steps, StartsAt};
 
 use crate::contrasts::Placed;
+use lft_steps::{Row, Step, is_start, row_at};
 use lft_tag::{NoMemory, Tag};
-use lft_trace::{Row, Step, is_start, row_at};
 use std::alloc::Global;
 
 /// The step of the row, where it is of the reaction at the tag.

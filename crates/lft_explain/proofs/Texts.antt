@@ -2,7 +2,7 @@
 use Rattle.std.proofs.Common.{◌≡◌, ℕ, List, ◌++◌, append_assoc, ap, ◌∙◌}
 use Rattle.lft_flat.specs.Parts.{Parts}
 use Rattle.lft_facts.specs.declared.facts.Fact.{Fact}
-use Rattle.lft_trace.specs.declared.row.Row.{Row}
+use Rattle.lft_steps.specs.declared.row.Row.{Row}
 use Rattle.lft_quotes.specs.Quoted.{quoted}
 use Rattle.lft_explain.specs.Sentences.{sentence}
 use Rattle.lft_explain.specs.Reads.{table}

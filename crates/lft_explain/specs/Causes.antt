@@ -2,7 +2,7 @@
 use Rattle.std.specs.Prelude.{ℕ, List, ◌++◌, slice_get, unwrap_or, option_map, codes, decimal}
 use Rattle.lft_tag.specs.declared.Tag.{Tag}
 use Rattle.lft_flat.specs.Parts.{Parts}
-use Rattle.lft_trace.specs.declared.row.Row.{Row}
+use Rattle.lft_steps.specs.declared.row.Row.{Row}
 use Rattle.lft_facts.specs.declared.facts.Cause.{Cause}
 use Rattle.lft_facts.specs.declared.facts.Cause.TheVariants as cause
 use Rattle.lft_words.specs.Words.{time_words, tag_words, port_words, action_words, timer_words}

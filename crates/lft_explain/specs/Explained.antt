@@ -1,6 +1,6 @@
 -- What explains a breach.
 use Rattle.std.specs.Prelude.{◌≡◌, ℕ, List}
-use Rattle.lft_trace.specs.declared.row.Row.{Row}
+use Rattle.lft_steps.specs.declared.row.Row.{Row}
 use Rattle.lft_model.specs.declared.breach.Breach.{Breach}
 use Rattle.lft_model.specs.Plans.{PlanParts}
 use Rattle.lft_facts.specs.declared.facts.Fact.{Fact}

@@ -4,7 +4,7 @@ use Rattle.lft_tag.specs.declared.Tag.{Tag}
 use Rattle.lft_tag.specs.Shifts.{shifted}
 use Rattle.lft_flat.specs.Parts.{Parts}
 use Rattle.lft_flat.specs.declared.parts.Port.{Port as PortOf}
-use Rattle.lft_trace.specs.declared.row.Row.{Row}
+use Rattle.lft_steps.specs.declared.row.Row.{Row}
 use Rattle.lft_words.specs.Words.{tag_words, port_words}
 use Rattle.lft_explain.specs.Ways.{delay_into, arrow_words}
 

@@ -3,7 +3,7 @@ use Rattle.std.specs.Prelude.{ℕ, List, [], ◌∷◌, ◌++◌, flat_map, code
 use Rattle.lft_tag.specs.declared.Tag.{Tag}
 use Rattle.lft_flat.specs.Parts.{Parts}
 use Rattle.lft_flat.specs.declared.parts.Name.{Name}
-use Rattle.lft_trace.specs.declared.row.Row.{Row}
+use Rattle.lft_steps.specs.declared.row.Row.{Row}
 use Rattle.lft_model.specs.Runs.{inputs_of, effects_of}
 use Rattle.lft_facts.specs.declared.facts.ThingKind.{ThingKind}
 use Rattle.lft_facts.specs.declared.facts.ThingKind.TheVariants as kind

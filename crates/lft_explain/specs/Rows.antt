@@ -1,9 +1,9 @@
 -- What is wrong with a row, in a sentence.
 use Rattle.std.specs.Prelude.{ℕ, List, [], ◌++◌, slice_get, option_map, unwrap_or, codes}
 use Rattle.lft_flat.specs.Parts.{Parts}
-use Rattle.lft_trace.specs.declared.row.Row.{Row}
-use Rattle.lft_trace.specs.declared.row.Step.{Step}
-use Rattle.lft_trace.specs.declared.row.Step.TheVariants.{Start, Read, Write, Schedule, Stop, End}
+use Rattle.lft_steps.specs.declared.row.Row.{Row}
+use Rattle.lft_steps.specs.declared.row.Step.{Step}
+use Rattle.lft_steps.specs.declared.row.Step.TheVariants.{Start, Read, Write, Schedule, Stop, End}
 use Rattle.lft_facts.specs.declared.facts.RowFact.{RowFact}
 use Rattle.lft_facts.specs.declared.facts.RowFact.TheVariants as row_fact
 use Rattle.lft_words.specs.Lines.{line_words, capital_line_words, tag_at, reaction_at, worker_at, name_at}

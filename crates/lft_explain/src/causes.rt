@@ -1,7 +1,7 @@
 //! The text of why something is present.
 
 ghost use Rattle.std.specs.Prelude.{◌≡◌, ◌++◌, OnOk, string_bytes};
-ghost use Rattle.lft_trace.specs.Fits.{RowsFit};
+ghost use Rattle.lft_steps.specs.Fits.{RowsFit};
 ghost use Rattle.lft_explain.specs.Causes.{startup_words, shutdown_words, offset_of, period_of, periods_words, fires_words, gets_words, last_write_words, written_words, schedules_words, scheduled_words, given_words, cause_words};
 
 use crate::hops::push_way_at;
@@ -9,8 +9,8 @@ use crate::orders::origin;
 use crate::ways::push_delays;
 use lft_facts::Cause;
 use lft_flat::Program;
+use lft_steps::Row;
 use lft_tag::Tag;
-use lft_trace::Row;
 use lft_words::{
     push_action, push_line, push_number, push_port, push_tag, push_tag_at, push_time, push_timer,
     push_value_at,

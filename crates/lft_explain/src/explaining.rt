@@ -1,15 +1,15 @@
 //! Why a trace breaks a rule.
 
 ghost use Rattle.std.specs.Prelude.{IfOk, string_bytes};
-ghost use Rattle.lft_trace.specs.Fits.{RowsFit};
+ghost use Rattle.lft_steps.specs.Fits.{RowsFit};
 ghost use Rattle.lft_model.specs.Breaches.{First};
 ghost use Rattle.lft_explain.specs.Explained.{Explains};
 
 use crate::telling::tell;
 use lft_facts::find;
 use lft_model::{Breach, Plan};
+use lft_steps::Rows;
 use lft_tag::NoMemory;
-use lft_trace::Rows;
 use std::alloc::Global;
 
 /// The text of facts behind the first breach of a trace. It looks at all rows some times for each

@@ -2,14 +2,14 @@
 
 ghost use Rattle.std.specs.Prelude.{◌≡◌, ◌++◌, length, unwrap_or, IfOk, OnOk, string_bytes};
 ghost use Rattle.lft_tag.specs.Tags.{IsRecorded};
-ghost use Rattle.lft_trace.specs.Fits.{RowsFit};
+ghost use Rattle.lft_steps.specs.Fits.{RowsFit};
 ghost use Rattle.lft_explain.specs.Hops.{source_into as the_source_into, way_back as the_way_back, reached as the_reached, end_words, hop_words, told_back, hops_words, way_words, way_at};
 
 use crate::ways::{delay_into, push_arrow};
 use lft_flat::Program;
 use lft_lists::item_at;
+use lft_steps::{Row, row_at};
 use lft_tag::Tag;
-use lft_trace::{Row, row_at};
 use lft_words::{push_port, push_tag};
 use std::alloc::{AllocError, Global};
 

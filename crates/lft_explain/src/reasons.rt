@@ -11,8 +11,8 @@ use crate::ways::push_nearest;
 use lft_facts::{Reason, ThingKind};
 use lft_flat::{Name, Program};
 use lft_lists::item_at;
+use lft_steps::Row;
 use lft_tag::{NoMemory, Tag};
-use lft_trace::Row;
 use lft_words::{
     push_line, push_name, push_port, push_reaction, push_tag, push_tag_at, push_worker_at,
 };

@@ -5,7 +5,7 @@ ghost use Rattle.lft_explain.specs.Rows.{line_is_words, late_words, after_stop_w
 
 use lft_facts::RowFact;
 use lft_flat::Program;
-use lft_trace::{Row, Step, row_at};
+use lft_steps::{Row, Step, row_at};
 use lft_words::{
     push_capital_line, push_line, push_name_at, push_reaction_at, push_tag_at, push_worker_at,
 };

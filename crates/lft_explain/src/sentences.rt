@@ -9,8 +9,8 @@ use crate::runs::{push_no_run, push_runs};
 use lft_facts::{Cause, Fact};
 use lft_flat::Program;
 use lft_lists::item_at;
+use lft_steps::Row;
 use lft_tag::Tag;
-use lft_trace::Row;
 use lft_words::{push_action, push_port, push_tag};
 use std::alloc::{AllocError, Global};
 

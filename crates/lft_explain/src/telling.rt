@@ -1,7 +1,7 @@
 //! The text of facts.
 
 ghost use Rattle.std.specs.Prelude.{◌≡◌, ◌++◌, IfOk, OnOk, string_bytes};
-ghost use Rattle.lft_trace.specs.Fits.{RowsFit};
+ghost use Rattle.lft_steps.specs.Fits.{RowsFit};
 ghost use Rattle.lft_explain.specs.Told.{fact_words, details as the_details, part, told};
 
 use crate::causes::push_cause;
@@ -14,8 +14,8 @@ use lft_facts::{Fact, Facts};
 use lft_flat::Program;
 use lft_lists::item_at;
 use lft_quotes::quote;
+use lft_steps::{Row, Rows};
 use lft_tag::NoMemory;
-use lft_trace::{Row, Rows};
 use std::alloc::{AllocError, Global};
 
 /// Puts a fact at the end of the text.

@@ -4,8 +4,8 @@ ghost use Rattle.std.specs.Prelude.{◌≡◌, ◌++◌, OnOk, string_bytes};
 ghost use Rattle.lft_explain.specs.Ways.{delay_into as the_delay_into, arrow_words, least_delay as the_least_delay, extra_of as the_extra_of, extra_at as the_extra_at, delays_words, side_words, happening as the_happening, nearest_of, nearest_words};
 
 use lft_flat::{Program, Trigger};
+use lft_steps::{Row, Step, row_at};
 use lft_tag::Tag;
-use lft_trace::{Row, Step, row_at};
 use lft_words::{push_tag, push_time, push_trigger};
 use std::alloc::AllocError;
 

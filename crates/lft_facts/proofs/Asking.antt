@@ -3,7 +3,7 @@ use Rattle.std.proofs.Common.{◌≡◌, ℕ, ◌<◌, List, [], length, ap, sym
 use Rattle.lft_lists.proofs.Places.{get_there}
 use Rattle.lft_flat.specs.Parts.{Parts, inputs}
 use Rattle.lft_flat.specs.declared.parts.Reaction.{Reaction}
-use Rattle.lft_trace.specs.declared.row.Row.{Row}
+use Rattle.lft_steps.specs.declared.row.Row.{Row}
 use Rattle.lft_model.specs.Plans.{PlanParts}
 use Rattle.lft_model.specs.Runs.{inputs_of, effects_of}
 use Rattle.lft_facts.specs.declared.facts.Reason.{Reason}

@@ -13,9 +13,9 @@ use Rattle.lft_flat.specs.declared.parts.Port.{Port as PortOf}
 use Rattle.lft_flat.specs.declared.parts.Value.{Value}
 use Rattle.lft_flat.specs.declared.parts.Name.TheVariants.{Port, Action}
 use Rattle.lft_flat.proofs.Origins.{origin_unique}
-use Rattle.lft_trace.specs.declared.row.Row.{Row}
-use Rattle.lft_trace.specs.declared.row.Step.TheVariants.{Write}
-use Rattle.lft_trace.specs.Fits.{RowsFit}
+use Rattle.lft_steps.specs.declared.row.Row.{Row}
+use Rattle.lft_steps.specs.declared.row.Step.TheVariants.{Write}
+use Rattle.lft_steps.specs.Fits.{RowsFit}
 use Rattle.lft_model.proofs.Blocks.{two_places}
 use Rattle.lft_model.specs.Plans.{PlanParts}
 use Rattle.lft_model.specs.Presence.{value_written, scheduled, given, min_delay, events_of, IsWrittenFrom, PortClash}

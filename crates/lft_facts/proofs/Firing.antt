@@ -11,7 +11,7 @@ use Rattle.lft_tag.proofs.Chains.{tag_of}
 use Rattle.lft_flat.specs.Parts.{Parts}
 use Rattle.lft_flat.specs.declared.parts.Timer.{Timer as TimerOf}
 use Rattle.lft_flat.specs.declared.parts.Trigger.TheVariants.{Timer}
-use Rattle.lft_trace.specs.declared.row.Row.{Row}
+use Rattle.lft_steps.specs.declared.row.Row.{Row}
 use Rattle.lft_model.specs.Plans.{PlanParts}
 use Rattle.lft_model.specs.Presence.{Fires, Occurs}
 use Rattle.lft_facts.specs.Reasons.{IsNearest}

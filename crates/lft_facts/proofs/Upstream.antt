@@ -5,7 +5,7 @@ use Rattle.std.proofs.lemmas.List.Elements.{All-push}
 use Rattle.std.proofs.lemmas.Option.{get_or_from_slice_get}
 use Rattle.lft_lists.proofs.Places.{get_there, get_same, length_same, same_at, get_write_cases, get_written, get_unwritten, length_written, contains_at, at_contains}
 use Rattle.lft_flat.specs.Parts.{Parts}
-use Rattle.lft_trace.specs.declared.row.Row.{Row}
+use Rattle.lft_steps.specs.declared.row.Row.{Row}
 use Rattle.lft_graph.specs.Before.{IsDeclaredJustBefore, FeedsLast}
 use Rattle.lft_graph.specs.Graph.{GraphParts, IsGraphOf}
 use Rattle.lft_graph.specs.Precedence.{Precedes, Direct}

@@ -10,8 +10,8 @@ use Rattle.lft_flat.specs.Parts.{inputs}
 use Rattle.lft_flat.specs.declared.parts.Name.{Name}
 use Rattle.lft_flat.specs.declared.parts.Reaction.{Reaction}
 use Rattle.lft_flat.specs.declared.parts.Value.{Value}
-use Rattle.lft_trace.specs.declared.row.Row.{Row}
-use Rattle.lft_trace.proofs.Zips.{long}
+use Rattle.lft_steps.specs.declared.row.Row.{Row}
+use Rattle.lft_lists.proofs.Zips.{long}
 use Rattle.lft_model.specs.Plans.{PlanParts}
 use Rattle.lft_model.specs.Presence.{Shows, Inputs}
 use Rattle.lft_model.specs.Runs.{inputs_of, reads_at, read_of, steps_of}

@@ -3,7 +3,7 @@ use Rattle.std.specs.Prelude.{◌≡◌, ◌↔◌, ℕ, ◌<◌, Bool, true, Li
 use Rattle.lft_tag.specs.declared.Tag.{Tag}
 use Rattle.lft_tag.specs.Tags.{Before}
 use Rattle.lft_flat.specs.declared.parts.Timer.{Timer as TimerOf}
-use Rattle.lft_trace.specs.declared.row.Row.{Row}
+use Rattle.lft_steps.specs.declared.row.Row.{Row}
 use Rattle.lft_model.specs.Presence.{Fires}
 use Rattle.lft_model.specs.Runs.{Ran}
 use Rattle.lft_facts.specs.Runs.{StartsAt}

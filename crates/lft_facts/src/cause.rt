@@ -4,7 +4,7 @@ ghost use Rattle.std.specs.Prelude.{◌≡◌, ◌<◌, ◌≤◌, ◌-◌, ℕ,
 ghost use Rattle.lft_flat.specs.Sound.{IsNameOf, IsTriggerOf as IsKnown};
 ghost use Rattle.lft_flat.specs.declared.parts.Name.TheVariants.{Port as ThePort, Action as TheAction};
 ghost use Rattle.lft_flat.specs.declared.parts.Trigger.TheVariants.{On as TheName};
-ghost use Rattle.lft_trace.specs.Fits.{RowsFit};
+ghost use Rattle.lft_steps.specs.Fits.{RowsFit};
 ghost use Rattle.lft_model.specs.Presence.{stop as the_stop, IsPresent, Occurs};
 ghost use Rattle.lft_presence.specs.Causes.{AreCauses};
 ghost use Rattle.lft_facts.specs.Facts.{IsCause, IsWrittenIn, FiresAfter};
@@ -14,8 +14,8 @@ use crate::facts::Cause;
 use lft_flat::{Name, Trigger};
 use lft_model::{Plan, fires};
 use lft_presence::{Cause as EventCause, last_cause};
+use lft_steps::Row;
 use lft_tag::{Shift, Tag};
-use lft_trace::Row;
 
 /// The place of the last row that gives the port an event at the tag.
 pub(crate) fn writing_row(

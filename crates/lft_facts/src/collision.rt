@@ -1,7 +1,7 @@
 //! Rule 6: two causes of one event.
 
 ghost use Rattle.std.specs.Prelude.{◌≡◌, ◌≤◌, ◌<◌, None, length, IfOk, IfSome, IfNone};
-ghost use Rattle.lft_trace.specs.Fits.{RowsFit};
+ghost use Rattle.lft_steps.specs.Fits.{RowsFit};
 ghost use Rattle.lft_model.specs.Presence.{PortClash, Collision, events_of};
 ghost use Rattle.lft_presence.specs.Causes.{AreCauses};
 ghost use Rattle.lft_facts.specs.Facts.{IsCause, AreFacts};
@@ -11,8 +11,8 @@ use crate::cause::of_action;
 use crate::facts::{Cause, Fact};
 use lft_model::Plan;
 use lft_presence::{Cause as EventCause, cause_tag, first_cause, last_cause};
+use lft_steps::Row;
 use lft_tag::{NoMemory, Shift, Tag};
-use lft_trace::Row;
 use std::alloc::Global;
 
 /// Two rows that give the port an event at the tag from two tags, if there are.

@@ -1,8 +1,8 @@
 //! Rule 9: a run that started before one that precedes it had ended.
 
 ghost use Rattle.std.specs.Prelude.{◌≡◌, ◌↔◌, ◌+◌, ◌<◌, ◌≤◌, ℕ, Some, length, slice_get, IsTrue, IfOk};
-ghost use Rattle.lft_trace.specs.Fits.{RowsFit};
-ghost use Rattle.lft_trace.specs.declared.row.Row.{Row as TheRow};
+ghost use Rattle.lft_steps.specs.Fits.{RowsFit};
+ghost use Rattle.lft_steps.specs.declared.row.Row.{Row as TheRow};
 ghost use Rattle.lft_model.specs.Breaches.{IsTooEarly};
 ghost use Rattle.lft_model.specs.Runs.{Ran};
 ghost use Rattle.lft_answers.specs.Answers.{KeepsRows};
@@ -17,8 +17,8 @@ use crate::passing::add_passed_by;
 use crate::runs::{runs_at, start_of};
 use crate::ways::{is_marked, steps, ways};
 use lft_model::Plan;
+use lft_steps::{Row, is_end, row_at};
 use lft_tag::{NoMemory, Tag};
-use lft_trace::{Row, is_end, row_at};
 use std::alloc::Global;
 
 /// Whether the row at the place ends a run at the tag of a reaction from which a way leads on.

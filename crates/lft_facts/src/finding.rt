@@ -1,7 +1,7 @@
 //! The facts that give a breach.
 
 ghost use Rattle.std.specs.Prelude.{◌≡◌, IfOk};
-ghost use Rattle.lft_trace.specs.Fits.{RowsFit};
+ghost use Rattle.lft_steps.specs.Fits.{RowsFit};
 ghost use Rattle.lft_model.specs.Breaches.{First};
 ghost use Rattle.lft_facts.specs.Facts.{AreFacts};
 ghost use Rattle.lft_facts.specs.Enough.{Proves, ProvesTag};
@@ -15,8 +15,8 @@ use crate::rows::of_row;
 use crate::triggers::{not_run, not_triggered};
 use lft_model::{Breach, Plan, trace_stop};
 use lft_presence::{Presence, presence_of};
+use lft_steps::{Row, Rows};
 use lft_tag::NoMemory;
-use lft_trace::{Row, Rows};
 use std::alloc::Global;
 
 /// The facts that are enough for the first breach, where no row breaks a rule.

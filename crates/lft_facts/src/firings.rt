@@ -2,7 +2,7 @@
 
 ghost use Rattle.std.specs.Prelude.{◌≡◌, ◌<◌, List, length, IfSome, OnOk};
 ghost use Rattle.lft_flat.specs.declared.parts.Trigger.TheVariants.{Timer as TheTimer};
-ghost use Rattle.lft_trace.specs.declared.row.Row.{Row as TheRow};
+ghost use Rattle.lft_steps.specs.declared.row.Row.{Row as TheRow};
 ghost use Rattle.lft_model.specs.Plans.{PlanParts};
 ghost use Rattle.lft_model.specs.Presence.{Fires, Occurs};
 ghost use Rattle.lft_facts.specs.Reasons.{IsNearest, IsReason};
@@ -13,8 +13,8 @@ use crate::adding::add;
 use crate::facts::{Fact, Reason};
 use lft_flat::{Timer, Trigger};
 use lft_model::Plan;
+use lft_steps::Row;
 use lft_tag::{NoMemory, Tag};
-use lft_trace::Row;
 
 /// The last tag before this one at which the timer fires.
 fn firing_before(timer: &Timer, tag: Tag) -> Option<Tag>

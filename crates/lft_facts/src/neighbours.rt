@@ -3,7 +3,7 @@
 ghost use Rattle.std.specs.Prelude.{◌+◌, ◌<◌, ◌≤◌, length, IfSome, IfNone, OnOk};
 ghost use Rattle.lft_tag.specs.declared.Tag.{Tag as TheTag};
 ghost use Rattle.lft_tag.specs.Tags.{Before, UpTo};
-ghost use Rattle.lft_trace.specs.Fits.{RowsFit};
+ghost use Rattle.lft_steps.specs.Fits.{RowsFit};
 ghost use Rattle.lft_model.specs.Plans.{PlanParts};
 ghost use Rattle.lft_model.specs.Runs.{Ran};
 ghost use Rattle.lft_facts.specs.Reasons.{IsRunBefore, IsRunAfter};
@@ -13,8 +13,8 @@ ghost use Rattle.lft_facts.specs.Neighbours.{IsNearestStart};
 use crate::facts::{Fact, Reason};
 use crate::runs::is_start_at;
 use lft_model::{Plan, trace_stop};
+use lft_steps::{Row, row_at};
 use lft_tag::{NoMemory, Tag};
-use lft_trace::{Row, row_at};
 
 /// The run that starts in the row at the place, where it is of the reaction, before the tag, and
 /// later than the one so far; else the one so far.

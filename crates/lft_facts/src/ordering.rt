@@ -3,7 +3,7 @@
 ghost use Rattle.std.specs.Prelude.{◌≡◌, ◌↔◌, ◌<◌, ℕ, Some, length, slice_get, IsTrue, IfSome, IfNone};
 ghost use Rattle.lft_tag.specs.declared.Tag.{Tag as TheTag};
 ghost use Rattle.lft_tag.specs.Tags.{Before};
-ghost use Rattle.lft_trace.specs.declared.row.Row.{Row as TheRow};
+ghost use Rattle.lft_steps.specs.declared.row.Row.{Row as TheRow};
 ghost use Rattle.lft_model.specs.Breaches.{IsLate, IsOpen, WasStarted, WasRead};
 ghost use Rattle.lft_model.specs.Runs.{end_row};
 ghost use Rattle.lft_facts.specs.Runs.{StartsAt, IsOpenSince};
@@ -11,8 +11,8 @@ ghost use Rattle.lft_facts.specs.Facts.{ReadsAt};
 
 use crate::runs::is_start_at;
 use lft_flat::Name;
+use lft_steps::{Row, Step, is_end, is_start, row_at};
 use lft_tag::Tag;
-use lft_trace::{Row, Step, is_end, is_start, row_at};
 
 /// The place of the last row before this one that is at a greater tag.
 pub(crate) fn greater_row(rows: &[Row], place: u32, row: Row) -> u32

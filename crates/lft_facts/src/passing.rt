@@ -1,7 +1,7 @@
 //! Rule 9: reactions on the way from one to another that have no run at the tag.
 
 ghost use Rattle.std.specs.Prelude.{List, IfSome, OnOk};
-ghost use Rattle.lft_trace.specs.declared.row.Row.{Row as TheRow};
+ghost use Rattle.lft_steps.specs.declared.row.Row.{Row as TheRow};
 ghost use Rattle.lft_model.specs.Plans.{PlanParts};
 ghost use Rattle.lft_facts.specs.Reasons.{IsReason};
 ghost use Rattle.lft_facts.specs.Neighbours.{HaveRun};

@@ -2,7 +2,7 @@
 
 ghost use Rattle.std.specs.Prelude.{◌≡◌, List, Option, Some, IfOk};
 ghost use Rattle.lft_flat.specs.declared.parts.Value.{Value as Carried};
-ghost use Rattle.lft_trace.specs.Fits.{RowsFit};
+ghost use Rattle.lft_steps.specs.Fits.{RowsFit};
 ghost use Rattle.lft_model.specs.Presence.{Inputs, Collision};
 ghost use Rattle.lft_model.specs.Runs.{Ran, reads_at};
 ghost use Rattle.lft_answers.specs.Answers.{KeepsRows};
@@ -17,8 +17,8 @@ use lft_flat::Value;
 use lft_lists::item_at;
 use lft_model::{Plan, Reads};
 use lft_presence::Presence;
+use lft_steps::{Row, row_at};
 use lft_tag::{NoMemory, Tag};
-use lft_trace::{Row, row_at};
 use std::alloc::Global;
 
 /// What the run that starts in the row at the place read of its inputs.

@@ -4,7 +4,7 @@
 ghost use Rattle.std.specs.Prelude.{IfOk, IfSome, OnOk};
 ghost use Rattle.lft_flat.specs.Sound.{IsNameOf, IsTriggerOf as IsKnown};
 ghost use Rattle.lft_flat.specs.declared.parts.Trigger.TheVariants.{On as TheName};
-ghost use Rattle.lft_trace.specs.Fits.{RowsFit};
+ghost use Rattle.lft_steps.specs.Fits.{RowsFit};
 ghost use Rattle.lft_model.specs.Presence.{Occurs};
 ghost use Rattle.lft_presence.specs.Causes.{AreCauses};
 ghost use Rattle.lft_facts.specs.Facts.{IsFact, AreFacts};
@@ -22,8 +22,8 @@ use lft_flat::{Name, Trigger};
 use lft_lists::item_at;
 use lft_model::Plan;
 use lft_presence::Cause as EventCause;
+use lft_steps::Row;
 use lft_tag::{NoMemory, Tag};
-use lft_trace::Row;
 use std::alloc::Global;
 
 /// Puts why the port or action has an event at the tag behind the facts, if it has one.

@@ -2,8 +2,8 @@
 
 ghost use Rattle.std.specs.Prelude.{◌≡◌, ◌<◌, ◌≤◌, List, length, IfSome, OnOk};
 ghost use Rattle.lft_flat.specs.declared.parts.Name.TheVariants.{Action as TheAction};
-ghost use Rattle.lft_trace.specs.Fits.{RowsFit, StepFits};
-ghost use Rattle.lft_trace.specs.declared.row.Row.{Row as TheRow};
+ghost use Rattle.lft_steps.specs.Fits.{RowsFit, StepFits};
+ghost use Rattle.lft_steps.specs.declared.row.Row.{Row as TheRow};
 ghost use Rattle.lft_model.specs.Plans.{PlanParts};
 ghost use Rattle.lft_facts.specs.Facts.{IsRowFact};
 ghost use Rattle.lft_facts.specs.Reasons.{IsReason, IsOfKind};
@@ -16,8 +16,8 @@ use crate::runs::is_start_at;
 use crate::stopping::stop_reason;
 use lft_flat::{Name, Program};
 use lft_model::Plan;
+use lft_steps::{Row, Step, is_end, is_start, row_at};
 use lft_tag::NoMemory;
-use lft_trace::{Row, Step, is_end, is_start, row_at};
 
 /// The row before this one in which its worker ended that run.
 fn ended_before(rows: &[Row], row: u32) -> Option<Reason>

@@ -2,7 +2,7 @@
 
 ghost use Rattle.std.specs.Prelude.{◌≡◌, Some, slice_get, IfOk};
 ghost use Rattle.lft_flat.specs.Parts.{Parts};
-ghost use Rattle.lft_trace.specs.Fits.{RowsFit};
+ghost use Rattle.lft_steps.specs.Fits.{RowsFit};
 ghost use Rattle.lft_model.specs.Plans.{PlanParts};
 ghost use Rattle.lft_model.specs.Breaches.{BreaksRow, IsOutOfOrder, IsUndeclared, RowBreach};
 ghost use Rattle.lft_facts.specs.Facts.{IsRowFact, AreFacts};
@@ -12,8 +12,8 @@ use crate::facts::{Fact, RowFact};
 use crate::ordering::{first_read, first_start, greater_row, open_start};
 use crate::row_reasons::add_row_reasons;
 use lft_model::{Breach, Plan};
+use lft_steps::{Row, Step, is_start, row_at};
 use lft_tag::NoMemory;
-use lft_trace::{Row, Step, is_start, row_at};
 use std::alloc::Global;
 
 /// The fact that gives the breach of rule 3 by the row at the place.

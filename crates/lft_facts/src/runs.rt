@@ -1,13 +1,13 @@
 //! Where runs start.
 
 ghost use Rattle.std.specs.Prelude.{◌≡◌, ◌↔◌, ◌+◌, ◌<◌, ◌≤◌, ℕ, Some, length, slice_get, IsTrue, IfOk};
-ghost use Rattle.lft_trace.specs.declared.row.Row.{Row as TheRow};
+ghost use Rattle.lft_steps.specs.declared.row.Row.{Row as TheRow};
 ghost use Rattle.lft_model.specs.Runs.{Ran};
 ghost use Rattle.lft_facts.specs.Runs.{StartsAt};
 ghost use Rattle.lft_facts.specs.Neighbours.{HaveRunBefore, HaveRun};
 
+use lft_steps::{Row, is_start, row_at};
 use lft_tag::{NoMemory, Tag};
-use lft_trace::{Row, is_start, row_at};
 use std::alloc::Global;
 
 /// Whether the row at the place starts the reaction's run at the tag.

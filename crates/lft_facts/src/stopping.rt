@@ -1,12 +1,12 @@
 //! What makes the stop.
 
 ghost use Rattle.std.specs.Prelude.{◌≡◌, IfSome};
-ghost use Rattle.lft_trace.specs.Fits.{RowsFit};
+ghost use Rattle.lft_steps.specs.Fits.{RowsFit};
 ghost use Rattle.lft_facts.specs.Reasons.{IsReason};
 
 use crate::facts::Reason;
 use lft_model::{Plan, trace_stop};
-use lft_trace::{Row, is_stop, row_at};
+use lft_steps::{Row, is_stop, row_at};
 
 /// The stop, and what makes it: the external inputs, or else the first row that asks for it.
 pub(crate) fn stop_reason(plan: &Plan, rows: &[Row]) -> Option<Reason>

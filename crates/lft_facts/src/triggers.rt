@@ -1,7 +1,7 @@
 //! Rules 7 and 8: a reaction that is triggered and has no run, and a run that isn't triggered.
 
 ghost use Rattle.std.specs.Prelude.{◌≡◌, ◌<◌, ◌≤◌, Some, length, IfOk};
-ghost use Rattle.lft_trace.specs.Fits.{RowsFit};
+ghost use Rattle.lft_steps.specs.Fits.{RowsFit};
 ghost use Rattle.lft_model.specs.Presence.{Triggered};
 ghost use Rattle.lft_model.specs.Runs.{Ran};
 ghost use Rattle.lft_presence.specs.Causes.{AreCauses};
@@ -15,8 +15,8 @@ use lft_flat::Trigger;
 use lft_lists::item_at;
 use lft_model::{Plan, trace_stop};
 use lft_presence::Cause as EventCause;
+use lft_steps::Row;
 use lft_tag::{NoMemory, Tag};
-use lft_trace::Row;
 use std::alloc::Global;
 
 /// The first trigger of the reaction that is present at the tag, and why it is.

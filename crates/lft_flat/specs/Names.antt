@@ -1,6 +1,6 @@
 -- The names of a program's things, and what a text names.
 use Rattle.std.specs.Prelude.{◌≡◌, ℕ, ◌==◌, ◌||◌, true, List, Some, slice_get, All}
-use Rattle.lft_tree.specs.Bytes.{is_word}
+use Rattle.lft_lists.specs.Bytes.{is_word}
 use Rattle.lft_flat.specs.declared.found.Found.{Found}
 use Rattle.lft_flat.specs.declared.found.Found.TheVariants as found
 

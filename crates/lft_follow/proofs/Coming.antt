@@ -12,7 +12,7 @@ use Rattle.lft_flat.specs.declared.parts.Reaction.{Reaction}
 use Rattle.lft_flat.specs.declared.parts.Trigger.{Trigger}
 use Rattle.lft_flat.specs.declared.parts.Trigger.TheVariants.{Startup, Shutdown, Timer, On}
 use Rattle.lft_flat.specs.declared.parts.Timer.{Timer as TimerOf}
-use Rattle.lft_trace.specs.declared.row.Row.{Row}
+use Rattle.lft_steps.specs.declared.row.Row.{Row}
 use Rattle.lft_model.specs.Plans.{PlanParts}
 use Rattle.lft_model.specs.Presence.{stop, Fires, Occurs, Triggered, ClashesAt}
 use Rattle.lft_model.specs.Runs.{Ran}
@@ -20,7 +20,7 @@ use Rattle.lft_model.specs.Breaches.{BreaksTagUntil, BreaksAtUntil}
 use Rattle.lft_model.proofs.Places.{slice_get_within}
 use Rattle.lft_stream.specs.declared.due.Due.{Due}
 use Rattle.lft_stream.specs.declared.due.Due.TheVariants.{AtTag, AtStop, Never}
-use Rattle.lft_stream.specs.Owed.{Listens}
+use Rattle.lft_coming.specs.Listens.{Listens}
 use Rattle.lft_stream.specs.Dues.{firing, IsNextFiring, IsDue, AreDue, IsTimed, IsDueBefore}
 use Rattle.lft_stream.specs.Streams.{State, IsStream}
 use Rattle.lft_stream.proofs.Owing.{due_occurs}

@@ -12,13 +12,14 @@ use Rattle.lft_flat.specs.declared.parts.Name.{Name}
 use Rattle.lft_flat.specs.declared.parts.Name.TheVariants.{Port, Action}
 use Rattle.lft_flat.specs.declared.parts.Trigger.{Trigger}
 use Rattle.lft_flat.specs.declared.parts.Trigger.TheVariants.{Startup, Shutdown, Timer, On}
-use Rattle.lft_trace.specs.declared.row.Row.{Row}
+use Rattle.lft_steps.specs.declared.row.Row.{Row}
 use Rattle.lft_model.specs.Plans.{PlanParts}
 use Rattle.lft_model.specs.Presence.{written, scheduled, given, min_delay, events_of, IsWrittenFrom, At, Shows, Inputs, OccursUntil, TriggeredUntil, ClashesAt, Collision}
 use Rattle.lft_model.specs.Runs.{reads_at}
-use Rattle.lft_follow.specs.Sure.{AreUnder, CauseSame, DroppedLaw}
+use Rattle.lft_coming.specs.AtTag.{AreBefore}
+use Rattle.lft_follow.specs.Sure.{CauseSame, DroppedLaw}
 use Rattle.lft_follow.proofs.Same.{SameAt, same_breach}
-use Rattle.lft_follow.proofs.Before.{ran_second, ran_whole, too_early_second, too_early_whole, reads_second}
+use Rattle.lft_stream.proofs.Before.{ran_second, ran_whole, too_early_second, too_early_whole, reads_second}
 
 module _ (plan : PlanParts) (d e u : List Row) (low g : Tag) (same : CauseSame plan d e low) (up : UpTo low g) where
   over : {Y : Type 0} (f : Row → Option Y) → filter_map f d ≡ filter_map f e → filter_map f (d ++ u) ≡ filter_map f (e ++ u)
@@ -56,7 +57,7 @@ module _ (plan : PlanParts) (d e u : List Row) (low g : Tag) (same : CauseSame p
 turned : (plan : PlanParts) (d e : List Row) (low : Tag) → CauseSame plan d e low → CauseSame plan e d low
 turned plan d e low same = record { scheduled_same = λ g a up. sym (same.scheduled_same g a up); written_same = λ h p o delays is up. sym (same.written_same h p o delays is up) }
 
-module _ (plan : PlanParts) (d e u : List Row) (low g : Tag) (under_d : AreUnder d low) (under_e : AreUnder e low) (same : CauseSame plan d e low) (up : UpTo low g) where
+module _ (plan : PlanParts) (d e u : List Row) (low g : Tag) (under_d : AreBefore d low) (under_e : AreBefore e low) (same : CauseSame plan d e low) (up : UpTo low g) where
   back : CauseSame plan e d low
   back = turned plan d e low same
 

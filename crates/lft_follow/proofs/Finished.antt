@@ -4,14 +4,14 @@ use Rattle.lft_tag.specs.declared.Tag.{Tag}
 use Rattle.lft_tag.specs.Tags.{Before, UpTo}
 use Rattle.lft_tag.proofs.Order.{order_cases, Before-UpTo}
 use Rattle.lft_lists.proofs.Members.{Mem, get_mem}
-use Rattle.lft_trace.specs.declared.row.Row.{Row}
+use Rattle.lft_steps.specs.declared.row.Row.{Row}
 use Rattle.lft_model.specs.declared.breach.Breach.{Breach}
 use Rattle.lft_model.specs.Plans.{PlanParts}
 use Rattle.lft_model.specs.Presence.{stop}
 use Rattle.lft_model.specs.Breaches.{TagBreach, TagOrder}
 use Rattle.lft_follow.specs.Sure.{AreFrom, FinishedLaw, ToldLaw}
 use Rattle.lft_follow.proofs.Same.{SameAt, same_breach}
-use Rattle.lft_follow.proofs.Behind.{ran_added, ran_back, too_early_added, too_early_back, reads_added, reads_back, in_time_added, in_time_back, triggered_added, triggered_back, collision_added, collision_back}
+use Rattle.lft_stream.proofs.Behind.{ran_added, ran_back, too_early_added, too_early_back, reads_added, reads_back, in_time_added, in_time_back, triggered_added, triggered_back, collision_added, collision_back}
 
 module _ (plan : PlanParts) (d u : List Row) (low : Tag) (from : AreFrom u low) (h : Tag) (before : Before h low) where
   later : (x : Row) → Mem x u → Before h x.tag

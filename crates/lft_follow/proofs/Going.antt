@@ -4,7 +4,7 @@ use Rattle.lft_tag.specs.declared.Tag.{Tag}
 use Rattle.lft_tag.specs.Tags.{UpTo, after}
 use Rattle.lft_lists.proofs.Places.{get_right}
 use Rattle.lft_model.proofs.Places.{slice_get_within}
-use Rattle.lft_trace.specs.declared.row.Row.{Row}
+use Rattle.lft_steps.specs.declared.row.Row.{Row}
 use Rattle.lft_model.specs.Plans.{PlanParts}
 use Rattle.lft_stream.specs.declared.stream.Stream.{Stream}
 use Rattle.lft_stream.specs.Dues.{NoneDueBefore}

@@ -14,10 +14,11 @@ use Rattle.lft_flat.specs.declared.parts.Port.{Port as PortOf}
 use Rattle.lft_flat.proofs.Origins.{origin_unique}
 use Rattle.lft_lists.proofs.Members.{Mem, mem_cases, mem_get, get_mem}
 use Rattle.lft_lists.proofs.Picked.{kept_more}
-use Rattle.lft_trace.specs.declared.row.Row.{Row}
+use Rattle.lft_steps.specs.declared.row.Row.{Row}
 use Rattle.lft_model.specs.Plans.{PlanParts}
 use Rattle.lft_model.specs.Presence.{scheduled, written, min_delay}
-use Rattle.lft_follow.specs.Sure.{AreUnder, CauseSame}
+use Rattle.lft_coming.specs.AtTag.{AreBefore}
+use Rattle.lft_follow.specs.Sure.{CauseSame}
 
 -- of the ports before a number, those of the origin are reached before low
 abbrev pub EndBefore : Parts → ℕ → Tag → Tag → ℕ → Type 0
@@ -84,5 +85,5 @@ module _ (plan : PlanParts) (rows : List Row) (low : Tag) (i : ℕ) (kept : List
 pub kept_all : (plan : PlanParts) (rows : List Row) (low : Tag) (n : ℕ) (kept : List Row) → length rows ≤ n → AreKept plan rows low n kept → CauseSame plan rows kept low
 kept_all plan rows low n kept all are = subst (λ (t : List Row). CauseSame plan t kept low) (take_all n rows all) are.same
 
-pub kept_under : (plan : PlanParts) (rows : List Row) (low : Tag) (n : ℕ) (kept : List Row) → AreKept plan rows low n kept → AreUnder rows low → AreUnder kept low
-kept_under plan rows low n kept are under i x e = let p = get_mem x rows (are.own x (mem_get kept i x e)) in under p.0 x p.1
+pub kept_before : (plan : PlanParts) (rows : List Row) (low : Tag) (n : ℕ) (kept : List Row) → AreKept plan rows low n kept → AreBefore rows low → AreBefore kept low
+kept_before plan rows low n kept are under i x e = let p = get_mem x rows (are.own x (mem_get kept i x e)) in under p.0 x p.1

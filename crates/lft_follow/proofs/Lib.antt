@@ -1,5 +1,3 @@
-pub mod Behind
-pub mod Before
 pub mod Same
 pub mod Finished
 pub mod Rows

@@ -3,20 +3,17 @@ use Rattle.std.specs.Prelude.{◌≡◌, ◌↔◌, ℕ, ◌≤◌, ◌⊎◌, L
 use Rattle.lft_tag.specs.declared.Tag.{Tag}
 use Rattle.lft_tag.specs.Tags.{Before, UpTo, after, after_all}
 use Rattle.lft_flat.specs.Origins.{Origin}
-use Rattle.lft_trace.specs.Inputs.{ExternalInputs}
-use Rattle.lft_trace.specs.declared.row.Row.{Row}
+use Rattle.lft_steps.specs.Inputs.{ExternalInputs}
+use Rattle.lft_steps.specs.declared.row.Row.{Row}
 use Rattle.lft_model.specs.declared.breach.Breach.{Breach}
 use Rattle.lft_model.specs.Plans.{PlanParts}
 use Rattle.lft_model.specs.Presence.{stop, written, scheduled, given, min_delay}
-use Rattle.lft_model.specs.Breaches.{RowBreach, TagBreach, TagBreachUntil, RowOrder, TagOrder, First, Legal}
+use Rattle.lft_model.specs.Breaches.{RowBreach, TagBreach, TagBreachUntil, TagOrder, First, Legal}
+use Rattle.lft_coming.specs.AtTag.{AreBefore}
 
 -- no row is before the tag
 abbrev pub AreFrom : List Row → Tag → Type 0
 AreFrom t low = (i : ℕ) (x : Row) → slice_get t i ≡ Some x → UpTo low x.tag
-
--- each row is before the tag
-abbrev pub AreUnder : List Row → Tag → Type 0
-AreUnder t low = (i : ℕ) (x : Row) → slice_get t i ≡ Some x → Before x.tag low
 
 -- the breach is sure once a row at the tag low is there: a row breaks one of the rules 1 to 4, a run before low has no end, or one of the rules 6 to 10 is broken before low
 abbrev pub IsSure : PlanParts → List Row → Tag → Breach → Type 0
@@ -52,12 +49,6 @@ WholeLaw plan = (t : List Row) → IsUnbroken plan t (after (stop plan t) 0) ↔
 abbrev pub SureLaw : PlanParts → Type 0
 SureLaw plan = (d u : List Row) (low high : Tag) (b : Breach) → AreFrom u low → UpTo low high → IsSure plan d low b → IsSure plan (d ++ u) high b
 
--- b is the first breach of what is sure: a row's, or where no row's is sure, a tag's
-abbrev pub IsFirstSure : PlanParts → List Row → Tag → Breach → Type 0
-IsFirstSure plan t low b =
-    RowBreach plan t b × ((b.rule ≤ 4) ⊎ Before b.tag low) × ((c : Breach) → RowBreach plan t c → (c.rule ≤ 4) ⊎ Before c.tag low → RowOrder b c)
-    ⊎ ((c : Breach) → RowBreach plan t c → (c.rule ≤ 4) ⊎ Before c.tag low → ⊥) × IsFirstBefore plan t low b
-
 -- two lists of rows cause the same from low on: the same is scheduled for each tag from there on, the same is written wherever delays lead there
 pub record CauseSame (plan : PlanParts) (d e : List Row) (low : Tag) : Type 0 where
   pub scheduled_same : (g : Tag) (a : ℕ) → UpTo low g → filter_map (scheduled g a (min_delay plan.program a)) d ≡ filter_map (scheduled g a (min_delay plan.program a)) e
@@ -65,7 +56,7 @@ pub record CauseSame (plan : PlanParts) (d e : List Row) (low : Tag) : Type 0 wh
 
 -- with any stop, rows before low may be dropped but for those that cause something from low on: nothing changes of what the rules 6 to 10 ask for from there on
 abbrev pub DroppedLaw : PlanParts → Type 0
-DroppedLaw plan = (last : Tag) (d e u : List Row) (low : Tag) (b : Breach) → AreUnder d low → AreUnder e low → CauseSame plan d e low → UpTo low b.tag → TagBreachUntil last plan (d ++ u) b ↔ TagBreachUntil last plan (e ++ u) b
+DroppedLaw plan = (last : Tag) (d e u : List Row) (low : Tag) (b : Breach) → AreBefore d low → AreBefore e low → CauseSame plan d e low → UpTo low b.tag → TagBreachUntil last plan (d ++ u) b ↔ TagBreachUntil last plan (e ++ u) b
 
 -- the plan with other external inputs
 abbrev pub with_inputs : PlanParts → ExternalInputs → PlanParts

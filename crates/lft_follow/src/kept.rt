@@ -4,14 +4,15 @@ ghost use Rattle.std.specs.Prelude.{◌≡◌, ℕ, List, IfOk, None, false};
 ghost use Rattle.lft_tag.specs.declared.Tag.{Tag as TheTag};
 ghost use Rattle.lft_tag.specs.Tags.{IsRecorded, Before, UpTo, after_all};
 ghost use Rattle.lft_flat.specs.Origins.{Origin};
-ghost use Rattle.lft_trace.specs.Fits.{RowFits, RowsFit};
+ghost use Rattle.lft_steps.specs.Fits.{RowFits, RowsFit};
 ghost use Rattle.lft_model.specs.Presence.{scheduled, written, min_delay};
-ghost use Rattle.lft_follow.specs.Sure.{AreUnder, CauseSame};
+ghost use Rattle.lft_coming.specs.AtTag.{AreBefore};
+ghost use Rattle.lft_follow.specs.Sure.{CauseSame};
 
 use lft_flat::{Name, Program};
 use lft_model::Plan;
+use lft_steps::{Row, Step, row_at};
 use lft_tag::{NoMemory, Tag};
-use lft_trace::{Row, Step, row_at};
 use std::alloc::Global;
 
 /// Whether delays lead from a write of the port at the tag to one from the low tag on.
@@ -53,7 +54,7 @@ fn causes_from(plan: &Plan, row: Row, low: Tag) -> bool
 pub fn keep_rows(alloc: Global, plan: &Plan, rows: &[Row], low: Tag) -> Result<Vec<Row>, NoMemory>
     requires { RowsFit plan.now.program rows.now }
     ensures same { IfOk result (λ kept. CauseSame plan.now rows.now kept.items low) }
-    ensures under { IfOk result (λ kept. AreUnder rows.now low → AreUnder kept.items low) }
+    ensures before { IfOk result (λ kept. AreBefore rows.now low → AreBefore kept.items low) }
 {
     let mut kept = Vec::new(alloc);
     for place in 0..rows.len() {

@@ -2,15 +2,15 @@
 
 ghost use Rattle.std.specs.Prelude.{◌≡◌, ◌<◌, ◌-◌, ℕ, List, ◌++◌, length, Some, IsTrue, slice_get};
 ghost use Rattle.lft_tag.specs.Tags.{UpTo, after};
-ghost use Rattle.lft_trace.specs.declared.row.Row.{Row as TheRow};
-ghost use Rattle.lft_trace.specs.Fits.{RowsFit};
+ghost use Rattle.lft_steps.specs.declared.row.Row.{Row as TheRow};
+ghost use Rattle.lft_steps.specs.Fits.{RowsFit};
 ghost use Rattle.lft_stream.specs.Kept.{IsAcceptorOf, low_of};
 ghost use Rattle.lft_follow.specs.Sure.{IsUnbroken};
 
 use lft_model::Plan;
+use lft_steps::{Row, row_at};
 use lft_stream::Acceptor;
 use lft_tag::Tag;
-use lft_trace::{Row, row_at};
 use std::alloc::Global;
 
 /// Whether nothing is broken so far, of tags before this one. It is false too where that isn't known.

@@ -5,7 +5,7 @@ use Rattle.lft_trace.specs.Faults.{is_told}
 use Rattle.lft_trace.specs.Records.{records_of}
 use Rattle.lft_trace.specs.Traces.{Table, TraceFails}
 use Rattle.lft_trace.specs.declared.fault.TraceFault.{TraceFault}
-use Rattle.lft_trace.specs.declared.row.Row.{Row}
+use Rattle.lft_steps.specs.declared.row.Row.{Row}
 use Rattle.lft_model.specs.Plans.{PlanParts}
 use Rattle.lft_check.specs.declared.verdict.Verdict.{Verdict}
 use Rattle.lft_load.specs.Faults.{table_number}

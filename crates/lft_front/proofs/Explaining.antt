@@ -1,6 +1,6 @@
 -- Faults of explaining, which tell nothing of the texts.
 use Rattle.std.proofs.Common.{◌≡◌, ℕ, IfErr, Result, Ok, Err, List, Option, true}
-use Rattle.lft_trace.specs.declared.row.Row.{Row}
+use Rattle.lft_steps.specs.declared.row.Row.{Row}
 use Rattle.lft_model.specs.Plans.{PlanParts}
 use Rattle.lft_check.specs.declared.verdict.Verdict.{Verdict}
 use Rattle.lft_load.specs.Refusals.{is_of_text}

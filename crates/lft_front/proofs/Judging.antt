@@ -1,7 +1,7 @@
 -- The verdict's reaction, and faults that tell nothing of the texts.
 use Rattle.std.proofs.Common.{◌≡◌, ℕ, ◌<◌, inl, inr, IfErr, Result, Ok, Err, List, length, Option, Some, None, true, sym, subst}
-use Rattle.lft_trace.specs.declared.row.Row.{Row}
-use Rattle.lft_trace.specs.Fits.{RowsFit}
+use Rattle.lft_steps.specs.declared.row.Row.{Row}
+use Rattle.lft_steps.specs.Fits.{RowsFit}
 use Rattle.lft_trace.specs.Records.{records_of}
 use Rattle.lft_trace.specs.Traces.{Table, TraceFails}
 use Rattle.lft_trace.specs.Faults.{is_told}

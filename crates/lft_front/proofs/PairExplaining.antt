@@ -5,7 +5,7 @@ use Rattle.lft_flat.specs.Parts.{Parts}
 use Rattle.lft_contrast.specs.Shown.{ShowsDifference}
 use Rattle.lft_front.specs.Lines.{line_of_pair}
 use Rattle.lft_front.specs.declared.paired.Paired.TheVariants.{Differ}
-use Rattle.lft_trace.specs.declared.row.Row.{Row}
+use Rattle.lft_steps.specs.declared.row.Row.{Row}
 use Rattle.lft_model.specs.Plans.{PlanParts}
 use Rattle.lft_load.specs.Refusals.{is_of_text}
 use Rattle.lft_load.specs.declared.fault.Fault.{Fault}

@@ -1,7 +1,7 @@
 -- What two traces show names a reaction of the program, and faults that tell nothing of the texts.
 use Rattle.std.proofs.Common.{◌≡◌, ℕ, List, Option, true, refl, subst}
-use Rattle.lft_trace.specs.declared.row.Row.{Row}
-use Rattle.lft_trace.specs.Fits.{RowsFit}
+use Rattle.lft_steps.specs.declared.row.Row.{Row}
+use Rattle.lft_steps.specs.Fits.{RowsFit}
 use Rattle.lft_trace.specs.Records.{records_of}
 use Rattle.lft_trace.specs.Traces.{Table}
 use Rattle.lft_model.specs.Plans.{PlanParts}

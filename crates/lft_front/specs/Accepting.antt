@@ -1,12 +1,13 @@
 -- What is answered of a trace table of a plan. The contracts of the crate's own functions alone need this file.
 use Rattle.std.specs.Prelude.{◌≡◌, ℕ, true, List, Option, Result, IfOk, IfErr}
 use Rattle.std.specs.Io.KnownBytes.{Appends}
-use Rattle.lft_trace.specs.declared.row.Row.{Row}
+use Rattle.lft_steps.specs.declared.row.Row.{Row}
 use Rattle.lft_trace.specs.Records.{records_of}
 use Rattle.lft_trace.specs.Traces.{Table}
 use Rattle.lft_model.specs.Plans.{PlanParts}
 use Rattle.lft_check.specs.declared.verdict.Verdict.{Verdict}
-use Rattle.lft_check.specs.Verdicts.{IsAccepted, IsVerdict}
+use Rattle.lft_rows.specs.Accepted.{IsAccepted}
+use Rattle.lft_check.specs.Verdicts.{IsVerdict}
 use Rattle.lft_stream.specs.declared.stream.Counts.{Counts}
 use Rattle.lft_load.specs.Refusals.{is_of_text}
 use Rattle.lft_load.specs.declared.fault.Fault.{Fault}

@@ -1,7 +1,7 @@
 -- A verdict on three texts, and what was written of it.
 use Rattle.std.specs.Prelude.{◌↔◌, ℕ, Bool, IsTrue, List, Option}
 use Rattle.std.specs.Io.KnownBytes.{Appends}
-use Rattle.lft_trace.specs.declared.row.Row.{Row}
+use Rattle.lft_steps.specs.declared.row.Row.{Row}
 use Rattle.lft_model.specs.Plans.{PlanParts}
 use Rattle.lft_model.specs.Runs.{by_ends}
 use Rattle.lft_model.specs.OneWorker.{OneWorker, InOrderOfPrecedence}

@@ -1,6 +1,6 @@
 -- What the texts of a program, its external inputs and a trace mean.
 use Rattle.std.specs.Prelude.{◌≡◌, ℕ, List}
-use Rattle.lft_trace.specs.declared.row.Row.{Row}
+use Rattle.lft_steps.specs.declared.row.Row.{Row}
 use Rattle.lft_trace.specs.Records.{records_of}
 use Rattle.lft_trace.specs.Traces.{Table}
 use Rattle.lft_model.specs.Plans.{PlanParts}

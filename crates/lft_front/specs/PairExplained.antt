@@ -1,7 +1,7 @@
 -- What is said of two traces, from texts, with what explains it, and why texts get none.
 use Rattle.std.specs.Prelude.{◌≡◌, ◌↔◌, ℕ, Bool, IsTrue, List, ◌++◌, Option, codes}
 use Rattle.std.specs.Io.KnownBytes.{Appends}
-use Rattle.lft_trace.specs.declared.row.Row.{Row}
+use Rattle.lft_steps.specs.declared.row.Row.{Row}
 use Rattle.lft_model.specs.Plans.{PlanParts}
 use Rattle.lft_front.specs.Explained.{Tells}
 use Rattle.lft_contrast.specs.Shown.{ShowsDifference}

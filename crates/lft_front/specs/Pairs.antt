@@ -2,14 +2,14 @@
 use Rattle.std.specs.Prelude.{◌↔◌, ℕ, ◌<◌, Bool, IsTrue, List, Option, length}
 use Rattle.std.specs.Io.KnownBytes.{Appends}
 use Rattle.lft_flat.specs.Parts.{Parts}
-use Rattle.lft_trace.specs.declared.row.Row.{Row}
+use Rattle.lft_steps.specs.declared.row.Row.{Row}
 use Rattle.lft_trace.specs.Records.{records_of}
 use Rattle.lft_trace.specs.Traces.{Table}
 use Rattle.lft_model.specs.Plans.{PlanParts}
 use Rattle.lft_model.specs.Runs.{by_ends}
 use Rattle.lft_model.specs.Breaches.{Legal, First}
 use Rattle.lft_model.specs.OneWorker.{OneWorker, InOrderOfPrecedence}
-use Rattle.lft_check.specs.Verdicts.{IsAccepted}
+use Rattle.lft_rows.specs.Accepted.{IsAccepted}
 use Rattle.lft_pair.specs.declared.comparison.Pair.TheVariants as pair
 use Rattle.lft_pair.specs.Pairs.{IsComparison}
 use Rattle.lft_front.specs.declared.paired.Paired.{Paired}

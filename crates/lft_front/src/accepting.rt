@@ -2,7 +2,7 @@
 
 ghost use Rattle.std.specs.Prelude.{◌≢◌, ℕ, List, IfErr, IfSome};
 ghost use Rattle.std.specs.Io.KnownBytes.{Keeps};
-ghost use Rattle.lft_trace.specs.Fits.{RowsFit};
+ghost use Rattle.lft_steps.specs.Fits.{RowsFit};
 ghost use Rattle.lft_model.specs.Workers.{IsWorkers};
 ghost use Rattle.lft_check.specs.Verdicts.{IsVerdict};
 ghost use Rattle.lft_load.specs.declared.fault.Part.TheVariants as part;
@@ -15,8 +15,8 @@ use lft_load::Fault;
 use lft_model::Plan;
 use lft_model::laws::law_one_worker;
 use lft_reading::below_header;
+use lft_steps::Rows;
 use lft_stream::Counts;
-use lft_trace::Rows;
 use std::alloc::Global;
 use std::io::Write;
 

@@ -2,8 +2,8 @@
 
 ghost use Rattle.std.specs.Prelude.{◌≡◌, ◌≢◌, ℕ, true, IfOk, IfErr, List};
 ghost use Rattle.std.specs.Io.KnownBytes.{Appends, Keeps};
-ghost use Rattle.lft_trace.specs.Fits.{RowsFit};
-ghost use Rattle.lft_trace.specs.declared.row.Row.{Row};
+ghost use Rattle.lft_steps.specs.Fits.{RowsFit};
+ghost use Rattle.lft_steps.specs.declared.row.Row.{Row};
 ghost use Rattle.lft_model.specs.Plans.{PlanParts};
 ghost use Rattle.lft_check.specs.Verdicts.{IsVerdict};
 ghost use Rattle.lft_front.specs.Lines.{line_of};
@@ -22,7 +22,8 @@ use lft_check::{NoWatch, Verdict, judge_alone};
 use lft_load::{Fault, Part, load};
 use lft_model::Plan;
 use lft_model::laws::law_one_worker;
-use lft_trace::{Rows, read_trace};
+use lft_steps::Rows;
+use lft_trace::read_trace;
 use std::alloc::Global;
 use std::io::Write;
 

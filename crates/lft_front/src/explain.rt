@@ -2,8 +2,8 @@
 
 ghost use Rattle.std.specs.Prelude.{◌≡◌, ◌≢◌, true, OnOk, IfOk, IfErr, List, string_bytes};
 ghost use Rattle.std.specs.Io.KnownBytes.{Keeps};
-ghost use Rattle.lft_trace.specs.Fits.{RowsFit};
-ghost use Rattle.lft_trace.specs.declared.row.Row.{Row};
+ghost use Rattle.lft_steps.specs.Fits.{RowsFit};
+ghost use Rattle.lft_steps.specs.declared.row.Row.{Row};
 ghost use Rattle.lft_model.specs.Breaches.{First};
 ghost use Rattle.lft_model.specs.Plans.{PlanParts};
 ghost use Rattle.lft_model.specs.Workers.{IsWorkers};
@@ -21,8 +21,8 @@ use lft_explain::explain;
 use lft_hints::{hint_of, tell_hint};
 use lft_load::{Fault, write_text};
 use lft_model::{Breach, Plan};
+use lft_steps::Rows;
 use lft_tag::NoMemory;
-use lft_trace::Rows;
 use std::alloc::Global;
 use std::io::Write;
 use std::thread::Threads;

@@ -2,8 +2,8 @@
 
 ghost use Rattle.std.specs.Prelude.{◌≡◌, ◌≢◌, ◌⊎◌, ℕ, true, OnOk, IfOk, IfErr, IfSome, List};
 ghost use Rattle.std.specs.Io.KnownBytes.{Appends, Keeps};
-ghost use Rattle.lft_trace.specs.Fits.{RowsFit};
-ghost use Rattle.lft_trace.specs.declared.row.Row.{Row};
+ghost use Rattle.lft_steps.specs.Fits.{RowsFit};
+ghost use Rattle.lft_steps.specs.declared.row.Row.{Row};
 ghost use Rattle.lft_model.specs.Plans.{PlanParts};
 ghost use Rattle.lft_model.specs.declared.breach.Breach.{Breach};
 ghost use Rattle.lft_check.specs.declared.verdict.Verdict.TheVariants.{Broken};
@@ -28,8 +28,8 @@ use lft_load::{Fault, Part, load, write_text};
 use lft_model::laws::law_one_worker;
 use lft_model::{Plan, is_workers};
 use lft_reading::read_trace_shared;
+use lft_steps::Rows;
 use lft_stream::Counts;
-use lft_trace::Rows;
 use std::alloc::Global;
 use std::io::Write;
 use std::thread::Threads;

@@ -2,11 +2,11 @@
 
 ghost use Rattle.std.specs.Prelude.{◌≡◌, ◌≢◌, ◌⊎◌, true, OnOk, IfOk, IfErr, List};
 ghost use Rattle.std.specs.Io.KnownBytes.{Appends, Keeps};
-ghost use Rattle.lft_trace.specs.Fits.{RowsFit};
-ghost use Rattle.lft_trace.specs.declared.row.Row.{Row};
+ghost use Rattle.lft_steps.specs.Fits.{RowsFit};
+ghost use Rattle.lft_steps.specs.declared.row.Row.{Row};
 ghost use Rattle.lft_model.specs.Plans.{PlanParts};
 ghost use Rattle.lft_model.specs.Workers.{IsWorkers};
-ghost use Rattle.lft_check.specs.Verdicts.{IsAccepted};
+ghost use Rattle.lft_rows.specs.Accepted.{IsAccepted};
 ghost use Rattle.lft_front.specs.Lines.{line_of_pair};
 ghost use Rattle.lft_front.specs.Pairs.{AreAccepted, AreMeaning, IsExecution, IsPaired, IsPairing, MeanBoth, NamesReaction};
 ghost use Rattle.lft_front.specs.PairRefusals.{PairRefusal, PairingRefusal, TextPairRefusal};
@@ -24,7 +24,7 @@ use lft_load::{Fault, write_text};
 use lft_model::Plan;
 use lft_pair::{Pair, pair as compare_rows};
 use lft_reading::read_trace_shared;
-use lft_trace::Rows;
+use lft_steps::Rows;
 use std::alloc::Global;
 use std::io::Write;
 use std::thread::Threads;

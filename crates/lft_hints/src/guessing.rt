@@ -2,7 +2,7 @@
 
 ghost use Rattle.std.specs.Prelude.{◌≡◌, ◌≢◌, ◌↔◌, ◌<◌, ℕ, length, IsTrue, IfSome, IfNone, IfOk};
 ghost use Rattle.lft_flat.specs.declared.parts.Trigger.TheVariants.{Shutdown};
-ghost use Rattle.lft_trace.specs.Fits.{RowsFit};
+ghost use Rattle.lft_steps.specs.Fits.{RowsFit};
 ghost use Rattle.lft_model.specs.Presence.{stop, Triggered};
 ghost use Rattle.lft_hints.specs.declared.hint.Hint.{Hint as TheHint};
 ghost use Rattle.lft_hints.specs.Actions.{AreActions};
@@ -14,8 +14,8 @@ use lft_flat::{Name, Trigger};
 use lft_lists::item_at;
 use lft_model::{Breach, Plan, trace_stop};
 use lft_presence::presence_of;
+use lft_steps::{Row, Rows, Step, row_at};
 use lft_tag::{MAX_TIME, NoMemory, Tag};
-use lft_trace::{Row, Rows, Step, row_at};
 use std::alloc::Global;
 use std::collections::BTreeMap;
 

@@ -3,8 +3,8 @@
 ghost use Rattle.std.specs.Prelude.{◌↔◌, ◌<◌, length, IsTrue};
 ghost use Rattle.lft_hints.specs.Hints.{AllBefore, IsFirstOfWorker, NoneReads, NoneWrites};
 
+use lft_steps::{Row, Step, row_at};
 use lft_tag::Tag;
-use lft_trace::{Row, Step, row_at};
 
 /// Whether no row before the place is of the worker of the row there.
 pub(crate) fn is_first_of_worker(rows: &[Row], place: usize) -> bool

@@ -3,3 +3,4 @@ pub mod Places
 pub mod Mapped
 pub mod Members
 pub mod Options
+pub mod Zips

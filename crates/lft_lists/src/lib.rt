@@ -1,6 +1,6 @@
 #![tactic(auto)]
 //! Lists: the item at a place, a list of which contracts see the items, and lemmas that several crates
-//! cite.
+//! cite. Its specs name classes of bytes.
 
 ghost use Rattle.std.specs.Prelude.{◌≡◌, ◌<◌, length, slice_get, Some};
 

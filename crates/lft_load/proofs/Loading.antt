@@ -17,7 +17,7 @@ use Rattle.lft_program.proofs.Firsts.{first_holds}
 use Rattle.lft_trace.specs.declared.fault.TraceFault.{TraceFault}
 use Rattle.lft_trace.specs.declared.fault.TraceFault.TheVariants as table
 use Rattle.lft_trace.specs.Faults.{is_told}
-use Rattle.lft_trace.specs.Inputs.{ExternalInputs}
+use Rattle.lft_steps.specs.Inputs.{ExternalInputs}
 use Rattle.lft_trace.specs.Records.{records_of}
 use Rattle.lft_trace.specs.ExternalTables.{ExternalTable}
 use Rattle.lft_model.specs.Plans.{PlanParts}

@@ -18,7 +18,7 @@ use Rattle.lft_trace.specs.declared.fault.TraceFault.{TraceFault}
 use Rattle.lft_trace.specs.Faults.{is_told}
 use Rattle.lft_trace.specs.Records.{records_of}
 use Rattle.lft_trace.specs.ExternalTables.{ExternalTable, ExternalFails}
-use Rattle.lft_trace.specs.Inputs.{ExternalInputs}
+use Rattle.lft_steps.specs.Inputs.{ExternalInputs}
 use Rattle.lft_graph.specs.Loops.{IsLoop}
 use Rattle.lft_graph.specs.declared.fault.GraphFault.{GraphFault}
 use Rattle.lft_graph.specs.declared.fault.GraphFault.TheVariants as graph

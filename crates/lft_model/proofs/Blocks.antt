@@ -10,9 +10,9 @@ use Rattle.lft_flat.specs.declared.parts.Value.{Value}
 use Rattle.lft_flat.specs.declared.parts.Name.{Name}
 use Rattle.lft_flat.specs.Naming.{same_name}
 use Rattle.lft_flat.proofs.Naming.{name_same, name_self}
-use Rattle.lft_trace.specs.declared.row.Row.{Row}
-use Rattle.lft_trace.specs.declared.row.Step.{Step}
-use Rattle.lft_trace.specs.declared.row.Step.TheVariants.{Start, Read, Write, Schedule, Stop, End}
+use Rattle.lft_steps.specs.declared.row.Row.{Row}
+use Rattle.lft_steps.specs.declared.row.Step.{Step}
+use Rattle.lft_steps.specs.declared.row.Step.TheVariants.{Start, Read, Write, Schedule, Stop, End}
 use Rattle.lft_model.specs.Runs.{Run, inputs_of, read_step, value_read, step_of, closing_steps, steps_of_run, rows_of_run, rows_of}
 use Rattle.lft_model.proofs.Steps.{both_true}
 use Rattle.lft_model.proofs.Counted.{NamesApart}

@@ -9,9 +9,9 @@ use Rattle.lft_lists.proofs.Members.{Mem, mem_get, get_mem, mem_from_filter, non
 use Rattle.lft_flat.specs.declared.parts.Value.{Value}
 use Rattle.lft_flat.specs.declared.parts.Name.{Name}
 use Rattle.lft_flat.specs.declared.parts.Name.TheVariants.{Port, Action}
-use Rattle.lft_trace.specs.declared.row.Row.{Row}
-use Rattle.lft_trace.specs.declared.row.Step.{Step}
-use Rattle.lft_trace.specs.declared.row.Step.TheVariants.{Start, Read, Write, Schedule, Stop, End}
+use Rattle.lft_steps.specs.declared.row.Row.{Row}
+use Rattle.lft_steps.specs.declared.row.Step.{Step}
+use Rattle.lft_steps.specs.declared.row.Step.TheVariants.{Start, Read, Write, Schedule, Stop, End}
 use Rattle.lft_model.specs.Plans.{PlanParts}
 use Rattle.lft_model.specs.Presence.{scheduled, value_scheduled}
 use Rattle.lft_model.specs.Runs.{Run, Outcome, inputs_of, effects_of, reads_at, run_at, ended_by, by_ends, rows_of_run, rows_of, read_step, write_step, step_of, steps_of, outcome_of, schedule_steps, closing_steps, request_of}

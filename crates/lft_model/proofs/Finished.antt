@@ -11,9 +11,9 @@ use Rattle.lft_flat.specs.declared.parts.Name.{Name}
 use Rattle.lft_flat.specs.declared.parts.Name.TheVariants.{Port, Action}
 use Rattle.lft_flat.specs.declared.parts.Trigger.{Trigger}
 use Rattle.lft_flat.specs.declared.parts.Trigger.TheVariants.{Startup, Shutdown, Timer, On}
-use Rattle.lft_trace.specs.declared.row.Row.{Row}
-use Rattle.lft_trace.specs.declared.row.Step.{Step}
-use Rattle.lft_trace.specs.declared.row.Step.TheVariants.{Start, Schedule, End}
+use Rattle.lft_steps.specs.declared.row.Row.{Row}
+use Rattle.lft_steps.specs.declared.row.Step.{Step}
+use Rattle.lft_steps.specs.declared.row.Step.TheVariants.{Start, Schedule, End}
 use Rattle.lft_model.specs.Plans.{PlanParts, IsSoundPlan}
 use Rattle.lft_model.specs.Presence.{written, scheduled, value_scheduled, given, min_delay, events_of, Last, IsWrittenFrom, At, Triggered, Occurs, Shows, Inputs, stop, Collision, ClashesAt}
 use Rattle.lft_model.specs.Runs.{Run, Ran, start_row, end_row, steps_of, effects_of, reads_at, run_at, ended_by, by_ends, rows_of_run, rows_of}

@@ -4,9 +4,9 @@ use Rattle.lft_lists.proofs.Members.{Mem, mem_cases, mem_from_map, mem_from_filt
 use Rattle.lft_flat.specs.Parts.{Parts}
 use Rattle.lft_flat.specs.declared.parts.Value.{Value}
 use Rattle.lft_flat.specs.declared.parts.Name.{Name}
-use Rattle.lft_trace.specs.declared.row.Row.{Row}
-use Rattle.lft_trace.specs.declared.row.Step.{Step}
-use Rattle.lft_trace.specs.declared.row.Step.TheVariants.{Start, Read, Write, Schedule, Stop, End}
+use Rattle.lft_steps.specs.declared.row.Row.{Row}
+use Rattle.lft_steps.specs.declared.row.Step.{Step}
+use Rattle.lft_steps.specs.declared.row.Step.TheVariants.{Start, Read, Write, Schedule, Stop, End}
 use Rattle.lft_model.specs.Runs.{Run, Outcome, inputs_of, effects_of, read_step, write_step, write_step_of, schedule_steps, schedule_steps_of, closing_steps, steps_of_run, rows_of_run, rows_of}
 use Rattle.lft_model.specs.Runs.Outcome.{Written, Scheduled}
 

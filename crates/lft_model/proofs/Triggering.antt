@@ -10,7 +10,7 @@ use Rattle.lft_flat.specs.Sound.{IsSound, IsTriggerOf, IsNameOf}
 use Rattle.lft_flat.specs.declared.parts.Reaction.{Reaction}
 use Rattle.lft_flat.specs.declared.parts.Name.{Name}
 use Rattle.lft_flat.specs.declared.parts.Trigger.{Trigger}
-use Rattle.lft_trace.specs.declared.row.Row.{Row}
+use Rattle.lft_steps.specs.declared.row.Row.{Row}
 use Rattle.lft_model.specs.Plans.{PlanParts}
 use Rattle.lft_model.specs.Presence.{stop, OccursUntil, TriggeredUntil, Triggered}
 use Rattle.lft_model.proofs.Places.{slice_get_within}

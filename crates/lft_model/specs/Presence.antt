@@ -13,10 +13,10 @@ use Rattle.lft_flat.specs.declared.parts.Trigger.{Trigger}
 use Rattle.lft_flat.specs.declared.parts.Trigger.TheVariants.{Startup, Shutdown, Timer, On}
 use Rattle.lft_flat.specs.declared.parts.Timer.{Timer as TimerOf}
 use Rattle.lft_flat.specs.declared.parts.Reaction.{Reaction}
-use Rattle.lft_trace.specs.declared.row.Row.{Row}
-use Rattle.lft_trace.specs.declared.externals.Event.{Event}
-use Rattle.lft_trace.specs.declared.row.Step.{Step}
-use Rattle.lft_trace.specs.declared.row.Step.TheVariants.{Start, Read, Write, Schedule, Stop, End}
+use Rattle.lft_steps.specs.declared.row.Row.{Row}
+use Rattle.lft_steps.specs.declared.externals.Event.{Event}
+use Rattle.lft_steps.specs.declared.row.Step.{Step}
+use Rattle.lft_steps.specs.declared.row.Step.TheVariants.{Start, Read, Write, Schedule, Stop, End}
 use Rattle.lft_model.specs.Plans.{PlanParts}
 
 -- the value that a step writes to port p

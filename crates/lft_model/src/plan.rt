@@ -4,8 +4,8 @@ ghost use Rattle.std.specs.Prelude.{◌≡◌, ◌↔◌, ℕ, List, Err, IfOk, 
 
 use lft_flat::Program;
 use lft_graph::{Graph, GraphFault};
+use lft_steps::Externals;
 use lft_tag::NoMemory;
-use lft_trace::Externals;
 use std::alloc::Global;
 use std::marker::Model;
 
@@ -31,7 +31,7 @@ impl Model for Plan {
 }
 
 impl Plan {
-    ghost use Rattle.lft_trace.specs.Fits.{ExternalsFit};
+    ghost use Rattle.lft_steps.specs.Fits.{ExternalsFit};
     ghost use Rattle.lft_graph.specs.Graph.{IsGraphOf};
     ghost use Rattle.lft_graph.specs.Loops.{IsLoop};
     ghost use Rattle.lft_graph.specs.Precedence.{HasNoLoop, IsLevelled};

@@ -3,7 +3,7 @@
 ghost use Rattle.std.specs.Prelude.{◌≡◌, ◌<◌, ◌↔◌, List, Option, length, IsTrue, IfSome, IfNone, IfOk};
 ghost use Rattle.lft_flat.specs.Sound.{IsNameOf, IsTriggerOf};
 ghost use Rattle.lft_flat.specs.declared.parts.Value.{Value as Carried};
-ghost use Rattle.lft_trace.specs.Fits.{RowsFit};
+ghost use Rattle.lft_steps.specs.Fits.{RowsFit};
 ghost use Rattle.lft_model.specs.Fitting.{EachFits};
 ghost use Rattle.lft_model.specs.Presence.{At, IsPresent, OccursUntil, Triggered, Collision, Inputs};
 
@@ -16,8 +16,8 @@ use crate::stop::trace_stop;
 use crate::timers::fires;
 use actions::{action_clashes, action_value};
 use lft_flat::{Name, Trigger, Value};
+use lft_steps::{Row, Rows};
 use lft_tag::{NoMemory, Tag};
-use lft_trace::{Row, Rows};
 use ports::{port_clashes, port_value};
 use std::alloc::Global;
 

@@ -9,8 +9,8 @@ ghost use Rattle.lft_pair.specs.Answering.{SameAnswers, SameWritten, SameSchedul
 use lft_answers::requests_stop;
 use lft_flat::{Name, Value};
 use lft_lists::item_at;
+use lft_steps::Step;
 use lft_tag::NoMemory;
-use lft_trace::Step;
 use std::alloc::Global;
 use std::collections::BTreeMap;
 

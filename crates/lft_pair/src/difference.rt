@@ -4,8 +4,8 @@ ghost use Rattle.std.specs.Prelude.{◌≡◌, ◌↔◌, ◌<◌, ◌⊎◌, le
 ghost use Rattle.std.specs.Bool.{Decides};
 ghost use Rattle.lft_tag.specs.Tags.{Before};
 ghost use Rattle.lft_graph.specs.Graph.{GraphParts, IsGraphOf};
-ghost use Rattle.lft_trace.specs.Fits.{RowsFit};
-ghost use Rattle.lft_trace.specs.declared.row.Step.TheVariants.{Start};
+ghost use Rattle.lft_steps.specs.Fits.{RowsFit};
+ghost use Rattle.lft_steps.specs.declared.row.Step.TheVariants.{Start};
 ghost use Rattle.lft_model.specs.Breaches.{Legal};
 ghost use Rattle.lft_pair.specs.Pairs.{ComesFirst, Agrees, FirstOdd};
 ghost use Rattle.lft_pair.specs.Places.{AreLastStarts, AreUpTo};
@@ -16,8 +16,8 @@ use crate::starts::{LastStarts, no_starts};
 use lft_answers::read_steps;
 use lft_graph::Graph;
 use lft_model::Plan;
+use lft_steps::{Row, Step, is_start, row_at};
 use lft_tag::{NoMemory, Tag};
-use lft_trace::{Row, Step, is_start, row_at};
 use std::alloc::Global;
 
 /// What is kept from run to run: where the runs of the second trace start, and room for the steps of

@@ -2,16 +2,16 @@
 
 ghost use Rattle.std.specs.Prelude.{◌≡◌, ◌↔◌, ◌<◌, length, List, IsTrue, MatchOption, IfOk};
 ghost use Rattle.lft_flat.specs.Parts.{Parts};
-ghost use Rattle.lft_trace.specs.declared.row.Row.{Row as TheRow};
-ghost use Rattle.lft_trace.specs.Fits.{RowsFit};
+ghost use Rattle.lft_steps.specs.declared.row.Row.{Row as TheRow};
+ghost use Rattle.lft_steps.specs.Fits.{RowsFit};
 ghost use Rattle.lft_model.specs.Plans.{PlanParts};
 ghost use Rattle.lft_model.specs.Breaches.{Legal};
 ghost use Rattle.lft_model.specs.Runs.{Ran};
 ghost use Rattle.lft_pair.specs.Places.{StartsAt, AreLastStarts, AreUpTo, AreAfter};
 
 use lft_lists::item_at;
+use lft_steps::{Row, is_start, row_at};
 use lft_tag::{NoMemory, Tag};
-use lft_trace::{Row, is_start, row_at};
 use std::alloc::Global;
 
 /// How many rows of a trace are read, and for each reaction the place of its last start among them,

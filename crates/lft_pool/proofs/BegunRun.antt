@@ -11,10 +11,10 @@ use Rattle.lft_flat.specs.Parts.{inputs}
 use Rattle.lft_flat.specs.declared.parts.Value.{Value}
 use Rattle.lft_flat.specs.declared.parts.Name.{Name}
 use Rattle.lft_flat.specs.declared.parts.Reaction.{Reaction}
-use Rattle.lft_trace.specs.declared.row.Row.{Row}
-use Rattle.lft_trace.specs.declared.row.Step.{Step}
-use Rattle.lft_trace.specs.declared.row.Step.TheVariants.{Start, Read}
-use Rattle.lft_trace.specs.Fits.{RowsFit, RowFits, StepFits}
+use Rattle.lft_steps.specs.declared.row.Row.{Row}
+use Rattle.lft_steps.specs.declared.row.Step.{Step}
+use Rattle.lft_steps.specs.declared.row.Step.TheVariants.{Start, Read}
+use Rattle.lft_steps.specs.Fits.{RowsFit, RowFits, StepFits}
 use Rattle.lft_model.specs.Plans.{PlanParts, IsSoundPlan}
 use Rattle.lft_model.specs.Presence.{stop, Inputs}
 use Rattle.lft_model.specs.Runs.{Run, Ran, end_row, read_step, steps_of, inputs_of, by_ends}

@@ -10,10 +10,10 @@ use Rattle.lft_lists.proofs.Members.{Mem, mem_get, mem_cases, mem_from_map, none
 use Rattle.lft_lists.proofs.Places.{get_append_cases, get_left}
 use Rattle.lft_lists.proofs.Mapped.{mapped_from}
 use Rattle.lft_flat.specs.declared.parts.Value.{Value}
-use Rattle.lft_trace.specs.declared.row.Row.{Row}
-use Rattle.lft_trace.specs.declared.row.Step.{Step}
-use Rattle.lft_trace.specs.declared.row.Step.TheVariants.{Start, Read, Write, Schedule, Stop, End}
-use Rattle.lft_trace.specs.Fits.{RowsFit, RowFits, StepFits}
+use Rattle.lft_steps.specs.declared.row.Row.{Row}
+use Rattle.lft_steps.specs.declared.row.Step.{Step}
+use Rattle.lft_steps.specs.declared.row.Step.TheVariants.{Start, Read, Write, Schedule, Stop, End}
+use Rattle.lft_steps.specs.Fits.{RowsFit, RowFits, StepFits}
 use Rattle.lft_model.specs.Plans.{PlanParts, IsSoundPlan}
 use Rattle.lft_model.specs.Presence.{stop, Collision}
 use Rattle.lft_model.specs.Runs.{Run, start_row, end_row, step_of, steps_of, reads_at, run_at, by_ends}

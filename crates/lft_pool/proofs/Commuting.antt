@@ -3,8 +3,8 @@ use Rattle.std.proofs.Common.{◌≡◌, ℕ, List, [], ◌∷◌, ◌++◌, sym
 use Rattle.lft_tag.specs.declared.Tag.{Tag}
 use Rattle.lft_tag.proofs.Order.{UpTo_antisym}
 use Rattle.lft_lists.proofs.Members.{Mem, get_mem}
-use Rattle.lft_trace.specs.declared.row.Row.{Row}
-use Rattle.lft_trace.specs.declared.row.Step.{Step}
+use Rattle.lft_steps.specs.declared.row.Row.{Row}
+use Rattle.lft_steps.specs.declared.row.Step.{Step}
 use Rattle.lft_model.specs.Plans.{PlanParts, IsSoundPlan}
 use Rattle.lft_model.specs.Presence.{Triggered, Inputs}
 use Rattle.lft_model.specs.Runs.{Run, run_at, start_row, by_ends}

@@ -18,8 +18,8 @@ use crate::words::{is_same, no_words, set_word, word_at};
 use lft_agenda::{Agenda, NextRun};
 use lft_model::Plan;
 use lft_recording::{begun, committed, has_long_delay, may_make_all};
+use lft_steps::Rows;
 use lft_tag::{MAX_ROWS, MAX_RUNS, NoMemory, Tag};
-use lft_trace::Rows;
 use std::alloc::Global;
 use std::marker::Model;
 

@@ -20,11 +20,11 @@ use Rattle.lft_flat.specs.Parts.{Parts}
 use Rattle.lft_flat.specs.Sound.{IsSound}
 use Rattle.lft_flat.specs.declared.parts.Action.{Action as ActionOf}
 use Rattle.lft_flat.specs.declared.parts.Name.TheVariants.{Port, Action}
-use Rattle.lft_trace.specs.declared.row.Row.{Row}
-use Rattle.lft_trace.specs.declared.row.Step.{Step}
-use Rattle.lft_trace.specs.declared.row.Step.TheVariants.{Start, Read, Write, Schedule, Stop, End}
-use Rattle.lft_trace.specs.declared.externals.Event.{Event}
-use Rattle.lft_trace.specs.Fits.{RowsFit, StepFits}
+use Rattle.lft_steps.specs.declared.row.Row.{Row}
+use Rattle.lft_steps.specs.declared.row.Step.{Step}
+use Rattle.lft_steps.specs.declared.row.Step.TheVariants.{Start, Read, Write, Schedule, Stop, End}
+use Rattle.lft_steps.specs.declared.externals.Event.{Event}
+use Rattle.lft_steps.specs.Fits.{RowsFit, StepFits}
 use Rattle.lft_model.specs.Plans.{PlanParts, IsSoundPlan}
 use Rattle.lft_model.specs.Presence.{min_delay}
 use Rattle.lft_model.proofs.Places.{slice_get_within}

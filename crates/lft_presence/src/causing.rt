@@ -3,15 +3,15 @@
 ghost use Rattle.std.specs.Prelude.{◌≡◌, ◌≤◌, IfOk, OnOk};
 ghost use Rattle.lft_tag.specs.Tags.{IsRecorded};
 ghost use Rattle.lft_flat.specs.Sound.{IsNameOf};
-ghost use Rattle.lft_trace.specs.Fits.{RowFits, RowsFit, EventFits};
+ghost use Rattle.lft_steps.specs.Fits.{RowFits, RowsFit, EventFits};
 ghost use Rattle.lft_presence.specs.Causes.{HasJust, IsRowCause, IsCause, AreCauses, write_cause, schedule_cause, step_cause, event_cause};
 
 use crate::causes::Cause;
 use lft_flat::{Name, Program};
 use lft_lists::item_at;
 use lft_model::Plan;
+use lft_steps::{Event, Row, Step, row_at};
 use lft_tag::{NoMemory, Tag};
-use lft_trace::{Event, Row, Step, row_at};
 use std::alloc::Global;
 
 /// The cause that a write of the name at the tag is: of a port alone.

@@ -1,7 +1,7 @@
 //! The first collision.
 
 ghost use Rattle.std.specs.Prelude.{◌≡◌, ◌<◌, length, IfOk};
-ghost use Rattle.lft_trace.specs.Fits.{RowsFit};
+ghost use Rattle.lft_steps.specs.Fits.{RowsFit};
 ghost use Rattle.lft_model.specs.Presence.{stop as the_stop, PortClash};
 ghost use Rattle.lft_presence.specs.Causes.{AreCauses};
 ghost use Rattle.lft_presence.specs.Clashes.{AreDoubles, HasTwo, PortsClash, ActionsClash, IsClash};
@@ -11,8 +11,8 @@ use crate::causes::{Cause, cause_tag, moved};
 use crate::pairs::first_pair;
 use lft_lists::item_at;
 use lft_model::Plan;
+use lft_steps::Row;
 use lft_tag::{NoMemory, Tag};
-use lft_trace::Row;
 use std::alloc::Global;
 
 /// The earlier of two tags, of those that are.

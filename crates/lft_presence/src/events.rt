@@ -1,7 +1,7 @@
 //! What the events of a trace are looked up in.
 
 ghost use Rattle.std.specs.Prelude.{◌≡◌, ◌≤◌, length, IfOk};
-ghost use Rattle.lft_trace.specs.Fits.{RowsFit};
+ghost use Rattle.lft_steps.specs.Fits.{RowsFit};
 ghost use Rattle.lft_model.specs.Presence.{stop as the_stop};
 ghost use Rattle.lft_presence.specs.Causes.{AreCauses};
 ghost use Rattle.lft_presence.specs.Clashes.{IsClash};
@@ -12,8 +12,8 @@ use crate::causing::causes_of;
 use crate::clashes::clash_of;
 use lft_flat::Program;
 use lft_model::Plan;
+use lft_steps::{Event, Row};
 use lft_tag::{NoMemory, Tag};
-use lft_trace::{Event, Row};
 use std::alloc::Global;
 use std::marker::Model;
 

@@ -2,7 +2,7 @@
 //! all ports and that of an action.
 
 ghost use Rattle.std.specs.Prelude.{◌↔◌, List, IsTrue};
-ghost use Rattle.lft_trace.specs.declared.row.Row.{Row as TheRow};
+ghost use Rattle.lft_steps.specs.declared.row.Row.{Row as TheRow};
 ghost use Rattle.lft_model.specs.Plans.{PlanParts};
 ghost use Rattle.lft_presence.specs.Causes.{tag_of, IsNear, AreAscending, AreNear, AreCauses, Leads, IsLastCause};
 ghost use Rattle.lft_presence.specs.Lookups.{IsFirstCause, IsLastBefore, IsFirstAfter};

@@ -9,8 +9,8 @@ use crate::causes::{Cause, leads, position};
 use crate::events::Presence;
 use lft_flat::{Name, Value};
 use lft_lists::item_at;
+use lft_steps::{Step, row_at};
 use lft_tag::{Shift, Tag};
-use lft_trace::{Step, row_at};
 
 /// The value that a step writes or schedules.
 fn value_of(step: &Step) -> Option<Value>

@@ -2,7 +2,7 @@
 use Rattle.std.proofs.Common.{◌≡◌, ℕ, ◌+◌, ◌%◌, ◌<◌, ◌^◌, suc, true, List, [], ◌∷◌, ◌++◌, All, codes, refl, sym, ap, subst, ◌∙◌, true≢false, arith, ◌⊎◌, inl, inr}
 use Rattle.std.specs.Fmt.{decimal}
 use Rattle.std.proofs.lemmas.Fmt.{decimal_by_steps}
-use Rattle.lft_tree.specs.Bytes.{is_letter, is_word}
+use Rattle.lft_lists.specs.Bytes.{is_letter, is_word}
 use Rattle.lft_tree.specs.Identifiers.{IsIdentifier}
 
 -- a dot or `#`

@@ -2,7 +2,7 @@
 use Rattle.std.proofs.Common.{◌≡◌, ℕ, ◌+◌, ◌<◌, zero, suc, true, List, [], ◌∷◌, ◌++◌, map, length, slice_index_or, All, codes, refl, sym, subst, arith}
 use Rattle.std.specs.Fmt.{decimal}
 use Rattle.std.proofs.lemmas.List.Elements.{All-nil, All-cons, All-head, All-tail, All-append, All-push, All-map, All-weaker, All-from_recursion}
-use Rattle.lft_tree.specs.Bytes.{is_word}
+use Rattle.lft_lists.specs.Bytes.{is_word}
 use Rattle.lft_tree.specs.Identifiers.{IsIdentifier}
 use Rattle.lft_program.specs.Extended.{Ending, dotted, hashed, endings, name_after, extended}
 use Rattle.lft_program.specs.FullNames.{members, AreOfProgram, AreFew}

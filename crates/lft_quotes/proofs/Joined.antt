@@ -2,9 +2,9 @@
 use Rattle.std.proofs.Common.{◌≡◌, List, [], ◌∷◌, ◌++◌, ℕ, ap, ◌∙◌, refl, decimal, slice_index_or}
 use Rattle.std.specs.List.{join_with_byte}
 use Rattle.lft_flat.specs.Parts.{Parts}
-use Rattle.lft_trace.specs.declared.row.Row.{Row}
-use Rattle.lft_trace.specs.declared.row.Step.{Step}
-use Rattle.lft_trace.specs.declared.row.Step.TheVariants.{Start, Read, Write, Schedule, Stop, End}
+use Rattle.lft_steps.specs.declared.row.Row.{Row}
+use Rattle.lft_steps.specs.declared.row.Step.{Step}
+use Rattle.lft_steps.specs.declared.row.Step.TheVariants.{Start, Read, Write, Schedule, Stop, End}
 use Rattle.lft_trace.specs.Traces.{word}
 use Rattle.lft_trace.specs.Written.{event_of, step_fields, row_fields}
 use Rattle.lft_words.proofs.Steps.{also}

@@ -2,7 +2,7 @@
 use Rattle.std.proofs.Common.{◌≡◌, ℕ, suc, ◌+◌, ◌≤◌, List, ◌++◌, length, drop, add-one, append-nil, append_assoc, sym, ap, ◌∙◌, Option, Some, slice_get}
 use Rattle.std.proofs.lemmas.List.{drop_all}
 use Rattle.lft_flat.specs.Parts.{Parts}
-use Rattle.lft_trace.specs.declared.row.Row.{Row}
+use Rattle.lft_steps.specs.declared.row.Row.{Row}
 use Rattle.lft_quotes.specs.declared.marks.Quote.{Quote}
 use Rattle.lft_quotes.specs.declared.quoting.Widths.{Widths}
 use Rattle.lft_quotes.specs.Quoted.{quote_words, gap_words, lines}

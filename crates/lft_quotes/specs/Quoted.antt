@@ -2,7 +2,7 @@
 use Rattle.std.specs.Prelude.{ℕ, ◌+◌, max, List, [], ◌∷◌, ◌++◌, Bool, false, length, Option, Some, None, slice_get, option_map, unwrap_or, nat_lt, nat_le, if◌then◌else◌, fold, codes, decimal}
 use Rattle.std.specs.List.{join_with_byte}
 use Rattle.lft_flat.specs.Parts.{Parts}
-use Rattle.lft_trace.specs.declared.row.Row.{Row}
+use Rattle.lft_steps.specs.declared.row.Row.{Row}
 use Rattle.lft_trace.specs.Written.{row_fields}
 use Rattle.lft_facts.specs.declared.facts.Fact.{Fact}
 use Rattle.lft_words.specs.Columns.{blanks, fill, padded}

@@ -1,7 +1,7 @@
 //! The text of quoted rows.
 
 ghost use Rattle.std.specs.Prelude.{◌≡◌, ◌++◌, length, IfOk, OnOk, string_bytes};
-ghost use Rattle.lft_trace.specs.Fits.{RowsFit};
+ghost use Rattle.lft_steps.specs.Fits.{RowsFit};
 ghost use Rattle.lft_quotes.specs.Quoted.{line_number, width_of as the_width_of, widened, widths_of, line_of, quote_words, gap_words, lines, quoted};
 
 use crate::marks::{Quote, RowMark};
@@ -11,7 +11,7 @@ use itoa::Buffer;
 use lft_facts::Fact;
 use lft_flat::Program;
 use lft_lists::item_at;
-use lft_trace::Row;
+use lft_steps::Row;
 use lft_words::{push_blanks, push_fill, push_padded};
 use std::alloc::{AllocError, Global};
 

@@ -3,14 +3,14 @@
 ghost use Rattle.std.specs.Prelude.{◌≡◌, ◌<◌, ◌++◌, ◌∷◌, [], length, slice_index_or, IfOk, OnOk, decimal, string_bytes};
 ghost use Rattle.std.specs.List.{join_with_byte};
 ghost use Rattle.lft_flat.specs.Sound.{IsNameOf};
-ghost use Rattle.lft_trace.specs.Fits.{RowFits, RowsFit, StepFits};
+ghost use Rattle.lft_steps.specs.Fits.{RowFits, RowsFit, StepFits};
 ghost use Rattle.lft_trace.specs.Traces.{word};
 ghost use Rattle.lft_trace.specs.Written.{event_of, name_text, value_text, delay_text, step_fields, row_fields};
 ghost use Rattle.lft_quotes.specs.Quoted.{row_text as the_row_text};
 
 use itoa::Buffer;
 use lft_flat::{Name, Program, Value};
-use lft_trace::{Row, Step, row_at};
+use lft_steps::{Row, Step, row_at};
 use lft_words::push_number;
 use std::alloc::{AllocError, Global};
 

@@ -7,7 +7,7 @@ use Rattle.csv.specs.Reading.{records_from, strip_bom}
 use Rattle.lft_flat.specs.Parts.{Parts}
 use Rattle.lft_trace.specs.Records.{records_of}
 use Rattle.lft_trace.specs.Traces.{IsRow}
-use Rattle.lft_trace.specs.declared.row.Row.{Row}
+use Rattle.lft_steps.specs.declared.row.Row.{Row}
 use Rattle.lft_reading.specs.Parts.{BeginsWith, HoldsRows, IsCut}
 use Rattle.lft_reading.proofs.Cutting.{records_cut}
 use Rattle.lft_reading.proofs.Together.{zipped}

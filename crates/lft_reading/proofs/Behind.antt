@@ -2,7 +2,7 @@
 use Rattle.std.proofs.Common.{◌≡◌, ◌++◌, ℕ, List}
 use Rattle.std.proofs.lemmas.List.{append_assoc}
 use Rattle.lft_flat.specs.Parts.{Parts}
-use Rattle.lft_trace.specs.declared.row.Row.{Row}
+use Rattle.lft_steps.specs.declared.row.Row.{Row}
 use Rattle.lft_reading.specs.Parts.{EndsLine, BeginsPlain, HoldsRows}
 use Rattle.lft_reading.proofs.Together.{holds_both}
 

@@ -6,7 +6,7 @@ use Rattle.lft_flat.specs.Parts.{Parts}
 use Rattle.lft_flat.specs.Sound.{IsSound}
 use Rattle.lft_trace.specs.Records.{records_of}
 use Rattle.lft_trace.specs.Telling.{row_in, rows_in}
-use Rattle.lft_trace.specs.declared.row.Row.{Row}
+use Rattle.lft_steps.specs.declared.row.Row.{Row}
 use Rattle.lft_trace.proofs.Telling.{records_are}
 use Rattle.lft_reading.specs.Parts.{BeginsWith}
 

@@ -8,7 +8,7 @@ use Rattle.csv.specs.Reading.{records_from, strip_bom}
 use Rattle.lft_flat.specs.Parts.{Parts}
 use Rattle.lft_trace.specs.Records.{records_of}
 use Rattle.lft_trace.specs.Traces.{IsRow, header}
-use Rattle.lft_trace.specs.declared.row.Row.{Row}
+use Rattle.lft_steps.specs.declared.row.Row.{Row}
 use Rattle.lft_reading.specs.Parts.{HasNoQuote, EndsLine, BeginsPlain, HoldsRows}
 use Rattle.lft_reading.proofs.Cutting.{records_cut}
 

@@ -5,7 +5,7 @@ use Rattle.std.specs.declared.alloc.Global.{Global}
 use Rattle.lft_flat.specs.Parts.{Parts}
 use Rattle.lft_trace.specs.Records.{records_of}
 use Rattle.lft_trace.specs.Traces.{IsRow}
-use Rattle.lft_trace.specs.declared.row.Row.{Row}
+use Rattle.lft_steps.specs.declared.row.Row.{Row}
 
 -- no byte is a quotation mark
 abbrev pub HasNoQuote : List ℕ → Type 0

@@ -1,14 +1,14 @@
 //! The rows of a text without a header, read a batch at a time.
 
 ghost use Rattle.std.specs.Prelude.{◌<◌, ◌≤◌, length, IfSome, IsTrue};
-ghost use Rattle.lft_trace.specs.Fits.{RowsFit};
+ghost use Rattle.lft_steps.specs.Fits.{RowsFit};
 ghost use Rattle.lft_reading.specs.Parts.{BeginsWith, HoldsRows, IsCut, rows_of};
 
 use crate::lines::cut_behind;
 use crate::workers::{read_parts, read_plain};
 use lft_flat::Program;
+use lft_steps::Row;
 use lft_tag::MAX_ROWS;
-use lft_trace::Row;
 use std::alloc::Global;
 use std::thread::Threads;
 

@@ -7,8 +7,8 @@ ghost use Rattle.lft_reading.specs.Parts.{HoldsRows, rows_of};
 use crate::lines::cut_behind;
 use crate::workers::read_parts;
 use lft_flat::Program;
+use lft_steps::Row;
 use lft_tag::MAX_ROWS;
-use lft_trace::Row;
 use std::alloc::Global;
 use std::thread::{Threads, join};
 

@@ -2,7 +2,7 @@
 
 ghost use Rattle.std.specs.Prelude.{◌≡◌, List, IfSome, IfOk, IfErr, true};
 ghost use Rattle.lft_trace.specs.Faults.{is_told};
-ghost use Rattle.lft_trace.specs.Fits.{RowsFit};
+ghost use Rattle.lft_steps.specs.Fits.{RowsFit};
 ghost use Rattle.lft_trace.specs.Records.{records_of};
 ghost use Rattle.lft_trace.specs.Traces.{Table, TraceFails};
 
@@ -10,7 +10,8 @@ use crate::batches::read_batches;
 use crate::lines::below_header;
 use crate::workers::is_one_part;
 use lft_flat::Program;
-use lft_trace::{Row, Rows, TraceFault, read_trace};
+use lft_steps::{Row, Rows};
+use lft_trace::{TraceFault, read_trace};
 use std::alloc::Global;
 use std::thread::Threads;
 

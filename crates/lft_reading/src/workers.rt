@@ -6,8 +6,9 @@ ghost use Rattle.lft_reading.specs.Parts.{HoldsRows, rows_of};
 
 use crate::lines::cut_behind;
 use lft_flat::Program;
+use lft_steps::Row;
 use lft_tag::MAX_ROWS;
-use lft_trace::{Row, read_part};
+use lft_trace::read_part;
 use memchr::memchr;
 use std::alloc::Global;
 use std::thread::{Threads, join};

@@ -11,7 +11,7 @@ use Rattle.lft_flat.specs.declared.parts.Name.{Name}
 use Rattle.lft_flat.specs.declared.parts.Value.TheVariants.{Int}
 use Rattle.lft_trace.specs.Traces.{IsThing, thing}
 use Rattle.lft_trace.proofs.RowsDiffer.{same_thing}
-use Rattle.lft_trace.proofs.Zips.{same}
+use Rattle.lft_lists.proofs.Zips.{same}
 use Rattle.lft_record.specs.Expressions.{IsExpression, IsInput, IsLiteral, IsTerm}
 use Rattle.lft_record.specs.declared.cards.expression.Term.{Term}
 use Rattle.lft_record.specs.declared.cards.expression.Term.TheVariants as term

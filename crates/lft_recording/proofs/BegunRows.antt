@@ -5,7 +5,7 @@ use Rattle.std.proofs.lemmas.List.Elements.{filter_map-append}
 use Rattle.lft_tag.specs.declared.Tag.{Tag}
 use Rattle.lft_flat.specs.declared.parts.Value.{Value}
 use Rattle.lft_flat.specs.declared.parts.Name.{Name}
-use Rattle.lft_trace.specs.declared.row.Step.TheVariants.{Start}
+use Rattle.lft_steps.specs.declared.row.Step.TheVariants.{Start}
 use Rattle.lft_model.specs.Runs.{read_step}
 use Rattle.lft_model.specs.Recorded.{run_row}
 

@@ -6,8 +6,8 @@ ghost use Rattle.lft_recording.specs.Answering.{MayAll, HasLongDelay, IsLong};
 
 use lft_flat::Name;
 use lft_model::Plan;
+use lft_steps::{Row, Step};
 use lft_tag::{MAX_TIME, NoMemory, Tag};
-use lft_trace::{Row, Step};
 use std::alloc::Global;
 
 // Whether the name is one of the names.

@@ -6,8 +6,8 @@ ghost use Rattle.lft_model.specs.Runs.{inputs_of, read_step};
 
 use lft_flat::{Name, Value};
 use lft_model::{Plan, Reads};
+use lft_steps::{Row, Step};
 use lft_tag::{NoMemory, Tag};
-use lft_trace::{Row, Step};
 use std::alloc::Global;
 
 /// A start row, and a read row for each input that is present.

@@ -1,6 +1,6 @@
 -- Where a byte of a text stands, for people.
 use Rattle.std.specs.Prelude.{◌≡◌, ℕ, ◌+◌, ◌<◌, ◌≤◌, ◌⊎◌, List, length, take, slice_index, slice_range, count_by, Bool, true, not, ◌==◌}
-use Rattle.lft_tree.specs.Bytes.{within, is_in_line}
+use Rattle.lft_lists.specs.Bytes.{within, is_in_line}
 use Rattle.lft_refusals.specs.declared.place.Place.{Place}
 
 -- The byte is a line feed.

@@ -1,7 +1,7 @@
 //! Calls that tell of plans and traces and take no memory, while all memory is refused.
 
 ghost use Rattle.std.specs.Prelude.{◌≡◌};
-ghost use Rattle.lft_trace.specs.Fits.{RowsFit};
+ghost use Rattle.lft_steps.specs.Fits.{RowsFit};
 
 use crate::hoard::{Hoard, is_all_refused};
 use crate::texts::{EXTERNALS, PIPE, TRACE, plan_of};
@@ -9,8 +9,9 @@ use lft_flat::{Found, Name, Program};
 use lft_model::laws::{law_agree, law_no_request, law_one_worker};
 use lft_model::{Plan, clash_slow, present_slow, triggered_slow};
 use lft_slices::{Cut, cut};
+use lft_steps::Rows;
 use lft_tag::{NoMemory, Tag};
-use lft_trace::{Rows, read_trace};
+use lft_trace::read_trace;
 use std::alloc::Global;
 use std::test::Fail;
 

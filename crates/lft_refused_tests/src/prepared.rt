@@ -4,8 +4,8 @@ ghost use Rattle.std.specs.Prelude.{◌≡◌, OnOk, length};
 
 use lft_model::Reads;
 use lft_pool::{AnyAnswer, Bodies, Body, Code, Done, Steps};
+use lft_steps::Step;
 use lft_tag::{NoMemory, Tag};
-use lft_trace::Step;
 use std::alloc::Global;
 
 /// Code that gives its answer whatever it is given.

@@ -7,3 +7,5 @@ pub mod Marked
 pub mod Rereads
 pub mod Together
 pub mod Growing
+pub mod RunReads
+pub mod Counted

@@ -7,8 +7,8 @@ use Rattle.lft_flat.specs.Sound.{IsSound}
 use Rattle.lft_flat.specs.declared.parts.Name.{Name}
 use Rattle.lft_flat.specs.declared.parts.Reaction.{Reaction}
 use Rattle.lft_flat.specs.declared.parts.Value.{Value}
-use Rattle.lft_trace.specs.declared.row.Row.{Row}
-use Rattle.lft_trace.specs.declared.row.Step.TheVariants.{Read}
+use Rattle.lft_steps.specs.declared.row.Row.{Row}
+use Rattle.lft_steps.specs.declared.row.Step.TheVariants.{Read}
 use Rattle.lft_lists.proofs.Places.{at_contains, contains_at, get_there, get_write_cases, get_push, get_last, length_written, same_some, get_push_cases}
 use Rattle.lft_lists.proofs.Members.{mem_get}
 use Rattle.lft_model.proofs.Counted.{NamesApart, names_apart}

@@ -4,7 +4,7 @@ use Rattle.lft_tag.specs.declared.Tag.{Tag}
 use Rattle.lft_tag.specs.Tags.{UpTo}
 use Rattle.lft_flat.specs.Parts.{Parts}
 use Rattle.lft_flat.specs.declared.parts.Name.{Name}
-use Rattle.lft_trace.specs.declared.row.Row.{Row}
+use Rattle.lft_steps.specs.declared.row.Row.{Row}
 use Rattle.lft_model.specs.Plans.{PlanParts}
 use Rattle.lft_model.specs.Runs.{start_row, end_row, inputs_of}
 use Rattle.lft_model.specs.Breaches.{BreaksRowUntil, IsUnended, WasRead}
@@ -105,6 +105,6 @@ HasGoneOn stop plan t pass o = MatchOption o (HasPassed stop plan t (length t) p
 abbrev pub GrownLaw : PlanParts → Type 0
 GrownLaw plan = (stop : Tag) (t u : List Row) (i : ℕ) (pass : Pass) → i ≤ length t → HasPassed stop plan t i pass → HasPassed stop plan (t ++ u) i pass
 
--- and when the stop comes nearer, or is another, where the rows that it has gone over are up to that
+-- what a pass has gone over it has gone over still with another stop, where none of these rows is behind that
 abbrev pub NearerLaw : PlanParts → Type 0
 NearerLaw plan = (stop other : Tag) (t : List Row) (i : ℕ) (pass : Pass) → ((j : ℕ) (x : Row) → j < i → slice_get t j ≡ Some x → UpTo x.tag other) → HasPassed stop plan t i pass → HasPassed other plan t i pass

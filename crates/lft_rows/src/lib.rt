@@ -8,9 +8,12 @@ mod marks;
 mod open;
 mod parts;
 mod pass;
+mod reads;
 mod seats;
+mod slices;
 
 pub use laws::law_pass;
 pub use marks::Marks;
 pub use parts::first_breach_shared;
 pub use pass::{Pass, first_breach};
+pub use slices::Slice;

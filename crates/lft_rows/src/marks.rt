@@ -3,13 +3,13 @@
 ghost use Rattle.std.specs.Prelude.{◌≡◌, ℕ, ◌+◌, ◌<◌, ◌≤◌, length, Some, IfOk, OnOk, MatchOption, slice_get};
 ghost use Rattle.lft_flat.specs.Parts.{Parts, inputs as the_inputs};
 ghost use Rattle.lft_flat.specs.declared.parts.Reaction.{Reaction as TheReaction};
-ghost use Rattle.lft_trace.specs.Fits.{RowsFit};
+ghost use Rattle.lft_steps.specs.Fits.{RowsFit};
 ghost use Rattle.lft_rows.specs.Marks.{width, HasSeat, AreNoneFrom, IsLaid, Mark, IsMarkedBy, AreMarks, AreBefore};
 
 use crate::seats::Inputs;
 use lft_flat::{Name, Names, Program};
+use lft_steps::{Row, Step, row_at};
 use lft_tag::NoMemory;
-use lft_trace::{Row, Step, row_at};
 use std::alloc::Global;
 
 /// For each input of each reaction the place past the row that read it last. Those of a reaction

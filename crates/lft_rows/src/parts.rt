@@ -4,15 +4,15 @@ ghost use Rattle.std.specs.Prelude.{◌≡◌, ℕ, ◌+◌, ◌<◌, ◌++◌, 
 ghost use Rattle.std.specs.Thread.{IsSync};
 ghost use Rattle.lft_tag.specs.Tags.{Before};
 ghost use Rattle.lft_flat.specs.Parts.{Parts};
-ghost use Rattle.lft_trace.specs.declared.row.Row.{Row as TheRow};
-ghost use Rattle.lft_trace.specs.Fits.{RowsFit};
+ghost use Rattle.lft_steps.specs.declared.row.Row.{Row as TheRow};
+ghost use Rattle.lft_steps.specs.Fits.{RowsFit};
 ghost use Rattle.lft_rows.specs.Firsts.{FirstRow};
 ghost use Rattle.lft_rows.specs.Parts.{RisesBetween};
 
 use crate::pass::first_breach;
 use lft_model::{Breach, Plan};
+use lft_steps::{Row, row_at};
 use lft_tag::{NoMemory, Tag};
-use lft_trace::{Row, row_at};
 use std::alloc::Global;
 use std::thread::{Threads, join};
 

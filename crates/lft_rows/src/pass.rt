@@ -3,8 +3,8 @@
 ghost use Rattle.std.specs.Prelude.{◌≡◌, ℕ, List, ◌+◌, ◌<◌, ◌≤◌, length, Some, IsTrue, ◌↔◌, IfOk, OnOk, slice_get};
 ghost use Rattle.lft_tag.specs.declared.Tag.{Tag as TheTag};
 ghost use Rattle.lft_tag.specs.Tags.{UpTo};
-ghost use Rattle.lft_trace.specs.declared.row.Row.{Row as TheRow};
-ghost use Rattle.lft_trace.specs.Fits.{RowsFit};
+ghost use Rattle.lft_steps.specs.declared.row.Row.{Row as TheRow};
+ghost use Rattle.lft_steps.specs.Fits.{RowsFit};
 ghost use Rattle.lft_model.specs.Plans.{PlanParts};
 ghost use Rattle.lft_model.specs.Breaches.{IsOutOfOrder};
 ghost use Rattle.lft_rows.specs.Effects.{AreEffects};
@@ -19,8 +19,8 @@ use crate::marks::Marks;
 use crate::open::{LastStarts, OpenRuns};
 use lft_flat::Program;
 use lft_model::{Breach, Plan};
+use lft_steps::{Row, is_end, is_start, row_at};
 use lft_tag::{NoMemory, Tag};
-use lft_trace::{Row, is_end, is_start, row_at};
 use std::alloc::Global;
 
 /// What a pass over the rows keeps.
@@ -279,9 +279,7 @@ impl Pass {
             },
         }
     }
-}
 
-impl Pass {
     /// Before the first of some rows.
     pub fn begin(&mut self, alloc: Global, plan: &Plan) -> Result<(), NoMemory>
         requires { IsPass plan.now.program self.old }
@@ -315,8 +313,8 @@ impl Pass {
         Ok(None)
     }
 
-    /// The first place before the end whose row starts a run that none of the rows ends, all of which
-    /// were gone over.
+    /// The place of the first row before the end that starts a run without an end row. All rows were
+    /// gone over.
     pub fn first_open(&self, rows: &[Row], end: usize) -> Option<usize>
         requires end { end ≤ length rows.now }
         requires passed { (stop : TheTag) × (plan : PlanParts) × HasPassed stop plan rows.now (length rows.now) self.now }

@@ -1,9 +1,9 @@
 -- The run that a piece tells, by a plan and rows that are those of the cut.
 use Rattle.std.proofs.Common.{◌≡◌, ◌<◌, List, length, Some, slice_get, sym, ap, ◌∙◌, subst}
 use Rattle.lft_tag.specs.declared.Tag.{Tag}
-use Rattle.lft_trace.specs.declared.row.Row.{Row}
-use Rattle.lft_trace.specs.declared.row.Step.TheVariants.{Start}
-use Rattle.lft_trace.specs.Fits.{RowsFit}
+use Rattle.lft_steps.specs.declared.row.Row.{Row}
+use Rattle.lft_steps.specs.declared.row.Step.TheVariants.{Start}
+use Rattle.lft_steps.specs.Fits.{RowsFit}
 use Rattle.lft_model.specs.Plans.{PlanParts}
 use Rattle.lft_model.specs.Runs.{start_row, reads_at, answer_at}
 use Rattle.lft_model.proofs.Places.{slice_get_within}

@@ -1,10 +1,10 @@
 -- The runs of a trace by tag.
 use Rattle.std.specs.Prelude.{◌≡◌, ℕ, ◌+◌, ◌<◌, ◌≤◌, List, length, Some, slice_get}
 use Rattle.lft_tag.specs.declared.Tag.{Tag}
-use Rattle.lft_trace.specs.declared.row.Row.{Row}
+use Rattle.lft_steps.specs.declared.row.Row.{Row}
 use Rattle.lft_model.specs.Runs.{start_row, end_row, Ran}
-use Rattle.lft_by_tag.specs.declared.slices.Slice.{Slice}
-use Rattle.lft_by_tag.specs.Slices.{AreTags}
+use Rattle.lft_rows.specs.declared.slices.Slice.{Slice}
+use Rattle.lft_rows.specs.Slices.{AreTags}
 use Rattle.lft_slices.specs.declared.pieces.Piece.{Piece}
 use Rattle.lft_slices.specs.declared.pieces.Pieces.{Pieces}
 

@@ -9,8 +9,8 @@ use crate::cuts::Cut;
 use crate::pieces::Piece;
 use lft_answers::{Answer, answer_of_run, reads_of_run};
 use lft_model::Reads;
+use lft_steps::row_at;
 use lft_tag::NoMemory;
-use lft_trace::row_at;
 use std::alloc::Global;
 
 impl<'a> Cut<'a> {

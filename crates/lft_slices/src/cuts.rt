@@ -6,7 +6,8 @@ ghost use Rattle.lft_flat.specs.declared.parts.Value.{Value as Carried};
 ghost use Rattle.lft_model.specs.Presence.{Collision, Inputs};
 ghost use Rattle.lft_presence.specs.Clashes.{IsClash};
 ghost use Rattle.lft_presence.specs.Traces.{AreDue};
-ghost use Rattle.lft_by_tag.specs.Slices.{AreTags, IsGap};
+ghost use Rattle.lft_rows.specs.Slices.{AreTags};
+ghost use Rattle.lft_by_tag.specs.Slices.{IsGap};
 ghost use Rattle.lft_slices.specs.Pieces.{IsTagAt, AreRuns};
 
 use crate::pieces::{Piece, Pieces};

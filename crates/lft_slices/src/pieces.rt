@@ -2,13 +2,14 @@
 
 ghost use Rattle.std.specs.Prelude.{◌≡◌, ◌++◌, ◌∷◌, [], ◌+◌, ◌<◌, ◌≤◌, length, Some, slice_get, slice_range, OnOk, IfOk};
 ghost use Rattle.lft_model.specs.Plans.{PlanParts};
-ghost use Rattle.lft_by_tag.specs.Slices.{IsCuttable, IsSlice, AreSlices};
+ghost use Rattle.lft_rows.specs.Slices.{IsSlice};
+ghost use Rattle.lft_by_tag.specs.Slices.{IsCuttable, AreSlices};
 ghost use Rattle.lft_slices.specs.Pieces.{AreRuns, AreEndsTo, AreStartsTo, ArePieces};
 
-use lft_by_tag::Slice;
 use lft_lists::item_at;
+use lft_rows::Slice;
+use lft_steps::{Row, is_end, is_start, row_at};
 use lft_tag::{NoMemory, Tag};
-use lft_trace::{Row, is_end, is_start, row_at};
 use std::alloc::Global;
 
 /// A run: its reaction, and the places of its start row and of its end row among all rows, counted

@@ -13,36 +13,37 @@ use Rattle.lft_flat.specs.declared.parts.Value.{Value}
 use Rattle.lft_flat.specs.declared.parts.Name.{Name}
 use Rattle.lft_flat.specs.declared.parts.Name.TheVariants.{Port, Action}
 use Rattle.lft_flat.specs.declared.parts.Trigger.TheVariants.{On}
-use Rattle.lft_trace.specs.declared.row.Row.{Row}
-use Rattle.lft_trace.specs.declared.row.Step.{Step}
+use Rattle.lft_steps.specs.declared.row.Row.{Row}
+use Rattle.lft_steps.specs.declared.row.Step.{Step}
 use Rattle.lft_model.specs.Plans.{PlanParts}
 use Rattle.lft_model.specs.Presence.{requests, stop, given, Shows, Inputs, Triggered}
 use Rattle.lft_model.specs.Runs.{Ran, inputs_of, read_of, reads_at}
 use Rattle.lft_model.specs.Breaches.{IsTooEarly}
 use Rattle.lft_rows.specs.Firsts.{FirstRow}
-use Rattle.lft_by_tag.specs.declared.slices.Slice.{Slice}
-use Rattle.lft_by_tag.specs.Slices.{IsSlice, runs_in}
-use Rattle.lft_check.specs.Verdicts.{IsAccepted}
+use Rattle.lft_rows.specs.declared.slices.Slice.{Slice}
+use Rattle.lft_rows.specs.Slices.{IsSlice, runs_in}
+use Rattle.lft_rows.specs.Accepted.{IsAccepted}
 use Rattle.lft_stream.specs.declared.stream.Stream.{Stream}
-use Rattle.lft_stream.specs.AtOnce.{is_undelayed, origin_of, HasEvents, AreHeard}
-use Rattle.lft_stream.specs.Channels.{AreChannels, caused_by}
-use Rattle.lft_stream.specs.Listeners.{list_of, AreListeners, AreStarted, IsUnheard}
-use Rattle.lft_stream.specs.Settled.{AreBefore, AreAt, IsRightBehind}
+use Rattle.lft_coming.specs.AtOnce.{is_undelayed, origin_of, HasEvents, AreHeard}
+use Rattle.lft_coming.specs.Channels.{AreChannels, caused_by}
+use Rattle.lft_coming.specs.Listeners.{list_of, AreListeners, AreStarted, IsUnheard}
+use Rattle.lft_coming.specs.AtTag.{AreBefore, AreAt}
+use Rattle.lft_stream.specs.Settled.{IsRightBehind}
 use Rattle.lft_stream.specs.StartTags.{AreStartTags}
-use Rattle.lft_stream.specs.Owed.{Listens}
+use Rattle.lft_coming.specs.Listens.{Listens}
 use Rattle.lft_stream.specs.Dues.{AreDues, NoneOwed}
 use Rattle.lft_stream.specs.Kept.{KeepRules, IsLater, AreUpTo, low_of, state_of, IsStreamOf, IsAtHand, IsJudged}
-use Rattle.lft_stream.specs.Lanes.{held, first_events, IsMetAt, LaneGoesOn}
-use Rattle.lft_stream.specs.Coming.{to_come, IsReached, AreOver, AreComing}
-use Rattle.lft_stream.specs.Shown.{IsInLane, last_write}
-use Rattle.lft_stream.specs.declared.coming.Coming.{Coming}
-use Rattle.lft_stream.specs.declared.listeners.Listeners.{Listeners}
+use Rattle.lft_coming.specs.Lanes.{held, first_events, IsMetAt, LaneGoesOn}
+use Rattle.lft_coming.specs.Coming.{to_come, IsReached, AreOver, AreComing}
+use Rattle.lft_coming.specs.Shown.{IsInLane, last_write}
+use Rattle.lft_coming.specs.declared.coming.Coming.{Coming}
+use Rattle.lft_coming.specs.declared.listeners.Listeners.{Listeners}
 use Rattle.lft_queue.specs.Pending.{value_of}
 use Rattle.lft_stream.specs.Streams.{IsStream, IsGrown}
-use Rattle.lft_stream.specs.Writes.{AreEarlier}
-use Rattle.lft_stream.proofs.AtOnce.{undelayed_way, delayed_way, origin_is, heard_there}
-use Rattle.lft_stream.proofs.Carrying.{carried_is, one_held, held_one, none_after, none_now, at_once_held}
-use Rattle.lft_stream.proofs.Writing.{earlier_on}
+use Rattle.lft_coming.specs.Writes.{AreEarlier}
+use Rattle.lft_coming.proofs.AtOnce.{undelayed_way, delayed_way, origin_is, heard_there}
+use Rattle.lft_coming.proofs.Carrying.{carried_is, one_held, held_one, none_after, none_now, at_once_held}
+use Rattle.lft_coming.proofs.Writing.{earlier_on}
 use Rattle.lft_stream.proofs.Before.{ran_whole}
 use Rattle.lft_stream.proofs.Lanes.{held_append, held_first}
 use Rattle.lft_stream.proofs.Owing.{due_law, ran_grows}
@@ -51,8 +52,8 @@ use Rattle.lft_model.proofs.Stops.{stop_append}
 use Rattle.lft_stream.proofs.Stopping.{stop_law}
 use Rattle.lft_stream.proofs.Ruling.{rows_law}
 use Rattle.lft_stream.proofs.Streaming.{stream_law, move_law}
-use Rattle.lft_stream.proofs.Scheduled.{none_at}
-use Rattle.lft_stream.proofs.ToCome.{only_queue, item_of, few_of}
+use Rattle.lft_coming.proofs.Scheduled.{none_at}
+use Rattle.lft_coming.proofs.ToCome.{only_queue, item_of, few_of}
 use Rattle.lft_stream.proofs.Showing.{shows_law}
 
 -- a port without a delay that triggers something is reached from its origin

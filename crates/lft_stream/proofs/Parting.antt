@@ -8,10 +8,10 @@ use Rattle.lft_tag.specs.Tags.{Before, UpTo}
 use Rattle.lft_tag.proofs.Order.{order_cases}
 use Rattle.lft_flat.specs.Parts.{Parts}
 use Rattle.lft_flat.proofs.Ranges.{length-range, range-get, range-within, slice_get-drop}
-use Rattle.lft_trace.specs.declared.row.Row.{Row}
-use Rattle.lft_trace.specs.declared.row.Step.{Step}
-use Rattle.lft_trace.specs.declared.row.Step.TheVariants.{Start, Read, Write, Schedule, Stop, End}
-use Rattle.lft_trace.specs.Fits.{RowsFit}
+use Rattle.lft_steps.specs.declared.row.Row.{Row}
+use Rattle.lft_steps.specs.declared.row.Step.{Step}
+use Rattle.lft_steps.specs.declared.row.Step.TheVariants.{Start, Read, Write, Schedule, Stop, End}
+use Rattle.lft_steps.specs.Fits.{RowsFit}
 use Rattle.lft_model.specs.Plans.{PlanParts}
 use Rattle.lft_model.specs.Runs.{start_row, end_row, step_of, steps_of, Ran}
 use Rattle.lft_model.proofs.Places.{slice_get_take}
@@ -19,9 +19,9 @@ use Rattle.lft_model.proofs.Steps.{step_row}
 use Rattle.lft_lists.proofs.Members.{none_nil}
 use Rattle.lft_model.specs.Breaches.{IsOpen, IsOutOfOrder, IsUndeclared, BreaksRowUntil}
 use Rattle.lft_rows.specs.Firsts.{FirstRow}
-use Rattle.lft_by_tag.specs.declared.slices.Slice.{Slice}
-use Rattle.lft_by_tag.specs.Slices.{IsSlice, Rises}
-use Rattle.lft_stream.specs.Settled.{AreAt}
+use Rattle.lft_rows.specs.declared.slices.Slice.{Slice}
+use Rattle.lft_rows.specs.Slices.{IsSlice, Rises}
+use Rattle.lft_coming.specs.AtTag.{AreAt}
 
 -- tags don't fall where no row breaks a rule
 pub rises_from : (last : Tag) (plan : PlanParts) (t : List Row) → FirstRow last plan t None → Rises t

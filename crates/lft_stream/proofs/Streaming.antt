@@ -8,18 +8,18 @@ use Rattle.lft_flat.specs.declared.parts.Name.{Name}
 use Rattle.lft_flat.specs.declared.parts.Name.TheVariants.{Port, Action}
 use Rattle.lft_flat.specs.declared.parts.Trigger.{Trigger}
 use Rattle.lft_flat.specs.declared.parts.Trigger.TheVariants.{Startup, Shutdown, Timer, On}
-use Rattle.lft_trace.specs.declared.row.Row.{Row}
+use Rattle.lft_steps.specs.declared.row.Row.{Row}
 use Rattle.lft_model.specs.Plans.{PlanParts}
 use Rattle.lft_model.specs.Runs.{start_row, Ran}
 use Rattle.lft_model.proofs.Places.{slice_get_within}
-use Rattle.lft_check.specs.Verdicts.{IsAccepted}
-use Rattle.lft_by_tag.specs.Slices.{runs_in}
+use Rattle.lft_rows.specs.Accepted.{IsAccepted}
+use Rattle.lft_rows.specs.Slices.{runs_in}
 use Rattle.lft_stream.specs.Settled.{IsRightBehind}
 use Rattle.lft_stream.specs.Counted.{IsCounted}
 use Rattle.lft_stream.specs.declared.due.Due.{Due}
 use Rattle.lft_stream.specs.Owed.{IsMet, IsApart}
 use Rattle.lft_stream.specs.Dues.{AreDues, IsTimed}
-use Rattle.lft_stream.specs.Lanes.{made, carried, IsLane, LaneGoesOn}
+use Rattle.lft_coming.specs.Lanes.{made, carried, IsLane, LaneGoesOn}
 use Rattle.lft_stream.specs.Streams.{State, first_state, IsStream, IsEnded, IsGrown}
 use Rattle.lft_stream.proofs.Settling.{step_law, legal_of}
 use Rattle.lft_stream.proofs.Counting.{count_law}

@@ -1,8 +1,8 @@
 -- The numbers that an acceptance tells.
 use Rattle.std.specs.Prelude.{◌≡◌, ℕ, List, length}
 use Rattle.lft_tag.specs.declared.Tag.{Tag}
-use Rattle.lft_trace.specs.declared.row.Row.{Row}
-use Rattle.lft_by_tag.specs.Slices.{runs_in, AreTags}
+use Rattle.lft_steps.specs.declared.row.Row.{Row}
+use Rattle.lft_rows.specs.Slices.{runs_in, AreTags}
 
 -- how many runs the rows have, and how many different tags with a run
 pub record IsCounted (t : List Row) (runs tags : ℕ) : Type 0 where

@@ -5,7 +5,7 @@ use Rattle.lft_tag.specs.Tags.{Before, UpTo, after}
 use Rattle.lft_flat.specs.declared.parts.Value.{Value}
 use Rattle.lft_flat.specs.declared.parts.Name.{Name}
 use Rattle.lft_flat.specs.declared.parts.Name.TheVariants.{Port}
-use Rattle.lft_trace.specs.declared.row.Row.{Row}
+use Rattle.lft_steps.specs.declared.row.Row.{Row}
 use Rattle.lft_model.specs.Plans.{PlanParts}
 use Rattle.lft_model.specs.Presence.{stop, Triggered, Inputs, Shows}
 use Rattle.lft_model.specs.Runs.{Ran, reads_at}
@@ -13,20 +13,20 @@ use Rattle.lft_graph.specs.Sets.{AreAncestors}
 use Rattle.lft_rows.specs.Firsts.{FirstRow}
 use Rattle.lft_rows.specs.Marks.{IsLaid}
 use Rattle.lft_rows.specs.Passes.{IsPass}
-use Rattle.lft_by_tag.specs.declared.slices.Slice.{Slice}
+use Rattle.lft_rows.specs.declared.slices.Slice.{Slice}
 use Rattle.lft_stream.specs.declared.acceptor.Acceptor.{Acceptor}
 use Rattle.lft_stream.specs.declared.stream.Stream.{Stream}
-use Rattle.lft_stream.specs.AtOnce.{is_undelayed, HasEvents, AreHeard}
-use Rattle.lft_stream.specs.Channels.{AreChannels}
-use Rattle.lft_stream.specs.Lanes.{held}
-use Rattle.lft_stream.specs.Listeners.{AreListeners, AreStarted}
-use Rattle.lft_stream.specs.Coming.{AreComing}
+use Rattle.lft_coming.specs.AtOnce.{is_undelayed, HasEvents, AreHeard}
+use Rattle.lft_coming.specs.Channels.{AreChannels}
+use Rattle.lft_coming.specs.Lanes.{held}
+use Rattle.lft_coming.specs.Listeners.{AreListeners, AreStarted}
+use Rattle.lft_coming.specs.Coming.{AreComing}
 use Rattle.lft_queue.specs.Pending.{value_of}
 use Rattle.lft_stream.specs.Dues.{AreDues}
-use Rattle.lft_stream.specs.Settled.{AreBefore}
+use Rattle.lft_coming.specs.AtTag.{AreBefore}
 use Rattle.lft_stream.specs.StartTags.{AreStartTags}
 use Rattle.lft_stream.specs.Streams.{State, IsStream}
-use Rattle.lft_stream.specs.Writes.{AreWrites, AreEarlier}
+use Rattle.lft_coming.specs.Writes.{AreWrites, AreEarlier}
 
 -- no row breaks one of the rules 1 to 5, with some stop
 abbrev pub KeepRules : PlanParts → List Row → Type 0

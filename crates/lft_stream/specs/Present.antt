@@ -2,14 +2,14 @@
 use Rattle.std.specs.Prelude.{List, ◌++◌, Option}
 use Rattle.lft_tag.specs.declared.Tag.{Tag}
 use Rattle.lft_flat.specs.declared.parts.Name.{Name}
-use Rattle.lft_trace.specs.declared.row.Row.{Row}
+use Rattle.lft_steps.specs.declared.row.Row.{Row}
 use Rattle.lft_model.specs.Plans.{PlanParts}
 use Rattle.lft_model.specs.Presence.{Shows}
 use Rattle.lft_queue.specs.Pending.{Pending, value_of}
-use Rattle.lft_stream.specs.declared.writes.Written.{Written}
-use Rattle.lft_stream.specs.AtOnce.{HasEvents}
-use Rattle.lft_stream.specs.Settled.{AreBefore, AreAt}
-use Rattle.lft_stream.specs.Writes.{AreWrites}
+use Rattle.lft_coming.specs.declared.writes.Written.{Written}
+use Rattle.lft_coming.specs.AtOnce.{HasEvents}
+use Rattle.lft_coming.specs.AtTag.{AreBefore, AreAt}
+use Rattle.lft_coming.specs.Writes.{AreWrites}
 
 -- of the rows u at g behind rows d, the last writes are kept, and the queue has what each name with events shows at g
 pub record AreShown (plan : PlanParts) (d u : List Row) (g : Tag) (writes : List (Option Written)) (queue : List Pending) : Type 0 where

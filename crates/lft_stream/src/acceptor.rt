@@ -1,9 +1,9 @@
 //! Rows that are gone over part by part.
 
 ghost use Rattle.std.specs.Prelude.{List, [], ◌++◌, IsTrue, IfOk, IfSome};
-ghost use Rattle.lft_trace.specs.declared.row.Row.{Row as TheRow};
-ghost use Rattle.lft_trace.specs.Fits.{RowsFit};
-ghost use Rattle.lft_check.specs.Verdicts.{IsAccepted};
+ghost use Rattle.lft_steps.specs.declared.row.Row.{Row as TheRow};
+ghost use Rattle.lft_steps.specs.Fits.{RowsFit};
+ghost use Rattle.lft_rows.specs.Accepted.{IsAccepted};
 ghost use Rattle.lft_stream.specs.Dues.{NoneDueBefore};
 ghost use Rattle.lft_stream.specs.Kept.{IsAcceptorOf};
 
@@ -11,8 +11,8 @@ use crate::order::Order;
 use crate::stream::{Counts, Stream};
 use lft_model::Plan;
 use lft_rows::{Marks, Pass};
+use lft_steps::Row;
 use lft_tag::{NoMemory, Tag};
-use lft_trace::Row;
 use std::alloc::Global;
 
 /// What is kept of rows at finished tags, and what they are looked up in.

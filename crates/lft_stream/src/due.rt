@@ -3,7 +3,7 @@
 ghost use Rattle.std.specs.Prelude.{◌≡◌, ◌↔◌, ℕ, List, [], ◌<◌, Some, IfSome, IsTrue};
 ghost use Rattle.lft_tag.specs.declared.Tag.{Tag as TheTag};
 ghost use Rattle.lft_flat.specs.Sound.{IsTriggerOf};
-ghost use Rattle.lft_trace.specs.declared.row.Row.{Row as TheRow};
+ghost use Rattle.lft_steps.specs.declared.row.Row.{Row as TheRow};
 ghost use Rattle.lft_model.specs.Presence.{stop};
 ghost use Rattle.lft_model.specs.Runs.{Ran};
 ghost use Rattle.lft_stream.specs.Dues.{IsDue, IsDueAt, IsOwed, IsDueBefore};

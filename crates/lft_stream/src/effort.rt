@@ -1,13 +1,11 @@
 //! How much is looked at before rows are given up.
 
 ghost use Rattle.std.specs.Prelude.{◌≡◌, ◌≤◌, ◌↔◌, length, IsTrue};
-ghost use Rattle.lft_trace.specs.Fits.{RowFits, RowsFit};
+ghost use Rattle.lft_steps.specs.Fits.{RowFits, RowsFit};
 
-use crate::listeners::Listeners;
-use crate::number_lists::NumberLists;
-use crate::writes::written_port;
+use lft_coming::{Listeners, NumberLists, written_port};
 use lft_flat::Program;
-use lft_trace::{Row, is_start, row_at};
+use lft_steps::{Row, is_start, row_at};
 
 /// So many triggers, uses, listeners and ports behind delays may be looked at for each row. Most programs
 /// need a few. One whose runs have hundreds of inputs is judged sooner with an index of what the rows cause.

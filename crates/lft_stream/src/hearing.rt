@@ -1,24 +1,22 @@
 //! Whether each reaction that a written port triggers has a run.
 
 ghost use Rattle.std.specs.Prelude.{◌≡◌, ℕ, List, IsSome, IsTrue, Contains};
-ghost use Rattle.lft_trace.specs.declared.row.Row.{Row as TheRow};
-ghost use Rattle.lft_trace.specs.Fits.{RowsFit};
+ghost use Rattle.lft_steps.specs.declared.row.Row.{Row as TheRow};
+ghost use Rattle.lft_steps.specs.Fits.{RowsFit};
 ghost use Rattle.lft_model.specs.Runs.{Ran};
-ghost use Rattle.lft_stream.specs.AtOnce.{AreHeard};
-ghost use Rattle.lft_stream.specs.Listeners.{AreListeners, AreStarted};
+ghost use Rattle.lft_coming.specs.AtOnce.{AreHeard};
+ghost use Rattle.lft_coming.specs.Listeners.{AreListeners, AreStarted};
 ghost use Rattle.lft_queue.specs.Pending.{value_of};
 ghost use Rattle.lft_flat.specs.declared.parts.Name.{Name as TheName};
 ghost use Rattle.lft_stream.specs.StartTags.{AreStartTags};
 
-use crate::coming::Coming;
-use crate::listeners::Listeners;
 use crate::start_tags::StartTags;
-use crate::writes::written_port;
+use lft_coming::{Coming, Listeners, written_port};
 use lft_flat::Program;
 use lft_lists::item_at;
 use lft_model::Plan;
+use lft_steps::{Row, row_at};
 use lft_tag::Tag;
-use lft_trace::{Row, row_at};
 
 /// Whether each of the reactions started last at the tag.
 fn have_started(program: &Program, starts: &StartTags, reactions: &[u32], tag: Tag) -> bool

@@ -1,28 +1,22 @@
 //! What the runs at the tag at hand may read, and what they read.
 
-ghost use Rattle.std.specs.Prelude.{◌≡◌, ℕ, ◌<◌, ◌++◌, List, length, Some, IsTrue, slice_get};
-ghost use Rattle.lft_flat.specs.declared.parts.Name.{Name as TheName};
-ghost use Rattle.lft_flat.specs.declared.parts.Reaction.{Reaction as TheReaction};
-ghost use Rattle.lft_trace.specs.declared.row.Row.{Row as TheRow};
-ghost use Rattle.lft_trace.specs.Fits.{RowsFit};
+ghost use Rattle.std.specs.Prelude.{◌≡◌, ℕ, ◌<◌, ◌++◌, List, length, IsTrue};
+ghost use Rattle.lft_steps.specs.declared.row.Row.{Row as TheRow};
+ghost use Rattle.lft_steps.specs.Fits.{RowsFit};
 ghost use Rattle.lft_model.specs.Presence.{Shows, Inputs, Triggered};
-ghost use Rattle.lft_model.specs.Runs.{Ran, read_of, reads_at, steps_of};
-ghost use Rattle.lft_rows.specs.Marks.{AreMarks, HasSeat, width};
-ghost use Rattle.lft_by_tag.specs.Reads.{value_read as the_value_read};
-ghost use Rattle.lft_by_tag.specs.Slices.{IsSlice};
+ghost use Rattle.lft_model.specs.Runs.{Ran, reads_at};
+ghost use Rattle.lft_rows.specs.Marks.{AreMarks};
+ghost use Rattle.lft_rows.specs.Slices.{IsSlice};
 ghost use Rattle.lft_flat.specs.Sound.{IsNameOf};
 ghost use Rattle.lft_stream.specs.Present.{AreShown};
 
-use crate::at_once::is_undelayed;
-use crate::coming::Coming;
-use crate::writes::Writes;
-use lft_by_tag::Slice;
-use lft_flat::{Name, Program, Value};
+use lft_coming::{Coming, Writes, is_undelayed};
+use lft_flat::{Name, Value};
 use lft_lists::item_at;
 use lft_model::Plan;
-use lft_rows::Marks;
+use lft_rows::{Marks, Slice};
+use lft_steps::{Row, is_start, row_at};
 use lft_tag::Tag;
-use lft_trace::{Row, Step, is_start, row_at};
 
 /// What may be read of the name at the tag, of rows that are at the tag behind rows that are at
 /// earlier ones: its value, or that it is absent.
@@ -67,44 +61,6 @@ pub(crate) fn is_woken(
     false
 }
 
-/// The value that a step reads, if it reads one.
-fn value_read(step: &Step) -> Option<Value>
-    ensures { result ≡ the_value_read step.now }
-{
-    match step {
-        Step::Read(_, value) => Some(*value),
-        Step::Start => None,
-        Step::Write(_, _) => None,
-        Step::Schedule(_, _, _) => None,
-        Step::Stop => None,
-        Step::End => None,
-    }
-}
-
-/// What the run of the reaction at the tag of the slice read of the input at the seat, if it did.
-fn read_at(
-    program: &Program,
-    marks: &Marks,
-    rows: &[Row],
-    slice: Slice,
-    reaction: u32,
-    seat: usize,
-) -> Option<Value>
-    requires fit { RowsFit program.now rows.now }
-    requires slice { IsSlice rows.now slice }
-    requires marks { AreMarks program.now rows.now slice.first slice.end marks.now }
-    requires seat { (x : TheReaction) × (slice_get program.now.reactions reaction ≡ Some x) × (seat < width x) }
-    ensures { (x : TheReaction) (n : TheName) → slice_get program.now.reactions reaction ≡ Some x → HasSeat x n seat → result ≡ read_of (steps_of rows.now slice.tag reaction) n }
-{
-    let mark = marks.of(program, reaction, seat) as usize;
-    if mark > slice.first {
-        let row = row_at(rows, mark - 1);
-        value_read(&row.step)
-    } else {
-        None
-    }
-}
-
 /// Whether the two are one value, or both none.
 fn are_same(one: Option<Value>, other: Option<Value>) -> bool
     ensures { IsTrue result → one ≡ other }
@@ -133,7 +89,7 @@ fn has_read(
     let program = plan.program();
     let names = marks.inputs(program, reaction);
     for seat in 0..names.len() {
-        let read = read_at(program, marks, rows, slice, reaction, seat);
+        let read = marks.read_at(program, rows, slice, reaction, seat);
         let present = shown(writes, coming, plan, slice.tag, item_at(names, seat));
         if !are_same(read, present) {
             return false;

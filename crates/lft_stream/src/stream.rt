@@ -1,37 +1,31 @@
 //! What is kept of the rows so far.
 
 ghost use Rattle.std.specs.Prelude.{◌≡◌, ℕ, List, [], ◌++◌, ◌+◌, ◌<◌, take, length, Some, None, IsTrue, IfOk, IfSome};
-ghost use Rattle.lft_trace.specs.declared.row.Row.{Row as TheRow};
-ghost use Rattle.lft_trace.specs.Fits.{RowsFit};
+ghost use Rattle.lft_steps.specs.declared.row.Row.{Row as TheRow};
+ghost use Rattle.lft_steps.specs.Fits.{RowsFit};
 ghost use Rattle.lft_graph.specs.Sets.{AreAncestors};
 ghost use Rattle.lft_tag.specs.Tags.{UpTo, earliest};
 ghost use Rattle.lft_model.specs.Presence.{stop, requests, Triggered};
 ghost use Rattle.lft_model.specs.Runs.{Ran};
 ghost use Rattle.lft_rows.specs.Marks.{AreMarks, AreBefore as HaveMarksTo, IsLaid};
-ghost use Rattle.lft_by_tag.specs.Slices.{IsSlice, Rises, runs_in};
-ghost use Rattle.lft_check.specs.Verdicts.{IsAccepted};
+ghost use Rattle.lft_rows.specs.Slices.{IsSlice, Rises, runs_in};
+ghost use Rattle.lft_rows.specs.Accepted.{IsAccepted};
 ghost use Rattle.lft_stream.specs.Dues.{AreDues, NoneDueBefore};
 ghost use Rattle.lft_stream.specs.Kept.{KeepRules, IsLater, IsStreamOf, RisesAt, IsAtHand, IsJudged};
 ghost use Rattle.lft_stream.specs.Present.{AreShown};
 
-use crate::channels::channels_of;
-use crate::coming::Coming;
 use crate::dues::Dues;
 use crate::effort::Effort;
 use crate::hearing::is_all_heard;
-use crate::listeners::Listeners;
-use crate::number_lists::NumberLists;
 use crate::order::Order;
 use crate::reads::{have_read, is_woken};
-use crate::scheduling::pass_on;
 use crate::start_tags::StartTags;
-use crate::writes::Writes;
-use lft_by_tag::Slice;
+use lft_coming::{Coming, Listeners, NumberLists, Writes, channels_of, pass_on};
 use lft_flat::Program;
 use lft_model::Plan;
-use lft_rows::Marks;
+use lft_rows::{Marks, Slice};
+use lft_steps::{Row, is_start, is_stop, row_at};
 use lft_tag::{NoMemory, Tag};
-use lft_trace::{Row, is_start, is_stop, row_at};
 use std::alloc::Global;
 
 /// How many runs legal rows have, and at how many different tags.

@@ -7,7 +7,7 @@ use Rattle.std.proofs.lemmas.List.Elements.{All-from_get_or, All-map, All-weaker
 use Rattle.lft_syntax.specs.declared.token.Token.{Token}
 use Rattle.lft_syntax.specs.declared.token.TokenKind.{TokenKind}
 use Rattle.lft_syntax.specs.declared.token.TokenKind.TheVariants as kinds
-use Rattle.lft_tree.specs.Bytes.{is_letter, is_word}
+use Rattle.lft_lists.specs.Bytes.{is_letter, is_word}
 use Rattle.lft_tree.specs.Identifiers.{IsIdentifier}
 use Rattle.lft_syntax.specs.Lexeme.{Lexeme, Letters}
 use Rattle.lft_syntax.specs.Lexes.{Lexes}

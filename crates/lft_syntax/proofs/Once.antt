@@ -11,7 +11,7 @@ use Rattle.lft_syntax.specs.declared.form.Form.{Form}
 use Rattle.lft_syntax.specs.declared.form.Form.TheVariants.{Space, LineComment, StarComment, Code, Text, Name, Digits, Arrow, Symbol, Unknown}
 use Rattle.lft_syntax.specs.declared.fault.LexFault.{LexFault}
 use Rattle.lft_syntax.specs.declared.fault.LexFault.TheVariants as faults
-use Rattle.lft_tree.specs.Bytes.{is_in_line, is_word, is_digit, is_byte}
+use Rattle.lft_lists.specs.Bytes.{is_in_line, is_word, is_digit, is_byte}
 use Rattle.lft_syntax.specs.Lexes.{Run, PastPair, Quoted, ends, escaped, plain, value, form_of, Reads, with_token, Piece, Cut, done, piece, Lexes, IsFault, FaultAt, Faults}
 
 three_from : (a b : ℕ) → (a ≡ b) ⊎ ((a < b) ⊎ (b < a)) → (a < b) ⊎ ((a ≡ b) ⊎ (b < a))

@@ -6,7 +6,7 @@ use Rattle.std.proofs.lemmas.Bool.{eqb-true}
 use Rattle.lft_syntax.specs.declared.token.TokenKind.{TokenKind}
 use Rattle.lft_syntax.specs.declared.form.Form.{Form}
 use Rattle.lft_syntax.specs.declared.form.Form.TheVariants.{Space, LineComment, StarComment, Code, Text, Name, Digits, Arrow, Symbol, Unknown}
-use Rattle.lft_tree.specs.Bytes.{within, is_space, is_in_line, is_letter, is_digit, is_word, is_byte}
+use Rattle.lft_lists.specs.Bytes.{within, is_space, is_in_line, is_letter, is_digit, is_word, is_byte}
 use Rattle.lft_syntax.proofs.Once.{three_ways}
 use Rattle.lft_syntax.specs.Lexes.{Run, Quoted, ends, escaped, plain, form_of, Reads, Piece}
 

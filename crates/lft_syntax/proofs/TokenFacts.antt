@@ -12,7 +12,7 @@ use Rattle.lft_syntax.specs.declared.token.TokenKind.{TokenKind}
 use Rattle.lft_syntax.specs.declared.token.TokenKind.TheVariants as kinds
 use Rattle.lft_syntax.specs.declared.form.Form.{Form}
 use Rattle.lft_syntax.specs.declared.form.Form.TheVariants.{Space, LineComment, StarComment, Code, Text, Name, Digits, Arrow, Symbol, Unknown}
-use Rattle.lft_tree.specs.Bytes.{is_letter, is_word}
+use Rattle.lft_lists.specs.Bytes.{is_letter, is_word}
 use Rattle.lft_syntax.specs.Lexes.{Run, form_of, Reads, Piece, Cut, done, piece, Lexes}
 use Rattle.lft_syntax.proofs.Pieces.{Begins, begins, read_there, piece_further, piece_within}
 

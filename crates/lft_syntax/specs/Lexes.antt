@@ -2,7 +2,7 @@
 -- and i, j and k are places in it, counted from 0.
 use Rattle.std.specs.Prelude.{◌≡◌, ◌≢◌, ℕ, ◌+◌, ◌-◌, ◌*◌, ◌<◌, ◌≤◌, ◌^◌, List, [], ◌∷◌, length, slice_get, slice_index, slice_range, Option, Some, None, Bool, if◌then◌else◌, true, false, ◌==◌, ◌&&◌}
 use Rattle.std.specs.List.{fold}
-use Rattle.lft_tree.specs.Bytes.{within, is_space, is_in_line, is_digit, is_letter, is_word, is_byte}
+use Rattle.lft_lists.specs.Bytes.{within, is_space, is_in_line, is_digit, is_letter, is_word, is_byte}
 use Rattle.lft_syntax.specs.declared.token.Token.{Token}
 use Rattle.lft_syntax.specs.declared.token.TokenKind.{TokenKind}
 use Rattle.lft_syntax.specs.declared.token.TokenKind.TheVariants as kinds

@@ -1,7 +1,7 @@
 //! What begins at a byte of the text.
 
 ghost use Rattle.std.specs.Prelude.{◌≡◌};
-ghost use Rattle.lft_tree.specs.Bytes.{is_space, is_in_line, is_letter, is_digit, is_word, is_byte};
+ghost use Rattle.lft_lists.specs.Bytes.{is_space, is_in_line, is_letter, is_digit, is_word, is_byte};
 
 /// What begins with a byte, by that byte and the one after it.
 #[derive(Clone, Copy, PartialEq, Eq)]

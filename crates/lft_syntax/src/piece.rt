@@ -1,7 +1,7 @@
 //! One piece of the text: white space, a comment or a token.
 
 ghost use Rattle.std.specs.Prelude.{◌≡◌, ℕ, ◌+◌, ◌<◌, ◌≤◌, ◌^◌, length, slice_index, IfOk, IfErr, IfSome, IfNone, Some, true};
-ghost use Rattle.lft_tree.specs.Bytes.{is_in_line, is_word, is_digit};
+ghost use Rattle.lft_lists.specs.Bytes.{is_in_line, is_word, is_digit};
 ghost use Rattle.lft_syntax.specs.Lexes.{PastPair, Run, Quoted, value, Reads, IsFault, Piece, FaultAt};
 
 use crate::fault::LexFault;

@@ -5,8 +5,8 @@ ghost use Rattle.std.specs.Prelude.{◌≡◌, IfOk, OnOk, length};
 use lft_flat::{Name, Value};
 use lft_model::{Plan, Reads};
 use lft_pool::{AnyAnswer, Bodies, Body, Code, Done, Steps};
+use lft_steps::Step;
 use lft_tag::{NoMemory, Tag};
-use lft_trace::Step;
 use std::alloc::Global;
 
 /// Code that gives its answer whatever it is given.

@@ -8,8 +8,8 @@ use crate::texts::{AT_ONCE, PIPE, TWO, is_accepted, is_table, plan};
 use lft_flat::{Name, Value};
 use lft_model::{Plan, Reads};
 use lft_pool::{Answered, AnyAnswer, Begin, Book, Closed, PutFault, Stop, Ticket};
+use lft_steps::Step;
 use lft_tag::{NoMemory, Tag};
-use lft_trace::Step;
 use std::alloc::Global;
 use std::test::Fail;
 

@@ -2,8 +2,9 @@
 
 use lft_flat::{Name, Program, Value};
 use lft_load::read_program;
+use lft_steps::{Externals, Row, Rows, Step};
 use lft_tag::{NoMemory, Tag};
-use lft_trace::{Externals, Row, Rows, Step, read_externals};
+use lft_trace::read_externals;
 use std::alloc::Global;
 use std::test::Fail;
 

@@ -9,7 +9,7 @@ use Rattle.lft_tag.specs.declared.Tag.{Tag}
 use Rattle.lft_trace.specs.ExternalTables.{ExternalFields, IsEntry, IsOf, IsOfKind, IsPhysical, IsTag, IsUnknown, has_numbers, in_order, is_filled, word}
 use Rattle.lft_trace.specs.declared.external_table.Entry.{Entry}
 use Rattle.lft_trace.specs.declared.external_table.Entry.TheVariants.{Happens, Stops}
-use Rattle.lft_trace.specs.declared.externals.Event.{Event}
+use Rattle.lft_steps.specs.declared.externals.Event.{Event}
 use Rattle.lft_trace.specs.declared.kind.EntryKind.{EntryKind}
 use Rattle.lft_trace.specs.declared.kind.EntryKind.TheVariants as kind
 

@@ -9,11 +9,11 @@ use Rattle.lft_flat.specs.Sound.{IsSound}
 use Rattle.lft_tag.specs.declared.Tag.{Tag}
 use Rattle.lft_tag.specs.Tags.{IsRecorded}
 use Rattle.lft_trace.specs.ExternalTables.{ExternalFails, ExternalFields, ExternalTable, FaultAt, Has, IsEntry, IsOfKind, IsTag, event_of, external_tables, stop_of}
-use Rattle.lft_trace.specs.Fits.{EventFits, ExternalsFit}
-use Rattle.lft_trace.specs.Inputs.{ExternalInputs}
+use Rattle.lft_steps.specs.Fits.{EventFits, ExternalsFit}
+use Rattle.lft_steps.specs.Inputs.{ExternalInputs}
 use Rattle.lft_trace.specs.declared.external_table.Entry.{Entry}
 use Rattle.lft_trace.specs.declared.external_table.Entry.TheVariants.{Happens, Stops}
-use Rattle.lft_trace.specs.declared.externals.Event.{Event}
+use Rattle.lft_steps.specs.declared.externals.Event.{Event}
 use Rattle.lft_trace.specs.declared.fault.TraceFault.{TraceFault}
 use Rattle.lft_trace.specs.declared.fault.TraceFault.TheVariants as fault
 use Rattle.lft_trace.specs.declared.kind.EntryKind.{EntryKind}
@@ -23,7 +23,7 @@ use Rattle.lft_trace.proofs.EntriesDiffer.{count_there, empty_there, kind_there,
 use Rattle.lft_trace.proofs.Members.{at_front, at_middle, has_permuted, has_permuted_back}
 use Rattle.lft_trace.proofs.TableFacts.{Texts, holds_no_fault, one_reading}
 use Rattle.lft_trace.proofs.TraceFacts.{within}
-use Rattle.lft_trace.proofs.Zips.{behind}
+use Rattle.lft_lists.proofs.Zips.{behind}
 
 same_inputs : (a b : ExternalInputs) → a.stop ≡ b.stop → a.events ≡ b.events → a ≡ b
 same_inputs a b s e = λ i. record { stop = s i; events = e i }

@@ -15,5 +15,4 @@ pub mod Sized
 pub mod TableFacts
 pub mod TraceFacts
 mod WrittenSamples
-pub mod Zips
 pub mod Telling

@@ -19,13 +19,13 @@ use Rattle.lft_flat.specs.declared.parts.Name.TheVariants.{Port, Action}
 use Rattle.lft_flat.specs.declared.parts.Value.{Value}
 use Rattle.lft_flat.specs.declared.parts.Value.TheVariants.{Bare, Int}
 use Rattle.lft_flat.proofs.Decimals.{All-decimal}
-use Rattle.lft_trace.specs.Fits.{RowFits, RowsFit, StepFits}
+use Rattle.lft_steps.specs.Fits.{RowFits, RowsFit, StepFits}
 use Rattle.lft_trace.specs.Traces.{header, word}
 use Rattle.lft_trace.specs.SeenWriting.{AllHaveWords, HasWord, HasWords, IsWord}
 use Rattle.lft_trace.specs.Written.{csv_text, delay_text, event_of, line, name_text, row_fields, step_fields, table_text, value_text, written_records}
-use Rattle.lft_trace.specs.declared.row.Row.{Row}
-use Rattle.lft_trace.specs.declared.row.Step.{Step}
-use Rattle.lft_trace.specs.declared.row.Step.TheVariants.{Start, Read, Write, Schedule, Stop, End}
+use Rattle.lft_steps.specs.declared.row.Row.{Row}
+use Rattle.lft_steps.specs.declared.row.Step.{Step}
+use Rattle.lft_steps.specs.declared.row.Step.TheVariants.{Start, Read, Write, Schedule, Stop, End}
 
 -- csv writes the field as it is
 abbrev IsPlain : List ℕ → Type 0

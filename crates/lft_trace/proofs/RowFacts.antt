@@ -8,7 +8,7 @@ use Rattle.lft_trace.specs.declared.fault.TraceFault.{TraceFault}
 use Rattle.lft_trace.specs.declared.fault.TraceFault.TheVariants as fault
 use Rattle.lft_trace.specs.declared.kind.RowKind.{RowKind}
 use Rattle.lft_trace.specs.declared.kind.RowKind.TheVariants.{Start, Read, Write, Schedule, Stop, End}
-use Rattle.lft_trace.specs.declared.row.Step.{Step}
+use Rattle.lft_steps.specs.declared.row.Step.{Step}
 use Rattle.lft_trace.specs.declared.trace_table.RowNumbers.{RowNumbers}
 use Rattle.lft_trace.specs.Seen.{FieldFault, NumbersOf, StepOf}
 use Rattle.lft_trace.specs.Traces.{FaultAt, IsStep, TraceFields, in_order, is_empty, is_filled, word}

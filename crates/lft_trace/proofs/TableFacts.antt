@@ -5,7 +5,7 @@ use Rattle.csv.specs.Records.{fields_of}
 use Rattle.lft_trace.specs.Records.{IsNext, IsPast, IsPlain, IsUnread, records_left, records_of}
 use Rattle.lft_trace.specs.Tables.{Begins, FailsAt, Fails, HasTooMany, Holds, TableKind}
 use Rattle.lft_trace.specs.declared.records.Records.{Records}
-use Rattle.lft_trace.proofs.Zips.{Parted, long, parted, same, same_rest}
+use Rattle.lft_lists.proofs.Zips.{Parted, long, parted, same, same_rest}
 
 abbrev pub Texts : Type 0
 Texts = List (List (List ℕ))

@@ -12,8 +12,8 @@ use Rattle.lft_flat.proofs.Positions.{nowhere, somewhere}
 use Rattle.lft_trace.specs.Traces.{IsRow, IsStep, IsThing, RowOf, TraceFields, word}
 use Rattle.lft_trace.specs.declared.kind.RowKind.{RowKind}
 use Rattle.lft_trace.specs.declared.kind.RowKind.TheVariants.{Start, Read, Write, Schedule, Stop, End}
-use Rattle.lft_trace.specs.declared.row.Row.{Row}
-use Rattle.lft_trace.specs.declared.row.Step.{Step}
+use Rattle.lft_steps.specs.declared.row.Row.{Row}
+use Rattle.lft_steps.specs.declared.row.Step.{Step}
 use Rattle.lft_trace.specs.Telling.{fields_in, kind_in, place_in, row_in, row_of, step_in, thing_in}
 
 -- a text that stands in a list once is found where it stands

@@ -9,17 +9,17 @@ use Rattle.lft_flat.specs.Parts.{Parts}
 use Rattle.lft_flat.specs.Sound.{IsNameOf, IsSound}
 use Rattle.lft_flat.specs.declared.parts.Name.{Name}
 use Rattle.lft_flat.specs.declared.parts.Name.TheVariants.{Port, Action}
-use Rattle.lft_trace.specs.Fits.{RowFits, RowsFit, StepFits}
+use Rattle.lft_steps.specs.Fits.{RowFits, RowsFit, StepFits}
 use Rattle.lft_trace.specs.Numbers.{digits_after, number, number_or_zero}
 use Rattle.lft_trace.specs.Traces.{IsRow, IsStep, IsThing, RowOf, Table, TraceFails, TraceFields, trace_tables}
 use Rattle.lft_trace.specs.declared.fault.TraceFault.{TraceFault}
 use Rattle.lft_trace.specs.declared.kind.RowKind.{RowKind}
 use Rattle.lft_trace.specs.declared.kind.RowKind.TheVariants.{Start, Read, Write, Schedule, Stop, End}
-use Rattle.lft_trace.specs.declared.row.Row.{Row}
-use Rattle.lft_trace.specs.declared.row.Step.{Step}
+use Rattle.lft_steps.specs.declared.row.Row.{Row}
+use Rattle.lft_steps.specs.declared.row.Step.{Step}
 use Rattle.lft_trace.proofs.RowsDiffer.{not_both, one_row}
 use Rattle.lft_trace.proofs.TableFacts.{Texts, holds_no_fault, one_reading}
-use Rattle.lft_trace.proofs.Zips.{behind}
+use Rattle.lft_lists.proofs.Zips.{behind}
 
 pub one_table : (program : Parts) (records : Texts) (rows other : List Row) → IsSound program → Table program records rows → Table program records other → other ≡ rows
 one_table program records rows other sound t u = one_reading (trace_tables program) records (λ f a b x y. one_row program f a b sound.well_named.distinct x y) other rows u t

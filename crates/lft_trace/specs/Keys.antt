@@ -1,7 +1,7 @@
 -- External events as entries of a map.
 use Rattle.std.specs.Prelude.{ℕ}
 use Rattle.lft_flat.specs.declared.parts.Value.{Value}
-use Rattle.lft_trace.specs.declared.externals.Event.{Event}
+use Rattle.lft_steps.specs.declared.externals.Event.{Event}
 
 -- the event of an entry: time, microstep and action, and the value
 abbrev pub event_at : (ℕ × ℕ × ℕ) × Value → Event

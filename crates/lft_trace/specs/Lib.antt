@@ -1,5 +1,3 @@
-pub mod Inputs
-pub mod Fits
 pub mod Records
 pub mod Numbers
 pub mod Tables

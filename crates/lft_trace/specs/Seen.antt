@@ -10,8 +10,8 @@ use Rattle.lft_trace.specs.declared.fault.TraceFault.TheVariants as fault
 use Rattle.lft_trace.specs.declared.fields.TraceFields.{TraceFields as FieldsHeld}
 use Rattle.lft_trace.specs.declared.kind.RowKind.{RowKind}
 use Rattle.lft_trace.specs.declared.kind.RowKind.TheVariants.{Start, Read, Write, Schedule, Stop, End}
-use Rattle.lft_trace.specs.declared.row.Step.{Step}
-use Rattle.lft_trace.specs.declared.row.Step.TheVariants as step
+use Rattle.lft_steps.specs.declared.row.Step.{Step}
+use Rattle.lft_steps.specs.declared.row.Step.TheVariants as step
 use Rattle.lft_trace.specs.declared.trace_table.RowNumbers.{RowNumbers}
 
 abbrev pub trace_fields : FieldsHeld → TraceFields

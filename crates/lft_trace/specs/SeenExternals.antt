@@ -6,7 +6,7 @@ use Rattle.lft_flat.specs.Parts.{Parts}
 use Rattle.lft_trace.specs.ExternalTables.{Clash, ExternalFields, Has, IsUnknown, has_numbers, is_filled}
 use Rattle.lft_trace.specs.declared.external_table.Entry.{Entry}
 use Rattle.lft_trace.specs.declared.external_table.Entry.TheVariants.{Happens, Stops}
-use Rattle.lft_trace.specs.declared.externals.Event.{Event}
+use Rattle.lft_steps.specs.declared.externals.Event.{Event}
 use Rattle.lft_trace.specs.declared.fault.TraceFault.{TraceFault}
 use Rattle.lft_trace.specs.declared.fault.TraceFault.TheVariants as fault
 use Rattle.lft_trace.specs.declared.fields.ExternalFields.{ExternalFields as FieldsHeld}

@@ -7,9 +7,9 @@ use Rattle.csv.specs.declared.writer.Writer.{Writer}
 use Rattle.lft_flat.specs.declared.parts.Value.{Value}
 use Rattle.lft_flat.specs.declared.parts.Value.TheVariants.{Bare, Int}
 use Rattle.lft_trace.specs.Written.{csv_text}
-use Rattle.lft_trace.specs.declared.row.Row.{Row}
-use Rattle.lft_trace.specs.declared.row.Step.{Step}
-use Rattle.lft_trace.specs.declared.row.Step.TheVariants.{Start, Read, Write, Schedule, Stop, End}
+use Rattle.lft_steps.specs.declared.row.Row.{Row}
+use Rattle.lft_steps.specs.declared.row.Step.{Step}
+use Rattle.lft_steps.specs.declared.row.Step.TheVariants.{Start, Read, Write, Schedule, Stop, End}
 
 -- the writer has written these records, as csv's defaults say, and stands between two records
 abbrev pub HasWritten : Writer (Vec ℕ Global) → List (List (List ℕ)) → Type 0

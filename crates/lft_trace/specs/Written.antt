@@ -11,9 +11,9 @@ use Rattle.lft_flat.specs.declared.parts.Value.TheVariants.{Bare, Int}
 use Rattle.lft_trace.specs.Traces.{header, word}
 use Rattle.lft_trace.specs.declared.kind.RowKind.{RowKind}
 use Rattle.lft_trace.specs.declared.kind.RowKind.TheVariants as kind
-use Rattle.lft_trace.specs.declared.row.Row.{Row}
-use Rattle.lft_trace.specs.declared.row.Step.{Step}
-use Rattle.lft_trace.specs.declared.row.Step.TheVariants.{Start, Read, Write, Schedule, Stop, End}
+use Rattle.lft_steps.specs.declared.row.Row.{Row}
+use Rattle.lft_steps.specs.declared.row.Step.{Step}
+use Rattle.lft_steps.specs.declared.row.Step.TheVariants.{Start, Read, Write, Schedule, Stop, End}
 
 -- the event of a step
 abbrev pub event_of : Step → RowKind

@@ -3,10 +3,10 @@
 ghost use Rattle.std.specs.Prelude.{◌≡◌, ◌∷◌, [], true, false, IfOk};
 ghost use Rattle.std.specs.List.Sorted.{IsPermutation};
 ghost use Rattle.lft_trace.specs.ExternalTables.{Clash, Has};
-ghost use Rattle.lft_trace.specs.Inputs.{InOrder};
+ghost use Rattle.lft_steps.specs.Inputs.{InOrder};
 
-use crate::externals::Event;
 use lft_flat::Value;
+use lft_steps::Event;
 use lft_tag::{NoMemory, Tag};
 use std::alloc::Global;
 use std::collections::BTreeMap;
@@ -20,7 +20,7 @@ pub(crate) struct EventMap {
 
 impl Model for EventMap {
     ghost use Rattle.std.specs.Prelude.{List, map};
-    ghost use Rattle.lft_trace.specs.declared.externals.Event.{Event};
+    ghost use Rattle.lft_steps.specs.declared.externals.Event.{Event};
     ghost use Rattle.lft_trace.specs.Keys.{event_at};
 
     ghost Value = { List Event };

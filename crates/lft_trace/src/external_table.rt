@@ -4,14 +4,13 @@ ghost use Rattle.std.specs.Prelude.{◌≡◌, ◌≢◌, ◌+◌, ℕ, List, If
 ghost use Rattle.csv.specs.Records.{fields_of};
 ghost use Rattle.lft_trace.specs.ExternalTables.{ExternalTable, ExternalFails, FaultAt, IsEntry, IsOfKind, header};
 ghost use Rattle.lft_trace.specs.Faults.{is_told};
-ghost use Rattle.lft_trace.specs.Fits.{ExternalsFit};
-ghost use Rattle.lft_trace.specs.Inputs.{ExternalInputs, InOrder};
+ghost use Rattle.lft_steps.specs.Fits.{ExternalsFit};
+ghost use Rattle.lft_steps.specs.Inputs.{ExternalInputs, InOrder};
 ghost use Rattle.lft_trace.specs.Numbers.{value};
 ghost use Rattle.lft_trace.specs.Records.{records_of};
 ghost use Rattle.lft_trace.specs.SeenExternals.{FieldFault, Keeps, Refuses, external_fields};
 
 use crate::event_map::EventMap;
-use crate::externals::{Event, Externals};
 use crate::fault::TraceFault;
 use crate::fields::ExternalFields;
 use crate::kind::{EntryKind, read_entry_kind};
@@ -20,6 +19,7 @@ use crate::number::{read_tag, read_value};
 use crate::records::{LAST_LINE, Records, stopped};
 use csv::ByteRecord;
 use lft_flat::{Program, Value};
+use lft_steps::{Event, Externals};
 use lft_tag::Tag;
 use std::alloc::Global;
 

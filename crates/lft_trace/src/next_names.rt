@@ -4,8 +4,8 @@ ghost use Rattle.std.specs.Prelude.{◌≡◌, ◌<◌, length, slice_get};
 ghost use Rattle.lft_flat.specs.Parts.{inputs};
 
 use crate::kind::RowKind;
-use crate::row::{Row, Step};
 use lft_flat::{Name, Program, Reaction};
+use lft_steps::{Row, Step};
 
 /// Among how many names the one that a row had is looked for.
 const AHEAD: usize = 4;

@@ -3,7 +3,7 @@
 ghost use Rattle.std.specs.Prelude.{◌≡◌, ◌++◌, ◌∷◌, [], ℕ, List, IfOk, OnOk, ◌<◌, slice_index_or};
 ghost use Rattle.lft_flat.specs.Parts.{Parts};
 ghost use Rattle.lft_flat.specs.Sound.{IsNameOf};
-ghost use Rattle.lft_trace.specs.Fits.{RowFits, RowsFit, StepFits};
+ghost use Rattle.lft_steps.specs.Fits.{RowFits, RowsFit, StepFits};
 ghost use Rattle.lft_trace.specs.Records.{records_of};
 ghost use Rattle.lft_trace.specs.Traces.{Table, header, in_order, word};
 ghost use Rattle.lft_trace.specs.Seen.{trace_fields};
@@ -11,11 +11,10 @@ ghost use Rattle.lft_trace.specs.SeenWriting.{AllHaveWords, HasWord, HasWords, H
 ghost use Rattle.lft_trace.specs.Written.{csv_text, delay_text, event_of, name_text, row_fields, step_fields, table_text, value_text, written_records};
 
 use crate::fields::TraceFields;
-use crate::row::{Row, Rows, Step};
-use crate::steps::row_at;
 use csv::{Writer, WriterBuilder};
 use itoa::Buffer;
 use lft_flat::{Name, Program, Value};
+use lft_steps::{Row, Rows, Step, row_at};
 use lft_tag::NoMemory;
 use std::alloc::Global;
 

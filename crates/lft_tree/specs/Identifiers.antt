@@ -1,7 +1,7 @@
 -- The names that the reactors of a tree declare.
 use Rattle.std.specs.Prelude.{◌≡◌, ℕ, List, [], ◌∷◌, ◌++◌, map, All, true}
 use Rattle.std.proofs.Props.{props}
-use Rattle.lft_tree.specs.Bytes.{is_letter, is_word}
+use Rattle.lft_lists.specs.Bytes.{is_letter, is_word}
 use Rattle.lft_tree.specs.Tree.{ReactorTree, FileTree, reactors_of, ports_of, timers_of, actions_of, instances_of}
 
 -- a letter or `_`, then letters, digits and `_`

@@ -79,6 +79,7 @@ member_views = map member_view
 abbrev pub reactor_view : Reactor → ReactorTree
 reactor_view r = record { is_main = r.is_main; name = option_map string_bytes r.name; parameters = map parameter_view r.parameters.items; members = member_views r.members.items }
 
+-- the tree of a preamble or a reactor
 abbrev pub item_view : Item → ItemTree
 item_view (items.Preamble r) = PreambleItem (range_view r)
 item_view (items.Reactor r) = ReactorItem (reactor_view r)

@@ -1,4 +1,3 @@
-pub mod Bytes
 pub mod Identifiers
 pub mod ItemView
 pub mod Tree

@@ -5,7 +5,7 @@ ghost use Rattle.lft_words.specs.Lines.{line_words, capital_line_words, tag_at, 
 
 use crate::words::{push_name, push_number, push_reaction, push_tag, push_value};
 use lft_flat::{Program, Value};
-use lft_trace::{Row, Step, row_at};
+use lft_steps::{Row, Step, row_at};
 use std::alloc::AllocError;
 
 /// Puts the number of the line of the row at the place at the end of the text.

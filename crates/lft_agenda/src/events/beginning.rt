@@ -7,8 +7,8 @@ use lft_flat::Name;
 use lft_lists::item_at;
 use lft_model::Plan;
 use lft_queue::{Queue, QueueFault};
+use lft_steps::Event;
 use lft_tag::NoMemory;
-use lft_trace::Event;
 use std::alloc::Global;
 
 /// The events of the external inputs up to the stop: those of no rows.

@@ -3,10 +3,10 @@
 ghost use Rattle.std.specs.Prelude.{◌≡◌, ◌<◌, ◌≤◌, ◌+◌, ◌++◌, ◌∷◌, [], ℕ, List, length, slice_get, Some, None, IfOk, Contains};
 ghost use Rattle.lft_tag.specs.Tags.{UpTo, IsRecorded};
 ghost use Rattle.lft_agenda.specs.Listeners.{IsArrival, IsWatched, AreArrivals};
-ghost use Rattle.lft_trace.specs.declared.row.Row.{Row as RowOf};
-ghost use Rattle.lft_trace.specs.Fits.{StepFits};
+ghost use Rattle.lft_steps.specs.declared.row.Row.{Row as RowOf};
+ghost use Rattle.lft_steps.specs.Fits.{StepFits};
 ghost use Rattle.lft_model.specs.Recorded.{run_row, committed_rows};
-ghost use Rattle.lft_trace.specs.declared.row.Step.{Step as StepOf};
+ghost use Rattle.lft_steps.specs.declared.row.Step.{Step as StepOf};
 ghost use Rattle.lft_agenda.specs.Events.{HasEvents, IsPut, IsFedTo, KnowsAgain};
 
 use crate::listeners::Arrivals;
@@ -14,8 +14,8 @@ use lft_flat::{Name, Value};
 use lft_lists::item_at;
 use lft_model::Plan;
 use lft_queue::{Queue, QueueFault};
+use lft_steps::Step;
 use lft_tag::{NoMemory, Tag};
-use lft_trace::Step;
 
 // Puts an event in, where it is up to the last tag and earlier than the collision that was found.
 // Gives the earliest collision.

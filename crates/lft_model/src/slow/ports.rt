@@ -4,14 +4,14 @@ ghost use Rattle.std.specs.Prelude.{◌≡◌, ◌<◌, ◌↔◌, length, IsTru
 ghost use Rattle.lft_flat.specs.declared.parts.Name.TheVariants.{Port as ThePort};
 ghost use Rattle.lft_tag.specs.Tags.{IsRecorded, same_tag};
 ghost use Rattle.lft_tag.specs.Shifts.{shifted};
-ghost use Rattle.lft_trace.specs.Fits.{RowsFit};
+ghost use Rattle.lft_steps.specs.Fits.{RowsFit};
 ghost use Rattle.lft_model.specs.Fitting.{EachFits};
 ghost use Rattle.lft_model.specs.Presence.{At, IsPresent, PortClash, value_written as the_value_written};
 
 use crate::plan::Plan;
 use lft_flat::{Name, Port, Value};
+use lft_steps::{Row, Step, row_at};
 use lft_tag::Tag;
-use lft_trace::{Row, Step, row_at};
 
 // The value that a step writes to the port, if it writes one.
 fn value_written(step: Step, port: u32) -> Option<Value>

@@ -1,7 +1,7 @@
 //! What a body answers.
 
 use lft_lists::List;
-use lft_trace::Step;
+use lft_steps::Step;
 
 /// Write, schedule and stop steps in order.
 pub type Steps = List<Step>;

@@ -8,8 +8,8 @@ use crate::cards::{Cards, Script};
 use lft_flat::Value;
 use lft_model::Reads;
 use lft_pool::{Done, Steps};
+use lft_steps::Step;
 use lft_tag::{NoMemory, Tag};
-use lft_trace::Step;
 use std::alloc::Global;
 
 /// What a body of the reaction answers at a tag, with the state word before the run and what it

@@ -1,7 +1,7 @@
 use Rattle.std.proofs.Common.{◌≡◌, ◌∙◌, ℕ, List, Option, None, Contains, subst, arith, rules}
 use Rattle.lft_tag.specs.declared.Tag.{Tag}
 use Rattle.lft_tag.specs.Tags.{Before, UpTo}
-use Rattle.lft_trace.specs.declared.row.Row.{Row}
+use Rattle.lft_steps.specs.declared.row.Row.{Row}
 use Rattle.lft_queue.specs.Pending.{Pending}
 use Rattle.lft_agenda.specs.Turns.{NonePending}
 use Rattle.lft_agenda.specs.Waits.{IsCovered}

@@ -1,6 +1,6 @@
 use Rattle.std.proofs.Common.{◌≡◌, ◌+◌, ◌-◌, ◌*◌, ◌≤◌, List, length}
 use Rattle.lft_tag.specs.Tags.{Before}
-use Rattle.lft_trace.specs.declared.row.Row.{Row}
+use Rattle.lft_steps.specs.declared.row.Row.{Row}
 use Rattle.lft_agenda.specs.Firings.{AreFirst}
 use Rattle.lft_agenda.specs.Agendas.{MayAdvance, IsReached}
 use Rattle.lft_agenda.proofs.advancing.advance.Given as goal

@@ -5,7 +5,7 @@ use Rattle.lft_flat.specs.declared.parts.Port.{Port as PortOf}
 use Rattle.lft_flat.specs.declared.parts.Value.TheVariants.{Bare}
 use Rattle.lft_flat.specs.declared.parts.Name.TheVariants.{Port}
 use Rattle.lft_flat.specs.declared.parts.Trigger.TheVariants.{On}
-use Rattle.lft_trace.specs.declared.row.Step.TheVariants.{Write}
+use Rattle.lft_steps.specs.declared.row.Step.TheVariants.{Write}
 use Rattle.lft_lists.proofs.Places.{contains_at, at_contains, same_some}
 use Rattle.lft_model.proofs.Places.{slice_get_within}
 use Rattle.lft_agenda.specs.Listeners.{IsListener, IsArrival}

@@ -2,7 +2,7 @@ use Rattle.std.proofs.Common.{ℕ}
 use Rattle.lft_flat.specs.declared.parts.Value.{Value}
 use Rattle.lft_flat.specs.declared.parts.Name.TheVariants.{Port}
 use Rattle.lft_flat.specs.declared.parts.Trigger.TheVariants.{On}
-use Rattle.lft_trace.specs.declared.row.Step.TheVariants.{Write}
+use Rattle.lft_steps.specs.declared.row.Step.TheVariants.{Write}
 use Rattle.lft_agenda.specs.Listeners.{IsListener}
 use Rattle.lft_agenda.specs.Telling.{IsTold, OfFirst, ArrivesAtOnce}
 use Rattle.lft_agenda.proofs.writing.tell_write.Given as goal

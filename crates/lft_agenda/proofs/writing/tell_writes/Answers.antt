@@ -1,7 +1,7 @@
 use Rattle.std.proofs.Common.{ℕ, arith}
 use Rattle.lft_flat.specs.declared.parts.Name.TheVariants.{Port}
 use Rattle.lft_flat.specs.declared.parts.Trigger.TheVariants.{On}
-use Rattle.lft_trace.specs.declared.row.Step.{Step}
+use Rattle.lft_steps.specs.declared.row.Step.{Step}
 use Rattle.lft_agenda.specs.Listeners.{IsListener}
 use Rattle.lft_agenda.specs.Telling.{ArrivesAtOnce, TriggeredByWrites}
 use Rattle.lft_agenda.proofs.ToldTurns.{told_begun, told_next, told_each}

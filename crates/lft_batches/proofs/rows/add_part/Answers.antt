@@ -1,5 +1,5 @@
 use Rattle.std.proofs.Common.{List, ◌++◌, slice_range, ap, ◌∙◌, subst}
-use Rattle.lft_trace.specs.declared.row.Row.{Row}
+use Rattle.lft_steps.specs.declared.row.Row.{Row}
 use Rattle.lft_stream.specs.Kept.{IsAcceptorOf}
 use Rattle.lft_stream.proofs.Parting.{up_to_second}
 use Rattle.lft_batches.proofs.rows.add_part.Goals as goal

@@ -1,7 +1,7 @@
 use Rattle.std.proofs.Common.{◌∙◌, ◌++◌, List, ap, length, refl, rules, subst, sym}
 use Rattle.std.proofs.lemmas.Bool.{eqb-true}
 use Rattle.std.proofs.lemmas.Option.{IfSome_then}
-use Rattle.lft_trace.specs.declared.row.Row.{Row}
+use Rattle.lft_steps.specs.declared.row.Row.{Row}
 use Rattle.lft_reading.specs.Parts.{BeginsWith, rows_of}
 use Rattle.lft_reading.proofs.Beginning.{begins_lines}
 use Rattle.lft_batches.specs.Fronts.{judged_rows}

@@ -1,8 +1,8 @@
 use Rattle.std.proofs.Common.{◌∙◌, ◌++◌, List, ap, arith, length, refl, subst, sym}
 use Rattle.std.proofs.lemmas.Option.{slice_get_read}
-use Rattle.lft_trace.specs.Fits.{RowsFit}
+use Rattle.lft_steps.specs.Fits.{RowsFit}
 use Rattle.lft_trace.specs.Telling.{rows_in}
-use Rattle.lft_trace.specs.declared.row.Row.{Row}
+use Rattle.lft_steps.specs.declared.row.Row.{Row}
 use Rattle.lft_batches.specs.Fronts.{IsNextBehind, judged_rows}
 use Rattle.lft_batches.proofs.Sharing.{part_fits, part_next, part_on}
 use Rattle.lft_batches.proofs.shared.add_parts.Goals as goal

@@ -1,8 +1,8 @@
 use Rattle.std.proofs.Common.{◌∙◌, ◌++◌, List, length, ap, arith, refl, sym, subst, slice_range}
 use Rattle.std.proofs.lemmas.Option.{IfSome_then}
-use Rattle.lft_trace.specs.Fits.{RowsFit}
+use Rattle.lft_steps.specs.Fits.{RowsFit}
 use Rattle.lft_trace.specs.Telling.{rows_in}
-use Rattle.lft_trace.specs.declared.row.Row.{Row}
+use Rattle.lft_steps.specs.declared.row.Row.{Row}
 use Rattle.lft_batches.specs.Fronts.{judged_rows}
 use Rattle.lft_batches.proofs.Fronting.{first_next, part_waits, second_next, third_left}
 use Rattle.lft_stream.proofs.Parting.{range_fits}

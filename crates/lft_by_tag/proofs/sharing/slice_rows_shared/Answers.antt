@@ -1,6 +1,6 @@
 use Rattle.std.proofs.Common.{None, List, sym, subst}
-use Rattle.lft_trace.specs.declared.row.Row.{Row}
-use Rattle.lft_trace.specs.Fits.{RowsFit}
+use Rattle.lft_steps.specs.declared.row.Row.{Row}
+use Rattle.lft_steps.specs.Fits.{RowsFit}
 use Rattle.lft_rows.specs.Firsts.{FirstRow}
 use Rattle.lft_by_tag.proofs.Indexed.{cuttable}
 use Rattle.lft_by_tag.proofs.sharing.slice_rows_shared.Goals as goal

@@ -1,5 +1,5 @@
 use Rattle.std.proofs.Common.{◌+◌, List, sym, ap, ◌∙◌, subst, refl, arith}
-use Rattle.lft_by_tag.specs.declared.slices.Slice.{Slice}
+use Rattle.lft_rows.specs.declared.slices.Slice.{Slice}
 use Rattle.lft_by_tag.proofs.ByTag.{AreSlicesTo, slices_stay, slices_more, slices_end}
 use Rattle.lft_presence.proofs.Lists.{not_true}
 use Rattle.lft_by_tag.proofs.slices.slices_of.Goals as goal

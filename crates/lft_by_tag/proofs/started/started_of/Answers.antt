@@ -2,9 +2,9 @@ use Rattle.std.proofs.Common.{◌≡◌, ◌+◌, ◌<◌, ◌≤◌, length, re
 use Rattle.std.proofs.lemmas.List.{take_all}
 use Rattle.lft_presence.proofs.Lists.{not_true}
 use Rattle.lft_by_tag.specs.Indexes.{HasRunsTo}
-use Rattle.lft_by_tag.specs.Slices.{runs_in}
+use Rattle.lft_rows.specs.Slices.{runs_in}
 use Rattle.lft_by_tag.proofs.Begun.{starts_begin, starts_stay, starts_more}
-use Rattle.lft_by_tag.proofs.Counted.{count_start, count_inner}
+use Rattle.lft_rows.proofs.Counted.{count_start, count_inner}
 use Rattle.lft_by_tag.proofs.started.started_of.Goals as goal
 use Rattle.lft_by_tag.proofs.started.started_of.Goals.{then-is_start+in_ok-push+in_ok-push-2, else-is_start}
 

@@ -1,6 +1,6 @@
 use Rattle.std.proofs.Common.{◌≡◌, ◌≤◌, take}
 use Rattle.lft_by_tag.specs.Indexes.{HasRunsTo}
-use Rattle.lft_by_tag.specs.Slices.{runs_in}
+use Rattle.lft_rows.specs.Slices.{runs_in}
 use Rattle.lft_by_tag.proofs.started.started_of.Given as goal
 
 abbrev pub invariant-loop-place : goal.invariant-loop-place

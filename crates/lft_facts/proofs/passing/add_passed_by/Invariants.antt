@@ -1,5 +1,5 @@
 use Rattle.std.proofs.Common.{◌≤◌, List, length}
-use Rattle.lft_trace.specs.declared.row.Row.{Row}
+use Rattle.lft_steps.specs.declared.row.Row.{Row}
 use Rattle.lft_model.specs.Plans.{PlanParts}
 use Rattle.lft_facts.specs.Enough.{Adds}
 use Rattle.lft_facts.specs.Neighbours.{HaveRun}

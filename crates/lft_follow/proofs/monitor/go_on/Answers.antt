@@ -2,7 +2,7 @@ use Rattle.std.proofs.Common.{◌≡◌, ◌-◌, ◌++◌, length, refl, ap, �
 use Rattle.lft_tag.specs.declared.Tag.{Tag}
 use Rattle.lft_tag.specs.Tags.{after}
 use Rattle.lft_lists.proofs.Places.{same_some}
-use Rattle.lft_trace.specs.declared.row.Row.{Row}
+use Rattle.lft_steps.specs.declared.row.Row.{Row}
 use Rattle.lft_stream.specs.Dues.{NoneDueBefore}
 use Rattle.lft_stream.specs.Kept.{IsAcceptorOf}
 use Rattle.lft_follow.proofs.Going.{shown, behind_last}

@@ -1,6 +1,6 @@
 use Rattle.std.proofs.Common.{◌≡◌, IfOk, IfErr, Result, Ok, Err, Option, List, ℕ, true}
 use Rattle.lft_model.specs.Plans.{PlanParts}
-use Rattle.lft_trace.specs.declared.row.Row.{Row}
+use Rattle.lft_steps.specs.declared.row.Row.{Row}
 use Rattle.lft_load.specs.declared.fault.Fault.{Fault}
 use Rattle.lft_front.specs.declared.paired.Paired.{Paired}
 use Rattle.std.specs.Io.KnownBytes.{Appends}

@@ -1,5 +1,5 @@
 use Rattle.std.proofs.Common.{◌≡◌, ℕ, ◌<◌, Some, slice_get}
-use Rattle.lft_trace.specs.declared.row.Row.{Row}
+use Rattle.lft_steps.specs.declared.row.Row.{Row}
 use Rattle.lft_hints.specs.Hints.{SchedulesWhole}
 use Rattle.lft_hints.proofs.guessing.whole_delay.Given as goal
 

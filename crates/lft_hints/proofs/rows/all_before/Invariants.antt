@@ -1,6 +1,6 @@
 use Rattle.std.proofs.Common.{◌≡◌, ℕ, ◌<◌, Some, slice_get}
 use Rattle.lft_tag.specs.Tags.{Before}
-use Rattle.lft_trace.specs.declared.row.Row.{Row}
+use Rattle.lft_steps.specs.declared.row.Row.{Row}
 use Rattle.lft_hints.proofs.rows.all_before.Given as goal
 
 abbrev pub invariant-loop-place : goal.invariant-loop-place

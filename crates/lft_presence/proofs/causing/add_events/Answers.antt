@@ -1,6 +1,6 @@
 use Rattle.std.proofs.Common.{◌≡◌, ◌+◌, List, length, Some, slice_get, sym, ap, ◌∙◌, subst, arith}
 use Rattle.lft_flat.specs.Parts.{Parts}
-use Rattle.lft_trace.specs.declared.externals.Event.{Event}
+use Rattle.lft_steps.specs.declared.externals.Event.{Event}
 use Rattle.lft_presence.specs.declared.causes.Cause.{Cause}
 use Rattle.lft_presence.specs.Causes.{HasJust, event_cause}
 use Rattle.lft_presence.proofs.Made.{IsCauseTo, events_begin, event_more, events_end}

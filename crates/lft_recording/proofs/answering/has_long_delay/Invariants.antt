@@ -1,5 +1,5 @@
 use Rattle.std.proofs.Common.{◌≡◌, ℕ, ◌<◌, Some, slice_get}
-use Rattle.lft_trace.specs.declared.row.Step.{Step}
+use Rattle.lft_steps.specs.declared.row.Step.{Step}
 use Rattle.lft_recording.specs.Answering.{IsLong}
 use Rattle.lft_recording.proofs.answering.has_long_delay.Given as goal
 

@@ -1,5 +1,5 @@
 use Rattle.std.proofs.Common.{◌≡◌, ℕ, ◌<◌, Some, slice_get}
-use Rattle.lft_trace.specs.declared.row.Step.{Step}
+use Rattle.lft_steps.specs.declared.row.Step.{Step}
 use Rattle.lft_model.specs.Recorded.{MayAnswer}
 use Rattle.lft_recording.proofs.answering.may_make_all.Given as goal
 

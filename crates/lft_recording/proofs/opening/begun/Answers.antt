@@ -4,7 +4,7 @@ use Rattle.lft_flat.specs.declared.parts.Reaction.{Reaction}
 use Rattle.lft_model.specs.Runs.{inputs_of}
 use Rattle.std.proofs.lemmas.Option.{slice_get-get_or}
 use Rattle.lft_flat.specs.declared.parts.Name.TheVariants.{Port}
-use Rattle.lft_trace.specs.declared.row.Row.{Row}
+use Rattle.lft_steps.specs.declared.row.Row.{Row}
 use Rattle.lft_model.specs.Runs.{read_step}
 use Rattle.lft_model.specs.Recorded.{run_row}
 use Rattle.lft_recording.proofs.BegunRows.{read_more}

@@ -1,5 +1,5 @@
 use Rattle.std.proofs.Common.{◌≡◌, ◌∷◌, take, map, filter_map, zip}
-use Rattle.lft_trace.specs.declared.row.Step.TheVariants.{Start}
+use Rattle.lft_steps.specs.declared.row.Step.TheVariants.{Start}
 use Rattle.lft_model.specs.Runs.{read_step}
 use Rattle.lft_model.specs.Recorded.{run_row}
 use Rattle.lft_recording.proofs.opening.begun.Given as goal

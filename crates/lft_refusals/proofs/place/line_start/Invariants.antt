@@ -1,6 +1,6 @@
 use Rattle.std.proofs.Common.{◌≡◌, ℕ, ◌≤◌, ◌<◌, true}
 use Rattle.std.specs.Prelude.{slice_index}
-use Rattle.lft_tree.specs.Bytes.{is_in_line}
+use Rattle.lft_lists.specs.Bytes.{is_in_line}
 use Rattle.lft_refusals.proofs.place.line_start.Given as goal
 
 abbrev pub invariant-loop-before : goal.invariant-loop-before

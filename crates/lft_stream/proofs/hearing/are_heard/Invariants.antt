@@ -3,10 +3,10 @@ use Rattle.lft_flat.specs.Origins.{Origin}
 use Rattle.lft_flat.specs.declared.parts.Value.{Value}
 use Rattle.lft_flat.specs.declared.parts.Name.TheVariants.{Port}
 use Rattle.lft_flat.specs.declared.parts.Trigger.TheVariants.{On}
-use Rattle.lft_trace.specs.declared.row.Row.{Row}
-use Rattle.lft_trace.specs.declared.row.Step.TheVariants.{Write}
+use Rattle.lft_steps.specs.declared.row.Row.{Row}
+use Rattle.lft_steps.specs.declared.row.Step.TheVariants.{Write}
 use Rattle.lft_model.specs.Runs.{Ran}
-use Rattle.lft_stream.specs.Owed.{Listens}
+use Rattle.lft_coming.specs.Listens.{Listens}
 use Rattle.lft_stream.proofs.hearing.are_heard.Given as goal
 
 abbrev pub ghost-have_started : goal.ghost-have_started

@@ -3,7 +3,7 @@ use Rattle.std.proofs.lemmas.Option.{none-some}
 use Rattle.lft_lists.proofs.Members.{Mem, contains_mem}
 use Rattle.lft_lists.proofs.Places.{same_some}
 use Rattle.lft_flat.specs.declared.parts.Name.{Name}
-use Rattle.lft_stream.specs.Listeners.{list_of, AreStarted}
+use Rattle.lft_coming.specs.Listeners.{list_of, AreStarted}
 use Rattle.lft_stream.proofs.hearing.are_met.Goals as goal
 
 pub loop-name-init : goal.loop-name-init

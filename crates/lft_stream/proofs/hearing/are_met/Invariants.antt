@@ -1,7 +1,7 @@
 use Rattle.std.proofs.Common.{◌⊎◌}
 use Rattle.lft_lists.proofs.Members.{Mem}
 use Rattle.lft_flat.specs.declared.parts.Name.{Name}
-use Rattle.lft_stream.specs.Listeners.{AreStarted}
+use Rattle.lft_coming.specs.Listeners.{AreStarted}
 use Rattle.lft_stream.proofs.hearing.are_met.Given as goal
 
 abbrev pub ghost-have_started : goal.ghost-have_started

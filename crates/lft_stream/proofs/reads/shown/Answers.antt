@@ -8,9 +8,9 @@ use Rattle.lft_flat.specs.declared.parts.Value.{Value}
 use Rattle.lft_flat.proofs.Origins.{origin_inside}
 use Rattle.lft_model.specs.Presence.{Shows}
 use Rattle.lft_queue.specs.Pending.{value_of}
-use Rattle.lft_stream.specs.AtOnce.{is_undelayed}
-use Rattle.lft_stream.specs.Shown.{last_write}
-use Rattle.lft_stream.proofs.AtOnce.{way_at_once}
+use Rattle.lft_coming.specs.AtOnce.{is_undelayed}
+use Rattle.lft_coming.specs.Shown.{last_write}
+use Rattle.lft_coming.proofs.AtOnce.{way_at_once}
 use Rattle.lft_stream.proofs.Showing.{shows_law}
 use Rattle.lft_stream.proofs.reads.shown.Goals as goal
 

@@ -1,6 +1,6 @@
 use Rattle.std.proofs.Common.{◌≡◌, ◌+◌, ◌≤◌, refl, sym, ap, ◌∙◌, arith}
 use Rattle.std.proofs.lemmas.Bool.{false≢true}
-use Rattle.lft_by_tag.proofs.Counted.{count_start, count_inner}
+use Rattle.lft_rows.proofs.Counted.{count_start, count_inner}
 use Rattle.lft_stream.proofs.stream.starts_in.Goals as goal
 use Rattle.lft_stream.proofs.stream.starts_in.Goals.{then-is_start, else-is_start}
 

@@ -1,5 +1,5 @@
 use Rattle.std.proofs.Common.{◌≡◌, ◌≤◌, take}
-use Rattle.lft_by_tag.specs.Slices.{runs_in}
+use Rattle.lft_rows.specs.Slices.{runs_in}
 use Rattle.lft_stream.proofs.stream.starts_in.Given as goal
 
 abbrev pub invariant-loop-place : goal.invariant-loop-place

@@ -1,6 +1,6 @@
 use Rattle.std.proofs.Common.{◌≡◌, ℕ, ◌-◌, ◌<◌, ◌≤◌, length, true}
 use Rattle.std.specs.Prelude.{slice_index}
-use Rattle.lft_tree.specs.Bytes.{is_digit}
+use Rattle.lft_lists.specs.Bytes.{is_digit}
 use Rattle.lft_syntax.proofs.piece.digits_end.Given as goal
 
 abbrev pub invariant-digits : goal.invariant-digits

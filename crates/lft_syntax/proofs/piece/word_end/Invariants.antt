@@ -1,6 +1,6 @@
 use Rattle.std.proofs.Common.{◌≡◌, ℕ, ◌-◌, ◌<◌, ◌≤◌, length, true}
 use Rattle.std.specs.Prelude.{slice_index}
-use Rattle.lft_tree.specs.Bytes.{is_word}
+use Rattle.lft_lists.specs.Bytes.{is_word}
 use Rattle.lft_syntax.proofs.piece.word_end.Given as goal
 
 abbrev pub invariant-word : goal.invariant-word

@@ -5,7 +5,7 @@ use Rattle.lft_flat.specs.Parts.{Parts}
 use Rattle.lft_trace.specs.Records.{IsNext, records_left, records_of}
 use Rattle.lft_trace.specs.Tables.{Begins}
 use Rattle.lft_trace.specs.Traces.{IsRow, header, trace_tables}
-use Rattle.lft_trace.specs.declared.row.Row.{Row}
+use Rattle.lft_steps.specs.declared.row.Row.{Row}
 use Rattle.lft_trace.proofs.TableFacts.{Texts, begins_more, fewer}
 use Rattle.lft_trace.proofs.trace_table.read_part.Goals as goal
 

@@ -2,7 +2,7 @@ use Rattle.std.proofs.Common.{◌≡◌, ◌≤◌, ◌∙◌, ℕ, List, [], le
 use Rattle.lft_tag.specs.declared.Tag.{Tag}
 use Rattle.lft_tag.specs.Tags.{UpTo}
 use Rattle.lft_flat.specs.Parts.{Parts}
-use Rattle.lft_trace.specs.Inputs.{ExternalInputs}
+use Rattle.lft_steps.specs.Inputs.{ExternalInputs}
 use Rattle.lft_graph.specs.Graph.{GraphParts, IsGraphOf}
 use Rattle.lft_agenda.specs.declared.turn.phase.Phase.TheVariants.{Idle}
 use Rattle.lft_agenda.specs.Listeners.{AreListeners, AreArrivals}

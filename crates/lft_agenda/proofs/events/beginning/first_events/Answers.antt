@@ -4,8 +4,8 @@ use Rattle.lft_tag.specs.Tags.{Before, UpTo}
 use Rattle.lft_flat.specs.declared.parts.Value.{Value}
 use Rattle.lft_flat.specs.declared.parts.Name.{Name}
 use Rattle.lft_flat.specs.declared.parts.Name.TheVariants.{Action}
-use Rattle.lft_trace.specs.declared.externals.Event.{Event}
-use Rattle.lft_trace.specs.Inputs.{ExternalInputs, InOrder}
+use Rattle.lft_steps.specs.declared.externals.Event.{Event}
+use Rattle.lft_steps.specs.Inputs.{ExternalInputs, InOrder}
 use Rattle.lft_queue.specs.Pending.{Pending, value_of, Becomes}
 use Rattle.lft_agenda.proofs.Given.{IsGiven, given_late, given_put, none_given, none_begun, all_given, up_to}
 use Rattle.lft_agenda.proofs.events.beginning.first_events.Goals as goal

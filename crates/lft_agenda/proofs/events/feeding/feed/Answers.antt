@@ -1,7 +1,7 @@
 use Rattle.std.proofs.Common.{◌++◌, List, None, map, take, sym, subst, arith, append-nil}
 use Rattle.std.proofs.lemmas.List.{take_all}
-use Rattle.lft_trace.specs.declared.row.Row.{Row}
-use Rattle.lft_trace.specs.declared.row.Step.{Step}
+use Rattle.lft_steps.specs.declared.row.Row.{Row}
+use Rattle.lft_steps.specs.declared.row.Step.{Step}
 use Rattle.lft_model.specs.Recorded.{run_row}
 use Rattle.lft_agenda.specs.Events.{HasEvents}
 use Rattle.lft_agenda.proofs.Steps.{step_more, end_fed}

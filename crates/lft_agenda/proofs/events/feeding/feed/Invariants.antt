@@ -1,6 +1,6 @@
 use Rattle.std.proofs.Common.{ℕ, List, None, ◌++◌, map, take}
 use Rattle.lft_tag.specs.Tags.{UpTo}
-use Rattle.lft_trace.specs.declared.row.Row.{Row}
+use Rattle.lft_steps.specs.declared.row.Row.{Row}
 use Rattle.lft_model.specs.Recorded.{run_row}
 use Rattle.lft_agenda.specs.Events.{HasEvents}
 use Rattle.lft_agenda.proofs.events.feeding.feed.Given as goal

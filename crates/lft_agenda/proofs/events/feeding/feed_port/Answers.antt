@@ -5,7 +5,7 @@ use Rattle.lft_tag.specs.Shifts.{shifted}
 use Rattle.lft_flat.specs.Parts.{Parts}
 use Rattle.lft_flat.specs.declared.parts.Port.{Port as PortOf}
 use Rattle.lft_flat.specs.declared.parts.Name.TheVariants.{Port}
-use Rattle.lft_trace.specs.declared.row.Step.TheVariants.{Write}
+use Rattle.lft_steps.specs.declared.row.Step.TheVariants.{Write}
 use Rattle.lft_lists.proofs.Places.{same_some}
 use Rattle.lft_queue.specs.Pending.{Pending, Becomes}
 use Rattle.lft_model.specs.Recorded.{run_row}

@@ -4,7 +4,7 @@ use Rattle.lft_tag.specs.Tags.{after}
 use Rattle.lft_flat.specs.Parts.{Parts}
 use Rattle.lft_flat.specs.declared.parts.Action.{Action as ActionOf}
 use Rattle.lft_flat.specs.declared.parts.Name.TheVariants.{Action}
-use Rattle.lft_trace.specs.declared.row.Step.TheVariants.{Schedule}
+use Rattle.lft_steps.specs.declared.row.Step.TheVariants.{Schedule}
 use Rattle.lft_model.specs.Presence.{min_delay}
 use Rattle.lft_model.specs.Recorded.{run_row}
 use Rattle.lft_agenda.specs.Events.{IsPut, HasEvents}

@@ -1,8 +1,8 @@
 use Rattle.std.proofs.Common.{ℕ, List, take}
 use Rattle.lft_tag.specs.Tags.{UpTo}
 use Rattle.lft_flat.specs.declared.parts.Name.TheVariants.{Port}
-use Rattle.lft_trace.specs.declared.row.Row.{Row}
-use Rattle.lft_trace.specs.declared.row.Step.TheVariants.{Write}
+use Rattle.lft_steps.specs.declared.row.Row.{Row}
+use Rattle.lft_steps.specs.declared.row.Step.TheVariants.{Write}
 use Rattle.lft_model.specs.Recorded.{run_row}
 use Rattle.lft_agenda.specs.Events.{HasEvents, IsFedTo}
 use Rattle.lft_agenda.proofs.events.feeding.feed_write.Given as goal

@@ -1,5 +1,5 @@
 use Rattle.std.proofs.Common.{◌≡◌, ◌↔◌, List, Some, not, slice_get, subst, true}
-use Rattle.lft_trace.specs.declared.row.Row.{Row}
+use Rattle.lft_steps.specs.declared.row.Row.{Row}
 use Rattle.lft_lists.proofs.Places.{same_some}
 use Rattle.lft_by_tag.specs.Reads.{TellsWrongRead}
 use Rattle.lft_by_tag.proofs.RightReads.{tells_start, tells_read}

@@ -1,6 +1,6 @@
 use Rattle.std.proofs.Common.{List, subst}
 use Rattle.lft_flat.specs.Parts.{Parts}
-use Rattle.lft_trace.specs.declared.row.Row.{Row}
+use Rattle.lft_steps.specs.declared.row.Row.{Row}
 use Rattle.lft_rows.specs.Marks.{AreMarks}
 use Rattle.lft_by_tag.proofs.Absent.{slice_past}
 use Rattle.lft_by_tag.proofs.sliced.Sliced.walk_over.Goals as goal

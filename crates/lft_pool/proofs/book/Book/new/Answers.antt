@@ -1,7 +1,7 @@
 use Rattle.std.proofs.Common.{◌≡◌, arith, ◌∙◌, [], ℕ, ℤ, pos, List, Some, slice_get, refl, sym, subst, rules}
 use Rattle.lft_flat.specs.Parts.{Parts}
 use Rattle.lft_flat.specs.declared.parts.Reaction.{Reaction}
-use Rattle.lft_trace.specs.declared.row.Row.{Row}
+use Rattle.lft_steps.specs.declared.row.Row.{Row}
 use Rattle.lft_pool.specs.Books.{IsRecording, IsKept}
 use Rattle.lft_agenda.specs.Agendas.{IsAgenda}
 use Rattle.lft_pool.proofs.Known.{empty_recording}

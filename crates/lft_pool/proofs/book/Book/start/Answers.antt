@@ -1,7 +1,7 @@
 use Rattle.std.proofs.Common.{◌≡◌, ◌≤◌, ◌<◌, ◌+◌, ◌++◌, ℕ, slice_index, List, Option, Some, None, length, length-append, length-set, slice_get, refl, sym, ap, ◌∙◌, subst, arith, rules, unwrap_or, option_map, []}
 use Rattle.std.proofs.lemmas.Int.{to_z-of_z}
 use Rattle.lft_tag.specs.Tags.{IsRecorded}
-use Rattle.lft_trace.specs.declared.row.Row.{Row}
+use Rattle.lft_steps.specs.declared.row.Row.{Row}
 use Rattle.lft_flat.specs.declared.parts.Reaction.{Reaction}
 use Rattle.lft_flat.specs.Parts.{inputs}
 use Rattle.lft_model.specs.Presence.{Inputs, Shows}

@@ -1,7 +1,7 @@
 use Rattle.std.proofs.Common.{◌≡◌, refl, ap, ◌∙◌, subst, Some, slice_get}
 use Rattle.lft_tag.specs.declared.Tag.{Tag}
-use Rattle.lft_trace.specs.declared.row.Row.{Row}
-use Rattle.lft_trace.specs.declared.row.Step.TheVariants.{Start}
+use Rattle.lft_steps.specs.declared.row.Row.{Row}
+use Rattle.lft_steps.specs.declared.row.Step.TheVariants.{Start}
 use Rattle.lft_model.specs.Runs.{start_row}
 use Rattle.lft_rows.proofs.Steps.{row_eq}
 use Rattle.lft_stream.proofs.start_tags.StartTags.pass_all.Goals as goal

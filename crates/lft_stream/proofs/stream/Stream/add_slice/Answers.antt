@@ -3,14 +3,14 @@ use Rattle.lft_tag.specs.declared.Tag.{Tag}
 use Rattle.lft_tag.specs.Tags.{UpTo, after}
 use Rattle.lft_flat.specs.Parts.{Parts}
 use Rattle.lft_flat.specs.declared.parts.Value.{Value}
-use Rattle.lft_trace.specs.Inputs.{ExternalInputs}
+use Rattle.lft_steps.specs.Inputs.{ExternalInputs}
 use Rattle.lft_rows.specs.Marks.{AreMarks}
-use Rattle.lft_stream.specs.Channels.{caused_by}
-use Rattle.lft_stream.specs.Coming.{to_come, IsReached}
-use Rattle.lft_stream.specs.declared.coming.Coming.{Coming}
-use Rattle.lft_stream.specs.Lanes.{held}
-use Rattle.lft_stream.specs.declared.writes.Written.{Written}
-use Rattle.lft_stream.specs.Writes.{AreEarlier}
+use Rattle.lft_coming.specs.Channels.{caused_by}
+use Rattle.lft_coming.specs.Coming.{to_come, IsReached}
+use Rattle.lft_coming.specs.declared.coming.Coming.{Coming}
+use Rattle.lft_coming.specs.Lanes.{held}
+use Rattle.lft_coming.specs.declared.writes.Written.{Written}
+use Rattle.lft_coming.specs.Writes.{AreEarlier}
 use Rattle.lft_stream.proofs.Parting.{rows_of, are_at, part_fits}
 use Rattle.lft_stream.proofs.Keeping.{own_kept, at_hand, slice_grows}
 use Rattle.lft_stream.proofs.stream.Stream.add_slice.Goals as goal

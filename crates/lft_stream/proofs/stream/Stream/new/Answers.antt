@@ -1,10 +1,10 @@
 use Rattle.std.proofs.Common.{None, [], refl, ap, ◌∙◌, subst}
 use Rattle.lft_tag.specs.declared.Tag.{Tag}
 use Rattle.lft_flat.specs.Parts.{Parts}
-use Rattle.lft_trace.specs.Inputs.{ExternalInputs}
-use Rattle.lft_stream.specs.Channels.{AreChannels}
+use Rattle.lft_steps.specs.Inputs.{ExternalInputs}
+use Rattle.lft_coming.specs.Channels.{AreChannels}
 use Rattle.lft_stream.specs.StartTags.{AreStartTags}
-use Rattle.lft_stream.specs.Writes.{AreEarlier}
+use Rattle.lft_coming.specs.Writes.{AreEarlier}
 use Rattle.lft_stream.proofs.Keeping.{begins_kept}
 use Rattle.lft_stream.proofs.stream.Stream.new.Goals as goal
 

@@ -5,7 +5,7 @@ use Rattle.std.specs.Prelude.{is_some}
 use Rattle.lft_flat.specs.declared.parts.Value.{Value}
 use Rattle.lft_trace.specs.ExternalTables.{Clash, Has}
 use Rattle.lft_trace.specs.Keys.{event_at}
-use Rattle.lft_trace.specs.declared.externals.Event.{Event}
+use Rattle.lft_steps.specs.declared.externals.Event.{Event}
 use Rattle.lft_trace.proofs.EventFacts.{Key, apart, found, inserted, key_cmp}
 use Rattle.lft_trace.proofs.event_map.EventMap.insert.Goals as goal
 

@@ -1,0 +1,12 @@
+use Rattle.std.proofs.Common.{◌++◌, ◌∷◌, [], List, take, refl, ap, ◌∙◌, append_assoc}
+use Rattle.lft_flat.specs.declared.parts.Value.{Value}
+use Rattle.lft_coming.specs.Coming.{to_come, scheduled_by}
+use Rattle.lft_coming.specs.Lanes.{held}
+use Rattle.lft_coming.proofs.Scheduled.{held_more}
+use Rattle.lft_coming.proofs.scheduling.schedule_all.Goals as goal
+
+pub loop-place-preserved : goal.loop-place-preserved
+loop-place-preserved c = λ events h n up.
+    let plan = c.args.plan.now in
+    let rows = c.args.rows.now in
+    c.if-not-schedule.ensures refl events h n up ∙ ap (λ (vs : List Value). vs ++ held (scheduled_by plan (c.row_at.result ∷ []) n) h) (c.loop-place.invariant events h n up) ∙ append_assoc (to_come events c.args.coming.now h n) (held (scheduled_by plan (take c.loop-place.place rows) n) h) (held (scheduled_by plan (c.row_at.result ∷ []) n) h) ∙ ap (λ (vs : List Value). to_come events c.args.coming.now h n ++ vs) (held_more plan rows c.loop-place.place c.row_at.result n h c.row_at.ensures)

@@ -1,0 +1,78 @@
+-- The ports behind delays, and the events that writes carry to them.
+use Rattle.std.specs.Prelude.{◌≡◌, ◌≢◌, ℕ, ◌<◌, ◌⊎◌, Bool, false, not, cond, ◌&&◌, ◌==◌, List, [], ◌++◌, length, Option, Some, None, slice_get, Contains, unwrap_or, option_map, option_to_list}
+use Rattle.lft_tag.specs.declared.Tag.{Tag}
+use Rattle.lft_tag.specs.Tags.{Before, UpTo}
+use Rattle.lft_tag.specs.Shifts.{shifted}
+use Rattle.lft_flat.specs.Parts.{Parts}
+use Rattle.lft_flat.specs.declared.parts.Port.{Port as PortOf}
+use Rattle.lft_flat.specs.declared.parts.Name.{Name}
+use Rattle.lft_flat.specs.declared.parts.Name.TheVariants.{Port, Action}
+use Rattle.lft_flat.specs.declared.parts.Value.{Value}
+use Rattle.lft_steps.specs.declared.row.Row.{Row}
+use Rattle.lft_steps.specs.declared.row.Step.TheVariants.{Write}
+use Rattle.lft_steps.specs.declared.externals.Event.{Event}
+use Rattle.lft_model.specs.Plans.{PlanParts}
+use Rattle.lft_queue.specs.Pending.{same_key}
+use Rattle.lft_coming.specs.AtOnce.{is_undelayed, origin_of}
+use Rattle.lft_coming.specs.Coming.{to_come, IsClear, IsNoLater}
+use Rattle.lft_coming.specs.declared.coming.Coming.{Coming}
+use Rattle.lft_coming.specs.declared.writes.Written.{Written}
+use Rattle.lft_coming.specs.Lanes.{held, made}
+use Rattle.lft_coming.specs.Shown.{last_write}
+use Rattle.lft_coming.specs.Writes.{value_at}
+
+-- the test of a port that lies behind a delay of origin o
+abbrev pub is_behind : Parts → ℕ → ℕ → Bool
+is_behind program o p = unwrap_or (option_map (λ x. (x.origin == o) && not (is_undelayed program p)) (slice_get program.ports p)) false
+
+-- where a write at g arrives at a port
+abbrev pub arrives_at : Parts → Tag → ℕ → Tag
+arrives_at program g p = unwrap_or (option_map (λ x. shifted g (x.shift.time, x.shift.steps)) (slice_get program.ports p)) g
+
+-- the value that a write of origin o at g carries to a port, if that is name n and the write arrives at h
+abbrev pub arrival : Parts → ℕ → Tag → Value → Tag → Name → ℕ → Option Value
+arrival program o g v h n p = cond (is_behind program o p && same_key (arrives_at program g p) (Port p) h n) (Some v) None
+
+-- the list of each origin has all ports that lie behind a delay of it
+pub record AreChannels (program : Parts) (lists : List (List ℕ)) : Type 0 where
+  pub as_long : length lists ≡ length program.ports
+  pub each : (p : ℕ) (port : PortOf) (list : List ℕ) → slice_get program.ports p ≡ Some port → is_undelayed program p ≡ false → slice_get lists port.origin ≡ Some list → Contains list p
+
+-- the event that the rows u at g make of a port: one, of its origin's last write
+abbrev pub carried_to : Parts → List Row → Tag → ℕ → List (Tag × Value)
+carried_to program u g p = option_to_list (option_map (λ v. (arrives_at program g p, v)) (last_write u g (origin_of program p)))
+
+-- the events that last writes of the rows u at g make of a name
+abbrev pub carried_by : Parts → List Row → Tag → Name → List (Tag × Value)
+carried_by program u g (Port p) = carried_to program u g p
+carried_by program u g (Action a) = []
+
+-- the events that the rows u at g make of a name
+abbrev pub caused_by : PlanParts → List Row → Tag → Name → List (Tag × Value)
+caused_by plan u g (Port p) = carried_to plan.program u g p
+caused_by plan u g (Action a) = made plan u a
+
+-- the event of port p is put, where it is up to the stop tag, and the write that makes it is kept no more
+pub record IsCarried (program : Parts) (u : List Row) (g last : Tag) (p : ℕ) (old new : Coming) (writes : List (Option Written)) : Type 0 where
+  pub put : (events : List Event) (h : Tag) → Before g h → UpTo h last → to_come events new h (Port p) ≡ to_come events old h (Port p) ++ held (carried_to program u g p) h
+  pub gone : (w : Option Written) → slice_get writes (origin_of program p) ≡ Some w → value_at g w ≡ None
+
+-- no event of port p up to the stop tag is put yet: none of so many first rows writes its origin, and the last write is kept
+pub record IsUncarried (program : Parts) (u : List Row) (g last : Tag) (count p : ℕ) (old new : Coming) (writes : List (Option Written)) : Type 0 where
+  pub same : (events : List Event) (h : Tag) → UpTo h last → to_come events new h (Port p) ≡ to_come events old h (Port p)
+  pub kept : (w : Option Written) → slice_get writes (origin_of program p) ≡ Some w → value_at g w ≡ last_write u g (origin_of program p)
+  pub unwritten : (i : ℕ) (x : Row) (v : Value) → i < count → slice_get u i ≡ Some x → x.step ≢ Write (Port (origin_of program p)) v
+
+-- so many first rows of u, all at g, have carried what they write up to the stop tag: each port has its event, or none yet
+pub record AreCarried (program : Parts) (u : List Row) (g last : Tag) (count : ℕ) (old new : Coming) (writes : List (Option Written)) : Type 0 where
+  pub as_long : length writes ≡ length program.ports
+  pub up_to : (p : ℕ) (w : Written) → slice_get writes p ≡ Some (Some w) → UpTo w.tag g
+  pub actions : (events : List Event) (h : Tag) (a : ℕ) → UpTo h last → to_come events new h (Action a) ≡ to_come events old h (Action a)
+  pub ports : (p : ℕ) → IsCarried program u g last p old new writes ⊎ IsUncarried program u g last count p old new writes
+
+-- so many first rows have carried what they write, of all tags that are clear of what is noted
+pub record AreCarriedClear (program : Parts) (u : List Row) (g last : Tag) (count : ℕ) (clash noted : Option Tag) (old new : Coming) (writes : List (Option Written)) : Type 0 where
+  pub as_long : length writes ≡ length program.ports
+  pub up_to : (p : ℕ) (w : Written) → slice_get writes p ≡ Some (Some w) → UpTo w.tag g
+  pub no_later : IsNoLater clash noted
+  pub carried : (h : Tag) → UpTo h last → IsClear noted h → AreCarried program u g h count old new writes

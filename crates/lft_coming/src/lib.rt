@@ -1,0 +1,18 @@
+#![tactic(auto)]
+//! The events to come, and what rows cause at later tags.
+
+mod at_once;
+mod channels;
+mod coming;
+mod listeners;
+mod number_lists;
+mod scheduling;
+mod writes;
+
+pub use at_once::is_undelayed;
+pub use channels::channels_of;
+pub use coming::Coming;
+pub use listeners::Listeners;
+pub use number_lists::NumberLists;
+pub use scheduling::{note_pass_on, pass_on};
+pub use writes::{Writes, written_port};

@@ -1,0 +1,14 @@
+-- What a row reads.
+use Rattle.std.specs.Prelude.{Option, Some, None}
+use Rattle.lft_flat.specs.declared.parts.Value.{Value}
+use Rattle.lft_steps.specs.declared.row.Step.{Step}
+use Rattle.lft_steps.specs.declared.row.Step.TheVariants.{Start, Read, Write, Schedule, Stop, End}
+
+-- the value that a step reads
+abbrev pub value_read : Step → Option Value
+value_read (Read n v) = Some v
+value_read Start = None
+value_read (Write n v) = None
+value_read (Schedule n v d) = None
+value_read Stop = None
+value_read End = None

@@ -1,0 +1,107 @@
+//! External inputs.
+
+ghost use Rattle.std.specs.Prelude.{◌≡◌, ◌↔◌, IfOk, IsTrue};
+
+use crate::fits::{event_fits, is_recorded};
+use crate::same::same_events;
+use lft_flat::{Program, Value};
+use lft_tag::{MAX_ROWS, NoMemory, Tag};
+use std::alloc::Global;
+use std::marker::Model;
+
+/// An event of a physical action.
+#[derive(Clone, Copy, PartialEq, Eq, Debug, Drop)]
+pub struct Event {
+    pub tag: Tag,
+    pub action: u32,
+    pub value: Value,
+}
+
+/// The stop tag, and the events in ascending order of tag and action, each pair once: a map from
+/// (tag, action) to value.
+#[derive(Debug, Drop)]
+pub struct Externals {
+    stop: Tag,
+    events: Vec<Event>,
+}
+
+impl Model for Externals {
+    ghost use Rattle.lft_steps.specs.Inputs.{ExternalInputs};
+
+    ghost Value = { ExternalInputs };
+
+    ghost view = { λ a. record { stop = a.stop; events = a.events.items } };
+
+    ghost use Rattle.lft_steps.specs.Inputs.{InOrder};
+
+    ghost invariant = { λ a. InOrder a.events.items };
+}
+
+impl Externals {
+    ghost use Rattle.lft_steps.specs.Fits.{ExternalsFit};
+    ghost use Rattle.lft_steps.specs.Inputs.{InOrder};
+
+    /// The external inputs of a stop tag and of events in their order. It takes no memory.
+    pub fn from_parts(stop: Tag, events: Vec<Event>) -> Externals
+        requires { InOrder events.items }
+        ensures { result ≡ record { stop = stop; events = events.items } }
+    {
+        Externals { stop, events }
+    }
+
+    /// Does nothing. It is called for its clause, where code has external inputs and a proof needs
+    /// what all of them keep: their events stand in order.
+    pub fn keeps(&self)
+        ensures order { InOrder self.now.events }
+    {
+        let _ = &self.events;
+    }
+
+    /// The greatest tag of the execution.
+    pub fn stop(&self) -> Tag
+        ensures { result ≡ self.now.stop }
+    {
+        self.stop
+    }
+
+    /// The events, ascending by tag and then by action.
+    pub fn events(&self) -> &[Event]
+        ensures value { result.now ≡ self.now.events }
+        ensures order { InOrder self.now.events }
+    {
+        self.events.as_slice()
+    }
+
+    /// Whether all actions are of the program and all tags recorded, in at most 4,000,000 events.
+    /// It takes no memory.
+    pub fn fits(&self, program: &Program) -> bool
+        ensures { IsTrue result ↔ ExternalsFit program.now self.now }
+    {
+        if self.events.len() > MAX_ROWS || !is_recorded(self.stop) {
+            return false;
+        }
+        for at in 0..self.events.len() {
+            if !event_fits(self.events[at], program) {
+                return false;
+            }
+        }
+        true
+    }
+
+    /// Whether the two have the same stop tag and the same events. It takes no memory.
+    pub fn same(&self, other: &Externals) -> bool
+        ensures { IsTrue result ↔ (self.now ≡ other.now) }
+    {
+        other.stop.is_same(self.stop)
+            && same_events(self.events.as_slice(), other.events.as_slice())
+    }
+
+    /// The same external inputs.
+    pub fn copy(&self, alloc: Global) -> Result<Externals, NoMemory>
+        ensures { IfOk result (λ copy. copy ≡ self.now) }
+    {
+        let stop = self.stop();
+        let events = Vec::from_slice(alloc, self.events())?;
+        Ok(Externals::from_parts(stop, events))
+    }
+}
