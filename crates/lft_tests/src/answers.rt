@@ -1,9 +1,9 @@
 //! Bodies whose answers are made beforehand.
 
-ghost use Rattle.std.specs.Prelude.{◌≡◌, OnOk, length};
+ghost use Rattle.std.specs.Prelude.{◌≡◌, IfOk, OnOk, length};
 
 use lft_flat::{Name, Value};
-use lft_model::Reads;
+use lft_model::{Plan, Reads};
 use lft_pool::{AnyAnswer, Bodies, Body, Code, Done, Steps};
 use lft_steps::Step;
 use lft_tag::{NoMemory, Tag};
@@ -67,15 +67,39 @@ pub(crate) fn put_body<C: Code + Drop>(
     }
 }
 
-/// Puts a body with this answer behind the others of its reaction.
-pub(crate) fn put(
-    bodies: &mut PreparedBodies,
-    reaction: u32,
-    answer: Result<Done, NoMemory>,
-) -> Result<(), NoMemory>
-    ensures { OnOk result (length bodies.new ≡ length bodies.old) }
+/// What the body of a run of this reaction answers: the state word that it leaves, and its steps.
+#[derive(Clone, Copy)]
+pub(crate) struct Answer<'a> {
+    pub(crate) reaction: u32,
+    pub(crate) state: i64,
+    pub(crate) steps: &'a [Step],
+}
+
+/// The body with this answer, or with want of memory in its place.
+fn body_of(alloc: Global, answer: Answer<'_>, is_failing: bool) -> PreparedBody {
+    let done = if is_failing {
+        Err(NoMemory)
+    } else {
+        done(alloc, answer.state, answer.steps)
+    };
+    body(answer.reaction, done)
+}
+
+/// Bodies with these answers, each behind the others of its reaction. That of this place answers want
+/// of memory.
+pub(crate) fn bodies_of(
+    alloc: Global,
+    plan: &Plan,
+    answers: &[Answer<'_>],
+    failing: Option<usize>,
+) -> Result<PreparedBodies, NoMemory>
+    ensures { IfOk result (λ bodies. length bodies ≡ length plan.now.program.reactions) }
 {
-    put_body(bodies, body(reaction, answer))
+    let mut bodies = PreparedBodies::new(alloc, plan.program())?;
+    for (place, answer) in answers.iter().enumerate() {
+        put_body(&mut bodies, body_of(alloc, *answer, failing == Some(place)))?;
+    }
+    Ok(bodies)
 }
 
 /// The step that writes a number to a port.

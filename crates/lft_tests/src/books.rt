@@ -1,172 +1,37 @@
 //! Books driven by hand: what a ticket has, what rows a book has in the end, and that judging accepts
 //! them; what answers a book refuses.
 
-ghost use Rattle.std.specs.Prelude.{◌≡◌, IfOk, length};
+ghost use Rattle.std.specs.Prelude.{◌≡◌};
 
-use crate::answers::{Prepared, PreparedBodies, PreparedBody, body, done, put, write};
+use crate::answers::{Answer, Prepared, PreparedBodies, PreparedBody, bodies_of, body, done};
 use crate::texts::{AT_ONCE, PIPE, TWO, is_accepted, is_table, plan};
-use lft_flat::Value;
+use lft_flat::{Name, Value};
 use lft_model::{Plan, Reads};
-use lft_pool::{Answered, AnyAnswer, Begin, Book, Closed, Done, PutFault, States, Stop, Ticket};
+use lft_pool::{Answered, AnyAnswer, Begin, Book, Closed, PutFault, Stop, Ticket};
+use lft_steps::Step;
 use lft_tag::{NoMemory, Tag};
 use std::alloc::Global;
-use std::process::Abort;
 use std::test::Fail;
 
 /// A book of prepared bodies.
 type PreparedBook = Book<AnyAnswer, Prepared>;
 
-const FIRST: Tag = Tag { time: 0, micro: 0 };
-
-const LATER: Tag = Tag { time: 0, micro: 1 };
-
-/// One body for each of two reactions, with this answer.
-fn two_bodies(
-    alloc: Global,
-    plan: &Plan,
-    first: Result<Done, NoMemory>,
-    second: Result<Done, NoMemory>,
-) -> Result<PreparedBodies, NoMemory>
-    ensures { IfOk result (λ bodies. length bodies ≡ length plan.now.program.reactions) }
-{
-    let mut bodies = PreparedBodies::new(alloc, plan.program())?;
-    put(&mut bodies, 0, first)?;
-    put(&mut bodies, 1, second)?;
-    Ok(bodies)
-}
-
-/// One body for the second of two reactions.
-fn last_body(alloc: Global, plan: &Plan) -> Result<PreparedBodies, NoMemory>
-    ensures { IfOk result (λ bodies. length bodies ≡ length plan.now.program.reactions) }
-{
-    let mut bodies = PreparedBodies::new(alloc, plan.program())?;
-    put(&mut bodies, 1, done(alloc, 0, &[]))?;
-    Ok(bodies)
-}
-
-/// A book of at most ten runs.
-fn new_book(alloc: Global, plan: Plan, bodies: PreparedBodies) -> Result<PreparedBook, NoMemory>
-    requires { length bodies ≡ length plan.program.reactions }
-{
+/// A book of at most ten runs of a plan, with bodies of these answers.
+fn book_on(alloc: Global, plan: Plan, answers: &[Answer<'_>]) -> Result<PreparedBook, NoMemory> {
+    let bodies = bodies_of(alloc, &plan, answers, None)?;
     match Book::new(alloc, plan, bodies, 10) {
         Ok(book) => Ok(book),
         Err(_) => Err(NoMemory),
     }
 }
 
-/// The book of a program of two reactions, each with one body of this answer.
+/// The same of a program's text, up to its first tag.
 fn book_of(
     alloc: Global,
     program: &[u8],
-    first: Result<Done, NoMemory>,
-    second: Result<Done, NoMemory>,
-) -> Result<PreparedBook, Fail> {
-    let plan = plan(alloc, program, AT_ONCE)?;
-    let bodies = two_bodies(alloc, &plan, first, second)?;
-    Ok(new_book(alloc, plan, bodies)?)
-}
-
-/// What the body answers to the run that the worker begins: at the first tag, of this reaction, with
-/// these reads.
-fn answered(
-    rt: &impl Abort,
-    alloc: Global,
-    book: &mut PreparedBook,
-    worker: u32,
-    reaction: u32,
-    reads: &[Option<Value>],
-) -> Answered<AnyAnswer> {
-    let Ok(Begin::Run(ticket, body)) = book.begin(worker) else {
-        panic!(rt; "worker {worker} begins no run");
-    };
-    assert!(rt; ticket.worker == worker && ticket.tag == FIRST && ticket.reaction == reaction);
-    assert!(rt; ticket.state == 0 && ticket.reads.as_slice() == reads);
-    body.call(alloc, ticket)
-}
-
-/// Whether the worker has to wait.
-fn waits(book: &mut PreparedBook, worker: u32) -> bool {
-    matches!(book.begin(worker), Ok(Begin::Wait))
-}
-
-/// Closes a book of which nothing is left: its rows are this table, and judging accepts them as two
-/// runs at one tag. The state words before and after each run are answered.
-fn close(
-    rt: &impl Abort,
-    alloc: Global,
-    mut book: PreparedBook,
-    table: &[u8],
-) -> Result<States, Fail> {
-    assert!(rt; matches!(book.begin(0), Ok(Begin::Finished)));
-    let closed = book.close();
-    assert!(rt; closed.reason.is_none());
-    assert!(rt; is_table(alloc, &closed.plan, &closed.rows, table)?);
-    assert!(rt; is_accepted(alloc, &closed.plan, &closed.rows)?);
-    Ok(closed.states)
-}
-
-const PIPE_TABLE: &[u8] = b"event,worker,time,microstep,reaction,name,value,delay
-start,0,0,0,main.a#1,,,
-write,0,0,0,main.a#1,main.a.out,1,
-end,0,0,0,main.a#1,,,
-start,1,0,0,main.b#1,,,
-read,1,0,0,main.b#1,main.b.x,1,
-end,1,0,0,main.b#1,,,
-";
-
-#[test]
-fn books_a_pipe(rt: HostRuntime) -> Result<(), Fail> {
-    let alloc = rt.alloc();
-    let (first, second) = (done(alloc, 5, &[write(0, 1)]), done(alloc, 6, &[]));
-    let mut book = book_of(alloc, PIPE, first, second)?;
-    let first = answered(&rt, alloc, &mut book, 0, 0, &[]);
-    assert!(rt; waits(&mut book, 0) && waits(&mut book, 1));
-    assert!(rt; book.commit(first).is_ok());
-    let second = answered(&rt, alloc, &mut book, 1, 1, &[Some(Value::Int(1))]);
-    assert!(rt; book.commit(second).is_ok());
-    let states = close(&rt, alloc, book, PIPE_TABLE)?;
-    assert!(rt; states.as_slice() == [(0, 5), (0, 6)].as_slice());
-    Ok(())
-}
-
-/// Two runs that are begun in their order, and end in their order.
-const IN_ORDER: &[u8] = b"event,worker,time,microstep,reaction,name,value,delay
-start,0,0,0,main.p#1,,,
-start,1,0,0,main.q#1,,,
-write,0,0,0,main.p#1,main.p.o,1,
-end,0,0,0,main.p#1,,,
-write,1,0,0,main.q#1,main.q.o,1,
-end,1,0,0,main.q#1,,,
-";
-
-/// The second one ends first.
-const TURNED: &[u8] = b"event,worker,time,microstep,reaction,name,value,delay
-start,0,0,0,main.p#1,,,
-start,1,0,0,main.q#1,,,
-write,1,0,0,main.q#1,main.q.o,1,
-end,1,0,0,main.q#1,,,
-write,0,0,0,main.p#1,main.p.o,1,
-end,0,0,0,main.p#1,,,
-";
-
-#[test]
-fn books_two_in_either_order(rt: HostRuntime) -> Result<(), Fail> {
-    let alloc = rt.alloc();
-    for (turned, table) in [(false, IN_ORDER), (true, TURNED)] {
-        let (p, q) = (
-            done(alloc, 0, &[write(0, 1)]),
-            done(alloc, 0, &[write(1, 1)]),
-        );
-        let mut book = book_of(alloc, TWO, p, q)?;
-        let p = answered(&rt, alloc, &mut book, 0, 0, &[]);
-        let q = answered(&rt, alloc, &mut book, 1, 1, &[]);
-        assert!(rt; waits(&mut book, 2));
-        let (first, second) = if turned { (q, p) } else { (p, q) };
-        assert!(rt; book.commit(first).is_ok() && book.commit(second).is_ok());
-        let states = close(&rt, alloc, book, table)?;
-        assert!(rt; states.as_slice() == [(0, 0), (0, 0)].as_slice());
-    }
-    Ok(())
+    answers: &[Answer<'_>],
+) -> Result<PreparedBook, NoMemory> {
+    book_on(alloc, plan(alloc, program, AT_ONCE)?, answers)
 }
 
 /// What a ticket has.
@@ -179,17 +44,241 @@ struct Parts<'a> {
     reads: &'a [Option<Value>],
 }
 
+const FIRST_TAG: Tag = Tag { time: 0, micro: 0 };
+
+/// What the ticket of the first run of `PIPE` or `TWO` has, where the first worker begins it.
+const FIRST: Parts<'static> = Parts {
+    worker: 0,
+    tag: FIRST_TAG,
+    reaction: 0,
+    state: 0,
+    reads: &[],
+};
+
 /// What the ticket of the second run of `PIPE` has, where the second worker begins it.
 const SECOND: Parts<'static> = Parts {
     worker: 1,
-    tag: FIRST,
+    tag: FIRST_TAG,
     reaction: 1,
     state: 0,
     reads: &[Some(Value::Int(1))],
 };
 
+/// The same of `TWO`, whose second reaction reads nothing.
+const OTHER: Parts<'static> = Parts {
+    reads: &[],
+    ..SECOND
+};
+
+/// Whether a ticket has these parts.
+fn has(ticket: &Ticket, parts: Parts<'_>) -> bool {
+    ticket.worker == parts.worker
+        && ticket.tag == parts.tag
+        && ticket.reaction == parts.reaction
+        && ticket.state == parts.state
+        && ticket.reads.as_slice() == parts.reads
+}
+
+/// What the body answers to the ticket, if the ticket has these parts.
+fn answer_if(
+    alloc: Global,
+    ticket: Ticket,
+    body: PreparedBody,
+    parts: Parts<'_>,
+) -> Option<Answered<AnyAnswer>>
+    requires { ticket.reaction ≡ body }
+{
+    let is_so = has(&ticket, parts);
+    let answered = body.call(alloc, ticket);
+    if is_so { Some(answered) } else { None }
+}
+
+/// What the body answers to the run that the worker of these parts begins, if its ticket has them.
+fn answered(
+    alloc: Global,
+    book: &mut PreparedBook,
+    parts: Parts<'_>,
+) -> Option<Answered<AnyAnswer>> {
+    match book.begin(parts.worker) {
+        Ok(Begin::Run(ticket, body)) => answer_if(alloc, ticket, body, parts),
+        _ => None,
+    }
+}
+
+/// Whether the worker has to wait.
+fn waits(book: &mut PreparedBook, worker: u32) -> bool {
+    matches!(book.begin(worker), Ok(Begin::Wait))
+}
+
+/// Whether nothing is left to run.
+fn is_finished(book: &mut PreparedBook) -> bool {
+    matches!(book.begin(0), Ok(Begin::Finished))
+}
+
+/// Whether the book takes the answer.
+fn takes(book: &mut PreparedBook, answered: Answered<AnyAnswer>) -> bool {
+    book.commit(answered).is_ok()
+}
+
+/// Whether a run begins with these parts, and the book takes its answer.
+fn runs(alloc: Global, book: &mut PreparedBook, parts: Parts<'_>) -> bool {
+    match answered(alloc, book, parts) {
+        Some(answer) => takes(book, answer),
+        None => false,
+    }
+}
+
+/// What a book is to have in the end: the table of its rows, and the state words before and after
+/// each run.
+#[derive(Clone, Copy)]
+struct Whole<'a> {
+    table: &'a [u8],
+    states: [(i64, i64); 2],
+}
+
+/// Whether a book was closed with that, for no reason, and judging accepts the rows.
+fn is_whole(alloc: Global, closed: &Closed<AnyAnswer, Prepared>, whole: Whole<'_>) -> bool {
+    closed.reason.is_none()
+        && closed.states.as_slice() == whole.states.as_slice()
+        && is_table(alloc, &closed.plan, &closed.rows, whole.table)
+        && is_accepted(alloc, &closed.plan, &closed.rows)
+}
+
+/// Closes a book. Whether it has that.
+fn closes(alloc: Global, book: PreparedBook, whole: Whole<'_>) -> bool {
+    is_whole(alloc, &book.close(), whole)
+}
+
+/// The step that writes 1 to the first port.
+const WRITE: Step = Step::Write(Name::Port(0), Value::Int(1));
+
+/// The first reaction of `PIPE` writes 1, and each leaves a state word of its own.
+const PIPE_ANSWERS: &[Answer<'static>] = &[
+    Answer {
+        reaction: 0,
+        state: 5,
+        steps: &[WRITE],
+    },
+    Answer {
+        reaction: 1,
+        state: 6,
+        steps: &[],
+    },
+];
+
+const PIPE_WHOLE: Whole<'static> = Whole {
+    table: b"event,worker,time,microstep,reaction,name,value,delay
+start,0,0,0,main.a#1,,,
+write,0,0,0,main.a#1,main.a.out,1,
+end,0,0,0,main.a#1,,,
+start,1,0,0,main.b#1,,,
+read,1,0,0,main.b#1,main.b.x,1,
+end,1,0,0,main.b#1,,,
+",
+    states: [(0, 5), (0, 6)],
+};
+
+/// Whether the book keeps two workers waiting while the first run is open, and then has the second.
+fn runs_one_by_one(alloc: Global, book: &mut PreparedBook) -> bool {
+    let Some(first) = answered(alloc, book, FIRST) else {
+        return false;
+    };
+    let is_awaited = waits(book, 0) && waits(book, 1);
+    takes(book, first) && is_awaited && runs(alloc, book, SECOND) && is_finished(book)
+}
+
+#[test]
+fn books_a_pipe(rt: HostRuntime) -> Result<(), Fail> {
+    let mut book = book_of(rt.alloc(), PIPE, PIPE_ANSWERS)?;
+    assert!(rt; runs_one_by_one(rt.alloc(), &mut book));
+    assert!(rt; closes(rt.alloc(), book, PIPE_WHOLE));
+    Ok(())
+}
+
+/// Both reactions of `TWO` write 1.
+const TWO_ANSWERS: &[Answer<'static>] = &[
+    Answer {
+        reaction: 0,
+        state: 0,
+        steps: &[WRITE],
+    },
+    Answer {
+        reaction: 1,
+        state: 0,
+        steps: &[Step::Write(Name::Port(1), Value::Int(1))],
+    },
+];
+
+/// Two runs that are begun in their order, and end in their order.
+const IN_ORDER: Whole<'static> = Whole {
+    table: b"event,worker,time,microstep,reaction,name,value,delay
+start,0,0,0,main.p#1,,,
+start,1,0,0,main.q#1,,,
+write,0,0,0,main.p#1,main.p.o,1,
+end,0,0,0,main.p#1,,,
+write,1,0,0,main.q#1,main.q.o,1,
+end,1,0,0,main.q#1,,,
+",
+    states: [(0, 0), (0, 0)],
+};
+
+/// The second one ends first.
+const TURNED: Whole<'static> = Whole {
+    table: b"event,worker,time,microstep,reaction,name,value,delay
+start,0,0,0,main.p#1,,,
+start,1,0,0,main.q#1,,,
+write,1,0,0,main.q#1,main.q.o,1,
+end,1,0,0,main.q#1,,,
+write,0,0,0,main.p#1,main.p.o,1,
+end,0,0,0,main.p#1,,,
+",
+    states: [(0, 0), (0, 0)],
+};
+
+/// Whether a third worker waits while the second run is open too, and the book takes the answer to it
+/// and that to the first, in the one order or in the other.
+fn ends_both(
+    alloc: Global,
+    book: &mut PreparedBook,
+    first: Answered<AnyAnswer>,
+    is_turned: bool,
+) -> bool {
+    let Some(second) = answered(alloc, book, OTHER) else {
+        return false;
+    };
+    let is_awaited = waits(book, 2);
+    let (sooner, later) = if is_turned {
+        (second, first)
+    } else {
+        (first, second)
+    };
+    let is_taken = takes(book, sooner);
+    takes(book, later) && is_taken && is_awaited && is_finished(book)
+}
+
+/// The same of a book of `TWO` that has begun no run.
+fn runs_side_by_side(alloc: Global, book: &mut PreparedBook, is_turned: bool) -> bool {
+    match answered(alloc, book, FIRST) {
+        Some(first) => ends_both(alloc, book, first, is_turned),
+        None => false,
+    }
+}
+
+#[test]
+fn books_two_in_either_order(rt: HostRuntime) -> Result<(), Fail> {
+    for (is_turned, whole) in [(false, IN_ORDER), (true, TURNED)] {
+        let mut book = book_of(rt.alloc(), TWO, TWO_ANSWERS)?;
+        assert!(rt;
+            runs_side_by_side(rt.alloc(), &mut book, is_turned),
+            "{is_turned}"
+        );
+        assert!(rt; closes(rt.alloc(), book, whole), "{is_turned}");
+    }
+    Ok(())
+}
+
 /// An answer to a ticket of these parts that is made by hand.
-fn answer_to(alloc: Global, parts: Parts<'_>) -> Result<Answered<AnyAnswer>, NoMemory> {
+fn by_hand(alloc: Global, parts: Parts<'_>) -> Result<Answered<AnyAnswer>, NoMemory> {
     let ticket = Ticket {
         worker: parts.worker,
         tag: parts.tag,
@@ -200,110 +289,134 @@ fn answer_to(alloc: Global, parts: Parts<'_>) -> Result<Answered<AnyAnswer>, NoM
     Ok(body(ticket.reaction, done(alloc, 0, &[])).call(alloc, ticket))
 }
 
-/// A book of `PIPE` whose first run writes 1.
-fn pipe_book(alloc: Global) -> Result<PreparedBook, Fail> {
-    let first = done(alloc, 0, &[write(0, 1)]);
-    book_of(alloc, PIPE, first, done(alloc, 0, &[]))
-}
-
-/// Ends the first run of a book of `PIPE`, and begins the second one. What its body answers.
-fn second_answer(rt: &impl Abort, alloc: Global, book: &mut PreparedBook) -> Answered<AnyAnswer> {
-    let first = answered(rt, alloc, book, 0, 0, &[]);
-    assert!(rt; book.commit(first).is_ok());
-    answered(rt, alloc, book, 1, 1, &[Some(Value::Int(1))])
-}
-
-/// Whether the book refuses the answer as one to a ticket that it didn't give. What a book has stopped
-/// for is told to all that comes after it, also to the answer that it waited for.
-fn refuses(
+/// Ends the first run of a book of `PIPE` if that is asked. What the body answers to the run that is
+/// open then: to the second one, or else to the first.
+fn open_answer(
+    alloc: Global,
     book: &mut PreparedBook,
-    strange: Answered<AnyAnswer>,
+    is_second: bool,
+) -> Option<Answered<AnyAnswer>> {
+    if !is_second {
+        return answered(alloc, book, FIRST);
+    }
+    if !runs(alloc, book, FIRST) {
+        return None;
+    }
+    answered(alloc, book, SECOND)
+}
+
+/// Whether the book refuses the answer as one to a ticket that it didn't give.
+fn refuses(book: &mut PreparedBook, answered: Answered<AnyAnswer>) -> bool {
+    book.commit(answered) == Err(Stop::Stranger)
+}
+
+/// Whether the book has stopped for such an answer.
+fn is_stopped(book: &mut PreparedBook) -> bool {
+    matches!(book.begin(1), Err(Stop::Stranger))
+}
+
+/// Whether the book refuses an answer to a ticket of these parts. What a book has stopped for is told
+/// to all that comes after it, also to the answer that it waited for.
+fn refuses_both(
+    alloc: Global,
+    book: &mut PreparedBook,
+    parts: Parts<'_>,
     awaited: Answered<AnyAnswer>,
 ) -> bool {
-    book.commit(strange) == Err(Stop::Stranger)
-        && matches!(book.begin(1), Err(Stop::Stranger))
-        && book.commit(awaited) == Err(Stop::Stranger)
+    let Ok(strange) = by_hand(alloc, parts) else {
+        return false;
+    };
+    let is_strange = refuses(book, strange) && is_stopped(book);
+    refuses(book, awaited) && is_strange
 }
 
-#[test]
-fn refuses_a_strange_answer(rt: HostRuntime) -> Result<(), Fail> {
-    let alloc = rt.alloc();
-    let mut book = pipe_book(alloc)?;
-    let first = answered(&rt, alloc, &mut book, 0, 0, &[]);
-    let strange = answer_to(
-        alloc,
+/// The same of a book of `PIPE` with its second run open, or else its first.
+fn is_strange(alloc: Global, book: &mut PreparedBook, is_second: bool, parts: Parts<'_>) -> bool {
+    match open_answer(alloc, book, is_second) {
+        Some(awaited) => refuses_both(alloc, book, parts, awaited),
+        None => false,
+    }
+}
+
+/// A ticket of the second run while the first one is open; and, while the second one is open, what its
+/// ticket is with another worker, tag, reaction, state word and read value.
+const STRANGE: [(bool, Parts<'static>); 6] = [
+    (false, OTHER),
+    (
+        true,
         Parts {
-            reads: &[],
+            worker: 0,
             ..SECOND
         },
-    )?;
-    assert!(rt; refuses(&mut book, strange, first));
-    Ok(())
-}
-
-/// Whether a book whose run of `SECOND` is begun refuses an answer to a ticket of these parts.
-fn is_strange(rt: &impl Abort, alloc: Global, parts: Parts<'_>) -> Result<bool, Fail> {
-    let strange = answer_to(alloc, parts)?;
-    let mut book = pipe_book(alloc)?;
-    let second = second_answer(rt, alloc, &mut book);
-    Ok(refuses(&mut book, strange, second))
-}
-
-/// What `SECOND` is with another worker, tag, reaction, state word and read value.
-const OTHERS: [Parts<'static>; 5] = [
-    Parts {
-        worker: 0,
-        ..SECOND
-    },
-    Parts {
-        tag: LATER,
-        ..SECOND
-    },
-    Parts {
-        reaction: 0,
-        ..SECOND
-    },
-    Parts { state: 1, ..SECOND },
-    Parts {
-        reads: &[Some(Value::Int(2))],
-        ..SECOND
-    },
+    ),
+    (
+        true,
+        Parts {
+            tag: Tag { time: 0, micro: 1 },
+            ..SECOND
+        },
+    ),
+    (
+        true,
+        Parts {
+            reaction: 0,
+            ..SECOND
+        },
+    ),
+    (true, Parts { state: 1, ..SECOND }),
+    (
+        true,
+        Parts {
+            reads: &[Some(Value::Int(2))],
+            ..SECOND
+        },
+    ),
 ];
 
 #[test]
-fn refuses_a_ticket_that_differs_in_one_part(rt: HostRuntime) -> Result<(), Fail> {
-    for (place, parts) in OTHERS.iter().enumerate() {
-        assert!(rt; is_strange(&rt, rt.alloc(), *parts)?, "{place}");
+fn refuses_a_strange_answer(rt: HostRuntime) -> Result<(), Fail> {
+    for (place, (is_second, parts)) in STRANGE.iter().enumerate() {
+        let mut book = book_of(rt.alloc(), PIPE, PIPE_ANSWERS)?;
+        assert!(rt;
+            is_strange(rt.alloc(), &mut book, *is_second, *parts),
+            "{place}"
+        );
     }
     Ok(())
 }
 
-/// Whether the book takes the first of two answers, and refuses the other one.
-fn takes_one(
-    book: &mut PreparedBook,
-    first: Answered<AnyAnswer>,
-    other: Answered<AnyAnswer>,
-) -> bool {
-    book.commit(first).is_ok() && book.commit(other) == Err(Stop::Stranger)
+/// Whether the book takes an answer made by hand to the ticket of its open run, and refuses the other
+/// one.
+fn takes_one(alloc: Global, book: &mut PreparedBook, other: Answered<AnyAnswer>) -> bool {
+    let is_taken = match by_hand(alloc, SECOND) {
+        Ok(answer) => takes(book, answer),
+        Err(_) => false,
+    };
+    refuses(book, other) && is_taken
+}
+
+/// The same of a book of `PIPE` that has begun no run.
+fn takes_one_of_two(alloc: Global, book: &mut PreparedBook) -> bool {
+    match open_answer(alloc, book, true) {
+        Some(other) => takes_one(alloc, book, other),
+        None => false,
+    }
 }
 
 // also where the ticket is made by hand: with the parts of the run that is open it is that run's
 #[test]
 fn takes_one_answer_to_a_ticket(rt: HostRuntime) -> Result<(), Fail> {
-    let alloc = rt.alloc();
-    let by_hand = answer_to(alloc, SECOND)?;
-    let mut book = pipe_book(alloc)?;
-    let second = second_answer(&rt, alloc, &mut book);
-    assert!(rt; takes_one(&mut book, by_hand, second));
+    let mut book = book_of(rt.alloc(), PIPE, PIPE_ANSWERS)?;
+    assert!(rt; takes_one_of_two(rt.alloc(), &mut book));
     Ok(())
 }
 
-/// A book of `TWO` without a body for the first reaction.
-fn lacking_book(alloc: Global) -> Result<PreparedBook, Fail> {
-    let plan = plan(alloc, TWO, AT_ONCE)?;
-    let bodies = last_body(alloc, &plan)?;
-    Ok(new_book(alloc, plan, bodies)?)
-}
+/// A body for the second of two reactions alone.
+const LAST_ANSWER: &[Answer<'static>] = &[Answer {
+    reaction: 1,
+    state: 0,
+    steps: &[],
+}];
 
 /// Whether the book begins no run, since the first reaction has no body.
 fn lacks_body(book: &mut PreparedBook, worker: u32) -> bool {
@@ -320,7 +433,7 @@ fn is_without_a_run(closed: &Closed<AnyAnswer, Prepared>) -> bool {
 
 #[test]
 fn closes_without_a_run_where_a_body_is_missing(rt: HostRuntime) -> Result<(), Fail> {
-    let mut book = lacking_book(rt.alloc())?;
+    let mut book = book_of(rt.alloc(), TWO, LAST_ANSWER)?;
     assert!(rt; lacks_body(&mut book, 0) && lacks_body(&mut book, 1));
     assert!(rt; is_without_a_run(&book.close()));
     Ok(())
@@ -338,9 +451,8 @@ fn hands_back(bodies: &mut PreparedBodies, third: PreparedBody) -> bool {
 
 #[test]
 fn hands_a_body_without_a_list_back(rt: HostRuntime) -> Result<(), Fail> {
-    let alloc = rt.alloc();
-    let plan = plan(alloc, TWO, AT_ONCE)?;
-    let mut bodies = PreparedBodies::new(alloc, plan.program())?;
-    assert!(rt; hands_back(&mut bodies, body(2, done(alloc, 0, &[]))));
+    let plan = plan(rt.alloc(), TWO, AT_ONCE)?;
+    let mut bodies = bodies_of(rt.alloc(), &plan, &[], None)?;
+    assert!(rt; hands_back(&mut bodies, body(2, done(rt.alloc(), 0, &[]))));
     Ok(())
 }

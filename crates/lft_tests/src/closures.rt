@@ -3,10 +3,10 @@
 ghost use Rattle.std.specs.Prelude.{◌≡◌, IfOk, length};
 
 use crate::answers::{done, put_body};
-use crate::recordings::record;
+use crate::recordings::{leaves, record};
 use crate::texts::{AGAIN, AT_ONCE, plan};
 use lft_model::{Plan, Reads};
-use lft_pool::{AnyAnswer, Bodies, Body, BoxedCode, Code, Done, Recorded};
+use lft_pool::{AnyAnswer, Bodies, Body, BoxedCode, Code, Done};
 use lft_tag::{NoMemory, Tag};
 use std::alloc::Global;
 use std::sync::Wait;
@@ -14,7 +14,7 @@ use std::test::Fail;
 use std::thread::Threads;
 
 /// One body, for the first reaction.
-fn body_of<C: Code + Drop>(
+fn bodies_with<C: Code + Drop>(
     alloc: Global,
     plan: &Plan,
     code: C,
@@ -27,29 +27,17 @@ fn body_of<C: Code + Drop>(
     Ok(bodies)
 }
 
-/// A recording of that body by one worker.
-fn record_one<C: Code + Drop + Send, R: Threads + Wait + Sync>(
-    rt: &R,
-    alloc: Global,
-    code: C,
-) -> Result<Recorded<AnyAnswer, C>, Fail>
-    requires { C.can_run code }
-{
-    let plan = plan(alloc, AGAIN, AT_ONCE)?;
-    let bodies = body_of(alloc, &plan, code)?;
-    Ok(record(rt, alloc, plan, bodies, 1)?)
-}
-
-/// Whether it leaves the state word 1.
+/// Whether a recording of that body by one worker leaves the state word 1.
 fn leaves_one<C: Code + Drop + Send, R: Threads + Wait + Sync>(
     rt: &R,
     alloc: Global,
     code: C,
-) -> Result<bool, Fail>
+) -> Result<bool, NoMemory>
     requires { C.can_run code }
 {
-    let recorded = record_one(rt, alloc, code)?;
-    Ok(recorded.states.as_slice() == [(0, 1)].as_slice())
+    let plan = plan(alloc, AGAIN, AT_ONCE)?;
+    let bodies = bodies_with(alloc, &plan, code)?;
+    Ok(leaves(&record(rt, alloc, plan, bodies, 1, 10), &[(0, 1)]))
 }
 
 // what a body keeps of its code is asked for at the closure
@@ -62,6 +50,6 @@ fn records_a_boxed_closure(rt: HostRuntime) -> Result<(), Fail> {
             ensures { Unit {0} }
         { done(alloc, state.wrapping_add(1), &[]) },
     )?;
-    assert!(rt; leaves_one(&rt, alloc, code)?);
+    assert!(rt; leaves_one(&rt, alloc, code) == Ok(true));
     Ok(())
 }

@@ -1,12 +1,20 @@
 //! Rows and external inputs at each limit of what fits a program.
 
-use crate::texts::{externals, program};
 use lft_flat::{Name, Program, Value};
-use lft_steps::{Row, Rows, Step};
+use lft_load::read_program;
+use lft_steps::{Externals, Row, Rows, Step};
 use lft_tag::{NoMemory, Tag};
-use lft_trace::TraceFault;
+use lft_trace::read_externals;
 use std::alloc::Global;
 use std::test::Fail;
+
+/// The program of a text. Nothing is told of it, and any fault is want of memory.
+fn program(alloc: Global, text: &[u8]) -> Result<Program, NoMemory> {
+    match read_program(alloc, text) {
+        Ok(program) => Ok(program),
+        Err(_) => Err(NoMemory),
+    }
+}
 
 /// One port, one action and one reaction.
 const ONE: &[u8] = b"reactor S { output o: int  logical action n  reaction(startup) -> o, n {= =} }
@@ -63,7 +71,7 @@ fn fitting_rows(alloc: Global, program: &Program) -> Result<[bool; 4], NoMemory>
 #[test]
 fn rows_fit_up_to_each_limit(rt: HostRuntime) -> Result<(), Fail> {
     let program = program(rt.alloc(), ONE)?;
-    assert!(rt; fitting_rows(rt.alloc(), &program)? == [true, false, false, false]);
+    assert!(rt; fitting_rows(rt.alloc(), &program) == Ok([true, false, false, false]));
     Ok(())
 }
 
@@ -89,8 +97,8 @@ fn fitting_steps(alloc: Global, program: &Program) -> Result<[u32; 4], NoMemory>
 fn steps_fit_up_to_each_limit(rt: HostRuntime) -> Result<(), Fail> {
     let program = program(rt.alloc(), ONE)?;
     let long = Step::Schedule(Name::Action(0), Value::Bare, LAST.time + 1);
-    assert!(rt; fitting_steps(rt.alloc(), &program)? == [3, 0, 3, 0]);
-    assert!(rt; !step_fits(rt.alloc(), &program, long)?);
+    assert!(rt; fitting_steps(rt.alloc(), &program) == Ok([3, 0, 3, 0]));
+    assert!(rt; step_fits(rt.alloc(), &program, long) == Ok(false));
     Ok(())
 }
 
@@ -106,19 +114,17 @@ fn ends(alloc: Global, count: usize) -> Result<Rows, NoMemory> {
 }
 
 /// Whether one row more than 4,000,000 doesn't fit, and without it they do.
-fn fit_without_the_last(mut rows: Rows, program: &Program) -> bool {
-    if rows.fits(program) {
-        return false;
-    }
+fn fit_without_the_last(alloc: Global, program: &Program) -> Result<bool, NoMemory> {
+    let mut rows = ends(alloc, 4_000_001)?;
+    let is_refused = !rows.fits(program);
     rows.truncate(4_000_000);
-    rows.fits(program)
+    Ok(is_refused && rows.fits(program))
 }
 
 #[test]
 fn four_million_rows_fit_and_no_more(rt: HostRuntime) -> Result<(), Fail> {
     let program = program(rt.alloc(), ONE)?;
-    let rows = ends(rt.alloc(), 4_000_001)?;
-    assert!(rt; fit_without_the_last(rows, &program));
+    assert!(rt; fit_without_the_last(rt.alloc(), &program) == Ok(true));
     Ok(())
 }
 
@@ -136,6 +142,15 @@ event,0,0,main.q,
 stop,0,0,,
 ";
 
+/// The inputs that a table gives the program with two actions. Nothing is told of them, and any fault
+/// is want of memory.
+fn inputs(alloc: Global, two: &Program, table: &[u8]) -> Result<Externals, NoMemory> {
+    match read_externals(alloc, two, table) {
+        Ok(inputs) => Ok(inputs),
+        Err(_) => Err(NoMemory),
+    }
+}
+
 /// Whether the inputs that a table gives the program with two actions fit that with one, and that with
 /// two.
 fn inputs_fit(
@@ -143,17 +158,24 @@ fn inputs_fit(
     one: &Program,
     two: &Program,
     table: &[u8],
-) -> Result<(bool, bool), TraceFault> {
-    let inputs = externals(alloc, two, table)?;
+) -> Result<(bool, bool), NoMemory> {
+    let inputs = inputs(alloc, two, table)?;
     Ok((inputs.fits(one), inputs.fits(two)))
+}
+
+/// Whether those of `FIRST_AT_LAST` fit both, and those of `SECOND` that with two actions alone.
+fn fit_where_they_are(alloc: Global, two: &Program) -> Result<bool, NoMemory> {
+    let one = program(alloc, ONE_ACTION)?;
+    Ok(
+        inputs_fit(alloc, &one, two, FIRST_AT_LAST) == Ok((true, true))
+            && inputs_fit(alloc, &one, two, SECOND) == Ok((false, true)),
+    )
 }
 
 // what a reader gives has no tag past the limit, and too few events for theirs
 #[test]
 fn external_inputs_fit_a_program_that_has_their_actions(rt: HostRuntime) -> Result<(), Fail> {
-    let alloc = rt.alloc();
-    let (one, two) = (program(alloc, ONE_ACTION)?, program(alloc, TWO_ACTIONS)?);
-    assert!(rt; inputs_fit(alloc, &one, &two, FIRST_AT_LAST)? == (true, true));
-    assert!(rt; inputs_fit(alloc, &one, &two, SECOND)? == (false, true));
+    let two = program(rt.alloc(), TWO_ACTIONS)?;
+    assert!(rt; fit_where_they_are(rt.alloc(), &two) == Ok(true));
     Ok(())
 }

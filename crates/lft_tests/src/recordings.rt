@@ -2,10 +2,10 @@
 
 ghost use Rattle.std.specs.Prelude.{◌≡◌, IfOk, OnOk, length};
 
-use crate::answers::{Prepared, PreparedBodies, done, put, put_body, write};
+use crate::answers::{Answer, Prepared, bodies_of, done, put_body, write};
 use crate::texts::{AT_ONCE, PIPE, TO_20_MS, TWO, is_accepted, plan};
 use lft_model::{Plan, Reads};
-use lft_pool::{AnyAnswer, Bodies, Body, Code, Done, Recorded, Stop, record_run};
+use lft_pool::{AnyAnswer, Bodies, Body, Code, Done, Recorded, Stopped, record_run};
 use lft_tag::{NoMemory, Tag};
 use std::alloc::Global;
 use std::sync::Wait;
@@ -14,21 +14,52 @@ use std::test::Fail;
 use std::thread;
 use std::thread::Threads;
 
-/// A recording of at most ten runs, or why it stopped. Nothing else is told of it: what knows the
-/// clauses of a recording is long to prove.
+/// What comes of a recording.
+pub(crate) type Ended<C> = Result<Recorded<AnyAnswer, C>, Stopped<AnyAnswer, C>>;
+
+/// A recording. Nothing is told of it: what knows the clauses of a recording is long to prove.
 pub(crate) fn record<C: Code + Drop + Send, R: Threads + Wait + Sync>(
     rt: &R,
     alloc: Global,
     plan: Plan,
     bodies: Bodies<AnyAnswer, C>,
     workers: u32,
-) -> Result<Recorded<AnyAnswer, C>, Stop>
+    max_runs: u32,
+) -> Ended<C>
     requires { length bodies ≡ length plan.program.reactions }
 {
-    match record_run(rt, alloc, plan, bodies, workers, 10) {
-        Ok(recorded) => Ok(recorded),
-        Err(stopped) => Err(stopped.reason),
+    record_run(rt, alloc, plan, bodies, workers, max_runs)
+}
+
+/// Whether a recording came to its stop with these state words before and after each run.
+pub(crate) fn leaves<C: Code + Drop>(ended: &Ended<C>, words: &[(i64, i64)]) -> bool {
+    match ended {
+        Ok(recorded) => recorded.states.as_slice() == words,
+        Err(_) => false,
     }
+}
+
+/// What is recorded: a program's text and a table of external inputs, by bodies with these answers.
+#[derive(Clone, Copy)]
+pub(crate) struct Texts<'a> {
+    pub(crate) program: &'a [u8],
+    pub(crate) externals: &'a [u8],
+    pub(crate) answers: &'a [Answer<'a>],
+    /// Which of the bodies answers want of memory.
+    pub(crate) failing: Option<usize>,
+}
+
+/// A recording of them by so many workers, of at most so many runs.
+pub(crate) fn record_texts<R: Threads + Wait + Sync>(
+    rt: &R,
+    alloc: Global,
+    texts: Texts<'_>,
+    workers: u32,
+    max_runs: u32,
+) -> Result<Ended<Prepared>, NoMemory> {
+    let plan = plan(alloc, texts.program, texts.externals)?;
+    let bodies = bodies_of(alloc, &plan, texts.answers, texts.failing)?;
+    Ok(record(rt, alloc, plan, bodies, workers, max_runs))
 }
 
 /// A body that waits until another one has begun, and writes 1; -1 where the other one hadn't begun
@@ -91,54 +122,58 @@ fn meeting_bodies<'a>(
     Ok(bodies)
 }
 
-/// A recording of them by two workers.
-fn record_meeting<'a, R: Threads + Wait + Sync>(
+/// Whether both have met, and judging accepts what was recorded.
+fn is_met(alloc: Global, ended: &Ended<Meeting<'_>>) -> bool {
+    match ended {
+        Ok(recorded) => is_accepted(alloc, &recorded.plan, &recorded.rows),
+        Err(_) => false,
+    }
+}
+
+/// Whether two bodies meet that two workers run.
+fn meets<R: Threads + Wait + Sync>(
     rt: &R,
     alloc: Global,
-    begun: &'a AtomicU64,
-) -> Result<Recorded<AnyAnswer, Meeting<'a>>, Fail> {
+    begun: &AtomicU64,
+) -> Result<bool, NoMemory> {
     let plan = plan(alloc, TWO, AT_ONCE)?;
     let bodies = meeting_bodies(alloc, &plan, begun)?;
-    Ok(record(rt, alloc, plan, bodies, 2)?)
+    let ended = record(rt, alloc, plan, bodies, 2, 10);
+    Ok(leaves(&ended, &[(0, 1), (0, 1)]) && is_met(alloc, &ended))
 }
 
 // no clause says that a body runs while no lock is held, or that there are two workers: with a lock
 // round the bodies, or one worker for all, the first one waits in vain
 #[test]
-fn runs_two_bodies_at_once(rt: HostRuntime) -> Result<(), Fail> {
+fn runs_two_bodies_at_once(rt: HostRuntime) {
     let begun = AtomicU64::new(0);
-    let recorded = record_meeting(&rt, rt.alloc(), &begun)?;
-    assert!(rt; recorded.states.as_slice() == [(0, 1), (0, 1)].as_slice());
-    assert!(rt; is_accepted(rt.alloc(), &recorded.plan, &recorded.rows)?);
-    Ok(())
+    assert!(rt; meets(&rt, rt.alloc(), &begun) == Ok(true));
 }
 
-/// Three bodies for the first reaction of `PIPE`.
-fn three_bodies(alloc: Global, plan: &Plan) -> Result<PreparedBodies, NoMemory>
-    ensures { IfOk result (λ bodies. length bodies ≡ length plan.now.program.reactions) }
-{
-    let mut bodies = PreparedBodies::new(alloc, plan.program())?;
-    put(&mut bodies, 0, done(alloc, 1, &[]))?;
-    put(&mut bodies, 0, done(alloc, 2, &[]))?;
-    put(&mut bodies, 0, done(alloc, 3, &[]))?;
-    Ok(bodies)
-}
+/// The first reaction of `PIPE` takes no step, and leaves this state word.
+const FIRST: Answer<'static> = Answer {
+    reaction: 0,
+    state: 1,
+    steps: &[],
+};
 
-/// A recording of them by one worker.
-fn record_three<R: Threads + Wait + Sync>(
-    rt: &R,
-    alloc: Global,
-) -> Result<Recorded<AnyAnswer, Prepared>, Fail> {
-    let plan = plan(alloc, PIPE, TO_20_MS)?;
-    let bodies = three_bodies(alloc, &plan)?;
-    Ok(record(rt, alloc, plan, bodies, 1)?)
-}
+/// Three runs of it, each with a state word of its own.
+const THREE: Texts<'static> = Texts {
+    program: PIPE,
+    externals: TO_20_MS,
+    answers: &[
+        FIRST,
+        Answer { state: 2, ..FIRST },
+        Answer { state: 3, ..FIRST },
+    ],
+    failing: None,
+};
 
 // no clause says which of a reaction's bodies meets which of its runs
 #[test]
 fn takes_bodies_in_the_order_in_which_they_were_put(rt: HostRuntime) -> Result<(), Fail> {
-    let recorded = record_three(&rt, rt.alloc())?;
-    assert!(rt; recorded.states.as_slice() == [(0, 1), (1, 2), (2, 3)].as_slice());
+    let ended = record_texts(&rt, rt.alloc(), THREE, 1, 10)?;
+    assert!(rt; leaves(&ended, &[(0, 1), (1, 2), (2, 3)]));
     Ok(())
 }
 
@@ -189,10 +224,9 @@ fn many_bodies(alloc: Global, plan: &Plan) -> Result<Bodies<AnyAnswer, Leaving>,
     ensures { IfOk result (λ bodies. length bodies ≡ length plan.now.program.reactions) }
 {
     let mut bodies = Bodies::new(alloc, plan.program())?;
-    put_leaving(&mut bodies, Leaving { alloc, word: 1 }, 1)?;
-    put_leaving(&mut bodies, Leaving { alloc, word: 9 }, 0)?;
-    put_leaving(&mut bodies, Leaving { alloc, word: 2 }, 3)?;
-    put_leaving(&mut bodies, Leaving { alloc, word: 3 }, 7)?;
+    for (word, count) in [(1, 1), (9, 0), (2, 3), (3, 7)] {
+        put_leaving(&mut bodies, Leaving { alloc, word }, count)?;
+    }
     Ok(bodies)
 }
 
@@ -200,17 +234,25 @@ fn many_bodies(alloc: Global, plan: &Plan) -> Result<Bodies<AnyAnswer, Leaving>,
 fn record_many<R: Threads + Wait + Sync>(
     rt: &R,
     alloc: Global,
-) -> Result<Recorded<AnyAnswer, Leaving>, Fail> {
+) -> Result<Ended<Leaving>, NoMemory> {
     let plan = plan(alloc, PIPE, TO_40_MS)?;
     let bodies = many_bodies(alloc, &plan)?;
-    Ok(record(rt, alloc, plan, bodies, 1)?)
+    Ok(record(rt, alloc, plan, bodies, 1, 10))
+}
+
+/// Whether six bodies are left of the first reaction.
+fn has_six_left(ended: &Ended<Leaving>) -> bool {
+    match ended {
+        Ok(recorded) => recorded.left.left(0) == 6,
+        Err(_) => false,
+    }
 }
 
 // no clause says where among a reaction's bodies those stand that are kept by their count
 #[test]
 fn takes_many_bodies_in_their_place(rt: HostRuntime) -> Result<(), Fail> {
-    let recorded = record_many(&rt, rt.alloc())?;
-    assert!(rt; recorded.states.as_slice() == [(0, 1), (1, 2), (2, 2), (2, 2), (2, 3)].as_slice());
-    assert!(rt; recorded.left.left(0) == 6);
+    let ended = record_many(&rt, rt.alloc())?;
+    assert!(rt; leaves(&ended, &[(0, 1), (1, 2), (2, 2), (2, 2), (2, 3)]));
+    assert!(rt; has_six_left(&ended));
     Ok(())
 }

@@ -1,29 +1,83 @@
 //! Recordings that end before their stop: what rows are there at each place at which a book may stop.
 
-ghost use Rattle.std.specs.Prelude.{◌≡◌, IfOk, length};
-
-use crate::answers::{PreparedBodies, done, put, schedule, write};
-use crate::texts::{AGAIN, AT_ONCE, TWO, plan};
-use lft_model::Plan;
-use lft_pool::{Bodies, Done, Stop, record_run};
+use crate::answers::{Answer, Prepared, schedule};
+use crate::recordings::{Ended, Texts, record_texts};
+use crate::texts::{AGAIN, AT_ONCE, TWO, is_table};
+use lft_flat::{Name, Value};
+use lft_pool::Stop;
 use lft_steps::Step;
 use lft_tag::NoMemory;
-use lft_trace::write_trace;
 use std::alloc::Global;
 use std::sync::Wait;
 use std::test::Fail;
 use std::thread::Threads;
 
+/// Why a recording is to stop, if it is to, and the table of its rows.
+#[derive(Clone, Copy)]
+struct End<'a> {
+    reason: Option<Stop>,
+    table: &'a [u8],
+}
+
+/// Whether a recording has ended so.
+fn has_ended(alloc: Global, ended: &Ended<Prepared>, end: End<'_>) -> bool {
+    match ended {
+        Ok(recorded) => {
+            end.reason.is_none() && is_table(alloc, &recorded.plan, &recorded.rows, end.table)
+        }
+        Err(stopped) => {
+            end.reason == Some(stopped.reason)
+                && is_table(alloc, &stopped.plan, &stopped.rows, end.table)
+        }
+    }
+}
+
+/// Whether a recording by one worker, of at most so many runs, ends so.
+fn ends<R: Threads + Wait + Sync>(
+    rt: &R,
+    alloc: Global,
+    texts: Texts<'_>,
+    max_runs: u32,
+    end: End<'_>,
+) -> Result<bool, NoMemory> {
+    let ended = record_texts(rt, alloc, texts, 1, max_runs)?;
+    Ok(has_ended(alloc, &ended, end))
+}
+
+/// The first reaction schedules its own action.
+const ONCE_MORE: Answer<'static> = Answer {
+    reaction: 0,
+    state: 0,
+    steps: &[Step::Schedule(Name::Action(0), Value::Bare, 0)],
+};
+
+/// It writes its port.
+const AT_LAST: Answer<'static> = Answer {
+    reaction: 0,
+    state: 0,
+    steps: &[Step::Write(Name::Port(0), Value::Int(1))],
+};
+
+/// The second reaction takes no step.
+const NO_STEP: Answer<'static> = Answer {
+    reaction: 1,
+    state: 0,
+    steps: &[],
+};
+
 /// A reaction schedules its own action, and at last writes a port that another one reads 5 ms and a
 /// microstep later.
-const DEEP: &[u8] = b"reactor A { output out: int  logical action n
+const DEEP: Texts<'static> = Texts {
+    program: b"reactor A { output out: int  logical action n
   reaction(startup, n) -> out, n {= =} }
 reactor C { input z: int  reaction(z) {= =} }
 reactor B { input x: int  c = new C()  x -> c.z after 0 }
 main reactor { a = new A()  b = new B()  a.out -> b.x after 5 ms }
-";
-
-const DEEP_EXTERNALS: &[u8] = b"kind,time,microstep,name,value\nstop,5000000,1,,\n";
+",
+    externals: b"kind,time,microstep,name,value\nstop,5000000,1,,\n",
+    answers: &[ONCE_MORE, ONCE_MORE, ONCE_MORE, AT_LAST, NO_STEP],
+    failing: None,
+};
 
 const HEADER: &[u8] = b"event,worker,time,microstep,reaction,name,value,delay\n";
 
@@ -52,7 +106,7 @@ const RUNS: [(&[u8], &[u8]); 5] = [
 ];
 
 /// The table of the first runs: so many are begun, and so many have ended.
-fn table(alloc: Global, begun: usize, ended: usize) -> Result<Vec<u8>, Fail> {
+fn table(alloc: Global, begun: usize, ended: usize) -> Result<Vec<u8>, NoMemory> {
     let mut table = Vec::from_slice(alloc, HEADER)?;
     for (number, (opened, answered)) in RUNS.iter().enumerate() {
         if number < begun {
@@ -65,80 +119,20 @@ fn table(alloc: Global, begun: usize, ended: usize) -> Result<Vec<u8>, Fail> {
     Ok(table)
 }
 
-/// The answer of these steps; want of memory for the run of this number.
-fn answer(alloc: Global, number: usize, failing: usize, steps: &[Step]) -> Result<Done, NoMemory> {
-    if number == failing {
-        return Err(NoMemory);
-    }
-    done(alloc, 0, steps)
-}
-
-/// The bodies of the runs of `DEEP`. That of the run of this number, counted from 0, has no memory.
-fn deep_bodies(alloc: Global, plan: &Plan, failing: usize) -> Result<PreparedBodies, Fail>
-    ensures { IfOk result (λ bodies. length bodies ≡ length plan.now.program.reactions) }
-{
-    let again = [schedule(0, 0)];
-    let last = [write(0, 1)];
-    let mut bodies = Bodies::new(alloc, plan.program())?;
-    put(&mut bodies, 0, answer(alloc, 0, failing, again.as_slice()))?;
-    put(&mut bodies, 0, answer(alloc, 1, failing, again.as_slice()))?;
-    put(&mut bodies, 0, answer(alloc, 2, failing, again.as_slice()))?;
-    put(&mut bodies, 0, answer(alloc, 3, failing, last.as_slice()))?;
-    put(&mut bodies, 1, answer(alloc, 4, failing, &[]))?;
-    Ok(bodies)
-}
-
-/// Why a recording by one worker stopped, if it did, and the table of its rows.
-fn recorded<R: Threads + Wait + Sync>(
-    rt: &R,
-    alloc: Global,
-    plan: Plan,
-    bodies: PreparedBodies,
-    max_runs: u32,
-) -> Result<(Option<Stop>, Vec<u8>), Fail>
-    requires { length bodies ≡ length plan.program.reactions }
-{
-    match record_run(rt, alloc, plan, bodies, 1, max_runs) {
-        Ok(recorded) => {
-            let table = write_trace(alloc, recorded.plan.program(), &recorded.rows)?;
-            Ok((None, table))
-        }
-        Err(stopped) => {
-            let table = write_trace(alloc, stopped.plan.program(), &stopped.rows)?;
-            Ok((Some(stopped.reason), table))
-        }
-    }
-}
-
-/// The same of `DEEP`, whose run of this number has no memory.
-fn recorded_deep<R: Threads + Wait + Sync>(
-    rt: &R,
-    alloc: Global,
-    failing: usize,
-    max_runs: u32,
-) -> Result<(Option<Stop>, Vec<u8>), Fail> {
-    let plan = plan(alloc, DEEP, DEEP_EXTERNALS)?;
-    let bodies = deep_bodies(alloc, &plan, failing)?;
-    recorded(rt, alloc, plan, bodies, max_runs)
-}
-
 #[test]
 fn stops_where_no_more_runs_are_allowed(rt: HostRuntime) -> Result<(), Fail> {
-    let alloc = rt.alloc();
     for runs in 0..6u32 {
-        let (reason, rows) = recorded_deep(&rt, alloc, 5, runs)?;
-        let runs = runs as usize;
+        let table = table(rt.alloc(), runs as usize, runs as usize)?;
+        let end = End {
+            reason: if runs < 5 {
+                Some(Stop::TooManyRuns)
+            } else {
+                None
+            },
+            table: &table,
+        };
         assert!(rt;
-            reason
-                == if runs < 5 {
-                    Some(Stop::TooManyRuns)
-                } else {
-                    None
-                },
-            "{runs}"
-        );
-        assert!(rt;
-            rows.as_slice() == table(alloc, runs, runs)?.as_slice(),
+            ends(&rt, rt.alloc(), DEEP, runs, end) == Ok(true),
             "{runs}"
         );
     }
@@ -148,81 +142,109 @@ fn stops_where_no_more_runs_are_allowed(rt: HostRuntime) -> Result<(), Fail> {
 // the run stays open
 #[test]
 fn stops_where_a_body_has_no_memory(rt: HostRuntime) -> Result<(), Fail> {
-    let alloc = rt.alloc();
     for run in 0..5usize {
-        let (reason, rows) = recorded_deep(&rt, alloc, run, 10)?;
-        assert!(rt; reason == Some(Stop::BodyNoMemory), "{run}");
-        assert!(rt;
-            rows.as_slice() == table(alloc, run + 1, run)?.as_slice(),
-            "{run}"
-        );
+        let table = table(rt.alloc(), run + 1, run)?;
+        let texts = Texts {
+            failing: Some(run),
+            ..DEEP
+        };
+        let end = End {
+            reason: Some(Stop::BodyNoMemory),
+            table: &table,
+        };
+        assert!(rt; ends(&rt, rt.alloc(), texts, 10, end) == Ok(true), "{run}");
     }
     Ok(())
 }
 
-/// The same of `AGAIN` up to its first tag, whose first reaction schedules with this delay.
-fn recorded_again<R: Threads + Wait + Sync>(
+/// Whether a recording of `AGAIN` up to its first tag, whose first reaction schedules with this delay,
+/// ends so.
+fn ends_again<R: Threads + Wait + Sync>(
     rt: &R,
     alloc: Global,
     delay: u64,
-) -> Result<(Option<Stop>, Vec<u8>), Fail> {
-    let plan = plan(alloc, AGAIN, AT_ONCE)?;
-    let mut bodies = Bodies::new(alloc, plan.program())?;
-    put(&mut bodies, 0, done(alloc, 0, &[schedule(0, delay)]))?;
-    recorded(rt, alloc, plan, bodies, 10)
+    end: End<'_>,
+) -> Result<bool, NoMemory> {
+    let texts = Texts {
+        program: AGAIN,
+        externals: AT_ONCE,
+        answers: &[Answer {
+            reaction: 0,
+            state: 0,
+            steps: &[schedule(0, delay)],
+        }],
+        failing: None,
+    };
+    ends(rt, alloc, texts, 10, end)
 }
 
-/// A run that is begun.
-const BEGUN: &[u8] = b"event,worker,time,microstep,reaction,name,value,delay
-start,0,0,0,main#1,,,
-";
-
-/// The run has scheduled with the longest delay.
-const SCHEDULED: &[u8] = b"event,worker,time,microstep,reaction,name,value,delay
+/// The longest delay. The run has scheduled with it.
+const SCHEDULED: (u64, End<'static>) = (
+    1_000_000_000_000_000_000,
+    End {
+        reason: None,
+        table: b"event,worker,time,microstep,reaction,name,value,delay
 start,0,0,0,main#1,,,
 schedule,0,0,0,main#1,main.n,,1000000000000000000
 end,0,0,0,main#1,,,
-";
+",
+    },
+);
+
+/// A longer one. The run is begun.
+const BEGUN: (u64, End<'static>) = (
+    1_000_000_000_000_000_001,
+    End {
+        reason: Some(Stop::LimitTag),
+        table: b"event,worker,time,microstep,reaction,name,value,delay
+start,0,0,0,main#1,,,
+",
+    },
+);
 
 #[test]
-fn stops_at_a_delay_past_the_limit(rt: HostRuntime) -> Result<(), Fail> {
-    let longest = 1_000_000_000_000_000_000;
-    let (reason, rows) = recorded_again(&rt, rt.alloc(), longest)?;
-    assert!(rt; reason.is_none() && rows.as_slice() == SCHEDULED);
-    let (reason, rows) = recorded_again(&rt, rt.alloc(), longest + 1)?;
-    assert!(rt; reason == Some(Stop::LimitTag) && rows.as_slice() == BEGUN);
-    Ok(())
+fn stops_at_a_delay_past_the_limit(rt: HostRuntime) {
+    for (delay, end) in [SCHEDULED, BEGUN] {
+        assert!(rt;
+            ends_again(&rt, rt.alloc(), delay, end) == Ok(true),
+            "{delay}"
+        );
+    }
 }
 
 /// One body for the first of two reactions, and two for the second.
-fn three_bodies(alloc: Global, plan: &Plan) -> Result<PreparedBodies, NoMemory>
-    ensures { IfOk result (λ bodies. length bodies ≡ length plan.now.program.reactions) }
-{
-    let mut bodies = PreparedBodies::new(alloc, plan.program())?;
-    put(&mut bodies, 0, done(alloc, 0, &[]))?;
-    put(&mut bodies, 1, done(alloc, 0, &[]))?;
-    put(&mut bodies, 1, done(alloc, 0, &[]))?;
-    Ok(bodies)
-}
+const THREE: Texts<'static> = Texts {
+    program: TWO,
+    externals: AT_ONCE,
+    answers: &[
+        Answer {
+            reaction: 0,
+            ..NO_STEP
+        },
+        NO_STEP,
+        NO_STEP,
+    ],
+    failing: None,
+};
 
-/// Whether a recording by so many workers is refused for that, without a row, and all three bodies
-/// are left.
-fn is_unbegun<R: Threads + Wait + Sync>(rt: &R, alloc: Global, workers: u32) -> Result<bool, Fail> {
-    let plan = plan(alloc, TWO, AT_ONCE)?;
-    let bodies = three_bodies(alloc, &plan)?;
-    match record_run(rt, alloc, plan, bodies, workers, 10) {
-        Ok(_) => Ok(false),
-        Err(stopped) => Ok(
+/// Whether a recording was refused for its workers, without a row, and all three bodies are left.
+fn is_unbegun(ended: &Ended<Prepared>) -> bool {
+    match ended {
+        Ok(_) => false,
+        Err(stopped) => {
             stopped.reason == Stop::BadWorkers
                 && stopped.rows.as_slice().is_empty()
                 && stopped.left.left(0) == 1
-                && stopped.left.left(1) == 2,
-        ),
+                && stopped.left.left(1) == 2
+        }
     }
 }
 
 #[test]
 fn leaves_all_bodies_where_the_workers_are_bad(rt: HostRuntime) -> Result<(), Fail> {
-    assert!(rt; is_unbegun(&rt, rt.alloc(), 0)? && is_unbegun(&rt, rt.alloc(), 65)?);
+    for workers in [0, 65] {
+        let ended = record_texts(&rt, rt.alloc(), THREE, workers, 10)?;
+        assert!(rt; is_unbegun(&ended), "{workers}");
+    }
     Ok(())
 }

@@ -1,18 +1,15 @@
 //! Programs and external inputs, their plans, and what is asked of rows.
 
 ghost use Rattle.std.specs.Prelude.{IfOk};
-ghost use Rattle.lft_steps.specs.Fits.{ExternalsFit, RowsFit};
+ghost use Rattle.lft_steps.specs.Fits.{RowsFit};
 
 use lft_check::{NoWatch, Verdict, judge_alone};
-use lft_flat::Program;
+use lft_load::load;
 use lft_model::Plan;
-use lft_program::flatten;
-use lft_steps::{Externals, Rows};
-use lft_syntax::{lex, parse};
+use lft_steps::Rows;
 use lft_tag::NoMemory;
-use lft_trace::{TraceFault, read_externals, write_trace};
+use lft_trace::{read_trace, write_trace};
 use std::alloc::Global;
-use std::test::Fail;
 
 /// A reaction to a timer writes a port, and another one reads it at the same tag.
 pub(crate) const PIPE: &[u8] = b"target C
@@ -36,33 +33,23 @@ pub(crate) const AT_ONCE: &[u8] = b"kind,time,microstep,name,value\nstop,0,0,,\n
 /// The execution is stopped at the third firing of a timer of 10 ms.
 pub(crate) const TO_20_MS: &[u8] = b"kind,time,microstep,name,value\nstop,20000000,0,,\n";
 
-/// The program of a text.
-pub(crate) fn program(alloc: Global, text: &[u8]) -> Result<Program, Fail> {
-    let tokens = lex(alloc, text)?;
-    let tree = parse(alloc, text, &tokens)?;
-    Ok(flatten(alloc, &tree)?)
-}
-
-/// The external inputs of a table. All that is told of them is what a plan needs: what knows more is
-/// long to prove.
-pub(crate) fn externals(
-    alloc: Global,
-    program: &Program,
-    text: &[u8],
-) -> Result<Externals, TraceFault>
-    ensures { IfOk result (λ inputs. ExternalsFit program.now inputs) }
-{
-    match read_externals(alloc, program, text) {
-        Ok(inputs) => Ok(inputs),
-        Err(fault) => Err(fault),
+/// The plan of a program's text and of a table of external inputs. It tells nothing of either, and any
+/// fault as want of memory: what knows the texts is long to prove.
+pub(crate) fn plan(alloc: Global, program: &[u8], externals: &[u8]) -> Result<Plan, NoMemory> {
+    match load(alloc, program, externals) {
+        Ok(plan) => Ok(plan),
+        Err(_) => Err(NoMemory),
     }
 }
 
-/// The plan of a program's text and of a table of external inputs.
-pub(crate) fn plan(alloc: Global, text: &[u8], table: &[u8]) -> Result<Plan, Fail> {
-    let program = program(alloc, text)?;
-    let externals = externals(alloc, &program, table)?;
-    Ok(Plan::new(alloc, program, externals)?)
+/// The rows of a table. They fit the plan, and nothing else is told of them.
+pub(crate) fn rows(alloc: Global, plan: &Plan, table: &[u8]) -> Result<Rows, NoMemory>
+    ensures { IfOk result (λ rows. RowsFit plan.now.program rows) }
+{
+    match read_trace(alloc, plan.program(), table) {
+        Ok(rows) => Ok(rows),
+        Err(_) => Err(NoMemory),
+    }
 }
 
 // the table of rows, of which nothing is known
@@ -72,17 +59,15 @@ fn table_of(alloc: Global, plan: &Plan, rows: &Rows) -> Result<Vec<u8>, NoMemory
     write_trace(alloc, plan.program(), rows)
 }
 
-/// Whether the rows of a plan are written as this table.
-pub(crate) fn is_table(
-    alloc: Global,
-    plan: &Plan,
-    rows: &Rows,
-    table: &[u8],
-) -> Result<bool, NoMemory>
-    requires { RowsFit plan.now.program rows.now }
-{
-    let text = table_of(alloc, plan, rows)?;
-    Ok(text.as_slice() == table)
+/// Whether rows fit the plan's program, and are written as this table.
+pub(crate) fn is_table(alloc: Global, plan: &Plan, rows: &Rows, table: &[u8]) -> bool {
+    if !rows.fits(plan.program()) {
+        return false;
+    }
+    match table_of(alloc, plan, rows) {
+        Ok(text) => text.as_slice() == table,
+        Err(_) => false,
+    }
 }
 
 // the verdict, of which nothing is known
@@ -92,10 +77,8 @@ fn judged(alloc: Global, plan: &Plan, rows: &Rows) -> Result<Verdict, NoMemory>
     judge_alone(alloc, plan, rows, &NoWatch)
 }
 
-/// Whether the rows fit the plan's program, and judging accepts them as two runs at one tag.
-pub(crate) fn is_accepted(alloc: Global, plan: &Plan, rows: &Rows) -> Result<bool, NoMemory> {
-    if !rows.fits(plan.program()) {
-        return Ok(false);
-    }
-    Ok(judged(alloc, plan, rows)? == Verdict::Accepted { runs: 2, tags: 1 })
+/// Whether rows fit the plan's program, and judging accepts them as two runs at one tag.
+pub(crate) fn is_accepted(alloc: Global, plan: &Plan, rows: &Rows) -> bool {
+    rows.fits(plan.program())
+        && judged(alloc, plan, rows) == Ok(Verdict::Accepted { runs: 2, tags: 1 })
 }

@@ -1,14 +1,17 @@
 //! Who is told which tag is examined, by one worker and by two.
 
-use crate::texts::{AGAIN, plan};
-use lft_check::{Verdict, Watch, judge, judge_alone};
+ghost use Rattle.lft_steps.specs.Fits.{RowsFit};
+
+use crate::texts::{AGAIN, plan, rows};
+use lft_check::{CheckFault, Verdict, Watch, judge, judge_alone};
 use lft_model::Plan;
-use lft_tag::Tag;
-use lft_trace::read_trace;
+use lft_steps::Rows;
+use lft_tag::{NoMemory, Tag};
 use std::alloc::Global;
 use std::sync::atomic::{AtomicBool, AtomicU64, Ordering};
 use std::test::Fail;
 use std::thread;
+use std::thread::Threads;
 
 /// The times of the tags that were told, from 1 on, as the digits of a number.
 #[derive(Drop)]
@@ -70,24 +73,39 @@ start,0,0,0,main#1,,,
 const NONE: &[u8] = b"event,worker,time,microstep,reaction,name,value,delay
 ";
 
+/// Judges rows, and answers whether there was memory. Who is told is asked, and not the verdict.
+fn is_judged(alloc: Global, plan: &Plan, rows: &Rows, watch: &impl Watch) -> bool
+    requires { RowsFit plan.now.program rows.now }
+{
+    judge_alone(alloc, plan, rows, watch).is_ok()
+}
+
 /// The digits that are told as the rows of a table are judged.
-fn told(alloc: Global, plan: &Plan, table: &[u8]) -> Result<u64, Fail> {
-    let rows = read_trace(alloc, plan.program(), table)?;
+fn told(alloc: Global, plan: &Plan, table: &[u8]) -> Result<u64, NoMemory> {
+    let rows = rows(alloc, plan, table)?;
     let watch = Digits {
         told: AtomicU64::new(0),
     };
-    // Who is told is asked, and not the verdict.
-    let _ = judge_alone(alloc, plan, &rows, &watch)?;
-    Ok(watch.told.load(Ordering::SeqCst))
+    if is_judged(alloc, plan, &rows, &watch) {
+        Ok(watch.told.load(Ordering::SeqCst))
+    } else {
+        Err(NoMemory)
+    }
+}
+
+/// A copy of the plan of `TWO`.
+fn copied(alloc: Global) -> Result<Plan, NoMemory> {
+    let plan = plan(alloc, TWO, EXTERNALS)?;
+    plan.copy(alloc)
 }
 
 // up to the first breach, and none where a row breaks a rule; a copy is the same by its clause, but
 // no clause says that there is one
 #[test]
 fn tells_the_tags_that_a_copy_is_judged_at(rt: HostRuntime) -> Result<(), Fail> {
-    let plan = plan(rt.alloc(), TWO, EXTERNALS)?.copy(rt.alloc())?;
+    let plan = copied(rt.alloc())?;
     for (table, digits) in [(RUNS, 123), (EARLY, 12), (OPEN, 0), (NONE, 0)] {
-        assert!(rt; told(rt.alloc(), &plan, table)? == digits, "{digits}");
+        assert!(rt; told(rt.alloc(), &plan, table) == Ok(digits), "{digits}");
     }
     Ok(())
 }
@@ -128,17 +146,35 @@ read,0,0,1,main#2,main.n,,
 end,0,0,1,main#2,,,
 ";
 
-// no clause says that two workers work at the same time, or that there are two
-#[test]
-fn examines_two_tags_at_once(rt: HostRuntime) -> Result<(), Fail> {
-    let plan = plan(rt.alloc(), AGAIN, AGAIN_EXTERNALS)?;
-    let rows = read_trace(rt.alloc(), plan.program(), AGAIN_RUNS)?;
+/// The verdict by two workers, of which nothing is known.
+fn judged_by_two<R: Threads + Sync>(
+    rt: &R,
+    alloc: Global,
+    plan: &Plan,
+    rows: &Rows,
+    watch: &Hold,
+) -> Result<Verdict, CheckFault>
+    requires { RowsFit plan.now.program rows.now }
+{
+    judge(rt, alloc, plan, rows, 2, watch)
+}
+
+/// Whether two workers accept `AGAIN_RUNS`, and the first tag isn't held in vain.
+fn is_held<R: Threads + Sync>(rt: &R, alloc: Global, plan: &Plan) -> Result<bool, NoMemory> {
+    let rows = rows(alloc, plan, AGAIN_RUNS)?;
     let watch = Hold {
         begun: AtomicBool::new(false),
         late: AtomicBool::new(false),
     };
-    let verdict = judge(&rt, rt.alloc(), &plan, &rows, 2, &watch);
-    assert!(rt; verdict == Ok(Verdict::Accepted { runs: 2, tags: 2 }));
-    assert!(rt; !watch.late.load(Ordering::SeqCst));
+    let verdict = judged_by_two(rt, alloc, plan, &rows, &watch);
+    let is_accepted = verdict == Ok(Verdict::Accepted { runs: 2, tags: 2 });
+    Ok(is_accepted && !watch.late.load(Ordering::SeqCst))
+}
+
+// no clause says that two workers work at the same time, or that there are two
+#[test]
+fn examines_two_tags_at_once(rt: HostRuntime) -> Result<(), Fail> {
+    let plan = plan(rt.alloc(), AGAIN, AGAIN_EXTERNALS)?;
+    assert!(rt; is_held(&rt, rt.alloc(), &plan) == Ok(true));
     Ok(())
 }
