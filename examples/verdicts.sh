@@ -19,9 +19,9 @@ fails() {
   failed=1
 }
 
-# needs COMMAND WHAT: ends the script if there is no such command.
+# needs COMMAND WHAT: ends the script if there is no such command, or it doesn't run, as a rustc without a toolchain.
 needs() {
-  command -v "$1" > /dev/null || { echo "run: there is no $2 ($1)" >&2; exit 3; }
+  "$1" --version > /dev/null 2>&1 || { echo "run: there is no $2 ($1)" >&2; exit 3; }
 }
 
 # needs_library HEADER FLAG CODE WHAT: ends the script if the C++ compiler can't build a program of this code.
