@@ -3,8 +3,8 @@
 
 top=$(cd "$here/../.." && pwd)
 lftrace=${LFTRACE:-crates/lftrace/out/lftrace}
-lftrace=$(cd "$top" && command -v "$lftrace") || { echo "run: there is no program $lftrace" >&2; exit 3; }
-case $lftrace in /*) ;; *) lftrace=$top/$lftrace ;; esac
+found=$(cd "$top" && command -v "$lftrace") || { echo "run: there is no program $lftrace" >&2; exit 3; }
+case $found in /*) lftrace=$found ;; *) lftrace=$top/$found ;; esac
 case $runs in '' | 0* | *[!0-9]*) echo "run: $runs is no number of runs" >&2; exit 2 ;; esac
 
 folder=$(mktemp -d) || exit 2
@@ -19,9 +19,35 @@ fails() {
   failed=1
 }
 
-# needs COMMAND WHAT: ends the script if there is no such command.
+# needs COMMAND WHAT: ends the script if there is no such command, or it doesn't run, as a rustc without a toolchain.
 needs() {
-  command -v "$1" > /dev/null || { echo "run: there is no $2 ($1)" >&2; exit 3; }
+  "$1" --version > /dev/null 2>&1 || { echo "run: there is no $2 ($1)" >&2; exit 3; }
+}
+
+# needs_library HEADER FLAG CODE WHAT: ends the script if the C++ compiler can't build a program of this code.
+needs_library() {
+  printf '#include <%s>\n%b\n' "$1" "$3" > probe.cpp
+  "$cxx" -std=c++17 -pthread probe.cpp -o probe "$2" 2> errors.txt || { echo "run: there is no $4" >&2; exit 3; }
+}
+
+# build FLAG SOURCE NAME [FILE EDIT]: builds ./NAME of the C++ sources of the folder. EDIT is a fault: sed makes it
+# in FILE. False: it edits nothing, or can't be built.
+build() {
+  rm -rf source
+  mkdir -p source recorder
+  cp "$here/../recorder/lftrace.h" recorder
+  cp "$here"/*.hpp "$here"/*.cpp source
+  if [ $# -gt 3 ]; then
+    sed -E "$5" "$here/$4" > "source/$4"
+    if cmp -s "$here/$4" "source/$4"; then
+      fails "$3 edits nothing"
+      return 1
+    fi
+  fi
+  "$cxx" -std=c++17 -O1 -Wall -Wextra -pthread "source/$2.cpp" -o "$3" "$1" 2> errors.txt && return
+  cat errors.txt >&2
+  fails "$3 can't be built"
+  return 1
 }
 
 # limited WORDS..: runs a command, and ends it if it hangs.

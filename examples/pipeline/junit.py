@@ -1,8 +1,10 @@
 #!/usr/bin/env python3
-"""junit.py PROGRAM EXTERNALS TRACE..: judges each trace and writes JUnit XML to standard output.
+"""junit.py PROGRAM FOLDER..: judges trace.csv of each folder, with the externals.csv beside it.
+junit.py PROGRAM EXTERNALS TRACE..: judges traces that have one table of external inputs.
 
-A trace is a test case. A breach is a failure, a fault is an error. Status: that of the worst trace:
-0 accepted, 1 broken, 2 a fault. LFTRACE names the program lftrace, if it isn't on the PATH.
+Writes JUnit XML to standard output. A trace is a test case. A breach is a failure, and its facts stand inside.
+A fault is an error. Status: that of the worst trace: 0 accepted, 1 broken, 2 a fault.
+LFTRACE names the program lftrace, if it isn't on the PATH.
 """
 import os
 import re
@@ -20,26 +22,36 @@ def text(raw):
 
 
 def judge(program, externals, trace):
-    """The status, what lftrace said, and how long it took."""
+    """The status, the line of lftrace, its facts, and how long it took."""
     begun = time.monotonic()
-    words = [os.environ.get("LFTRACE") or "lftrace", "judge", "--", program, externals, trace]
+    words = [os.environ.get("LFTRACE") or "lftrace", "explain", "--", program, externals, trace]
     try:
-        done = subprocess.run(words, check=False, stdin=subprocess.DEVNULL, stdout=subprocess.PIPE, stderr=subprocess.STDOUT)
-        status, said = done.returncode, text(done.stdout).strip()
+        done = subprocess.run(words, check=False, stdin=subprocess.DEVNULL, capture_output=True)
+        # A fault stands on standard error, and why on standard output.
+        status, said = done.returncode, text(done.stderr + done.stdout).strip()
     except OSError as fault:
         status, said = 2, str(fault)
     if status not in (0, 1, 2):
         status, said = 2, f"fault: status {status} {said}".strip()
-    return status, said, time.monotonic() - begun
+    line, _, facts = said.partition("\n")
+    return status, line, facts.strip("\n"), time.monotonic() - begun
 
 
-def test_case(trace, status, said, seconds):
-    inside = [f"<system-out>{escape(said)}</system-out>", f"<failure message={quoteattr(said)}/>", f"<error message={quoteattr(said)}/>"][status]
-    return f'  <testcase classname="lftrace" name={quoteattr(text(os.fsencode(trace)))} time="{seconds:.3f}">{inside}</testcase>'
+def test_case(trace, status, line, facts, seconds):
+    message, inside = quoteattr(line), escape(facts)
+    answer = [f"<system-out>{escape(line)}</system-out>", f"<failure message={message}>{inside}</failure>", f"<error message={message}>{inside}</error>"][status]
+    return f'  <testcase classname="lftrace" name={quoteattr(text(os.fsencode(trace)))} time="{seconds:.3f}">{answer}</testcase>'
 
 
-def main(program, externals, *traces):
-    results = [(trace, *judge(program, externals, trace)) for trace in traces]
+def tables(first, rest):
+    """The two tables of each run."""
+    if os.path.isdir(first):
+        return [(os.path.join(folder, "externals.csv"), os.path.join(folder, "trace.csv")) for folder in [first, *rest]]
+    return [(first, trace) for trace in rest]
+
+
+def main(program, first, *rest):
+    results = [(trace, *judge(program, externals, trace)) for externals, trace in tables(first, rest)]
     statuses = [result[1] for result in results]
     lines = ['<?xml version="1.0" encoding="UTF-8"?>']
     lines.append(f'<testsuite name="lftrace" tests="{len(results)}" failures="{statuses.count(1)}" errors="{statuses.count(2)}">')
@@ -50,7 +62,7 @@ def main(program, externals, *traces):
 
 
 if __name__ == "__main__":
-    if len(sys.argv) < 4:
+    if len(sys.argv) < 3 or not os.path.isdir(sys.argv[2]) and len(sys.argv) < 4:
         print(__doc__, file=sys.stderr)
         sys.exit(2)
     sys.exit(main(*sys.argv[1:]))

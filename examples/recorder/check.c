@@ -1,8 +1,9 @@
 /* Checks of lftrace.h: the order of rows, misuse, refused memory, a process that is killed while it saves,
-   files that may not grow. The tables are written into the current folder.
+   files that may not grow, fronts of threads that run or hang. The tables are written into the current folder.
 
    cc -std=c11 -D_POSIX_C_SOURCE=200809L -O2 -pthread check.c -o check && ./check */
 #include <pthread.h>
+#include <sched.h>
 #include <signal.h>
 #include <stdbool.h>
 #include <stdlib.h>
@@ -58,6 +59,32 @@ static void *work(void *arg) {
   return NULL;
 }
 
+/* The rows of a table, its header among them. The turns that were written have to be in their order. */
+static long rows_in_turn(int64_t *turns) {
+  char line[256];
+  long rows = 0;
+  int64_t value;
+  FILE *table = fopen(trace_path, "r");
+  for (*turns = 0; table && fgets(line, sizeof line, table); rows++)
+    if (sscanf(line, "write,%*u,%*u,%*u,main#1,main.p,%" SCNd64 ",\n", &value) == 1)
+      expect(value == (*turns)++, "rows are in the order of the lock");
+  if (table) fclose(table);
+  return rows;
+}
+
+/* Saves while the threads run. Each front holds the one before it. */
+static void fronts(void) {
+  long before = 0;
+  while (lft_rows(lft) < 5L * THREADS * RUNS) {
+    int64_t turns;
+    const char *why = lft_save_front(lft, trace_path, externals_path, 7, 8);
+    expect(!why, why ? why : "");
+    long rows = rows_in_turn(&turns);
+    expect(rows >= before, "a front grows");
+    before = rows;
+  }
+}
+
 static void record(void) {
   pthread_t thread[THREADS];
   unsigned number[THREADS];
@@ -70,6 +97,7 @@ static void record(void) {
     number[i] = i;
     if (pthread_create(&thread[i], NULL, work, &number[i])) exit(2);
   }
+  fronts();
   for (unsigned i = 0; i < THREADS; i++) pthread_join(thread[i], NULL);
   const char *why = lft_save(lft, trace_path, externals_path, 7, 8);
   expect(!why, why ? why : "");
@@ -78,21 +106,19 @@ static void record(void) {
 
 static void order_of_rows(void) {
   char line[256];
-  long rows = 0, events = 0, runs[THREADS] = {0};
-  int64_t next = 0, value;
+  long events = 0, runs[THREADS] = {0};
+  int64_t turns;
   unsigned worker, time, microstep;
+  long rows = rows_in_turn(&turns);
   FILE *table = fopen(trace_path, "r");
-  for (; table && fgets(line, sizeof line, table); rows++) {
-    if (sscanf(line, "write,%u,%*u,%*u,main#1,main.p,%" SCNd64 ",\n", &worker, &value) == 2)
-      expect(value == next++, "rows are in the order of the lock");
+  while (table && fgets(line, sizeof line, table))
     if (sscanf(line, "end,%u,%u,%u,main#1,,,\n", &worker, &time, &microstep) == 3)
       expect(worker == microstep && time == runs[worker]++, "rows of a worker are in its order");
-  }
   if (table) fclose(table);
   table = fopen(externals_path, "r");
   while (table && fgets(line, sizeof line, table)) events += !strncmp(line, "event,", 6);
   if (table) fclose(table);
-  expect(rows == 1 + 5L * THREADS * RUNS && next == THREADS * RUNS, "all rows are there");
+  expect(rows == 1 + 5L * THREADS * RUNS && turns == THREADS * RUNS, "all rows are there");
   expect(events == THREADS * RUNS / 100 && !strcmp(line, "stop,7,8,,\n"), "all events and the stop are there");
 }
 
@@ -132,6 +158,57 @@ static const char *mistaken(int mistake) {
   return said;
 }
 
+/* Waits for the lock in a run. */
+static void *hang(void *arg) {
+  (void)arg;
+  lft_start(lft, 0, 2, 0, reaction);
+  pthread_mutex_lock(&lock);
+  lft_end(lft, 0);
+  pthread_mutex_unlock(&lock);
+  return NULL;
+}
+
+static void expect_trace(const char *rows, const char *what) {
+  char wanted[200], found[200] = "";
+  snprintf(wanted, sizeof wanted, "event,worker,time,microstep,reaction,name,value,delay\n%s", rows);
+  FILE *table = fopen(trace_path, "r");
+  if (table && fread(found, 1, sizeof found - 1, table) == 0) exit(2);
+  if (table) fclose(table);
+  expect(!strcmp(found, wanted), what);
+}
+
+/* The front of a thread that hangs ends with the start of its run. Where it goes on, lft_save has the end too. */
+static void front_of_a_hang(void) {
+  pthread_t thread;
+  lft = lft_open(1);
+  reaction = lft_register(lft, "main#1");
+  pthread_mutex_lock(&lock);
+  if (pthread_create(&thread, NULL, hang, NULL)) exit(2);
+  for (lft_block *block = NULL; !block || !lft_load(&block->used); sched_yield())
+    block = lft_load(&lft->slots[0].first);
+  expect(!lft_save_front(lft, trace_path, externals_path, 7, 8), "there is a front of a hang");
+  expect_trace("start,0,2,0,main#1,,,\n", "a front ends with an open run");
+  pthread_mutex_unlock(&lock);
+  pthread_join(thread, NULL);
+  expect(!lft_save(lft, trace_path, externals_path, 7, 8), "lft_save follows a front");
+  expect_trace("start,0,2,0,main#1,,,\nend,0,2,0,main#1,,,\n", "lft_save has all rows");
+  lft_close(lft);
+}
+
+/* More rows than are kept. */
+static void front_of_many(void) {
+  int64_t turns;
+  lft = lft_open(1);
+  port = lft_register(lft, "main#1");
+  for (unsigned i = 0; i < LFT_MOST; i++) {
+    lft_start(lft, 0, i, 0, port);
+    lft_end(lft, 0);
+  }
+  expect(!lft_save_front(lft, trace_path, externals_path, 7, 8), "there is a front of too many rows");
+  expect(rows_in_turn(&turns) == 1 + LFT_MOST, "it has as many rows as are kept");
+  lft_close(lft);
+}
+
 /* In a process whose files may have 1000 bytes. A longer one ends the process by a signal, unless that is
    ignored: then the write fails. Gives the exit status, or the signal. */
 static int limited(bool ignored) {
@@ -151,6 +228,8 @@ static int limited(bool ignored) {
 int main(void) {
   record();
   order_of_rows();
+  front_of_a_hang();
+  front_of_many();
   for (int mistake = 0; mistake < MISTAKES; mistake++)
     expect(!strcmp(mistaken(mistake), whys[mistake]), whys[mistake]);
 

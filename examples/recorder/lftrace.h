@@ -15,8 +15,11 @@
      if (why) fprintf(stderr, "not recorded: %s\n", why);
      lft_close(log);
 
-   One thread at a time uses a slot. lft_save is called once, after all workers have ended. Times are
-   nanoseconds since the first tag. A log that is NULL records nothing, so the calls may stay in a runtime.
+   One thread at a time uses a slot. lft_save is called after all workers have ended. Times are nanoseconds
+   since the first tag. A log that is NULL records nothing, so the calls may stay in a runtime. Each name is
+   0 then, so a runtime tells nothing apart by these names.
+
+   Of a run that hangs lft_save_front writes the rows so far. A watchdog calls it where lft_rows stands still.
 
    Order: each row takes the next number of one atomic counter, and lft_save sorts the rows by it. Where
    the runtime's own locks and atomics order two steps, the earlier step has the lesser number. A relaxed
@@ -38,16 +41,16 @@
 
 #ifdef __cplusplus
 #include <atomic>
-typedef std::atomic<uint64_t> lft_counter;
-static inline uint64_t lft_take(lft_counter *counter) { return counter->fetch_add(1, std::memory_order_relaxed); }
-static inline uint64_t lft_count(const lft_counter *counter) { return counter->load(std::memory_order_relaxed); }
+#define LFT_ATOMIC(type) std::atomic<type>
+#define lft_load(place) (place)->load(std::memory_order_acquire)
+#define lft_store(place, value) (place)->store(value, std::memory_order_release)
+#define lft_take(counter) (counter)->fetch_add(1, std::memory_order_relaxed)
 #else
 #include <stdatomic.h>
-typedef _Atomic uint64_t lft_counter;
-static inline uint64_t lft_take(lft_counter *counter) {
-  return atomic_fetch_add_explicit(counter, 1, memory_order_relaxed);
-}
-static inline uint64_t lft_count(lft_counter *counter) { return atomic_load_explicit(counter, memory_order_relaxed); }
+#define LFT_ATOMIC(type) _Atomic(type)
+#define lft_load(place) atomic_load_explicit(place, memory_order_acquire)
+#define lft_store(place, value) atomic_store_explicit(place, value, memory_order_release)
+#define lft_take(counter) atomic_fetch_add_explicit(counter, 1, memory_order_relaxed)
 #endif
 
 #ifndef LFT_BLOCK
@@ -55,6 +58,9 @@ static inline uint64_t lft_count(lft_counter *counter) { return atomic_load_expl
 #endif
 #ifndef LFT_MOST
 #define LFT_MOST 4000000 /* the most rows of a table that lftrace reads */
+#endif
+#ifndef LFT_TEXT
+#define LFT_TEXT 65536 /* bytes of a table that are written at once */
 #endif
 
 typedef uint32_t lft_name; /* a reaction, port or action: the number that lft_register gave */
@@ -91,19 +97,20 @@ typedef struct {
   uint32_t kind, bare;
 } lft_row;
 
+/* A worker fills a block, and a thread that saves may read it at the same time: `used` and `next` are stored
+   behind what they speak of. */
 typedef struct lft_block {
-  struct lft_block *next;
-  size_t used;
+  LFT_ATOMIC(struct lft_block *) next;
+  LFT_ATOMIC(size_t) used;
   lft_row rows[LFT_BLOCK];
 } lft_block;
 
 typedef struct {
-  lft_block *first, *last;
-  const char *fault; /* the first one, and the name that it is about */
+  LFT_ATOMIC(lft_block *) first;
+  lft_block *last;
+  LFT_ATOMIC(const char *) fault; /* the first one, and the name that it is about */
   lft_name about;
   lft_name open;   /* the reaction that runs, or 0 */
-  size_t next;     /* for lft_save: the next row of the first block */
-  lft_row run;     /* for lft_save: the start row of the run */
   char apart[128]; /* keeps workers from writing to one line of a cache */
 } lft_slot;
 
@@ -115,16 +122,16 @@ typedef struct {
   bool lacks_name;
   char why[200];
   char before[128]; /* the counter has a line of the cache of its own */
-  lft_counter order;
+  LFT_ATOMIC(uint64_t) order;
   char behind[128];
-  lft_counter strays; /* calls with the number of no slot */
+  LFT_ATOMIC(uint64_t) strays; /* calls with the number of no slot */
 } lft_log;
 
 static inline void lft_close(lft_log *log) {
   if (!log) return;
   for (unsigned slot = 0; log->slots && slot < log->slot_count; slot++)
-    for (lft_block *block = log->slots[slot].first; block;) {
-      lft_block *next = block->next;
+    for (lft_block *block = lft_load(&log->slots[slot].first); block;) {
+      lft_block *next = lft_load(&block->next);
       free(block);
       block = next;
     }
@@ -164,9 +171,9 @@ static inline lft_log *lft_open(unsigned slots) {
 }
 
 static inline void lft_blame(lft_slot *slot, const char *fault, lft_name about) {
-  if (slot->fault) return;
-  slot->fault = fault;
+  if (lft_load(&slot->fault)) return;
   slot->about = about;
+  lft_store(&slot->fault, fault);
 }
 
 static inline lft_slot *lft_at(lft_log *log, unsigned slot) {
@@ -176,25 +183,30 @@ static inline lft_slot *lft_at(lft_log *log, unsigned slot) {
   return NULL;
 }
 
-/* One more block, or false. */
-static inline bool lft_grow(lft_slot *slot) {
+/* One more block, or NULL. */
+static inline lft_block *lft_grow(lft_slot *slot) {
   lft_block *block = (lft_block *)malloc(sizeof *block);
-  if (!block) return false;
-  block->next = NULL;
-  block->used = 0;
-  if (slot->last) slot->last->next = block;
-  else slot->first = block;
-  slot->last = block;
-  return true;
+  if (!block) return NULL;
+  lft_store(&block->next, (lft_block *)NULL);
+  lft_store(&block->used, (size_t)0);
+  if (slot->last) lft_store(&slot->last->next, block);
+  else lft_store(&slot->first, block);
+  return slot->last = block;
 }
 
 static inline void lft_put(lft_log *log, lft_slot *slot, uint32_t kind, lft_name name, lft_value value, uint64_t time,
                            uint32_t microstep) {
   lft_row row = {lft_take(&log->order), time, value.number, name, microstep, kind, value.bare};
   if (row.order >= LFT_MOST) return; /* lft_save says so, by the counter */
-  bool full = !slot->last || slot->last->used == LFT_BLOCK;
-  if (full && !lft_grow(slot)) lft_blame(slot, "out of memory at a row of", name);
-  else slot->last->rows[slot->last->used++] = row;
+  lft_block *block = slot->last;
+  if (!block || lft_load(&block->used) == LFT_BLOCK) block = lft_grow(slot);
+  if (!block) {
+    lft_blame(slot, "out of memory at a row of", name);
+    return;
+  }
+  size_t used = lft_load(&block->used);
+  block->rows[used] = row;
+  lft_store(&block->used, used + 1);
 }
 
 static inline void lft_step(lft_log *log, unsigned number, uint32_t kind, lft_name name, lft_value value,
@@ -241,92 +253,190 @@ static inline void lft_event(lft_log *log, unsigned number, uint64_t time, uint3
   if (slot) lft_put(log, slot, LFT_EVENT, action, value, time, microstep);
 }
 
-/* The first row of a slot that isn't written yet, or NULL. */
-static inline const lft_row *lft_head(lft_slot *slot) {
-  lft_block *block = slot->first;
-  if (block && slot->next == block->used) {
-    slot->first = block->next;
-    slot->next = 0;
-    free(block);
-    block = slot->first;
+/* The rows so far, with those that aren't kept. A watchdog sees by it that nothing moves. */
+static inline uint64_t lft_rows(lft_log *log) { return log ? lft_load(&log->order) : 0; }
+
+/* A table that is written: its file, and the text that isn't there yet. */
+typedef struct {
+  FILE *file;
+  size_t used;
+  char text[LFT_TEXT];
+} lft_table;
+
+static inline void lft_flush(lft_table *table) {
+  fwrite(table->text, 1, table->used, table->file); /* lft_finish asks the file for errors */
+  table->used = 0;
+}
+
+static inline void lft_add(lft_table *table, const char *text, size_t size) {
+  if (size > LFT_TEXT - table->used) lft_flush(table);
+  if (size > LFT_TEXT) fwrite(text, 1, size, table->file);
+  else {
+    memcpy(table->text + table->used, text, size);
+    table->used += size;
   }
-  return block ? &block->rows[slot->next] : NULL;
+}
+
+static inline void lft_add_text(lft_table *table, const char *text) { lft_add(table, text, strlen(text)); }
+
+static inline void lft_add_number(lft_table *table, uint64_t number) {
+  char digits[20];
+  size_t at = sizeof digits;
+  do digits[--at] = (char)('0' + number % 10);
+  while (number /= 10);
+  lft_add(table, digits + at, sizeof digits - at);
+}
+
+/* The value of a row behind a comma. */
+static inline void lft_add_value(lft_table *table, const lft_row *row) {
+  lft_add(table, ",", 1);
+  if (row->bare) return;
+  if (row->number < 0) lft_add(table, "-", 1);
+  lft_add_number(table, row->number < 0 ? 0 - (uint64_t)row->number : (uint64_t)row->number);
+}
+
+/* `TIME,MICROSTEP,` of a row with a tag. */
+static inline void lft_add_tag(lft_table *table, const lft_row *row) {
+  lft_add_number(table, row->time);
+  lft_add(table, ",", 1);
+  lft_add_number(table, row->microstep);
+  lft_add(table, ",", 1);
+}
+
+/* How far the rows of a slot are written. */
+typedef struct {
+  const lft_block *block;
+  size_t next;
+  const lft_row *run; /* the start row of the run */
+} lft_cursor;
+
+/* What lft_save needs for one call. It changes nothing in the log but `why`. */
+typedef struct {
+  lft_log *log;
+  bool front; /* open runs and missing rows end the table */
+  lft_cursor *cursors;
+  lft_table trace, externals;
+} lft_saver;
+
+/* The first row of a slot that isn't written yet, or NULL. */
+static inline const lft_row *lft_head(lft_cursor *cursor, lft_slot *slot) {
+  const lft_block *block = cursor->block;
+  if (!block) block = lft_load(&slot->first);
+  else if (cursor->next == LFT_BLOCK) {
+    block = lft_load(&block->next);
+    if (block) cursor->next = 0;
+  }
+  if (!block) return NULL;
+  cursor->block = block;
+  return cursor->next < lft_load(&block->used) ? &block->rows[cursor->next] : NULL;
 }
 
 /* The row of a number, or NULL. It is sought from the slot on where the row before it was. */
-static inline const lft_row *lft_find(lft_log *log, uint64_t order, unsigned *slot) {
-  for (unsigned tried = 0; tried < log->slot_count; tried++) {
-    const lft_row *row = lft_head(&log->slots[*slot]);
+static inline const lft_row *lft_find(lft_saver *saver, uint64_t order, unsigned *slot) {
+  for (unsigned tried = 0; tried < saver->log->slot_count; tried++) {
+    const lft_row *row = lft_head(&saver->cursors[*slot], &saver->log->slots[*slot]);
     if (row && row->order == order) return row;
-    *slot = (*slot + 1) % log->slot_count;
+    *slot = *slot + 1 == saver->log->slot_count ? 0 : *slot + 1;
   }
   return NULL;
 }
 
-static inline void lft_print(lft_log *log, FILE *trace, FILE *externals, unsigned worker, const lft_row *row) {
-  static const char *const words[] = {"start", "read", "write", "schedule", "stop", "end"};
-  char value[24] = "", delay[24] = "";
-  if (!row->bare) snprintf(value, sizeof value, "%" PRId64, row->number);
-  const char *name = log->names[row->name];
-  if (row->kind == LFT_EVENT) {
-    fprintf(externals, "event,%" PRIu64 ",%" PRIu32 ",%s,%s\n", row->time, row->microstep, name, value);
-    return;
-  }
-  lft_row *run = &log->slots[worker].run;
-  if (row->kind == LFT_START) {
-    *run = *row;
-    name = "";
-  }
-  if (row->kind == LFT_SCHEDULE && row->time) snprintf(delay, sizeof delay, "%" PRIu64, row->time);
-  fprintf(trace, "%s,%u,%" PRIu64 ",%" PRIu32 ",%s,%s,%s,%s\n", words[row->kind], worker, run->time, run->microstep,
-          log->names[run->name], name, value, delay);
+static inline void lft_print_event(lft_table *externals, const lft_row *row, const char *name) {
+  lft_add(externals, "event,", 6);
+  lft_add_tag(externals, row);
+  lft_add_text(externals, name);
+  lft_add_value(externals, row);
+  lft_add(externals, "\n", 1);
+}
+
+static inline void lft_print_step(lft_table *trace, unsigned worker, const lft_row *row, const lft_row *run,
+                                  char *const *names) {
+  static const char *const words[] = {"start,", "read,", "write,", "schedule,", "stop,", "end,"};
+  lft_add_text(trace, words[row->kind]);
+  lft_add_number(trace, worker);
+  lft_add(trace, ",", 1);
+  lft_add_tag(trace, run);
+  lft_add_text(trace, names[run->name]);
+  lft_add(trace, ",", 1);
+  if (row != run) lft_add_text(trace, names[row->name]);
+  lft_add_value(trace, row);
+  lft_add(trace, ",", 1);
+  if (row->kind == LFT_SCHEDULE && row->time) lft_add_number(trace, row->time);
+  lft_add(trace, "\n", 1);
 }
 
 /* Prints all rows in the order of their numbers. NULL, or why it can't. */
-static inline const char *lft_merge(lft_log *log, FILE *trace, FILE *externals) {
-  uint64_t count = lft_count(&log->order);
+static inline const char *lft_merge(lft_saver *saver) {
+  lft_log *log = saver->log;
+  uint64_t count = lft_load(&log->order);
   unsigned slot = 0;
+  if (saver->front && count > LFT_MOST) count = LFT_MOST;
   for (uint64_t order = 0; order < count; order++) {
-    const lft_row *row = lft_find(log, order, &slot);
-    if (!row) return "a row is missing: two threads used one slot at a time";
+    const lft_row *row = lft_find(saver, order, &slot);
+    if (!row) return saver->front ? NULL : "a row is missing: two threads used one slot at a time";
     if (row->name >= log->name_count) return "a row has a name that wasn't registered";
-    lft_print(log, trace, externals, slot, row);
-    log->slots[slot].next++;
+    lft_cursor *cursor = &saver->cursors[slot];
+    cursor->next++;
+    if (row->kind == LFT_EVENT) {
+      lft_print_event(&saver->externals, row, log->names[row->name]);
+      continue;
+    }
+    if (row->kind == LFT_START) cursor->run = row;
+    if (!cursor->run) return "a step outside a run"; /* it came after lft_fault looked */
+    lft_print_step(&saver->trace, slot, row, cursor->run, log->names);
   }
   return NULL;
 }
 
 /* Why there can be no tables of this log, or NULL. */
-static inline const char *lft_fault(lft_log *log) {
-  if (!log) return "there is no log";
+static inline const char *lft_fault(lft_log *log, bool front) {
   if (log->lacks_name) return "out of memory at a name";
-  if (lft_count(&log->strays)) return "a call with the number of no slot";
+  if (lft_load(&log->strays)) return "a call with the number of no slot";
   for (unsigned number = 0; number < log->slot_count; number++) {
     lft_slot *slot = &log->slots[number];
-    if (slot->open) lft_blame(slot, "a run is still open:", slot->open);
-    if (!slot->fault) continue;
-    const char *about = slot->about < log->name_count ? log->names[slot->about] : "a name that wasn't registered";
-    snprintf(log->why, sizeof log->why, "slot %u: %s %s", number, slot->fault, *about ? about : "(stop or end)");
+    const char *fault = lft_load(&slot->fault);
+    lft_name name = fault ? slot->about : 0;
+    if (!fault && !front && slot->open) {
+      fault = "a run is still open:";
+      name = slot->open;
+    }
+    if (!fault) continue;
+    const char *about = name < log->name_count ? log->names[name] : "a name that wasn't registered";
+    snprintf(log->why, sizeof log->why, "slot %u: %s %s", number, fault, *about ? about : "(stop or end)");
     return log->why;
   }
-  if (lft_count(&log->order) > LFT_MOST) return "more rows than lftrace reads";
+  if (!front && lft_load(&log->order) > LFT_MOST) return "more rows than lftrace reads";
   return NULL;
 }
 
-static inline const char *lft_write_tables(lft_log *log, const char *trace_path, const char *externals_path,
+static inline bool lft_begin(lft_table *table, const char *path, const char *header) {
+  table->file = fopen(path, "w");
+  table->used = 0;
+  lft_add_text(table, header);
+  return table->file;
+}
+
+/* False: not all of it is in the file. */
+static inline bool lft_finish(lft_table *table) {
+  if (!table->file) return false;
+  lft_flush(table);
+  bool written = !ferror(table->file);
+  return !fclose(table->file) && written;
+}
+
+static inline const char *lft_write_tables(lft_saver *saver, const char *trace_path, const char *externals_path,
                                            uint64_t stop_time, uint32_t stop_microstep) {
-  FILE *trace = fopen(trace_path, "w"), *externals = fopen(externals_path, "w");
-  const char *why = NULL;
-  bool written = trace && externals;
-  if (written) {
-    fputs("event,worker,time,microstep,reaction,name,value,delay\n", trace);
-    fputs("kind,time,microstep,name,value\n", externals);
-    why = lft_merge(log, trace, externals);
-    fprintf(externals, "stop,%" PRIu64 ",%" PRIu32 ",,\n", stop_time, stop_microstep);
-    written = !ferror(trace) && !ferror(externals);
+  bool is_open = lft_begin(&saver->trace, trace_path, "event,worker,time,microstep,reaction,name,value,delay\n");
+  is_open = lft_begin(&saver->externals, externals_path, "kind,time,microstep,name,value\n") && is_open;
+  const char *why = is_open ? lft_merge(saver) : NULL;
+  lft_row stop = {0, stop_time, 0, 0, stop_microstep, LFT_STOP, true};
+  if (is_open) {
+    lft_add(&saver->externals, "stop,", 5);
+    lft_add_tag(&saver->externals, &stop);
+    lft_add(&saver->externals, ",\n", 2);
   }
-  if (trace && fclose(trace)) written = false;
-  if (externals && fclose(externals)) written = false;
+  bool written = lft_finish(&saver->trace);
+  written = lft_finish(&saver->externals) && written;
   return written ? why : "a table could not be written";
 }
 
@@ -340,19 +450,13 @@ static inline char *lft_part(const char *path) {
   return part;
 }
 
-/* Writes both tables, and gives NULL; or writes none, and gives why not. The stop is the last tag that
-   the execution may have: its timeout; the tag at which it ended, if no event was left; any later tag, if
-   the code asked for the end.
-   Each table is written beside its place and then moved there, the trace last. So no reader finds half a
-   table, or a trace with the external inputs of another run. */
-static inline const char *lft_save(lft_log *log, const char *trace_path, const char *externals_path,
-                                   uint64_t stop_time, uint32_t stop_microstep) {
-  const char *why = lft_fault(log);
-  if (why) return why;
+/* Writes both tables beside their places and moves them there, the trace last. */
+static inline const char *lft_place_tables(lft_saver *saver, const char *trace_path, const char *externals_path,
+                                           uint64_t stop_time, uint32_t stop_microstep) {
   char *trace_part = lft_part(trace_path), *externals_part = lft_part(externals_path);
-  if (!trace_part || !externals_part) why = "out of memory at the path of a table";
-  else {
-    why = lft_write_tables(log, trace_part, externals_part, stop_time, stop_microstep);
+  const char *why = "out of memory at the path of a table";
+  if (trace_part && externals_part) {
+    why = lft_write_tables(saver, trace_part, externals_part, stop_time, stop_microstep);
     if (!why) {
       remove(trace_path);
       remove(externals_path);
@@ -367,5 +471,44 @@ static inline const char *lft_save(lft_log *log, const char *trace_path, const c
   free(trace_part);
   free(externals_part);
   return why;
+}
+
+static inline const char *lft_save_rows(lft_log *log, bool front, const char *trace_path, const char *externals_path,
+                                        uint64_t stop_time, uint32_t stop_microstep) {
+  if (!log) return "there is no log";
+  const char *why = lft_fault(log, front);
+  if (why) return why;
+  lft_saver *saver = (lft_saver *)malloc(sizeof *saver);
+  lft_cursor *cursors = (lft_cursor *)calloc(log->slot_count ? log->slot_count : 1, sizeof *cursors);
+  if (saver && cursors) {
+    saver->log = log;
+    saver->front = front;
+    saver->cursors = cursors;
+    why = lft_place_tables(saver, trace_path, externals_path, stop_time, stop_microstep);
+  } else why = "out of memory at the tables";
+  free(cursors);
+  free(saver);
+  return why;
+}
+
+/* Writes both tables, and gives NULL; or writes none, and gives why not. The stop is the last tag that
+   the execution may have: its timeout; the tag at which it ended, if no event was left; any later tag, if
+   the code asked for the end.
+   Each table is written beside its place and then moved there, the trace last. So no reader finds half a
+   table, or a trace with the external inputs of another run. */
+static inline const char *lft_save(lft_log *log, const char *trace_path, const char *externals_path,
+                                   uint64_t stop_time, uint32_t stop_microstep) {
+  return lft_save_rows(log, false, trace_path, externals_path, stop_time, stop_microstep);
+}
+
+/* The same for a run that hangs, or has more rows than lftrace reads: the rows so far, up to the first that
+   isn't there whole. Runs may be open. examples/pipeline/front cuts such tables at their last whole tag.
+   Any one thread may call it at any time, while workers run or hang, and they may go on. It waits for no
+   worker and for no lock that code of a reaction can hold, but for those of malloc and stdio: so it isn't
+   for a signal handler, nor for a worker that hangs within malloc. Don't take a lock of the runtime to find
+   the stop: any later tag will do. */
+static inline const char *lft_save_front(lft_log *log, const char *trace_path, const char *externals_path,
+                                         uint64_t stop_time, uint32_t stop_microstep) {
+  return lft_save_rows(log, true, trace_path, externals_path, stop_time, stop_microstep);
 }
 #endif

@@ -113,7 +113,7 @@ struct Runtime {
 }
 
 impl Runtime {
-    fn work<'log>(&self, mut worker: Worker<'log>) -> Worker<'log> {
+    fn work(&self, mut worker: Worker) {
         self.both.wait();
         let mut state = self.state.lock().unwrap();
         while !state.over {
@@ -127,7 +127,6 @@ impl Runtime {
                 self.change.notify_all();
             }
         }
-        worker
     }
 
     /// Gives up the lock while the code runs.
@@ -176,14 +175,13 @@ fn main() {
     let mut state = State { stop: STOP, ..State::default() };
     state.begin_tag((0, 0));
     let runtime = Runtime { state: Mutex::new(state), change: Condvar::new(), both: Barrier::new(2), careless };
-    let rows = thread::scope(|scope| {
-        let workers = [0, 1].map(|number| {
+    thread::scope(|scope| {
+        for number in [0, 1] {
             let (worker, runtime) = (log.worker(number), &runtime);
-            scope.spawn(move || runtime.work(worker))
-        });
-        workers.map(|worker| worker.join().expect("a worker that ends")).into()
+            scope.spawn(move || runtime.work(worker));
+        }
     });
-    if let Err(why) = log.save(rows, Path::new(trace), Path::new(externals), STOP) {
+    if let Err(why) = log.save(Path::new(trace), Path::new(externals), STOP) {
         eprintln!("not recorded: {why}");
         exit(1);
     }

@@ -26,9 +26,11 @@ pub enum Fault {
     NextTagBegins,
     /// Code looks at a number that all workers share.
     SharedState,
+    /// Now and then a worker keeps the lock of a state while code runs, and then takes it again.
+    LockTwice,
 }
 
-pub const FAULTS: [(&str, Fault); 10] = [
+pub const FAULTS: [(&str, Fault); 11] = [
     ("early-start", Fault::EarlyStart),
     ("early-event", Fault::EarlyEvent),
     ("stale-read", Fault::StaleRead),
@@ -39,6 +41,7 @@ pub const FAULTS: [(&str, Fault); 10] = [
     ("late-end", Fault::LateEnd),
     ("next-tag-begins", Fault::NextTagBegins),
     ("shared-state", Fault::SharedState),
+    ("lock-twice", Fault::LockTwice),
 ];
 
 /// The next of the numbers that all workers share.

@@ -25,6 +25,9 @@ use std::{env, fs, path::Path, process::ExitCode};
 /// The execution ends here at the latest.
 const STOP: lftrace::Tag = (100_000_000, 0);
 
+/// The status of a run that hangs.
+const HANGS: i32 = 4;
+
 const USAGE: &str =
     "work_stealing plant|correction SHOWN TRACE EXTERNALS [--workers N] [--replay EXTERNALS] [--fault NAME]";
 
@@ -56,8 +59,15 @@ fn record(words: &[String]) -> Result<(), String> {
         }
     }
     let log = lftrace::Log::new(program.names.clone());
-    let rows = Runtime::new(&program, workers, STOP, fault).run(&log, world);
-    log.save(rows, Path::new(trace), Path::new(externals), STOP).map_err(|why| format!("not recorded: {why}"))
+    let (trace, externals) = (Path::new(trace), Path::new(externals));
+    Runtime::new(&program, workers, STOP, fault).run(&log, world, || {
+        match log.save_front(trace, externals, STOP) {
+            Ok(()) => eprintln!("hangs: its front is saved"),
+            Err(why) => eprintln!("hangs, not recorded: {why}"),
+        }
+        std::process::exit(HANGS);
+    });
+    log.save(trace, externals, STOP).map_err(|why| format!("not recorded: {why}"))
 }
 
 fn main() -> ExitCode {

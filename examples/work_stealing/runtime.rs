@@ -17,6 +17,9 @@ use std::time::{Duration, Instant};
 
 const FAR: Tag = (u64::MAX, 0);
 
+/// A run without a row for so long hangs.
+const PATIENCE: Duration = Duration::from_secs(1);
+
 /// Where the events of physical actions come from.
 pub enum World {
     /// So many events of one action, with the tags that the runtime gives them.
@@ -98,26 +101,39 @@ impl<'p> Runtime<'p> {
         }
     }
 
-    /// Runs the program to its stop, and gives what was recorded.
-    pub fn run<'log>(&self, log: &'log Log, world: World) -> Vec<lftrace::Worker<'log>> {
+    /// Runs the program to its stop. `hangs` is called if no row comes for a second, and doesn't return.
+    pub fn run(&self, log: &Log, world: World, hangs: impl FnOnce() + Send) {
         if let World::Script(events) = &world {
             self.agenda.lock().unwrap().promised = events.first().map_or(FAR, |event| event.0);
         }
         let workers = self.deques.len();
         thread::scope(|scope| {
-            let feeder = scope.spawn(move || self.feed(log.worker(workers as u32), world));
-            let workers: Vec<_> =
-                (0..workers).map(|me| scope.spawn(move || self.work(me, log.worker(me as u32)))).collect();
-            let threads = workers.into_iter().chain([feeder]);
-            threads.map(|thread| thread.join().expect("a thread that ends")).collect()
-        })
+            scope.spawn(move || self.feed(log.worker(workers as u32), world));
+            for me in 0..workers {
+                scope.spawn(move || self.work(me, log.worker(me as u32)));
+            }
+            scope.spawn(move || self.watch(log, hangs));
+        });
+    }
+
+    /// A watchdog. It takes no lock of the runtime, since who hangs may hold it.
+    fn watch(&self, log: &Log, hangs: impl FnOnce()) {
+        let (mut rows, mut since) = (log.rows(), Instant::now());
+        while !self.over.load(SeqCst) {
+            thread::sleep(Duration::from_millis(10));
+            if log.rows() != rows {
+                (rows, since) = (log.rows(), Instant::now());
+            } else if since.elapsed() > PATIENCE {
+                return hangs();
+            }
+        }
     }
 
     fn is(&self, fault: Fault) -> bool {
         self.fault == Some(fault)
     }
 
-    fn work<'log>(&self, me: usize, mut recorder: lftrace::Worker<'log>) -> lftrace::Worker<'log> {
+    fn work(&self, me: usize, mut recorder: lftrace::Worker) {
         let _guard = Guard(&self.over);
         let mut random = Random::new(me);
         if me == 0 && !self.begin_tag(me) {
@@ -129,7 +145,6 @@ impl<'p> Runtime<'p> {
                 None => thread::sleep(Duration::from_micros(20)),
             }
         }
-        recorder
     }
 
     /// The newest reaction of its own deque, or the oldest one of another. While a reaction is in a deque its tag
@@ -163,7 +178,8 @@ impl<'p> Runtime<'p> {
         if is_early {
             self.settle(me, number, random);
         }
-        let state = *self.states[reaction.instance].lock().unwrap();
+        let state = self.states[reaction.instance].lock().unwrap();
+        let (state, _held) = (*state, self.is_kept(tag, random).then_some(state));
         let mut run = Run { runtime: self, me, tag, reaction, inputs, row, state };
         random.work();
         (reaction.code)(&mut run);
@@ -182,6 +198,11 @@ impl<'p> Runtime<'p> {
                 self.settle(me, number, random);
             }
         }
+    }
+
+    /// With a fault: whether the lock of a state is kept, at any tag but the first.
+    fn is_kept(&self, tag: Tag, random: &mut Random) -> bool {
+        self.is(Fault::LockTwice) && tag > (0, 0) && random.once_in(64)
     }
 
     fn look(&self, me: usize, signal: Signal, random: &mut Random) -> Option<Value> {
@@ -310,7 +331,7 @@ impl<'p> Runtime<'p> {
     }
 
     /// The world: a thread that knows nothing of tags, or replays recorded events.
-    fn feed<'log>(&self, mut recorder: lftrace::Worker<'log>, world: World) -> lftrace::Worker<'log> {
+    fn feed(&self, mut recorder: lftrace::Worker, world: World) {
         let (begun, mut random) = (Instant::now(), Random::new(self.deques.len()));
         match world {
             World::Live(action, count) => {
@@ -335,7 +356,6 @@ impl<'p> Runtime<'p> {
                 }
             }
         }
-        recorder
     }
 }
 
