@@ -48,7 +48,8 @@ fn is_behind(program: &Program, origin: u32, number: u32) -> bool
 }
 
 /// Puts an event in for each of the ports that lies behind a delay of the origin, which is written at the
-/// tag, where it arrives up to the stop. It is false where two events meet, or memory is refused.
+/// tag, where it arrives up to the stop. It is false where two events meet, too many wait, or memory is
+/// refused.
 fn carry(
     coming: &mut Coming,
     program: &Program,
@@ -106,7 +107,7 @@ fn carry_row(
 }
 
 /// Puts in what the last writes of the rows, which are all at the tag, carry to the ports behind delays, up
-/// to the stop. It is false where two events meet, or memory is refused.
+/// to the stop. It is false where two events meet, too many wait, or memory is refused.
 pub(crate) fn carry_all(
     coming: &mut Coming,
     writes: &mut Writes,

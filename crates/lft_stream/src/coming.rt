@@ -68,7 +68,7 @@ impl Coming {
     }
 
     /// Puts an event in, where it is up to the stop: behind that nobody waits for one. It is false where
-    /// the name has an event at the tag already, or memory is refused.
+    /// the name has an event at the tag already, too many wait, or memory is refused.
     pub(crate) fn put_until(&mut self, last: Tag, tag: Tag, name: Name, value: Value) -> bool
         ensures { IsTrue result → (events : List TheEvent) (h : TheTag) (n : TheName) → UpTo h last → to_come events self.new h n ≡ to_come events self.old h n ++ put_at tag name value h n }
     {
@@ -104,7 +104,7 @@ impl Coming {
     }
 
     /// Puts the external events up to the tag into the queue. It is false where one meets an event of
-    /// its action, or memory is refused.
+    /// its action, too many wait, or memory is refused.
     fn bring(&mut self, externals: &Externals, tag: Tag) -> bool
         ensures brought { IsTrue result → AreBrought externals.now.events self.new.next tag }
         ensures same { IsTrue result → (h : TheTag) (n : TheName) → to_come externals.now.events self.new h n ≡ to_come externals.now.events self.old h n }
@@ -168,8 +168,8 @@ impl Coming {
     }
 
     /// Goes on to a later tag: what comes at the tag is in the queue, and nothing that comes before it.
-    /// It is false where an event before the tag is of a name that triggers something, where two meet, or
-    /// memory is refused.
+    /// It is false where an event before the tag is of a name that triggers something, where two meet or
+    /// too many wait, or memory is refused.
     pub(crate) fn reach(&mut self, externals: &Externals, listeners: &Listeners, tag: Tag) -> bool
         ensures { IsTrue result → IsReached externals.now.events listeners.now tag self.old self.new }
     {

@@ -22,7 +22,7 @@ use lft_tag::{NoMemory, Tag};
 use lft_trace::{Row, Step, row_at};
 
 /// Puts the event in that the row schedules up to the stop, if it schedules one. It is false where two
-/// events meet, or memory is refused.
+/// events meet, too many wait, or memory is refused.
 fn schedule(coming: &mut Coming, plan: &Plan, row: Row, last: Tag) -> bool
     requires { RowFits plan.now.program row }
     ensures { IsTrue result → (events : List TheEvent) (h : TheTag) (n : TheName) → UpTo h last → to_come events coming.new h n ≡ to_come events coming.old h n ++ held (scheduled_by plan.now (row ∷ []) n) h }
@@ -105,7 +105,7 @@ pub(crate) fn note_schedules(
 
 /// Puts in what the rows, which are all at the tag, cause later and up to the stop: the events that they
 /// schedule, and what their last writes carry to the ports behind delays. It is false where two events
-/// meet, or memory is refused.
+/// meet, too many wait, or memory is refused.
 pub(crate) fn pass_on(
     coming: &mut Coming,
     writes: &mut Writes,
