@@ -4,13 +4,14 @@
 A shape is a lawful input that has two lengths, as the writes of a run and the effects of its
 reaction. A program that looks through one for each of the other takes their product. Beside each
 shape stands an ordinary input of the same command with as many rows: one reaction and one timer.
+Of `show`, which reads no rows, it is a program with as many ports.
 
-`seconds` and `MB` are the processor time and the most memory of `lftrace`, `by ordinary` the time
-divided by that of the ordinary input, `bytes` the memory by each byte of input and output.
+`seconds` and `MB` are the processor time and the most memory of `lftrace`, each with the same
+divided by that of the ordinary input. `bytes` is the memory by each byte of input and output.
 Texts are made in FOLDER, from SEED. From the environment: SEED (1), SHAPES (some of them, by
 name), TURNS (3), SECONDS (120, after which a run is stopped).
 """
-import multiprocessing, os, random, re, subprocess, sys, threading
+import multiprocessing, os, random, re, shutil, subprocess, sys, threading
 
 MOST_BY_ORDINARY = 20
 # A time below this can't be told from that of starting a process.
@@ -21,6 +22,7 @@ EXTERNALS = "kind,time,microstep,name,value\n"
 CARDS = "kind,reaction,name,delay,value\n"
 TICK = "main reactor { timer t(0, 1 ns)  reaction(t) {= =} }\n"
 WEEK = "1 week"
+FOLDER = sys.argv[-1]
 
 
 class Input:
@@ -61,19 +63,27 @@ def bodies(reaction, count=1_000_000):
     return f"bodies,{reaction},,,{count}\n"
 
 
-def ordinary(command, rows):
-    """One reaction and one timer, with so many rows."""
+def ordinary(asked):
+    """One reaction and one timer, with as many rows. What is explained lacks the last run."""
+    command, rows = asked.command, asked.rows
     count = max(1, rows // 2)
+    if command == "show":
+        return Input(command, rows, named(each(range(rows), "input p{:06}", " ")))
     if command == "record":
         return Input(command, rows, TICK, stop(count - 1), CARDS + bodies("main#1"))
-    tables = [ticks(count)] * (2 if command == "pair" else 1)
-    return Input(command, rows, TICK, stop(count - 1), *tables)
+    last = count if command == "explain" else count - 1
+    return Input(command, rows, TICK, stop(last), *[ticks(count)] * (len(asked.texts) - 2))
 
 
 # Programs, by their number of ports.
 
 def ports(kind, count):
     return each(range(count), kind + " p{}", " ")
+
+
+def named(ports):
+    """A reactor with these ports, and a reaction beside it."""
+    return f"reactor A {{ {ports} }}\nmain reactor {{ a = new A()  reaction(startup) {{= =}} }}\n"
 
 
 def writer(count):
@@ -147,8 +157,7 @@ def far_workers(chance):
 def names(chance):
     """60,000 ports, 200,000 writes"""
     ports, count = 60_000, 200_000
-    program = (f"reactor A {{ {each(range(ports), 'input p{}', ' ')} }}\n"
-               "main reactor { a = new A()  reaction(startup) {= =} }\n")
+    program = named(each(range(ports), "input p{}", " "))
     table = TRACE + "start,0,0,0,main#1,,,\n" + "".join(
         f"write,0,0,0,main#1,main.a.p{chance.randrange(ports)},1,\n" for _ in range(count))
     return Input("judge", count, program, stop(0), table)
@@ -187,6 +196,125 @@ def precedence(_):
     table = TRACE + "".join(run(time, "main.q#400") + run(time, "main.y#1")
                             for time in range(count))
     return Input("judge", 4 * count, upstream(400), stop(count - 1, 1), table)
+
+
+def unread_writes(_):
+    """100,000 runs that write, behind a delay of a week 70 ports that nobody reads"""
+    count, ports = 100_000, 70
+    program = ("reactor S { output o  logical action q  reaction(startup, q) -> o, q {= =} }\n"
+               f"reactor Q {{ {each(range(ports), 'input i{}', ' ')} }}\n"
+               "main reactor { s = new S()  q = new Q()\n"
+               f"{','.join(['s.o'] * ports)} -> {each(range(ports), 'q.i{}')} after {WEEK} }}\n")
+    table = TRACE + "".join(
+        run(time, "main.s#1",
+            (f"read,0,{time},0,main.s#1,main.s.q,,\n" if time else "")
+            + f"write,0,{time},0,main.s#1,main.s.o,1,\n"
+            + (f"schedule,0,{time},0,main.s#1,main.s.q,,1\n" if time < count - 1 else ""))
+        for time in range(count))
+    return Input("judge", 5 * count - 2, program, stop(10**18), table)
+
+
+# Shapes of `show`.
+
+def chosen_names(_):
+    """65,000 ports whose names begin at one place of a hash map without a seed"""
+    here = os.path.dirname(os.path.abspath(__file__))
+    made = os.path.join(FOLDER, "names")
+    subprocess.run(["cc", "-O2", os.path.join(here, "names.c"), "-o", made], check=True)
+    told = subprocess.run([made, "65000", "13"], check=True, capture_output=True, text=True)
+    chosen = told.stdout.split()
+    return Input("show", len(chosen), named(" ".join("input " + name for name in chosen)))
+
+
+# Shapes of `explain`. Of each but the last three a run is told that nothing triggers.
+
+def explain_shutdown(_):
+    """10,000 triggers `shutdown` of a run before the stop"""
+    count = 10_000
+    runs = 50 * count
+    program = ("main reactor { timer t(0, 1 ns)  reaction(t) {= =}\n"
+               f"reaction({','.join(['shutdown'] * count)}) {{= =}} }}\n")
+    return Input("explain", 2 * runs, program, stop(10 * runs), ticks(runs) + run(runs - 1, "main#2"))
+
+
+def explain_triggers(_):
+    """10,000 ports as triggers, none of them written, after 330,000 runs"""
+    count = 10_000
+    runs = 33 * count
+    program = (f"reactor A {{ {ports('output', count)}  output z\n"
+               "timer t(0, 1 ns)  reaction(t) -> z {= =} }\n"
+               f"main reactor {{ a = new A()  reaction({each(range(count), 'a.p{}')}) {{= =}} }}\n")
+    table = TRACE + "".join(
+        run(time, "main.a#1", f"write,0,{time},0,main.a#1,main.a.z,1,\n")
+        for time in range(runs)) + run(runs - 1, "main#1")
+    return Input("explain", 3 * runs, program, stop(10**15), table)
+
+
+def explain_schedulings(_):
+    """10,000 actions as triggers, 1,000,000 schedulings of another action"""
+    count = 10_000
+    program = ("main reactor { timer t(0, 5 ns)  logical action q(1 s)\n"
+               f"{each(range(count), 'logical action p{}', ' ')}\n"
+               f"reaction(t) -> q {{= =}}  reaction({each(range(count), 'p{}')}) {{= =}} }}\n")
+    steps = "schedule,0,0,0,main#1,main.q,,5\n" * (100 * count)
+    table = TRACE + run(0, "main#1", steps) + run(5, "main#1") + run(5, "main#2")
+    return Input("explain", 100 * count, program, stop(10**15), table)
+
+
+def far_inputs(count, source, sink):
+    """So many inputs of a reaction behind one chain of as many connections."""
+    half = count // 2
+    return (f"reactor S {{ output o  {source} -> o {{= =}} }}\n"
+            f"reactor C {{ {each(range(half), 'input i{0}  output o{0}  i{0} -> o{0}', ' ')} }}\n"
+            f"reactor Q {{ {ports('input', count)}\n{sink} {{= =}} }}\n"
+            "main reactor { s = new S()  c = new C()  q = new Q()\ns.o -> c.i0\n"
+            + "".join(f"c.o{k} -> c.i{k + 1}\n" for k in range(half - 1))
+            + f"{','.join([f'c.o{half - 1}'] * count)} -> {each(range(count), 'q.p{}')} }}\n")
+
+
+def explain_far_triggers(_):
+    """4,000 ports as triggers behind a chain of 4,000 connections"""
+    count = 4_000
+    program = far_inputs(count, "timer t(0, 2 ns)  reaction(t)",
+                         f"reaction({each(range(count), 'p{}')})")
+    table = TRACE
+    for time in (0, 1, 2):
+        if time != 1:
+            table += run(time, "main.s#1", f"write,0,{time},0,main.s#1,main.s.o,1,\n")
+        reads = each(range(count), f"read,0,{time},0,main.q#1,main.q.p{{}},1,\n", "")
+        table += run(time, "main.q#1", "" if time == 1 else reads)
+    return Input("explain", 2 * count, program, stop(2), table)
+
+
+def explain_far_reads(_):
+    """a run without read rows, 4,000 inputs behind a chain of 4,000 connections"""
+    count = 4_000
+    program = far_inputs(count, "reaction(startup)",
+                         f"reaction(startup) {each(range(count), 'p{}')}")
+    table = (TRACE + run(0, "main.s#1", "write,0,0,0,main.s#1,main.s.o,1,\n")
+             + run(0, "main.q#1"))
+    return Input("explain", 5, program, stop(0), table)
+
+
+def explain_writes(_):
+    """two runs that differ, 500,000 writes, 10,000 effects"""
+    count = 10_000
+    writes = "".join(f"write,0,0,0,main.a#1,main.a.p{at % count},1,\n" for at in range(50 * count))
+    other = writes + "write,0,0,0,main.a#1,main.a.p0,2,\n"
+    tables = [TRACE + run(0, "main.a#1", steps) for steps in (writes, other)]
+    return Input("explain", 50 * count, writer(count), stop(0), *tables)
+
+
+def explain_delays(_):
+    """two runs that differ, 500,000 schedulings, 10,000 effects"""
+    count = 10_000
+    program = (f"main reactor {{ {each(range(count), 'logical action p{}', ' ')}\n"
+               f"reaction(startup) -> {each(range(count), 'p{}')} {{= =}} }}\n")
+    steps = "".join(f"schedule,0,0,0,main#1,main.p{at % count},1,{5 + at // count}\n"
+                    for at in range(50 * count))
+    other = steps + f"schedule,0,0,0,main#1,main.p{count - 1},1,999\n"
+    tables = [TRACE + run(0, "main#1", rows) for rows in (steps, other)]
+    return Input("explain", 50 * count, program, stop(10**6), *tables)
 
 
 # Shapes of `pair`.
@@ -269,9 +397,12 @@ def terms(chance):
     return Input("record", 2 * count, reader(count), stop(0), cards)
 
 
-SHAPES = [far_workers, names, writes, reads, absent_inputs, precedence, pair_effects, pair_writes,
-          pair_reads, many_bodies, unread_ports, unread_week, unread_chain, dense_timers,
-          record_absent, terms]
+SHAPES = [far_workers, names, writes, reads, absent_inputs, precedence, unread_writes, chosen_names,
+          explain_shutdown, explain_triggers, explain_schedulings, explain_far_triggers,
+          explain_far_reads, explain_writes, explain_delays, pair_effects, pair_writes, pair_reads,
+          many_bodies, unread_ports, unread_week, unread_chain, dense_timers, record_absent, terms]
+# One that needs a compiler of C.
+COMPILED = [chosen_names]
 
 
 class Figures:
@@ -296,7 +427,7 @@ class Figures:
         self.peak = max(self.peak, used.ru_maxrss)
 
 
-FORM = "{:14} {:>8} {:>7} {:>9} {:>9} {:>7} {:>6}  {}"
+FORM = "{:20} {:>8} {:>6} {:>8} {:>9} {:>6} {:>9} {:>6}  {}"
 
 
 def texts_of(shape, folder):
@@ -305,23 +436,25 @@ def texts_of(shape, folder):
     chance = random.Random(f"{os.environ.get('SEED', '1')} {shape.__name__}")
     asked = shape(chance)
     words, size = asked.write(folder)
-    beside, _ = ordinary(asked.command, asked.rows).write(os.path.join(folder, "ordinary"))
+    beside, _ = ordinary(asked).write(os.path.join(folder, "ordinary"))
     return asked.rows, words, beside, size
 
 
 def measure(lftrace, folder, shape, turns, most):
-    """Prints the row of a shape, and gives how many times as long as an ordinary input it takes."""
+    """Prints the row of a shape, and gives how many times the time and the memory of an ordinary
+    input it takes."""
     # A process of its own makes the texts: what this one holds counts as memory of those that it starts.
     with multiprocessing.Pool(1) as pool:
         rows, words, beside, size = pool.apply(texts_of, (shape, folder))
     much = Figures([lftrace, *words], turns, most)
     plain = Figures([lftrace, *beside], turns, most)
     times = much.seconds / max(plain.seconds, LEAST_SECONDS)
+    peaks = much.peak / plain.peak
     print(FORM.format(
         shape.__name__, rows, f"{size / 1e6:.1f}", f"{much.seconds:.2f}", f"{times:.1f}",
-        f"{much.peak / 1e3:.0f}", f"{much.peak * 1024 / (size + much.size):.0f}",
+        f"{much.peak / 1e3:.0f}", f"{peaks:.1f}", f"{much.peak * 1024 / (size + much.size):.0f}",
         f"status {much.status}: {shape.__doc__}"), flush=True)
-    return times
+    return times, peaks
 
 
 def main():
@@ -333,11 +466,17 @@ def main():
     turns, most = int(os.environ.get("TURNS", "3")), float(os.environ.get("SECONDS", "120"))
     load = ", ".join(f"{load:.1f}" for load in os.getloadavg())
     print(f"program   {lftrace}\nmachine   {os.cpu_count()} processors, load {load}")
-    print(FORM.format("shape", "rows", "MB in", "seconds", "by ordin.", "MB", "bytes", ""))
-    missed = [f"{shape.__name__}: {times:.1f}, at most {MOST_BY_ORDINARY}"
-              for shape in SHAPES if not wanted or shape.__name__ in wanted
-              for times in [measure(lftrace, folder, shape, turns, most)]
-              if times > MOST_BY_ORDINARY]
+    print(FORM.format("shape", "rows", "MB in", "seconds", "by ordin.", "MB", "by ordin.", "bytes", ""))
+    missed = []
+    for shape in SHAPES:
+        if wanted and shape.__name__ not in wanted:
+            continue
+        if shape in COMPILED and not shutil.which("cc"):
+            print(f"{shape.__name__}: left out, there is no cc")
+            continue
+        for what, times in zip(("time", "memory"), measure(lftrace, folder, shape, turns, most)):
+            if times > MOST_BY_ORDINARY:
+                missed.append(f"{shape.__name__}: {what} {times:.1f}, at most {MOST_BY_ORDINARY}")
     print("goals missed:" if missed else "no goal missed", *missed, sep="\n  ")
 
 

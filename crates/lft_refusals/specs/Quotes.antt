@@ -1,19 +1,24 @@
 -- The words of a place of a text, and of the line that is quoted with a mark below it.
-use Rattle.std.specs.Prelude.{ℕ, ◌-◌, ◌==◌, ◌&&◌, not, if◌then◌else◌, nat_lt, List, [], ◌∷◌, ◌++◌, Option, Some, None, length, take, slice_range, count_by, flat_map, replicate, min, max, chars, codes, decimal}
+use Rattle.std.specs.Prelude.{ℕ, Bool, ◌-◌, ◌==◌, ◌&&◌, not, if◌then◌else◌, nat_lt, nat_le, ◌||◌, List, [], ◌∷◌, ◌++◌, Option, Some, None, length, take, slice_range, count_by, flat_map, replicate, min, max, chars, codes, decimal}
 use Rattle.std.specs.Char.{is_control, is_ascii_whitespace, encode_utf8}
+use Rattle.std.specs.Char.Escape.{escape_unicode}
 use Rattle.std.specs.List.{suffix_len}
 use Rattle.std.specs.Str.Lossy.{utf8_lossy}
 use Rattle.lft_words.specs.Columns.{blanks}
 use Rattle.lft_refusals.specs.Places.{begins_letter}
 use Rattle.lft_refusals.specs.declared.place.Place.{Place}
 
--- A letter as it is shown: for a control character that isn't a tab the replacement character stands.
-abbrev pub shown : ℕ → ℕ
-shown c = if is_control c && not (c == 9) then 65533 else c
+-- A format character: U+200B to U+200F, U+2028 to U+202E, U+2060 to U+206F, U+FEFF, or from U+E0000 on.
+abbrev pub is_format : ℕ → Bool
+is_format c = nat_le 8203 c && nat_le c 8207 || nat_le 8232 c && nat_le c 8238 || nat_le 8288 c && nat_le c 8303 || (c == 65279) || nat_le 917504 c
+
+-- A letter as it is shown: a format character by its escape, and for a control character that isn't a tab the replacement character.
+abbrev pub shown : ℕ → List ℕ
+shown c = if is_format c then escape_unicode c else if is_control c && not (c == 9) then 65533 ∷ [] else c ∷ []
 
 -- Bytes of a text as they are quoted: what is no UTF-8 is replaced, and each letter is shown.
 abbrev pub quoted : List ℕ → List ℕ
-quoted bytes = flat_map (λ c. encode_utf8 (shown c)) (chars (utf8_lossy bytes))
+quoted bytes = flat_map (λ c. flat_map encode_utf8 (shown c)) (chars (utf8_lossy bytes))
 
 -- What stands below a byte where a mark follows: a tab below a tab, and a blank below the first byte of another letter.
 abbrev pub blank_below : ℕ → List ℕ
@@ -44,7 +49,7 @@ abbrev pub marked_line : List ℕ → Place → ℕ → ℕ → List ℕ
 marked_line t place start end =
     if nat_lt 200 (place.end - place.start) then []
     else margin place.line ++ quoted (trimmed (slice_range t place.start place.end))
-    ++ (blank_margin place.line ++ blanks_below (slice_range t place.start start) ++ marks (slice_range t start (min end place.end)))
+    ++ (blank_margin place.line ++ blanks_below (quoted (slice_range t place.start start)) ++ marks (quoted (slice_range t start (min end place.end))))
     ++ codes "\n"
 
 -- `Program, line L, column C: `

@@ -14,6 +14,9 @@ pub(crate) const A_COLON: &str = "`:`";
 
 pub(crate) const CODE: &str = "code, {= .. =}";
 
+/// The word that begins a member of a reactor, for any that does.
+const A_MEMBER: &str = "timer";
+
 /// The text before a token, and what was found that could stand behind it.
 #[derive(Drop)]
 pub(crate) struct Candidates<'a> {
@@ -38,6 +41,11 @@ fn fits(alloc: Global, before: &[u8], number: usize, spelling: &str) -> Result<b
         Err(SyntaxFault::Unexpected(at)) => Ok(at > number),
         Err(SyntaxFault::NoMemory) => Err(NoMemory),
     }
+}
+
+/// Whether a member of a reactor could begin behind the text, in place of the token with that number.
+pub(crate) fn begins_member(alloc: Global, before: &[u8], number: usize) -> Result<bool, NoMemory> {
+    fits(alloc, before, number, A_MEMBER)
 }
 
 impl<'a> Candidates<'a> {
@@ -98,7 +106,10 @@ impl<'a> Candidates<'a> {
     }
 
     fn try_words(&mut self) -> Result<(), NoMemory> {
-        self.ask("timer", "a member of the reactor, as `timer` or `reaction`")?;
+        self.ask(
+            A_MEMBER,
+            "a member of the reactor, as `timer` or `reaction`",
+        )?;
         self.ask("reactor", "`reactor`")?;
         self.ask("action", "`action`")?;
         self.ask("startup", "`startup`")?;

@@ -4,14 +4,15 @@ ghost use Rattle.std.specs.Prelude.{◌≤◌, ◌⊎◌, length, IfOk, IfSome, 
 ghost use Rattle.lft_refusals.specs.declared.refusal.Refusal.{Refusal as TheRefusal};
 ghost use Rattle.lft_refusals.specs.Refusals.{IsLong, HasTree, IsRefusal};
 
-use crate::candidates::Candidates;
+use crate::candidates::{Candidates, begins_member};
 use crate::place::place_of;
 use crate::quoting::{push_line, push_place};
 use crate::refusal::{Refusal, Why, refusal_of};
-use crate::ways::{last_word, of_candidates, of_fault, of_token, of_word};
+use crate::ways::{of_candidates, of_fault, of_token};
 use crate::words::{push_bytes, push_way};
-use lft_syntax::{LexFault, TokenKind};
+use lft_syntax::{LexFault, MAX_LENGTH, TokenKind, lex};
 use lft_tag::NoMemory;
+use lft_words::push_number;
 use std::alloc::Global;
 
 /// A token of more bytes isn't quoted.
@@ -93,6 +94,30 @@ fn push_candidates(out: &mut String, found: &[&'static str]) -> Result<(), NoMem
     Ok(())
 }
 
+/// What to write in place of the last token of the text, where that begins a member of a reactor. So do
+/// many that are left out, as `mode A {`, and they are read as names of instances.
+fn of_last_token(alloc: Global, text: &[u8]) -> Result<Option<&'static str>, NoMemory> {
+    let tokens = match lex(alloc, text) {
+        Ok(tokens) => tokens,
+        Err(LexFault::NoMemory) => return Err(NoMemory),
+        Err(_) => return Ok(None),
+    };
+    let number = tokens.as_slice().len();
+    let Some(last) = tokens.as_slice().last() else {
+        return Ok(None);
+    };
+    let (Some(before), Some(spelling)) = (text.get(..last.start), text.get(last.start..last.end))
+    else {
+        return Ok(None);
+    };
+    let way = of_token(last.kind, spelling);
+    if way.is_some() && begins_member(alloc, before, number)? {
+        Ok(way)
+    } else {
+        Ok(None)
+    }
+}
+
 /// Puts what to write in place of the token behind the text, or else what could stand there.
 fn push_help_at_token(
     alloc: Global,
@@ -102,7 +127,10 @@ fn push_help_at_token(
     kind: TokenKind,
     spelling: &[u8],
 ) -> Result<(), NoMemory> {
-    let way = of_token(kind, spelling).or(of_word(last_word(before)));
+    let way = match of_token(kind, spelling) {
+        Some(way) => Some(way),
+        None => of_last_token(alloc, before)?,
+    };
     if way.is_some() {
         return push_way(out, way);
     }
@@ -133,16 +161,31 @@ fn push_help(alloc: Global, out: &mut String, text: &[u8], refusal: Refusal) -> 
     }
 }
 
+/// How long a text is that is too long, and how long it may be.
+fn long_words(alloc: Global, length: usize) -> Result<String, NoMemory> {
+    let mut out = String::new(alloc);
+    out.push_str("Program: the text has ")?;
+    push_number(&mut out, length as u64)?;
+    out.push_str(" bytes, and may have ")?;
+    push_number(&mut out, MAX_LENGTH as u64)?;
+    out.push_str(".\n")?;
+    Ok(out)
+}
+
 /// Where and why a program's text has no tree, in lines that end with a line feed: the place, what is
 /// wrong there, the line itself with a mark, what could stand there, and what to write in place of what
-/// the language has and `lftrace` leaves out. None where the text has a tree, and where it has more
-/// than `lft_syntax::MAX_LENGTH` bytes.
+/// the language has and `lftrace` leaves out. Of a text of more than `lft_syntax::MAX_LENGTH` bytes its
+/// length is told, and no place. None where the text has a tree.
 ///
 /// What could stand there is found by trying: the text before the place is read once for each thing.
 pub fn tell_program(alloc: Global, text: &[u8]) -> Result<Option<String>, NoMemory>
-    ensures some { IfOk result (λ told. IfSome told (λ words. (refusal : TheRefusal) × IsRefusal text.now refusal)) }
-    ensures none { IfOk result (λ told. IfNone told (IsLong text.now ⊎ HasTree text.now)) }
+    ensures some { IfOk result (λ told. IfSome told (λ words. IsLong text.now ⊎ ((refusal : TheRefusal) × IsRefusal text.now refusal))) }
+    ensures none { IfOk result (λ told. IfNone told (HasTree text.now)) }
 {
+    if MAX_LENGTH < text.len() {
+        let words = long_words(alloc, text.len())?;
+        return Ok(Some(words));
+    }
     let Some(refusal) = refusal_of(alloc, text)? else {
         return Ok(None);
     };

@@ -5,7 +5,9 @@ ghost use Rattle.lft_refusals.specs.Places.{IsPlace};
 ghost use Rattle.lft_refusals.specs.Quotes.{blank_margin, blanks_below, margin, marked_line, marks, place_words, quoted, trimmed};
 
 use crate::place::Place;
-use crate::words::{push_blank_margin, push_blanks_below, push_bytes, push_margin, push_marks};
+use crate::words::{
+    push_blank_margin, push_blanks_below, push_bytes, push_margin, push_marks, quoted_text,
+};
 use lft_tag::NoMemory;
 use lft_words::push_number;
 use std::alloc::Global;
@@ -33,13 +35,22 @@ fn push_quoted(alloc: Global, out: &mut String, number: usize, line: &[u8]) -> R
     push_bytes(alloc, out, line.trim_ascii_end())
 }
 
-/// Puts a mark below a line of that number behind the text, at the bytes that follow those before.
-fn push_below(out: &mut String, number: usize, before: &[u8], marked: &[u8]) -> Result<(), NoMemory>
-    ensures { OnOk result (string_bytes out.new ≡ string_bytes out.old ++ (blank_margin number ++ blanks_below before.now ++ marks marked.now)) }
+/// Puts a mark below a line of that number behind the text, at the bytes that follow those before, as
+/// they are quoted.
+fn push_below(
+    alloc: Global,
+    out: &mut String,
+    number: usize,
+    before: &[u8],
+    marked: &[u8],
+) -> Result<(), NoMemory>
+    ensures { OnOk result (string_bytes out.new ≡ string_bytes out.old ++ (blank_margin number ++ blanks_below (quoted before.now) ++ marks (quoted marked.now))) }
 {
+    let before = quoted_text(alloc, before)?;
+    let marked = quoted_text(alloc, marked)?;
     push_blank_margin(out, number)?;
-    push_blanks_below(out, before)?;
-    push_marks(out, marked)
+    push_blanks_below(out, before.as_bytes())?;
+    push_marks(out, marked.as_bytes())
 }
 
 /// Puts the line of a place behind the text, and below it a mark at the bytes from there up to the end. A
@@ -62,6 +73,7 @@ pub fn push_line(
     push_quoted(alloc, out, place.line, &text[place.start..place.end])?;
     let last = end.min(place.end);
     push_below(
+        alloc,
         out,
         place.line,
         &text[place.start..start],

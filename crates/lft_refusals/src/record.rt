@@ -5,7 +5,9 @@ ghost use Rattle.csv.specs.Records.{fields_of};
 ghost use Rattle.lft_trace.specs.Records.{records_of};
 ghost use Rattle.lft_refusals.specs.Tables.{HasRecord, field_at};
 
-use crate::words::{push_blank_margin, push_blanks_below, push_bytes, push_margin, push_marks};
+use crate::words::{
+    push_blank_margin, push_blanks_below, push_bytes, push_margin, push_marks, quoted_text,
+};
 use csv::ByteRecord;
 use lft_tag::NoMemory;
 use lft_trace::records::Records;
@@ -89,10 +91,12 @@ pub(crate) fn push_record(
     push_bytes(alloc, out, bytes.as_slice())?;
     push_blank_margin(out, number as usize)?;
     for before in 0..at {
-        push_blanks_below(out, field(fields, before))?;
+        let shown = quoted_text(alloc, field(fields, before))?;
+        push_blanks_below(out, shown.as_bytes())?;
         out.push_str(" ")?;
     }
-    push_marks(out, field(fields, at))?;
+    let shown = quoted_text(alloc, field(fields, at))?;
+    push_marks(out, shown.as_bytes())?;
     out.push_str("\n")?;
     Ok(())
 }

@@ -3,19 +3,8 @@
 use crate::candidates::{A_COLON, A_NAME, A_UNIT, CODE, THE_TYPE_TIME};
 use lft_syntax::{LexFault, TokenKind};
 
-/// The word at the end of the text, if it ends with one; else nothing.
-pub(crate) fn last_word(text: &[u8]) -> &[u8] {
-    let text = text.trim_ascii_end();
-    for at in (0..text.len()).rev() {
-        if !text[at].is_ascii_alphabetic() {
-            return &text[at + 1..];
-        }
-    }
-    text
-}
-
 /// What to write in place of a word that is left out.
-pub(crate) fn of_word(word: &[u8]) -> Option<&'static str> {
+fn of_word(word: &[u8]) -> Option<&'static str> {
     match word {
         b"import" => Some("`lftrace` reads one text: write the imported reactors into it."),
         b"extends" => Some("Inheritance is left out: write the members once more."),

@@ -1,8 +1,9 @@
 //! Pieces of the text that tells of a refusal.
 
-ghost use Rattle.std.specs.Prelude.{◌≡◌, ◌++◌, OnOk, option_map, string_bytes};
+ghost use Rattle.std.specs.Prelude.{◌≡◌, ◌++◌, IfOk, OnOk, flat_map, option_map, string_bytes};
 ghost use Rattle.std.specs.Char.{encode_utf8};
-ghost use Rattle.lft_refusals.specs.Quotes.{blank_below, blank_margin, blanks_below, margin, marks, quoted, shown, way_words};
+ghost use Rattle.std.specs.Char.Escape.{escape_unicode};
+ghost use Rattle.lft_refusals.specs.Quotes.{blank_below, blank_margin, blanks_below, is_format as is_of_format, margin, marks, quoted, shown, way_words};
 
 use crate::place::{begins_letter, letters};
 use itoa::Buffer;
@@ -10,11 +11,36 @@ use lft_tag::NoMemory;
 use lft_words::{push_blanks, push_number};
 use std::alloc::Global;
 
-/// Puts a letter behind the text, or what stands for it where it is a control character.
-fn push_letter(out: &mut String, letter: char) -> Result<(), NoMemory>
-    ensures { OnOk result (string_bytes out.new ≡ string_bytes out.old ++ encode_utf8 (shown letter)) }
+/// Whether the letter isn't seen, or decides how others are seen: what stands between letters without a
+/// width, what turns the direction of writing, what ends a line for some, the byte order mark, tags.
+fn is_format(letter: char) -> bool
+    ensures { result ≡ is_of_format letter }
 {
-    if letter.is_control() && letter != '\t' {
+    let code = letter as u32;
+    (0x200b <= code && code <= 0x200f)
+        || (0x2028 <= code && code <= 0x202e)
+        || (0x2060 <= code && code <= 0x206f)
+        || code == 0xfeff
+        || 0xe0000 <= code
+}
+
+/// Puts the letter's escape behind the text, as `\u{202e}`.
+fn push_escape(out: &mut String, letter: char) -> Result<(), NoMemory>
+    ensures { OnOk result (string_bytes out.new ≡ string_bytes out.old ++ flat_map encode_utf8 (escape_unicode letter)) }
+{
+    for sign in letter.escape_unicode() {
+        out.push(sign)?;
+    }
+    Ok(())
+}
+
+/// Puts a letter behind the text, or what stands for it where it isn't to reach a terminal.
+fn push_letter(out: &mut String, letter: char) -> Result<(), NoMemory>
+    ensures { OnOk result (string_bytes out.new ≡ string_bytes out.old ++ flat_map encode_utf8 (shown letter)) }
+{
+    if is_format(letter) {
+        push_escape(out, letter)?;
+    } else if letter.is_control() && letter != '\t' {
         out.push('\u{fffd}')?;
     } else {
         out.push(letter)?;
@@ -22,8 +48,8 @@ fn push_letter(out: &mut String, letter: char) -> Result<(), NoMemory>
     Ok(())
 }
 
-/// Puts bytes of a text behind it. What is no UTF-8, and control characters but tabs, are replaced, so
-/// that a quoted text can't speak to a terminal.
+/// Puts bytes of a text behind it. What is no UTF-8, and control characters but tabs, are replaced, and
+/// format characters are escaped, so that a quoted text can't speak to a terminal, and looks as it is.
 pub(crate) fn push_bytes(alloc: Global, out: &mut String, bytes: &[u8]) -> Result<(), NoMemory>
     ensures { OnOk result (string_bytes out.new ≡ string_bytes out.old ++ quoted bytes.now) }
 {
@@ -32,6 +58,15 @@ pub(crate) fn push_bytes(alloc: Global, out: &mut String, bytes: &[u8]) -> Resul
         push_letter(out, letter)?;
     }
     Ok(())
+}
+
+/// The bytes of a text as they are quoted.
+pub(crate) fn quoted_text(alloc: Global, bytes: &[u8]) -> Result<String, NoMemory>
+    ensures { IfOk result (λ text. string_bytes text ≡ quoted bytes.now) }
+{
+    let mut text = String::new(alloc);
+    push_bytes(alloc, &mut text, bytes)?;
+    Ok(text)
 }
 
 /// Puts what stands below a byte behind the text.
