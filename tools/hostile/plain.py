@@ -7,8 +7,8 @@ SOURCE = pathlib.Path(__file__).resolve().parents[2] / "bench" / "judge_speed" /
 
 
 def built(folder):
-    """The plain judge, built into a folder; nothing where no rustc is there."""
-    if not shutil.which("rustc"):
+    """The plain judge, built into a folder; nothing where no rustc is there, or none that runs."""
+    if not shutil.which("rustc") or subprocess.run(["rustc", "--version"], check=False, capture_output=True).returncode:
         return None
     path = str(pathlib.Path(folder, "plain"))
     subprocess.run(["rustc", "--edition", "2024", "-o", path, str(SOURCE)], check=True)
