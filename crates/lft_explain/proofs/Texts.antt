@@ -1,4 +1,4 @@
--- Pieces of a text, and what the first of some facts says.
+-- Pieces of a text, and its parts.
 use Rattle.std.proofs.Common.{◌≡◌, ℕ, List, ◌++◌, append_assoc, ap, ◌∙◌}
 use Rattle.lft_flat.specs.Parts.{Parts}
 use Rattle.lft_facts.specs.declared.facts.Fact.{Fact}

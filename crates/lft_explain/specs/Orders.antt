@@ -27,6 +27,6 @@ declared_words program a b = codes "    " ++ reaction_words program a ++ codes "
 abbrev pub feeds_words : Parts → ℕ → ℕ → ℕ → List ℕ
 feeds_words program a b p = codes "    " ++ reaction_words program a ++ codes " before " ++ reaction_words program b ++ codes ": may write " ++ port_words program (origin_of program p) ++ codes " --> " ++ port_words program p ++ codes "\n"
 
--- `X has no run at G; the order goes through it all the same`
-abbrev pub passed_by_words : Parts → Tag → ℕ → List ℕ
-passed_by_words program g r = codes "    " ++ reaction_words program r ++ codes " has no run at " ++ tag_words g ++ codes "; the order goes through it all the same\n"
+-- `X has no run at G, and precedes Y all the same`
+abbrev pub passed_by_words : Parts → Tag → ℕ → ℕ → List ℕ
+passed_by_words program g r next = codes "    " ++ reaction_words program r ++ codes " has no run at " ++ tag_words g ++ codes ", and precedes " ++ reaction_words program next ++ codes " all the same\n"

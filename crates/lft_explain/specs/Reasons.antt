@@ -73,7 +73,7 @@ last_of_worker_words t i k = codes "  The last row of worker " ++ worker_at t i 
 -- the text of a reason
 abbrev pub reason_words : Parts → List Row → Reason → List ℕ
 reason_words program t (reason.Nearest g x h) = nearest_words program x g h
-reason_words program t (reason.PassedBy g r) = passed_by_words program g r
+reason_words program t (reason.PassedBy g r next) = passed_by_words program g r next
 reason_words program t (reason.NeverRuns r) = never_words program r
 reason_words program t (reason.RunBefore g r h start) = run_before_words h start
 reason_words program t (reason.RunAfter g r h start) = run_after_words h start

@@ -1,5 +1,5 @@
 -- What is wrong, in a sentence.
-use Rattle.std.specs.Prelude.{ℕ, List, [], ◌∷◌, ◌++◌, flat_map, codes}
+use Rattle.std.specs.Prelude.{ℕ, List, [], ◌++◌, flat_map, codes}
 use Rattle.lft_tag.specs.declared.Tag.{Tag}
 use Rattle.lft_flat.specs.Parts.{Parts}
 use Rattle.lft_steps.specs.declared.row.Row.{Row}
@@ -23,7 +23,7 @@ port_more_words program g p = port_words program p ++ more_words g
 abbrev pub action_more_words : Parts → Tag → ℕ → List ℕ
 action_more_words program g a = action_words program a ++ more_words g
 
--- what a cause says of two events where another one follows it
+-- what is said of two events by the cause of one of them
 abbrev pub clash_words : Parts → Cause → List ℕ
 clash_words program (cause.Written g p i) = port_more_words program g p
 clash_words program (cause.Scheduled g a i) = action_more_words program g a
@@ -32,18 +32,10 @@ clash_words program (cause.AtStartup g) = []
 clash_words program (cause.AtShutdown g) = []
 clash_words program (cause.Fires g n count) = []
 
--- facts that begin with a cause are of two events
-abbrev pub first_words : Parts → Fact → List ℕ
-first_words program (fact.Cause c) = clash_words program c
-first_words program _ = []
-
-abbrev pub opening : Parts → List Fact → List ℕ
-opening program [] = []
-opening program (f ∷ fs) = first_words program f
-
 -- what a fact says of what is wrong
 abbrev pub head_words : Parts → List Row → Fact → List ℕ
 head_words program t (fact.Row f) = row_words program t f
+head_words program t (fact.Clash g c d) = clash_words program c
 head_words program t (fact.NoRun g r) = no_run_words program g r
 head_words program t (fact.Runs g r start) = runs_words program g r start
 head_words program t (fact.StartsEarly g a r start end) = early_words program g a r start end
@@ -51,4 +43,4 @@ head_words program t _ = []
 
 -- what the facts say of what is wrong
 abbrev pub sentence : Parts → List Row → List Fact → List ℕ
-sentence program t facts = opening program facts ++ flat_map (head_words program t) facts
+sentence program t facts = flat_map (head_words program t) facts

@@ -25,6 +25,7 @@ fact_words program t (fact.Untriggered g r k x) = absent_words program g x
 fact_words program t (fact.RowIs g r i) = []
 fact_words program t (fact.Row f) = []
 fact_words program t (fact.Cause c) = cause_words program t c
+fact_words program t (fact.Clash g c d) = cause_words program t c ++ cause_words program t d
 fact_words program t (fact.Reads g r k n read present) = []
 fact_words program t (fact.Reason x) = reason_words program t x
 

@@ -100,19 +100,22 @@ pub(crate) fn push_feeds(
     Ok(())
 }
 
-/// Puts that a reaction on the way has no run at the end of the text.
+/// Puts that a reaction on the way has no run, and precedes the next one, at the end of the text.
 pub(crate) fn push_passed_by(
     text: &mut String,
     program: &Program,
     tag: Tag,
     reaction: u32,
+    next: u32,
 ) -> Result<(), AllocError>
-    ensures { OnOk result (string_bytes text.new ≡ string_bytes text.old ++ passed_by_words program.now tag reaction) }
+    ensures { OnOk result (string_bytes text.new ≡ string_bytes text.old ++ passed_by_words program.now tag reaction next) }
 {
     text.push_str("    ")?;
     push_reaction(text, program, reaction)?;
     text.push_str(" has no run at ")?;
     push_tag(text, tag)?;
-    text.push_str("; the order goes through it all the same\n")?;
+    text.push_str(", and precedes ")?;
+    push_reaction(text, program, next)?;
+    text.push_str(" all the same\n")?;
     Ok(())
 }

@@ -2,12 +2,12 @@
 
 ghost use Rattle.std.specs.Prelude.{◌≡◌, ◌++◌, max, IfOk, OnOk, string_bytes};
 ghost use Rattle.lft_words.specs.Words.{value_words, name_words};
-ghost use Rattle.lft_explain.specs.Reads.{widened, widths_of, last_cell, line_of, read_line, read_lines, headed, table as the_table};
+ghost use Rattle.lft_explain.specs.Reads.{read_so, reads_so as the_reads_so, widened, widths_of, line_of, read_line, read_lines, headed, lines_of, others_words, table as the_table};
 
 use lft_facts::Fact;
 use lft_flat::{Name, Program, Value};
 use lft_lists::item_at;
-use lft_words::{push_name, push_padded, push_value};
+use lft_words::{push_name, push_number, push_padded, push_value};
 use std::alloc::{AllocError, Global};
 
 /// How wide the columns are.
@@ -34,6 +34,37 @@ fn value_cell(alloc: Global, value: Option<Value>) -> Result<String, AllocError>
     let mut text = String::new(alloc);
     push_value(&mut text, value)?;
     Ok(text)
+}
+
+/// Puts the fact behind the others, where it is on an input that was read as it is present, or where
+/// `same` is false, otherwise.
+fn push_so(alloc: Global, reads: &mut Vec<Fact>, fact: Fact, same: bool) -> Result<(), AllocError>
+    ensures { OnOk result (reads.new.items ≡ reads.old.items ++ read_so same fact) }
+{
+    if let Fact::Reads { read, present, .. } = fact {
+        let read = value_cell(alloc, read)?;
+        let present = value_cell(alloc, present)?;
+        let wanted = if read.as_str() == present.as_str() {
+            same
+        } else {
+            !same
+        };
+        if wanted {
+            reads.push(fact)?;
+        }
+    }
+    Ok(())
+}
+
+/// The facts on inputs of which that is so.
+fn reads_so(alloc: Global, facts: &[Fact], same: bool) -> Result<Vec<Fact>, AllocError>
+    ensures { IfOk result (λ reads. reads.items ≡ the_reads_so same facts.now) }
+{
+    let mut reads = Vec::new(alloc);
+    for place in 0..facts.len() {
+        push_so(alloc, &mut reads, item_at(facts, place), same)?;
+    }
+    Ok(reads)
 }
 
 /// The widths with one more line.
@@ -75,21 +106,6 @@ fn widest(alloc: Global, program: &Program, facts: &[Fact]) -> Result<Widths, Al
     Ok(widths)
 }
 
-/// Puts the last cell of a line at the end of the text, with an arrow behind it where the cell before
-/// it says something else.
-fn push_last(text: &mut String, widths: Widths, read: &str, present: &str) -> Result<(), AllocError>
-    ensures { OnOk result (string_bytes text.new ≡ string_bytes text.old ++ last_cell widths read.now present.now) }
-{
-    if read == present {
-        text.push_str(present)?;
-        Ok(())
-    } else {
-        push_padded(text, widths.present, present)?;
-        text.push_str("  <-")?;
-        Ok(())
-    }
-}
-
 /// Puts a line of three cells at the end of the text.
 fn push_line(
     text: &mut String,
@@ -110,26 +126,6 @@ fn push_line(
     Ok(())
 }
 
-/// Puts the line of an input at the end of the text.
-fn push_input(
-    alloc: Global,
-    text: &mut String,
-    program: &Program,
-    widths: Widths,
-    name: Name,
-    read: Option<Value>,
-    present: Option<Value>,
-) -> Result<(), AllocError>
-    ensures { OnOk result (string_bytes text.new ≡ string_bytes text.old ++ line_of widths (name_words program.now name) (value_words read) (last_cell widths (value_words read) (value_words present))) }
-{
-    let name = name_cell(alloc, program, name)?;
-    let read = value_cell(alloc, read)?;
-    let present = value_cell(alloc, present)?;
-    let mut last = String::new(alloc);
-    push_last(&mut last, widths, read.as_str(), present.as_str())?;
-    push_line(text, widths, name.as_str(), read.as_str(), last.as_str())
-}
-
 /// Puts the line of a fact, if it tells of an input, at the end of the text.
 fn push_read(
     alloc: Global,
@@ -146,7 +142,12 @@ fn push_read(
             read,
             present,
             ..
-        } => push_input(alloc, text, program, widths, name, read, present),
+        } => {
+            let name = name_cell(alloc, program, name)?;
+            let read = value_cell(alloc, read)?;
+            let present = value_cell(alloc, present)?;
+            push_line(text, widths, name.as_str(), read.as_str(), present.as_str())
+        }
         _ => Ok(()),
     }
 }
@@ -167,24 +168,45 @@ fn lines(
     Ok(text)
 }
 
-/// Puts the head of the table and its lines, where there are some, at the end of the text.
-fn push_headed(text: &mut String, widths: Widths, lines: &str) -> Result<(), AllocError>
-    ensures { OnOk result (string_bytes text.new ≡ string_bytes text.old ++ headed widths lines.now) }
+/// Puts the table of the inputs of some facts, where there are some, at the end of the text.
+fn push_lines(
+    alloc: Global,
+    text: &mut String,
+    program: &Program,
+    facts: &[Fact],
+) -> Result<(), AllocError>
+    ensures { OnOk result (string_bytes text.new ≡ string_bytes text.old ++ lines_of program.now facts.now) }
 {
+    let widths = widest(alloc, program, facts)?;
+    let lines = lines(alloc, program, widths, facts)?;
     if !lines.is_empty() {
         push_line(text, widths, "input", "read", "present")?;
-        text.push_str(lines)?;
+        text.push_str(lines.as_str())?;
     }
     Ok(())
 }
 
-/// The table of the inputs, where facts tell of some.
+/// Puts how many other inputs there are, where there are some, at the end of the text.
+fn push_others(text: &mut String, count: usize) -> Result<(), AllocError>
+    ensures { OnOk result (string_bytes text.new ≡ string_bytes text.old ++ others_words count) }
+{
+    if count != 0 {
+        text.push_str("  Other inputs, read as they are: ")?;
+        push_number(text, count as u64)?;
+        text.push_str("\n")?;
+    }
+    Ok(())
+}
+
+/// The table of the inputs that were read otherwise than they are present, and how many others there
+/// are.
 pub(crate) fn table(alloc: Global, program: &Program, facts: &[Fact]) -> Result<String, AllocError>
     ensures { IfOk result (λ text. string_bytes text ≡ the_table program.now facts.now) }
 {
-    let widths = widest(alloc, program, facts)?;
-    let lines = lines(alloc, program, widths, facts)?;
+    let differing = reads_so(alloc, facts, false)?;
+    let equal = reads_so(alloc, facts, true)?;
     let mut text = String::new(alloc);
-    push_headed(&mut text, widths, lines.as_str())?;
+    push_lines(alloc, &mut text, program, differing.as_slice())?;
+    push_others(&mut text, equal.len())?;
     Ok(text)
 }

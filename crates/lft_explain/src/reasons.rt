@@ -248,7 +248,11 @@ pub(crate) fn push_reason(
 {
     match reason {
         Reason::Nearest { tag, trigger, at } => push_nearest(text, program, trigger, tag, at)?,
-        Reason::PassedBy { tag, reaction } => push_passed_by(text, program, tag, reaction)?,
+        Reason::PassedBy {
+            tag,
+            reaction,
+            next,
+        } => push_passed_by(text, program, tag, reaction, next)?,
         Reason::NeverRuns { reaction } => push_never(text, program, reaction)?,
         Reason::RunBefore { at, start, .. } => push_run_before(text, at, start)?,
         Reason::RunAfter { at, start, .. } => push_run_after(text, at, start)?,

@@ -1,7 +1,7 @@
 //! What is wrong, in a sentence.
 
 ghost use Rattle.std.specs.Prelude.{◌≡◌, ◌++◌, IfOk, OnOk, string_bytes};
-ghost use Rattle.lft_explain.specs.Sentences.{more_words, port_more_words, action_more_words, clash_words, first_words, opening, head_words, sentence as the_sentence};
+ghost use Rattle.lft_explain.specs.Sentences.{more_words, port_more_words, action_more_words, clash_words, head_words, sentence as the_sentence};
 
 use crate::orders::push_early;
 use crate::rows::push_row_fact;
@@ -64,27 +64,6 @@ fn push_clash(text: &mut String, program: &Program, cause: Cause) -> Result<(), 
     }
 }
 
-/// Puts what a first fact says, where it is a cause, at the end of the text.
-fn push_first(text: &mut String, program: &Program, fact: Fact) -> Result<(), AllocError>
-    ensures { OnOk result (string_bytes text.new ≡ string_bytes text.old ++ first_words program.now fact) }
-{
-    match fact {
-        Fact::Cause(cause) => push_clash(text, program, cause),
-        _ => Ok(()),
-    }
-}
-
-/// Puts what the first of the facts says, where it is a cause, at the end of the text.
-fn push_opening(text: &mut String, program: &Program, facts: &[Fact]) -> Result<(), AllocError>
-    ensures { OnOk result (string_bytes text.new ≡ string_bytes text.old ++ opening program.now facts.now) }
-{
-    if facts.is_empty() {
-        Ok(())
-    } else {
-        push_first(text, program, item_at(facts, 0))
-    }
-}
-
 /// Puts what a fact says of what is wrong at the end of the text.
 fn push_head(
     text: &mut String,
@@ -96,6 +75,7 @@ fn push_head(
 {
     match fact {
         Fact::Row(fact) => push_row_fact(text, program, rows, fact),
+        Fact::Clash { first, .. } => push_clash(text, program, first),
         Fact::NoRun { tag, reaction } => push_no_run(text, program, tag, reaction),
         Fact::Runs {
             tag,
@@ -123,7 +103,6 @@ pub(crate) fn sentence(
     ensures { IfOk result (λ text. string_bytes text ≡ the_sentence program.now rows.now facts.now) }
 {
     let mut text = String::new(alloc);
-    push_opening(&mut text, program, facts)?;
     for place in 0..facts.len() {
         push_head(&mut text, program, rows, item_at(facts, place))?;
     }

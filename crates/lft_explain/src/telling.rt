@@ -36,6 +36,10 @@ fn push_fact(
         | Fact::Runs { .. }
         | Fact::Reads { .. } => {}
         Fact::Cause(cause) => push_cause(alloc, text, program, rows, cause)?,
+        Fact::Clash { first, second, .. } => {
+            push_cause(alloc, text, program, rows, first)?;
+            push_cause(alloc, text, program, rows, second)?;
+        }
         Fact::HasTrigger { reaction, trigger } => {
             push_trigger_of(text, program, reaction, trigger)?
         }

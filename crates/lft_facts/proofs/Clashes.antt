@@ -3,7 +3,7 @@ use Rattle.std.proofs.Common.{◌≡◌, ◌≢◌, ℕ, zero, suc, ◌+◌, ◌
 use native.Mathlib.Decide.{dec_lt}
 use Rattle.std.specs.List.{cons_option}
 use Rattle.std.proofs.lemmas.Bool.{cases_lt}
-use Rattle.std.proofs.lemmas.List.Elements.{All-head, All-tail}
+use Rattle.std.proofs.lemmas.List.Elements.{All-head, All-cons, All-nil}
 use Rattle.lft_lists.proofs.Places.{same_at}
 use Rattle.lft_tag.specs.declared.Tag.{Tag}
 use Rattle.lft_tag.specs.Tags.{Before, UpTo}
@@ -28,8 +28,8 @@ use Rattle.lft_facts.specs.declared.facts.Fact.{Fact}
 use Rattle.lft_facts.specs.declared.facts.Fact.TheVariants as fact
 use Rattle.lft_facts.specs.declared.facts.Cause.{Cause}
 use Rattle.lft_facts.specs.declared.facts.Cause.TheVariants as cause
-use Rattle.lft_facts.specs.Facts.{IsShown, AreShown, IsWrittenIn}
-use Rattle.lft_facts.specs.Enough.{Gives, GivesClash}
+use Rattle.lft_facts.specs.Facts.{IsShown, AreShown, IsWrittenIn, event_of}
+use Rattle.lft_facts.specs.Enough.{Gives, GivesClash, IsOwn, AreOwn, AreOwnAt}
 use Rattle.lft_presence.specs.Lookups.{IsFirstCause}
 use Rattle.lft_presence.proofs.Lookups.{in_order}
 use Rattle.lft_facts.proofs.Causes.{written_from, scheduled_at, given_at, written_in}
@@ -105,11 +105,34 @@ places_clash n g a x y f h xr xe yr ye apart = go (cases_lt x n) (cases_lt y n)
     go (inr l) (inl m) = told (cause.Given g a (x - n)) (cause.Scheduled g a y) (xe l) (yr m) (λ plan t c d. scheduled_given g a y (x - n) plan t d c)
     go (inr l) (inr m) = told (cause.Given g a (x - n)) (cause.Given g a (y - n)) (xe l) (ye m) (two_given g a (x - n) (y - n) (λ e. apart (omega arith)))
 
--- two facts that give two causes give the breach
-pub clash_gives : (g : Tag) (f h : Cause) (facts : List Fact) → facts ≡ fact.Cause f ∷ fact.Cause h ∷ [] → GivesClash f h g → Gives facts g None 6
+-- they are told apart, and are of one event
+pub places_apart : (n : ℕ) (g : Tag) (a x y : ℕ) (f h : Cause) → (x < n → f ≡ cause.Scheduled g a x) → (n ≤ x → f ≡ cause.Given g a (x - n)) → (y < n → h ≡ cause.Scheduled g a y) → (n ≤ y → h ≡ cause.Given g a (y - n)) → x ≢ y → f ≢ h
+places_apart n g a x y f h xr xe yr ye apart e = go (cases_lt x n) (cases_lt y n)
+  where
+    go : (x < n) ⊎ (n ≤ x) → (y < n) ⊎ (n ≤ y) → ⊥
+    go (inl l) (inl m) = let p : cause.Scheduled g a x ≡ cause.Scheduled g a y = sym (xr l) ∙ e ∙ yr m in let q : x ≡ y = cc in apart q
+    go (inl l) (inr m) = let p : cause.Scheduled g a x ≡ cause.Given g a (y - n) = sym (xr l) ∙ e ∙ ye m in absurd (cc)
+    go (inr l) (inl m) = let p : cause.Given g a (x - n) ≡ cause.Scheduled g a y = sym (xe l) ∙ e ∙ yr m in absurd (cc)
+    go (inr l) (inr m) = let p : cause.Given g a (x - n) ≡ cause.Given g a (y - n) = sym (xe l) ∙ e ∙ ye m in let q : x - n ≡ y - n = cc in apart (omega arith)
+
+pub place_event : (n : ℕ) (g : Tag) (a x : ℕ) (f : Cause) → (x < n → f ≡ cause.Scheduled g a x) → (n ≤ x → f ≡ cause.Given g a (x - n)) → event_of f ≡ Some (g, Action a)
+place_event n g a x f xr xe = go (cases_lt x n)
+  where
+    go : (x < n) ⊎ (n ≤ x) → event_of f ≡ Some (g, Action a)
+    go (inl l) = ap event_of (xr l)
+    go (inr l) = ap event_of (xe l)
+
+pub written_apart : (g : Tag) (p i j : ℕ) → i ≢ j → cause.Written g p i ≢ cause.Written g p j
+written_apart g p i j apart e = let q : i ≡ j = cc in apart q
+
+-- a fact on two causes gives the breach
+pub clash_gives : (g : Tag) (f h : Cause) (facts : List Fact) → facts ≡ fact.Clash g f h ∷ [] → GivesClash f h g → Gives facts g None 6
 clash_gives g f h facts is gives plan t all kept =
-    let each : AreShown plan t (fact.Cause f ∷ fact.Cause h ∷ []) = subst (λ (fs : List Fact). AreShown plan t fs) is all in
-    (refl, gives plan t (All-head (IsShown plan t) (fact.Cause f) (fact.Cause h ∷ []) each) (All-head (IsShown plan t) (fact.Cause h) [] (All-tail (IsShown plan t) (fact.Cause f) (fact.Cause h ∷ []) each)))
+    let two = All-head (IsShown plan t) (fact.Clash g f h) [] (subst (λ (fs : List Fact). AreShown plan t fs) is all) in
+    (refl, gives plan t two.first two.second)
+
+pub clash_own : (g : Tag) (f h : Cause) (facts : List Fact) → facts ≡ fact.Clash g f h ∷ [] → AreOwnAt g None facts
+clash_own g f h facts is b p q = subst (λ (fs : List Fact). AreOwn b fs) (sym is) (All-cons (IsOwn b) (fact.Clash g f h) [] p (All-nil (IsOwn b)))
 
 -- causes of one place are one
 same_place : (plan : PlanParts) (t : List Row) (causes : List Event) → AreCauses plan t causes → (x y : Event) → IsEventCause plan t x → IsEventCause plan t y → x.place ≡ y.place → x ≡ y
@@ -145,8 +168,8 @@ module _ (plan : PlanParts) (t : List Row) (g : Tag) (p : ℕ) (port : PortOf) (
       pub other_written : IsWrittenIn plan t g p other.place
       other_written = written_in plan t g p port chain other is_other.0 (is_other.1.0, ap (λ (k : Tag). shifted k (port.shift.time, port.shift.steps)) same ∙ is_first.1.1) (λ d i n s. is_other.2 d i (n, none_leads (tag_of d) ∙ s ∙ same))
 
-      pub other_gives : (causes : List Event) → AreCauses plan t causes → ¬ (tag_of first ≡ tag_of last) → GivesClash (cause.Written g p other.place) (cause.Written g p last.place) g
-      other_gives causes are differ = two_written g p other.place last.place (λ e. differ (sym same ∙ ap tag_of (same_place plan t causes are other last is_other.0 is_last.0 e)))
+      pub other_place : (causes : List Event) → AreCauses plan t causes → ¬ (tag_of first ≡ tag_of last) → other.place ≢ last.place
+      other_place causes are differ e = differ (sym same ∙ ap tag_of (same_place plan t causes are other last is_other.0 is_last.0 e))
 
 -- the first and the last cause that lead an action to g
 module _ (plan : PlanParts) (t : List Row) (fit : RowsFit plan.program t) (g : Tag) (a : ℕ) where

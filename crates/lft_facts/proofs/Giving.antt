@@ -9,6 +9,7 @@ use Rattle.lft_flat.specs.declared.parts.Reaction.{Reaction}
 use Rattle.lft_steps.specs.declared.row.Row.{Row}
 use Rattle.lft_steps.specs.declared.row.Step.TheVariants.{Start, End}
 use Rattle.lft_graph.specs.Precedence.{Precedes}
+use Rattle.lft_model.specs.declared.breach.Breach.{Breach}
 use Rattle.lft_model.specs.Plans.{PlanParts}
 use Rattle.lft_model.specs.Presence.{Triggered, Occurs}
 use Rattle.lft_model.specs.Runs.{Ran, start_row, end_row}
@@ -21,7 +22,7 @@ use Rattle.lft_facts.specs.declared.facts.Cause.{Cause}
 use Rattle.lft_facts.specs.declared.facts.Fact.TheVariants as fact
 use Rattle.lft_facts.specs.Facts.{IsFact, IsShown, IsCause, AreFacts, AreShown, StartsBefore, IsTriggerOf, HasTriggers, IsUntriggered}
 use Rattle.lft_facts.specs.Runs.{StartsAt, EndsAt}
-use Rattle.lft_facts.specs.Enough.{Gives, GivesChain, GivesTrigger}
+use Rattle.lft_facts.specs.Enough.{Gives, GivesChain, GivesTrigger, IsOwn, AreOwn, AreOwnAt}
 use Rattle.lft_facts.specs.Ways.{IsMarked, EndsMarked}
 use Rattle.lft_facts.proofs.Lists.{all_right}
 
@@ -40,6 +41,7 @@ shown plan t (fact.HasTrigger r x) h = h
 shown plan t (fact.TriggerCount r count) h = h
 shown plan t (fact.Untriggered g r k x) h = h
 shown plan t (fact.Cause c) h = h
+shown plan t (fact.Clash g c d) h = h
 shown plan t (fact.RowIs g r i) h = h
 shown plan t (fact.Row f) h = h
 shown plan t (fact.Reads g r k n read present) h = h
@@ -85,6 +87,10 @@ late_there plan t kept g r start starts early next marked = (e.0, after (dec_lt 
 pub late_holds : (plan : PlanParts) (t : List Row) → KeepsRows plan t → (g : Tag) (a r start end : ℕ) (steps facts : List Fact) → facts ≡ (fact.StartsEarly g a r start end ∷ []) ++ steps → StartsAt t g r start → EndsAt t g a end → start < end → AreFacts plan t steps → GivesChain steps a r → AreFacts plan t facts
 late_holds plan t kept g a r start end steps facts is starts ends l each chain = subst (λ (fs : List Fact). AreFacts plan t fs) (sym is) (All-cons (IsFact plan t) (fact.StartsEarly g a r start end) steps (record { precedes = chain plan t (all_shown plan t steps each); not_ended = not_ended_there plan t kept g a r start end starts ends l; rows = record { starts = starts; ends = ends; before = l } }) each)
 
+-- the facts of rule 9 are of the breach
+pub late_own : (g : Tag) (a r start end : ℕ) (steps facts : List Fact) → facts ≡ (fact.StartsEarly g a r start end ∷ []) ++ steps → ((b : Breach) → AreOwn b steps) → AreOwnAt g (Some r) facts
+late_own g a r start end steps facts is own b p q = subst (λ (fs : List Fact). AreOwn b fs) (sym is) (All-cons (IsOwn b) (fact.StartsEarly g a r start end) steps (p, q) (own b))
+
 -- rule 7: no run, a trigger, and why it is present
 pub not_run_gives : (g : Tag) (r : ℕ) (x : Trigger) (c : Cause) (facts : List Fact) → facts ≡ fact.NoRun g r ∷ fact.HasTrigger r x ∷ fact.Cause c ∷ [] → GivesTrigger c g x → Gives facts g (Some r) 7
 not_run_gives g r x c facts is gives plan t all kept = inl (refl, record { reaction = has.reaction; trigger = x; is_reaction = has.is_reaction; is_trigger = has.is_trigger; occurs = gives plan t why }, none)
@@ -103,6 +109,9 @@ not_run_gives g r x c facts is gives plan t all kept = inl (refl, record { react
 
     why : IsCause plan t c
     why = All-head (IsShown plan t) (fact.Cause c) [] (All-tail (IsShown plan t) (fact.HasTrigger r x) (fact.Cause c ∷ []) rest)
+
+pub not_run_own : (g : Tag) (r : ℕ) (x : Trigger) (c : Cause) (facts : List Fact) → facts ≡ fact.NoRun g r ∷ fact.HasTrigger r x ∷ fact.Cause c ∷ [] → AreOwnAt g (Some r) facts
+not_run_own g r x c facts is b p q = subst (λ (fs : List Fact). AreOwn b fs) (sym is) (All-cons (IsOwn b) (fact.NoRun g r) (fact.HasTrigger r x ∷ fact.Cause c ∷ []) (p, q) (All-cons (IsOwn b) (fact.HasTrigger r x) (fact.Cause c ∷ []) q (All-cons (IsOwn b) (fact.Cause c) [] tt (All-nil (IsOwn b)))))
 
 -- the facts of rule 7 hold
 pub not_run_holds : (plan : PlanParts) (t : List Row) (g : Tag) (r : ℕ) (x : Trigger) (c : Cause) (facts : List Fact) → facts ≡ fact.NoRun g r ∷ fact.HasTrigger r x ∷ fact.Cause c ∷ [] → Triggered plan t g r → ¬ Ran t g r → IsTriggerOf plan.program r x → IsCause plan t c → AreFacts plan t facts

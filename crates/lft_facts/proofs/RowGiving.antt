@@ -12,7 +12,7 @@ use Rattle.lft_facts.specs.declared.facts.Fact.TheVariants as fact
 use Rattle.lft_facts.specs.declared.facts.RowFact.{RowFact}
 use Rattle.lft_facts.specs.Facts.{IsFact, IsShown, IsRowFact, AreFacts, AreShown, IsRowOf}
 use Rattle.lft_facts.specs.Runs.{IsOpenSince}
-use Rattle.lft_facts.specs.Enough.{GivesRow, ProvesRow}
+use Rattle.lft_facts.specs.Enough.{GivesRow, ProvesRow, IsOwn, AreOwn, row_of}
 
 pub open_since : (t : List Row) (i w : ℕ) (g : Tag) (r : ℕ) (o : IsOpen t i w g r) → IsOpenSince t i w o.start
 open_since t i w g r o = record { tag = g; reaction = r; before = o.before; starts = o.starts; not_ended = o.not_ended }
@@ -35,6 +35,9 @@ row_proves b g r i f facts is tag reaction line gives plan t all =
 
 pub row_holds : (plan : PlanParts) (t : List Row) (g : Tag) (r i : ℕ) (f : RowFact) (facts : List Fact) → facts ≡ fact.RowIs g r i ∷ fact.Row f ∷ [] → IsRowOf t g r i → IsRowFact plan t f → AreFacts plan t facts
 row_holds plan t g r i f facts is of holds = subst (λ (fs : List Fact). AreFacts plan t fs) (sym is) (All-cons (IsFact plan t) (fact.RowIs g r i) (fact.Row f ∷ []) of (All-cons (IsFact plan t) (fact.Row f) [] holds (All-nil (IsFact plan t))))
+
+pub row_own : (b : Breach) (g : Tag) (r i : ℕ) (f : RowFact) (facts : List Fact) → facts ≡ fact.RowIs g r i ∷ fact.Row f ∷ [] → b.row ≡ i + 2 → row_of f ≡ i → AreOwn b facts
+row_own b g r i f facts is line same = subst (λ (fs : List Fact). AreOwn b fs) (sym is) (All-cons (IsOwn b) (fact.RowIs g r i) (fact.Row f ∷ []) line (All-cons (IsOwn b) (fact.Row f) [] (omega arith) (All-nil (IsOwn b))))
 
 -- the row of a breach is the one that its line names
 module _ (plan : PlanParts) (t : List Row) (b : Breach) (x : RowBreach plan t b) (i : ℕ) (line : b.row ≡ i + 2) (row : Row) (is_row : slice_get t i ≡ Some row) where

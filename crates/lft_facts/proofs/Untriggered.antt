@@ -14,7 +14,7 @@ use Rattle.lft_facts.specs.declared.facts.Fact.{Fact}
 use Rattle.lft_facts.specs.declared.facts.Fact.TheVariants as fact
 use Rattle.lft_facts.specs.Facts.{IsFact, AreFacts}
 use Rattle.lft_facts.specs.Runs.{StartsAt}
-use Rattle.lft_facts.specs.Enough.{Gives}
+use Rattle.lft_facts.specs.Enough.{Gives, IsOwn, AreOwnAt}
 use Rattle.lft_facts.proofs.Giving.{not_triggered_gives}
 
 -- the facts of rule 8, with the triggers at the places below one
@@ -23,6 +23,7 @@ pub record Untold (plan : PlanParts) (t : List Row) (g : Tag) (r start : ℕ) (t
   pub runs : Contains facts (fact.Runs g r start)
   pub counts : Contains facts (fact.TriggerCount r (length triggers))
   pub each : (k : ℕ) (x : Trigger) → k < place → slice_get triggers k ≡ Some x → Contains facts (fact.Untriggered g r k x)
+  pub own : AreOwnAt g (Some r) facts
 
 module _ (plan : PlanParts) (t : List Row) (g : Tag) (r start : ℕ) (x : Reaction) (is_reaction : slice_get plan.program.reactions r ≡ Some x) (xs : List Trigger) (are : xs ≡ x.triggers) where
   pub untold_begin : (count : ℕ) (facts : List Fact) → count ≡ length xs → facts ≡ fact.Runs g r start ∷ fact.TriggerCount r count ∷ [] → StartsAt t g r start → Untold plan t g r start xs 0 facts
@@ -31,6 +32,7 @@ module _ (plan : PlanParts) (t : List Row) (g : Tag) (r start : ℕ) (x : Reacti
     runs = (0, omega arith, refl);
     counts = (1, omega arith, refl);
     each = λ k y l. absurd (omega arith);
+    own = λ b p q. All-cons (IsOwn b) (fact.Runs g r start) (fact.TriggerCount r (length xs) ∷ []) (p, q) (All-cons (IsOwn b) (fact.TriggerCount r (length xs)) [] q (All-nil (IsOwn b)));
   })
 
   pub untold_more : ¬ Triggered plan t g r → (place : ℕ) (facts new : List Fact) (y : Trigger) → Untold plan t g r start xs place facts → slice_get xs place ≡ Some y → new ≡ facts ++ fact.Untriggered g r place y ∷ [] → Untold plan t g r start xs (place + 1) new
@@ -39,6 +41,7 @@ module _ (plan : PlanParts) (t : List Row) (g : Tag) (r start : ℕ) (x : Reacti
     runs = Contains-append_left facts (fact.Untriggered g r place y ∷ []) (fact.Runs g r start) so_far.runs;
     counts = Contains-append_left facts (fact.Untriggered g r place y ∷ []) (fact.TriggerCount r (length xs)) so_far.counts;
     each = each;
+    own = λ b p q. All-push (IsOwn b) facts (fact.Untriggered g r place y) (so_far.own b p q) (p, q);
   })
     where
       its : slice_get x.triggers place ≡ Some y

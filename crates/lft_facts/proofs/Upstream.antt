@@ -11,11 +11,12 @@ use Rattle.lft_graph.specs.Graph.{GraphParts, IsGraphOf}
 use Rattle.lft_graph.specs.Precedence.{Precedes, Direct}
 use Rattle.lft_graph.specs.Precedence.Precedes.{one, more}
 use Rattle.lft_graph.proofs.Chains.{snoc}
+use Rattle.lft_model.specs.declared.breach.Breach.{Breach}
 use Rattle.lft_model.specs.Plans.{PlanParts}
 use Rattle.lft_model.proofs.Places.{slice_get_within, slice_get_take, slice_get_taken}
 use Rattle.lft_facts.specs.declared.facts.Fact.{Fact}
 use Rattle.lft_facts.specs.Facts.{AreFacts, IsFact, IsShown}
-use Rattle.lft_facts.specs.Enough.{GivesDirect, GivesChain}
+use Rattle.lft_facts.specs.Enough.{GivesDirect, GivesChain, IsOwn, AreOwn}
 use Rattle.lft_facts.specs.Ways.{IsMarked, IsMarking, AreThere, InList, LeadsOn, AreWays, AreSteps}
 use Rattle.lft_facts.proofs.Lists.{all_left, all_last}
 
@@ -273,10 +274,11 @@ pub record ChainTo (plan : PlanParts) (graph : GraphParts) (next : List (Option 
   pub leads : LeadsOn last next at
   pub holds : (t : List Row) → AreFacts plan t facts
   pub gives : ((first ≡ at) × IsMarked next first) ⊎ GivesChain facts first at
+  pub own : (b : Breach) → AreOwn b facts
 
 module _ (plan : PlanParts) (graph : GraphParts) (next : List (Option ℕ)) (first last : ℕ) where
-  pub chain_more : AreWays graph last next → (facts : List Fact) (at after : ℕ) (f : Fact) (new : List Fact) → ChainTo plan graph next facts first at last → slice_get next at ≡ Some (Some after) → ((t : List Row) → IsFact plan t f) → GivesDirect f at after → new ≡ facts ++ f ∷ [] → ChainTo plan graph next new first after last
-  chain_more ways facts at after f new so_far e holds gives is_new = subst (λ (fs : List Fact). ChainTo plan graph next fs first after last) (sym is_new) (record { leads = (ways.steps at after e).1; holds = λ t. All-push (IsFact plan t) facts f (so_far.holds t) (holds t); gives = inr (go so_far.gives) })
+  pub chain_more : AreWays graph last next → (facts : List Fact) (at after : ℕ) (f : Fact) (new : List Fact) → ChainTo plan graph next facts first at last → slice_get next at ≡ Some (Some after) → ((t : List Row) → IsFact plan t f) → GivesDirect f at after → ((b : Breach) → IsOwn b f) → new ≡ facts ++ f ∷ [] → ChainTo plan graph next new first after last
+  chain_more ways facts at after f new so_far e holds gives own is_new = subst (λ (fs : List Fact). ChainTo plan graph next fs first after last) (sym is_new) (record { leads = (ways.steps at after e).1; holds = λ t. All-push (IsFact plan t) facts f (so_far.holds t) (holds t); gives = inr (go so_far.gives); own = λ b. All-push (IsOwn b) facts f (so_far.own b) (own b) })
     where
       go : ((first ≡ at) × IsMarked next first) ⊎ GivesChain facts first at → GivesChain (facts ++ f ∷ []) first after
       go (inl q) p t all = one (subst (λ (x : ℕ). Direct p.program x after) (sym q.0) (gives p t (all_last (IsShown p t) facts f all)))

@@ -20,7 +20,7 @@ use Rattle.lft_facts.specs.declared.facts.Fact.{Fact}
 use Rattle.lft_facts.specs.declared.facts.Fact.TheVariants as fact
 use Rattle.lft_facts.specs.Facts.{IsFact, IsShown, AreFacts, IsRead}
 use Rattle.lft_facts.specs.Runs.{StartsAt}
-use Rattle.lft_facts.specs.Enough.{Gives}
+use Rattle.lft_facts.specs.Enough.{Gives, IsOwn, AreOwnAt}
 use Rattle.lft_facts.proofs.Giving.{ran_there, same_reaction}
 use Rattle.std.proofs.lemmas.List.{length-map}
 
@@ -48,9 +48,10 @@ pub record Told (plan : PlanParts) (t : List Row) (g : Tag) (r start : ℕ) (nam
   pub holds : AreFacts plan t facts
   pub runs : Contains facts (fact.Runs g r start)
   pub each : (k : ℕ) (n : Name) (o u : Option Value) → k < place → slice_get names k ≡ Some n → slice_get read k ≡ Some o → slice_get present k ≡ Some u → Contains facts (fact.Reads g r k n o u)
+  pub own : AreOwnAt g (Some r) facts
 
 pub told_begin : (plan : PlanParts) (t : List Row) (g : Tag) (r start : ℕ) (names : List Name) (read present : List (Option Value)) (facts : List Fact) → facts ≡ fact.Runs g r start ∷ [] → StartsAt t g r start → Told plan t g r start names read present 0 facts
-told_begin plan t g r start names read present facts is starts = subst (λ (fs : List Fact). Told plan t g r start names read present 0 fs) (sym is) (record { holds = All-cons (IsFact plan t) (fact.Runs g r start) [] starts (All-nil (IsFact plan t)); runs = (0, omega arith, refl); each = λ k n o u l. absurd (omega arith) })
+told_begin plan t g r start names read present facts is starts = subst (λ (fs : List Fact). Told plan t g r start names read present 0 fs) (sym is) (record { holds = All-cons (IsFact plan t) (fact.Runs g r start) [] starts (All-nil (IsFact plan t)); runs = (0, omega arith, refl); each = λ k n o u l. absurd (omega arith); own = λ b p q. All-cons (IsOwn b) (fact.Runs g r start) [] (p, q) (All-nil (IsOwn b)) })
 
 -- a run of a plan's reaction, what it read and what is present
 module _ (plan : PlanParts) (t : List Row) (g : Tag) (r start : ℕ) (x : Reaction) (is_reaction : slice_get plan.program.reactions r ≡ Some x) (names : List Name) (are : names ≡ inputs x) (read : List (Option Value)) (was_read : read ≡ reads_at plan t g r) (present : List (Option Value)) (is_present : Inputs plan t g r present) (only : (other : List (Option Value)) → Inputs plan t g r other → other ≡ present) where
@@ -88,7 +89,7 @@ module _ (plan : PlanParts) (t : List Row) (g : Tag) (r start : ℕ) (x : Reacti
 
   -- one more input
   pub told_more : (place : ℕ) (facts new : List Fact) (n : Name) (o u : Option Value) → Told plan t g r start names read present place facts → slice_get names place ≡ Some n → slice_get read place ≡ Some o → slice_get present place ≡ Some u → new ≡ facts ++ fact.Reads g r place n o u ∷ [] → Told plan t g r start names read present (place + 1) new
-  told_more place facts new n o u so_far e f h is = subst (λ (fs : List Fact). Told plan t g r start names read present (place + 1) fs) (sym is) (record { holds = All-push (IsFact plan t) facts (fact.Reads g r place n o u) so_far.holds (is_read place n o u e f h); runs = Contains-append_left facts (fact.Reads g r place n o u ∷ []) (fact.Runs g r start) so_far.runs; each = each })
+  told_more place facts new n o u so_far e f h is = subst (λ (fs : List Fact). Told plan t g r start names read present (place + 1) fs) (sym is) (record { holds = All-push (IsFact plan t) facts (fact.Reads g r place n o u) so_far.holds (is_read place n o u e f h); runs = Contains-append_left facts (fact.Reads g r place n o u ∷ []) (fact.Runs g r start) so_far.runs; each = each; own = λ b p q. All-push (IsOwn b) facts (fact.Reads g r place n o u) (so_far.own b p q) (p, q) })
     where
       each : (k : ℕ) (m : Name) (p q : Option Value) → k < place + 1 → slice_get names k ≡ Some m → slice_get read k ≡ Some p → slice_get present k ≡ Some q → Contains (facts ++ fact.Reads g r place n o u ∷ []) (fact.Reads g r k m p q)
       each k m p q l a b c = go (ℕ_discrete k place)

@@ -1,5 +1,5 @@
 -- What some facts give, of whatever plan and rows show them.
-use Rattle.std.specs.Prelude.{◌≡◌, ℕ, ◌<◌, List, ◌++◌, Option, Some, slice_get, Contains, All}
+use Rattle.std.specs.Prelude.{◌≡◌, ℕ, ◌+◌, ◌<◌, List, ◌++◌, Option, Some, slice_get, Contains, All}
 use Rattle.lft_tag.specs.declared.Tag.{Tag}
 use Rattle.lft_tag.specs.Tags.{UpTo}
 use Rattle.lft_flat.specs.declared.parts.Trigger.{Trigger}
@@ -11,24 +11,92 @@ use Rattle.lft_model.specs.Presence.{stop, Occurs, Collision}
 use Rattle.lft_model.specs.Breaches.{BreaksRow, BreaksAt, RowBreach, TagBreach}
 use Rattle.lft_answers.specs.Answers.{KeepsRows}
 use Rattle.lft_facts.specs.declared.facts.Fact.{Fact}
+use Rattle.lft_facts.specs.declared.facts.Fact.TheVariants as fact
 use Rattle.lft_facts.specs.declared.facts.Cause.{Cause}
+use Rattle.lft_facts.specs.declared.facts.Reason.{Reason}
+use Rattle.lft_facts.specs.declared.facts.Reason.TheVariants as reason
 use Rattle.lft_facts.specs.declared.facts.RowFact.{RowFact}
+use Rattle.lft_facts.specs.declared.facts.RowFact.TheVariants as row_fact
 use Rattle.lft_facts.specs.Facts.{IsShown, IsCause, IsRowFact, AreFacts, AreShown}
 
 -- of whatever plan and rows show the facts: where no row breaks one of the rules 1 to 5, the rule is broken at g
 abbrev pub Gives : List Fact → Tag → Option ℕ → ℕ → Type 0
 Gives facts g o k = (plan : PlanParts) (t : List Row) → AreShown plan t facts → KeepsRows plan t → BreaksAt plan t g o k
 
--- facts that hold stand behind others
-pub record Adds (plan : PlanParts) (t : List Row) (old new : List Fact) : Type 0 where
+-- the row that is wrong
+abbrev pub row_of : RowFact → ℕ
+row_of (row_fact.Late i j) = i
+row_of (row_fact.AfterStop i) = i
+row_of (row_fact.StartsAgain i j) = i
+row_of (row_fact.Busy i j) = i
+row_of (row_fact.NotOpen i) = i
+row_of (row_fact.NotInput i) = i
+row_of (row_fact.ReadAgain i j) = i
+row_of (row_fact.NotEffect i) = i
+row_of (row_fact.Unended i) = i
+
+-- the breach is of r at g
+abbrev pub IsOf : Breach → Tag → ℕ → Type 0
+IsOf b g r = (b.tag ≡ g) × (b.reaction ≡ Some r)
+
+-- where the words of a reason leave out a tag, a run or a row, it is that of the breach
+abbrev pub IsOwnReason : Breach → Reason → Type 0
+IsOwnReason b (reason.Nearest g x h) = b.tag ≡ g
+IsOwnReason b (reason.PassedBy g r next) = b.tag ≡ g
+IsOwnReason b (reason.RunBefore g r h start) = IsOf b g r
+IsOwnReason b (reason.RunAfter g r h start) = IsOf b g r
+IsOwnReason b (reason.EndedIn i k) = b.row ≡ i + 2
+IsOwnReason b (reason.HasOpen i j) = b.row ≡ i + 2
+IsOwnReason b (reason.OpenOn i j) = b.row ≡ i + 2
+IsOwnReason b (reason.StartsIn i j) = b.row ≡ i + 2
+IsOwnReason b (reason.EndsOther i k) = b.row ≡ i + 2
+IsOwnReason b (reason.LastOfWorker i k) = b.row ≡ i + 2
+IsOwnReason b (reason.NeverRuns r) = Unit {0}
+IsOwnReason b (reason.LastRow i g s) = Unit {0}
+IsOwnReason b (reason.StopGiven g) = Unit {0}
+IsOwnReason b (reason.StopAsked g i) = Unit {0}
+IsOwnReason b (reason.Inputs r) = Unit {0}
+IsOwnReason b (reason.Effects r) = Unit {0}
+IsOwnReason b (reason.KindOf n k) = Unit {0}
+IsOwnReason b (reason.FedBy p o) = Unit {0}
+
+-- the same of a fact: what is wrong is so with the row of the breach, or with its reaction at its tag; causes and steps name all that they speak of
+abbrev pub IsOwn : Breach → Fact → Type 0
+IsOwn b (fact.RowIs g r i) = b.row ≡ i + 2
+IsOwn b (fact.Row f) = b.row ≡ row_of f + 2
+IsOwn b (fact.Clash g c d) = b.tag ≡ g
+IsOwn b (fact.NoRun g r) = IsOf b g r
+IsOwn b (fact.HasTrigger r x) = b.reaction ≡ Some r
+IsOwn b (fact.Runs g r start) = IsOf b g r
+IsOwn b (fact.TriggerCount r count) = b.reaction ≡ Some r
+IsOwn b (fact.Untriggered g r k x) = IsOf b g r
+IsOwn b (fact.StartsEarly g a r start end) = IsOf b g r
+IsOwn b (fact.Reads g r k n read present) = IsOf b g r
+IsOwn b (fact.DeclaredFirst a c) = Unit {0}
+IsOwn b (fact.Feeds a c p) = Unit {0}
+IsOwn b (fact.Cause c) = Unit {0}
+IsOwn b (fact.Reason x) = IsOwnReason b x
+
+-- all of the facts are so
+abbrev pub AreOwn : Breach → List Fact → Type 0
+AreOwn b facts = All (IsOwn b) facts
+
+-- they are so of whatever breach at g of these reactions
+abbrev pub AreOwnAt : Tag → Option ℕ → List Fact → Type 0
+AreOwnAt g o facts = (b : Breach) → b.tag ≡ g → b.reaction ≡ o → AreOwn b facts
+
+-- facts that hold, and are of the breach where their words need it, stand behind others
+pub record Adds (b : Breach) (plan : PlanParts) (t : List Row) (old new : List Fact) : Type 0 where
   pub more : List Fact
   pub is : new ≡ old ++ more
   pub holds : AreFacts plan t more
+  pub own : AreOwn b more
 
--- facts that hold, and among them each of the old ones
-pub record Extends (plan : PlanParts) (t : List Row) (old new : List Fact) : Type 0 where
+-- such facts, and among them each of the old ones
+pub record Extends (b : Breach) (plan : PlanParts) (t : List Row) (old new : List Fact) : Type 0 where
   pub holds : AreFacts plan t new
   pub kept : All (Contains new) old
+  pub own : AreOwn b new
 
 -- of whatever plan and rows show the facts, they give the breach of a rule by a row
 abbrev pub ProvesRow : List Fact → Breach → Type 0

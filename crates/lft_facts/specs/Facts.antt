@@ -1,5 +1,5 @@
 -- What each fact says.
-use Rattle.std.specs.Prelude.{◌≡◌, ◌↔◌, ℕ, ◌+◌, ◌*◌, ◌<◌, List, [], length, Option, Some, None, slice_get, Contains, All}
+use Rattle.std.specs.Prelude.{◌≡◌, ◌≢◌, ◌↔◌, ℕ, ◌+◌, ◌*◌, ◌<◌, List, [], length, Option, Some, None, slice_get, Contains, All}
 use Rattle.lft_tag.specs.declared.Tag.{Tag}
 use Rattle.lft_tag.specs.Tags.{Before, after, after_all}
 use Rattle.lft_flat.specs.Parts.{Parts, inputs}
@@ -215,6 +215,24 @@ IsCause plan t (cause.Written g p i) = IsWrittenIn plan t g p i
 IsCause plan t (cause.Scheduled g a i) = IsScheduledIn plan t g a i
 IsCause plan t (cause.Given g a i) = IsGiven plan g a i
 
+-- the port or action to which a cause gives an event, and the tag of the event
+abbrev pub event_of : Cause → Option (Tag × Name)
+event_of (cause.Written g p i) = Some (g, Port p)
+event_of (cause.Scheduled g a i) = Some (g, Action a)
+event_of (cause.Given g a i) = Some (g, Action a)
+event_of (cause.AtStartup g) = None
+event_of (cause.AtShutdown g) = None
+event_of (cause.Fires g n count) = None
+
+-- two causes give one port or action an event at g
+pub record AreTwoCauses (plan : PlanParts) (t : List Row) (g : Tag) (c d : Cause) : Type 0 where
+  pub name : Name
+  pub first : IsCause plan t c
+  pub second : IsCause plan t d
+  pub first_event : event_of c ≡ Some (g, name)
+  pub second_event : event_of d ≡ Some (g, name)
+  pub apart : c ≢ d
+
 -- what is wrong with a row is so in the plan and the rows
 abbrev pub IsRowFact : PlanParts → List Row → RowFact → Type 0
 IsRowFact plan t (row_fact.Late i j) = IsBehind t i j
@@ -238,6 +256,7 @@ IsFact plan t (fact.HasTrigger r x) = IsTriggerOf plan.program r x
 IsFact plan t (fact.TriggerCount r count) = HasTriggers plan.program r count
 IsFact plan t (fact.Untriggered g r k x) = IsUntriggered plan t g r k x
 IsFact plan t (fact.Cause c) = IsCause plan t c
+IsFact plan t (fact.Clash g c d) = AreTwoCauses plan t g c d
 IsFact plan t (fact.RowIs g r i) = IsRowOf t g r i
 IsFact plan t (fact.Row f) = IsRowFact plan t f
 IsFact plan t (fact.Reads g r k n read present) = IsRead plan t g r k n read present
@@ -258,6 +277,7 @@ IsShown plan t (fact.HasTrigger r x) = IsFact plan t (fact.HasTrigger r x)
 IsShown plan t (fact.TriggerCount r count) = IsFact plan t (fact.TriggerCount r count)
 IsShown plan t (fact.Untriggered g r k x) = IsFact plan t (fact.Untriggered g r k x)
 IsShown plan t (fact.Cause c) = IsFact plan t (fact.Cause c)
+IsShown plan t (fact.Clash g c d) = IsFact plan t (fact.Clash g c d)
 IsShown plan t (fact.RowIs g r i) = IsFact plan t (fact.RowIs g r i)
 IsShown plan t (fact.Row f) = IsFact plan t (fact.Row f)
 IsShown plan t (fact.Reads g r k n read present) = IsFact plan t (fact.Reads g r k n read present)

@@ -10,6 +10,7 @@ use Rattle.lft_flat.specs.declared.parts.Name.TheVariants.{Port, Action}
 use Rattle.lft_flat.specs.declared.parts.Reaction.{Reaction}
 use Rattle.lft_flat.specs.declared.parts.Trigger.{Trigger}
 use Rattle.lft_steps.specs.declared.row.Row.{Row}
+use Rattle.lft_graph.specs.Precedence.{Precedes}
 use Rattle.lft_model.specs.Plans.{PlanParts}
 use Rattle.lft_model.specs.Presence.{stop, asked, Occurs}
 use Rattle.lft_model.specs.Runs.{start_row, end_row, Ran, inputs_of, effects_of}
@@ -25,6 +26,11 @@ pub record IsNearest (plan : PlanParts) (t : List Row) (g : Tag) (x : Trigger) (
   pub apart : ¬ (h ≡ g)
   pub none_before : (k : Tag) → Before h k → Before k g → ¬ Occurs plan t k x
   pub none_after : (k : Tag) → Before g k → Before k h → ¬ Occurs plan t k x
+
+-- r has no run at g, and precedes the next reaction all the same
+pub record IsPassedBy (plan : PlanParts) (t : List Row) (g : Tag) (r next : ℕ) : Type 0 where
+  pub none : ¬ Ran t g r
+  pub precedes : Precedes plan.program r next
 
 -- of the runs of r at tags before g the last is at h, and starts in the row at place p
 pub record IsRunBefore (t : List Row) (g : Tag) (r : ℕ) (h : Tag) (p : ℕ) : Type 0 where
@@ -139,7 +145,7 @@ pub record IsLastOfWorker (t : List Row) (i k : ℕ) : Type 0 where
 -- the reason holds of the plan and the rows
 abbrev pub IsReason : PlanParts → List Row → Reason → Type 0
 IsReason plan t (reason.Nearest g x h) = IsNearest plan t g x h
-IsReason plan t (reason.PassedBy g r) = ¬ Ran t g r
+IsReason plan t (reason.PassedBy g r next) = IsPassedBy plan t g r next
 IsReason plan t (reason.NeverRuns r) = (g : Tag) → ¬ Ran t g r
 IsReason plan t (reason.RunBefore g r h p) = IsRunBefore t g r h p
 IsReason plan t (reason.RunAfter g r h p) = IsRunAfter t g r h p

@@ -2,9 +2,10 @@
 
 ghost use Rattle.std.specs.Prelude.{◌≤◌, List, length, IfSome, OnOk};
 ghost use Rattle.lft_steps.specs.declared.row.Row.{Row as TheRow};
+ghost use Rattle.lft_model.specs.declared.breach.Breach.{Breach as TheBreach};
 ghost use Rattle.lft_model.specs.Plans.{PlanParts};
 ghost use Rattle.lft_facts.specs.Reasons.{IsReason};
-ghost use Rattle.lft_facts.specs.Enough.{Adds};
+ghost use Rattle.lft_facts.specs.Enough.{Adds, IsOwnReason};
 
 use crate::facts::{Fact, Reason};
 use lft_tag::NoMemory;
@@ -12,7 +13,7 @@ use lft_tag::NoMemory;
 /// Puts the reason, if there is one, behind the facts.
 pub(crate) fn add(facts: &mut Vec<Fact>, reason: Option<Reason>) -> Result<(), NoMemory>
     ensures long { OnOk result (length facts.old.items ≤ length facts.new.items) }
-    ensures adds { OnOk result ((plan : PlanParts) (t : List TheRow) → IfSome reason (IsReason plan t) → Adds plan t facts.old.items facts.new.items) }
+    ensures adds { OnOk result ((b : TheBreach) (plan : PlanParts) (t : List TheRow) → IfSome reason (IsReason plan t) → IfSome reason (IsOwnReason b) → Adds b plan t facts.old.items facts.new.items) }
 {
     if let Some(reason) = reason {
         facts.push(Fact::Reason(reason))?;

@@ -4,9 +4,10 @@ ghost use Rattle.std.specs.Prelude.{◌≡◌, ◌<◌, ◌⊎◌, ℕ, Some, le
 ghost use Rattle.lft_graph.specs.Graph.{IsGraphOf};
 ghost use Rattle.lft_graph.specs.Before.{IsDeclaredJustBefore, FeedsLast};
 ghost use Rattle.lft_facts.specs.Facts.{IsFact, AreFacts};
-ghost use Rattle.lft_facts.specs.Enough.{GivesDirect, GivesChain};
+ghost use Rattle.lft_facts.specs.Enough.{GivesDirect, GivesChain, IsOwn, AreOwn};
 ghost use Rattle.lft_facts.specs.Ways.{AreWays, IsMarked};
 ghost use Rattle.lft_steps.specs.declared.row.Row.{Row as TheRow};
+ghost use Rattle.lft_model.specs.declared.breach.Breach.{Breach as TheBreach};
 ghost use Rattle.std.specs.Prelude.{List};
 
 use crate::facts::Fact;
@@ -24,6 +25,7 @@ fn step(plan: &Plan, first: u32, second: u32) -> Fact
     requires direct { IsDeclaredJustBefore plan.now.program first second ⊎ FeedsLast plan.now.program first second }
     ensures holds { (t : List TheRow) → IsFact plan.now t result }
     ensures gives { GivesDirect result first second }
+    ensures own { (b : TheBreach) → IsOwn b result }
 {
     match feeding_port(plan.program(), first, second) {
         Some(port) => Fact::Feeds {
@@ -50,6 +52,7 @@ pub(crate) fn chain(
     requires last { last < length graph.now.before }
     ensures holds { IfOk result (λ facts. (t : List TheRow) → AreFacts plan.now t facts.items) }
     ensures gives { IfOk result (λ facts. GivesChain facts.items first last) }
+    ensures own { IfOk result (λ facts. (b : TheBreach) → AreOwn b facts.items) }
 {
     let mut facts = Vec::new(alloc);
     let mut at = first;

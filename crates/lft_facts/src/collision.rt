@@ -4,8 +4,8 @@ ghost use Rattle.std.specs.Prelude.{◌≡◌, ◌≤◌, ◌<◌, None, length,
 ghost use Rattle.lft_steps.specs.Fits.{RowsFit};
 ghost use Rattle.lft_model.specs.Presence.{PortClash, Collision, events_of};
 ghost use Rattle.lft_presence.specs.Causes.{AreCauses};
-ghost use Rattle.lft_facts.specs.Facts.{IsCause, AreFacts};
-ghost use Rattle.lft_facts.specs.Enough.{Gives, GivesClash};
+ghost use Rattle.lft_facts.specs.Facts.{AreTwoCauses, AreFacts};
+ghost use Rattle.lft_facts.specs.Enough.{Gives, GivesClash, AreOwnAt};
 
 use crate::cause::of_action;
 use crate::facts::{Cause, Fact};
@@ -25,8 +25,7 @@ fn port_clash(
 ) -> Option<(Cause, Cause)>
     requires causes { AreCauses plan.now rows.now causes.now }
     requires port { port < length plan.now.program.ports }
-    ensures first { IfSome result (λ two. IsCause plan.now rows.now two.0) }
-    ensures second { IfSome result (λ two. IsCause plan.now rows.now two.1) }
+    ensures holds { IfSome result (λ two. AreTwoCauses plan.now rows.now tag two.0 two.1) }
     ensures gives { IfSome result (λ two. GivesClash two.0 two.1 tag) }
     ensures none { IfNone result (¬ PortClash plan.now rows.now tag port) }
 {
@@ -69,8 +68,7 @@ fn action_clash(
     requires fit { RowsFit plan.now.program rows.now }
     requires causes { AreCauses plan.now rows.now causes.now }
     requires action { action < length plan.now.program.actions }
-    ensures first { IfSome result (λ two. IsCause plan.now rows.now two.0) }
-    ensures second { IfSome result (λ two. IsCause plan.now rows.now two.1) }
+    ensures holds { IfSome result (λ two. AreTwoCauses plan.now rows.now tag two.0 two.1) }
     ensures gives { IfSome result (λ two. GivesClash two.0 two.1 tag) }
     ensures none { IfNone result (¬ (2 ≤ length (events_of plan.now rows.now tag action))) }
 {
@@ -95,8 +93,7 @@ fn two_causes(plan: &Plan, rows: &[Row], causes: &[EventCause], tag: Tag) -> (Ca
     requires fit { RowsFit plan.now.program rows.now }
     requires causes { AreCauses plan.now rows.now causes.now }
     requires clash { Collision plan.now rows.now tag }
-    ensures first { IsCause plan.now rows.now result.0 }
-    ensures second { IsCause plan.now rows.now result.1 }
+    ensures holds { AreTwoCauses plan.now rows.now tag result.0 result.1 }
     ensures gives { GivesClash result.0 result.1 tag }
 {
     for port in 0..plan.program().ports() {
@@ -112,7 +109,7 @@ fn two_causes(plan: &Plan, rows: &[Row], causes: &[EventCause], tag: Tag) -> (Ca
     unreachable!()
 }
 
-/// The facts that give the breach of rule 6 at the tag.
+/// The fact that gives the breach of rule 6 at the tag.
 pub(crate) fn collision(
     alloc: Global,
     plan: &Plan,
@@ -125,10 +122,10 @@ pub(crate) fn collision(
     requires clash { Collision plan.now rows.now tag }
     ensures holds { IfOk result (λ facts. AreFacts plan.now rows.now facts.items) }
     ensures enough { IfOk result (λ facts. Gives facts.items tag None 6) }
+    ensures own { IfOk result (λ facts. AreOwnAt tag None facts.items) }
 {
     let (first, second) = two_causes(plan, rows, causes, tag);
     let mut facts = Vec::new(alloc);
-    facts.push(Fact::Cause(first))?;
-    facts.push(Fact::Cause(second))?;
+    facts.push(Fact::Clash { tag, first, second })?;
     Ok(facts)
 }

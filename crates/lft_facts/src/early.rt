@@ -8,7 +8,7 @@ ghost use Rattle.lft_model.specs.Runs.{Ran};
 ghost use Rattle.lft_answers.specs.Answers.{KeepsRows};
 ghost use Rattle.lft_facts.specs.Runs.{EndsAt};
 ghost use Rattle.lft_facts.specs.Facts.{AreFacts};
-ghost use Rattle.lft_facts.specs.Enough.{Gives};
+ghost use Rattle.lft_facts.specs.Enough.{Gives, AreOwnAt};
 ghost use Rattle.lft_facts.specs.Ways.{IsMarked, EndsMarked, IsLeastEnd, IsLeastOfAll};
 
 use crate::chain::chain;
@@ -120,6 +120,7 @@ fn early_chain(
     requires early { IsTooEarly plan.now rows.now tag reaction }
     ensures holds { IfOk result (λ facts. AreFacts plan.now rows.now facts.items) }
     ensures enough { IfOk result (λ facts. Gives facts.items tag (Some reaction) 9) }
+    ensures own { IfOk result (λ facts. AreOwnAt tag (Some reaction) facts.items) }
 {
     let graph = plan.graph();
     let start = start_of(rows, tag, reaction);
@@ -155,6 +156,7 @@ pub(crate) fn too_early(
     requires early { IsTooEarly plan.now rows.now tag reaction }
     ensures holds { IfOk result (λ facts. AreFacts plan.now rows.now facts.items) }
     ensures enough { IfOk result (λ facts. Gives facts.items tag (Some reaction) 9) }
+    ensures own { IfOk result (λ facts. AreOwnAt tag (Some reaction) facts.items) }
 {
     let mut facts = early_chain(alloc, plan, rows, tag, reaction)?;
     let ran = runs_at(alloc, rows, tag, plan.program().reactions())?;

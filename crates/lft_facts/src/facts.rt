@@ -64,10 +64,11 @@ pub enum Reason {
         trigger: Trigger,
         at: Tag,
     },
-    /// A reaction on the way from one to another has no run at the tag.
+    /// A reaction has no run at the tag, and precedes the next one of a chain all the same.
     PassedBy {
         tag: Tag,
         reaction: u32,
+        next: u32,
     },
     /// A reaction has no run at all.
     NeverRuns {
@@ -166,7 +167,13 @@ pub enum Fact {
     Row(RowFact),
     /// Why something is present.
     Cause(Cause),
-    /// A reaction has no run at the tag.
+    /// Two causes that give one port or action an event at the tag.
+    Clash {
+        tag: Tag,
+        first: Cause,
+        second: Cause,
+    },
+    /// A reaction is triggered and has no run at the tag.
     NoRun {
         tag: Tag,
         reaction: u32,
@@ -194,7 +201,7 @@ pub enum Fact {
         place: usize,
         trigger: Trigger,
     },
-    /// A reaction starts at the tag before another one has ended there.
+    /// A reaction starts at the tag before another one, which precedes it, has ended there.
     StartsEarly {
         tag: Tag,
         earlier: u32,

@@ -4,7 +4,7 @@ ghost use Rattle.std.specs.Prelude.{◌≡◌, IfOk};
 ghost use Rattle.lft_steps.specs.Fits.{RowsFit};
 ghost use Rattle.lft_model.specs.Breaches.{First};
 ghost use Rattle.lft_facts.specs.Facts.{AreFacts};
-ghost use Rattle.lft_facts.specs.Enough.{Proves, ProvesTag};
+ghost use Rattle.lft_facts.specs.Enough.{Proves, ProvesTag, AreOwn};
 
 use crate::collision::collision;
 use crate::early::too_early;
@@ -33,6 +33,7 @@ fn enough_at_tag(
     requires tag { breach.row ≡ 0 }
     ensures holds { IfOk result (λ facts. AreFacts plan.now rows.now facts.items) }
     ensures enough { IfOk result (λ facts. ProvesTag facts.items breach) }
+    ensures own { IfOk result (λ facts. AreOwn breach facts.items) }
 {
     let tag = breach.tag;
     let causes = presence.causes();
@@ -54,6 +55,7 @@ fn at_tag(alloc: Global, plan: &Plan, rows: &[Row], breach: Breach) -> Result<Fa
     requires tag { breach.row ≡ 0 }
     ensures holds { IfOk result (λ facts. AreFacts plan.now rows.now facts) }
     ensures enough { IfOk result (λ facts. ProvesTag facts breach) }
+    ensures own { IfOk result (λ facts. AreOwn breach facts) }
 {
     let stop = trace_stop(plan, rows);
     let presence = presence_of(alloc, plan, rows, stop)?;
@@ -68,6 +70,7 @@ pub fn find(alloc: Global, plan: &Plan, rows: &Rows, breach: Breach) -> Result<F
     requires first { First plan.now rows.now breach }
     ensures holds { IfOk result (λ facts. AreFacts plan.now rows.now facts) }
     ensures enough { IfOk result (λ facts. Proves facts breach) }
+    ensures own { IfOk result (λ facts. AreOwn breach facts) }
 {
     if breach.row == 0 {
         at_tag(alloc, plan, rows.as_slice(), breach)

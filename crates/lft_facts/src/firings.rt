@@ -3,11 +3,12 @@
 ghost use Rattle.std.specs.Prelude.{◌≡◌, ◌<◌, List, length, IfSome, OnOk};
 ghost use Rattle.lft_flat.specs.declared.parts.Trigger.TheVariants.{Timer as TheTimer};
 ghost use Rattle.lft_steps.specs.declared.row.Row.{Row as TheRow};
+ghost use Rattle.lft_model.specs.declared.breach.Breach.{Breach as TheBreach};
 ghost use Rattle.lft_model.specs.Plans.{PlanParts};
 ghost use Rattle.lft_model.specs.Presence.{Fires, Occurs};
 ghost use Rattle.lft_facts.specs.Reasons.{IsNearest, IsReason};
 ghost use Rattle.lft_facts.specs.Neighbours.{IsFiringBefore, IsFiringAfter};
-ghost use Rattle.lft_facts.specs.Enough.{Adds};
+ghost use Rattle.lft_facts.specs.Enough.{Adds, IsOwnReason};
 
 use crate::adding::add;
 use crate::facts::{Fact, Reason};
@@ -59,7 +60,8 @@ fn firing_after(timer: &Timer, tag: Tag) -> Option<Tag>
 
 /// That the trigger is nearest to the tag at another one, if there is one.
 fn nearest(tag: Tag, trigger: Trigger, at: Option<Tag>) -> Option<Reason>
-    ensures { (plan : PlanParts) (t : List TheRow) → IfSome at (IsNearest plan t tag trigger) → IfSome result (IsReason plan t) }
+    ensures holds { (plan : PlanParts) (t : List TheRow) → IfSome at (IsNearest plan t tag trigger) → IfSome result (IsReason plan t) }
+    ensures own { (b : TheBreach) → b.tag ≡ tag → IfSome result (IsOwnReason b) }
 {
     match at {
         Some(at) => Some(Reason::Nearest { tag, trigger, at }),
@@ -77,7 +79,7 @@ pub(crate) fn add_firings(
 ) -> Result<(), NoMemory>
     requires timer { number < length plan.now.program.timers }
     requires absent { ¬ Occurs plan.now rows.now tag (TheTimer number) }
-    ensures { OnOk result (Adds plan.now rows.now facts.old.items facts.new.items) }
+    ensures { OnOk result ((b : TheBreach) → b.tag ≡ tag → Adds b plan.now rows.now facts.old.items facts.new.items) }
 {
     let timer = plan.program().timer(number);
     let trigger = Trigger::Timer(number);

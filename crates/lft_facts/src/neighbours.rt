@@ -1,9 +1,10 @@
 //! The runs of a reaction just before and just after a tag at which it has none.
 
-ghost use Rattle.std.specs.Prelude.{◌+◌, ◌<◌, ◌≤◌, length, IfSome, IfNone, OnOk};
+ghost use Rattle.std.specs.Prelude.{◌≡◌, ◌+◌, ◌<◌, ◌≤◌, Some, length, IfSome, IfNone, OnOk};
 ghost use Rattle.lft_tag.specs.declared.Tag.{Tag as TheTag};
 ghost use Rattle.lft_tag.specs.Tags.{Before, UpTo};
 ghost use Rattle.lft_steps.specs.Fits.{RowsFit};
+ghost use Rattle.lft_model.specs.declared.breach.Breach.{Breach as TheBreach};
 ghost use Rattle.lft_model.specs.Plans.{PlanParts};
 ghost use Rattle.lft_model.specs.Runs.{Ran};
 ghost use Rattle.lft_facts.specs.Reasons.{IsRunBefore, IsRunAfter};
@@ -111,7 +112,7 @@ fn run_after(rows: &[Row], tag: Tag, reaction: u32) -> Option<(Tag, u32)>
 /// Puts the first run of the reaction after the tag behind the facts, if it has one.
 fn add_after(rows: &[Row], tag: Tag, reaction: u32, facts: &mut Vec<Fact>) -> Result<(), NoMemory>
     requires few { length rows.now ≤ 4000000 }
-    ensures { OnOk result ((plan : PlanParts) → Adds plan rows.now facts.old.items facts.new.items) }
+    ensures { OnOk result ((b : TheBreach) (plan : PlanParts) → b.tag ≡ tag → b.reaction ≡ Some reaction → Adds b plan rows.now facts.old.items facts.new.items) }
 {
     match run_after(rows, tag, reaction) {
         Some((at, start)) => {
@@ -137,7 +138,7 @@ fn add_after_or_never(
     requires few { length rows.now ≤ 4000000 }
     requires none { ¬ Ran rows.now tag reaction }
     requires before { (k : TheTag) → Before k tag → ¬ Ran rows.now k reaction }
-    ensures { OnOk result ((plan : PlanParts) → Adds plan rows.now facts.old.items facts.new.items) }
+    ensures { OnOk result ((b : TheBreach) (plan : PlanParts) → b.tag ≡ tag → b.reaction ≡ Some reaction → Adds b plan rows.now facts.old.items facts.new.items) }
 {
     match run_after(rows, tag, reaction) {
         Some((at, start)) => {
@@ -165,7 +166,7 @@ pub(crate) fn add_runs(
 ) -> Result<(), NoMemory>
     requires few { length rows.now ≤ 4000000 }
     requires none { ¬ Ran rows.now tag reaction }
-    ensures { OnOk result ((plan : PlanParts) → Adds plan rows.now facts.old.items facts.new.items) }
+    ensures { OnOk result ((b : TheBreach) (plan : PlanParts) → b.tag ≡ tag → b.reaction ≡ Some reaction → Adds b plan rows.now facts.old.items facts.new.items) }
 {
     match run_before(rows, tag, reaction) {
         Some((at, start)) => {
@@ -190,7 +191,7 @@ pub(crate) fn add_last_row(
     facts: &mut Vec<Fact>,
 ) -> Result<(), NoMemory>
     requires fit { RowsFit plan.now.program rows.now }
-    ensures { OnOk result (Adds plan.now rows.now facts.old.items facts.new.items) }
+    ensures { OnOk result ((b : TheBreach) → Adds b plan.now rows.now facts.old.items facts.new.items) }
 {
     if rows.len() == 0 {
         return Ok(());

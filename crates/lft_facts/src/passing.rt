@@ -1,28 +1,43 @@
 //! Rule 9: reactions on the way from one to another that have no run at the tag.
 
-ghost use Rattle.std.specs.Prelude.{List, IfSome, OnOk};
+ghost use Rattle.std.specs.Prelude.{◌≡◌, List, IfSome, OnOk};
 ghost use Rattle.lft_steps.specs.declared.row.Row.{Row as TheRow};
+ghost use Rattle.lft_model.specs.declared.breach.Breach.{Breach as TheBreach};
 ghost use Rattle.lft_model.specs.Plans.{PlanParts};
+ghost use Rattle.lft_graph.specs.Precedence.{Precedes};
+ghost use Rattle.lft_facts.specs.Facts.{IsFact, AreFacts};
 ghost use Rattle.lft_facts.specs.Reasons.{IsReason};
 ghost use Rattle.lft_facts.specs.Neighbours.{HaveRun};
-ghost use Rattle.lft_facts.specs.Enough.{Adds};
+ghost use Rattle.lft_facts.specs.Enough.{Adds, IsOwnReason};
 
 use crate::adding::add;
 use crate::facts::{Fact, Reason};
 use lft_lists::item_at;
 use lft_tag::{NoMemory, Tag};
 
+/// The two reactions of the step, if it is one.
+fn ends_of(step: Fact) -> Option<(u32, u32)>
+    ensures { (plan : PlanParts) (t : List TheRow) → IsFact plan t step → IfSome result (λ ends. Precedes plan.program ends.0 ends.1) }
+{
+    match step {
+        Fact::DeclaredFirst { first, second } => Some((first, second)),
+        Fact::Feeds { writer, reader, .. } => Some((writer, reader)),
+        _ => None,
+    }
+}
+
 /// That the reaction with which the step begins has no run at the tag, where it has none.
 fn passed_by(tag: Tag, ran: &[bool], step: Fact) -> Option<Reason>
-    ensures { (plan : PlanParts) (t : List TheRow) → HaveRun t tag ran.now → IfSome result (IsReason plan t) }
+    ensures holds { (plan : PlanParts) (t : List TheRow) → IsFact plan t step → HaveRun t tag ran.now → IfSome result (IsReason plan t) }
+    ensures own { (b : TheBreach) → b.tag ≡ tag → IfSome result (IsOwnReason b) }
 {
-    let reaction = match step {
-        Fact::DeclaredFirst { first, .. } => first,
-        Fact::Feeds { writer, .. } => writer,
-        _ => return None,
-    };
+    let (reaction, next) = ends_of(step)?;
     if (reaction as usize) < ran.len() && !ran[reaction as usize] {
-        Some(Reason::PassedBy { tag, reaction })
+        Some(Reason::PassedBy {
+            tag,
+            reaction,
+            next,
+        })
     } else {
         None
     }
@@ -30,7 +45,7 @@ fn passed_by(tag: Tag, ran: &[bool], step: Fact) -> Option<Reason>
 
 /// Puts which reactions on the way have no run at the tag behind the steps.
 pub(crate) fn add_passed_by(tag: Tag, ran: &[bool], facts: &mut Vec<Fact>) -> Result<(), NoMemory>
-    ensures { OnOk result ((plan : PlanParts) (t : List TheRow) → HaveRun t tag ran.now → Adds plan t facts.old.items facts.new.items) }
+    ensures { OnOk result ((b : TheBreach) (plan : PlanParts) (t : List TheRow) → b.tag ≡ tag → AreFacts plan t facts.old.items → HaveRun t tag ran.now → Adds b plan t facts.old.items facts.new.items) }
 {
     let count = facts.len();
     for place in 0..count {

@@ -8,7 +8,7 @@ ghost use Rattle.lft_model.specs.Runs.{Ran, reads_at};
 ghost use Rattle.lft_answers.specs.Answers.{KeepsRows};
 ghost use Rattle.lft_facts.specs.Facts.{AreFacts};
 ghost use Rattle.lft_facts.specs.Runs.{StartsAt};
-ghost use Rattle.lft_facts.specs.Enough.{Gives};
+ghost use Rattle.lft_facts.specs.Enough.{Gives, AreOwnAt};
 
 use crate::facts::Fact;
 use crate::runs::start_of;
@@ -56,6 +56,7 @@ fn read_facts(
     requires wrong { ¬ Inputs plan.now rows.now tag reaction (reads_at plan.now rows.now tag reaction) }
     ensures holds { IfOk result (λ facts. AreFacts plan.now rows.now facts.items) }
     ensures enough { IfOk result (λ facts. Gives facts.items tag (Some reaction) 10) }
+    ensures own { IfOk result (λ facts. AreOwnAt tag (Some reaction) facts.items) }
 {
     let start = start_of(rows, tag, reaction);
     let reads = read_from(alloc, plan, rows, tag, reaction, start)?;
@@ -98,6 +99,7 @@ pub(crate) fn wrong_read(
     requires wrong { ¬ Inputs plan.now rows.now tag reaction (reads_at plan.now rows.now tag reaction) }
     ensures holds { IfOk result (λ facts. AreFacts plan.now rows.now facts.items) }
     ensures enough { IfOk result (λ facts. Gives facts.items tag (Some reaction) 10) }
+    ensures own { IfOk result (λ facts. AreOwnAt tag (Some reaction) facts.items) }
 {
     let present = presence.inputs(alloc, tag, reaction)?;
     read_facts(alloc, plan, rows, tag, reaction, present.as_slice())

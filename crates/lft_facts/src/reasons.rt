@@ -1,15 +1,16 @@
 //! Facts beside those that are enough: causes of what is present, what makes the stop, and what is
 //! nearest to what is absent.
 
-ghost use Rattle.std.specs.Prelude.{IfOk, IfSome, OnOk};
+ghost use Rattle.std.specs.Prelude.{◌≡◌, IfOk, IfSome, OnOk};
 ghost use Rattle.lft_flat.specs.Sound.{IsNameOf, IsTriggerOf as IsKnown};
 ghost use Rattle.lft_flat.specs.declared.parts.Trigger.TheVariants.{On as TheName};
 ghost use Rattle.lft_steps.specs.Fits.{RowsFit};
+ghost use Rattle.lft_model.specs.declared.breach.Breach.{Breach as TheBreach};
 ghost use Rattle.lft_model.specs.Presence.{Occurs};
 ghost use Rattle.lft_presence.specs.Causes.{AreCauses};
 ghost use Rattle.lft_facts.specs.Facts.{IsFact, AreFacts};
 ghost use Rattle.lft_facts.specs.Reasons.{IsNearest, IsReason};
-ghost use Rattle.lft_facts.specs.Enough.{Adds, Extends};
+ghost use Rattle.lft_facts.specs.Enough.{Adds, Extends, IsOwn, IsOwnReason, AreOwn};
 
 use crate::adding::add;
 use crate::cause::name_cause;
@@ -38,7 +39,7 @@ fn add_event(
     requires fit { RowsFit plan.now.program rows.now }
     requires causes { AreCauses plan.now rows.now causes.now }
     requires name { IsNameOf plan.now.program name }
-    ensures { OnOk result (Adds plan.now rows.now facts.old.items facts.new.items) }
+    ensures { OnOk result ((b : TheBreach) → Adds b plan.now rows.now facts.old.items facts.new.items) }
 {
     match name_cause(plan, rows, causes, tag, name) {
         Some(cause) => {
@@ -63,7 +64,7 @@ fn add_nearest(
     requires causes { AreCauses plan.now rows.now causes.now }
     requires name { IsNameOf plan.now.program name }
     requires nearest { IfSome at (IsNearest plan.now rows.now tag (TheName name)) }
-    ensures { OnOk result (Adds plan.now rows.now facts.old.items facts.new.items) }
+    ensures { OnOk result ((b : TheBreach) → b.tag ≡ tag → Adds b plan.now rows.now facts.old.items facts.new.items) }
 {
     match at {
         Some(at) => {
@@ -90,7 +91,7 @@ fn add_near(
     requires fit { RowsFit plan.now.program rows.now }
     requires causes { AreCauses plan.now rows.now causes.now }
     requires name { IsNameOf plan.now.program name }
-    ensures { OnOk result (Adds plan.now rows.now facts.old.items facts.new.items) }
+    ensures { OnOk result ((b : TheBreach) → b.tag ≡ tag → Adds b plan.now rows.now facts.old.items facts.new.items) }
 {
     let before = event_before(plan, rows, causes, tag, name);
     add_nearest(plan, rows, causes, tag, name, before, facts)?;
@@ -113,9 +114,10 @@ fn add_absent(
     requires fit { RowsFit plan.now.program rows.now }
     requires causes { AreCauses plan.now rows.now causes.now }
     requires stop { IfSome stop (IsReason plan.now rows.now) }
+    requires stop_own { (b : TheBreach) → IfSome stop (IsOwnReason b) }
     requires trigger { IsKnown plan.now.program trigger }
     requires absent { ¬ Occurs plan.now rows.now tag trigger }
-    ensures { OnOk result (Adds plan.now rows.now facts.old.items facts.new.items) }
+    ensures { OnOk result ((b : TheBreach) → b.tag ≡ tag → Adds b plan.now rows.now facts.old.items facts.new.items) }
 {
     match trigger {
         Trigger::Startup => Ok(()),
@@ -138,8 +140,9 @@ fn add_details(
     requires fit { RowsFit plan.now.program rows.now }
     requires causes { AreCauses plan.now rows.now causes.now }
     requires stop { IfSome stop (IsReason plan.now rows.now) }
+    requires stop_own { (b : TheBreach) → IfSome stop (IsOwnReason b) }
     requires fact { IsFact plan.now rows.now fact }
-    ensures { OnOk result (Adds plan.now rows.now facts.old.items facts.new.items) }
+    ensures { OnOk result ((b : TheBreach) → IsOwn b fact → Adds b plan.now rows.now facts.old.items facts.new.items) }
 {
     // Asked for what every plan keeps: what its reactions name is of its program.
     plan.keeps();
@@ -165,7 +168,7 @@ fn add_reasons(
     requires fit { RowsFit plan.now.program rows.now }
     requires causes { AreCauses plan.now rows.now causes.now }
     requires fact { IsFact plan.now rows.now fact }
-    ensures { OnOk result (Adds plan.now rows.now facts.old.items facts.new.items) }
+    ensures { OnOk result ((b : TheBreach) → IsOwn b fact → Adds b plan.now rows.now facts.old.items facts.new.items) }
 {
     // Asked for what every plan keeps: what its reactions name is of its program.
     plan.keeps();
@@ -206,7 +209,7 @@ pub(crate) fn with_reasons(
     requires fit { RowsFit plan.now.program rows.now }
     requires causes { AreCauses plan.now rows.now causes.now }
     requires holds { AreFacts plan.now rows.now facts.items }
-    ensures { IfOk result (Extends plan.now rows.now facts.items) }
+    ensures { IfOk result (λ all. (b : TheBreach) → AreOwn b facts.items → Extends b plan.now rows.now facts.items all) }
 {
     // Many facts may be of the stop: a reaction may name `shutdown` again and again.
     let stop = stop_reason(plan, rows);

@@ -1,13 +1,14 @@
 //! Rules 2 to 5: what a reader of a wrong row asks next.
 
-ghost use Rattle.std.specs.Prelude.{◌≡◌, ◌<◌, ◌≤◌, List, length, IfSome, OnOk};
+ghost use Rattle.std.specs.Prelude.{◌≡◌, ◌+◌, ◌<◌, ◌≤◌, List, length, IfSome, OnOk};
 ghost use Rattle.lft_flat.specs.declared.parts.Name.TheVariants.{Action as TheAction};
 ghost use Rattle.lft_steps.specs.Fits.{RowsFit, StepFits};
 ghost use Rattle.lft_steps.specs.declared.row.Row.{Row as TheRow};
+ghost use Rattle.lft_model.specs.declared.breach.Breach.{Breach as TheBreach};
 ghost use Rattle.lft_model.specs.Plans.{PlanParts};
 ghost use Rattle.lft_facts.specs.Facts.{IsRowFact};
 ghost use Rattle.lft_facts.specs.Reasons.{IsReason, IsOfKind};
-ghost use Rattle.lft_facts.specs.Enough.{Adds};
+ghost use Rattle.lft_facts.specs.Enough.{Adds, IsOwnReason, row_of};
 
 use crate::adding::add;
 use crate::facts::{Fact, Reason, RowFact, ThingKind};
@@ -22,7 +23,8 @@ use lft_tag::NoMemory;
 /// The row before this one in which its worker ended that run.
 fn ended_before(rows: &[Row], row: u32) -> Option<Reason>
     requires { row < length rows.now }
-    ensures { IfSome result (λ c. (plan : PlanParts) → IsReason plan rows.now c) }
+    ensures holds { IfSome result (λ c. (plan : PlanParts) → IsReason plan rows.now c) }
+    ensures own { IfSome result (λ c. (b : TheBreach) → b.row ≡ row + 2 → IsOwnReason b c) }
 {
     let own = row_at(rows, row as usize);
     for place in 0..row {
@@ -36,7 +38,8 @@ fn ended_before(rows: &[Row], row: u32) -> Option<Reason>
 /// The row before this one in which its worker last started a run, if that is open.
 fn own_open(rows: &[Row], row: u32) -> Option<Reason>
     requires { row < length rows.now }
-    ensures { IfSome result (λ c. (plan : PlanParts) → IsReason plan rows.now c) }
+    ensures holds { IfSome result (λ c. (plan : PlanParts) → IsReason plan rows.now c) }
+    ensures own { IfSome result (λ c. (b : TheBreach) → b.row ≡ row + 2 → IsOwnReason b c) }
 {
     let worker = row_at(rows, row as usize).worker;
     for back in 0..row {
@@ -56,7 +59,8 @@ fn own_open(rows: &[Row], row: u32) -> Option<Reason>
 /// The row before this one in which another worker started that run, if it is open.
 fn open_elsewhere(rows: &[Row], row: u32) -> Option<Reason>
     requires { row < length rows.now }
-    ensures { IfSome result (λ c. (plan : PlanParts) → IsReason plan rows.now c) }
+    ensures holds { IfSome result (λ c. (plan : PlanParts) → IsReason plan rows.now c) }
+    ensures own { IfSome result (λ c. (b : TheBreach) → b.row ≡ row + 2 → IsOwnReason b c) }
 {
     let own = row_at(rows, row as usize);
     let start = first_start(rows, row, own.tag, own.reaction)?;
@@ -72,7 +76,8 @@ fn open_elsewhere(rows: &[Row], row: u32) -> Option<Reason>
 fn later_start(rows: &[Row], row: u32) -> Option<Reason>
     requires few { length rows.now ≤ 4000000 }
     requires row { row < length rows.now }
-    ensures { IfSome result (λ c. (plan : PlanParts) → IsReason plan rows.now c) }
+    ensures holds { IfSome result (λ c. (plan : PlanParts) → IsReason plan rows.now c) }
+    ensures own { IfSome result (λ c. (b : TheBreach) → b.row ≡ row + 2 → IsOwnReason b c) }
 {
     let own = row_at(rows, row as usize);
     for place in row as usize + 1..rows.len() {
@@ -88,7 +93,8 @@ fn later_start(rows: &[Row], row: u32) -> Option<Reason>
 fn other_end(rows: &[Row], row: u32) -> Option<Reason>
     requires few { length rows.now ≤ 4000000 }
     requires row { row < length rows.now }
-    ensures { IfSome result (λ c. (plan : PlanParts) → IsReason plan rows.now c) }
+    ensures holds { IfSome result (λ c. (plan : PlanParts) → IsReason plan rows.now c) }
+    ensures own { IfSome result (λ c. (b : TheBreach) → b.row ≡ row + 2 → IsOwnReason b c) }
 {
     let own = row_at(rows, row as usize);
     for place in row as usize + 1..rows.len() {
@@ -108,7 +114,8 @@ fn other_end(rows: &[Row], row: u32) -> Option<Reason>
 fn last_row(rows: &[Row], row: u32) -> Option<Reason>
     requires few { length rows.now ≤ 4000000 }
     requires row { row < length rows.now }
-    ensures { IfSome result (λ c. (plan : PlanParts) → IsReason plan rows.now c) }
+    ensures holds { IfSome result (λ c. (plan : PlanParts) → IsReason plan rows.now c) }
+    ensures own { IfSome result (λ c. (b : TheBreach) → b.row ≡ row + 2 → IsOwnReason b c) }
 {
     let worker = row_at(rows, row as usize).worker;
     for back in 0..rows.len() {
@@ -124,7 +131,8 @@ fn last_row(rows: &[Row], row: u32) -> Option<Reason>
 /// The port that feeds another one, if that is another one.
 fn origin_reason(program: &Program, port: u32) -> Option<Reason>
     requires { port < length program.now.ports }
-    ensures { IfSome result (λ c. (plan : PlanParts) (t : List TheRow) → plan.program ≡ program.now → IsReason plan t c) }
+    ensures holds { IfSome result (λ c. (plan : PlanParts) (t : List TheRow) → plan.program ≡ program.now → IsReason plan t c) }
+    ensures own { IfSome result (λ c. (b : TheBreach) → IsOwnReason b c) }
 {
     let origin = program.port(port).origin;
     if origin == port {
@@ -137,7 +145,8 @@ fn origin_reason(program: &Program, port: u32) -> Option<Reason>
 /// The port that feeds the one that the row names, if that is another one.
 fn named_feed(program: &Program, step: Step) -> Option<Reason>
     requires { StepFits program.now step }
-    ensures { IfSome result (λ c. (plan : PlanParts) (t : List TheRow) → plan.program ≡ program.now → IsReason plan t c) }
+    ensures holds { IfSome result (λ c. (plan : PlanParts) (t : List TheRow) → plan.program ≡ program.now → IsReason plan t c) }
+    ensures own { IfSome result (λ c. (b : TheBreach) → IsOwnReason b c) }
 {
     match step {
         Step::Write(Name::Port(port), _) => origin_reason(program, port),
@@ -160,7 +169,8 @@ fn kind_of(program: &Program, action: u32) -> ThingKind
 /// What the step names, where such a step isn't of such a thing.
 fn named_kind(program: &Program, step: Step) -> Option<Reason>
     requires { StepFits program.now step }
-    ensures { IfSome result (λ c. (plan : PlanParts) (t : List TheRow) → plan.program ≡ program.now → IsReason plan t c) }
+    ensures holds { IfSome result (λ c. (plan : PlanParts) (t : List TheRow) → plan.program ≡ program.now → IsReason plan t c) }
+    ensures own { IfSome result (λ c. (b : TheBreach) → IsOwnReason b c) }
 {
     match step {
         Step::Write(Name::Action(action), _) => Some(Reason::KindOf {
@@ -189,7 +199,7 @@ fn named_kind(program: &Program, step: Step) -> Option<Reason>
 fn add_of_order(rows: &[Row], row: u32, facts: &mut Vec<Fact>) -> Result<(), NoMemory>
     requires few { length rows.now ≤ 4000000 }
     requires row { row < length rows.now }
-    ensures { OnOk result ((plan : PlanParts) → Adds plan rows.now facts.old.items facts.new.items) }
+    ensures { OnOk result ((b : TheBreach) (plan : PlanParts) → b.row ≡ row + 2 → Adds b plan rows.now facts.old.items facts.new.items) }
 {
     add(facts, ended_before(rows, row))?;
     add(facts, own_open(rows, row))?;
@@ -202,7 +212,7 @@ fn add_of_order(rows: &[Row], row: u32, facts: &mut Vec<Fact>) -> Result<(), NoM
 fn add_of_inputs(plan: &Plan, rows: &[Row], row: u32, facts: &mut Vec<Fact>) -> Result<(), NoMemory>
     requires fit { RowsFit plan.now.program rows.now }
     requires row { row < length rows.now }
-    ensures { OnOk result (Adds plan.now rows.now facts.old.items facts.new.items) }
+    ensures { OnOk result ((b : TheBreach) → Adds b plan.now rows.now facts.old.items facts.new.items) }
 {
     let reaction = row_at(rows, row as usize).reaction;
     add(facts, Some(Reason::Inputs { reaction }))
@@ -218,7 +228,7 @@ fn add_of_effects(
 ) -> Result<(), NoMemory>
     requires fit { RowsFit plan.now.program rows.now }
     requires row { row < length rows.now }
-    ensures { OnOk result (Adds plan.now rows.now facts.old.items facts.new.items) }
+    ensures { OnOk result ((b : TheBreach) → Adds b plan.now rows.now facts.old.items facts.new.items) }
 {
     let own = row_at(rows, row as usize);
     let reaction = own.reaction;
@@ -232,7 +242,7 @@ fn add_of_effects(
 fn add_of_end(rows: &[Row], row: u32, facts: &mut Vec<Fact>) -> Result<(), NoMemory>
     requires few { length rows.now ≤ 4000000 }
     requires row { row < length rows.now }
-    ensures { OnOk result ((plan : PlanParts) → Adds plan rows.now facts.old.items facts.new.items) }
+    ensures { OnOk result ((b : TheBreach) (plan : PlanParts) → b.row ≡ row + 2 → Adds b plan rows.now facts.old.items facts.new.items) }
 {
     add(facts, other_end(rows, row))?;
     add(facts, last_row(rows, row))?;
@@ -248,7 +258,7 @@ pub(crate) fn add_row_reasons(
 ) -> Result<(), NoMemory>
     requires fit { RowsFit plan.now.program rows.now }
     requires fact { IsRowFact plan.now rows.now fact }
-    ensures { OnOk result (Adds plan.now rows.now facts.old.items facts.new.items) }
+    ensures { OnOk result ((b : TheBreach) → b.row ≡ row_of fact + 2 → Adds b plan.now rows.now facts.old.items facts.new.items) }
 {
     match fact {
         RowFact::AfterStop { .. } => add(facts, stop_reason(plan, rows)),

@@ -6,7 +6,7 @@ ghost use Rattle.lft_steps.specs.Fits.{RowsFit};
 ghost use Rattle.lft_model.specs.Plans.{PlanParts};
 ghost use Rattle.lft_model.specs.Breaches.{BreaksRow, IsOutOfOrder, IsUndeclared, RowBreach};
 ghost use Rattle.lft_facts.specs.Facts.{IsRowFact, AreFacts};
-ghost use Rattle.lft_facts.specs.Enough.{GivesRow, ProvesRow};
+ghost use Rattle.lft_facts.specs.Enough.{GivesRow, ProvesRow, AreOwn, row_of};
 
 use crate::facts::{Fact, RowFact};
 use crate::ordering::{first_read, first_start, greater_row, open_start};
@@ -22,6 +22,7 @@ fn order_fact(rows: &[Row], place: u32, row: Row) -> RowFact
     requires breaks { IsOutOfOrder rows.now place row row.step }
     ensures holds { (plan : PlanParts) → IsRowFact plan rows.now result }
     ensures gives { GivesRow result place 3 }
+    ensures row { row_of result ≡ place }
 {
     if !is_start(&row.step) {
         return RowFact::NotOpen { row: place };
@@ -41,6 +42,7 @@ fn undeclared_fact(rows: &[Row], place: u32, row: Row) -> RowFact
     requires breaks { (program : Parts) × IsUndeclared program rows.now place row row.step }
     ensures holds { (plan : PlanParts) → IsUndeclared plan.program rows.now place row row.step → IsRowFact plan rows.now result }
     ensures gives { GivesRow result place 4 }
+    ensures row { row_of result ≡ place }
 {
     match row.step {
         Step::Read(name, _) => match first_read(rows, place, row.tag, row.reaction, name) {
@@ -57,6 +59,7 @@ fn row_fact(rows: &[Row], rule: u8, place: u32, row: Row) -> RowFact
     requires breaks { (plan : PlanParts) × BreaksRow plan rows.now place row rule }
     ensures holds { (plan : PlanParts) → BreaksRow plan rows.now place row rule → IsRowFact plan rows.now result }
     ensures gives { GivesRow result place rule }
+    ensures row { row_of result ≡ place }
 {
     match rule {
         1 => RowFact::Late {
@@ -81,6 +84,7 @@ pub(crate) fn of_row(
     requires breach { RowBreach plan.now rows.now breach }
     ensures holds { IfOk result (λ facts. AreFacts plan.now rows.now facts.items) }
     ensures enough { IfOk result (λ facts. ProvesRow facts.items breach) }
+    ensures own { IfOk result (λ facts. AreOwn breach facts.items) }
 {
     let place = breach.row - 2;
     let row = row_at(rows, place as usize);

@@ -2,7 +2,9 @@
 
 ghost use Rattle.std.specs.Prelude.{◌≡◌, IfSome};
 ghost use Rattle.lft_steps.specs.Fits.{RowsFit};
+ghost use Rattle.lft_model.specs.declared.breach.Breach.{Breach as TheBreach};
 ghost use Rattle.lft_facts.specs.Reasons.{IsReason};
+ghost use Rattle.lft_facts.specs.Enough.{IsOwnReason};
 
 use crate::facts::Reason;
 use lft_model::{Plan, trace_stop};
@@ -11,7 +13,8 @@ use lft_steps::{Row, is_stop, row_at};
 /// The stop, and what makes it: the external inputs, or else the first row that asks for it.
 pub(crate) fn stop_reason(plan: &Plan, rows: &[Row]) -> Option<Reason>
     requires { RowsFit plan.now.program rows.now }
-    ensures { IfSome result (IsReason plan.now rows.now) }
+    ensures holds { IfSome result (IsReason plan.now rows.now) }
+    ensures own { (b : TheBreach) → IfSome result (IsOwnReason b) }
 {
     let tag = trace_stop(plan, rows);
     if tag.is_same(plan.externals().stop()) {

@@ -6,7 +6,7 @@ ghost use Rattle.lft_model.specs.Presence.{Triggered};
 ghost use Rattle.lft_model.specs.Runs.{Ran};
 ghost use Rattle.lft_presence.specs.Causes.{AreCauses};
 ghost use Rattle.lft_facts.specs.Facts.{IsCause, AreFacts, IsTriggerOf};
-ghost use Rattle.lft_facts.specs.Enough.{Gives, GivesTrigger};
+ghost use Rattle.lft_facts.specs.Enough.{Gives, GivesTrigger, AreOwnAt};
 
 use crate::cause::trigger_cause;
 use crate::facts::{Cause, Fact};
@@ -60,6 +60,7 @@ pub(crate) fn not_run(
     requires none { ¬ Ran rows.now tag reaction }
     ensures holds { IfOk result (λ facts. AreFacts plan.now rows.now facts.items) }
     ensures enough { IfOk result (λ facts. Gives facts.items tag (Some reaction) 7) }
+    ensures own { IfOk result (λ facts. AreOwnAt tag (Some reaction) facts.items) }
 {
     let (trigger, cause) = present_trigger(plan, rows, causes, tag, reaction);
     let mut facts = Vec::new(alloc);
@@ -83,6 +84,7 @@ pub(crate) fn not_triggered(
     requires none { ¬ Triggered plan.now rows.now tag reaction }
     ensures holds { IfOk result (λ facts. AreFacts plan.now rows.now facts.items) }
     ensures enough { IfOk result (λ facts. Gives facts.items tag (Some reaction) 8) }
+    ensures own { IfOk result (λ facts. AreOwnAt tag (Some reaction) facts.items) }
 {
     let start = start_of(rows, tag, reaction);
     let triggers = plan.program().reaction(reaction).triggers.as_slice();

@@ -1,5 +1,5 @@
 -- Which rows facts name, and what each is to them.
-use Rattle.std.specs.Prelude.{ℕ, List, [], ◌∷◌, codes}
+use Rattle.std.specs.Prelude.{ℕ, List, [], ◌∷◌, ◌++◌, codes}
 use Rattle.lft_facts.specs.declared.facts.Cause.{Cause}
 use Rattle.lft_facts.specs.declared.facts.Cause.TheVariants as cause
 use Rattle.lft_facts.specs.declared.facts.Reason.{Reason}
@@ -40,7 +40,7 @@ row_fact_names (row_fact.Unended i) = []
 -- the rows that a reason names
 abbrev pub reason_names : Reason → List Quote
 reason_names (reason.Nearest g x h) = []
-reason_names (reason.PassedBy g r) = []
+reason_names (reason.PassedBy g r next) = []
 reason_names (reason.NeverRuns r) = []
 reason_names (reason.RunBefore g r h start) = []
 reason_names (reason.RunAfter g r h start) = []
@@ -63,6 +63,7 @@ abbrev pub names : Fact → List Quote
 names (fact.RowIs g r i) = marked i mark.Here
 names (fact.Row f) = row_fact_names f
 names (fact.Cause c) = cause_names c
+names (fact.Clash g c d) = cause_names c ++ cause_names d
 names (fact.Runs g r start) = marked start mark.Here
 names (fact.StartsEarly g a r start end) = (record { row = start; mark = mark.Here }) ∷ marked end mark.LateEnd
 names (fact.Reason x) = reason_names x

@@ -142,6 +142,10 @@ pub(crate) fn push_named(quotes: &mut Vec<Quote>, fact: Fact) -> Result<(), Allo
         Fact::RowIs { row, .. } => push(quotes, row, RowMark::Here),
         Fact::Row(fact) => push_row_fact(quotes, fact),
         Fact::Cause(cause) => push_cause(quotes, cause),
+        Fact::Clash { first, second, .. } => {
+            push_cause(quotes, first)?;
+            push_cause(quotes, second)
+        }
         Fact::Runs { start, .. } => push(quotes, start, RowMark::Here),
         Fact::StartsEarly { start, end, .. } => {
             push(quotes, start, RowMark::Here)?;

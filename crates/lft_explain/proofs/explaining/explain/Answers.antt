@@ -7,5 +7,6 @@ returns c = record {
   facts = c.in_ok-facts.facts;
   holds = c.in_ok-facts.ensures.holds;
   enough = c.in_ok-facts.ensures.enough;
+  own = c.in_ok-facts.ensures.own;
   is_told = c.in_ok-text.ensures ∙ ap (λ p. told p c.args.rows.now c.in_ok-facts.facts) c.program.ensures.value;
 }

@@ -4,8 +4,8 @@ use Rattle.lft_facts.specs.declared.facts.Fact.TheVariants as fact
 use Rattle.lft_facts.specs.declared.facts.Fact.{Fact}
 use Rattle.std.proofs.Common.{List}
 use Rattle.lft_facts.specs.Facts.{AreFacts}
-use Rattle.lft_facts.specs.Enough.{GivesChain}
-use Rattle.lft_facts.proofs.Giving.{late_gives, late_there, late_holds}
+use Rattle.lft_facts.specs.Enough.{GivesChain, AreOwn}
+use Rattle.lft_facts.proofs.Giving.{late_gives, late_there, late_holds, late_own}
 use Rattle.lft_facts.proofs.Upstream.{all_marked, step_leads}
 use Rattle.lft_facts.proofs.early.early_chain.Goals as goal
 
@@ -24,3 +24,6 @@ returns-clause-holds c = late_holds c.args.plan.now c.args.rows.now c.requires.k
 
 pub returns-clause-enough : goal.returns-clause-enough
 returns-clause-enough c = late_gives c.args.tag c.late_end-earlier.result.0 c.args.reaction c.start_of-start.result c.late_end-earlier.result.1 c.as_slice-4.result.now c.extend_from_slice.new.self.items (all c) (subst (λ (fs : List Fact). GivesChain fs c.late_end-earlier.result.0 c.args.reaction) (sym c.as_slice-4.ensures.value) c.in_ok-way.ensures.gives)
+
+pub returns-clause-own : goal.returns-clause-own
+returns-clause-own c = late_own c.args.tag c.late_end-earlier.result.0 c.args.reaction c.start_of-start.result c.late_end-earlier.result.1 c.as_slice-4.result.now c.extend_from_slice.new.self.items (all c) (λ b. subst (λ (fs : List Fact). AreOwn b fs) (sym c.as_slice-4.ensures.value) (c.in_ok-way.ensures.own b))

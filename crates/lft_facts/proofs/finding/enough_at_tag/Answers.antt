@@ -1,7 +1,7 @@
 use Rattle.std.proofs.Common.{arith, rules}
-use Rattle.std.proofs.Common.{Some, None}
+use Rattle.std.proofs.Common.{Some, None, refl}
 use Rattle.std.proofs.lemmas.Result.{IfOk-weaker}
-use Rattle.lft_facts.specs.Enough.{Gives, ProvesTag}
+use Rattle.lft_facts.specs.Enough.{Gives, ProvesTag, AreOwn, AreOwnAt}
 use Rattle.lft_facts.proofs.Found.{of_tag, no_clash, proves, clash_proves, is_tenth}
 use Rattle.lft_facts.proofs.finding.enough_at_tag.Goals as goal
 
@@ -26,3 +26,18 @@ pub returns-in_default-rule-clause-enough : goal.returns-in_default-rule-clause-
 returns-in_default-rule-clause-enough c =
     let k = is_tenth c.args.plan.now c.args.rows.now c.args.breach c.in-Some.reaction (of_tag c.args.plan.now c.args.rows.now c.args.breach c.requires.first c.requires.tag).breach c.in-Some.is (search rules) (search rules) (search rules) in
     IfOk-weaker c.wrong_read.result (λ fs. Gives fs.items c.args.breach.tag (Some c.in-Some.reaction) 10) (λ fs. ProvesTag fs.items c.args.breach) (λ fs g. proves c.args.plan.now c.args.rows.now c.args.breach c.requires.first c.in-Some.reaction 10 c.in-Some.is k (omega arith) fs.items g) c.wrong_read.ensures.enough
+
+pub returns-in_default-clause-own : goal.returns-in_default-clause-own
+returns-in_default-clause-own c = IfOk-weaker c.collision.result (λ fs. AreOwnAt c.args.breach.tag None fs.items) (λ fs. AreOwn c.args.breach fs.items) (λ fs own. own c.args.breach refl c.in_default.is) c.collision.ensures.own
+
+pub returns-in-7-clause-own : goal.returns-in-7-clause-own
+returns-in-7-clause-own c = IfOk-weaker c.not_run.result (λ fs. AreOwnAt c.args.breach.tag (Some c.in-Some.reaction) fs.items) (λ fs. AreOwn c.args.breach fs.items) (λ fs own. own c.args.breach refl c.in-Some.is) c.not_run.ensures.own
+
+pub returns-in-8-clause-own : goal.returns-in-8-clause-own
+returns-in-8-clause-own c = IfOk-weaker c.not_triggered.result (λ fs. AreOwnAt c.args.breach.tag (Some c.in-Some.reaction) fs.items) (λ fs. AreOwn c.args.breach fs.items) (λ fs own. own c.args.breach refl c.in-Some.is) c.not_triggered.ensures.own
+
+pub returns-in-9-clause-own : goal.returns-in-9-clause-own
+returns-in-9-clause-own c = IfOk-weaker c.too_early.result (λ fs. AreOwnAt c.args.breach.tag (Some c.in-Some.reaction) fs.items) (λ fs. AreOwn c.args.breach fs.items) (λ fs own. own c.args.breach refl c.in-Some.is) c.too_early.ensures.own
+
+pub returns-in_default-rule-clause-own : goal.returns-in_default-rule-clause-own
+returns-in_default-rule-clause-own c = IfOk-weaker c.wrong_read.result (λ fs. AreOwnAt c.args.breach.tag (Some c.in-Some.reaction) fs.items) (λ fs. AreOwn c.args.breach fs.items) (λ fs own. own c.args.breach refl c.in-Some.is) c.wrong_read.ensures.own

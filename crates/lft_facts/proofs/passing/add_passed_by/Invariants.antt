@@ -1,9 +1,11 @@
-use Rattle.std.proofs.Common.{◌≤◌, List, length}
+use Rattle.std.proofs.Common.{◌≡◌, ◌≤◌, List, length}
 use Rattle.lft_steps.specs.declared.row.Row.{Row}
+use Rattle.lft_model.specs.declared.breach.Breach.{Breach}
 use Rattle.lft_model.specs.Plans.{PlanParts}
+use Rattle.lft_facts.specs.Facts.{AreFacts}
 use Rattle.lft_facts.specs.Enough.{Adds}
 use Rattle.lft_facts.specs.Neighbours.{HaveRun}
 use Rattle.lft_facts.proofs.passing.add_passed_by.Given as goal
 
 abbrev pub invariant-loop-place : goal.invariant-loop-place
-invariant-loop-place l = (l.count ≤ length l.facts.items) × ((plan : PlanParts) (t : List Row) → HaveRun t l.tag l.ran → Adds plan t l.initial.facts.items l.facts.items)
+invariant-loop-place l = (l.count ≤ length l.facts.items) × ((b : Breach) (plan : PlanParts) (t : List Row) → b.tag ≡ l.tag → AreFacts plan t l.initial.facts.items → HaveRun t l.tag l.ran → Adds b plan t l.initial.facts.items l.facts.items)

@@ -1,4 +1,5 @@
 use Rattle.std.proofs.Common.{subst}
+use Rattle.std.proofs.lemmas.Result.{on_ok_weaker}
 use Rattle.lft_facts.specs.declared.facts.Fact.{Fact}
 use Rattle.lft_facts.specs.Facts.{IsFact, IsUntriggered}
 use Rattle.lft_facts.proofs.Added.{trigger_known}
@@ -9,3 +10,6 @@ add_absent-requires-clause-trigger c = trigger_known c.args.plan.now c.keeps.ens
 
 pub add_absent-requires-clause-absent : goal.add_absent-requires-clause-absent
 add_absent-requires-clause-absent c = let f : IsUntriggered c.args.plan.now c.args.rows.now c.in-Untriggered.tag c.in-Untriggered.reaction c.in-Untriggered.place c.in-Untriggered.trigger = subst (λ (f : Fact). IsFact c.args.plan.now c.args.rows.now f) c.in-Untriggered.is c.requires.fact in f.absent
+
+pub returns-in-Cause-AtShutdown : goal.returns-in-Cause-AtShutdown
+returns-in-Cause-AtShutdown c = on_ok_weaker c.add.result (λ told b own. told b c.args.plan.now c.args.rows.now c.requires.stop (c.requires.stop_own b)) c.add.ensures.adds
