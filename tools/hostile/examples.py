@@ -96,7 +96,7 @@ WHY_WRONG_READ = f"""broken rule=10 wrong-read {AT_ZERO} reaction=main.b#1
 main.b#1 runs at (0, 0), from line 5 on.
 
   input     read  present
-  main.b.x  2     1        <-
+  main.b.x  2     1
 
   3 | write,0,0,0,main.a#1,main.a.out,1,  a cause
     ..
