@@ -67,16 +67,16 @@ pub record HasBefore (plan : PlanParts) (t s : List Row) (g : Tag) (count : ℕ)
   pub same : (h : Tag) (a : ℕ) → Before h g → IsSameRun plan t s h a
   pub counted : Counts (StartsBefore g) t count
 
--- the statement holds of the plan and the two traces
-abbrev pub IsContrast : PlanParts → List Row → List Row → Contrast → Type 0
-IsContrast plan t s (contrast.Written g r p first second) = Contains (effects_of plan.program r) (Port p) × IsWritten (placed_steps t g r) (placed_steps s g r) p first second
-IsContrast plan t s (contrast.Scheduled g r a k first second) = Contains (effects_of plan.program r) (Action a) × IsScheduled (placed_steps t g r) (placed_steps s g r) a k first second
-IsContrast plan t s (contrast.Requested g r first second) = IsRequested (placed_steps t g r) (placed_steps s g r) first second
-IsContrast plan t s (contrast.Starts g r first second) = StartsAt t g r first × StartsAt s g r second
-IsContrast plan t s (contrast.Read g r k n read) = IsRead plan t s g r k n read
-IsContrast plan t s (contrast.Earlier g r instance count) = HasEarlier plan t s g r instance count
-IsContrast plan t s (contrast.Before g count) = HasBefore plan t s g count
+-- the statement holds of the runs of r at g in the two traces
+abbrev pub IsContrast : PlanParts → List Row → List Row → Tag → ℕ → Contrast → Type 0
+IsContrast plan t s g r (contrast.Written p first second) = Contains (effects_of plan.program r) (Port p) × IsWritten (placed_steps t g r) (placed_steps s g r) p first second
+IsContrast plan t s g r (contrast.Scheduled a k first second) = Contains (effects_of plan.program r) (Action a) × IsScheduled (placed_steps t g r) (placed_steps s g r) a k first second
+IsContrast plan t s g r (contrast.Requested first second) = IsRequested (placed_steps t g r) (placed_steps s g r) first second
+IsContrast plan t s g r (contrast.Starts first second) = StartsAt t g r first × StartsAt s g r second
+IsContrast plan t s g r (contrast.Read k n read) = IsRead plan t s g r k n read
+IsContrast plan t s g r (contrast.Earlier instance count) = HasEarlier plan t s g r instance count
+IsContrast plan t s g r (contrast.Before count) = HasBefore plan t s g count
 
 -- all of the statements hold
-abbrev pub AreContrasts : PlanParts → List Row → List Row → List Contrast → Type 0
-AreContrasts plan t s contrasts = All (IsContrast plan t s) contrasts
+abbrev pub AreContrasts : PlanParts → List Row → List Row → Tag → ℕ → List Contrast → Type 0
+AreContrasts plan t s g r contrasts = All (IsContrast plan t s g r) contrasts

@@ -16,18 +16,18 @@ use Rattle.lft_contrast.specs.declared.contrasts.Contrast.TheVariants as contras
 use Rattle.lft_contrast.specs.Runs.{placed_steps}
 use Rattle.lft_contrast.specs.Contrasts.{AreContrasts, IsWritten, IsScheduled, IsRequested}
 
--- of whatever plan and traces they hold: r answers otherwise at g
+-- of whatever plan and traces they hold, r answers otherwise at g
 abbrev pub GiveOther : List Contrast → Tag → ℕ → Type 0
-GiveOther contrasts g r = (plan : PlanParts) (t s : List Row) → AreContrasts plan t s contrasts → answer_at plan t g r ≢ answer_at plan s g r
+GiveOther contrasts g r = (plan : PlanParts) (t s : List Row) → AreContrasts plan t s g r contrasts → answer_at plan t g r ≢ answer_at plan s g r
 
--- the contrast tells of what two runs of r at g answered for an effect
-abbrev pub TellsOf : Tag → ℕ → List Placed → List Placed → Name → Contrast → Type 0
-TellsOf g r mine theirs (Port p) c = (first : Option LastWrite) × (second : Option LastWrite) × (c ≡ contrast.Written g r p first second) × IsWritten mine theirs p first second
-TellsOf g r mine theirs (Action a) c = (k : ℕ) × (first : Option Scheduling) × (second : Option Scheduling) × (c ≡ contrast.Scheduled g r a k first second) × IsScheduled mine theirs a k first second
+-- the contrast tells of what two runs answered for an effect
+abbrev pub TellsOf : List Placed → List Placed → Name → Contrast → Type 0
+TellsOf mine theirs (Port p) c = (first : Option LastWrite) × (second : Option LastWrite) × (c ≡ contrast.Written p first second) × IsWritten mine theirs p first second
+TellsOf mine theirs (Action a) c = (k : ℕ) × (first : Option Scheduling) × (second : Option Scheduling) × (c ≡ contrast.Scheduled a k first second) × IsScheduled mine theirs a k first second
 
--- the contrast tells of the stop requests of two runs of r at g
-abbrev pub TellsStop : Tag → ℕ → List Placed → List Placed → Contrast → Type 0
-TellsStop g r mine theirs c = (first : Option ℕ) × (second : Option ℕ) × (c ≡ contrast.Requested g r first second) × IsRequested mine theirs first second
+-- the contrast tells of the stop requests of two runs
+abbrev pub TellsStop : List Placed → List Placed → Contrast → Type 0
+TellsStop mine theirs c = (first : Option ℕ) × (second : Option ℕ) × (c ≡ contrast.Requested first second) × IsRequested mine theirs first second
 
 -- the steps of a run
 abbrev pub steps : List Placed → List Step
@@ -38,33 +38,33 @@ abbrev pub HaveSameOutcome : List Placed → List Placed → Name → Type 0
 HaveSameOutcome mine theirs n = outcome_of (steps mine) n ≡ outcome_of (steps theirs) n
 
 -- they did, or one of the contrasts tells of it
-abbrev pub IsToldOf : Tag → ℕ → List Placed → List Placed → List Contrast → Name → Type 0
-IsToldOf g r mine theirs contrasts n = HaveSameOutcome mine theirs n ⊎ ((c : Contrast) × Contains contrasts c × TellsOf g r mine theirs n c)
+abbrev pub IsToldOf : List Placed → List Placed → List Contrast → Name → Type 0
+IsToldOf mine theirs contrasts n = HaveSameOutcome mine theirs n ⊎ ((c : Contrast) × Contains contrasts c × TellsOf mine theirs n c)
 
 -- both requested a stop or neither did, or one of the contrasts tells of it
-abbrev pub IsStopTold : Tag → ℕ → List Placed → List Placed → List Contrast → Type 0
-IsStopTold g r mine theirs contrasts = (request_of (steps mine) ≡ request_of (steps theirs)) ⊎ ((c : Contrast) × Contains contrasts c × TellsStop g r mine theirs c)
+abbrev pub IsStopTold : List Placed → List Placed → List Contrast → Type 0
+IsStopTold mine theirs contrasts = (request_of (steps mine) ≡ request_of (steps theirs)) ⊎ ((c : Contrast) × Contains contrasts c × TellsStop mine theirs c)
 
 -- the contrast tells of an effect
-abbrev pub IsOfEffect : Tag → ℕ → List Name → List Placed → List Placed → Contrast → Type 0
-IsOfEffect g r effects mine theirs c = (n : Name) × Contains effects n × TellsOf g r mine theirs n c
+abbrev pub IsOfEffect : List Name → List Placed → List Placed → Contrast → Type 0
+IsOfEffect effects mine theirs c = (n : Name) × Contains effects n × TellsOf mine theirs n c
 
 -- each effect for which the runs of r at g answered otherwise is told of, and a stop request of one of them
 pub record TellsAnswers (plan : PlanParts) (t s : List Row) (g : Tag) (r : ℕ) (contrasts : List Contrast) : Type 0 where
-  pub effects : (n : Name) → Contains (effects_of plan.program r) n → IsToldOf g r (placed_steps t g r) (placed_steps s g r) contrasts n
-  pub stop : IsStopTold g r (placed_steps t g r) (placed_steps s g r) contrasts
+  pub effects : (n : Name) → Contains (effects_of plan.program r) n → IsToldOf (placed_steps t g r) (placed_steps s g r) contrasts n
+  pub stop : IsStopTold (placed_steps t g r) (placed_steps s g r) contrasts
 
 -- each input of r is told of
-abbrev pub TellsReads : PlanParts → Tag → ℕ → List Contrast → Type 0
-TellsReads plan g r contrasts = (k : ℕ) (n : Name) → slice_get (inputs_of plan.program r) k ≡ Some n → (read : Option Value) × Contains contrasts (contrast.Read g r k n read)
+abbrev pub TellsReads : PlanParts → ℕ → List Contrast → Type 0
+TellsReads plan r contrasts = (k : ℕ) (n : Name) → slice_get (inputs_of plan.program r) k ≡ Some n → (read : Option Value) × Contains contrasts (contrast.Read k n read)
 
 -- nothing is left out
 pub record TellsAll (plan : PlanParts) (t s : List Row) (g : Tag) (r : ℕ) (contrasts : List Contrast) : Type 0 where
   pub answers : TellsAnswers plan t s g r contrasts
-  pub reads : TellsReads plan g r contrasts
+  pub reads : TellsReads plan r contrasts
 
 -- contrasts that hold stand behind others
-pub record Adds (plan : PlanParts) (t s : List Row) (old new : List Contrast) : Type 0 where
+pub record Adds (plan : PlanParts) (t s : List Row) (g : Tag) (r : ℕ) (old new : List Contrast) : Type 0 where
   pub more : List Contrast
   pub is : new ≡ old ++ more
-  pub holds : AreContrasts plan t s more
+  pub holds : AreContrasts plan t s g r more

@@ -8,10 +8,10 @@ use Rattle.lft_contrast.specs.Contrasts.{AreContrasts}
 use Rattle.lft_contrast.specs.Enough.{GiveOther, TellsAll}
 use Rattle.lft_contrast.specs.Told.{told}
 
--- the text tells contrasts that hold of the plan and the two traces, that give the unequal answer of r at g, and of which none is left out
+-- the text tells contrasts that hold of the runs of r at g in the two traces, that give the unequal answer of r at g, and of which none is left out
 pub record ShowsDifference (plan : PlanParts) (t s : List Row) (g : Tag) (r : ℕ) (text : List ℕ) : Type 0 where
   pub contrasts : List Contrast
-  pub holds : AreContrasts plan t s contrasts
+  pub holds : AreContrasts plan t s g r contrasts
   pub enough : GiveOther contrasts g r
   pub all : TellsAll plan t s g r contrasts
   pub is_told : text ≡ told plan.program g r contrasts

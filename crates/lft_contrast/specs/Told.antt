@@ -38,13 +38,13 @@ before_words count = codes "  Runs at earlier tags, the same in both: " ++ decim
 
 -- the text of a contrast, where the first two columns of the table have these widths
 abbrev pub contrast_words : Parts → ℕ → ℕ → Contrast → List ℕ
-contrast_words program e f (contrast.Written g r p first second) = row_words program e f (contrast.Written g r p first second)
-contrast_words program e f (contrast.Scheduled g r a k first second) = row_words program e f (contrast.Scheduled g r a k first second)
-contrast_words program e f (contrast.Requested g r first second) = row_words program e f (contrast.Requested g r first second)
-contrast_words program e f (contrast.Starts g r first second) = starts_words first second
-contrast_words program e f (contrast.Read g r k n read) = read_words program n read
-contrast_words program e f (contrast.Earlier g r instance count) = earlier_words program instance count
-contrast_words program e f (contrast.Before g count) = before_words count
+contrast_words program e f (contrast.Written p first second) = row_words program e f (contrast.Written p first second)
+contrast_words program e f (contrast.Scheduled a k first second) = row_words program e f (contrast.Scheduled a k first second)
+contrast_words program e f (contrast.Requested first second) = row_words program e f (contrast.Requested first second)
+contrast_words program e f (contrast.Starts first second) = starts_words first second
+contrast_words program e f (contrast.Read k n read) = read_words program n read
+contrast_words program e f (contrast.Earlier instance count) = earlier_words program instance count
+contrast_words program e f (contrast.Before count) = before_words count
 
 -- `X at G answers otherwise in the two traces.`, an empty line, and the head of the table
 abbrev pub heading_words : Parts → Tag → ℕ → ℕ → ℕ → List ℕ

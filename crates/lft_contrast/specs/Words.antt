@@ -18,13 +18,13 @@ place_words k = if nat_eq k 0 then [] else codes " (" ++ decimal k ++ codes " be
 
 -- the effect; nothing for what tells of none
 abbrev pub effect_words : Parts → Contrast → List ℕ
-effect_words program (contrast.Written g r p first second) = port_words program p
-effect_words program (contrast.Scheduled g r a k first second) = action_words program a ++ place_words k
-effect_words program (contrast.Requested g r first second) = codes "stop request"
-effect_words program (contrast.Starts g r first second) = []
-effect_words program (contrast.Read g r k n read) = []
-effect_words program (contrast.Earlier g r instance count) = []
-effect_words program (contrast.Before g count) = []
+effect_words program (contrast.Written p first second) = port_words program p
+effect_words program (contrast.Scheduled a k first second) = action_words program a ++ place_words k
+effect_words program (contrast.Requested first second) = codes "stop request"
+effect_words program (contrast.Starts first second) = []
+effect_words program (contrast.Read k n read) = []
+effect_words program (contrast.Earlier instance count) = []
+effect_words program (contrast.Before count) = []
 
 -- `V in line L`
 abbrev pub write_words : Option LastWrite → List ℕ
@@ -43,20 +43,20 @@ request_words (Some i) = codes "requested in " ++ line_words i
 
 -- what the first run answered
 abbrev pub first_words : Contrast → List ℕ
-first_words (contrast.Written g r p first second) = write_words first
-first_words (contrast.Scheduled g r a k first second) = scheduling_words first
-first_words (contrast.Requested g r first second) = request_words first
-first_words (contrast.Starts g r first second) = []
-first_words (contrast.Read g r k n read) = []
-first_words (contrast.Earlier g r instance count) = []
-first_words (contrast.Before g count) = []
+first_words (contrast.Written p first second) = write_words first
+first_words (contrast.Scheduled a k first second) = scheduling_words first
+first_words (contrast.Requested first second) = request_words first
+first_words (contrast.Starts first second) = []
+first_words (contrast.Read k n read) = []
+first_words (contrast.Earlier instance count) = []
+first_words (contrast.Before count) = []
 
 -- what the second run answered
 abbrev pub second_words : Contrast → List ℕ
-second_words (contrast.Written g r p first second) = write_words second
-second_words (contrast.Scheduled g r a k first second) = scheduling_words second
-second_words (contrast.Requested g r first second) = request_words second
-second_words (contrast.Starts g r first second) = []
-second_words (contrast.Read g r k n read) = []
-second_words (contrast.Earlier g r instance count) = []
-second_words (contrast.Before g count) = []
+second_words (contrast.Written p first second) = write_words second
+second_words (contrast.Scheduled a k first second) = scheduling_words second
+second_words (contrast.Requested first second) = request_words second
+second_words (contrast.Starts first second) = []
+second_words (contrast.Read k n read) = []
+second_words (contrast.Earlier instance count) = []
+second_words (contrast.Before count) = []

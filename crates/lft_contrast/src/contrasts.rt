@@ -2,7 +2,6 @@
 
 use lft_flat::{Name, Value};
 use lft_steps::Step;
-use lft_tag::Tag;
 use std::marker::Model;
 
 /// A step of a run, and the place of its row.
@@ -27,14 +26,12 @@ pub struct Scheduling {
     pub value: Value,
 }
 
-/// A statement about a plan and two traces of it. Rows are named by their places, counted from 0; the
-/// row at place 0 stands in line 2 of its table.
+/// A statement about the runs of one reaction at one tag in two traces of a plan. Rows are named by
+/// their places, counted from 0; the row at place 0 stands in line 2 of its table.
 #[derive(Clone, Copy, Drop)]
 pub enum Contrast {
     /// What a run wrote last to a port: in the two traces it isn't the same value.
     Written {
-        tag: Tag,
-        reaction: u32,
         port: u32,
         first: Option<LastWrite>,
         second: Option<LastWrite>,
@@ -42,8 +39,6 @@ pub enum Contrast {
     /// What a run scheduled for an action, at this place among its schedulings: in the two traces it
     /// isn't the same.
     Scheduled {
-        tag: Tag,
-        reaction: u32,
         action: u32,
         place: usize,
         first: Option<Scheduling>,
@@ -51,36 +46,27 @@ pub enum Contrast {
     },
     /// Where a run requested a stop last: in one of the two traces it did not.
     Requested {
-        tag: Tag,
-        reaction: u32,
         first: Option<u32>,
         second: Option<u32>,
     },
     /// A run starts in these rows.
     Starts {
-        tag: Tag,
-        reaction: u32,
         first: u32,
         second: u32,
     },
     /// What a run read in both traces of the input at this place among its inputs.
     Read {
-        tag: Tag,
-        reaction: u32,
         place: usize,
         name: Name,
         read: Option<Value>,
     },
     /// A run has the same history in both traces: so many earlier runs of its instance.
     Earlier {
-        tag: Tag,
-        reaction: u32,
         instance: u32,
         count: u32,
     },
-    /// At the tags before this one both traces have the same runs, so many.
+    /// At the tags before the runs both traces have the same runs, so many.
     Before {
-        tag: Tag,
         count: u32,
     },
 }

@@ -11,7 +11,7 @@ use crate::answers::{Answered, last_request};
 use crate::contrasts::{Contrast, LastWrite, Placed, Scheduling};
 use lft_flat::{Name, Value};
 use lft_lists::item_at;
-use lft_tag::{NoMemory, Tag};
+use lft_tag::NoMemory;
 use std::alloc::Global;
 
 /// The value of the write, if there is one.
@@ -36,14 +36,8 @@ fn is_same_value(first: Option<LastWrite>, second: Option<LastWrite>) -> bool
 }
 
 /// What two runs wrote last to the port, where it isn't one value.
-fn written(
-    tag: Tag,
-    reaction: u32,
-    port: u32,
-    mine: &Answered,
-    theirs: &Answered,
-) -> Option<Contrast>
-    ensures { MatchOption result (the_value_of (the_last_write mine.now port) ≡ the_value_of (the_last_write theirs.now port)) (TellsOf tag reaction mine.now theirs.now (Port port)) }
+fn written(port: u32, mine: &Answered, theirs: &Answered) -> Option<Contrast>
+    ensures { MatchOption result (the_value_of (the_last_write mine.now port) ≡ the_value_of (the_last_write theirs.now port)) (TellsOf mine.now theirs.now (Port port)) }
 {
     let first = mine.last_write(port);
     let second = theirs.last_write(port);
@@ -51,8 +45,6 @@ fn written(
         return None;
     }
     Some(Contrast::Written {
-        tag,
-        reaction,
         port,
         first,
         second,
@@ -86,19 +78,11 @@ fn first_other(mine: &Answered, theirs: &Answered, action: u32) -> Option<usize>
 }
 
 /// The first scheduling of the action that isn't the same in two runs.
-fn scheduled(
-    tag: Tag,
-    reaction: u32,
-    action: u32,
-    mine: &Answered,
-    theirs: &Answered,
-) -> Option<Contrast>
-    ensures { MatchOption result (events (the_schedulings mine.now action) ≡ events (the_schedulings theirs.now action)) (TellsOf tag reaction mine.now theirs.now (Action action)) }
+fn scheduled(action: u32, mine: &Answered, theirs: &Answered) -> Option<Contrast>
+    ensures { MatchOption result (events (the_schedulings mine.now action) ≡ events (the_schedulings theirs.now action)) (TellsOf mine.now theirs.now (Action action)) }
 {
     let place = first_other(mine, theirs, action)?;
     Some(Contrast::Scheduled {
-        tag,
-        reaction,
         action,
         place,
         first: mine.scheduling(action, place),
@@ -107,38 +91,30 @@ fn scheduled(
 }
 
 /// What two runs answered for the effect, where it isn't the same.
-fn effect(
-    tag: Tag,
-    reaction: u32,
-    effect: Name,
-    mine: &Answered,
-    theirs: &Answered,
-) -> Option<Contrast>
-    ensures { MatchOption result (HaveSameOutcome mine.now theirs.now effect) (TellsOf tag reaction mine.now theirs.now effect) }
+fn effect(effect: Name, mine: &Answered, theirs: &Answered) -> Option<Contrast>
+    ensures { MatchOption result (HaveSameOutcome mine.now theirs.now effect) (TellsOf mine.now theirs.now effect) }
 {
     match effect {
-        Name::Port(port) => written(tag, reaction, port, mine, theirs),
-        Name::Action(action) => scheduled(tag, reaction, action, mine, theirs),
+        Name::Port(port) => written(port, mine, theirs),
+        Name::Action(action) => scheduled(action, mine, theirs),
     }
 }
 
 /// Of each effect for which two runs answered otherwise, what they answered, in order.
 pub(crate) fn effect_contrasts(
     alloc: Global,
-    tag: Tag,
-    reaction: u32,
     effects: &[Name],
     mine: &[Placed],
     theirs: &[Placed],
 ) -> Result<Vec<Contrast>, NoMemory>
-    ensures right { IfOk result (λ list. All (IsOfEffect tag reaction effects.now mine.now theirs.now) list.items) }
-    ensures all { IfOk result (λ list. (n : TheName) → Contains effects.now n → IsToldOf tag reaction mine.now theirs.now list.items n) }
+    ensures right { IfOk result (λ list. All (IsOfEffect effects.now mine.now theirs.now) list.items) }
+    ensures all { IfOk result (λ list. (n : TheName) → Contains effects.now n → IsToldOf mine.now theirs.now list.items n) }
 {
     let first = Answered::new(alloc, mine)?;
     let second = Answered::new(alloc, theirs)?;
     let mut told = Vec::new(alloc);
     for place in 0..effects.len() {
-        if let Some(contrast) = effect(tag, reaction, item_at(effects, place), &first, &second) {
+        if let Some(contrast) = effect(item_at(effects, place), &first, &second) {
             told.push(contrast)?;
         }
     }
@@ -146,23 +122,13 @@ pub(crate) fn effect_contrasts(
 }
 
 /// Where two runs requested a stop, if one of them did not.
-pub(crate) fn stop_contrast(
-    tag: Tag,
-    reaction: u32,
-    mine: &[Placed],
-    theirs: &[Placed],
-) -> Option<Contrast>
-    ensures { MatchOption result (is_some (the_last_request mine.now) ≡ is_some (the_last_request theirs.now)) (TellsStop tag reaction mine.now theirs.now) }
+pub(crate) fn stop_contrast(mine: &[Placed], theirs: &[Placed]) -> Option<Contrast>
+    ensures { MatchOption result (is_some (the_last_request mine.now) ≡ is_some (the_last_request theirs.now)) (TellsStop mine.now theirs.now) }
 {
     let first = last_request(mine);
     let second = last_request(theirs);
     if first.is_some() == second.is_some() {
         return None;
     }
-    Some(Contrast::Requested {
-        tag,
-        reaction,
-        first,
-        second,
-    })
+    Some(Contrast::Requested { first, second })
 }

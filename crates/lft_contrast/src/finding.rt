@@ -29,15 +29,15 @@ fn answers(
     requires fit { RowsFit plan.now.program rows.now }
     requires others_fit { RowsFit plan.now.program others.now }
     requires difference { IsDifference plan.now rows.now others.now tag reaction }
-    ensures holds { IfOk result (λ told. AreContrasts plan.now rows.now others.now told.items) }
+    ensures holds { IfOk result (λ told. AreContrasts plan.now rows.now others.now tag reaction told.items) }
     ensures all { IfOk result (λ told. TellsAnswers plan.now rows.now others.now tag reaction told.items) }
 {
     let mine = placed_steps(alloc, rows, tag, reaction)?;
     let theirs = placed_steps(alloc, others, tag, reaction)?;
     let (mine, theirs) = (mine.as_slice(), theirs.as_slice());
     let effects = plan.program().reaction(reaction).effects.as_slice();
-    let mut told = effect_contrasts(alloc, tag, reaction, effects, mine, theirs)?;
-    if let Some(stop) = stop_contrast(tag, reaction, mine, theirs) {
+    let mut told = effect_contrasts(alloc, effects, mine, theirs)?;
+    if let Some(stop) = stop_contrast(mine, theirs) {
         told.push(stop)?;
     }
     Ok(told)
@@ -58,27 +58,19 @@ fn add_reasons(
     requires others_fit { RowsFit plan.now.program others.now }
     requires legal { Legal plan.now rows.now }
     requires difference { IsDifference plan.now rows.now others.now tag reaction }
-    ensures holds { OnOk result (Adds plan.now rows.now others.now told.old.items told.new.items) }
-    ensures reads { OnOk result (TellsReads plan.now tag reaction told.new.items) }
+    ensures holds { OnOk result (Adds plan.now rows.now others.now tag reaction told.old.items told.new.items) }
+    ensures reads { OnOk result (TellsReads plan.now reaction told.new.items) }
 {
     let first = start_of(rows, tag, reaction);
     let second = start_of(others, tag, reaction);
-    told.push(Contrast::Starts {
-        tag,
-        reaction,
-        first,
-        second,
-    })?;
+    told.push(Contrast::Starts { first, second })?;
     add_reads(told, alloc, plan, rows, others, tag, reaction, first)?;
     let program = plan.program();
     told.push(Contrast::Earlier {
-        tag,
-        reaction,
         instance: instance_of(program, reaction),
         count: count_earlier(program, rows, tag, reaction),
     })?;
     told.push(Contrast::Before {
-        tag,
         count: count_before(rows, tag),
     })?;
     Ok(())
@@ -98,7 +90,7 @@ pub fn find(
     requires second_fits { RowsFit plan.now.program second.now }
     requires legal { Legal plan.now first.now }
     requires difference { IsDifference plan.now first.now second.now tag reaction }
-    ensures holds { IfOk result (AreContrasts plan.now first.now second.now) }
+    ensures holds { IfOk result (AreContrasts plan.now first.now second.now tag reaction) }
     ensures enough { IfOk result (λ contrasts. GiveOther contrasts tag reaction) }
     ensures all { IfOk result (TellsAll plan.now first.now second.now tag reaction) }
 {

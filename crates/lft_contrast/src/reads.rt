@@ -49,8 +49,8 @@ pub(crate) fn add_reads(
     requires kept { KeepsRows plan.now rows.now }
     requires starts { StartsAt rows.now tag reaction start }
     requires same { reads_at plan.now rows.now tag reaction ≡ reads_at plan.now others.now tag reaction }
-    ensures holds { OnOk result (Adds plan.now rows.now others.now told.old.items told.new.items) }
-    ensures all { OnOk result (TellsReads plan.now tag reaction told.new.items) }
+    ensures holds { OnOk result (Adds plan.now rows.now others.now tag reaction told.old.items told.new.items) }
+    ensures all { OnOk result (TellsReads plan.now reaction told.new.items) }
 {
     let reads = read_from(alloc, plan, rows, tag, reaction, start)?;
     let read = reads.as_slice();
@@ -58,8 +58,6 @@ pub(crate) fn add_reads(
     let names = inputs.as_slice();
     for place in 0..names.len() {
         told.push(Contrast::Read {
-            tag,
-            reaction,
             place,
             name: item_at(names, place),
             read: item_at(read, place),

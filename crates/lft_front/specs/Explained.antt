@@ -24,11 +24,11 @@ use Rattle.lft_front.specs.Refusals.{CheckRefusal, TextsRefusal}
 abbrev pub IsGuess : PlanParts → List Row → Breach → List ℕ → Type 0
 IsGuess plan rows b guess = (hint : Hint) × IsHint plan rows b hint × (guess ≡ hint_words hint)
 
--- such a line, or nothing
+-- such a line, or nothing where no hint holds of the breach
 abbrev pub MayGuess : PlanParts → List Row → Breach → List ℕ → Type 0
-MayGuess plan rows b guess = (guess ≡ []) ⊎ IsGuess plan rows b guess
+MayGuess plan rows b guess = ((guess ≡ []) × ((hint : Hint) → IsHint plan rows b hint → ⊥)) ⊎ IsGuess plan rows b guess
 
--- the text tells the facts behind the breach, and behind them a guess or none
+-- the text tells the facts behind the breach, and behind them a guess exactly where a hint holds
 pub record Tells (plan : PlanParts) (rows : List Row) (b : Breach) (text : List ℕ) : Type 0 where
   pub why : List ℕ
   pub guess : List ℕ

@@ -1,8 +1,8 @@
 //! Growths of lists of bodies that are refused: the body comes back, the lists have what they had, and
 //! with memory at hand the same call succeeds.
 
-use crate::hoard::Hoard;
-use crate::prepared::{PreparedBodies, PreparedBody, body, put};
+use crate::hoard::{Hoard, is_all_refused};
+use crate::prepared::{PreparedBodies, PreparedBody, body, code, put};
 use crate::texts::{EXTERNALS, PIPE, plan_of};
 use lft_pool::PutFault;
 use lft_tag::NoMemory;
@@ -69,6 +69,20 @@ fn put_within(
         assert!(rt; has(bodies, before));
     }
     panic!(rt; "body {before} is never taken");
+}
+
+#[test]
+fn a_body_is_made_without_memory(rt: HostRuntime) -> Result<(), Fail> {
+    let alloc = rt.alloc();
+    let code = code(alloc, &[])?;
+    let mut hoard = Hoard::new(alloc)?;
+    hoard.refuse(alloc, 0)?;
+    let is_refused = is_all_refused(alloc);
+    let body = PreparedBody::new(1, code);
+    let is_made = body.reaction() == 1;
+    hoard.relent();
+    assert!(rt; is_refused && is_made);
+    Ok(())
 }
 
 #[test]

@@ -3,7 +3,7 @@
 
 ghost use Rattle.std.specs.Prelude.{◌≡◌, IfOk, length};
 
-use crate::hoard::Hoard;
+use crate::hoard::{Hoard, is_all_refused};
 use crate::prepared::{Prepared, PreparedBodies, body, put};
 use crate::texts::plan_of;
 use lft_flat::{Name, Value};
@@ -157,6 +157,19 @@ fn is_commit_refused(
     let standing = if is_ended { ENDED } else { stopped(&BEGUN) };
     assert!(rt; stands(book, &standing));
     Ok(!is_ended)
+}
+
+#[test]
+fn a_book_closes_without_memory(rt: HostRuntime) -> Result<(), Fail> {
+    let alloc = rt.alloc();
+    let book = book_of(alloc)?;
+    let mut hoard = Hoard::new(alloc)?;
+    hoard.refuse(alloc, 0)?;
+    let is_refused = is_all_refused(alloc);
+    let is_closed = stands(book, &NEW);
+    hoard.relent();
+    assert!(rt; is_refused && is_closed);
+    Ok(())
 }
 
 #[test]

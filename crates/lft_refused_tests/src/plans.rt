@@ -1,11 +1,12 @@
 //! Calls that tell of plans and traces and take no memory, while all memory is refused.
 
-ghost use Rattle.std.specs.Prelude.{◌≡◌};
+ghost use Rattle.std.specs.Prelude.{◌≡◌, length};
 ghost use Rattle.lft_steps.specs.Fits.{RowsFit};
 
 use crate::hoard::{Hoard, is_all_refused};
 use crate::texts::{EXTERNALS, PIPE, TRACE, plan_of};
 use lft_flat::{Found, Name, Program};
+use lft_graph::Graph;
 use lft_model::laws::{law_agree, law_no_request, law_one_worker};
 use lft_model::{Plan, clash_slow, present_slow, triggered_slow};
 use lft_slices::{Cut, cut};
@@ -21,15 +22,28 @@ const FIRST: Tag = Tag { time: 0, micro: 0 };
 fn tells_program(program: &Program) -> bool {
     program.instances() == 3
         && program.ports() == 2
-        && program.actions() == 0
+        && program.actions() == 1
         && program.timers() == 1
         && program.reactions() == 2
         && program.port(1).origin == 0
         && program.timer(0).period == 10_000_000
+        && program.action(0).min_delay == 5_000_000
         && program.reaction(1).instance == 2
+        && program.name_of_instance(2) == "main.b"
         && program.name_of_port(1) == "main.b.x"
+        && program.name_of_action(0) == "main.a.n"
+        && program.name_of_timer(0) == "main.a.t"
         && program.name_of_reaction(1) == "main.b#1"
         && program.find("main.b.x") == Some(Found::Port(1))
+}
+
+/// Whether the graph has the two reactions of `PIPE`, the second behind the first.
+fn tells_graph(graph: &Graph) -> bool
+    requires { length graph.now.before ≡ 2 }
+{
+    graph.by_level() == [0, 1].as_slice()
+        && graph.level(1) == 1
+        && graph.before(1) == [0].as_slice()
 }
 
 /// Whether the plan, its copy and the rows are those of the texts.
@@ -44,7 +58,7 @@ fn tells_plan(plan: &Plan, copy: &Plan, rows: &Rows) -> bool
     tells_program(program)
         && program.ports() == 2
         && program.reactions() == 2
-        && plan.graph().by_level() == [0, 1].as_slice()
+        && tells_graph(plan.graph())
         && plan.externals().fits(program)
         && rows.fits(program)
         && plan.same(copy)

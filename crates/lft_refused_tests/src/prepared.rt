@@ -34,11 +34,16 @@ pub(crate) type PreparedBody = Body<AnyAnswer, Prepared>;
 /// Bodies of whose answers nothing is asked.
 pub(crate) type PreparedBodies = Bodies<AnyAnswer, Prepared>;
 
-/// A body of the reaction that makes these steps.
-pub(crate) fn body(alloc: Global, reaction: u32, steps: &[Step]) -> Result<PreparedBody, NoMemory> {
+/// Code that makes these steps.
+pub(crate) fn code(alloc: Global, steps: &[Step]) -> Result<Prepared, NoMemory> {
     let steps = Steps::from_vec(Vec::from_slice(alloc, steps)?);
     let done = Done { state: 0, steps };
-    Ok(Body::new(reaction, Prepared { done }))
+    Ok(Prepared { done })
+}
+
+/// A body of the reaction that makes these steps.
+pub(crate) fn body(alloc: Global, reaction: u32, steps: &[Step]) -> Result<PreparedBody, NoMemory> {
+    Ok(Body::new(reaction, code(alloc, steps)?))
 }
 
 /// Puts a body behind the others of its reaction.

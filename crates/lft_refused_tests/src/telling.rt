@@ -1,7 +1,8 @@
-//! Calls on tags, faults and queues that take no memory, while all memory is refused.
+//! Calls on tags, faults, queues and bundles that take no memory, while all memory is refused.
 
 use crate::hoard::{Hoard, is_all_refused};
 use lft_flat::{Name, Value};
+use lft_front::split_bundle;
 use lft_load::{Fault, finish};
 use lft_queue::Queue;
 use lft_tag::{Shift, Tag};
@@ -11,12 +12,14 @@ const FIRST: Tag = Tag { time: 0, micro: 0 };
 
 const LINE: &[u8] = b"fault memory 1 NoMemory\n";
 
-/// Whether a tag moves, and a fault's line is written.
+/// Whether a tag is made and moves, and a fault's line is written.
 fn tells_edges(out: &mut Vec<u8>) -> bool {
     let Some(shift) = Shift::none().then(5) else {
         return false;
     };
-    FIRST.plus(shift) == FIRST.after(2, 3)
+    Tag::new(0, 0) == Some(FIRST)
+        && Tag::new(u64::MAX, 0).is_none()
+        && FIRST.plus(shift) == FIRST.after(2, 3)
         && finish(Err(Fault::no_memory()), out) == 2
         && out.as_slice() == LINE
 }
@@ -40,6 +43,19 @@ fn empties(queue: &mut Queue) -> bool {
 
 const NAME: Name = Name::Action(0);
 
+const BUNDLE: &[u8] = b"--- program\na\n--- externals\nb\n--- trace\nc\n";
+
+/// Whether a bundle is split, and what is none isn't.
+fn splits() -> bool {
+    let Some(texts) = split_bundle(BUNDLE) else {
+        return false;
+    };
+    texts.program == b"a\n".as_slice()
+        && texts.externals == b"b\n".as_slice()
+        && texts.trace == b"c\n".as_slice()
+        && split_bundle(LINE).is_none()
+}
+
 #[test]
 fn writes_and_empties_without_memory(rt: HostRuntime) -> Result<(), Fail> {
     let alloc = rt.alloc();
@@ -53,7 +69,8 @@ fn writes_and_empties_without_memory(rt: HostRuntime) -> Result<(), Fail> {
     let is_refused = is_all_refused(alloc);
     let is_told = tells_edges(&mut out);
     let is_emptied = empties(&mut queue);
+    let is_split = splits();
     hoard.relent();
-    assert!(rt; is_refused && is_told && is_emptied);
+    assert!(rt; is_refused && is_told && is_emptied && is_split);
     Ok(())
 }

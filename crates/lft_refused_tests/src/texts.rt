@@ -6,7 +6,7 @@ use lft_tag::NoMemory;
 use std::alloc::Global;
 
 pub(crate) const PIPE: &[u8] = b"target C
-reactor A { output out: int  timer t(0, 10 ms)  reaction(t) -> out {= =} }
+reactor A { output out: int  logical action n(5 ms)  timer t(0, 10 ms)  reaction(t) -> out {= =} }
 reactor B { input x: int  reaction(x) {= =} }
 main reactor { a = new A()  b = new B()  a.out -> b.x }
 ";

@@ -20,7 +20,7 @@ returns-clause-holds c =
     let l3 = c.push-2.new.self.items in
     let l4 = c.push-3.new.self.items in
     let own = c.program-program.ensures.value in
-    let a1 = adds_one plan t s l0 l1 (contrast.Starts g r c.start_of-first.result c.start_of-second.result) c.in_ok-push.ensures.items (c.start_of-first.ensures, c.start_of-second.ensures) in
-    let a3 = adds_one plan t s l2 l3 (contrast.Earlier g r c.instance_of.result c.count_earlier.result) c.in_ok-push-2.ensures.items (record { same = d.same_history; is_instance = sym (c.instance_of.ensures ∙ ap (λ (p : Parts). instance_of p r) own); counted = subst (λ (p : Parts). Counts (StartsEarlier p g r) t c.count_earlier.result) own c.count_earlier.ensures }) in
-    let a4 = adds_one plan t s l3 l4 (contrast.Before g c.count_before.result) c.in_ok-push-3.ensures.items (record { same = λ h a b. d.same_before h a (inl b); counted = c.count_before.ensures }) in
-    adds_both plan t s l0 l1 l4 a1 (adds_both plan t s l1 l2 l4 c.in_ok-add_reads.ensures.holds (adds_both plan t s l2 l3 l4 a3 a4))
+    let a1 = adds_one plan t s g r l0 l1 (contrast.Starts c.start_of-first.result c.start_of-second.result) c.in_ok-push.ensures.items (c.start_of-first.ensures, c.start_of-second.ensures) in
+    let a3 = adds_one plan t s g r l2 l3 (contrast.Earlier c.instance_of.result c.count_earlier.result) c.in_ok-push-2.ensures.items (record { same = d.same_history; is_instance = sym (c.instance_of.ensures ∙ ap (λ (p : Parts). instance_of p r) own); counted = subst (λ (p : Parts). Counts (StartsEarlier p g r) t c.count_earlier.result) own c.count_earlier.ensures }) in
+    let a4 = adds_one plan t s g r l3 l4 (contrast.Before c.count_before.result) c.in_ok-push-3.ensures.items (record { same = λ h a b. d.same_before h a (inl b); counted = c.count_before.ensures }) in
+    adds_both plan t s g r l0 l1 l4 a1 (adds_both plan t s g r l1 l2 l4 c.in_ok-add_reads.ensures.holds (adds_both plan t s g r l2 l3 l4 a3 a4))
