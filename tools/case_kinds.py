@@ -10,6 +10,7 @@ error, and `status N`.
 - `pair`: of the rows of a second trace beside the given one, in the same way.
 - `explain`: of the rows of a trace, by one worker; what 3 say is told where it is something else.
 - `explain-pair`: of the rows of a second trace beside the given one.
+- `explain-program`: of the text of a program alone.
 - `bundle`, `explain-bundle`: of a text on standard input.
 - `refused`: why `explain` says that the text of a program is refused: its standard output alone. Status 2 and
   the line of a fault have to come too.
@@ -194,6 +195,7 @@ KINDS = {
     "pair-text": lambda runs, case: paired(runs, case, case.text),
     "explain": explained,
     "explain-pair": explained_pair,
+    "explain-program": lambda runs, case: whole(runs.ask("explain", [case.text])),
     "bundle": lambda runs, case: whole(runs.read(case.text)),
     "explain-bundle": lambda runs, case: whole(runs.read(case.text, "explain")),
     "refused": lambda runs, case: refused(runs.ask("explain", [case.text, b"", b""])),

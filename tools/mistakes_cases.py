@@ -62,6 +62,7 @@ CARDS = """kind,reaction,name,delay,value
 bodies,main#1,,,3
 bodies,main#2,,,3
 """
+NO_MAIN = "Program: no reactor is the main one.\n  Write `main reactor { .. }`, with instances of the others.\n"
 RECORDED = ROWS.replace(",1,", ",0,")
 WAITING = "lftrace: reading a bundle from standard input; `lftrace --help` tells more\n"
 USUAL = ("blink.lf", "externals.csv", "trace.csv")
@@ -140,6 +141,8 @@ def right_things():
     judged("sixty-four workers on a broken trace", prints("broken rule=9 too-early time=5000000 microstep=0 reaction=main#2\n", 1), trace=EARLY, more=["--workers", "64"])
     case("a program that is shown", ["show", "blink.lf"], prints(SHOWN))
     case("a program without a main reactor, shown", ["show", "blink.lf"], fault("program 1 NoMain"), files={"blink.lf": "reactor A { }\n"})
+    case("a program alone, explained", ["explain", "blink.lf"], prints(SHOWN))
+    case("a program alone without a main reactor, explained", ["explain", "blink.lf"], {"status": 2, "out": NO_MAIN, "err": "fault program 1 NoMain\n"}, files={"blink.lf": "reactor A { }\n"})
     case("a bundle", [], prints(ACCEPTED), stdin=bundle())
     case("the stored bundle", [], prints((CRATE / "stdout").read_text()), stdin=(CRATE / "stdin").read_bytes())
     case("a bundle with a broken trace", [], prints("broken rule=9 too-early time=5000000 microstep=0 reaction=main#2\n", 1), stdin=bundle(trace=EARLY))
@@ -336,6 +339,40 @@ def files():
     case("a broken trace to a full device", ["judge", *USUAL], {"status": 2, "err": "fault write 1 Failed\n"}, files={"trace.csv": EARLY}, where="full")
 
 
+def unread(words, path, cause, stdin=b""):
+    """A file that can't be read: what `explain` says of it, with its path in place of that of the trace."""
+    case(f"{words}, explained", ["explain", "blink.lf", "externals.csv", path], {"status": 2, "out": f"Path {path}: {cause}.\n", "err": f"fault read 1 Failed {path}\n"}, stdin=stdin)
+    case(f"{words}, at a terminal", ["judge", "blink.lf", "externals.csv", path], {"status": 2, "out": "", "err": f"fault read 1 Failed {path}\nlftrace: {cause}\n"}, where="seen")
+
+
+def causes():
+    unread("a trace that isn't there", "nowhere.csv", "there is no such file")
+    unread("a folder for the trace", "/", "that is a folder")
+    unread("a path under a file", "blink.lf/x", "a part of the path is a file, and no folder")
+    unread("a dash for standard input", "-", "standard input is /dev/stdin", stdin=ROWS)
+    case("a program that isn't there, explained alone", ["explain", "no.lf"], {"status": 2, "out": "Path no.lf: there is no such file.\n", "err": "fault read 1 Failed no.lf\n"})
+    case("a second that isn't there, explained", ["explain", *USUAL, "no.csv"], {"status": 2, "out": "Path no.csv: there is no such file.\n", "err": "fault read 1 Failed no.csv\n"})
+
+
+def seen():
+    same = "lftrace: `lftrace explain` with the same texts tells why\n"
+    alone = "lftrace: `lftrace explain PROGRAM` tells why\n"
+    early = "broken rule=9 too-early time=5000000 microstep=0 reaction=main#2\n"
+    bad = {"blink.lf": "reactor A { }\n", "cards.csv": CARDS}
+
+    def at_terminal(name, words, status, out, err, texts=()):
+        case(f"{name}, at a terminal", words, {"status": status, "out": out, "err": err}, files=texts, where="seen")
+
+    at_terminal("three texts that are right", ["judge", *USUAL], 0, ACCEPTED, "")
+    at_terminal("a broken trace", ["judge", *USUAL], 1, early, same, {"trace.csv": EARLY})
+    at_terminal("a program with a fault, judged", ["judge", *USUAL], 2, "", "fault program 1 NoMain\n" + same, bad)
+    at_terminal("a program that is shown", ["show", "blink.lf"], 0, SHOWN, "")
+    at_terminal("a program with a fault, shown", ["show", "blink.lf"], 2, "", "fault program 1 NoMain\n" + alone, bad)
+    at_terminal("a program with a fault, recorded", ["record", "blink.lf", "externals.csv", "cards.csv"], 2, "", "fault program 1 NoMain\n" + alone, bad)
+    at_terminal("a program with a fault, explained alone", ["explain", "blink.lf"], 2, NO_MAIN, "fault program 1 NoMain\n", bad)
+    at_terminal("cards with a fault", ["record", "blink.lf", "externals.csv", "cards.csv"], 2, "", "fault cards 1 BadHeader\n", {"cards.csv": STOP})
+
+
 def bundles():
     case("a bundle with lines that end with CR LF", [], fault("bundle 1 BadBundle"), stdin=bundle().replace("\n", "\r\n"))
     case("a trace alone as standard input", [], fault("bundle 1 BadBundle"), stdin=ROWS)
@@ -379,6 +416,6 @@ def program_texts():
 
 def cases():
     """All cases, in order."""
-    for group in (right_things, long_tables, headers, rows, words, pairs, recordings, help_and_version, files, bundles, program_texts):
+    for group in (right_things, long_tables, headers, rows, words, pairs, recordings, help_and_version, files, causes, seen, bundles, program_texts):
         group()
     return CASES

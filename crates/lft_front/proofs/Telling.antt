@@ -8,7 +8,7 @@ use Rattle.lft_graph.specs.Loops.{IsLoop}
 use Rattle.lft_graph.proofs.Cycles.{is_cycle}
 use Rattle.lft_load.specs.Meaning.{IsProgramOf, IsOnly}
 use Rattle.lft_load.proofs.Loading.{table_of, no_loop_of}
-use Rattle.lft_front.specs.Told.{HaveNoMeaning, HaveNoMeaningBoth, HaveNoPlan, IsNoTable, IsNoTrace}
+use Rattle.lft_front.specs.Told.{HasNoOrder, HaveNoMeaning, HaveNoMeaningBoth, HaveNoPlan, IsNoTable, IsNoTrace}
 
 -- what holds where something is told holds of what is told
 pub some_so : {X : Type 0} (o : Option X) (x : X) (P : Type 0) → o ≡ Some x → IfSome o (λ _. P) → P
@@ -17,6 +17,13 @@ some_so o x P e h = subst (λ z. IfSome z (λ _. P)) e h
 -- a loop of reactions is one that there must not be
 pub looped : (parts : Parts) (loop : List ℕ) → IsLoop parts loop → HasNoLoop parts → ⊥
 looped parts loop is none = let cycle = is_cycle parts loop is in none cycle.0 cycle.1
+
+-- the reactions of a text have no order where it has no program, and where its only program has a loop
+pub no_order_by_program : (program : List ℕ) → ((parts : Parts) → IsProgramOf program parts → ⊥) → HasNoOrder program
+no_order_by_program program h parts is none = h parts is
+
+pub no_order_by_loop : (program : List ℕ) (parts : Parts) → IsOnly (IsProgramOf program) parts → (HasNoLoop parts → ⊥) → HasNoOrder program
+no_order_by_loop program parts only h other is none = h (subst HasNoLoop (only.only other is) none)
 
 -- a text without a program has no plan, and where there is no plan, texts have no meaning
 pub none_by_program : (program externals : List ℕ) → ((parts : Parts) → IsProgramOf program parts → ⊥) → HaveNoPlan program externals

@@ -2,6 +2,7 @@
 use Rattle.std.specs.Prelude.{◌≡◌, ℕ, ◌⊎◌, List, ◌++◌, codes}
 use Rattle.lft_steps.specs.declared.row.Row.{Row}
 use Rattle.lft_flat.specs.Parts.{Parts}
+use Rattle.lft_graph.specs.Precedence.{HasNoLoop}
 use Rattle.lft_steps.specs.Inputs.{ExternalInputs}
 use Rattle.lft_trace.specs.ExternalTables.{ExternalTable}
 use Rattle.lft_trace.specs.Records.{records_of}
@@ -24,6 +25,10 @@ IsNoTable program text = (inputs : ExternalInputs) → ExternalTable program (re
 -- the text is no trace table of the program
 abbrev pub IsNoTrace : Parts → List ℕ → Type 0
 IsNoTrace program text = (rows : List Row) → Table program (records_of text) rows → ⊥
+
+-- no program of the text has an order of its reactions
+abbrev pub HasNoOrder : List ℕ → Type 0
+HasNoOrder program = (parts : Parts) → IsProgramOf program parts → HasNoLoop parts → ⊥
 
 -- a program's text and that of its external inputs have no plan
 abbrev pub HaveNoPlan : List ℕ → List ℕ → Type 0

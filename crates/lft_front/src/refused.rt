@@ -5,7 +5,7 @@ ghost use Rattle.lft_graph.specs.Precedence.{HasNoLoop};
 ghost use Rattle.lft_load.specs.Meaning.{IsOnly, IsProgramOf};
 ghost use Rattle.lft_load.specs.Refusals.{is_of_text};
 ghost use Rattle.lft_trace.specs.Faults.{is_told};
-ghost use Rattle.lft_front.specs.Told.{Gives, HaveNoMeaning, HaveNoMeaningBoth, IsBundleRefusal, IsNoTable, IsNoTrace, missing_words};
+ghost use Rattle.lft_front.specs.Told.{Gives, HasNoOrder, HaveNoMeaning, HaveNoMeaningBoth, IsBundleRefusal, IsNoTable, IsNoTrace, missing_words};
 
 use crate::bundle::{Marker, has_returned_marker, read_bundle};
 use lft_flat::Program;
@@ -110,6 +110,23 @@ fn of_graph(alloc: Global, program: &Program) -> Result<Option<String>, NoMemory
             Ok(Some(words))
         }
         Err(GraphFault::NoMemory) => Err(NoMemory),
+    }
+}
+
+/// Why a program's text is refused, or why its reactions have no order, in lines as those of
+/// `refusal_of_texts`. None where the program can be shown.
+pub fn refusal_of_program(alloc: Global, program: &[u8]) -> Result<Option<String>, NoMemory>
+    ensures { IfOk result (λ told. IfSome told (λ _. HasNoOrder program.now)) }
+{
+    match read_program(alloc, program) {
+        Ok(flat) => match of_graph(alloc, &flat)? {
+            Some(words) => Ok(Some(words)),
+            None => Ok(None),
+        },
+        Err(fault) => match of_program(alloc, program, &fault)? {
+            Some(words) => Ok(Some(words)),
+            None => Ok(None),
+        },
     }
 }
 

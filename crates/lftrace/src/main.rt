@@ -7,24 +7,65 @@ use crate::words::{Job, JudgeWords, PairWords, RecordWords, read_words};
 use lft_front::{
     Fault, Part, bundle_answer, explain_answer, explain_bundle_answer, explain_pair_answer, finish,
     judge_answer, pair_answer, read_input, refusal_of_bundle, refusal_of_pair_texts,
-    refusal_of_texts, show_answer,
+    refusal_of_program, refusal_of_texts, show_answer,
 };
 use lft_record::record_answer;
 use lft_tag::NoMemory;
 use std::alloc::Global;
 use std::fs::File;
-use std::io::{BufWriter, IsTerminal, Read, Write};
+use std::io::{BufWriter, ErrorKind, IsTerminal, Read, Write};
 use std::process::ExitCode;
 use std::rt::Files;
 use std::sync::Wait;
 use std::thread::Threads;
-use std::{env, io};
+use std::{env, fs, io};
+
+/// Why a command has no answer, and where a file can't be read, the cause in words, if it is known.
+#[derive(Drop)]
+struct Refusal {
+    fault: Fault,
+    cause: Option<&'static str>,
+}
+
+impl From<Fault> for Refusal {
+    fn from(fault: Fault) -> Refusal {
+        Refusal { fault, cause: None }
+    }
+}
+
+/// Why the file at a path can't be opened.
+fn cause_of(path: &str, kind: ErrorKind) -> Option<&'static str> {
+    match kind {
+        ErrorKind::NotFound if path == "-" => Some("standard input is /dev/stdin"),
+        ErrorKind::NotFound => Some("there is no such file"),
+        ErrorKind::NotADirectory => Some("a part of the path is a file, and no folder"),
+        ErrorKind::PermissionDenied => Some("there is no permission to read it"),
+        _ => None,
+    }
+}
+
+/// Whether a folder is at a path.
+fn is_folder<F: Files>(rt: &F, path: &str) -> bool {
+    match fs::metadata(rt, path) {
+        Ok(found) => found.is_dir(),
+        Err(_) => false,
+    }
+}
 
 /// The bytes of the file at a path.
-fn read_file<F: Files>(rt: &F, alloc: Global, path: &str) -> Result<Vec<u8>, Fault> {
+fn read_file<F: Files>(rt: &F, alloc: Global, path: &str) -> Result<Vec<u8>, Refusal> {
     match File::open(rt, path) {
-        Ok(mut file) => read_input(alloc, path, &mut file),
-        Err(_) => Err(Fault::of_path(alloc, Part::Read, 1, "Failed", path)),
+        Ok(mut file) => match read_input(alloc, path, &mut file) {
+            Ok(bytes) => Ok(bytes),
+            Err(fault) => Err(Refusal {
+                fault,
+                cause: is_folder(rt, path).then_some("that is a folder"),
+            }),
+        },
+        Err(error) => Err(Refusal {
+            fault: Fault::of_path(alloc, Part::Read, 1, "Failed", path),
+            cause: cause_of(path, error.kind()),
+        }),
     }
 }
 
@@ -42,11 +83,11 @@ fn judge_files<F: Files + Threads + Sync, W: Write>(
     alloc: Global,
     words: JudgeWords<'_>,
     out: &mut W,
-) -> Result<bool, Fault> {
+) -> Result<bool, Refusal> {
     let program = read_file(rt, alloc, words.program)?;
     let externals = read_file(rt, alloc, words.externals)?;
     let trace = read_file(rt, alloc, words.trace)?;
-    judge_answer(
+    let answer = judge_answer(
         rt,
         alloc,
         program.as_slice(),
@@ -54,7 +95,8 @@ fn judge_files<F: Files + Threads + Sync, W: Write>(
         trace.as_slice(),
         workers_for(words.workers, trace.len()),
         out,
-    )
+    )?;
+    Ok(answer)
 }
 
 /// Writes why a text is refused, where it can be told. This is help alone: where it can't be written, the
@@ -72,7 +114,7 @@ fn explain_files<F: Files + Threads + Sync, W: Write>(
     alloc: Global,
     words: JudgeWords<'_>,
     out: &mut W,
-) -> Result<bool, Fault> {
+) -> Result<bool, Refusal> {
     let program = read_file(rt, alloc, words.program)?;
     let externals = read_file(rt, alloc, words.externals)?;
     let trace = read_file(rt, alloc, words.trace)?;
@@ -92,7 +134,8 @@ fn explain_files<F: Files + Threads + Sync, W: Write>(
             out,
         );
     }
-    answer
+    let answer = answer?;
+    Ok(answer)
 }
 
 /// Compares the two traces of four files, all of which are read first.
@@ -101,12 +144,12 @@ fn pair_files<F: Files + Threads + Sync, W: Write>(
     alloc: Global,
     words: PairWords<'_>,
     out: &mut W,
-) -> Result<bool, Fault> {
+) -> Result<bool, Refusal> {
     let program = read_file(rt, alloc, words.program)?;
     let externals = read_file(rt, alloc, words.externals)?;
     let first = read_file(rt, alloc, words.first)?;
     let second = read_file(rt, alloc, words.second)?;
-    pair_answer(
+    let answer = pair_answer(
         rt,
         alloc,
         program.as_slice(),
@@ -115,7 +158,8 @@ fn pair_files<F: Files + Threads + Sync, W: Write>(
         second.as_slice(),
         workers_for(words.workers, first.len().max(second.len())),
         out,
-    )
+    )?;
+    Ok(answer)
 }
 
 /// Compares the two traces of four files, all of which are read first, and explains what they show, or
@@ -125,7 +169,7 @@ fn explain_pair_files<F: Files + Threads + Sync, W: Write>(
     alloc: Global,
     words: PairWords<'_>,
     out: &mut W,
-) -> Result<bool, Fault> {
+) -> Result<bool, Refusal> {
     let program = read_file(rt, alloc, words.program)?;
     let externals = read_file(rt, alloc, words.externals)?;
     let first = read_file(rt, alloc, words.first)?;
@@ -138,7 +182,8 @@ fn explain_pair_files<F: Files + Threads + Sync, W: Write>(
         let told = refusal_of_pair_texts(alloc, program, externals, first, second);
         write_told(told, out);
     }
-    answer
+    let answer = answer?;
+    Ok(answer)
 }
 
 /// Records the program of three files, all of which are read first.
@@ -147,11 +192,11 @@ fn record_files<R: Files + Threads + Wait + Sync, W: Write>(
     alloc: Global,
     words: RecordWords<'_>,
     out: &mut W,
-) -> Result<bool, Fault> {
+) -> Result<bool, Refusal> {
     let program = read_file(rt, alloc, words.program)?;
     let externals = read_file(rt, alloc, words.externals)?;
     let cards = read_file(rt, alloc, words.cards)?;
-    record_answer(
+    let answer = record_answer(
         rt,
         alloc,
         program.as_slice(),
@@ -160,7 +205,8 @@ fn record_files<R: Files + Threads + Wait + Sync, W: Write>(
         words.workers,
         words.max_runs,
         out,
-    )
+    )?;
+    Ok(answer)
 }
 
 /// Shows the program of a file.
@@ -169,9 +215,26 @@ fn show_file<F: Files, W: Write>(
     alloc: Global,
     path: &str,
     out: &mut W,
-) -> Result<bool, Fault> {
+) -> Result<bool, Refusal> {
     let program = read_file(rt, alloc, path)?;
-    show_answer(alloc, program.as_slice(), out)
+    let answer = show_answer(alloc, program.as_slice(), out)?;
+    Ok(answer)
+}
+
+/// Shows the program of a file, or explains why it is refused.
+fn explain_program<F: Files, W: Write>(
+    rt: &F,
+    alloc: Global,
+    path: &str,
+    out: &mut W,
+) -> Result<bool, Refusal> {
+    let program = read_file(rt, alloc, path)?;
+    let answer = show_answer(alloc, program.as_slice(), out);
+    if answer.is_err() {
+        write_told(refusal_of_program(alloc, program.as_slice()), out);
+    }
+    let answer = answer?;
+    Ok(answer)
 }
 
 /// Judges the bundle that a reader gives.
@@ -179,9 +242,10 @@ fn judge_bundle<R: Read, W: Write>(
     alloc: Global,
     reader: &mut R,
     out: &mut W,
-) -> Result<bool, Fault> {
+) -> Result<bool, Refusal> {
     let text = read_input(alloc, "-", reader)?;
-    bundle_answer(alloc, text.as_slice(), out)
+    let answer = bundle_answer(alloc, text.as_slice(), out)?;
+    Ok(answer)
 }
 
 /// Judges the bundle that a reader gives, and explains the verdict, or why a text is refused.
@@ -190,13 +254,14 @@ fn explain_bundle<T: Threads + Sync, R: Read, W: Write>(
     alloc: Global,
     reader: &mut R,
     out: &mut W,
-) -> Result<bool, Fault> {
+) -> Result<bool, Refusal> {
     let text = read_input(alloc, "-", reader)?;
     let answer = explain_bundle_answer(rt, alloc, text.as_slice(), out);
     if answer.is_err() {
         write_told(refusal_of_bundle(alloc, text.as_slice()), out);
     }
-    answer
+    let answer = answer?;
+    Ok(answer)
 }
 
 /// Says at a terminal that a bundle is awaited.
@@ -208,34 +273,81 @@ fn await_bundle(rt: &HostRuntime) {
     }
 }
 
+/// Whether a fault is of the program's text.
+fn is_of_program(fault: &Fault) -> bool {
+    matches!(
+        fault.part,
+        Part::Lex | Part::Syntax | Part::Program | Part::Graph
+    )
+}
+
 /// Whether `explain` tells more than the line of the answer: of a broken rule, a difference, or a text that
 /// is refused.
-fn has_more(answer: &Result<bool, Fault>) -> bool {
+fn has_more(answer: &Result<bool, Refusal>) -> bool {
     match answer {
         Ok(is_right) => !*is_right,
-        Err(fault) => matches!(
-            fault.part,
-            Part::Lex
-                | Part::Syntax
-                | Part::Program
-                | Part::Graph
-                | Part::Externals
-                | Part::Trace
-                | Part::Bundle
-        ),
+        Err(refusal) => {
+            is_of_program(&refusal.fault)
+                || matches!(
+                    refusal.fault.part,
+                    Part::Externals | Part::Trace | Part::Bundle
+                )
+        }
     }
 }
 
-/// Says at a terminal that `explain` tells why.
-fn point_to_explain(rt: &HostRuntime) {
-    if rt.stderr().is_terminal() {
-        let _ = eprintln!(rt; "lftrace: `lftrace explain` with the same texts tells why");
+/// Whether `explain` with the program alone tells more than the line of the answer.
+fn has_more_of_program(answer: &Result<bool, Refusal>) -> bool {
+    match answer {
+        Ok(_) => false,
+        Err(refusal) => is_of_program(&refusal.fault),
+    }
+}
+
+/// What is said at a terminal below the line of the answer: why a file can't be read, or that `explain`
+/// tells why. What `explain` tells stands on standard output.
+fn words_for(job: Job<'_>, answer: &Result<bool, Refusal>) -> Option<&'static str> {
+    if job.is_explained() {
+        return None;
+    }
+    if let Err(refusal) = answer
+        && refusal.cause.is_some()
+    {
+        return refusal.cause;
+    }
+    match job {
+        Job::Bundle | Job::Judge(_) | Job::Pair(_) if has_more(answer) => {
+            Some("`lftrace explain` with the same texts tells why")
+        }
+        Job::Record(_) | Job::Show(_) if has_more_of_program(answer) => {
+            Some("`lftrace explain PROGRAM` tells why")
+        }
+        _ => None,
+    }
+}
+
+/// Says something at a terminal.
+fn say(rt: &HostRuntime, words: Option<&'static str>) {
+    if let Some(words) = words
+        && rt.stderr().is_terminal()
+    {
+        let _ = eprintln!(rt; "lftrace: {words}");
+    }
+}
+
+/// Writes why a file can't be read, where that is known. This is help alone, as what is told of a text.
+fn write_cause<W: Write>(answer: &Result<bool, Refusal>, out: &mut W) {
+    if let Err(refusal) = answer
+        && let Some(cause) = refusal.cause
+    {
+        let _ = writeln!(out, "Path{}: {cause}.", refusal.fault.detail);
     }
 }
 
 /// The status of the answer. The line of a fault goes out in one write, where there is memory to put
 /// it together: other processes may write to the same standard error.
-fn end(rt: &HostRuntime, alloc: Global, answer: Result<bool, Fault>) -> u8 {
+fn end(rt: &HostRuntime, alloc: Global, answer: Result<bool, Refusal>) -> u8 {
+    let answer = answer.map_err(|refusal| refusal.fault);
     match BufWriter::new(alloc, rt.stderr()) {
         Ok(mut errors) => {
             let status = finish(answer, &mut errors);
@@ -282,15 +394,16 @@ fn main(rt: HostRuntime) -> ExitCode {
             explain_bundle(&rt, alloc, &mut rt.stdin(), &mut out)
         }
         Job::ExplainPair(words) => explain_pair_files(&rt, alloc, words, &mut out),
+        Job::ExplainProgram(path) => explain_program(&rt, alloc, path, &mut out),
         Job::Pair(words) => pair_files(&rt, alloc, words, &mut out),
         Job::Record(words) => record_files(&rt, alloc, words, &mut out),
         Job::Show(path) => show_file(&rt, alloc, path, &mut out),
     };
-    let is_judged = matches!(job, Job::Bundle | Job::Judge(_) | Job::Pair(_));
-    let is_pointed = is_judged && has_more(&answer);
-    let status = end(&rt, alloc, answer);
-    if is_pointed {
-        point_to_explain(&rt);
+    if job.is_explained() {
+        write_cause(&answer, &mut out);
     }
+    let words = words_for(job, &answer);
+    let status = end(&rt, alloc, answer);
+    say(&rt, words);
     ExitCode::from(status)
 }

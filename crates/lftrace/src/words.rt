@@ -19,7 +19,8 @@ const EXPLAIN_HELP: &str = "\
 EXTERNALS has the header  kind,time,microstep,name,value
 TRACE has the header      event,worker,time,microstep,reaction,name,value,delay
 Times are in nanoseconds. Words are paths of files; /dev/stdin is standard input.
-Without words it explains a bundle from standard input.
+Without words it explains a bundle from standard input. With PROGRAM alone it tells
+why that is refused (status 2), or else prints what show prints.
 Printed: the line of judge, with its status; behind broken rule=N .. an empty line
 and the facts that show it. With two traces the line of pair, with its status;
 behind differ .. an empty line and both answers.";
@@ -84,12 +85,24 @@ pub enum Job<'a> {
     Explain(JudgeWords<'a>),
     /// The same of a bundle from standard input.
     ExplainBundle,
+    /// To show the program at a path, or to tell why it is refused.
+    ExplainProgram(&'a str),
     /// To compare two traces, and to tell where they differ or why one of them breaks a rule.
     ExplainPair(PairWords<'a>),
     Pair(PairWords<'a>),
     Record(RecordWords<'a>),
     /// To show the ports and the precedence of the program at a path.
     Show(&'a str),
+}
+
+impl Job<'_> {
+    /// Whether it tells people why on standard output.
+    pub(crate) fn is_explained(self) -> bool {
+        matches!(
+            self,
+            Job::Explain(_) | Job::ExplainBundle | Job::ExplainPair(_) | Job::ExplainProgram(_)
+        )
+    }
 }
 
 fn path<'a>(alloc: Global, id: &'a str, help: &'a str) -> Arg<'a> {
@@ -123,16 +136,15 @@ fn judge_command<'a>(alloc: Global) -> Result<Command<'a>, Error> {
 }
 
 fn explain_command<'a>(alloc: Global) -> Result<Command<'a>, Error> {
-    let program = path(alloc, "PROGRAM", "the program's text")
+    let externals = path(alloc, "EXTERNALS", "the table of external inputs")
         .required(false)
-        .requires_arg("EXTERNALS")?
         .requires_arg("TRACE")?;
     let command = Command::new(alloc, "explain")
         .about(
-            "Judges a recorded trace, and tells the facts behind the first rule that it breaks; compares two, and tells where they differ",
+            "Judges a recorded trace, and tells the facts behind the first rule that it breaks; compares two, and tells where they differ; tells why a program is refused",
         )
-        .arg(program)?
-        .arg(path(alloc, "EXTERNALS", "the table of external inputs").required(false))?
+        .arg(path(alloc, "PROGRAM", "the program's text").required(false))?
+        .arg(externals)?
         .arg(path(alloc, "TRACE", "the trace table").required(false))?
         .arg(path(alloc, "SECOND", "another trace table").required(false))?
         .arg(workers(alloc, JUDGES))?
@@ -235,8 +247,10 @@ pub(crate) fn read_words<'a>(alloc: Global, words: &'a [String]) -> Result<Job<'
         Some(("explain", explain)) => {
             if explain.contains_id("SECOND") {
                 Ok(Job::ExplainPair(pair_words(explain, "TRACE")))
-            } else if explain.contains_id("PROGRAM") {
+            } else if explain.contains_id("TRACE") {
                 Ok(Job::Explain(judge_words(explain)))
+            } else if explain.contains_id("PROGRAM") {
+                Ok(Job::ExplainProgram(text(explain, "PROGRAM")))
             } else {
                 Ok(Job::ExplainBundle)
             }
