@@ -6,6 +6,8 @@ use std::alloc::Global;
 
 pub(crate) const A_NAME: &str = "a name";
 
+pub(crate) const A_NUMBER: &str = "a number";
+
 pub(crate) const A_UNIT: &str = "a unit of time (ns us ms s min h d week)";
 
 pub(crate) const THE_TYPE_TIME: &str = "the type `time`";
@@ -15,7 +17,9 @@ pub(crate) const A_COLON: &str = "`:`";
 pub(crate) const CODE: &str = "code, {= .. =}";
 
 /// The word that begins a member of a reactor, for any that does.
-const A_MEMBER: &str = "timer";
+pub(crate) const A_MEMBER: &str = "timer";
+
+pub(crate) const SOME_CODE: &str = "{= =}";
 
 /// The text before a token, and what was found that could stand behind it.
 #[derive(Drop)]
@@ -27,7 +31,12 @@ pub(crate) struct Candidates<'a> {
 }
 
 /// Whether the text with the spelling behind it isn't refused at the token with that number.
-fn fits(alloc: Global, before: &[u8], number: usize, spelling: &str) -> Result<bool, NoMemory> {
+pub(crate) fn fits(
+    alloc: Global,
+    before: &[u8],
+    number: usize,
+    spelling: &str,
+) -> Result<bool, NoMemory> {
     let mut text = Vec::from_slice(alloc, before)?;
     text.extend_from_slice(b" ")?;
     text.extend_from_slice(spelling.as_bytes())?;
@@ -41,11 +50,6 @@ fn fits(alloc: Global, before: &[u8], number: usize, spelling: &str) -> Result<b
         Err(SyntaxFault::Unexpected(at)) => Ok(at > number),
         Err(SyntaxFault::NoMemory) => Err(NoMemory),
     }
-}
-
-/// Whether a member of a reactor could begin behind the text, in place of the token with that number.
-pub(crate) fn begins_member(alloc: Global, before: &[u8], number: usize) -> Result<bool, NoMemory> {
-    fits(alloc, before, number, A_MEMBER)
 }
 
 impl<'a> Candidates<'a> {
@@ -91,8 +95,8 @@ impl<'a> Candidates<'a> {
     }
 
     fn try_signs(&mut self) -> Result<(), NoMemory> {
-        self.ask("1", "a number")?;
-        self.ask("{= =}", CODE)?;
+        self.ask("1", A_NUMBER)?;
+        self.ask(SOME_CODE, CODE)?;
         self.ask("(", "`(`")?;
         self.ask(")", "`)`")?;
         self.ask("{", "`{`")?;

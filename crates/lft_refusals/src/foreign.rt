@@ -1,4 +1,12 @@
-//! What a text is that isn't the table that is wanted, by its first bytes alone.
+//! What a text is that isn't the table or the program that is wanted, by its first bytes alone.
+
+/// What helps where a program's text begins with the header of a table.
+pub(crate) fn of_program(text: &[u8]) -> Option<&'static str> {
+    let is_table = text.starts_with(TRACE.as_bytes())
+        || text.starts_with(EXTERNALS.as_bytes())
+        || text.starts_with(CARDS.as_bytes());
+    is_table.then_some("That is the header of a table: are two files exchanged?")
+}
 
 /// What helps where a table begins with another record than its header.
 pub(crate) fn of_text(text: &[u8], first: &str) -> Option<&'static str> {

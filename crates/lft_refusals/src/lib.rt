@@ -2,6 +2,7 @@
 //! Why a text is refused, for people: where in it, the line or the record with a mark, what is wanted
 //! there, and what to write in place of what the language has and `lftrace` leaves out.
 
+mod before;
 mod candidates;
 mod fields;
 mod foreign;

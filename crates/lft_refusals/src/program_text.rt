@@ -4,7 +4,9 @@ ghost use Rattle.std.specs.Prelude.{◌≤◌, ◌⊎◌, length, IfOk, IfSome, 
 ghost use Rattle.lft_refusals.specs.declared.refusal.Refusal.{Refusal as TheRefusal};
 ghost use Rattle.lft_refusals.specs.Refusals.{IsLong, HasTree, IsRefusal};
 
-use crate::candidates::{Candidates, begins_member};
+use crate::before::Before;
+use crate::candidates::Candidates;
+use crate::foreign;
 use crate::place::place_of;
 use crate::quoting::{push_line, push_place};
 use crate::refusal::{Refusal, Why, refusal_of};
@@ -94,30 +96,6 @@ fn push_candidates(out: &mut String, found: &[&'static str]) -> Result<(), NoMem
     Ok(())
 }
 
-/// What to write in place of the last token of the text, where that begins a member of a reactor. So do
-/// many that are left out, as `mode A {`, and they are read as names of instances.
-fn of_last_token(alloc: Global, text: &[u8]) -> Result<Option<&'static str>, NoMemory> {
-    let tokens = match lex(alloc, text) {
-        Ok(tokens) => tokens,
-        Err(LexFault::NoMemory) => return Err(NoMemory),
-        Err(_) => return Ok(None),
-    };
-    let number = tokens.as_slice().len();
-    let Some(last) = tokens.as_slice().last() else {
-        return Ok(None);
-    };
-    let (Some(before), Some(spelling)) = (text.get(..last.start), text.get(last.start..last.end))
-    else {
-        return Ok(None);
-    };
-    let way = of_token(last.kind, spelling);
-    if way.is_some() && begins_member(alloc, before, number)? {
-        Ok(way)
-    } else {
-        Ok(None)
-    }
-}
-
 /// Puts what to write in place of the token behind the text, or else what could stand there.
 fn push_help_at_token(
     alloc: Global,
@@ -127,22 +105,33 @@ fn push_help_at_token(
     kind: TokenKind,
     spelling: &[u8],
 ) -> Result<(), NoMemory> {
+    let Some(tokens) = Before::of(alloc, before)? else {
+        return Ok(());
+    };
     let way = match of_token(kind, spelling) {
         Some(way) => Some(way),
-        None => of_last_token(alloc, before)?,
+        None => tokens.way_of_last()?,
     };
+    let better = tokens.way(kind, spelling)?;
     if way.is_some() {
-        return push_way(out, way);
+        return push_way(out, better.or(way));
     }
     let candidates = Candidates::of(alloc, before, number)?;
     push_candidates(out, candidates.found())?;
-    push_way(out, of_candidates(kind, candidates.found()))
+    push_way(
+        out,
+        better.or(of_candidates(kind, &tokens, candidates.found())),
+    )
 }
 
 /// Puts what to write at the place behind the text.
 fn push_help(alloc: Global, out: &mut String, text: &[u8], refusal: Refusal) -> Result<(), NoMemory>
     requires { (refusal.start ≤ refusal.end) × (refusal.end ≤ length text.now) }
 {
+    let way = foreign::of_program(text);
+    if way.is_some() {
+        return push_way(out, way);
+    }
     let before = &text[..refusal.start];
     match refusal.why {
         Why::Lex(fault) => push_way(out, of_fault(fault, &text[refusal.start..])),

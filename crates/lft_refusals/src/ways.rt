@@ -1,14 +1,30 @@
 //! What to write in place of what the language has and `lftrace` leaves out.
 
-use crate::candidates::{A_COLON, A_NAME, A_UNIT, CODE, THE_TYPE_TIME};
+use crate::before::Before;
+use crate::candidates::{A_COLON, A_NAME, A_NUMBER, A_UNIT, CODE, THE_TYPE_TIME};
 use lft_syntax::{LexFault, TokenKind};
 
+pub(crate) const BROADCAST: &str = "Broadcasts are left out: write each connection by itself.";
+
+pub(crate) const FEDERATION: &str = "Federation is left out. A main reactor is judged.";
+
+pub(crate) const GENERICS: &str = "Generics are left out: write a reactor for each type.";
+
+const PARAMETERS: &str =
+    "Parameters of other types are left out: write neither them nor their values.";
+
+pub(crate) const SPACING: &str = "Minimum spacing is left out: write the least delay alone.";
+
+pub(crate) const TYPE: &str = "Write the type as code, between {= and =}.";
+
+pub(crate) const VALUE: &str = "Write the value as code, between {= and =}.";
+
 /// What to write in place of a word that is left out.
-fn of_word(word: &[u8]) -> Option<&'static str> {
+pub(crate) fn of_word(word: &[u8]) -> Option<&'static str> {
     match word {
         b"import" => Some("`lftrace` reads one text: write the imported reactors into it."),
         b"extends" => Some("Inheritance is left out: write the members once more."),
-        b"federated" => Some("Federation is left out. A main reactor is judged."),
+        b"federated" => Some(FEDERATION),
         b"mode" | b"modal" | b"reset" => Some("Modes are left out, and nothing stands for them."),
         b"deadline" => Some("Deadlines are left out: write nothing in their place."),
         b"STP" | b"STAA" | b"tardy" => Some(
@@ -35,7 +51,7 @@ fn of_sign(sign: u8) -> Option<&'static str> {
         b'<' => Some("Type arguments are left out: write the type as code, {= list<int> =}."),
         b'@' => Some("Attributes are left out: write nothing in their place."),
         b'~' => Some("Physical connections are left out: write a physical action of the receiver."),
-        b'+' => Some("Broadcasts are left out: write each connection by itself."),
+        b'+' => Some(BROADCAST),
         b'\'' => Some("Remarks begin with `//` or `#`, or stand between `/*` and `*/`."),
         _ => None,
     }
@@ -60,21 +76,57 @@ fn is_among(found: &[&'static str], words: &str) -> bool {
     false
 }
 
-/// What helps where these could stand in place of a token of this kind.
-pub(crate) fn of_candidates(kind: TokenKind, found: &[&'static str]) -> Option<&'static str> {
+/// What helps where code could stand behind the tokens.
+fn of_code(before: &Before<'_>) -> &'static str {
+    if before.is(1, ":") {
+        TYPE
+    } else if before.is(1, "=") {
+        VALUE
+    } else if before.is(1, "preamble") {
+        "Code stands between {= and =}."
+    } else {
+        "A reaction without code is left out: write {= =} behind it."
+    }
+}
+
+/// What helps where a time could stand behind the tokens, as a number or a name, and none does.
+fn of_time(kind: TokenKind, before: &Before<'_>) -> Option<&'static str> {
+    if !matches!(kind, TokenKind::Code | TokenKind::Text) {
+        return None;
+    }
+    if before.is(1, "=") && !before.is(2, "time") {
+        return Some(PARAMETERS);
+    }
+    Some("A time is a number with a unit, or a parameter.")
+}
+
+/// What helps where these could stand behind the tokens, in place of a token of this kind.
+pub(crate) fn of_candidates(
+    kind: TokenKind,
+    before: &Before<'_>,
+    found: &[&'static str],
+) -> Option<&'static str> {
     if is_among(found, THE_TYPE_TIME) {
-        return Some("Parameters of other types are left out: write neither them nor their values.");
+        return Some(PARAMETERS);
     }
     if found.len() == 1 && is_among(found, A_COLON) {
         return Some(
             "A parameter is a name and its type, as period: time = 5 ms. Those of other types are left out.",
         );
     }
+    if is_among(found, A_UNIT) && before.is(2, "=") && !before.is(3, "time") {
+        return Some(
+            "A time is a whole number with a unit. If it is no time, leave out the parameter and its value.",
+        );
+    }
     if is_among(found, A_UNIT) {
         return Some("A time is a whole number with a unit. Only 0 has none.");
     }
     if is_among(found, CODE) {
-        return Some("A reaction without code is left out: write {= =} behind it.");
+        return Some(of_code(before));
+    }
+    if is_among(found, A_NAME) && is_among(found, A_NUMBER) {
+        return of_time(kind, before);
     }
     if is_among(found, A_NAME) && kind == TokenKind::Name {
         return Some("That is a word of the language, and no name.");
