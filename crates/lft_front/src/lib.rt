@@ -27,7 +27,5 @@ pub use judge::judge_texts;
 pub use lft_load::{Fault, Part, finish, load, read_input};
 pub use pair::pair_texts;
 pub use paired::Paired;
-pub use refused::{
-    refusal_of_bundle, refusal_of_pair_texts, refusal_of_program, refusal_of_texts,
-};
+pub use refused::{refusal_of_bundle, refusal_of_pair_texts, refusal_of_program, refusal_of_texts};
 pub use show::show_text;
