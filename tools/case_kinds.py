@@ -17,7 +17,7 @@ error, and `status N`.
 - `refused-externals`, `refused-trace`: the same of a whole table of what is given. `refused-bundle`: of a bundle.
 - `record WORKERS MAX_RUNS`: of the rows of a table of cards. Behind the status of a recording that came to its
   stop stands what `judge` says of it.
-- `recordings TIMES WORKERS`: how many of so many recordings by so many workers are accepted.
+- `recordings TIMES WORKERS`: what `judge` says of so many recordings by so many workers, and of how many it says so.
 - `fronts PLACE`: what is told of each front of a text, from none of its bytes to all. It stands in the place of
   the given `program`, `externals` or `trace`, which are judged by one worker and by three, or it is the table of
   `cards` by which the given program is recorded, at most ten runs. Where something else is told from a length
@@ -25,6 +25,7 @@ error, and `status N`.
 
 `judge-text`, `pair-text` and `record-text` have a whole table, header and all.
 """
+import collections
 import concurrent.futures
 import os
 import pathlib
@@ -157,15 +158,16 @@ def each(runs, ask, values):
 
 
 def recordings(runs, case):
-    """How many recordings are accepted."""
+    """What is told of many recordings by cards, each line with how often it is told."""
     times, workers = case.words.split()
     texts = texts_of(case)
 
-    def is_accepted(own, _):
-        table, _, status = own.ask("record", [*texts, HEADERS["cards"] + case.text], "--workers", workers)
-        return status == 0 and own.ask("judge", [*texts, table])[2] == 0
+    def judged_once(own, _):
+        table, err, status = own.ask("record", [*texts, HEADERS["cards"] + case.text], "--workers", workers)
+        return whole((b"", err, status)) if status else b"".join(own.ask("judge", [*texts, table])[:2])
 
-    return b"accepted %d\n" % sum(each(runs, is_accepted, range(int(times))))
+    told = collections.Counter(each(runs, judged_once, range(int(times))))
+    return b"".join(b"%d times %s" % (count, line) for line, count in told.items())
 
 
 def fronts(runs, case):
