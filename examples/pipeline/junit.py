@@ -13,6 +13,8 @@ import sys
 import time
 from xml.sax.saxutils import escape, quoteattr
 
+# What an answer with this status begins with.
+FIRST_WORDS = {0: "accepted ", 1: "broken "}
 NOT_XML = re.compile("[^\t\n\r -\ud7ff\ue000-\ufffd\U00010000-\U0010ffff]")
 
 
@@ -31,7 +33,8 @@ def judge(program, externals, trace):
         status, said = done.returncode, text(done.stderr + done.stdout).strip()
     except OSError as fault:
         status, said = 2, str(fault)
-    if status not in (0, 1, 2):
+    # Otherwise it isn't lftrace that answers: a signal ended it, or it is another program.
+    if status != 2 and not (status in FIRST_WORDS and said.startswith(FIRST_WORDS[status])):
         status, said = 2, f"fault: status {status} {said}".strip()
     line, _, facts = said.partition("\n")
     return status, line, facts.strip("\n"), time.monotonic() - begun
