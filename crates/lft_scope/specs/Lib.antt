@@ -1,5 +1,6 @@
 pub mod Causes
 pub mod Directories
+pub mod Hashing
 pub mod Instances
 pub mod Kinds
 pub mod Lacking

@@ -1,42 +1,49 @@
 //! How names hash that are looked up.
 
-use lft_tree::Reference;
-use std::hash::{BuildHasher, DefaultHasher, FoldHasher, Hasher};
+ghost use Rattle.std.specs.Prelude.{◌≡◌};
+ghost use Rattle.lft_scope.specs.Hashing.{for_references, for_texts, seeded_by};
+ghost use Rattle.lft_scope.specs.References.{ref_trees};
+ghost use Rattle.lft_scope.specs.Tests.{texts};
 
-/// Makes the hashers of some names, all in one state. No answer hangs on it.
+use lft_tree::Reference;
+use std::hash::{BuildHasher, DefaultHasher, FoldHasher, Hash, Hasher};
+
+/// Makes the hashers of some names, all in one state. What a map answers doesn't hang on it.
 #[derive(Clone, Copy)]
 pub struct NameHash {
     first: FoldHasher,
 }
 
 impl NameHash {
-    /// The state that a seed decides.
-    fn new(seed: u64) -> NameHash {
+    /// The state that what was written to `names` decides.
+    fn after(names: &DefaultHasher) -> NameHash
+        ensures { result.first ≡ seeded_by names.now }
+    {
         let mut first = FoldHasher::default();
-        first.write_u64(seed);
+        first.write_u64(names.finish());
         NameHash { first }
     }
 
     /// One that depends on all the names: whoever looks for names whose hashes collide under it
     /// changes it with each try.
-    pub fn of(names: &[&str]) -> NameHash {
+    pub fn of(names: &[&str]) -> NameHash
+        ensures { result.first ≡ for_texts (texts names.now) }
+    {
         let mut hasher = DefaultHasher::new();
-        for name in names {
-            hasher.write(name.as_bytes());
-        }
-        NameHash::new(hasher.finish())
+        names.hash(&mut hasher);
+        NameHash::after(&hasher)
     }
 
     /// The same, of names of ports, timers and actions.
-    pub fn of_references(names: &[&Reference]) -> NameHash {
+    pub fn of_references(names: &[&Reference]) -> NameHash
+        ensures { result.first ≡ for_references (ref_trees names.now) }
+    {
         let mut hasher = DefaultHasher::new();
         for name in names {
-            hasher.write(name.head.as_bytes());
-            if let Some(port) = &name.port {
-                hasher.write(port.as_bytes());
-            }
+            name.head.hash(&mut hasher);
+            name.port.hash(&mut hasher);
         }
-        NameHash::new(hasher.finish())
+        NameHash::after(&hasher)
     }
 }
 
