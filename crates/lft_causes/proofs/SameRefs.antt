@@ -1,12 +1,9 @@
 -- The test of two names being the same.
 use Rattle.std.proofs.Common.{◌≡◌, ◌&&◌, ℕ, Bool, true, false, List, Option, Some, None, refl, ap, subst, bytes_eq, Decides}
+use Rattle.std.proofs.lemmas.Bool.{and_parts}
 use Rattle.std.proofs.lemmas.Slice.Eq.{bytes_eq-Decides}
 use Rattle.lft_tree.specs.Tree.{RefTree}
 use Rattle.lft_causes.specs.Seen.{same_ref, same_inside}
-
-both : (a b : Bool) → (a && b) ≡ true → (a ≡ true) × (b ≡ true)
-both true b e = (refl, e)
-both false b e = absurd (cc)
 
 made : (h h' : List ℕ) (p p' : Option (List ℕ)) → h ≡ h' → p ≡ p' → Path RefTree (record { head = h; port = p }) (record { head = h'; port = p' })
 made h h' p p' a b = cc
@@ -15,7 +12,7 @@ same_parts : (h : List ℕ) (p : Option (List ℕ)) (h' : List ℕ) (p' : Option
 same_parts h None h' None e = ((bytes_eq-Decides h h').0 e, refl)
 same_parts h None h' (Some q) e = absurd (cc)
 same_parts h (Some p) h' None e = absurd (cc)
-same_parts h (Some p) h' (Some q) e = let b = both (bytes_eq h h') (bytes_eq p q) e in ((bytes_eq-Decides h h').0 b.0, ap Some ((bytes_eq-Decides p q).0 b.1))
+same_parts h (Some p) h' (Some q) e = let b = and_parts (bytes_eq h h') (bytes_eq p q) e in ((bytes_eq-Decides h h').0 b.0, ap Some ((bytes_eq-Decides p q).0 b.1))
 
 same_self : (h : List ℕ) (p : Option (List ℕ)) → same_inside h p h p ≡ true
 same_self h None = (bytes_eq-Decides h h).1 refl

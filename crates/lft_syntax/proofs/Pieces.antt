@@ -2,7 +2,7 @@
 use Rattle.std.proofs.Common.{◌≡◌, ℕ, ◌+◌, ◌<◌, ◌≤◌, Bool, true, false, List, length, Option, Some, None, if◌then◌else◌, refl, sym, ap, ◌∙◌, arith, inl, inr}
 use Rattle.std.specs.Prelude.{slice_get, slice_index, nat_eq, ◌&&◌, ◌||◌}
 use Rattle.std.proofs.lemmas.Option.{slice_get_within, slice_get-get_or}
-use Rattle.std.proofs.lemmas.Bool.{eqb-true}
+use Rattle.std.proofs.lemmas.Bool.{and_parts, eqb-true}
 use Rattle.lft_syntax.specs.declared.token.TokenKind.{TokenKind}
 use Rattle.lft_syntax.specs.declared.form.Form.{Form}
 use Rattle.lft_syntax.specs.declared.form.Form.TheVariants.{Space, LineComment, StarComment, Code, Text, Name, Digits, Arrow, Symbol, Unknown}
@@ -22,17 +22,13 @@ either : (P : Form → Type 0) (c : Bool) (x y : Form) → (c ≡ true → P x) 
 either P true x y here there = here refl
 either P false x y here there = there
 
-first : (x y : Bool) → (x && y) ≡ true → x ≡ true
-first true y e = refl
-first false y e = e
-
 hash_in_line : (b : ℕ) → nat_eq b 35 ≡ true → is_in_line b ≡ true
 hash_in_line b e = let at : b ≡ 35 = eqb-true b 35 e in ap is_in_line at
 
 slash_in_line : (b : ℕ) (next : Option ℕ) → (nat_eq b 47 && is_byte 47 next) ≡ true → is_in_line b ≡ true
-slash_in_line b next e = let at : b ≡ 47 = eqb-true b 47 (first (nat_eq b 47) (is_byte 47 next) e) in ap is_in_line at
+slash_in_line b next e = let at : b ≡ 47 = eqb-true b 47 (and_parts (nat_eq b 47) (is_byte 47 next) e).0 in ap is_in_line at
 
-letter_in_word : (b : ℕ) → is_letter b ≡ true → is_word b ≡ true
+pub letter_in_word : (b : ℕ) → is_letter b ≡ true → is_word b ≡ true
 letter_in_word b e = ap (λ (x : Bool). x || is_digit b) e
 
 byte_there : (b : ℕ) (o : Option ℕ) → is_byte b o ≡ true → o ≡ Some b
