@@ -15,7 +15,7 @@ use Rattle.lft_follow.proofs.Coming.{timely_law}
 pub shown : (plan : PlanParts) (t : List Row) (low : Tag) (s : Stream) → IsStreamOf plan t s → UpTo low (low_of s.tag) → NoneDueBefore s.stop low s.dues → IsUnbroken plan t low
 shown plan t low s stands up none = timely_law plan t low (state_of stands.lanes (low_of s.tag) s) stands.state (record { lows = λ n. up; dues = subst (λ (k : Tag). NoneDueBefore k low s.dues) stands.stop_is none })
 
-next_up : (g h : Tag) → UpTo g h → UpTo (after g 0) (after h 0)
+pub next_up : (g h : Tag) → UpTo g h → UpTo (after g 0) (after h 0)
 next_up g h (inl l) = inl l
 next_up g h (inr x) = inr (x.0, (let a = x.1 in omega arith))
 

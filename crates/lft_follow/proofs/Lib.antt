@@ -8,3 +8,10 @@ pub mod Keeping
 pub mod Coming
 pub mod Going
 pub mod Staying
+pub mod Hand
+pub mod Telling
+pub mod Reaching
+pub mod Passing
+pub mod Judging
+pub mod Stops
+pub mod Following

@@ -1,2 +1,5 @@
 pub mod Sure
 pub mod Timely
+pub mod Going
+pub mod Reach
+pub mod Follows

@@ -1,10 +1,17 @@
 #![tactic(auto)]
 //! What is sure of a trace before all of its rows are there.
 
+mod follower;
+mod gone;
+mod judged;
 mod kept;
 mod laws;
 mod monitor;
+mod reach;
 
+pub use follower::{Follower, Found, Progress};
+pub use judged::Ending;
 pub use kept::keep_rows;
 pub use laws::{law_sure, law_timely};
 pub use monitor::{go_on, is_unbroken};
+pub use reach::Reach;

@@ -1,6 +1,6 @@
 #![tactic(auto)]
 //! The tests below the calls on texts that need code: tags; what fits a program; who is told of a
-//! tag, by a copy of a plan and by two workers at a time; queues, books driven by hand, and
+//! tag, by a copy of a plan and by two workers at a time; rows that are followed as they come; queues, books driven by hand, and
 //! recordings. What is data is a case in the folder `cases`.
 
 #[cfg(test)]
@@ -11,6 +11,8 @@ mod books;
 mod closures;
 #[cfg(test)]
 mod fits;
+#[cfg(test)]
+mod followers;
 #[cfg(test)]
 mod plans;
 #[cfg(test)]

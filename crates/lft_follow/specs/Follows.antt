@@ -1,0 +1,109 @@
+-- What is kept of rows that are judged while they come, and what is told of them.
+use Rattle.std.specs.Prelude.{◌≡◌, ℕ, ◌+◌, ◌-◌, ◌^◌, ◌≤◌, ◌<◌, ◌⊎◌, List, [], ◌++◌, length, take, Some, slice_get}
+use Rattle.lft_tag.specs.declared.Tag.{Tag}
+use Rattle.lft_tag.specs.Tags.{Before}
+use Rattle.lft_steps.specs.declared.row.Row.{Row}
+use Rattle.lft_steps.specs.Fits.{RowsFit}
+use Rattle.lft_model.specs.declared.breach.Breach.{Breach}
+use Rattle.lft_model.specs.Plans.{PlanParts}
+use Rattle.lft_model.specs.Presence.{stop}
+use Rattle.lft_model.specs.Breaches.{RowBreach}
+use Rattle.lft_rows.specs.Accepted.{IsAccepted}
+use Rattle.lft_coming.specs.AtTag.{AreAt, AreBefore}
+use Rattle.lft_stream.specs.Kept.{IsAcceptorOf, low_of}
+use Rattle.lft_follow.specs.Sure.{IsUnbroken}
+use Rattle.lft_follow.specs.Going.{IsGoing}
+use Rattle.lft_follow.specs.Reach.{IsReach}
+use Rattle.lft_follow.specs.declared.reach.Reach.{Reach}
+use Rattle.lft_follow.specs.declared.judged.Judged.{Judged}
+use Rattle.lft_follow.specs.declared.judged.Ending.{Ending}
+use Rattle.lft_follow.specs.declared.judged.Ending.TheVariants.{Accepted, Unbroken}
+use Rattle.lft_follow.specs.declared.follower.Follower.{Follower}
+use Rattle.lft_follow.specs.declared.follower.Found.{Found}
+use Rattle.lft_follow.specs.declared.follower.Progress.{Progress}
+use Rattle.lft_follow.specs.declared.follower.Progress.TheVariants.{GoesOn, Broken, Odd, TooMany}
+
+-- the rows reach so far, and no rule is broken in them before the tag behind their last
+pub record IsClean (plan : PlanParts) (t : List Row) (r : Reach) : Type 0 where
+  pub reach : IsReach t r
+  pub unbroken : IsUnbroken plan t (low_of r.tag)
+
+-- the first rows, up to the place, are clean, and reach so far
+pub record IsCleanTo (plan : PlanParts) (t : List Row) (r : Reach) (n : ℕ) : Type 0 where
+  pub within : n ≤ length t
+  pub clean : IsClean plan (take n t) r
+
+-- the rows but those at the last tag are clean, and reach so far
+pub record IsJudged (plan : PlanParts) (t : List Row) (r : Reach) : Type 0 where
+  pub done : List Row
+  pub left : List Row
+  pub parts : t ≡ done ++ left
+  pub at_one : (g : Tag) × AreAt left g × AreBefore done g
+  pub some : left ≡ [] → done ≡ []
+  pub clean : IsClean plan done r
+
+-- what is kept of rows that are judged is right for them, and they are clean
+pub record IsJudgedOf (plan : PlanParts) (t : List Row) (j : Judged) : Type 0 where
+  pub acceptor : IsAcceptorOf plan t j.acceptor
+  pub stop_is : j.stop ≡ stop plan t
+  pub counted : j.count ≡ length t
+  pub clean : IsClean plan t j.reach
+
+-- the rows that the follower has judged
+abbrev pub done_of : List Row → Follower → List Row
+done_of t f = take f.judged.count t
+
+-- the first rows are judged, and the follower holds the others, which are at later tags
+pub record IsHeld (plan : PlanParts) (t : List Row) (f : Follower) : Type 0 where
+  pub parts : t ≡ done_of t f ++ f.rows.items
+  pub judged : IsJudgedOf plan (done_of t f) f.judged
+  pub fit : RowsFit plan.program f.rows.items
+  pub earlier : (x : Row) → slice_get f.rows.items 0 ≡ Some x → AreBefore (done_of t f) x.tag
+  pub some : f.rows.items ≡ [] → done_of t f ≡ []
+
+-- of those that it holds it has gone over some
+pub record IsAtHand (plan : PlanParts) (t : List Row) (f : Follower) : Type 0 where
+  pub held : IsHeld plan t f
+  pub going : IsGoing plan (done_of t f) f.rows.items f.going
+
+-- the follower has judged all rows but those at the last tag
+pub record IsFollowerOf (plan : PlanParts) (t : List Row) (f : Follower) : Type 0 where
+  pub hand : IsAtHand plan t f
+  pub at_one : (g : Tag) × AreAt f.rows.items g
+
+-- the rows from the first place up to the end are at the tag of the last of them
+pub record AreLast (rows : List Row) (end first : ℕ) : Type 0 where
+  pub up : first ≤ end
+  pub at_one : (i : ℕ) (x z : Row) → first ≤ i → i < end → slice_get rows i ≡ Some x → slice_get rows (end - 1) ≡ Some z → x.tag ≡ z.tag
+
+-- and the row before is at another tag
+pub record BeginsLast (rows : List Row) (end first : ℕ) : Type 0 where
+  pub last : AreLast rows end first
+  pub some : 0 < end → first < end
+  pub other : (x z : Row) → 0 < first → slice_get rows (first - 1) ≡ Some x → slice_get rows (end - 1) ≡ Some z → ¬ (x.tag ≡ z.tag)
+
+-- the breach that is found
+abbrev pub breach_of : Found → Breach
+breach_of f = record { rule = f.rule; tag = f.tag; reaction = Some f.reaction; row = f.line }
+
+-- the breach is sure behind the first n rows: the last of them breaks one of the rules 1 to 4, or a run of theirs has no end and the next row is at a later tag
+pub record IsSureBehind (plan : PlanParts) (t : List Row) (b : Breach) (n : ℕ) : Type 0 where
+  pub within : n ≤ length t
+  pub breaks : RowBreach plan (take n t) b
+  pub sure : (b.rule ≤ 4) × (b.row ≡ n + 1) ⊎ (b.rule ≡ 5) × ((x : Row) × (slice_get t n ≡ Some x) × Before b.tag x.tag)
+
+-- the rule that is broken by the row of this place at hand is sure
+abbrev pub IsSureOf : PlanParts → List Row → Follower → ℕ → ℕ → Type 0
+IsSureOf plan t f place k = (b : Breach) → b.rule ≡ k → b.row ≡ f.judged.count + place + 2 → ((x : Row) → slice_get f.rows.items place ≡ Some x → (b.tag ≡ x.tag) × (b.reaction ≡ Some x.reaction)) → (n : ℕ) × IsSureBehind plan t b n
+
+-- what is told of the rows so far: they are followed on, a breach is sure behind some of them, so many of them are clean, or the follower holds or has judged too many
+abbrev pub IsProgress : PlanParts → List Row → Follower → Progress → Type 0
+IsProgress plan t f GoesOn = IsFollowerOf plan t f
+IsProgress plan t f (Broken b) = (n : ℕ) × IsSureBehind plan t (breach_of b) n
+IsProgress plan t f (Odd r line) = (n : ℕ) × IsCleanTo plan t r n
+IsProgress plan t f TooMany = (4000000 < length f.rows.items) ⊎ (2 ^ 62 < f.judged.count)
+
+-- what is told of the rows where no more come: they are accepted, or they are clean, all or but those at the last tag
+abbrev pub IsEnding : PlanParts → List Row → Ending → Type 0
+IsEnding plan t (Accepted c) = IsAccepted plan t c.runs c.tags
+IsEnding plan t (Unbroken r) = IsJudged plan t r ⊎ IsClean plan t r

@@ -1,0 +1,191 @@
+//! Rows that are judged while they come.
+
+ghost use Rattle.std.specs.Prelude.{◌≡◌, ◌+◌, ◌<◌, ◌≤◌, ◌^◌, ℕ, List, [], ◌++◌, length, Some, IfOk, slice_get};
+ghost use Rattle.lft_steps.specs.declared.row.Row.{Row as TheRow};
+ghost use Rattle.lft_steps.specs.Fits.{RowsFit};
+ghost use Rattle.lft_follow.specs.Going.{HasGone};
+ghost use Rattle.lft_follow.specs.Follows.{IsAtHand, IsHeld, IsFollowerOf, IsProgress, IsEnding, IsJudged, IsSureOf, BeginsLast};
+
+use crate::gone::{Going, Halt};
+use crate::judged::{Ending, Judged};
+use crate::reach::Reach;
+use lft_model::Plan;
+use lft_steps::{Row, row_at};
+use lft_tag::{MAX_ROWS, NoMemory, Tag};
+use std::alloc::Global;
+
+/// A rule that is broken, told as soon as it is sure: one of 1 to 4 by a row, or 5 by a run without an end.
+#[derive(Clone, Copy, PartialEq, Eq, Debug, Drop)]
+pub struct Found {
+    pub rule: u8,
+    pub tag: Tag,
+    pub reaction: u32,
+    /// The row's line of the table. The first row stands in line 2.
+    pub line: u64,
+}
+
+/// What rows show that come behind others.
+#[derive(Clone, Copy, PartialEq, Eq, Debug, Drop)]
+pub enum Progress {
+    /// More rows may come.
+    GoesOn,
+    /// Nothing is to be judged behind it.
+    Broken(Found),
+    /// The rows that are judged break no rule. The next ones, up to the line, may break one of the rules
+    /// 6 to 10, or too much is to be looked at, or memory is refused.
+    Odd(Reach, u64),
+    /// More rows stand at one tag than a table may have, or more came than are counted.
+    TooMany,
+}
+
+/// More rows aren't counted.
+const MOST: u64 = 1 << 62;
+
+/// What is kept of rows so far: those of the last tag, and of those before what causes something later.
+#[derive(Drop)]
+pub struct Follower {
+    judged: Judged,
+    going: Going,
+    /// The rows at the last tag.
+    rows: Vec<Row>,
+}
+
+/// Where the rows begin that are at the tag of the last one before the end.
+fn last_begins(rows: &[Row], end: usize) -> usize
+    requires { end ≤ length rows.now }
+    ensures { BeginsLast rows.now end result }
+{
+    if end == 0 {
+        return 0;
+    }
+    let tag = row_at(rows, end - 1).tag;
+    for passed in 1..end {
+        if !row_at(rows, end - 1 - passed).tag.is_same(tag) {
+            return end - passed;
+        }
+    }
+    0
+}
+
+/// The rule that the row at the place breaks, where so many rows stand before these.
+fn found_at(rows: &[Row], place: usize, before: u64, rule: u8) -> Found
+    requires place { place < length rows.now }
+    requires few { before ≤ 2 ^ 62 }
+    requires short { length rows.now ≤ 4000000 }
+    ensures rule { result.rule ≡ rule }
+    ensures line { result.line ≡ before + place + 2 }
+    ensures tag { (row : TheRow) → slice_get rows.now place ≡ Some row → result.tag ≡ row.tag }
+    ensures reaction { (row : TheRow) → slice_get rows.now place ≡ Some row → result.reaction ≡ row.reaction }
+{
+    let row = row_at(rows, place);
+    Found {
+        rule,
+        tag: row.tag,
+        reaction: row.reaction,
+        line: before + place as u64 + 2,
+    }
+}
+
+impl Follower {
+    /// Before the first row.
+    pub fn new(alloc: Global, plan: &Plan) -> Result<Follower, NoMemory>
+        ensures { IfOk result (IsFollowerOf plan.now []) }
+    {
+        Ok(Follower {
+            judged: Judged::new(alloc, plan)?,
+            going: Going::new(alloc, plan)?,
+            rows: Vec::new(alloc),
+        })
+    }
+
+    /// How far the rows are judged.
+    // The plan is passed for what the contract says of it.
+    pub fn reach(&self, plan: &Plan) -> Reach
+        ghost t: { List TheRow }
+        requires stands { IsFollowerOf plan.now t self.now }
+        ensures { IsJudged plan.now t result }
+    {
+        let _ = plan;
+        self.judged.reach
+    }
+
+    /// Judges the rows at hand but those at the last tag, all of which are gone over.
+    fn go_on(&mut self, alloc: Global, plan: &Plan) -> Result<Progress, NoMemory>
+        ghost t: { List TheRow }
+        requires few { self.old.judged.count ≤ 2 ^ 62 }
+        requires hand { IsAtHand plan.now t self.old }
+        requires gone { self.old.going.passed ≡ length self.old.rows.items }
+        ensures { IfOk result (IsProgress plan.now t self.new) }
+    {
+        let rows = self.rows.as_slice();
+        let begin = last_begins(rows, rows.len());
+        if begin == 0 {
+            return Ok(Progress::GoesOn);
+        }
+        let reach = self.judged.reach;
+        let line = self.judged.count + begin as u64 + 1;
+        if !self.judged.judge(alloc, plan, &self.rows[0..begin]) {
+            return Ok(Progress::Odd(reach, line));
+        }
+        let rows = self.rows.as_slice();
+        let Ok(last) = Vec::from_slice(alloc, &rows[begin..rows.len()]) else {
+            return Err(NoMemory);
+        };
+        self.rows = last;
+        self.going.begin(alloc, plan, self.judged.stop)?;
+        Ok(Progress::GoesOn)
+    }
+
+    /// What is told where the row at the place breaks the rule and the end is that of the rows gone over.
+    fn tell(&mut self, alloc: Global, plan: &Plan, place: usize, end: usize, rule: u8) -> Progress
+        ghost t: { List TheRow }
+        requires few { self.old.judged.count ≤ 2 ^ 62 }
+        requires held { IsHeld plan.now t self.old }
+        requires place { (place < length self.old.rows.items) × (end ≤ length self.old.rows.items) }
+        requires sure { IsSureOf plan.now t self.old place rule }
+        ensures { IsProgress plan.now t self.new result }
+    {
+        let found = found_at(self.rows.as_slice(), place, self.judged.count, rule);
+        let begin = last_begins(self.rows.as_slice(), end);
+        let reach = self.judged.reach;
+        let line = self.judged.count + begin as u64 + 1;
+        if self.judged.judge(alloc, plan, &self.rows[0..begin]) {
+            Progress::Broken(found)
+        } else {
+            Progress::Odd(reach, line)
+        }
+    }
+
+    /// Goes on past more rows. A tag is judged once a row at a later one is there.
+    pub fn add(&mut self, alloc: Global, plan: &Plan, more: &[Row]) -> Result<Progress, NoMemory>
+        ghost t: { List TheRow }
+        requires fit { RowsFit plan.now.program more.now }
+        requires stands { IsFollowerOf plan.now t self.old }
+        ensures { IfOk result (IsProgress plan.now (t ++ more.now) self.new) }
+    {
+        let Ok(()) = self.rows.extend_from_slice(more) else {
+            return Err(NoMemory);
+        };
+        if self.rows.as_slice().len() > MAX_ROWS || self.judged.count > MOST {
+            return Ok(Progress::TooMany);
+        }
+        match self.going.go_over(plan, self.rows.as_slice())? {
+            Halt::AtEnd => self.go_on(alloc, plan),
+            Halt::AtRow(place, rule) => Ok(self.tell(alloc, plan, place, place, rule)),
+            Halt::AtLater(start, place) => Ok(self.tell(alloc, plan, start, place, 5)),
+        }
+    }
+
+    /// What the rows show where no more come. The last tag is judged too, where all of its runs are there.
+    pub fn finish(&mut self, alloc: Global, plan: &Plan) -> Ending
+        ghost t: { List TheRow }
+        requires stands { IsFollowerOf plan.now t self.old }
+        ensures { IsEnding plan.now t result }
+    {
+        let reach = self.judged.reach;
+        if self.judged.count > MOST || !self.judged.judge(alloc, plan, self.rows.as_slice()) {
+            return Ending::Unbroken(reach);
+        }
+        self.judged.finish(plan)
+    }
+}

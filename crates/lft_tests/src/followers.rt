@@ -1,0 +1,156 @@
+//! Rows that are followed as they come, in parts of different lengths.
+
+ghost use Rattle.std.specs.Prelude.{◌≡◌, ◌<◌, ◌≤◌, List, length, take, IfSome};
+ghost use Rattle.lft_steps.specs.declared.row.Row.{Row as TheRow};
+ghost use Rattle.lft_steps.specs.Fits.{RowsFit};
+ghost use Rattle.lft_follow.specs.Follows.{IsFollowerOf, IsProgress, IsEnding};
+
+use crate::texts::{plan, rows};
+use lft_follow::{Ending, Follower, Found, Progress, Reach};
+use lft_model::Plan;
+use lft_steps::Row;
+use lft_stream::Counts;
+use lft_tag::{NoMemory, Tag};
+use std::alloc::Global;
+use std::test::Fail;
+
+const PROGRAM: &[u8] = b"main reactor { timer t(0, 1 ns) reaction(t) {= =} reaction(t) {= =} }";
+
+const EXTERNALS: &[u8] = b"kind,time,microstep,name,value\nstop,1,0,,\n";
+
+/// Two runs one after another at each of two tags.
+const RUNS: &[u8] = b"event,worker,time,microstep,reaction,name,value,delay
+start,0,0,0,main#1,,,
+end,0,0,0,main#1,,,
+start,0,0,0,main#2,,,
+end,0,0,0,main#2,,,
+start,0,1,0,main#1,,,
+end,0,1,0,main#1,,,
+start,0,1,0,main#2,,,
+end,0,1,0,main#2,,,
+";
+
+/// At the first tag the second run begins too early.
+const EARLY: &[u8] = b"event,worker,time,microstep,reaction,name,value,delay
+start,0,0,0,main#1,,,
+start,1,0,0,main#2,,,
+end,0,0,0,main#1,,,
+end,1,0,0,main#2,,,
+start,0,1,0,main#1,,,
+";
+
+/// At the second tag nothing ends, and the third is behind the stop.
+const OPEN: &[u8] = b"event,worker,time,microstep,reaction,name,value,delay
+start,0,0,0,main#1,,,
+end,0,0,0,main#1,,,
+start,0,0,0,main#2,,,
+end,0,0,0,main#2,,,
+start,0,1,0,main#1,,,
+start,1,2,0,main#1,,,
+";
+
+/// What rows show that are followed in parts.
+#[derive(Clone, Copy, PartialEq, Eq, Debug, Drop)]
+enum Shown {
+    /// Before all of them were there.
+    Soon(Progress),
+    AtEnd(Ending),
+}
+
+/// What the rows from the first on up to the end show.
+fn add_part(
+    follower: &mut Follower,
+    alloc: Global,
+    plan: &Plan,
+    rows: &[Row],
+    first: usize,
+    end: usize,
+) -> Option<Progress>
+    ghost done: { List TheRow }
+    requires fit { RowsFit plan.now.program rows.now }
+    requires range { (first ≤ end) × (end ≤ length rows.now) }
+    requires before { done ≡ take first rows.now }
+    requires stands { IsFollowerOf plan.now done follower.old }
+    ensures { IfSome result (IsProgress plan.now (take end rows.now) follower.new) }
+{
+    match follower.add(alloc, plan, &rows[first..end]) {
+        Ok(progress) => Some(progress),
+        Err(_) => None,
+    }
+}
+
+/// What all rows show.
+fn end(follower: &mut Follower, alloc: Global, plan: &Plan, rows: &[Row]) -> Ending
+    ghost done: { List TheRow }
+    requires done { done ≡ rows.now }
+    requires stands { IsFollowerOf plan.now done follower.old }
+    ensures { IsEnding plan.now rows.now result }
+{
+    follower.finish(alloc, plan)
+}
+
+/// What rows show that come so many at a time.
+fn followed(alloc: Global, plan: &Plan, rows: &[Row], size: usize) -> Option<Shown>
+    requires fit { RowsFit plan.now.program rows.now }
+    requires some { 0 < size }
+{
+    let Ok(mut follower) = Follower::new(alloc, plan) else {
+        return None;
+    };
+    let mut first = 0;
+    while first < rows.len() {
+        let until = rows.len().min(first.saturating_add(size));
+        match add_part(&mut follower, alloc, plan, rows, first, until)? {
+            Progress::GoesOn => {}
+            other => return Some(Shown::Soon(other)),
+        }
+        first = until;
+    }
+    Some(Shown::AtEnd(end(&mut follower, alloc, plan, rows)))
+}
+
+/// Whether a table shows this, however its rows come.
+fn shows(alloc: Global, plan: &Plan, table: &[u8], wanted: Shown) -> Result<bool, NoMemory> {
+    let rows = rows(alloc, plan, table)?;
+    for size in [1, 3, 100] {
+        if followed(alloc, plan, rows.as_slice(), size) != Some(wanted) {
+            return Ok(false);
+        }
+    }
+    Ok(true)
+}
+
+/// The run of `OPEN` without an end.
+const LOST: Found = Found {
+    rule: 5,
+    tag: Tag { time: 1, micro: 0 },
+    reaction: 0,
+    line: 6,
+};
+
+/// No run.
+const NOWHERE: Reach = Reach {
+    runs: 0,
+    tags: 0,
+    tag: None,
+};
+
+/// The runs of `RUNS`.
+const ALL: Counts = Counts { runs: 4, tags: 2 };
+
+// a follower that gives up, and one that never tells of a run without an end, meet their contracts
+#[test]
+fn follows_rows_however_they_come(rt: HostRuntime) -> Result<(), Fail> {
+    let plan = plan(rt.alloc(), PROGRAM, EXTERNALS)?;
+    for (table, wanted) in [
+        (RUNS, Shown::AtEnd(Ending::Accepted(ALL))),
+        (EARLY, Shown::Soon(Progress::Odd(NOWHERE, 5))),
+        (OPEN, Shown::Soon(Progress::Broken(LOST))),
+    ] {
+        assert!(rt;
+            shows(rt.alloc(), &plan, table, wanted) == Ok(true),
+            "{wanted:?}"
+        );
+    }
+    Ok(())
+}
