@@ -38,8 +38,8 @@ fn is_long_time(time: &TimeExpression) -> bool
     ensures { IsTrue result ↔ IsLongTime (time_view time.now) }
 {
     match time {
-        TimeExpression::Written(written) => is_past(*written),
-        TimeExpression::Parameter(_) => false,
+        TimeExpression::Written { time: written, .. } => is_past(*written),
+        TimeExpression::Parameter { .. } => false,
     }
 }
 

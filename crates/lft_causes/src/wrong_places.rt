@@ -43,8 +43,8 @@ fn is_misplaced_time(own: &Own, time: &TimeExpression) -> bool
     ensures { (r : ReactorTree) → IsOwn r own.now → IsTrue result ↔ IsMisplacedTime r (time_view time.now) }
 {
     match time {
-        TimeExpression::Written(_) => false,
-        TimeExpression::Parameter(name) => match own.kind(name.as_str()) {
+        TimeExpression::Written { .. } => false,
+        TimeExpression::Parameter { name, .. } => match own.kind(name.as_str()) {
             Some(kind) => kind != Kind::OwnParameter,
             None => false,
         },

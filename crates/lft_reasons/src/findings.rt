@@ -5,10 +5,10 @@ use crate::refused::{Refused, Site};
 use crate::unknown::instance_of;
 use crate::words::{kind_words, port_words, reactor_words, role_way, role_words};
 use itoa::Buffer;
-use lft_places::Spot;
+use lft_refusals::{Spot, name_spot, time_spot, token_spot};
 use lft_scope::kinds::{Kind, Role};
 use lft_tag::NoMemory;
-use lft_tree::{Connection, Member, Reference, TimeExpression};
+use lft_tree::{Connection, Member, Reaction, Reference, TimeExpression};
 use lft_witnesses::names::{names_of, times_of};
 use lft_witnesses::{Finding, declared_name};
 
@@ -25,7 +25,7 @@ impl<'a> Refused<'a> {
             return Ok(None);
         }
         let name = names[place];
-        Ok(Some((name, self.source.name_spot(site.at, role, place, name))))
+        Ok(Some((name, name_spot(self.tokens, name))))
     }
 
     /// The time with that place in the member, and where it stands.
@@ -39,7 +39,7 @@ impl<'a> Refused<'a> {
             return Ok(None);
         }
         let time = times[place];
-        Ok(Some((time, self.source.time_spot(site.at, place, time))))
+        Ok(Some((time, time_spot(self.tokens, time))))
     }
 
     /// A name may not stand there.
@@ -78,7 +78,7 @@ impl<'a> Refused<'a> {
         place: usize,
         kind: Kind,
     ) -> Result<Option<Reason>, NoMemory> {
-        let Some((TimeExpression::Parameter(name), spot)) = self.time(site, place)? else {
+        let Some((TimeExpression::Parameter { name, .. }, spot)) = self.time(site, place)? else {
             return Ok(None);
         };
         let (owner, owner_name) = reactor_words(site.reactor);
@@ -102,7 +102,7 @@ impl<'a> Refused<'a> {
             return Ok(None);
         };
         let reason = Reason::of(self.alloc, "the main reactor has a port, ")?.say(name)?;
-        let reason = reason.at(self.source.declared_spot(site.at, name));
+        let reason = reason.at(self.declared_spot(site.member));
         let way = "A main reactor has no ports. What comes from outside is a physical action.";
         Ok(Some(reason.way(way)?))
     }
@@ -120,18 +120,18 @@ impl<'a> Refused<'a> {
             .say(from)?
             .say(" names to ")?
             .say(to)?
-            .at(self.source.arrow_spot(site.at));
+            .at(token_spot(self.tokens, connection.arrow));
         reason.way("Write as many names behind the arrow as before it.")
     }
 
     /// A reaction has no trigger.
-    fn no_trigger(&self, site: Site<'a>) -> Result<Reason, NoMemory> {
+    fn no_trigger(&self, site: Site<'a>, reaction: &Reaction) -> Result<Reason, NoMemory> {
         let (owner, name) = reactor_words(site.reactor);
         let reason = Reason::of(self.alloc, "a reaction of ")?
             .say(owner)?
             .say(name)?
             .say(" has no trigger")?;
-        let reason = reason.at(self.source.reaction_spot(site.at));
+        let reason = reason.at(token_spot(self.tokens, reaction.at));
         reason.way("Write one between the parentheses, as `startup`.")
     }
 
@@ -178,17 +178,18 @@ impl<'a> Refused<'a> {
         let Some(instance) = instance_of(site.member) else {
             return Ok(None);
         };
-        if second >= instance.given.len() {
+        if first >= instance.given.len() || second >= instance.given.len() {
             return Ok(None);
         }
         let name = instance.given[second].name.as_str();
+        let before = token_spot(self.tokens, instance.given[first].at);
+        let spot = token_spot(self.tokens, instance.given[second].at);
         let reason = Reason::of(self.alloc, "the instance ")?
             .say(instance.name.as_str())?
             .say(" gives the parameter ")?
             .say(name)?
             .say(" two values")?;
-        let reason = reason.at(self.source.value_spot(site.at, second, name));
-        Ok(Some(reason.before(self.source.value_spot(site.at, first, name))))
+        Ok(Some(reason.at(spot).before(before)))
     }
 
     /// A time is too long.
@@ -219,7 +220,7 @@ impl<'a> Refused<'a> {
                 None => Ok(None),
             },
             Finding::UnknownTime { time } => match self.time(site, time)? {
-                Some((TimeExpression::Parameter(name), spot)) => {
+                Some((TimeExpression::Parameter { name, .. }, spot)) => {
                     Ok(Some(self.unknown_time(site, name.as_str(), spot)?))
                 }
                 _ => Ok(None),
@@ -232,7 +233,10 @@ impl<'a> Refused<'a> {
                 Member::Connection(connection) => Ok(Some(self.width(site, connection)?)),
                 _ => Ok(None),
             },
-            Finding::NoTrigger => Ok(Some(self.no_trigger(site)?)),
+            Finding::NoTrigger => match site.member {
+                Member::Reaction(reaction) => Ok(Some(self.no_trigger(site, reaction)?)),
+                _ => Ok(None),
+            },
             Finding::NamedTwice {
                 role,
                 first,

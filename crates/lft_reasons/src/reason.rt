@@ -1,6 +1,6 @@
 //! Why a program is refused: a sentence, the places that it speaks of, and what to write.
 
-use lft_places::Spot;
+use lft_refusals::Spot;
 use lft_tag::NoMemory;
 use std::alloc::Global;
 

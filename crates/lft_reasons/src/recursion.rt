@@ -3,16 +3,17 @@
 use crate::reason::Reason;
 use crate::refused::Refused;
 use crate::words::reactor_words;
+use lft_refusals::token_spot;
 use lft_tag::NoMemory;
-use lft_tree::{Member, Reactor};
+use lft_tree::{Instance, Member, Reactor};
 use lft_witnesses::circle_of;
 
-/// The place of the first instance in the reactor of one with that name.
-fn instance_place(reactor: &Reactor, name: &str) -> Option<usize> {
-    for place in 0..reactor.members.len() {
-        if let Member::Instance(instance) = &reactor.members[place] {
+/// The first instance in the reactor of one with that name.
+fn first_instance<'a>(reactor: &'a Reactor, name: &str) -> Option<&'a Instance> {
+    for member in &reactor.members {
+        if let Member::Instance(instance) = member {
             if instance.reactor.as_str() == name {
-                return Some(place);
+                return Some(instance);
             }
         }
     }
@@ -26,11 +27,8 @@ impl<'a> Refused<'a> {
             return reason;
         };
         let (_, name) = reactor_words(inner);
-        let Some(place) = instance_place(outer, name) else {
-            return reason;
-        };
-        match self.site(first, place) {
-            Some(site) => reason.at(self.source.instance_spot(site.at, name)),
+        match first_instance(outer, name) {
+            Some(instance) => reason.at(token_spot(self.tokens, instance.reactor_at)),
             None => reason,
         }
     }
@@ -47,7 +45,7 @@ impl<'a> Refused<'a> {
 
     /// A reactor contains itself.
     pub(crate) fn recursive(&self) -> Result<Option<Reason>, NoMemory> {
-        let circle = circle_of(self.alloc, self.source.ast)?;
+        let circle = circle_of(self.alloc, self.ast)?;
         if circle.is_empty() {
             return Ok(None);
         }

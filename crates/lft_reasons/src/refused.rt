@@ -1,7 +1,8 @@
 //! A program that has a tree and is refused, and where the parts of its tree stand in its text.
 
-use lft_places::{MemberPlace, SourceText, Spot};
-use lft_tree::{Member, Reactor};
+use lft_refusals::{Spot, reactor_spot, token_spot};
+use lft_syntax::Tokens;
+use lft_tree::{Ast, Member, Reactor};
 use lft_witnesses::declared_name;
 use std::alloc::Global;
 
@@ -9,16 +10,17 @@ use std::alloc::Global;
 #[derive(Clone, Copy)]
 pub(crate) struct Refused<'a> {
     pub alloc: Global,
-    pub source: SourceText<'a>,
+    pub text: &'a [u8],
+    pub tokens: &'a Tokens,
+    pub ast: &'a Ast,
     pub reactors: &'a [&'a Reactor],
 }
 
-/// A member of a reactor, and which one it is.
+/// A member of a reactor.
 #[derive(Clone, Copy)]
 pub(crate) struct Site<'a> {
     pub reactor: &'a Reactor,
     pub member: &'a Member,
-    pub at: MemberPlace,
 }
 
 impl<'a> Refused<'a> {
@@ -67,17 +69,25 @@ impl<'a> Refused<'a> {
         Some(Site {
             reactor: owner,
             member: &owner.members[member],
-            at: MemberPlace { reactor, member },
         })
     }
 
     /// Where the name of a reactor stands, or `main reactor` where it has none.
     pub(crate) fn reactor_spot(&self, place: usize) -> Option<Spot> {
-        let reactor = self.reactor(place)?;
-        match &reactor.name {
-            Some(name) => self.source.reactor_spot(place, name.as_str()),
-            None => self.source.main_spot(place),
-        }
+        reactor_spot(self.tokens, self.reactor(place)?)
+    }
+
+    /// Where the name that a member declares stands.
+    pub(crate) fn declared_spot(&self, member: &Member) -> Option<Spot> {
+        let at = match member {
+            Member::Port(port) => port.at,
+            Member::Timer(timer) => timer.at,
+            Member::Action(action) => action.at,
+            Member::Instance(instance) => instance.at,
+            Member::State(_) | Member::Preamble(_) | Member::Reaction(_) | Member::Connection(_) =>
+                return None,
+        };
+        token_spot(self.tokens, at)
     }
 
     /// The name of what a reactor declares with that number, parameters first, and where it stands.
@@ -88,18 +98,17 @@ impl<'a> Refused<'a> {
     ) -> Option<(&'a str, Option<Spot>)> {
         let reactor = self.reactor(place)?;
         if number < reactor.parameters.len() {
-            let name = reactor.parameters[number].name.as_str();
-            return Some((name, self.source.parameter_spot(place, number, name)));
+            let parameter = &reactor.parameters[number];
+            return Some((
+                parameter.name.as_str(),
+                token_spot(self.tokens, parameter.at),
+            ));
         }
         let mut before = reactor.parameters.len();
-        for member in 0..reactor.members.len() {
-            if let Some(name) = declared_name(&reactor.members[member]) {
+        for member in &reactor.members {
+            if let Some(name) = declared_name(member) {
                 if before == number {
-                    let at = MemberPlace {
-                        reactor: place,
-                        member,
-                    };
-                    return Some((name, self.source.declared_spot(at, name)));
+                    return Some((name, self.declared_spot(member)));
                 }
                 before = before.saturating_add(1);
             }

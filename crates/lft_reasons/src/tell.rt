@@ -1,9 +1,6 @@
 //! Why a program with a tree is refused, for people.
 
 ghost use Rattle.std.specs.Prelude.{◌≡◌, ◌≢◌, ◌↔◌, ◌⊎◌, IfOk, IfSome, IfNone, IsTrue, codes, string_bytes};
-ghost use Rattle.lft_syntax.specs.Lexes.{Lexes};
-ghost use Rattle.lft_syntax.specs.Grammar.{Spells};
-ghost use Rattle.lft_syntax.specs.View.{lexemes};
 ghost use Rattle.lft_tree.specs.View.{tree_view};
 ghost use Rattle.lft_scope.specs.Causes.{IsFirst, causes};
 ghost use Rattle.lft_program.specs.Faults.{number_of as the_number_of};
@@ -12,11 +9,10 @@ ghost use Rattle.lft_reasons.specs.Reasons.{BeginsThere, IsCause, IsRefusedFor, 
 
 use crate::reason::Reason;
 use crate::refused::Refused;
-use lft_places::{SourceText, Spot};
 use lft_program::{ProgramFault, flatten};
-use lft_refusals::{place_of, push_line, push_place};
+use lft_refusals::{Spot, place_of, push_line, push_place};
 use lft_scope::members;
-use lft_syntax::{LexFault, SyntaxFault, Tokens, lex, parse, places_of};
+use lft_syntax::{LexFault, SyntaxFault, Tokens, lex, parse};
 use lft_tag::NoMemory;
 use lft_tree::Ast;
 use lft_witnesses::witness_of;
@@ -30,17 +26,14 @@ fn reason_of(
     ast: &Ast,
     cause: u32,
 ) -> Result<Option<Reason>, NoMemory>
-    requires lexed { Lexes text.now tokens.now }
-    requires spelled { Spells (tree_view ast.now) (lexemes text.now tokens.now) }
     ensures { IfOk result (λ found. IfNone found (IsCause cause → ⊥)) }
 {
     let reactors = members::reactors(alloc, &ast.items)?;
-    let Ok(places) = places_of(alloc, text, tokens) else {
-        return Err(NoMemory);
-    };
     let refused = Refused {
         alloc,
-        source: SourceText::of(text, tokens, ast, &places),
+        text,
+        tokens,
+        ast,
         reactors: &reactors,
     };
     let shown = match witness_of(alloc, &reactors, cause)? {

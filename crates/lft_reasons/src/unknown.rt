@@ -3,7 +3,7 @@
 use crate::reason::Reason;
 use crate::refused::{Refused, Site};
 use crate::words::reactor_words;
-use lft_places::Spot;
+use lft_refusals::{Spot, has_code_with, token_spot};
 use lft_scope::names::Declared;
 use lft_tag::NoMemory;
 use lft_tree::{Instance, Member, Reference};
@@ -37,9 +37,9 @@ impl<'a> Refused<'a> {
             .say(" has an instance of ")?
             .say(wanted)?
             .say(", which is no reactor of the text")?;
-        let spot = self.source.instance_spot(site.at, wanted);
+        let spot = token_spot(self.tokens, instance.reactor_at);
         let reason = meant(reason.at(spot), self.near_reactor(wanted)?)?;
-        if self.source.has_code_with(b"reaction") {
+        if has_code_with(self.text, self.tokens.as_slice(), b"reaction") {
             let way = "Some code has the word `reaction`: is the `=}` before that missing?";
             return Ok(Some(reason.way(way)?));
         }
@@ -149,10 +149,8 @@ impl<'a> Refused<'a> {
         if value >= instance.given.len() {
             return Ok(None);
         }
-        let (wanted, inner) = (
-            instance.given[value].name.as_str(),
-            instance.reactor.as_str(),
-        );
+        let given = &instance.given[value];
+        let (wanted, inner) = (given.name.as_str(), instance.reactor.as_str());
         let (owner, owner_name) = reactor_words(site.reactor);
         let reason = Reason::of(self.alloc, owner)?
             .say(owner_name)?
@@ -161,7 +159,7 @@ impl<'a> Refused<'a> {
             .say(" a value for ")?
             .say(wanted)?
             .say(", which is no parameter of it")?;
-        let reason = reason.at(self.source.value_spot(site.at, value, wanted));
+        let reason = reason.at(token_spot(self.tokens, given.at));
         match self.named(inner) {
             Some(reactor) => Ok(Some(meant(reason, self.near_parameter(reactor, wanted)?)?)),
             None => Ok(Some(reason)),

@@ -4,7 +4,7 @@
 use crate::reason::Reason;
 use crate::refused::Refused;
 use itoa::Buffer;
-use lft_places::Spot;
+use lft_refusals::Spot;
 use lft_scope::kinds::Role;
 use lft_tag::NoMemory;
 use lft_wiring::{Join, LimitedKind, Told, Wiring, long_chain_of, passed_limit, ring_of};
@@ -27,7 +27,7 @@ fn kind_words(kind: LimitedKind) -> &'static str {
 impl<'a> Refused<'a> {
     /// Where the name at which a single connection ends stands.
     fn end_spot(&self, join: Join<'a>) -> Result<Option<Spot>, NoMemory> {
-        let Some(site) = self.site(join.at.reactor, join.at.member) else {
+        let Some(site) = self.site(join.reactor, join.member) else {
             return Ok(None);
         };
         match self.name(site, Role::Destination, join.place)? {
@@ -38,7 +38,7 @@ impl<'a> Refused<'a> {
 
     /// Where the delay of a single connection stands.
     fn delay_spot(&self, join: Join<'a>) -> Result<Option<Spot>, NoMemory> {
-        let Some(site) = self.site(join.at.reactor, join.at.member) else {
+        let Some(site) = self.site(join.reactor, join.member) else {
             return Ok(None);
         };
         match self.time(site, 0)? {
@@ -69,7 +69,7 @@ impl<'a> Refused<'a> {
 
     /// Connections alone form a loop. The place is the end of one of them.
     pub(crate) fn cycle(&self) -> Result<Option<Reason>, NoMemory> {
-        let Some(told) = ring_of(self.alloc, self.source.ast)? else {
+        let Some(told) = ring_of(self.alloc, self.ast)? else {
             return Ok(None);
         };
         let Some(first) = told.joins.first().copied() else {
@@ -86,7 +86,7 @@ impl<'a> Refused<'a> {
     /// The delays of a chain of connections sum to more than the greatest time. The place is the delay with
     /// which they do.
     pub(crate) fn long_chain(&self) -> Result<Option<Reason>, NoMemory> {
-        let Some(Told { wiring, joins }) = long_chain_of(self.alloc, self.source.ast)? else {
+        let Some(Told { wiring, joins }) = long_chain_of(self.alloc, self.ast)? else {
             return Ok(None);
         };
         let (Some(last), Some(first)) = (joins.first().copied(), joins.last().copied()) else {
@@ -105,7 +105,7 @@ impl<'a> Refused<'a> {
 
     /// Which limit the program passes, and how many there are.
     pub(crate) fn too_many(&self) -> Result<Option<Reason>, NoMemory> {
-        let Some(excess) = passed_limit(self.alloc, self.source.ast)? else {
+        let Some(excess) = passed_limit(self.alloc, self.ast)? else {
             return Ok(None);
         };
         let (mut counted, mut most) = (Buffer::new(), Buffer::new());

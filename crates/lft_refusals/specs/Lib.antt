@@ -1,4 +1,6 @@
+pub mod Codes
 pub mod Places
 pub mod Quotes
 pub mod Refusals
+pub mod Spots
 pub mod Tables

@@ -4,6 +4,7 @@
 
 mod before;
 mod candidates;
+mod code;
 mod fields;
 mod foreign;
 mod place;
@@ -11,11 +12,14 @@ mod program_text;
 mod quoting;
 mod record;
 mod refusal;
+mod spots;
 mod tables;
 mod ways;
 mod words;
 
+pub use code::has_code_with;
 pub use place::{Place, place_of};
 pub use program_text::tell_program;
 pub use quoting::{push_line, push_place};
+pub use spots::{Spot, name_spot, reactor_spot, time_spot, token_spot};
 pub use tables::{tell_externals, tell_trace};

@@ -1,13 +1,12 @@
 -- The target and the whole file.
-use Rattle.std.proofs.Common.{◌≡◌, ℕ, suc, Bool, true, false, List, length, Some, None, Ok, refl, ap, ◌∙◌, arith}
-use Rattle.std.proofs.lemmas.Option.{slice_get_past}
+use Rattle.std.proofs.Common.{◌≡◌, ℕ, suc, Bool, true, false, List, Some, None, refl, ap, ◌∙◌, arith}
 use Rattle.std.specs.Prelude.{slice_get, codes}
 use Rattle.lft_syntax.specs.Lexeme.{Lexeme, Letters, Symbol, is, is_there, is_word_of, preamble_keys, name_in}
 use Rattle.lft_syntax.specs.Language.{◌or◌, optional, many, ignored}
-use Rattle.lft_tree.specs.Tree.{ItemTree, PreambleItem, ReactorItem, FileTree}
-use Rattle.lft_syntax.specs.Grammar.{name, braces, preamble, reactor, target, item, file, file_of, Spells}
+use Rattle.lft_tree.specs.Tree.{ItemTree, PreambleItem, ReactorItem}
+use Rattle.lft_syntax.specs.Grammar.{name, braces, preamble, reactor, target, item, file, file_of}
 use Rattle.lft_syntax.specs.Reading.{maybe, target_at, item_at, items_at, file_at}
-use Rattle.lft_syntax.proofs.Algebra.{Follow, near, Right, Leads, Any, Test, Starts, Not, right_token, starts_one, read_so}
+use Rattle.lft_syntax.proofs.Algebra.{Follow, near, Right, Leads, Any, Test, Starts, Not, right_token, starts_one}
 use Rattle.lft_syntax.proofs.Rules.{near_looks, and_if, skip, making, ignoring, this_one, perhaps, leads_many, starts_skip, starts_range, starts_made, starts_or, repeat, choose, taking, same_follow}
 use Rattle.lft_syntax.proofs.Values.{right_braces, starts_group}
 use Rattle.lft_syntax.proofs.Declarations.{ranging, right_preamble, starts_preamble}
@@ -59,10 +58,6 @@ right_maybe_target = perhaps TargetEnd (is (Letters (codes "target"))) (starts_t
 
 leads_items : Leads (many item) AtEnd TargetEnd
 leads_items = leads_many item AtEnd TargetEnd (λ vs m h. (at_end (is (Letters (codes "target"))) refl vs m h, at_end (is (Symbol 123)) refl vs m h)) item_begins
-
--- the target of a file is read up to its first item
-pub target_read : (ws : List Lexeme) (tree : FileTree) (s : Spells tree ws) → maybe (is (Letters (codes "target"))) target_at ws 0 ≡ Ok (s.0.0, s.1.0)
-target_read ws tree s = read_so right_maybe_target ws 0 s.1.0 s.0.0 (omega arith) s.1.1 (leads_items ws s.1.0 (length ws) s.0.1 s.1.2 (slice_get_past ws (length ws) (omega arith)))
 
 pub right_file : Right file AtEnd near near 0 file_at
 unfolding file_at

@@ -5,7 +5,7 @@ use Rattle.std.proofs.lemmas.List.{append-nil}
 use Rattle.std.proofs.lemmas.Option.{slice_get_cases}
 use Rattle.lft_syntax.specs.declared.parse_error.ParseError.{ParseError}
 use Rattle.lft_syntax.specs.declared.parse_error.ParseError.TheVariants as errors
-use Rattle.lft_syntax.specs.Lexeme.{Lexeme}
+use Rattle.lft_syntax.specs.Lexeme.{Lexeme, is_there}
 use Rattle.lft_syntax.specs.Language.{Spelling}
 use Rattle.lft_syntax.specs.View.{Fails, at_next}
 use Rattle.lft_syntax.specs.Reading.{Reading, ◌>>=◌, many_at, repeated, with_front, ignoring_at}
@@ -19,11 +19,24 @@ inside go past ws at t =
       | inr b ↦ absurd (cc (ap go b.1, past, t))
     ]
 
+-- no token stands at the end of what was read
+pub all_read : (ws : List Lexeme) (at : ℕ) → at ≤ length ws → is_there (slice_get ws at) ≡ false → at ≡ length ws
+all_read ws at le t =
+    elim (slice_get_cases ws at).1 [
+      | inl a ↦ absurd (let there = a.1 in cc (ap is_there a.2, t))
+      | inr b ↦ omega (arith, le, b.0)
+    ]
+
+-- what is read is spelled
+pub known : {A : Type 0} {P : Spelling A} {F : Follow} {e h : Horizon} {p : Reading A} {n : ℕ} → Right P F e h n p → (ws : List Lexeme) (at : ℕ) → at ≤ length ws → (x : A) (j : ℕ) → p ws at ≡ Ok (x, j)
+    → Known P F e h n ws at x j
+known {A = A} {P = P} {F = F} {e = e} {h = h} {n = n} right ws at le x j r = subst (λ (o : Result (A × ℕ) ℕ). Outcome P F e h n ws at o) r (right.at ws at le)
+
 -- an item takes a token, and ends within the text
 pub item_ends : {A : Type 0} {P : Spelling A} {F : Follow} {e h : Horizon} {p : Reading A} (n : ℕ) → Right P F e h (suc n) p → (ws : List Lexeme) (at : ℕ) → at ≤ length ws → (x : A) (j : ℕ) → p ws at ≡ Ok (x, j)
     → (at < j) × (j ≤ length ws)
 item_ends {A = A} {P = P} {F = F} {e = e} {h = h} {p = p} n right ws at le x j r =
-    let k : Known P F e h (suc n) ws at x j = subst (λ (o : Result (A × ℕ) ℕ). Outcome P F e h (suc n) ws at o) r (right.at ws at le) in
+    let k : Known P F e h (suc n) ws at x j = known right ws at le x j r in
     let further = k.further in
     (omega arith, k.within)
 
@@ -80,6 +93,9 @@ with_none (Err e) = refl
 
 pub loop_starts : {A : Type 0} (go : Test) (p : Reading A) (ws : List Lexeme) (at : ℕ) → SoFar go p ws [] at (repeated go p ws at)
 loop_starts go p ws at = record { left = length ws; enough = omega arith; rest = with_none (many_at go p (suc (length ws)) ws at) }
+
+pub loop_starts_behind : {A : Type 0} (go : Test) (p : Reading A) (ws : List Lexeme) (x : A) (at : ℕ) → SoFar go p ws (x ∷ []) at (with_front (x ∷ []) (repeated go p ws at))
+loop_starts_behind go p ws x at = record { left = length ws; enough = omega arith; rest = refl }
 
 -- ---- a loop that passes over what it reads
 

@@ -323,16 +323,6 @@ reactor_at =
     (apply reactor_of (both (both (second (key_at (codes "reactor")) name_at) (maybe (is (Symbol 40)) params_at)) body_at))
     (apply main_of (both (both (second (second (key_at (codes "main")) (key_at (codes "reactor"))) (maybe is_name name_at)) (maybe (is (Symbol 40)) params_at)) body_at))
 
--- up to the brace that opens the body
-unfoldable pub plain_head_at : Reading (Unit {0})
-plain_head_at = first (ignoring_at (both (second (key_at (codes "reactor")) name_at) (maybe (is (Symbol 40)) params_at))) (symbol_at 123)
-
-unfoldable pub main_head_at : Reading (Unit {0})
-main_head_at = first (ignoring_at (both (second (second (key_at (codes "main")) (key_at (codes "reactor"))) (maybe is_name name_at)) (maybe (is (Symbol 40)) params_at))) (symbol_at 123)
-
-unfoldable pub head_at : Reading (Unit {0})
-head_at = choice (is (Letters (codes "reactor"))) plain_head_at main_head_at
-
 -- ---- the file
 
 unfoldable pub target_at : Reading Range

@@ -16,5 +16,5 @@ pub use lft_tree::{
     Action, Assignment, Ast, Connection, Instance, Item, Member, Parameter, Port, Reaction,
     Reactor, Reference, Time, TimeExpression, TimeUnit, Timer, TokenRange, Trigger,
 };
-pub use parser::{ReactorPlaces, parse, places_of};
+pub use parser::parse;
 pub use token::{Token, TokenKind, Tokens};

@@ -8,6 +8,7 @@ ghost use Rattle.lft_syntax.specs.Lexeme.{Lexeme};
 ghost use Rattle.lft_tree.specs.Tree.{FileTree};
 ghost use Rattle.lft_syntax.specs.Grammar.{Spells};
 ghost use Rattle.lft_syntax.specs.View.{lexemes};
+ghost use Rattle.lft_syntax.specs.Placed.{FileStands};
 ghost use Rattle.lft_tree.specs.View.{tree_view};
 
 mod declarations;
@@ -16,7 +17,6 @@ mod groups;
 mod instances;
 mod members;
 mod names;
-mod places;
 mod reactions;
 mod reactors;
 mod references;
@@ -30,7 +30,6 @@ use crate::input::Input;
 use crate::parse_error::ParseError;
 use crate::token::Tokens;
 use lft_tree::Ast;
-pub use places::{ReactorPlaces, places_of};
 use std::alloc::Global;
 
 /// The tree of a program text, from the text and its tokens. Where they spell none, the fault has
@@ -38,6 +37,7 @@ use std::alloc::Global;
 pub fn parse(alloc: Global, text: &[u8], tokens: &Tokens) -> Result<Ast, SyntaxFault>
     requires lexed { Lexes text.now tokens.now }
     ensures tree { IfOk result (λ t. Spells (tree_view t) (lexemes text.now tokens.now) × ((other : FileTree) → Spells other (lexemes text.now tokens.now) → other ≡ tree_view t)) }
+    ensures places { IfOk result (λ t. FileStands (lexemes text.now tokens.now) t.target t.items.items) }
     ensures identifiers { IfOk result (λ t. HasIdentifiers (tree_view t)) }
     ensures unexpected { (k : ℕ) → result ≡ Err (SyntaxFault.Unexpected k) → (0 < k) × (k ≤ length tokens.now + 1) × ((others : List Lexeme) (tree : FileTree) → take k others ≡ take k (lexemes text.now tokens.now) → Spells tree others → ⊥) }
 {

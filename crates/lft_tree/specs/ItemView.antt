@@ -25,8 +25,8 @@ abbrev pub range_view : TokenRange → Range
 range_view r = (r.start, r.end)
 
 abbrev pub time_view : TimeExpression → TimeTree
-time_view (times.Written t) = Written t
-time_view (times.Parameter name) = Named (string_bytes name)
+time_view (times.Written t at) = Written t
+time_view (times.Parameter name at) = Named (string_bytes name)
 
 abbrev pub ref_view : Reference → RefTree
 ref_view r = record { head = string_bytes r.head; port = option_map string_bytes r.port }

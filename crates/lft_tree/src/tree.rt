@@ -1,4 +1,5 @@
-//! The parts of the tree of a program text.
+//! The parts of the tree of a program text. A part that has a place in the text has it as the number of a
+//! token, counted from 0. What contracts see of the tree has no places.
 
 /// A unit of time.
 #[derive(Clone, Copy, Debug, PartialEq, Eq)]
@@ -20,11 +21,11 @@ pub struct Time {
     pub unit: Option<TimeUnit>,
 }
 
-/// A time, or the parameter of the reactor that has it.
+/// A time, or the parameter of the reactor that has it. It begins at the token `at`.
 #[derive(Debug, Drop)]
 pub enum TimeExpression {
-    Written(Time),
-    Parameter(String),
+    Written { time: Time, at: usize },
+    Parameter { name: String, at: usize },
 }
 
 /// The tokens from the number `start` up to, without, the number `end`, counted from 0. They are
@@ -35,41 +36,46 @@ pub struct TokenRange {
     pub end: usize,
 }
 
-/// A name, or a port of a contained instance: `name` or `instance.port`.
+/// A name, or a port of a contained instance: `name` or `instance.port`. It begins at the token `at`.
 #[derive(Debug, Drop)]
 pub struct Reference {
     pub head: String,
     pub port: Option<String>,
+    pub at: usize,
 }
 
-/// A parameter of a reactor with its default.
+/// A parameter of a reactor with its default. Its name is the token `at`.
 #[derive(Debug, Drop)]
 pub struct Parameter {
     pub name: String,
     pub default: Time,
+    pub at: usize,
 }
 
-/// A port.
+/// A port. Its name is the token `at`.
 #[derive(Debug, Drop)]
 pub struct Port {
     pub name: String,
     pub is_input: bool,
+    pub at: usize,
 }
 
-/// A timer.
+/// A timer. Its name is the token `at`.
 #[derive(Debug, Drop)]
 pub struct Timer {
     pub name: String,
     pub offset: Option<TimeExpression>,
     pub period: Option<TimeExpression>,
+    pub at: usize,
 }
 
-/// An action.
+/// An action. Its name is the token `at`.
 #[derive(Debug, Drop)]
 pub struct Action {
     pub name: String,
     pub is_physical: bool,
     pub min_delay: Option<TimeExpression>,
+    pub at: usize,
 }
 
 /// What a reaction is triggered by.
@@ -80,35 +86,40 @@ pub enum Trigger {
     Reference(Reference),
 }
 
-/// A reaction; its code and its own name mean nothing and aren't kept.
+/// A reaction; its code and its own name mean nothing and aren't kept. It begins at the token `at`.
 #[derive(Debug, Drop)]
 pub struct Reaction {
     pub triggers: Vec<Trigger>,
     pub uses: Vec<Reference>,
     pub effects: Vec<Reference>,
+    pub at: usize,
 }
 
-/// A value that `new` gives to a parameter.
+/// A value that `new` gives to a parameter. The parameter's name is the token `at`.
 #[derive(Debug, Drop)]
 pub struct Assignment {
     pub name: String,
     pub value: TimeExpression,
+    pub at: usize,
 }
 
-/// A contained instance of a reactor.
+/// A contained instance of a reactor. Its name is the token `at`, that of the reactor `reactor_at`.
 #[derive(Debug, Drop)]
 pub struct Instance {
     pub name: String,
     pub reactor: String,
     pub given: Vec<Assignment>,
+    pub at: usize,
+    pub reactor_at: usize,
 }
 
-/// Connections of sources to destinations, joined in order.
+/// Connections of sources to destinations, joined in order. The arrow between them is the token `arrow`.
 #[derive(Debug, Drop)]
 pub struct Connection {
     pub sources: Vec<Reference>,
     pub destinations: Vec<Reference>,
     pub delay: Option<TimeExpression>,
+    pub arrow: usize,
 }
 
 /// What a reactor declares. State variables and preambles mean nothing.
@@ -124,13 +135,15 @@ pub enum Member {
     Connection(Connection),
 }
 
-/// A reactor. Only the main one may be without a name.
+/// A reactor. Only the main one may be without a name. Its name is the token `at`; without one it is the
+/// word `main`, which stands before `reactor`.
 #[derive(Debug, Drop)]
 pub struct Reactor {
     pub is_main: bool,
     pub name: Option<String>,
     pub parameters: Vec<Parameter>,
     pub members: Vec<Member>,
+    pub at: usize,
 }
 
 /// What stands at the top of a file.

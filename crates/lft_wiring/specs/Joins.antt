@@ -37,7 +37,7 @@ pub record Joins (instances : List OwnName) (c : ConnectionTree) (join : Join) :
 
 -- the member with that place in the reactor with that place is a connection that joins the two ports
 abbrev pub IsJoin : List ReactorTree → List OwnName → Join → Type 0
-IsJoin reactors instances join = IsSomeAnd (slice_get reactors join.at.reactor) (λ r. IsSomeAnd (slice_get r.members join.at.member) (λ m. IsSomeAnd (connection_in m) (λ c. Joins instances c join)))
+IsJoin reactors instances join = IsSomeAnd (slice_get reactors join.reactor) (λ r. IsSomeAnd (slice_get r.members join.member) (λ m. IsSomeAnd (connection_in m) (λ c. Joins instances c join)))
 
 -- each of them is a connection of the text
 abbrev pub AreJoins : List ReactorTree → List OwnName → List Join → Type 0

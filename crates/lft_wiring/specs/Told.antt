@@ -43,7 +43,7 @@ told singles instances ports sources sites port =
     option_and_then
     (λ instance.
     option_map
-    (λ single. record { from = from; to = to; number = site.number; at = record { reactor = instance.reactor; member = single.member }; place = single.place; delay = unwrap_or source.delay 0 })
+    (λ single. record { from = from; to = to; number = site.number; reactor = instance.reactor; member = single.member; place = single.place; delay = unwrap_or source.delay 0 })
     (single_at singles instance.reactor site.place))
     (slice_get instances site.number))
     (slice_get ports port))

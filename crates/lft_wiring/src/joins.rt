@@ -7,7 +7,6 @@ ghost use Rattle.lft_wiring.specs.Ways.{entry as the_entry};
 use crate::singles::SinglePlace;
 use crate::sites::Site;
 use lft_instances::Instance;
-use lft_places::MemberPlace;
 use lft_program::OwnName;
 use lft_tag::{NoMemory, Source};
 use std::alloc::Global;
@@ -19,8 +18,10 @@ pub struct Join<'a> {
     pub to: OwnName<'a>,
     /// The number of the instance that has the connection.
     pub number: usize,
-    /// The connection, and the place of both names in its lists.
-    pub at: MemberPlace,
+    /// The connection, by the place of its reactor in the file and its own there.
+    pub reactor: usize,
+    pub member: usize,
+    /// The place of both names in its lists.
     pub place: usize,
     /// The delay in nanoseconds.
     pub delay: u64,
@@ -81,10 +82,8 @@ fn tell<'a, 'b>(telling: &Telling<'a, 'b>, port: usize) -> Option<Join<'a>>
         from,
         to,
         number: site.number,
-        at: MemberPlace {
-            reactor: instance.reactor as usize,
-            member: single.member,
-        },
+        reactor: instance.reactor as usize,
+        member: single.member,
         place: single.place,
         delay: source.delay.unwrap_or(0),
     })

@@ -93,8 +93,8 @@ fn is_long(time: &TimeExpression) -> bool
     ensures { IsTrue result ↔ IsLongTime (time_view time.now) }
 {
     match time {
-        TimeExpression::Written(written) => nanoseconds(*written).is_none(),
-        TimeExpression::Parameter(_) => false,
+        TimeExpression::Written { time: written, .. } => nanoseconds(*written).is_none(),
+        TimeExpression::Parameter { .. } => false,
     }
 }
 

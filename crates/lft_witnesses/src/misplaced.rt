@@ -89,8 +89,8 @@ fn wrong_time_kind(own: &Own, time: &TimeExpression) -> Option<Kind>
     ensures none { (r : ReactorTree) → IsOwn r own.now → IfNone result (¬ IsMisplacedTime r (time_view time.now)) }
 {
     match time {
-        TimeExpression::Written(_) => None,
-        TimeExpression::Parameter(name) => {
+        TimeExpression::Written { .. } => None,
+        TimeExpression::Parameter { name, .. } => {
             let kind = own.kind(name.as_str())?;
             if kind == Kind::OwnParameter {
                 None

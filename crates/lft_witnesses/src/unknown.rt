@@ -75,8 +75,8 @@ fn is_unknown_time(own: &Own, time: &TimeExpression) -> bool
     ensures { (r : ReactorTree) → IsOwn r own.now → IsTrue result ↔ IsUnknownTime r (time_view time.now) }
 {
     match time {
-        TimeExpression::Written(_) => false,
-        TimeExpression::Parameter(name) => own.kind(name.as_str()).is_none(),
+        TimeExpression::Written { .. } => false,
+        TimeExpression::Parameter { name, .. } => own.kind(name.as_str()).is_none(),
     }
 }
 

@@ -29,8 +29,8 @@ pub(crate) fn clock(parameters: &Index, time: &TimeExpression) -> Clock
     ensures { (r : ReactorTree) → IsIndexOf parameters.now (map (λ p. p.name) r.parameters) → IsClock r (time_view time.now) result }
 {
     match time {
-        TimeExpression::Written(written) => Clock::Fixed(kept(*written)),
-        TimeExpression::Parameter(name) => match parameters.get(name.as_str()) {
+        TimeExpression::Written { time: written, .. } => Clock::Fixed(kept(*written)),
+        TimeExpression::Parameter { name, .. } => match parameters.get(name.as_str()) {
             Some(place) => Clock::Parameter(place),
             None => unreachable!(),
         },

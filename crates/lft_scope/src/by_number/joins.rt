@@ -25,8 +25,8 @@ fn clock(directory: &Directory, number: usize, time: &TimeExpression) -> Result<
     ensures lost { IfErr result (λ f. f ≢ faults.NoMemory → (rs : List ReactorTree) (r : ReactorTree) → IsAt rs directory.now number r → IsLostTime r (time_view time.now)) }
 {
     match time {
-        TimeExpression::Written(time) => Ok(Clock::Fixed(kept(*time))),
-        TimeExpression::Parameter(name) => match directory.parameter(number, name.as_str()) {
+        TimeExpression::Written { time, .. } => Ok(Clock::Fixed(kept(*time))),
+        TimeExpression::Parameter { name, .. } => match directory.parameter(number, name.as_str()) {
             Some(place) => Ok(Clock::Parameter(place)),
             None => Err(ReactorFault::UnknownName),
         },

@@ -1,10 +1,13 @@
 //! The file.
 
-ghost use Rattle.std.specs.Prelude.{◌≡◌, ℕ, codes, option_map};
+ghost use Rattle.std.specs.Prelude.{◌≡◌, ℕ, ◌≤◌, codes, length, option_map, IfOk};
 ghost use Rattle.lft_syntax.specs.Lexeme.{Symbol, Letters, is};
 ghost use Rattle.lft_syntax.specs.View.{Gives, at_next};
 ghost use Rattle.lft_tree.specs.View.{range_view, item_view, item_views, file_view};
 ghost use Rattle.lft_syntax.specs.Reading.{maybe, ignoring_at, braces_at, target_at, item_at, items_at, file_at, whole_at};
+ghost use Rattle.lft_syntax.specs.Language.{many};
+ghost use Rattle.lft_syntax.specs.Placed as Placed;
+ghost use Rattle.lft_syntax.specs.Placed.{FileStands, past_target};
 ghost use Rattle.lft_syntax.specs.Parsing.{words};
 
 use crate::input::Input;
@@ -28,7 +31,8 @@ fn properties(input: &Input, at: usize) -> Result<usize, ParseError>
 
 #[tactic(auto, unfolding(crate::specs::Reading::target_at))]
 fn target(input: &Input, at: usize) -> Result<(TokenRange, usize), ParseError>
-    ensures { Gives (λ x. (range_view x.0, x.1)) result (target_at (words input.now) at) }
+    ensures gives { Gives (λ x. (range_view x.0, x.1)) result (target_at (words input.now) at) }
+    ensures next { IfOk result (λ x. x.1 ≡ x.0.end) }
 {
     let start = at;
     let at = key(input, at, b"target")?;
@@ -38,8 +42,9 @@ fn target(input: &Input, at: usize) -> Result<(TokenRange, usize), ParseError>
 }
 
 /// The target, which may be left out.
-pub fn left_out_target(input: &Input, at: usize) -> Result<(Option<TokenRange>, usize), ParseError>
-    ensures { Gives (λ x. (option_map range_view x.0, x.1)) result (maybe (is (Letters (codes "target"))) target_at (words input.now) at) }
+fn left_out_target(input: &Input, at: usize) -> Result<(Option<TokenRange>, usize), ParseError>
+    ensures gives { Gives (λ x. (option_map range_view x.0, x.1)) result (maybe (is (Letters (codes "target"))) target_at (words input.now) at) }
+    ensures next { IfOk result (λ x. x.1 ≡ past_target at x.0) }
 {
     if !is_key(input, at, b"target") {
         return Ok((None, at));
@@ -50,7 +55,8 @@ pub fn left_out_target(input: &Input, at: usize) -> Result<(Option<TokenRange>, 
 
 #[tactic(auto, unfolding(crate::specs::Reading::item_at))]
 fn item(input: &Input, at: usize) -> Result<(Item, usize), ParseError>
-    ensures { Gives (λ x. (item_view x.0, x.1)) result (item_at (words input.now) at) }
+    ensures gives { Gives (λ x. (item_view x.0, x.1)) result (item_at (words input.now) at) }
+    ensures stands { IfOk result (λ x. Placed.item (words input.now) at x.1 x.0) }
 {
     if is_preamble_key(input, at) {
         let (tokens, at) = preamble(input, at)?;
@@ -61,7 +67,9 @@ fn item(input: &Input, at: usize) -> Result<(Item, usize), ParseError>
 }
 
 fn items(input: &Input, at: usize) -> Result<(Vec<Item>, usize), ParseError>
-    ensures { Gives (λ x. (item_views x.0.items, x.1)) result (items_at (words input.now) at) }
+    requires { at ≤ length (words input.now) }
+    ensures gives { Gives (λ x. (item_views x.0.items, x.1)) result (items_at (words input.now) at) }
+    ensures stand { IfOk result (λ x. many Placed.item (words input.now) at (length (words input.now)) x.0.items) }
 {
     let mut items = Vec::new(input.alloc);
     let mut next = at;
@@ -81,19 +89,21 @@ pub struct Content {
 }
 
 #[tactic(auto, unfolding(crate::specs::Reading::file_at))]
-fn file(input: &Input, at: usize) -> Result<(Content, usize), ParseError>
-    ensures { Gives (λ x. (file_view x.0.target x.0.items.items, x.1)) result (file_at (words input.now) at) }
+fn file(input: &Input) -> Result<(Content, usize), ParseError>
+    ensures gives { Gives (λ x. (file_view x.0.target x.0.items.items, x.1)) result (file_at (words input.now) 0) }
+    ensures stand { IfOk result (λ x. FileStands (words input.now) x.0.target x.0.items.items) }
 {
-    let (target, at) = left_out_target(input, at)?;
-    let (items, at) = items(input, at)?;
-    Ok((Content { target, items }, at))
+    let (target, first) = left_out_target(input, 0)?;
+    let (items, end) = items(input, first)?;
+    Ok((Content { target, items }, end))
 }
 
 /// What stands in the whole text.
 #[tactic(auto, unfolding(crate::specs::Reading::whole_at))]
 pub fn whole(input: &Input) -> Result<Content, ParseError>
-    ensures { Gives (λ x. file_view x.target x.items.items) result (whole_at (words input.now)) }
+    ensures gives { Gives (λ x. file_view x.target x.items.items) result (whole_at (words input.now)) }
+    ensures stand { IfOk result (λ x. FileStands (words input.now) x.target x.items.items) }
 {
-    let (content, _) = file(input, 0)?;
+    let (content, _) = file(input)?;
     Ok(content)
 }

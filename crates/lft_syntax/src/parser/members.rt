@@ -1,11 +1,14 @@
 //! The members of a reactor.
 
-ghost use Rattle.std.specs.Prelude.{◌≡◌, ℕ, ◌+◌, ◌≤◌, length, slice_get};
+ghost use Rattle.std.specs.Prelude.{◌≡◌, ℕ, ◌+◌, ◌≤◌, length, slice_get, IfOk};
 ghost use Rattle.lft_syntax.specs.Lexeme.{Symbol, is};
 ghost use Rattle.lft_syntax.specs.View.{Gives};
 ghost use Rattle.lft_tree.specs.View.{member_view, member_views};
 ghost use Rattle.lft_syntax.specs.Reading.{member_at, members_at, body_at, choice_next, apply, instance_at, connection_at};
 ghost use Rattle.lft_tree.specs.Tree.{InstanceMember, ConnectionMember};
+ghost use Rattle.lft_syntax.specs.Language.{many};
+ghost use Rattle.lft_syntax.specs.Placed as Placed;
+ghost use Rattle.lft_syntax.specs.Placed.{MemberStands, BodyStands};
 ghost use Rattle.lft_syntax.specs.Parsing.{words};
 
 use crate::input::Input;
@@ -29,7 +32,8 @@ fn is_before_symbol(input: &Input, at: usize, byte: u8) -> bool
 
 /// A member that begins with a name.
 fn named_member(input: &Input, at: usize) -> Result<(Member, usize), ParseError>
-    ensures { Gives (λ x. (member_view x.0, x.1)) result (choice_next (is (Symbol 61)) (apply InstanceMember instance_at) (apply ConnectionMember connection_at) (words input.now) at) }
+    ensures gives { Gives (λ x. (member_view x.0, x.1)) result (choice_next (is (Symbol 61)) (apply InstanceMember instance_at) (apply ConnectionMember connection_at) (words input.now) at) }
+    ensures stands { IfOk result (λ x. MemberStands (words input.now) at x.0) }
 {
     if is_before_symbol(input, at, b'=') {
         let (instance, at) = instance(input, at)?;
@@ -41,7 +45,8 @@ fn named_member(input: &Input, at: usize) -> Result<(Member, usize), ParseError>
 
 #[tactic(auto, unfolding(crate::specs::Reading::member_at))]
 pub fn member(input: &Input, at: usize) -> Result<(Member, usize), ParseError>
-    ensures { Gives (λ x. (member_view x.0, x.1)) result (member_at (words input.now) at) }
+    ensures gives { Gives (λ x. (member_view x.0, x.1)) result (member_at (words input.now) at) }
+    ensures stands { IfOk result (λ x. MemberStands (words input.now) at x.0) }
 {
     if is_port_key(input, at) {
         let (port, at) = port(input, at)?;
@@ -72,7 +77,8 @@ pub fn member(input: &Input, at: usize) -> Result<(Member, usize), ParseError>
 
 fn members(input: &Input, at: usize) -> Result<(Vec<Member>, usize), ParseError>
     requires { at ≤ length (words input.now) }
-    ensures { Gives (λ x. (member_views x.0.items, x.1)) result (members_at (words input.now) at) }
+    ensures gives { Gives (λ x. (member_views x.0.items, x.1)) result (members_at (words input.now) at) }
+    ensures stand { IfOk result (λ x. many Placed.member (words input.now) at x.1 x.0.items) }
 {
     let mut members = Vec::new(input.alloc);
     let mut next = at;
@@ -86,10 +92,11 @@ fn members(input: &Input, at: usize) -> Result<(Vec<Member>, usize), ParseError>
 
 #[tactic(auto, unfolding(crate::specs::Reading::body_at))]
 pub fn body(input: &Input, at: usize) -> Result<(Vec<Member>, usize), ParseError>
-    ensures { Gives (λ x. (member_views x.0.items, x.1)) result (body_at (words input.now) at) }
+    ensures gives { Gives (λ x. (member_views x.0.items, x.1)) result (body_at (words input.now) at) }
+    ensures stand { IfOk result (λ x. BodyStands (words input.now) at x.1 x.0.items) }
 {
-    let at = symbol(input, at, b'{')?;
-    let (members, at) = members(input, at)?;
-    let at = symbol(input, at, b'}')?;
-    Ok((members, at))
+    let first = symbol(input, at, b'{')?;
+    let (members, end) = members(input, first)?;
+    let behind = symbol(input, end, b'}')?;
+    Ok((members, behind))
 }

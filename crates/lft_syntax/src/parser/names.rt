@@ -6,6 +6,7 @@ ghost use Rattle.lft_syntax.specs.Lexeme as Lexeme;
 ghost use Rattle.lft_syntax.specs.Lexeme.{is_word_of, is_one_of, is_reserved, input_keys, port_keys, action_keys, scope_keys, preamble_keys};
 ghost use Rattle.lft_syntax.specs.View.{Gives, at_next};
 ghost use Rattle.lft_syntax.specs.Reading.{name_at, ignoring_at};
+ghost use Rattle.lft_syntax.specs.Placed.{IsWord};
 ghost use Rattle.lft_syntax.specs.Parsing.{words, outer_words, declaring_words, other_words};
 
 use crate::input::{Input, Seen};
@@ -89,7 +90,8 @@ fn text_of(alloc: Global, letters: &[u8]) -> Result<String, AllocError>
 }
 
 pub fn name(input: &Input, at: usize) -> Result<(String, usize), ParseError>
-    ensures { Gives (λ x. (string_bytes x.0, x.1)) result (name_at (words input.now) at) }
+    ensures gives { Gives (λ x. (string_bytes x.0, x.1)) result (name_at (words input.now) at) }
+    ensures stands { IfOk result (λ x. IsWord (words input.now) at (string_bytes x.0) × (x.1 ≡ at + 1)) }
 {
     match peek(input, at) {
         Some(Seen::Letters(letters)) if !is_reserved_word(letters) => {
@@ -101,7 +103,8 @@ pub fn name(input: &Input, at: usize) -> Result<(String, usize), ParseError>
 
 /// A name that means nothing.
 pub fn skip_name(input: &Input, at: usize) -> Result<usize, ParseError>
-    ensures { Gives at_next result (ignoring_at name_at (words input.now) at) }
+    ensures gives { Gives at_next result (ignoring_at name_at (words input.now) at) }
+    ensures next { IfOk result (λ j. j ≡ at + 1) }
 {
     match peek(input, at) {
         Some(Seen::Letters(letters)) if !is_reserved_word(letters) => Ok(at + 1),

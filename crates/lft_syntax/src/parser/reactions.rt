@@ -1,11 +1,12 @@
 //! Reactions.
 
-ghost use Rattle.std.specs.Prelude.{◌≡◌, ℕ, [], ◌∷◌, map};
+ghost use Rattle.std.specs.Prelude.{◌≡◌, ℕ, ◌+◌, [], ◌∷◌, map, IfOk};
 ghost use Rattle.lft_syntax.specs.Lexeme as Lexeme;
 ghost use Rattle.lft_syntax.specs.Lexeme.{Symbol, is};
 ghost use Rattle.lft_syntax.specs.View.{Gives, at_next};
 ghost use Rattle.lft_tree.specs.View.{trigger_view, reaction_view};
 ghost use Rattle.lft_syntax.specs.Reading.{after_comma, repeated, with_front, listed_at, maybe, ignoring_at, name_at, trigger_at, triggers_at, reaction_at};
+ghost use Rattle.lft_syntax.specs.Placed.{Takes, TakeRow, TriggersStand, TriggerStands, ReactionStands, past_name, row_tokens, trigger_tokens};
 ghost use Rattle.lft_syntax.specs.Parsing.{words};
 
 use crate::input::Input;
@@ -17,7 +18,8 @@ use lft_tree::{Reaction, Trigger};
 
 #[tactic(auto, unfolding(crate::specs::Reading::trigger_at))]
 fn trigger(input: &Input, at: usize) -> Result<(Trigger, usize), ParseError>
-    ensures { Gives (λ x. (trigger_view x.0, x.1)) result (trigger_at (words input.now) at) }
+    ensures gives { Gives (λ x. (trigger_view x.0, x.1)) result (trigger_at (words input.now) at) }
+    ensures stands { IfOk result (λ x. Takes (TriggerStands (words input.now)) trigger_tokens at x.0 x.1) }
 {
     if is_key(input, at, b"startup") {
         let at = key(input, at, b"startup")?;
@@ -32,7 +34,8 @@ fn trigger(input: &Input, at: usize) -> Result<(Trigger, usize), ParseError>
 }
 
 fn next_trigger(input: &Input, at: usize) -> Result<(Trigger, usize), ParseError>
-    ensures { Gives (λ x. (trigger_view x.0, x.1)) result (after_comma trigger_at (words input.now) at) }
+    ensures gives { Gives (λ x. (trigger_view x.0, x.1)) result (after_comma trigger_at (words input.now) at) }
+    ensures stands { IfOk result (λ x. Takes (TriggerStands (words input.now)) trigger_tokens (at + 1) x.0 x.1) }
 {
     let at = symbol(input, at, b',')?;
     trigger(input, at)
@@ -43,7 +46,8 @@ fn more_triggers(
     at: usize,
     first: Trigger,
 ) -> Result<(Vec<Trigger>, usize), ParseError>
-    ensures { Gives (λ x. (map trigger_view x.0.items, x.1)) result (with_front (trigger_view first ∷ []) (repeated (is (Symbol 44)) (after_comma trigger_at) (words input.now) at)) }
+    ensures gives { Gives (λ x. (map trigger_view x.0.items, x.1)) result (with_front (trigger_view first ∷ []) (repeated (is (Symbol 44)) (after_comma trigger_at) (words input.now) at)) }
+    ensures stand { (start : ℕ) → Takes (TriggerStands (words input.now)) trigger_tokens start first at → IfOk result (λ x. TakeRow (TriggerStands (words input.now)) trigger_tokens start x.0.items x.1) }
 {
     let mut triggers = Vec::new(input.alloc);
     triggers.push(first)?;
@@ -57,30 +61,33 @@ fn more_triggers(
 }
 
 fn some_triggers(input: &Input, at: usize) -> Result<(Vec<Trigger>, usize), ParseError>
-    ensures { Gives (λ x. (map trigger_view x.0.items, x.1)) result (listed_at trigger_at (words input.now) at) }
+    ensures gives { Gives (λ x. (map trigger_view x.0.items, x.1)) result (listed_at trigger_at (words input.now) at) }
+    ensures stand { IfOk result (λ x. TakeRow (TriggerStands (words input.now)) trigger_tokens at x.0.items x.1) }
 {
-    let (first, at) = trigger(input, at)?;
-    more_triggers(input, at, first)
+    let (first, comma) = trigger(input, at)?;
+    more_triggers(input, comma, first)
 }
 
 /// The triggers in their parentheses.
 #[tactic(auto, unfolding(crate::specs::Reading::triggers_at))]
 fn triggers(input: &Input, at: usize) -> Result<(Vec<Trigger>, usize), ParseError>
-    ensures { Gives (λ x. (map trigger_view x.0.items, x.1)) result (triggers_at (words input.now) at) }
+    ensures gives { Gives (λ x. (map trigger_view x.0.items, x.1)) result (triggers_at (words input.now) at) }
+    ensures stand { IfOk result (λ x. TriggersStand (words input.now) (at + 1) x.0.items × (x.1 ≡ at + row_tokens trigger_tokens x.0.items + 2)) }
 {
-    let at = symbol(input, at, b'(')?;
-    if is_symbol(input, at, b')') {
-        let at = symbol(input, at, b')')?;
-        return Ok((Vec::new(input.alloc), at));
+    let first = symbol(input, at, b'(')?;
+    if is_symbol(input, first, b')') {
+        let behind = symbol(input, first, b')')?;
+        return Ok((Vec::new(input.alloc), behind));
     }
-    let (triggers, at) = some_triggers(input, at)?;
-    let at = symbol(input, at, b')')?;
-    Ok((triggers, at))
+    let (triggers, closing) = some_triggers(input, first)?;
+    let end = symbol(input, closing, b')')?;
+    Ok((triggers, end))
 }
 
 /// A reaction's own name, which may be left out.
 fn own_name(input: &Input, at: usize) -> Result<usize, ParseError>
-    ensures { Gives at_next result (ignoring_at (maybe Lexeme.is_name name_at) (words input.now) at) }
+    ensures gives { Gives at_next result (ignoring_at (maybe Lexeme.is_name name_at) (words input.now) at) }
+    ensures next { IfOk result (λ j. j ≡ past_name (words input.now) at) }
 {
     if !is_name(input, at) {
         return Ok(at);
@@ -90,20 +97,22 @@ fn own_name(input: &Input, at: usize) -> Result<usize, ParseError>
 
 #[tactic(auto, unfolding(crate::specs::Reading::reaction_at))]
 pub fn reaction(input: &Input, at: usize) -> Result<(Reaction, usize), ParseError>
-    ensures { Gives (λ x. (reaction_view x.0, x.1)) result (reaction_at (words input.now) at) }
+    ensures gives { Gives (λ x. (reaction_view x.0, x.1)) result (reaction_at (words input.now) at) }
+    ensures stands { IfOk result (λ x. ReactionStands (words input.now) at x.0) }
 {
-    let at = key(input, at, b"reaction")?;
-    let at = own_name(input, at)?;
-    let (triggers, at) = triggers(input, at)?;
-    let (uses, at) = uses(input, at)?;
-    let (effects, at) = effects(input, at)?;
-    let at = code(input, at)?;
+    let own = key(input, at, b"reaction")?;
+    let opening = own_name(input, own)?;
+    let (triggers, behind) = triggers(input, opening)?;
+    let (uses, arrow) = uses(input, behind)?;
+    let (effects, body) = effects(input, arrow)?;
+    let end = code(input, body)?;
     Ok((
         Reaction {
             triggers,
             uses,
             effects,
+            at,
         },
-        at,
+        end,
     ))
 }

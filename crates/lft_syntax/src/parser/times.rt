@@ -1,12 +1,13 @@
 //! Units of time, times, and times or names of parameters.
 
-ghost use Rattle.std.specs.Prelude.{◌≡◌, ℕ, ◌<◌, ◌≤◌, ◌+◌, ◌-◌, ◌^◌, [], ◌∷◌, codes, slice_get, IfSome};
+ghost use Rattle.std.specs.Prelude.{◌≡◌, ℕ, ◌<◌, ◌≤◌, ◌+◌, ◌-◌, ◌^◌, [], ◌∷◌, codes, slice_get, IfSome, IfOk};
 ghost use Rattle.lft_syntax.specs.Language.{look};
 ghost use Rattle.lft_syntax.specs.Lexeme as Lexeme;
 ghost use Rattle.lft_syntax.specs.Lexeme.{is_one_of, unit_of, unit_in};
 ghost use Rattle.lft_syntax.specs.View.{Gives};
 ghost use Rattle.lft_tree.specs.View.{time_view};
 ghost use Rattle.lft_syntax.specs.Reading.{time_from, time_at, delay_at, ptime_at, pdelay_at};
+ghost use Rattle.lft_syntax.specs.Placed.{Takes, TimeStands, time_tokens, unit_tokens};
 ghost use Rattle.lft_syntax.specs.Parsing.{words};
 
 use crate::input::{Input, Seen};
@@ -114,7 +115,8 @@ fn unit(input: &Input, at: usize) -> Option<TimeUnit>
 
 /// The time of so many units, where the unit stands here; only 0 may stand without one.
 fn counted(input: &Input, count: u64, at: usize) -> Result<(Time, usize), ParseError>
-    ensures { Gives (λ x. (x.0, x.1)) result (time_from count at (look unit_in (slice_get (words input.now) at))) }
+    ensures gives { Gives (λ x. (x.0, x.1)) result (time_from count at (look unit_in (slice_get (words input.now) at))) }
+    ensures next { IfOk result (λ x. x.1 + 1 ≡ at + unit_tokens x.0.unit) }
 {
     match unit(input, at) {
         Some(unit) => Ok((
@@ -138,7 +140,8 @@ fn counted(input: &Input, count: u64, at: usize) -> Result<(Time, usize), ParseE
 /// A time, where no name may stand after it.
 #[tactic(auto, unfolding(crate::specs::Reading::time_at))]
 pub fn time(input: &Input, at: usize) -> Result<(Time, usize), ParseError>
-    ensures { Gives (λ x. (x.0, x.1)) result (time_at (words input.now) at) }
+    ensures gives { Gives (λ x. (x.0, x.1)) result (time_at (words input.now) at) }
+    ensures next { IfOk result (λ x. x.1 ≡ at + unit_tokens x.0.unit) }
 {
     let (count, at) = number(input, at)?;
     counted(input, count, at)
@@ -162,7 +165,8 @@ pub fn is_before_follower(input: &Input, at: usize) -> bool
 /// A time, where a member may stand after it: a name that begins a member isn't the unit of 0.
 #[tactic(auto, unfolding(crate::specs::Reading::delay_at))]
 fn delay(input: &Input, at: usize) -> Result<(Time, usize), ParseError>
-    ensures { Gives (λ x. (x.0, x.1)) result (delay_at (words input.now) at) }
+    ensures gives { Gives (λ x. (x.0, x.1)) result (delay_at (words input.now) at) }
+    ensures next { IfOk result (λ x. x.1 ≡ at + unit_tokens x.0.unit) }
 {
     let (count, at) = number(input, at)?;
     if count == 0 && is_name(input, at) && is_before_follower(input, at) {
@@ -180,25 +184,27 @@ fn delay(input: &Input, at: usize) -> Result<(Time, usize), ParseError>
 /// A time or a name, where no name may stand after a time.
 #[tactic(auto, unfolding(crate::specs::Reading::ptime_at))]
 pub fn time_expression(input: &Input, at: usize) -> Result<(TimeExpression, usize), ParseError>
-    ensures { Gives (λ x. (time_view x.0, x.1)) result (ptime_at (words input.now) at) }
+    ensures gives { Gives (λ x. (time_view x.0, x.1)) result (ptime_at (words input.now) at) }
+    ensures stands { IfOk result (λ x. Takes TimeStands time_tokens at x.0 x.1) }
 {
     if is_number(input, at) {
-        let (time, at) = time(input, at)?;
-        return Ok((TimeExpression::Written(time), at));
+        let (time, end) = time(input, at)?;
+        return Ok((TimeExpression::Written { time, at }, end));
     }
-    let (name, at) = name(input, at)?;
-    Ok((TimeExpression::Parameter(name), at))
+    let (name, end) = name(input, at)?;
+    Ok((TimeExpression::Parameter { name, at }, end))
 }
 
 /// A time or a name, where a member may stand after it.
 #[tactic(auto, unfolding(crate::specs::Reading::pdelay_at))]
 pub fn delay_expression(input: &Input, at: usize) -> Result<(TimeExpression, usize), ParseError>
-    ensures { Gives (λ x. (time_view x.0, x.1)) result (pdelay_at (words input.now) at) }
+    ensures gives { Gives (λ x. (time_view x.0, x.1)) result (pdelay_at (words input.now) at) }
+    ensures stands { IfOk result (λ x. Takes TimeStands time_tokens at x.0 x.1) }
 {
     if is_number(input, at) {
-        let (delay, at) = delay(input, at)?;
-        return Ok((TimeExpression::Written(delay), at));
+        let (time, end) = delay(input, at)?;
+        return Ok((TimeExpression::Written { time, at }, end));
     }
-    let (name, at) = name(input, at)?;
-    Ok((TimeExpression::Parameter(name), at))
+    let (name, end) = name(input, at)?;
+    Ok((TimeExpression::Parameter { name, at }, end))
 }

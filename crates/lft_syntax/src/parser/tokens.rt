@@ -33,7 +33,8 @@ pub fn peek<'a>(input: &Input<'a>, at: usize) -> Option<Seen<'a>>
 }
 
 pub fn key(input: &Input, at: usize, word: &[u8]) -> Result<usize, ParseError>
-    ensures { Gives at_next result (key_at word.now (words input.now) at) }
+    ensures gives { Gives at_next result (key_at word.now (words input.now) at) }
+    ensures next { IfOk result (λ j. j ≡ at + 1) }
 {
     match peek(input, at) {
         Some(Seen::Letters(letters)) if word == letters => Ok(at + 1),
@@ -43,7 +44,7 @@ pub fn key(input: &Input, at: usize, word: &[u8]) -> Result<usize, ParseError>
 
 pub fn symbol(input: &Input, at: usize, byte: u8) -> Result<usize, ParseError>
     ensures gives { Gives at_next result (symbol_at byte (words input.now) at) }
-    ensures within { IfOk result (λ j. j ≤ length (words input.now)) }
+    ensures next { IfOk result (λ j. (j ≡ at + 1) × (j ≤ length (words input.now))) }
 {
     match peek(input, at) {
         Some(Seen::Symbol(b)) if byte == b => Ok(at + 1),
@@ -52,7 +53,8 @@ pub fn symbol(input: &Input, at: usize, byte: u8) -> Result<usize, ParseError>
 }
 
 pub fn arrow(input: &Input, at: usize) -> Result<usize, ParseError>
-    ensures { Gives at_next result (one_at Arrow (words input.now) at) }
+    ensures gives { Gives at_next result (one_at Arrow (words input.now) at) }
+    ensures next { IfOk result (λ j. (j ≡ at + 1) × (slice_get (words input.now) at ≡ Some Arrow)) }
 {
     match peek(input, at) {
         Some(Seen::Arrow) => Ok(at + 1),
@@ -70,7 +72,8 @@ pub fn code(input: &Input, at: usize) -> Result<usize, ParseError>
 }
 
 pub fn number(input: &Input, at: usize) -> Result<(u64, usize), ParseError>
-    ensures { Gives (λ x. (x.0, x.1)) result (number_at (words input.now) at) }
+    ensures gives { Gives (λ x. (x.0, x.1)) result (number_at (words input.now) at) }
+    ensures next { IfOk result (λ x. x.1 ≡ at + 1) }
 {
     match peek(input, at) {
         Some(Seen::Number(n)) => Ok((n, at + 1)),

@@ -1,9 +1,10 @@
-use Rattle.std.proofs.Common.{◌≡◌, ℕ, List, length, sym, ◌∙◌, ap, arith, Ok, Err}
+use Rattle.std.proofs.Common.{◌≡◌, ℕ, List, length, sym, subst, ◌∙◌, ap, arith, Ok, Err}
 use Rattle.std.proofs.lemmas.List.{length-map}
 use Rattle.lft_syntax.specs.declared.token.Token.{Token}
 use Rattle.lft_tree.specs.Tree.{FileTree}
 use Rattle.lft_syntax.specs.Grammar.{Spells}
 use Rattle.lft_syntax.specs.View.{lexemes, lexeme_of}
+use Rattle.lft_syntax.specs.Placed.{FileStands}
 use Rattle.lft_tree.specs.View.{file_view}
 use Rattle.lft_syntax.specs.Reading.{whole_at}
 use Rattle.lft_syntax.proofs.TokenFacts.{InText, token_at, name_ascii}
@@ -27,7 +28,7 @@ invariant_of-input c =
 
 pub overflow_add-result : goal.overflow_add-result
 overflow_add-result c =
-    let e : whole_at (lexemes c.args.text.now c.as_slice.result.now) ≡ Err c.in-Err-Unexpected.at = rw c.in-Err-Unexpected.field-0-is at c.in-Err-Unexpected.ensures in
+    let e : whole_at (lexemes c.args.text.now c.as_slice.result.now) ≡ Err c.in-Err-Unexpected.at = rw c.in-Err-Unexpected.field-0-is at c.in-Err-Unexpected.ensures.gives in
     let far = (read_fault (lexemes c.args.text.now c.as_slice.result.now) c.in-Err-Unexpected.at e).1 in
     let same = lexemes_length c.args.text.now c.as_slice.result.now in
     omega (arith, c.as_slice.type_inv.0, c.as_slice.type_inv.1)
@@ -35,14 +36,17 @@ overflow_add-result c =
 pub invariant_of-result : goal.invariant_of-result
 invariant_of-result c =
     let tree = file_view c.in-Ok.content.target c.in-Ok.content.items.items in
-    record { identifiers = has_identifiers c.args.text.now c.args.tokens.now tree c.requires.lexed (only_tree c.args.text.now c.as_slice.ensures c.in-Ok.ensures).0 }
+    record { identifiers = has_identifiers c.args.text.now c.args.tokens.now tree c.requires.lexed (only_tree c.args.text.now c.as_slice.ensures c.in-Ok.ensures.gives).0 }
 
 pub returns-in-Ok-clause-tree : goal.returns-in-Ok-clause-tree
-returns-in-Ok-clause-tree c = only_tree c.args.text.now c.as_slice.ensures c.in-Ok.ensures
+returns-in-Ok-clause-tree c = only_tree c.args.text.now c.as_slice.ensures c.in-Ok.ensures.gives
+
+pub returns-in-Ok-clause-places : goal.returns-in-Ok-clause-places
+returns-in-Ok-clause-places c = subst (λ (l : List Token). FileStands (lexemes c.args.text.now l) c.in-Ok.content.target c.in-Ok.content.items.items) c.as_slice.ensures c.in-Ok.ensures.stand
 
 pub returns-in-Err-Unexpected-clause-unexpected : goal.returns-in-Err-Unexpected-clause-unexpected
 returns-in-Err-Unexpected-clause-unexpected c =
-    let e : whole_at (lexemes c.args.text.now c.as_slice.result.now) ≡ Err c.in-Err-Unexpected.at = rw c.in-Err-Unexpected.field-0-is at c.in-Err-Unexpected.ensures in
+    let e : whole_at (lexemes c.args.text.now c.as_slice.result.now) ≡ Err c.in-Err-Unexpected.at = rw c.in-Err-Unexpected.field-0-is at c.in-Err-Unexpected.ensures.gives in
     let f : whole_at (lexemes c.args.text.now c.args.tokens.now) ≡ Err c.in-Err-Unexpected.at = ap (λ (l : List Token). whole_at (lexemes c.args.text.now l)) (sym c.as_slice.ensures) ∙ e in
     let same = lexemes_length c.args.text.now c.args.tokens.now in
     rw (← same) (fault_given (lexemes c.args.text.now c.args.tokens.now) c.in-Err-Unexpected.at f)

@@ -1,7 +1,0 @@
-use Rattle.std.proofs.Common.{◌≡◌, ℕ, ◌<◌, Some, slice_get}
-use Rattle.lft_syntax.specs.declared.token.Token.{Token}
-use Rattle.lft_places.specs.Spots.{IsCodeWith}
-use Rattle.lft_places.proofs.source.SourceText.has_code_with.Given as goal
-
-abbrev pub invariant-loop-at : goal.invariant-loop-at
-invariant-loop-at l = (i : ℕ) (code : Token) → i < l.at → slice_get l.self.tokens.now i ≡ Some code → IsCodeWith l.self.text.now l.word code → ⊥
