@@ -1,12 +1,13 @@
 -- A collision at a port is one at the first delayed port of its origin, no later.
-use Rattle.std.proofs.Common.{◌≡◌, ℕ, zero, suc, ◌+◌, ◌<◌, inl, inr, List, length, refl, sym, ap, ◌∙◌, subst, arith, Option, Some, None, slice_get}
+use Rattle.std.proofs.Common.{◌≡◌, ℕ, zero, suc, ◌<◌, inl, inr, List, length, refl, sym, ◌∙◌, subst, arith, Option, Some, None, slice_get}
 use Rattle.lft_tag.specs.declared.Tag.{Tag}
 use Rattle.lft_tag.specs.Tags.{UpTo}
 use Rattle.lft_tag.specs.Shifts.{Folded, shifted}
 use Rattle.lft_tag.proofs.Order.{UpTo-Before}
-use Rattle.lft_tag.proofs.Chains.{tag_of, shifted_same}
+use Rattle.lft_tag.proofs.Chains.{shifted_same}
 use Rattle.lft_flat.specs.declared.parts.Port.{Port as PortOf}
 use Rattle.lft_steps.specs.declared.row.Row.{Row}
+use Rattle.lft_queue.proofs.Tests.{together}
 use Rattle.lft_agenda.specs.Listeners.{IsArrival, IsWatched, arrival, IsFirstDelayed}
 use Rattle.lft_agenda.proofs.Watching.{delayed_first}
 use Rattle.lft_model.specs.Plans.{PlanParts, IsSoundPlan}
@@ -18,14 +19,6 @@ use Rattle.lft_agenda.proofs.Written.{from_written, to_written}
 pub earlier_up : (clash : Option Tag) (g h : Tag) → UpTo g h → IsEarlier clash h → IsEarlier clash g
 earlier_up None g h u e = tt
 earlier_up (Some c) g h u e = UpTo-Before g h c u e
-
--- a shift leads two tags to one where it takes time and they are of one time, and only there
-together : (g h : Tag) (s : Folded) → shifted g s ≡ shifted h s → ¬ (g ≡ h) → (0 < s.0) × (g.time ≡ h.time)
-together g h s same apart = go s.0 s.1 same
-  where
-    go : (d n : ℕ) → shifted g (d, n) ≡ shifted h (d, n) → (0 < d) × (g.time ≡ h.time)
-    go zero n e = absurd (apart (tag_of (ap (λ (k : Tag). k.time) e) (let z : g.micro + n ≡ h.micro + n = ap (λ (k : Tag). k.micro) e in let y : g.micro ≡ h.micro = omega arith in y)))
-    go (suc d) n e = (omega arith, (let z : g.time + suc d ≡ h.time + suc d = ap (λ (k : Tag). k.time) e in omega arith))
 
 -- a lesser shift leads to no later tag
 no_later : (g : Tag) (s t : Folded) → 0 < s.0 → 0 < t.0 → (let a : Tag = record { time = s.0; micro = s.1 } in let b : Tag = record { time = t.0; micro = t.1 } in UpTo a b) → UpTo (shifted g s) (shifted g t)

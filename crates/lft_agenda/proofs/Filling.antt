@@ -8,13 +8,10 @@ use Rattle.lft_flat.specs.declared.parts.Reaction.{Reaction}
 use Rattle.lft_flat.specs.declared.parts.Trigger.{Trigger}
 use Rattle.lft_lists.proofs.Picked.{take_one_more}
 use Rattle.lft_lists.proofs.Places.{same_at}
+use Rattle.lft_queue.proofs.Marking.{contains_pushed, none_contained}
 use Rattle.lft_agenda.specs.Listeners.{IsListener, IsLive, ListenerParts, AreListeners}
 use Rattle.lft_agenda.specs.Lists.{TriggerLists, list_of, HasList, IsPushed, ArePushed}
 use Rattle.lft_agenda.specs.Filling.{AreListed}
-use Rattle.lft_agenda.proofs.Pushing.{contains_pushed}
-
-pub none_contained : {X : Type 0} (x : X) → Contains [] x → ⊥
-none_contained {X} x c = let l : c.0 < length {A = X} [] = c.1 in omega arith
 
 pub empty_contained : {X : Type 0} (xs : List X) (x : X) → xs ≡ [] → Contains xs x → ⊥
 empty_contained {X} xs x e c = none_contained x (subst (λ (ys : List X). Contains ys x) e c)

@@ -20,8 +20,7 @@ use Rattle.lft_lists.proofs.Picked.{take_one_more}
 use Rattle.lft_lists.proofs.Places.{get_same, length_same, get_written, get_unwritten, get_write_cases, length_written, same_at, same_some}
 use Rattle.lft_agenda.specs.Listeners.{beat, IsLeader, IsLive}
 use Rattle.lft_agenda.specs.Filling.{beat_cmp, StartsBefore, HaveLeaders, AreLeading}
-use Rattle.lft_agenda.proofs.Pushing.{contains_pushed}
-use Rattle.lft_agenda.proofs.Filling.{none_contained}
+use Rattle.lft_queue.proofs.Marking.{contains_pushed, none_contained}
 use Rattle.lft_tag.proofs.Comparing.{not_equal}
 
 -- of two beats the order says whether they are one

@@ -7,7 +7,7 @@ use Rattle.lft_flat.specs.declared.parts.Trigger.TheVariants.{Startup, Shutdown,
 use Rattle.lft_lists.proofs.Members.{Mem, mem_contains, contains_mem}
 use Rattle.lft_lists.proofs.Places.{same_some}
 use Rattle.lft_agenda.specs.Listeners.{beat, IsLeader}
-use Rattle.lft_agenda.proofs.Filling.{none_contained}
+use Rattle.lft_queue.proofs.Marking.{none_contained}
 use Rattle.lft_agenda.proofs.Leaders.{cases_beat, starts_cases, starts_through}
 
 -- each timer among the triggers is led by one that beats like it and doesn't start later

@@ -1,24 +1,12 @@
 -- One reaction more in a list.
 use Rattle.std.proofs.Common.{◌≡◌, ◌≢◌, ◌↔◌, ◌⊎◌, inl, inr, ◌<◌, ℕ, zero, suc, List, [], ◌∷◌, ◌++◌, length, map, refl, sym, ap, ◌∙◌, subst, Option, Some, slice_get, slice_set, Contains, unwrap_or}
 use Rattle.std.proofs.lemmas.Bool.{cases_eq}
-use Rattle.std.proofs.lemmas.List.Elements.{Contains-append_left, Contains-push, Contains-push_cases}
 use Rattle.lft_flat.specs.declared.parts.Name.TheVariants.{Port, Action}
 use Rattle.lft_flat.specs.declared.parts.Trigger.{Trigger}
 use Rattle.lft_flat.specs.declared.parts.Trigger.TheVariants.{Startup, Shutdown, Timer, On}
 use Rattle.lft_lists.proofs.Places.{get_written, get_unwritten, length_written}
+use Rattle.lft_queue.proofs.Marking.{contains_pushed}
 use Rattle.lft_agenda.specs.Lists.{TriggerLists, list_at, list_of, HasList, IsPushed}
-
--- the members of a list with one more at its end
-pub contains_pushed : {X : Type 0} (xs : List X) (y x : X) → Contains (xs ++ y ∷ []) x ↔ (Contains xs x ⊎ (x ≡ y))
-contains_pushed {X} xs y x = (λ c. to (Contains-push_cases xs y x c), from)
-  where
-    to : Contains xs x ⊎ (y ≡ x) → Contains xs x ⊎ (x ≡ y)
-    to (inl c) = inl c
-    to (inr e) = inr (sym e)
-
-    from : Contains xs x ⊎ (x ≡ y) → Contains (xs ++ y ∷ []) x
-    from (inl c) = Contains-append_left xs (y ∷ []) x c
-    from (inr e) = subst (λ (z : X). Contains (xs ++ y ∷ []) z) (sym e) (Contains-push xs y)
 
 pub at_written : (lists : List (List ℕ)) (n : ℕ) (list : List ℕ) → n < length lists → list_at (slice_set lists n list) n ≡ list
 at_written lists n list l = ap (λ (o : Option (List ℕ)). unwrap_or o []) (get_written lists n list l)

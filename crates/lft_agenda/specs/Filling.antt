@@ -11,7 +11,8 @@ use Rattle.lft_flat.specs.declared.parts.Reaction.{Reaction}
 use Rattle.lft_flat.specs.declared.parts.Timer.{Timer as TimerOf}
 use Rattle.lft_flat.specs.declared.parts.Trigger.{Trigger}
 use Rattle.lft_flat.specs.declared.parts.Trigger.TheVariants.{Timer}
-use Rattle.lft_agenda.specs.Listeners.{beat, IsLeader, IsListener, IsArrival, IsWatched, Reads, arrival, IsDelayed, IsFirstDelayed}
+use Rattle.lft_queue.specs.Reading.{AreMarked}
+use Rattle.lft_agenda.specs.Listeners.{beat, IsLeader, IsListener, IsArrival, IsWatched, arrival, IsDelayed, IsFirstDelayed}
 use Rattle.lft_agenda.specs.Lists.{TriggerLists, list_at, list_of, HasList}
 
 -- beats by the period, then by the rest
@@ -28,11 +29,6 @@ pub record AreArriving (program : Parts) (below : ℕ) (lists : List (List ℕ))
   pub as_long : length lists ≡ length program.ports
   pub each : (o p : ℕ) → Contains (list_at lists o) p ↔ ((p < below) × IsArrival program o p × IsWatched program p)
   pub ascends : (o : ℕ) → AllPairs (λ p q. p < q) (list_at lists o)
-
--- the ports that a reaction below a number reads are marked, and no others
-pub record AreMarked (program : Parts) (below : ℕ) (marked : List Bool) : Type 0 where
-  pub as_long : length marked ≡ length program.ports
-  pub each : (p : ℕ) → (slice_get marked p ≡ Some true) ↔ ((r : ℕ) × (r < below) × Reads program r p)
 
 -- the port is delayed, and a write arrives there sooner than at another one, if there is one
 abbrev pub Precedes : Parts → PortOf → Option ℕ → Type 0

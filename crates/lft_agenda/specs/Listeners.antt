@@ -2,13 +2,13 @@
 use Rattle.std.specs.Prelude.{◌≡◌, ◌≢◌, ◌↔◌, ◌⊎◌, ◌<◌, ◌≤◌, ◌%◌, ℕ, List, Some, Contains, AllPairs, slice_get, length}
 use Rattle.lft_tag.specs.declared.Tag.{Tag}
 use Rattle.lft_tag.specs.Tags.{UpTo}
-use Rattle.lft_flat.specs.Parts.{Parts, inputs}
-use Rattle.lft_flat.specs.declared.parts.Name.TheVariants.{Port}
+use Rattle.lft_flat.specs.Parts.{Parts}
 use Rattle.lft_flat.specs.declared.parts.Port.{Port as PortOf}
 use Rattle.lft_flat.specs.declared.parts.Reaction.{Reaction}
 use Rattle.lft_flat.specs.declared.parts.Timer.{Timer as TimerOf}
 use Rattle.lft_flat.specs.declared.parts.Trigger.{Trigger}
 use Rattle.lft_flat.specs.declared.parts.Trigger.TheVariants.{Timer}
+use Rattle.lft_queue.specs.Reading.{Reads}
 use Rattle.lft_agenda.specs.Lists.{TriggerLists, list_at, list_of}
 
 -- the trigger triggers reaction r
@@ -33,10 +33,6 @@ IsLive program n = (r : ℕ) × (x : Reaction) × (slice_get program.reactions r
 -- a write of the origin arrives at port p
 abbrev pub IsArrival : Parts → ℕ → ℕ → Type 0
 IsArrival program origin p = (port : PortOf) × (slice_get program.ports p ≡ Some port) × (port.origin ≡ origin)
-
--- reaction r reads port p: it is a trigger or a use
-abbrev pub Reads : Parts → ℕ → ℕ → Type 0
-Reads program r p = (x : Reaction) × (slice_get program.reactions r ≡ Some x) × Contains (inputs x) (Port p)
 
 -- where a write of its origin at (0, 0) arrives at the port
 abbrev pub arrival : PortOf → Tag

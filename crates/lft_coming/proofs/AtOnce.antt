@@ -8,7 +8,7 @@ use Rattle.lft_lists.proofs.Members.{Mem, get_mem, mem_left, mem_right, mem_cont
 use Rattle.lft_lists.proofs.Places.{get_there, same_at, same_some, get_write_cases, length_written}
 use Rattle.lft_flat.specs.Naming.{named}
 use Rattle.lft_flat.specs.Origins.{Origin}
-use Rattle.lft_flat.specs.Parts.{Parts}
+use Rattle.lft_flat.specs.Parts.{Parts, inputs}
 use Rattle.lft_flat.specs.Sound.{IsSound}
 use Rattle.lft_flat.specs.declared.parts.Name.{Name}
 use Rattle.lft_flat.specs.declared.parts.Name.TheVariants.{Port, Action}
@@ -18,7 +18,8 @@ use Rattle.lft_flat.specs.declared.parts.Trigger.TheVariants.{On}
 use Rattle.lft_flat.proofs.Origins.{origin_unique, port_of}
 use Rattle.lft_model.specs.Plans.{PlanParts}
 use Rattle.lft_model.proofs.Steps.{both_true}
-use Rattle.lft_coming.specs.AtOnce.{is_undelayed, origin_of, HasEvents, HaveGrown}
+use Rattle.lft_queue.proofs.Marking.{of_reads}
+use Rattle.lft_coming.specs.AtOnce.{is_undelayed, origin_of, HasEvents, IsAwaited, HaveGrown}
 use Rattle.lft_coming.specs.declared.listeners.Listeners.{Listeners}
 use Rattle.lft_coming.specs.Listeners.{list_of, heard_at, BothGrow, IsListed, AreListeners}
 use Rattle.lft_coming.specs.Listens.{Listens}
@@ -141,3 +142,8 @@ listeners_of plan listeners ports actions listed = record { ports = ports; actio
         let m : Mem n (filter_map named l.reaction.triggers) = mem_filter named (On n) n l.reaction.triggers (contains_mem (On n) l.reaction.triggers l.is_trigger) refl in
         let i = get_mem n (filter_map named l.reaction.triggers) m in
         listed r l.reaction l.is_reaction i.0 n list i.1 e
+
+-- somebody waits for an input of a reaction
+pub input_awaited : (program : Parts) (r : ℕ) (x : Reaction) → slice_get program.reactions r ≡ Some x → (n : Name) → Mem n (inputs x) → IsAwaited program n
+input_awaited program r x is (Port p) m = of_reads program r p (x, is, mem_contains (Port p) (inputs x) m)
+input_awaited program r x is (Action a) m = tt

@@ -31,8 +31,8 @@ use Rattle.lft_model.proofs.Ended.{written_by, by_written}
 use Rattle.lft_model.proofs.Places.{slice_get_within}
 use Rattle.lft_model.proofs.Steps.{both_true, written_some, some_written}
 use Rattle.lft_queue.specs.Pending.{value_of}
-use Rattle.lft_coming.specs.AtOnce.{is_undelayed, origin_of}
-use Rattle.lft_coming.specs.Channels.{is_behind, arrives_at, arrival, AreChannels, carried_to, carried_by, IsCarried, IsUncarried, AreCarried}
+use Rattle.lft_coming.specs.AtOnce.{is_undelayed, origin_of, Passes}
+use Rattle.lft_coming.specs.Channels.{is_behind, arrives_at, arrival, AreChannelsTo, carried_to, carried_by, IsCarried, IsUncarried, AreCarried}
 use Rattle.lft_coming.specs.Coming.{to_come}
 use Rattle.lft_coming.specs.declared.coming.Coming.{Coming}
 use Rattle.lft_coming.specs.declared.writes.Written.{Written}
@@ -43,7 +43,7 @@ use Rattle.lft_coming.proofs.AtOnce.{test_of, origin_is, port_behind, delayed_wa
 use Rattle.lft_coming.proofs.ToCome.{few_of}
 
 -- a write arrives at a port where the port's delays lead, and at once where there is none
-arrives_way : (program : Parts) → IsSound program → (g : Tag) (p o : ℕ) (ds : List ℕ) → Origin program p o ds → arrives_at program g p ≡ after_all g ds
+pub arrives_way : (program : Parts) → IsSound program → (g : Tag) (p o : ℕ) (ds : List ℕ) → Origin program p o ds → arrives_at program g p ≡ after_all g ds
 arrives_way program sound g p o ds way =
     let x = port_of way in
     let kept = sound.origins p x.0 x.1 in
@@ -184,7 +184,7 @@ module _ (program : Parts) (o : ℕ) (g : Tag) (v : Value) (targets : List ℕ) 
       go false e = here (behind_of program o p e own) (listed e there) (same_tag h (arrives_at program g p)) refl
       go true e = none_arrived (Port p) (λ q s k t. false≢true (sym (of_behind program o q k).1 ∙ ap (λ (j : ℕ). is_undelayed program j) (same_port q s) ∙ e)) ∙ sym (none_held (arrives_at program g p) h (λ q. Before-irrefl g (subst (λ (k : Tag). Before g k) (q ∙ arrives_now program g p e) b)) (Some v))
 
-module _ (program : Parts) (u : List Row) (count : ℕ) (row : Row) (is_row : slice_get u count ≡ Some row) (start old : Coming) (writes : List (Option Written)) (last : Tag) (are : AreCarried program u row.tag last count start old writes) where
+module _ (program : Parts) (test : ℕ → Bool) (u : List Row) (count : ℕ) (row : Row) (is_row : slice_get u count ≡ Some row) (start old : Coming) (writes : List (Option Written)) (last : Tag) (are : AreCarried program test u row.tag last count start old writes) where
   -- a row that doesn't write a port's origin leaves it to be carried
   still_unwritten : (p : ℕ) → ((v : Value) → row.step ≢ Write (Port (origin_of program p)) v) → ((i : ℕ) (x : Row) (v : Value) → i < count → slice_get u i ≡ Some x → x.step ≢ Write (Port (origin_of program p)) v) → (i : ℕ) (x : Row) (v : Value) → i < count + 1 → slice_get u i ≡ Some x → x.step ≢ Write (Port (origin_of program p)) v
   still_unwritten p other none i x v l e s = go (cases_eq i count)
@@ -193,8 +193,8 @@ module _ (program : Parts) (u : List Row) (count : ℕ) (row : Row) (is_row : sl
       go (inl q) = other v (ap (λ (y : Row). y.step) (same_at u count i row x is_row e (sym q)) ∙ s)
       go (inr d) = none i x v (omega (arith, l, d)) e s
 
-  pub carried_stays : ((p : ℕ) → value_written p row.step ≡ None) → AreCarried program u row.tag last (count + 1) start old writes
-  carried_stays none = record { as_long = are.as_long; up_to = are.up_to; actions = are.actions; ports = λ p. go p (are.ports p) }
+  pub carried_stays : ((p : ℕ) → value_written p row.step ≡ None) → AreCarried program test u row.tag last (count + 1) start old writes
+  carried_stays none = record { as_long = are.as_long; up_to = are.up_to; actions = are.actions; ports = λ p k. go p (are.ports p k) }
     where
       go : (p : ℕ) → IsCarried program u row.tag last p start old writes ⊎ IsUncarried program u row.tag last count p start old writes → IsCarried program u row.tag last p start old writes ⊎ IsUncarried program u row.tag last (count + 1) p start old writes
       go p (inl c) = inl c
@@ -221,17 +221,17 @@ module _ (program : Parts) (u : List Row) (count : ℕ) (row : Row) (is_row : sl
     here p q = ap (λ (k : ℕ). slice_get writes k) q ∙ is
 
     -- one step: another origin's port is as it was, and each of this origin's has its event
-    module _ (new : Coming) (actions : (events : List Event) (h : Tag) (a : ℕ) → UpTo h last → to_come events new h (Action a) ≡ to_come events old h (Action a)) (others : (p : ℕ) → origin_of program p ≢ o → (events : List Event) (h : Tag) → UpTo h last → to_come events new h (Port p) ≡ to_come events old h (Port p)) (own : (p : ℕ) → origin_of program p ≡ o → IsCarried program u row.tag last p start old writes ⊎ IsUncarried program u row.tag last count p start old writes → (events : List Event) (h : Tag) → Before row.tag h → UpTo h last → to_come events new h (Port p) ≡ to_come events start h (Port p) ++ held (carried_to program u row.tag p) h) where
+    module _ (new : Coming) (actions : (events : List Event) (h : Tag) (a : ℕ) → UpTo h last → to_come events new h (Action a) ≡ to_come events old h (Action a)) (others : (p : ℕ) → origin_of program p ≢ o → (events : List Event) (h : Tag) → UpTo h last → to_come events new h (Port p) ≡ to_come events old h (Port p)) (own : (p : ℕ) → test p ≡ true → origin_of program p ≡ o → IsCarried program u row.tag last p start old writes ⊎ IsUncarried program u row.tag last count p start old writes → (events : List Event) (h : Tag) → Before row.tag h → UpTo h last → to_come events new h (Port p) ≡ to_come events start h (Port p) ++ held (carried_to program u row.tag p) h) where
       other : (p : ℕ) → origin_of program p ≢ o → IsCarried program u row.tag last p start old writes ⊎ IsUncarried program u row.tag last count p start old writes → IsCarried program u row.tag last p start new rest ⊎ IsUncarried program u row.tag last (count + 1) p start new rest
       other p n (inl c) = inl (record { put = λ events h b up. others p n events h up ∙ c.put events h b up; gone = λ x e. c.gone x (sym (get_unwritten writes o (origin_of program p) None n) ∙ e) })
       other p n (inr r) = inr (record { same = λ events h up. others p n events h up ∙ r.same events h up; kept = λ x e. r.kept x (sym (get_unwritten writes o (origin_of program p) None n) ∙ e); unwritten = still_unwritten p (λ z s. let both : Write (Port o) v ≡ Write (Port (origin_of program p)) z = sym step ∙ s in let q : o ≡ origin_of program p = cc in n (sym q)) r.unwritten })
 
-      port : (p : ℕ) → IsCarried program u row.tag last p start new rest ⊎ IsUncarried program u row.tag last (count + 1) p start new rest
-      port p = go (cases_eq (origin_of program p) o)
+      port : (p : ℕ) → test p ≡ true → IsCarried program u row.tag last p start new rest ⊎ IsUncarried program u row.tag last (count + 1) p start new rest
+      port p k = go (cases_eq (origin_of program p) o)
         where
           go : (origin_of program p ≡ o) ⊎ (origin_of program p ≡ o → ⊥) → IsCarried program u row.tag last p start new rest ⊎ IsUncarried program u row.tag last (count + 1) p start new rest
-          go (inl q) = inl (record { put = λ events h b up. own p q (are.ports p) events h b up; gone = gone p q })
-          go (inr n) = other p n (are.ports p)
+          go (inl q) = inl (record { put = λ events h b up. own p k q (are.ports p k) events h b up; gone = gone p q })
+          go (inr n) = other p n (are.ports p k)
 
       still_up_to : (p : ℕ) (x : Written) → slice_get rest p ≡ Some (Some x) → UpTo x.tag row.tag
       still_up_to p x e = go (get_write_cases writes o p None (Some x) within e)
@@ -240,28 +240,28 @@ module _ (program : Parts) (u : List Row) (count : ℕ) (row : Row) (is_row : sl
           go (inl (s, f)) = absurd (cc)
           go (inr (n, f)) = are.up_to p x f
 
-      stepped : AreCarried program u row.tag last (count + 1) start new rest
+      stepped : AreCarried program test u row.tag last (count + 1) start new rest
       stepped = record { as_long = length_written writes o None ∙ are.as_long; up_to = still_up_to; actions = λ events h a up. actions events h a up ∙ are.actions events h a up; ports = port }
 
     -- a write that is kept no more is carried already
-    pub carried_again : value_at row.tag w ≡ None → AreCarried program u row.tag last (count + 1) start old rest
-    carried_again none = stepped old (λ events h a up. refl) (λ p n events h up. refl) (λ p q. own p q)
+    pub carried_again : value_at row.tag w ≡ None → AreCarried program test u row.tag last (count + 1) start old rest
+    carried_again none = stepped old (λ events h a up. refl) (λ p n events h up. refl) (λ p k q. own p q)
       where
         own : (p : ℕ) → origin_of program p ≡ o → IsCarried program u row.tag last p start old writes ⊎ IsUncarried program u row.tag last count p start old writes → (events : List Event) (h : Tag) → Before row.tag h → UpTo h last → to_come events old h (Port p) ≡ to_come events start h (Port p) ++ held (carried_to program u row.tag p) h
         own p q (inl c) events h b up = c.put events h b up
         own p q (inr r) events h b up = absurd (some_last (ap (λ (k : ℕ). last_write u row.tag k) (sym q) ∙ sym (r.kept w (here p q)) ∙ none))
 
     -- and one that is kept is carried now
-    pub carried_now : (lists : List (List ℕ)) → AreChannels program lists → (targets : List ℕ) → slice_get lists o ≡ Some targets → (value : Value) → value_at row.tag w ≡ Some value → (new : Coming) → ((events : List Event) (h : Tag) (n : Name) → UpTo h last → to_come events new h n ≡ to_come events old h n ++ filter_map (arrival program o row.tag value h n) targets) → AreCarried program u row.tag last (count + 1) start new rest
-    carried_now lists channels targets list value some new put = stepped new (λ events h a up. put events h (Action a) up ∙ ap (λ (vs : List Value). to_come events old h (Action a) ++ vs) (no_action program o row.tag value targets h a) ∙ append-nil (to_come events old h (Action a))) (λ p n events h up. put events h (Port p) up ∙ ap (λ (vs : List Value). to_come events old h (Port p) ++ vs) (no_other program o row.tag value targets h p n) ∙ append-nil (to_come events old h (Port p))) (λ p q. own p q)
+    pub carried_now : (lists : List (List ℕ)) → AreChannelsTo program test lists → (targets : List ℕ) → slice_get lists o ≡ Some targets → (value : Value) → value_at row.tag w ≡ Some value → (new : Coming) → ((events : List Event) (h : Tag) (n : Name) → UpTo h last → to_come events new h n ≡ to_come events old h n ++ filter_map (arrival program o row.tag value h n) targets) → AreCarried program test u row.tag last (count + 1) start new rest
+    carried_now lists channels targets list value some new put = stepped new (λ events h a up. put events h (Action a) up ∙ ap (λ (vs : List Value). to_come events old h (Action a) ++ vs) (no_action program o row.tag value targets h a) ∙ append-nil (to_come events old h (Action a))) (λ p n events h up. put events h (Port p) up ∙ ap (λ (vs : List Value). to_come events old h (Port p) ++ vs) (no_other program o row.tag value targets h p n) ∙ append-nil (to_come events old h (Port p))) (λ p k q. own p k q)
       where
-        listed : (p : ℕ) → origin_of program p ≡ o → (z : Bool) → is_undelayed program p ≡ z → Contains targets p ⊎ (is_undelayed program p ≡ true)
-        listed p q true e = inr e
-        listed p q false e = let x = port_behind program p e in inl (channels.each p x.0 targets x.1 e (ap (λ (k : ℕ). slice_get lists k) (sym (origin_at program p x.0 x.1) ∙ q) ∙ list))
+        listed : (p : ℕ) → test p ≡ true → origin_of program p ≡ o → (z : Bool) → is_undelayed program p ≡ z → Contains targets p ⊎ (is_undelayed program p ≡ true)
+        listed p k q true e = inr e
+        listed p k q false e = let x = port_behind program p e in inl (channels.each p x.0 targets k x.1 e (ap (λ (i : ℕ). slice_get lists i) (sym (origin_at program p x.0 x.1) ∙ q) ∙ list))
 
-        own : (p : ℕ) → origin_of program p ≡ o → IsCarried program u row.tag last p start old writes ⊎ IsUncarried program u row.tag last count p start old writes → (events : List Event) (h : Tag) → Before row.tag h → UpTo h last → to_come events new h (Port p) ≡ to_come events start h (Port p) ++ held (carried_to program u row.tag p) h
-        own p q (inl c) events h b up = absurd (none-some value (sym (c.gone w (here p q)) ∙ some))
-        own p q (inr r) events h b up = put events h (Port p) up ∙ ap (λ (vs : List Value). vs ++ filter_map (arrival program o row.tag value h (Port p)) targets) (r.same events h up) ∙ ap (λ (vs : List Value). to_come events start h (Port p) ++ vs) (own_event program o row.tag value targets h u p q (sym (r.kept w (here p q)) ∙ some) b (listed p q (is_undelayed program p) refl) few)
+        own : (p : ℕ) → test p ≡ true → origin_of program p ≡ o → IsCarried program u row.tag last p start old writes ⊎ IsUncarried program u row.tag last count p start old writes → (events : List Event) (h : Tag) → Before row.tag h → UpTo h last → to_come events new h (Port p) ≡ to_come events start h (Port p) ++ held (carried_to program u row.tag p) h
+        own p k q (inl c) events h b up = absurd (none-some value (sym (c.gone w (here p q)) ∙ some))
+        own p k q (inr r) events h b up = put events h (Port p) up ∙ ap (λ (vs : List Value). vs ++ filter_map (arrival program o row.tag value h (Port p)) targets) (r.same events h up) ∙ ap (λ (vs : List Value). to_come events start h (Port p) ++ vs) (own_event program o row.tag value targets h u p q (sym (r.kept w (here p q)) ∙ some) b (listed p k q (is_undelayed program p) refl) few)
           where
             few : length (filter_map (arrival program o row.tag value h (Port p)) targets) < 2
             few =
@@ -270,10 +270,10 @@ module _ (program : Parts) (u : List Row) (count : ℕ) (row : Row) (is_row : sl
                 omega arith
 
 -- once all rows of a tag have carried what they write
-module _ (program : Parts) (u : List Row) (g : Tag) (count : ℕ) (all : length u < count + 1) (start new : Coming) (writes : List (Option Written)) (last : Tag) (are : AreCarried program u g last count start new writes) where
-  pub all_carried : (events : List Event) (h : Tag) (n : Name) → Before g h → UpTo h last → to_come events new h n ≡ to_come events start h n ++ held (carried_by program u g n) h
-  all_carried events h (Action a) b up = are.actions events h a up ∙ sym (append-nil (to_come events start h (Action a)))
-  all_carried events h (Port p) b up = go (are.ports p)
+module _ (program : Parts) (test : ℕ → Bool) (u : List Row) (g : Tag) (count : ℕ) (all : length u < count + 1) (start new : Coming) (writes : List (Option Written)) (last : Tag) (are : AreCarried program test u g last count start new writes) where
+  pub all_carried : (events : List Event) (h : Tag) (n : Name) → Passes test n → Before g h → UpTo h last → to_come events new h n ≡ to_come events start h n ++ held (carried_by program u g n) h
+  all_carried events h (Action a) k b up = are.actions events h a up ∙ sym (append-nil (to_come events start h (Action a)))
+  all_carried events h (Port p) k b up = go (are.ports p k)
     where
       none : IsUncarried program u g last count p start new writes → last_write u g (origin_of program p) ≡ None
       none r = by (last_write u g (origin_of program p)) refl
@@ -289,3 +289,8 @@ module _ (program : Parts) (u : List Row) (g : Tag) (count : ℕ) (all : length 
       go : IsCarried program u g last p start new writes ⊎ IsUncarried program u g last count p start new writes → to_come events new h (Port p) ≡ to_come events start h (Port p) ++ held (carried_to program u g p) h
       go (inl c) = c.put events h b up
       go (inr r) = r.same events h up ∙ sym (append-nil (to_come events start h (Port p))) ∙ ap (λ (z : Option Value). to_come events start h (Port p) ++ held (option_to_list (option_map (λ v. (arrives_at program g p, v)) z)) h) (sym (none r))
+
+-- each name passes the test that all ports pass
+pub all_pass : (n : Name) → Passes (λ p. true) n
+all_pass (Port p) = refl
+all_pass (Action a) = tt

@@ -1,5 +1,5 @@
 -- Tags that are clear of a clash.
-use Rattle.std.proofs.Common.{◌≡◌, ◌≢◌, ℕ, ◌+◌, ◌<◌, ◌⊎◌, inl, inr, List, length, refl, sym, ◌∙◌, subst, arith, Option, Some, None, slice_get, slice_set}
+use Rattle.std.proofs.Common.{◌≡◌, ◌≢◌, ℕ, true, ◌+◌, ◌<◌, ◌⊎◌, inl, inr, List, length, refl, sym, ◌∙◌, subst, arith, Option, Some, None, slice_get, slice_set}
 use Rattle.std.proofs.lemmas.Option.{none-some}
 use Rattle.lft_lists.proofs.Places.{get_write_cases, length_written}
 use Rattle.lft_flat.specs.Parts.{Parts}
@@ -37,16 +37,16 @@ clear_first program u g last clash start writes are = record {
   as_long = are.as_long;
   up_to = are.up_to;
   no_later = λ h clear. clear;
-  carried = λ h up clear. record { as_long = are.as_long; up_to = are.up_to; actions = λ events k a below. refl; ports = λ p. inr (record { same = λ events k below. refl; kept = λ w e. are.each (origin_of program p) w e; unwritten = λ i x v l. absurd (omega (arith, l)) }) };
+  carried = λ h up clear. record { as_long = are.as_long; up_to = are.up_to; actions = λ events k a below. refl; ports = λ p k. inr (record { same = λ events k below. refl; kept = λ w e. are.each (origin_of program p) w e; unwritten = λ i x v l. absurd (omega (arith, l)) }) };
 }
 
 -- one more row has carried what it writes
-pub clear_more : (program : Parts) (u : List Row) (g last : Tag) (count : ℕ) (row : Row) (clash noted next : Option Tag) (start old new : Coming) (writes rest : List (Option Written)) → slice_get u count ≡ Some row → row.tag ≡ g → IsNoLater noted next → AreFewer writes rest → ((h : Tag) → UpTo h last → IsClear next h → AreCarried program u row.tag h count start old writes → AreCarried program u row.tag h (count + 1) start new rest) → AreCarriedClear program u g last count clash noted start old writes → AreCarriedClear program u g last (count + 1) clash next start new rest
+pub clear_more : (program : Parts) (u : List Row) (g last : Tag) (count : ℕ) (row : Row) (clash noted next : Option Tag) (start old new : Coming) (writes rest : List (Option Written)) → slice_get u count ≡ Some row → row.tag ≡ g → IsNoLater noted next → AreFewer writes rest → ((h : Tag) → UpTo h last → IsClear next h → AreCarried program (λ p. true) u row.tag h count start old writes → AreCarried program (λ p. true) u row.tag h (count + 1) start new rest) → AreCarriedClear program u g last count clash noted start old writes → AreCarriedClear program u g last (count + 1) clash next start new rest
 clear_more program u g last count row clash noted next start old new writes rest is at no_later fewer step are = record {
   as_long = fewer.as_long ∙ are.as_long;
   up_to = λ p w e. are.up_to p w (fewer.each p w e);
   no_later = λ h clear. are.no_later h (no_later h clear);
-  carried = λ h up clear. subst (λ (k : Tag). AreCarried program u k h (count + 1) start new rest) at (step h up clear (subst (λ (k : Tag). AreCarried program u k h count start old writes) (sym at) (are.carried h up (no_later h clear))));
+  carried = λ h up clear. subst (λ (k : Tag). AreCarried program (λ p. true) u k h (count + 1) start new rest) at (step h up clear (subst (λ (k : Tag). AreCarried program (λ p. true) u k h count start old writes) (sym at) (are.carried h up (no_later h clear))));
 }
 
 pub clear_earlier : (program : Parts) (u : List Row) (g last : Tag) (count : ℕ) (clash noted : Option Tag) (start new : Coming) (writes : List (Option Written)) → AreCarriedClear program u g last count clash noted start new writes → AreEarlier program (after g 0) writes

@@ -11,6 +11,7 @@ use Rattle.lft_steps.specs.declared.row.Row.{Row}
 use Rattle.lft_model.specs.Plans.{PlanParts}
 use Rattle.lft_model.specs.Presence.{Last}
 use Rattle.lft_model.specs.Runs.{Ran}
+use Rattle.lft_queue.specs.Reading.{is_read}
 use Rattle.lft_coming.specs.Listens.{Listens}
 
 -- the test of a port that lies behind no delay
@@ -25,6 +26,15 @@ origin_of program p = unwrap_or (option_map (λ x. x.origin) (slice_get program.
 abbrev pub HasEvents : Parts → Name → Type 0
 HasEvents program (Port p) = is_undelayed program p ≡ false
 HasEvents program (Action a) = Unit {0}
+
+-- an action, or a port that passes the test
+abbrev pub Passes : (ℕ → Bool) → Name → Type 0
+Passes test (Port p) = test p ≡ true
+Passes test (Action a) = Unit {0}
+
+-- somebody waits for the name's events: it is an action, or a port that some reaction reads
+abbrev pub IsAwaited : Parts → Name → Type 0
+IsAwaited program n = Passes (is_read program) n
 
 -- as many lists, each with all that it had
 pub record HaveGrown (old new : List (List ℕ)) : Type 0 where

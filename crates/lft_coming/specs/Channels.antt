@@ -1,5 +1,5 @@
 -- The ports behind delays, and the events that writes carry to them.
-use Rattle.std.specs.Prelude.{◌≡◌, ◌≢◌, ℕ, ◌<◌, ◌⊎◌, Bool, false, not, cond, ◌&&◌, ◌==◌, List, [], ◌++◌, length, Option, Some, None, slice_get, Contains, unwrap_or, option_map, option_to_list}
+use Rattle.std.specs.Prelude.{◌≡◌, ◌≢◌, ℕ, ◌<◌, ◌⊎◌, Bool, true, false, not, cond, ◌&&◌, ◌==◌, List, [], ◌++◌, length, Option, Some, None, slice_get, Contains, unwrap_or, option_map, option_to_list}
 use Rattle.lft_tag.specs.declared.Tag.{Tag}
 use Rattle.lft_tag.specs.Tags.{Before, UpTo}
 use Rattle.lft_tag.specs.Shifts.{shifted}
@@ -13,6 +13,7 @@ use Rattle.lft_steps.specs.declared.row.Step.TheVariants.{Write}
 use Rattle.lft_steps.specs.declared.externals.Event.{Event}
 use Rattle.lft_model.specs.Plans.{PlanParts}
 use Rattle.lft_queue.specs.Pending.{same_key}
+use Rattle.lft_queue.specs.Reading.{is_read}
 use Rattle.lft_coming.specs.AtOnce.{is_undelayed, origin_of}
 use Rattle.lft_coming.specs.Coming.{to_come, IsClear, IsNoLater}
 use Rattle.lft_coming.specs.declared.coming.Coming.{Coming}
@@ -33,10 +34,18 @@ arrives_at program g p = unwrap_or (option_map (λ x. shifted g (x.shift.time, x
 abbrev pub arrival : Parts → ℕ → Tag → Value → Tag → Name → ℕ → Option Value
 arrival program o g v h n p = cond (is_behind program o p && same_key (arrives_at program g p) (Port p) h n) (Some v) None
 
--- the list of each origin has all ports that lie behind a delay of it
-pub record AreChannels (program : Parts) (lists : List (List ℕ)) : Type 0 where
+-- the list of each origin has all ports that pass the test and lie behind a delay of it
+pub record AreChannelsTo (program : Parts) (test : ℕ → Bool) (lists : List (List ℕ)) : Type 0 where
   pub as_long : length lists ≡ length program.ports
-  pub each : (p : ℕ) (port : PortOf) (list : List ℕ) → slice_get program.ports p ≡ Some port → is_undelayed program p ≡ false → slice_get lists port.origin ≡ Some list → Contains list p
+  pub each : (p : ℕ) (port : PortOf) (list : List ℕ) → test p ≡ true → slice_get program.ports p ≡ Some port → is_undelayed program p ≡ false → slice_get lists port.origin ≡ Some list → Contains list p
+
+-- the list of each origin has all ports that lie behind a delay of it
+abbrev pub AreChannels : Parts → List (List ℕ) → Type 0
+AreChannels program lists = AreChannelsTo program (λ p. true) lists
+
+-- the list of each origin has all ports that lie behind a delay of it and that some reaction reads
+abbrev pub AreReadChannels : Parts → List (List ℕ) → Type 0
+AreReadChannels program lists = AreChannelsTo program (is_read program) lists
 
 -- the event that the rows u at g make of a port: one, of its origin's last write
 abbrev pub carried_to : Parts → List Row → Tag → ℕ → List (Tag × Value)
@@ -63,16 +72,16 @@ pub record IsUncarried (program : Parts) (u : List Row) (g last : Tag) (count p 
   pub kept : (w : Option Written) → slice_get writes (origin_of program p) ≡ Some w → value_at g w ≡ last_write u g (origin_of program p)
   pub unwritten : (i : ℕ) (x : Row) (v : Value) → i < count → slice_get u i ≡ Some x → x.step ≢ Write (Port (origin_of program p)) v
 
--- so many first rows of u, all at g, have carried what they write up to the stop tag: each port has its event, or none yet
-pub record AreCarried (program : Parts) (u : List Row) (g last : Tag) (count : ℕ) (old new : Coming) (writes : List (Option Written)) : Type 0 where
+-- so many first rows of u, all at g, have carried what they write up to the stop tag: each port that passes the test has its event, or none yet
+pub record AreCarried (program : Parts) (test : ℕ → Bool) (u : List Row) (g last : Tag) (count : ℕ) (old new : Coming) (writes : List (Option Written)) : Type 0 where
   pub as_long : length writes ≡ length program.ports
   pub up_to : (p : ℕ) (w : Written) → slice_get writes p ≡ Some (Some w) → UpTo w.tag g
   pub actions : (events : List Event) (h : Tag) (a : ℕ) → UpTo h last → to_come events new h (Action a) ≡ to_come events old h (Action a)
-  pub ports : (p : ℕ) → IsCarried program u g last p old new writes ⊎ IsUncarried program u g last count p old new writes
+  pub ports : (p : ℕ) → test p ≡ true → IsCarried program u g last p old new writes ⊎ IsUncarried program u g last count p old new writes
 
 -- so many first rows have carried what they write, of all tags that are clear of what is noted
 pub record AreCarriedClear (program : Parts) (u : List Row) (g last : Tag) (count : ℕ) (clash noted : Option Tag) (old new : Coming) (writes : List (Option Written)) : Type 0 where
   pub as_long : length writes ≡ length program.ports
   pub up_to : (p : ℕ) (w : Written) → slice_get writes p ≡ Some (Some w) → UpTo w.tag g
   pub no_later : IsNoLater clash noted
-  pub carried : (h : Tag) → UpTo h last → IsClear noted h → AreCarried program u g h count old new writes
+  pub carried : (h : Tag) → UpTo h last → IsClear noted h → AreCarried program (λ p. true) u g h count old new writes

@@ -11,6 +11,7 @@ use Rattle.lft_model.specs.Plans.{PlanParts}
 use Rattle.lft_model.specs.Presence.{given}
 use Rattle.lft_queue.specs.Pending.{Pending, value_of, same_key}
 use Rattle.lft_coming.specs.declared.coming.Coming.{Coming}
+use Rattle.lft_coming.specs.AtOnce.{IsAwaited}
 use Rattle.lft_coming.specs.Lanes.{held, made}
 use Rattle.lft_coming.specs.declared.listeners.Listeners.{Listeners}
 use Rattle.lft_coming.specs.Listeners.{IsUnheard}
@@ -49,9 +50,9 @@ pub record AreOver (events : List Event) (listeners : Listeners) (g : Tag) (comi
   pub unheard : (h : Tag) (n : Name) (v : Value) → UpTo h g → Contains (to_come events coming h n) v → IsUnheard listeners n
   pub alone : (h : Tag) (n : Name) → UpTo h g → length (to_come events coming h n) < 2
 
--- the lanes have from a tag on, up to a last one, what is to come
-abbrev pub AreComing : List Event → Tag → Tag → (Name → List (Tag × Value)) → Coming → Type 0
-AreComing events low last lanes coming = (n : Name) (h : Tag) → UpTo low h → UpTo h last → held (lanes n) h ≡ to_come events coming h n
+-- the lanes of names that somebody waits for have from a tag on, up to a last one, what is to come
+abbrev pub AreComing : PlanParts → Tag → Tag → (Name → List (Tag × Value)) → Coming → Type 0
+AreComing plan low last lanes coming = (n : Name) (h : Tag) → IsAwaited plan.program n → UpTo low h → UpTo h last → held (lanes n) h ≡ to_come plan.externals.events coming h n
 
 -- the events that the rows u give a name that has its events in the queue
 abbrev pub scheduled_by : PlanParts → List Row → Name → List (Tag × Value)

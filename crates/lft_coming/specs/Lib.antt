@@ -7,3 +7,4 @@ pub mod Channels
 pub mod Listeners
 pub mod AtTag
 pub mod Listens
+pub mod Unread

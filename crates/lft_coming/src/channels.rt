@@ -1,13 +1,15 @@
 //! The ports behind delays, and the events that writes carry to them.
 
-ghost use Rattle.std.specs.Prelude.{◌≡◌, ◌+◌, ◌<◌, ◌++◌, ℕ, List, IfOk, OnOk, IsTrue, length, filter_map, slice_get, Some};
+ghost use Rattle.std.specs.Prelude.{◌≡◌, ◌+◌, ◌<◌, ◌++◌, ℕ, Bool, true, false, List, IfOk, OnOk, IsTrue, length, filter_map, slice_get, Some};
 ghost use Rattle.lft_tag.specs.declared.Tag.{Tag as TheTag};
 ghost use Rattle.lft_tag.specs.Tags.{IsRecorded, Before, UpTo, after};
 ghost use Rattle.lft_flat.specs.declared.parts.Name.{Name as TheName};
 ghost use Rattle.lft_steps.specs.declared.externals.Event.{Event as TheEvent};
 ghost use Rattle.lft_steps.specs.declared.row.Row.{Row as TheRow};
 ghost use Rattle.lft_steps.specs.Fits.{RowFits, RowsFit};
-ghost use Rattle.lft_coming.specs.Channels.{is_behind as lies_behind, arrival, AreChannels, AreCarried, carried_by};
+ghost use Rattle.lft_coming.specs.Channels.{is_behind as lies_behind, arrival, AreChannels, AreChannelsTo, AreReadChannels, AreCarried, carried_by};
+ghost use Rattle.lft_coming.specs.AtOnce.{IsAwaited, is_undelayed as is_reached};
+ghost use Rattle.lft_queue.specs.Reading.{is_read};
 ghost use Rattle.lft_coming.specs.Coming.{to_come, IsClear, IsNoLater};
 ghost use Rattle.lft_coming.specs.declared.coming.Coming.{Coming as TheComing};
 ghost use Rattle.lft_coming.specs.Lanes.{held};
@@ -20,20 +22,49 @@ use crate::number_lists::NumberLists;
 use crate::writes::{Writes, written_port};
 use lft_flat::{Name, Program, Value};
 use lft_lists::item_at;
+use lft_queue::read_ports;
 use lft_steps::{Row, row_at};
 use lft_tag::{NoMemory, Tag};
 use std::alloc::Global;
+
+/// Whether the port is marked and lies behind a delay.
+fn is_channel(program: &Program, marked: &[bool], number: u32) -> bool
+    requires marked { number < length marked.now }
+    requires port { number < length program.now.ports }
+    ensures { result ≡ false → slice_get marked.now number ≡ Some true → is_reached program.now number ≡ true }
+{
+    item_at(marked, number as usize) && !is_undelayed(program, number)
+}
+
+/// For each port, as an origin, the marked ports that lie behind a delay of it.
+fn channels_to(alloc: Global, program: &Program, marked: &[bool]) -> Result<NumberLists, NoMemory>
+    requires { length marked.now ≡ length program.now.ports }
+    ensures { IfOk result (λ lists. (test : ℕ → Bool) → ((p : ℕ) → p < length program.now.ports → slice_get marked.now p ≡ Some (test p)) → AreChannelsTo program.now test lists) }
+{
+    let mut channels = NumberLists::empty(alloc, program.ports())?;
+    for number in 0..program.ports() as u32 {
+        if is_channel(program, marked, number) {
+            channels.push(program.port(number).origin, number)?;
+        }
+    }
+    Ok(channels)
+}
 
 /// For each port, as an origin, the ports that lie behind a delay of it.
 pub fn channels_of(alloc: Global, program: &Program) -> Result<NumberLists, NoMemory>
     ensures { IfOk result (AreChannels program.now) }
 {
-    let mut channels = NumberLists::empty(alloc, program.ports())?;
-    for number in 0..program.ports() as u32 {
-        if !is_undelayed(program, number) {
-            channels.push(program.port(number).origin, number)?;
-        }
-    }
+    let marked = vec![in alloc; true; program.ports()]?;
+    let channels = channels_to(alloc, program, marked.as_slice())?;
+    Ok(channels)
+}
+
+/// For each port, as an origin, the ports that lie behind a delay of it and that some reaction reads.
+pub fn read_channels_of(alloc: Global, program: &Program) -> Result<NumberLists, NoMemory>
+    ensures { IfOk result (AreReadChannels program.now) }
+{
+    let marked = read_ports(alloc, program)?;
+    let channels = channels_to(alloc, program, marked.as_slice())?;
     Ok(channels)
 }
 
@@ -73,7 +104,7 @@ fn carry(
     true
 }
 
-/// Where the row writes a port, puts in what the port's last write carries to those behind its delays, up
+/// Where the row writes a port, puts in what the port's last write carries to those in its list, up
 /// to the stop. A write is kept no more then, so a second row that writes the port finds none.
 fn carry_row(
     coming: &mut Coming,
@@ -85,8 +116,8 @@ fn carry_row(
 ) -> bool
     requires fits { RowFits program.now row }
     requires ports { length writes.old ≡ length program.now.ports }
-    requires channels { AreChannels program.now channels.now }
-    ensures { IsTrue result → (u : List TheRow) (count : ℕ) (start : TheComing) → slice_get u count ≡ Some row → AreCarried program.now u row.tag last count start coming.old writes.old → AreCarried program.now u row.tag last (count + 1) start coming.new writes.new }
+    requires channels { AreReadChannels program.now channels.now }
+    ensures { IsTrue result → (u : List TheRow) (count : ℕ) (start : TheComing) → slice_get u count ≡ Some row → AreCarried program.now (is_read program.now) u row.tag last count start coming.old writes.old → AreCarried program.now (is_read program.now) u row.tag last (count + 1) start coming.new writes.new }
 {
     let Some((port, _)) = written_port(&row.step) else {
         return true;
@@ -105,8 +136,8 @@ fn carry_row(
     )
 }
 
-/// Puts in what the last writes of the rows, which are all at the tag, carry to the ports behind delays, up
-/// to the stop. It is false where two events meet, or memory is refused.
+/// Puts in what the last writes of the rows, which are all at the tag, carry to the ports behind delays that
+/// some reaction reads, up to the stop. It is false where two events meet, or memory is refused.
 pub(crate) fn carry_all(
     coming: &mut Coming,
     writes: &mut Writes,
@@ -118,10 +149,10 @@ pub(crate) fn carry_all(
 ) -> bool
     requires fit { RowsFit program.now rows.now }
     requires at { AreAt rows.now tag }
-    requires channels { AreChannels program.now channels.now }
+    requires channels { AreReadChannels program.now channels.now }
     requires writes { AreWrites program.now rows.now tag writes.old }
     ensures earlier { IsTrue result → AreEarlier program.now (after tag 0) writes.new }
-    ensures carried { IsTrue result → (events : List TheEvent) (h : TheTag) (n : TheName) → Before tag h → UpTo h last → to_come events coming.new h n ≡ to_come events coming.old h n ++ held (carried_by program.now rows.now tag n) h }
+    ensures carried { IsTrue result → (events : List TheEvent) (h : TheTag) (n : TheName) → IsAwaited program.now n → Before tag h → UpTo h last → to_come events coming.new h n ≡ to_come events coming.old h n ++ held (carried_by program.now rows.now tag n) h }
 {
     for place in 0..rows.len() {
         if !carry_row(coming, writes, channels, program, row_at(rows, place), last) {
@@ -173,7 +204,7 @@ fn note_carry_row(
     requires channels { AreChannels program.now channels.now }
     ensures no_later { IfOk result (IsNoLater clash) }
     ensures fewer { OnOk result (AreFewer writes.old writes.new) }
-    ensures carried { IfOk result (λ new. (u : List TheRow) (count : ℕ) (start : TheComing) (h : TheTag) → UpTo h last → IsClear new h → slice_get u count ≡ Some row → AreCarried program.now u row.tag h count start coming.old writes.old → AreCarried program.now u row.tag h (count + 1) start coming.new writes.new) }
+    ensures carried { IfOk result (λ new. (u : List TheRow) (count : ℕ) (start : TheComing) (h : TheTag) → UpTo h last → IsClear new h → slice_get u count ≡ Some row → AreCarried program.now (λ p. true) u row.tag h count start coming.old writes.old → AreCarried program.now (λ p. true) u row.tag h (count + 1) start coming.new writes.new) }
 {
     let Some((port, _)) = written_port(&row.step) else {
         return Ok(clash);

@@ -6,7 +6,8 @@ ghost use Rattle.lft_flat.specs.declared.parts.Name.{Name as TheName};
 ghost use Rattle.lft_steps.specs.declared.externals.Event.{Event as TheEvent};
 ghost use Rattle.lft_steps.specs.Fits.{RowFits, RowsFit};
 ghost use Rattle.lft_tag.specs.Tags.{Before, UpTo, after};
-ghost use Rattle.lft_coming.specs.Channels.{AreChannels, caused_by};
+ghost use Rattle.lft_coming.specs.Channels.{AreChannels, AreReadChannels, caused_by};
+ghost use Rattle.lft_coming.specs.AtOnce.{IsAwaited};
 ghost use Rattle.lft_coming.specs.Coming.{to_come, scheduled_by, IsClear, IsNoLater};
 ghost use Rattle.lft_coming.specs.Lanes.{held};
 ghost use Rattle.lft_coming.specs.AtTag.{AreAt};
@@ -104,8 +105,8 @@ pub(crate) fn note_schedules(
 }
 
 /// Puts in what the rows, which are all at the tag, cause later and up to the stop: the events that they
-/// schedule, and what their last writes carry to the ports behind delays. It is false where two events
-/// meet, or memory is refused.
+/// schedule, and what their last writes carry to the ports behind delays that some reaction reads. It is
+/// false where two events meet, or memory is refused.
 pub fn pass_on(
     coming: &mut Coming,
     writes: &mut Writes,
@@ -117,10 +118,10 @@ pub fn pass_on(
 ) -> bool
     requires fit { RowsFit plan.now.program rows.now }
     requires at { AreAt rows.now tag }
-    requires channels { AreChannels plan.now.program channels.now }
+    requires channels { AreReadChannels plan.now.program channels.now }
     requires writes { AreWrites plan.now.program rows.now tag writes.old }
     ensures earlier { IsTrue result → AreEarlier plan.now.program (after tag 0) writes.new }
-    ensures caused { IsTrue result → (events : List TheEvent) (h : TheTag) (n : TheName) → Before tag h → UpTo h last → to_come events coming.new h n ≡ to_come events coming.old h n ++ held (caused_by plan.now rows.now tag n) h }
+    ensures caused { IsTrue result → (events : List TheEvent) (h : TheTag) (n : TheName) → IsAwaited plan.now.program n → Before tag h → UpTo h last → to_come events coming.new h n ≡ to_come events coming.old h n ++ held (caused_by plan.now rows.now tag n) h }
 {
     schedule_all(coming, plan, rows, last)
         && carry_all(coming, writes, channels, plan.program(), rows, tag, last)

@@ -1,10 +1,12 @@
 -- The tests of names and tags.
-use Rattle.std.proofs.Common.{◌≡◌, ◌⊎◌, inl, inr, ◌<◌, refl, arith, Bool, true, false, ◌&&◌, ◌||◌, ◌==◌, ltb, eqb-true, eq-eqb, ne_eqb}
+use Rattle.std.proofs.Common.{◌≡◌, ℕ, zero, suc, ◌+◌, ◌⊎◌, inl, inr, ◌<◌, refl, ap, arith, Bool, true, false, ◌&&◌, ◌||◌, ◌==◌, ltb, eqb-true, eq-eqb, ne_eqb}
 use Rattle.std.proofs.lemmas.Bool.Decides.{nat_tests}
 use Rattle.std.proofs.lemmas.Bool.{ltb-true}
 use Rattle.lft_tag.specs.declared.Tag.{Tag}
 use Rattle.lft_tag.specs.Tags.{Before, UpTo, same_tag, is_before}
+use Rattle.lft_tag.specs.Shifts.{Folded, shifted}
 use Rattle.lft_tag.proofs.Order.{order_cases, UpTo_antisym}
+use Rattle.lft_tag.proofs.Chains.{tag_of}
 
 -- a tag is none of the later ones
 pub tag_apart : (g h : Tag) → Before g h → same_tag g h ≡ false
@@ -47,3 +49,11 @@ past g h u n = go (order_cases g h)
     go : Before g h ⊎ UpTo h g → Before g h
     go (inl b) = b
     go (inr v) = absurd (n (UpTo_antisym g h u v))
+
+-- a shift leads two tags to one where it takes time and they are of one time, and only there
+pub together : (g h : Tag) (s : Folded) → shifted g s ≡ shifted h s → ¬ (g ≡ h) → (0 < s.0) × (g.time ≡ h.time)
+together g h s same apart = go s.0 s.1 same
+  where
+    go : (d n : ℕ) → shifted g (d, n) ≡ shifted h (d, n) → (0 < d) × (g.time ≡ h.time)
+    go zero n e = absurd (apart (tag_of (ap (λ (k : Tag). k.time) e) (let z : g.micro + n ≡ h.micro + n = ap (λ (k : Tag). k.micro) e in let y : g.micro ≡ h.micro = omega arith in y)))
+    go (suc d) n e = (omega arith, (let z : g.time + suc d ≡ h.time + suc d = ap (λ (k : Tag). k.time) e in omega arith))

@@ -1,8 +1,9 @@
 -- What is kept stays right over the rows of a tag, and accepts in the end.
 use Rattle.std.proofs.Common.{◌≡◌, ℕ, ◌+◌, ◌<◌, ◌⊎◌, inl, inr, Bool, true, false, List, [], ◌∷◌, ◌++◌, ◌-◌, append_assoc, take, map, length, refl, sym, ap, ◌∙◌, subst, arith, Option, Some, None, IsSome, slice_get, filter_map, option_map, option_to_list, Contains}
+use Rattle.std.specs.List.{last_or}
 use Rattle.std.proofs.lemmas.List.{append-nil}
 use Rattle.lft_tag.specs.declared.Tag.{Tag}
-use Rattle.lft_tag.specs.Tags.{Before, UpTo, after, earliest}
+use Rattle.lft_tag.specs.Tags.{Before, UpTo, after, after_all, earliest}
 use Rattle.lft_tag.proofs.Order.{UpTo-refl, UpTo-trans, UpTo_antisym, UpTo-Before, Before-UpTo, Before-weaken, order_cases, after_past, from_first}
 use Rattle.lft_lists.proofs.Members.{get_mem, contains_mem, mem_contains}
 use Rattle.lft_lists.proofs.Places.{get_there, get_append_cases}
@@ -16,7 +17,7 @@ use Rattle.lft_flat.specs.declared.parts.Trigger.TheVariants.{On}
 use Rattle.lft_steps.specs.declared.row.Row.{Row}
 use Rattle.lft_steps.specs.declared.row.Step.{Step}
 use Rattle.lft_model.specs.Plans.{PlanParts}
-use Rattle.lft_model.specs.Presence.{requests, stop, given, Shows, Inputs, Triggered}
+use Rattle.lft_model.specs.Presence.{requests, stop, given, written, Shows, Inputs, Triggered}
 use Rattle.lft_model.specs.Runs.{Ran, inputs_of, read_of, reads_at}
 use Rattle.lft_model.specs.Breaches.{IsTooEarly}
 use Rattle.lft_rows.specs.Firsts.{FirstRow}
@@ -24,8 +25,10 @@ use Rattle.lft_rows.specs.declared.slices.Slice.{Slice}
 use Rattle.lft_rows.specs.Slices.{IsSlice, runs_in}
 use Rattle.lft_rows.specs.Accepted.{IsAccepted}
 use Rattle.lft_stream.specs.declared.stream.Stream.{Stream}
-use Rattle.lft_coming.specs.AtOnce.{is_undelayed, origin_of, HasEvents, AreHeard}
-use Rattle.lft_coming.specs.Channels.{AreChannels, caused_by}
+use Rattle.lft_queue.specs.Reading.{is_read}
+use Rattle.lft_coming.specs.AtOnce.{is_undelayed, origin_of, HasEvents, IsAwaited, AreHeard}
+use Rattle.lft_coming.specs.Channels.{AreReadChannels, caused_by}
+use Rattle.lft_coming.specs.Unread.{AreUnread, AreFree}
 use Rattle.lft_coming.specs.Listeners.{list_of, AreListeners, AreStarted, IsUnheard}
 use Rattle.lft_coming.specs.AtTag.{AreBefore, AreAt}
 use Rattle.lft_stream.specs.Settled.{IsRightBehind}
@@ -46,6 +49,7 @@ use Rattle.lft_coming.proofs.Carrying.{carried_is, one_held, held_one, none_afte
 use Rattle.lft_coming.proofs.Writing.{earlier_on}
 use Rattle.lft_stream.proofs.Before.{ran_whole}
 use Rattle.lft_stream.proofs.Lanes.{held_append, held_first}
+use Rattle.lft_stream.proofs.Lone.{unread_met, still_alone}
 use Rattle.lft_stream.proofs.Owing.{due_law, ran_grows}
 use Rattle.lft_stream.proofs.Parting.{rows_of, are_at, ran_part, ran_of, steps_part, up_to_end, part_kept}
 use Rattle.lft_model.proofs.Stops.{stop_append}
@@ -111,11 +115,12 @@ next_up : (g h : Tag) → Before g h → UpTo (after g 0) h
 next_up g h (inl l) = inl l
 next_up g h (inr p) = let l : g.micro < h.micro = p.1 in inr (p.0, omega arith)
 
-pub begins_kept : (plan : PlanParts) (s : Stream) → s.stop ≡ plan.externals.stop → s.tag ≡ None → s.runs ≡ 0 → s.tags ≡ 0 → AreDues plan [] s.dues → AreStartTags plan.program [] s.starts → ((g : Tag) → AreEarlier plan.program g s.writes) → AreListeners plan s.listeners → AreChannels plan.program s.channels → s.coming ≡ record { queue = []; next = 0 } → IsStreamOf plan [] s
-begins_kept plan s stops none runs tags dues starts writes listeners channels begins = record {
+pub begins_kept : (plan : PlanParts) (s : Stream) → s.stop ≡ plan.externals.stop → s.tag ≡ None → s.runs ≡ 0 → s.tags ≡ 0 → AreDues plan [] s.dues → AreStartTags plan.program [] s.starts → ((g : Tag) → AreEarlier plan.program g s.writes) → AreListeners plan s.listeners → AreReadChannels plan.program s.channels → s.coming ≡ record { queue = []; next = 0 } → AreUnread plan.program [] s.unread → IsStreamOf plan [] s
+begins_kept plan s stops none runs tags dues starts writes listeners channels begins unread = record {
   lanes = first_events plan;
   none = λ p h e up. refl;
-  coming = λ n h up far. first_to_come plan n h ∙ ap (λ (c : Coming). to_come plan.externals.events c h n) (sym begins);
+  coming = λ n h waited up far. first_to_come plan n h ∙ ap (λ (c : Coming). to_come plan.externals.events c h n) (sym begins);
+  alone = λ p h un up far. omega arith;
   state = rw (none, runs, tags) ((stream_law plan).begins s.dues dues);
   stop_is = stops;
   up_to = rw none refl;
@@ -123,7 +128,23 @@ begins_kept plan s stops none runs tags dues starts writes listeners channels be
   starts = starts;
   listeners = listeners;
   channels = channels;
+  unread = unread;
 }
+
+-- what the lanes have at a tag is met: of names that somebody waits for where nothing comes that is heard, of the others in any case
+lane_is_met : (plan : PlanParts) (t : List Row) (s : Stream) (is : IsStreamOf plan t s) (h : Tag) → UpTo (low_of s.tag) h → UpTo h s.stop → ((n : Name) → length (to_come plan.externals.events s.coming h n) < 2) → ((n : Name) (v : Value) → Contains (to_come plan.externals.events s.coming h n) v → IsUnheard s.listeners n) → (n : Name) → IsMetAt plan t n h (is.lanes n)
+lane_is_met plan t s is h low near alone unheard n = go n
+  where
+    awaited : (n : Name) → IsAwaited plan.program n → IsMetAt plan t n h (is.lanes n)
+    awaited n waited = unheard_met plan t h n (is.lanes n) s.listeners is.listeners (λ p e z. ap (λ (k : Name). held (is.lanes k) h) e ∙ is.none p h z low) (rw (is.coming n h waited low near) (alone n)) (λ v k. unheard n v (subst (λ (vs : List Value). Contains vs v) (is.coming n h waited low near) k))
+
+    port : (p : ℕ) (b : Bool) → is_read plan.program p ≡ b → IsMetAt plan t (Port p) h (is.lanes (Port p))
+    port p true e = awaited (Port p) e
+    port p false e = unread_met plan t h p (is.lanes (Port p)) e (is.alone p h e low near)
+
+    go : (n : Name) → IsMetAt plan t n h (is.lanes n)
+    go (Port p) = port p (is_read plan.program p) refl
+    go (Action a) = awaited (Action a) tt
 
 module _ (plan : PlanParts) (d u : List Row) (g : Tag) (old : Stream) (is : IsStreamOf plan d old) (first : Row) (is_first : slice_get u 0 ≡ Some first) (at : AreAt u g) (later : IsLater old.tag g) (reach : UpTo g old.stop) (kept : KeepRules plan u) where
   pub before : AreBefore d g
@@ -152,11 +173,11 @@ module _ (plan : PlanParts) (d u : List Row) (g : Tag) (old : Stream) (is : IsSt
 
   -- what was to come before the tag triggered nothing
   module _ (good : IsSound plan.program) (c : Coming) (reached : IsReached plan.externals.events old.listeners g old.coming c) where
-    at_hand_at : (n : Name) (h : Tag) → UpTo g h → UpTo h old.stop → held (is.lanes n) h ≡ to_come plan.externals.events c h n
-    at_hand_at n h up near = is.coming n h (UpTo-trans (low_of old.tag) g h (passed old.tag later) up) near ∙ sym (reached.same h n up)
+    at_hand_at : (n : Name) (h : Tag) → IsAwaited plan.program n → UpTo g h → UpTo h old.stop → held (is.lanes n) h ≡ to_come plan.externals.events c h n
+    at_hand_at n h waited up near = is.coming n h waited (UpTo-trans (low_of old.tag) g h (passed old.tag later) up) near ∙ sym (reached.same h n up)
 
-    in_queue : (n : Name) → held (is.lanes n) g ≡ option_to_list (value_of g n c.queue)
-    in_queue n = at_hand_at n g (UpTo-refl g) reach ∙ only_queue plan.externals.events c g g n reached.brought (UpTo-refl g)
+    in_queue : (n : Name) → IsAwaited plan.program n → held (is.lanes n) g ≡ option_to_list (value_of g n c.queue)
+    in_queue n waited = at_hand_at n g waited (UpTo-refl g) reach ∙ only_queue plan.externals.events c g g n reached.brought (UpTo-refl g)
 
     near : (h : Tag) → Before h g → UpTo h old.stop
     near h b = UpTo-trans h g old.stop (Before-weaken h g b) reach
@@ -164,18 +185,18 @@ module _ (plan : PlanParts) (d u : List Row) (g : Tag) (old : Stream) (is : IsSt
     goes_up : (n : Name) → LaneGoesOn plan d n (low_of old.tag) (is.lanes n) g (is.lanes n)
     goes_up n = record {
       up = passed old.tag later;
-      met = λ h up b. unheard_met plan d h n (is.lanes n) old.listeners is.listeners (λ p e z. ap (λ (k : Name). held (is.lanes k) h) e ∙ is.none p h z up) (rw (is.coming n h up (near h b)) (reached.alone h n b)) (λ v k. reached.unheard h n v b (subst (λ (vs : List Value). Contains vs v) (is.coming n h up (near h b)) k));
+      met = λ h up b. lane_is_met plan d old is h up (near h b) (λ m. reached.alone h m b) (λ m v k. reached.unheard h m v b k) n;
       same = λ h up. refl;
     }
 
     there : IsStream plan d (state_of is.lanes g old)
     there = move_law plan d (state_of is.lanes (low_of old.tag) old) (state_of is.lanes g old) is.state (record { lanes = goes_up; dues = refl; runs = refl; tags = refl })
 
-    pub shows : (n : Name) → HasEvents plan.program n → Shows plan (d ++ u) g n (value_of g n c.queue)
-    shows (Action a) has = (shows_law plan).action d u g g a (is.lanes (Action a)) (value_of g (Action a) c.queue) before at (UpTo-refl g) (there.actions a) (in_lane (is.lanes (Action a)) g (value_of g (Action a) c.queue) (in_queue (Action a)))
-    shows (Port p) has =
+    pub shows : (n : Name) → HasEvents plan.program n → IsAwaited plan.program n → Shows plan (d ++ u) g n (value_of g n c.queue)
+    shows (Action a) has waited = (shows_law plan).action d u g g a (is.lanes (Action a)) (value_of g (Action a) c.queue) before at (UpTo-refl g) (there.actions a) (in_lane (is.lanes (Action a)) g (value_of g (Action a) c.queue) (in_queue (Action a) waited))
+    shows (Port p) has waited =
         let way = delayed_way plan.program good p has in
-        (shows_law plan).delayed d u g g p way.0 way.1 way.2 (is.lanes (Port p)) (value_of g (Port p) c.queue) before at way.3 (UpTo-refl g) (there.ports p way.0 (way.1 ∷ way.2) way.3) (in_lane (is.lanes (Port p)) g (value_of g (Port p) c.queue) (in_queue (Port p)))
+        (shows_law plan).delayed d u g g p way.0 way.1 way.2 (is.lanes (Port p)) (value_of g (Port p) c.queue) before at way.3 (UpTo-refl g) (there.ports p way.0 (way.1 ∷ way.2) way.3) (in_lane (is.lanes (Port p)) g (value_of g (Port p) c.queue) (in_queue (Port p) waited))
 
     -- the lanes once the rows have put their events behind
     abbrev lanes_at : Name → List (Tag × Value)
@@ -187,17 +208,25 @@ module _ (plan : PlanParts) (d u : List Row) (g : Tag) (old : Stream) (is : IsSt
     none_yet (Action a) has = none_at plan u g g (Action a) at (UpTo-refl g)
 
     module _ (heard : AreHeard plan (d ++ u) u g) (met : (n : Name) → IsSome (value_of g n c.queue) → AreStarted (d ++ u) g old.listeners n) where
+      -- what was to come at the tag is what is there
+      at_once : (n : Name) → HasEvents plan.program n → held (lanes_at n) g ≡ held (is.lanes n) g
+      at_once n has = held_append (is.lanes n) (caused_by plan u g n) g ∙ ap (λ (vs : List Value). held (is.lanes n) g ++ vs) (none_yet n has) ∙ append-nil (held (is.lanes n) g)
+
       -- the event at the tag is met
-      event_met : (n : Name) → HasEvents plan.program n → IsMetAt plan (d ++ u) n g (lanes_at n)
-      event_met n has = record { alone = rw own (few_of (value_of g n c.queue)); met = λ v k r l. ran v (item_of (value_of g n c.queue) v (subst (λ (vs : List Value). Contains vs v) own k)) r l }
+      event_met : (n : Name) → HasEvents plan.program n → IsAwaited plan.program n → IsMetAt plan (d ++ u) n g (lanes_at n)
+      event_met n has waited = record { alone = rw own (few_of (value_of g n c.queue)); met = λ v k r l. ran v (item_of (value_of g n c.queue) v (subst (λ (vs : List Value). Contains vs v) own k)) r l }
         where
           own : held (lanes_at n) g ≡ option_to_list (value_of g n c.queue)
-          own = held_append (is.lanes n) (caused_by plan u g n) g ∙ ap (λ (vs : List Value). held (is.lanes n) g ++ vs) (none_yet n has) ∙ append-nil (held (is.lanes n) g) ∙ in_queue n
+          own = at_once n has ∙ in_queue n waited
 
           ran : (v : Value) → value_of g n c.queue ≡ Some v → (r : ℕ) → Listens plan r (On n) → Ran (d ++ u) g r
           ran v e r l =
               let x = listed_there plan good old.listeners is.listeners n r l in
               met n (subst (λ (o : Option Value). IsSome o) (sym e) refl) x.0 r x.1 (listener_of plan old.listeners is.listeners n has r x.0 l x.1)
+
+      delayed_met : (p : ℕ) (b : Bool) → is_undelayed plan.program p ≡ false → is_read plan.program p ≡ b → IsMetAt plan (d ++ u) (Port p) g (lanes_at (Port p))
+      delayed_met p true has e = event_met (Port p) has e
+      delayed_met p false has e = unread_met plan (d ++ u) g p (lanes_at (Port p)) e (subst (λ (vs : List Value). length vs < 2) (sym (at_once (Port p) has)) (is.alone p g e (passed old.tag later) reach))
 
       -- the write of a port at the tag is met
       write_met : (p : ℕ) → is_undelayed plan.program p ≡ true → IsMetAt plan (d ++ u) (Port p) g (lanes_at (Port p))
@@ -211,11 +240,11 @@ module _ (plan : PlanParts) (d u : List Row) (g : Tag) (old : Stream) (is : IsSt
 
       port_met : (p : ℕ) (b : Bool) → is_undelayed plan.program p ≡ b → IsMetAt plan (d ++ u) (Port p) g (lanes_at (Port p))
       port_met p true e = write_met p e
-      port_met p false e = event_met (Port p) e
+      port_met p false e = delayed_met p (is_read plan.program p) e refl
 
       lane_met : (n : Name) → IsMetAt plan (d ++ u) n g (lanes_at n)
       lane_met (Port p) = port_met p (is_undelayed plan.program p) refl
-      lane_met (Action a) = event_met (Action a) tt
+      lane_met (Action a) = event_met (Action a) tt tt
 
       goes_past : (n : Name) → LaneGoesOn plan (d ++ u) n g (lanes_at n) (after g 0) (lanes_at n)
       goes_past n = record {
@@ -244,11 +273,12 @@ module _ (plan : PlanParts) (d u : List Row) (g : Tag) (old : Stream) (is : IsSt
           stands = move_law plan (d ++ u) (state_of lanes_at g new) (state_of lanes_at (after g 0) new) ((stream_law plan).grows d u g first.reaction (state_of is.lanes g old) (state_of lanes_at g new) there right some_ran grown) (record { lanes = goes_past; dues = refl; runs = refl; tags = refl })
 
           -- the state over the rows of a later tag
-          pub grows_kept : new.stop ≡ earliest old.stop (requests u) → new.tag ≡ Some g → AreStartTags plan.program (d ++ u) new.starts → AreEarlier plan.program (after g 0) new.writes → AreListeners plan new.listeners → AreChannels plan.program new.channels → ((h : Tag) (n : Name) → Before g h → UpTo h new.stop → to_come plan.externals.events new.coming h n ≡ to_come plan.externals.events c h n ++ held (caused_by plan u g n) h) → IsStreamOf plan (d ++ u) new
-          grows_kept stops tag starts writes listeners channels more = record {
+          pub grows_kept : new.stop ≡ earliest old.stop (requests u) → new.tag ≡ Some g → AreStartTags plan.program (d ++ u) new.starts → AreEarlier plan.program (after g 0) new.writes → AreListeners plan new.listeners → AreReadChannels plan.program new.channels → AreUnread plan.program (d ++ u) new.unread → AreFree plan.program d u g new.stop → ((h : Tag) (n : Name) → IsAwaited plan.program n → Before g h → UpTo h new.stop → to_come plan.externals.events new.coming h n ≡ to_come plan.externals.events c h n ++ held (caused_by plan u g n) h) → IsStreamOf plan (d ++ u) new
+          grows_kept stops tag starts writes listeners channels unread free more = record {
             lanes = lanes_at;
             none = λ p h e up. none p h e (past h up);
-            coming = subst (λ (last : Option Tag). AreComing plan.externals.events (low_of last) new.stop lanes_at new.coming) (sym tag) (λ n h up far. still n h (Before-UpTo g (after g 0) h (after_past g 0) up) far);
+            alone = λ p h un up far. lone p h un (past h up) far;
+            coming = subst (λ (last : Option Tag). AreComing plan (low_of last) new.stop lanes_at new.coming) (sym tag) (λ n h waited up far. still n h waited (Before-UpTo g (after g 0) h (after_past g 0) up) far);
             state = subst (λ (last : Option Tag). IsStream plan (d ++ u) (state_of lanes_at (low_of last) new)) (sym tag) stands;
             stop_is = stops ∙ stop_now;
             up_to = subst (λ (last : Option Tag). AreUpTo (d ++ u) last) (sym tag) up_to;
@@ -256,6 +286,7 @@ module _ (plan : PlanParts) (d u : List Row) (g : Tag) (old : Stream) (is : IsSt
             starts = starts;
             listeners = listeners;
             channels = channels;
+            unread = unread;
           }
             where
               past : (h : Tag) → UpTo (low_of new.tag) h → Before g h
@@ -269,8 +300,23 @@ module _ (plan : PlanParts) (d u : List Row) (g : Tag) (old : Stream) (is : IsSt
               no_later : UpTo new.stop old.stop
               no_later = subst (λ (k : Tag). UpTo k old.stop) (sym (stops ∙ stop_now)) (subst (λ (k : Tag). UpTo (stop plan (d ++ u)) k) (sym is.stop_is) (stop_append plan d u))
 
-              still : (n : Name) (h : Tag) → Before g h → UpTo h new.stop → held (lanes_at n) h ≡ to_come plan.externals.events new.coming h n
-              still n h b far = held_append (is.lanes n) (caused_by plan u g n) h ∙ ap (λ (vs : List Value). vs ++ held (caused_by plan u g n) h) (at_hand_at n h (Before-weaken g h b) (UpTo-trans h new.stop old.stop far no_later)) ∙ sym (more h n b far)
+              still : (n : Name) (h : Tag) → IsAwaited plan.program n → Before g h → UpTo h new.stop → held (lanes_at n) h ≡ to_come plan.externals.events new.coming h n
+              still n h waited b far = held_append (is.lanes n) (caused_by plan u g n) h ∙ ap (λ (vs : List Value). vs ++ held (caused_by plan u g n) h) (at_hand_at n h waited (Before-weaken g h b) (UpTo-trans h new.stop old.stop far no_later)) ∙ sym (more h n waited b far)
+
+              -- an unread port has no two events at a tag
+              lone : (p : ℕ) (h : Tag) → is_read plan.program p ≡ false → Before g h → UpTo h new.stop → length (held (lanes_at (Port p)) h) < 2
+              lone p h un b far = go (is_undelayed plan.program p) refl
+                where
+                  up : UpTo (low_of old.tag) h
+                  up = UpTo-trans (low_of old.tag) g h (passed old.tag later) (Before-weaken g h b)
+
+                  go : (z : Bool) → is_undelayed plan.program p ≡ z → length (held (lanes_at (Port p)) h) < 2
+                  go true e = let gone : held (lanes_at (Port p)) h ≡ [] = none p h e b in rw gone (omega arith)
+                  go false e =
+                      let way = delayed_way plan.program good p e in
+                      let ds = way.1 ∷ way.2 in
+                      let same = carried_is plan.program good u g p way.0 ds way.3 in
+                      subst (λ (es : List (Tag × Value)). length (held (is.lanes (Port p) ++ es) h) < 2) (sym same) (still_alone plan good d u g new.stop (low_of old.tag) p way.0 ds (is.lanes (Port p)) way.3 un before free (is.state.ports p way.0 ds way.3) h up far (is.alone p h un up (UpTo-trans h new.stop old.stop far no_later)) (one_held (after_all g ds) h (last_or None (filter_map (written g way.0) u))))
 
               up_to : (i : ℕ) (x : Row) → slice_get (d ++ u) i ≡ Some x → UpTo x.tag g
               up_to i x e = go (get_append_cases d u i x e)
@@ -293,7 +339,7 @@ accepts_kept plan t s is none over = by (order_cases (stop plan t) (low_of s.tag
       up = UpTo-trans (low_of s.tag) last (after last 0) up (Before-weaken last (after last 0) (after_past last 0));
       met = λ h low b.
           let there : UpTo h s.stop = subst (λ (k : Tag). UpTo h k) (sym is.stop_is) (up_to_last last h b) in
-          unheard_met plan t h n (is.lanes n) s.listeners is.listeners (λ p e z. ap (λ (k : Name). held (is.lanes k) h) e ∙ is.none p h z low) (rw (is.coming n h low there) (over.alone h n there)) (λ v k. over.unheard h n v there (subst (λ (vs : List Value). Contains vs v) (is.coming n h low there) k));
+          lane_is_met plan t s is h low there (λ m. over.alone h m there) (λ m v k. over.unheard h m v there k) n;
       same = λ h far. refl;
     }
 
@@ -318,7 +364,7 @@ module _ (plan : PlanParts) (done rows : List Row) (s : Slice) (slice : IsSlice 
   pub own_kept : KeepRules plan own
   own_kept = (kept.0, part_kept rows s slice kept.0 plan kept.1)
 
-  own_before : AreBefore so_far s.tag
+  pub own_before : AreBefore so_far s.tag
   own_before = before plan so_far own s.tag old is first.0 first.1 (are_at rows s slice) later reach own_kept
 
   own_in_time : UpTo s.tag (stop plan so_far)
@@ -341,8 +387,8 @@ module _ (plan : PlanParts) (done rows : List Row) (s : Slice) (slice : IsSlice 
   }
 
   -- and what is kept is right for them too, once they are judged
-  pub slice_grows : IsSound plan.program → (c : Coming) → IsReached plan.externals.events old.listeners s.tag old.coming c → ((r : ℕ) → Ran own s.tag r → ¬ IsTooEarly plan own s.tag r) → (judged new : Stream) → IsJudged plan so_far rows s judged → judged.coming ≡ c → judged.listeners ≡ old.listeners → new.stop ≡ earliest old.stop (requests own) → new.tag ≡ Some s.tag → new.runs ≡ old.runs + runs_in own → new.tags ≡ old.tags + 1 → new.dues ≡ judged.dues → new.starts ≡ judged.starts → AreEarlier plan.program (after s.tag 0) new.writes → new.listeners ≡ judged.listeners → new.channels ≡ old.channels → ((h : Tag) (n : Name) → Before s.tag h → UpTo h new.stop → to_come plan.externals.events new.coming h n ≡ to_come plan.externals.events c h n ++ held (caused_by plan own s.tag n) h) → IsStreamOf plan (done ++ take s.end rows) new
-  slice_grows good c reached ranked judged new is_judged coming heard_by stops tag runs tags dues starts writes listeners channels more = subst (λ (t : List Row). IsStreamOf plan t new) together (grows_kept plan so_far own s.tag old is first.0 first.1 (are_at rows s slice) later reach own_kept good c reached is_judged.heard met ranked (λ r o. is_judged.triggered r (ran_of rows s slice r o)) own_reads new runs tags (rw dues is_judged.dues) stops tag (rw starts is_judged.starts) writes (rw listeners is_judged.listeners) (rw channels is.channels) more)
+  pub slice_grows : IsSound plan.program → (c : Coming) → IsReached plan.externals.events old.listeners s.tag old.coming c → ((r : ℕ) → Ran own s.tag r → ¬ IsTooEarly plan own s.tag r) → (judged new : Stream) → IsJudged plan so_far rows s judged → judged.coming ≡ c → judged.listeners ≡ old.listeners → new.stop ≡ earliest old.stop (requests own) → new.tag ≡ Some s.tag → new.runs ≡ old.runs + runs_in own → new.tags ≡ old.tags + 1 → new.dues ≡ judged.dues → new.starts ≡ judged.starts → AreEarlier plan.program (after s.tag 0) new.writes → new.listeners ≡ judged.listeners → new.channels ≡ old.channels → AreUnread plan.program (so_far ++ own) new.unread → AreFree plan.program so_far own s.tag new.stop → ((h : Tag) (n : Name) → IsAwaited plan.program n → Before s.tag h → UpTo h new.stop → to_come plan.externals.events new.coming h n ≡ to_come plan.externals.events c h n ++ held (caused_by plan own s.tag n) h) → IsStreamOf plan (done ++ take s.end rows) new
+  slice_grows good c reached ranked judged new is_judged coming heard_by stops tag runs tags dues starts writes listeners channels unread free more = subst (λ (t : List Row). IsStreamOf plan t new) together (grows_kept plan so_far own s.tag old is first.0 first.1 (are_at rows s slice) later reach own_kept good c reached is_judged.heard met ranked (λ r o. is_judged.triggered r (ran_of rows s slice r o)) own_reads new runs tags (rw dues is_judged.dues) stops tag (rw starts is_judged.starts) writes (rw listeners is_judged.listeners) (rw channels is.channels) unread free more)
     where
       met : (n : Name) → IsSome (value_of s.tag n c.queue) → AreStarted (so_far ++ own) s.tag old.listeners n
       met n some = subst (λ (l : Listeners). AreStarted (so_far ++ own) s.tag l n) heard_by (is_judged.met n (subst (λ (k : Coming). IsSome (value_of s.tag n k.queue)) (sym coming) some))

@@ -42,7 +42,7 @@ item_at h x v e = let p = cond_some (same_tag h x.0) x.1 v e in (sym (same_tag_t
 at_item : (h : Tag) (x : Tag × Value) → x.0 ≡ h → at_tag h x ≡ Some x.1
 at_item h x e = let a : same_tag h x.0 ≡ true = same_tag_refl h x.0 (sym e) in rw a refl
 
-held_mem : (queue : List (Tag × Value)) (h : Tag) (v : Value) → Mem v (held queue h) → (x : Tag × Value) × Mem x queue × (x.0 ≡ h) × (x.1 ≡ v)
+pub held_mem : (queue : List (Tag × Value)) (h : Tag) (v : Value) → Mem v (held queue h) → (x : Tag × Value) × Mem x queue × (x.0 ≡ h) × (x.1 ≡ v)
 held_mem queue h v m = let p = mem_from_filter (at_tag h) queue v m in let q = item_at h p.0 v p.2 in (p.0, p.1, q.0, q.1)
 
 mem_held : (queue : List (Tag × Value)) (h : Tag) (x : Tag × Value) → Mem x queue → x.0 ≡ h → Mem x.1 (held queue h)
@@ -183,7 +183,7 @@ module _ (u : List Row) (g : Tag) (o : ℕ) (ds : List ℕ) where
       go None q = absurd (cc)
       go (Some w) q = let k : w ≡ v = cc in inl (ap (λ (y : Value). (after_all g ds, y)) k)
 
-  of_carried : (x : Tag × Value) → Mem x (carried u g o ds) → Last u g o x.1 × (after_all g ds ≡ x.0)
+  pub of_carried : (x : Tag × Value) → Mem x (carried u g o ds) → Last u g o x.1 × (after_all g ds ≡ x.0)
   of_carried x m = go (last_or None (filter_map (written g o) u)) refl m
     where
       go : (z : Option Value) → last_or None (filter_map (written g o) u) ≡ z → Mem x (option_to_list (option_map (λ w. (after_all g ds, w)) z)) → Last u g o x.1 × (after_all g ds ≡ x.0)

@@ -1,5 +1,5 @@
 -- What is kept of rows at finished tags, and what is asked of the next ones.
-use Rattle.std.specs.Prelude.{◌≡◌, true, ℕ, ◌<◌, ◌≤◌, List, [], ◌++◌, Option, Some, None, IsSome, MatchOption, IfSome, slice_get, slice_range}
+use Rattle.std.specs.Prelude.{◌≡◌, true, false, ℕ, ◌<◌, ◌≤◌, List, [], ◌++◌, length, Option, Some, None, IsSome, MatchOption, IfSome, slice_get, slice_range}
 use Rattle.lft_tag.specs.declared.Tag.{Tag}
 use Rattle.lft_tag.specs.Tags.{Before, UpTo, after}
 use Rattle.lft_flat.specs.declared.parts.Value.{Value}
@@ -16,12 +16,14 @@ use Rattle.lft_rows.specs.Passes.{IsPass}
 use Rattle.lft_rows.specs.declared.slices.Slice.{Slice}
 use Rattle.lft_stream.specs.declared.acceptor.Acceptor.{Acceptor}
 use Rattle.lft_stream.specs.declared.stream.Stream.{Stream}
-use Rattle.lft_coming.specs.AtOnce.{is_undelayed, HasEvents, AreHeard}
-use Rattle.lft_coming.specs.Channels.{AreChannels}
+use Rattle.lft_coming.specs.AtOnce.{is_undelayed, HasEvents, IsAwaited, AreHeard}
+use Rattle.lft_coming.specs.Channels.{AreReadChannels}
+use Rattle.lft_coming.specs.Unread.{AreUnread}
 use Rattle.lft_coming.specs.Lanes.{held}
 use Rattle.lft_coming.specs.Listeners.{AreListeners, AreStarted}
 use Rattle.lft_coming.specs.Coming.{AreComing}
 use Rattle.lft_queue.specs.Pending.{value_of}
+use Rattle.lft_queue.specs.Reading.{is_read}
 use Rattle.lft_stream.specs.Dues.{AreDues}
 use Rattle.lft_coming.specs.AtTag.{AreBefore}
 use Rattle.lft_stream.specs.StartTags.{AreStartTags}
@@ -53,14 +55,16 @@ state_of lanes low s = record { lows = λ n. low; queues = lanes; dues = s.dues;
 pub record IsStreamOf (plan : PlanParts) (t : List Row) (s : Stream) : Type 0 where
   pub lanes : Name → List (Tag × Value)
   pub none : (p : ℕ) (h : Tag) → is_undelayed plan.program p ≡ true → UpTo (low_of s.tag) h → held (lanes (Port p)) h ≡ []
-  pub coming : AreComing plan.externals.events (low_of s.tag) s.stop lanes s.coming
+  pub coming : AreComing plan (low_of s.tag) s.stop lanes s.coming
+  pub alone : (p : ℕ) (h : Tag) → is_read plan.program p ≡ false → UpTo (low_of s.tag) h → UpTo h s.stop → length (held (lanes (Port p)) h) < 2
   pub state : IsStream plan t (state_of lanes (low_of s.tag) s)
   pub stop_is : s.stop ≡ stop plan t
   pub up_to : AreUpTo t s.tag
   pub writes : AreEarlier plan.program (low_of s.tag) s.writes
   pub starts : AreStartTags plan.program t s.starts
   pub listeners : AreListeners plan s.listeners
-  pub channels : AreChannels plan.program s.channels
+  pub channels : AreReadChannels plan.program s.channels
+  pub unread : AreUnread plan.program t s.unread
 
 -- what is kept is right for the rows so far, and what they are looked up in is of the program
 pub record IsAcceptorOf (plan : PlanParts) (t : List Row) (a : Acceptor) : Type 0 where
@@ -82,7 +86,7 @@ pub record IsAtHand (plan : PlanParts) (done rows : List Row) (s : Slice) (strea
   pub writes : AreEarlier plan.program s.tag stream.writes
   pub starts : AreStartTags plan.program (done ++ slice_range rows s.first s.end) stream.starts
   pub listeners : AreListeners plan stream.listeners
-  pub queued : (n : Name) → HasEvents plan.program n → Shows plan (done ++ slice_range rows s.first s.end) s.tag n (value_of s.tag n stream.coming.queue)
+  pub queued : (n : Name) → HasEvents plan.program n → IsAwaited plan.program n → Shows plan (done ++ slice_range rows s.first s.end) s.tag n (value_of s.tag n stream.coming.queue)
 
 -- the runs of the slice are triggered and read what is present, the ports that it writes and the events of the queue at its tag are heard, and what is kept is right for the slice too
 pub record IsJudged (plan : PlanParts) (done rows : List Row) (s : Slice) (stream : Stream) : Type 0 where

@@ -8,6 +8,7 @@ ghost use Rattle.lft_model.specs.Runs.{Ran, reads_at};
 ghost use Rattle.lft_rows.specs.Marks.{AreMarks};
 ghost use Rattle.lft_rows.specs.Slices.{IsSlice};
 ghost use Rattle.lft_flat.specs.Sound.{IsNameOf};
+ghost use Rattle.lft_coming.specs.AtOnce.{IsAwaited};
 ghost use Rattle.lft_stream.specs.Present.{AreShown};
 
 use lft_coming::{Coming, Writes, is_undelayed};
@@ -18,11 +19,11 @@ use lft_rows::{Marks, Slice};
 use lft_steps::{Row, is_start, row_at};
 use lft_tag::Tag;
 
-/// What may be read of the name at the tag, of rows that are at the tag behind rows that are at
-/// earlier ones: its value, or that it is absent.
+/// What may be read of the name, which some reaction reads, at the tag, of rows that are at the tag behind
+/// rows that are at earlier ones: its value, or that it is absent.
 fn shown(writes: &Writes, coming: &Coming, plan: &Plan, tag: Tag, name: Name) -> Option<Value>
     ghost parts: { List TheRow × List TheRow }
-    requires name { IsNameOf plan.now.program name }
+    requires name { IsNameOf plan.now.program name × IsAwaited plan.now.program name }
     requires shown { AreShown plan.now parts.0 parts.1 tag writes.now coming.now.queue }
     ensures { Shows plan.now (parts.0 ++ parts.1) tag name result }
 {

@@ -20,7 +20,7 @@ use crate::hearing::is_all_heard;
 use crate::order::Order;
 use crate::reads::{have_read, is_woken};
 use crate::start_tags::StartTags;
-use lft_coming::{Coming, Listeners, NumberLists, Writes, channels_of, pass_on};
+use lft_coming::{Coming, Listeners, NumberLists, Unread, Writes, pass_on, read_channels_of};
 use lft_flat::Program;
 use lft_model::Plan;
 use lft_rows::{Marks, Slice};
@@ -48,9 +48,10 @@ pub(crate) struct Stream {
     starts: StartTags,
     writes: Writes,
     listeners: Listeners,
-    /// For each port, as an origin, the ports that lie behind a delay of it.
+    /// For each port, as an origin, the ports that lie behind a delay of it and that some reaction reads.
     channels: NumberLists,
     coming: Coming,
+    unread: Unread,
     effort: Effort,
 }
 
@@ -175,8 +176,9 @@ impl Stream {
             starts: StartTags::new(alloc, program)?,
             writes: Writes::new(alloc, program)?,
             listeners: Listeners::new(alloc, plan)?,
-            channels: channels_of(alloc, program)?,
+            channels: read_channels_of(alloc, program)?,
             coming: Coming::new(alloc),
+            unread: Unread::new(alloc, program)?,
             effort: Effort::new(),
         })
     }
@@ -202,6 +204,7 @@ impl Stream {
         ensures listeners { self.new.listeners ≡ self.old.listeners }
         ensures channels { self.new.channels ≡ self.old.channels }
         ensures coming { self.new.coming ≡ self.old.coming }
+        ensures unread { self.new.unread ≡ self.old.unread }
         ensures tag { IsTrue result → self.new.tag ≡ Some tag }
         ensures runs { IsTrue result → self.new.runs ≡ self.old.runs + runs }
         ensures tags { IsTrue result → self.new.tags ≡ self.old.tags + 1 }
@@ -229,6 +232,7 @@ impl Stream {
         ensures runs { self.new.runs ≡ self.old.runs }
         ensures tags { self.new.tags ≡ self.old.tags }
         ensures coming { self.new.coming ≡ self.old.coming }
+        ensures unread { self.new.unread ≡ self.old.unread }
         ensures listeners { self.new.listeners ≡ self.old.listeners }
         ensures channels { self.new.channels ≡ self.old.channels }
         ensures judged { IsTrue result → IsJudged plan.now done rows.now slice self.new }
@@ -298,6 +302,9 @@ impl Stream {
             return false;
         }
         self.coming.drop_until(slice.tag);
+        if !self.unread.pass_all(program, own, slice.tag, self.stop) {
+            return false;
+        }
         pass_on(
             &mut self.coming,
             &mut self.writes,

@@ -1,51 +1,14 @@
 //! The ports whose events are watched.
 
-ghost use Rattle.std.specs.Prelude.{◌≡◌, ◌↔◌, ◌⊎◌, ◌<◌, ℕ, true, length, slice_get, Some, IfOk, IfSome, IsTrue, Contains};
-ghost use Rattle.lft_flat.specs.declared.parts.Name.{Name as NameOf};
+ghost use Rattle.std.specs.Prelude.{◌≡◌, ◌↔◌, ◌<◌, length, IfOk, IfSome, IsTrue};
 ghost use Rattle.lft_agenda.specs.Listeners.{IsWatched, arrival as arrival_of};
-ghost use Rattle.lft_agenda.specs.Filling.{AreMarked, AreFirst, Precedes, AreWatched};
+ghost use Rattle.lft_agenda.specs.Filling.{AreFirst, Precedes, AreWatched};
 
-use lft_flat::{Name, Port, Program};
-use lft_lists::item_at;
+use lft_flat::{Port, Program};
+use lft_queue::read_ports;
 use lft_tag::{NoMemory, Tag};
 use std::alloc::Global;
 use std::marker::Model;
-
-// The name is marked, where it is a port.
-fn mark(marked: &mut [bool], name: Name)
-    requires { (p : ℕ) → name ≡ NameOf.Port p → p < length marked.old }
-    ensures count { length marked.new ≡ length marked.old }
-    ensures each { (p : ℕ) → (slice_get marked.new p ≡ Some true) ↔ ((slice_get marked.old p ≡ Some true) ⊎ (name ≡ NameOf.Port p)) }
-{
-    match name {
-        Name::Port(port) => marked[port as usize] = true,
-        Name::Action(_) => {}
-    }
-}
-
-// The ports among the names are marked.
-fn mark_all(marked: &mut [bool], names: &[Name])
-    requires { (p : ℕ) → Contains names.now (NameOf.Port p) → p < length marked.old }
-    ensures count { length marked.new ≡ length marked.old }
-    ensures each { (p : ℕ) → (slice_get marked.new p ≡ Some true) ↔ ((slice_get marked.old p ≡ Some true) ⊎ Contains names.now (NameOf.Port p)) }
-{
-    'names: for place in 0..names.len() {
-        mark(marked, item_at(names, place));
-    }
-}
-
-// Whether a reaction reads it, for each port.
-fn read_ports(alloc: Global, program: &Program) -> Result<Vec<bool>, NoMemory>
-    ensures { IfOk result (λ marked. AreMarked program.now (length program.now.reactions) marked.items) }
-{
-    let mut marked = vec![in alloc; false; program.ports()]?;
-    'reactions: for number in 0..program.reactions() {
-        let reaction = program.reaction(number as u32);
-        mark_all(&mut marked, reaction.triggers.names());
-        mark_all(&mut marked, reaction.uses.as_slice());
-    }
-    Ok(marked)
-}
 
 // Where a write of its origin at (0, 0) arrives at the port.
 fn arrival(port: &Port) -> Tag

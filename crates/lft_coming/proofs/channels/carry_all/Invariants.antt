@@ -1,5 +1,6 @@
+use Rattle.lft_queue.specs.Reading.{is_read}
 use Rattle.lft_coming.specs.Channels.{AreCarried}
 use Rattle.lft_coming.proofs.channels.carry_all.Given as goal
 
 abbrev pub invariant-loop-place : goal.invariant-loop-place
-invariant-loop-place l = AreCarried l.program l.rows l.fn.tag l.last l.place l.fn.coming l.coming l.writes
+invariant-loop-place l = AreCarried l.program (is_read l.program) l.rows l.fn.tag l.last l.place l.fn.coming l.coming l.writes

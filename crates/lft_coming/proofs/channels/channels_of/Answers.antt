@@ -1,49 +1,10 @@
-use Rattle.std.proofs.Common.{◌≡◌, ◌<◌, inl, inr, ℕ, length, Contains, slice_get, sym, ap, ◌∙◌, subst, arith}
-use Rattle.std.proofs.lemmas.Bool.{cases_eq, false≢true}
-use Rattle.lft_flat.specs.declared.parts.Port.{Port as PortOf}
-use Rattle.lft_flat.proofs.Origins.{origin_inside}
-use Rattle.lft_lists.proofs.Places.{same_at}
-use Rattle.lft_model.proofs.Places.{slice_get_within}
-use Rattle.lft_coming.specs.AtOnce.{is_undelayed, HaveGrown}
-use Rattle.lft_coming.proofs.AtOnce.{still_there, pushed_grows, pushed_there}
+use Rattle.std.proofs.Common.{◌≡◌, true, List, length, replicate, ap, ◌∙◌, arith, rules, slice_get, Bool}
+use Rattle.lft_lists.proofs.Places.{length_same}
+use Rattle.lft_coming.proofs.Listed.{all_marked}
 use Rattle.lft_coming.proofs.channels.channels_of.Goals as goal
-use Rattle.lft_coming.proofs.channels.channels_of.Goals.{then-not-is_undelayed+in_ok-push, else-not-is_undelayed}
 
-pub push-requires : goal.push-requires
-push-requires c =
-    let a = origin_inside (c.port.ensures.sound.origins c.loop-number.number c.port.result.now c.port.ensures.value).1 in
-    let b = c.loop-number.invariant.as_long in
-    omega arith
-
-pub loop-number-preserved : goal.loop-number-preserved
-loop-number-preserved c = elim c.if-not-is_undelayed.branch [
-  | then-not-is_undelayed+in_ok-push w ↦
-      let old = c.loop-number.channels in
-      let new = w.push.new.self in
-      let own = w.port.result.now in
-      let within : own.origin < length old = let a = origin_inside (w.port.ensures.sound.origins c.loop-number.number own w.port.ensures.value).1 in let b = c.loop-number.invariant.as_long in omega arith in
-      let grown : HaveGrown old new = pushed_grows old new own.origin c.loop-number.number within w.in_ok-push.ensures in
-      rw w.channels-is (record {
-        as_long = grown.as_long ∙ c.loop-number.invariant.as_long;
-        each = λ p port list l e f h. elim (cases_eq p c.loop-number.number) [
-          | inl q ↦
-              let same : port ≡ own = same_at c.args.program.now.ports p c.loop-number.number port own e w.port.ensures.value q in
-              subst (λ (k : ℕ). Contains list k) (sym q) (pushed_there old new own.origin c.loop-number.number within w.in_ok-push.ensures list (ap (λ (z : PortOf). slice_get new z.origin) (sym same) ∙ h))
-          | inr d ↦ still_there old new grown port.origin p list h (λ own h. c.loop-number.invariant.each p port own (omega (arith, l, d)) e f h)
-        ];
-      })
-  | else-not-is_undelayed w ↦
-      rw w.channels-is (record {
-        as_long = c.loop-number.invariant.as_long;
-        each = λ p port list l e f h. elim (cases_eq p c.loop-number.number) [
-          | inl q ↦ absurd (false≢true (sym f ∙ ap (λ (k : ℕ). is_undelayed c.args.program.now k) q ∙ sym c.is_undelayed.ensures ∙ w.if-not-is_undelayed.false))
-          | inr d ↦ c.loop-number.invariant.each p port list (omega (arith, l, d)) e f h
-        ];
-      })
-]
+pub channels_to-requires : goal.channels_to-requires
+channels_to-requires c = let same : c.as_slice.result.now ≡ replicate c.ports.result true = search rules in let e = c.ports.ensures.count in ap length same ∙ length_same c.ports.result true ∙ e
 
 pub returns : goal.returns
-returns c = record {
-  as_long = c.loop-number.invariant.as_long;
-  each = λ p port list e f h. let a = slice_get_within c.args.program.now.ports p port e in let b = c.loop-number-test.false in let d = c.ports-number-end.ensures.count in c.loop-number.invariant.each p port list (omega arith) e f h;
-}
+returns c = let same : c.as_slice.result.now ≡ replicate c.ports.result true = search rules in c.in_ok-channels.ensures (λ p. true) (λ p l. ap (λ (ms : List Bool). slice_get ms p) same ∙ all_marked c.ports.result p (let e = c.ports.ensures.count in omega (arith, l, e)))

@@ -1,6 +1,6 @@
-use Rattle.std.proofs.Common.{arith}
+use Rattle.std.proofs.Common.{true, arith}
 use Rattle.lft_tag.proofs.Order.{UpTo-refl}
-use Rattle.lft_coming.proofs.Carrying.{all_carried}
+use Rattle.lft_coming.proofs.Carrying.{all_carried, all_pass}
 use Rattle.lft_coming.proofs.Clearing.{clear_first, clear_more, clear_earlier}
 use Rattle.lft_coming.proofs.channels.note_carry_all.Goals as goal
 
@@ -19,4 +19,4 @@ pub returns-clause-earlier : goal.returns-clause-earlier
 returns-clause-earlier c = clear_earlier c.args.program.now c.args.rows.now c.args.tag c.args.last c.loop-place.place c.args.clash c.loop-place.noted c.args.coming.now c.loop-place.coming c.loop-place.writes c.loop-place.invariant
 
 pub returns-clause-carried : goal.returns-clause-carried
-returns-clause-carried c = λ events h n before up clear. all_carried c.args.program.now c.args.rows.now c.args.tag c.loop-place.place (omega (arith, c.loop-place-test.false)) c.args.coming.now c.loop-place.coming c.loop-place.writes h (c.loop-place.invariant.carried h up clear) events h n before (UpTo-refl h)
+returns-clause-carried c = λ events h n before up clear. all_carried c.args.program.now (λ p. true) c.args.rows.now c.args.tag c.loop-place.place (omega (arith, c.loop-place-test.false)) c.args.coming.now c.loop-place.coming c.loop-place.writes h (c.loop-place.invariant.carried h up clear) events h n (all_pass n) before (UpTo-refl h)

@@ -1,4 +1,4 @@
-use Rattle.std.proofs.Common.{◌+◌, ◌<◌, List, Option, length, sym, subst, arith}
+use Rattle.std.proofs.Common.{◌+◌, ◌<◌, true, List, Option, length, sym, subst, arith}
 use Rattle.lft_lists.proofs.Places.{get_there}
 use Rattle.lft_steps.specs.declared.row.Step.{Step}
 use Rattle.lft_steps.specs.Fits.{StepFits}
@@ -11,7 +11,7 @@ use Rattle.lft_coming.proofs.Carrying.{carried_stays, carried_again, carried_now
 use Rattle.lft_coming.proofs.channels.note_carry_row.Goals as goal
 
 pub returns-in_default-clause-carried : goal.returns-in_default-clause-carried
-returns-in_default-clause-carried c = λ u count start h up clear is are. carried_stays c.args.program.now u count c.args.row is start c.args.coming.now c.args.writes.now h are c.in_default.ensures
+returns-in_default-clause-carried c = λ u count start h up clear is are. carried_stays c.args.program.now (λ p. true) u count c.args.row is start c.args.coming.now c.args.writes.now h are c.in_default.ensures
 
 pub returns-in_default-take-clause-carried : goal.returns-in_default-take-clause-carried
 returns-in_default-take-clause-carried c = λ u count start h up clear is are.
@@ -23,7 +23,7 @@ returns-in_default-take-clause-carried c = λ u count start h up clear is are.
     let there : o < length program.ports = subst (λ (s : Step). StepFits program s) c.in-Some.ensures c.requires.fits.step in
     let within : o < length writes = let a = c.requires.ports in omega arith in
     let w = get_there writes o within in
-    subst (λ (ws : List (Option Written)). AreCarried program u row.tag h (count + 1) start old ws) (sym c.take.ensures.taken) (carried_again program u count row is start old writes h are o c.in-Some.field-0-1 c.in-Some.ensures within w.0 w.1 (sym (c.in_default-take.ensures.value w.0 w.1)))
+    subst (λ (ws : List (Option Written)). AreCarried program (λ p. true) u row.tag h (count + 1) start old ws) (sym c.take.ensures.taken) (carried_again program (λ p. true) u count row is start old writes h are o c.in-Some.field-0-1 c.in-Some.ensures within w.0 w.1 (sym (c.in_default-take.ensures.value w.0 w.1)))
 
 pub returns-clause-carried : goal.returns-clause-carried
 returns-clause-carried c = λ u count start h up clear is are.
@@ -35,7 +35,7 @@ returns-clause-carried c = λ u count start h up clear is are.
     let there : o < length program.ports = subst (λ (s : Step). StepFits program s) c.in-Some.ensures c.requires.fits.step in
     let within : o < length writes = let a = c.requires.ports in omega arith in
     let w = get_there writes o within in
-    subst (λ (ws : List (Option Written)). AreCarried program u row.tag h (count + 1) start c.note_carry.new.coming ws) (sym c.take.ensures.taken) (carried_now program u count row is start old writes h are o c.in-Some.field-0-1 c.in-Some.ensures within w.0 w.1 c.args.channels.now c.requires.channels c.of.result.now c.of.ensures c.in-Some-take.value (sym (c.in-Some-take.ensures.value w.0 w.1)) c.note_carry.new.coming (λ events k n below. c.in_ok-noted.ensures.put events k n (UpTo-trans k h c.args.last below up) (clear_up c.in_ok-noted.noted k h below clear)))
+    subst (λ (ws : List (Option Written)). AreCarried program (λ p. true) u row.tag h (count + 1) start c.note_carry.new.coming ws) (sym c.take.ensures.taken) (carried_now program (λ p. true) u count row is start old writes h are o c.in-Some.field-0-1 c.in-Some.ensures within w.0 w.1 c.args.channels.now c.requires.channels c.of.result.now c.of.ensures c.in-Some-take.value (sym (c.in-Some-take.ensures.value w.0 w.1)) c.note_carry.new.coming (λ events k n below. c.in_ok-noted.ensures.put events k n (UpTo-trans k h c.args.last below up) (clear_up c.in_ok-noted.noted k h below clear)))
 
 pub returns-in_default-clause-fewer : goal.returns-in_default-clause-fewer
 returns-in_default-clause-fewer c = fewer_same c.args.writes.now

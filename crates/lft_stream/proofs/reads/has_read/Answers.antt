@@ -4,6 +4,7 @@ use Rattle.lft_flat.specs.declared.parts.Name.{Name}
 use Rattle.lft_flat.proofs.Naming.{input_known}
 use Rattle.lft_lists.proofs.Members.{Mem, mem_get}
 use Rattle.lft_model.proofs.Places.{slice_get_within}
+use Rattle.lft_coming.proofs.AtOnce.{input_awaited}
 use Rattle.lft_stream.proofs.Present.{read_all}
 use Rattle.lft_stream.proofs.reads.has_read.Goals as goal
 
@@ -15,7 +16,8 @@ shown-present-requires g c =
     let own : names ≡ inputs x = c.inputs-names.ensures.2 in
     let n = c.item_at.result in
     let is : slice_get plan.program.reactions c.args.reaction ≡ Some x = ap (λ (p : Parts). slice_get p.reactions c.args.reaction) (sym c.program-program.ensures.value) ∙ c.inputs-names.ensures.1 in
-    (input_known plan.program c.program-program.ensures.sound.sound c.args.reaction x is n (subst (λ (ns : List Name). Mem n ns) own (mem_get names c.loop-seat.seat n c.item_at.ensures)), c.requires.1.1.1.1)
+    let m : Mem n (inputs x) = subst (λ (ns : List Name). Mem n ns) own (mem_get names c.loop-seat.seat n c.item_at.ensures) in
+    ((input_known plan.program c.program-program.ensures.sound.sound c.args.reaction x is n m, input_awaited plan.program c.args.reaction x is n m), c.requires.1.1.1.1)
 
 pub returns : goal.returns
 returns g c = λ z.

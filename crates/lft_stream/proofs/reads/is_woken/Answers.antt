@@ -1,10 +1,12 @@
 use Rattle.std.proofs.Common.{◌≡◌, ◌++◌, ◌∙◌, List, Some, slice_get, filter_map, ap, sym, subst}
 use Rattle.lft_flat.specs.Naming.{named}
-use Rattle.lft_flat.specs.Parts.{Parts}
+use Rattle.lft_flat.specs.Parts.{Parts, inputs}
 use Rattle.lft_flat.specs.Sound.{IsNameOf}
 use Rattle.lft_flat.specs.declared.parts.Name.{Name}
 use Rattle.lft_flat.proofs.Naming.{input_known}
 use Rattle.lft_lists.proofs.Members.{Mem, mem_get, mem_left}
+use Rattle.lft_coming.specs.AtOnce.{IsAwaited}
+use Rattle.lft_coming.proofs.AtOnce.{input_awaited}
 use Rattle.lft_stream.proofs.Present.{woken}
 use Rattle.lft_stream.proofs.reads.is_woken.Goals as goal
 
@@ -12,8 +14,10 @@ pub shown-requires : goal.shown-requires
 shown-requires g c =
     let x = c.reaction.result.now in
     let n = c.item_at.result in
-    let known : IsNameOf c.program.result.now n = input_known c.program.result.now c.reaction.ensures.sound c.args.reaction x c.reaction.ensures.value n (mem_left n (filter_map named x.triggers) x.uses (subst (λ (ns : List Name). Mem n ns) c.names-names.ensures (mem_get c.names-names.result.now c.loop-place.place n c.item_at.ensures))) in
-    (subst (λ (p : Parts). IsNameOf p n) c.program.ensures.value known, c.requires.1)
+    let m : Mem n (inputs x) = mem_left n (filter_map named x.triggers) x.uses (subst (λ (ns : List Name). Mem n ns) c.names-names.ensures (mem_get c.names-names.result.now c.loop-place.place n c.item_at.ensures)) in
+    let known : IsNameOf c.program.result.now n = input_known c.program.result.now c.reaction.ensures.sound c.args.reaction x c.reaction.ensures.value n m in
+    let awaited : IsAwaited c.program.result.now n = input_awaited c.program.result.now c.args.reaction x c.reaction.ensures.value n m in
+    (subst (λ (p : Parts). IsNameOf p n × IsAwaited p n) c.program.ensures.value (known, awaited), c.requires.1)
 
 pub returns-then-is_some : goal.returns-then-is_some
 returns-then-is_some g c = λ z.

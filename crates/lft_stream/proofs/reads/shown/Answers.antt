@@ -42,4 +42,4 @@ returns-then-is_undelayed g c =
 pub returns-in-Action : goal.returns-in-Action
 returns-in-Action g c =
     let plan = c.args.plan.now in
-    subst (λ (n : Name). Shows plan (g.parts.0 ++ g.parts.1) c.args.tag n c.value_at-in-Action.result) (sym c.in-Action.is) (subst (λ (o : Option Value). Shows plan (g.parts.0 ++ g.parts.1) c.args.tag (Action c.in-Action.field-0) o) (ap (λ (n : Name). value_of c.args.tag n c.args.coming.now.queue) (sym c.in-Action.is) ∙ sym c.value_at-in-Action.ensures) (c.requires.1.queued (Action c.in-Action.field-0) tt))
+    subst (λ (n : Name). Shows plan (g.parts.0 ++ g.parts.1) c.args.tag n c.value_at-in-Action.result) (sym c.in-Action.is) (subst (λ (o : Option Value). Shows plan (g.parts.0 ++ g.parts.1) c.args.tag (Action c.in-Action.field-0) o) (ap (λ (n : Name). value_of c.args.tag n c.args.coming.now.queue) (sym c.in-Action.is) ∙ sym c.value_at-in-Action.ensures) (c.requires.1.queued (Action c.in-Action.field-0) tt tt))

@@ -3,8 +3,8 @@ use Rattle.std.proofs.lemmas.List.{take_all}
 use Rattle.lft_flat.specs.declared.parts.Name.{Name}
 use Rattle.lft_flat.specs.declared.parts.Name.TheVariants.{Port}
 use Rattle.lft_lists.proofs.Places.{contains_at}
-use Rattle.lft_agenda.proofs.Watching.{names_start, names_more}
-use Rattle.lft_agenda.proofs.listeners.watched.mark_all.Goals as goal
+use Rattle.lft_queue.proofs.Marking.{names_start, names_more}
+use Rattle.lft_queue.proofs.reading.mark_all.Goals as goal
 
 pub names-init : goal.names-init
 names-init c = record { count = refl; each = names_start c.args.names.now c.args.marked.now }

@@ -3,9 +3,9 @@ use Rattle.lft_flat.specs.Naming.{named}
 use Rattle.lft_flat.specs.declared.parts.Name.{Name}
 use Rattle.lft_flat.specs.declared.parts.Name.TheVariants.{Port}
 use Rattle.lft_lists.proofs.Places.{written_back}
-use Rattle.lft_agenda.specs.Filling.{AreMarked}
-use Rattle.lft_agenda.proofs.Watching.{marked_start, marked_more, triggers_inside}
-use Rattle.lft_agenda.proofs.listeners.watched.read_ports.Goals as goal
+use Rattle.lft_queue.specs.Reading.{AreMarked}
+use Rattle.lft_queue.proofs.Marking.{marked_start, marked_more, triggers_inside, marked_is}
+use Rattle.lft_queue.proofs.reading.read_ports.Goals as goal
 
 pub reactions-init : goal.reactions-init
 reactions-init c = marked_start c.args.program.now c.ports.result c.in_ok-marked.marked.items (c.in_ok-marked.ensures.items_if_clones_equal (λ y e. e)) c.ports.ensures.count
@@ -46,5 +46,8 @@ reactions-preserved c =
     let uses : (p : ℕ) → (slice_get new p ≡ Some true) ↔ ((slice_get mid p ≡ Some true) ⊎ Contains x.uses (Port p)) = subst (λ (ns : List Name). (p : ℕ) → (slice_get new p ≡ Some true) ↔ ((slice_get mid p ≡ Some true) ⊎ Contains ns (Port p))) c.as_slice.ensures (subst (λ (ms : List Bool). (p : ℕ) → (slice_get new p ≡ Some true) ↔ ((slice_get ms p ≡ Some true) ⊎ Contains c.as_slice.result.now (Port p))) was c.mark_all-in-reactions.ensures.each) in
     subst (λ (ms : List Bool). AreMarked program (c.reactions.number + 1) ms) (sym then) (marked_more program c.reactions.number x old mid new c.reaction-reaction.ensures.value c.reactions.invariant (omega (arith, ap length was, ap length same)) triggers uses)
 
-pub returns : goal.returns
-returns c = subst (λ (k : ℕ). AreMarked c.args.program.now k c.reactions.marked.items) (let a = c.reactions-test.false in let b = c.reactions.auto.number-end in let e = c.reactions-number-end.ensures.count in let z : c.reactions.number ≡ length c.args.program.now.reactions = omega arith in z) c.reactions.invariant
+pub returns-clause-marked : goal.returns-clause-marked
+returns-clause-marked c = subst (λ (k : ℕ). AreMarked c.args.program.now k c.reactions.marked.items) (let a = c.reactions-test.false in let b = c.reactions.auto.number-end in let e = c.reactions-number-end.ensures.count in let z : c.reactions.number ≡ length c.args.program.now.reactions = omega arith in z) c.reactions.invariant
+
+pub returns-clause-read : goal.returns-clause-read
+returns-clause-read c = marked_is c.args.program.now c.reactions.marked.items (returns-clause-marked c)

@@ -2,8 +2,8 @@ use Rattle.std.proofs.Common.{◌≡◌, ◌↔◌, ◌⊎◌, Some, true, slice
 use Rattle.lft_flat.specs.declared.parts.Name.{Name}
 use Rattle.lft_flat.specs.declared.parts.Name.TheVariants.{Port, Action}
 use Rattle.lft_lists.proofs.Places.{length_written}
-use Rattle.lft_agenda.proofs.Watching.{port_marked, action_marked}
-use Rattle.lft_agenda.proofs.listeners.watched.mark.Goals as goal
+use Rattle.lft_queue.proofs.Marking.{port_marked, action_marked}
+use Rattle.lft_queue.proofs.reading.mark.Goals as goal
 
 pub returns-in-Port : goal.returns-in-Port
 returns-in-Port c = record {

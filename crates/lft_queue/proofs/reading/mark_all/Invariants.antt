@@ -1,6 +1,6 @@
 use Rattle.std.proofs.Common.{◌≡◌, ◌↔◌, ◌⊎◌, ℕ, Some, true, length, slice_get, take, Contains}
 use Rattle.lft_flat.specs.declared.parts.Name.TheVariants.{Port}
-use Rattle.lft_agenda.proofs.listeners.watched.mark_all.Given as goal
+use Rattle.lft_queue.proofs.reading.mark_all.Given as goal
 
 abbrev pub invariant-names : goal.invariant-names
 invariant-names l = record {

@@ -1,7 +1,0 @@
-use Rattle.std.proofs.Common.{◌≡◌, ℕ, ◌<◌, false, List, length, Some, Contains, slice_get}
-use Rattle.lft_flat.specs.declared.parts.Port.{Port as PortOf}
-use Rattle.lft_coming.specs.AtOnce.{is_undelayed}
-use Rattle.lft_coming.proofs.channels.channels_of.Given as goal
-
-abbrev pub invariant-loop-number : goal.invariant-loop-number
-invariant-loop-number l = record { as_long : length l.channels ≡ length l.program.ports; each : (p : ℕ) (port : PortOf) (list : List ℕ) → p < l.number → slice_get l.program.ports p ≡ Some port → is_undelayed l.program p ≡ false → slice_get l.channels port.origin ≡ Some list → Contains list p }
