@@ -323,7 +323,7 @@ def files():
     case("a trace that isn't there", ["judge", "blink.lf", "externals.csv", "nowhere.csv"], fault("read 1 Failed nowhere.csv"))
     case("external inputs that aren't there", ["judge", "blink.lf", "nowhere.csv", "nothing.csv"], fault("read 1 Failed nowhere.csv"))
     case("no file there at all", ["judge", "no.lf", "nowhere.csv", "nothing.csv"], fault("read 1 Failed no.lf"))
-    case("no file there, with control characters in its name", ["judge", "a\x1b[31m\tb\x7f", "nowhere.csv", "nothing.csv"], fault("read 1 Failed a\\u{1b}[31m\\tb\\u{7f}"))
+    case("no file there, with control characters in its name", ["judge", "a\x1b[31m\tb\r\n\x7f", "nowhere.csv", "nothing.csv"], fault("read 1 Failed a\\u{1b}[31m\\tb\\r\\n\\u{7f}"))
     case("a trace that isn't there, of a program with a fault", ["judge", "trace.csv", "externals.csv", "nowhere.csv"], fault("read 1 Failed nowhere.csv"))
     case("a program to show that isn't there", ["show", "no.lf"], fault("read 1 Failed no.lf"))
     case("a folder for the trace", ["judge", "blink.lf", "externals.csv", "/"], fault("read 1 Failed /"))

@@ -1,5 +1,5 @@
 -- The number of a fault in its part.
-use Rattle.std.specs.Prelude.{◌≡◌, ◌⊎◌, ℕ}
+use Rattle.std.specs.Prelude.{◌≡◌, ◌⊎◌, ℕ, List, Option, Some, None, string_bytes}
 use Rattle.lft_syntax.specs.declared.fault.LexFault.{LexFault}
 use Rattle.lft_syntax.specs.declared.fault.LexFault.TheVariants as lex
 use Rattle.lft_syntax.specs.declared.fault.SyntaxFault.{SyntaxFault}
@@ -8,6 +8,9 @@ use Rattle.lft_graph.specs.declared.fault.GraphFault.{GraphFault}
 use Rattle.lft_graph.specs.declared.fault.GraphFault.TheVariants as graph
 use Rattle.lft_trace.specs.declared.fault.TraceFault.{TraceFault}
 use Rattle.lft_trace.specs.declared.fault.TraceFault.TheVariants as table
+use Rattle.lft_load.specs.Words.{one_line}
+use Rattle.lft_load.specs.declared.fault.Detail.{Detail}
+use Rattle.lft_load.specs.declared.fault.Detail.TheVariants as detail
 use Rattle.lft_load.specs.declared.fault.Fault.{Fault}
 use Rattle.lft_load.specs.declared.fault.Part.{Part}
 use Rattle.lft_load.specs.declared.fault.Part.TheVariants as part
@@ -50,3 +53,14 @@ table_number table.NoMemory = 12
 -- a fault of this part and number, or of want of memory for its words
 abbrev pub IsFault : Fault → Part → ℕ → Type 0
 IsFault f p n = (f.part ≡ p) × (f.number ≡ n) ⊎ (f.part ≡ part.Memory) × (f.number ≡ 1)
+
+-- the words that a fault tells beside its name, if it tells some
+abbrev pub words_of : Detail → Option (List ℕ)
+words_of (detail.Words words) = Some (string_bytes words)
+words_of d = None
+
+-- a fault of this part and number whose words are the path in one line, or of want of memory for them
+abbrev pub IsFaultOfPath : Fault → Part → ℕ → List ℕ → Type 0
+IsFaultOfPath f p n path =
+    (f.part ≡ p) × (f.number ≡ n) × (words_of f.detail ≡ Some (one_line path))
+    ⊎ (f.part ≡ part.Memory) × (f.number ≡ 1)

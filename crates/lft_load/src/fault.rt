@@ -1,11 +1,13 @@
 //! Faults, and the line that each prints.
 
-ghost use Rattle.std.specs.Prelude.{◌≡◌, ◌<◌, ℕ, List, Some, IfOk, length, slice_get, string_bytes};
+ghost use Rattle.std.specs.Prelude.{◌≡◌, ◌<◌, ◌++◌, ℕ, List, Some, IfOk, OnOk, flat_map, length, slice_get, string_bytes};
+ghost use Rattle.std.specs.Char.{encode_utf8};
+ghost use Rattle.std.specs.Char.Escape.{escape_default};
 ghost use Rattle.lft_graph.specs.Loops.{IsLoop};
 ghost use Rattle.lft_graph.specs.declared.fault.GraphFault.TheVariants.{CausalityLoop};
 ghost use Rattle.lft_program.specs.Faults.{number_of as program_number};
-ghost use Rattle.lft_load.specs.Faults.{lex_number, syntax_number, graph_number, table_number, IsFault};
-ghost use Rattle.lft_load.specs.Words.{names_words};
+ghost use Rattle.lft_load.specs.Faults.{lex_number, syntax_number, graph_number, table_number, IsFault, IsFaultOfPath};
+ghost use Rattle.lft_load.specs.Words.{in_line, names_words, one_line};
 ghost use Rattle.lft_load.specs.declared.fault.Part.TheVariants as part;
 
 use crate::words::push_names;
@@ -88,18 +90,35 @@ impl fmt::Display for Detail {
     }
 }
 
-/// The path in one line: a control character, as a line feed, is told by its escape, so that a fault
-/// stays one line.
-fn one_line(alloc: Global, path: &str) -> Result<String, AllocError> {
+/// Puts the letter's escape behind the line, as `\n`.
+fn push_escape(line: &mut String, letter: char) -> Result<(), AllocError>
+    ensures { OnOk result (string_bytes line.new ≡ string_bytes line.old ++ flat_map encode_utf8 (escape_default letter)) }
+{
+    for sign in letter.escape_default() {
+        line.push(sign)?;
+    }
+    Ok(())
+}
+
+/// Puts a letter of a path behind the line: a control character, as a line feed, by its escape.
+fn push_letter(line: &mut String, letter: char) -> Result<(), AllocError>
+    ensures { OnOk result (string_bytes line.new ≡ string_bytes line.old ++ flat_map encode_utf8 (in_line letter)) }
+{
+    if letter.is_control() {
+        push_escape(line, letter)?;
+    } else {
+        line.push(letter)?;
+    }
+    Ok(())
+}
+
+/// The path in one line, so that a fault stays one line.
+fn one_line(alloc: Global, path: &str) -> Result<String, AllocError>
+    ensures { IfOk result (λ line. string_bytes line ≡ one_line path.now) }
+{
     let mut line = String::new(alloc);
     for letter in path.chars() {
-        if letter.is_control() {
-            for sign in letter.escape_default() {
-                line.push(sign)?;
-            }
-        } else {
-            line.push(letter)?;
-        }
+        push_letter(&mut line, letter)?;
     }
     Ok(line)
 }
@@ -161,7 +180,7 @@ impl Fault {
 
     /// A fault that tells a path, or want of memory where the path can't be kept.
     pub fn of_path(alloc: Global, part: Part, number: u32, name: &'static str, path: &str) -> Fault
-        ensures { IsFault result part number }
+        ensures { IsFaultOfPath result part number path.now }
     {
         match one_line(alloc, path) {
             Ok(words) => Fault {

@@ -2,7 +2,7 @@
 
 ghost use Rattle.std.specs.Prelude.{◌≡◌, ◌≤◌, ◌^◌, ◌⊎◌, IfOk, IfErr, OnOk, IfSome, length};
 ghost use Rattle.std.specs.Io.KnownBytes.{IsAtEnd};
-ghost use Rattle.lft_load.specs.Faults.{IsFault};
+ghost use Rattle.lft_load.specs.Faults.{IsFaultOfPath};
 ghost use Rattle.lft_load.specs.declared.fault.Part.TheVariants as part;
 
 use crate::fault::{Fault, Part};
@@ -21,7 +21,7 @@ pub fn read_input<R: Read>(alloc: Global, path: &str, reader: &mut R) -> Result<
     ensures bytes { IfOk result (λ v. IfSome (R.remaining reader.old) (λ xs. v.items ≡ xs)) }
     ensures limit { IfOk result (λ v. length v.items ≤ 2 ^ 30) }
     ensures end { OnOk result (IsAtEnd (R.remaining reader.new)) }
-    ensures refused { IfErr result (λ f. IsFault f part.Read 1 ⊎ IsFault f part.Read 2) }
+    ensures refused { IfErr result (λ f. IsFaultOfPath f part.Read 1 path.now ⊎ IsFaultOfPath f part.Read 2 path.now) }
 {
     let mut bytes = Vec::new(alloc);
     let mut chunk = [0u8; 65536];

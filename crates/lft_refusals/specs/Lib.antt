@@ -3,4 +3,3 @@ pub mod Places
 pub mod Quotes
 pub mod Refusals
 pub mod Spots
-pub mod Tables

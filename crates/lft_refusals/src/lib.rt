@@ -1,25 +1,24 @@
 #![tactic(auto)]
-//! Why a text is refused, for people: where in it, the line or the record with a mark, what is wanted
-//! there, and what to write in place of what the language has and `lftrace` leaves out.
+//! Why a program's text has no tree, for people: where in it, the line with a mark, what could stand there,
+//! and what to write in place of what the language has and `lftrace` leaves out.
+//!
+//! `words` and `headers` serve who tells of other texts.
 
 mod before;
 mod candidates;
 mod code;
-mod fields;
-mod foreign;
+pub mod headers;
+mod left_out;
 mod place;
 mod program_text;
 mod quoting;
-mod record;
 mod refusal;
 mod spots;
-mod tables;
 mod ways;
-mod words;
+pub mod words;
 
 pub use code::has_code_with;
 pub use place::{Place, place_of};
 pub use program_text::tell_program;
 pub use quoting::{push_line, push_place};
 pub use spots::{Spot, name_spot, reactor_spot, time_spot, token_spot};
-pub use tables::{tell_externals, tell_trace};

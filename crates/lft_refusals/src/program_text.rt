@@ -6,7 +6,8 @@ ghost use Rattle.lft_refusals.specs.Refusals.{IsLong, HasTree, IsRefusal};
 
 use crate::before::Before;
 use crate::candidates::Candidates;
-use crate::foreign;
+use crate::headers;
+use crate::left_out::push_left_out;
 use crate::place::place_of;
 use crate::quoting::{push_line, push_place};
 use crate::refusal::{Refusal, Why, refusal_of};
@@ -128,7 +129,7 @@ fn push_help_at_token(
 fn push_help(alloc: Global, out: &mut String, text: &[u8], refusal: Refusal) -> Result<(), NoMemory>
     requires { (refusal.start ≤ refusal.end) × (refusal.end ≤ length text.now) }
 {
-    let way = foreign::of_program(text);
+    let way = headers::of_program(text);
     if way.is_some() {
         return push_way(out, way);
     }
@@ -139,14 +140,11 @@ fn push_help(alloc: Global, out: &mut String, text: &[u8], refusal: Refusal) -> 
             let candidates = Candidates::of(alloc, before, number)?;
             push_candidates(out, candidates.found())
         }
-        Why::Token(number, kind) => push_help_at_token(
-            alloc,
-            out,
-            before,
-            number,
-            kind,
-            &text[refusal.start..refusal.end],
-        ),
+        Why::Token(number, kind) => {
+            let spelling = &text[refusal.start..refusal.end];
+            push_help_at_token(alloc, out, before, number, kind, spelling)?;
+            push_left_out(alloc, out, text, refusal.end)
+        }
     }
 }
 
@@ -163,7 +161,7 @@ fn long_words(alloc: Global, length: usize) -> Result<String, NoMemory> {
 
 /// Where and why a program's text has no tree, in lines that end with a line feed: the place, what is
 /// wrong there, the line itself with a mark, what could stand there, and what to write in place of what
-/// the language has and `lftrace` leaves out. Of a text of more than `lft_syntax::MAX_LENGTH` bytes its
+/// the language has and `lftrace` leaves out. What else is left out further on is listed. Of a text of more than `lft_syntax::MAX_LENGTH` bytes its
 /// length is told, and no place. None where the text has a tree.
 ///
 /// What could stand there is found by trying: the text before the place is read once for each thing.

@@ -50,7 +50,7 @@ fn push_letter(out: &mut String, letter: char) -> Result<(), NoMemory>
 
 /// Puts bytes of a text behind it. What is no UTF-8, and control characters but tabs, are replaced, and
 /// format characters are escaped, so that a quoted text can't speak to a terminal, and looks as it is.
-pub(crate) fn push_bytes(alloc: Global, out: &mut String, bytes: &[u8]) -> Result<(), NoMemory>
+pub fn push_bytes(alloc: Global, out: &mut String, bytes: &[u8]) -> Result<(), NoMemory>
     ensures { OnOk result (string_bytes out.new ≡ string_bytes out.old ++ quoted bytes.now) }
 {
     let words = String::from_utf8_lossy(alloc, bytes)?;
@@ -61,7 +61,7 @@ pub(crate) fn push_bytes(alloc: Global, out: &mut String, bytes: &[u8]) -> Resul
 }
 
 /// The bytes of a text as they are quoted.
-pub(crate) fn quoted_text(alloc: Global, bytes: &[u8]) -> Result<String, NoMemory>
+pub fn quoted_text(alloc: Global, bytes: &[u8]) -> Result<String, NoMemory>
     ensures { IfOk result (λ text. string_bytes text ≡ quoted bytes.now) }
 {
     let mut text = String::new(alloc);
@@ -83,7 +83,7 @@ fn push_blank(out: &mut String, byte: u8) -> Result<(), NoMemory>
 
 /// Puts a blank for each letter of the bytes behind the text, and a tab for a tab, so that what follows
 /// stands below what follows the bytes.
-pub(crate) fn push_blanks_below(out: &mut String, bytes: &[u8]) -> Result<(), NoMemory>
+pub fn push_blanks_below(out: &mut String, bytes: &[u8]) -> Result<(), NoMemory>
     ensures { OnOk result (string_bytes out.new ≡ string_bytes out.old ++ blanks_below bytes.now) }
 {
     for place in 0..bytes.len() {
@@ -93,7 +93,7 @@ pub(crate) fn push_blanks_below(out: &mut String, bytes: &[u8]) -> Result<(), No
 }
 
 /// Puts a mark for each letter of the bytes behind the text, and one at least.
-pub(crate) fn push_marks(out: &mut String, bytes: &[u8]) -> Result<(), NoMemory>
+pub fn push_marks(out: &mut String, bytes: &[u8]) -> Result<(), NoMemory>
     ensures { OnOk result (string_bytes out.new ≡ string_bytes out.old ++ marks bytes.now) }
 {
     let count = letters(bytes).max(1);
@@ -104,7 +104,7 @@ pub(crate) fn push_marks(out: &mut String, bytes: &[u8]) -> Result<(), NoMemory>
 }
 
 /// Puts what stands before a quoted line behind the text: the number of the line.
-pub(crate) fn push_margin(out: &mut String, line: usize) -> Result<(), NoMemory>
+pub fn push_margin(out: &mut String, line: usize) -> Result<(), NoMemory>
     ensures { OnOk result (string_bytes out.new ≡ string_bytes out.old ++ margin line) }
 {
     out.push_str("\n  ")?;
@@ -114,7 +114,7 @@ pub(crate) fn push_margin(out: &mut String, line: usize) -> Result<(), NoMemory>
 }
 
 /// Puts as many blanks behind the text as the margin of that line has letters.
-pub(crate) fn push_blank_margin(out: &mut String, line: usize) -> Result<(), NoMemory>
+pub fn push_blank_margin(out: &mut String, line: usize) -> Result<(), NoMemory>
     ensures { OnOk result (string_bytes out.new ≡ string_bytes out.old ++ blank_margin line) }
 {
     out.push_str("\n     ")?;
@@ -124,7 +124,7 @@ pub(crate) fn push_blank_margin(out: &mut String, line: usize) -> Result<(), NoM
 }
 
 /// Puts a way out behind the text, where there is one.
-pub(crate) fn push_way(out: &mut String, way: Option<&'static str>) -> Result<(), NoMemory>
+pub fn push_way(out: &mut String, way: Option<&'static str>) -> Result<(), NoMemory>
     ensures { OnOk result (string_bytes out.new ≡ string_bytes out.old ++ way_words (option_map (λ w. w.now) way.entry)) }
 {
     if let Some(words) = way {

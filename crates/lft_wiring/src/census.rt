@@ -1,13 +1,15 @@
 //! What a program has too much of: which limit it passes, and by how much.
 
-ghost use Rattle.std.specs.Prelude.{◌≡◌, ◌≤◌, IfOk, IfSome, IfNone, flat_map, length, map, min};
+ghost use Rattle.std.specs.Prelude.{◌≡◌, ◌<◌, ℕ, IfOk, IfSome, IfNone, flat_map, length, map, min, true};
 ghost use Rattle.lft_tree.specs.Tree.{FileTree, reactors_of};
 ghost use Rattle.lft_tree.specs.View.{reactor_view, tree_view};
+ghost use Rattle.lft_instances.specs.Contents.{contained};
 ghost use Rattle.lft_instances.specs.Numbers.{count_of, things};
+ghost use Rattle.lft_instances.specs.Paths.{Exists, IsMoreThan};
 ghost use Rattle.lft_scope.specs.Causes.{NoMain, TooMany, UnknownReactor};
 ghost use Rattle.lft_scope.specs.Numbers.{AreContents};
 ghost use Rattle.lft_scope.specs.References.{connection_trees, reactor_trees};
-ghost use Rattle.lft_wiring.specs.Limits.{IsExcess, KeepsLimit, declared_in, limit_of as the_limit_of};
+ghost use Rattle.lft_wiring.specs.Limits.{IsExcess, IsFull, IsPassed, KeepsLimit, declared_in, limit_of as the_limit_of};
 
 use crate::main_reactor::main_of;
 use lft_instances::{Contents, Instance, WalkFault, all_instances};
@@ -145,24 +147,6 @@ fn total_of(counts: &[usize], instances: &[Instance]) -> usize
     total
 }
 
-/// The excess of a kind, if there are more than there may be.
-fn passed(kind: LimitedKind, count: u64) -> Option<Excess>
-    ensures some { IfSome result IsExcess }
-    ensures none { IfNone result (count ≤ the_limit_of kind) }
-{
-    let limit = limit_of(kind);
-    if count > limit {
-        Some(Excess {
-            kind,
-            count,
-            is_more: false,
-            limit,
-        })
-    } else {
-        None
-    }
-}
-
 /// The excess of a kind, if the instances of these reactors have more than there may be.
 fn excess_of(
     alloc: Global,
@@ -170,11 +154,21 @@ fn excess_of(
     instances: &[Instance],
     kind: LimitedKind,
 ) -> Result<Option<Excess>, NoMemory>
-    ensures some { IfOk result (λ found. IfSome found IsExcess) }
+    ensures some { IfOk result (λ found. IfSome found (IsPassed (reactor_trees reactors.now) instances.now)) }
     ensures none { IfOk result (λ found. IfNone found (KeepsLimit (reactor_trees reactors.now) instances.now kind)) }
 {
     let counts = counts_of(alloc, reactors, kind)?;
-    Ok(passed(kind, total_of(&counts, instances) as u64))
+    let count = total_of(&counts, instances) as u64;
+    let limit = limit_of(kind);
+    if count > limit {
+        return Ok(Some(Excess {
+            kind,
+            count,
+            is_more: false,
+            limit,
+        }));
+    }
+    Ok(None)
 }
 
 /// The first limit that the instances of these reactors pass.
@@ -183,7 +177,7 @@ fn first_excess(
     reactors: &[&Reactor],
     instances: &[Instance],
 ) -> Result<Option<Excess>, NoMemory>
-    ensures some { IfOk result (λ found. IfSome found IsExcess) }
+    ensures some { IfOk result (λ found. IfSome found (IsPassed (reactor_trees reactors.now) instances.now)) }
     ensures none { IfOk result (λ found. IfNone found ((kind : LimitedKind) → KeepsLimit (reactor_trees reactors.now) instances.now kind)) }
 {
     for kind in KINDS {
@@ -199,7 +193,10 @@ fn count_instances(
     alloc: Global,
     contents: &[Contents],
     main: u32,
-) -> Result<(usize, bool), NoMemory> {
+) -> Result<(usize, bool), NoMemory>
+    ensures counted { IfOk result (λ r. (n : ℕ) → n < r.0 → IsMoreThan (Exists (contained contents.now) main) n) }
+    ensures more { IfOk result (λ r. r.1 ≡ true → (r.0 ≡ 1000000) × IsMoreThan (Exists (contained contents.now) main) r.0) }
+{
     let mut left = Vec::new(alloc);
     left.push(main)?;
     for counted in 0..MOST_COUNTED {
@@ -217,7 +214,8 @@ fn count_instances(
 
 /// The excess of a program with more instances than there may be.
 fn excess_of_instances(alloc: Global, contents: &[Contents], main: u32) -> Result<Excess, NoMemory>
-    ensures { IfOk result IsExcess }
+    requires { IsMoreThan (Exists (contained contents.now) main) 10000 }
+    ensures { IfOk result (IsFull contents.now main) }
 {
     let (count, is_more) = count_instances(alloc, contents, main)?;
     let least = limit_of(LimitedKind::Instances) + 1;
@@ -235,7 +233,7 @@ fn limit_among(
     reactors: &[&Reactor],
     contents: &[Contents],
 ) -> Result<Option<Excess>, NoMemory>
-    ensures some { IfOk result (λ found. IfSome found IsExcess) }
+    ensures some { IfOk result (λ found. IfSome found (λ e. (tree : FileTree) → reactors_of tree ≡ reactor_trees reactors.now → AreContents (reactor_trees reactors.now) contents.now → IsExcess tree e)) }
     ensures none { IfOk result (λ found. IfNone found ((tree : FileTree) → reactors_of tree ≡ reactor_trees reactors.now → AreContents (reactor_trees reactors.now) contents.now → ¬ NoMain (reactor_trees reactors.now) → ¬ TooMany tree)) }
 {
     let Some(main) = main_of(reactors) else {
@@ -254,7 +252,7 @@ fn limit_among(
 /// Which limit the program passes, and how many there are. None where it passes none, and where there is no
 /// main reactor or an instance is of no reactor of the file.
 pub fn passed_limit(alloc: Global, ast: &Ast) -> Result<Option<Excess>, NoMemory>
-    ensures excess { IfOk result (λ found. IfSome found IsExcess) }
+    ensures excess { IfOk result (λ found. IfSome found (IsExcess (tree_view ast.now))) }
     ensures none { IfOk result (λ found. IfNone found (¬ NoMain (reactors_of (tree_view ast.now)) → ¬ UnknownReactor (reactors_of (tree_view ast.now)) → ¬ TooMany (tree_view ast.now))) }
 {
     let reactors = members::reactors(alloc, &ast.items)?;

@@ -1,5 +1,5 @@
 -- What each witness shows of the reactors of a file.
-use Rattle.std.specs.Prelude.{◌≡◌, ◌≢◌, ℕ, ◌+◌, ◌<◌, ◌⊎◌, List, Some, true, length, slice_get, filter_map, flat_map, take, IsSomeAnd}
+use Rattle.std.specs.Prelude.{◌≡◌, ℕ, ◌+◌, ◌<◌, ◌⊎◌, List, Some, true, length, slice_get, filter_map, flat_map, take, IsSomeAnd}
 use Rattle.lft_tree.specs.Tree.{ReactorTree, MemberTree, RefTree, nanoseconds}
 use Rattle.lft_scope.specs.Causes.{Holds, longest}
 use Rattle.lft_scope.specs.declared.kinds.Role.{Role}
@@ -35,12 +35,16 @@ IsSharedAt xs i ys j = (x : RefTree) × (slice_get xs i ≡ Some x) × (slice_ge
 abbrev pub IsWriting : Role → Type 0
 IsWriting role = (role ≡ Destination) ⊎ (role ≡ Effect)
 
--- one name is written at both places of the reactor, which aren't one, and a connection ends at one of them
+-- the one name stands before the other in the text: in an earlier member, or at an earlier place of the same one
+abbrev pub IsEarlier : Naming → Naming → Type 0
+IsEarlier first second = (first.member < second.member) ⊎ ((first.member ≡ second.member) × (first.name < second.name))
+
+-- one name is written at both places of the reactor, the first before the second, and a connection ends at one of them
 pub record IsWrittenTwice (r : ReactorTree) (first second : Naming) : Type 0 where
   pub name : RefTree
   pub at_first : IsNamedAt r first name
   pub at_second : IsNamedAt r second name
-  pub apart : first ≢ second
+  pub order : IsEarlier first second
   pub first_writes : IsWriting first.role
   pub second_writes : IsWriting second.role
   pub connected : (first.role ≡ Destination) ⊎ (second.role ≡ Destination)
