@@ -3,3 +3,4 @@ pub mod Places
 pub mod Quotes
 pub mod Refusals
 pub mod Spots
+pub mod Told

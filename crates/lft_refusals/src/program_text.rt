@@ -1,8 +1,8 @@
 //! Why a program's text is refused, for people.
 
-ghost use Rattle.std.specs.Prelude.{◌≤◌, ◌⊎◌, length, IfOk, IfSome, IfNone};
-ghost use Rattle.lft_refusals.specs.declared.refusal.Refusal.{Refusal as TheRefusal};
-ghost use Rattle.lft_refusals.specs.Refusals.{IsLong, HasTree, IsRefusal};
+ghost use Rattle.std.specs.Prelude.{◌≡◌, ◌≤◌, ◌++◌, length, string_bytes, IfOk, OnOk, IfSome, IfNone};
+ghost use Rattle.lft_refusals.specs.Refusals.{HasTree};
+ghost use Rattle.lft_refusals.specs.Told.{TellsProgram, fault_words, long_words as words_of_long, sentence, spelled, token_words};
 
 use crate::before::Before;
 use crate::candidates::Candidates;
@@ -25,7 +25,9 @@ const LONGEST_TOKEN: usize = 40;
 const MOST_CANDIDATES: usize = 6;
 
 /// What a fault of tokens says of the place.
-fn lex_words(fault: LexFault) -> &'static str {
+fn lex_words(fault: LexFault) -> &'static str
+    ensures { result.now ≡ fault_words fault }
+{
     match fault {
         LexFault::BadChar(_) => "no token begins so.",
         LexFault::OpenComment => "this comment is never closed.",
@@ -37,28 +39,42 @@ fn lex_words(fault: LexFault) -> &'static str {
     }
 }
 
+/// Puts the bytes of a token behind the text, if they aren't too many.
+fn push_spelled(alloc: Global, out: &mut String, spelling: &[u8]) -> Result<(), NoMemory>
+    ensures { OnOk result (string_bytes out.new ≡ string_bytes out.old ++ spelled spelling.now) }
+{
+    if spelling.len() > LONGEST_TOKEN {
+        out.push_str("this")?;
+        return Ok(());
+    }
+    out.push_str("`")?;
+    push_bytes(alloc, out, spelling)?;
+    out.push_str("`")?;
+    Ok(())
+}
+
 /// Puts the token behind the text: its spelling, or what it is.
 fn push_token(
     alloc: Global,
     out: &mut String,
     kind: TokenKind,
     spelling: &[u8],
-) -> Result<(), NoMemory> {
+) -> Result<(), NoMemory>
+    ensures { OnOk result (string_bytes out.new ≡ string_bytes out.old ++ token_words kind spelling.now) }
+{
     match kind {
-        TokenKind::Code => out.push_str("this code")?,
-        TokenKind::Text => out.push_str("this string")?,
+        TokenKind::Code => {
+            out.push_str("this code")?;
+            Ok(())
+        }
+        TokenKind::Text => {
+            out.push_str("this string")?;
+            Ok(())
+        }
         TokenKind::Name | TokenKind::Number(_) | TokenKind::Arrow | TokenKind::Symbol(_) => {
-            if spelling.len() > LONGEST_TOKEN {
-                out.push_str("this")?;
-            } else {
-                out.push_str("`")?;
-                push_bytes(alloc, out, spelling)?;
-                out.push_str("`")?;
-            }
+            push_spelled(alloc, out, spelling)
         }
     }
-    out.push_str(" can't stand here.")?;
-    Ok(())
 }
 
 /// Puts what is wrong behind the text.
@@ -69,12 +85,14 @@ fn push_sentence(
     refusal: Refusal,
 ) -> Result<(), NoMemory>
     requires { (refusal.start ≤ refusal.end) × (refusal.end ≤ length text.now) }
+    ensures { OnOk result (string_bytes out.new ≡ string_bytes out.old ++ sentence text.now refusal) }
 {
     match refusal.why {
         Why::Lex(fault) => out.push_str(lex_words(fault))?,
         Why::End(_) => out.push_str("the text ends too soon.")?,
         Why::Token(_, kind) => {
             push_token(alloc, out, kind, &text[refusal.start..refusal.end])?;
+            out.push_str(" can't stand here.")?;
         }
     }
     out.push_str("\n")?;
@@ -149,7 +167,9 @@ fn push_help(alloc: Global, out: &mut String, text: &[u8], refusal: Refusal) -> 
 }
 
 /// How long a text is that is too long, and how long it may be.
-fn long_words(alloc: Global, length: usize) -> Result<String, NoMemory> {
+fn long_words(alloc: Global, length: usize) -> Result<String, NoMemory>
+    ensures { IfOk result (λ words. string_bytes words ≡ words_of_long length) }
+{
     let mut out = String::new(alloc);
     out.push_str("Program: the text has ")?;
     push_number(&mut out, length as u64)?;
@@ -161,12 +181,12 @@ fn long_words(alloc: Global, length: usize) -> Result<String, NoMemory> {
 
 /// Where and why a program's text has no tree, in lines that end with a line feed: the place, what is
 /// wrong there, the line itself with a mark, what could stand there, and what to write in place of what
-/// the language has and `lftrace` leaves out. What else is left out further on is listed. Of a text of more than `lft_syntax::MAX_LENGTH` bytes its
-/// length is told, and no place. None where the text has a tree.
+/// the language has and `lftrace` leaves out. What else is left out further on is listed. Of a text of
+/// more than `lft_syntax::MAX_LENGTH` bytes its length is told, and no place. None where the text has a tree.
 ///
 /// What could stand there is found by trying: the text before the place is read once for each thing.
 pub fn tell_program(alloc: Global, text: &[u8]) -> Result<Option<String>, NoMemory>
-    ensures some { IfOk result (λ told. IfSome told (λ words. IsLong text.now ⊎ ((refusal : TheRefusal) × IsRefusal text.now refusal))) }
+    ensures some { IfOk result (λ told. IfSome told (λ words. TellsProgram text.now (string_bytes words))) }
     ensures none { IfOk result (λ told. IfNone told (HasTree text.now)) }
 {
     if MAX_LENGTH < text.len() {
@@ -176,11 +196,13 @@ pub fn tell_program(alloc: Global, text: &[u8]) -> Result<Option<String>, NoMemo
     let Some(refusal) = refusal_of(alloc, text)? else {
         return Ok(None);
     };
+    let mut help = String::new(alloc);
+    push_help(alloc, &mut help, text, refusal)?;
     let place = place_of(text, refusal.start);
     let mut out = String::new(alloc);
     push_place(&mut out, place)?;
     push_sentence(alloc, &mut out, text, refusal)?;
     push_line(alloc, &mut out, text, place, refusal.start, refusal.end)?;
-    push_help(alloc, &mut out, text, refusal)?;
+    out.push_str(help.as_str())?;
     Ok(Some(out))
 }
