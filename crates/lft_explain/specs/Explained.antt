@@ -5,13 +5,14 @@ use Rattle.lft_model.specs.declared.breach.Breach.{Breach}
 use Rattle.lft_model.specs.Plans.{PlanParts}
 use Rattle.lft_facts.specs.declared.facts.Fact.{Fact}
 use Rattle.lft_facts.specs.Facts.{AreFacts}
-use Rattle.lft_facts.specs.Enough.{Proves, AreOwn}
+use Rattle.lft_facts.specs.Enough.{Proves, AreOwn, TellsRace}
 use Rattle.lft_explain.specs.Told.{told}
 
--- the text tells facts that are true of the plan and the rows, they are enough for the breach, and those whose words leave out a tag, a run or a row are of its own
+-- the text tells facts that are true of the plan and the rows, they are enough for the breach, and those whose words leave out a tag, a run or a row are of its own; a race before it is told
 pub record Explains (plan : PlanParts) (t : List Row) (b : Breach) (text : List ℕ) : Type 0 where
   pub facts : List Fact
   pub holds : AreFacts plan t facts
   pub enough : Proves facts b
   pub own : AreOwn b facts
+  pub race : TellsRace plan t b facts
   pub is_told : text ≡ told plan.program t facts

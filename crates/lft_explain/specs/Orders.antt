@@ -15,6 +15,10 @@ early_words program g a r start end =
     reaction_words program r ++ codes " starts at " ++ tag_words g ++ codes " in " ++ line_words start
     ++ codes ", before " ++ reaction_words program a ++ codes " ends in " ++ line_words end ++ codes ".\n"
 
+-- `A race (rule 9): X starts at G in line L, before Y ends in line M.`
+abbrev pub race_words : Parts → Tag → ℕ → ℕ → ℕ → ℕ → List ℕ
+race_words program g a r start end = codes "  A race (rule 9): " ++ early_words program g a r start end
+
 -- `Y precedes X:`
 abbrev pub precedes_words : Parts → ℕ → ℕ → List ℕ
 precedes_words program a r = codes "  " ++ reaction_words program a ++ codes " precedes " ++ reaction_words program r ++ codes ":\n"

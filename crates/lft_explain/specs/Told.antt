@@ -9,12 +9,13 @@ use Rattle.lft_explain.specs.Causes.{cause_words}
 use Rattle.lft_explain.specs.Reasons.{reason_words}
 use Rattle.lft_explain.specs.Reads.{table}
 use Rattle.lft_explain.specs.Runs.{trigger_of_words, count_words, absent_words}
-use Rattle.lft_explain.specs.Orders.{precedes_words, declared_words, feeds_words}
+use Rattle.lft_explain.specs.Orders.{race_words, precedes_words, declared_words, feeds_words}
 use Rattle.lft_explain.specs.Sentences.{sentence}
 
 -- what a fact says beside what is wrong
 abbrev pub fact_words : Parts → List Row → Fact → List ℕ
 fact_words program t (fact.StartsEarly g a r start end) = precedes_words program a r
+fact_words program t (fact.Race g a r start end) = race_words program g a r start end ++ precedes_words program a r
 fact_words program t (fact.DeclaredFirst a b) = declared_words program a b
 fact_words program t (fact.Feeds a b p) = feeds_words program a b p
 fact_words program t (fact.NoRun g r) = []

@@ -1,7 +1,7 @@
 //! The text of which reaction precedes which.
 
 ghost use Rattle.std.specs.Prelude.{◌≡◌, ◌++◌, OnOk, string_bytes};
-ghost use Rattle.lft_explain.specs.Orders.{origin_of, early_words, precedes_words, declared_words, feeds_words, passed_by_words};
+ghost use Rattle.lft_explain.specs.Orders.{origin_of, early_words, race_words, precedes_words, declared_words, feeds_words, passed_by_words};
 
 use lft_flat::Program;
 use lft_tag::Tag;
@@ -41,6 +41,23 @@ pub(crate) fn push_early(
     text.push_str(" ends in ")?;
     push_line(text, end)?;
     text.push_str(".\n")?;
+    Ok(())
+}
+
+/// Puts that a reaction starts before another one has ended, which is a race, at the end of the text.
+pub(crate) fn push_race(
+    text: &mut String,
+    program: &Program,
+    tag: Tag,
+    earlier: u32,
+    later: u32,
+    start: u32,
+    end: u32,
+) -> Result<(), AllocError>
+    ensures { OnOk result (string_bytes text.new ≡ string_bytes text.old ++ race_words program.now tag earlier later start end) }
+{
+    text.push_str("  A race (rule 9): ")?;
+    push_early(text, program, tag, earlier, later, start, end)?;
     Ok(())
 }
 

@@ -5,7 +5,7 @@ ghost use Rattle.lft_steps.specs.Fits.{RowsFit};
 ghost use Rattle.lft_explain.specs.Told.{fact_words, details as the_details, part, told};
 
 use crate::causes::push_cause;
-use crate::orders::{push_declared, push_feeds, push_precedes};
+use crate::orders::{push_declared, push_feeds, push_precedes, push_race};
 use crate::reads::table;
 use crate::reasons::push_reason;
 use crate::runs::{push_absent, push_count, push_trigger_of};
@@ -46,6 +46,16 @@ fn push_fact(
         Fact::TriggerCount { reaction, count } => push_count(text, program, reaction, count)?,
         Fact::Untriggered { tag, trigger, .. } => push_absent(text, program, tag, trigger)?,
         Fact::StartsEarly { earlier, later, .. } => push_precedes(text, program, earlier, later)?,
+        Fact::Race {
+            tag,
+            earlier,
+            later,
+            start,
+            end,
+        } => {
+            push_race(text, program, tag, earlier, later, start, end)?;
+            push_precedes(text, program, earlier, later)?;
+        }
         Fact::DeclaredFirst { first, second } => push_declared(text, program, first, second)?,
         Fact::Feeds {
             writer,

@@ -8,7 +8,7 @@ use Rattle.lft_lists.proofs.Places.{Some_same}
 use Rattle.lft_steps.specs.declared.row.Row.{Row}
 use Rattle.lft_model.specs.Runs.{start_row, Ran}
 use Rattle.lft_model.proofs.Places.{slice_get_within}
-use Rattle.lft_facts.specs.Runs.{StartsAt}
+use Rattle.lft_races.specs.Runs.{StartsAt}
 use Rattle.lft_facts.specs.Reasons.{IsRunBefore, IsRunAfter}
 use Rattle.lft_facts.specs.Neighbours.{IsNearestStart}
 

@@ -21,7 +21,7 @@ use Rattle.lft_facts.specs.declared.facts.Fact.{Fact}
 use Rattle.lft_facts.specs.declared.facts.Cause.{Cause}
 use Rattle.lft_facts.specs.declared.facts.Fact.TheVariants as fact
 use Rattle.lft_facts.specs.Facts.{IsFact, IsShown, IsCause, AreFacts, AreShown, StartsBefore, IsTriggerOf, HasTriggers, IsUntriggered}
-use Rattle.lft_facts.specs.Runs.{StartsAt, EndsAt}
+use Rattle.lft_races.specs.Runs.{StartsAt, EndsAt}
 use Rattle.lft_facts.specs.Enough.{Gives, GivesChain, GivesTrigger, IsOwn, AreOwn, AreOwnAt}
 use Rattle.lft_facts.specs.Ways.{IsMarked, EndsMarked}
 use Rattle.lft_facts.proofs.Lists.{all_right}
@@ -33,6 +33,7 @@ ran_there t g r p s = record { place = p; worker = s.0; starts = s.1 }
 -- what is so is shown
 pub shown : (plan : PlanParts) (t : List Row) (f : Fact) → IsFact plan t f → IsShown plan t f
 shown plan t (fact.StartsEarly g a r start end) h = h.rows
+shown plan t (fact.Race g a r start end) h = h.race
 shown plan t (fact.DeclaredFirst a b) h = h
 shown plan t (fact.Feeds a b p) h = h
 shown plan t (fact.NoRun g r) h = h.none

@@ -11,7 +11,7 @@ use Rattle.lft_facts.specs.declared.facts.Fact.{Fact}
 use Rattle.lft_facts.specs.declared.facts.Fact.TheVariants as fact
 use Rattle.lft_facts.specs.declared.facts.RowFact.{RowFact}
 use Rattle.lft_facts.specs.Facts.{IsFact, IsShown, IsRowFact, AreFacts, AreShown, IsRowOf}
-use Rattle.lft_facts.specs.Runs.{IsOpenSince}
+use Rattle.lft_races.specs.Runs.{IsOpenSince}
 use Rattle.lft_facts.specs.Enough.{GivesRow, ProvesRow, IsOwn, AreOwn, row_of}
 
 pub open_since : (t : List Row) (i w : ℕ) (g : Tag) (r : ℕ) (o : IsOpen t i w g r) → IsOpenSince t i w o.start

@@ -1,5 +1,5 @@
 -- What some facts give, of whatever plan and rows show them.
-use Rattle.std.specs.Prelude.{◌≡◌, ℕ, ◌+◌, ◌<◌, List, ◌++◌, Option, Some, slice_get, Contains, All}
+use Rattle.std.specs.Prelude.{◌≡◌, ℕ, ◌+◌, ◌<◌, List, ◌∷◌, ◌++◌, Option, Some, MatchOption, slice_get, Contains, All}
 use Rattle.lft_tag.specs.declared.Tag.{Tag}
 use Rattle.lft_tag.specs.Tags.{UpTo}
 use Rattle.lft_flat.specs.declared.parts.Trigger.{Trigger}
@@ -10,6 +10,7 @@ use Rattle.lft_model.specs.Plans.{PlanParts}
 use Rattle.lft_model.specs.Presence.{stop, Occurs, Collision}
 use Rattle.lft_model.specs.Breaches.{BreaksRow, BreaksAt, RowBreach, TagBreach}
 use Rattle.lft_answers.specs.Answers.{KeepsRows}
+use Rattle.lft_races.specs.Races.{IsRaceBefore}
 use Rattle.lft_facts.specs.declared.facts.Fact.{Fact}
 use Rattle.lft_facts.specs.declared.facts.Fact.TheVariants as fact
 use Rattle.lft_facts.specs.declared.facts.Cause.{Cause}
@@ -60,7 +61,12 @@ IsOwnReason b (reason.Effects r) = Unit {0}
 IsOwnReason b (reason.KindOf n k) = Unit {0}
 IsOwnReason b (reason.FedBy p o) = Unit {0}
 
--- the same of a fact: what is wrong is so with the row of the breach, or with its reaction at its tag; causes and steps name all that they speak of
+-- a run that starts at g in the row at place i does so before the breach: in a row before its own, or where it has none, at a tag up to its own
+pub record IsBefore (b : Breach) (g : Tag) (i : ℕ) : Type 0 where
+  pub of_row : 0 < b.row → i + 2 < b.row
+  pub of_tag : b.row ≡ 0 → UpTo g b.tag
+
+-- the same of a fact: what is wrong is so with the row of the breach, or with its reaction at its tag; causes and steps name all that they speak of, and a race is before the breach
 abbrev pub IsOwn : Breach → Fact → Type 0
 IsOwn b (fact.RowIs g r i) = b.row ≡ i + 2
 IsOwn b (fact.Row f) = b.row ≡ row_of f + 2
@@ -71,6 +77,7 @@ IsOwn b (fact.Runs g r start) = IsOf b g r
 IsOwn b (fact.TriggerCount r count) = b.reaction ≡ Some r
 IsOwn b (fact.Untriggered g r k x) = IsOf b g r
 IsOwn b (fact.StartsEarly g a r start end) = IsOf b g r
+IsOwn b (fact.Race g a r start end) = IsBefore b g start
 IsOwn b (fact.Reads g r k n read present) = IsOf b g r
 IsOwn b (fact.DeclaredFirst a c) = Unit {0}
 IsOwn b (fact.Feeds a c p) = Unit {0}
@@ -130,3 +137,18 @@ GivesChain facts a b = (plan : PlanParts) (t : List Row) → AreShown plan t fac
 -- of whatever plan and rows the two causes hold: some port or action has two causes at g
 abbrev pub GivesClash : Cause → Cause → Tag → Type 0
 GivesClash c d g = (plan : PlanParts) (t : List Row) → IsCause plan t c → IsCause plan t d → Collision plan t g
+
+-- the last of the facts are a race that starts in the row at place i, and the steps from the one reaction to the other
+pub record EndWithRace (facts : List Fact) (i : ℕ) : Type 0 where
+  pub tag : Tag
+  pub earlier : ℕ
+  pub later : ℕ
+  pub end : ℕ
+  pub before : List Fact
+  pub steps : List Fact
+  pub are : facts ≡ before ++ (fact.Race tag earlier later i end ∷ steps)
+  pub chain : GivesChain steps earlier later
+
+-- of a breach of one of the rules 1 to 8 the first race before it is told, if there is one
+abbrev pub TellsRace : PlanParts → List Row → Breach → List Fact → Type 0
+TellsRace plan t b facts = b.rule < 9 → (o : Option ℕ) × IsRaceBefore plan t b o × MatchOption o (Unit {0}) (EndWithRace facts)

@@ -19,7 +19,8 @@ use Rattle.lft_model.specs.Plans.{PlanParts}
 use Rattle.lft_model.specs.Presence.{stop, value_written, min_delay, Occurs, Triggered, Shows}
 use Rattle.lft_model.specs.Runs.{Ran, steps_of, read_of, inputs_of}
 use Rattle.lft_model.specs.Breaches.{IsOpen, IsUnended, EndsBefore, MayWrite, MaySchedule}
-use Rattle.lft_facts.specs.Runs.{StartsAt, EndsAt, IsOpenSince}
+use Rattle.lft_races.specs.Runs.{StartsAt, EndsAt, IsOpenSince}
+use Rattle.lft_races.specs.Races.{IsUnfinished}
 use Rattle.lft_facts.specs.Reasons.{IsReason}
 use Rattle.lft_facts.specs.declared.facts.Fact.{Fact}
 use Rattle.lft_facts.specs.declared.facts.Fact.TheVariants as fact
@@ -39,6 +40,16 @@ pub record IsEarlyStart (plan : PlanParts) (t : List Row) (g : Tag) (a r start e
   pub precedes : Precedes plan.program a r
   pub not_ended : ¬ EndsBefore t g a r
   pub rows : StartsBefore t g a r start end
+
+-- a has a run at g that no row before the start of r there ends, and a later row does
+pub record HasRace (t : List Row) (g : Tag) (a r start end : ℕ) : Type 0 where
+  pub rows : StartsBefore t g a r start end
+  pub unfinished : IsUnfinished t g a start
+
+-- so it is with a reaction that precedes r
+pub record IsRaceOf (plan : PlanParts) (t : List Row) (g : Tag) (a r start end : ℕ) : Type 0 where
+  pub precedes : Precedes plan.program a r
+  pub race : HasRace t g a r start end
 
 -- r is triggered at g and has no run there
 pub record IsMissing (plan : PlanParts) (t : List Row) (g : Tag) (r : ℕ) : Type 0 where
@@ -248,6 +259,7 @@ IsRowFact plan t (row_fact.Unended i) = IsNeverEnded t i
 -- the fact holds of the plan and the rows
 abbrev pub IsFact : PlanParts → List Row → Fact → Type 0
 IsFact plan t (fact.StartsEarly g a r start end) = IsEarlyStart plan t g a r start end
+IsFact plan t (fact.Race g a r start end) = IsRaceOf plan t g a r start end
 IsFact plan t (fact.DeclaredFirst a b) = IsDeclaredFirst plan.program a b
 IsFact plan t (fact.Feeds a b p) = FeedsBy plan.program a b p
 IsFact plan t (fact.NoRun g r) = IsMissing plan t g r
@@ -266,9 +278,10 @@ IsFact plan t (fact.Reason x) = IsReason plan t x
 abbrev pub AreFacts : PlanParts → List Row → List Fact → Type 0
 AreFacts plan t facts = All (IsFact plan t) facts
 
--- what the plan and the rows show of a fact by itself: of an early start not that the one reaction precedes the other, and of a run that is missing not that it is triggered. Other facts are to give that
+-- what the plan and the rows show of a fact by itself: of an early start and of a race not that the one reaction precedes the other, and of a run that is missing not that it is triggered. Other facts are to give that
 abbrev pub IsShown : PlanParts → List Row → Fact → Type 0
 IsShown plan t (fact.StartsEarly g a r start end) = StartsBefore t g a r start end
+IsShown plan t (fact.Race g a r start end) = HasRace t g a r start end
 IsShown plan t (fact.DeclaredFirst a b) = IsFact plan t (fact.DeclaredFirst a b)
 IsShown plan t (fact.Feeds a b p) = IsFact plan t (fact.Feeds a b p)
 IsShown plan t (fact.NoRun g r) = ¬ Ran t g r

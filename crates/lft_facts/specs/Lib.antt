@@ -1,4 +1,3 @@
-pub mod Runs
 pub mod Reasons
 pub mod Facts
 pub mod Enough

@@ -1,12 +1,11 @@
--- Runs and firings that are nearest to a tag, and which reactions run there. The contracts of private functions alone need this file.
-use Rattle.std.specs.Prelude.{◌≡◌, ◌↔◌, ℕ, ◌<◌, Bool, true, List, Option, Some, MatchOption, slice_get}
+-- Runs and firings that are nearest to a tag. The contracts of private functions alone need this file.
+use Rattle.std.specs.Prelude.{ℕ, ◌<◌, List, Option, MatchOption}
 use Rattle.lft_tag.specs.declared.Tag.{Tag}
 use Rattle.lft_tag.specs.Tags.{Before}
 use Rattle.lft_flat.specs.declared.parts.Timer.{Timer as TimerOf}
 use Rattle.lft_steps.specs.declared.row.Row.{Row}
 use Rattle.lft_model.specs.Presence.{Fires}
-use Rattle.lft_model.specs.Runs.{Ran}
-use Rattle.lft_facts.specs.Runs.{StartsAt}
+use Rattle.lft_races.specs.Runs.{StartsAt}
 
 -- of the runs of r at tags of a kind that start in the rows before place i the one to which the others come up, if any: its tag and its place
 abbrev pub IsNearestStart : (Tag → Type 0) → (Tag → Tag → Type 0) → List Row → ℕ → ℕ → Option (Tag × ℕ) → Type 0
@@ -23,11 +22,3 @@ pub record IsFiringAfter (timer : TimerOf) (g h : Tag) : Type 0 where
   pub fires : Fires timer h
   pub after : Before g h
   pub none_between : (k : Tag) → Before g k → Before k h → ¬ Fires timer k
-
--- of each reaction whether it has a run at g, by the rows before place i
-abbrev pub HaveRunBefore : List Row → Tag → ℕ → List Bool → Type 0
-HaveRunBefore t g i ran = (r : ℕ) → (slice_get ran r ≡ Some true) ↔ ((j : ℕ) × (j < i) × StartsAt t g r j)
-
--- of each reaction whether it has a run at g
-abbrev pub HaveRun : List Row → Tag → List Bool → Type 0
-HaveRun t g ran = (r : ℕ) → (slice_get ran r ≡ Some true) ↔ Ran t g r

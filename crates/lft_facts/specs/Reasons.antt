@@ -14,7 +14,7 @@ use Rattle.lft_graph.specs.Precedence.{Precedes}
 use Rattle.lft_model.specs.Plans.{PlanParts}
 use Rattle.lft_model.specs.Presence.{stop, asked, Occurs}
 use Rattle.lft_model.specs.Runs.{start_row, end_row, Ran, inputs_of, effects_of}
-use Rattle.lft_facts.specs.Runs.{StartsAt, IsOpenSince}
+use Rattle.lft_races.specs.Runs.{StartsAt, IsOpenSince}
 use Rattle.lft_facts.specs.declared.facts.ThingKind.{ThingKind}
 use Rattle.lft_facts.specs.declared.facts.ThingKind.TheVariants as kind
 use Rattle.lft_facts.specs.declared.facts.Reason.{Reason}

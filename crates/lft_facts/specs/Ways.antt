@@ -7,7 +7,7 @@ use Rattle.lft_flat.specs.declared.parts.Name.{Name}
 use Rattle.lft_flat.specs.declared.parts.Name.TheVariants.{Port, Action}
 use Rattle.lft_steps.specs.declared.row.Row.{Row}
 use Rattle.lft_graph.specs.Graph.{GraphParts}
-use Rattle.lft_facts.specs.Runs.{EndsAt}
+use Rattle.lft_races.specs.Runs.{EndsAt}
 
 -- the name is a port that is reached without a delay from an origin among the effects
 abbrev pub IsFed : Parts → List Name → Name → Type 0

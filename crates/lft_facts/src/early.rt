@@ -6,7 +6,7 @@ ghost use Rattle.lft_steps.specs.declared.row.Row.{Row as TheRow};
 ghost use Rattle.lft_model.specs.Breaches.{IsTooEarly};
 ghost use Rattle.lft_model.specs.Runs.{Ran};
 ghost use Rattle.lft_answers.specs.Answers.{KeepsRows};
-ghost use Rattle.lft_facts.specs.Runs.{EndsAt};
+ghost use Rattle.lft_races.specs.Runs.{EndsAt};
 ghost use Rattle.lft_facts.specs.Facts.{AreFacts};
 ghost use Rattle.lft_facts.specs.Enough.{Gives, AreOwnAt};
 ghost use Rattle.lft_facts.specs.Ways.{IsMarked, EndsMarked, IsLeastEnd, IsLeastOfAll};
@@ -14,9 +14,9 @@ ghost use Rattle.lft_facts.specs.Ways.{IsMarked, EndsMarked, IsLeastEnd, IsLeast
 use crate::chain::chain;
 use crate::facts::Fact;
 use crate::passing::add_passed_by;
-use crate::runs::{runs_at, start_of};
 use crate::ways::{is_marked, steps, ways};
 use lft_model::Plan;
+use lft_races::{runs_at, start_of};
 use lft_steps::{Row, is_end, row_at};
 use lft_tag::{NoMemory, Tag};
 use std::alloc::Global;
@@ -80,7 +80,7 @@ fn least_end(rows: &[Row], tag: Tag, start: u32, next: &[Option<u32>]) -> Option
 
 /// Of the reactions which end at the tag behind the place the least of those that are just before, and
 /// where there are none of those from which a way leads on: itself and its place.
-fn late_end(
+pub(crate) fn late_end(
     rows: &[Row],
     tag: Tag,
     start: u32,

@@ -209,6 +209,15 @@ pub enum Fact {
         start: u32,
         end: u32,
     },
+    /// A race: a reaction starts at the tag although another one, which precedes it, has a run there that
+    /// ends in a later row.
+    Race {
+        tag: Tag,
+        earlier: u32,
+        later: u32,
+        start: u32,
+        end: u32,
+    },
     /// Two reactions of one instance, in the order of their declaration.
     DeclaredFirst {
         first: u32,

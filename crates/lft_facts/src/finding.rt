@@ -4,11 +4,12 @@ ghost use Rattle.std.specs.Prelude.{◌≡◌, IfOk};
 ghost use Rattle.lft_steps.specs.Fits.{RowsFit};
 ghost use Rattle.lft_model.specs.Breaches.{First};
 ghost use Rattle.lft_facts.specs.Facts.{AreFacts};
-ghost use Rattle.lft_facts.specs.Enough.{Proves, ProvesTag, AreOwn};
+ghost use Rattle.lft_facts.specs.Enough.{Proves, ProvesTag, AreOwn, TellsRace};
 
 use crate::collision::collision;
 use crate::early::too_early;
 use crate::facts::{Fact, Facts};
+use crate::race::add_race;
 use crate::reads::wrong_read;
 use crate::reasons::with_reasons;
 use crate::rows::of_row;
@@ -49,13 +50,13 @@ fn enough_at_tag(
 }
 
 /// The facts behind the first breach, where no row breaks a rule.
-fn at_tag(alloc: Global, plan: &Plan, rows: &[Row], breach: Breach) -> Result<Facts, NoMemory>
+fn at_tag(alloc: Global, plan: &Plan, rows: &[Row], breach: Breach) -> Result<Vec<Fact>, NoMemory>
     requires fit { RowsFit plan.now.program rows.now }
     requires first { First plan.now rows.now breach }
     requires tag { breach.row ≡ 0 }
-    ensures holds { IfOk result (λ facts. AreFacts plan.now rows.now facts) }
-    ensures enough { IfOk result (λ facts. ProvesTag facts breach) }
-    ensures own { IfOk result (λ facts. AreOwn breach facts) }
+    ensures holds { IfOk result (λ facts. AreFacts plan.now rows.now facts.items) }
+    ensures enough { IfOk result (λ facts. ProvesTag facts.items breach) }
+    ensures own { IfOk result (λ facts. AreOwn breach facts.items) }
 {
     let stop = trace_stop(plan, rows);
     let presence = presence_of(alloc, plan, rows, stop)?;
@@ -63,19 +64,38 @@ fn at_tag(alloc: Global, plan: &Plan, rows: &[Row], breach: Breach) -> Result<Fa
     with_reasons(alloc, plan, rows, presence.causes(), facts)
 }
 
+/// The facts that give the breach, and reasons behind them.
+fn of_breach(
+    alloc: Global,
+    plan: &Plan,
+    rows: &[Row],
+    breach: Breach,
+) -> Result<Vec<Fact>, NoMemory>
+    requires fit { RowsFit plan.now.program rows.now }
+    requires first { First plan.now rows.now breach }
+    ensures holds { IfOk result (λ facts. AreFacts plan.now rows.now facts.items) }
+    ensures enough { IfOk result (λ facts. Proves facts.items breach) }
+    ensures own { IfOk result (λ facts. AreOwn breach facts.items) }
+{
+    if breach.row == 0 {
+        at_tag(alloc, plan, rows, breach)
+    } else {
+        of_row(alloc, plan, rows, breach)
+    }
+}
+
 /// The facts behind the first breach of a trace, in the order in which they are told: those that are
-/// enough, and reasons behind them.
+/// enough, reasons behind them, and last the first race before a breach of one of the rules 1 to 8.
 pub fn find(alloc: Global, plan: &Plan, rows: &Rows, breach: Breach) -> Result<Facts, NoMemory>
     requires fit { RowsFit plan.now.program rows.now }
     requires first { First plan.now rows.now breach }
     ensures holds { IfOk result (λ facts. AreFacts plan.now rows.now facts) }
     ensures enough { IfOk result (λ facts. Proves facts breach) }
     ensures own { IfOk result (λ facts. AreOwn breach facts) }
+    ensures race { IfOk result (TellsRace plan.now rows.now breach) }
 {
-    if breach.row == 0 {
-        at_tag(alloc, plan, rows.as_slice(), breach)
-    } else {
-        let facts = of_row(alloc, plan, rows.as_slice(), breach)?;
-        Ok(Facts::from_vec(facts))
-    }
+    let rows = rows.as_slice();
+    let mut facts = of_breach(alloc, plan, rows, breach)?;
+    add_race(alloc, plan, rows, breach, &mut facts)?;
+    Ok(Facts::from_vec(facts))
 }

@@ -12,8 +12,8 @@ ghost use Rattle.lft_facts.specs.Enough.{Adds};
 ghost use Rattle.lft_facts.specs.Neighbours.{IsNearestStart};
 
 use crate::facts::{Fact, Reason};
-use crate::runs::is_start_at;
 use lft_model::{Plan, trace_stop};
+use lft_races::is_start_at;
 use lft_steps::{Row, row_at};
 use lft_tag::{NoMemory, Tag};
 

@@ -6,11 +6,11 @@ ghost use Rattle.lft_tag.specs.Tags.{Before};
 ghost use Rattle.lft_steps.specs.declared.row.Row.{Row as TheRow};
 ghost use Rattle.lft_model.specs.Breaches.{IsLate, IsOpen, WasStarted, WasRead};
 ghost use Rattle.lft_model.specs.Runs.{end_row};
-ghost use Rattle.lft_facts.specs.Runs.{StartsAt, IsOpenSince};
+ghost use Rattle.lft_races.specs.Runs.{StartsAt, IsOpenSince};
 ghost use Rattle.lft_facts.specs.Facts.{ReadsAt};
 
-use crate::runs::is_start_at;
 use lft_flat::Name;
+use lft_races::is_start_at;
 use lft_steps::{Row, Step, is_end, is_start, row_at};
 use lft_tag::Tag;
 

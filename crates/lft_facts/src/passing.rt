@@ -7,7 +7,7 @@ ghost use Rattle.lft_model.specs.Plans.{PlanParts};
 ghost use Rattle.lft_graph.specs.Precedence.{Precedes};
 ghost use Rattle.lft_facts.specs.Facts.{IsFact, AreFacts};
 ghost use Rattle.lft_facts.specs.Reasons.{IsReason};
-ghost use Rattle.lft_facts.specs.Neighbours.{HaveRun};
+ghost use Rattle.lft_races.specs.Runs.{HaveRun};
 ghost use Rattle.lft_facts.specs.Enough.{Adds, IsOwnReason};
 
 use crate::adding::add;

@@ -7,16 +7,16 @@ ghost use Rattle.lft_model.specs.Presence.{Inputs, Collision};
 ghost use Rattle.lft_model.specs.Runs.{Ran, reads_at};
 ghost use Rattle.lft_answers.specs.Answers.{KeepsRows};
 ghost use Rattle.lft_facts.specs.Facts.{AreFacts};
-ghost use Rattle.lft_facts.specs.Runs.{StartsAt};
+ghost use Rattle.lft_races.specs.Runs.{StartsAt};
 ghost use Rattle.lft_facts.specs.Enough.{Gives, AreOwnAt};
 
 use crate::facts::Fact;
-use crate::runs::start_of;
 use lft_answers::reads_of_run;
 use lft_flat::Value;
 use lft_lists::item_at;
 use lft_model::{Plan, Reads};
 use lft_presence::Presence;
+use lft_races::start_of;
 use lft_steps::{Row, row_at};
 use lft_tag::{NoMemory, Tag};
 use std::alloc::Global;

@@ -14,7 +14,7 @@ ghost use Rattle.lft_facts.specs.Enough.{Adds, Extends, IsOwn, IsOwnReason, AreO
 
 use crate::adding::add;
 use crate::cause::name_cause;
-use crate::facts::{Cause, Fact, Facts, Reason};
+use crate::facts::{Cause, Fact, Reason};
 use crate::firings::add_firings;
 use crate::nearest::{event_after, event_before};
 use crate::neighbours::{add_last_row, add_runs};
@@ -205,11 +205,11 @@ pub(crate) fn with_reasons(
     rows: &[Row],
     causes: &[EventCause],
     facts: Vec<Fact>,
-) -> Result<Facts, NoMemory>
+) -> Result<Vec<Fact>, NoMemory>
     requires fit { RowsFit plan.now.program rows.now }
     requires causes { AreCauses plan.now rows.now causes.now }
     requires holds { AreFacts plan.now rows.now facts.items }
-    ensures { IfOk result (λ all. (b : TheBreach) → AreOwn b facts.items → Extends b plan.now rows.now facts.items all) }
+    ensures { IfOk result (λ all. (b : TheBreach) → AreOwn b facts.items → Extends b plan.now rows.now facts.items all.items) }
 {
     // Many facts may be of the stop: a reaction may name `shutdown` again and again.
     let stop = stop_reason(plan, rows);
@@ -223,5 +223,5 @@ pub(crate) fn with_reasons(
         let fact = item_at(facts.as_slice(), place);
         add_reasons(plan, rows, causes, fact, &mut all)?;
     }
-    Ok(Facts::from_vec(all))
+    Ok(all)
 }

@@ -10,11 +10,11 @@ ghost use Rattle.lft_facts.specs.Enough.{Gives, GivesTrigger, AreOwnAt};
 
 use crate::cause::trigger_cause;
 use crate::facts::{Cause, Fact};
-use crate::runs::start_of;
 use lft_flat::Trigger;
 use lft_lists::item_at;
 use lft_model::{Plan, trace_stop};
 use lft_presence::Cause as EventCause;
+use lft_races::start_of;
 use lft_steps::Row;
 use lft_tag::{NoMemory, Tag};
 use std::alloc::Global;

@@ -1,6 +1,6 @@
 -- Rows whose tags are finished are judged behind others.
-use Rattle.std.proofs.Common.{◌≡◌, ℕ, ◌+◌, ◌-◌, ◌<◌, ◌≤◌, ◌⊎◌, inl, inr, List, [], ◌∷◌, ◌++◌, length, take, length-append, refl, sym, ap, ◌∙◌, subst, arith, Option, Some, None, slice_get, slice_range}
-use Rattle.std.proofs.Math.Seq.{take-append_seam, take-length}
+use Rattle.std.proofs.Common.{◌≡◌, ℕ, ◌+◌, ◌-◌, ◌<◌, ◌≤◌, ◌⊎◌, inl, inr, List, [], ◌∷◌, ◌++◌, length, length-append, refl, sym, ap, ◌∙◌, subst, arith, Option, Some, None, slice_get, slice_range}
+use Rattle.std.proofs.Math.Seq.{take-length}
 use Rattle.std.proofs.lemmas.List.{append_assoc, append-nil}
 use native.Mathlib.Decide.{dec_lt}
 use Rattle.lft_tag.specs.declared.Tag.{Tag}
@@ -22,7 +22,7 @@ use Rattle.lft_follow.specs.Sure.{IsUnbroken}
 use Rattle.lft_follow.specs.Reach.{IsLastOf, IsReach}
 use Rattle.lft_follow.specs.declared.reach.Reach.{Reach}
 use Rattle.lft_follow.specs.declared.judged.Judged.{Judged}
-use Rattle.lft_follow.specs.Follows.{IsClean, IsCleanTo, IsJudgedOf, AreLast, BeginsLast}
+use Rattle.lft_follow.specs.Follows.{IsJudgedOf, AreLast, BeginsLast}
 use Rattle.lft_follow.proofs.Going.{next_up}
 
 -- where nothing is broken before a tag, nothing is before an earlier one
@@ -81,16 +81,6 @@ no_rows (x ∷ u) e = absurd (omega arith)
 
 pub judged_none : (plan : PlanParts) (d u : List Row) (j : Judged) → length u ≡ 0 → IsJudgedOf plan d j → IsJudgedOf plan (d ++ u) j
 judged_none plan d u j none is = subst (λ (t : List Row). IsJudgedOf plan t j) (sym (ap (λ (t : List Row). d ++ t) (no_rows u none) ∙ append-nil d)) is
-
--- the first rows are clean
-pub clean_to : (plan : PlanParts) (t d u : List Row) (r : Reach) → t ≡ d ++ u → IsClean plan d r → (n : ℕ) × IsCleanTo plan t r n
-clean_to plan t d u r parts clean = (
-  length d,
-  record {
-    within = let a : length t ≡ length (d ++ u) = ap (λ (x : List Row). length x) parts in let b : length (d ++ u) ≡ length d + length u = length-append d u in omega arith;
-    clean = subst (λ (x : List Row). IsClean plan x r) (sym (ap (λ (x : List Row). take (length d) x) parts ∙ take-append_seam d u)) clean;
-  },
-)
 
 -- rows from a place on are at one tag
 last_at : (u : List Row) (n : ℕ) → AreLast u (length u) n → (g : Tag) × ((i : ℕ) (x : Row) → n ≤ i → i < length u → slice_get u i ≡ Some x → x.tag ≡ g)

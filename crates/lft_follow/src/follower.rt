@@ -1,9 +1,8 @@
 //! Rows that are judged while they come.
 
-ghost use Rattle.std.specs.Prelude.{◌≡◌, ◌+◌, ◌<◌, ◌≤◌, ◌^◌, ℕ, List, [], ◌++◌, length, Some, IfOk, slice_get};
+ghost use Rattle.std.specs.Prelude.{◌≡◌, ◌+◌, ◌<◌, ◌≤◌, ◌^◌, List, [], ◌++◌, length, Some, IfOk, slice_get};
 ghost use Rattle.lft_steps.specs.declared.row.Row.{Row as TheRow};
 ghost use Rattle.lft_steps.specs.Fits.{RowsFit};
-ghost use Rattle.lft_follow.specs.Going.{HasGone};
 ghost use Rattle.lft_follow.specs.Follows.{IsAtHand, IsHeld, IsFollowerOf, IsProgress, IsEnding, IsJudged, IsSureOf, BeginsLast};
 
 use crate::gone::{Going, Halt};

@@ -1,13 +1,12 @@
 //! The rows at hand, gone over for the rules 1 to 5 as they come.
 
-ghost use Rattle.std.specs.Prelude.{◌≡◌, ◌+◌, ◌<◌, List, ◌++◌, ◌∷◌, [], length, IfOk, IfSome, OnOk, MatchOption, IsTrue};
+ghost use Rattle.std.specs.Prelude.{◌≡◌, ◌+◌, ◌<◌, List, ◌++◌, ◌∷◌, [], length, IfOk, IfSome, OnOk, MatchOption};
 ghost use Rattle.lft_tag.specs.Tags.{IsRecorded};
 ghost use Rattle.lft_flat.specs.Parts.{Parts};
 ghost use Rattle.lft_steps.specs.declared.row.Row.{Row as TheRow};
 ghost use Rattle.lft_steps.specs.Fits.{RowsFit};
 ghost use Rattle.lft_model.specs.Plans.{PlanParts};
 ghost use Rattle.lft_model.specs.Presence.{stop as stop_of};
-ghost use Rattle.lft_rows.specs.Passes.{IsPass};
 ghost use Rattle.lft_follow.specs.Going.{IsGoing, IsFirstBad, IsLost, HasGone};
 
 use lft_model::Plan;

@@ -25,15 +25,15 @@ abbrev pub IsGuess : PlanParts → List Row → Breach → List ℕ → Type 0
 IsGuess plan rows b guess = (hint : Hint) × IsHint plan rows b hint × (guess ≡ hint_words hint)
 
 -- such a line, or nothing where no hint holds of the breach
-abbrev pub MayGuess : PlanParts → List Row → Breach → List ℕ → Type 0
-MayGuess plan rows b guess = ((guess ≡ []) × ((hint : Hint) → IsHint plan rows b hint → ⊥)) ⊎ IsGuess plan rows b guess
+abbrev pub Guesses : PlanParts → List Row → Breach → List ℕ → Type 0
+Guesses plan rows b guess = ((guess ≡ []) × ((hint : Hint) → IsHint plan rows b hint → ⊥)) ⊎ IsGuess plan rows b guess
 
 -- the text tells the facts behind the breach, and behind them a guess exactly where a hint holds
 pub record Tells (plan : PlanParts) (rows : List Row) (b : Breach) (text : List ℕ) : Type 0 where
   pub why : List ℕ
   pub guess : List ℕ
   pub explains : Explains plan rows b why
-  pub is_guess : MayGuess plan rows b guess
+  pub is_guess : Guesses plan rows b guess
   pub is_text : text ≡ why ++ guess
 
 -- the text is the line of the verdict, and for a broken rule an empty line and what explains the breach

@@ -10,7 +10,7 @@ ghost use Rattle.lft_model.specs.Workers.{IsWorkers};
 ghost use Rattle.lft_check.specs.Verdicts.{IsVerdict};
 ghost use Rattle.lft_front.specs.Meaning.{Mean};
 ghost use Rattle.lft_front.specs.Judged.{AcceptedRuns};
-ghost use Rattle.lft_front.specs.Explained.{IsExplanation, MayGuess, Tells, WritesExplanation, IsExplained, ExplainingRefusal, ExplainRefusal};
+ghost use Rattle.lft_front.specs.Explained.{IsExplanation, Guesses, Tells, WritesExplanation, IsExplained, ExplainingRefusal, ExplainRefusal};
 ghost use Rattle.lft_load.specs.Refusals.{is_of_text};
 ghost use Rattle.lft_load.specs.declared.fault.Part.TheVariants as part;
 
@@ -30,7 +30,8 @@ use std::thread::Threads;
 /// What a breach usually comes of, as a guess; nothing where no hint holds.
 fn guess(alloc: Global, plan: &Plan, rows: &Rows, breach: Breach) -> Result<String, NoMemory>
     requires fit { RowsFit plan.now.program rows.now }
-    ensures { IfOk result (λ text. MayGuess plan.now rows.now breach (string_bytes text)) }
+    requires first { First plan.now rows.now breach }
+    ensures { IfOk result (λ text. Guesses plan.now rows.now breach (string_bytes text)) }
 {
     match hint_of(alloc, plan, rows, breach)? {
         Some(hint) => {

@@ -1,5 +1,5 @@
 -- What each hint says of a plan, the rows of a trace and a breach. A guess is no statement, and stands in the words alone.
-use Rattle.std.specs.Prelude.{◌≡◌, ◌≢◌, ℕ, ◌+◌, ◌*◌, ◌<◌, ◌≤◌, List, length, Some, slice_get, Contains}
+use Rattle.std.specs.Prelude.{◌≡◌, ◌≢◌, ℕ, ◌+◌, ◌*◌, ◌<◌, ◌≤◌, ◌⊎◌, List, length, Some, slice_get, Contains}
 use Rattle.lft_tag.specs.declared.Tag.{Tag}
 use Rattle.lft_tag.specs.Tags.{Before}
 use Rattle.lft_flat.specs.Parts.{Parts}
@@ -14,6 +14,7 @@ use Rattle.lft_steps.specs.declared.row.Step.TheVariants.{Read, Write, Schedule}
 use Rattle.lft_model.specs.declared.breach.Breach.{Breach}
 use Rattle.lft_model.specs.Plans.{PlanParts}
 use Rattle.lft_model.specs.Presence.{stop, Triggered}
+use Rattle.lft_races.specs.Races.{IsRaceBefore}
 use Rattle.lft_hints.specs.declared.hint.Hint.{Hint}
 use Rattle.lft_hints.specs.declared.hint.Hint.TheVariants as hint
 
@@ -71,8 +72,11 @@ IsUntriggeredHint plan t g r hint.Thousandfold = IsThousandfold plan t g r
 IsUntriggeredHint plan t g r (hint.WholeDelay i) = HasWholeDelay plan.program t g r i
 IsUntriggeredHint plan t g r hint.RunsAtStop = HasTrigger plan.program r Shutdown
 IsUntriggeredHint plan t g r hint.NoWrites = NoneWrites t × HasPort plan.program r
+IsUntriggeredHint plan t g r hint.Scheduler = ⊥
 IsUntriggeredHint plan t g r hint.FirstOfWorker = ⊥
+IsUntriggeredHint plan t g r hint.LateRow = ⊥
 IsUntriggeredHint plan t g r hint.FirstRow = ⊥
+IsUntriggeredHint plan t g r hint.OneNumber = ⊥
 IsUntriggeredHint plan t g r hint.TraceEnds = ⊥
 IsUntriggeredHint plan t g r hint.NoReads = ⊥
 
@@ -80,10 +84,21 @@ IsUntriggeredHint plan t g r hint.NoReads = ⊥
 abbrev pub OfRule8 : PlanParts → List Row → Breach → Hint → Type 0
 OfRule8 plan t b h = (b.rule ≡ 8) × ((r : ℕ) × (b.reaction ≡ Some r) × IsUntriggeredHint plan t b.tag r h)
 
+-- before the breach a run starts too early for rule 9
+abbrev pub HasRace : PlanParts → List Row → Breach → Type 0
+HasRace plan t b = (i : ℕ) × IsRaceBefore plan t b (Some i)
+
+-- the breach is of the first row of a worker
+abbrev pub IsOfFirst : List Row → Breach → Type 0
+IsOfFirst t b = (i : ℕ) × (b.row ≡ i + 2) × IsFirstOfWorker t i
+
 -- what a hint says of a breach
 abbrev pub IsHint : PlanParts → List Row → Breach → Hint → Type 0
-IsHint plan t b hint.FirstOfWorker = (b.rule ≡ 1) × ((i : ℕ) × (b.row ≡ i + 2) × IsFirstOfWorker t i)
-IsHint plan t b hint.FirstRow = (b.rule ≡ 3) × (b.row ≡ 2)
+IsHint plan t b hint.Scheduler = ((b.rule ≡ 1) ⊎ (b.rule ≡ 3)) × HasRace plan t b
+IsHint plan t b hint.FirstOfWorker = (b.rule ≡ 1) × (¬ HasRace plan t b) × IsOfFirst t b
+IsHint plan t b hint.LateRow = (b.rule ≡ 1) × (¬ HasRace plan t b) × (¬ IsOfFirst t b)
+IsHint plan t b hint.FirstRow = (b.rule ≡ 3) × (¬ HasRace plan t b) × (b.row ≡ 2)
+IsHint plan t b hint.OneNumber = (b.rule ≡ 3) × (¬ HasRace plan t b) × (b.row ≢ 2)
 IsHint plan t b hint.TraceEnds = (b.rule ≡ 7) × (0 < length t) × AllBefore t b.tag × (stop plan t ≡ plan.externals.stop)
 IsHint plan t b hint.NoReads = (b.rule ≡ 10) × NoneReads t
 IsHint plan t b hint.Thousandfold = OfRule8 plan t b hint.Thousandfold

@@ -5,8 +5,11 @@ use Rattle.lft_hints.specs.declared.hint.Hint.TheVariants as hint
 
 -- what holds, and what to look at
 abbrev pub hint_words : Hint → List ℕ
+hint_words hint.Scheduler = codes "\n  A guess: look at the scheduler first. By the rows it starts a run before all that precede it have ended.\n"
 hint_words hint.FirstOfWorker = codes "\n  A guess: that is the first row of its worker. Were the rows of workers put one after another? They stand in the order in which they happened.\n"
+hint_words hint.LateRow = codes "\n  A guess: look at the recorder first. Is a row written later than it happens, or were the rows sorted?\n"
 hint_words hint.FirstRow = codes "\n  A guess: that is the first row. Were the rows sorted? They stand in the order in which they happened.\n"
+hint_words hint.OneNumber = codes "\n  A guess: look at the recorder first. Have two threads one worker number, or were the rows sorted?\n"
 hint_words hint.TraceEnds = codes "\n  A guess: no row is so late. If the execution ended before, the stop of the external inputs is too late.\n"
 hint_words hint.Thousandfold = codes "\n  A guess: at a thousand times that time it is triggered. Are the times in microseconds? They are wanted in nanoseconds.\n"
 hint_words (hint.WholeDelay i) = codes "\n  A guess: line " ++ decimal (i + 2) ++ codes " gives the whole delay. The field delay is what comes on top of the least delay of the action.\n"

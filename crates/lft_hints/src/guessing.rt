@@ -1,12 +1,14 @@
 //! Which hint a breach has.
 
-ghost use Rattle.std.specs.Prelude.{◌≡◌, ◌≢◌, ◌↔◌, ◌<◌, ℕ, length, IsTrue, IfSome, IfNone, IfOk};
+ghost use Rattle.std.specs.Prelude.{◌≡◌, ◌≢◌, ◌↔◌, ◌+◌, ◌<◌, ◌≤◌, ◌⊎◌, ℕ, length, IsTrue, IfSome, IfNone, IfOk};
 ghost use Rattle.lft_flat.specs.declared.parts.Trigger.TheVariants.{Shutdown};
 ghost use Rattle.lft_steps.specs.Fits.{RowsFit};
+ghost use Rattle.lft_model.specs.Plans.{PlanParts};
+ghost use Rattle.lft_model.specs.Breaches.{First};
 ghost use Rattle.lft_model.specs.Presence.{stop, Triggered};
 ghost use Rattle.lft_hints.specs.declared.hint.Hint.{Hint as TheHint};
 ghost use Rattle.lft_hints.specs.Actions.{AreActions};
-ghost use Rattle.lft_hints.specs.Hints.{HasPort, HasTrigger, HasWholeDelay, IsHint, IsThousandfold, IsUntriggeredHint, SchedulesWhole};
+ghost use Rattle.lft_hints.specs.Hints.{HasPort, HasRace, HasTrigger, HasWholeDelay, IsHint, IsThousandfold, IsUntriggeredHint, SchedulesWhole};
 
 use crate::hint::Hint;
 use crate::rows::{all_before, is_first_of_worker, none_reads, none_writes};
@@ -14,6 +16,7 @@ use lft_flat::{Name, Trigger};
 use lft_lists::item_at;
 use lft_model::{Breach, Plan, trace_stop};
 use lft_presence::presence_of;
+use lft_races::race_before;
 use lft_steps::{Row, Rows, Step, row_at};
 use lft_tag::{MAX_TIME, NoMemory, Tag};
 use std::alloc::Global;
@@ -192,28 +195,76 @@ fn of_untriggered(
     Ok(None)
 }
 
-/// The first of the hints on the rules 1, 3, 7 and 10 that holds of the breach, if one does. It takes no
-/// memory.
+/// What the recorder may have done, where no run starts too early before a breach of the rules 1 and 3.
+/// It takes no memory.
+fn of_recorder(rows: &[Row], breach: Breach) -> Hint
+    requires rule { (breach.rule ≡ 1) ⊎ (breach.rule ≡ 3) }
+    requires row { (i : ℕ) × (breach.row ≡ i + 2) × (i < length rows.now) }
+    ensures { (plan : PlanParts) → (¬ HasRace plan rows.now breach) → IsHint plan rows.now breach result }
+{
+    if breach.rule == 3 {
+        return if breach.row == 2 {
+            Hint::FirstRow
+        } else {
+            Hint::OneNumber
+        };
+    }
+    if is_first_of_worker(rows, breach.row as usize - 2) {
+        Hint::FirstOfWorker
+    } else {
+        Hint::LateRow
+    }
+}
+
+/// What may be behind a breach of the rules 1 and 3: the scheduler, where a run starts too early before
+/// it, else the recorder.
+fn of_order(
+    alloc: Global,
+    plan: &Plan,
+    rows: &[Row],
+    breach: Breach,
+) -> Result<Option<Hint>, NoMemory>
+    requires fit { RowsFit plan.now.program rows.now }
+    requires first { First plan.now rows.now breach }
+    requires rule { (breach.rule ≡ 1) ⊎ (breach.rule ≡ 3) }
+    ensures some { IfOk result (λ hint. IfSome hint (IsHint plan.now rows.now breach)) }
+    ensures none { IfOk result (λ hint. IfNone hint ((other : TheHint) → IsHint plan.now rows.now breach other → ⊥)) }
+{
+    let race = race_before(alloc, plan, rows, breach)?;
+    if let Some(_) = race {
+        return Ok(Some(Hint::Scheduler));
+    }
+    Ok(Some(of_recorder(rows, breach)))
+}
+
+/// What may be behind a breach of rule 8.
+fn of_run(
+    alloc: Global,
+    plan: &Plan,
+    rows: &[Row],
+    breach: Breach,
+) -> Result<Option<Hint>, NoMemory>
+    requires fit { RowsFit plan.now.program rows.now }
+    requires rule { breach.rule ≡ 8 }
+    ensures some { IfOk result (λ hint. IfSome hint (IsHint plan.now rows.now breach)) }
+    ensures none { IfOk result (λ hint. IfNone hint ((other : TheHint) → IsHint plan.now rows.now breach other → ⊥)) }
+{
+    match breach.reaction {
+        Some(reaction) if (reaction as usize) < plan.program().reactions() => {
+            of_untriggered(alloc, plan, rows, breach.tag, reaction)
+        }
+        _ => Ok(None),
+    }
+}
+
+/// The hint on the rules 7 and 10 that holds of the breach, if one does. It takes no memory.
 fn of_other_rules(plan: &Plan, rows: &[Row], breach: Breach) -> Option<Hint>
     requires fit { RowsFit plan.now.program rows.now }
-    requires other { breach.rule ≢ 8 }
+    requires other { (breach.rule ≢ 1) × (breach.rule ≢ 3) × (breach.rule ≢ 8) }
     ensures some { IfSome result (IsHint plan.now rows.now breach) }
     ensures none { IfNone result ((hint : TheHint) → IsHint plan.now rows.now breach hint → ⊥) }
 {
     match breach.rule {
-        1 => {
-            let place = (breach.row as usize).checked_sub(2)?;
-            if place < rows.len() && is_first_of_worker(rows, place) {
-                Some(Hint::FirstOfWorker)
-            } else {
-                None
-            }
-        }
-        3 => if breach.row == 2 {
-            Some(Hint::FirstRow)
-        } else {
-            None
-        },
         7 => if !rows.is_empty() && all_before(rows, breach.tag) && is_given_stop(plan, rows) {
             Some(Hint::TraceEnds)
         } else {
@@ -236,17 +287,15 @@ pub fn hint_of(
     breach: Breach,
 ) -> Result<Option<Hint>, NoMemory>
     requires fit { RowsFit plan.now.program rows.now }
+    requires first { First plan.now rows.now breach }
     ensures some { IfOk result (λ hint. IfSome hint (IsHint plan.now rows.now breach)) }
     ensures none { IfOk result (λ hint. IfNone hint ((other : TheHint) → IsHint plan.now rows.now breach other → ⊥)) }
 {
     let rows = rows.as_slice();
-    if breach.rule != 8 {
-        return Ok(of_other_rules(plan, rows, breach));
-    }
-    match breach.reaction {
-        Some(reaction) if (reaction as usize) < plan.program().reactions() => {
-            of_untriggered(alloc, plan, rows, breach.tag, reaction)
-        }
-        _ => Ok(None),
+    match breach.rule {
+        1 => of_order(alloc, plan, rows, breach),
+        3 => of_order(alloc, plan, rows, breach),
+        8 => of_run(alloc, plan, rows, breach),
+        _ => Ok(of_other_rules(plan, rows, breach)),
     }
 }

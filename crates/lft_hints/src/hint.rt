@@ -10,10 +10,16 @@ use std::alloc::{AllocError, Global};
 /// A condition under which a breach has a usual cause. Rows are named by their places, counted from 0.
 #[derive(Clone, Copy, PartialEq, Eq, Debug)]
 pub enum Hint {
-    /// The breach of rule 1 is at the first row of its worker.
+    /// Before the breach of rule 1 or 3 a run starts too early for rule 9.
+    Scheduler,
+    /// No run starts so, and the breach of rule 1 is at the first row of its worker.
     FirstOfWorker,
-    /// The breach of rule 3 is at the first row of all.
+    /// No run starts so, and the breach of rule 1 is at another row.
+    LateRow,
+    /// No run starts so, and the breach of rule 3 is at the first row of all.
     FirstRow,
+    /// No run starts so, and the breach of rule 3 is at another row.
+    OneNumber,
     /// All rows are before the tag of a breach of rule 7, and the stop is that of the external inputs.
     TraceEnds,
     /// The reaction of a breach of rule 8 is triggered at a thousand times the time of its run.
@@ -46,11 +52,20 @@ pub fn tell_hint(alloc: Global, hint: Hint) -> Result<String, AllocError>
     ensures { IfOk result (λ text. string_bytes text ≡ hint_words hint) }
 {
     let words = match hint {
+        Hint::Scheduler => {
+            "\n  A guess: look at the scheduler first. By the rows it starts a run before all that precede it have ended.\n"
+        }
         Hint::FirstOfWorker => {
             "\n  A guess: that is the first row of its worker. Were the rows of workers put one after another? They stand in the order in which they happened.\n"
         }
+        Hint::LateRow => {
+            "\n  A guess: look at the recorder first. Is a row written later than it happens, or were the rows sorted?\n"
+        }
         Hint::FirstRow => {
             "\n  A guess: that is the first row. Were the rows sorted? They stand in the order in which they happened.\n"
+        }
+        Hint::OneNumber => {
+            "\n  A guess: look at the recorder first. Have two threads one worker number, or were the rows sorted?\n"
         }
         Hint::TraceEnds => {
             "\n  A guess: no row is so late. If the execution ended before, the stop of the external inputs is too late.\n"

@@ -66,6 +66,7 @@ names (fact.Cause c) = cause_names c
 names (fact.Clash g c d) = cause_names c ++ cause_names d
 names (fact.Runs g r start) = marked start mark.Here
 names (fact.StartsEarly g a r start end) = (record { row = start; mark = mark.Here }) ∷ marked end mark.LateEnd
+names (fact.Race g a r start end) = (record { row = start; mark = mark.EarlyStart }) ∷ marked end mark.LateEnd
 names (fact.Reason x) = reason_names x
 names _ = []
 
@@ -78,6 +79,7 @@ mark_words mark.OpenStart = codes "the run that is open"
 mark_words mark.FirstRead = codes "its first read"
 mark_words mark.Cause = codes "a cause"
 mark_words mark.LateEnd = codes "has to end first"
+mark_words mark.EarlyStart = codes "starts too early"
 mark_words mark.TraceEnd = codes "the last row"
 mark_words mark.AsksStop = codes "asks for the stop"
 mark_words mark.EarlierEnd = codes "ends that run"

@@ -23,6 +23,8 @@ pub enum RowMark {
     Cause,
     /// It ends a run that has to end first.
     LateEnd,
+    /// It starts a run before one that precedes it ends.
+    EarlyStart,
     /// No row stands behind it.
     TraceEnd,
     /// It asks for the stop.
@@ -57,6 +59,7 @@ impl RowMark {
             RowMark::FirstRead => "its first read",
             RowMark::Cause => "a cause",
             RowMark::LateEnd => "has to end first",
+            RowMark::EarlyStart => "starts too early",
             RowMark::TraceEnd => "the last row",
             RowMark::AsksStop => "asks for the stop",
             RowMark::EarlierEnd => "ends that run",
@@ -149,6 +152,10 @@ pub(crate) fn push_named(quotes: &mut Vec<Quote>, fact: Fact) -> Result<(), Allo
         Fact::Runs { start, .. } => push(quotes, start, RowMark::Here),
         Fact::StartsEarly { start, end, .. } => {
             push(quotes, start, RowMark::Here)?;
+            push(quotes, end, RowMark::LateEnd)
+        }
+        Fact::Race { start, end, .. } => {
+            push(quotes, start, RowMark::EarlyStart)?;
             push(quotes, end, RowMark::LateEnd)
         }
         Fact::Reason(reason) => push_reason(quotes, reason),

@@ -8,5 +8,6 @@ returns c = record {
   holds = c.in_ok-facts.ensures.holds;
   enough = c.in_ok-facts.ensures.enough;
   own = c.in_ok-facts.ensures.own;
+  race = c.in_ok-facts.ensures.race;
   is_told = c.in_ok-text.ensures ∙ ap (λ p. told p c.args.rows.now c.in_ok-facts.facts) c.program.ensures.value;
 }

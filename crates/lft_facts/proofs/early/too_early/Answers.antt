@@ -1,14 +1,14 @@
 use Rattle.std.proofs.Common.{◌≡◌, List, Bool, Some, refl, sym, subst}
 use Rattle.lft_model.specs.declared.breach.Breach.{Breach}
 use Rattle.lft_facts.specs.Enough.{Adds}
-use Rattle.lft_facts.specs.Neighbours.{HaveRun}
+use Rattle.lft_races.specs.Runs.{HaveRun}
 use Rattle.lft_facts.proofs.Added.{adds_holds, adds_gives, adds_own}
 use Rattle.lft_facts.proofs.early.too_early.Goals as goal
 
 -- which reactions have no run stands behind the other facts
 added : (c : goal.After-drop-ran-2) (b : Breach) → b.tag ≡ c.args.tag → Adds b c.args.plan.now c.args.rows.now c.in_ok-facts.facts.items c.add_passed_by.new.facts.items
 added c b p =
-    let have : HaveRun c.args.rows.now c.args.tag c.as_slice.result.now = subst (λ (bs : List Bool). HaveRun c.args.rows.now c.args.tag bs) (sym c.as_slice.ensures.value) c.in_ok-ran.ensures in
+    let have : HaveRun c.args.rows.now c.args.tag c.as_slice.result.now = subst (λ (bs : List Bool). HaveRun c.args.rows.now c.args.tag bs) (sym c.as_slice.ensures.value) c.in_ok-ran.ensures.ran in
     c.in_ok-add_passed_by.ensures b c.args.plan.now c.args.rows.now p c.in_ok-facts.ensures.holds have
 
 -- a breach of that tag

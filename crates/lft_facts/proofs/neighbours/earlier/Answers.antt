@@ -3,7 +3,7 @@ use Rattle.lft_tag.specs.declared.Tag.{Tag}
 use Rattle.lft_tag.specs.Tags.{Before, UpTo}
 use Rattle.lft_tag.proofs.Order.{Before-weaken, UpTo-refl, UpTo-trans}
 use Rattle.lft_presence.proofs.Lists.{not_true}
-use Rattle.lft_facts.specs.Runs.{StartsAt}
+use Rattle.lft_races.specs.Runs.{StartsAt}
 use Rattle.lft_facts.specs.Neighbours.{IsNearestStart}
 use Rattle.lft_facts.proofs.Beside.{tag_here, start_stays, start_kept, start_first, start_here}
 use Rattle.lft_presence.proofs.Skips.{up_to_stop}

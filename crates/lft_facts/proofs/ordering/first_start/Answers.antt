@@ -1,5 +1,5 @@
 use Rattle.std.proofs.Common.{◌≡◌, Bool, false, true, sym, ◌∙◌, arith, below_more}
-use Rattle.lft_facts.specs.Runs.{StartsAt}
+use Rattle.lft_races.specs.Runs.{StartsAt}
 use Rattle.lft_facts.proofs.ordering.first_start.Goals as goal
 
 pub loop-other-preserved : goal.loop-other-preserved

@@ -1,5 +1,5 @@
 use Rattle.std.proofs.Common.{ℕ, ◌<◌}
-use Rattle.lft_facts.specs.Runs.{StartsAt}
+use Rattle.lft_races.specs.Runs.{StartsAt}
 use Rattle.lft_facts.proofs.ordering.first_start.Given as goal
 
 abbrev pub invariant-loop-other : goal.invariant-loop-other

@@ -1,5 +1,5 @@
 use Rattle.std.proofs.Common.{◌≡◌, Bool, false, true, sym, ◌∙◌, arith, below_more}
-use Rattle.lft_facts.specs.Runs.{IsOpenSince}
+use Rattle.lft_races.specs.Runs.{IsOpenSince}
 use Rattle.lft_facts.proofs.RowGiving.{open_since}
 use Rattle.lft_facts.proofs.ordering.open_start.Goals as goal
 

@@ -1,5 +1,5 @@
 use Rattle.std.proofs.Common.{ℕ, ◌<◌}
-use Rattle.lft_facts.specs.Runs.{IsOpenSince}
+use Rattle.lft_races.specs.Runs.{IsOpenSince}
 use Rattle.lft_facts.proofs.ordering.open_start.Given as goal
 
 abbrev pub invariant-loop-start : goal.invariant-loop-start

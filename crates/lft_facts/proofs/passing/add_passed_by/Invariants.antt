@@ -4,7 +4,7 @@ use Rattle.lft_model.specs.declared.breach.Breach.{Breach}
 use Rattle.lft_model.specs.Plans.{PlanParts}
 use Rattle.lft_facts.specs.Facts.{AreFacts}
 use Rattle.lft_facts.specs.Enough.{Adds}
-use Rattle.lft_facts.specs.Neighbours.{HaveRun}
+use Rattle.lft_races.specs.Runs.{HaveRun}
 use Rattle.lft_facts.proofs.passing.add_passed_by.Given as goal
 
 abbrev pub invariant-loop-place : goal.invariant-loop-place

@@ -1,9 +1,9 @@
-use Rattle.std.proofs.Common.{◌≡◌, ◌+◌, List, Some, slice_get, sym, subst, arith}
+use Rattle.std.proofs.Common.{◌≡◌, ◌+◌, List, Some, slice_get, subst, arith}
 use Rattle.std.proofs.lemmas.List.Elements.{All-contains}
 use Rattle.lft_lists.proofs.Places.{contains_at}
 use Rattle.lft_facts.specs.declared.facts.Fact.{Fact}
 use Rattle.lft_facts.specs.Facts.{IsFact}
-use Rattle.lft_facts.specs.Enough.{Extends, IsOwn}
+use Rattle.lft_facts.specs.Enough.{IsOwn}
 use Rattle.lft_facts.proofs.Added.{extends_next, extends_more, extends_all, extends_further}
 use Rattle.lft_facts.proofs.reasons.with_reasons.Goals as goal
 
@@ -28,4 +28,4 @@ loop-place-2-preserved c b own =
     extends_further c.args.plan.now c.args.rows.now old c.loop-place-2.all.items c.add_reasons.new.facts.items (c.loop-place-2.invariant b own) (c.in_ok-add_reasons.ensures b its)
 
 pub returns : goal.returns
-returns c b own = subst (λ (fs : List Fact). Extends b c.args.plan.now c.args.rows.now c.args.facts.items fs) (sym c.from_vec.ensures) (c.loop-place-2.invariant b own)
+returns c b own = c.loop-place-2.invariant b own

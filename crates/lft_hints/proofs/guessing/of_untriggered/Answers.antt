@@ -19,7 +19,10 @@ returns-clause-none c = none
       | else-none_writes-via-then-none_writes+else-has_port w ↦ (let yes = w.has_port.ensures.1 is.1 in let no = w.if-has_port.false in absurd (cc))
       | else-none_writes-via-else-none_writes w ↦ (let yes = c.none_writes.ensures.1 is.0 in let no = w.if-none_writes.false in absurd (cc))
     ]
+    none hint.Scheduler is = is
     none hint.FirstOfWorker is = is
+    none hint.LateRow is = is
     none hint.FirstRow is = is
+    none hint.OneNumber is = is
     none hint.TraceEnds is = is
     none hint.NoReads is = is

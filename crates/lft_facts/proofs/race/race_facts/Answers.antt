@@ -1,0 +1,65 @@
+use Rattle.std.proofs.Common.{◌≡◌, ◌++◌, ◌∷◌, [], List, ◌<◌, sym, ap, ◌∙◌, subst}
+use Rattle.lft_races.proofs.Standing.{unfinished_whole, start_there}
+use Rattle.lft_facts.specs.Ways.{IsMarked}
+use Rattle.lft_facts.specs.declared.facts.Fact.TheVariants as fact
+use Rattle.lft_facts.specs.declared.facts.Fact.{Fact}
+use Rattle.lft_facts.specs.Facts.{AreFacts}
+use Rattle.lft_facts.specs.Enough.{GivesChain, AreOwn}
+use Rattle.lft_facts.proofs.Upstream.{all_marked, step_leads}
+use Rattle.lft_facts.proofs.FirstRace.{IsOnly, only_of, only_leads, row_starts, late_some, race_holds, race_own, is_before}
+use Rattle.lft_facts.proofs.race.race_facts.Goals as goal
+
+pub late_end-earlier-requires-clause-leads : goal.late_end-earlier-requires-clause-leads
+late_end-earlier-requires-clause-leads c a m =
+    let next = c.in_ok-next.next.items in
+    let near = c.in_ok-near.near.items in
+    let these = c.in_ok-unfinished.unfinished.items in
+    let late : IsOnly next these c.in_ok-late.late.items = only_of c.as_slice.result.now next c.in_ok-late.late.items c.as_slice-2.result.now these c.as_slice.ensures.value c.as_slice-2.ensures.value c.in_ok-late.ensures.left in
+    let late_near : IsOnly near these c.in_ok-late_near.late_near.items = only_of c.as_slice-3.result.now near c.in_ok-late_near.late_near.items c.as_slice-4.result.now these c.as_slice-3.ensures.value c.as_slice-4.ensures.value c.in_ok-late_near.ensures.left in
+    subst (λ ns. IsMarked ns a) (sym c.as_slice-6.ensures.value) (only_leads near next c.in_ok-late_near.late_near.items c.in_ok-late.late.items these late_near late (λ b n. step_leads c.graph-graph.result.now c.row_at-row.result.reaction near next c.in_ok-near.ensures c.in_ok-next.ensures b n) a (subst (λ ns. IsMarked ns a) c.as_slice-5.ensures.value m))
+
+pub late_end-earlier-requires-clause-some : goal.late_end-earlier-requires-clause-some
+late_end-earlier-requires-clause-some c =
+    let program = c.args.plan.now.program in
+    let next = c.in_ok-next.next.items in
+    let these = c.in_ok-unfinished.unfinished.items in
+    let late : IsOnly next these c.in_ok-late.late.items = only_of c.as_slice.result.now next c.in_ok-late.late.items c.as_slice-2.result.now these c.as_slice.ensures.value c.as_slice-2.ensures.value c.in_ok-late.ensures.left in
+    late_some program c.args.rows.now c.args.before c.args.start c.requires.race c.row_at-row.result c.row_at-row.ensures c.requires.ends c.as_slice-6.result.now (λ a p u. subst (λ ns. IsMarked ns a) (sym c.as_slice-6.ensures.value) ((late a).1 (all_marked program c.graph-graph.result.now c.graph-graph.ensures.graph c.row_at-row.result.reaction next c.in_ok-next.ensures a p, (c.in_ok-unfinished.ensures.marked a).1 u)))
+
+pub chain-requires-clause-first : goal.chain-requires-clause-first
+chain-requires-clause-first c =
+    let next = c.in_ok-next.next.items in
+    let these = c.in_ok-unfinished.unfinished.items in
+    let late : IsOnly next these c.in_ok-late.late.items = only_of c.as_slice.result.now next c.in_ok-late.late.items c.as_slice-2.result.now these c.as_slice.ensures.value c.as_slice-2.ensures.value c.in_ok-late.ensures.left in
+    subst (λ ns. IsMarked ns c.late_end-earlier.result.0) (sym c.as_slice-7.ensures.value) ((late c.late_end-earlier.result.0).0 (subst (λ ns. IsMarked ns c.late_end-earlier.result.0) c.as_slice-6.ensures.value c.late_end-earlier.ensures.marked)).0
+
+-- all facts: the race, and the steps
+all : (c : goal.After-drop-next-2) → c.extend_from_slice.new.self.items ≡ (fact.Race c.row_at-row.result.tag c.late_end-earlier.result.0 c.row_at-row.result.reaction c.args.start c.late_end-earlier.result.1 ∷ []) ++ c.as_slice-8.result.now
+all c = c.in_ok-extend_from_slice.ensures.items ∙ ap (λ fs. fs ++ c.as_slice-8.result.now) (c.in_ok-push.ensures.items ∙ ap (λ fs. fs ++ fact.Race c.row_at-row.result.tag c.late_end-earlier.result.0 c.row_at-row.result.reaction c.args.start c.late_end-earlier.result.1 ∷ []) c.new-facts.ensures.items)
+
+-- the race is before the bound
+before : (c : goal.After-drop-next-2) → c.args.start < c.args.before
+before c = (start_there c.args.plan.now.program c.args.rows.now c.args.before c.args.start c.requires.race c.requires.ends).0
+
+pub returns-clause-holds : goal.returns-clause-holds
+returns-clause-holds c =
+    let t = c.args.rows.now in
+    let row = c.row_at-row.result in
+    let earlier = c.late_end-earlier.result.0 in
+    let next = c.in_ok-next.next.items in
+    let these = c.in_ok-unfinished.unfinished.items in
+    let late : IsOnly next these c.in_ok-late.late.items = only_of c.as_slice.result.now next c.in_ok-late.late.items c.as_slice-2.result.now these c.as_slice.ensures.value c.as_slice-2.ensures.value c.in_ok-late.ensures.left in
+    let kept = ((late earlier).0 (subst (λ ns. IsMarked ns earlier) c.as_slice-6.ensures.value c.late_end-earlier.ensures.marked)).1 in
+    race_holds row.tag earlier row.reaction c.args.start c.late_end-earlier.result.1 c.as_slice-8.result.now c.extend_from_slice.new.self.items (all c) c.args.plan.now t
+    (row_starts c.args.plan.now.program t c.args.before c.args.start c.requires.race row c.row_at-row.ensures)
+    c.late_end-earlier.ensures.ends c.late_end-earlier.ensures.after
+    (unfinished_whole t c.args.before c.args.start (before c) row.tag earlier ((c.in_ok-unfinished.ensures.marked earlier).0 kept))
+    (subst (λ (fs : List Fact). AreFacts c.args.plan.now t fs) (sym c.as_slice-8.ensures.value) (c.in_ok-way.ensures.holds t))
+    (subst (λ (fs : List Fact). GivesChain fs earlier row.reaction) (sym c.as_slice-8.ensures.value) c.in_ok-way.ensures.gives)
+
+pub returns-clause-own : goal.returns-clause-own
+returns-clause-own c b stand =
+    let row = c.row_at-row.result in
+    race_own row.tag c.late_end-earlier.result.0 row.reaction c.args.start c.late_end-earlier.result.1 c.as_slice-8.result.now c.extend_from_slice.new.self.items (all c) b
+    (is_before c.args.rows.now b c.args.before c.args.start row stand (before c) c.row_at-row.ensures)
+    (subst (λ (fs : List Fact). AreOwn b fs) (sym c.as_slice-8.ensures.value) (c.in_ok-way.ensures.own b))

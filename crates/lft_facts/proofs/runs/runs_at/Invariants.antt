@@ -1,6 +1,0 @@
-use Rattle.std.proofs.Common.{◌≡◌, length}
-use Rattle.lft_facts.specs.Neighbours.{HaveRunBefore}
-use Rattle.lft_facts.proofs.runs.runs_at.Given as goal
-
-abbrev pub invariant-loop-place : goal.invariant-loop-place
-invariant-loop-place l = (length l.ran.items ≡ l.reactions) × HaveRunBefore l.rows l.tag l.place l.ran.items

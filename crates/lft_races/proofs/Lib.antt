@@ -1,0 +1,4 @@
+pub mod Running
+pub mod Ending
+mod Racing
+pub mod Standing

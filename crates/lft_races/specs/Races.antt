@@ -1,0 +1,52 @@
+-- Races: runs that start although one that precedes them at their tag hasn't ended.
+use Rattle.std.specs.Prelude.{◌≡◌, ◌↔◌, ℕ, ◌+◌, ◌<◌, ◌≤◌, Bool, true, List, length, take, Option, Some, MatchOption, slice_get}
+use Rattle.lft_tag.specs.declared.Tag.{Tag}
+use Rattle.lft_tag.specs.Tags.{UpTo}
+use Rattle.lft_flat.specs.Parts.{Parts}
+use Rattle.lft_graph.specs.Precedence.{Precedes}
+use Rattle.lft_steps.specs.declared.row.Row.{Row}
+use Rattle.lft_steps.specs.declared.row.Step.TheVariants.{Start}
+use Rattle.lft_model.specs.declared.breach.Breach.{Breach}
+use Rattle.lft_model.specs.Plans.{PlanParts}
+use Rattle.lft_model.specs.Runs.{Ran}
+use Rattle.lft_races.specs.Runs.{StartsAt, EndsAt}
+
+-- no row before place i ends a run of a at g
+abbrev pub NotEnded : List Row → Tag → ℕ → ℕ → Type 0
+NotEnded t g a i = (j : ℕ) → j < i → ¬ EndsAt t g a j
+
+-- a has a run at g, and no row before place i ends it
+pub record IsUnfinished (t : List Row) (g : Tag) (a i : ℕ) : Type 0 where
+  pub ran : Ran t g a
+  pub not_ended : NotEnded t g a i
+
+-- the row at place i starts a run although one at its tag, of a reaction that precedes its own, hasn't ended
+pub record IsRace (program : Parts) (t : List Row) (i : ℕ) : Type 0 where
+  pub row : Row
+  pub earlier : ℕ
+  pub is_row : slice_get t i ≡ Some row
+  pub starts : row.step ≡ Start
+  pub precedes : Precedes program earlier row.reaction
+  pub unfinished : IsUnfinished t row.tag earlier i
+
+-- the first race, if there is one
+abbrev pub IsFirstRace : Parts → List Row → Option ℕ → Type 0
+IsFirstRace program t o = MatchOption o ((i : ℕ) → ¬ IsRace program t i) (λ i. IsRace program t i × ((j : ℕ) → IsRace program t j → i ≤ j))
+
+-- so many rows stand before a breach: those before its row, and where it has none, those at the tags up to its own
+pub record StandBefore (t : List Row) (b : Breach) (n : ℕ) : Type 0 where
+  pub within : n ≤ length t
+  pub of_row : 0 < b.row → n + 2 ≡ b.row
+  pub of_tag : b.row ≡ 0 → (i : ℕ) (row : Row) → slice_get t i ≡ Some row → (i < n) ↔ UpTo row.tag b.tag
+
+-- the first race of the rows before a breach, if there is one
+abbrev pub IsRaceBefore : PlanParts → List Row → Breach → Option ℕ → Type 0
+IsRaceBefore plan t b o = (n : ℕ) × StandBefore t b n × IsFirstRace plan.program (take n t) o
+
+-- of each reaction whether it has a run at g that no row before place i ends
+abbrev pub AreUnfinished : List Row → Tag → ℕ → List Bool → Type 0
+AreUnfinished t g i marks = (a : ℕ) → (slice_get marks a ≡ Some true) ↔ IsUnfinished t g a i
+
+-- each run that starts before place n ends in a later row
+abbrev pub EndLater : List Row → ℕ → Type 0
+EndLater t n = (k a : ℕ) (g : Tag) → k < n → StartsAt t g a k → (e : ℕ) × (k < e) × EndsAt t g a e

@@ -1,0 +1,44 @@
+//! The first race before a breach.
+
+ghost use Rattle.std.specs.Prelude.{◌≡◌, ◌≤◌, length, IfOk};
+ghost use Rattle.lft_steps.specs.Fits.{RowsFit};
+ghost use Rattle.lft_model.specs.Plans.{PlanParts};
+ghost use Rattle.lft_model.specs.Breaches.{First};
+ghost use Rattle.lft_races.specs.Races.{StandBefore, IsRaceBefore};
+
+use crate::finding::first_race;
+use lft_model::{Breach, Plan};
+use lft_steps::{Row, row_at};
+use lft_tag::NoMemory;
+use std::alloc::Global;
+
+/// How many rows stand before the breach.
+pub fn rows_before(rows: &[Row], breach: Breach) -> usize
+    requires { (plan : PlanParts) × First plan rows.now breach }
+    ensures { StandBefore rows.now breach result }
+{
+    if breach.row > 0 {
+        return breach.row as usize - 2;
+    }
+    for place in 0..rows.len() {
+        if breach.tag.is_before(row_at(rows, place).tag) {
+            return place;
+        }
+    }
+    rows.len()
+}
+
+/// The place of the first row that starts a run too early for rule 9, among the rows before the breach.
+pub fn race_before(
+    alloc: Global,
+    plan: &Plan,
+    rows: &[Row],
+    breach: Breach,
+) -> Result<Option<u32>, NoMemory>
+    requires fit { RowsFit plan.now.program rows.now }
+    requires first { First plan.now rows.now breach }
+    ensures { IfOk result (IsRaceBefore plan.now rows.now breach) }
+{
+    let before = rows_before(rows, breach);
+    first_race(alloc, plan, &rows[..before])
+}
