@@ -105,6 +105,7 @@ fn judge_trace<W: Write>(
 }
 
 /// What `judge_texts` does, by one worker. It starts no thread.
+// It starts no thread, and its type says so.
 pub fn judge_texts_alone<W: Write>(
     alloc: Global,
     program: &[u8],

@@ -10,6 +10,7 @@ use std::io::{ErrorKind, Write};
 
 /// Writes the whole text. `write` 1 `Failed` comes only where the writer failed, also by taking no
 /// byte; what it took is then a front of the text.
+// Not `write_all`, whose contract says nothing of what was taken when it fails.
 pub fn write_text<W: Write>(text: &[u8], out: &mut W) -> Result<(), Fault>
     ensures whole { OnOk result (Appends (W.contents out.old) (W.contents out.new) text.now) }
     ensures front { OnErr result (AppendsFront (W.contents out.old) (W.contents out.new) text.now) }

@@ -28,6 +28,8 @@ impl Scripted for Brand {
 
 /// The law that an answer is what these scripts say for its reaction, at its tag, with the state word
 /// before the run and what it reads.
+// A law is a type, and the cards are known at run time: the parameter stands for their scripts, and a
+// proof picks it. The types of `record_cards` don't name it, so the pick ends with the call.
 pub struct FollowsCards<S: Scripted> {
     scripts: PhantomData<S>,
 }
@@ -39,6 +41,8 @@ impl<S: Scripted> Law for FollowsCards<S> {
 }
 
 /// The code of a body of this reaction: it answers what the cards say.
+// No body has an allocation of its own, and its relation names the definition of its answer. A reference
+// to the cards, since a copy of an `Arc` may be refused.
 #[derive(Drop)]
 pub struct CardCode<'a> {
     alloc: Global,

@@ -19,6 +19,7 @@ use std::alloc::Global;
 /// The instances of a program, each with the number of the one that contains it and its name there, and for
 /// each port its name, its source, and the connection that leads into it. The ports into which connections
 /// lead are listed too, instance by instance in the order of the text.
+// By the numbers of flattening, which is proved to join the ports that the text joins: so every loop is told.
 #[derive(Drop)]
 pub struct Wiring<'a> {
     pub instances: Vec<OwnName<'a>>,
