@@ -10,7 +10,7 @@ use Rattle.lft_flat.specs.declared.parts.Trigger.{Trigger}
 use Rattle.lft_flat.specs.declared.parts.Trigger.TheVariants.{Shutdown, On}
 use Rattle.lft_flat.specs.declared.parts.Value.{Value}
 use Rattle.lft_steps.specs.declared.row.Row.{Row}
-use Rattle.lft_steps.specs.declared.row.Step.TheVariants.{Read, Write, Schedule}
+use Rattle.lft_steps.specs.declared.row.Step.TheVariants.{End, Read, Write, Schedule}
 use Rattle.lft_model.specs.declared.breach.Breach.{Breach}
 use Rattle.lft_model.specs.Plans.{PlanParts}
 use Rattle.lft_model.specs.Presence.{stop, Triggered}
@@ -35,6 +35,14 @@ NoneReads t = (i : ℕ) (row : Row) (n : Name) (v : Value) → slice_get t i ≡
 -- no row writes
 abbrev pub NoneWrites : List Row → Type 0
 NoneWrites t = (i : ℕ) (row : Row) (n : Name) (v : Value) → slice_get t i ≡ Some row → row.step ≢ Write n v
+
+-- no row ends a run
+abbrev pub NoneEnds : List Row → Type 0
+NoneEnds t = (i : ℕ) (row : Row) → slice_get t i ≡ Some row → row.step ≢ End
+
+-- the stop is that of the external inputs, and g is over a hundred times as late
+abbrev pub IsSmallStop : PlanParts → List Row → Tag → Type 0
+IsSmallStop plan t g = (stop plan t ≡ plan.externals.stop) × (0 < plan.externals.stop.time) × (plan.externals.stop.time * 100 < g.time)
 
 -- x is one of the triggers of r
 pub record HasTrigger (program : Parts) (r : ℕ) (x : Trigger) : Type 0 where
@@ -79,6 +87,9 @@ IsUntriggeredHint plan t g r hint.FirstRow = ⊥
 IsUntriggeredHint plan t g r hint.OneNumber = ⊥
 IsUntriggeredHint plan t g r hint.TraceEnds = ⊥
 IsUntriggeredHint plan t g r hint.NoReads = ⊥
+IsUntriggeredHint plan t g r hint.NoRows = ⊥
+IsUntriggeredHint plan t g r hint.NoEnds = ⊥
+IsUntriggeredHint plan t g r hint.SmallStop = ⊥
 
 -- what a hint says of the run that rule 8 names
 abbrev pub OfRule8 : PlanParts → List Row → Breach → Hint → Type 0
@@ -101,6 +112,9 @@ IsHint plan t b hint.FirstRow = (b.rule ≡ 3) × (¬ HasRace plan t b) × (b.ro
 IsHint plan t b hint.OneNumber = (b.rule ≡ 3) × (¬ HasRace plan t b) × (b.row ≢ 2)
 IsHint plan t b hint.TraceEnds = (b.rule ≡ 7) × (0 < length t) × AllBefore t b.tag × (stop plan t ≡ plan.externals.stop)
 IsHint plan t b hint.NoReads = (b.rule ≡ 10) × NoneReads t
+IsHint plan t b hint.NoRows = (b.rule ≡ 7) × (length t ≡ 0)
+IsHint plan t b hint.NoEnds = (b.rule ≡ 5) × NoneEnds t
+IsHint plan t b hint.SmallStop = (b.rule ≡ 2) × IsSmallStop plan t b.tag
 IsHint plan t b hint.Thousandfold = OfRule8 plan t b hint.Thousandfold
 IsHint plan t b (hint.WholeDelay i) = OfRule8 plan t b (hint.WholeDelay i)
 IsHint plan t b hint.RunsAtStop = OfRule8 plan t b hint.RunsAtStop

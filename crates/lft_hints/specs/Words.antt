@@ -16,3 +16,6 @@ hint_words (hint.WholeDelay i) = codes "\n  A guess: line " ++ decimal (i + 2) +
 hint_words hint.RunsAtStop = codes "\n  A guess: it is triggered by shutdown. Is the stop of the external inputs the tag at which the execution ended?\n"
 hint_words hint.NoWrites = codes "\n  A guess: no row of the trace writes. Are writes recorded?\n"
 hint_words hint.NoReads = codes "\n  A guess: no row of the trace reads. Are reads recorded?\n"
+hint_words hint.NoRows = codes "\n  A guess: the trace has no row. Is the recorder on?\n"
+hint_words hint.NoEnds = codes "\n  A guess: no row of the trace ends a run. Are ends recorded?\n"
+hint_words hint.SmallStop = codes "\n  A guess: that is over a hundred times as late as the stop. Is the stop in milliseconds or microseconds? It is wanted in nanoseconds.\n"

@@ -8,10 +8,10 @@ ghost use Rattle.lft_model.specs.Breaches.{First};
 ghost use Rattle.lft_model.specs.Presence.{stop, Triggered};
 ghost use Rattle.lft_hints.specs.declared.hint.Hint.{Hint as TheHint};
 ghost use Rattle.lft_hints.specs.Actions.{AreActions};
-ghost use Rattle.lft_hints.specs.Hints.{HasPort, HasRace, HasTrigger, HasWholeDelay, IsHint, IsThousandfold, IsUntriggeredHint, SchedulesWhole};
+ghost use Rattle.lft_hints.specs.Hints.{HasPort, HasRace, HasTrigger, HasWholeDelay, IsHint, IsSmallStop, IsThousandfold, IsUntriggeredHint, SchedulesWhole};
 
 use crate::hint::Hint;
-use crate::rows::{all_before, is_first_of_worker, none_reads, none_writes};
+use crate::rows::{all_before, is_first_of_worker, none_ends, none_reads, none_writes};
 use lft_flat::{Name, Trigger};
 use lft_lists::item_at;
 use lft_model::{Breach, Plan, trace_stop};
@@ -257,7 +257,32 @@ fn of_run(
     }
 }
 
-/// The hint on the rules 7 and 10 that holds of the breach, if one does. It takes no memory.
+/// Whether the tag is over a hundred times as late as the stop of the external inputs.
+fn is_small_stop(plan: &Plan, rows: &[Row], tag: Tag) -> bool
+    requires { RowsFit plan.now.program rows.now }
+    ensures { IsTrue result ↔ IsSmallStop plan.now rows.now tag }
+{
+    let stop = plan.externals().stop().time;
+    is_given_stop(plan, rows) && stop > 0 && stop.saturating_mul(100) < tag.time
+}
+
+/// The hint on a run that is missing, if there is one.
+fn of_missing(plan: &Plan, rows: &[Row], breach: Breach) -> Option<Hint>
+    requires fit { RowsFit plan.now.program rows.now }
+    requires rule { breach.rule ≡ 7 }
+    ensures some { IfSome result (IsHint plan.now rows.now breach) }
+    ensures none { IfNone result ((hint : TheHint) → IsHint plan.now rows.now breach hint → ⊥) }
+{
+    if rows.is_empty() {
+        return Some(Hint::NoRows);
+    }
+    if all_before(rows, breach.tag) && is_given_stop(plan, rows) {
+        return Some(Hint::TraceEnds);
+    }
+    None
+}
+
+/// The hint on the rules 2, 5, 7 and 10 that holds of the breach, if one does. It takes no memory.
 fn of_other_rules(plan: &Plan, rows: &[Row], breach: Breach) -> Option<Hint>
     requires fit { RowsFit plan.now.program rows.now }
     requires other { (breach.rule ≢ 1) × (breach.rule ≢ 3) × (breach.rule ≢ 8) }
@@ -265,11 +290,17 @@ fn of_other_rules(plan: &Plan, rows: &[Row], breach: Breach) -> Option<Hint>
     ensures none { IfNone result ((hint : TheHint) → IsHint plan.now rows.now breach hint → ⊥) }
 {
     match breach.rule {
-        7 => if !rows.is_empty() && all_before(rows, breach.tag) && is_given_stop(plan, rows) {
-            Some(Hint::TraceEnds)
+        2 => if is_small_stop(plan, rows, breach.tag) {
+            Some(Hint::SmallStop)
         } else {
             None
         },
+        5 => if none_ends(rows) {
+            Some(Hint::NoEnds)
+        } else {
+            None
+        },
+        7 => of_missing(plan, rows, breach),
         10 => if none_reads(rows) {
             Some(Hint::NoReads)
         } else {

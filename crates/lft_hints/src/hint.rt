@@ -32,6 +32,12 @@ pub enum Hint {
     NoWrites,
     /// No row reads, and the breach is of rule 10.
     NoReads,
+    /// There is no row, and the breach is of rule 7.
+    NoRows,
+    /// No row ends a run, and the breach is of rule 5.
+    NoEnds,
+    /// The tag of a breach of rule 2 is over a hundred times as late as the stop of the external inputs.
+    SmallStop,
 }
 
 /// What to look at where a row schedules with the whole delay.
@@ -79,6 +85,11 @@ pub fn tell_hint(alloc: Global, hint: Hint) -> Result<String, AllocError>
         }
         Hint::NoWrites => "\n  A guess: no row of the trace writes. Are writes recorded?\n",
         Hint::NoReads => "\n  A guess: no row of the trace reads. Are reads recorded?\n",
+        Hint::NoRows => "\n  A guess: the trace has no row. Is the recorder on?\n",
+        Hint::NoEnds => "\n  A guess: no row of the trace ends a run. Are ends recorded?\n",
+        Hint::SmallStop => {
+            "\n  A guess: that is over a hundred times as late as the stop. Is the stop in milliseconds or microseconds? It is wanted in nanoseconds.\n"
+        }
     };
     String::from_str(alloc, words)
 }

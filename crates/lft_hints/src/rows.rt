@@ -1,7 +1,7 @@
 //! Conditions on rows.
 
 ghost use Rattle.std.specs.Prelude.{◌↔◌, ◌<◌, length, IsTrue};
-ghost use Rattle.lft_hints.specs.Hints.{AllBefore, IsFirstOfWorker, NoneReads, NoneWrites};
+ghost use Rattle.lft_hints.specs.Hints.{AllBefore, IsFirstOfWorker, NoneEnds, NoneReads, NoneWrites};
 
 use lft_steps::{Row, Step, row_at};
 use lft_tag::Tag;
@@ -50,6 +50,18 @@ pub(crate) fn none_writes(rows: &[Row]) -> bool
 {
     for place in 0..rows.len() {
         if matches!(row_at(rows, place).step, Step::Write(_, _)) {
+            return false;
+        }
+    }
+    true
+}
+
+/// Whether no row ends a run.
+pub(crate) fn none_ends(rows: &[Row]) -> bool
+    ensures { IsTrue result ↔ NoneEnds rows.now }
+{
+    for place in 0..rows.len() {
+        if matches!(row_at(rows, place).step, Step::End) {
             return false;
         }
     }

@@ -1,4 +1,4 @@
-use Rattle.std.proofs.Common.{◌≡◌, ℕ, ◌⊎◌, inl, inr, ◌<◌, Option, Some, None, sym, subst, arith}
+use Rattle.std.proofs.Common.{◌≡◌, ℕ, ◌⊎◌, inl, inr, ◌<◌, Option, subst, arith}
 use Rattle.lft_model.specs.declared.breach.Breach.{Breach}
 use Rattle.lft_races.specs.Races.{IsRaceBefore}
 use Rattle.lft_races.proofs.Standing.{row_of_rule, no_race_before}

@@ -31,6 +31,9 @@ module _ (plan : PlanParts) (t : List Row) (b : Breach) (r : ℕ) (rule : b.rule
   no_hint none hint.OneNumber is = (let three = is.0 in absurd (cc))
   no_hint none hint.TraceEnds is = (let seven = is.0 in absurd (cc))
   no_hint none hint.NoReads is = (let ten = is.0 in absurd (cc))
+  no_hint none hint.NoRows is = (let seven = is.0 in absurd (cc))
+  no_hint none hint.NoEnds is = (let five = is.0 in absurd (cc))
+  no_hint none hint.SmallStop is = (let two = is.0 in absurd (cc))
   no_hint none hint.Thousandfold is = of_run hint.Thousandfold (none hint.Thousandfold) is
   no_hint none (hint.WholeDelay i) is = of_run (hint.WholeDelay i) (none (hint.WholeDelay i)) is
   no_hint none hint.RunsAtStop is = of_run hint.RunsAtStop (none hint.RunsAtStop) is
@@ -49,6 +52,9 @@ is_reaction plan t b r hint.FirstRow is = absurd is
 is_reaction plan t b r hint.OneNumber is = absurd is
 is_reaction plan t b r hint.TraceEnds is = absurd is
 is_reaction plan t b r hint.NoReads is = absurd is
+is_reaction plan t b r hint.NoRows is = absurd is
+is_reaction plan t b r hint.NoEnds is = absurd is
+is_reaction plan t b r hint.SmallStop is = absurd is
 
 pub returns-in-Some-clause-none : goal.returns-in-Some-clause-none
 returns-in-Some-clause-none c = weaker_ok c.of_untriggered.result (no_hint c.args.plan.now c.args.rows.now c.args.breach c.in-Some.reaction c.requires.rule (let e = c.in-Some.is in cc)) c.of_untriggered.ensures.none

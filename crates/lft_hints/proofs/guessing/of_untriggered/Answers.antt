@@ -26,3 +26,6 @@ returns-clause-none c = none
     none hint.OneNumber is = is
     none hint.TraceEnds is = is
     none hint.NoReads is = is
+    none hint.NoRows is = is
+    none hint.NoEnds is = is
+    none hint.SmallStop is = is
