@@ -16,7 +16,7 @@ use Rattle.lft_contrast.specs.declared.contrasts.LastWrite.{LastWrite}
 use Rattle.lft_contrast.specs.declared.contrasts.Scheduling.{Scheduling}
 use Rattle.lft_contrast.specs.declared.contrasts.Contrast.{Contrast}
 use Rattle.lft_contrast.specs.declared.contrasts.Contrast.TheVariants as contrast
-use Rattle.lft_contrast.specs.Runs.{placed_steps, last_write, schedulings, last_request}
+use Rattle.lft_contrast.specs.Runs.{placed_steps, last_write, schedulings, first_request}
 use Rattle.lft_contrast.specs.Contrasts.{IsContrast, AreContrasts, value_of, event, event_of}
 use Rattle.lft_contrast.specs.Enough.{GiveOther, HaveSameOutcome, TellsOf, TellsStop, IsToldOf, IsStopTold, IsOfEffect, TellsAnswers, steps}
 use Rattle.lft_contrast.proofs.Placing.{placed_are}
@@ -56,7 +56,7 @@ module _ (plan : PlanParts) (t s : List Row) (g : Tag) (r : ℕ) (alike : answer
   not_requested : (first second : Option ℕ) → ¬ IsContrast plan t s g r (contrast.Requested first second)
   not_requested first second x =
       let q : request_of (steps_of t g r) ≡ request_of (steps_of s g r) = ap (λ (a : Answer). a.stops) alike in
-      let e : is_some (last_request (placed_steps t g r)) ≡ is_some (last_request (placed_steps s g r)) = sym (request_outcome (placed_steps t g r)) ∙ ap request_of (placed_are t g r) ∙ q ∙ sym (ap request_of (placed_are s g r)) ∙ request_outcome (placed_steps s g r) in
+      let e : is_some (first_request (placed_steps t g r)) ≡ is_some (first_request (placed_steps s g r)) = sym (request_outcome (placed_steps t g r)) ∙ ap request_of (placed_are t g r) ∙ q ∙ sym (ap request_of (placed_are s g r)) ∙ request_outcome (placed_steps s g r) in
       x.other (ap is_some x.first_is ∙ e ∙ sym (ap is_some x.second_is))
 
 -- a contrast of an effect, or of a stop request, gives an unequal answer
@@ -134,8 +134,8 @@ module _ (plan : PlanParts) (t s : List Row) (g : Tag) (r : ℕ) (ns : List Name
   pub holds_without : (new : List Contrast) → new ≡ told → AreContrasts plan t s g r new
   holds_without new e = subst (λ (cs : List Contrast). AreContrasts plan t s g r cs) (sym e) holds_effects
 
-  pub tells_without : (new : List Contrast) → new ≡ told → is_some (last_request mine) ≡ is_some (last_request theirs) → TellsAnswers plan t s g r new
-  tells_without new e same = subst (λ (cs : List Contrast). TellsAnswers plan t s g r cs) (sym e) (record { effects = all_here; stop = inl (request_outcome (placed_steps t g r) ∙ ap (λ x. is_some (last_request x)) (sym em) ∙ same ∙ ap (λ x. is_some (last_request x)) et ∙ sym (request_outcome (placed_steps s g r))) })
+  pub tells_without : (new : List Contrast) → new ≡ told → is_some (first_request mine) ≡ is_some (first_request theirs) → TellsAnswers plan t s g r new
+  tells_without new e same = subst (λ (cs : List Contrast). TellsAnswers plan t s g r cs) (sym e) (record { effects = all_here; stop = inl (request_outcome (placed_steps t g r) ∙ ap (λ x. is_some (first_request x)) (sym em) ∙ same ∙ ap (λ x. is_some (first_request x)) et ∙ sym (request_outcome (placed_steps s g r))) })
 
   module _ (stop : Contrast) (new : List Contrast) (tells : TellsStop mine theirs stop) (is : new ≡ told ++ stop ∷ []) where
     tells_here : TellsStop (placed_steps t g r) (placed_steps s g r) stop

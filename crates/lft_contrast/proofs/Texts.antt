@@ -1,5 +1,5 @@
 -- The text of contrasts, one after another, and how wide their columns are.
-use Rattle.std.proofs.Common.{◌≡◌, ℕ, ◌+◌, ◌-◌, ◌≤◌, List, [], ◌∷◌, ◌++◌, length, max, take, take_all, add-one, append_assoc, sym, ap, ◌∙◌, refl, Some, slice_get, flat_map}
+use Rattle.std.proofs.Common.{◌≡◌, ℕ, ◌+◌, ◌≤◌, List, [], ◌∷◌, ◌++◌, length, max, take, take_all, add-one, append_assoc, sym, ap, ◌∙◌, refl, Some, slice_get, flat_map}
 use Rattle.lft_lists.proofs.Picked.{take_next}
 use Rattle.lft_tag.specs.declared.Tag.{Tag}
 use Rattle.lft_flat.specs.Parts.{Parts}

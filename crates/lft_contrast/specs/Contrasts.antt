@@ -15,7 +15,7 @@ use Rattle.lft_contrast.specs.declared.contrasts.LastWrite.{LastWrite}
 use Rattle.lft_contrast.specs.declared.contrasts.Scheduling.{Scheduling}
 use Rattle.lft_contrast.specs.declared.contrasts.Contrast.{Contrast}
 use Rattle.lft_contrast.specs.declared.contrasts.Contrast.TheVariants as contrast
-use Rattle.lft_contrast.specs.Runs.{placed_steps, last_write, schedulings, last_request, StartsAt}
+use Rattle.lft_contrast.specs.Runs.{placed_steps, last_write, schedulings, first_request, StartsAt}
 use Rattle.lft_contrast.specs.Counts.{Counts, StartsBefore, StartsEarlier}
 
 -- what counts of a write: its value
@@ -44,10 +44,10 @@ pub record IsScheduled (mine theirs : List Placed) (a k : ℕ) (first second : O
   pub second_is : second ≡ slice_get (schedulings theirs a) k
   pub other : event_of first ≢ event_of second
 
--- the last stop requests of two runs, of which one has none
+-- the first stop requests of two runs, of which one has none
 pub record IsRequested (mine theirs : List Placed) (first second : Option ℕ) : Type 0 where
-  pub first_is : first ≡ last_request mine
-  pub second_is : second ≡ last_request theirs
+  pub first_is : first ≡ first_request mine
+  pub second_is : second ≡ first_request theirs
   pub other : is_some first ≢ is_some second
 
 -- n is the input of r at place k, and both runs read this of it

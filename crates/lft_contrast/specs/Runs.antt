@@ -57,9 +57,9 @@ request_at i End = None
 abbrev pub request_of : Placed → Option ℕ
 request_of x = request_at x.row x.step
 
--- the place of the last stop request in a run
-abbrev pub last_request : List Placed → Option ℕ
-last_request steps = last_or None (filter_map request_of steps)
+-- the place of the first stop request in a run
+abbrev pub first_request : List Placed → Option ℕ
+first_request steps = slice_get (filter_map request_of steps) 0
 
 -- the row at place p starts a run of r at g
 abbrev pub StartsAt : List Row → Tag → ℕ → ℕ → Type 0

@@ -3,7 +3,7 @@
 ghost use Rattle.std.specs.Prelude.{◌≡◌, IfOk, length, slice_get, unwrap_or};
 ghost use Rattle.std.specs.BTreeMap.{get};
 ghost use Rattle.std.specs.Ordering.{nat_cmp};
-ghost use Rattle.lft_contrast.specs.Runs.{request_of as the_request_of, last_write as the_last_write, schedulings as the_schedulings, last_request as the_last_request};
+ghost use Rattle.lft_contrast.specs.Runs.{request_of as the_request_of, last_write as the_last_write, schedulings as the_schedulings, first_request as the_first_request};
 ghost use Rattle.lft_contrast.specs.Answered.{writing as the_writing, scheduled as the_scheduled, AreWrites, AreSchedulings};
 
 use crate::contrasts::{LastWrite, Placed, Scheduling};
@@ -160,16 +160,14 @@ fn request_of(placed: Placed) -> Option<u32>
     }
 }
 
-/// The place of the last row of the run that requests a stop.
-pub(crate) fn last_request(steps: &[Placed]) -> Option<u32>
-    ensures { result ≡ the_last_request steps.now }
+/// The place of the first row of the run that requests a stop.
+pub(crate) fn first_request(steps: &[Placed]) -> Option<u32>
+    ensures { result ≡ the_first_request steps.now }
 {
-    let mut last = None;
     for place in 0..steps.len() {
-        let request = request_of(item_at(steps, place));
-        if request.is_some() {
-            last = request;
+        if let Some(row) = request_of(item_at(steps, place)) {
+            return Some(row);
         }
     }
-    last
+    None
 }

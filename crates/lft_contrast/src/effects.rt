@@ -3,11 +3,11 @@
 ghost use Rattle.std.specs.Prelude.{◌≡◌, ◌↔◌, All, Contains, IsTrue, MatchOption, IfOk, slice_get, is_some};
 ghost use Rattle.lft_flat.specs.declared.parts.Name.{Name as TheName};
 ghost use Rattle.lft_flat.specs.declared.parts.Name.TheVariants.{Port, Action};
-ghost use Rattle.lft_contrast.specs.Runs.{last_write as the_last_write, schedulings as the_schedulings, last_request as the_last_request};
+ghost use Rattle.lft_contrast.specs.Runs.{last_write as the_last_write, schedulings as the_schedulings, first_request as the_first_request};
 ghost use Rattle.lft_contrast.specs.Contrasts.{value_of as the_value_of, event_of as the_event_of, events};
 ghost use Rattle.lft_contrast.specs.Enough.{HaveSameOutcome, TellsOf, TellsStop, IsToldOf, IsOfEffect};
 
-use crate::answers::{Answered, last_request};
+use crate::answers::{Answered, first_request};
 use crate::contrasts::{Contrast, LastWrite, Placed, Scheduling};
 use lft_flat::{Name, Value};
 use lft_lists::item_at;
@@ -123,10 +123,10 @@ pub(crate) fn effect_contrasts(
 
 /// Where two runs requested a stop, if one of them did not.
 pub(crate) fn stop_contrast(mine: &[Placed], theirs: &[Placed]) -> Option<Contrast>
-    ensures { MatchOption result (is_some (the_last_request mine.now) ≡ is_some (the_last_request theirs.now)) (TellsStop mine.now theirs.now) }
+    ensures { MatchOption result (is_some (the_first_request mine.now) ≡ is_some (the_first_request theirs.now)) (TellsStop mine.now theirs.now) }
 {
-    let first = last_request(mine);
-    let second = last_request(theirs);
+    let first = first_request(mine);
+    let second = first_request(theirs);
     if first.is_some() == second.is_some() {
         return None;
     }

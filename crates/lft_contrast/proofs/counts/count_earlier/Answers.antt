@@ -1,4 +1,4 @@
-use Rattle.std.proofs.Common.{◌≡◌, ℕ, ◌+◌, Bool, false, true, sym, ◌∙◌, refl, subst, arith}
+use Rattle.std.proofs.Common.{◌≡◌, ℕ, ◌+◌, Bool, false, true, sym, refl, subst, arith}
 use Rattle.lft_contrast.specs.Counts.{StartsEarlier}
 use Rattle.lft_contrast.proofs.Counting.{CountTo, count_none, count_one, count_other, count_end}
 use Rattle.lft_contrast.proofs.counts.count_earlier.Goals as goal

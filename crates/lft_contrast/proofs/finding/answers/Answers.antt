@@ -1,5 +1,5 @@
 use Rattle.std.proofs.Common.{ap, ◌∙◌, is_some, ◌≡◌}
-use Rattle.lft_contrast.specs.Runs.{last_request}
+use Rattle.lft_contrast.specs.Runs.{first_request}
 use Rattle.lft_contrast.specs.Enough.{TellsStop}
 use Rattle.lft_contrast.proofs.Differing.{of_some, of_none}
 use Rattle.lft_contrast.proofs.Giving.{own_effects, holds_with, holds_without, tells_with, tells_without}
@@ -16,7 +16,7 @@ returns-clause-holds c =
     let told = c.in_ok-told.told.items in
     let new = c.match-stop_contrast.told.items in
     elim c.match-stop_contrast.branch [
-      | in-Some+in_ok-push w ↦ holds_with c.args.plan.now c.args.rows.now c.args.others.now c.args.tag c.args.reaction c.as_slice-effects.result.now mine theirs en em et told c.in_ok-told.ensures.right c.in_ok-told.ensures.all w.in-Some.stop new (of_some (is_some (last_request mine) ≡ is_some (last_request theirs)) (TellsStop mine theirs) c.stop_contrast.result w.in-Some.stop w.in-Some.is c.stop_contrast.ensures) (ap (λ v. v.items) w.told-is ∙ w.in_ok-push.ensures.items)
+      | in-Some+in_ok-push w ↦ holds_with c.args.plan.now c.args.rows.now c.args.others.now c.args.tag c.args.reaction c.as_slice-effects.result.now mine theirs en em et told c.in_ok-told.ensures.right c.in_ok-told.ensures.all w.in-Some.stop new (of_some (is_some (first_request mine) ≡ is_some (first_request theirs)) (TellsStop mine theirs) c.stop_contrast.result w.in-Some.stop w.in-Some.is c.stop_contrast.ensures) (ap (λ v. v.items) w.told-is ∙ w.in_ok-push.ensures.items)
       | in_default w ↦ holds_without c.args.plan.now c.args.rows.now c.args.others.now c.args.tag c.args.reaction c.as_slice-effects.result.now mine theirs en em et told c.in_ok-told.ensures.right c.in_ok-told.ensures.all new (ap (λ v. v.items) w.told-is)
     ]
 
@@ -30,6 +30,6 @@ returns-clause-all c =
     let told = c.in_ok-told.told.items in
     let new = c.match-stop_contrast.told.items in
     elim c.match-stop_contrast.branch [
-      | in-Some+in_ok-push w ↦ tells_with c.args.plan.now c.args.rows.now c.args.others.now c.args.tag c.args.reaction c.as_slice-effects.result.now mine theirs en em et told c.in_ok-told.ensures.right c.in_ok-told.ensures.all w.in-Some.stop new (of_some (is_some (last_request mine) ≡ is_some (last_request theirs)) (TellsStop mine theirs) c.stop_contrast.result w.in-Some.stop w.in-Some.is c.stop_contrast.ensures) (ap (λ v. v.items) w.told-is ∙ w.in_ok-push.ensures.items)
-      | in_default w ↦ tells_without c.args.plan.now c.args.rows.now c.args.others.now c.args.tag c.args.reaction c.as_slice-effects.result.now mine theirs en em et told c.in_ok-told.ensures.right c.in_ok-told.ensures.all new (ap (λ v. v.items) w.told-is) (of_none (is_some (last_request mine) ≡ is_some (last_request theirs)) (TellsStop mine theirs) c.stop_contrast.result w.in_default.is c.stop_contrast.ensures)
+      | in-Some+in_ok-push w ↦ tells_with c.args.plan.now c.args.rows.now c.args.others.now c.args.tag c.args.reaction c.as_slice-effects.result.now mine theirs en em et told c.in_ok-told.ensures.right c.in_ok-told.ensures.all w.in-Some.stop new (of_some (is_some (first_request mine) ≡ is_some (first_request theirs)) (TellsStop mine theirs) c.stop_contrast.result w.in-Some.stop w.in-Some.is c.stop_contrast.ensures) (ap (λ v. v.items) w.told-is ∙ w.in_ok-push.ensures.items)
+      | in_default w ↦ tells_without c.args.plan.now c.args.rows.now c.args.others.now c.args.tag c.args.reaction c.as_slice-effects.result.now mine theirs en em et told c.in_ok-told.ensures.right c.in_ok-told.ensures.all new (ap (λ v. v.items) w.told-is) (of_none (is_some (first_request mine) ≡ is_some (first_request theirs)) (TellsStop mine theirs) c.stop_contrast.result w.in_default.is c.stop_contrast.ensures)
     ]

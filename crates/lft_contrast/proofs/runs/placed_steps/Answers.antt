@@ -1,4 +1,4 @@
-use Rattle.std.proofs.Common.{◌++◌, ◌∷◌, sym, ap, ◌∙◌, Some, None, append-nil, arith}
+use Rattle.std.proofs.Common.{sym, ap, ◌∙◌, Some, None, append-nil, arith}
 use Rattle.lft_contrast.proofs.Placing.{placed_more, placed_end}
 use Rattle.lft_contrast.proofs.runs.placed_steps.Goals as goal
 use Rattle.lft_contrast.proofs.runs.placed_steps.Goals.{in-Some+in_ok-push, in_default}
