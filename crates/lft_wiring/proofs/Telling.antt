@@ -159,7 +159,7 @@ module _ (tree : FileTree) (tables : Tables) (nest : Nest) (made : AreTables tre
         at = zip_at (StandsAt r.members) (singles_of r) own.0.items own.2 j.place one.single one.is_single
 
         join : Join
-        join = record { from = from.0; to = to.0; number = j.number; at = record { reactor = m.0.reactor; member = at.0.member }; place = at.0.place; delay = unwrap_or s.delay 0 }
+        join = record { from = from.0; to = to.0; number = j.number; reactor = m.0.reactor; member = at.0.member; place = at.0.place; delay = unwrap_or s.delay 0 }
 
         single_there : single_at singles m.0.reactor j.place ≡ Some at.0
         single_there = ap (option_and_then (λ own. slice_get own.items j.place)) own.1 ∙ at.1
