@@ -15,7 +15,8 @@ use Rattle.lft_contrast.specs.declared.contrasts.LastWrite.{LastWrite}
 use Rattle.lft_contrast.specs.declared.contrasts.Scheduling.{Scheduling}
 use Rattle.lft_contrast.specs.declared.contrasts.Contrast.{Contrast}
 use Rattle.lft_contrast.specs.declared.contrasts.Contrast.TheVariants as contrast
-use Rattle.lft_contrast.specs.Runs.{placed_steps, last_write, schedulings, first_request, StartsAt}
+use Rattle.lft_contrast.specs.Runs.{placed_steps, last_write, schedulings, first_request}
+use Rattle.lft_races.specs.Runs.{StartsAt}
 use Rattle.lft_contrast.specs.Counts.{Counts, StartsBefore, StartsEarlier}
 
 -- what counts of a write: its value

@@ -7,7 +7,7 @@ use Rattle.lft_steps.specs.declared.row.Row.{Row}
 use Rattle.lft_steps.specs.declared.row.Step.{Step}
 use Rattle.lft_steps.specs.declared.row.Step.TheVariants.{Start, Read, Write, Schedule, Stop, End}
 use Rattle.lft_model.specs.Presence.{value_written, value_scheduled}
-use Rattle.lft_model.specs.Runs.{start_row, step_of}
+use Rattle.lft_model.specs.Runs.{step_of}
 use Rattle.lft_contrast.specs.declared.contrasts.Placed.{Placed}
 use Rattle.lft_contrast.specs.declared.contrasts.LastWrite.{LastWrite}
 use Rattle.lft_contrast.specs.declared.contrasts.Scheduling.{Scheduling}
@@ -60,7 +60,3 @@ request_of x = request_at x.row x.step
 -- the place of the first stop request in a run
 abbrev pub first_request : List Placed → Option ℕ
 first_request steps = slice_get (filter_map request_of steps) 0
-
--- the row at place p starts a run of r at g
-abbrev pub StartsAt : List Row → Tag → ℕ → ℕ → Type 0
-StartsAt t g r p = (w : ℕ) × (slice_get t p ≡ Some (start_row w g r))

@@ -5,7 +5,7 @@ ghost use Rattle.lft_steps.specs.Fits.{RowsFit};
 ghost use Rattle.lft_model.specs.Runs.{reads_at};
 ghost use Rattle.lft_answers.specs.Answers.{KeepsRows};
 ghost use Rattle.lft_contrast.specs.Enough.{Adds, TellsReads};
-ghost use Rattle.lft_contrast.specs.Runs.{StartsAt};
+ghost use Rattle.lft_races.specs.Runs.{StartsAt};
 
 use crate::contrasts::Contrast;
 use lft_answers::reads_of_run;

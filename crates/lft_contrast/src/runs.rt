@@ -1,11 +1,11 @@
 //! The rows of one run.
 
-ghost use Rattle.std.specs.Prelude.{◌≡◌, ◌↔◌, ◌<◌, ◌≤◌, length, IfOk, IsTrue};
-ghost use Rattle.lft_model.specs.Runs.{Ran, step_of as the_step_of};
-ghost use Rattle.lft_contrast.specs.Runs.{placed_steps as the_placed_steps, StartsAt};
+ghost use Rattle.std.specs.Prelude.{◌≡◌, ◌≤◌, length, IfOk};
+ghost use Rattle.lft_model.specs.Runs.{step_of as the_step_of};
+ghost use Rattle.lft_contrast.specs.Runs.{placed_steps as the_placed_steps};
 
 use crate::contrasts::Placed;
-use lft_steps::{Row, Step, is_start, row_at};
+use lft_steps::{Row, Step, row_at};
 use lft_tag::{NoMemory, Tag};
 use std::alloc::Global;
 
@@ -40,27 +40,4 @@ pub(crate) fn placed_steps(
         }
     }
     Ok(steps)
-}
-
-/// Whether the row at the place starts the reaction's run at the tag.
-fn is_start_at(rows: &[Row], tag: Tag, reaction: u32, place: usize) -> bool
-    requires { place < length rows.now }
-    ensures { IsTrue result ↔ StartsAt rows.now tag reaction place }
-{
-    let row = row_at(rows, place);
-    is_start(&row.step) && row.tag.is_same(tag) && row.reaction == reaction
-}
-
-/// The place of the row that starts the reaction's run at the tag.
-pub(crate) fn start_of(rows: &[Row], tag: Tag, reaction: u32) -> u32
-    requires few { length rows.now ≤ 4000000 }
-    requires ran { Ran rows.now tag reaction }
-    ensures { StartsAt rows.now tag reaction result }
-{
-    for place in 0..rows.len() {
-        if is_start_at(rows, tag, reaction, place) {
-            return place as u32;
-        }
-    }
-    unreachable!()
 }
