@@ -17,7 +17,7 @@ use Rattle.lft_races.proofs.Ending.{starts_here}
 use Rattle.lft_races.proofs.Standing.{end_behind}
 use Rattle.lft_facts.specs.declared.facts.Fact.{Fact}
 use Rattle.lft_facts.specs.declared.facts.Fact.TheVariants as fact
-use Rattle.lft_facts.specs.Facts.{IsFact, AreFacts, AreShown, IsShown}
+use Rattle.lft_facts.specs.Facts.{IsChosen, IsFact, AreFacts, AreShown, IsShown}
 use Rattle.lft_facts.specs.Enough.{Adds, AreOwn, IsOwn, IsBefore, GivesChain, EndWithRace, Proves, ProvesTag}
 use Rattle.lft_facts.specs.Ways.{IsMarked, EndsMarked}
 use Rattle.lft_facts.proofs.Lists.{all_left}
@@ -73,8 +73,8 @@ module _ (g : Tag) (a r start end : ℕ) (steps facts : List Fact) (is : facts �
   pub race_own : (b : Breach) → IsBefore b g start → AreOwn b steps → AreOwn b facts
   race_own b before own = subst (λ (fs : List Fact). AreOwn b fs) (sym is) (All-cons (IsOwn b) (fact.Race g a r start end) steps before own)
 
-  pub race_ends : GivesChain steps a r → EndWithRace facts start
-  race_ends chain = record { tag = g; earlier = a; later = r; end = end; before = []; steps = steps; are = is; chain = chain }
+  pub race_ends : (program : Parts) (rows : List Row) → IsChosen program rows g a r start → GivesChain steps a r → EndWithRace program rows facts start
+  race_ends program rows chosen chain = record { tag = g; earlier = a; later = r; end = end; before = []; steps = steps; are = is; chain = chain; chosen = chosen }
 
 -- a row before the breach is so
 pub is_before : (t : List Row) (b : Breach) (n start : ℕ) (row : Row) → StandBefore t b n → start < n → slice_get t start ≡ Some row → IsBefore b row.tag start
@@ -84,8 +84,8 @@ is_before t b n start row stand l e = record { of_row = by; of_tag = λ z. (stan
     by z = let q : n + 2 ≡ b.row = stand.of_row z in omega arith
 
 -- facts that end with a race do so behind others
-pub ends_behind : (old more new : List Fact) (i : ℕ) → new ≡ old ++ more → EndWithRace more i → EndWithRace new i
-ends_behind old more new i is x = record { tag = x.tag; earlier = x.earlier; later = x.later; end = x.end; before = old ++ x.before; steps = x.steps; are = is ∙ ap (λ fs. old ++ fs) x.are ∙ sym (append_assoc old x.before (fact.Race x.tag x.earlier x.later i x.end ∷ x.steps)); chain = x.chain }
+pub ends_behind : (program : Parts) (rows : List Row) (old more new : List Fact) (i : ℕ) → new ≡ old ++ more → EndWithRace program rows more i → EndWithRace program rows new i
+ends_behind program rows old more new i is x = record { tag = x.tag; earlier = x.earlier; later = x.later; end = x.end; before = old ++ x.before; steps = x.steps; are = is ∙ ap (λ fs. old ++ fs) x.are ∙ sym (append_assoc old x.before (fact.Race x.tag x.earlier x.later i x.end ∷ x.steps)); chain = x.chain; chosen = x.chosen }
 
 -- more facts give the same breach
 adds_tag : (plan : PlanParts) (t : List Row) (old new : List Fact) (b : Breach) → Adds b plan t old new → ProvesTag old b → ProvesTag new b

@@ -20,7 +20,7 @@ use Rattle.lft_answers.specs.Answers.{KeepsRows}
 use Rattle.lft_facts.specs.declared.facts.Fact.{Fact}
 use Rattle.lft_facts.specs.declared.facts.Cause.{Cause}
 use Rattle.lft_facts.specs.declared.facts.Fact.TheVariants as fact
-use Rattle.lft_facts.specs.Facts.{IsFact, IsShown, IsCause, AreFacts, AreShown, StartsBefore, IsTriggerOf, HasTriggers, IsUntriggered}
+use Rattle.lft_facts.specs.Facts.{IsChosen, IsFact, IsShown, IsCause, AreFacts, AreShown, StartsBefore, IsTriggerOf, HasTriggers, IsUntriggered}
 use Rattle.lft_races.specs.Runs.{StartsAt, EndsAt}
 use Rattle.lft_facts.specs.Enough.{Gives, GivesChain, GivesTrigger, IsOwn, AreOwn, AreOwnAt}
 use Rattle.lft_facts.specs.Ways.{IsMarked, EndsMarked}
@@ -85,8 +85,8 @@ late_there plan t kept g r start starts early next marked = (e.0, after (dec_lt 
     after (no n) (no m) = omega arith
 
 -- the facts of rule 9 hold
-pub late_holds : (plan : PlanParts) (t : List Row) → KeepsRows plan t → (g : Tag) (a r start end : ℕ) (steps facts : List Fact) → facts ≡ (fact.StartsEarly g a r start end ∷ []) ++ steps → StartsAt t g r start → EndsAt t g a end → start < end → AreFacts plan t steps → GivesChain steps a r → AreFacts plan t facts
-late_holds plan t kept g a r start end steps facts is starts ends l each chain = subst (λ (fs : List Fact). AreFacts plan t fs) (sym is) (All-cons (IsFact plan t) (fact.StartsEarly g a r start end) steps (record { precedes = chain plan t (all_shown plan t steps each); not_ended = not_ended_there plan t kept g a r start end starts ends l; rows = record { starts = starts; ends = ends; before = l } }) each)
+pub late_holds : (plan : PlanParts) (t : List Row) → KeepsRows plan t → (g : Tag) (a r start end : ℕ) (steps facts : List Fact) → facts ≡ (fact.StartsEarly g a r start end ∷ []) ++ steps → StartsAt t g r start → EndsAt t g a end → start < end → IsChosen plan.program t g a r start → AreFacts plan t steps → GivesChain steps a r → AreFacts plan t facts
+late_holds plan t kept g a r start end steps facts is starts ends l chosen each chain = subst (λ (fs : List Fact). AreFacts plan t fs) (sym is) (All-cons (IsFact plan t) (fact.StartsEarly g a r start end) steps (record { precedes = chain plan t (all_shown plan t steps each); not_ended = not_ended_there plan t kept g a r start end starts ends l; rows = record { starts = starts; ends = ends; before = l }; chosen = chosen }) each)
 
 -- the facts of rule 9 are of the breach
 pub late_own : (g : Tag) (a r start end : ℕ) (steps facts : List Fact) → facts ≡ (fact.StartsEarly g a r start end ∷ []) ++ steps → ((b : Breach) → AreOwn b steps) → AreOwnAt g (Some r) facts

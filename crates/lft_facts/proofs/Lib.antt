@@ -9,6 +9,7 @@ pub mod Found
 pub mod Near
 pub mod Beside
 pub mod Added
+mod Choosing
 mod FirstRace
 pub mod Clashes
 pub mod RowGiving

@@ -106,6 +106,14 @@ module _ (program : Parts) (graph : GraphParts) (is_graph : IsGraphOf program gr
   to_there a b (inl d) = slice_get_within program.reactions b d.second d.is_second
   to_there a b (inr d) = slice_get_within program.reactions b d.2.reader d.2.is_reader
 
+  pub in_list : (a b : ℕ) → IsDeclaredJustBefore program a b ⊎ FeedsLast program a b → InList graph a b
+  in_list a b d =
+      let l : b < length program.reactions = to_there a b d in
+      let n : length graph.before ≡ length program.reactions = is_graph.as_long in
+      let list = get_there graph.before b (omega arith) in
+      let i = at_contains list.0 a (((is_graph.before b list.0 list.1).members a).1 d) in
+      (list.0, i.0, list.1, i.1)
+
   pub from_known : (a b : ℕ) → InList graph a b → a < length program.reactions
   from_known a b m = from_there a b (direct_of a b m)
 

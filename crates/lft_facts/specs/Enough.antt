@@ -1,7 +1,8 @@
 -- What some facts give, of whatever plan and rows show them.
-use Rattle.std.specs.Prelude.{◌≡◌, ℕ, ◌+◌, ◌<◌, List, ◌∷◌, ◌++◌, Option, Some, MatchOption, slice_get, Contains, All}
+use Rattle.std.specs.Prelude.{◌≡◌, ℕ, ◌+◌, ◌<◌, List, ◌∷◌, ◌++◌, take, Option, Some, MatchOption, slice_get, Contains, All}
 use Rattle.lft_tag.specs.declared.Tag.{Tag}
 use Rattle.lft_tag.specs.Tags.{UpTo}
+use Rattle.lft_flat.specs.Parts.{Parts}
 use Rattle.lft_flat.specs.declared.parts.Trigger.{Trigger}
 use Rattle.lft_graph.specs.Precedence.{Direct, Precedes}
 use Rattle.lft_steps.specs.declared.row.Row.{Row}
@@ -10,7 +11,7 @@ use Rattle.lft_model.specs.Plans.{PlanParts}
 use Rattle.lft_model.specs.Presence.{stop, Occurs, Collision}
 use Rattle.lft_model.specs.Breaches.{BreaksRow, BreaksAt, RowBreach, TagBreach}
 use Rattle.lft_answers.specs.Answers.{KeepsRows}
-use Rattle.lft_races.specs.Races.{IsRaceBefore}
+use Rattle.lft_races.specs.Races.{IsFirstRace, StandBefore}
 use Rattle.lft_facts.specs.declared.facts.Fact.{Fact}
 use Rattle.lft_facts.specs.declared.facts.Fact.TheVariants as fact
 use Rattle.lft_facts.specs.declared.facts.Cause.{Cause}
@@ -18,7 +19,7 @@ use Rattle.lft_facts.specs.declared.facts.Reason.{Reason}
 use Rattle.lft_facts.specs.declared.facts.Reason.TheVariants as reason
 use Rattle.lft_facts.specs.declared.facts.RowFact.{RowFact}
 use Rattle.lft_facts.specs.declared.facts.RowFact.TheVariants as row_fact
-use Rattle.lft_facts.specs.Facts.{IsShown, IsCause, IsRowFact, AreFacts, AreShown}
+use Rattle.lft_facts.specs.Facts.{IsChosen, IsShown, IsCause, IsRowFact, AreFacts, AreShown}
 
 -- of whatever plan and rows show the facts: where no row breaks one of the rules 1 to 5, the rule is broken at g
 abbrev pub Gives : List Fact → Tag → Option ℕ → ℕ → Type 0
@@ -138,8 +139,8 @@ GivesChain facts a b = (plan : PlanParts) (t : List Row) → AreShown plan t fac
 abbrev pub GivesClash : Cause → Cause → Tag → Type 0
 GivesClash c d g = (plan : PlanParts) (t : List Row) → IsCause plan t c → IsCause plan t d → Collision plan t g
 
--- the last of the facts are a race that starts in the row at place i, and the steps from the one reaction to the other
-pub record EndWithRace (facts : List Fact) (i : ℕ) : Type 0 where
+-- the last of the facts are a race that starts in the row at place i, and the steps from the one reaction to the other; of those that hadn't ended by these rows the one to name is named
+pub record EndWithRace (program : Parts) (rows : List Row) (facts : List Fact) (i : ℕ) : Type 0 where
   pub tag : Tag
   pub earlier : ℕ
   pub later : ℕ
@@ -148,7 +149,8 @@ pub record EndWithRace (facts : List Fact) (i : ℕ) : Type 0 where
   pub steps : List Fact
   pub are : facts ≡ before ++ (fact.Race tag earlier later i end ∷ steps)
   pub chain : GivesChain steps earlier later
+  pub chosen : IsChosen program rows tag earlier later i
 
--- of a breach of one of the rules 1 to 8 the first race before it is told, if there is one
+-- of a breach of one of the rules 1 to 8 the first race among the rows before it is told, if there is one
 abbrev pub TellsRace : PlanParts → List Row → Breach → List Fact → Type 0
-TellsRace plan t b facts = b.rule < 9 → (o : Option ℕ) × IsRaceBefore plan t b o × MatchOption o (Unit {0}) (EndWithRace facts)
+TellsRace plan t b facts = b.rule < 9 → (n : ℕ) × (o : Option ℕ) × StandBefore t b n × IsFirstRace plan.program (take n t) o × MatchOption o (Unit {0}) (EndWithRace plan.program (take n t) facts)

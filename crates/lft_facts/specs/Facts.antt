@@ -1,5 +1,5 @@
 -- What each fact says.
-use Rattle.std.specs.Prelude.{◌≡◌, ◌≢◌, ◌↔◌, ℕ, ◌+◌, ◌*◌, ◌<◌, List, [], length, Option, Some, None, slice_get, Contains, All}
+use Rattle.std.specs.Prelude.{◌≡◌, ◌≢◌, ◌↔◌, ℕ, ◌+◌, ◌*◌, ◌<◌, ◌≤◌, ◌⊎◌, List, [], length, Option, Some, None, slice_get, Contains, All}
 use Rattle.lft_tag.specs.declared.Tag.{Tag}
 use Rattle.lft_tag.specs.Tags.{Before, after, after_all}
 use Rattle.lft_flat.specs.Parts.{Parts, inputs}
@@ -10,6 +10,7 @@ use Rattle.lft_flat.specs.declared.parts.Value.{Value}
 use Rattle.lft_flat.specs.declared.parts.Reaction.{Reaction}
 use Rattle.lft_flat.specs.declared.parts.Timer.{Timer as TimerOf}
 use Rattle.lft_flat.specs.declared.parts.Trigger.{Trigger}
+use Rattle.lft_graph.specs.Before.{IsDeclaredJustBefore, FeedsLast}
 use Rattle.lft_graph.specs.Precedence.{IsDeclaredFirst, Precedes}
 use Rattle.lft_steps.specs.declared.row.Row.{Row}
 use Rattle.lft_steps.specs.declared.row.Step.{Step}
@@ -35,11 +36,21 @@ pub record StartsBefore (t : List Row) (g : Tag) (a r start end : ℕ) : Type 0 
   pub ends : EndsAt t g a end
   pub before : start < end
 
--- a precedes r and hadn't ended at g before r started there: r starts in one row, and a ends in a later row
+-- a is declared just before r in its instance, or is the last declared writer of what an input port of r gets without a delay
+abbrev pub IsJustBefore : Parts → ℕ → ℕ → Type 0
+IsJustBefore program a r = IsDeclaredJustBefore program a r ⊎ FeedsLast program a r
+
+-- of the reactions that precede r and have a run at g that no row before place i ends, a is the one to name: the least of those just before r, and where none is just before r the least of all
+pub record IsChosen (program : Parts) (t : List Row) (g : Tag) (a r i : ℕ) : Type 0 where
+  pub near : (b : ℕ) → IsJustBefore program b r → IsUnfinished t g b i → IsJustBefore program a r × (a ≤ b)
+  pub far : (b : ℕ) → Precedes program b r → IsUnfinished t g b i → IsJustBefore program a r ⊎ (a ≤ b)
+
+-- a precedes r and hadn't ended at g before r started there: r starts in one row, and a ends in a later row; of all those that hadn't ended a is the one to name
 pub record IsEarlyStart (plan : PlanParts) (t : List Row) (g : Tag) (a r start end : ℕ) : Type 0 where
   pub precedes : Precedes plan.program a r
   pub not_ended : ¬ EndsBefore t g a r
   pub rows : StartsBefore t g a r start end
+  pub chosen : IsChosen plan.program t g a r start
 
 -- a has a run at g that no row before the start of r there ends, and a later row does
 pub record HasRace (t : List Row) (g : Tag) (a r start end : ℕ) : Type 0 where

@@ -1,6 +1,6 @@
 //! Rule 9: a run that started before one that precedes it had ended.
 
-ghost use Rattle.std.specs.Prelude.{◌≡◌, ◌↔◌, ◌+◌, ◌<◌, ◌≤◌, ℕ, Some, length, slice_get, IsTrue, IfOk};
+ghost use Rattle.std.specs.Prelude.{◌≡◌, ◌↔◌, ◌+◌, ◌<◌, ◌≤◌, ◌⊎◌, ℕ, Some, length, slice_get, IsTrue, IfOk};
 ghost use Rattle.lft_steps.specs.Fits.{RowsFit};
 ghost use Rattle.lft_steps.specs.declared.row.Row.{Row as TheRow};
 ghost use Rattle.lft_model.specs.Breaches.{IsTooEarly};
@@ -96,6 +96,7 @@ pub(crate) fn late_end(
     ensures ends { EndsAt rows.now tag result.0 result.1 }
     ensures after { start < result.1 }
     ensures nearest { (i a : ℕ) → start < i → EndsAt rows.now tag a i → IsMarked near.now a → IsMarked near.now result.0 × (result.0 ≤ a) }
+    ensures least { (i a : ℕ) → start < i → EndsAt rows.now tag a i → IsMarked next.now a → IsMarked near.now result.0 ⊎ (result.0 ≤ a) }
 {
     if let Some(end) = least_end(rows, tag, start, near) {
         return end;

@@ -55,7 +55,7 @@ fn race_facts(
     requires ends { EndLater rows.now before }
     ensures holds { IfOk result (λ facts. AreFacts plan.now rows.now facts.items) }
     ensures own { IfOk result (λ facts. (b : TheBreach) → StandBefore rows.now b before → AreOwn b facts.items) }
-    ensures race { IfOk result (λ facts. EndWithRace facts.items start) }
+    ensures race { IfOk result (λ facts. EndWithRace plan.now.program (take before rows.now) facts.items start) }
 {
     let graph = plan.graph();
     let reactions = plan.program().reactions();

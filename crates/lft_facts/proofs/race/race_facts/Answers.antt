@@ -1,12 +1,13 @@
-use Rattle.std.proofs.Common.{◌≡◌, ◌++◌, ◌∷◌, [], List, ◌<◌, sym, ap, ◌∙◌, subst}
+use Rattle.std.proofs.Common.{◌≡◌, ◌++◌, ◌∷◌, [], List, ◌<◌, take, sym, ap, ◌∙◌, subst}
 use Rattle.lft_races.proofs.Standing.{unfinished_whole, start_there}
-use Rattle.lft_facts.specs.Ways.{IsMarked}
+use Rattle.lft_facts.specs.Ways.{IsMarked, AreSteps}
 use Rattle.lft_facts.specs.declared.facts.Fact.TheVariants as fact
 use Rattle.lft_facts.specs.declared.facts.Fact.{Fact}
 use Rattle.lft_facts.specs.Facts.{AreFacts}
 use Rattle.lft_facts.specs.Enough.{GivesChain, AreOwn}
+use Rattle.lft_facts.proofs.Choosing.{chosen, ends_behind_race}
 use Rattle.lft_facts.proofs.Upstream.{all_marked, step_leads}
-use Rattle.lft_facts.proofs.FirstRace.{IsOnly, only_of, only_leads, row_starts, late_some, race_holds, race_own, is_before}
+use Rattle.lft_facts.proofs.FirstRace.{IsOnly, only_of, only_leads, row_starts, late_some, race_holds, race_own, race_ends, is_before}
 use Rattle.lft_facts.proofs.race.race_facts.Goals as goal
 
 pub late_end-earlier-requires-clause-leads : goal.late_end-earlier-requires-clause-leads
@@ -63,3 +64,28 @@ returns-clause-own c b stand =
     race_own row.tag c.late_end-earlier.result.0 row.reaction c.args.start c.late_end-earlier.result.1 c.as_slice-8.result.now c.extend_from_slice.new.self.items (all c) b
     (is_before c.args.rows.now b c.args.before c.args.start row stand (before c) c.row_at-row.ensures)
     (subst (λ (fs : List Fact). AreOwn b fs) (sym c.as_slice-8.ensures.value) (c.in_ok-way.ensures.own b))
+
+pub returns-clause-race : goal.returns-clause-race
+returns-clause-race c =
+    let program = c.args.plan.now.program in
+    let t = c.args.rows.now in
+    let row = c.row_at-row.result in
+    let earlier = c.late_end-earlier.result.0 in
+    let graph = c.graph-graph.result.now in
+    let near = c.in_ok-near.near.items in
+    let next = c.in_ok-next.next.items in
+    let these = c.in_ok-unfinished.unfinished.items in
+    let late : IsOnly next these c.as_slice-6.result.now = subst (λ ns. IsOnly next these ns) (sym c.as_slice-6.ensures.value) (only_of c.as_slice.result.now next c.in_ok-late.late.items c.as_slice-2.result.now these c.as_slice.ensures.value c.as_slice-2.ensures.value c.in_ok-late.ensures.left) in
+    let late_near : IsOnly near these c.as_slice-5.result.now = subst (λ ns. IsOnly near these ns) (sym c.as_slice-5.ensures.value) (only_of c.as_slice-3.result.now near c.in_ok-late_near.late_near.items c.as_slice-4.result.now these c.as_slice-3.ensures.value c.as_slice-4.ensures.value c.in_ok-late_near.ensures.left) in
+    let steps : AreSteps graph row.reaction near = c.in_ok-near.ensures in
+    let marked = c.in_ok-unfinished.ensures.marked in
+    let starts = row_starts program t c.args.before c.args.start c.requires.race row c.row_at-row.ensures in
+    let named = chosen program graph c.graph-graph.ensures.graph t (take c.args.before t) row.tag earlier row.reaction c.args.start c.as_slice-5.result.now c.as_slice-6.result.now
+    (λ b u. ends_behind_race t c.args.before c.requires.ends row.tag row.tag b row.reaction c.args.start (before c) starts u)
+    (λ b u m. (late_near b).1 ((steps.marked b).1 m, (marked b).1 u))
+    (λ b m. (steps.marked b).0 ((late_near b).0 m).0)
+    (λ b u p. (late b).1 (all_marked program graph c.graph-graph.ensures.graph row.reaction next c.in_ok-next.ensures b p, (marked b).1 u))
+    c.late_end-earlier.ensures.nearest
+    c.late_end-earlier.ensures.least in
+    race_ends row.tag earlier row.reaction c.args.start c.late_end-earlier.result.1 c.as_slice-8.result.now c.extend_from_slice.new.self.items (all c) program (take c.args.before t) named
+    (subst (λ (fs : List Fact). GivesChain fs earlier row.reaction) (sym c.as_slice-8.ensures.value) c.in_ok-way.ensures.gives)
