@@ -1,0 +1,9 @@
+mod Numbers
+mod Meeting
+mod Going
+mod Held
+mod Laying
+mod Toggling
+mod Running
+mod Overlapping
+mod Tallied

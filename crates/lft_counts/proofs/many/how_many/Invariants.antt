@@ -1,0 +1,5 @@
+use Rattle.lft_counts.specs.Counts.{Count, IsOver}
+use Rattle.lft_counts.proofs.many.how_many.Given as goal
+
+abbrev pub invariant-loop-place : goal.invariant-loop-place
+invariant-loop-place l = Count (IsOver l.counts) l.place l.many

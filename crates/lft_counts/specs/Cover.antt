@@ -1,0 +1,29 @@
+-- All counts of a trace, and whose orders they are.
+use Rattle.std.specs.Prelude.{◌≡◌, ℕ, List, map, length}
+use Rattle.lft_flat.specs.Parts.{Parts}
+use Rattle.lft_graph.specs.Graph.{GraphParts}
+use Rattle.lft_steps.specs.declared.row.Row.{Row}
+use Rattle.lft_counts.specs.declared.cover.Counting.{Counting}
+use Rattle.lft_counts.specs.declared.cover.Cover.{Cover}
+use Rattle.lft_counts.specs.Counts.{AreCounts, StartsAt, WritesAt}
+use Rattle.lft_counts.specs.Orders.{Stands, orders_from, cleared}
+use Rattle.lft_counts.specs.Overlaps.{Overlap}
+use Rattle.lft_counts.specs.Workers.{AreByWorker}
+
+-- the counts of reactions, ports and workers are those of the rows before place i
+pub record IsCounting (program : Parts) (t : List Row) (i : ℕ) (counting : Counting) : Type 0 where
+  pub reactions : length counting.runs ≡ length program.reactions
+  pub runs : AreCounts (StartsAt t) i counting.runs
+  pub ports : length counting.writes ≡ length program.ports
+  pub writes : AreCounts (WritesAt t) i counting.writes
+  pub workers : AreByWorker t i counting.workers
+
+-- all counts are those of the rows that are gone through
+pub record IsCover (program : Parts) (t : List Row) (cover : Cover) : Type 0 where
+  pub counted : IsCounting program t cover.rows cover.counting
+  pub met : Stands t (length program.reactions) cover.rows cover.orders
+  pub overlapped : Overlap t (length program.reactions) cover.rows cover.overlaps
+
+-- the orders are those of the short lists of a graph, in order
+abbrev pub IsListed : GraphParts → Cover → Type 0
+IsListed graph cover = map cleared cover.orders.all.items ≡ orders_from 0 graph.before

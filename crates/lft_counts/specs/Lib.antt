@@ -1,0 +1,5 @@
+pub mod Counts
+pub mod Orders
+pub mod Overlaps
+pub mod Workers
+pub mod Cover

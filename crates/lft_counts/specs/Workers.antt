@@ -1,0 +1,15 @@
+-- How many runs each worker starts.
+use Rattle.std.specs.Prelude.{ℕ, List, unwrap_or}
+use Rattle.std.specs.BTreeMap as map
+use Rattle.std.specs.Ordering.{nat_cmp}
+use Rattle.lft_steps.specs.declared.row.Row.{Row}
+use Rattle.lft_counts.specs.declared.workers.Workers.{Workers}
+use Rattle.lft_counts.specs.Counts.{Count, StartsBy}
+
+-- how many runs of a worker are kept: none where the map has no number
+abbrev pub runs_by : Workers → ℕ → ℕ
+runs_by workers w = unwrap_or (map.get nat_cmp workers.counts w) 0
+
+-- of each worker the starts of its runs before place i
+abbrev pub AreByWorker : List Row → ℕ → Workers → Type 0
+AreByWorker t i workers = (w : ℕ) → Count (StartsBy t w) i (runs_by workers w)

@@ -1,0 +1,57 @@
+//! Sets of numbers, a bit for each.
+
+ghost use Rattle.std.specs.Prelude.{◌≡◌, ◌≢◌, ◌↔◌, ◌<◌, ◌≤◌, ◌⊎◌, ◌+◌, ◌*◌, ◌/◌, ℕ, length, IfOk};
+ghost use Rattle.lft_graph.specs.Sets.{Has};
+
+use lft_tag::NoMemory;
+use std::alloc::Global;
+use std::marker::Model;
+
+/// A set of numbers: number r is bit r % 64 of word r / 64.
+// A set of `lft_graph` grows alone. From this one numbers are taken out too.
+#[derive(Drop)]
+pub(crate) struct Bits {
+    words: Vec<u64>,
+}
+
+impl Model for Bits {
+    ghost use Rattle.std.specs.Prelude.{List, ℕ};
+
+    ghost Value = { List ℕ };
+
+    ghost view = { λ set. set.words.items };
+}
+
+impl Bits {
+    /// No numbers, and room for those below a number.
+    pub(crate) fn with_room(alloc: Global, numbers: usize) -> Result<Bits, NoMemory>
+        ensures room { IfOk result (λ set. length set ≡ numbers / 64 + 1) }
+        ensures none { IfOk result (λ set. (r : ℕ) → Has set r → ⊥) }
+    {
+        let words = vec![in alloc; 0; numbers / 64 + 1]?;
+        Ok(Bits { words })
+    }
+
+    /// Puts the number into the set, or takes it out where it is in it.
+    pub(crate) fn toggle(&mut self, number: u32)
+        requires { number < 64 * length self.old }
+        ensures room { length self.new ≡ length self.old }
+        ensures others { (r : ℕ) → r ≢ number → Has self.new r ↔ Has self.old r }
+        ensures put { (Has self.old number → ⊥) → Has self.new number }
+        ensures taken { Has self.old number → Has self.new number → ⊥ }
+    {
+        let bit = 1u64 << (number % 64);
+        self.words[number as usize / 64] ^= bit;
+    }
+
+    /// Adds the numbers of another set.
+    pub(crate) fn add_all(&mut self, other: &Bits)
+        requires { length other.now ≤ length self.old }
+        ensures room { length self.new ≡ length self.old }
+        ensures members { (r : ℕ) → Has self.new r ↔ (Has self.old r ⊎ Has other.now r) }
+    {
+        for place in 0..other.words.len() {
+            self.words[place] |= other.words[place];
+        }
+    }
+}

@@ -1,0 +1,18 @@
+#![tactic(auto)]
+//! How often something holds in a legal trace, counted row by row: runs, writes, orders that are met, runs
+//! that are open together.
+
+mod bits;
+mod cover;
+mod many;
+mod orders;
+mod overlaps;
+mod tally;
+mod workers;
+
+pub use cover::{Counting, Cover};
+pub use many::how_many;
+pub use orders::{Last, Order, Orders};
+pub use overlaps::Overlaps;
+pub use tally::Tally;
+pub use workers::Workers;

@@ -1,0 +1,49 @@
+//! How many runs each worker starts.
+
+ghost use Rattle.std.specs.Prelude.{◌≡◌, ◌+◌, ◌<◌, ◌==◌, ℕ, cond, OnOk, Some, slice_get};
+ghost use Rattle.lft_steps.specs.declared.row.Row.{Row as TheRow};
+ghost use Rattle.lft_counts.specs.Workers.{runs_by};
+
+use lft_tag::NoMemory;
+use std::alloc::Global;
+use std::collections::BTreeMap;
+
+/// How many runs each worker starts, by the worker's number in a map. The numbers come from the trace: in
+/// a map by hashes whoever writes it could make them collide.
+#[derive(Drop)]
+pub struct Workers {
+    counts: BTreeMap<u32, u64>,
+}
+
+impl Workers {
+    /// No worker starts a run.
+    pub fn new(alloc: Global) -> Workers
+        ensures { (w : ℕ) → runs_by result w ≡ 0 }
+    {
+        Workers {
+            counts: BTreeMap::new(alloc),
+        }
+    }
+
+    /// How many runs the worker starts.
+    pub fn of(&self, worker: u32) -> u64
+        ensures { result ≡ runs_by self.now worker }
+    {
+        match self.counts.get(&worker) {
+            Some(count) => *count,
+            None => 0,
+        }
+    }
+
+    /// The worker starts a run more.
+    pub fn begin(&mut self, worker: u32) -> Result<(), NoMemory>
+        requires { runs_by self.old worker < 4000000 }
+        ensures { OnOk result ((w : ℕ) → runs_by self.new w ≡ cond (worker == w) (runs_by self.old worker + 1) (runs_by self.old w)) }
+    {
+        let count = self.of(worker) + 1;
+        match self.counts.insert(worker, count) {
+            Ok(_) => Ok(()),
+            Err(_) => Err(NoMemory),
+        }
+    }
+}
