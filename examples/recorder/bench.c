@@ -1,5 +1,5 @@
-/* What a row costs: with lftrace.h, and as a line printed under a lock. Its tables are written into the
-   current folder and removed.
+/* What a row costs: with lftrace.h, and as a line printed under a lock. Then the same of one long run, as bench.rs
+   has it. The tables are written into the current folder and removed.
 
    cc -std=c11 -D_POSIX_C_SOURCE=200809L -O2 -pthread bench.c -o bench && ./bench */
 #define LFT_MOST 100000000
@@ -8,6 +8,7 @@
 #include <time.h>
 
 enum { RUNS = 25000, ROWS = 4 * RUNS, TURNS = 40 }; /* rows of each thread; the least of so many times counts */
+enum { LONG_RUNS = 1000000, LONG_ROWS = 4 * LONG_RUNS, LONG_TURNS = 5 };
 static const char trace_path[] = "bench_trace.csv", externals_path[] = "bench_externals.csv";
 static lft_log *lft;
 static FILE *file;
@@ -85,17 +86,66 @@ static void measure_all(unsigned threads, double taken[3]) {
   fclose(file);
 }
 
+/* One thread that fills four slots: a tag has 100 rows. */
+static void record_long(FILE *followed) {
+  lft = lft_open(4);
+  reaction = lft_register(lft, "main#1");
+  port = lft_register(lft, "main.p");
+  if (followed) lft_follow_to(lft, followed);
+  for (unsigned i = 0; i < LONG_RUNS; i++) {
+    lft_start(lft, i % 4, i / 25, 0, reaction);
+    lft_read(lft, i % 4, port, lft_int(i));
+    lft_write(lft, i % 4, port, lft_int(i));
+    lft_end(lft, i % 4);
+    if (i % 25 == 24) lft_flush(lft);
+  }
+}
+
+/* Nanoseconds of processor time for a row of a long run. */
+static double spent(clock_t before) { return (double)(clock() - before) * (1e9 / CLOCKS_PER_SEC) / LONG_ROWS; }
+
+/* One turn: recording, saving, recording as a log. */
+static void measure_long(double taken[3]) {
+  clock_t before = clock();
+  record_long(NULL);
+  taken[0] = spent(before);
+  before = clock();
+  const char *why = lft_save(lft, trace_path, externals_path, LONG_RUNS, 0);
+  taken[1] = spent(before);
+  lft_close(lft);
+  file = fopen(trace_path, "w");
+  if (why || !file) exit(2);
+  before = clock();
+  record_long(file);
+  if (lft_finish(lft, LONG_RUNS, 0)) exit(2);
+  taken[2] = spent(before);
+  lft_close(lft);
+  fclose(file);
+}
+
+static void keep_least(double least[3], const double taken[3]) {
+  for (int i = 0; i < 3; i++)
+    if (taken[i] < least[i]) least[i] = taken[i];
+}
+
 int main(void) {
+  double taken[3];
   printf("| threads | recording | saving | printf under a lock |   ns of wall time a row, all threads together\n");
   for (unsigned threads = 1; threads <= 4; threads *= 2) {
-    double least[3] = {1e9, 1e9, 1e9}, taken[3];
+    double least[3] = {1e9, 1e9, 1e9};
     for (int turn = 0; turn < TURNS; turn++) {
       measure_all(threads, taken);
-      for (int i = 0; i < 3; i++)
-        if (taken[i] < least[i]) least[i] = taken[i];
+      keep_least(least, taken);
     }
     printf("| %7u | %9.0f | %6.0f | %19.0f |\n", threads, least[0], least[1], least[2]);
   }
+  double least[3] = {1e9, 1e9, 1e9};
+  for (int turn = 0; turn < LONG_TURNS; turn++) {
+    measure_long(taken);
+    keep_least(least, taken);
+  }
+  printf("| recording | saving | recording as a log |   ns of processor time a row, of %d rows\n", LONG_ROWS);
+  printf("| %9.0f | %6.0f | %18.0f |\n", least[0], least[1], least[2]);
   remove(trace_path);
   remove(externals_path);
   return 0;

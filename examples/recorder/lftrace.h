@@ -21,14 +21,21 @@
 
    Of a run that hangs lft_save_front writes the rows so far. A watchdog calls it where lft_rows stands still.
 
-   Order: each row takes the next number of one atomic counter, and lft_save sorts the rows by it. Where
+   A run of any length is written while it runs, as one log of both tables that `lftrace follow` reads:
+
+     lft_follow_to(log, stdout);     before the workers begin
+     lft_flush(log);                 the runtime goes on to the next tag
+     why = lft_finish(log, stop_time, stop_microstep);     in place of lft_save
+
+   Order: each row takes the next number of one atomic counter, and the rows are written in this order. Where
    the runtime's own locks and atomics order two steps, the earlier step has the lesser number. A relaxed
    counter is enough for that: the changes of one atomic have one order, and it agrees with "happens
    before" (C11 5.1.2.4).
 
    Errors: no call fails, prints or ends the program. lft_save writes both tables whole, or none and says
    why. A lost row leaves a gap in the numbers, and lft_save looks for gaps: a table that lacks a row
-   would accuse the runtime of what it didn't do. */
+   would accuse the runtime of what it didn't do. A log ends before the gap, and lft_finish says why.
+   A write to a pipe that nobody reads any more sends SIGPIPE. It ends a program that doesn't ignore it. */
 #ifndef LFTRACE_H
 #define LFTRACE_H
 
@@ -45,22 +52,24 @@
 #define lft_load(place) (place)->load(std::memory_order_acquire)
 #define lft_store(place, value) (place)->store(value, std::memory_order_release)
 #define lft_take(counter) (counter)->fetch_add(1, std::memory_order_relaxed)
+#define lft_swap(place, value) (place)->exchange(value, std::memory_order_acq_rel)
 #else
 #include <stdatomic.h>
 #define LFT_ATOMIC(type) _Atomic(type)
 #define lft_load(place) atomic_load_explicit(place, memory_order_acquire)
 #define lft_store(place, value) atomic_store_explicit(place, value, memory_order_release)
 #define lft_take(counter) atomic_fetch_add_explicit(counter, 1, memory_order_relaxed)
+#define lft_swap(place, value) atomic_exchange_explicit(place, value, memory_order_acq_rel)
 #endif
 
 #ifndef LFT_BLOCK
 #define LFT_BLOCK 4096 /* rows that are allocated at once: 160 KiB */
 #endif
 #ifndef LFT_MOST
-#define LFT_MOST 4000000 /* the most rows of a table that lftrace reads */
+#define LFT_MOST 4000000 /* the most rows that are kept, and the most of a table that lftrace reads */
 #endif
 #ifndef LFT_TEXT
-#define LFT_TEXT 65536 /* bytes of a table that are written at once */
+#define LFT_TEXT 65536 /* bytes of a file that are written at once */
 #endif
 
 typedef uint32_t lft_name; /* a reaction, port or action: the number that lft_register gave */
@@ -97,8 +106,8 @@ typedef struct {
   uint32_t kind, bare;
 } lft_row;
 
-/* A worker fills a block, and a thread that saves may read it at the same time: `used` and `next` are stored
-   behind what they speak of. */
+/* A worker fills a block, and a thread that writes it may read it at the same time: `used` and `next` are stored
+   behind what they speak of. A worker never comes back to a block that has a next one. */
 typedef struct lft_block {
   LFT_ATOMIC(struct lft_block *) next;
   LFT_ATOMIC(size_t) used;
@@ -121,11 +130,42 @@ typedef struct {
   lft_name name_count;
   bool lacks_name;
   char why[200];
-  char before[128]; /* the counter has a line of the cache of its own */
+  struct lft_writer *writer; /* of a followed log, or NULL */
+  char before[128];          /* the counters have a line of the cache of their own */
   LFT_ATOMIC(uint64_t) order;
+  LFT_ATOMIC(uint64_t) written; /* rows that aren't kept any more, since they are in the followed log */
   char behind[128];
+  LFT_ATOMIC(uint64_t) lost;   /* rows that weren't kept, since LFT_MOST were */
   LFT_ATOMIC(uint64_t) strays; /* calls with the number of no slot */
 } lft_log;
+
+/* A file that is written, and the text that isn't there yet. */
+typedef struct {
+  FILE *file;
+  lft_log *log;    /* whose rows have to be whole at any time, or NULL */
+  const char *why; /* why no more is written, or NULL */
+  size_t used;
+  char text[LFT_TEXT];
+} lft_table;
+
+/* How far the rows of a slot are printed. */
+typedef struct {
+  lft_block *block;
+  size_t next;
+  bool has_run;
+  lft_row run; /* the start row of the last run */
+} lft_cursor;
+
+/* Prints the rows of a log in the order of their numbers: for one call of lft_save, or as long as a followed log. */
+typedef struct lft_writer {
+  lft_log *log;
+  uint64_t next; /* the number of the next row */
+  unsigned slot; /* where the row before it was */
+  lft_cursor *cursors;
+  LFT_ATOMIC(bool) busy;
+  lft_table *events; /* `externals`, or `trace` where this is the one log */
+  lft_table trace, externals;
+} lft_writer;
 
 static inline void lft_close(lft_log *log) {
   if (!log) return;
@@ -136,6 +176,8 @@ static inline void lft_close(lft_log *log) {
       block = next;
     }
   for (lft_name name = 0; name < log->name_count; name++) free(log->names[name]);
+  if (log->writer) free(log->writer->cursors);
+  free(log->writer);
   free(log->names);
   free(log->slots);
   free(log);
@@ -197,7 +239,10 @@ static inline lft_block *lft_grow(lft_slot *slot) {
 static inline void lft_put(lft_log *log, lft_slot *slot, uint32_t kind, lft_name name, lft_value value, uint64_t time,
                            uint32_t microstep) {
   lft_row row = {lft_take(&log->order), time, value.number, name, microstep, kind, value.bare};
-  if (row.order >= LFT_MOST) return; /* lft_save says so, by the counter */
+  if (row.order - lft_load(&log->written) >= LFT_MOST) {
+    lft_take(&log->lost);
+    return;
+  }
   lft_block *block = slot->last;
   if (!block || lft_load(&block->used) == LFT_BLOCK) block = lft_grow(slot);
   if (!block) {
@@ -256,25 +301,45 @@ static inline void lft_event(lft_log *log, unsigned number, uint64_t time, uint3
 /* The rows so far, with those that aren't kept. A watchdog sees by it that nothing moves. */
 static inline uint64_t lft_rows(lft_log *log) { return log ? lft_load(&log->order) : 0; }
 
-/* A table that is written: its file, and the text that isn't there yet. */
-typedef struct {
-  FILE *file;
-  size_t used;
-  char text[LFT_TEXT];
-} lft_table;
+/* Why rows can't be written, or NULL. A thread loses a row before its next one is there, so who has seen that one
+   is told of the loss. */
+static inline const char *lft_fault(lft_log *log, bool front) {
+  if (log->lacks_name) return "out of memory at a name";
+  if (lft_load(&log->strays)) return "a call with the number of no slot";
+  for (unsigned number = 0; number < log->slot_count; number++) {
+    lft_slot *slot = &log->slots[number];
+    const char *fault = lft_load(&slot->fault);
+    lft_name name = fault ? slot->about : 0;
+    if (!fault && !front && slot->open) {
+      fault = "a run is still open:";
+      name = slot->open;
+    }
+    if (!fault) continue;
+    const char *about = name < log->name_count ? log->names[name] : "a name that wasn't registered";
+    snprintf(log->why, sizeof log->why, "slot %u: %s %s", number, fault, *about ? about : "(stop or end)");
+    return log->why;
+  }
+  if (front || !lft_load(&log->lost)) return NULL;
+  return log->writer ? "rows are lost: too many weren't written yet" : "more rows than lftrace reads";
+}
 
-static inline void lft_flush(lft_table *table) {
-  fwrite(table->text, 1, table->used, table->file); /* lft_finish asks the file for errors */
+/* Puts the text into the file. Where a followed log has a fault the text may lack a row, so it is dropped. */
+static inline void lft_drain(lft_table *table) {
+  FILE *file = table->file;
+  if (!table->why && table->log) table->why = lft_fault(table->log, true);
+  if (!table->why && (!file || fwrite(table->text, 1, table->used, file) != table->used || fflush(file)))
+    table->why = "the file could not be written";
   table->used = 0;
 }
 
 static inline void lft_add(lft_table *table, const char *text, size_t size) {
-  if (size > LFT_TEXT - table->used) lft_flush(table);
-  if (size > LFT_TEXT) fwrite(text, 1, size, table->file);
-  else {
-    memcpy(table->text + table->used, text, size);
-    table->used += size;
+  for (size_t room; (room = LFT_TEXT - table->used) < size; text += room, size -= room) {
+    memcpy(table->text + table->used, text, room);
+    table->used = LFT_TEXT;
+    lft_drain(table);
   }
+  memcpy(table->text + table->used, text, size);
+  table->used += size;
 }
 
 static inline void lft_add_text(lft_table *table, const char *text) { lft_add(table, text, strlen(text)); }
@@ -303,140 +368,122 @@ static inline void lft_add_tag(lft_table *table, const lft_row *row) {
   lft_add(table, ",", 1);
 }
 
-/* How far the rows of a slot are written. */
-typedef struct {
-  const lft_block *block;
-  size_t next;
-  const lft_row *run; /* the start row of the run */
-} lft_cursor;
+/* What each kind of row begins with. */
+static const char *const lft_words[] = {"start,", "read,", "write,", "schedule,", "stop,", "end,", "event,"};
 
-/* What lft_save needs for one call. It changes nothing in the log but `why`. */
-typedef struct {
-  lft_log *log;
-  bool front; /* open runs and missing rows end the table */
-  lft_cursor *cursors;
-  lft_table trace, externals;
-} lft_saver;
+/* An event, or the stop of the execution, which has no name. */
+static inline void lft_print_external(lft_table *table, const lft_row *row, char *const *names) {
+  lft_add_text(table, lft_words[row->kind]);
+  lft_add_tag(table, row);
+  lft_add_text(table, names[row->name]);
+  lft_add_value(table, row);
+  lft_add(table, "\n", 1);
+}
 
-/* The first row of a slot that isn't written yet, or NULL. */
-static inline const lft_row *lft_head(lft_cursor *cursor, lft_slot *slot) {
-  const lft_block *block = cursor->block;
+static inline void lft_print_step(lft_table *table, unsigned worker, const lft_row *row, const lft_row *run,
+                                  char *const *names) {
+  lft_add_text(table, lft_words[row->kind]);
+  lft_add_number(table, worker);
+  lft_add(table, ",", 1);
+  lft_add_tag(table, run);
+  lft_add_text(table, names[run->name]);
+  lft_add(table, ",", 1);
+  if (row->kind != LFT_START) lft_add_text(table, names[row->name]);
+  lft_add_value(table, row);
+  lft_add(table, ",", 1);
+  if (row->kind == LFT_SCHEDULE && row->time) lft_add_number(table, row->time);
+  lft_add(table, "\n", 1);
+}
+
+/* The first row of a slot that isn't printed yet, or NULL. A followed log frees the blocks before it. */
+static inline const lft_row *lft_head(lft_writer *writer, unsigned number) {
+  lft_slot *slot = &writer->log->slots[number];
+  lft_cursor *cursor = &writer->cursors[number];
+  lft_block *block = cursor->block;
   if (!block) block = lft_load(&slot->first);
-  else if (cursor->next == LFT_BLOCK) {
-    block = lft_load(&block->next);
-    if (block) cursor->next = 0;
+  else if (cursor->next == LFT_BLOCK && (block = lft_load(&block->next))) {
+    cursor->next = 0;
+    if (writer->log->writer) {
+      lft_store(&slot->first, block);
+      free(cursor->block);
+      lft_store(&writer->log->written, writer->next);
+    }
   }
   if (!block) return NULL;
   cursor->block = block;
   return cursor->next < lft_load(&block->used) ? &block->rows[cursor->next] : NULL;
 }
 
-/* The row of a number, or NULL. It is sought from the slot on where the row before it was. */
-static inline const lft_row *lft_find(lft_saver *saver, uint64_t order, unsigned *slot) {
-  for (unsigned tried = 0; tried < saver->log->slot_count; tried++) {
-    const lft_row *row = lft_head(&saver->cursors[*slot], &saver->log->slots[*slot]);
-    if (row && row->order == order) return row;
-    *slot = *slot + 1 == saver->log->slot_count ? 0 : *slot + 1;
+/* The next row, or NULL. It is sought from the slot on where the row before it was. */
+static inline const lft_row *lft_find(lft_writer *writer) {
+  for (unsigned tried = 0; tried < writer->log->slot_count; tried++) {
+    const lft_row *row = lft_head(writer, writer->slot);
+    if (row && row->order == writer->next) return row;
+    writer->slot = writer->slot + 1 == writer->log->slot_count ? 0 : writer->slot + 1;
   }
   return NULL;
 }
 
-static inline void lft_print_event(lft_table *externals, const lft_row *row, const char *name) {
-  lft_add(externals, "event,", 6);
-  lft_add_tag(externals, row);
-  lft_add_text(externals, name);
-  lft_add_value(externals, row);
-  lft_add(externals, "\n", 1);
-}
-
-static inline void lft_print_step(lft_table *trace, unsigned worker, const lft_row *row, const lft_row *run,
-                                  char *const *names) {
-  static const char *const words[] = {"start,", "read,", "write,", "schedule,", "stop,", "end,"};
-  lft_add_text(trace, words[row->kind]);
-  lft_add_number(trace, worker);
-  lft_add(trace, ",", 1);
-  lft_add_tag(trace, run);
-  lft_add_text(trace, names[run->name]);
-  lft_add(trace, ",", 1);
-  if (row != run) lft_add_text(trace, names[row->name]);
-  lft_add_value(trace, row);
-  lft_add(trace, ",", 1);
-  if (row->kind == LFT_SCHEDULE && row->time) lft_add_number(trace, row->time);
-  lft_add(trace, "\n", 1);
-}
-
-/* Prints all rows in the order of their numbers. NULL, or why it can't. */
-static inline const char *lft_merge(lft_saver *saver) {
-  lft_log *log = saver->log;
-  uint64_t count = lft_load(&log->order);
-  unsigned slot = 0;
-  if (saver->front && count > LFT_MOST) count = LFT_MOST;
-  for (uint64_t order = 0; order < count; order++) {
-    const lft_row *row = lft_find(saver, order, &slot);
-    if (!row) return saver->front ? NULL : "a row is missing: two threads used one slot at a time";
+/* Prints the rows before a number, in order, up to the first that isn't there. NULL, or why it can't. */
+static inline const char *lft_print_rows(lft_writer *writer, uint64_t count) {
+  lft_log *log = writer->log;
+  for (; writer->next < count; writer->next++) {
+    const lft_row *row = lft_find(writer);
+    if (!row) break;
     if (row->name >= log->name_count) return "a row has a name that wasn't registered";
-    lft_cursor *cursor = &saver->cursors[slot];
+    lft_cursor *cursor = &writer->cursors[writer->slot];
     cursor->next++;
     if (row->kind == LFT_EVENT) {
-      lft_print_event(&saver->externals, row, log->names[row->name]);
+      lft_print_external(writer->events, row, log->names);
       continue;
     }
-    if (row->kind == LFT_START) cursor->run = row;
-    if (!cursor->run) return "a step outside a run"; /* it came after lft_fault looked */
-    lft_print_step(&saver->trace, slot, row, cursor->run, log->names);
-  }
-  return NULL;
-}
-
-/* Why there can be no tables of this log, or NULL. */
-static inline const char *lft_fault(lft_log *log, bool front) {
-  if (log->lacks_name) return "out of memory at a name";
-  if (lft_load(&log->strays)) return "a call with the number of no slot";
-  for (unsigned number = 0; number < log->slot_count; number++) {
-    lft_slot *slot = &log->slots[number];
-    const char *fault = lft_load(&slot->fault);
-    lft_name name = fault ? slot->about : 0;
-    if (!fault && !front && slot->open) {
-      fault = "a run is still open:";
-      name = slot->open;
+    if (row->kind == LFT_START) {
+      cursor->run = *row;
+      cursor->has_run = true;
     }
-    if (!fault) continue;
-    const char *about = name < log->name_count ? log->names[name] : "a name that wasn't registered";
-    snprintf(log->why, sizeof log->why, "slot %u: %s %s", number, fault, *about ? about : "(stop or end)");
-    return log->why;
+    if (!cursor->has_run) return "a step outside a run"; /* it came after lft_fault looked */
+    lft_print_step(&writer->trace, writer->slot, row, &cursor->run, log->names);
   }
-  if (!front && lft_load(&log->order) > LFT_MOST) return "more rows than lftrace reads";
   return NULL;
 }
 
-static inline bool lft_begin(lft_table *table, const char *path, const char *header) {
-  table->file = fopen(path, "w");
-  table->used = 0;
+static inline lft_writer *lft_open_writer(lft_log *log) {
+  lft_writer *writer = (lft_writer *)calloc(1, sizeof *writer);
+  if (!writer) return NULL;
+  writer->log = log;
+  writer->events = &writer->externals;
+  writer->cursors = (lft_cursor *)calloc(log->slot_count ? log->slot_count : 1, sizeof *writer->cursors);
+  if (writer->cursors) return writer;
+  free(writer);
+  return NULL;
+}
+
+static inline void lft_begin(lft_table *table, FILE *file, const char *header) {
+  table->file = file;
   lft_add_text(table, header);
-  return table->file;
 }
 
 /* False: not all of it is in the file. */
-static inline bool lft_finish(lft_table *table) {
-  if (!table->file) return false;
-  lft_flush(table);
-  bool written = !ferror(table->file);
-  return !fclose(table->file) && written;
+static inline bool lft_end_table(lft_table *table) {
+  lft_drain(table);
+  return table->file && !fclose(table->file) && !table->why;
 }
 
-static inline const char *lft_write_tables(lft_saver *saver, const char *trace_path, const char *externals_path,
-                                           uint64_t stop_time, uint32_t stop_microstep) {
-  bool is_open = lft_begin(&saver->trace, trace_path, "event,worker,time,microstep,reaction,name,value,delay\n");
-  is_open = lft_begin(&saver->externals, externals_path, "kind,time,microstep,name,value\n") && is_open;
-  const char *why = is_open ? lft_merge(saver) : NULL;
+#define LFT_TRACE_HEADER "event,worker,time,microstep,reaction,name,value,delay\n"
+#define LFT_EXTERNALS_HEADER "kind,time,microstep,name,value\n"
+#define LFT_GAP "a row is missing: two threads used one slot at a time"
+
+static inline const char *lft_write_tables(lft_writer *writer, bool front, const char *trace_path,
+                                           const char *externals_path, uint64_t stop_time, uint32_t stop_microstep) {
+  uint64_t count = lft_load(&writer->log->order);
   lft_row stop = {0, stop_time, 0, 0, stop_microstep, LFT_STOP, true};
-  if (is_open) {
-    lft_add(&saver->externals, "stop,", 5);
-    lft_add_tag(&saver->externals, &stop);
-    lft_add(&saver->externals, ",\n", 2);
-  }
-  bool written = lft_finish(&saver->trace);
-  written = lft_finish(&saver->externals) && written;
+  lft_begin(&writer->trace, fopen(trace_path, "w"), LFT_TRACE_HEADER);
+  lft_begin(&writer->externals, fopen(externals_path, "w"), LFT_EXTERNALS_HEADER);
+  const char *why = lft_print_rows(writer, count);
+  if (!why && !front && writer->next != count) why = LFT_GAP;
+  lft_print_external(&writer->externals, &stop, writer->log->names);
+  bool written = lft_end_table(&writer->trace);
+  written = lft_end_table(&writer->externals) && written;
   return written ? why : "a table could not be written";
 }
 
@@ -451,12 +498,12 @@ static inline char *lft_part(const char *path) {
 }
 
 /* Writes both tables beside their places and moves them there, the trace last. */
-static inline const char *lft_place_tables(lft_saver *saver, const char *trace_path, const char *externals_path,
-                                           uint64_t stop_time, uint32_t stop_microstep) {
+static inline const char *lft_place_tables(lft_writer *writer, bool front, const char *trace_path,
+                                           const char *externals_path, uint64_t stop_time, uint32_t stop_microstep) {
   char *trace_part = lft_part(trace_path), *externals_part = lft_part(externals_path);
   const char *why = "out of memory at the path of a table";
   if (trace_part && externals_part) {
-    why = lft_write_tables(saver, trace_part, externals_part, stop_time, stop_microstep);
+    why = lft_write_tables(writer, front, trace_part, externals_part, stop_time, stop_microstep);
     if (!why) {
       remove(trace_path);
       remove(externals_path);
@@ -476,18 +523,14 @@ static inline const char *lft_place_tables(lft_saver *saver, const char *trace_p
 static inline const char *lft_save_rows(lft_log *log, bool front, const char *trace_path, const char *externals_path,
                                         uint64_t stop_time, uint32_t stop_microstep) {
   if (!log) return "there is no log";
+  if (log->writer) return "the log is followed: lft_finish ends it";
   const char *why = lft_fault(log, front);
   if (why) return why;
-  lft_saver *saver = (lft_saver *)malloc(sizeof *saver);
-  lft_cursor *cursors = (lft_cursor *)calloc(log->slot_count ? log->slot_count : 1, sizeof *cursors);
-  if (saver && cursors) {
-    saver->log = log;
-    saver->front = front;
-    saver->cursors = cursors;
-    why = lft_place_tables(saver, trace_path, externals_path, stop_time, stop_microstep);
-  } else why = "out of memory at the tables";
-  free(cursors);
-  free(saver);
+  lft_writer *writer = lft_open_writer(log);
+  if (!writer) return "out of memory at the tables";
+  why = lft_place_tables(writer, front, trace_path, externals_path, stop_time, stop_microstep);
+  free(writer->cursors);
+  free(writer);
   return why;
 }
 
@@ -510,5 +553,48 @@ static inline const char *lft_save(lft_log *log, const char *trace_path, const c
 static inline const char *lft_save_front(lft_log *log, const char *trace_path, const char *externals_path,
                                          uint64_t stop_time, uint32_t stop_microstep) {
   return lft_save_rows(log, true, trace_path, externals_path, stop_time, stop_microstep);
+}
+
+/* The rows go to a file from now on, as one log of both tables, and aren't kept once they are there. It is called
+   before the workers begin. Nothing else writes to the file. It isn't closed. */
+static inline void lft_follow_to(lft_log *log, FILE *file) {
+  if (!log || log->writer || !(log->writer = lft_open_writer(log))) return;
+  lft_table *table = log->writer->events = &log->writer->trace;
+  table->log = log;
+  lft_begin(table, file, LFT_TRACE_HEADER);
+  lft_drain(table);
+}
+
+/* Writes the rows that are there, up to the first that isn't. The thread that goes on to the next tag calls it:
+   all runs of the tag have ended, so their rows are there. Any other thread may call it too, as a watchdog does.
+   While one writes, the others go on at once. Who writes waits for the file: for the reader, if it is a pipe. */
+static inline void lft_flush(lft_log *log) {
+  lft_writer *writer = log ? log->writer : NULL;
+  if (!writer || lft_swap(&writer->busy, true)) return;
+  lft_table *table = &writer->trace;
+  if (!table->why) {
+    const char *why = lft_print_rows(writer, lft_load(&log->order));
+    lft_drain(table);
+    if (!table->why) table->why = why;
+    lft_store(&log->written, writer->next);
+  }
+  lft_store(&writer->busy, false);
+}
+
+/* In place of lft_save, once no thread calls lft_flush any more: writes the rows that are left and the stop, and
+   gives NULL. Or it gives why the log ends before: no row is missing of those that it has. */
+static inline const char *lft_finish(lft_log *log, uint64_t stop_time, uint32_t stop_microstep) {
+  lft_writer *writer = log ? log->writer : NULL;
+  if (!writer) return "no log is followed";
+  lft_flush(log);
+  if (lft_swap(&writer->busy, true)) return "the log has ended, or a thread writes it";
+  const char *why = writer->trace.why;
+  if (!why) why = lft_fault(log, false);
+  if (!why && writer->next != lft_load(&log->order)) why = LFT_GAP;
+  if (why) return why;
+  lft_row stop = {0, stop_time, 0, 0, stop_microstep, LFT_STOP, true};
+  lft_print_external(&writer->trace, &stop, log->names);
+  lft_drain(&writer->trace);
+  return writer->trace.why;
 }
 #endif

@@ -1,17 +1,20 @@
 //! `lftrace.h` in Rust: records what the workers of a reactor runtime do, as the two tables that lftrace reads.
 //!
-//! Each worker has rows of its own, and each row takes the next number of one counter: [`Log::save`] sorts by it.
-//! `lftrace.h` says why a relaxed counter is enough. A worker locks its rows for one push. No code of a reaction
-//! runs there, so [`Log::save_front`] can be called while workers hang.
+//! Each worker has rows of its own, and each row takes the next number of one counter: the rows are written in this
+//! order. `lftrace.h` says why a relaxed counter is enough. A worker locks its rows for one push. No code of a reaction
+//! runs there, so [`Log::save_front`] and [`Log::flush`] can be called while workers hang.
+//!
+//! A run of any length is written while it runs, as one log of both tables that `lftrace follow` reads:
+//! [`Log::follow`] before the workers begin, [`Log::flush`] where the runtime goes on to the next tag, and
+//! [`Log::finish`] in place of [`Log::save`].
 
 #![allow(dead_code)] // a runtime may need a part of it
 
-use std::collections::HashMap;
 use std::fs::{self, File};
 use std::io::{self, BufWriter, Error, Write};
 use std::path::{Path, PathBuf};
-use std::sync::atomic::{AtomicU64, Ordering::Relaxed};
-use std::sync::{Arc, Mutex, MutexGuard, PoisonError};
+use std::sync::atomic::{AtomicBool, AtomicU64, Ordering::Relaxed};
+use std::sync::{Arc, Mutex, MutexGuard, OnceLock, PoisonError};
 
 /// Nanoseconds since the first tag, and the microstep.
 pub type Tag = (u64, u32);
@@ -20,8 +23,11 @@ pub type Value = Option<i64>;
 /// A reaction, port or action: its place in the list of names.
 pub type Name = usize;
 
-/// The most rows of a table that lftrace reads.
+/// The most rows that are kept, and the most of a table that lftrace reads.
 const MOST: u64 = if cfg!(test) { 4_000 } else { 4_000_000 };
+
+const TRACE_HEADER: &str = "event,worker,time,microstep,reaction,name,value,delay";
+const EXTERNALS_HEADER: &str = "kind,time,microstep,name,value";
 
 #[derive(Clone, Copy)]
 enum Step {
@@ -40,7 +46,12 @@ type Rows = Vec<(u64, Step)>;
 pub struct Log {
     names: Vec<String>,
     order: AtomicU64,
+    /// Rows that aren't kept any more, since they are in the followed log.
+    written: AtomicU64,
+    /// A row wasn't kept, since `MOST` were.
+    is_lost: AtomicBool,
     workers: Mutex<Vec<(u32, Arc<Mutex<Rows>>)>>,
+    followed: OnceLock<Mutex<Followed>>,
 }
 
 /// A worker, or a thread that makes events.
@@ -54,14 +65,18 @@ pub struct Run<'worker, 'log>(&'worker mut Worker<'log>);
 
 impl Log {
     pub fn new(names: Vec<String>) -> Log {
-        Log { names, order: AtomicU64::new(0), workers: Mutex::default() }
+        let (order, written, is_lost) = Default::default();
+        Log { names, order, written, is_lost, workers: Mutex::default(), followed: OnceLock::new() }
     }
 
     /// Each worker has a number of its own.
     pub fn worker(&self, number: u32) -> Worker<'_> {
-        let rows = Arc::default();
-        locked(&self.workers).push((number, Arc::clone(&rows)));
-        Worker { log: self, rows }
+        let mut workers = locked(&self.workers);
+        let place = workers.iter().position(|worker| worker.0 == number).unwrap_or_else(|| {
+            workers.push((number, Arc::default()));
+            workers.len() - 1
+        });
+        Worker { log: self, rows: Arc::clone(&workers[place].1) }
     }
 
     /// The rows so far, with those that aren't kept. A watchdog sees by it that nothing moves.
@@ -88,7 +103,34 @@ impl Log {
         self.place_tables(true, trace, externals, stop)
     }
 
+    /// The rows go to `out` from now on, as one log of both tables, and aren't kept once they are there. It is called
+    /// before the workers begin. A pipe that nobody reads any more is an error of `finish`.
+    pub fn follow(&self, out: impl Write + Send + 'static) {
+        let mut out = BufWriter::with_capacity(1 << 16, Box::new(out) as Box<dyn Write + Send>);
+        let state = writeln!(out, "{TRACE_HEADER}").and_then(|()| out.flush());
+        let _ = self.followed.set(Mutex::new(Followed { state, printer: Printer::default(), out: [out] }));
+    }
+
+    /// Writes the rows that are there, up to the first that isn't. The thread that goes on to the next tag calls it:
+    /// all runs of the tag have ended, so their rows are there. Any other thread may call it too, as a watchdog does.
+    /// While one writes, the others go on at once. Who writes waits for `out`: for the reader, if it is a pipe.
+    pub fn flush(&self) {
+        if let Some(Ok(mut followed)) = self.followed.get().map(Mutex::try_lock) {
+            followed.write(self);
+        }
+    }
+
+    /// In place of `save`, after all workers have ended: writes the rows that are left, and the stop. An error says why
+    /// the log ends before: no row is missing of those that it has.
+    pub fn finish(&self, stop: Tag) -> io::Result<()> {
+        let followed = self.followed.get().ok_or_else(|| Error::other("no log is followed"))?;
+        followed.lock().map_err(|_| Error::other("a write panicked"))?.finish(self, stop)
+    }
+
     fn place_tables(&self, is_front: bool, trace: &Path, externals: &Path, stop: Tag) -> io::Result<()> {
+        if self.followed.get().is_some() {
+            return Err(Error::other("the log is followed: finish ends it"));
+        }
         let (trace_part, externals_part) = (part(trace), part(externals));
         let saved = self.write_tables(is_front, &trace_part, &externals_part, stop).and_then(|()| {
             let _ = fs::remove_file(trace);
@@ -103,79 +145,223 @@ impl Log {
     }
 
     fn write_tables(&self, is_front: bool, trace: &Path, externals: &Path, stop: Tag) -> io::Result<()> {
-        let rows = self.sorted(is_front)?;
-        let mut trace = BufWriter::new(File::create(trace)?);
-        let mut externals = BufWriter::new(File::create(externals)?);
-        writeln!(trace, "event,worker,time,microstep,reaction,name,value,delay")?;
-        writeln!(externals, "kind,time,microstep,name,value")?;
-        let mut open: HashMap<u32, Option<(Tag, Name)>> = HashMap::new();
-        for (_, worker, step) in rows {
-            let (event, name, value, delay) = self.fields(step);
-            if let Step::Event((time, microstep), ..) = step {
-                writeln!(externals, "{event},{time},{microstep},{name},{value}")?;
-                continue;
+        if !is_front {
+            self.expect_none_lost()?;
+        }
+        let mut tables = [BufWriter::new(File::create(trace)?), BufWriter::new(File::create(externals)?)];
+        writeln!(tables[0], "{TRACE_HEADER}")?;
+        writeln!(tables[1], "{EXTERNALS_HEADER}")?;
+        let mut printer = Printer::default();
+        printer.take(self, true);
+        printer.print(&self.names, &mut tables)?;
+        if !is_front {
+            printer.expect_whole(self)?;
+        }
+        write_stop(&mut tables[1], stop)?;
+        tables.iter_mut().try_for_each(Write::flush)
+    }
+
+    fn expect_none_lost(&self) -> io::Result<()> {
+        match (self.is_lost.load(Relaxed), self.followed.get()) {
+            (false, _) => Ok(()),
+            (true, None) => Err(Error::other("more rows than lftrace reads")),
+            (true, Some(_)) => Err(Error::other("rows are lost: too many weren't written yet")),
+        }
+    }
+}
+
+/// A log that is followed.
+struct Followed {
+    /// An error: no more is written.
+    state: io::Result<()>,
+    printer: Printer,
+    out: [BufWriter<Box<dyn Write + Send>>; 1],
+}
+
+impl Followed {
+    fn write(&mut self, log: &Log) {
+        if self.state.is_ok() {
+            self.printer.take(log, false);
+            let printed = self.printer.print(&log.names, &mut self.out);
+            self.state = self.out[0].flush().and(printed);
+            log.written.store(self.printer.next, Relaxed);
+        }
+    }
+
+    fn finish(&mut self, log: &Log, stop: Tag) -> io::Result<()> {
+        self.write(log);
+        std::mem::replace(&mut self.state, Err(Error::other("the log has ended")))?;
+        log.expect_none_lost()?;
+        self.printer.expect_whole(log)?;
+        write_stop(&mut self.out[0], stop)?;
+        self.out[0].flush()
+    }
+}
+
+/// Prints the rows of a log in the order of their numbers.
+#[derive(Default)]
+struct Printer {
+    queues: Vec<Queue>,
+    /// The number of the next row, and where the row before it was.
+    next: u64,
+    place: usize,
+    line: Line,
+}
+
+/// The rows of a worker. Those before `first` are printed.
+#[derive(Default)]
+struct Queue {
+    worker: u32,
+    rows: Rows,
+    first: usize,
+    open: Option<(Tag, Name)>,
+}
+
+impl Printer {
+    /// Takes the rows that are there, or copies them.
+    fn take(&mut self, log: &Log, is_copy: bool) {
+        for (place, (worker, rows)) in locked(&log.workers).iter().enumerate() {
+            if place == self.queues.len() {
+                self.queues.push(Queue { worker: *worker, ..Queue::default() });
             }
-            let ((time, microstep), reaction) = self.run_of(open.entry(worker).or_default(), step)?;
-            let reaction = &self.names[reaction];
-            writeln!(trace, "{event},{worker},{time},{microstep},{reaction},{name},{value},{delay}")?;
+            let queue = &mut self.queues[place];
+            queue.rows.drain(..queue.first);
+            queue.first = 0;
+            let mut rows = locked(rows);
+            if is_copy {
+                queue.rows.extend_from_slice(&rows);
+            } else {
+                queue.rows.append(&mut rows);
+            }
         }
-        if let (false, Some((_, reaction))) = (is_front, open.into_values().flatten().next()) {
-            return Err(Error::other(format!("a run is still open: {}", self.names[reaction])));
-        }
-        writeln!(externals, "stop,{},{},,", stop.0, stop.1)?;
-        trace.flush()?;
-        externals.flush()
     }
 
-    /// The rows in the order of their numbers, each with its worker. Of a front up to the first that isn't there.
-    fn sorted(&self, is_front: bool) -> io::Result<Vec<(u64, u32, Step)>> {
-        let mut rows = Vec::new();
-        for (number, own) in locked(&self.workers).iter() {
-            rows.extend(locked(own).iter().map(|(order, step)| (*order, *number, *step)));
+    /// Prints the rows that were taken, up to the first that isn't there. Steps go to the first table and events to the
+    /// last one, which is the same in a log.
+    fn print(&mut self, names: &[String], tables: &mut [impl Write]) -> io::Result<()> {
+        while let Some(step) = self.find() {
+            let queue = &mut self.queues[self.place];
+            let table = if let Step::Event(tag, action, value) = step {
+                self.line.event(name_of(names, action)?, tag, value);
+                tables.last_mut()
+            } else {
+                let run = queue.run_of(names, step)?;
+                self.line.step(names, queue.worker, run, step)?;
+                tables.first_mut()
+            };
+            table.map_or(Ok(()), |table| table.write_all(&self.line.0))?;
+            queue.first += 1;
+            self.next += 1;
         }
-        rows.sort_unstable_by_key(|row| row.0);
-        let whole = rows.iter().zip(0..).take_while(|(row, order)| row.0 == *order).count();
-        if is_front {
-            rows.truncate(whole);
-        } else if self.rows() > MOST {
-            return Err(Error::other("more rows than lftrace reads"));
-        } else if self.rows() != whole as u64 {
-            return Err(Error::other("a row is missing: a worker still runs"));
-        }
-        Ok(rows)
+        Ok(())
     }
 
-    /// The kind of a row, its name, its value and its delay.
-    fn fields(&self, step: Step) -> (&str, &str, String, String) {
-        let name = |name: Name| self.names[name].as_str();
-        let (event, name, value, delay) = match step {
-            Step::Start(..) => ("start", "", None, 0),
-            Step::Read(input, value) => ("read", name(input), value, 0),
-            Step::Write(port, value) => ("write", name(port), value, 0),
-            Step::Schedule(action, value, delay) => ("schedule", name(action), value, delay),
-            Step::Stop => ("stop", "", None, 0),
-            Step::End => ("end", "", None, 0),
-            Step::Event(_, action, value) => ("event", name(action), value, 0),
+    /// The next row, if it is there. It is sought from the queue on where the row before it was.
+    fn find(&mut self) -> Option<Step> {
+        let is_next = |place: &usize| {
+            let queue = &self.queues[*place];
+            queue.rows.get(queue.first).is_some_and(|row| row.0 == self.next)
         };
-        let delay = if delay == 0 { String::new() } else { delay.to_string() };
-        (event, name, value.map_or(String::new(), |number| number.to_string()), delay)
+        self.place = (self.place..self.queues.len()).chain(0..self.place).find(is_next)?;
+        let queue = &self.queues[self.place];
+        Some(queue.rows[queue.first].1)
     }
 
-    /// The tag and reaction of a step. `open` is the open run of its worker.
-    fn run_of(&self, open: &mut Option<(Tag, Name)>, step: Step) -> io::Result<(Tag, Name)> {
+    fn expect_whole(&self, log: &Log) -> io::Result<()> {
+        if self.next != log.rows() {
+            return Err(Error::other("a row is missing: a worker still runs, or two workers have one number"));
+        }
+        match self.queues.iter().find_map(|queue| queue.open) {
+            Some((_, reaction)) => Err(Error::other(format!("a run is still open: {}", log.names[reaction]))),
+            None => Ok(()),
+        }
+    }
+}
+
+impl Queue {
+    /// The tag and reaction of a step.
+    fn run_of(&mut self, names: &[String], step: Step) -> io::Result<(Tag, Name)> {
         let run = match step {
             Step::Start(tag, reaction) => {
-                if let Some((_, reaction)) = open.replace((tag, reaction)) {
-                    let reaction = &self.names[reaction];
+                if let Some((_, reaction)) = self.open.replace((tag, reaction)) {
+                    let reaction = name_of(names, reaction)?;
                     return Err(Error::other(format!("{reaction} was never ended, or two workers have one number")));
                 }
-                *open
+                self.open
             }
-            Step::End => open.take(),
-            _ => *open,
+            Step::End => self.open.take(),
+            _ => self.open,
         };
-        run.ok_or(Error::other("a step outside a run"))
+        run.ok_or_else(|| Error::other("a step outside a run"))
     }
+}
+
+/// A line of a table. Each takes the memory of the one before it.
+#[derive(Default)]
+struct Line(Vec<u8>);
+
+impl Line {
+    fn event(&mut self, action: &str, tag: Tag, value: Value) {
+        self.0.clear();
+        self.add("event,").add_tag(tag).add(action).add(",").add_value(value).add("\n");
+    }
+
+    fn step(&mut self, names: &[String], worker: u32, (tag, reaction): (Tag, Name), step: Step) -> io::Result<()> {
+        let (kind, name, value, delay) = match step {
+            Step::Start(..) => ("start,", None, None, 0),
+            Step::Read(input, value) => ("read,", Some(input), value, 0),
+            Step::Write(port, value) => ("write,", Some(port), value, 0),
+            Step::Schedule(action, value, delay) => ("schedule,", Some(action), value, delay),
+            Step::Stop => ("stop,", None, None, 0),
+            Step::End => ("end,", None, None, 0),
+            Step::Event(_, action, value) => ("event,", Some(action), value, 0),
+        };
+        let name = name.map_or(Ok(""), |name| name_of(names, name))?;
+        self.0.clear();
+        self.add(kind).add_number(worker.into()).add(",").add_tag(tag).add(name_of(names, reaction)?);
+        self.add(",").add(name).add(",").add_value(value).add(",");
+        if delay > 0 {
+            self.add_number(delay);
+        }
+        self.add("\n");
+        Ok(())
+    }
+
+    fn add(&mut self, text: &str) -> &mut Line {
+        self.0.extend_from_slice(text.as_bytes());
+        self
+    }
+
+    fn add_number(&mut self, mut number: u64) -> &mut Line {
+        let (mut digits, mut first) = ([0; 20], 20);
+        while number > 0 || first == 20 {
+            first -= 1;
+            digits[first] = b'0' + (number % 10) as u8;
+            number /= 10;
+        }
+        self.0.extend_from_slice(&digits[first..]);
+        self
+    }
+
+    fn add_tag(&mut self, (time, microstep): Tag) -> &mut Line {
+        self.add_number(time).add(",").add_number(microstep.into()).add(",")
+    }
+
+    fn add_value(&mut self, value: Value) -> &mut Line {
+        match value {
+            None => self,
+            Some(number) if number < 0 => self.add("-").add_number(number.unsigned_abs()),
+            Some(number) => self.add_number(number.unsigned_abs()),
+        }
+    }
+}
+
+fn name_of(names: &[String], name: Name) -> io::Result<&str> {
+    names.get(name).map(String::as_str).ok_or_else(|| Error::other("a row has a name that isn't in the list"))
+}
+
+fn write_stop(table: &mut impl Write, (time, microstep): Tag) -> io::Result<()> {
+    writeln!(table, "stop,{time},{microstep},,")
 }
 
 /// Also if a thread panicked with the lock: its last row is whole or isn't there.
@@ -186,8 +372,10 @@ fn locked<T>(mutex: &Mutex<T>) -> MutexGuard<'_, T> {
 impl<'log> Worker<'log> {
     fn put(&mut self, step: Step) {
         let order = self.log.order.fetch_add(1, Relaxed);
-        if order < MOST {
+        if order - self.log.written.load(Relaxed) < MOST {
             locked(&self.rows).push((order, step));
+        } else {
+            self.log.is_lost.store(true, Relaxed);
         }
     }
 
@@ -235,113 +423,20 @@ fn part(path: &Path) -> PathBuf {
     part.into()
 }
 
-#[cfg(test)] // rustc --edition 2021 --test lftrace.rs && ./lftrace
+#[cfg(test)] // check.rs has all other tests
 mod tests {
     use super::*;
 
-    #[derive(PartialEq)]
-    enum Mistake {
-        None,
-        NeverEnded,
-        StillOpen,
-        OneNumber,
-        Missing,
-        TooMany,
-    }
-
-    /// What one of the two ways to save leaves, both tables.
-    fn recorded(file: &str, mistake: Mistake, is_front: bool) -> io::Result<(String, String)> {
-        let log = Log::new(["main#1", "main.p", "main.a", "main.key"].map(String::from).to_vec());
-        let number = if mistake == Mistake::OneNumber { 0 } else { 7 };
-        let (mut worker, mut other) = (log.worker(0), log.worker(number));
-        let mut run = worker.start((5, 1), 0);
-        other.event((6, 0), 3, Some(-1));
-        run.read(2, None);
-        run.write(1, Some(i64::MIN));
-        run.schedule(2, Some(0), 9);
-        run.stop();
-        other.start((5, 1), 0).end();
-        if mistake != Mistake::NeverEnded {
-            run.end();
-        }
-        let run = worker.start((6, 0), 0);
-        if mistake != Mistake::StillOpen {
-            run.end();
-        }
-        if mistake == Mistake::Missing {
-            log.order.fetch_add(1, Relaxed); // as a worker does before it pushes the row
-            other.event((7, 0), 3, None);
-        }
-        while mistake == Mistake::TooMany && log.rows() < MOST + 3 {
-            other.event((7, 0), 3, None);
-        }
-        let path =
-            |table: &str| std::env::temp_dir().join(format!("lftrace_{}_{file}_{table}.csv", std::process::id()));
-        let (trace, externals) = (path("trace"), path("externals"));
-        let saved = log.place_tables(is_front, &trace, &externals, (7, 8));
-        let texts = saved.and_then(|()| Ok((fs::read_to_string(&trace)?, fs::read_to_string(&externals)?)));
-        assert_eq!(texts.is_ok(), trace.exists() && externals.exists());
-        assert!(!part(&trace).exists() && !part(&externals).exists());
-        let _ = fs::remove_file(trace);
-        let _ = fs::remove_file(externals);
-        texts
-    }
-
-    const WHOLE: &str = "event,worker,time,microstep,reaction,name,value,delay\nstart,0,5,1,main#1,,,\n\
-        read,0,5,1,main#1,main.a,,\nwrite,0,5,1,main#1,main.p,-9223372036854775808,\n\
-        schedule,0,5,1,main#1,main.a,0,9\nstop,0,5,1,main#1,,,\nstart,7,5,1,main#1,,,\nend,7,5,1,main#1,,,\n\
-        end,0,5,1,main#1,,,\nstart,0,6,0,main#1,,,\nend,0,6,0,main#1,,,\n";
-
     #[test]
-    fn tables() {
-        let (trace, externals) = recorded("whole", Mistake::None, false).unwrap();
-        assert_eq!(trace, WHOLE);
-        assert_eq!(externals, "kind,time,microstep,name,value\nevent,6,0,main.key,-1\nstop,7,8,,\n");
-    }
-
-    #[test]
-    fn refused() {
-        let never_ended = "main#1 was never ended, or two workers have one number";
-        let why = |file, mistake| recorded(file, mistake, false).unwrap_err().to_string();
-        assert_eq!(why("never", Mistake::NeverEnded), never_ended);
-        assert_eq!(why("open", Mistake::StillOpen), "a run is still open: main#1");
-        assert_eq!(why("number", Mistake::OneNumber), never_ended);
-        assert_eq!(why("missing", Mistake::Missing), "a row is missing: a worker still runs");
-        assert_eq!(why("many", Mistake::TooMany), "more rows than lftrace reads");
-    }
-
-    #[test]
-    fn fronts() {
-        let front = |file, mistake| recorded(file, mistake, true).unwrap();
-        assert_eq!(front("front_whole", Mistake::None).0, WHOLE);
-        assert_eq!(front("front_open", Mistake::StillOpen).0, WHOLE.strip_suffix("end,0,6,0,main#1,,,\n").unwrap());
-        assert_eq!(front("front_missing", Mistake::Missing).1, front("front_events", Mistake::None).1);
-        let (trace, externals) = front("front_many", Mistake::TooMany);
-        assert_eq!((trace.lines().count() + externals.lines().count()) as u64, MOST + 3);
-    }
-
-    /// A thread locks a lock twice in a run, and another thread saves.
-    #[test]
-    fn front_of_a_hang() {
-        let log: &Log = Box::leak(Box::new(Log::new(vec!["main#1".to_string()])));
-        let lock: &Mutex<()> = Box::leak(Box::default());
-        let mut worker = log.worker(3);
-        std::thread::spawn(move || {
-            let _held = lock.lock();
-            let run = worker.start((2, 0), 0);
-            drop(lock.lock());
-            run.end();
-        });
-        let path = std::env::temp_dir().join(format!("lftrace_{}_hang.csv", std::process::id()));
-        let externals = path.with_extension("externals");
-        while !log.save_front(&path, &externals, (7, 8)).is_ok_and(|()| lines(&path) > 1) {}
-        assert!(fs::read_to_string(&path).unwrap().ends_with("delay\nstart,3,2,0,main#1,,,\n"));
-        assert!(log.save(&path, &externals, (7, 8)).is_err());
-        let _ = fs::remove_file(path);
-        let _ = fs::remove_file(externals);
-    }
-
-    fn lines(path: &Path) -> usize {
-        fs::read_to_string(path).map_or(0, |text| text.lines().count())
+    fn a_row_is_missing() {
+        let (log, mut printer, mut table) = (Log::new(vec!["main.key".to_string()]), Printer::default(), [vec![]]);
+        let mut feeder = log.worker(0);
+        feeder.event((1, 0), 0, None);
+        log.order.fetch_add(1, Relaxed); // as a worker does before it pushes the row
+        feeder.event((2, 0), 0, None);
+        printer.take(&log, true);
+        printer.print(&log.names, &mut table).unwrap();
+        assert_eq!(table[0], b"event,1,0,main.key,\n");
+        assert!(printer.expect_whole(&log).unwrap_err().to_string().starts_with("a row is missing: "));
     }
 }

@@ -6,6 +6,11 @@
 //!
 //! Without `--replay` another thread makes the events of the physical action. With it the events are those of a
 //! table, so that two recordings can be compared.
+//!
+//!     ./work_stealing plant shown.txt - --time 3000 | lftrace follow plant.lf externals.csv
+//!
+//! One path in place of two is that of a log, which is written while the program runs; `-` is standard output. The
+//! execution ends after so many milliseconds of its time at the latest, 100 without `--time`.
 
 #![forbid(unsafe_code)]
 
@@ -18,23 +23,59 @@ mod program;
 mod runtime;
 
 use faults::FAULTS;
+use lftrace::{Log, Tag};
 use program::Program;
 use runtime::{Runtime, World};
-use std::{env, fs, path::Path, process::ExitCode};
-
-/// The execution ends here at the latest.
-const STOP: lftrace::Tag = (100_000_000, 0);
+use std::fs::{self, File};
+use std::{env, io, path::Path, process::ExitCode};
 
 /// The status of a run that hangs.
 const HANGS: i32 = 4;
 
-const USAGE: &str =
-    "work_stealing plant|correction SHOWN TRACE EXTERNALS [--workers N] [--replay EXTERNALS] [--fault NAME]";
+const USAGE: &str = "work_stealing plant|correction SHOWN TRACE EXTERNALS|LOG [--time MILLISECONDS] [--workers N] \
+    [--replay EXTERNALS] [--fault NAME]";
+
+/// Where a run is recorded.
+enum Place<'a> {
+    Tables(&'a Path, &'a Path),
+    Log,
+}
+
+impl Place<'_> {
+    /// Words before the options are paths. A log is written from now on.
+    fn new<'a>(paths: &'a [String], log: &Log) -> Result<Place<'a>, String> {
+        match paths {
+            [trace, externals] => return Ok(Place::Tables(Path::new(trace), Path::new(externals))),
+            [path] if path == "-" => log.follow(io::stdout()),
+            [path] => log.follow(File::create(path).map_err(|fault| format!("{path}: {fault}"))?),
+            _ => return Err(USAGE.to_string()),
+        }
+        Ok(Place::Log)
+    }
+
+    fn finish(&self, log: &Log, stop: Tag) -> io::Result<()> {
+        match self {
+            Place::Tables(trace, externals) => log.save(trace, externals, stop),
+            Place::Log => log.finish(stop),
+        }
+    }
+
+    /// The rows so far of a run that hangs.
+    fn save_front(&self, log: &Log, stop: Tag) -> io::Result<()> {
+        match self {
+            Place::Tables(trace, externals) => log.save_front(trace, externals, stop)?,
+            Place::Log => log.flush(),
+        }
+        Ok(())
+    }
+}
 
 fn record(words: &[String]) -> Result<(), String> {
-    let [name, shown, trace, externals, options @ ..] = words else {
+    let [name, shown, words @ ..] = words else {
         return Err(USAGE.to_string());
     };
+    let paths = words.iter().take_while(|word| !word.starts_with("--")).count();
+    let (paths, options) = words.split_at(paths);
     let read = |path: &str| fs::read_to_string(path).map_err(|fault| format!("{path}: {fault}"));
     let classes = match name.as_str() {
         "plant" => plant::classes(),
@@ -42,15 +83,12 @@ fn record(words: &[String]) -> Result<(), String> {
         _ => return Err(USAGE.to_string()),
     };
     let program = Program::new(&read(shown)?, &classes)?;
-    let mut world = match program.signal("main.p.key") {
-        Ok(key) => World::Live(key, 8),
-        Err(_) => World::Script(vec![]),
-    };
-    let (mut workers, mut fault) = (4, None);
+    let (mut millis, mut workers, mut fault, mut script) = (100, 4, None, None);
     for option in options.chunks(2) {
         match option {
+            [word, number] if word == "--time" => millis = number.parse().map_err(|_| USAGE)?,
             [word, number] if word == "--workers" => workers = number.parse().map_err(|_| USAGE)?,
-            [word, path] if word == "--replay" => world = World::Script(program.events(&read(path)?)?),
+            [word, path] if word == "--replay" => script = Some(program.events(&read(path)?)?),
             [word, name] if word == "--fault" => {
                 let known = FAULTS.iter().find(|known| known.0 == name);
                 fault = Some(known.ok_or(format!("there is no fault {name}"))?.1);
@@ -58,16 +96,21 @@ fn record(words: &[String]) -> Result<(), String> {
             _ => return Err(USAGE.to_string()),
         }
     }
-    let log = lftrace::Log::new(program.names.clone());
-    let (trace, externals) = (Path::new(trace), Path::new(externals));
-    Runtime::new(&program, workers, STOP, fault).run(&log, world, || {
-        match log.save_front(trace, externals, STOP) {
+    let world = match (script, program.signal("main.p.key")) {
+        (None, Ok(key)) => World::Live(key, 8 * millis / 100),
+        (script, _) => World::Script(script.unwrap_or_default()),
+    };
+    let log = Log::new(program.names.clone());
+    let stop = (u64::from(millis) * 1_000_000, 0);
+    let place = Place::new(paths, &log)?;
+    Runtime::new(&program, &log, workers, stop, fault).run(world, || {
+        match place.save_front(&log, stop) {
             Ok(()) => eprintln!("hangs: its front is saved"),
             Err(why) => eprintln!("hangs, not recorded: {why}"),
         }
         std::process::exit(HANGS);
     });
-    log.save(trace, externals, STOP).map_err(|why| format!("not recorded: {why}"))
+    place.finish(&log, stop).map_err(|why| format!("not recorded: {why}"))
 }
 
 fn main() -> ExitCode {

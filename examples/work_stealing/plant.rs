@@ -115,7 +115,7 @@ fn watch() -> Class {
         .timer("t", 0, 20 * MS)
         .reaction(&["t"], &["mean"], &[], |run| run.state += run.get("mean") % 2)
         .reaction(&["done"], &[], &[], |run| {
-            if run.millis() >= 80 {
+            if run.left() <= 20 {
                 run.stop();
             }
         })

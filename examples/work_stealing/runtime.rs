@@ -22,7 +22,7 @@ const PATIENCE: Duration = Duration::from_secs(1);
 
 /// Where the events of physical actions come from.
 pub enum World {
-    /// So many events of one action, with the tags that the runtime gives them.
+    /// At most so many events of one action, with the tags that the runtime gives them.
     Live(Signal, u32),
     /// Recorded events.
     Script(Vec<(Tag, Signal, Value)>),
@@ -30,6 +30,9 @@ pub enum World {
 
 pub struct Runtime<'p> {
     program: &'p Program,
+    log: &'p Log,
+    /// The execution ends here at the latest.
+    timeout: Tag,
     fault: Option<Fault>,
     deques: Vec<Mutex<VecDeque<usize>>>,
     /// For each reaction: how many just before it aren't settled.
@@ -84,9 +87,11 @@ impl Drop for Guard<'_> {
 }
 
 impl<'p> Runtime<'p> {
-    pub fn new(program: &'p Program, workers: usize, stop: Tag, fault: Option<Fault>) -> Runtime<'p> {
+    pub fn new(program: &'p Program, log: &'p Log, workers: usize, timeout: Tag, fault: Option<Fault>) -> Runtime<'p> {
         Runtime {
             program,
+            log,
+            timeout,
             fault,
             deques: (0..workers).map(|_| Mutex::default()).collect(),
             waits: program.reactions.iter().map(|_| AtomicI32::new(0)).collect(),
@@ -94,7 +99,7 @@ impl<'p> Runtime<'p> {
             unsettled: AtomicUsize::new(0),
             cells: program.place.iter().map(|_| Mutex::default()).collect(),
             states: program.instances.iter().map(|_| Mutex::default()).collect(),
-            now: RwLock::new(Now { tag: (0, 0), stop }),
+            now: RwLock::new(Now { tag: (0, 0), stop: timeout }),
             agenda: Mutex::new(Agenda { events: BTreeMap::new(), promised: FAR }),
             promise: Condvar::new(),
             over: AtomicBool::new(false),
@@ -102,27 +107,27 @@ impl<'p> Runtime<'p> {
     }
 
     /// Runs the program to its stop. `hangs` is called if no row comes for a second, and doesn't return.
-    pub fn run(&self, log: &Log, world: World, hangs: impl FnOnce() + Send) {
+    pub fn run(&self, world: World, hangs: impl FnOnce() + Send) {
         if let World::Script(events) = &world {
             self.agenda.lock().unwrap().promised = events.first().map_or(FAR, |event| event.0);
         }
         let workers = self.deques.len();
         thread::scope(|scope| {
-            scope.spawn(move || self.feed(log.worker(workers as u32), world));
+            scope.spawn(move || self.feed(self.log.worker(workers as u32), world));
             for me in 0..workers {
-                scope.spawn(move || self.work(me, log.worker(me as u32)));
+                scope.spawn(move || self.work(me, self.log.worker(me as u32)));
             }
-            scope.spawn(move || self.watch(log, hangs));
+            scope.spawn(move || self.watch(hangs));
         });
     }
 
     /// A watchdog. It takes no lock of the runtime, since who hangs may hold it.
-    fn watch(&self, log: &Log, hangs: impl FnOnce()) {
-        let (mut rows, mut since) = (log.rows(), Instant::now());
+    fn watch(&self, hangs: impl FnOnce()) {
+        let (mut rows, mut since) = (self.log.rows(), Instant::now());
         while !self.over.load(SeqCst) {
             thread::sleep(Duration::from_millis(10));
-            if log.rows() != rows {
-                (rows, since) = (log.rows(), Instant::now());
+            if self.log.rows() != rows {
+                (rows, since) = (self.log.rows(), Instant::now());
             } else if since.elapsed() > PATIENCE {
                 return hangs();
             }
@@ -279,8 +284,10 @@ impl<'p> Runtime<'p> {
         !is_last
     }
 
-    /// All reactions of the tag are settled: begins the next tag at which one runs.
+    /// All reactions of the tag are settled: writes their rows if the log is followed, and begins the next tag at which
+    /// one runs.
     fn next_tag(&self, me: usize, random: &mut Random) {
+        self.log.flush();
         loop {
             self.clear(me, random);
             let Now { tag, stop } = *self.now.read().unwrap();
@@ -337,7 +344,11 @@ impl<'p> Runtime<'p> {
             World::Live(action, count) => {
                 let mut last = 0;
                 for value in 0..count {
-                    thread::sleep(Duration::from_micros(random.below(1000)));
+                    // Often at first, so that a short run has some.
+                    thread::sleep(Duration::from_micros(random.below(if value < 8 { 1000 } else { 10_000 })));
+                    if self.over.load(SeqCst) {
+                        return;
+                    }
                     let mut agenda = self.agenda.lock().unwrap();
                     // The time of its clock, unless a tag of that time has begun.
                     last = (begun.elapsed().as_nanos() as u64).max(self.now.read().unwrap().tag.0 + 1).max(last + 1);
@@ -392,6 +403,11 @@ impl Run<'_, '_> {
     /// The logical time in milliseconds.
     pub fn millis(&self) -> i64 {
         (self.tag.0 / 1_000_000) as i64
+    }
+
+    /// The milliseconds that are left up to the timeout.
+    pub fn left(&self) -> i64 {
+        (self.runtime.timeout.0 / 1_000_000) as i64 - self.millis()
     }
 
     pub fn set(&mut self, port: &str, value: impl Into<Value>) {
