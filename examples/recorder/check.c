@@ -313,12 +313,13 @@ static void front_of_a_hang(bool followed) {
     block = lft_load(&lft->slots[0].first);
   if (followed) lft_flush(lft);
   else expect(!lft_save_front(lft, trace_path, externals_path, 7, 8), "there is a front of a hang");
-  expect_text(followed ? log_path : trace_path, LFT_TRACE_HEADER "start,0,2,0,main#1,,,\n", "a front ends with an open run");
+  const char *path = followed ? log_path : trace_path;
+  expect_text(path, LFT_TRACE_HEADER "start,0,2,0,main#1,,,\n", "a front ends with an open run");
   if (followed) expect(lft_save_front(lft, trace_path, externals_path, 7, 8) != NULL, "a followed log isn't saved");
   pthread_mutex_unlock(&lock);
   pthread_join(thread, NULL);
   expect(!(followed ? lft_finish(lft, 7, 8) : lft_save(lft, trace_path, externals_path, 7, 8)), "it goes on");
-  expect_text(followed ? log_path : trace_path,
+  expect_text(path,
               followed ? LFT_TRACE_HEADER "start,0,2,0,main#1,,,\nend,0,2,0,main#1,,,\nstop,7,8,,\n"
                        : LFT_TRACE_HEADER "start,0,2,0,main#1,,,\nend,0,2,0,main#1,,,\n",
               "then all rows are there");

@@ -21,7 +21,7 @@
 
    Of a run that hangs lft_save_front writes the rows so far. A watchdog calls it where lft_rows stands still.
 
-   A run of any length is written while it runs, as one log of both tables that `lftrace follow` reads:
+   A run of any length is written while it runs, as one log of both tables:
 
      lft_follow_to(log, stdout);     before the workers begin
      lft_flush(log);                 the runtime goes on to the next tag
@@ -585,7 +585,7 @@ static inline void lft_flush(lft_log *log) {
    gives NULL. Or it gives why the log ends before: no row is missing of those that it has. */
 static inline const char *lft_finish(lft_log *log, uint64_t stop_time, uint32_t stop_microstep) {
   lft_writer *writer = log ? log->writer : NULL;
-  if (!writer) return "no log is followed";
+  if (!writer) return "no log is followed, or out of memory at it";
   lft_flush(log);
   if (lft_swap(&writer->busy, true)) return "the log has ended, or a thread writes it";
   const char *why = writer->trace.why;

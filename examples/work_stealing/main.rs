@@ -7,7 +7,7 @@
 //! Without `--replay` another thread makes the events of the physical action. With it the events are those of a
 //! table, so that two recordings can be compared.
 //!
-//!     ./work_stealing plant shown.txt - --time 3000 | lftrace follow plant.lf externals.csv
+//!     ./work_stealing plant shown.txt log.csv --time 5000
 //!
 //! One path in place of two is that of a log, which is written while the program runs; `-` is standard output. The
 //! execution ends after so many milliseconds of its time at the latest, 100 without `--time`.

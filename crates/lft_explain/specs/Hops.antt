@@ -1,5 +1,5 @@
--- The text of the way of an event: the connections from the origin of a port to the port.
-use Rattle.std.specs.Prelude.{ℕ, zero, suc, ◌-◌, List, [], ◌∷◌, ◌++◌, Option, length, slice_get, slice_range, unwrap_or, option_map, option_and_then, codes, nat_lt, if◌then◌else◌}
+-- The text of the way of an event: the last connections from the origin of a port to the port.
+use Rattle.std.specs.Prelude.{ℕ, zero, suc, List, [], ◌∷◌, ◌++◌, Option, length, take, slice_get, unwrap_or, option_map, option_and_then, codes, nat_lt, if◌then◌else◌}
 use Rattle.lft_tag.specs.declared.Tag.{Tag}
 use Rattle.lft_tag.specs.Shifts.{shifted}
 use Rattle.lft_flat.specs.Parts.{Parts}
@@ -34,15 +34,15 @@ abbrev pub told_back : (ℕ → List ℕ) → List ℕ → List ℕ
 told_back says [] = []
 told_back says (p ∷ ps) = told_back says ps ++ says p
 
--- all of some connections, or of more than 20 the first ten and the last ten
+-- all of some connections, or of more than 20 the last 20
 abbrev pub hops_words : Parts → Tag → List ℕ → List ℕ
 hops_words program g ps =
-    if nat_lt 20 (length ps) then told_back (hop_words program g) (slice_range ps (length ps - 10) (length ps)) ++ codes "    ..\n" ++ told_back (hop_words program g) (slice_range ps 0 10)
+    if nat_lt 20 (length ps) then codes "    ..\n" ++ told_back (hop_words program g) (take 20 ps)
     else told_back (hop_words program g) ps
 
 -- the way to a port of what is written to its origin at g
 abbrev pub way_words : Parts → Tag → ℕ → List ℕ
-way_words program g p = hops_words program g (way_back program (length program.ports) p)
+way_words program g p = hops_words program g (way_back program 21 p)
 
 -- the way to a port of what the row at a place writes to its origin
 abbrev pub way_at : Parts → List Row → ℕ → ℕ → List ℕ

@@ -1,6 +1,6 @@
-//! The text of the way of an event: the connections from the origin of a port to the port.
+//! The text of the way of an event: the last connections from the origin of a port to the port.
 
-ghost use Rattle.std.specs.Prelude.{◌≡◌, ◌++◌, length, unwrap_or, IfOk, OnOk, string_bytes};
+ghost use Rattle.std.specs.Prelude.{◌≡◌, ◌++◌, unwrap_or, IfOk, OnOk, string_bytes};
 ghost use Rattle.lft_tag.specs.Tags.{IsRecorded};
 ghost use Rattle.lft_steps.specs.Fits.{RowsFit};
 ghost use Rattle.lft_explain.specs.Hops.{source_into as the_source_into, way_back as the_way_back, reached as the_reached, end_words, hop_words, told_back, hops_words, way_words, way_at};
@@ -37,14 +37,14 @@ fn before(program: &Program, port: u32) -> u32
     }
 }
 
-/// The ports into which the connections on the way to the port lead, the last first.
+/// The ports into which the last connections on the way to the port lead, the last first. One more is
+/// looked for than is told, and no more: many ports may stand behind one long way.
 fn way_back(alloc: Global, program: &Program, port: u32) -> Result<Vec<u32>, AllocError>
-    ensures { IfOk result (λ way. way.items ≡ the_way_back program.now (length program.now.ports) port) }
+    ensures { IfOk result (λ way. way.items ≡ the_way_back program.now 21 port) }
 {
     let mut way = Vec::new(alloc);
     let mut at = port;
-    // A way that comes to a port twice has no end, and no program has one.
-    let mut left = program.ports();
+    let mut left = 21_u32;
     while left > 0 {
         left -= 1;
         match source_into(program, at) {
@@ -114,7 +114,7 @@ fn push_hops(
 }
 
 /// Puts the connections into the ports, the last first, at the end of the text: all, or of more than 20
-/// ten at each end.
+/// the last ones.
 fn push_some(
     text: &mut String,
     program: &Program,
@@ -124,11 +124,9 @@ fn push_some(
     requires { IsRecorded tag }
     ensures { OnOk result (string_bytes text.new ≡ string_bytes text.old ++ hops_words program.now tag ports.now) }
 {
-    let count = ports.len();
-    if 20 < count {
-        push_hops(text, program, tag, &ports[count - 10..count])?;
+    if 20 < ports.len() {
         text.push_str("    ..\n")?;
-        push_hops(text, program, tag, &ports[0..10])?;
+        push_hops(text, program, tag, &ports[0..20])?;
     } else {
         push_hops(text, program, tag, ports)?;
     }
