@@ -1,1 +1,11 @@
+pub mod Causes
+pub mod Circles
+pub mod DeclaredNames
+pub mod Founding
+pub mod Roles
 pub mod SameRefs
+pub mod Searching
+pub mod Sound
+pub mod Standing
+pub mod Turns
+pub mod TwoMains

@@ -1,3 +1,7 @@
-pub mod Faults
+pub mod Circles
+pub mod Findings
+pub mod Members
+pub mod Scopes
 pub mod Seen
-pub mod Uses
+pub mod Shown
+pub mod Witnesses

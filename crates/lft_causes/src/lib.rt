@@ -1,21 +1,26 @@
 #![tactic(auto)]
-//! The causes of refusal that are looked for in each reactor of a file by itself, one module a
-//! cause or two.
+//! The causes of refusal that places of a file show: what is looked for, and which reactor, which member
+//! and which name show it.
 
 mod checks;
-mod duplicate_inputs;
-mod duplicate_names;
-mod long_times;
+mod circle;
+mod declared;
+mod finding;
+mod lone;
 mod mains;
-mod no_triggers;
-mod references;
-pub mod seen;
-mod two_sources;
-mod unknown_names;
-mod unknown_reactors;
-mod uses;
-mod width_mismatches;
-mod wrong_places;
+mod members;
+mod misplaced;
+pub mod names;
+mod scopes;
+mod seen;
+mod sources;
+mod twice;
+mod unknown;
+mod witness;
 
-pub use checks::{check_first, check_later};
-pub use long_times::has_long_time;
+pub use checks::{check_first, check_later, check_times};
+pub use circle::circle_of;
+pub use declared::declared_name;
+pub use finding::Finding;
+pub use scopes::Scopes;
+pub use witness::{Naming, Witness};

@@ -1,65 +1,77 @@
-//! The main reactor.
+//! Main reactors, and parameters with long defaults.
 
-ghost use Rattle.std.specs.Prelude.{◌≡◌, ◌≢◌, ◌↔◌, IsTrue, [], count_by, IsSomeAnd};
-ghost use Rattle.lft_tree.specs.Tree.{port_in, ports_of};
-ghost use Rattle.lft_tree.specs.View.{member_view, reactor_view};
-ghost use Rattle.lft_scope.specs.Causes.{NoMain, TwoMains, MainHasPorts};
+ghost use Rattle.std.specs.Prelude.{◌≡◌, ◌<◌, ◌≤◌, ℕ, Some, Any, IfSome, IfNone, IsSomeAnd, length, map, slice_get};
+ghost use Rattle.lft_tree.specs.Tree.{nanoseconds};
+ghost use Rattle.lft_tree.specs.View.{parameter_view};
+ghost use Rattle.lft_scope.specs.Causes.{NoMain, TwoMains, longest};
 ghost use Rattle.lft_scope.specs.References.{reactor_trees};
+ghost use Rattle.lft_causes.specs.Witnesses.{IsMainAt, Shows, cause_shown};
 
-use lft_tree::{Member, Reactor};
+use crate::witness::Witness;
+use lft_scope::times::nanoseconds;
+use lft_tree::{Parameter, Reactor};
 
-/// How many of the reactors are main ones.
-fn count_of_mains(reactors: &[&Reactor]) -> usize
-    ensures { result ≡ count_by (λ r. r.now.is_main) reactors.now }
+/// The first main reactor at or behind the place.
+fn main_from(reactors: &[&Reactor], start: usize) -> Option<usize>
+    ensures some { IfSome result (λ n. (start ≤ n) × IsMainAt (reactor_trees reactors.now) n) }
+    ensures within { IfSome result (λ n. n < length reactors.now) }
+    ensures first { IfSome result (λ n. (k : ℕ) → start ≤ k → k < n → ¬ IsMainAt (reactor_trees reactors.now) k) }
+    ensures none { IfNone result ((k : ℕ) → start ≤ k → ¬ IsMainAt (reactor_trees reactors.now) k) }
 {
-    reactors.iter().filter(|reactor| reactor.is_main).count()
-}
-
-/// Whether no reactor is the main one.
-pub(crate) fn has_no_main(reactors: &[&Reactor]) -> bool
-    ensures { IsTrue result ↔ NoMain (reactor_trees reactors.now) }
-{
-    count_of_mains(reactors) == 0
-}
-
-/// Whether more than one reactor is the main one.
-pub(crate) fn has_two_mains(reactors: &[&Reactor]) -> bool
-    ensures { IsTrue result ↔ TwoMains (reactor_trees reactors.now) }
-{
-    count_of_mains(reactors) > 1
-}
-
-/// Whether the member is a port.
-fn is_port(member: &Member) -> bool
-    ensures { IsTrue result ↔ IsSomeAnd (port_in (member_view member.now)) (λ _. Unit {0}) }
-{
-    match member {
-        Member::Port(_) => true,
-        Member::Timer(_) | Member::Action(_) | Member::State(_) | Member::Preamble(_) => false,
-        Member::Reaction(_) | Member::Instance(_) | Member::Connection(_) => false,
-    }
-}
-
-/// Whether the reactor declares a port.
-fn declares_port(reactor: &Reactor) -> bool
-    ensures { IsTrue result ↔ (ports_of (reactor_view reactor.now) ≢ []) }
-{
-    for member in &reactor.members {
-        if is_port(member) {
-            return true;
+    for place in start..reactors.len() {
+        if reactors[place].is_main {
+            return Some(place);
         }
     }
-    false
+    None
 }
 
-/// Whether a main reactor declares a port.
-pub(crate) fn main_has_ports(reactors: &[&Reactor]) -> bool
-    ensures { IsTrue result ↔ MainHasPorts (reactor_trees reactors.now) }
+/// Whether there is no main reactor.
+pub(crate) fn no_main(reactors: &[&Reactor]) -> Option<Witness>
+    ensures shows { IfSome result (Shows (reactor_trees reactors.now)) }
+    ensures cause { IfSome result (λ w. cause_shown w ≡ 1) }
+    ensures none { IfNone result (¬ NoMain (reactor_trees reactors.now)) }
 {
-    for reactor in reactors {
-        if reactor.is_main && declares_port(reactor) {
-            return true;
+    match main_from(reactors, 0) {
+        Some(_) => None,
+        None => Some(Witness::NoMain),
+    }
+}
+
+/// Two main reactors.
+pub(crate) fn two_mains(reactors: &[&Reactor]) -> Option<Witness>
+    ensures shows { IfSome result (Shows (reactor_trees reactors.now)) }
+    ensures cause { IfSome result (λ w. cause_shown w ≡ 2) }
+    ensures none { IfNone result (¬ TwoMains (reactor_trees reactors.now)) }
+{
+    let first = main_from(reactors, 0)?;
+    let second = main_from(reactors, first + 1)?;
+    Some(Witness::TwoMains { first, second })
+}
+
+/// The first of the parameters whose default is past the greatest time.
+fn long_default_in(parameters: &[Parameter]) -> Option<usize>
+    ensures some { IfSome result (λ n. IsSomeAnd (slice_get (map parameter_view parameters.now) n) (λ p. longest < nanoseconds p.default)) }
+    ensures none { IfNone result (¬ Any (λ p. longest < nanoseconds p.default) (map parameter_view parameters.now)) }
+{
+    for place in 0..parameters.len() {
+        if nanoseconds(parameters[place].default).is_none() {
+            return Some(place);
         }
     }
-    false
+    None
+}
+
+/// The first parameter of the file whose default is past the greatest time.
+pub(crate) fn long_default(reactors: &[&Reactor]) -> Option<Witness>
+    ensures shows { IfSome result (Shows (reactor_trees reactors.now)) }
+    ensures cause { IfSome result (λ w. cause_shown w ≡ 14) }
+    ensures none { IfNone result (¬ Any (λ r. Any (λ p. longest < nanoseconds p.default) r.parameters) (reactor_trees reactors.now)) }
+{
+    for reactor in 0..reactors.len() {
+        if let Some(parameter) = long_default_in(&reactors[reactor].parameters) {
+            return Some(Witness::LongDefault { reactor, parameter });
+        }
+    }
+    None
 }

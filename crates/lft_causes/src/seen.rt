@@ -14,14 +14,14 @@ use std::collections::HashSet;
 /// The names that were met so far: those of the reactor's own things, and those of ports of
 /// contained instances.
 #[derive(Drop)]
-pub struct SeenNames<'a> {
+pub(crate) struct SeenNames<'a> {
     own: HashSet<&'a str, NameHash>,
     inner: HashSet<(&'a str, &'a str), NameHash>,
 }
 
 impl<'a> SeenNames<'a> {
     /// None was met. It is best if the hash depends on all the names to come.
-    pub fn new(alloc: Global, hash: NameHash) -> SeenNames<'a>
+    pub(crate) fn new(alloc: Global, hash: NameHash) -> SeenNames<'a>
         ensures { (q : RefTree) → has_seen result q ≡ false }
     {
         SeenNames {
@@ -31,7 +31,7 @@ impl<'a> SeenNames<'a> {
     }
 
     /// Whether the name was met.
-    pub fn has(&self, reference: &Reference) -> bool
+    pub(crate) fn has(&self, reference: &Reference) -> bool
         ensures { result ≡ has_seen self.now (ref_view reference.now) }
     {
         match &reference.port {
@@ -43,7 +43,7 @@ impl<'a> SeenNames<'a> {
     }
 
     /// Notes the name; false where it was met before.
-    pub fn add(&mut self, reference: &'a Reference) -> Result<bool, NoMemory>
+    pub(crate) fn add(&mut self, reference: &'a Reference) -> Result<bool, NoMemory>
         ensures new { IfOk result (λ new. new ≡ not (has_seen self.old (ref_view reference.now))) }
         ensures added { OnOk result ((q : RefTree) → has_seen self.new q ≡ cond (same_ref (ref_view reference.now) q) true (has_seen self.old q)) }
     {

@@ -1,5 +1,5 @@
 -- How ports are linked, against the tree.
-use Rattle.std.proofs.Common.{◌≡◌, ◌≢◌, Result, Ok, Err, IfOk, IfErr, OnOk, ℕ, suc, ◌+◌, ◌<◌, ◌≤◌, inl, inr, List, [], ◌∷◌, ◌++◌, length, length-append, refl, sym, ap, ◌∙◌, subst, arith, Option, Some, None, slice_get, map}
+use Rattle.std.proofs.Common.{◌≡◌, ℕ, suc, ◌+◌, ◌<◌, ◌≤◌, inl, inr, List, [], ◌∷◌, ◌++◌, length, length-append, refl, sym, ap, ◌∙◌, subst, arith, Option, Some, None, slice_get, map}
 use Rattle.std.proofs.lemmas.Option.{slice_get_within}
 use Rattle.std.proofs.lemmas.List.{length-map}
 use Rattle.lft_lists.proofs.Mapped.{mapped_from}
@@ -12,11 +12,9 @@ use Rattle.lft_instances.specs.declared.origins.Reached.{Reached}
 use Rattle.lft_scope.specs.Causes.{DelayTooLong as HasLongDelay, IsFirst, NoneHolds}
 use Rattle.lft_scope.specs.Instances.{Thing, Connects}
 use Rattle.lft_program.specs.Linking.{IsLinked, IsTooLong, AreLinked}
-use Rattle.lft_program.specs.Links.{AreLinks, IsSource, last_causes, number_of}
+use Rattle.lft_program.specs.Links.{AreLinks, IsSource, last_causes}
 use Rattle.lft_program.specs.Located.{Located, ports_in}
 use Rattle.lft_program.specs.declared.nesting.linking.Linked.{Linked}
-use Rattle.lft_program.specs.declared.nesting.linking.LinkFault.{LinkFault}
-use Rattle.lft_program.specs.declared.nesting.linking.LinkFault.TheVariants.{ConnectionCycle, DelayTooLong, NoMemory}
 use Rattle.lft_program.proofs.Connected.{NoLongTime, TreeSources}
 use Rattle.lft_program.proofs.Cycles.{cycle_is_cause, no_cycle_no_cause}
 use Rattle.lft_program.proofs.Lengths.{long_is_cause, no_long_no_cause}
@@ -96,15 +94,3 @@ module _ {tree : FileTree} (located : List Located) {sources : List (Option Sour
               let r = reached.each p (record { origin = l.origin; shift = Some l.shift }) (linked.each p l f).1 in
               (r.delays, subst (λ ss. Origin ss p l.origin r.delays) (sym sources_are) r.origin, r.folded);
         }
-
--- what holds of the answer where something else holds of it
-pub on_ok : {A E : Type 0} (P : A → Type 0) (Q : Type 0) (r : Result A E) → ((v : A) → P v → Q) → IfOk r P → OnOk r Q
-on_ok P Q (Ok v) f p = f v p
-on_ok P Q (Err e) f p = p
-
--- the faults of linking, where it tells no cycle
-pub first_of : {A : Type 0} (tree : FileTree) (r : Result A LinkFault) → (r ≡ Err DelayTooLong → IsFirst (last_causes tree) 14) → (r ≡ Err ConnectionCycle → ⊥) → IfErr r (λ f. f ≢ NoMemory → IsFirst (last_causes tree) (number_of f))
-first_of tree (Ok v) long none = tt
-first_of tree (Err ConnectionCycle) long none = absurd (none refl)
-first_of tree (Err DelayTooLong) long none = λ k. long refl
-first_of tree (Err NoMemory) long none = λ k. absurd (k refl)

@@ -1,4 +1,5 @@
 pub mod Located
+pub mod Refusals
 pub mod Tables
 pub mod Nests
 pub mod Links

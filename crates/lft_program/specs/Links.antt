@@ -1,15 +1,16 @@
 -- How ports are reached.
 use Rattle.std.specs.Prelude.{◌≡◌, ℕ, List, [], ◌∷◌, Option, Some, None, map, length, slice_get}
-use Rattle.lft_tree.specs.Tree.{FileTree}
+use Rattle.lft_tree.specs.Tree.{FileTree, ReactorTree}
 use Rattle.lft_tag.specs.Shifts.{join_all, none}
 use Rattle.lft_instances.specs.Sources.{Origin}
 use Rattle.lft_tag.specs.declared.Source.{Source}
+use Rattle.lft_causes.specs.Witnesses.{Shows, cause_shown}
 use Rattle.lft_scope.specs.Causes.{ConnectionCycle as HasCycle, DelayTooLong as HasLongDelay}
 use Rattle.lft_scope.specs.Instances.{Thing, Connects}
 use Rattle.lft_program.specs.Located.{Located, ports_in}
 use Rattle.lft_program.specs.declared.nesting.linking.Linked.{Linked}
 use Rattle.lft_program.specs.declared.nesting.linking.LinkFault.{LinkFault}
-use Rattle.lft_program.specs.declared.nesting.linking.LinkFault.TheVariants.{ConnectionCycle, DelayTooLong, NoMemory}
+use Rattle.lft_program.specs.declared.nesting.linking.LinkFault.TheVariants.{ConnectionCycle, LongTime, LongChain, NoMemory}
 
 -- the source of a port, where ports have these numbers: what a connection joins to it, with its delay, or none where no connection leads into it
 abbrev pub IsSource : FileTree → List Thing → Thing → Option Source → Type 0
@@ -25,8 +26,14 @@ pub record AreLinks (tree : FileTree) (instances : List Located) (links : List L
 -- the number of a fault is that of its cause; want of memory has 16
 abbrev pub number_of : LinkFault → ℕ
 number_of ConnectionCycle = 10
-number_of DelayTooLong = 14
+number_of (LongTime witness) = cause_shown witness
+number_of LongChain = 14
 number_of NoMemory = 16
+
+-- what a fault tells of the reactors of the file is so
+abbrev pub TellsTime : List ReactorTree → LinkFault → Type 0
+TellsTime reactors (LongTime witness) = Shows reactors witness
+TellsTime reactors _ = Unit {0}
 
 -- the causes that are looked for in the connections of all instances, in the order in which they are answered
 abbrev pub last_causes : FileTree → List (ℕ × Type 0)

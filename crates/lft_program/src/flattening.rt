@@ -1,22 +1,29 @@
 //! From the tree of a program text to the flat program.
 
 ghost use Rattle.std.specs.Prelude.{◌≡◌, ◌≢◌, IfOk, IfErr, OnOk};
+ghost use Rattle.lft_tree.specs.Tree.{reactors_of};
 ghost use Rattle.lft_tree.specs.View.{tree_view};
-ghost use Rattle.lft_scope.specs.Causes.{IsFirst, NoneHolds, causes};
+ghost use Rattle.lft_scope.specs.Causes.{IsFirst, NoneHolds, causes, first_causes, later_causes};
+ghost use Rattle.lft_scope.specs.Numbers.{AreContents};
 ghost use Rattle.lft_program.specs.Tables.{AreTables};
 ghost use Rattle.lft_program.specs.Faults.{number_of, reactor_causes};
 ghost use Rattle.lft_program.specs.Flattening.{Flat, IsFlatOf};
 ghost use Rattle.lft_flat.specs.Parts.{Parts};
 ghost use Rattle.lft_program.specs.OfTree.{AreOfTree};
+ghost use Rattle.lft_program.specs.Refusals.{Tells, cause_of};
 ghost use Rattle.lft_program.specs.declared.fault.ProgramFault.TheVariants as faults;
+ghost use Rattle.lft_program.specs.declared.refusal.Refusal.TheVariants as refusals;
 
 use crate::assembly::assembled;
 use crate::fault::ProgramFault;
 use crate::laying;
-use crate::nesting::{Linked, Nest, Tables, contains_itself, links};
+use crate::nesting::{Linked, Nest, Tables, links};
+use crate::refusal::Refusal;
 use crate::tree_names::tree_names;
-use lft_causes::{check_first, check_later};
+use lft_causes::{Scopes, check_first, check_later, circle_of};
 use lft_flat::Program;
+use lft_instances::Contents;
+use lft_scope::ReactorFault;
 use lft_scope::by_number::{
     connections, contents, declarations, main_number, parameters, reactions,
 };
@@ -24,19 +31,47 @@ use lft_tag::NoMemory;
 use lft_tree::Ast;
 use std::alloc::Global;
 
-/// The tables of the tree's reactors, if none of the causes that are looked for in each reactor
-/// holds.
-pub fn tables(alloc: Global, ast: &Ast) -> Result<Tables, ProgramFault>
-    ensures tables { IfOk result (AreTables (tree_view ast.now)) }
-    ensures none { OnOk result (NoneHolds (reactor_causes (tree_view ast.now))) }
-    ensures first { IfErr result (λ f. f ≢ faults.NoMemory → IsFirst (reactor_causes (tree_view ast.now)) (number_of f)) }
+/// What each reactor of the file contains.
+fn known_contents(alloc: Global, ast: &Ast) -> Result<Vec<Contents>, NoMemory>
+    requires { NoneHolds (first_causes (reactors_of (tree_view ast.now))) }
+    ensures { IfOk result (λ v. AreContents (reactors_of (tree_view ast.now)) v.items) }
 {
-    check_first(alloc, ast)?;
-    let contents = contents(alloc, ast)?;
-    if contains_itself(alloc, &contents)? {
-        return Err(ProgramFault::RecursiveReactor);
+    match contents(alloc, ast) {
+        Ok(contents) => Ok(contents),
+        Err(fault) => match fault {
+            ReactorFault::NoMemory => Err(NoMemory),
+            _ => unreachable!(),
+        },
     }
-    check_later(alloc, ast)?;
+}
+
+/// The same, if none of the causes that are looked for in each reactor holds.
+fn checked_contents(alloc: Global, scopes: &Scopes) -> Result<Vec<Contents>, Refusal>
+    ensures contents { IfOk result (λ v. AreContents (reactors_of scopes.now) v.items) }
+    ensures none { OnOk result (NoneHolds (reactor_causes scopes.now)) }
+    ensures first { IfErr result (λ f. f ≢ refusals.NoMemory → IsFirst (reactor_causes scopes.now) (cause_of f)) }
+    ensures tells { IfErr result (Tells (reactors_of scopes.now)) }
+{
+    if let Some(witness) = check_first(alloc, scopes)? {
+        return Err(Refusal::Shown(witness));
+    }
+    let contents = known_contents(alloc, scopes.ast())?;
+    if let Some(circle) = circle_of(alloc, &contents)? {
+        return Err(Refusal::Recursive(circle));
+    }
+    if let Some(witness) = check_later(alloc, scopes)? {
+        return Err(Refusal::Shown(witness));
+    }
+    Ok(contents)
+}
+
+/// The tables of the tree's reactors, which contain this.
+fn tables_with(alloc: Global, ast: &Ast, contents: Vec<Contents>) -> Result<Tables, NoMemory>
+    requires first { NoneHolds (first_causes (reactors_of (tree_view ast.now))) }
+    requires later { NoneHolds (later_causes (reactors_of (tree_view ast.now))) }
+    requires contents { AreContents (reactors_of (tree_view ast.now)) contents.items }
+    ensures { IfOk result (AreTables (tree_view ast.now)) }
+{
     Ok(Tables {
         main: main_number(alloc, ast)?,
         contents,
@@ -45,6 +80,27 @@ pub fn tables(alloc: Global, ast: &Ast) -> Result<Tables, ProgramFault>
         declarations: declarations(alloc, ast)?,
         reactions: reactions(alloc, ast)?,
     })
+}
+
+fn tables_of(alloc: Global, scopes: &Scopes) -> Result<Tables, Refusal>
+    ensures tables { IfOk result (AreTables scopes.now) }
+    ensures none { OnOk result (NoneHolds (reactor_causes scopes.now)) }
+    ensures first { IfErr result (λ f. f ≢ refusals.NoMemory → IsFirst (reactor_causes scopes.now) (cause_of f)) }
+    ensures tells { IfErr result (Tells (reactors_of scopes.now)) }
+{
+    let contents = checked_contents(alloc, scopes)?;
+    Ok(tables_with(alloc, scopes.ast(), contents)?)
+}
+
+/// The tables of the tree's reactors, if none of the causes that are looked for in each reactor
+/// holds.
+pub fn tables(alloc: Global, ast: &Ast) -> Result<Tables, Refusal>
+    ensures tables { IfOk result (AreTables (tree_view ast.now)) }
+    ensures none { OnOk result (NoneHolds (reactor_causes (tree_view ast.now))) }
+    ensures first { IfErr result (λ f. f ≢ refusals.NoMemory → IsFirst (reactor_causes (tree_view ast.now)) (cause_of f)) }
+{
+    let scopes = Scopes::of(alloc, ast)?;
+    tables_of(alloc, &scopes)
 }
 
 /// The program of the tree with these tables, nest and links.
@@ -66,16 +122,31 @@ fn program(
     Ok(assembled(ports, actions, timers, reactions, names))
 }
 
-/// The flat program of a tree, if no cause of refusal holds of it. Of several the first is
-/// answered, in the order of `NoMain` to `TwoSources`, `WidthMismatch`, `NoTrigger`,
-/// `DuplicateInput`, `TooMany`, `ConnectionCycle`, `DelayTooLong`.
+/// The flat program of a tree, if no cause of refusal holds of it. Of several the first is told, in the
+/// order of `NoMain` to `TwoSources`, `WidthMismatch`, `NoTrigger`, `DuplicateInput`, `TooMany`,
+/// `ConnectionCycle`, `DelayTooLong`.
+pub fn flattened(alloc: Global, ast: &Ast) -> Result<Program, Refusal>
+    ensures flat { IfOk result (IsFlatOf (tree_view ast.now)) }
+    ensures one { IfOk result (λ p. (other : Parts) → IsFlatOf (tree_view ast.now) other → other ≡ p) }
+    ensures first { IfErr result (λ f. f ≢ refusals.NoMemory → IsFirst (causes (tree_view ast.now)) (cause_of f)) }
+    ensures tells { IfErr result (Tells (reactors_of (tree_view ast.now))) }
+{
+    let scopes = Scopes::of(alloc, ast)?;
+    let tables = tables_of(alloc, &scopes)?;
+    let nest = Nest::of(alloc, &tables)?;
+    let links = links(alloc, &scopes, &tables, &nest)?;
+    drop(scopes);
+    Ok(program(alloc, ast, &tables, &nest, &links)?)
+}
+
+/// The same without what shows a cause.
 pub fn flatten(alloc: Global, ast: &Ast) -> Result<Program, ProgramFault>
     ensures flat { IfOk result (IsFlatOf (tree_view ast.now)) }
     ensures one { IfOk result (λ p. (other : Parts) → IsFlatOf (tree_view ast.now) other → other ≡ p) }
     ensures first { IfErr result (λ f. f ≢ faults.NoMemory → IsFirst (causes (tree_view ast.now)) (number_of f)) }
 {
-    let tables = tables(alloc, ast)?;
-    let nest = Nest::of(alloc, &tables)?;
-    let links = links(alloc, ast, &tables, &nest)?;
-    Ok(program(alloc, ast, &tables, &nest, &links)?)
+    match flattened(alloc, ast) {
+        Ok(program) => Ok(program),
+        Err(refusal) => Err(refusal.fault()),
+    }
 }

@@ -9,15 +9,17 @@ mod laying;
 mod naming;
 mod nesting;
 mod own_names;
+mod refusal;
 mod spots;
 mod tree_lists;
 mod tree_names;
 
 pub use fault::ProgramFault;
-pub use flattening::{flatten, tables};
+pub use flattening::{flatten, flattened, tables};
 pub use lft_flat::{
     Action, Found, Name, Names, Port, Program, Reaction, Source, Timer, Trigger, Triggers, Value,
 };
 pub use naming::OwnName;
 pub use nesting::{Nest, NestFault, Numbering, Tables};
+pub use refusal::Refusal;
 pub use tree_lists::Lists;

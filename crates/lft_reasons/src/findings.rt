@@ -5,12 +5,12 @@ use crate::refused::{Refused, Site};
 use crate::unknown::instance_of;
 use crate::words::{kind_words, port_words, reactor_words, role_way, role_words};
 use itoa::Buffer;
+use lft_causes::names::{names_of, times_of};
+use lft_causes::{Finding, declared_name};
 use lft_refusals::{Spot, name_spot, time_spot, token_spot};
 use lft_scope::kinds::{Kind, Role};
 use lft_tag::NoMemory;
 use lft_tree::{Connection, Member, Reaction, Reference, TimeExpression};
-use lft_witnesses::names::{names_of, times_of};
-use lft_witnesses::{Finding, declared_name};
 
 impl<'a> Refused<'a> {
     /// The name with that role and place in the member, and where it stands.

@@ -6,9 +6,10 @@ ghost use Rattle.lft_reasons.specs.Reasons.{IsCause};
 use crate::reason::Reason;
 use crate::refused::Refused;
 use crate::words::{port_words, reactor_words};
+use lft_causes::{Naming, Witness};
+use lft_program::Refusal;
 use lft_scope::kinds::Role;
 use lft_tag::NoMemory;
-use lft_witnesses::{Naming, Witness};
 
 impl<'a> Refused<'a> {
     /// Two reactors are main ones.
@@ -120,8 +121,9 @@ impl<'a> Refused<'a> {
     }
 
     /// What is said of the witness.
-    pub(crate) fn of_witness(&self, witness: Witness) -> Result<Option<Reason>, NoMemory> {
+    fn of_witness(&self, witness: Witness) -> Result<Option<Reason>, NoMemory> {
         match witness {
+            Witness::NoMain => Ok(None),
             Witness::TwoMains { first, second } => Ok(Some(self.two_mains(first, second)?)),
             Witness::SameReactors { first, second } => self.same_reactors(first, second),
             Witness::DeclaredTwice {
@@ -146,15 +148,16 @@ impl<'a> Refused<'a> {
         }
     }
 
-    /// What is said of a cause that no single place shows: a circle of reactors, connections that form a
-    /// loop, a chain of delays, a number of things.
-    pub(crate) fn of_whole(&self, cause: u32) -> Result<Option<Reason>, NoMemory> {
-        match cause {
-            5 => self.recursive(),
-            10 => self.cycle(),
-            14 => self.long_chain(),
-            15 => self.too_many(),
-            _ => Ok(None),
+    /// What is said of what shows a cause: places, a circle of reactors, connections that form a loop, a
+    /// chain of delays, a number of things.
+    pub(crate) fn of_refusal(&self, refusal: &Refusal) -> Result<Option<Reason>, NoMemory> {
+        match refusal {
+            Refusal::Shown(witness) => self.of_witness(*witness),
+            Refusal::Recursive(circle) => self.recursive(circle),
+            Refusal::ConnectionCycle => self.cycle(),
+            Refusal::LongChain => self.long_chain(),
+            Refusal::TooMany => self.too_many(),
+            Refusal::NoMemory => Ok(None),
         }
     }
 

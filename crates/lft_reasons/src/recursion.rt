@@ -6,7 +6,6 @@ use crate::words::reactor_words;
 use lft_refusals::token_spot;
 use lft_tag::NoMemory;
 use lft_tree::{Instance, Member, Reactor};
-use lft_witnesses::circle_of;
 
 /// The first instance in the reactor of one with that name.
 fn first_instance<'a>(reactor: &'a Reactor, name: &str) -> Option<&'a Instance> {
@@ -43,9 +42,8 @@ impl<'a> Refused<'a> {
         reason.link(from, to)
     }
 
-    /// A reactor contains itself.
-    pub(crate) fn recursive(&self) -> Result<Option<Reason>, NoMemory> {
-        let circle = circle_of(self.alloc, self.ast)?;
+    /// A reactor contains itself. Each of the circle has an instance of the next, and the last of the first.
+    pub(crate) fn recursive(&self, circle: &[usize]) -> Result<Option<Reason>, NoMemory> {
         if circle.is_empty() {
             return Ok(None);
         }

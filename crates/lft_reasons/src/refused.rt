@@ -1,9 +1,9 @@
 //! A program that has a tree and is refused, and where the parts of its tree stand in its text.
 
+use lft_causes::declared_name;
 use lft_refusals::{Spot, reactor_spot, token_spot};
 use lft_syntax::Tokens;
 use lft_tree::{Ast, Member, Reactor};
-use lft_witnesses::declared_name;
 use std::alloc::Global;
 
 /// A program that has a tree, with its reactors in the order of the file.

@@ -9,13 +9,12 @@ ghost use Rattle.lft_reasons.specs.Reasons.{BeginsThere, IsCause, IsRefusedFor, 
 
 use crate::reason::Reason;
 use crate::refused::Refused;
-use lft_program::{ProgramFault, flatten};
+use lft_program::{ProgramFault, Refusal, flattened};
 use lft_refusals::{Spot, place_of, push_line, push_place};
 use lft_scope::members;
 use lft_syntax::{LexFault, SyntaxFault, Tokens, lex, parse};
 use lft_tag::NoMemory;
 use lft_tree::Ast;
-use lft_witnesses::witness_of;
 use std::alloc::Global;
 
 /// What shows the cause in a program that has this tree.
@@ -24,6 +23,7 @@ fn reason_of(
     text: &[u8],
     tokens: &Tokens,
     ast: &Ast,
+    refusal: &Refusal,
     cause: u32,
 ) -> Result<Option<Reason>, NoMemory>
     ensures { IfOk result (λ found. IfNone found (IsCause cause → ⊥)) }
@@ -36,11 +36,7 @@ fn reason_of(
         ast,
         reactors: &reactors,
     };
-    let shown = match witness_of(alloc, &reactors, cause)? {
-        Some(witness) => refused.of_witness(witness)?,
-        None => refused.of_whole(cause)?,
-    };
-    match shown {
+    match refused.of_refusal(refusal)? {
         Some(reason) => Ok(Some(reason)),
         None => refused.of_cause(cause),
     }
@@ -122,18 +118,24 @@ fn number_of(fault: ProgramFault) -> u32
     }
 }
 
-/// Whether the tree is refused for the cause with that number.
-fn is_refused_for(alloc: Global, ast: &Ast, cause: u32) -> Result<bool, NoMemory>
-    ensures first { IfOk result (λ b. IsTrue b ↔ IsFirst (causes (tree_view ast.now)) cause) }
-    ensures cause { IfOk result (λ b. IsTrue b → IsCause cause) }
+/// Why the tree is refused, if that is for the cause with that number.
+fn refusal_for(alloc: Global, ast: &Ast, cause: u32) -> Result<Option<Refusal>, NoMemory>
+    ensures some { IfOk result (λ found. IfSome found (λ _. IsFirst (causes (tree_view ast.now)) cause)) }
+    ensures none { IfOk result (λ found. IfNone found (IsFirst (causes (tree_view ast.now)) cause → ⊥)) }
+    ensures cause { IfOk result (λ found. IfSome found (λ _. IsCause cause)) }
 {
-    let Err(fault) = flatten(alloc, ast) else {
-        return Ok(false);
+    let Err(refusal) = flattened(alloc, ast) else {
+        return Ok(None);
     };
+    let fault = refusal.fault();
     if fault == ProgramFault::NoMemory {
         return Err(NoMemory);
     }
-    Ok(number_of(fault) == cause)
+    if number_of(fault) == cause {
+        Ok(Some(refusal))
+    } else {
+        Ok(None)
+    }
 }
 
 /// Why a program that has a tree is refused by the cause with that number, in lines that end with a line
@@ -154,10 +156,10 @@ pub fn tell_cause(alloc: Global, text: &[u8], cause: u32) -> Result<Option<Strin
         Err(SyntaxFault::NoMemory) => return Err(NoMemory),
         Err(_) => return Ok(None),
     };
-    if !is_refused_for(alloc, &ast, cause)? {
+    let Some(refusal) = refusal_for(alloc, &ast, cause)? else {
         return Ok(None);
-    }
-    match reason_of(alloc, text, &tokens, &ast, cause)? {
+    };
+    match reason_of(alloc, text, &tokens, &ast, &refusal, cause)? {
         Some(reason) => {
             let words = lines(alloc, text, &reason)?;
             Ok(Some(words))

@@ -10,7 +10,7 @@ use crate::joins::{Join, Telling, tell_all};
 use crate::singles::all_singles;
 use crate::sites::find_sites;
 use lft_instances::find_sources;
-use lft_program::{Lists, Nest, NestFault, OwnName, ProgramFault, Tables, tables};
+use lft_program::{Lists, Nest, NestFault, OwnName, Refusal, Tables, tables};
 use lft_scope::members;
 use lft_tag::{NoMemory, Source};
 use lft_tree::Ast;
@@ -88,7 +88,7 @@ impl<'a> Wiring<'a> {
         let tables = match tables(alloc, ast) {
             Ok(tables) => tables,
             Err(fault) => match fault {
-                ProgramFault::NoMemory => return Err(NoMemory),
+                Refusal::NoMemory => return Err(NoMemory),
                 _ => return Ok(None),
             },
         };

@@ -1,20 +1,19 @@
 //! The source and the origin of each port.
 
-ghost use Rattle.std.specs.Prelude.{◌≡◌, ◌≢◌, ℕ, ◌<◌, None, Err, IfSome, IfOk, IfErr, OnOk, length};
-ghost use Rattle.lft_tree.specs.View.{tree_view};
+ghost use Rattle.std.specs.Prelude.{◌≡◌, ◌≢◌, ℕ, ◌<◌, None, IfSome, IfNone, IfOk, IfErr, OnOk, length};
+ghost use Rattle.lft_tree.specs.Tree.{reactors_of};
 ghost use Rattle.lft_scope.specs.Causes.{IsFirst, NoneHolds};
 ghost use Rattle.lft_program.specs.Linking.{AreLinked, IsLinked, IsTooLong};
-ghost use Rattle.lft_program.specs.Links.{AreLinks, last_causes, number_of};
+ghost use Rattle.lft_program.specs.Links.{AreLinks, TellsTime, last_causes, number_of};
 ghost use Rattle.lft_program.specs.Nests.{IsNest};
 ghost use Rattle.lft_program.specs.Tables.{AreTables, IsLawful};
 ghost use Rattle.lft_program.specs.declared.nesting.linking.LinkFault.TheVariants as faults;
 
 use crate::nesting::nest::Nest;
 use crate::nesting::tables::Tables;
-use lft_causes::has_long_time;
+use lft_causes::{Scopes, Witness, check_times};
 use lft_instances::{OriginFault, Reached, find_origins, find_sources};
 use lft_tag::{NoMemory, Shift, Source};
-use lft_tree::Ast;
 use std::alloc::{AllocFailed, Global};
 
 /// How a port is reached: the port before it with the delay of the connection from it in
@@ -27,12 +26,14 @@ pub(crate) struct Linked {
 }
 
 /// Why ports have no origins, in the order in which the causes are answered.
-#[derive(Clone, Copy, PartialEq, Eq, Drop)]
+#[derive(Clone, Copy, Drop)]
 pub(crate) enum LinkFault {
     /// Connections alone form a cycle.
     ConnectionCycle,
-    /// A time, or the sum of a chain's delays, is past 10^18 nanoseconds.
-    DelayTooLong,
+    /// A time is past 10^18 nanoseconds.
+    LongTime(Witness),
+    /// The sum of a chain's delays is.
+    LongChain,
     /// A growth of memory was refused.
     NoMemory,
 }
@@ -77,41 +78,42 @@ fn link_at(sources: &[Option<Source>], reached: &[Reached], port: usize) -> Opti
     }
 }
 
-// how each port is reached, by the ports' sources and the ends of their chains
+// how each port is reached, by the ports' sources and the ends of their chains; None where the delays of
+// a chain sum to too much
 fn link_all(
     alloc: Global,
     sources: &[Option<Source>],
     reached: &[Reached],
-) -> Result<Vec<Linked>, LinkFault>
+) -> Result<Option<Vec<Linked>>, NoMemory>
     requires { length reached.now ≡ length sources.now }
-    ensures linked { IfOk result (λ v. AreLinked sources.now reached.now v.items) }
-    ensures long { result ≡ Err LinkFault.DelayTooLong → (p : ℕ) × IsTooLong reached.now p }
-    ensures no_cycle { result ≢ Err LinkFault.ConnectionCycle }
+    ensures linked { IfOk result (λ found. IfSome found (λ v. AreLinked sources.now reached.now v.items)) }
+    ensures long { IfOk result (λ found. IfNone found ((p : ℕ) × IsTooLong reached.now p)) }
 {
     let mut links = Vec::new(alloc);
     'ports: for port in 0..sources.len() {
         match link_at(sources, reached, port) {
             Some(link) => links.push(link)?,
-            None => return Err(LinkFault::DelayTooLong),
+            None => return Ok(None),
         }
     }
-    Ok(links)
+    Ok(Some(links))
 }
 
-/// How each port is reached, by the port's number. The tree is that of the tables and the nest. A
+/// How each port is reached, by the port's number. The file is that of the tables and the nest. A
 /// cycle comes before a time that is too long.
 pub(crate) fn links(
     alloc: Global,
-    ast: &Ast,
+    scopes: &Scopes,
     tables: &Tables,
     nest: &Nest,
 ) -> Result<Vec<Linked>, LinkFault>
-    requires tables { AreTables (tree_view ast.now) tables.now }
-    requires lawful { IsLawful (tree_view ast.now) }
-    requires nest { IsNest (tree_view ast.now) tables.now nest.now }
-    ensures links { IfOk result (λ v. (n : IsNest (tree_view ast.now) tables.now nest.now) → AreLinks (tree_view ast.now) n.located v.items) }
-    ensures none { OnOk result (NoneHolds (last_causes (tree_view ast.now))) }
-    ensures first { IfErr result (λ f. f ≢ faults.NoMemory → IsFirst (last_causes (tree_view ast.now)) (number_of f)) }
+    requires tables { AreTables scopes.now tables.now }
+    requires lawful { IsLawful scopes.now }
+    requires nest { IsNest scopes.now tables.now nest.now }
+    ensures links { IfOk result (λ v. (n : IsNest scopes.now tables.now nest.now) → AreLinks scopes.now n.located v.items) }
+    ensures none { OnOk result (NoneHolds (last_causes scopes.now)) }
+    ensures first { IfErr result (λ f. f ≢ faults.NoMemory → IsFirst (last_causes scopes.now) (number_of f)) }
+    ensures tells { IfErr result (TellsTime (reactors_of scopes.now)) }
 {
     let sources = find_sources(
         alloc,
@@ -127,8 +129,11 @@ pub(crate) fn links(
         Err(OriginFault::Cycle) => return Err(LinkFault::ConnectionCycle),
         Err(OriginFault::NoMemory) => return Err(LinkFault::NoMemory),
     };
-    if has_long_time(alloc, ast)? {
-        return Err(LinkFault::DelayTooLong);
+    if let Some(witness) = check_times(alloc, scopes)? {
+        return Err(LinkFault::LongTime(witness));
     }
-    link_all(alloc, &sources, &reached)
+    match link_all(alloc, &sources, &reached)? {
+        Some(links) => Ok(links),
+        None => Err(LinkFault::LongChain),
+    }
 }

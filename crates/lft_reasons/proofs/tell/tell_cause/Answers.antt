@@ -1,7 +1,6 @@
 use Rattle.std.proofs.Common.{rules, ◌≡◌, inr, refl, subst}
 use Rattle.lft_tree.specs.View.{tree_view}
 use Rattle.lft_scope.specs.Causes.{IsFirst, causes}
-use Rattle.lft_scope.proofs.Somes.{fails}
 use Rattle.lft_syntax.specs.Grammar.{Spells}
 use Rattle.lft_syntax.specs.View.{lexemes}
 use Rattle.lft_syntax.specs.declared.fault.SyntaxFault.{SyntaxFault}
@@ -31,10 +30,11 @@ returns-in-Err-parse-clause-none c = inr (λ refused. none refused c.in-Err-pars
         (c.in-Err-parse.ensures.unexpected k (cc)).2 (lexemes text c.in-Ok.tokens) refused.tree refl spells
     none refused fault.NoMemory is = search rules
 
-pub returns-then-not-branch-clause-none : goal.returns-then-not-branch-clause-none
-returns-then-not-branch-clause-none c = inr (λ refused.
+pub returns-in_default-clause-none : goal.returns-in_default-clause-none
+returns-in_default-clause-none c = inr (λ refused.
     let text = c.args.text.now in
     let spells : Spells refused.tree (lexemes text c.in-Ok.tokens) = subst (λ ts. Spells refused.tree (lexemes text ts)) (c.in-Ok.ensures.tokens.1 refused.tokens refused.lexes) refused.spells in
     let tree : refused.tree ≡ tree_view c.in-Ok-parse.ast = c.in-Ok-parse.ensures.tree.1 refused.tree spells in
     let first : IsFirst (causes (tree_view c.in-Ok-parse.ast)) c.args.cause = subst (λ t. IsFirst (causes t) c.args.cause) tree refused.first in
-    fails c.in_ok-is_refused_for.field-0 c.in_ok-is_refused_for.ensures.first c.if-not-branch.true first)
+    let none = rw c.in_default.is at c.in_ok-refusal.ensures.none in
+    none first)

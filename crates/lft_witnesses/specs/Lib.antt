@@ -1,5 +1,0 @@
-pub mod Circles
-pub mod Findings
-pub mod Members
-pub mod Shown
-pub mod Witnesses
