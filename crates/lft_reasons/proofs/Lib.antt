@@ -1,1 +1,3 @@
 mod Refusing
+mod Picking
+mod Showing

@@ -1,14 +1,25 @@
 -- What is told of a program that has a tree and is refused.
-use Rattle.std.specs.Prelude.{◌≡◌, ℕ, ◌<◌, ◌≤◌, ◌⊎◌, List, ◌++◌, codes}
+use Rattle.std.specs.Prelude.{◌≡◌, ℕ, ◌<◌, ◌≤◌, ◌⊎◌, List, ◌++◌, Option, Some, None, codes, length, map}
 use Rattle.lft_tree.specs.Tree.{FileTree}
+use Rattle.lft_tree.specs.View.{file_view, reactor_view}
+use Rattle.lft_tree.specs.declared.tree.Item.{Item}
+use Rattle.lft_tree.specs.declared.tree.Reactor.{Reactor}
+use Rattle.lft_tree.specs.declared.tree.TokenRange.{TokenRange}
 use Rattle.lft_syntax.specs.declared.token.Token.{Token}
 use Rattle.lft_syntax.specs.Lexes.{Lexes}
+use Rattle.lft_syntax.specs.Placed.{FileStands}
 use Rattle.lft_syntax.specs.Grammar.{Spells}
 use Rattle.lft_syntax.specs.View.{lexemes}
 use Rattle.lft_scope.specs.Causes.{IsFirst, causes}
 use Rattle.lft_refusals.specs.Places.{IsPlace}
 use Rattle.lft_refusals.specs.Quotes.{place_words}
 use Rattle.lft_refusals.specs.declared.place.Place.{Place}
+use Rattle.lft_refusals.specs.declared.spots.Spot.{Spot}
+use Rattle.lft_causes.specs.Witnesses.{Shows, cause_shown}
+use Rattle.lft_causes.specs.declared.witness.Witness.{Witness}
+use Rattle.lft_program.specs.declared.refusal.Refusal.{Refusal}
+use Rattle.lft_program.specs.declared.refusal.Refusal.TheVariants as refusals
+use Rattle.lft_reasons.specs.Spots.{reactors_among, witness_spot}
 
 -- the number of a cause of refusal
 abbrev pub IsCause : ℕ → Type 0
@@ -22,18 +33,49 @@ pub record IsRefusedFor (t : List ℕ) (cause : ℕ) : Type 0 where
   pub spells : Spells tree (lexemes t tokens)
   pub first : IsFirst (causes tree) cause
 
--- the words are the line and the column of a place of the text
-abbrev pub SayPlace : List ℕ → List ℕ → Type 0
-SayPlace t words = (at : ℕ) × (place : Place) × IsPlace t at place × (words ≡ place_words place)
+-- the words are the line and the column at which the bytes begin, if the text has them; without bytes they are of the program as a whole
+abbrev pub SaySpot : List ℕ → Option Spot → List ℕ → Type 0
+SaySpot t None words = words ≡ codes "Program: "
+SaySpot t (Some spot) words = spot.start ≤ length t → (place : Place) × IsPlace t spot.start place × (words ≡ place_words place)
 
--- the words begin with a place of the text, or are of the program as a whole
-pub record BeginsThere (t words : List ℕ) : Type 0 where
+-- the words begin so
+pub record BeginsAt (t : List ℕ) (spot : Option Spot) (words : List ℕ) : Type 0 where
   pub start : List ℕ
   pub rest : List ℕ
   pub whole : words ≡ start ++ rest
-  pub place : SayPlace t start ⊎ (start ≡ codes "Program: ")
+  pub place : SaySpot t spot start
 
--- the words tell of the text, which is refused for that cause
+-- a witness of these reactors shows the cause, and stands at these bytes
+pub record HasWitnessAt (tokens : List Token) (reactors : List Reactor) (cause : ℕ) (spot : Option Spot) : Type 0 where
+  pub witness : Witness
+  pub shows : Shows (map reactor_view reactors) witness
+  pub shows_cause : cause_shown witness ≡ cause
+  pub at : spot ≡ witness_spot tokens reactors witness
+
+-- the witness that a refusal has, if it has one
+abbrev pub witness_in : Refusal → Option Witness
+witness_in (refusals.Shown w) = Some w
+witness_in (refusals.Recursive places) = None
+witness_in refusals.TooMany = None
+witness_in refusals.ConnectionCycle = None
+witness_in refusals.LongChain = None
+witness_in refusals.NoMemory = None
+
+-- reactors that contain one another, connections that form a loop, delays that only together are too long, too many things: several places show the cause together
+abbrev pub IsOfWhole : ℕ → Type 0
+IsOfWhole cause = (cause ≡ 5) ⊎ (cause ≡ 10) ⊎ (cause ≡ 14) ⊎ (cause ≡ 15)
+
+-- the bytes are those of a witness, unless several places show the cause together
+abbrev pub IsShownAt : List Token → List Reactor → ℕ → Option Spot → Type 0
+IsShownAt tokens reactors cause spot = HasWitnessAt tokens reactors cause spot ⊎ IsOfWhole cause
+
+-- the text is refused for that cause, and the words begin with where it is shown: the tree of the text has a target and items, of which each part stands where it says
 pub record IsToldOf (t : List ℕ) (cause : ℕ) (words : List ℕ) : Type 0 where
   pub refused : IsRefusedFor t cause
-  pub begins : BeginsThere t words
+  pub target : Option TokenRange
+  pub parts : List Item
+  pub are_parts : refused.tree ≡ file_view target parts
+  pub stand : FileStands (lexemes t refused.tokens) target parts
+  pub spot : Option Spot
+  pub shown : IsShownAt refused.tokens (reactors_among parts) cause spot
+  pub begins : BeginsAt t spot words

@@ -2,46 +2,16 @@
 
 use crate::reason::Reason;
 use crate::refused::{Refused, Site};
+use crate::spots::{name_at, time_at};
 use crate::unknown::instance_of;
 use crate::words::{kind_words, port_words, reactor_words, role_way, role_words};
 use itoa::Buffer;
-use lft_causes::names::{names_of, times_of};
 use lft_causes::{Finding, declared_name};
-use lft_refusals::{Spot, name_spot, time_spot, token_spot};
 use lft_scope::kinds::{Kind, Role};
 use lft_tag::NoMemory;
-use lft_tree::{Connection, Member, Reaction, Reference, TimeExpression};
+use lft_tree::{Connection, Member, TimeExpression};
 
 impl<'a> Refused<'a> {
-    /// The name with that role and place in the member, and where it stands.
-    pub(crate) fn name(
-        &self,
-        site: Site<'a>,
-        role: Role,
-        place: usize,
-    ) -> Result<Option<(&'a Reference, Option<Spot>)>, NoMemory> {
-        let names = names_of(self.alloc, site.member, role)?;
-        if place >= names.len() {
-            return Ok(None);
-        }
-        let name = names[place];
-        Ok(Some((name, name_spot(self.tokens, name))))
-    }
-
-    /// The time with that place in the member, and where it stands.
-    pub(crate) fn time(
-        &self,
-        site: Site<'a>,
-        place: usize,
-    ) -> Result<Option<(&'a TimeExpression, Option<Spot>)>, NoMemory> {
-        let times = times_of(self.alloc, site.member)?;
-        if place >= times.len() {
-            return Ok(None);
-        }
-        let time = times[place];
-        Ok(Some((time, time_spot(self.tokens, time))))
-    }
-
     /// A name may not stand there.
     fn wrong_place(
         &self,
@@ -50,7 +20,7 @@ impl<'a> Refused<'a> {
         place: usize,
         kind: Kind,
     ) -> Result<Option<Reason>, NoMemory> {
-        let Some((name, spot)) = self.name(site, role, place)? else {
+        let Some(name) = name_at(site.member, role, place) else {
             return Ok(None);
         };
         let (owner, owner_name) = reactor_words(site.reactor);
@@ -66,8 +36,7 @@ impl<'a> Refused<'a> {
             .say(" is ")?
             .say(is)?
             .say(", and ")?
-            .say(role_words(role))?
-            .at(spot);
+            .say(role_words(role))?;
         Ok(Some(reason.way(role_way(role))?))
     }
 
@@ -78,7 +47,7 @@ impl<'a> Refused<'a> {
         place: usize,
         kind: Kind,
     ) -> Result<Option<Reason>, NoMemory> {
-        let Some((TimeExpression::Parameter { name, .. }, spot)) = self.time(site, place)? else {
+        let Some(TimeExpression::Parameter { name, .. }) = time_at(site.member, place) else {
             return Ok(None);
         };
         let (owner, owner_name) = reactor_words(site.reactor);
@@ -90,8 +59,7 @@ impl<'a> Refused<'a> {
             .say(name.as_str())?
             .say(" is ")?
             .say(is)?
-            .say(", and no time")?
-            .at(spot);
+            .say(", and no time")?;
         let way = "A time is a number with a unit, or a parameter of the reactor.";
         Ok(Some(reason.way(way)?))
     }
@@ -102,7 +70,6 @@ impl<'a> Refused<'a> {
             return Ok(None);
         };
         let reason = Reason::of(self.alloc, "the main reactor has a port, ")?.say(name)?;
-        let reason = reason.at(self.declared_spot(site.member));
         let way = "A main reactor has no ports. What comes from outside is a physical action.";
         Ok(Some(reason.way(way)?))
     }
@@ -119,19 +86,17 @@ impl<'a> Refused<'a> {
             .say(" a connection joins ")?
             .say(from)?
             .say(" names to ")?
-            .say(to)?
-            .at(token_spot(self.tokens, connection.arrow));
+            .say(to)?;
         reason.way("Write as many names behind the arrow as before it.")
     }
 
     /// A reaction has no trigger.
-    fn no_trigger(&self, site: Site<'a>, reaction: &Reaction) -> Result<Reason, NoMemory> {
+    fn no_trigger(&self, site: Site<'a>) -> Result<Reason, NoMemory> {
         let (owner, name) = reactor_words(site.reactor);
         let reason = Reason::of(self.alloc, "a reaction of ")?
             .say(owner)?
             .say(name)?
             .say(" has no trigger")?;
-        let reason = reason.at(token_spot(self.tokens, reaction.at));
         reason.way("Write one between the parentheses, as `startup`.")
     }
 
@@ -140,13 +105,9 @@ impl<'a> Refused<'a> {
         &self,
         site: Site<'a>,
         role: Role,
-        first: usize,
         second: usize,
     ) -> Result<Option<Reason>, NoMemory> {
-        let Some((_, before)) = self.name(site, role, first)? else {
-            return Ok(None);
-        };
-        let Some((name, spot)) = self.name(site, role, second)? else {
+        let Some(name) = name_at(site.member, role, second) else {
             return Ok(None);
         };
         let (owner, owner_name) = reactor_words(site.reactor);
@@ -162,48 +123,35 @@ impl<'a> Refused<'a> {
             .say(name.head.as_str())?
             .say(point)?
             .say(port)?
-            .say(what)?
-            .at(spot)
-            .before(before);
+            .say(what)?;
         Ok(Some(reason.way("Write it once. A trigger is read too.")?))
     }
 
     /// An instance gives a parameter two values.
-    fn given_twice(
-        &self,
-        site: Site<'a>,
-        first: usize,
-        second: usize,
-    ) -> Result<Option<Reason>, NoMemory> {
+    fn given_twice(&self, site: Site<'a>, second: usize) -> Result<Option<Reason>, NoMemory> {
         let Some(instance) = instance_of(site.member) else {
             return Ok(None);
         };
-        if first >= instance.given.len() || second >= instance.given.len() {
+        if second >= instance.given.len() {
             return Ok(None);
         }
         let name = instance.given[second].name.as_str();
-        let before = token_spot(self.tokens, instance.given[first].at);
-        let spot = token_spot(self.tokens, instance.given[second].at);
         let reason = Reason::of(self.alloc, "the instance ")?
             .say(instance.name.as_str())?
             .say(" gives the parameter ")?
             .say(name)?
             .say(" two values")?;
-        Ok(Some(reason.at(spot).before(before)))
+        Ok(Some(reason))
     }
 
     /// A time is too long.
-    fn long_time(&self, site: Site<'a>, place: usize) -> Result<Option<Reason>, NoMemory> {
-        let Some((_, spot)) = self.time(site, place)? else {
-            return Ok(None);
-        };
+    fn long_time(&self, site: Site<'a>) -> Result<Reason, NoMemory> {
         let (owner, name) = reactor_words(site.reactor);
         let reason = Reason::of(self.alloc, "a time of ")?
             .say(owner)?
             .say(name)?
-            .say(" is past 10^18 nanoseconds")?
-            .at(spot);
-        Ok(Some(reason.way("That is some 31 years. No time may be longer.")?))
+            .say(" is past 10^18 nanoseconds")?;
+        reason.way("That is some 31 years. No time may be longer.")
     }
 
     /// What is said of the finding.
@@ -213,15 +161,15 @@ impl<'a> Refused<'a> {
         finding: Finding,
     ) -> Result<Option<Reason>, NoMemory> {
         match finding {
-            Finding::GivenTwice { first, second } => self.given_twice(site, first, second),
+            Finding::GivenTwice { second, .. } => self.given_twice(site, second),
             Finding::UnknownReactor => self.unknown_reactor(site),
-            Finding::UnknownName { role, name } => match self.name(site, role, name)? {
-                Some((name, spot)) => Ok(Some(self.unknown_name(site, name, spot)?)),
+            Finding::UnknownName { role, name } => match name_at(site.member, role, name) {
+                Some(name) => Ok(Some(self.unknown_name(site, name)?)),
                 None => Ok(None),
             },
-            Finding::UnknownTime { time } => match self.time(site, time)? {
-                Some((TimeExpression::Parameter { name, .. }, spot)) => {
-                    Ok(Some(self.unknown_time(site, name.as_str(), spot)?))
+            Finding::UnknownTime { time } => match time_at(site.member, time) {
+                Some(TimeExpression::Parameter { name, .. }) => {
+                    Ok(Some(self.unknown_time(site, name.as_str())?))
                 }
                 _ => Ok(None),
             },
@@ -233,16 +181,9 @@ impl<'a> Refused<'a> {
                 Member::Connection(connection) => Ok(Some(self.width(site, connection)?)),
                 _ => Ok(None),
             },
-            Finding::NoTrigger => match site.member {
-                Member::Reaction(reaction) => Ok(Some(self.no_trigger(site, reaction)?)),
-                _ => Ok(None),
-            },
-            Finding::NamedTwice {
-                role,
-                first,
-                second,
-            } => { self.named_twice(site, role, first, second) }
-            Finding::LongTime { time } => self.long_time(site, time),
+            Finding::NoTrigger => Ok(Some(self.no_trigger(site)?)),
+            Finding::NamedTwice { role, second, .. } => self.named_twice(site, role, second),
+            Finding::LongTime { .. } => Ok(Some(self.long_time(site)?)),
         }
     }
 }

@@ -9,6 +9,7 @@ mod reason;
 mod reasons;
 mod recursion;
 mod refused;
+mod spots;
 mod tell;
 mod unknown;
 mod whole;

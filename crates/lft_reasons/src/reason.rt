@@ -1,5 +1,7 @@
 //! Why a program is refused: a sentence, the places that it speaks of, and what to write.
 
+ghost use Rattle.std.specs.Prelude.{◌≡◌};
+
 use lft_refusals::Spot;
 use lft_tag::NoMemory;
 use std::alloc::Global;
@@ -38,12 +40,16 @@ impl Reason {
     }
 
     /// The same with that place.
-    pub(crate) fn at(self, spot: Option<Spot>) -> Reason {
+    pub(crate) fn at(self, spot: Option<Spot>) -> Reason
+        ensures { result.at ≡ spot }
+    {
         Reason { at: spot, ..self }
     }
 
     /// The same with that place before.
-    pub(crate) fn before(self, spot: Option<Spot>) -> Reason {
+    pub(crate) fn before(self, spot: Option<Spot>) -> Reason
+        ensures { result.at ≡ self.at }
+    {
         Reason {
             before: spot,
             ..self

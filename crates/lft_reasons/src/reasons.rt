@@ -5,6 +5,7 @@ ghost use Rattle.lft_reasons.specs.Reasons.{IsCause};
 
 use crate::reason::Reason;
 use crate::refused::Refused;
+use crate::spots::name_at;
 use crate::words::{port_words, reactor_words};
 use lft_causes::{Naming, Witness};
 use lft_program::Refusal;
@@ -13,52 +14,31 @@ use lft_tag::NoMemory;
 
 impl<'a> Refused<'a> {
     /// Two reactors are main ones.
-    fn two_mains(&self, first: usize, second: usize) -> Result<Reason, NoMemory> {
+    fn two_mains(&self) -> Result<Reason, NoMemory> {
         let reason = Reason::of(self.alloc, "two reactors are main ones")?;
-        let reason = reason
-            .at(self.reactor_spot(second))
-            .before(self.reactor_spot(first));
         reason.way("Take `main` from one of them.")
     }
 
     /// Two reactors have one name.
-    fn same_reactors(&self, first: usize, second: usize) -> Result<Option<Reason>, NoMemory> {
-        let (Some(first), Some(second)) = (self.place_of_named(first), self.place_of_named(second))
-        else {
+    fn same_reactors(&self, second: usize) -> Result<Option<Reason>, NoMemory> {
+        let Some(name) = self.name_of_named(second) else {
             return Ok(None);
         };
-        let Some(reactor) = self.reactor(second) else {
-            return Ok(None);
-        };
-        let (_, name) = reactor_words(reactor);
         let reason = Reason::of(self.alloc, "two reactors are named ")?.say(name)?;
-        let reason = reason
-            .at(self.reactor_spot(second))
-            .before(self.reactor_spot(first));
         Ok(Some(reason.way("Give one of them another name.")?))
     }
 
     /// A reactor declares two things of one name.
-    fn declared_twice(
-        &self,
-        place: usize,
-        first: usize,
-        second: usize,
-    ) -> Result<Option<Reason>, NoMemory> {
-        let (Some((_, before)), Some((name, spot)), Some(reactor)) = (
-            self.declaration(place, first),
-            self.declaration(place, second),
-            self.reactor(place),
-        ) else {
+    fn declared_twice(&self, place: usize, second: usize) -> Result<Option<Reason>, NoMemory> {
+        let (Some(name), Some(reactor)) = (self.declaration(place, second), self.reactor(place))
+        else {
             return Ok(None);
         };
         let (owner, owner_name) = reactor_words(reactor);
         let reason = Reason::of(self.alloc, owner)?
             .say(owner_name)?
             .say(" has two things named ")?
-            .say(name)?
-            .at(spot)
-            .before(before);
+            .say(name)?;
         Ok(Some(reason.way("Give one of them another name.")?))
     }
 
@@ -69,19 +49,13 @@ impl<'a> Refused<'a> {
         first: Naming,
         second: Naming,
     ) -> Result<Option<Reason>, NoMemory> {
-        let (Some(one), Some(other)) = (
-            self.site(place, first.member),
-            self.site(place, second.member),
-        ) else {
+        let Some(site) = self.site(place, second.member) else {
             return Ok(None);
         };
-        let Some((_, before)) = self.name(one, first.role, first.name)? else {
+        let Some(name) = name_at(site.member, second.role, second.name) else {
             return Ok(None);
         };
-        let Some((name, spot)) = self.name(other, second.role, second.name)? else {
-            return Ok(None);
-        };
-        let (owner, owner_name) = reactor_words(one.reactor);
+        let (owner, owner_name) = reactor_words(site.reactor);
         let (point, port) = port_words(name);
         let what = match (first.role, second.role) {
             (Role::Destination, Role::Destination) => " is the end of two connections",
@@ -94,19 +68,15 @@ impl<'a> Refused<'a> {
             .say(name.head.as_str())?
             .say(point)?
             .say(port)?
-            .say(what)?
-            .at(spot)
-            .before(before);
+            .say(what)?;
         let way = "One connection may end at a port, or reactions of one reactor write it.";
         Ok(Some(reason.way(way)?))
     }
 
     /// The default of a parameter is too long.
     fn long_default(&self, place: usize, parameter: usize) -> Result<Option<Reason>, NoMemory> {
-        let (Some((name, spot)), Some(reactor)) = (
-            self.declaration(place, parameter),
-            self.reactor(place),
-        ) else {
+        let (Some(name), Some(reactor)) = (self.declaration(place, parameter), self.reactor(place))
+        else {
             return Ok(None);
         };
         let (owner, owner_name) = reactor_words(reactor);
@@ -115,22 +85,21 @@ impl<'a> Refused<'a> {
             .say(" in ")?
             .say(owner)?
             .say(owner_name)?
-            .say(" is past 10^18 nanoseconds")?
-            .at(spot);
+            .say(" is past 10^18 nanoseconds")?;
         Ok(Some(reason.way("That is some 31 years. No time may be longer.")?))
     }
 
     /// What is said of the witness.
-    fn of_witness(&self, witness: Witness) -> Result<Option<Reason>, NoMemory> {
+    pub(crate) fn of_witness(&self, witness: Witness) -> Result<Option<Reason>, NoMemory> {
         match witness {
             Witness::NoMain => Ok(None),
-            Witness::TwoMains { first, second } => Ok(Some(self.two_mains(first, second)?)),
-            Witness::SameReactors { first, second } => self.same_reactors(first, second),
+            Witness::TwoMains { .. } => Ok(Some(self.two_mains()?)),
+            Witness::SameReactors { second, .. } => self.same_reactors(second),
             Witness::DeclaredTwice {
                 reactor,
-                first,
                 second,
-            } => self.declared_twice(reactor, first, second),
+                ..
+            } => self.declared_twice(reactor, second),
             Witness::Member {
                 reactor,
                 member,
@@ -148,11 +117,11 @@ impl<'a> Refused<'a> {
         }
     }
 
-    /// What is said of what shows a cause: places, a circle of reactors, connections that form a loop, a
+    /// What is said of what no single place shows: a circle of reactors, connections that form a loop, a
     /// chain of delays, a number of things.
-    pub(crate) fn of_refusal(&self, refusal: &Refusal) -> Result<Option<Reason>, NoMemory> {
+    pub(crate) fn of_whole(&self, refusal: &Refusal) -> Result<Option<Reason>, NoMemory> {
         match refusal {
-            Refusal::Shown(witness) => self.of_witness(*witness),
+            Refusal::Shown(_) => Ok(None),
             Refusal::Recursive(circle) => self.recursive(circle),
             Refusal::ConnectionCycle => self.cycle(),
             Refusal::LongChain => self.long_chain(),

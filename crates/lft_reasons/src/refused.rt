@@ -1,7 +1,6 @@
-//! A program that has a tree and is refused, and where the parts of its tree stand in its text.
+//! A program that has a tree and is refused.
 
 use lft_causes::declared_name;
-use lft_refusals::{Spot, reactor_spot, token_spot};
 use lft_syntax::Tokens;
 use lft_tree::{Ast, Member, Reactor};
 use std::alloc::Global;
@@ -45,14 +44,13 @@ impl<'a> Refused<'a> {
         None
     }
 
-    /// The place in the file of the reactor with that number among those that have a name.
-    pub(crate) fn place_of_named(&self, number: usize) -> Option<usize> {
+    /// The name of the reactor with that number among those that have one.
+    pub(crate) fn name_of_named(&self, number: usize) -> Option<&'a str> {
         let mut before: usize = 0;
-        for place in 0..self.reactors.len() {
-            let reactor = self.reactors[place];
-            if reactor.name.is_some() {
+        for reactor in self.reactors {
+            if let Some(name) = &reactor.name {
                 if before == number {
-                    return Some(place);
+                    return Some(name.as_str());
                 }
                 before = before.saturating_add(1);
             }
@@ -72,43 +70,17 @@ impl<'a> Refused<'a> {
         })
     }
 
-    /// Where the name of a reactor stands, or `main reactor` where it has none.
-    pub(crate) fn reactor_spot(&self, place: usize) -> Option<Spot> {
-        reactor_spot(self.tokens, self.reactor(place)?)
-    }
-
-    /// Where the name that a member declares stands.
-    pub(crate) fn declared_spot(&self, member: &Member) -> Option<Spot> {
-        let at = match member {
-            Member::Port(port) => port.at,
-            Member::Timer(timer) => timer.at,
-            Member::Action(action) => action.at,
-            Member::Instance(instance) => instance.at,
-            Member::State(_) | Member::Preamble(_) | Member::Reaction(_) | Member::Connection(_) =>
-                return None,
-        };
-        token_spot(self.tokens, at)
-    }
-
-    /// The name of what a reactor declares with that number, parameters first, and where it stands.
-    pub(crate) fn declaration(
-        &self,
-        place: usize,
-        number: usize,
-    ) -> Option<(&'a str, Option<Spot>)> {
+    /// The name of what a reactor declares with that number, parameters first.
+    pub(crate) fn declaration(&self, place: usize, number: usize) -> Option<&'a str> {
         let reactor = self.reactor(place)?;
         if number < reactor.parameters.len() {
-            let parameter = &reactor.parameters[number];
-            return Some((
-                parameter.name.as_str(),
-                token_spot(self.tokens, parameter.at),
-            ));
+            return Some(reactor.parameters[number].name.as_str());
         }
         let mut before = reactor.parameters.len();
         for member in &reactor.members {
             if let Some(name) = declared_name(member) {
                 if before == number {
-                    return Some((name, self.declared_spot(member)));
+                    return Some(name);
                 }
                 before = before.saturating_add(1);
             }

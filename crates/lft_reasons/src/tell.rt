@@ -1,21 +1,128 @@
 //! Why a program with a tree is refused, for people.
 
-ghost use Rattle.std.specs.Prelude.{◌≡◌, ◌≢◌, ◌↔◌, ◌⊎◌, IfOk, IfSome, IfNone, IsTrue, codes, string_bytes};
+ghost use Rattle.std.specs.Prelude.{◌≡◌, ◌≢◌, ◌⊎◌, IfOk, IfSome, IfNone, string_bytes};
+ghost use Rattle.lft_tree.specs.Tree.{reactors_of};
 ghost use Rattle.lft_tree.specs.View.{tree_view};
 ghost use Rattle.lft_scope.specs.Causes.{IsFirst, causes};
 ghost use Rattle.lft_program.specs.Faults.{number_of as the_number_of};
+ghost use Rattle.lft_program.specs.Refusals.{Tells, cause_of};
 ghost use Rattle.lft_refusals.specs.Refusals.{IsLong};
-ghost use Rattle.lft_reasons.specs.Reasons.{BeginsThere, IsCause, IsRefusedFor, IsToldOf, SayPlace};
+ghost use Rattle.lft_reasons.specs.Reasons.{BeginsAt, IsCause, IsRefusedFor, IsShownAt, IsToldOf, SaySpot, witness_in};
+ghost use Rattle.lft_reasons.specs.Spots.{behind, reactors_among as the_reactors_among, witness_spot};
 
 use crate::reason::Reason;
 use crate::refused::Refused;
+use crate::spots::{reactors_among, spot_of};
+use lft_causes::{Finding, Witness};
 use lft_program::{ProgramFault, Refusal, flattened};
 use lft_refusals::{Spot, place_of, push_line, push_place};
-use lft_scope::members;
 use lft_syntax::{LexFault, SyntaxFault, Tokens, lex, parse};
 use lft_tag::NoMemory;
-use lft_tree::Ast;
+use lft_tree::{Ast, Reactor};
 use std::alloc::Global;
+
+/// The witness with the first of the two things that it names in place of the second, if it names two.
+fn first_of(witness: Witness) -> Option<Witness> {
+    match witness {
+        Witness::TwoMains { first, .. } => Some(Witness::TwoMains {
+            first,
+            second: first,
+        }),
+        Witness::SameReactors { first, .. } => Some(Witness::SameReactors {
+            first,
+            second: first,
+        }),
+        Witness::DeclaredTwice { reactor, first, .. } => Some(Witness::DeclaredTwice {
+            reactor,
+            first,
+            second: first,
+        }),
+        Witness::TwoSources { reactor, first, .. } => Some(Witness::TwoSources {
+            reactor,
+            first,
+            second: first,
+        }),
+        Witness::Member {
+            reactor,
+            member,
+            finding,
+        } => Some(Witness::Member {
+            reactor,
+            member,
+            finding: first_found(finding)?,
+        }),
+        Witness::NoMain => None,
+        Witness::LongDefault { .. } => None,
+    }
+}
+
+/// The same of a finding.
+fn first_found(finding: Finding) -> Option<Finding> {
+    match finding {
+        Finding::GivenTwice { first, .. } => Some(Finding::GivenTwice {
+            first,
+            second: first,
+        }),
+        Finding::NamedTwice { role, first, .. } => Some(Finding::NamedTwice {
+            role,
+            first,
+            second: first,
+        }),
+        _ => None,
+    }
+}
+
+/// Where the first of the two things that a witness names stands, if it names two.
+fn spot_before(tokens: &Tokens, reactors: &[&Reactor], witness: Witness) -> Option<Spot> {
+    spot_of(tokens, reactors, first_of(witness)?)
+}
+
+/// What is said of a witness of the cause, and where it stands.
+fn of_witness(refused: &Refused, cause: u32, witness: Witness) -> Result<Option<Reason>, NoMemory>
+    ensures none { IfOk result (λ found. IfNone found (IsCause cause → ⊥)) }
+    ensures at { IfOk result (λ found. IfSome found (λ r. r.at ≡ witness_spot refused.now.tokens.now (behind refused.now.reactors.now) witness)) }
+{
+    let said = match refused.of_witness(witness)? {
+        Some(reason) => Some(reason),
+        None => refused.of_cause(cause)?,
+    };
+    match said {
+        Some(reason) => {
+            let before = spot_before(refused.tokens, refused.reactors, witness);
+            let spot = spot_of(refused.tokens, refused.reactors, witness);
+            Ok(Some(reason.before(before).at(spot)))
+        }
+        None => Ok(None),
+    }
+}
+
+/// The witness that a refusal has, if it has one.
+fn witness_of(refusal: &Refusal) -> Option<Witness>
+    ensures { result ≡ witness_in refusal.now }
+{
+    match refusal {
+        Refusal::Shown(witness) => Some(*witness),
+        Refusal::Recursive(_) => None,
+        Refusal::TooMany => None,
+        Refusal::ConnectionCycle => None,
+        Refusal::LongChain => None,
+        Refusal::NoMemory => None,
+    }
+}
+
+/// What is said of a cause that no place of the text shows by itself.
+fn without_witness(
+    refused: &Refused,
+    refusal: &Refusal,
+    cause: u32,
+) -> Result<Option<Reason>, NoMemory>
+    ensures { IfOk result (λ found. IfNone found (IsCause cause → ⊥)) }
+{
+    match refused.of_whole(refusal)? {
+        Some(reason) => Ok(Some(reason)),
+        None => refused.of_cause(cause),
+    }
+}
 
 /// What shows the cause in a program that has this tree.
 fn reason_of(
@@ -26,9 +133,13 @@ fn reason_of(
     refusal: &Refusal,
     cause: u32,
 ) -> Result<Option<Reason>, NoMemory>
-    ensures { IfOk result (λ found. IfNone found (IsCause cause → ⊥)) }
+    requires tells { Tells (reactors_of (tree_view ast.now)) refusal.now }
+    requires of_cause { cause_of refusal.now ≡ cause }
+    requires is_cause { IsCause cause }
+    ensures none { IfOk result (λ found. IfNone found (IsCause cause → ⊥)) }
+    ensures shown { IfOk result (λ found. IfSome found (λ r. IsShownAt tokens.now (the_reactors_among ast.now.items.items) cause r.at)) }
 {
-    let reactors = members::reactors(alloc, &ast.items)?;
+    let reactors = reactors_among(alloc, &ast.items)?;
     let refused = Refused {
         alloc,
         text,
@@ -36,9 +147,9 @@ fn reason_of(
         ast,
         reactors: &reactors,
     };
-    match refused.of_refusal(refusal)? {
-        Some(reason) => Ok(Some(reason)),
-        None => refused.of_cause(cause),
+    match witness_of(refusal) {
+        Some(witness) => of_witness(&refused, cause, witness),
+        None => without_witness(&refused, refusal, cause),
     }
 }
 
@@ -60,7 +171,7 @@ fn push_spot(
 
 /// Where it is.
 fn start_of(alloc: Global, text: &[u8], spot: Option<Spot>) -> Result<String, NoMemory>
-    ensures { IfOk result (λ words. SayPlace text.now (string_bytes words) ⊎ (string_bytes words ≡ codes "Program: ")) }
+    ensures { IfOk result (λ words. SaySpot text.now spot (string_bytes words)) }
 {
     let mut out = String::new(alloc);
     match spot {
@@ -85,7 +196,7 @@ fn rest_of(alloc: Global, text: &[u8], reason: &Reason) -> Result<String, NoMemo
 
 /// The reason in lines.
 fn lines(alloc: Global, text: &[u8], reason: &Reason) -> Result<String, NoMemory>
-    ensures { IfOk result (λ words. BeginsThere text.now (string_bytes words)) }
+    ensures { IfOk result (λ words. BeginsAt text.now reason.now.at (string_bytes words)) }
 {
     let rest = rest_of(alloc, text, reason)?;
     let mut out = start_of(alloc, text, reason.at)?;
@@ -123,6 +234,8 @@ fn refusal_for(alloc: Global, ast: &Ast, cause: u32) -> Result<Option<Refusal>, 
     ensures some { IfOk result (λ found. IfSome found (λ _. IsFirst (causes (tree_view ast.now)) cause)) }
     ensures none { IfOk result (λ found. IfNone found (IsFirst (causes (tree_view ast.now)) cause → ⊥)) }
     ensures cause { IfOk result (λ found. IfSome found (λ _. IsCause cause)) }
+    ensures tells { IfOk result (λ found. IfSome found (Tells (reactors_of (tree_view ast.now)))) }
+    ensures of_cause { IfOk result (λ found. IfSome found (λ f. cause_of f ≡ cause)) }
 {
     let Err(refusal) = flattened(alloc, ast) else {
         return Ok(None);

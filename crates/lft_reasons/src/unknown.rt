@@ -3,7 +3,7 @@
 use crate::reason::Reason;
 use crate::refused::{Refused, Site};
 use crate::words::reactor_words;
-use lft_refusals::{Spot, has_code_with, token_spot};
+use lft_refusals::has_code_with;
 use lft_scope::names::Declared;
 use lft_tag::NoMemory;
 use lft_tree::{Instance, Member, Reference};
@@ -37,8 +37,7 @@ impl<'a> Refused<'a> {
             .say(" has an instance of ")?
             .say(wanted)?
             .say(", which is no reactor of the text")?;
-        let spot = token_spot(self.tokens, instance.reactor_at);
-        let reason = meant(reason.at(spot), self.near_reactor(wanted)?)?;
+        let reason = meant(reason, self.near_reactor(wanted)?)?;
         if has_code_with(self.text, self.tokens.as_slice(), b"reaction") {
             let way = "Some code has the word `reaction`: is the `=}` before that missing?";
             return Ok(Some(reason.way(way)?));
@@ -110,29 +109,21 @@ impl<'a> Refused<'a> {
         &self,
         site: Site<'a>,
         name: &Reference,
-        spot: Option<Spot>,
     ) -> Result<Reason, NoMemory> {
-        let reason = match &name.port {
-            None => self.unknown_plain(site, name.head.as_str())?,
-            Some(port) => self.unknown_port(site, name.head.as_str(), port.as_str())?,
-        };
-        Ok(reason.at(spot))
+        match &name.port {
+            None => self.unknown_plain(site, name.head.as_str()),
+            Some(port) => self.unknown_port(site, name.head.as_str(), port.as_str()),
+        }
     }
 
     /// A time names nothing.
-    pub(crate) fn unknown_time(
-        &self,
-        site: Site<'a>,
-        wanted: &str,
-        spot: Option<Spot>,
-    ) -> Result<Reason, NoMemory> {
+    pub(crate) fn unknown_time(&self, site: Site<'a>, wanted: &str) -> Result<Reason, NoMemory> {
         let (owner, name) = reactor_words(site.reactor);
         let reason = Reason::of(self.alloc, "nothing in ")?
             .say(owner)?
             .say(name)?
             .say(" is named ")?
-            .say(wanted)?
-            .at(spot);
+            .say(wanted)?;
         let reason = meant(reason, self.near_parameter(site.reactor, wanted)?)?;
         reason.way("A time is a number with a unit, or a parameter of the reactor.")
     }
@@ -159,7 +150,6 @@ impl<'a> Refused<'a> {
             .say(" a value for ")?
             .say(wanted)?
             .say(", which is no parameter of it")?;
-        let reason = reason.at(token_spot(self.tokens, given.at));
         match self.named(inner) {
             Some(reactor) => Ok(Some(meant(reason, self.near_parameter(reactor, wanted)?)?)),
             None => Ok(Some(reason)),

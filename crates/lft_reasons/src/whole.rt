@@ -3,8 +3,9 @@
 
 use crate::reason::Reason;
 use crate::refused::Refused;
+use crate::spots::{name_at, time_at};
 use itoa::Buffer;
-use lft_refusals::Spot;
+use lft_refusals::{Spot, name_spot, time_spot};
 use lft_scope::kinds::Role;
 use lft_tag::NoMemory;
 use lft_wiring::{Join, LimitedKind, Told, Wiring, long_chain_of, passed_limit, ring_of};
@@ -26,25 +27,18 @@ fn kind_words(kind: LimitedKind) -> &'static str {
 
 impl<'a> Refused<'a> {
     /// Where the name at which a single connection ends stands.
-    fn end_spot(&self, join: Join<'a>) -> Result<Option<Spot>, NoMemory> {
-        let Some(site) = self.site(join.reactor, join.member) else {
-            return Ok(None);
-        };
-        match self.name(site, Role::Destination, join.place)? {
-            Some((_, spot)) => Ok(spot),
-            None => Ok(None),
-        }
+    fn end_spot(&self, join: Join<'a>) -> Option<Spot> {
+        let site = self.site(join.reactor, join.member)?;
+        name_spot(
+            self.tokens,
+            name_at(site.member, Role::Destination, join.place)?,
+        )
     }
 
     /// Where the delay of a single connection stands.
-    fn delay_spot(&self, join: Join<'a>) -> Result<Option<Spot>, NoMemory> {
-        let Some(site) = self.site(join.reactor, join.member) else {
-            return Ok(None);
-        };
-        match self.time(site, 0)? {
-            Some((_, spot)) => Ok(spot),
-            None => Ok(None),
-        }
+    fn delay_spot(&self, join: Join<'a>) -> Option<Spot> {
+        let site = self.site(join.reactor, join.member)?;
+        time_spot(self.tokens, time_at(site.member, 0)?)
     }
 
     /// The ports of a loop in the direction of the connections, from the end of the first one on.
@@ -77,7 +71,7 @@ impl<'a> Refused<'a> {
         };
         let words = self.ring_words(&told.wiring, first, &told.joins)?;
         let reason = Reason::of(self.alloc, "connections alone form a loop")?
-            .at(self.end_spot(first)?)
+            .at(self.end_spot(first))
             .way(words.as_str())?;
         let way = "No delay breaks such a loop: a reaction has to stand in it.";
         Ok(Some(reason.way(way)?))
@@ -99,7 +93,7 @@ impl<'a> Refused<'a> {
         let reason = Reason::of(self.alloc, "the delays from ")?
             .say(ports.as_str())?
             .say(" sum to more than 10^18 nanoseconds")?
-            .at(self.delay_spot(last)?);
+            .at(self.delay_spot(last));
         Ok(Some(reason.way("That is some 31 years. No chain of connections may delay longer.")?))
     }
 

@@ -25,3 +25,9 @@ returns-else-branch-2-clause-none c first =
     let e = (Decides-eqb c.number_of.result c.args.cause).1 same in
     let no = c.if-branch-2.false in
     absurd (cc)
+
+pub returns-then-branch-2-clause-of_cause : goal.returns-then-branch-2-clause-of_cause
+returns-then-branch-2-clause-of_cause c = sym (c.number_of.ensures.number ∙ c.fault.ensures.cause) ∙ (Decides-eqb c.number_of.result c.args.cause).0 c.if-branch-2.true
+
+pub returns-then-branch-2-clause-tells : goal.returns-then-branch-2-clause-tells
+returns-then-branch-2-clause-tells c = c.in-Err.ensures.tells

@@ -1,11 +1,12 @@
-use Rattle.std.proofs.Common.{rules, ◌≡◌, inr, refl, subst}
+use Rattle.std.proofs.Common.{rules, ◌≡◌, IfSome, inr, refl, subst}
 use Rattle.lft_tree.specs.View.{tree_view}
 use Rattle.lft_scope.specs.Causes.{IsFirst, causes}
 use Rattle.lft_syntax.specs.Grammar.{Spells}
 use Rattle.lft_syntax.specs.View.{lexemes}
 use Rattle.lft_syntax.specs.declared.fault.SyntaxFault.{SyntaxFault}
 use Rattle.lft_syntax.specs.declared.fault.SyntaxFault.TheVariants as fault
-use Rattle.lft_reasons.specs.Reasons.{IsRefusedFor}
+use Rattle.lft_reasons.specs.Reasons.{IsRefusedFor, IsShownAt}
+use Rattle.lft_reasons.specs.Spots.{reactors_among}
 use Rattle.lft_reasons.proofs.tell.tell_cause.Goals as goal
 
 pub returns-in-Some-clause-some : goal.returns-in-Some-clause-some
@@ -17,7 +18,13 @@ returns-in-Some-clause-some c = record {
     spells = c.in-Ok-parse.ensures.tree.0;
     first = search rules;
   };
-  begins = search rules;
+  target = c.in-Ok-parse.ast.target;
+  parts = c.in-Ok-parse.ast.items.items;
+  are_parts = refl;
+  stand = c.in-Ok-parse.ensures.places;
+  spot = c.in-Some.reason.at;
+  shown = subst (λ o. IfSome o (λ r. IsShownAt c.in-Ok.tokens (reactors_among c.in-Ok-parse.ast.items.items) c.args.cause r.at)) c.in-Some.is c.in_ok-reason.ensures.shown;
+  begins = c.in_ok-words-in-Some.ensures;
 }
 
 pub returns-in-Err-parse-clause-none : goal.returns-in-Err-parse-clause-none
