@@ -46,11 +46,9 @@ fn add_part(
     first: usize,
     end: usize,
 ) -> bool
-    ghost done: { List TheRow }
     requires fit { RowsFit plan.now.program rows.now }
     requires range { (first ≤ end) × (end ≤ length rows.now) }
-    requires before { done ≡ take first rows.now }
-    requires stands { IsAcceptorOf plan.now done acceptor.old }
+    requires stands { IsAcceptorOf plan.now (take first rows.now) acceptor.old }
     ensures { IsTrue result → IsAcceptorOf plan.now (take end rows.now) acceptor.new }
 {
     acceptor.add(alloc, plan, &rows[first..end])

@@ -85,10 +85,8 @@ fn add_rows(
     judged: usize,
     rows: &[Row],
 ) -> bool
-    ghost done: { List TheRow }
     requires fit { RowsFit plan.now.program rows.now }
-    requires before { done ≡ take judged (rows_in plan.now.program body.now) }
-    requires stands { IsAcceptorOf plan.now done acceptor.old }
+    requires stands { IsAcceptorOf plan.now (take judged (rows_in plan.now.program body.now)) acceptor.old }
     ensures { IsTrue result → IsAcceptorOf plan.now (take judged (rows_in plan.now.program body.now) ++ rows.now) acceptor.new }
 {
     acceptor.add(alloc, plan, rows)

@@ -23,7 +23,7 @@ use Rattle.lft_follow.specs.declared.follower.Follower.{Follower}
 use Rattle.lft_follow.specs.declared.gone.Halt.TheVariants.{AtEnd, AtRow, AtLater}
 use Rattle.lft_follow.specs.Going.{IsGoing, IsFirstBad, IsLost, HasGone}
 use Rattle.lft_follow.specs.declared.judged.Judged.{Judged}
-use Rattle.lft_follow.specs.Follows.{done_of, IsAtHand, IsFollowerOf, IsHeld, IsJudged, IsJudgedOf, IsSureBehind, IsSureOf, BeginsLast}
+use Rattle.lft_follow.specs.Follows.{done_of, IsAtHand, IsCleanTo, IsFollowerOf, IsHeld, IsJudged, IsJudgedOf, IsSureBehind, IsSureOf, BeginsLast}
 use Rattle.lft_follow.proofs.Judging.{accepted_rise, all_at, parted, rest_at}
 use Rattle.lft_follow.proofs.Telling.{bad_is_sure, lost_is_sure}
 
@@ -191,6 +191,10 @@ judged_so_far plan t f is = record { done = d; left = f.rows.items; parts = h.pa
     at_one [] some earlier g = (g.0, g.1, subst (λ (x : List Row). AreBefore x g.0) (sym (some refl)) (λ i x e. absurd (cc)))
     at_one (y ∷ u) some earlier g = (g.0, g.1, subst (λ (k : Tag). AreBefore d k) (g.1 0 y refl) (earlier y refl))
 
+-- the rows that are judged are clean
+pub clean_before : (plan : PlanParts) (t : List Row) (f : Follower) → IsHeld plan t f → (n : ℕ) × IsCleanTo plan t f.judged.reach n
+clean_before plan t f h = (f.judged.count, record { within = let a : length t ≡ length (done_of t f) + length f.rows.items = ap (λ (x : List Row). length x) h.parts ∙ length-append (done_of t f) f.rows.items in let b : f.judged.count ≡ length (done_of t f) = h.judged.counted in omega (arith, a, b); clean = h.judged.clean })
+
 -- before the first row
 pub new_follower : (plan : PlanParts) (f : Follower) → IsJudgedOf plan [] f.judged → ((rows : List Row) → IsGoing plan [] rows f.going) → f.rows.items ≡ [] → IsFollowerOf plan [] f
 new_follower plan f judged going none = record {
@@ -215,10 +219,6 @@ pub begins_of : (rows s : List Row) (n begin : ℕ) → s ≡ rows → n ≡ len
 begins_of rows s n begin is long begins = subst (λ (x : List Row). BeginsLast x (length rows) begin) is (subst (λ (m : ℕ). BeginsLast s m begin) long begins)
 
 module _ (plan : PlanParts) (t more : List Row) (old now : Follower) (is : IsFollowerOf plan t old) (hand : IsAtHand plan (t ++ more) now) where
-  -- the rows so far, as those that are judged and those at hand
-  pub picked : now.rows.items ≡ old.rows.items ++ more → take old.judged.count t ++ now.rows.items ≡ t ++ more
-  picked rows = ap (λ (x : List Row). take old.judged.count t ++ x) rows ∙ sym (append_assoc (take old.judged.count t) old.rows.items more) ∙ ap (λ (x : List Row). x ++ more) (sym is.hand.held.parts)
-
   module _ (s : List Row) (rows : s ≡ now.rows.items) where
     pub fit_over : RowsFit plan.program s
     fit_over = subst (RowsFit plan.program) (sym rows) hand.held.fit

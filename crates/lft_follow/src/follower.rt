@@ -100,9 +100,7 @@ impl Follower {
     /// How far the rows are judged.
     // The plan is passed for what the contract says of it.
     pub fn reach(&self, plan: &Plan) -> Reach
-        ghost t: { List TheRow }
-        requires stands { IsFollowerOf plan.now t self.now }
-        ensures { IsJudged plan.now t result }
+        ensures { (t : List TheRow) → IsFollowerOf plan.now t self.now → IsJudged plan.now t result }
     {
         let _ = plan;
         self.judged.reach
@@ -110,11 +108,10 @@ impl Follower {
 
     /// Judges the rows at hand but those at the last tag, all of which are gone over.
     fn go_on(&mut self, alloc: Global, plan: &Plan) -> Result<Progress, NoMemory>
-        ghost t: { List TheRow }
         requires few { self.old.judged.count ≤ 2 ^ 62 }
-        requires hand { IsAtHand plan.now t self.old }
+        requires hand { (t : List TheRow) × IsAtHand plan.now t self.old }
         requires gone { self.old.going.passed ≡ length self.old.rows.items }
-        ensures { IfOk result (IsProgress plan.now t self.new) }
+        ensures { IfOk result (λ p. (t : List TheRow) → IsAtHand plan.now t self.old → IsProgress plan.now t self.new p) }
     {
         let rows = self.rows.as_slice();
         let begin = last_begins(rows, rows.len());
@@ -137,12 +134,10 @@ impl Follower {
 
     /// What is told where the row at the place breaks the rule and the end is that of the rows gone over.
     fn tell(&mut self, alloc: Global, plan: &Plan, place: usize, end: usize, rule: u8) -> Progress
-        ghost t: { List TheRow }
         requires few { self.old.judged.count ≤ 2 ^ 62 }
-        requires held { IsHeld plan.now t self.old }
+        requires held { (t : List TheRow) × IsHeld plan.now t self.old }
         requires place { (place < length self.old.rows.items) × (end ≤ length self.old.rows.items) }
-        requires sure { IsSureOf plan.now t self.old place rule }
-        ensures { IsProgress plan.now t self.new result }
+        ensures { (t : List TheRow) → IsHeld plan.now t self.old → IsSureOf plan.now t self.old place rule → IsProgress plan.now t self.new result }
     {
         let found = found_at(self.rows.as_slice(), place, self.judged.count, rule);
         let begin = last_begins(self.rows.as_slice(), end);
@@ -157,10 +152,9 @@ impl Follower {
 
     /// Goes on past more rows. A tag is judged once a row at a later one is there.
     pub fn add(&mut self, alloc: Global, plan: &Plan, more: &[Row]) -> Result<Progress, NoMemory>
-        ghost t: { List TheRow }
         requires fit { RowsFit plan.now.program more.now }
-        requires stands { IsFollowerOf plan.now t self.old }
-        ensures { IfOk result (IsProgress plan.now (t ++ more.now) self.new) }
+        requires stands { (t : List TheRow) × IsFollowerOf plan.now t self.old }
+        ensures { IfOk result (λ p. (t : List TheRow) → IsFollowerOf plan.now t self.old → IsProgress plan.now (t ++ more.now) self.new p) }
     {
         let Ok(()) = self.rows.extend_from_slice(more) else {
             return Err(NoMemory);
@@ -177,9 +171,8 @@ impl Follower {
 
     /// What the rows show where no more come. The last tag is judged too, where all of its runs are there.
     pub fn finish(&mut self, alloc: Global, plan: &Plan) -> Ending
-        ghost t: { List TheRow }
-        requires stands { IsFollowerOf plan.now t self.old }
-        ensures { IsEnding plan.now t result }
+        requires { (t : List TheRow) × IsFollowerOf plan.now t self.old }
+        ensures { (t : List TheRow) → IsFollowerOf plan.now t self.old → IsEnding plan.now t result }
     {
         let reach = self.judged.reach;
         if self.judged.count > MOST || !self.judged.judge(alloc, plan, self.rows.as_slice()) {

@@ -61,6 +61,15 @@ pub(crate) fn stop_over(last: Tag, rows: &[Row]) -> Tag
     stop
 }
 
+/// Whether the row at the place is at a later tag than the one before it.
+fn rises_at(rows: &[Row], place: usize) -> bool
+    requires { (0 < place) × (place < length rows.now) }
+{
+    row_at(rows, place - 1)
+        .tag
+        .is_before(row_at(rows, place).tag)
+}
+
 impl Going {
     /// Before the first row.
     pub(crate) fn new(alloc: Global, plan: &Plan) -> Result<Going, NoMemory>
@@ -95,7 +104,8 @@ impl Going {
         requires stands { (plan : PlanParts) × (done : List TheRow) × IsGoing plan done rows.now self.now }
         ensures { IfSome result (λ start. IsLost rows.now start place) }
     {
-        if self.open == 0 || place == 0 {
+        // All rows are looked at, so this is asked only where the tag rises.
+        if self.open == 0 || place == 0 || !rises_at(rows, place) {
             return None;
         }
         let start = self.pass.first_open(&rows[0..place], place)?;

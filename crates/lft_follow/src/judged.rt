@@ -54,11 +54,10 @@ impl Judged {
     /// Judges more rows, of whole tags. It is false where they may break a rule, or too much is to be
     /// looked at, or memory is refused.
     pub(crate) fn judge(&mut self, alloc: Global, plan: &Plan, rows: &[Row]) -> bool
-        ghost done: { List TheRow }
         requires fit { RowsFit plan.now.program rows.now }
         requires few { self.old.count ≤ 2 ^ 62 }
-        requires stands { IsJudgedOf plan.now done self.old }
-        ensures stands { IsTrue result → IsJudgedOf plan.now (done ++ rows.now) self.new }
+        requires stands { (done : List TheRow) × IsJudgedOf plan.now done self.old }
+        ensures stands { IsTrue result → (done : List TheRow) → IsJudgedOf plan.now done self.old → IsJudgedOf plan.now (done ++ rows.now) self.new }
         ensures reach { result ≡ false → self.new.reach ≡ self.old.reach }
     {
         if rows.is_empty() {
@@ -80,9 +79,7 @@ impl Judged {
 
     /// What the rows show, where no more come.
     pub(crate) fn finish(&mut self, plan: &Plan) -> Ending
-        ghost done: { List TheRow }
-        requires stands { IsJudgedOf plan.now done self.old }
-        ensures { IsEnding plan.now done result }
+        ensures { (done : List TheRow) → IsJudgedOf plan.now done self.old → IsEnding plan.now done result }
     {
         match self.acceptor.finish(plan) {
             Some(counts) => Ending::Accepted(counts),

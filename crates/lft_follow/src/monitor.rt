@@ -16,10 +16,7 @@ use std::alloc::Global;
 /// Whether nothing is broken so far, of tags before this one. It is false too where that isn't known.
 // The plan is passed for what the contract says of it.
 pub fn is_unbroken(acceptor: &Acceptor, plan: &Plan, low: Tag) -> bool
-    ghost rows: { List TheRow }
-    requires stands { IsAcceptorOf plan.now rows acceptor.now }
-    requires low { UpTo low (low_of acceptor.now.stream.tag) }
-    ensures { IsTrue result → IsUnbroken plan.now rows low }
+    ensures { IsTrue result → (rows : List TheRow) → IsAcceptorOf plan.now rows acceptor.now → UpTo low (low_of acceptor.now.stream.tag) → IsUnbroken plan.now rows low }
 {
     let _ = plan;
     acceptor.is_timely(low)
@@ -29,12 +26,11 @@ pub fn is_unbroken(acceptor: &Acceptor, plan: &Plan, low: Tag) -> bool
 /// whatever rows come at later tags. Where it is false the rows may break a rule, or too much is to be
 /// looked at, or memory is refused.
 pub fn go_on(acceptor: &mut Acceptor, alloc: Global, plan: &Plan, rows: &[Row]) -> bool
-    ghost done: { List TheRow }
     requires fit { RowsFit plan.now.program rows.now }
     requires some { 0 < length rows.now }
-    requires stands { IsAcceptorOf plan.now done acceptor.old }
-    ensures stands { IsTrue result → IsAcceptorOf plan.now (done ++ rows.now) acceptor.new }
-    ensures unbroken { IsTrue result → (x : TheRow) → slice_get rows.now (length rows.now - 1) ≡ Some x → IsUnbroken plan.now (done ++ rows.now) (after x.tag 0) }
+    requires stands { (done : List TheRow) × IsAcceptorOf plan.now done acceptor.old }
+    ensures stands { IsTrue result → (done : List TheRow) → IsAcceptorOf plan.now done acceptor.old → IsAcceptorOf plan.now (done ++ rows.now) acceptor.new }
+    ensures unbroken { IsTrue result → (done : List TheRow) → IsAcceptorOf plan.now done acceptor.old → (x : TheRow) → slice_get rows.now (length rows.now - 1) ≡ Some x → IsUnbroken plan.now (done ++ rows.now) (after x.tag 0) }
 {
     let last = row_at(rows, rows.len() - 1);
     let low = last.tag.after(0, 0);

@@ -47,10 +47,7 @@ fn with_row(reach: Reach, row: Row) -> Option<Reach>
 
 /// The reach of rows with more behind them. None where a count would be too great.
 pub(crate) fn reach_behind(reach: Reach, rows: &[Row]) -> Option<Reach>
-    ghost done: { List TheRow }
-    requires reach { IsReach done reach }
-    requires rises { Rises (done ++ rows.now) }
-    ensures { IfSome result (IsReach (done ++ rows.now)) }
+    ensures { IfSome result (λ more. (done : List TheRow) → Rises (done ++ rows.now) → IsReach done reach → IsReach (done ++ rows.now) more) }
 {
     let mut reach = reach;
     for place in 0..rows.len() {

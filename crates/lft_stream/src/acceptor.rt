@@ -43,10 +43,9 @@ impl Acceptor {
     /// Goes on past more rows, of whole tags. It is false where they may break a rule, or too much is
     /// to be looked at, or memory is refused.
     pub fn add(&mut self, alloc: Global, plan: &Plan, rows: &[Row]) -> bool
-        ghost done: { List TheRow }
         requires fit { RowsFit plan.now.program rows.now }
-        requires stands { IsAcceptorOf plan.now done self.old }
-        ensures { IsTrue result → IsAcceptorOf plan.now (done ++ rows.now) self.new }
+        requires stands { (done : List TheRow) × IsAcceptorOf plan.now done self.old }
+        ensures { IsTrue result → (done : List TheRow) → IsAcceptorOf plan.now done self.old → IsAcceptorOf plan.now (done ++ rows.now) self.new }
     {
         let stop = self.stream.stop;
         self.marks.clear();

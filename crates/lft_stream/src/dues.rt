@@ -78,13 +78,10 @@ fn meet(
     last: Tag,
     reaction: u32,
 ) -> bool
-    ghost rows: { List TheRow }
     requires triggers { (k : ℕ) (x : TheTrigger) → slice_get triggers.now k ≡ Some x → IsTriggerOf plan.now.program x }
-    requires last { last ≡ stop plan.now rows }
-    requires ran { Ran rows tag reaction }
-    requires due { AreDue plan.now rows reaction triggers.now dues.old }
-    ensures due { AreDue plan.now rows reaction triggers.now dues.new }
-    ensures present { IsTrue result → SomeOccurs plan.now rows tag triggers.now }
+    requires long { length dues.old ≡ length triggers.now }
+    ensures due { (t : List TheRow) → last ≡ stop plan.now t → Ran t tag reaction → AreDue plan.now t reaction triggers.now dues.old → AreDue plan.now t reaction triggers.now dues.new }
+    ensures present { IsTrue result → (t : List TheRow) → last ≡ stop plan.now t → Ran t tag reaction → AreDue plan.now t reaction triggers.now dues.old → SomeOccurs plan.now t tag triggers.now }
 {
     let mut is_present = false;
     for place in 0..triggers.len() {
@@ -126,13 +123,10 @@ impl Dues {
     /// Whether the reaction, which has a run at the tag, is triggered there, where the stop is the last.
     /// What was due there is due later now.
     pub(crate) fn run(&mut self, plan: &Plan, reaction: u32, tag: Tag, last: Tag) -> bool
-        ghost rows: { List TheRow }
         requires reaction { reaction < length plan.now.program.reactions }
-        requires last { last ≡ stop plan.now rows }
-        requires ran { Ran rows tag reaction }
-        requires dues { AreDues plan.now rows self.old }
-        ensures dues { AreDues plan.now rows self.new }
-        ensures triggered { IsTrue result → Triggered plan.now rows tag reaction }
+        requires dues { (t : List TheRow) × AreDues plan.now t self.old }
+        ensures dues { (t : List TheRow) → last ≡ stop plan.now t → Ran t tag reaction → AreDues plan.now t self.old → AreDues plan.now t self.new }
+        ensures triggered { IsTrue result → (t : List TheRow) → last ≡ stop plan.now t → Ran t tag reaction → AreDues plan.now t self.old → Triggered plan.now t tag reaction }
     {
         let triggers = plan.program().reaction(reaction).triggers.as_slice();
         let dues = self.lists[reaction as usize].as_mut_slice();

@@ -1,6 +1,6 @@
 //! Whether each reaction that a written port triggers has a run.
 
-ghost use Rattle.std.specs.Prelude.{◌≡◌, ℕ, List, IsSome, IsTrue, Contains};
+ghost use Rattle.std.specs.Prelude.{◌≡◌, ℕ, List, length, IsSome, IsTrue, Contains};
 ghost use Rattle.lft_steps.specs.declared.row.Row.{Row as TheRow};
 ghost use Rattle.lft_steps.specs.Fits.{RowsFit};
 ghost use Rattle.lft_model.specs.Runs.{Ran};
@@ -20,9 +20,8 @@ use lft_tag::Tag;
 
 /// Whether each of the reactions started last at the tag.
 fn have_started(program: &Program, starts: &StartTags, reactions: &[u32], tag: Tag) -> bool
-    ghost whole: { List TheRow }
-    requires starts { AreStartTags program.now whole starts.now }
-    ensures { IsTrue result → (r : ℕ) → Contains reactions.now r → Ran whole tag r }
+    requires { length starts.now ≡ length program.now.reactions }
+    ensures { IsTrue result → (whole : List TheRow) → AreStartTags program.now whole starts.now → (r : ℕ) → Contains reactions.now r → Ran whole tag r }
 {
     for place in 0..reactions.len() {
         if !starts.is_at(program, item_at(reactions, place), tag) {
@@ -34,11 +33,10 @@ fn have_started(program: &Program, starts: &StartTags, reactions: &[u32], tag: T
 
 /// Whether each reaction that one of the rows triggers at once, all at the tag, has a run there.
 fn are_heard(plan: &Plan, listeners: &Listeners, starts: &StartTags, own: &[Row], tag: Tag) -> bool
-    ghost whole: { List TheRow }
     requires fit { RowsFit plan.now.program own.now }
     requires listeners { AreListeners plan.now listeners.now }
-    requires starts { AreStartTags plan.now.program whole starts.now }
-    ensures { IsTrue result → AreHeard plan.now whole own.now tag }
+    requires long { length starts.now ≡ length plan.now.program.reactions }
+    ensures { IsTrue result → (whole : List TheRow) → AreStartTags plan.now.program whole starts.now → AreHeard plan.now whole own.now tag }
 {
     let program = plan.program();
     for place in 0..own.len() {
@@ -60,9 +58,8 @@ fn are_met(
     starts: &StartTags,
     tag: Tag,
 ) -> bool
-    ghost whole: { List TheRow }
-    requires starts { AreStartTags program.now whole starts.now }
-    ensures { IsTrue result → (n : TheName) → IsSome (value_of tag n coming.now.queue) → AreStarted whole tag listeners.now n }
+    requires { length starts.now ≡ length program.now.reactions }
+    ensures { IsTrue result → (whole : List TheRow) → AreStartTags program.now whole starts.now → (n : TheName) → IsSome (value_of tag n coming.now.queue) → AreStarted whole tag listeners.now n }
 {
     for name in coming.names_at(tag) {
         if let Some(list) = listeners.get(name) {
@@ -84,12 +81,11 @@ pub(crate) fn is_all_heard(
     own: &[Row],
     tag: Tag,
 ) -> bool
-    ghost whole: { List TheRow }
     requires fit { RowsFit plan.now.program own.now }
     requires listeners { AreListeners plan.now listeners.now }
-    requires starts { AreStartTags plan.now.program whole starts.now }
-    ensures heard { IsTrue result → AreHeard plan.now whole own.now tag }
-    ensures met { IsTrue result → (n : TheName) → IsSome (value_of tag n coming.now.queue) → AreStarted whole tag listeners.now n }
+    requires long { length starts.now ≡ length plan.now.program.reactions }
+    ensures heard { IsTrue result → (whole : List TheRow) → AreStartTags plan.now.program whole starts.now → AreHeard plan.now whole own.now tag }
+    ensures met { IsTrue result → (whole : List TheRow) → AreStartTags plan.now.program whole starts.now → (n : TheName) → IsSome (value_of tag n coming.now.queue) → AreStarted whole tag listeners.now n }
 {
     are_heard(plan, listeners, starts, own, tag)
         && are_met(plan.program(), coming, listeners, starts, tag)

@@ -22,10 +22,9 @@ use lft_tag::Tag;
 /// What may be read of the name, which some reaction reads, at the tag, of rows that are at the tag behind
 /// rows that are at earlier ones: its value, or that it is absent.
 fn shown(writes: &Writes, coming: &Coming, plan: &Plan, tag: Tag, name: Name) -> Option<Value>
-    ghost parts: { List TheRow × List TheRow }
     requires name { IsNameOf plan.now.program name × IsAwaited plan.now.program name }
-    requires shown { AreShown plan.now parts.0 parts.1 tag writes.now coming.now.queue }
-    ensures { Shows plan.now (parts.0 ++ parts.1) tag name result }
+    requires long { length writes.now ≡ length plan.now.program.ports }
+    ensures { (d u : List TheRow) → AreShown plan.now d u tag writes.now coming.now.queue → Shows plan.now (d ++ u) tag name result }
 {
     let program = plan.program();
     match name {
@@ -48,10 +47,9 @@ pub(crate) fn is_woken(
     tag: Tag,
     reaction: u32,
 ) -> bool
-    ghost parts: { List TheRow × List TheRow }
     requires reaction { reaction < length plan.now.program.reactions }
-    requires shown { AreShown plan.now parts.0 parts.1 tag writes.now coming.now.queue }
-    ensures { IsTrue result → Triggered plan.now (parts.0 ++ parts.1) tag reaction }
+    requires long { length writes.now ≡ length plan.now.program.ports }
+    ensures { IsTrue result → (d u : List TheRow) → AreShown plan.now d u tag writes.now coming.now.queue → Triggered plan.now (d ++ u) tag reaction }
 {
     let names = plan.program().reaction(reaction).triggers.names();
     for place in 0..names.len() {
@@ -79,13 +77,12 @@ fn has_read(
     slice: Slice,
     reaction: u32,
 ) -> bool
-    ghost parts: { List TheRow × List TheRow }
     requires fit { RowsFit plan.now.program rows.now }
     requires slice { IsSlice rows.now slice }
     requires reaction { reaction < length plan.now.program.reactions }
     requires marks { AreMarks plan.now.program rows.now slice.first slice.end marks.now }
-    requires shown { AreShown plan.now parts.0 parts.1 slice.tag writes.now coming.now.queue }
-    ensures { IsTrue result → Inputs plan.now (parts.0 ++ parts.1) slice.tag reaction (reads_at plan.now rows.now slice.tag reaction) }
+    requires long { length writes.now ≡ length plan.now.program.ports }
+    ensures { IsTrue result → (d u : List TheRow) → AreShown plan.now d u slice.tag writes.now coming.now.queue → Inputs plan.now (d ++ u) slice.tag reaction (reads_at plan.now rows.now slice.tag reaction) }
 {
     let program = plan.program();
     let names = marks.inputs(program, reaction);
@@ -108,12 +105,11 @@ pub(crate) fn have_read(
     rows: &[Row],
     slice: Slice,
 ) -> bool
-    ghost parts: { List TheRow × List TheRow }
     requires fit { RowsFit plan.now.program rows.now }
     requires slice { IsSlice rows.now slice }
     requires marks { AreMarks plan.now.program rows.now slice.first slice.end marks.now }
-    requires shown { AreShown plan.now parts.0 parts.1 slice.tag writes.now coming.now.queue }
-    ensures { IsTrue result → (r : ℕ) → Ran rows.now slice.tag r → Inputs plan.now (parts.0 ++ parts.1) slice.tag r (reads_at plan.now rows.now slice.tag r) }
+    requires long { length writes.now ≡ length plan.now.program.ports }
+    ensures { IsTrue result → (d u : List TheRow) → AreShown plan.now d u slice.tag writes.now coming.now.queue → (r : ℕ) → Ran rows.now slice.tag r → Inputs plan.now (d ++ u) slice.tag r (reads_at plan.now rows.now slice.tag r) }
 {
     for place in slice.first..slice.end {
         let row = row_at(rows, place);

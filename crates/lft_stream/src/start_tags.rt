@@ -41,23 +41,21 @@ impl StartTags {
 
     /// The reaction has a run at the tag.
     fn begin(&mut self, program: &Program, reaction: u32, tag: Tag)
-        ghost whole: { List TheRow }
         requires reaction { reaction < length program.now.reactions }
-        requires ran { Ran whole tag reaction }
-        requires starts { AreStartTags program.now whole self.old }
-        ensures { AreStartTags program.now whole self.new }
+        requires long { length self.old ≡ length program.now.reactions }
+        ensures long { length self.new ≡ length program.now.reactions }
+        ensures starts { (whole : List TheRow) → Ran whole tag reaction → AreStartTags program.now whole self.old → AreStartTags program.now whole self.new }
     {
         self.last[reaction as usize] = Some(tag);
     }
 
     /// Goes on past the rows of a slice, whose runs are runs of the whole.
     pub(crate) fn pass_all(&mut self, program: &Program, rows: &[Row], slice: Slice)
-        ghost whole: { List TheRow }
         requires fit { RowsFit program.now rows.now }
         requires slice { IsSlice rows.now slice }
-        requires ran { (r : ℕ) → Ran rows.now slice.tag r → Ran whole slice.tag r }
-        requires starts { AreStartTags program.now whole self.old }
-        ensures { AreStartTags program.now whole self.new }
+        requires long { length self.old ≡ length program.now.reactions }
+        ensures long { length self.new ≡ length program.now.reactions }
+        ensures starts { (whole : List TheRow) → ((r : ℕ) → Ran rows.now slice.tag r → Ran whole slice.tag r) → AreStartTags program.now whole self.old → AreStartTags program.now whole self.new }
     {
         for place in slice.first..slice.end {
             let row = row_at(rows, place);
@@ -69,9 +67,8 @@ impl StartTags {
 
     /// Whether the reaction started last at the tag.
     pub(crate) fn is_at(&self, program: &Program, reaction: u32, tag: Tag) -> bool
-        ghost whole: { List TheRow }
-        requires starts { AreStartTags program.now whole self.now }
-        ensures { IsTrue result → Ran whole tag reaction }
+        requires { length self.now ≡ length program.now.reactions }
+        ensures { IsTrue result → (whole : List TheRow) → AreStartTags program.now whole self.now → Ran whole tag reaction }
     {
         let number = reaction as usize;
         if number >= program.reactions() {

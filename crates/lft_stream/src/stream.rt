@@ -10,7 +10,7 @@ ghost use Rattle.lft_model.specs.Runs.{Ran};
 ghost use Rattle.lft_rows.specs.Marks.{AreMarks, AreBefore as HaveMarksTo, IsLaid};
 ghost use Rattle.lft_rows.specs.Slices.{IsSlice, Rises, runs_in};
 ghost use Rattle.lft_rows.specs.Accepted.{IsAccepted};
-ghost use Rattle.lft_stream.specs.Dues.{AreDues, NoneDueBefore};
+ghost use Rattle.lft_stream.specs.Dues.{AreDues, AreDuesAt, NoneDueBefore};
 ghost use Rattle.lft_stream.specs.Kept.{KeepRules, IsLater, IsStreamOf, RisesAt, IsAtHand, IsJudged};
 ghost use Rattle.lft_stream.specs.Present.{AreShown};
 
@@ -116,14 +116,11 @@ fn is_triggered(
     tag: Tag,
     last: Tag,
 ) -> bool
-    ghost parts: { List TheRow × List TheRow }
     requires reaction { reaction < length plan.now.program.reactions }
-    requires last { last ≡ stop plan.now (parts.0 ++ parts.1) }
-    requires ran { Ran (parts.0 ++ parts.1) tag reaction }
-    requires shown { AreShown plan.now parts.0 parts.1 tag writes.now coming.now.queue }
-    requires dues { AreDues plan.now (parts.0 ++ parts.1) dues.old }
-    ensures dues { AreDues plan.now (parts.0 ++ parts.1) dues.new }
-    ensures triggered { IsTrue result → Triggered plan.now (parts.0 ++ parts.1) tag reaction }
+    requires long { length writes.now ≡ length plan.now.program.ports }
+    requires dues { (t : List TheRow) × AreDues plan.now t dues.old }
+    ensures dues { (t : List TheRow) → last ≡ stop plan.now t → Ran t tag reaction → AreDues plan.now t dues.old → AreDues plan.now t dues.new }
+    ensures triggered { IsTrue result → (d u : List TheRow) → last ≡ stop plan.now (d ++ u) → Ran (d ++ u) tag reaction → AreShown plan.now d u tag writes.now coming.now.queue → AreDues plan.now (d ++ u) dues.old → Triggered plan.now (d ++ u) tag reaction }
 {
     // The dues go on wherever the reaction has a run, so they are asked first.
     dues.run(plan, reaction, tag, last) || is_woken(writes, coming, plan, tag, reaction)
@@ -140,15 +137,12 @@ fn are_triggered(
     slice: Slice,
     last: Tag,
 ) -> bool
-    ghost parts: { List TheRow × List TheRow }
     requires fit { RowsFit plan.now.program rows.now }
     requires slice { IsSlice rows.now slice }
-    requires last { last ≡ stop plan.now (parts.0 ++ parts.1) }
-    requires ran { (r : ℕ) → Ran rows.now slice.tag r → Ran (parts.0 ++ parts.1) slice.tag r }
-    requires shown { AreShown plan.now parts.0 parts.1 slice.tag writes.now coming.now.queue }
-    requires dues { AreDues plan.now (parts.0 ++ parts.1) dues.old }
-    ensures dues { AreDues plan.now (parts.0 ++ parts.1) dues.new }
-    ensures triggered { IsTrue result → (r : ℕ) → Ran rows.now slice.tag r → Triggered plan.now (parts.0 ++ parts.1) slice.tag r }
+    requires long { length writes.now ≡ length plan.now.program.ports }
+    requires dues { (t : List TheRow) × AreDuesAt plan.now t rows.now slice.tag last dues.old }
+    ensures dues { (t : List TheRow) → AreDuesAt plan.now t rows.now slice.tag last dues.old → AreDues plan.now t dues.new }
+    ensures triggered { IsTrue result → (d u : List TheRow) → AreDuesAt plan.now (d ++ u) rows.now slice.tag last dues.old → AreShown plan.now d u slice.tag writes.now coming.now.queue → (r : ℕ) → Ran rows.now slice.tag r → Triggered plan.now (d ++ u) slice.tag r }
 {
     for place in slice.first..slice.end {
         let row = row_at(rows, place);
@@ -222,11 +216,10 @@ impl Stream {
 
     /// Whether the runs of a slice are right, by what is kept; that goes on past the slice.
     fn judge_slice(&mut self, plan: &Plan, marks: &Marks, rows: &[Row], slice: Slice) -> bool
-        ghost done: { List TheRow }
         requires fit { RowsFit plan.now.program rows.now }
         requires slice { IsSlice rows.now slice }
         requires marks { AreMarks plan.now.program rows.now slice.first slice.end marks.now }
-        requires hand { IsAtHand plan.now done rows.now slice self.old }
+        requires hand { (done : List TheRow) × IsAtHand plan.now done rows.now slice self.old }
         ensures stop { self.new.stop ≡ self.old.stop }
         ensures tag { self.new.tag ≡ self.old.tag }
         ensures runs { self.new.runs ≡ self.old.runs }
@@ -235,14 +228,14 @@ impl Stream {
         ensures unread { self.new.unread ≡ self.old.unread }
         ensures listeners { self.new.listeners ≡ self.old.listeners }
         ensures channels { self.new.channels ≡ self.old.channels }
-        ensures judged { IsTrue result → IsJudged plan.now done rows.now slice self.new }
+        ensures judged { IsTrue result → (done : List TheRow) → IsAtHand plan.now done rows.now slice self.old → IsJudged plan.now done rows.now slice self.new }
     {
         let program = plan.program();
         let own = &rows[slice.first..slice.end];
         let stop = self.stop;
         self.writes.pass_all(program, own, slice.tag);
         self.starts.pass_all(program, rows, slice);
-        are_triggered(
+        if !are_triggered(
             &mut self.dues,
             &self.writes,
             &self.coming,
@@ -250,15 +243,18 @@ impl Stream {
             rows,
             slice,
             stop,
-        ) && have_read(&self.writes, &self.coming, marks, plan, rows, slice)
-            && is_all_heard(
-                plan,
-                &self.coming,
-                &self.listeners,
-                &self.starts,
-                own,
-                slice.tag,
-            )
+        ) || !have_read(&self.writes, &self.coming, marks, plan, rows, slice)
+        {
+            return false;
+        }
+        is_all_heard(
+            plan,
+            &self.coming,
+            &self.listeners,
+            &self.starts,
+            own,
+            slice.tag,
+        )
     }
 
     /// Goes on past the rows of a slice. It is false where they may break a rule, or too much is to be
@@ -271,16 +267,15 @@ impl Stream {
         rows: &[Row],
         slice: Slice,
     ) -> bool
-        ghost done: { List TheRow }
         requires fit { RowsFit plan.now.program rows.now }
         requires kept { KeepRules plan.now rows.now }
         requires slice { IsSlice rows.now slice }
         requires marks { HaveMarksTo plan.now.program slice.first marks.old }
-        requires stands { IsStreamOf plan.now (done ++ take slice.first rows.now) self.old }
+        requires stands { (done : List TheRow) × IsStreamOf plan.now (done ++ take slice.first rows.now) self.old }
         requires order { IfSome order.old (AreAncestors plan.now.program) }
         ensures order { IfSome order.new (AreAncestors plan.now.program) }
         ensures marks { IsTrue result → HaveMarksTo plan.now.program slice.end marks.new }
-        ensures stands { IsTrue result → IsStreamOf plan.now (done ++ take slice.end rows.now) self.new }
+        ensures stands { IsTrue result → (done : List TheRow) → IsStreamOf plan.now (done ++ take slice.first rows.now) self.old → IsStreamOf plan.now (done ++ take slice.end rows.now) self.new }
     {
         let program = plan.program();
         let own = &rows[slice.first..slice.end];
@@ -325,13 +320,12 @@ impl Stream {
         marks: &mut Marks,
         rows: &[Row],
     ) -> bool
-        ghost done: { List TheRow }
         requires fit { RowsFit plan.now.program rows.now }
         requires kept { KeepRules plan.now rows.now }
         requires marks { HaveMarksTo plan.now.program 0 marks.old }
-        requires stands { IsStreamOf plan.now done self.old }
+        requires stands { (done : List TheRow) × IsStreamOf plan.now done self.old }
         requires order { IfSome order.old (AreAncestors plan.now.program) }
-        ensures stands { IsTrue result → IsStreamOf plan.now (done ++ rows.now) self.new }
+        ensures stands { IsTrue result → (done : List TheRow) → IsStreamOf plan.now done self.old → IsStreamOf plan.now (done ++ rows.now) self.new }
         ensures order { IfSome order.new (AreAncestors plan.now.program) }
         ensures laid { IsTrue result → IsLaid plan.now.program marks.new }
     {

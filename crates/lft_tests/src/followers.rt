@@ -1,9 +1,8 @@
 //! Rows that are followed as they come, in parts of different lengths.
 
-ghost use Rattle.std.specs.Prelude.{◌≡◌, ◌<◌, ◌≤◌, List, length, take, IfSome};
-ghost use Rattle.lft_steps.specs.declared.row.Row.{Row as TheRow};
+ghost use Rattle.std.specs.Prelude.{◌<◌, ◌≤◌, length, take, IfSome};
 ghost use Rattle.lft_steps.specs.Fits.{RowsFit};
-ghost use Rattle.lft_follow.specs.Follows.{IsFollowerOf, IsProgress, IsEnding};
+ghost use Rattle.lft_follow.specs.Follows.{IsFollowerOf, IsProgress};
 
 use crate::texts::{plan, rows};
 use lft_follow::{Ending, Follower, Found, Progress, Reach};
@@ -66,27 +65,15 @@ fn add_part(
     first: usize,
     end: usize,
 ) -> Option<Progress>
-    ghost done: { List TheRow }
     requires fit { RowsFit plan.now.program rows.now }
     requires range { (first ≤ end) × (end ≤ length rows.now) }
-    requires before { done ≡ take first rows.now }
-    requires stands { IsFollowerOf plan.now done follower.old }
+    requires stands { IsFollowerOf plan.now (take first rows.now) follower.old }
     ensures { IfSome result (IsProgress plan.now (take end rows.now) follower.new) }
 {
     match follower.add(alloc, plan, &rows[first..end]) {
         Ok(progress) => Some(progress),
         Err(_) => None,
     }
-}
-
-/// What all rows show.
-fn end(follower: &mut Follower, alloc: Global, plan: &Plan, rows: &[Row]) -> Ending
-    ghost done: { List TheRow }
-    requires done { done ≡ rows.now }
-    requires stands { IsFollowerOf plan.now done follower.old }
-    ensures { IsEnding plan.now rows.now result }
-{
-    follower.finish(alloc, plan)
 }
 
 /// What rows show that come so many at a time.
@@ -106,7 +93,7 @@ fn followed(alloc: Global, plan: &Plan, rows: &[Row], size: usize) -> Option<Sho
         }
         first = until;
     }
-    Some(Shown::AtEnd(end(&mut follower, alloc, plan, rows)))
+    Some(Shown::AtEnd(follower.finish(alloc, plan)))
 }
 
 /// Whether a table shows this, however its rows come.

@@ -2,9 +2,6 @@ use Rattle.std.proofs.Common.{◌-◌, ◌≤◌, take, length}
 use Rattle.lft_stream.specs.Kept.{IsAcceptorOf}
 use Rattle.lft_batches.proofs.rows.accepts_rows.Given as goal
 
-abbrev pub ghost-add_part : goal.ghost-add_part
-ghost-add_part a = take a.first a.rows.now
-
 abbrev pub invariant-loop-first : goal.invariant-loop-first
 invariant-loop-first l = record { within : l.first ≤ length l.rows; stands : IsAcceptorOf l.plan (take l.first l.rows) l.acceptor }
 

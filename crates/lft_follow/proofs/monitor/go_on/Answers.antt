@@ -9,9 +9,9 @@ use Rattle.lft_follow.proofs.Going.{shown, behind_last}
 use Rattle.lft_follow.proofs.monitor.go_on.Goals as goal
 
 pub returns-clause-unbroken : goal.returns-clause-unbroken
-returns-clause-unbroken g c = λ yes x e.
+returns-clause-unbroken c = λ yes done is x e.
     let rows = c.args.rows.now in
     let new = c.add.new.self in
-    let stands : IsAcceptorOf c.args.plan.now (g.done ++ rows) new = c.if-not-add.ensures refl in
+    let stands : IsAcceptorOf c.args.plan.now (done ++ rows) new = c.if-not-add.ensures refl done is in
     let low : c.after-low.result ≡ after x.tag 0 = c.after-low.ensures ∙ ap (λ (y : Row). after y.tag 0) (same_some (slice_get rows (length rows - 1)) c.row_at-last.result x c.row_at-last.ensures e) in
-    shown c.args.plan.now (g.done ++ rows) (after x.tag 0) new.stream stands.stands (behind_last g.done rows x (length rows - 1) new.stream.tag e stands.stands.up_to) (subst (λ (k : Tag). NoneDueBefore new.stream.stop k new.stream.dues) low (c.is_timely.ensures yes))
+    shown c.args.plan.now (done ++ rows) (after x.tag 0) new.stream stands.stands (behind_last done rows x (length rows - 1) new.stream.tag e stands.stands.up_to) (subst (λ (k : Tag). NoneDueBefore new.stream.stop k new.stream.dues) low (c.is_timely.ensures yes))

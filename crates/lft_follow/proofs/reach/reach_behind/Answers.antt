@@ -7,15 +7,15 @@ use Rattle.lft_follow.specs.Reach.{IsReach}
 use Rattle.lft_follow.proofs.reach.reach_behind.Goals as goal
 
 pub loop-place-init : goal.loop-place-init
-loop-place-init g c = subst (λ (t : List Row). IsReach t c.args.reach) (sym (take-append-add g.done c.args.rows.now 0 ∙ append-nil g.done)) c.requires.0
+loop-place-init c = λ done rises old. subst (λ (t : List Row). IsReach t c.args.reach) (sym (take-append-add done c.args.rows.now 0 ∙ append-nil done)) old
 
 pub loop-place-preserved : goal.loop-place-preserved
-loop-place-preserved g c =
-    let e : length g.done + c.loop-place.place + 1 ≡ length g.done + (c.loop-place.place + 1) = omega arith in
-    subst (λ (n : ℕ). IsReach (take n (g.done ++ c.args.rows.now)) c.in_ok-reach.reach) e (c.in_ok-reach.ensures (g.done ++ c.args.rows.now) (length g.done + c.loop-place.place) (get_right g.done c.args.rows.now c.loop-place.place ∙ c.row_at.ensures) c.requires.1 c.loop-place.invariant)
+loop-place-preserved c = λ done rises old.
+    let e : length done + c.loop-place.place + 1 ≡ length done + (c.loop-place.place + 1) = omega arith in
+    subst (λ (n : ℕ). IsReach (take n (done ++ c.args.rows.now)) c.in_ok-reach.reach) e (c.in_ok-reach.ensures (done ++ c.args.rows.now) (length done + c.loop-place.place) (get_right done c.args.rows.now c.loop-place.place ∙ c.row_at.ensures) rises (c.loop-place.invariant done rises old))
 
 pub returns : goal.returns
-returns g c =
+returns c = λ done rises old.
     let e : c.loop-place.place ≡ length c.args.rows.now = omega arith in
-    let whole = take-append-add g.done c.args.rows.now c.loop-place.place ∙ ap (λ (n : ℕ). g.done ++ take n c.args.rows.now) e ∙ ap (λ (t : List Row). g.done ++ t) (take-length c.args.rows.now) in
-    subst (λ (t : List Row). IsReach t c.loop-place.reach) whole c.loop-place.invariant
+    let whole = take-append-add done c.args.rows.now c.loop-place.place ∙ ap (λ (n : ℕ). done ++ take n c.args.rows.now) e ∙ ap (λ (t : List Row). done ++ t) (take-length c.args.rows.now) in
+    subst (λ (t : List Row). IsReach t c.loop-place.reach) whole (c.loop-place.invariant done rises old)

@@ -1,6 +1,8 @@
-use Rattle.std.proofs.Common.{◌+◌, ◌++◌, length, take}
+use Rattle.std.proofs.Common.{◌+◌, ◌++◌, List, length, take}
+use Rattle.lft_steps.specs.declared.row.Row.{Row}
+use Rattle.lft_rows.specs.Slices.{Rises}
 use Rattle.lft_follow.specs.Reach.{IsReach}
 use Rattle.lft_follow.proofs.reach.reach_behind.Given as goal
 
 abbrev pub invariant-loop-place : goal.invariant-loop-place
-invariant-loop-place g l = IsReach (take (length g.done + l.place) (g.done ++ l.rows)) l.reach
+invariant-loop-place l = (done : List Row) → Rises (done ++ l.rows) → IsReach done l.fn.reach → IsReach (take (length done + l.place) (done ++ l.rows)) l.reach

@@ -1,8 +1,9 @@
-use Rattle.std.proofs.Common.{◌≡◌, ℕ, inl, inr, Some, None, refl, sym, ap, ◌∙◌, slice_get, filter_map, arith}
+use Rattle.std.proofs.Common.{◌≡◌, ℕ, inl, inr, Some, None, refl, sym, ap, ◌∙◌, subst, slice_get, filter_map, arith}
 use Rattle.std.proofs.lemmas.Bool.{cases_eq}
 use Rattle.lft_steps.specs.declared.row.Row.{Row}
 use Rattle.lft_steps.specs.declared.row.Step.{Step}
 use Rattle.lft_steps.specs.declared.row.Step.TheVariants.{Write}
+use Rattle.lft_flat.specs.Parts.{Parts}
 use Rattle.lft_flat.specs.declared.parts.Name.{Name}
 use Rattle.lft_flat.specs.declared.parts.Name.TheVariants.{Port}
 use Rattle.lft_lists.proofs.Places.{same_at}
@@ -13,23 +14,24 @@ use Rattle.lft_model.proofs.Places.{slice_get_within}
 use Rattle.lft_model.proofs.Steps.{written_some, some_written}
 use Rattle.lft_coming.specs.Listeners.{list_of}
 use Rattle.lft_coming.proofs.AtOnce.{heard_origin}
+use Rattle.lft_stream.specs.StartTags.{AreStartTags}
 use Rattle.lft_stream.proofs.hearing.are_heard.Goals as goal
 use Rattle.lft_stream.proofs.hearing.are_heard.Goals.{in-Some+else-not-have_started, in_default}
 
 pub loop-place-preserved : goal.loop-place-preserved
-loop-place-preserved g c = elim c.match-written_port.branch [
-  | in-Some+else-not-have_started w ↦ λ i p o r x v l e writes way listens. elim (cases_eq i c.loop-place.place) [
+loop-place-preserved c = elim c.match-written_port.branch [
+  | in-Some+else-not-have_started w ↦ λ whole starts i p o r x v l e writes way listens. elim (cases_eq i c.loop-place.place) [
     | inl q ↦
         let row = c.row_at-row.result in
         let same : x ≡ row = same_at c.args.own.now i c.loop-place.place x row e c.row_at-row.ensures q in
         let here : row.step ≡ Write (Port o) v = ap (λ (y : Row). y.step) (sym same) ∙ writes in
         let both : Write (Port w.in-Some.port) w.in-Some.field-0-1 ≡ Write (Port o) v = sym w.in-Some.ensures ∙ here in
         let port : w.in-Some.port ≡ o = cc in
-        let lists = c.requires.1.0 in
-        w.if-not-have_started.ensures refl r (lists.each (Port p) r w.of.result.now listens (ap (λ (n : Name). list_of c.args.listeners.now n) (heard_origin c.args.plan.now.program c.program-program.ensures.sound.sound p o way) ∙ ap (λ (k : ℕ). slice_get c.args.listeners.now.ports k) (sym port) ∙ w.of.ensures))
-    | inr d ↦ c.loop-place.invariant i p o r x v (omega (arith, l, d)) e writes way listens
+        let lists = c.requires.listeners in
+        w.if-not-have_started.ensures refl whole (subst (λ (z : Parts). AreStartTags z whole c.args.starts.now) (sym c.program-program.ensures.value) starts) r (lists.each (Port p) r w.of.result.now listens (ap (λ (n : Name). list_of c.args.listeners.now n) (heard_origin c.args.plan.now.program c.program-program.ensures.sound.sound p o way) ∙ ap (λ (k : ℕ). slice_get c.args.listeners.now.ports k) (sym port) ∙ w.of.ensures))
+    | inr d ↦ c.loop-place.invariant whole starts i p o r x v (omega (arith, l, d)) e writes way listens
   ]
-  | in_default w ↦ λ i p o r x v l e writes way listens. elim (cases_eq i c.loop-place.place) [
+  | in_default w ↦ λ whole starts i p o r x v l e writes way listens. elim (cases_eq i c.loop-place.place) [
     | inl q ↦
         let row = c.row_at-row.result in
         let same : x ≡ row = same_at c.args.own.now i c.loop-place.place x row e c.row_at-row.ensures q in
@@ -37,15 +39,15 @@ loop-place-preserved g c = elim c.match-written_port.branch [
         let some : value_written o row.step ≡ Some v = ap (λ (y : Row). value_written o y.step) (sym same) ∙ ap (λ (s : Step). value_written o s) writes ∙ some_written o v in
         let both : None ≡ Some v = sym none ∙ some in
         absurd (cc)
-    | inr d ↦ c.loop-place.invariant i p o r x v (omega (arith, l, d)) e writes way listens
+    | inr d ↦ c.loop-place.invariant whole starts i p o r x v (omega (arith, l, d)) e writes way listens
   ]
 ]
 
 pub returns : goal.returns
-returns g c = λ z p o r v way last l.
+returns c = λ z whole starts p o r v way last l.
     let t = c.args.own.now in
     let x = mem_from_filter (written c.args.tag o) t v (last_mem (filter_map (written c.args.tag o) t) v last) in
     let i = get_mem x.0 t x.1 in
     let a = slice_get_within t i.0 x.0 i.1 in
     let b = c.loop-place-test.false in
-    c.loop-place.invariant i.0 p o r x.0 v (omega arith) i.1 (written_some o x.0.step v (written_by c.args.tag o x.0 v x.2).1) way l
+    c.loop-place.invariant whole starts i.0 p o r x.0 v (omega arith) i.1 (written_some o x.0.step v (written_by c.args.tag o x.0 v x.2).1) way l

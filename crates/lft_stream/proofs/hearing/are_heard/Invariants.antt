@@ -1,4 +1,4 @@
-use Rattle.std.proofs.Common.{◌≡◌, ℕ, ◌<◌, [], Some, slice_get}
+use Rattle.std.proofs.Common.{◌≡◌, ℕ, ◌<◌, List, [], Some, slice_get}
 use Rattle.lft_flat.specs.Origins.{Origin}
 use Rattle.lft_flat.specs.declared.parts.Value.{Value}
 use Rattle.lft_flat.specs.declared.parts.Name.TheVariants.{Port}
@@ -7,10 +7,8 @@ use Rattle.lft_steps.specs.declared.row.Row.{Row}
 use Rattle.lft_steps.specs.declared.row.Step.TheVariants.{Write}
 use Rattle.lft_model.specs.Runs.{Ran}
 use Rattle.lft_coming.specs.Listens.{Listens}
+use Rattle.lft_stream.specs.StartTags.{AreStartTags}
 use Rattle.lft_stream.proofs.hearing.are_heard.Given as goal
 
-abbrev pub ghost-have_started : goal.ghost-have_started
-ghost-have_started g a = g.whole
-
 abbrev pub invariant-loop-place : goal.invariant-loop-place
-invariant-loop-place g l = (i p o r : ℕ) (x : Row) (v : Value) → i < l.place → slice_get l.own i ≡ Some x → x.step ≡ Write (Port o) v → Origin l.plan.program p o [] → Listens l.plan r (On (Port p)) → Ran g.whole l.tag r
+invariant-loop-place l = (whole : List Row) → AreStartTags l.plan.program whole l.starts → (i p o r : ℕ) (x : Row) (v : Value) → i < l.place → slice_get l.own i ≡ Some x → x.step ≡ Write (Port o) v → Origin l.plan.program p o [] → Listens l.plan r (On (Port p)) → Ran whole l.tag r

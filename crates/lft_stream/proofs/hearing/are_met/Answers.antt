@@ -3,11 +3,12 @@ use Rattle.std.proofs.lemmas.Option.{none-some}
 use Rattle.lft_lists.proofs.Members.{Mem, contains_mem}
 use Rattle.lft_lists.proofs.Places.{same_some}
 use Rattle.lft_flat.specs.declared.parts.Name.{Name}
+use Rattle.lft_steps.specs.declared.row.Row.{Row}
 use Rattle.lft_coming.specs.Listeners.{list_of, AreStarted}
 use Rattle.lft_stream.proofs.hearing.are_met.Goals as goal
 
 pub loop-name-init : goal.loop-name-init
-loop-name-init g c = λ n m. inr m
+loop-name-init c = λ whole starts n m. inr m
 
 -- the first name is done with
 first_done : (P : Name → Type 0) (n : Name) (ns rest : List Name) (m : Name) → ns ≡ n ∷ rest → P n → P m ⊎ Mem m ns → P m ⊎ Mem m rest
@@ -19,19 +20,19 @@ first_done P n ns rest m steps here (inr k) = go (subst (λ (xs : List Name). Me
     go (inr q) = inr q
 
 pub loop-name-preserved : goal.loop-name-preserved
-loop-name-preserved g c = λ n m.
+loop-name-preserved c = λ whole starts n m.
     let steps : c.loop-name.name-iterator ≡ c.in-Some.name ∷ c.next.new.self = search rules in
     let none : list_of c.args.listeners.now c.in-Some.name ≡ None = c.in_default.ensures.none in
-    first_done (λ k. AreStarted g.whole c.args.tag c.args.listeners.now k) c.in-Some.name c.loop-name.name-iterator c.next.new.self n steps (λ list r e k. absurd (none-some list (sym none ∙ e))) (c.loop-name.invariant n m)
+    first_done (λ k. AreStarted whole c.args.tag c.args.listeners.now k) c.in-Some.name c.loop-name.name-iterator c.next.new.self n steps (λ list r e k. absurd (none-some list (sym none ∙ e))) (c.loop-name.invariant whole starts n m)
 
 pub loop-name-preserved-else-not-have_started : goal.loop-name-preserved-else-not-have_started
-loop-name-preserved-else-not-have_started g c = λ n m.
+loop-name-preserved-else-not-have_started c = λ whole starts n m.
     let steps : c.loop-name.name-iterator ≡ c.in-Some.name ∷ c.next.new.self = search rules in
     let is : list_of c.args.listeners.now c.in-Some.name ≡ Some c.in-Some-get.list.now = c.in-Some-get.ensures.some in
-    first_done (λ k. AreStarted g.whole c.args.tag c.args.listeners.now k) c.in-Some.name c.loop-name.name-iterator c.next.new.self n steps (λ list r e k. c.if-not-have_started.ensures refl r (subst (λ (xs : List ℕ). Contains xs r) (same_some (list_of c.args.listeners.now c.in-Some.name) list c.in-Some-get.list.now e is) k)) (c.loop-name.invariant n m)
+    first_done (λ k. AreStarted whole c.args.tag c.args.listeners.now k) c.in-Some.name c.loop-name.name-iterator c.next.new.self n steps (λ list r e k. c.if-not-have_started.ensures refl whole starts r (subst (λ (xs : List ℕ). Contains xs r) (same_some (list_of c.args.listeners.now c.in-Some.name) list c.in-Some-get.list.now e is) k)) (c.loop-name.invariant whole starts n m)
 
 pub returns : goal.returns
-returns g c = λ z n some. go n (c.loop-name.invariant n (subst (λ (ns : List Name). Mem n ns) (sym items) (contains_mem n c.names_at-name-items.result ((c.names_at-name-items.ensures n).1 some))))
+returns c = λ z whole starts n some. go whole n (c.loop-name.invariant whole starts n (subst (λ (ns : List Name). Mem n ns) (sym items) (contains_mem n c.names_at-name-items.result ((c.names_at-name-items.ensures n).1 some))))
   where
     none : c.loop-name.name-iterator ≡ []
     none = search rules
@@ -39,6 +40,6 @@ returns g c = λ z n some. go n (c.loop-name.invariant n (subst (λ (ns : List N
     items : c.into_iter-name-iterator.result ≡ c.names_at-name-items.result
     items = search rules
 
-    go : (n : Name) → AreStarted g.whole c.args.tag c.args.listeners.now n ⊎ Mem n c.loop-name.name-iterator → AreStarted g.whole c.args.tag c.args.listeners.now n
-    go n (inl u) = u
-    go n (inr m) = absurd (subst (λ (ns : List Name). Mem n ns) none m)
+    go : (whole : List Row) (n : Name) → AreStarted whole c.args.tag c.args.listeners.now n ⊎ Mem n c.loop-name.name-iterator → AreStarted whole c.args.tag c.args.listeners.now n
+    go whole n (inl u) = u
+    go whole n (inr m) = absurd (subst (λ (ns : List Name). Mem n ns) none m)

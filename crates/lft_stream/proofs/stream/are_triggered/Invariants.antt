@@ -1,11 +1,10 @@
-use Rattle.std.proofs.Common.{◌≡◌, ℕ, ◌<◌, ◌≤◌, ◌++◌, Some, slice_get}
+use Rattle.std.proofs.Common.{◌≡◌, ℕ, ◌<◌, ◌≤◌, ◌++◌, List, Some, slice_get}
+use Rattle.lft_steps.specs.declared.row.Row.{Row}
 use Rattle.lft_model.specs.Presence.{Triggered}
 use Rattle.lft_model.specs.Runs.{start_row}
-use Rattle.lft_stream.specs.Dues.{AreDues}
+use Rattle.lft_stream.specs.Dues.{AreDues, AreDuesAt}
+use Rattle.lft_stream.specs.Present.{AreShown}
 use Rattle.lft_stream.proofs.stream.are_triggered.Given as goal
 
-abbrev pub ghost-is_triggered : goal.ghost-is_triggered
-ghost-is_triggered g a = g.parts
-
 abbrev pub invariant-loop-place : goal.invariant-loop-place
-invariant-loop-place g l = record { dues : AreDues l.plan (g.parts.0 ++ g.parts.1) l.dues; triggered : (i w r : ℕ) → l.slice.first ≤ i → i < l.place → slice_get l.rows i ≡ Some (start_row w l.slice.tag r) → Triggered l.plan (g.parts.0 ++ g.parts.1) l.slice.tag r }
+invariant-loop-place l = record { dues : (t : List Row) → AreDuesAt l.plan t l.rows l.slice.tag l.last l.fn.dues → AreDues l.plan t l.dues; triggered : (d u : List Row) → AreDuesAt l.plan (d ++ u) l.rows l.slice.tag l.last l.fn.dues → AreShown l.plan d u l.slice.tag l.writes l.coming.queue → (i w r : ℕ) → l.slice.first ≤ i → i < l.place → slice_get l.rows i ≡ Some (start_row w l.slice.tag r) → Triggered l.plan (d ++ u) l.slice.tag r }

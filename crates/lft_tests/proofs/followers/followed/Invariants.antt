@@ -2,12 +2,6 @@ use Rattle.std.proofs.Common.{◌-◌, ◌≤◌, take, length}
 use Rattle.lft_follow.specs.Follows.{IsFollowerOf}
 use Rattle.lft_tests.proofs.followers.followed.Given as goal
 
-abbrev pub ghost-add_part : goal.ghost-add_part
-ghost-add_part a = take a.first a.rows.now
-
-abbrev pub ghost-end : goal.ghost-end
-ghost-end a = a.rows.now
-
 abbrev pub invariant-loop-first : goal.invariant-loop-first
 invariant-loop-first l = record { within : l.first ≤ length l.rows; stands : IsFollowerOf l.plan (take l.first l.rows) l.follower }
 

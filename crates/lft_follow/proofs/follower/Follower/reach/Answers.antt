@@ -2,4 +2,4 @@ use Rattle.lft_follow.proofs.Following.{judged_so_far}
 use Rattle.lft_follow.proofs.follower.Follower.reach.Goals as goal
 
 pub returns : goal.returns
-returns g c = judged_so_far c.args.plan.now g.t c.args.self.now c.requires
+returns c = λ t is. judged_so_far c.args.plan.now t c.args.self.now is

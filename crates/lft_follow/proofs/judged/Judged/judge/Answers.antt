@@ -4,12 +4,16 @@ use Rattle.lft_follow.proofs.Judging.{accepted_rise, judged_more, judged_none}
 use Rattle.lft_follow.proofs.judged.Judged.judge.Goals as goal
 
 pub returns-then-is_empty-clause-stands : goal.returns-then-is_empty-clause-stands
-returns-then-is_empty-clause-stands g c = λ yes. judged_none c.args.plan.now g.done c.args.rows.now c.args.self.now (eqb-true (length c.args.rows.now) 0 (sym c.is_empty.ensures ∙ c.if-is_empty.true)) c.requires.1.1
+returns-then-is_empty-clause-stands c = λ yes done is. judged_none c.args.plan.now done c.args.rows.now c.args.self.now (eqb-true (length c.args.rows.now) 0 (sym c.is_empty.ensures ∙ c.if-is_empty.true)) is
 
-pub reach_behind-requires : goal.reach_behind-requires
-reach_behind-requires g c = (c.requires.1.1.clean.reach, accepted_rise c.args.plan.now (g.done ++ c.args.rows.now) c.go_on.new.acceptor (c.if-not-go_on.ensures.stands refl))
+pub go_on-requires-clause-stands : goal.go_on-requires-clause-stands
+go_on-requires-clause-stands c = (c.requires.stands.0, c.requires.stands.1.acceptor)
 
 pub returns-in-Some-clause-stands : goal.returns-in-Some-clause-stands
-returns-in-Some-clause-stands g c = λ yes.
-    let some : 0 < length c.args.rows.now = search rules in
-    judged_more c.args.plan.now g.done c.args.rows.now c.args.self.now _ c.requires.1.1 some (c.if-not-go_on.ensures.stands refl) (c.if-not-go_on.ensures.unbroken refl) (c.stop_over-self.ensures c.args.plan.now g.done c.requires.1.1.stop_is) refl c.in-Some.ensures
+returns-in-Some-clause-stands c = λ yes done is.
+    let plan = c.args.plan.now in
+    let rows = c.args.rows.now in
+    let some : 0 < length rows = search rules in
+    let stands = c.if-not-go_on.ensures.stands refl done is.acceptor in
+    let reach = c.in-Some.ensures done (accepted_rise plan (done ++ rows) c.go_on.new.acceptor stands) is.clean.reach in
+    judged_more plan done rows c.args.self.now _ is some stands (c.if-not-go_on.ensures.unbroken refl done is.acceptor) (c.stop_over-self.ensures plan done is.stop_is) refl reach

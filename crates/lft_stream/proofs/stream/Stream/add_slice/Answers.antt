@@ -18,29 +18,43 @@ use Rattle.lft_stream.proofs.Keeping.{own_kept, own_before, at_hand, slice_grows
 use Rattle.lft_stream.proofs.stream.Stream.add_slice.Goals as goal
 
 pub judge_slice-requires : goal.judge_slice-requires
-judge_slice-requires g c =
+judge_slice-requires c =
     let plan = c.args.plan.now in
     let rows = c.args.rows.now in
     let s = c.args.slice in
-    let slice = c.requires.1.1.0 in
+    let slice = c.requires.slice in
     let reached = subst (λ (x : ExternalInputs). IsReached x.events c.args.self.now.listeners s.tag c.args.self.now.coming c.reach.new.self) c.externals.ensures.value (c.if-not-reach.ensures refl) in
-    let hand = at_hand plan g.done rows s slice c.args.self.now c.requires.1.1.1.1.0 (c.if-not-may_reach.ensures.later refl) (c.if-not-may_reach.ensures.in_time refl) c.requires.1.0 c.program-program.ensures.sound.sound (record { stop = c.stop_behind-self.result; tag = c.args.self.now.tag; runs = c.args.self.now.runs; tags = c.args.self.now.tags; dues = c.args.self.now.dues; starts = c.args.self.now.starts; writes = c.args.self.now.writes; listeners = c.args.self.now.listeners; channels = c.args.self.now.channels; coming = c.reach.new.self; unread = c.args.self.now.unread; effort = c.allows.new.self }) reached c.stop_behind-self.ensures refl refl refl refl in
-    (c.requires.0, (slice, (subst (λ (p : Parts). AreMarks p rows s.first s.end c.pass_all.new.self) c.program-program.ensures.value c.pass_all.ensures, hand)))
+    let done = c.requires.stands.0 in
+    let hand = at_hand plan done rows s slice c.args.self.now c.requires.stands.1 (c.if-not-may_reach.ensures.later refl) (c.if-not-may_reach.ensures.in_time refl) c.requires.kept c.program-program.ensures.sound.sound (record { stop = c.stop_behind-self.result; tag = c.args.self.now.tag; runs = c.args.self.now.runs; tags = c.args.self.now.tags; dues = c.args.self.now.dues; starts = c.args.self.now.starts; writes = c.args.self.now.writes; listeners = c.args.self.now.listeners; channels = c.args.self.now.channels; coming = c.reach.new.self; unread = c.args.self.now.unread; effort = c.allows.new.self }) reached c.stop_behind-self.ensures refl refl refl refl in
+    record { fit = c.requires.fit; slice = slice; marks = subst (λ (p : Parts). AreMarks p rows s.first s.end c.pass_all.new.self) c.program-program.ensures.value c.pass_all.ensures; hand = (done ++ take s.first rows, hand) }
 
 pub pass_all-requires-2-clause-fit : goal.pass_all-requires-2-clause-fit
-pass_all-requires-2-clause-fit g c = subst (λ (p : Parts). RowsFit p (rows_of c.args.rows.now c.args.slice c.requires.1.1.0)) (sym c.program-program.ensures.value) (part_fits c.args.rows.now c.args.slice c.requires.1.1.0 c.args.plan.now.program c.requires.0)
+pass_all-requires-2-clause-fit c = subst (λ (p : Parts). RowsFit p (rows_of c.args.rows.now c.args.slice c.requires.slice)) (sym c.program-program.ensures.value) (part_fits c.args.rows.now c.args.slice c.requires.slice c.args.plan.now.program c.requires.fit)
 
 pub pass_all-requires-2-clause-at : goal.pass_all-requires-2-clause-at
-pass_all-requires-2-clause-at g c = are_at c.args.rows.now c.args.slice c.requires.1.1.0
+pass_all-requires-2-clause-at c = are_at c.args.rows.now c.args.slice c.requires.slice
 
 pub pass_on-requires-clause-fit : goal.pass_on-requires-clause-fit
-pass_on-requires-clause-fit g c = part_fits c.args.rows.now c.args.slice c.requires.1.1.0 c.args.plan.now.program c.requires.0
+pass_on-requires-clause-fit c = part_fits c.args.rows.now c.args.slice c.requires.slice c.args.plan.now.program c.requires.fit
 
 pub pass_on-requires-clause-at : goal.pass_on-requires-clause-at
-pass_on-requires-clause-at g c = are_at c.args.rows.now c.args.slice c.requires.1.1.0
+pass_on-requires-clause-at c = are_at c.args.rows.now c.args.slice c.requires.slice
+
+pub pass_on-requires-clause-writes : goal.pass_on-requires-clause-writes
+pass_on-requires-clause-writes c =
+    let plan = c.args.plan.now in
+    let rows = c.args.rows.now in
+    let s = c.args.slice in
+    let slice = c.requires.slice in
+    let old = c.args.self.now in
+    let done = c.requires.stands.0 in
+    let stands = c.requires.stands.1 in
+    let reached = subst (λ (x : ExternalInputs). IsReached x.events old.listeners s.tag old.coming c.reach.new.self) c.externals.ensures.value (c.if-not-reach.ensures refl) in
+    let hand = at_hand plan done rows s slice old stands (c.if-not-may_reach.ensures.later refl) (c.if-not-may_reach.ensures.in_time refl) c.requires.kept c.program-program.ensures.sound.sound (record { stop = c.stop_behind-self.result; tag = old.tag; runs = old.runs; tags = old.tags; dues = old.dues; starts = old.starts; writes = old.writes; listeners = old.listeners; channels = old.channels; coming = c.reach.new.self; unread = old.unread; effort = c.allows.new.self }) reached c.stop_behind-self.ensures refl refl refl refl in
+    (c.if-not-judge_slice.ensures.judged refl (done ++ take s.first rows) hand).writes
 
 pub returns-then-pass_on-clause-stands : goal.returns-then-pass_on-clause-stands
-returns-then-pass_on-clause-stands g c = λ z.
+returns-then-pass_on-clause-stands c = λ z d stands.
     let plan = c.args.plan.now in
     let events = plan.externals.events in
     let rows = c.args.rows.now in
@@ -49,19 +63,19 @@ returns-then-pass_on-clause-stands g c = λ z.
     let judged = c.judge_slice.new.self in
     let later = c.if-not-may_reach.ensures.later refl in
     let reach = c.if-not-may_reach.ensures.in_time refl in
-    let kept = c.requires.1.0 in
-    let slice = c.requires.1.1.0 in
-    let stands = c.requires.1.1.1.1.0 in
-    let own_rules = own_kept plan g.done rows s slice old stands later reach kept in
+    let kept = c.requires.kept in
+    let slice = c.requires.slice in
+    let own_rules = own_kept plan d rows s slice old stands later reach kept in
     let ordered = c.if-not-is_kept.ensures.kept refl own_rules.0 own_rules.1 s.tag in
     let reached = subst (λ (x : ExternalInputs). IsReached x.events old.listeners s.tag old.coming c.reach.new.self) c.externals.ensures.value (c.if-not-reach.ensures refl) in
+    let hand = at_hand plan d rows s slice old stands later reach kept c.program-program.ensures.sound.sound (record { stop = c.stop_behind-self.result; tag = old.tag; runs = old.runs; tags = old.tags; dues = old.dues; starts = old.starts; writes = old.writes; listeners = old.listeners; channels = old.channels; coming = c.reach.new.self; unread = old.unread; effort = c.allows.new.self }) reached c.stop_behind-self.ensures refl refl refl refl in
     let own = c.judge_slice.ensures in
     let caused = c.if-pass_on.ensures in
     let counted = c.count.ensures in
     let passed = c.if-not-pass_all.ensures in
-    let before = own_before plan g.done rows s slice old stands later reach kept in
+    let before = own_before plan d rows s slice old stands later reach kept in
     let is = c.program-program.ensures.value in
-    let done = g.done ++ take s.first rows in
+    let done = d ++ take s.first rows in
     let here = rows_of rows s slice in
     let unread = subst (λ (x : UnreadParts). AreUnread c.program-program.result.now done x) (sym own.unread) (subst (λ (p : Parts). AreUnread p done old.unread) (sym is) stands.unread) in
     let goes_on = subst (λ (x : UnreadParts). AreUnread plan.program (done ++ here) x) (sym counted.unread) (subst (λ (p : Parts). AreUnread p (done ++ here) c.pass_all-2.new.self) is (passed.unread refl done before unread)) in
@@ -69,4 +83,4 @@ returns-then-pass_on-clause-stands g c = λ z.
     let runs = counted.runs z ∙ ap (λ (n : ℕ). n + c.starts_in.result) own.runs ∙ ap (λ (n : ℕ). old.runs + n) c.starts_in.ensures in
     let tags = counted.tags z ∙ ap (λ (n : ℕ). n + 1) own.tags in
     let writes = subst (λ (ws : List (Option Written)). AreEarlier plan.program (after s.tag 0) ws) (sym counted.writes) (caused.earlier refl) in
-    slice_grows plan g.done rows s slice old stands later reach kept c.program-program.ensures.sound.sound c.reach.new.self reached ordered judged c.count.new.self (c.if-not-judge_slice.ensures.judged refl) own.coming own.listeners (counted.stop ∙ own.stop ∙ c.stop_behind-self.ensures) (counted.tag z) runs tags counted.dues counted.starts writes counted.listeners (counted.channels ∙ own.channels) goes_on free (λ h n waited b up. ap (λ (k : Coming). to_come events k h n) counted.coming ∙ caused.caused refl events h n waited b (subst (λ (k : Tag). UpTo h k) counted.stop up) ∙ ap (λ (vs : List Value). vs ++ held (caused_by plan (rows_of rows s slice) s.tag n) h) (c.drop_until.ensures events h n b ∙ ap (λ (k : Coming). to_come events k h n) own.coming))
+    slice_grows plan d rows s slice old stands later reach kept c.program-program.ensures.sound.sound c.reach.new.self reached ordered judged c.count.new.self (c.if-not-judge_slice.ensures.judged refl done hand) own.coming own.listeners (counted.stop ∙ own.stop ∙ c.stop_behind-self.ensures) (counted.tag z) runs tags counted.dues counted.starts writes counted.listeners (counted.channels ∙ own.channels) goes_on free (λ h n waited b up. ap (λ (k : Coming). to_come events k h n) counted.coming ∙ caused.caused refl events h n waited b (subst (λ (k : Tag). UpTo h k) counted.stop up) ∙ ap (λ (vs : List Value). vs ++ held (caused_by plan (rows_of rows s slice) s.tag n) h) (c.drop_until.ensures events h n b ∙ ap (λ (k : Coming). to_come events k h n) own.coming))
