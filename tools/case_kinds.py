@@ -8,8 +8,9 @@ error, and `status N`.
   beside the word is that of the workers. Where none stands there, the three texts are judged as a bundle too,
   and by 2, 3 and 64 workers; what these say is told only where it is something else.
 - `pair`: of the rows of a second trace beside the given one, in the same way.
-- `explain`: of the rows of a trace, by one worker; what 3 say is told where it is something else.
-- `explain-pair`: of the rows of a second trace beside the given one.
+- `explain`: of the rows of a trace, by one worker; what 3 say, and what `--all` says where no lines are left
+  out, is told where it is something else. With `explain --all` it is what that says.
+- `explain-pair`: of the rows of a second trace beside the given one, in the same way.
 - `explain-program`: of the text of a program alone.
 - `bundle`, `explain-bundle`: of a text on standard input.
 - `refused`: why `explain` says that the text of a program is refused: its standard output alone. Status 2 and
@@ -40,6 +41,8 @@ HEADERS = {
 }
 # Which of the texts a part gives.
 GIVEN = {"program": "program", "externals": "externals", "externals-text": "externals", "trace": "trace"}
+# Stands where lines of what `explain` tells are left out.
+LEFT_OUT = b"  More lines, which `--all` prints: "
 # A trace of fewer bytes is judged by one worker.
 SHORT = 1 << 20
 FAULT = re.compile(rb"fault [a-z]+ \d+ .*\n")
@@ -122,14 +125,28 @@ def paired(runs, case, second):
     return b"".join(shared(runs, "pair", texts_of(case), tables, (2, 3, 64)))
 
 
+def with_all(runs, texts, told):
+    """What `explain --all` tells of texts, where no lines of what was told are left out, and it is something else."""
+    if LEFT_OUT in told:
+        return b""
+    every = whole(runs.ask("explain", texts, "--all"))
+    return b"" if every == told else b"with --all:\n" + every
+
+
 def explained(runs, case):
     """What is told of a trace and explains it."""
-    return b"".join(shared(runs, "explain", texts_of(case), [HEADERS["trace"] + case.text], (3,)))
+    table = HEADERS["trace"] + case.text
+    if case.words:
+        return whole(runs.ask("explain", [*texts_of(case), table], *case.words.split()))
+    told, others = shared(runs, "explain", texts_of(case), [table], (3,))
+    return told + others + with_all(runs, [*texts_of(case), table], told)
 
 
 def explained_pair(runs, case):
     """What is told of two traces and explains it."""
-    return whole(runs.ask("explain", [*texts_of(case), case.given["trace"], HEADERS["trace"] + case.text]))
+    texts = [*texts_of(case), case.given["trace"], HEADERS["trace"] + case.text]
+    told = whole(runs.ask("explain", texts, *case.words.split()))
+    return told if case.words else told + with_all(runs, texts, told)
 
 
 def refused(answer):

@@ -14,7 +14,8 @@ _lftrace() {
         choice="1000 1000000"
     elif [[ $word == -* ]]; then
         case ${COMP_WORDS[1]} in
-            judge | explain | pair) choice="--workers -h --help" ;;
+            judge | pair) choice="--workers -h --help" ;;
+            explain) choice="--workers --all -h --help" ;;
             record) choice="--workers --max-runs -h --help" ;;
             show) choice="-h --help" ;;
         esac

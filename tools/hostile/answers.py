@@ -55,6 +55,8 @@ LINES = {
     "record": {0: r"event,worker,time,microstep,reaction,name,value,delay\n([a-z]+,\d+,\d+,\d+,[^\n,]+,[^\n,]*,(-?\d+)?,\d*\n)*"},
 }
 LINES["bundle"] = LINES["judge"]
+# The first line of `explain` where more stands behind it. It stands alone where memory is refused to the facts.
+FIRST_LINE = re.compile(f"((first |second )?({BROKEN})|{pattern('differ TAG reaction=NAME')})\n")
 # Why a text is refused, as `explain` tells it: the text, and what is wrong there; then quoted lines and help.
 REASON = re.compile("(Program|External inputs|Trace)(, line [0-9]+| has|: )([^\n]+\n|\n)*")
 LINES = {command: {status: re.compile(form) for status, form in lines.items()} for command, lines in LINES.items()}
@@ -83,6 +85,6 @@ def unlike(command, answer):
         return "no fault line of this command"
     if fault[0] == "pool":
         return "" if LINES["record"][0].fullmatch(out) else "rows so far that are no table"
-    if command == "explain" and REASON.fullmatch(out):
+    if command == "explain" and (REASON.fullmatch(out) or fault == ("memory", 1) and FIRST_LINE.fullmatch(out)):
         return ""
     return "words on standard output before a fault" if out and fault[0] != "write" else ""

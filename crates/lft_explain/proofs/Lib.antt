@@ -1,3 +1,4 @@
 pub mod Back
 pub mod Arriving
 pub mod Texts
+pub mod Lines

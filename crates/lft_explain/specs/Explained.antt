@@ -1,5 +1,5 @@
 -- What explains a breach.
-use Rattle.std.specs.Prelude.{◌≡◌, ℕ, List}
+use Rattle.std.specs.Prelude.{◌≡◌, ℕ, Bool, List}
 use Rattle.lft_steps.specs.declared.row.Row.{Row}
 use Rattle.lft_model.specs.declared.breach.Breach.{Breach}
 use Rattle.lft_model.specs.Plans.{PlanParts}
@@ -8,11 +8,11 @@ use Rattle.lft_facts.specs.Facts.{AreFacts}
 use Rattle.lft_facts.specs.Enough.{Proves, AreOwn, TellsRace}
 use Rattle.lft_explain.specs.Told.{told}
 
--- the text tells facts that are true of the plan and the rows, they are enough for the breach, and those whose words leave out a tag, a run or a row are of its own; a race before it is told
-pub record Explains (plan : PlanParts) (t : List Row) (b : Breach) (text : List ℕ) : Type 0 where
+-- the text tells facts that are true of the plan and the rows, they are enough for the breach, and those whose words leave out a tag, a run or a row are of its own; a race before it is told. They are enough where all is told: else of each part the first 60 lines are, and how many others there are
+pub record Explains (all : Bool) (plan : PlanParts) (t : List Row) (b : Breach) (text : List ℕ) : Type 0 where
   pub facts : List Fact
   pub holds : AreFacts plan t facts
   pub enough : Proves facts b
   pub own : AreOwn b facts
   pub race : TellsRace plan t b facts
-  pub is_told : text ≡ told plan.program t facts
+  pub is_told : text ≡ told all plan.program t facts

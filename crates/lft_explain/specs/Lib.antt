@@ -8,5 +8,6 @@ pub mod Sentences
 pub mod Neighbours
 pub mod Reasons
 pub mod Reads
+pub mod Shortened
 pub mod Told
 pub mod Explained

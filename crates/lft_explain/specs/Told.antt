@@ -1,5 +1,5 @@
 -- The text of facts.
-use Rattle.std.specs.Prelude.{ℕ, List, [], ◌∷◌, ◌++◌, flat_map}
+use Rattle.std.specs.Prelude.{ℕ, Bool, List, [], ◌∷◌, ◌++◌, flat_map}
 use Rattle.lft_flat.specs.Parts.{Parts}
 use Rattle.lft_steps.specs.declared.row.Row.{Row}
 use Rattle.lft_facts.specs.declared.facts.Fact.{Fact}
@@ -11,6 +11,7 @@ use Rattle.lft_explain.specs.Reads.{table}
 use Rattle.lft_explain.specs.Runs.{trigger_of_words, count_words, absent_words}
 use Rattle.lft_explain.specs.Orders.{race_words, precedes_words, declared_words, feeds_words}
 use Rattle.lft_explain.specs.Sentences.{sentence}
+use Rattle.lft_explain.specs.Shortened.{shown}
 
 -- what a fact says beside what is wrong
 abbrev pub fact_words : Parts → List Row → Fact → List ℕ
@@ -34,11 +35,11 @@ fact_words program t (fact.Reason x) = reason_words program t x
 abbrev pub details : Parts → List Row → List Fact → List ℕ
 details program t facts = flat_map (fact_words program t) facts
 
--- a part of the text behind an empty line, where there is such a part
-abbrev pub part : List ℕ → List ℕ
-part [] = []
-part (byte ∷ bytes) = 10 ∷ byte ∷ bytes
+-- what is printed of a part of the text, behind an empty line, where there is such a part
+abbrev pub part : Bool → List ℕ → List ℕ
+part all [] = []
+part all (byte ∷ bytes) = 10 ∷ shown all (byte ∷ bytes)
 
--- the text of facts: what is wrong, what was read, the rows that they name, and what else they say
-abbrev pub told : Parts → List Row → List Fact → List ℕ
-told program t facts = sentence program t facts ++ part (table program facts) ++ part (quoted program t facts) ++ part (details program t facts)
+-- the text of facts: what is wrong, what was read, the rows that they name, and what else they say; of each of the last three all, or the first 60 lines and how many others there are
+abbrev pub told : Bool → Parts → List Row → List Fact → List ℕ
+told all program t facts = sentence program t facts ++ part all (table program facts) ++ part all (quoted program t facts) ++ part all (details program t facts)

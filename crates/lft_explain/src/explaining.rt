@@ -1,6 +1,6 @@
 //! Why a trace breaks a rule.
 
-ghost use Rattle.std.specs.Prelude.{IfOk, string_bytes};
+ghost use Rattle.std.specs.Prelude.{IfOk};
 ghost use Rattle.lft_steps.specs.Fits.{RowsFit};
 ghost use Rattle.lft_model.specs.Breaches.{First};
 ghost use Rattle.lft_explain.specs.Explained.{Explains};
@@ -12,14 +12,19 @@ use lft_steps::Rows;
 use lft_tag::NoMemory;
 use std::alloc::Global;
 
-/// The text of facts behind the first breach of a trace. It looks at all rows some times for each
-/// trigger or input that the facts name, and for rule 6 once for each port and action.
-pub fn explain(alloc: Global, plan: &Plan, rows: &Rows, breach: Breach) -> Result<String, NoMemory>
+/// The text of facts behind the first breach of a trace: all of it, or of each part the first 60 lines.
+pub fn explain(
+    alloc: Global,
+    plan: &Plan,
+    rows: &Rows,
+    breach: Breach,
+    all: bool,
+) -> Result<Vec<u8>, NoMemory>
     requires fit { RowsFit plan.now.program rows.now }
     requires first { First plan.now rows.now breach }
-    ensures { IfOk result (λ text. Explains plan.now rows.now breach (string_bytes text)) }
+    ensures { IfOk result (λ text. Explains all plan.now rows.now breach text.items) }
 {
     let facts = find(alloc, plan, rows, breach)?;
-    let text = tell(alloc, plan.program(), rows, &facts)?;
+    let text = tell(alloc, plan.program(), rows, &facts, all)?;
     Ok(text)
 }

@@ -11,8 +11,10 @@ mod reasons;
 mod rows;
 mod runs;
 mod sentences;
+mod shortening;
 mod telling;
 mod ways;
 
 pub use explaining::explain;
+pub use shortening::push_shown;
 pub use telling::tell;

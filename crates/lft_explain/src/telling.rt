@@ -2,7 +2,7 @@
 
 ghost use Rattle.std.specs.Prelude.{◌≡◌, ◌++◌, IfOk, OnOk, string_bytes};
 ghost use Rattle.lft_steps.specs.Fits.{RowsFit};
-ghost use Rattle.lft_explain.specs.Told.{fact_words, details as the_details, part, told};
+ghost use Rattle.lft_explain.specs.Told.{fact_words, details as the_details, part as the_part, told};
 
 use crate::causes::push_cause;
 use crate::orders::{push_declared, push_feeds, push_precedes, push_race};
@@ -10,6 +10,7 @@ use crate::reads::table;
 use crate::reasons::push_reason;
 use crate::runs::{push_absent, push_count, push_trigger_of};
 use crate::sentences::sentence;
+use crate::shortening::push_shown;
 use lft_facts::{Fact, Facts};
 use lft_flat::Program;
 use lft_lists::item_at;
@@ -84,13 +85,13 @@ fn details(
     Ok(text)
 }
 
-/// Puts an empty line and a part at the end of the text, where there is such a part.
-fn push_part(text: &mut String, bytes: &str) -> Result<(), AllocError>
-    ensures { OnOk result (string_bytes text.new ≡ string_bytes text.old ++ part bytes.now) }
+/// Puts what is printed of a part at the end of the text, behind an empty line, where there is such a part.
+fn push_part(alloc: Global, text: &mut Vec<u8>, part: &[u8], all: bool) -> Result<(), AllocError>
+    ensures { OnOk result (text.new.items ≡ text.old.items ++ the_part all part.now) }
 {
-    if !bytes.is_empty() {
-        text.push_str("\n")?;
-        text.push_str(bytes)?;
+    if !part.is_empty() {
+        text.push(b'\n')?;
+        push_shown(alloc, text, part, all)?;
     }
     Ok(())
 }
@@ -102,18 +103,20 @@ pub fn tell(
     program: &Program,
     rows: &Rows,
     facts: &Facts,
-) -> Result<String, NoMemory>
+    all: bool,
+) -> Result<Vec<u8>, NoMemory>
     requires { RowsFit program.now rows.now }
-    ensures { IfOk result (λ text. string_bytes text ≡ told program.now rows.now facts.now) }
+    ensures { IfOk result (λ text. text.items ≡ told all program.now rows.now facts.now) }
 {
     let rows = rows.as_slice();
     let facts = facts.as_slice();
-    let mut text = sentence(alloc, program, rows, facts)?;
+    let sentence = sentence(alloc, program, rows, facts)?;
+    let mut text = Vec::from_slice(alloc, sentence.as_bytes())?;
     let table = table(alloc, program, facts)?;
-    push_part(&mut text, table.as_str())?;
+    push_part(alloc, &mut text, table.as_bytes(), all)?;
     let quotes = quote(alloc, program, rows, facts)?;
-    push_part(&mut text, quotes.as_str())?;
+    push_part(alloc, &mut text, quotes.as_bytes(), all)?;
     let details = details(alloc, program, rows, facts)?;
-    push_part(&mut text, details.as_str())?;
+    push_part(alloc, &mut text, details.as_bytes(), all)?;
     Ok(text)
 }

@@ -1,27 +1,74 @@
 -- Faults of explaining, which tell nothing of the texts.
-use Rattle.std.proofs.Common.{◌≡◌, ℕ, IfErr, Result, Ok, Err, List, Option, true}
+use Rattle.std.proofs.Common.{◌≡◌, ◌≢◌, ◌⊎◌, inl, inr, ℕ, Bool, IfErr, Result, Ok, Err, List, ◌++◌, Option, true, refl, subst}
+use Rattle.std.specs.Io.KnownBytes.{Appends, Keeps}
 use Rattle.lft_steps.specs.declared.row.Row.{Row}
 use Rattle.lft_model.specs.Plans.{PlanParts}
+use Rattle.lft_model.specs.Workers.{IsWorkers}
+use Rattle.lft_flat.specs.Parts.{Parts}
 use Rattle.lft_check.specs.declared.verdict.Verdict.{Verdict}
+use Rattle.lft_check.specs.Verdicts.{IsVerdict}
 use Rattle.lft_load.specs.Refusals.{is_of_text}
+use Rattle.lft_load.specs.Written.{AppendsFront}
 use Rattle.lft_load.specs.declared.fault.Fault.{Fault}
-use Rattle.lft_front.specs.Explained.{ExplainingRefusal, ExplainRefusal}
-use Rattle.lft_front.specs.Explained.ExplainingRefusal.{by_check, by_writer}
+use Rattle.lft_load.specs.declared.fault.Part.TheVariants as part
+use Rattle.lft_front.specs.Refusals.{IsRefusedGrowth}
+use Rattle.lft_front.specs.Refusals.CheckRefusal.{by_growth}
+use Rattle.lft_front.specs.Lines.{line_of}
+use Rattle.lft_front.specs.Explained.{StandsBehind, IsExplanation, Writes, WriteRefusal, ExplainingRefusal, ExplainRefusal}
+use Rattle.lft_front.specs.Explained.ExplainingRefusal.{by_check, by_line, by_writer}
 use Rattle.lft_front.specs.Explained.ExplainRefusal.{by_explaining}
 use Rattle.lft_front.specs.Meaning.{IsMeaning, Mean}
 use Rattle.lft_front.proofs.Judging.{refusal_untold, write_untold}
+use Rattle.lft_front.proofs.Behind.{appends_kept, writes_both, front_both, growth_kept}
 
--- where rows get no explanation, the fault tells nothing of the texts
-explaining_untold : (plan : PlanParts) (rows : List Row) (workers : ℕ) (old new : Option (List ℕ)) (f : Fault) → ExplainingRefusal plan rows workers old new f → is_of_text f.part f.number ≡ true → ⊥
-explaining_untold plan rows workers old new f (by_check x) t = refusal_untold workers f x t
-explaining_untold plan rows workers old new f (by_writer v text p n x y z) t = write_untold f.part f.number p t
+module _ (all : Bool) (plan : PlanParts) (rows : List Row) (workers : ℕ) (program : Parts) (same : program ≡ plan.program) (verdict : Verdict) (right : IsVerdict plan rows verdict) (lawful : IsWorkers workers) (old mid new : Option (List ℕ)) where
+  -- the writer failed on the line, or there was no memory for it
+  pub line_refused : (f : Fault) → IsRefusedGrowth f ⊎ (f.part ≡ part.Write) × (f.number ≡ 1) × AppendsFront old mid (line_of program verdict) → (f.part ≢ part.Write → Keeps old mid) → ExplainingRefusal all plan rows workers old mid f
+  line_refused f (inl x) k = by_check (by_growth x lawful) (inl (growth_kept f old mid x k))
+  line_refused f (inr x) k = by_line verdict x.0 x.1 right (subst (λ p. AppendsFront old mid (line_of p verdict)) same x.2)
+
+  module _ (line : Appends old mid (line_of program verdict)) where
+    first : Appends old mid (line_of plan.program verdict)
+    first = subst (λ p. Appends old mid (line_of p verdict)) same line
+
+    joins : (rest : List ℕ) → StandsBehind all plan rows verdict rest → IsExplanation all plan rows verdict (line_of plan.program verdict ++ rest)
+    joins rest is = (rest, is, refl)
+
+    -- the line was written, and then what stands behind it
+    pub all_written : Writes (StandsBehind all plan rows verdict) mid new → Writes (IsExplanation all plan rows verdict) old new
+    all_written = writes_both (StandsBehind all plan rows verdict) (IsExplanation all plan rows verdict) (line_of plan.program verdict) joins old mid new first
+
+    -- the line was written, and what stands behind it wasn't
+    pub rest_refused : (f : Fault) → WriteRefusal (StandsBehind all plan rows verdict) mid new f → ExplainingRefusal all plan rows workers old new f
+    rest_refused f (inl x) = by_check (by_growth (inr (x.0, x.1)) lawful) (inr (x.0, (verdict, right, appends_kept old mid new (line_of plan.program verdict) first x.2)))
+    rest_refused f (inr (p, n, rest)) =
+        let whole = front_both (StandsBehind all plan rows verdict) (IsExplanation all plan rows verdict) (line_of plan.program verdict) joins old mid new first rest.0 rest.1 rest.2 in
+        by_writer verdict whole.0 p n right whole.1 whole.2
+
+module _ (all : Bool) (plan : PlanParts) (rows : List Row) (workers : ℕ) (old new : Option (List ℕ)) where
+  -- where rows get no explanation, the fault tells nothing of the texts
+  explaining_untold : (f : Fault) → ExplainingRefusal all plan rows workers old new f → is_of_text f.part f.number ≡ true → ⊥
+  explaining_untold f (by_check x k) t = refusal_untold workers f x t
+  explaining_untold f (by_line v p n x y) t = write_untold f.part f.number p t
+  explaining_untold f (by_writer v text p n x y z) t = write_untold f.part f.number p t
+
+  -- where neither the writer failed nor memory was refused, nothing was written
+  explaining_keeps : (f : Fault) → ExplainingRefusal all plan rows workers old new f → f.part ≢ part.Write → f.part ≢ part.Memory → Keeps old new
+  explaining_keeps f (by_check x (inl k)) w m = k
+  explaining_keeps f (by_check x (inr k)) w m = absurd (m k.0)
+  explaining_keeps f (by_line v p n x y) w m = absurd (w p)
+  explaining_keeps f (by_writer v text p n x y z) w m = absurd (w p)
+
+  pub explaining_kept : (r : Result Verdict Fault) → IfErr r (ExplainingRefusal all plan rows workers old new) → IfErr r (λ f. f.part ≢ part.Write → f.part ≢ part.Memory → Keeps old new)
+  explaining_kept (Ok v) h = h
+  explaining_kept (Err f) h = explaining_keeps f h
 
 -- what is refused of the meaning is refused of the texts
-pub explaining_refused : (program externals trace : List ℕ) (workers : ℕ) (old new : Option (List ℕ)) (plan : PlanParts) (rows : List Row) → IsMeaning program externals trace plan rows → (r : Result Verdict Fault) → IfErr r (ExplainingRefusal plan rows workers old new) → IfErr r (ExplainRefusal program externals trace workers old new)
-explaining_refused program externals trace workers old new plan rows m (Ok v) h = h
-explaining_refused program externals trace workers old new plan rows m (Err f) h = by_explaining plan rows m h
+pub explaining_refused : (all : Bool) (program externals trace : List ℕ) (workers : ℕ) (old new : Option (List ℕ)) (plan : PlanParts) (rows : List Row) → IsMeaning program externals trace plan rows → (r : Result Verdict Fault) → IfErr r (ExplainingRefusal all plan rows workers old new) → IfErr r (ExplainRefusal all program externals trace workers old new)
+explaining_refused all program externals trace workers old new plan rows m (Ok v) h = h
+explaining_refused all program externals trace workers old new plan rows m (Err f) h = by_explaining plan rows m h
 
 -- where the texts have a meaning, no fault tells anything of them
-pub explaining_none : (program externals trace : List ℕ) (workers : ℕ) (old new : Option (List ℕ)) (plan : PlanParts) (rows : List Row) → IsMeaning program externals trace plan rows → (r : Result Verdict Fault) → IfErr r (ExplainingRefusal plan rows workers old new) → IfErr r (λ f. is_of_text f.part f.number ≡ true → (other : PlanParts) (others : List Row) → Mean program externals trace other others → ⊥)
-explaining_none program externals trace workers old new plan rows m (Ok v) h = h
-explaining_none program externals trace workers old new plan rows m (Err f) h = λ t other others x. explaining_untold plan rows workers old new f h t
+pub explaining_none : (all : Bool) (program externals trace : List ℕ) (workers : ℕ) (old new : Option (List ℕ)) (plan : PlanParts) (rows : List Row) → IsMeaning program externals trace plan rows → (r : Result Verdict Fault) → IfErr r (ExplainingRefusal all plan rows workers old new) → IfErr r (λ f. is_of_text f.part f.number ≡ true → (other : PlanParts) (others : List Row) → Mean program externals trace other others → ⊥)
+explaining_none all program externals trace workers old new plan rows m (Ok v) h = h
+explaining_none all program externals trace workers old new plan rows m (Err f) h = λ t other others x. explaining_untold all plan rows workers old new f h t

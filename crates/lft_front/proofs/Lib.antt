@@ -2,6 +2,7 @@ pub mod Texts
 pub mod Judging
 pub mod Listed
 pub mod Pairing
+pub mod Behind
 pub mod Explaining
 pub mod PairExplaining
 pub mod Telling

@@ -1,42 +1,79 @@
 -- Faults of explaining two traces, which tell nothing of the texts.
-use Rattle.std.proofs.Common.{◌≡◌, ◌++◌, ℕ, IfErr, IfOk, Result, Ok, Err, List, Option, true, codes, sym, ap, ◌∙◌, subst}
-use Rattle.lft_tag.specs.declared.Tag.{Tag}
+use Rattle.std.proofs.Common.{◌≡◌, ◌≢◌, ◌⊎◌, ◌++◌, inl, inr, ℕ, Bool, IfErr, IfOk, Result, Ok, Err, List, Option, true, refl, subst}
+use Rattle.std.specs.Io.KnownBytes.{Appends, Keeps}
 use Rattle.lft_flat.specs.Parts.{Parts}
-use Rattle.lft_contrast.specs.Shown.{ShowsDifference}
-use Rattle.lft_front.specs.Lines.{line_of_pair}
-use Rattle.lft_front.specs.declared.paired.Paired.TheVariants.{Differ}
 use Rattle.lft_steps.specs.declared.row.Row.{Row}
 use Rattle.lft_model.specs.Plans.{PlanParts}
+use Rattle.lft_model.specs.Workers.{IsWorkers}
 use Rattle.lft_load.specs.Refusals.{is_of_text}
+use Rattle.lft_load.specs.Written.{AppendsFront}
 use Rattle.lft_load.specs.declared.fault.Fault.{Fault}
+use Rattle.lft_load.specs.declared.fault.Part.TheVariants as part
+use Rattle.lft_front.specs.Lines.{line_of_pair}
+use Rattle.lft_front.specs.Refusals.{IsRefusedGrowth}
+use Rattle.lft_front.specs.Refusals.CheckRefusal.{by_growth}
 use Rattle.lft_front.specs.declared.paired.Paired.{Paired}
-use Rattle.lft_front.specs.PairExplained.{IsPairExplanation, IsPairExplained, WritesPairExplanation, PairExplainingRefusal, PairExplainRefusal}
-use Rattle.lft_front.specs.PairExplained.PairExplainingRefusal.{by_check, by_writer}
+use Rattle.lft_front.specs.Explained.{Writes, WriteRefusal}
+use Rattle.lft_front.specs.PairExplained.{StandsBehind, IsPairExplanation, IsPairExplained, PairExplainingRefusal, PairExplainRefusal}
+use Rattle.lft_front.specs.PairExplained.PairExplainingRefusal.{by_check, by_line, by_writer}
 use Rattle.lft_front.specs.PairExplained.PairExplainRefusal.{by_explaining}
 use Rattle.lft_front.specs.Pairs.{AreMeaning, IsPairing, MeanBoth}
 use Rattle.lft_front.proofs.Judging.{refusal_untold, write_untold}
+use Rattle.lft_front.proofs.Behind.{appends_kept, writes_both, front_both, growth_kept}
 
--- where a plan and two traces get no explanation, the fault tells nothing of the texts
-explaining_untold : (plan : PlanParts) (rows others : List Row) (workers : ℕ) (old new : Option (List ℕ)) (f : Fault) → PairExplainingRefusal plan rows others workers old new f → is_of_text f.part f.number ≡ true → ⊥
-explaining_untold plan rows others workers old new f (by_check x) t = refusal_untold workers f x t
-explaining_untold plan rows others workers old new f (by_writer v text p n x y z) t = write_untold f.part f.number p t
+module _ (all : Bool) (plan : PlanParts) (rows others : List Row) (workers : ℕ) (program : Parts) (same : program ≡ plan.program) (said : Paired) (right : IsPairing plan rows others said) (lawful : IsWorkers workers) (old mid new : Option (List ℕ)) where
+  -- the writer failed on the line, or there was no memory for it
+  pub line_refused : (f : Fault) → IsRefusedGrowth f ⊎ (f.part ≡ part.Write) × (f.number ≡ 1) × AppendsFront old mid (line_of_pair program said) → (f.part ≢ part.Write → Keeps old mid) → PairExplainingRefusal all plan rows others workers old mid f
+  line_refused f (inl x) k = by_check (by_growth x lawful) (inl (growth_kept f old mid x k))
+  line_refused f (inr x) k = by_line said x.0 x.1 right (subst (λ p. AppendsFront old mid (line_of_pair p said)) same x.2)
+
+  module _ (line : Appends old mid (line_of_pair program said)) where
+    first : Appends old mid (line_of_pair plan.program said)
+    first = subst (λ p. Appends old mid (line_of_pair p said)) same line
+
+    joins : (rest : List ℕ) → StandsBehind all plan rows others said rest → IsPairExplanation all plan rows others said (line_of_pair plan.program said ++ rest)
+    joins rest is = (rest, is, refl)
+
+    -- the line was written, and then what stands behind it
+    pub all_written : Writes (StandsBehind all plan rows others said) mid new → Writes (IsPairExplanation all plan rows others said) old new
+    all_written = writes_both (StandsBehind all plan rows others said) (IsPairExplanation all plan rows others said) (line_of_pair plan.program said) joins old mid new first
+
+    -- the line was written, and what stands behind it wasn't
+    pub rest_refused : (f : Fault) → WriteRefusal (StandsBehind all plan rows others said) mid new f → PairExplainingRefusal all plan rows others workers old new f
+    rest_refused f (inl x) = by_check (by_growth (inr (x.0, x.1)) lawful) (inr (x.0, (said, right, appends_kept old mid new (line_of_pair plan.program said) first x.2)))
+    rest_refused f (inr (p, n, rest)) =
+        let whole = front_both (StandsBehind all plan rows others said) (IsPairExplanation all plan rows others said) (line_of_pair plan.program said) joins old mid new first rest.0 rest.1 rest.2 in
+        by_writer said whole.0 p n right whole.1 whole.2
+
+module _ (all : Bool) (plan : PlanParts) (rows others : List Row) (workers : ℕ) (old new : Option (List ℕ)) where
+  -- where a plan and two traces get no explanation, the fault tells nothing of the texts
+  explaining_untold : (f : Fault) → PairExplainingRefusal all plan rows others workers old new f → is_of_text f.part f.number ≡ true → ⊥
+  explaining_untold f (by_check x k) t = refusal_untold workers f x t
+  explaining_untold f (by_line v p n x y) t = write_untold f.part f.number p t
+  explaining_untold f (by_writer v text p n x y z) t = write_untold f.part f.number p t
+
+  -- where neither the writer failed nor memory was refused, nothing was written
+  explaining_keeps : (f : Fault) → PairExplainingRefusal all plan rows others workers old new f → f.part ≢ part.Write → f.part ≢ part.Memory → Keeps old new
+  explaining_keeps f (by_check x (inl k)) w m = k
+  explaining_keeps f (by_check x (inr k)) w m = absurd (m k.0)
+  explaining_keeps f (by_line v p n x y) w m = absurd (w p)
+  explaining_keeps f (by_writer v text p n x y z) w m = absurd (w p)
+
+  pub pair_kept : (r : Result Paired Fault) → IfErr r (PairExplainingRefusal all plan rows others workers old new) → IfErr r (λ f. f.part ≢ part.Write → f.part ≢ part.Memory → Keeps old new)
+  pair_kept (Ok said) h = h
+  pair_kept (Err f) h = explaining_keeps f h
 
 -- what is refused of the meaning is refused of the texts
-pub pair_refused : (program externals first second : List ℕ) (workers : ℕ) (old new : Option (List ℕ)) (plan : PlanParts) (rows others : List Row) → AreMeaning program externals first second plan rows others → (r : Result Paired Fault) → IfErr r (PairExplainingRefusal plan rows others workers old new) → IfErr r (PairExplainRefusal program externals first second workers old new)
-pair_refused program externals first second workers old new plan rows others m (Ok v) h = h
-pair_refused program externals first second workers old new plan rows others m (Err f) h = by_explaining plan rows others m h
+pub pair_refused : (all : Bool) (program externals first second : List ℕ) (workers : ℕ) (old new : Option (List ℕ)) (plan : PlanParts) (rows others : List Row) → AreMeaning program externals first second plan rows others → (r : Result Paired Fault) → IfErr r (PairExplainingRefusal all plan rows others workers old new) → IfErr r (PairExplainRefusal all program externals first second workers old new)
+pair_refused all program externals first second workers old new plan rows others m (Ok said) h = h
+pair_refused all program externals first second workers old new plan rows others m (Err f) h = by_explaining plan rows others m h
 
 -- where the texts have a meaning, no fault tells anything of them
-pub pair_none : (program externals first second : List ℕ) (workers : ℕ) (old new : Option (List ℕ)) (plan : PlanParts) (rows others : List Row) → (r : Result Paired Fault) → IfErr r (PairExplainingRefusal plan rows others workers old new) → IfErr r (λ f. is_of_text f.part f.number ≡ true → (other : PlanParts) (one two : List Row) → MeanBoth program externals first second other one two → ⊥)
-pair_none program externals first second workers old new plan rows others (Ok v) h = h
-pair_none program externals first second workers old new plan rows others (Err f) h = λ t other one two x. explaining_untold plan rows others workers old new f h t
+pub pair_none : (all : Bool) (program externals first second : List ℕ) (workers : ℕ) (old new : Option (List ℕ)) (plan : PlanParts) (rows others : List Row) → (r : Result Paired Fault) → IfErr r (PairExplainingRefusal all plan rows others workers old new) → IfErr r (λ f. is_of_text f.part f.number ≡ true → (other : PlanParts) (one two : List Row) → MeanBoth program externals first second other one two → ⊥)
+pair_none all program externals first second workers old new plan rows others (Ok said) h = h
+pair_none all program externals first second workers old new plan rows others (Err f) h = λ t other one two x. explaining_untold all plan rows others workers old new f h t
 
 -- what is right of the meaning, and was explained, is explained of the texts
-pub pair_explained : (program externals first second : List ℕ) (old new : Option (List ℕ)) (plan : PlanParts) (rows others : List Row) → AreMeaning program externals first second plan rows others → (r : Result Paired Fault) → IfOk r (IsPairing plan rows others) → IfOk r (WritesPairExplanation plan rows others old new) → IfOk r (IsPairExplained program externals first second old new)
-pair_explained program externals first second old new plan rows others m (Ok said) h w = record { plan = plan; rows = rows; others = others; meaning = m; right = h; written = w }
-pair_explained program externals first second old new plan rows others m (Err f) h w = h
-
--- a difference is explained by its line, an empty line and what shows it
-pub differ_explained : (plan : PlanParts) (rows others : List Row) (g : Tag) (r : ℕ) (said : Paired) → said ≡ Differ g r → (program : Parts) → program ≡ plan.program → (line what word : List ℕ) → line ≡ line_of_pair program said → ShowsDifference plan rows others g r what → word ≡ what → {T E : Type 0} (bytes : T → List ℕ) (result : Result T E) → IfOk result (λ all. bytes all ≡ line ++ (codes "\n" ++ word)) → IfOk result (λ text. IsPairExplanation plan rows others said (bytes text))
-differ_explained plan rows others g r said is program p line what word l shows w bytes (Err e) h = tt
-differ_explained plan rows others g r said is program p line what word l shows w bytes (Ok all) h = subst (λ (x : Paired). IsPairExplanation plan rows others x (bytes all)) (sym is) (what, shows, h ∙ ap (λ x. x ++ (codes "\n" ++ word)) (l ∙ ap (λ q. line_of_pair q said) p ∙ ap (λ x. line_of_pair plan.program x) is) ∙ ap (λ x. line_of_pair plan.program (Differ g r) ++ (codes "\n" ++ x)) w)
+pub pair_explained : (all : Bool) (program externals first second : List ℕ) (old new : Option (List ℕ)) (plan : PlanParts) (rows others : List Row) → AreMeaning program externals first second plan rows others → (r : Result Paired Fault) → IfOk r (IsPairing plan rows others) → IfOk r (λ said. Writes (IsPairExplanation all plan rows others said) old new) → IfOk r (IsPairExplained all program externals first second old new)
+pair_explained all program externals first second old new plan rows others m (Ok said) h w = record { plan = plan; rows = rows; others = others; meaning = m; right = h; written = w }
+pair_explained all program externals first second old new plan rows others m (Err f) h w = h

@@ -1,6 +1,6 @@
 -- A verdict on three texts with what explains it, and why texts get none.
 use Rattle.std.specs.Prelude.{◌≡◌, ◌↔◌, ◌⊎◌, ℕ, Bool, IsTrue, List, [], ◌++◌, Option, codes}
-use Rattle.std.specs.Io.KnownBytes.{Appends}
+use Rattle.std.specs.Io.KnownBytes.{Appends, Keeps}
 use Rattle.lft_steps.specs.declared.row.Row.{Row}
 use Rattle.lft_model.specs.declared.breach.Breach.{Breach}
 use Rattle.lft_model.specs.Plans.{PlanParts}
@@ -29,50 +29,67 @@ abbrev pub Guesses : PlanParts → List Row → Breach → List ℕ → Type 0
 Guesses plan rows b guess = ((guess ≡ []) × ((hint : Hint) → IsHint plan rows b hint → ⊥)) ⊎ IsGuess plan rows b guess
 
 -- the text tells the facts behind the breach, and behind them a guess exactly where a hint holds
-pub record Tells (plan : PlanParts) (rows : List Row) (b : Breach) (text : List ℕ) : Type 0 where
+pub record Tells (all : Bool) (plan : PlanParts) (rows : List Row) (b : Breach) (text : List ℕ) : Type 0 where
   pub why : List ℕ
   pub guess : List ℕ
-  pub explains : Explains plan rows b why
+  pub explains : Explains all plan rows b why
   pub is_guess : Guesses plan rows b guess
   pub is_text : text ≡ why ++ guess
 
--- the text is the line of the verdict, and for a broken rule an empty line and what explains the breach
-abbrev pub IsExplanation : PlanParts → List Row → Verdict → List ℕ → Type 0
-IsExplanation plan rows (Accepted runs tags) text = text ≡ line_of plan.program (Accepted runs tags)
-IsExplanation plan rows (Broken b) text = (why : List ℕ) × Tells plan rows b why × (text ≡ line_of plan.program (Broken b) ++ (codes "\n" ++ why))
+-- an empty line and what explains the breach
+abbrev pub AreReasons : Bool → PlanParts → List Row → Breach → List ℕ → Type 0
+AreReasons all plan rows b text = (why : List ℕ) × Tells all plan rows b why × (text ≡ codes "\n" ++ why)
 
--- such a text was written
-abbrev pub WritesExplanation : PlanParts → List Row → Option (List ℕ) → Option (List ℕ) → Verdict → Type 0
-WritesExplanation plan rows old new verdict = (text : List ℕ) × IsExplanation plan rows verdict text × Appends old new text
+-- what stands behind the line of a verdict: for a broken rule what explains the breach, else nothing
+abbrev pub StandsBehind : Bool → PlanParts → List Row → Verdict → List ℕ → Type 0
+StandsBehind all plan rows (Accepted runs tags) text = text ≡ []
+StandsBehind all plan rows (Broken b) text = AreReasons all plan rows b text
+
+-- the text is the line of the verdict, and what stands behind it
+abbrev pub IsExplanation : Bool → PlanParts → List Row → Verdict → List ℕ → Type 0
+IsExplanation all plan rows verdict text = (rest : List ℕ) × StandsBehind all plan rows verdict rest × (text ≡ line_of plan.program verdict ++ rest)
+
+-- a text was written of which this holds
+abbrev pub Writes : (List ℕ → Type 0) → Option (List ℕ) → Option (List ℕ) → Type 0
+Writes P old new = (text : List ℕ) × P text × Appends old new text
+
+-- no text was written of which this holds: memory was refused, and nothing was written, or the writer failed on such a text
+abbrev pub WriteRefusal : (List ℕ → Type 0) → Option (List ℕ) → Option (List ℕ) → Fault → Type 0
+WriteRefusal P old new f = ((f.part ≡ part.Memory) × (f.number ≡ 1) × Keeps old new) ⊎ ((f.part ≡ part.Write) × (f.number ≡ 1) × ((text : List ℕ) × P text × AppendsFront old new text))
+
+-- nothing was written, or memory was refused behind the verdict's line: then that line alone was written
+abbrev pub WritesLineAtMost : PlanParts → List Row → Option (List ℕ) → Option (List ℕ) → Fault → Type 0
+WritesLineAtMost plan rows old new f = Keeps old new ⊎ (f.part ≡ part.Memory) × ((verdict : Verdict) × IsVerdict plan rows verdict × Appends old new (line_of plan.program verdict))
 
 -- the verdict on the meaning of the three texts; its line and what explains it were written
-pub record IsExplained (program externals trace : List ℕ) (old new : Option (List ℕ)) (verdict : Verdict) : Type 0 where
+pub record IsExplained (all : Bool) (program externals trace : List ℕ) (old new : Option (List ℕ)) (verdict : Verdict) : Type 0 where
   pub plan : PlanParts
   pub rows : List Row
   pub meaning : IsMeaning program externals trace plan rows
   pub right : IsVerdict plan rows verdict
   pub one_worker : AcceptedRuns plan rows verdict
-  pub written : WritesExplanation plan rows old new verdict
+  pub written : Writes (IsExplanation all plan rows verdict) old new
 
 -- true is the answer where the verdict on the three texts, which was explained, accepts, and false where it doesn't
-abbrev pub IsExplainedAnswer : List ℕ → List ℕ → List ℕ → Option (List ℕ) → Option (List ℕ) → Bool → Type 0
-IsExplainedAnswer program externals trace old new answer = (verdict : Verdict) × IsExplained program externals trace old new verdict × (IsTrue answer ↔ Accepts verdict)
+abbrev pub IsExplainedAnswer : Bool → List ℕ → List ℕ → List ℕ → Option (List ℕ) → Option (List ℕ) → Bool → Type 0
+IsExplainedAnswer all program externals trace old new answer = (verdict : Verdict) × IsExplained all program externals trace old new verdict × (IsTrue answer ↔ Accepts verdict)
 
 -- the same of the three texts of a bundle
-abbrev pub IsExplainedBundle : List ℕ → Option (List ℕ) → Option (List ℕ) → Bool → Type 0
-IsExplainedBundle text old new answer = (program externals trace : List ℕ) × IsBundle text program externals trace × IsExplainedAnswer program externals trace old new answer
+abbrev pub IsExplainedBundle : Bool → List ℕ → Option (List ℕ) → Option (List ℕ) → Bool → Type 0
+IsExplainedBundle all text old new answer = (program externals trace : List ℕ) × IsBundle text program externals trace × IsExplainedAnswer all program externals trace old new answer
 
--- a plan and rows get no written explanation: they get no verdict, or the writer failed on it
-pub data ExplainingRefusal (plan : PlanParts) (rows : List Row) (workers : ℕ) (old new : Option (List ℕ)) (f : Fault) : Type 0 where
-  by_check : CheckRefusal workers f → ExplainingRefusal plan rows workers old new f
-  by_writer : (verdict : Verdict) (text : List ℕ) → f.part ≡ part.Write → f.number ≡ 1 → IsVerdict plan rows verdict → IsExplanation plan rows verdict text → AppendsFront old new text → ExplainingRefusal plan rows workers old new f
+-- a plan and rows get no written explanation: there is no verdict, or no memory for what explains it; or the writer failed on the verdict's line, or on the whole
+pub data ExplainingRefusal (all : Bool) (plan : PlanParts) (rows : List Row) (workers : ℕ) (old new : Option (List ℕ)) (f : Fault) : Type 0 where
+  by_check : CheckRefusal workers f → WritesLineAtMost plan rows old new f → ExplainingRefusal all plan rows workers old new f
+  by_line : (verdict : Verdict) → f.part ≡ part.Write → f.number ≡ 1 → IsVerdict plan rows verdict → AppendsFront old new (line_of plan.program verdict) → ExplainingRefusal all plan rows workers old new f
+  by_writer : (verdict : Verdict) (text : List ℕ) → f.part ≡ part.Write → f.number ≡ 1 → IsVerdict plan rows verdict → IsExplanation all plan rows verdict text → AppendsFront old new text → ExplainingRefusal all plan rows workers old new f
 
--- the three texts get no explanation: they have no meaning, or their meaning gets none
-pub data ExplainRefusal (program externals trace : List ℕ) (workers : ℕ) (old new : Option (List ℕ)) (f : Fault) : Type 0 where
-  by_texts : TextsRefusal program externals trace f → ExplainRefusal program externals trace workers old new f
-  by_explaining : (plan : PlanParts) (rows : List Row) → IsMeaning program externals trace plan rows → ExplainingRefusal plan rows workers old new f → ExplainRefusal program externals trace workers old new f
+-- the three texts get no explanation: they have no meaning, and nothing was written, or their meaning gets none
+pub data ExplainRefusal (all : Bool) (program externals trace : List ℕ) (workers : ℕ) (old new : Option (List ℕ)) (f : Fault) : Type 0 where
+  by_texts : TextsRefusal program externals trace f → Keeps old new → ExplainRefusal all program externals trace workers old new f
+  by_explaining : (plan : PlanParts) (rows : List Row) → IsMeaning program externals trace plan rows → ExplainingRefusal all plan rows workers old new f → ExplainRefusal all program externals trace workers old new f
 
 -- a bundle gets no explanation: the text is no bundle, or its three texts get none by one worker
-pub data ExplainBundleRefusal (text : List ℕ) (old new : Option (List ℕ)) (f : Fault) : Type 0 where
-  by_bundle : f.part ≡ part.Bundle → f.number ≡ 1 → ((program externals trace : List ℕ) → IsBundle text program externals trace → ⊥) → ExplainBundleRefusal text old new f
-  by_explaining : (program externals trace : List ℕ) → IsBundle text program externals trace → ExplainRefusal program externals trace 1 old new f → ExplainBundleRefusal text old new f
+pub data ExplainBundleRefusal (all : Bool) (text : List ℕ) (old new : Option (List ℕ)) (f : Fault) : Type 0 where
+  by_bundle : f.part ≡ part.Bundle → f.number ≡ 1 → ((program externals trace : List ℕ) → IsBundle text program externals trace → ⊥) → ExplainBundleRefusal all text old new f
+  by_explaining : (program externals trace : List ℕ) → IsBundle text program externals trace → ExplainRefusal all program externals trace 1 old new f → ExplainBundleRefusal all text old new f

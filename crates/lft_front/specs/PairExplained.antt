@@ -1,9 +1,11 @@
 -- What is said of two traces, from texts, with what explains it, and why texts get none.
-use Rattle.std.specs.Prelude.{◌≡◌, ◌↔◌, ℕ, Bool, IsTrue, List, ◌++◌, Option, codes}
-use Rattle.std.specs.Io.KnownBytes.{Appends}
+use Rattle.std.specs.Prelude.{◌≡◌, ◌↔◌, ◌⊎◌, ℕ, Bool, IsTrue, List, [], ◌++◌, Option, codes}
+use Rattle.std.specs.Io.KnownBytes.{Appends, Keeps}
+use Rattle.lft_tag.specs.declared.Tag.{Tag}
 use Rattle.lft_steps.specs.declared.row.Row.{Row}
 use Rattle.lft_model.specs.Plans.{PlanParts}
-use Rattle.lft_front.specs.Explained.{Tells}
+use Rattle.lft_front.specs.Explained.{AreReasons, Writes}
+use Rattle.lft_explain.specs.Shortened.{shown}
 use Rattle.lft_contrast.specs.Shown.{ShowsDifference}
 use Rattle.lft_load.specs.Written.{AppendsFront}
 use Rattle.lft_load.specs.declared.fault.Fault.{Fault}
@@ -15,36 +17,45 @@ use Rattle.lft_front.specs.PairRefusals.{TextPairRefusal}
 use Rattle.lft_front.specs.Pairs.{AreMeaning, IsPairing, SaysSame}
 use Rattle.lft_front.specs.Refusals.{CheckRefusal}
 
--- the text is the line of two traces; for a broken rule then an empty line and what explains the breach of that trace, for a difference an empty line and what shows it
-abbrev pub IsPairExplanation : PlanParts → List Row → List Row → Paired → List ℕ → Type 0
-IsPairExplanation plan rows others (paired.First b) text = (why : List ℕ) × Tells plan rows b why × (text ≡ line_of_pair plan.program (paired.First b) ++ (codes "\n" ++ why))
-IsPairExplanation plan rows others (paired.Second b) text = (why : List ℕ) × Tells plan others b why × (text ≡ line_of_pair plan.program (paired.Second b) ++ (codes "\n" ++ why))
-IsPairExplanation plan rows others (paired.Same runs tags) text = text ≡ line_of_pair plan.program (paired.Same runs tags)
-IsPairExplanation plan rows others (paired.Differ g r) text = (what : List ℕ) × ShowsDifference plan rows others g r what × (text ≡ line_of_pair plan.program (paired.Differ g r) ++ (codes "\n" ++ what))
+-- an empty line and what shows a difference: all of it, or the first 60 lines and how many others there are
+abbrev pub AreAnswers : Bool → PlanParts → List Row → List Row → Tag → ℕ → List ℕ → Type 0
+AreAnswers all plan rows others g r text = (what : List ℕ) × ShowsDifference plan rows others g r what × (text ≡ codes "\n" ++ shown all what)
 
--- such a text was written
-abbrev pub WritesPairExplanation : PlanParts → List Row → List Row → Option (List ℕ) → Option (List ℕ) → Paired → Type 0
-WritesPairExplanation plan rows others old new said = (text : List ℕ) × IsPairExplanation plan rows others said text × Appends old new text
+-- what stands behind the line of two traces: for a broken rule what explains the breach of that trace, for a difference what shows it, else nothing
+abbrev pub StandsBehind : Bool → PlanParts → List Row → List Row → Paired → List ℕ → Type 0
+StandsBehind all plan rows others (paired.First b) text = AreReasons all plan rows b text
+StandsBehind all plan rows others (paired.Second b) text = AreReasons all plan others b text
+StandsBehind all plan rows others (paired.Same runs tags) text = text ≡ []
+StandsBehind all plan rows others (paired.Differ g r) text = AreAnswers all plan rows others g r text
+
+-- the text is the line of two traces, and what stands behind it
+abbrev pub IsPairExplanation : Bool → PlanParts → List Row → List Row → Paired → List ℕ → Type 0
+IsPairExplanation all plan rows others said text = (rest : List ℕ) × StandsBehind all plan rows others said rest × (text ≡ line_of_pair plan.program said ++ rest)
+
+-- nothing was written, or memory was refused behind the line of the two traces: then that line alone was written
+abbrev pub WritesPairLineAtMost : PlanParts → List Row → List Row → Option (List ℕ) → Option (List ℕ) → Fault → Type 0
+WritesPairLineAtMost plan rows others old new f = Keeps old new ⊎ (f.part ≡ part.Memory) × ((said : Paired) × IsPairing plan rows others said × Appends old new (line_of_pair plan.program said))
 
 -- what is said of the meaning of the four texts; its line and what explains it were written
-pub record IsPairExplained (program externals first second : List ℕ) (old new : Option (List ℕ)) (said : Paired) : Type 0 where
+pub record IsPairExplained (all : Bool) (program externals first second : List ℕ) (old new : Option (List ℕ)) (said : Paired) : Type 0 where
   pub plan : PlanParts
   pub rows : List Row
   pub others : List Row
   pub meaning : AreMeaning program externals first second plan rows others
   pub right : IsPairing plan rows others said
-  pub written : WritesPairExplanation plan rows others old new said
+  pub written : Writes (IsPairExplanation all plan rows others said) old new
 
 -- true is the answer where the traces of the four texts, which were explained, are accepted and have the same runs, and false where not
-abbrev pub IsPairExplainedAnswer : List ℕ → List ℕ → List ℕ → List ℕ → Option (List ℕ) → Option (List ℕ) → Bool → Type 0
-IsPairExplainedAnswer program externals first second old new answer = (said : Paired) × IsPairExplained program externals first second old new said × (IsTrue answer ↔ SaysSame said)
+abbrev pub IsPairExplainedAnswer : Bool → List ℕ → List ℕ → List ℕ → List ℕ → Option (List ℕ) → Option (List ℕ) → Bool → Type 0
+IsPairExplainedAnswer all program externals first second old new answer = (said : Paired) × IsPairExplained all program externals first second old new said × (IsTrue answer ↔ SaysSame said)
 
--- a plan and two traces get no written explanation: by the checker or for want of memory they get none, or the writer failed on it
-pub data PairExplainingRefusal (plan : PlanParts) (rows others : List Row) (workers : ℕ) (old new : Option (List ℕ)) (f : Fault) : Type 0 where
-  by_check : CheckRefusal workers f → PairExplainingRefusal plan rows others workers old new f
-  by_writer : (said : Paired) (text : List ℕ) → f.part ≡ part.Write → f.number ≡ 1 → IsPairing plan rows others said → IsPairExplanation plan rows others said text → AppendsFront old new text → PairExplainingRefusal plan rows others workers old new f
+-- a plan and two traces get no written explanation: by the checker or for want of memory they get none; or the writer failed on the line, or on the whole
+pub data PairExplainingRefusal (all : Bool) (plan : PlanParts) (rows others : List Row) (workers : ℕ) (old new : Option (List ℕ)) (f : Fault) : Type 0 where
+  by_check : CheckRefusal workers f → WritesPairLineAtMost plan rows others old new f → PairExplainingRefusal all plan rows others workers old new f
+  by_line : (said : Paired) → f.part ≡ part.Write → f.number ≡ 1 → IsPairing plan rows others said → AppendsFront old new (line_of_pair plan.program said) → PairExplainingRefusal all plan rows others workers old new f
+  by_writer : (said : Paired) (text : List ℕ) → f.part ≡ part.Write → f.number ≡ 1 → IsPairing plan rows others said → IsPairExplanation all plan rows others said text → AppendsFront old new text → PairExplainingRefusal all plan rows others workers old new f
 
--- the four texts get no explanation: they have no meaning, or their meaning gets none
-pub data PairExplainRefusal (program externals first second : List ℕ) (workers : ℕ) (old new : Option (List ℕ)) (f : Fault) : Type 0 where
-  by_reading : TextPairRefusal program externals first second f → PairExplainRefusal program externals first second workers old new f
-  by_explaining : (plan : PlanParts) (rows others : List Row) → AreMeaning program externals first second plan rows others → PairExplainingRefusal plan rows others workers old new f → PairExplainRefusal program externals first second workers old new f
+-- the four texts get no explanation: they have no meaning, and nothing was written, or their meaning gets none
+pub data PairExplainRefusal (all : Bool) (program externals first second : List ℕ) (workers : ℕ) (old new : Option (List ℕ)) (f : Fault) : Type 0 where
+  by_reading : TextPairRefusal program externals first second f → Keeps old new → PairExplainRefusal all program externals first second workers old new f
+  by_explaining : (plan : PlanParts) (rows others : List Row) → AreMeaning program externals first second plan rows others → PairExplainingRefusal all plan rows others workers old new f → PairExplainRefusal all program externals first second workers old new f

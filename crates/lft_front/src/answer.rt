@@ -98,12 +98,13 @@ pub fn explain_answer<W: Write, R: Threads + Sync>(
     externals: &[u8],
     trace: &[u8],
     workers: u32,
+    all: bool,
     out: &mut W,
 ) -> Result<bool, Fault>
-    ensures accepted { IfOk result (IsExplainedAnswer program.now externals.now trace.now (W.contents out.old) (W.contents out.new)) }
-    ensures refused { IfErr result (ExplainRefusal program.now externals.now trace.now workers (W.contents out.old) (W.contents out.new)) }
+    ensures accepted { IfOk result (IsExplainedAnswer all program.now externals.now trace.now (W.contents out.old) (W.contents out.new)) }
+    ensures refused { IfErr result (ExplainRefusal all program.now externals.now trace.now workers (W.contents out.old) (W.contents out.new)) }
 {
-    let verdict = explain_texts(rt, alloc, program, externals, trace, workers, out)?;
+    let verdict = explain_texts(rt, alloc, program, externals, trace, workers, all, out)?;
     Ok(is_accepted(verdict))
 }
 
@@ -117,12 +118,15 @@ pub fn explain_pair_answer<W: Write, R: Threads + Sync>(
     first: &[u8],
     second: &[u8],
     workers: u32,
+    all: bool,
     out: &mut W,
 ) -> Result<bool, Fault>
-    ensures same { IfOk result (IsPairExplainedAnswer program.now externals.now first.now second.now (W.contents out.old) (W.contents out.new)) }
-    ensures refused { IfErr result (PairExplainRefusal program.now externals.now first.now second.now workers (W.contents out.old) (W.contents out.new)) }
+    ensures same { IfOk result (IsPairExplainedAnswer all program.now externals.now first.now second.now (W.contents out.old) (W.contents out.new)) }
+    ensures refused { IfErr result (PairExplainRefusal all program.now externals.now first.now second.now workers (W.contents out.old) (W.contents out.new)) }
 {
-    let paired = explain_pair_texts(rt, alloc, program, externals, first, second, workers, out)?;
+    let paired = explain_pair_texts(
+        rt, alloc, program, externals, first, second, workers, all, out,
+    )?;
     Ok(is_same(paired))
 }
 
@@ -132,10 +136,11 @@ pub fn explain_bundle_answer<W: Write, R: Threads + Sync>(
     rt: &R,
     alloc: Global,
     text: &[u8],
+    all: bool,
     out: &mut W,
 ) -> Result<bool, Fault>
-    ensures accepted { IfOk result (IsExplainedBundle text.now (W.contents out.old) (W.contents out.new)) }
-    ensures refused { IfErr result (ExplainBundleRefusal text.now (W.contents out.old) (W.contents out.new)) }
+    ensures accepted { IfOk result (IsExplainedBundle all text.now (W.contents out.old) (W.contents out.new)) }
+    ensures refused { IfErr result (ExplainBundleRefusal all text.now (W.contents out.old) (W.contents out.new)) }
 {
     let Some(bundle) = split_bundle(text) else {
         return Err(Fault::plain(Part::Bundle, 1, "BadBundle"));
@@ -147,6 +152,7 @@ pub fn explain_bundle_answer<W: Write, R: Threads + Sync>(
         bundle.externals,
         bundle.trace,
         1,
+        all,
         out,
     ) {
         Ok(answer) => Ok(answer),

@@ -10,12 +10,11 @@ ghost use Rattle.lft_model.specs.Workers.{IsWorkers};
 ghost use Rattle.lft_check.specs.Verdicts.{IsVerdict};
 ghost use Rattle.lft_front.specs.Meaning.{Mean};
 ghost use Rattle.lft_front.specs.Judged.{AcceptedRuns};
-ghost use Rattle.lft_front.specs.Explained.{IsExplanation, Guesses, Tells, WritesExplanation, IsExplained, ExplainingRefusal, ExplainRefusal};
+ghost use Rattle.lft_front.specs.Explained.{Guesses, AreReasons, StandsBehind, IsExplanation, Writes, WriteRefusal, IsExplained, ExplainingRefusal, ExplainRefusal};
 ghost use Rattle.lft_load.specs.Refusals.{is_of_text};
 ghost use Rattle.lft_load.specs.declared.fault.Part.TheVariants as part;
 
-use crate::judge::{read_texts, verdict_of};
-use crate::line::verdict_line;
+use crate::judge::{read_texts, report, verdict_of};
 use lft_check::Verdict;
 use lft_explain::explain;
 use lft_hints::{hint_of, tell_hint};
@@ -42,79 +41,102 @@ fn guess(alloc: Global, plan: &Plan, rows: &Rows, breach: Breach) -> Result<Stri
     }
 }
 
-/// The facts behind a breach, and behind them a guess.
-pub(crate) fn reasons(
+/// An empty line, the facts behind a breach, and behind them a guess.
+fn reasons(
     alloc: Global,
     plan: &Plan,
     rows: &Rows,
     breach: Breach,
-) -> Result<String, NoMemory>
+    all: bool,
+) -> Result<Vec<u8>, NoMemory>
     requires fit { RowsFit plan.now.program rows.now }
     requires first { First plan.now rows.now breach }
-    ensures { IfOk result (λ text. Tells plan.now rows.now breach (string_bytes text)) }
+    ensures { IfOk result (λ text. AreReasons all plan.now rows.now breach text.items) }
 {
-    let mut text = explain(alloc, plan, rows, breach)?;
+    let why = explain(alloc, plan, rows, breach, all)?;
     let guess = guess(alloc, plan, rows, breach)?;
-    text.push_str(guess.as_str())?;
+    let mut text = Vec::from_slice(alloc, b"\n")?;
+    text.extend_from_slice(why.as_slice())?;
+    text.extend_from_slice(guess.as_bytes())?;
     Ok(text)
 }
 
-/// The line of a verdict, and for a broken rule an empty line and the reasons.
-fn explanation(
+/// Writes an empty line and what explains a breach.
+pub(crate) fn write_reasons<W: Write>(
+    alloc: Global,
+    plan: &Plan,
+    rows: &Rows,
+    breach: Breach,
+    all: bool,
+    out: &mut W,
+) -> Result<(), Fault>
+    requires fit { RowsFit plan.now.program rows.now }
+    requires first { First plan.now rows.now breach }
+    ensures written { OnOk result (Writes (AreReasons all plan.now rows.now breach) (W.contents out.old) (W.contents out.new)) }
+    ensures refused { IfErr result (WriteRefusal (AreReasons all plan.now rows.now breach) (W.contents out.old) (W.contents out.new)) }
+{
+    match reasons(alloc, plan, rows, breach, all) {
+        Ok(text) => write_text(text.as_slice(), out),
+        Err(_) => Err(Fault::no_memory()),
+    }
+}
+
+/// Writes what stands behind the line of a verdict.
+fn write_behind<W: Write>(
     alloc: Global,
     plan: &Plan,
     rows: &Rows,
     verdict: Verdict,
-) -> Result<String, NoMemory>
+    all: bool,
+    out: &mut W,
+) -> Result<(), Fault>
     requires fit { RowsFit plan.now.program rows.now }
     requires verdict { IsVerdict plan.now rows.now verdict }
-    ensures { IfOk result (λ text. IsExplanation plan.now rows.now verdict (string_bytes text)) }
+    ensures written { OnOk result (Writes (StandsBehind all plan.now rows.now verdict) (W.contents out.old) (W.contents out.new)) }
+    ensures refused { IfErr result (WriteRefusal (StandsBehind all plan.now rows.now verdict) (W.contents out.old) (W.contents out.new)) }
 {
-    let mut text = verdict_line(alloc, plan.program(), verdict)?;
     match verdict {
-        Verdict::Accepted { .. } => Ok(text),
-        Verdict::Broken(breach) => {
-            let why = reasons(alloc, plan, rows, breach)?;
-            text.push_str("\n")?;
-            text.push_str(why.as_str())?;
-            Ok(text)
-        }
+        Verdict::Accepted { .. } => Ok(()),
+        Verdict::Broken(breach) => write_reasons(alloc, plan, rows, breach, all, out),
     }
 }
 
-/// Judges rows by so many workers, and writes the verdict's line and what explains it.
+/// Judges rows by so many workers, and writes the verdict's line. Then it looks for what explains it, and
+/// writes that.
 fn explain_rows<W: Write, R: Threads + Sync>(
     rt: &R,
     alloc: Global,
     plan: &Plan,
     rows: &Rows,
     workers: u32,
+    all: bool,
     out: &mut W,
 ) -> Result<Verdict, Fault>
     requires fit { RowsFit plan.now.program rows.now }
     ensures verdict { IfOk result (IsVerdict plan.now rows.now) }
     ensures one_worker { IfOk result (AcceptedRuns plan.now rows.now) }
     ensures workers { OnOk result (IsWorkers workers) }
-    ensures written { IfOk result (WritesExplanation plan.now rows.now (W.contents out.old) (W.contents out.new)) }
-    ensures refused { IfErr result (ExplainingRefusal plan.now rows.now workers (W.contents out.old) (W.contents out.new)) }
-    ensures kept { IfErr result (λ f. f.part ≢ part.Write → Keeps (W.contents out.old) (W.contents out.new)) }
+    ensures written { IfOk result (λ v. Writes (IsExplanation all plan.now rows.now v) (W.contents out.old) (W.contents out.new)) }
+    ensures refused { IfErr result (ExplainingRefusal all plan.now rows.now workers (W.contents out.old) (W.contents out.new)) }
 {
     let verdict = match verdict_of(rt, alloc, plan, rows, workers) {
         Ok(verdict) => verdict,
         Err(fault) => return Err(fault),
     };
-    let text = match explanation(alloc, plan, rows, verdict) {
-        Ok(text) => text,
-        Err(_) => return Err(Fault::no_memory()),
-    };
-    match write_text(text.as_bytes(), out) {
+    match report(alloc, plan.program(), verdict, out) {
+        Ok(()) => {}
+        Err(fault) => return Err(fault),
+    }
+    match write_behind(alloc, plan, rows, verdict, all, out) {
         Ok(()) => Ok(verdict),
         Err(fault) => Err(fault),
     }
 }
 
 /// Judges as `judge_texts` does, and writes behind the line of a broken rule an empty line and the
-/// facts that explain it. The text is put together before any of it is written.
+/// facts that explain it: all, or the first lines of each part. The line is written before the facts
+/// are looked for. Where memory is refused then, the fault is `memory` 1 `NoMemory`, and the line alone
+/// was written.
 pub fn explain_texts<W: Write, R: Threads + Sync>(
     rt: &R,
     alloc: Global,
@@ -122,16 +144,17 @@ pub fn explain_texts<W: Write, R: Threads + Sync>(
     externals: &[u8],
     trace: &[u8],
     workers: u32,
+    all: bool,
     out: &mut W,
 ) -> Result<Verdict, Fault>
-    ensures explained { IfOk result (IsExplained program.now externals.now trace.now (W.contents out.old) (W.contents out.new)) }
+    ensures explained { IfOk result (IsExplained all program.now externals.now trace.now (W.contents out.old) (W.contents out.new)) }
     ensures workers { OnOk result (IsWorkers workers) }
-    ensures refused { IfErr result (ExplainRefusal program.now externals.now trace.now workers (W.contents out.old) (W.contents out.new)) }
+    ensures refused { IfErr result (ExplainRefusal all program.now externals.now trace.now workers (W.contents out.old) (W.contents out.new)) }
     ensures none { IfErr result (λ f. is_of_text f.part f.number ≡ true → (plan : PlanParts) (rows : List Row) → Mean program.now externals.now trace.now plan rows → ⊥) }
-    ensures kept { IfErr result (λ f. f.part ≢ part.Write → Keeps (W.contents out.old) (W.contents out.new)) }
+    ensures kept { IfErr result (λ f. f.part ≢ part.Write → f.part ≢ part.Memory → Keeps (W.contents out.old) (W.contents out.new)) }
 {
     match read_texts(rt, alloc, program, externals, trace, workers) {
-        Ok(given) => explain_rows(rt, alloc, &given.plan, &given.rows, workers, out),
+        Ok(given) => explain_rows(rt, alloc, &given.plan, &given.rows, workers, all, out),
         Err(fault) => Err(fault),
     }
 }

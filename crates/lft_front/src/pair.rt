@@ -149,7 +149,7 @@ pub(crate) fn judge_both<R: Threads + Sync>(
 }
 
 /// Writes the line of what two traces show.
-fn report<W: Write>(
+pub(crate) fn report<W: Write>(
     alloc: Global,
     program: &Program,
     paired: Paired,

@@ -6,6 +6,8 @@
 #[cfg(test)]
 mod calls;
 #[cfg(test)]
+mod explained;
+#[cfg(test)]
 mod limits;
 #[cfg(test)]
 mod long_texts;

@@ -11,7 +11,12 @@ use std::test::Fail;
 use std::thread::Threads;
 
 /// Puts the numbers below a count behind the text, each between these words.
-fn push_each(text: &mut Vec<u8>, count: u32, before: &str, behind: &str) -> Result<(), Fail> {
+pub(crate) fn push_each(
+    text: &mut Vec<u8>,
+    count: u32,
+    before: &str,
+    behind: &str,
+) -> Result<(), Fail> {
     for number in 0..count {
         write!(text, "{before}{number}{behind}")?;
     }
@@ -19,7 +24,7 @@ fn push_each(text: &mut Vec<u8>, count: u32, before: &str, behind: &str) -> Resu
 }
 
 /// Puts the same words behind the text so often.
-fn push_often(text: &mut Vec<u8>, count: u32, words: &[u8]) -> Result<(), Fail> {
+pub(crate) fn push_often(text: &mut Vec<u8>, count: u32, words: &[u8]) -> Result<(), Fail> {
     for _ in 0..count {
         text.extend_from_slice(words)?;
     }
@@ -27,20 +32,20 @@ fn push_often(text: &mut Vec<u8>, count: u32, words: &[u8]) -> Result<(), Fail> 
 }
 
 /// External inputs with a stop alone.
-fn stop_at(alloc: Global, time: u32, microstep: u32) -> Result<Vec<u8>, Fail> {
+pub(crate) fn stop_at(alloc: Global, time: u32, microstep: u32) -> Result<Vec<u8>, Fail> {
     let mut text = Vec::from_slice(alloc, b"kind,time,microstep,name,value\n")?;
     writeln!(text, "stop,{time},{microstep},,")?;
     Ok(text)
 }
 
 /// A table without rows.
-fn no_rows(alloc: Global) -> Result<Vec<u8>, Fail> {
+pub(crate) fn no_rows(alloc: Global) -> Result<Vec<u8>, Fail> {
     let header = b"event,worker,time,microstep,reaction,name,value,delay\n";
     Ok(Vec::from_slice(alloc, header)?)
 }
 
 /// The table of so many runs of the first reaction, one a nanosecond.
-fn ticks(alloc: Global, count: u32) -> Result<Vec<u8>, Fail> {
+pub(crate) fn ticks(alloc: Global, count: u32) -> Result<Vec<u8>, Fail> {
     let mut text = no_rows(alloc)?;
     for time in 0..count {
         writeln!(text, "start,0,{time},0,main#1,,,\nend,0,{time},0,main#1,,,")?;

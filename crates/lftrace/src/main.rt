@@ -113,6 +113,7 @@ fn explain_files<F: Files + Threads + Sync, W: Write>(
     rt: &F,
     alloc: Global,
     words: JudgeWords<'_>,
+    all: bool,
     out: &mut W,
 ) -> Result<bool, Refusal> {
     let program = read_file(rt, alloc, words.program)?;
@@ -125,6 +126,7 @@ fn explain_files<F: Files + Threads + Sync, W: Write>(
         externals.as_slice(),
         trace.as_slice(),
         workers_for(words.workers, trace.len()),
+        all,
         out,
     );
     if answer.is_err() {
@@ -168,6 +170,7 @@ fn explain_pair_files<F: Files + Threads + Sync, W: Write>(
     rt: &F,
     alloc: Global,
     words: PairWords<'_>,
+    all: bool,
     out: &mut W,
 ) -> Result<bool, Refusal> {
     let program = read_file(rt, alloc, words.program)?;
@@ -177,7 +180,9 @@ fn explain_pair_files<F: Files + Threads + Sync, W: Write>(
     let (program, externals) = (program.as_slice(), externals.as_slice());
     let (first, second) = (first.as_slice(), second.as_slice());
     let workers = workers_for(words.workers, first.len().max(second.len()));
-    let answer = explain_pair_answer(rt, alloc, program, externals, first, second, workers, out);
+    let answer = explain_pair_answer(
+        rt, alloc, program, externals, first, second, workers, all, out,
+    );
     if answer.is_err() {
         let told = refusal_of_pair_texts(alloc, program, externals, first, second);
         write_told(told, out);
@@ -253,10 +258,11 @@ fn explain_bundle<T: Threads + Sync, R: Read, W: Write>(
     rt: &T,
     alloc: Global,
     reader: &mut R,
+    all: bool,
     out: &mut W,
 ) -> Result<bool, Refusal> {
     let text = read_input(alloc, "-", reader)?;
-    let answer = explain_bundle_answer(rt, alloc, text.as_slice(), out);
+    let answer = explain_bundle_answer(rt, alloc, text.as_slice(), all, out);
     if answer.is_err() {
         write_told(refusal_of_bundle(alloc, text.as_slice()), out);
     }
@@ -388,12 +394,12 @@ fn main(rt: HostRuntime) -> ExitCode {
             judge_bundle(alloc, &mut rt.stdin(), &mut out)
         }
         Job::Judge(words) => judge_files(&rt, alloc, words, &mut out),
-        Job::Explain(words) => explain_files(&rt, alloc, words, &mut out),
-        Job::ExplainBundle => {
+        Job::Explain { words, all } => explain_files(&rt, alloc, words, all, &mut out),
+        Job::ExplainBundle { all } => {
             await_bundle(&rt);
-            explain_bundle(&rt, alloc, &mut rt.stdin(), &mut out)
+            explain_bundle(&rt, alloc, &mut rt.stdin(), all, &mut out)
         }
-        Job::ExplainPair(words) => explain_pair_files(&rt, alloc, words, &mut out),
+        Job::ExplainPair { words, all } => explain_pair_files(&rt, alloc, words, all, &mut out),
         Job::ExplainProgram(path) => explain_program(&rt, alloc, path, &mut out),
         Job::Pair(words) => pair_files(&rt, alloc, words, &mut out),
         Job::Record(words) => record_files(&rt, alloc, words, &mut out),

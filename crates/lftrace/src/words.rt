@@ -23,7 +23,8 @@ Without words it explains a bundle from standard input. With PROGRAM alone it te
 why that is refused (status 2), or else prints what show prints.
 Printed: the line of judge, with its status; behind broken rule=N .. an empty line
 and the facts that show it. With two traces the line of pair, with its status;
-behind differ .. an empty line and both answers.";
+behind differ .. an empty line and both answers. Of each part the first 60 lines
+are printed, and how many others there are; with --all all lines.";
 
 const PAIR_HELP: &str = "\
 EXTERNALS has the header          kind,time,microstep,name,value
@@ -81,14 +82,14 @@ pub enum Job<'a> {
     /// To judge a bundle from standard input.
     Bundle,
     Judge(JudgeWords<'a>),
-    /// To judge, and to tell the facts behind a broken rule.
-    Explain(JudgeWords<'a>),
+    /// To judge, and to tell the facts behind a broken rule: all, or the first of them.
+    Explain { words: JudgeWords<'a>, all: bool },
     /// The same of a bundle from standard input.
-    ExplainBundle,
+    ExplainBundle { all: bool },
     /// To show the program at a path, or to tell why it is refused.
     ExplainProgram(&'a str),
     /// To compare two traces, and to tell where they differ or why one of them breaks a rule.
-    ExplainPair(PairWords<'a>),
+    ExplainPair { words: PairWords<'a>, all: bool },
     Pair(PairWords<'a>),
     Record(RecordWords<'a>),
     /// To show the ports and the precedence of the program at a path.
@@ -100,7 +101,10 @@ impl Job<'_> {
     pub(crate) fn is_explained(self) -> bool {
         matches!(
             self,
-            Job::Explain(_) | Job::ExplainBundle | Job::ExplainPair(_) | Job::ExplainProgram(_)
+            Job::Explain { .. }
+                | Job::ExplainBundle { .. }
+                | Job::ExplainPair { .. }
+                | Job::ExplainProgram(_)
         )
     }
 }
@@ -139,6 +143,10 @@ fn explain_command<'a>(alloc: Global) -> Result<Command<'a>, Error> {
     let externals = path(alloc, "EXTERNALS", "the table of external inputs")
         .required(false)
         .requires_arg("TRACE")?;
+    let all = Arg::new(alloc, "all")
+        .long("all")
+        .action(ArgAction::SetTrue)
+        .help("print all lines of each part, and not the first 60");
     let command = Command::new(alloc, "explain")
         .about(
             "Judges a recorded trace, and tells the facts behind the first rule that it breaks; compares two, and tells where they differ; tells why a program is refused",
@@ -148,6 +156,7 @@ fn explain_command<'a>(alloc: Global) -> Result<Command<'a>, Error> {
         .arg(path(alloc, "TRACE", "the trace table").required(false))?
         .arg(path(alloc, "SECOND", "another trace table").required(false))?
         .arg(workers(alloc, JUDGES))?
+        .arg(all)?
         .after_help(EXPLAIN_HELP);
     Ok(command)
 }
@@ -237,6 +246,22 @@ fn pair_words<'a>(matches: &ArgMatches<'a>, first: &str) -> PairWords<'a> {
     }
 }
 
+/// What the words of `explain` ask for: by how many paths there are.
+fn explain_job<'a>(matches: &ArgMatches<'a>) -> Job<'a> {
+    let all = matches.get_flag("all");
+    if matches.contains_id("SECOND") {
+        let words = pair_words(matches, "TRACE");
+        Job::ExplainPair { words, all }
+    } else if matches.contains_id("TRACE") {
+        let words = judge_words(matches);
+        Job::Explain { words, all }
+    } else if matches.contains_id("PROGRAM") {
+        Job::ExplainProgram(text(matches, "PROGRAM"))
+    } else {
+        Job::ExplainBundle { all }
+    }
+}
+
 /// What the words ask for, the first being the program's own name. The error is the command line's:
 /// a refusal, or the help that was asked for.
 pub(crate) fn read_words<'a>(alloc: Global, words: &'a [String]) -> Result<Job<'a>, Error> {
@@ -244,17 +269,7 @@ pub(crate) fn read_words<'a>(alloc: Global, words: &'a [String]) -> Result<Job<'
     let matches = command.try_get_matches_from(words)?;
     match matches.subcommand() {
         Some(("judge", judge)) => Ok(Job::Judge(judge_words(judge))),
-        Some(("explain", explain)) => {
-            if explain.contains_id("SECOND") {
-                Ok(Job::ExplainPair(pair_words(explain, "TRACE")))
-            } else if explain.contains_id("TRACE") {
-                Ok(Job::Explain(judge_words(explain)))
-            } else if explain.contains_id("PROGRAM") {
-                Ok(Job::ExplainProgram(text(explain, "PROGRAM")))
-            } else {
-                Ok(Job::ExplainBundle)
-            }
-        }
+        Some(("explain", explain)) => Ok(explain_job(explain)),
         Some(("pair", pair)) => Ok(Job::Pair(pair_words(pair, "FIRST"))),
         Some(("record", record)) => Ok(Job::Record(RecordWords {
             program: text(record, "PROGRAM"),

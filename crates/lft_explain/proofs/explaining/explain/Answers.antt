@@ -9,5 +9,5 @@ returns c = record {
   enough = c.in_ok-facts.ensures.enough;
   own = c.in_ok-facts.ensures.own;
   race = c.in_ok-facts.ensures.race;
-  is_told = c.in_ok-text.ensures ∙ ap (λ p. told p c.args.rows.now c.in_ok-facts.facts) c.program.ensures.value;
+  is_told = c.in_ok-text.ensures ∙ ap (λ p. told c.args.all p c.args.rows.now c.in_ok-facts.facts) c.program.ensures.value;
 }

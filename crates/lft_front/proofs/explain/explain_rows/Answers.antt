@@ -1,7 +1,23 @@
-use Rattle.std.proofs.Common.{string_bytes, subst}
-use Rattle.lft_load.specs.Written.{AppendsFront}
-use Rattle.lft_front.specs.Explained.ExplainingRefusal.{by_writer}
+use Rattle.std.proofs.Common.{inl, sym, subst}
+use Rattle.lft_flat.specs.Parts.{Parts}
+use Rattle.lft_front.specs.Lines.{HasReaction}
+use Rattle.lft_front.specs.Explained.ExplainingRefusal.{by_check}
+use Rattle.lft_front.proofs.Behind.{keeps_self}
+use Rattle.lft_front.proofs.Judging.{has_reaction}
+use Rattle.lft_front.proofs.Explaining.{line_refused, all_written, rest_refused}
 use Rattle.lft_front.proofs.explain.explain_rows.Goals as goal
 
-pub returns-clause-refused : goal.returns-clause-refused
-returns-clause-refused g c = by_writer c.in-Ok.verdict (string_bytes c.in-Ok-explanation.text) c.in-Err-write_text.ensures.part c.in-Err-write_text.ensures.number c.in-Ok.ensures.verdict c.in-Ok-explanation.ensures (subst (AppendsFront (g.W.Write.contents c.args.out.now) (g.W.Write.contents c.write_text.new.out)) c.as_bytes.ensures.value c.in-Err-write_text.ensures.front)
+pub report-requires : goal.report-requires
+report-requires g c = λ b e. subst (λ (p : Parts). HasReaction p b.reaction) (sym c.program.ensures.value) (has_reaction c.args.plan.now c.args.rows.now c.requires.fit c.in-Ok.verdict c.in-Ok.ensures.verdict b e)
+
+pub returns-in-Err-clause-refused : goal.returns-in-Err-clause-refused
+returns-in-Err-clause-refused g c = by_check c.in-Err.ensures.fault (inl (keeps_self (g.W.Write.contents c.args.out.now)))
+
+pub returns-in-Err-report-clause-refused : goal.returns-in-Err-report-clause-refused
+returns-in-Err-report-clause-refused g c = line_refused c.args.all c.args.plan.now c.args.rows.now c.args.workers c.program.result.now c.program.ensures.value c.in-Ok.verdict c.in-Ok.ensures.verdict c.in-Ok.ensures.workers (g.W.Write.contents c.args.out.now) (g.W.Write.contents c.report.new.out) (g.W.Write.contents c.report.new.out) c.in-Err-report.fault c.in-Err-report.ensures.front c.in-Err-report.ensures.kept
+
+pub returns-in-Ok-write_behind-clause-written : goal.returns-in-Ok-write_behind-clause-written
+returns-in-Ok-write_behind-clause-written g c = all_written c.args.all c.args.plan.now c.args.rows.now c.args.workers c.program.result.now c.program.ensures.value c.in-Ok.verdict c.in-Ok.ensures.verdict c.in-Ok.ensures.workers (g.W.Write.contents c.args.out.now) (g.W.Write.contents c.report.new.out) (g.W.Write.contents c.write_behind.new.out) c.in-Ok-report.ensures.written c.in-Ok-write_behind.ensures.written
+
+pub returns-in-Err-write_behind-clause-refused : goal.returns-in-Err-write_behind-clause-refused
+returns-in-Err-write_behind-clause-refused g c = rest_refused c.args.all c.args.plan.now c.args.rows.now c.args.workers c.program.result.now c.program.ensures.value c.in-Ok.verdict c.in-Ok.ensures.verdict c.in-Ok.ensures.workers (g.W.Write.contents c.args.out.now) (g.W.Write.contents c.report.new.out) (g.W.Write.contents c.write_behind.new.out) c.in-Ok-report.ensures.written c.in-Err-write_behind.fault c.in-Err-write_behind.ensures.refused
