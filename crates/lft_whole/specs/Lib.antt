@@ -1,0 +1,6 @@
+pub mod Forms
+pub mod Names
+pub mod Parsing
+pub mod Places
+pub mod Tokens
+pub mod Words

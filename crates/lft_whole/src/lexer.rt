@@ -1,0 +1,42 @@
+//! The tokens of a text.
+
+ghost use Rattle.std.specs.Prelude.{◌≡◌, ◌<◌, length, IfOk, IfErr};
+ghost use Rattle.lft_whole.specs.Tokens.{AreTokens, IsInText, IsPiece};
+
+use crate::fault::TextFault;
+use crate::piece::piece;
+use crate::token::{Token, TokenKind, Tokens};
+use std::alloc::Global;
+
+/// The kind of the piece that begins at a place, if it is a token, and where it ends.
+fn next_piece(text: &[u8], at: usize) -> Result<(Option<TokenKind>, usize), TextFault>
+    requires { at < length text.now }
+    ensures ok { IfOk result (λ x. IsPiece text.now at x.0 x.1) }
+    ensures err { IfErr result (IsInText text.now) }
+{
+    match piece(text, at) {
+        Some(found) => Ok(found),
+        None => Err(TextFault::BadText(at)),
+    }
+}
+
+/// The tokens of a text. It is refused at the first byte that begins none.
+pub fn lex(alloc: Global, text: &[u8]) -> Result<Tokens, TextFault>
+    ensures tokens { IfOk result (λ tokens. AreTokens text.now tokens) }
+    ensures fault { IfErr result (IsInText text.now) }
+{
+    let mut tokens = Vec::new(alloc);
+    let mut at = 0;
+    'pieces: while at < text.len() {
+        let (kind, end) = next_piece(text, at)?;
+        if let Some(kind) = kind {
+            tokens.push(Token {
+                kind,
+                start: at,
+                end,
+            })?;
+        }
+        at = end;
+    }
+    Ok(Tokens::from_vec(tokens))
+}

@@ -1,0 +1,97 @@
+//! Types. They mean nothing, but for the word `time`.
+
+ghost use Rattle.std.specs.Prelude.{◌≡◌, ◌<◌, ◌≤◌, true, IfOk, IfErr};
+ghost use Rattle.lft_whole.specs.Parsing.{count, Within, Further, NotBefore, Refuses};
+
+use crate::fault::TreeFault;
+use crate::input::Input;
+use crate::parser::groups::{group, past_group};
+use crate::parser::names::skip_name;
+use crate::parser::tokens::{is_code, is_key, is_symbol, symbol};
+
+fn is_part(input: &Input, at: usize) -> bool
+    ensures { result ≡ true → at < count input.now }
+{
+    is_symbol(input, at, b'.') || is_symbol(input, at, b':') && is_symbol(input, at + 1, b':')
+}
+
+/// `.NAME` or `::NAME`.
+fn part(input: &Input, at: usize) -> Result<usize, TreeFault>
+    requires { Within input.now at }
+    ensures ok { IfOk result (Further input.now at) }
+    ensures err { IfErr result (Refuses input.now) }
+{
+    if is_symbol(input, at, b'.') {
+        return skip_name(input, at + 1);
+    }
+    let second = symbol(input, at, b':')?;
+    let end = symbol(input, second, b':')?;
+    skip_name(input, end)
+}
+
+/// Names joined by `.` or `::`.
+fn joined_names(input: &Input, at: usize) -> Result<usize, TreeFault>
+    requires { Within input.now at }
+    ensures ok { IfOk result (Further input.now at) }
+    ensures err { IfErr result (Refuses input.now) }
+{
+    let mut next = skip_name(input, at)?;
+    'parts: while is_part(input, next) {
+        next = part(input, next)?;
+    }
+    Ok(next)
+}
+
+/// The place behind the signs `*` and `&`.
+fn past_signs(input: &Input, at: usize) -> usize
+    requires { Within input.now at }
+    ensures { NotBefore input.now at result }
+{
+    let mut next = at;
+    'signs: while is_symbol(input, next, b'*') || is_symbol(input, next, b'&') {
+        next += 1;
+    }
+    next
+}
+
+/// The place behind what arrays are written with.
+fn past_arrays(input: &Input, at: usize) -> Result<usize, TreeFault>
+    requires { Within input.now at }
+    ensures ok { IfOk result (NotBefore input.now at) }
+    ensures err { IfErr result (Refuses input.now) }
+{
+    let mut next = at;
+    'arrays: while is_symbol(input, next, b'[') {
+        next = group(input, next, b'[', b']')?;
+    }
+    Ok(next)
+}
+
+/// A type: whether it is `time`.
+fn type_here(input: &Input, at: usize) -> Result<(bool, usize), TreeFault>
+    requires { Within input.now at }
+    ensures ok { IfOk result (λ x. Further input.now at x.1) }
+    ensures err { IfErr result (Refuses input.now) }
+{
+    if is_code(input, at) {
+        let end = past_arrays(input, at + 1)?;
+        return Ok((false, end));
+    }
+    let name_end = joined_names(input, at)?;
+    let arguments_end = past_group(input, name_end, b'<', b'>')?;
+    let end = past_arrays(input, past_signs(input, arguments_end))?;
+    Ok((is_key(input, at, b"time") && end == at + 1, end))
+}
+
+/// `:` and a type, which may be left out: whether it is `time`, if it stands there.
+pub fn typed(input: &Input, at: usize) -> Result<(Option<bool>, usize), TreeFault>
+    requires { Within input.now at }
+    ensures ok { IfOk result (λ x. NotBefore input.now at x.1) }
+    ensures err { IfErr result (Refuses input.now) }
+{
+    if !is_symbol(input, at, b':') {
+        return Ok((None, at));
+    }
+    let (is_time, end) = type_here(input, at + 1)?;
+    Ok((Some(is_time), end))
+}

@@ -1,0 +1,249 @@
+//! Values.
+
+ghost use Rattle.std.specs.Prelude.{◌≡◌, ◌<◌, ◌≤◌, true, IfOk, IfErr};
+ghost use Rattle.lft_whole.specs.Parsing.{count, Within, Further, NotBefore, Refuses};
+
+use crate::fault::TreeFault;
+use crate::input::{Input, Seen};
+use crate::parser::groups::{group_end, opens_values};
+use crate::parser::names::text_of;
+use crate::parser::tokens::{
+    is_arrow, is_code, is_symbol, is_text, is_tilde_arrow, is_word, past_item, past_symbol, peek,
+};
+use crate::parser::units::unit;
+use crate::tree::{Expression, Value};
+use lft_tree::TimeUnit;
+
+/// Whether what stands behind this place makes the word here the first of a member.
+fn is_before_follower(input: &Input, at: usize) -> bool
+    requires { at < count input.now }
+{
+    let next = at + 1;
+    is_symbol(input, next, b'=')
+        || is_symbol(input, next, b'.')
+        || is_arrow(input, next)
+        || is_tilde_arrow(input, next)
+}
+
+/// The unit of a number before this place, which may be left out: a word that begins a member is none.
+fn unit_behind(input: &Input, at: usize) -> (Option<TimeUnit>, usize)
+    requires { Within input.now at }
+    ensures { NotBefore input.now at result.1 }
+{
+    match unit(input, at) {
+        Some(unit) if !is_before_follower(input, at) => (Some(unit), at + 1),
+        _ => (None, at),
+    }
+}
+
+/// A number, with a sign and a unit or without.
+fn number(input: &Input, at: usize) -> Result<(Expression, usize), TreeFault>
+    requires { Within input.now at }
+    ensures ok { IfOk result (λ x. Further input.now at x.1) }
+    ensures err { IfErr result (Refuses input.now) }
+{
+    let is_signed = is_symbol(input, at, b'-');
+    let first = past_symbol(input, at, b'-');
+    match peek(input, first) {
+        Some(Seen::Decimal) => Ok((
+            Expression {
+                value: Value::Other,
+                at,
+            },
+            first + 1,
+        )),
+        Some(Seen::Number(count)) => {
+            let (unit, end) = unit_behind(input, first + 1);
+            let value = Value::Number {
+                is_negative: is_signed && 0 < count,
+                count,
+                unit,
+            };
+            Ok((Expression { value, at }, end))
+        }
+        _ => Err(TreeFault::Unexpected(first)),
+    }
+}
+
+/// The place behind words that are joined by points, the first of which stands before this place.
+fn path_end(input: &Input, at: usize) -> usize
+    requires { Within input.now at }
+    ensures { NotBefore input.now at result }
+{
+    let mut next = at;
+    'path: while is_symbol(input, next, b'.') && is_word(input, next + 1) {
+        next += 2;
+    }
+    next
+}
+
+/// A word, or words that are joined by points.
+fn word_value(input: &Input, at: usize) -> Result<(Expression, usize), TreeFault>
+    requires { Within input.now at }
+    ensures ok { IfOk result (λ x. Further input.now at x.1) }
+    ensures err { IfErr result (Refuses input.now) }
+{
+    let Some(Seen::Letters(letters)) = peek(input, at) else {
+        return Err(TreeFault::Unexpected(at));
+    };
+    let end = path_end(input, at + 1);
+    let value = if end == at + 1 {
+        Value::Word(text_of(input.alloc, letters)?)
+    } else {
+        Value::Other
+    };
+    Ok((Expression { value, at }, end))
+}
+
+/// A value without brackets around it.
+fn bare_value(input: &Input, at: usize) -> Result<(Expression, usize), TreeFault>
+    requires { Within input.now at }
+    ensures ok { IfOk result (λ x. Further input.now at x.1) }
+    ensures err { IfErr result (Refuses input.now) }
+{
+    if is_code(input, at) {
+        let value = Value::Code;
+        return Ok((Expression { value, at }, at + 1));
+    }
+    if is_text(input, at) {
+        let value = Value::Other;
+        return Ok((Expression { value, at }, at + 1));
+    }
+    if is_word(input, at) {
+        return word_value(input, at);
+    }
+    number(input, at)
+}
+
+/// The value that all tokens up to the second place are, if they are one without brackets around it.
+fn lone_value(input: &Input, at: usize, end: usize) -> Result<Option<Expression>, TreeFault>
+    requires { Within input.now at }
+    ensures err { IfErr result (Refuses input.now) }
+{
+    match bare_value(input, at) {
+        Ok((value, next)) if next == end => Ok(Some(value)),
+        Err(TreeFault::NoMemory) => Err(TreeFault::NoMemory),
+        _ => Ok(None),
+    }
+}
+
+/// A list between brackets. One of a single value is that value.
+fn list(
+    input: &Input,
+    at: usize,
+    opening: u8,
+    closing: u8,
+) -> Result<(Expression, usize), TreeFault>
+    requires { Within input.now at }
+    ensures ok { IfOk result (λ x. Further input.now at x.1) }
+    ensures err { IfErr result (Refuses input.now) }
+{
+    let end = group_end(input, at, opening, closing)?;
+    match lone_value(input, at + 1, end)? {
+        Some(value) => Ok((value, end + 1)),
+        None => Ok((
+            Expression {
+                value: Value::Other,
+                at,
+            },
+            end + 1,
+        )),
+    }
+}
+
+/// An array between square brackets, also of a single value.
+fn array(input: &Input, at: usize) -> Result<(Expression, usize), TreeFault>
+    requires { Within input.now at }
+    ensures ok { IfOk result (λ x. Further input.now at x.1) }
+    ensures err { IfErr result (Refuses input.now) }
+{
+    let end = group_end(input, at, b'[', b']')?;
+    Ok((
+        Expression {
+            value: Value::Other,
+            at,
+        },
+        end + 1,
+    ))
+}
+
+/// Any value.
+pub fn expression(input: &Input, at: usize) -> Result<(Expression, usize), TreeFault>
+    requires { Within input.now at }
+    ensures ok { IfOk result (λ x. Further input.now at x.1) }
+    ensures err { IfErr result (Refuses input.now) }
+{
+    if is_symbol(input, at, b'(') {
+        return list(input, at, b'(', b')');
+    }
+    if is_symbol(input, at, b'{') {
+        return list(input, at, b'{', b'}');
+    }
+    if is_symbol(input, at, b'[') {
+        return array(input, at);
+    }
+    bare_value(input, at)
+}
+
+/// A value behind `=` or in brackets, which may be left out.
+pub fn initial(input: &Input, at: usize) -> Result<(Option<Expression>, usize), TreeFault>
+    requires { Within input.now at }
+    ensures ok { IfOk result (λ x. NotBefore input.now at x.1) }
+    ensures err { IfErr result (Refuses input.now) }
+{
+    if is_symbol(input, at, b'=') {
+        let (value, end) = expression(input, at + 1)?;
+        return Ok((Some(value), end));
+    }
+    if is_symbol(input, at, b'{') || opens_values(input, at) {
+        let (value, end) = expression(input, at)?;
+        return Ok((Some(value), end));
+    }
+    Ok((None, at))
+}
+
+/// A value of a list, with the comma behind it. None where the list ends.
+fn listed_value(input: &Input, at: usize) -> Result<(Option<Expression>, usize), TreeFault>
+    requires { Within input.now at }
+    ensures ok { IfOk result (λ x. NotBefore input.now at x.1) }
+    ensures err { IfErr result (Refuses input.now) }
+{
+    if is_symbol(input, at, b')') {
+        return Ok((None, at));
+    }
+    let (value, end) = expression(input, at)?;
+    let next = past_item(input, end, b')')?;
+    Ok((Some(value), next))
+}
+
+/// The place behind the `)` that ends a list whose other values begin here.
+fn past_list(input: &Input, at: usize) -> Result<usize, TreeFault>
+    requires { Within input.now at }
+    ensures ok { IfOk result (Further input.now at) }
+    ensures err { IfErr result (Refuses input.now) }
+{
+    let mut next = at;
+    'values: while !is_symbol(input, next, b')') {
+        let (_, end) = expression(input, next)?;
+        next = past_item(input, end, b')')?;
+    }
+    Ok(next + 1)
+}
+
+/// The first two values in parentheses, which may be left out.
+pub fn two_values(
+    input: &Input,
+    at: usize,
+) -> Result<(Option<Expression>, Option<Expression>, usize), TreeFault>
+    requires { Within input.now at }
+    ensures ok { IfOk result (λ x. NotBefore input.now at x.2) }
+    ensures err { IfErr result (Refuses input.now) }
+{
+    if !opens_values(input, at) {
+        return Ok((None, None, at));
+    }
+    let (first, next) = listed_value(input, at + 1)?;
+    let (second, rest) = listed_value(input, next)?;
+    let end = past_list(input, rest)?;
+    Ok((first, second, end))
+}
