@@ -1,0 +1,54 @@
+//! Why a program isn't lowered, and where.
+
+use crate::why::Why;
+use lft_tag::NoMemory;
+use std::alloc::{AllocError, AllocFailed};
+
+/// A token of a file: both by number, counted from 0.
+#[derive(Clone, Copy, Debug, PartialEq, Eq)]
+pub struct Place {
+    pub file: usize,
+    pub token: usize,
+}
+
+/// Why a program isn't lowered, and the token that shows it.
+#[derive(Clone, Copy, Debug, PartialEq, Eq)]
+pub struct Refusal {
+    pub why: Why,
+    pub place: Place,
+}
+
+/// Why there is no core program.
+#[derive(Clone, Copy, Debug, PartialEq, Eq)]
+pub enum Stop {
+    Refused(Refusal),
+    NoMemory,
+}
+
+impl Stop {
+    /// The stop at a token of a file.
+    pub fn at(why: Why, file: usize, token: usize) -> Stop {
+        Stop::Refused(Refusal {
+            why,
+            place: Place { file, token },
+        })
+    }
+}
+
+impl From<AllocError> for Stop {
+    fn from(_error: AllocError) -> Stop {
+        Stop::NoMemory
+    }
+}
+
+impl<T: Drop> From<AllocFailed<T>> for Stop {
+    fn from(_error: AllocFailed<T>) -> Stop {
+        Stop::NoMemory
+    }
+}
+
+impl From<NoMemory> for Stop {
+    fn from(_error: NoMemory) -> Stop {
+        Stop::NoMemory
+    }
+}
