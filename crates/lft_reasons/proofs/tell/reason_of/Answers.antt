@@ -16,14 +16,14 @@ returns-in-Some-clause-shown c =
     let rs = c.in_ok-reactors.reactors.items in
     let w = c.in-Some.witness in
     let same : behind rs ≡ parts = c.in_ok-reactors.ensures ∙ ap reactors_among c.deref.ensures.value in
-    let both = told (map reactor_view parts) c.args.refusal.now w (c.in-Some.is ∙ c.witness_of.ensures) (subst (λ (ts : List ReactorTree). Tells ts c.args.refusal.now) (trees_among c.args.ast.now.target c.args.ast.now.items.items) c.requires.tells) in
+    let both = told (map reactor_view parts) c.args.refusal.now w (sym c.in-Some.is ∙ c.witness_of.ensures) (subst (λ (ts : List ReactorTree). Tells ts c.args.refusal.now) (trees_among c.args.ast.now.target c.args.ast.now.items.items) c.requires.tells) in
     of_found c.of_witness.result (λ r. r.at ≡ witness_spot tokens (behind c.deref-2.result.now) w) (λ r. IsShownAt tokens parts c.args.cause r.at)
     (λ r e. witnessed tokens rs parts same c.args.cause w both.0 (both.1 ∙ c.requires.of_cause) r.at (e ∙ ap (λ (xs : List (Bor Reactor)). witness_spot tokens (behind xs) w) c.deref-2.ensures.value))
     c.of_witness.ensures.at
 
-pub returns-in-None-clause-shown : goal.returns-in-None-clause-shown
-returns-in-None-clause-shown c =
+pub returns-clause-shown : goal.returns-clause-shown
+returns-clause-shown c =
     let tokens = c.args.tokens.now in
     let parts = reactors_among c.args.ast.now.items.items in
-    let whole : IsOfWhole c.args.cause = subst IsOfWhole c.requires.of_cause (of_whole c.args.refusal.now (c.in-None.is ∙ c.witness_of.ensures) (subst IsCause (sym c.requires.of_cause) c.requires.is_cause)) in
+    let whole : IsOfWhole c.args.cause = subst IsOfWhole c.requires.of_cause (of_whole c.args.refusal.now (sym c.in-None.is ∙ c.witness_of.ensures) (subst IsCause (sym c.requires.of_cause) c.requires.is_cause)) in
     of_each c.without_witness.result (λ r. IsShownAt tokens parts c.args.cause r.at) (λ r. inr whole)

@@ -9,8 +9,8 @@ use Rattle.lft_reasons.specs.Reasons.{IsRefusedFor, IsShownAt}
 use Rattle.lft_reasons.specs.Spots.{reactors_among}
 use Rattle.lft_reasons.proofs.tell.tell_cause.Goals as goal
 
-pub returns-in-Some-clause-some : goal.returns-in-Some-clause-some
-returns-in-Some-clause-some c = record {
+pub returns-in-Some-2-clause-some : goal.returns-in-Some-2-clause-some
+returns-in-Some-2-clause-some c = record {
   refused = record {
     tokens = c.in-Ok.tokens;
     lexes = c.in-Ok.ensures.tokens.0;
@@ -22,9 +22,9 @@ returns-in-Some-clause-some c = record {
   parts = c.in-Ok-parse.ast.items.items;
   are_parts = refl;
   stand = c.in-Ok-parse.ensures.places;
-  spot = c.in-Some.reason.at;
-  shown = subst (λ o. IfSome o (λ r. IsShownAt c.in-Ok.tokens (reactors_among c.in-Ok-parse.ast.items.items) c.args.cause r.at)) c.in-Some.is c.in_ok-reason.ensures.shown;
-  begins = c.in_ok-words-in-Some.ensures;
+  spot = c.in-Some-2.reason.at;
+  shown = subst (λ o. IfSome o (λ r. IsShownAt c.in-Ok.tokens (reactors_among c.in-Ok-parse.ast.items.items) c.args.cause r.at)) c.in-Some-2.is c.in_ok-reason.ensures.shown;
+  begins = c.in_ok-words-in-Some-2.ensures;
 }
 
 pub returns-in-Err-parse-clause-none : goal.returns-in-Err-parse-clause-none
