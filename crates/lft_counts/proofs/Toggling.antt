@@ -1,11 +1,11 @@
 -- A number put into a set, or taken out of it.
-use Rattle.std.proofs.Common.{◌≡◌, ◌≢◌, ℕ, ◌+◌, ◌*◌, ◌/◌, ◌%◌, ◌^◌, ◌<◌, List, length, refl, sym, ap, ◌∙◌, arith}
+use Rattle.std.proofs.Common.{zero, suc, [], ◌∷◌, ◌≤◌, ◌≡◌, ◌≢◌, ℕ, ◌+◌, ◌*◌, ◌/◌, ◌%◌, ◌^◌, ◌<◌, List, length, refl, sym, ap, ◌∙◌, arith}
 use Rattle.std.specs.Prelude.{◌↔◌, bit_xor, slice_set, slice_index}
 use Rattle.std.specs.Int.{bit_at}
 use Rattle.std.proofs.lemmas.List.{get_or-set_same, get_or-set_other}
 use Rattle.std.proofs.Math.Pow.{shl_exact}
-use Rattle.std.proofs.lemmas.Nat.Bits.{bit_at_xor, bit_at-pow_same, bit_at-pow_other, bit_at-lt}
-use native.Mathlib.Decide.{ℕ_discrete}
+use Rattle.std.proofs.lemmas.Nat.Bits.{bit_at_xor, bit_at-zero, bit_at-pow_same, bit_at-pow_other, bit_at-lt}
+use native.Mathlib.Decide.{ℕ_discrete, dec_lt}
 use Rattle.lft_graph.specs.Sets.{Has}
 
 module _ (words : List ℕ) (x word : ℕ) (there : x / 64 < length words) (is_word : slice_index words (x / 64) ≡ word) where
@@ -54,3 +54,19 @@ module _ (words : List ℕ) (x word : ℕ) (there : x / 64 < length words) (is_w
 
   pub toggle_taken : Has words x → Has new x → ⊥
   toggle_taken h k = let z = on in let a = at x refl in let b = before x refl in omega arith
+
+past : (words : List ℕ) (k : ℕ) → length words ≤ k → slice_index words k ≡ 0
+past [] k l = refl
+past (w ∷ ws) zero l = absurd (omega arith)
+past (w ∷ ws) (suc k) l = past ws k (omega arith)
+
+-- where all words are 0, no number is in the set
+pub none_there : (words : List ℕ) (k : ℕ) → length words ≤ k → ((j : ℕ) → j < k → slice_index words j ≡ 0) → (r : ℕ) → Has words r → ⊥
+none_there words k l zeros r h = go (dec_lt (r / 64) k)
+  where
+    off : slice_index words (r / 64) ≡ 0 → ⊥
+    off e = let z : bit_at (slice_index words (r / 64)) (r % 64) ≡ 0 = ap (λ w. bit_at w (r % 64)) e ∙ bit_at-zero (r % 64) in absurd (omega (arith, z, h))
+
+    go : Dec (r / 64 < k) → ⊥
+    go (yes m) = off (zeros (r / 64) m)
+    go (no n) = off (past words (r / 64) (omega arith))

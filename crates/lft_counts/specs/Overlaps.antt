@@ -1,9 +1,13 @@
 -- Which reactions have open runs together, and how many.
-use Rattle.std.specs.Prelude.{◌≡◌, ◌↔◌, ℕ, ◌+◌, ◌/◌, List, Some, length, slice_get}
+use Rattle.std.specs.Prelude.{◌≡◌, ◌↔◌, ℕ, ◌+◌, ◌/◌, List, [], Some, length, slice_get, unwrap_or}
 use Rattle.lft_graph.specs.Sets.{Has}
 use Rattle.lft_steps.specs.declared.row.Row.{Row}
 use Rattle.lft_counts.specs.declared.overlaps.Overlaps.{Overlaps}
 use Rattle.lft_counts.specs.Counts.{Count, AreCounts, Runs, MeetsRun, Widens}
+
+-- the set of the reactions that had an open run when a run of reaction r started
+abbrev pub met_by : Overlaps → ℕ → List ℕ
+met_by overlaps r = unwrap_or (slice_get overlaps.met.items r) []
 
 -- the set of each reaction b has just the reactions that had an open run when b started, before place i
 pub record AreMet (t : List Row) (m i : ℕ) (met : List (List ℕ)) : Type 0 where

@@ -1,8 +1,9 @@
 //! Sets of numbers, a bit for each.
 
-ghost use Rattle.std.specs.Prelude.{◌≡◌, ◌≢◌, ◌↔◌, ◌<◌, ◌≤◌, ◌⊎◌, ◌+◌, ◌*◌, ◌/◌, ℕ, length, IfOk};
+ghost use Rattle.std.specs.Prelude.{◌≡◌, ◌≢◌, ◌↔◌, ◌<◌, ◌≤◌, ◌⊎◌, ◌+◌, ◌*◌, ◌/◌, ℕ, length, IfOk, IsTrue};
 ghost use Rattle.lft_graph.specs.Sets.{Has};
 
+use lft_lists::item_at;
 use lft_tag::NoMemory;
 use std::alloc::Global;
 use std::marker::Model;
@@ -53,5 +54,26 @@ impl Bits {
         for place in 0..other.words.len() {
             self.words[place] |= other.words[place];
         }
+    }
+
+    /// Whether the number is in the set.
+    pub(crate) fn has(&self, number: u32) -> bool
+        requires { number < 64 * length self.now }
+        ensures { IsTrue result ↔ Has self.now number }
+    {
+        let word = item_at(self.words.as_slice(), number as usize / 64);
+        (word >> (number % 64)) % 2 == 1
+    }
+
+    /// Whether no number is in the set.
+    pub(crate) fn is_empty(&self) -> bool
+        ensures { IsTrue result → (r : ℕ) → Has self.now r → ⊥ }
+    {
+        for place in 0..self.words.len() {
+            if item_at(self.words.as_slice(), place) != 0 {
+                return false;
+            }
+        }
+        true
     }
 }

@@ -1,11 +1,11 @@
 //! Which reactions have open runs together, and how many.
 
-ghost use Rattle.std.specs.Prelude.{◌≡◌, ◌+◌, ◌<◌, ◌/◌, ℕ, List, Some, IfOk, length, slice_get};
+ghost use Rattle.std.specs.Prelude.{◌≡◌, ◌+◌, ◌<◌, ◌/◌, ℕ, List, ◌↔◌, ◌*◌, Some, IfOk, IsTrue, length, slice_get};
 ghost use Rattle.lft_graph.specs.Sets.{Has};
 ghost use Rattle.lft_steps.specs.declared.row.Row.{Row as TheRow};
 ghost use Rattle.lft_steps.specs.declared.row.Step.TheVariants.{Start, End};
 ghost use Rattle.lft_counts.specs.Counts.{Here, IsLegal};
-ghost use Rattle.lft_counts.specs.Overlaps.{Overlap};
+ghost use Rattle.lft_counts.specs.Overlaps.{Overlap, met_by};
 
 use crate::bits::Bits;
 use crate::tally::Tally;
@@ -107,5 +107,22 @@ impl Overlaps {
         ensures { result.now ≡ self.now.widths }
     {
         self.widths.as_slice()
+    }
+
+    /// Whether the other reaction had an open run when a run of this one started.
+    pub fn has_met(&self, reaction: u32, other: u32) -> bool
+        requires reaction { reaction < length self.now.met.items }
+        requires other { other < 64 * length (met_by self.now reaction) }
+        ensures { IsTrue result ↔ Has (met_by self.now reaction) other }
+    {
+        self.met[reaction as usize].has(other)
+    }
+
+    /// Whether no reaction had an open run when a run of this one started.
+    pub fn is_alone(&self, reaction: u32) -> bool
+        requires { reaction < length self.now.met.items }
+        ensures { IsTrue result → (r : ℕ) → Has (met_by self.now reaction) r → ⊥ }
+    {
+        self.met[reaction as usize].is_empty()
     }
 }

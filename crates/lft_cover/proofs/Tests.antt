@@ -1,0 +1,29 @@
+-- Whether reactions met, as a test.
+use Rattle.std.proofs.Common.{◌≡◌, ◌<◌, ◌+◌, ◌/◌, ◌%◌, ◌++◌, ℕ, Bool, true, false, List, [], ◌∷◌, length, flat_map, refl, sym, ap, ◌∙◌, arith, eq-eqb}
+use Rattle.std.specs.Prelude.{◌↔◌, IsTrue, unwrap_or, slice_index}
+use Rattle.std.specs.Int.{bit_at}
+use Rattle.std.proofs.lemmas.Bool.{ne_eqb}
+use Rattle.lft_lists.proofs.Places.{get_there}
+use Rattle.lft_flat.specs.Parts.{Parts}
+use Rattle.lft_graph.specs.Sets.{Has}
+use Rattle.lft_counts.specs.declared.overlaps.Overlaps.{Overlaps}
+use Rattle.lft_counts.specs.Overlaps.{met_by}
+use Rattle.lft_cover.specs.Facts.{has, pair_words, HasSets}
+
+-- what is asked of a set is the test
+pub as_test : (set : List ℕ) (a : ℕ) (b : Bool) → IsTrue b ↔ Has set a → b ≡ has set a
+as_test set a true h = sym (eq-eqb (bit_at (slice_index set (a / 64)) (a % 64)) 1 (h.0 refl))
+as_test set a false h = sym (ne_eqb (bit_at (slice_index set (a / 64)) (a % 64)) 1 (λ e. let z : ◌≡◌ false true = h.1 e in absurd (cc)))
+
+-- a set has room for all reactions
+pub has_room : (program : Parts) (overlaps : Overlaps) → HasSets program overlaps → (r : ℕ) → r < length program.reactions → length (met_by overlaps r) ≡ length program.reactions / 64 + 1
+has_room program overlaps sets r l =
+    let x = get_there overlaps.met.items r (let e = sets.as_long in omega (arith, l, e)) in
+    ap (λ o. length (unwrap_or o [])) x.1 ∙ sets.room r x.0 x.1
+
+-- no lines of an empty set
+pub none_met : {X : Type 0} (program : Parts) (set : List ℕ) (then : ℕ) (xs : List (ℕ × X)) → ((r : ℕ) → Has set r → ⊥) → flat_map (λ d. pair_words program (has set d.0) d.0 then) xs ≡ []
+none_met program set then [] empty = refl
+none_met program set then (x ∷ xs) empty =
+    let off : has set x.0 ≡ false = ne_eqb (bit_at (slice_index set (x.0 / 64)) (x.0 % 64)) 1 (empty x.0) in
+    ap (λ b. pair_words program b x.0 then ++ flat_map (λ d. pair_words program (has set d.0) d.0 then) xs) off ∙ none_met program set then xs empty
