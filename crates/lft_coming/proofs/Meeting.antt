@@ -1,5 +1,5 @@
 -- Writes that meet at ports that no reaction reads.
-use Rattle.std.proofs.Common.{◌≡◌, ◌≢◌, ◌⊎◌, inl, inr, ◌<◌, ◌≤◌, ◌+◌, ℕ, zero, suc, true, false, List, [], ◌∷◌, ◌++◌, length, replicate, refl, sym, ap, ◌∙◌, subst, arith, Option, Some, None, MatchOption, slice_get, slice_set}
+use Rattle.std.proofs.Common.{◌≡◌, ◌≢◌, ◌⊎◌, inl, inr, ◌<◌, ◌≤◌, ◌+◌, ℕ, zero, suc, Bool, true, false, List, [], ◌∷◌, ◌++◌, length, replicate, refl, sym, ap, ◌∙◌, subst, arith, Option, Some, None, MatchOption, slice_get, slice_set}
 use Rattle.std.proofs.lemmas.Bool.{cases_eq, false≢true}
 use Rattle.std.proofs.lemmas.Option.{none-some}
 use Rattle.lft_tag.specs.declared.Tag.{Tag}
@@ -14,6 +14,7 @@ use Rattle.lft_flat.specs.declared.parts.Name.TheVariants.{Port}
 use Rattle.lft_steps.specs.declared.row.Row.{Row}
 use Rattle.lft_steps.specs.declared.row.Step.{Step}
 use Rattle.lft_steps.specs.declared.row.Step.TheVariants.{Write}
+use Rattle.lft_steps.specs.Fits.{StepFits, RowsFit}
 use Rattle.lft_model.specs.Presence.{value_written}
 use Rattle.lft_model.proofs.Places.{slice_get_within}
 use Rattle.lft_model.proofs.Steps.{some_written}
@@ -69,8 +70,8 @@ module _ (program : Parts) (n : ℕ) (port : PortOf) (here : slice_get program.p
           go (inr d) (inr x) = before.each p other time (omega (arith, m, d)) e un some x.1
 
 -- no row writes anything
-pub unread_first : (program : Parts) (n : ℕ) (soonest : List (Option ℕ)) (written : List (Option Tag)) → AreSoonest program (length program.ports) soonest → written ≡ replicate n None → n ≡ length program.ports → AreUnread program [] (record { soonest = soonest; written = written })
-unread_first program n soonest written are same count = record { soonest = are; as_long = ap length same ∙ length_same n None ∙ count; last = last }
+pub unread_first : (program : Parts) (n : ℕ) (soonest : List (Option ℕ)) (any : Bool) (written : List (Option Tag)) → AreSoonest program (length program.ports) soonest → (any ≡ false → (o : ℕ) (time : Option ℕ) → slice_get soonest o ≡ Some time → time ≡ None) → written ≡ replicate n None → n ≡ length program.ports → AreUnread program [] (record { soonest = soonest; any = any; written = written })
+unread_first program n soonest any written are none_is same count = record { soonest = are; none = none_is; as_long = ap length same ∙ length_same n None ∙ count; last = λ z. last }
   where
     none : (o : ℕ) (k : Option Tag) → k ≡ None → IsLastTag [] o k
     none o None e = λ g w. absurd (let l : w.place < 0 = slice_get_within [] w.place w.row w.is_row in omega arith)
@@ -109,15 +110,15 @@ module _ (t : List Row) (row : Row) where
       go g (inr x) = absurd (other x.0 x.1)
 
   pub unread_stays : (program : Parts) (unread : UnreadParts) → ((p : ℕ) → value_written p row.step ≡ None) → AreUnread program t unread → AreUnread program (t ++ row ∷ []) unread
-  unread_stays program unread none are = record { soonest = are.soonest; as_long = are.as_long; last = λ o k e. last_stays o k (λ v s. none-some v (sym (none o) ∙ ap (λ (z : Step). value_written o z) s ∙ some_written o v)) (are.last o k e) }
+  unread_stays program unread none are = record { soonest = are.soonest; none = are.none; as_long = are.as_long; last = λ z o k e. last_stays o k (λ v s. none-some v (sym (none o) ∙ ap (λ (z : Step). value_written o z) s ∙ some_written o v)) (are.last z o k e) }
 
   -- a row that writes a port
-  module _ (program : Parts) (o : ℕ) (v : Value) (step : row.step ≡ Write (Port o) v) (earlier : (i : ℕ) (x : Row) → slice_get t i ≡ Some x → UpTo x.tag row.tag) (soonest : List (Option ℕ)) (written : List (Option Tag)) (within : o < length program.ports) (are : AreUnread program t (record { soonest = soonest; written = written })) where
+  module _ (program : Parts) (o : ℕ) (v : Value) (step : row.step ≡ Write (Port o) v) (earlier : (i : ℕ) (x : Row) → slice_get t i ≡ Some x → UpTo x.tag row.tag) (soonest : List (Option ℕ)) (any : Bool) (written : List (Option Tag)) (some : any ≡ true) (within : o < length program.ports) (are : AreUnread program t (record { soonest = soonest; any = any; written = written })) where
     no_later : (g : Tag) → IsWrittenAt t o g → UpTo g row.tag
     no_later g w = subst (λ (k : Tag). UpTo k row.tag) w.tag_is (earlier w.place w.row w.is_row)
 
-    pub unread_set : AreUnread program (t ++ row ∷ []) (record { soonest = soonest; written = slice_set written o (Some row.tag) })
-    unread_set = record { soonest = are.soonest; as_long = length_written written o (Some row.tag) ∙ are.as_long; last = last }
+    pub unread_set : AreUnread program (t ++ row ∷ []) (record { soonest = soonest; any = any; written = slice_set written o (Some row.tag) })
+    unread_set = record { soonest = are.soonest; none = are.none; as_long = length_written written o (Some row.tag) ∙ are.as_long; last = λ z. last }
       where
         own : IsLastTag (t ++ row ∷ []) o (Some row.tag)
         own = (written_here o v step, λ g w. go g (written_cases o g w))
@@ -131,7 +132,7 @@ module _ (t : List Row) (row : Row) where
           where
             go : ((q ≡ o) × (Some row.tag ≡ k)) ⊎ ((q ≢ o) × (slice_get written q ≡ Some k)) → IsLastTag (t ++ row ∷ []) q k
             go (inl x) = subst (λ (z : Option Tag). IsLastTag (t ++ row ∷ []) q z) x.1 (subst (λ (z : ℕ). IsLastTag (t ++ row ∷ []) z (Some row.tag)) (sym x.0) own)
-            go (inr x) = last_stays q k (λ w s. x.0 (let both : Write (Port o) v ≡ Write (Port q) w = sym step ∙ s in let same : o ≡ q = cc in sym same)) (are.last q k x.1)
+            go (inr x) = last_stays q k (λ w s. x.0 (let both : Write (Port o) v ≡ Write (Port q) w = sym step ∙ s in let same : o ≡ q = cc in sym same)) (are.last some q k x.1)
 
     -- where the test says so, it is free of earlier ones, or the port is written at the tag already
     module _ (last : Tag) (test : (s : ℕ) (k : Tag) → slice_get soonest o ≡ Some (Some s) → slice_get written o ≡ Some (Some k) → k.time ≡ row.tag.time → k.micro ≢ row.tag.micro → last.time < row.tag.time + s) where
@@ -167,7 +168,7 @@ module _ (t : List Row) (row : Row) where
               inl (omega (arith, past, at, most))
 
       pub free_or_written : IsFree program t row.tag last o ⊎ IsWrittenAt t o row.tag
-      free_or_written = let long = are.as_long in let k = get_there written o (omega (arith, within, long)) in go k.0 k.1 (are.last o k.0 k.1)
+      free_or_written = let long = are.as_long in let k = get_there written o (omega (arith, within, long)) in go k.0 k.1 (are.last some o k.0 k.1)
         where
           by : (k : Tag) → slice_get written o ≡ Some (Some k) → IsLastTag t o (Some k) → Before k row.tag ⊎ (k ≡ row.tag) → IsFree program t row.tag last o ⊎ IsWrittenAt t o row.tag
           by k e is (inl b) = inl (free_of k e is.1 b)
@@ -212,6 +213,23 @@ free_more program t u g last row before here free own o w = go (written_cases u 
     go : IsWrittenAt u o g ⊎ ((v : Value) × (row.step ≡ Write (Port o) v) × (row.tag ≡ g)) → IsFree program t g last o
     go (inl x) = free o x
     go (inr x) = by (own o x.0 x.1)
+
+-- where no write arrives later than at once at a port that no reaction reads, nothing is kept of more rows
+pub unread_nothing : (t u : List Row) (program : Parts) (unread : UnreadParts) → unread.any ≡ false → AreUnread program t unread → AreUnread program (t ++ u) unread
+unread_nothing t u program unread nothing are = record { soonest = are.soonest; none = are.none; as_long = are.as_long; last = λ some. absurd (false≢true (sym nothing ∙ some)) }
+
+-- and none meet there
+pub free_all : (program : Parts) (t u : List Row) (g last : Tag) (unread : UnreadParts) → RowsFit program u → unread.any ≡ false → AreUnread program t unread → AreFree program t u g last
+free_all program t u g last unread fit none are o here p port h is own un w before same =
+    let both = together h g (port.shift.time, port.shift.steps) same (λ e. Before-irrefl g (subst (λ (z : Tag). Before z g) e before)) in
+    let within : o < length program.ports = subst (λ (s : Step). StepFits program s) here.writes (fit.each here.place here.row here.is_row).step in
+    let long = are.soonest.as_long in
+    let soon = get_there unread.soonest o (omega (arith, within, long)) in
+    go soon.0 (are.none none o soon.0 soon.1) (are.soonest.each p port soon.0 (slice_get_within program.ports p port is) is un both.0 (ap (λ (z : ℕ). slice_get unread.soonest z) own ∙ soon.1))
+  where
+    go : (z : Option ℕ) → z ≡ None → MatchOption z ⊥ (λ s. s ≤ port.shift.time) → Before last (shifted g (port.shift.time, port.shift.steps))
+    go None e less = absurd less
+    go (Some s) e less = absurd (cc)
 
 -- no row, none that writes
 pub free_none : (program : Parts) (t : List Row) (g last : Tag) → AreFree program t [] g last

@@ -1,5 +1,5 @@
 -- What is kept of ports behind delays that no reaction reads: nobody waits for their events.
-use Rattle.std.specs.Prelude.{◌≡◌, ℕ, ◌<◌, ◌≤◌, false, List, length, Option, Some, MatchOption, slice_get}
+use Rattle.std.specs.Prelude.{◌≡◌, ℕ, ◌<◌, ◌≤◌, Bool, true, false, List, length, Option, Some, None, MatchOption, slice_get}
 use Rattle.lft_tag.specs.declared.Tag.{Tag}
 use Rattle.lft_tag.specs.Tags.{Before, UpTo}
 use Rattle.lft_tag.specs.Shifts.{shifted}
@@ -11,9 +11,10 @@ use Rattle.lft_steps.specs.declared.row.Row.{Row}
 use Rattle.lft_steps.specs.declared.row.Step.TheVariants.{Write}
 use Rattle.lft_queue.specs.Reading.{is_read}
 
--- of each port, as an origin, how soon a write of it arrives at a port that no reaction reads, if it does later than at once; and the tag at which it is written last, if it is
+-- of each port, as an origin, how soon a write of it arrives at a port that no reaction reads, if it does later than at once; whether it does of any; and the tag at which it is written last, if it is
 pub record UnreadParts : Type 0 where
   pub soonest : List (Option ℕ)
+  pub any : Bool
   pub written : List (Option Tag)
 
 -- of each unread port below a number, a write of its origin arrives there no sooner than is kept
@@ -34,11 +35,12 @@ pub record IsWrittenAt (t : List Row) (o : ℕ) (g : Tag) : Type 0 where
 abbrev pub IsLastTag : List Row → ℕ → Option Tag → Type 0
 IsLastTag t o last = MatchOption last ((g : Tag) → ¬ IsWrittenAt t o g) (λ k. IsWrittenAt t o k × ((g : Tag) → IsWrittenAt t o g → UpTo g k))
 
--- what is kept is right for the rows t
+-- what is kept is right for the rows t, as far as any write arrives at such a port
 pub record AreUnread (program : Parts) (t : List Row) (unread : UnreadParts) : Type 0 where
   pub soonest : AreSoonest program (length program.ports) unread.soonest
+  pub none : unread.any ≡ false → (o : ℕ) (time : Option ℕ) → slice_get unread.soonest o ≡ Some time → time ≡ None
   pub as_long : length unread.written ≡ length program.ports
-  pub last : (o : ℕ) (k : Option Tag) → slice_get unread.written o ≡ Some k → IsLastTag t o k
+  pub last : unread.any ≡ true → (o : ℕ) (k : Option Tag) → slice_get unread.written o ≡ Some k → IsLastTag t o k
 
 -- wherever a write of origin o by the rows t, before g, and one at g arrive at an unread port at one tag, that tag is past the last one
 abbrev pub IsFree : Parts → List Row → Tag → Tag → ℕ → Type 0

@@ -1,6 +1,6 @@
 //! Ports behind delays that no reaction reads.
 
-ghost use Rattle.std.specs.Prelude.{◌≡◌, ◌≢◌, ◌⊎◌, ◌<◌, ◌≤◌, ◌+◌, ◌∷◌, ◌++◌, [], ℕ, true, false, List, length, Some, IfOk, IfSome, IsTrue, slice_get};
+ghost use Rattle.std.specs.Prelude.{◌≡◌, ◌≢◌, ◌⊎◌, ◌<◌, ◌≤◌, ◌+◌, ◌∷◌, ◌++◌, [], ℕ, true, false, List, Option, length, Some, None, IfOk, IfSome, IsTrue, slice_get};
 ghost use Rattle.lft_tag.specs.declared.Tag.{Tag as TheTag};
 ghost use Rattle.lft_tag.specs.Tags.{UpTo};
 ghost use Rattle.lft_flat.specs.declared.parts.Name.TheVariants.{Port as PortName};
@@ -28,6 +28,8 @@ pub struct Unread {
     /// For each port, as an origin, how soon a write of it arrives at such a port, if it does later than at
     /// once.
     soonest: Vec<Option<u64>>,
+    /// Whether it does of some port. Else nothing meets, and nothing more is kept.
+    any: bool,
     /// For each port the tag at which it is written last, if it is.
     written: Vec<Option<Tag>>,
 }
@@ -37,7 +39,7 @@ impl Model for Unread {
 
     ghost Value = { UnreadParts };
 
-    ghost view = { λ unread. record { soonest = unread.soonest.items; written = unread.written.items } };
+    ghost view = { λ unread. record { soonest = unread.soonest.items; any = unread.any; written = unread.written.items } };
 }
 
 /// The lesser of a time and another, if there is one.
@@ -76,6 +78,18 @@ fn soonest_of(alloc: Global, program: &Program) -> Result<Vec<Option<u64>>, NoMe
     Ok(soonest)
 }
 
+/// Whether there is a time.
+fn is_any(soonest: &[Option<u64>]) -> bool
+    ensures { result ≡ false → (o : ℕ) (time : Option ℕ) → slice_get soonest.now o ≡ Some time → time ≡ None }
+{
+    for place in 0..soonest.len() {
+        if item_at(soonest, place).is_some() {
+            return true;
+        }
+    }
+    false
+}
+
 /// Whether writes of an origin at a tag and at a later one may arrive at one tag up to the stop, where they
 /// arrive no sooner than this.
 fn may_meet(soonest: u64, earlier: Tag, tag: Tag, last: Tag) -> bool
@@ -93,8 +107,13 @@ impl Unread {
         ensures { IfOk result (AreUnread program.now []) }
     {
         let soonest = soonest_of(alloc, program)?;
+        let any = is_any(soonest.as_slice());
         let written = vec![in alloc; None; program.ports()]?;
-        Ok(Unread { soonest, written })
+        Ok(Unread {
+            soonest,
+            any,
+            written,
+        })
     }
 
     /// Whether a write of the port at the tag may meet its last one at an unread port, up to the stop.
@@ -114,8 +133,10 @@ impl Unread {
     /// Goes on past a row. It is false where what it writes may meet an earlier write at an unread port.
     fn pass(&mut self, program: &Program, row: Row, last: Tag) -> bool
         requires fits { RowFits program.now row }
+        requires any { self.old.any ≡ true }
         requires soonest { length self.old.soonest ≡ length program.now.ports }
         requires written { length self.old.written ≡ length program.now.ports }
+        ensures any { self.new.any ≡ true }
         ensures soonest { self.new.soonest ≡ self.old.soonest }
         ensures written { length self.new.written ≡ length self.old.written }
         ensures unread { IsTrue result → (t : List TheRow) → ((i : ℕ) (x : TheRow) → slice_get t i ≡ Some x → UpTo x.tag row.tag) → AreUnread program.now t self.old → AreUnread program.now (t ++ row ∷ []) self.new }
@@ -141,6 +162,9 @@ impl Unread {
         ensures unread { IsTrue result → (t : List TheRow) → AreBefore t tag → AreUnread program.now t self.old → AreUnread program.now (t ++ rows.now) self.new }
         ensures free { IsTrue result → (t : List TheRow) → AreBefore t tag → AreUnread program.now t self.old → AreFree program.now t rows.now tag last }
     {
+        if !self.any {
+            return true;
+        }
         for place in 0..rows.len() {
             if !self.pass(program, row_at(rows, place), last) {
                 return false;

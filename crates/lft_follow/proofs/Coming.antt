@@ -1,6 +1,5 @@
 -- What is kept shows that nothing is broken before the tag that it has come to.
-use Rattle.std.proofs.Common.{◌≡◌, ℕ, ◌+◌, ◌*◌, ◌<◌, ◌≤◌, inl, inr, List, refl, sym, ap, ◌∙◌, subst, arith, Option, Some, None, slice_get}
-use Rattle.std.proofs.Math.Nat.{mul-le-mul_right}
+use Rattle.std.proofs.Common.{◌≡◌, ℕ, ◌<◌, inl, inr, List, refl, sym, ap, ◌∙◌, subst, arith, Option, Some, None, slice_get}
 use native.Mathlib.Decide.{dec_lt}
 use Rattle.lft_tag.specs.declared.Tag.{Tag}
 use Rattle.lft_tag.specs.Tags.{Before, UpTo}
@@ -23,19 +22,9 @@ use Rattle.lft_stream.specs.declared.due.Due.TheVariants.{AtTag, AtStop, Never}
 use Rattle.lft_coming.specs.Listens.{Listens}
 use Rattle.lft_stream.specs.Dues.{firing, IsNextFiring, IsDue, AreDue, IsTimed, IsDueBefore}
 use Rattle.lft_stream.specs.Streams.{State, IsStream}
-use Rattle.lft_stream.proofs.Owing.{due_occurs}
+use Rattle.lft_stream.proofs.Owing.{due_occurs, firing_up}
 use Rattle.lft_follow.specs.Sure.{IsUnbroken}
 use Rattle.lft_follow.specs.Timely.{HasComeTo, TimelyLaw, OverdueLaw}
-
-firing_up : (timer : TimerOf) (k j : ℕ) → k ≤ j → UpTo (firing timer k) (firing timer j)
-firing_up timer k j l = go (mul-le-mul_right timer.period l)
-  where
-    go : k * timer.period ≤ j * timer.period → UpTo (firing timer k) (firing timer j)
-    go m = split (dec_lt (timer.offset + k * timer.period) (timer.offset + j * timer.period))
-      where
-        split : Dec (timer.offset + k * timer.period < timer.offset + j * timer.period) → UpTo (firing timer k) (firing timer j)
-        split (yes s) = inl s
-        split (no n) = inr (omega arith, omega arith)
 
 -- a timer that isn't due before low is met before it
 firing_met : (t : List Row) (r : ℕ) (timer : TimerOf) (due : Due) (last low h : Tag) → IsNextFiring t r timer due → ¬ IsDueBefore last low due → Before h low → Fires timer h → Ran t h r

@@ -20,7 +20,7 @@ returns-clause-unread c = λ z t earlier are.
     let row = c.args.row in
     let o = c.in-Some.port in
     let within : o < length program.ports = subst (λ (s : Step). StepFits program s) c.in-Some.ensures c.requires.fits.step in
-    unread_set t row program o c.in-Some.field-0-1 c.in-Some.ensures earlier c.self.inside.soonest.items c.self.inside.written.items within (subst (λ (u : UnreadParts). AreUnread program t u) (sym c.self.view_is) are)
+    unread_set t row program o c.in-Some.field-0-1 c.in-Some.ensures earlier c.self.inside.soonest.items c.self.inside.any c.self.inside.written.items (ap (λ (u : UnreadParts). u.any) c.self.view_is ∙ c.requires.any) within (subst (λ (u : UnreadParts). AreUnread program t u) (sym c.self.view_is) are)
 
 pub returns-clause-free : goal.returns-clause-free
 returns-clause-free c = λ z t o v earlier are step.
@@ -29,4 +29,4 @@ returns-clause-free c = λ z t o v earlier are step.
     let q = c.in-Some.port in
     let within : q < length program.ports = subst (λ (s : Step). StepFits program s) c.in-Some.ensures c.requires.fits.step in
     let unread : UnreadParts = c.args.self.now in
-    same_write t row program c.args.last q c.in-Some.field-0-1 o v c.in-Some.ensures step (free_or_written t row program q c.in-Some.field-0-1 c.in-Some.ensures earlier unread.soonest unread.written within are c.args.last (c.meets.ensures c.if-meets.false))
+    same_write t row program c.args.last q c.in-Some.field-0-1 o v c.in-Some.ensures step (free_or_written t row program q c.in-Some.field-0-1 c.in-Some.ensures earlier unread.soonest unread.any unread.written c.requires.any within are c.args.last (c.meets.ensures c.if-meets.false))

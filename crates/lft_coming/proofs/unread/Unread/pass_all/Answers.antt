@@ -6,12 +6,12 @@ use Rattle.lft_tag.specs.Tags.{UpTo}
 use Rattle.lft_lists.proofs.Picked.{take_one_more}
 use Rattle.lft_steps.specs.declared.row.Row.{Row}
 use Rattle.lft_model.proofs.Places.{slice_get_take}
-use Rattle.lft_coming.specs.Unread.{AreUnread, AreFree}
-use Rattle.lft_coming.proofs.Meeting.{all_up_to, free_none, free_more}
+use Rattle.lft_coming.specs.Unread.{UnreadParts, AreUnread, AreFree}
+use Rattle.lft_coming.proofs.Meeting.{all_up_to, unread_nothing, free_all, free_none, free_more}
 use Rattle.lft_coming.proofs.unread.Unread.pass_all.Goals as goal
 
 pub loop-place-init : goal.loop-place-init
-loop-place-init c = record { soonest = refl; written = refl; passed = λ t before are. (subst (λ (s : List Row). AreUnread c.args.program.now s c.args.self.now) (sym (append-nil t)) are, free_none c.args.program.now t c.args.tag c.args.last) }
+loop-place-init c = record { any = ap (λ (u : UnreadParts). u.any) (sym c.self.view_is) ∙ c.if-not-self.false; soonest = refl; written = refl; passed = λ t before are. (subst (λ (s : List Row). AreUnread c.args.program.now s c.args.self.now) (sym (append-nil t)) are, free_none c.args.program.now t c.args.tag c.args.last) }
 
 pub loop-place-preserved : goal.loop-place-preserved
 loop-place-preserved c =
@@ -24,6 +24,7 @@ loop-place-preserved c =
     let next : take (i + 1) rows ≡ take i rows ++ row ∷ [] = take_one_more rows i row c.loop-place-test.true (get_or_from_slice_get rows i row row c.row_at.ensures) in
     let step = c.if-not-pass.ensures in
     record {
+      any = step.any;
       soonest = step.soonest ∙ c.loop-place.invariant.soonest;
       written = step.written ∙ c.loop-place.invariant.written;
       passed = λ t before are.
@@ -39,3 +40,9 @@ returns-clause-unread c = λ z t before are. subst (λ (s : List Row). AreUnread
 
 pub returns-clause-free : goal.returns-clause-free
 returns-clause-free c = λ z t before are. subst (λ (s : List Row). AreFree c.args.program.now t s c.args.tag c.args.last) (take_all c.loop-place.place c.args.rows.now (let a = c.loop-place-test.false in omega arith)) ((c.loop-place.invariant.passed t before are).1)
+
+pub returns-then-not-self-clause-unread : goal.returns-then-not-self-clause-unread
+returns-then-not-self-clause-unread c = λ z t before are. unread_nothing t c.args.rows.now c.args.program.now c.args.self.now (ap (λ (u : UnreadParts). u.any) (sym c.self.view_is) ∙ c.if-not-self.true) are
+
+pub returns-then-not-self-clause-free : goal.returns-then-not-self-clause-free
+returns-then-not-self-clause-free c = λ z t before are. free_all c.args.program.now t c.args.rows.now c.args.tag c.args.last c.args.self.now c.requires.fit (ap (λ (u : UnreadParts). u.any) (sym c.self.view_is) ∙ c.if-not-self.true) are
