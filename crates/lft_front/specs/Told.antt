@@ -1,14 +1,21 @@
 -- Texts of which a refusal is told.
-use Rattle.std.specs.Prelude.{◌≡◌, ℕ, ◌⊎◌, List, ◌++◌, codes}
+use Rattle.std.specs.Prelude.{◌≡◌, ℕ, ◌⊎◌, List, ◌++◌, Some, codes, string_bytes}
 use Rattle.lft_steps.specs.declared.row.Row.{Row}
 use Rattle.lft_flat.specs.Parts.{Parts}
+use Rattle.lft_graph.specs.Loops.{IsLoop}
 use Rattle.lft_graph.specs.Precedence.{HasNoLoop}
 use Rattle.lft_steps.specs.Inputs.{ExternalInputs}
-use Rattle.lft_trace.specs.ExternalTables.{ExternalTable}
+use Rattle.lft_trace.specs.ExternalTables.{ExternalTable, ExternalFails}
 use Rattle.lft_trace.specs.Records.{records_of}
-use Rattle.lft_trace.specs.Traces.{Table}
+use Rattle.lft_trace.specs.Traces.{Table, TraceFails}
+use Rattle.lft_trace.specs.declared.fault.TraceFault.{TraceFault}
 use Rattle.lft_model.specs.Plans.{PlanParts}
 use Rattle.lft_load.specs.Meaning.{IsOnly, IsPlanOf, IsProgramOf}
+use Rattle.lft_refusals.specs.Refusals.{IsLong}
+use Rattle.lft_refusals.specs.Told.{TellsProgram}
+use Rattle.lft_reasons.specs.Reasons.{IsToldOf}
+use Rattle.lft_table_faults.specs.Tables.{Begins, IsWrong, IsWrongThere, NamesField, field_line, heading}
+use Rattle.lft_wiring.specs.Loops.{loop_words}
 use Rattle.lft_front.specs.Bundles.{IsBundle}
 use Rattle.lft_front.specs.Markers.{IsMissing}
 use Rattle.lft_front.specs.Meaning.{Mean}
@@ -17,6 +24,14 @@ use Rattle.lft_front.specs.declared.bundle.Marker.{Marker}
 use Rattle.lft_front.specs.declared.bundle.Marker.TheVariants as markers
 use Rattle.lft_front.specs.declared.refused.Start.{Start}
 use Rattle.lft_front.specs.declared.refused.Start.TheVariants as start
+
+-- the text is a table of external inputs of the program
+abbrev pub IsTable : Parts → List ℕ → Type 0
+IsTable program text = (inputs : ExternalInputs) × ExternalTable program (records_of text) inputs
+
+-- the text is a trace table of the program
+abbrev pub IsTrace : Parts → List ℕ → Type 0
+IsTrace program text = (rows : List Row) × Table program (records_of text) rows
 
 -- the text is no table of external inputs of the program
 abbrev pub IsNoTable : Parts → List ℕ → Type 0
@@ -30,6 +45,10 @@ IsNoTrace program text = (rows : List Row) → Table program (records_of text) r
 abbrev pub HasNoOrder : List ℕ → Type 0
 HasNoOrder program = (parts : Parts) → IsProgramOf program parts → HasNoLoop parts → ⊥
 
+-- the text has a program, and its reactions have an order
+abbrev pub HasOrder : List ℕ → Type 0
+HasOrder program = (parts : Parts) × IsProgramOf program parts × HasNoLoop parts
+
 -- a program's text and that of its external inputs have no plan
 abbrev pub HaveNoPlan : List ℕ → List ℕ → Type 0
 HaveNoPlan program externals = (plan : PlanParts) → IsPlanOf program externals plan → ⊥
@@ -38,15 +57,81 @@ HaveNoPlan program externals = (plan : PlanParts) → IsPlanOf program externals
 abbrev pub HaveNoMeaning : List ℕ → List ℕ → List ℕ → Type 0
 HaveNoMeaning program externals trace = (plan : PlanParts) (rows : List Row) → Mean program externals trace plan rows → ⊥
 
+-- the three texts have a meaning
+abbrev pub HaveMeaning : List ℕ → List ℕ → List ℕ → Type 0
+HaveMeaning program externals trace = (plan : PlanParts) × (rows : List Row) × Mean program externals trace plan rows
+
+-- the four texts have a meaning
+abbrev pub HaveMeaningBoth : List ℕ → List ℕ → List ℕ → List ℕ → Type 0
+HaveMeaningBoth program externals first second = (plan : PlanParts) × (rows : List Row) × (others : List Row) × MeanBoth program externals first second plan rows others
+
 -- the four texts have no meaning
 abbrev pub HaveNoMeaningBoth : List ℕ → List ℕ → List ℕ → List ℕ → Type 0
 HaveNoMeaningBoth program externals first second = (plan : PlanParts) (rows others : List Row) → MeanBoth program externals first second plan rows others → ⊥
 
--- what a program's text and that of its external inputs give: the program is the one of its text; where one of them is refused, they have no plan
+-- the words tell why a program's text is refused: why it has no tree, or for which cause
+abbrev pub TellsText : List ℕ → List ℕ → Type 0
+TellsText program words = TellsProgram program words ⊎ ((cause : ℕ) × IsToldOf program cause words)
+
+-- the words tell of a loop of the program's reactions
+pub record TellsLoop (program : Parts) (words : List ℕ) : Type 0 where
+  pub loop : List ℕ
+  pub is_loop : IsLoop program loop
+  pub is_told : words ≡ loop_words program loop
+
+-- the words begin with the first fault of a table of external inputs: its line, and the field where it is of one
+pub record TellsExternals (program : Parts) (text words : List ℕ) : Type 0 where
+  pub fault : TraceFault
+  pub fails : ExternalFails program (records_of text) fault
+  pub heads : Begins (heading (codes "External inputs") fault) words
+  pub field : (n : ℕ) → field_line fault ≡ Some n → NamesField (records_of text) (codes "External inputs") n (IsWrongThere fault) words
+
+-- the words begin with the first fault of a trace table, which is called by the word: its line, and the field where it is of one
+pub record TellsTrace (program : Parts) (text word words : List ℕ) : Type 0 where
+  pub fault : TraceFault
+  pub fails : TraceFails program (records_of text) fault
+  pub heads : Begins (heading word fault) words
+  pub field : (n : ℕ) → field_line fault ≡ Some n → NamesField (records_of text) word n (IsWrong program fault) words
+
+-- the text has this program and no other, and the words tell so much of it
+pub record TellsOf (text : List ℕ) (Tells : Parts → Type 0) : Type 0 where
+  pub program : Parts
+  pub only : IsOnly (IsProgramOf text) program
+  pub tells : Tells program
+
+-- the words tell why a program's text is refused, or of a loop of its reactions
+abbrev pub TellsNoOrder : List ℕ → List ℕ → Type 0
+TellsNoOrder text words = TellsText text words ⊎ TellsOf text (λ program. TellsLoop program words)
+
+-- the words tell why the external inputs of a program are refused, or, where they aren't, of a loop of its reactions
+abbrev pub TellsInputsOrLoop : Parts → List ℕ → List ℕ → Type 0
+TellsInputsOrLoop program externals words = TellsExternals program externals words ⊎ (IsTable program externals × TellsLoop program words)
+
+-- the words tell why a program's text is refused, or, where it isn't, that of its external inputs, or of a loop of its reactions
+abbrev pub TellsNoPlan : List ℕ → List ℕ → List ℕ → Type 0
+TellsNoPlan text externals words = TellsText text words ⊎ TellsOf text (λ program. TellsInputsOrLoop program externals words)
+
+-- the external inputs are those of the program, and its reactions have an order
+abbrev pub IsPlanned : Parts → List ℕ → Type 0
+IsPlanned program externals = IsTable program externals × HasNoLoop program
+
+-- the words tell of the first of three texts that is refused; of a loop of the reactions before the trace
+abbrev pub TellsRefusal : List ℕ → List ℕ → List ℕ → List ℕ → Type 0
+TellsRefusal text externals trace words = TellsNoPlan text externals words ⊎ TellsOf text (λ program. IsPlanned program externals × TellsTrace program trace (codes "Trace") words)
+
+-- the words tell why the first of two traces that is refused is
+abbrev pub TellsOneTrace : Parts → List ℕ → List ℕ → List ℕ → Type 0
+TellsOneTrace program first second words = TellsTrace program first (codes "First trace") words ⊎ (IsTrace program first × TellsTrace program second (codes "Second trace") words)
+
+-- the same of four texts, of which two are traces
+abbrev pub TellsRefusalOfBoth : List ℕ → List ℕ → List ℕ → List ℕ → List ℕ → Type 0
+TellsRefusalOfBoth text externals first second words = TellsNoPlan text externals words ⊎ TellsOf text (λ program. IsPlanned program externals × TellsOneTrace program first second words)
+
+-- what a program's text and that of its external inputs give: the program, where it has a plan; where it has none, the words tell why; nothing is told of a program's text that is too long
 abbrev pub Gives : List ℕ → List ℕ → Start → Type 0
-Gives program externals (start.Program parts) = IsOnly (IsProgramOf program) parts
-Gives program externals (start.Refused words) = HaveNoPlan program externals
-Gives program externals start.Untold = Unit {0}
+Gives program externals (start.Program parts) = IsOnly (IsProgramOf program) parts × IsPlanned parts externals
+Gives program externals (start.Refused words) = HaveNoPlan program externals × TellsNoPlan program externals (string_bytes words)
+Gives program externals start.Untold = IsLong program
 
 -- the sentence on a missing marker
 abbrev pub missing_words : Marker → List ℕ
@@ -61,14 +146,23 @@ pub record TellsMissing (text words : List ℕ) : Type 0 where
   pub rest : List ℕ
   pub is_told : words ≡ missing_words marker ++ rest
 
--- the text is a bundle whose three texts have no meaning
-pub record HasNoMeaning (text : List ℕ) : Type 0 where
+-- the text is a bundle whose three texts have no meaning, and the words tell which of them is refused
+pub record HasNoMeaning (text words : List ℕ) : Type 0 where
   pub program : List ℕ
   pub externals : List ℕ
   pub trace : List ℕ
   pub is_bundle : IsBundle text program externals trace
   pub none : HaveNoMeaning program externals trace
+  pub tells : TellsRefusal program externals trace words
 
 -- the words tell which marker the text lacks, or of a bundle whose three texts have no meaning
 abbrev pub IsBundleRefusal : List ℕ → List ℕ → Type 0
-IsBundleRefusal text words = TellsMissing text words ⊎ HasNoMeaning text
+IsBundleRefusal text words = TellsMissing text words ⊎ HasNoMeaning text words
+
+-- the text is a bundle whose three texts have a meaning, or whose program's text is too long
+pub record IsReadBundle (text : List ℕ) : Type 0 where
+  pub program : List ℕ
+  pub externals : List ℕ
+  pub trace : List ℕ
+  pub is_bundle : IsBundle text program externals trace
+  pub meant : IsLong program ⊎ HaveMeaning program externals trace

@@ -1,11 +1,12 @@
 //! Why texts are refused, for people. Something is told only of texts that have no meaning.
 
-ghost use Rattle.std.specs.Prelude.{◌≡◌, ◌++◌, ◌⊎◌, ℕ, List, true, IfOk, IfSome, string_bytes};
+ghost use Rattle.std.specs.Prelude.{◌≡◌, ◌++◌, ◌⊎◌, ℕ, List, true, IfOk, IfNone, IfSome, string_bytes};
 ghost use Rattle.lft_graph.specs.Precedence.{HasNoLoop};
 ghost use Rattle.lft_load.specs.Meaning.{IsOnly, IsProgramOf};
-ghost use Rattle.lft_load.specs.Refusals.{is_of_text};
+ghost use Rattle.lft_load.specs.Refusals.{ProgramRefusal, is_of_text};
+ghost use Rattle.lft_refusals.specs.Refusals.{IsLong};
 ghost use Rattle.lft_trace.specs.Faults.{is_told};
-ghost use Rattle.lft_front.specs.Told.{Gives, HasNoOrder, HaveNoMeaning, HaveNoMeaningBoth, IsBundleRefusal, IsNoTable, IsNoTrace, missing_words};
+ghost use Rattle.lft_front.specs.Told.{Gives, HasNoOrder, HasOrder, HaveMeaning, HaveMeaningBoth, HaveNoMeaning, HaveNoMeaningBoth, IsBundleRefusal, IsNoTable, IsNoTrace, IsReadBundle, IsTable, IsTrace, TellsExternals, TellsLoop, TellsNoOrder, TellsOneTrace, TellsRefusal, TellsRefusalOfBoth, TellsText, TellsTrace, missing_words};
 
 use crate::bundle::{Marker, has_returned_marker, read_bundle};
 use lft_flat::Program;
@@ -20,7 +21,7 @@ use lft_wiring::tell_loop;
 use std::alloc::Global;
 
 /// What a program's text and that of its external inputs give: the program, or why one of them is refused.
-/// Nothing is told of a text that is refused for no reason of its own.
+/// Nothing is told of a program's text that is too long to be looked at.
 #[derive(Drop)]
 enum Start {
     Program(Program),
@@ -36,25 +37,20 @@ const SYNTAX_NO_MEMORY: u32 = 2;
 const PROGRAM_NO_MEMORY: u32 = 16;
 
 /// Why a program's text is refused, by the fault.
+// A fault that is none of the text is want of memory, since these three parts have no other.
 fn of_program(alloc: Global, program: &[u8], fault: &Fault) -> Result<Option<String>, NoMemory>
-    ensures { IfOk result (λ told. IfSome told (λ _. is_of_text fault.now.part fault.now.number ≡ true)) }
+    requires { ProgramRefusal program.now fault.now }
+    ensures of_text { IfOk result (λ told. IfSome told (λ _. is_of_text fault.now.part fault.now.number ≡ true)) }
+    ensures tells { IfOk result (λ told. IfSome told (λ words. TellsText program.now (string_bytes words))) }
+    ensures none { IfOk result (λ told. IfNone told (IsLong program.now)) }
 {
     match fault.part {
-        Part::Lex if fault.number != LEX_NO_MEMORY => match tell_program(alloc, program)? {
-            Some(words) => Ok(Some(words)),
-            None => Ok(None),
-        },
-        Part::Syntax if fault.number != SYNTAX_NO_MEMORY => match tell_program(alloc, program)? {
-            Some(words) => Ok(Some(words)),
-            None => Ok(None),
-        },
+        Part::Lex if fault.number != LEX_NO_MEMORY => tell_program(alloc, program),
+        Part::Syntax if fault.number != SYNTAX_NO_MEMORY => tell_program(alloc, program),
         Part::Program if fault.number != PROGRAM_NO_MEMORY => {
-            match tell_cause(alloc, program, fault.number)? {
-                Some(words) => Ok(Some(words)),
-                None => Ok(None),
-            }
+            tell_cause(alloc, program, fault.number)
         }
-        _ => Ok(None),
+        _ => Err(NoMemory),
     }
 }
 
@@ -66,20 +62,24 @@ fn is_told(fault: TraceFault) -> bool
 }
 
 /// Why a text is no table of external inputs, if it isn't.
+// A reader of records that failed tells as little of the text as want of memory, and is told as such.
 fn of_externals(
     alloc: Global,
     program: &Program,
     externals: &[u8],
 ) -> Result<Option<String>, NoMemory>
-    ensures { IfOk result (λ told. IfSome told (λ _. IsNoTable program.now externals.now)) }
+    ensures no_table { IfOk result (λ told. IfSome told (λ _. IsNoTable program.now externals.now)) }
+    ensures tells { IfOk result (λ told. IfSome told (λ words. TellsExternals program.now externals.now (string_bytes words))) }
+    ensures none { IfOk result (λ told. IfNone told (IsTable program.now externals.now)) }
 {
-    match read_externals(alloc, program, externals) {
-        Err(fault) if is_told(fault) => {
-            let words = tell_externals(alloc, program, externals, fault)?;
-            Ok(Some(words))
-        }
-        _ => Ok(None),
+    let Err(fault) = read_externals(alloc, program, externals) else {
+        return Ok(None);
+    };
+    if !is_told(fault) {
+        return Err(NoMemory);
     }
+    let words = tell_externals(alloc, program, externals, fault)?;
+    Ok(Some(words))
 }
 
 /// Why a text is no trace table, if it isn't. The table is called by the word.
@@ -89,20 +89,24 @@ fn of_trace(
     trace: &[u8],
     word: &'static str,
 ) -> Result<Option<String>, NoMemory>
-    ensures { IfOk result (λ told. IfSome told (λ _. IsNoTrace program.now trace.now)) }
+    ensures no_trace { IfOk result (λ told. IfSome told (λ _. IsNoTrace program.now trace.now)) }
+    ensures tells { IfOk result (λ told. IfSome told (λ words. TellsTrace program.now trace.now word.now (string_bytes words))) }
+    ensures none { IfOk result (λ told. IfNone told (IsTrace program.now trace.now)) }
 {
-    match read_trace(alloc, program, trace) {
-        Err(fault) if is_told(fault) => {
-            let words = tell_trace(alloc, program, trace, fault, word)?;
-            Ok(Some(words))
-        }
-        _ => Ok(None),
+    let Err(fault) = read_trace(alloc, program, trace) else {
+        return Ok(None);
+    };
+    if !is_told(fault) {
+        return Err(NoMemory);
     }
+    let words = tell_trace(alloc, program, trace, fault, word)?;
+    Ok(Some(words))
 }
 
 /// Why the reactions of a program have no order, if they have none.
 fn of_graph(alloc: Global, program: &Program) -> Result<Option<String>, NoMemory>
-    ensures { IfOk result (λ told. IfSome told (λ _. HasNoLoop program.now → ⊥)) }
+    ensures tells { IfOk result (λ told. IfSome told (λ words. TellsLoop program.now (string_bytes words))) }
+    ensures none { IfOk result (λ told. IfNone told (HasNoLoop program.now)) }
 {
     match Graph::build(alloc, program) {
         Ok(_) => Ok(None),
@@ -117,17 +121,13 @@ fn of_graph(alloc: Global, program: &Program) -> Result<Option<String>, NoMemory
 /// Why a program's text is refused, or why its reactions have no order, in lines as those of
 /// `refusal_of_texts`. None where the program can be shown.
 pub fn refusal_of_program(alloc: Global, program: &[u8]) -> Result<Option<String>, NoMemory>
-    ensures { IfOk result (λ told. IfSome told (λ _. HasNoOrder program.now)) }
+    ensures no_order { IfOk result (λ told. IfSome told (λ _. HasNoOrder program.now)) }
+    ensures tells { IfOk result (λ told. IfSome told (λ words. TellsNoOrder program.now (string_bytes words))) }
+    ensures none { IfOk result (λ told. IfNone told (IsLong program.now ⊎ HasOrder program.now)) }
 {
     match read_program(alloc, program) {
-        Ok(flat) => match of_graph(alloc, &flat)? {
-            Some(words) => Ok(Some(words)),
-            None => Ok(None),
-        },
-        Err(fault) => match of_program(alloc, program, &fault)? {
-            Some(words) => Ok(Some(words)),
-            None => Ok(None),
-        },
+        Ok(flat) => of_graph(alloc, &flat),
+        Err(fault) => of_program(alloc, program, &fault),
     }
 }
 
@@ -159,7 +159,7 @@ fn start_of(alloc: Global, program: &[u8], externals: &[u8]) -> Result<Start, No
 }
 
 /// Why the first of three texts that is refused is: where, the line with a mark, and what helps, in lines
-/// that end with a line feed. None where all three are read.
+/// that end with a line feed. None where all three are read. `NoMemory` too where the reader of records failed.
 ///
 /// It reads the texts again, so it costs what they do.
 pub fn refusal_of_texts(
@@ -168,13 +168,12 @@ pub fn refusal_of_texts(
     externals: &[u8],
     trace: &[u8],
 ) -> Result<Option<String>, NoMemory>
-    ensures { IfOk result (λ told. IfSome told (λ _. HaveNoMeaning program.now externals.now trace.now)) }
+    ensures no_meaning { IfOk result (λ told. IfSome told (λ _. HaveNoMeaning program.now externals.now trace.now)) }
+    ensures tells { IfOk result (λ told. IfSome told (λ words. TellsRefusal program.now externals.now trace.now (string_bytes words))) }
+    ensures none { IfOk result (λ told. IfNone told (IsLong program.now ⊎ HaveMeaning program.now externals.now trace.now)) }
 {
     match start_of(alloc, program, externals)? {
-        Start::Program(flat) => match of_trace(alloc, &flat, trace, "Trace")? {
-            Some(words) => Ok(Some(words)),
-            None => Ok(None),
-        },
+        Start::Program(flat) => of_trace(alloc, &flat, trace, "Trace"),
         Start::Refused(words) => Ok(Some(words)),
         Start::Untold => Ok(None),
     }
@@ -187,7 +186,9 @@ fn of_traces(
     first: &[u8],
     second: &[u8],
 ) -> Result<Option<String>, NoMemory>
-    ensures { IfOk result (λ told. IfSome told (λ _. IsNoTrace program.now first.now ⊎ IsNoTrace program.now second.now)) }
+    ensures no_trace { IfOk result (λ told. IfSome told (λ _. IsNoTrace program.now first.now ⊎ IsNoTrace program.now second.now)) }
+    ensures tells { IfOk result (λ told. IfSome told (λ words. TellsOneTrace program.now first.now second.now (string_bytes words))) }
+    ensures none { IfOk result (λ told. IfNone told (IsTrace program.now first.now × IsTrace program.now second.now)) }
 {
     match of_trace(alloc, program, first, "First trace")? {
         Some(words) => Ok(Some(words)),
@@ -203,13 +204,12 @@ pub fn refusal_of_pair_texts(
     first: &[u8],
     second: &[u8],
 ) -> Result<Option<String>, NoMemory>
-    ensures { IfOk result (λ told. IfSome told (λ _. HaveNoMeaningBoth program.now externals.now first.now second.now)) }
+    ensures no_meaning { IfOk result (λ told. IfSome told (λ _. HaveNoMeaningBoth program.now externals.now first.now second.now)) }
+    ensures tells { IfOk result (λ told. IfSome told (λ words. TellsRefusalOfBoth program.now externals.now first.now second.now (string_bytes words))) }
+    ensures none { IfOk result (λ told. IfNone told (IsLong program.now ⊎ HaveMeaningBoth program.now externals.now first.now second.now)) }
 {
     match start_of(alloc, program, externals)? {
-        Start::Program(flat) => match of_traces(alloc, &flat, first, second)? {
-            Some(words) => Ok(Some(words)),
-            None => Ok(None),
-        },
+        Start::Program(flat) => of_traces(alloc, &flat, first, second),
         Start::Refused(words) => Ok(Some(words)),
         Start::Untold => Ok(None),
     }
@@ -254,7 +254,8 @@ fn tell_marker(alloc: Global, text: &[u8], marker: Marker) -> Result<String, NoM
 /// Why a bundle is refused: the first marker that is missing, or why the first of its texts that is refused
 /// is. None where all are read.
 pub fn refusal_of_bundle(alloc: Global, text: &[u8]) -> Result<Option<String>, NoMemory>
-    ensures { IfOk result (λ told. IfSome told (λ words. IsBundleRefusal text.now (string_bytes words))) }
+    ensures some { IfOk result (λ told. IfSome told (λ words. IsBundleRefusal text.now (string_bytes words))) }
+    ensures none { IfOk result (λ told. IfNone told (IsReadBundle text.now)) }
 {
     match read_bundle(text) {
         Ok(bundle) => refusal_of_texts(alloc, bundle.program, bundle.externals, bundle.trace),
