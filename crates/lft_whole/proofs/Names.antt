@@ -8,6 +8,7 @@ use Rattle.std.proofs.lemmas.Str.Ascii.{IsAscii-from_reads}
 use Rattle.std.proofs.lemmas.Bool.{cases_lt}
 use Rattle.std.proofs.lemmas.Bool.Decides.{nat_tests}
 use Rattle.lft_lists.specs.Bytes.{is_letter, is_word}
+use Rattle.lft_syntax.proofs.TokenFacts.{word_ascii}
 use Rattle.lft_syntax.specs.Lexes.{Run}
 use Rattle.lft_tree.specs.Identifiers.{IsIdentifier}
 
@@ -41,9 +42,6 @@ run_further t i j inside letter run = further (cases_lt i j)
 -- and is an identifier
 pub run_identifier : (t : List ℕ) (i j : ℕ) → i < length t → is_letter (slice_index t i) ≡ true → Run is_word t i j → IsIdentifier (slice_range t i j)
 run_identifier t i j inside letter run = range_identifier t i j (run_further t i j inside letter run) run.within letter run.each
-
-word_ascii : (b : ℕ) → is_word b ≡ true → b < 128
-word_ascii b h = grind (arith, nat_tests)
 
 letter_ascii : (b : ℕ) → is_letter b ≡ true → b < 128
 letter_ascii b h = grind (arith, nat_tests)

@@ -3,4 +3,3 @@ pub mod Names
 pub mod Parsing
 pub mod Places
 pub mod Tokens
-pub mod Words

@@ -63,7 +63,7 @@ pub fn past_group(input: &Input, at: usize, opening: u8, closing: u8) -> Result<
 }
 
 /// Whether the `(` here begins a connection, as in `(a, b)+ -> c`, and no values of what stands before it.
-pub fn begins_connection(input: &Input, at: usize) -> bool
+fn begins_connection(input: &Input, at: usize) -> bool
     requires { Within input.now at }
 {
     match group_end(input, at, b'(', b')') {

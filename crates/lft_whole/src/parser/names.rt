@@ -4,7 +4,7 @@ ghost use Rattle.std.specs.Prelude.{◌≡◌, ◌<◌, IfOk, IfErr, string_byte
 ghost use Rattle.std.specs.Str.{bytes_eq};
 ghost use Rattle.lft_syntax.specs.Lexeme.{is_one_of, is_reserved};
 ghost use Rattle.lft_tree.specs.Identifiers.{IsIdentifier};
-ghost use Rattle.lft_whole.specs.Words.{outer_words, declaring_words, other_words};
+ghost use Rattle.lft_syntax.specs.Parsing.{outer_words, declaring_words, other_words};
 ghost use Rattle.lft_whole.specs.Parsing.{count, Within, Further, Refuses};
 
 use crate::fault::TreeFault;

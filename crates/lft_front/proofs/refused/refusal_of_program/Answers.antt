@@ -1,6 +1,5 @@
 use Rattle.std.proofs.Common.{inl, inr, string_bytes}
 use Rattle.lft_graph.specs.Precedence.{HasNoLoop}
-use Rattle.lft_load.specs.Refusals.{is_of_text}
 use Rattle.lft_front.specs.Told.{HasNoOrder, TellsLoop, TellsNoOrder, TellsText}
 use Rattle.lft_front.proofs.Telling.{of_none, of_found, told_loop, no_order_by_loop, no_order_by_program}
 use Rattle.lft_front.proofs.refused.refusal_of_program.Goals as goal

@@ -1,5 +1,5 @@
 use Rattle.std.proofs.Common.{sym, ◌∙◌}
-use Rattle.lft_whole.proofs.Words.{reserved_outer, reserved_declaring, reserved_other}
+use Rattle.lft_syntax.proofs.Words.{reserved_outer, reserved_declaring, reserved_other}
 use Rattle.lft_whole.proofs.parser.names.is_reserved_word.Goals as goal
 
 pub returns-then-is_outer_word : goal.returns-then-is_outer_word

@@ -1,0 +1,4 @@
+pub mod Columns
+pub mod Known
+pub mod Telling
+pub mod Walks

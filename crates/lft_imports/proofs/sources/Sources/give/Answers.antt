@@ -1,0 +1,38 @@
+use Rattle.std.proofs.Common.{◌≡◌, Some, length, sym, subst, ap, ◌∙◌, arith, string_bytes}
+use Rattle.std.specs.Prelude.{slice_get}
+use Rattle.lft_lists.proofs.Places.{Some_same}
+use Rattle.lft_imports.specs.Files.{IsPlaced, paths_of}
+use Rattle.lft_imports.specs.Places.{HasSpots}
+use Rattle.lft_imports.specs.Reads.{HasPlaces}
+use Rattle.lft_imports.proofs.Known.{AllNumbered, AreRead, numbered_file, numbered_more, read_more}
+use Rattle.lft_imports.proofs.Telling.{placed}
+use Rattle.lft_imports.proofs.sources.Sources.give.Goals as goal
+
+pub returns-in_ok-push-in-Ok-clause-sources : goal.returns-in_ok-push-in-Ok-clause-sources
+returns-in_ok-push-in-Ok-clause-sources c =
+    let old = c.args.self.now in
+    let before = paths_of old.asked in
+    let after = paths_of c.numbers_of.new.asked in
+    let file = c.file_of.result in
+    let path = ap string_bytes c.file_of.ensures.path in
+    let at : slice_get before (length old.files.items) ≡ Some (string_bytes file.path) = sym c.in-Some.ensures ∙ ap Some (sym (path ∙ c.in_ok-path.ensures.ok)) in
+    let numbers = numbered_file after c.as_str.result.now c.in_ok-read.read.tree.imports.items c.in-Ok.imports.items file (path ∙ sym c.as_str.ensures.value) (ap (λ t. t.imports.items) c.file_of.ensures.tree) (ap (λ v. v.items) c.file_of.ensures.imports) c.in-Ok.ensures.numbers in
+    record {
+      known = c.in-Ok.ensures.known;
+      read = subst (AreRead after) (sym c.in_ok-push-in-Ok.ensures.items) (read_more before after old.files.items file c.in-Ok.ensures.kept c.requires.read at);
+      numbered = subst (AllNumbered after) (sym c.in_ok-push-in-Ok.ensures.items) (numbered_more before after old.files.items file c.in-Ok.ensures.kept c.requires.numbered numbers);
+    }
+
+pub returns-in_ok-push-in-Ok-clause-read : goal.returns-in_ok-push-in-Ok-clause-read
+returns-in_ok-push-in-Ok-clause-read c =
+    let file = c.file_of.result in
+    let path = ap string_bytes c.file_of.ensures.path in
+    let read = c.in_ok-read.read in
+    let spots = subst (HasPlaces c.args.text.now read.spots.items) c.in-Ok.ensures.read c.in_ok-read.ensures in
+    λ p next. (file, record { same = path ∙ c.in_ok-path.ensures.ok ∙ Some_same _ p (c.in-Some.ensures ∙ next); spots = subst (HasSpots c.args.text.now) (ap (λ v. v.items) (sym c.file_of.ensures.spots)) spots }, c.in_ok-push-in-Ok.ensures.items)
+
+pub returns-in_ok-push-in-Err-clause-refused : goal.returns-in_ok-push-in-Err-clause-refused
+returns-in_ok-push-in-Err-clause-refused c =
+    let files = c.args.self.now.files.items in
+    let many : c.len-number.result ≡ length files = omega (arith, c.len-number.ensures, c.args.self.now.files.ok.0) in
+    subst (λ fs. IsPlaced c.args.text.now fs c.in-Err.stop) (sym c.in_ok-push-in-Err.ensures.items) (placed c.args.text.now files c.file_of-in-Err.result c.len-number.result c.in_ok-read.read c.in-Err.stop many c.file_of-in-Err.ensures.spots c.in_ok-read.ensures c.in-Err.ensures.refused)

@@ -1,0 +1,80 @@
+-- The files of a program: which paths are asked for, and which file each import names.
+use Rattle.std.specs.Prelude.{◌≡◌, ◌↔◌, ◌⊎◌, ℕ, List, [], ◌∷◌, ◌++◌, Option, Some, IsSomeAnd, length, map, slice_get, string_bytes}
+use Rattle.std.specs.BTreeMap.{get_by_text}
+use Rattle.std.specs.Str.{IsUtf8}
+use Rattle.lft_whole.specs.declared.tree.Import.{Import}
+use Rattle.lft_sources.specs.declared.source.SourceFile.{SourceFile}
+use Rattle.lft_sources.specs.declared.stop.Stop.{Stop}
+use Rattle.lft_sources.specs.declared.stop.Stop.TheVariants as stop
+use Rattle.lft_sources.specs.declared.why.Why.TheVariants.{NotRead}
+use Rattle.lft_imports.specs.declared.asked.Asked.{Asked}
+use Rattle.lft_imports.specs.declared.reading.Text.{Text}
+use Rattle.lft_imports.specs.declared.sources.Sources.{Sources}
+use Rattle.lft_imports.specs.Paths.{meaning}
+use Rattle.lft_imports.specs.Places.{HasSpots, IsSpotOf}
+
+-- The paths that are asked for, by number.
+abbrev pub paths_of : Asked → List (List ℕ)
+paths_of asked = map (λ wanted. string_bytes wanted.path) asked.paths.items
+
+-- The paths of files.
+abbrev pub paths_of_files : List SourceFile → List (List ℕ)
+paths_of_files files = map (λ file. string_bytes file.path) files
+
+-- Each path stands there once.
+abbrev pub EachOnce : List (List ℕ) → Type 0
+EachOnce paths = (i j : ℕ) (path : List ℕ) → slice_get paths i ≡ Some path → slice_get paths j ≡ Some path → i ≡ j
+
+-- A path is known by its number among those that are asked for.
+abbrev pub IsKnown : Asked → Type 0
+IsKnown asked = (path : List ℕ) (number : ℕ) → (get_by_text asked.known path ≡ Some number) ↔ (slice_get (paths_of asked) number ≡ Some path)
+
+-- All that stands in the one list stands at the same place in the other.
+abbrev pub GoesOn : List (List ℕ) → List (List ℕ) → Type 0
+GoesOn before after = (k : ℕ) (path : List ℕ) → slice_get before k ≡ Some path → slice_get after k ≡ Some path
+
+-- Each import in a file of that path has the number of the path that it means.
+abbrev pub AreNumbered : List (List ℕ) → List ℕ → List Import → List ℕ → Type 0
+AreNumbered paths path imports numbers = (i : ℕ) (import : Import) → slice_get imports i ≡ Some import → IsSomeAnd (slice_get numbers i) (λ number. slice_get paths number ≡ Some (meaning path import.path.items))
+
+-- Each import of the file has the number of the path that it means.
+abbrev pub IsNumbered : List (List ℕ) → SourceFile → Type 0
+IsNumbered paths file = AreNumbered paths (string_bytes file.path) file.tree.imports.items file.imports.items
+
+-- The files that are read are the first of the paths that are asked for, and each import of them has its number.
+pub record AreSources (sources : Sources) : Type 0 where
+  pub known : IsKnown sources.asked
+  pub read : (k : ℕ) (file : SourceFile) → slice_get sources.files.items k ≡ Some file → slice_get (paths_of sources.asked) k ≡ Some (string_bytes file.path)
+  pub numbered : (k : ℕ) (file : SourceFile) → slice_get sources.files.items k ≡ Some file → IsNumbered (paths_of sources.asked) file
+
+-- The path that is to be read next, if not all are read.
+abbrev pub next_path : Sources → Option (List ℕ)
+next_path sources = slice_get (paths_of sources.asked) (length sources.files.items)
+
+-- The file of that path is read, from that text.
+pub record IsFileOf (path t : List ℕ) (file : SourceFile) : Type 0 where
+  pub same : string_bytes file.path ≡ path
+  pub spots : HasSpots t file.spots.items
+
+-- One file more is read: the one that was to be read next.
+abbrev pub HasOneMore : List ℕ → Sources → Sources → Type 0
+HasOneMore t before after = (path : List ℕ) → next_path before ≡ Some path → (file : SourceFile) × IsFileOf path t file × (after.files.items ≡ before.files.items ++ file ∷ [])
+
+-- Each import of the files names one of them, by number.
+abbrev pub IsWhole : List SourceFile → Type 0
+IsWhole files = (k : ℕ) (file : SourceFile) → slice_get files k ≡ Some file → IsNumbered (paths_of_files files) file
+
+-- A refusal is of a file that is there; but for a path that is no text, its token has the spot of a byte of the text.
+abbrev pub IsPlaced : List ℕ → List SourceFile → Stop → Type 0
+IsPlaced t files (stop.Refused refusal) = IsSomeAnd (slice_get files refusal.place.file) (λ file. (refusal.why ≡ NotRead) ⊎ IsSomeAnd (slice_get file.spots.items refusal.place.token) (IsSpotOf t))
+IsPlaced t files stop.NoMemory = Unit {0}
+
+-- The refusal is of a path that is no UTF-8, of an import of the file of that number.
+abbrev pub IsUnread : ℕ → List Import → Stop → Type 0
+IsUnread number imports (stop.Refused refusal) = (refusal.why ≡ NotRead) × (refusal.place.file ≡ number) × ((i : ℕ) × IsSomeAnd (slice_get imports i) (λ import. (refusal.place.token ≡ import.at) × (IsUtf8 import.path.items → ⊥)))
+IsUnread number imports stop.NoMemory = Unit {0}
+
+-- The refusal is that of the text of the file of that number, or of a path in it.
+abbrev pub IsRefusalOf : ℕ → Text → Stop → Type 0
+IsRefusalOf number read (stop.Refused refusal) = (refusal.place.file ≡ number) × ((refusal.why ≡ NotRead) ⊎ (read.refused ≡ Some (record { why = refusal.why; token = refusal.place.token })))
+IsRefusalOf number read stop.NoMemory = Unit {0}

@@ -1,0 +1,4 @@
+pub mod Files
+pub mod Paths
+pub mod Places
+pub mod Reads

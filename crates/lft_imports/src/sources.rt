@@ -1,0 +1,130 @@
+//! The files of a program: which is to be read next, and which file each import names.
+
+ghost use Rattle.std.specs.Prelude.{◌≡◌, [], ◌∷◌, None, IfErr, IfOk, OnOk, option_and_then, option_map, length, slice_get};
+ghost use Rattle.lft_imports.specs.Paths.{normal as normal_path};
+ghost use Rattle.lft_imports.specs.Files.{AreNumbered, AreSources, EachOnce, GoesOn, HasOneMore, IsKnown, IsPlaced, IsRefusalOf, IsWhole, next_path, paths_of, paths_of_files};
+
+use crate::asked::Asked;
+use crate::paths::normal;
+use crate::reading::{Text, read_text};
+use lft_sources::{Place, SourceFile, Stop};
+use lft_tag::NoMemory;
+use std::alloc::Global;
+
+/// The numbers of the files that a file imports. Its text may be refused, or the path of an import.
+fn numbers_of(
+    alloc: Global,
+    asked: &mut Asked,
+    number: usize,
+    path: &str,
+    read: &Text,
+) -> Result<Vec<usize>, Stop>
+    requires { IsKnown asked.old }
+    ensures known { OnOk result (IsKnown asked.new) }
+    ensures kept { OnOk result (GoesOn (paths_of asked.old) (paths_of asked.new)) }
+    ensures numbers { IfOk result (λ numbers. AreNumbered (paths_of asked.new) path.now read.now.tree.imports.items numbers.items) }
+    ensures read { OnOk result (read.now.refused ≡ None) }
+    ensures refused { IfErr result (IsRefusalOf number read.now) }
+{
+    match read.refused {
+        Some(refused) => Err(Stop::at(refused.why, number, refused.token)),
+        None => asked.numbers(alloc, number, path, read.tree.imports.as_slice()),
+    }
+}
+
+/// A file of what is read of it.
+fn file_of(path: String, read: Text, imports: Vec<usize>) -> SourceFile
+    ensures path { result.path ≡ path }
+    ensures tree { result.tree ≡ read.tree }
+    ensures imports { result.imports ≡ imports }
+    ensures spots { result.spots ≡ read.spots }
+{
+    SourceFile {
+        path,
+        tree: read.tree,
+        imports,
+        spots: read.spots,
+    }
+}
+
+/// The files of a program, each once by its path without `.` and `..`. They are read in the order in which they
+/// are asked for: the program itself, what it imports, what these import.
+#[derive(Drop)]
+pub struct Sources {
+    alloc: Global,
+    files: Vec<SourceFile>,
+    asked: Asked,
+}
+
+impl Sources {
+    /// No file yet. The first that is wanted is the one at this path.
+    pub fn of(alloc: Global, path: &str) -> Result<Sources, NoMemory>
+        ensures sources { IfOk result AreSources }
+        ensures files { IfOk result (λ sources. sources.files.items ≡ []) }
+        ensures paths { IfOk result (λ sources. paths_of sources.asked ≡ normal_path path.now ∷ []) }
+    {
+        let mut asked = Asked::new(alloc);
+        asked.ask(normal(alloc, path)?, None)?;
+        Ok(Sources {
+            alloc,
+            files: Vec::new(alloc),
+            asked,
+        })
+    }
+
+    /// The path of the file that is to be read next. When there is none, all are read.
+    pub fn wanted(&self) -> Option<&str>
+        ensures { option_map (λ path. path.now) result ≡ next_path self.now }
+    {
+        match self.asked.paths.get(self.files.len()) {
+            Some(wanted) => Some(wanted.path.as_str()),
+            None => None,
+        }
+    }
+
+    /// The import that names the file that is to be read next. The program itself has none.
+    pub fn import(&self) -> Option<Place>
+        ensures { result ≡ option_and_then (λ wanted. wanted.import) (slice_get self.now.asked.paths.items (length self.now.files.items)) }
+    {
+        match self.asked.paths.get(self.files.len()) {
+            Some(wanted) => wanted.import,
+            None => None,
+        }
+    }
+
+    /// The files, by number. The program itself is number 0.
+    pub fn files(&self) -> &[SourceFile]
+        ensures files { result.now ≡ self.now.files.items }
+        ensures once { AreSources self.now → EachOnce (paths_of_files result.now) }
+        ensures whole { AreSources self.now → next_path self.now ≡ None → IsWhole result.now }
+    {
+        self.files.as_slice()
+    }
+
+    /// Takes the text of the file that is wanted. Where it is refused, the file is among those read, so that its
+    /// place can be told, and no other is to be given. Where none is wanted, nothing happens.
+    pub fn give(&mut self, text: &[u8]) -> Result<(), Stop>
+        requires { AreSources self.old }
+        ensures sources { OnOk result (AreSources self.new) }
+        ensures read { OnOk result (HasOneMore text.now self.old self.new) }
+        ensures refused { IfErr result (IsPlaced text.now self.new.files.items) }
+    {
+        let number = self.files.len();
+        let Some(wanted) = self.wanted() else {
+            return Ok(());
+        };
+        let path = String::from_str(self.alloc, wanted)?;
+        let read = read_text(self.alloc, text)?;
+        match numbers_of(self.alloc, &mut self.asked, number, path.as_str(), &read) {
+            Ok(imports) => {
+                self.files.push(file_of(path, read, imports))?;
+                Ok(())
+            }
+            Err(stop) => {
+                let imports = Vec::new(self.alloc);
+                self.files.push(file_of(path, read, imports))?;
+                Err(stop)
+            }
+        }
+    }
+}

@@ -1,0 +1,3 @@
+pub mod Causes
+pub mod Shown
+pub mod Spots

@@ -1,0 +1,12 @@
+#![tactic(auto)]
+//! The files of a program as they are read, and why there is no core program of them.
+
+mod shown;
+mod source;
+mod stop;
+mod why;
+
+pub use shown::shown_path;
+pub use source::{SourceFile, Spot};
+pub use stop::{Place, Refusal, Stop};
+pub use why::Why;
