@@ -10,6 +10,8 @@ error, and `status N`.
 - `pair`: of the rows of a second trace beside the given one, in the same way.
 - `explain`: of the rows of a trace, by one worker; what 3 say, and what `--all` says where no lines are left
   out, is told where it is something else. With `explain --all` it is what that says.
+- `cover`, `cover --list`: of the rows of a trace, by one worker; what 3 say, and what is said of the rows with
+  quotation marks, is told where it is something else.
 - `explain-pair`: of the rows of a second trace beside the given one, in the same way.
 - `explain-program`: of the text of a program alone.
 - `bundle`, `explain-bundle`: of a text on standard input.
@@ -133,6 +135,16 @@ def with_all(runs, texts, told):
     return b"" if every == told else b"with --all:\n" + every
 
 
+def covered(runs, case):
+    """What is told of a trace and of what it exercised."""
+    texts, table = texts_of(case), HEADERS["trace"] + case.text
+    told = whole(runs.ask("cover", [*texts, table], *case.words.split()))
+    by_three = whole(runs.ask("cover", [*texts, spread(table)], *case.words.split(), "--workers", "3"))
+    quoted = whole(runs.ask("cover", [*texts, re.sub(rb"(?m)^(\w+)", rb'"\1"', table)], *case.words.split()))
+    others = ((b"by 3 workers:\n", by_three), (b"with quotation marks:\n", quoted))
+    return told + b"".join(word + other for word, other in others if other != told)
+
+
 def explained(runs, case):
     """What is told of a trace and explains it."""
     table = HEADERS["trace"] + case.text
@@ -212,6 +224,7 @@ KINDS = {
     "judge-text": lambda runs, case: judged(runs, case, case.text),
     "pair": lambda runs, case: paired(runs, case, HEADERS["trace"] + case.text),
     "pair-text": lambda runs, case: paired(runs, case, case.text),
+    "cover": covered,
     "explain": explained,
     "explain-pair": explained_pair,
     "explain-program": lambda runs, case: whole(runs.ask("explain", [case.text])),

@@ -5,9 +5,9 @@ _lftrace() {
     [[ $word == = ]] && word=
     [[ $before == = ]] && before=${COMP_WORDS[COMP_CWORD - 2]}
     if [[ $COMP_CWORD -eq 1 ]]; then
-        choice="judge explain pair record show help -h --help -V --version"
+        choice="judge cover explain pair record show help -h --help -V --version"
     elif [[ $before == help ]]; then
-        choice="judge explain pair record show"
+        choice="judge cover explain pair record show"
     elif [[ $before == --workers ]]; then
         choice="1 2 4 8 16 32 64"
     elif [[ $before == --max-runs ]]; then
@@ -15,6 +15,7 @@ _lftrace() {
     elif [[ $word == -* ]]; then
         case ${COMP_WORDS[1]} in
             judge | pair) choice="--workers -h --help" ;;
+            cover) choice="--workers --list -h --help" ;;
             explain) choice="--workers --all -h --help" ;;
             record) choice="--workers --max-runs -h --help" ;;
             show) choice="-h --help" ;;

@@ -1,5 +1,5 @@
 #!/usr/bin/env python3
-"""measure.py judge|pair|workers LFTRACE BUILT FOLDER ROWS: measures what `bench/run` with that
+"""measure.py judge|cover|pair|workers LFTRACE BUILT FOLDER ROWS: measures what `bench/run` with that
 word built, and prints a table of ratios. bench/README.md tells what they mean.
 
 BUILT has the programs shapes, plain and csv; the tables are made in FOLDER once. From the
@@ -14,6 +14,7 @@ CORNERS = {
     "timers": "dense", "equal": "dense", "token": "pipelines", "overlaps": "sparse",
 }
 MOST_BY_CSV, MOST_BY_TENTH, MOST_BYTES, MOST_BY_ORDINARY = 2.5, 12, 110, 5
+MOST_BY_JUDGE = 1.5
 MOST_BY_DENSE = {"timers": 3, "equal": 3}
 
 # The rows of a small table.
@@ -154,6 +155,27 @@ def judge_all(options):
     print("goals missed:" if missed else "no goal missed", *missed, sep="\n  ")
 
 
+def cover_all(options):
+    """`lftrace cover --list` beside `lftrace judge`, in turn."""
+    form = "{:10} {:>8} {:>6} {:>7} {:>7} {:>8} {:>9} {:>13} {:>13}"
+    print(form.format("shape", "rows", "MB", "judge", "cover", "by judge", "busy by", "judge peak MB", "cover peak MB"))
+    missed = []
+    for shape in options.shapes:
+        tables = Tables(options, options.rows, shape)
+        words = tables.paths + ["--workers", options.workers]
+        judge, cover = (Run([options.lftrace, *command, *words]) for command in (["judge"], ["cover", "--list"]))
+        take_turns([judge, cover], options.turns)
+        if cover.said.split("\n")[0] + "\n" != judge.said:
+            print(f"{shape}: unlike {judge.said!r}")
+        by_judge = cover.wall / judge.wall
+        print(form.format(
+            shape, tables.rows, f"{sum(tables.bytes) / 1e6:.0f}", f"{judge.wall:.0f}", f"{cover.wall:.0f}", f"{by_judge:.2f}",
+            f"{cover.busy / judge.busy:.2f}", f"{judge.peak / 1e3:.0f}", f"{cover.peak / 1e3:.0f}"), flush=True)
+        if shape in ORDINARY and by_judge > MOST_BY_JUDGE:
+            missed.append(f"{shape}: by judge {by_judge:.2f}, at most {MOST_BY_JUDGE}")
+    print("goals missed:" if missed else "no goal missed", *missed, sep="\n  ")
+
+
 def pair_all(options):
     form = "{:10} {:>8} {:>6} {:>7} {:>7} {:>7} {:>12} {:>8} {:>9}"
     print(form.format("shape", "rows", "MB", "first", "second", "pair", "pair by both", "peak MB",
@@ -213,7 +235,7 @@ class Options:
 
 
 def main():
-    measures = {"judge": judge_all, "pair": pair_all, "workers": workers_all}
+    measures = {"judge": judge_all, "cover": cover_all, "pair": pair_all, "workers": workers_all}
     if len(sys.argv) != 6 or sys.argv[1] not in measures:
         sys.exit(__doc__)
     options = Options(sys.argv[1:])

@@ -28,6 +28,7 @@ FAULTS = {
 JUDGING = ("lex", "syntax", "program", "externals", "graph", "trace", "check", "write", "read", "memory")
 PARTS = {
     "judge": JUDGING,
+    "cover": JUDGING,
     "explain": JUDGING,
     "pair": JUDGING,
     "bundle": (*JUDGING, "bundle"),
@@ -49,6 +50,7 @@ BROKEN = "|".join(pattern(f"broken rule={rule} {RULES[rule]}{LINED if rule <= 5 
                   for rule in range(1, 11))
 LINES = {
     "judge": {0: r"accepted runs=\d+ tags=\d+\n", 1: f"({BROKEN})\n"},
+    "cover": {0: r"accepted runs=\d+ tags=\d+\n([^\n]*\n)*", 1: f"({BROKEN})\n"},
     "explain": {0: r"accepted runs=\d+ tags=\d+\n", 1: f"({BROKEN})\n\n([^\n]+\n|\n)+"},
     "pair": {0: r"same runs=\d+ tags=\d+\n", 1: f"((first|second) ({BROKEN})|{pattern('differ TAG reaction=NAME')})\n"},
     "show": {0: f"({pattern('port NAME origin=NAME after=NUMBER+NUMBER')}\n)*({pattern('reaction NAME level=NUMBER before=NAMES')}\n)*"},

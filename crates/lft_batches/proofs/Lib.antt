@@ -1,3 +1,4 @@
 pub mod Fronting
 pub mod Reading
 pub mod Sharing
+pub mod Counting

@@ -1,6 +1,7 @@
-//! Trace tables that are accepted from their texts.
+//! Trace tables that are accepted from their texts, and what they exercise.
 
-ghost use Rattle.std.specs.Prelude.{◌≡◌, ◌++◌, ◌+◌, ◌≤◌, ℕ, List, length, take, IfOk, IfSome, IsTrue};
+ghost use Rattle.std.specs.Prelude.{◌≡◌, ◌++◌, ◌+◌, ◌≤◌, ℕ, List, Some, length, slice_get, take, IfOk, IfSome, IsTrue};
+ghost use Rattle.lft_flat.specs.Parts.{Parts};
 ghost use Rattle.lft_steps.specs.Fits.{RowsFit};
 ghost use Rattle.lft_trace.specs.Records.{records_of};
 ghost use Rattle.lft_trace.specs.Telling.{rows_in};
@@ -8,9 +9,12 @@ ghost use Rattle.lft_trace.specs.Traces.{Table};
 ghost use Rattle.lft_steps.specs.declared.row.Row.{Row as TheRow};
 ghost use Rattle.lft_rows.specs.Accepted.{IsAccepted};
 ghost use Rattle.lft_stream.specs.Kept.{IsAcceptorOf};
-ghost use Rattle.lft_batches.specs.Fronts.{IsFront, IsNextBehind, judged_rows};
+ghost use Rattle.lft_counts.specs.Counts.{KeepsRows};
+ghost use Rattle.lft_counts.specs.Cover.{CoversRows};
+ghost use Rattle.lft_batches.specs.Fronts.{IsFront, IsNextBehind, IsWholeFront, judged_rows};
 
 use crate::rows::rows_together;
+use lft_counts::Cover;
 use lft_model::Plan;
 use lft_reading::{below_header, read_batch};
 use lft_steps::{Row, row_at};
@@ -25,6 +29,8 @@ const BYTES_OF_A_ROW: usize = 32;
 #[derive(Drop)]
 pub(crate) struct Front {
     acceptor: Acceptor,
+    /// What these rows exercise, where that is asked for.
+    cover: Option<Cover>,
     /// So many rows are judged, from the first on.
     judged: usize,
 }
@@ -37,6 +43,20 @@ impl Front {
     {
         Ok(Front {
             acceptor: Acceptor::new(alloc, plan)?,
+            cover: None,
+            judged: 0,
+        })
+    }
+
+    /// The same, and what the rows exercise is counted too.
+    pub(crate) fn counting(alloc: Global, plan: &Plan) -> Result<Front, NoMemory>
+        ensures stands { IfOk result (λ front. (body : List ℕ) → IsFront plan.now body front) }
+        ensures none { IfOk result (λ front. front.judged ≡ 0) }
+    {
+        let cover = Cover::new(alloc, plan.program(), plan.graph())?;
+        Ok(Front {
+            acceptor: Acceptor::new(alloc, plan)?,
+            cover: Some(cover),
             judged: 0,
         })
     }
@@ -55,6 +75,7 @@ impl Front {
         }
         if rows.len() > MAX_ROWS - self.judged
             || !add_rows(&mut self.acceptor, alloc, plan, body, self.judged, rows)
+            || !count_rows(&mut self.cover, plan, body, self.judged, rows)
         {
             return false;
         }
@@ -64,7 +85,8 @@ impl Front {
 
     /// The counts, where nothing is owed up to the stop.
     pub(crate) fn finish(&mut self, plan: &Plan) -> Option<Counts>
-        ensures { IfSome result (λ c. (t : List TheRow) → IsAcceptorOf plan.now t self.old.acceptor → IsAccepted plan.now t c.runs c.tags) }
+        ensures counts { IfSome result (λ c. (t : List TheRow) → IsAcceptorOf plan.now t self.old.acceptor → IsAccepted plan.now t c.runs c.tags) }
+        ensures cover { self.new.cover ≡ self.old.cover }
     {
         self.acceptor.finish(plan)
     }
@@ -90,6 +112,30 @@ fn add_rows(
     ensures { IsTrue result → IsAcceptorOf plan.now (take judged (rows_in plan.now.program body.now) ++ rows.now) acceptor.new }
 {
     acceptor.add(alloc, plan, rows)
+}
+
+/// Counts what rows exercise that come next in a trace and are judged, where that is asked for. It is false
+/// where memory is refused.
+// The plan and the text are passed for what the caller's contract says of the trace.
+fn count_rows(
+    cover: &mut Option<Cover>,
+    plan: &Plan,
+    body: &[u8],
+    judged: usize,
+    rows: &[Row],
+) -> bool
+    ghost of: { Parts × List TheRow }
+    requires ruled { KeepsRows of.1 }
+    requires next { (k : ℕ) (row : TheRow) → slice_get rows.now k ≡ Some row → slice_get of.1 (judged + k) ≡ Some row }
+    requires fit { RowsFit of.0 rows.now }
+    requires few { judged + length rows.now ≤ 4000000 }
+    requires covers { IfSome cover.old (CoversRows of.0 of.1 judged) }
+    ensures { IsTrue result → IfSome cover.new (CoversRows of.0 of.1 (judged + length rows.now)) }
+{
+    match cover {
+        Some(cover) => cover.add(rows).is_ok(),
+        None => true,
+    }
 }
 
 /// How many rows from the first on stand at the tag of the last one before.
@@ -167,19 +213,16 @@ pub(crate) fn add_batch(
     put_behind(Vec::new(alloc), &batch[begin..batch.len()])
 }
 
-/// The counts of a trace table whose rows are legal. The text is read a batch at a time, and no row
-/// is kept once its tag is judged.
-///
-/// None says nothing of the text: it may be no table, or have a quotation mark or another header than
-/// the plain one; its rows may break a rule; memory may be refused, or too much is to be looked at.
-pub fn accepts_text(alloc: Global, plan: &Plan, text: &[u8]) -> Option<Counts>
-    ensures { IfSome result (λ c. (rows : List TheRow) × Table plan.now.program (records_of text.now) rows × IsAccepted plan.now rows c.runs c.tags) }
+/// Goes over a trace table whose rows are legal so far, from before its first row. The text is read a batch
+/// at a time, and no row is kept once its tag is judged.
+fn go_over(alloc: Global, plan: &Plan, text: &[u8], front: Front) -> Option<Front>
+    requires stands { (body : List ℕ) → IsFront plan.now body front }
+    requires none { front.judged ≡ 0 }
+    ensures { IfSome result (IsWholeFront plan.now text.now) }
 {
     let body = below_header(text)?;
-    let Ok(mut front) = Front::new(alloc, plan) else {
-        return None;
-    };
     let bytes = batch_bytes(plan);
+    let mut front = front;
     let mut waiting = Vec::new(alloc);
     let mut rest = body;
     while !rest.is_empty() {
@@ -190,5 +233,33 @@ pub fn accepts_text(alloc: Global, plan: &Plan, text: &[u8]) -> Option<Counts>
     if !front.judge(alloc, plan, body, waiting.as_slice()) {
         return None;
     }
+    Some(front)
+}
+
+/// The counts of a trace table whose rows are legal. The text is read a batch at a time, and no row
+/// is kept once its tag is judged.
+///
+/// None says nothing of the text: it may be no table, or have a quotation mark or another header than
+/// the plain one; its rows may break a rule; memory may be refused, or too much is to be looked at.
+pub fn accepts_text(alloc: Global, plan: &Plan, text: &[u8]) -> Option<Counts>
+    ensures { IfSome result (λ c. (rows : List TheRow) × Table plan.now.program (records_of text.now) rows × IsAccepted plan.now rows c.runs c.tags) }
+{
+    let Ok(front) = Front::new(alloc, plan) else {
+        return None;
+    };
+    let mut front = go_over(alloc, plan, text, front)?;
     front.finish(plan)
+}
+
+/// What `accepts_text` does, and what the rows exercise, both in one pass.
+pub fn covers_text(alloc: Global, plan: &Plan, text: &[u8]) -> Option<(Counts, Cover)>
+    ensures { IfSome result (λ p. (rows : List TheRow) × Table plan.now.program (records_of text.now) rows × IsAccepted plan.now rows p.0.runs p.0.tags × CoversRows plan.now.program rows (length rows) p.1) }
+{
+    let Ok(front) = Front::counting(alloc, plan) else {
+        return None;
+    };
+    let mut front = go_over(alloc, plan, text, front)?;
+    let counts = front.finish(plan)?;
+    let cover = front.cover?;
+    Some((counts, cover))
 }

@@ -7,3 +7,4 @@ mod Toggling
 mod Running
 mod Overlapping
 mod Tallied
+pub mod Agreeing

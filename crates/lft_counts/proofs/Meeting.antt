@@ -8,15 +8,15 @@ use Rattle.lft_model.specs.Breaches.{WasStarted}
 use Rattle.lft_model.specs.Runs.{start_row}
 use Rattle.lft_model.proofs.Legality.{KeepsFour, four, rising, one_start}
 use Rattle.lft_counts.specs.declared.orders.Last.{Last}
-use Rattle.lft_counts.specs.Counts.{Count, more, same, IsLegal}
+use Rattle.lft_counts.specs.Counts.{Count, more, same, KeepsRows}
 use Rattle.lft_counts.specs.Orders.{IsLast, MeetsAt, ApartAt}
 
 pub same_row : (w v : ℕ) (g h : Tag) (r q : ℕ) → Some (start_row w g r) ≡ Some (start_row v h q) → (w ≡ v) × (g ≡ h) × (r ≡ q)
 same_row w v g h r q e = let z : start_row w g r ≡ start_row v h q = cc in (ap (λ (y : Row). y.worker) z, ap (λ (y : Row). y.tag) z, ap (λ (y : Row). y.reaction) z)
 
-module _ (t : List Row) (legal : IsLegal t) (i w : ℕ) (g : Tag) (r a : ℕ) (here : slice_get t i ≡ Some (start_row w g r)) where
-  well : KeepsFour legal.0 t
-  well = four legal.0 t legal.1.rows
+module _ (t : List Row) (ruled : KeepsRows t) (i w : ℕ) (g : Tag) (r a : ℕ) (here : slice_get t i ≡ Some (start_row w g r)) where
+  well : KeepsFour ruled.0 t
+  well = four ruled.0 t ruled.1
 
   -- an earlier start at this tag is the last one
   is_last_one : (l : Last) (is : IsLast t i a (Some l)) (j v : ℕ) → j < i → slice_get t j ≡ Some (start_row v g a) → (l.tag ≡ g) × (l.worker ≡ v)
@@ -26,10 +26,10 @@ module _ (t : List Row) (legal : IsLegal t) (i w : ℕ) (g : Tag) (r a : ℕ) (h
       go : Dec (is.0 < j) → Dec (j < is.0) → (l.tag ≡ g) × (l.worker ≡ v)
       go (yes p) q = absurd (is.3 j v g (omega arith) m e)
       go (no p) (yes q) =
-          let up = rising legal.0 t well j is.0 (start_row v g a) (start_row l.worker l.tag a) q e is.2 in
-          let down = rising legal.0 t well is.0 i (start_row l.worker l.tag a) (start_row w g r) is.1 is.2 here in
+          let up = rising ruled.0 t well j is.0 (start_row v g a) (start_row l.worker l.tag a) q e is.2 in
+          let down = rising ruled.0 t well is.0 i (start_row l.worker l.tag a) (start_row w g r) is.1 is.2 here in
           let s : l.tag ≡ g = UpTo_antisym l.tag g down up in
-          let f : is.0 ≡ j = one_start legal.0 t well is.0 j l.worker v g a (is.2 ∙ ap (λ (h : Tag). Some (start_row l.worker h a)) s) e in
+          let f : is.0 ≡ j = one_start ruled.0 t well is.0 j l.worker v g a (is.2 ∙ ap (λ (h : Tag). Some (start_row l.worker h a)) s) e in
           absurd (omega arith)
       go (no p) (no q) =
           let f : is.0 ≡ j = omega arith in

@@ -9,7 +9,7 @@ use Rattle.lft_steps.specs.declared.row.Row.{Row}
 use Rattle.lft_steps.specs.declared.row.Step.TheVariants.{Start, End}
 use Rattle.lft_model.specs.Runs.{start_row, end_row}
 use Rattle.lft_model.proofs.Places.{slice_get_within}
-use Rattle.lft_counts.specs.Counts.{Count, none, same, IsLegal, StartsAt, Runs, MeetsRun, Widens}
+use Rattle.lft_counts.specs.Counts.{Count, none, same, KeepsRows, StartsAt, Runs, MeetsRun, Widens}
 use Rattle.lft_counts.specs.Overlaps.{AreOpen, AreMet, AreWidths}
 use Rattle.lft_counts.proofs.Numbers.{count_added, count_taken, count_same, count_one, counts_none, counts_more, counts_same}
 use Rattle.lft_counts.proofs.Running.{start_is, not_running, runs_more, more_runs, ran, runs_no_more, runs_others, runs_kept}
@@ -60,10 +60,10 @@ module _ (t : List Row) (m i : ℕ) where
   pub no_start : (row : Row) → slice_get t i ≡ Some row → ¬ (row.step ≡ Start) → (b : ℕ) → StartsAt t b i → ⊥
   no_start row e n b x = let z : Some row ≡ Some (start_row x.0 x.1 b) = sym e ∙ x.2 in let y : row ≡ start_row x.0 x.1 b = cc in n (ap (λ (x : Row). x.step) y)
 
-  module _ (legal : IsLegal t) where
+  module _ (ruled : KeepsRows t) where
     module _ (w : ℕ) (g : Tag) (r : ℕ) (here : slice_get t i ≡ Some (start_row w g r)) (known : r < m) where
       pub open_more : (running new : List ℕ) (many : ℕ) → AreOpen t m i running many → length new ≡ length running → ((x : ℕ) → x ≢ r → Has new x ↔ Has running x) → ((Has running r → ⊥) → Has new r) → AreOpen t m (i + 1) new (many + 1)
-      open_more running new many so long others put = record { room = long ∙ so.room; right = right; number = count_added (Runs t i) (Runs t (i + 1)) r (not_running t i legal w g r here) (runs_more t i legal w g r here) (more_runs t i legal w g r here) known so.number }
+      open_more running new many so long others put = record { room = long ∙ so.room; right = right; number = count_added (Runs t i) (Runs t (i + 1)) r (not_running t i ruled w g r here) (runs_more t i ruled w g r here) (more_runs t i ruled w g r here) known so.number }
         where
           right : (x : ℕ) → Has new x ↔ Runs t (i + 1) x
           right x = go (ℕ_discrete x r)
@@ -73,8 +73,8 @@ module _ (t : List Row) (m i : ℕ) where
               out n (inr y) = y
 
               go : Dec (x ≡ r) → Has new x ↔ Runs t (i + 1) x
-              go (yes e) = (λ h. more_runs t i legal w g r here x (inl e), λ y. subst (Has new) (sym e) (put (λ h. not_running t i legal w g r here ((so.right r).0 h))))
-              go (no n) = (λ h. more_runs t i legal w g r here x (inr ((so.right x).0 ((others x n).0 h))), λ y. (others x n).1 ((so.right x).1 (out n (runs_more t i legal w g r here x y))))
+              go (yes e) = (λ h. more_runs t i ruled w g r here x (inl e), λ y. subst (Has new) (sym e) (put (λ h. not_running t i ruled w g r here ((so.right r).0 h))))
+              go (no n) = (λ h. more_runs t i ruled w g r here x (inr ((so.right x).0 ((others x n).0 h))), λ y. (others x n).1 ((so.right x).1 (out n (runs_more t i ruled w g r here x y))))
 
       pub met_more : (running : List ℕ) (many : ℕ) (met : List (List ℕ)) (set new : List ℕ) → slice_get met r ≡ Some set → length new ≡ length set → ((a : ℕ) → Has new a ↔ (Has set a ⊎ Has running a)) → AreOpen t m i running many → AreMet t m i met → AreMet t m (i + 1) (slice_set met r new)
       met_more running many met set new was long members opens so = record { as_long = length_written met r new ∙ so.as_long; room = λ b s e. room b s (cases b s e); right = λ b s e. right b s (cases b s e) }
@@ -106,7 +106,7 @@ module _ (t : List Row) (m i : ℕ) where
 
     module _ (w : ℕ) (g : Tag) (r : ℕ) (here : slice_get t i ≡ Some (end_row w g r)) (known : r < m) where
       taken : (many : ℕ) → Count (Runs t i) m many → (j : ℕ) × (many ≡ j + 1) × Count (Runs t (i + 1)) m j
-      taken many c = count_taken (Runs t i) (Runs t (i + 1)) r (ran t i legal w g r here) (runs_no_more t i legal w g r here) (λ a n x. (runs_others t i legal w g r here a n).1 x) (λ a n x. (runs_others t i legal w g r here a n).0 x) known c
+      taken many c = count_taken (Runs t i) (Runs t (i + 1)) r (ran t i ruled w g r here) (runs_no_more t i ruled w g r here) (λ a n x. (runs_others t i ruled w g r here a n).1 x) (λ a n x. (runs_others t i ruled w g r here a n).0 x) known c
 
       -- what ends was counted
       pub some_open : (running : List ℕ) (many : ℕ) → AreOpen t m i running many → 0 < many
@@ -116,14 +116,14 @@ module _ (t : List Row) (m i : ℕ) where
       open_less running new many less one so long others out = record { room = long ∙ so.room; right = right; number = let x = taken many so.number in let e = x.1 in subst (λ k. Count (Runs t (i + 1)) m k) (let s : x.0 ≡ less = omega (arith, e, one) in s) x.2 }
         where
           was : Has running r
-          was = (so.right r).1 (ran t i legal w g r here)
+          was = (so.right r).1 (ran t i ruled w g r here)
 
           right : (x : ℕ) → Has new x ↔ Runs t (i + 1) x
           right x = go (ℕ_discrete x r)
             where
               go : Dec (x ≡ r) → Has new x ↔ Runs t (i + 1) x
-              go (yes e) = (λ h. absurd (out was (subst (Has new) e h)), λ y. absurd (runs_no_more t i legal w g r here (subst (λ k. Runs t (i + 1) k) e y)))
-              go (no n) = (λ h. (runs_others t i legal w g r here x n).1 ((so.right x).0 ((others x n).0 h)), λ y. (others x n).1 ((so.right x).1 ((runs_others t i legal w g r here x n).0 y)))
+              go (yes e) = (λ h. absurd (out was (subst (Has new) e h)), λ y. absurd (runs_no_more t i ruled w g r here (subst (λ k. Runs t (i + 1) k) e y)))
+              go (no n) = (λ h. (runs_others t i ruled w g r here x n).1 ((so.right x).0 ((others x n).0 h)), λ y. (others x n).1 ((so.right x).1 ((runs_others t i ruled w g r here x n).0 y)))
 
 pub end_no_start : (row : Row) → row.step ≡ End → ¬ (row.step ≡ Start)
 end_no_start row e s = let z : End ≡ Start = sym e ∙ s in absurd (cc)

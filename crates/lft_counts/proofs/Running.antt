@@ -9,7 +9,7 @@ use Rattle.lft_steps.specs.declared.row.Step.TheVariants.{Start, End}
 use Rattle.lft_model.specs.Breaches.{IsOpen}
 use Rattle.lft_model.specs.Runs.{start_row, end_row}
 use Rattle.lft_model.proofs.Legality.{KeepsFour, four, rising, one_start, one_starter, opened, ended}
-use Rattle.lft_counts.specs.Counts.{IsLegal, Runs}
+use Rattle.lft_counts.specs.Counts.{KeepsRows, Runs}
 
 start_no_end : (w v : ℕ) (g h : Tag) (r a : ℕ) → Some (start_row w g r) ≡ Some (end_row v h a) → ⊥
 start_no_end w v g h r a e = let z : start_row w g r ≡ end_row v h a = cc in let s : Start ≡ End = ap (λ (x : Row). x.step) z in absurd (cc)
@@ -53,13 +53,13 @@ module _ (t : List Row) (i : ℕ) where
       no_end : (v : ℕ) (h : Tag) → slice_get t i ≡ Some (end_row v h a) → ⊥
       no_end v h f = let z : Some row ≡ Some (end_row v h a) = sym e ∙ f in let y : row ≡ end_row v h a = cc in m (ap (λ (x : Row). x.step) y)
 
-  module _ (legal : IsLegal t) where
-    well : KeepsFour legal.0 t
-    well = four legal.0 t legal.1.rows
+  module _ (ruled : KeepsRows t) where
+    well : KeepsFour ruled.0 t
+    well = four ruled.0 t ruled.1
 
     -- an open run ends at the row or behind it
     ends_later : (v : ℕ) (h : Tag) (a : ℕ) → IsOpen t i v h a → (k : ℕ) × (i ≤ k) × (slice_get t k ≡ Some (end_row v h a))
-    ends_later v h a o = go (ended legal.0 t legal.1.rows o.start v h a o.starts)
+    ends_later v h a o = go (ended ruled.0 t ruled.1 o.start v h a o.starts)
       where
         go : (k : ℕ) × (o.start < k) × (slice_get t k ≡ Some (end_row v h a)) → (k : ℕ) × (i ≤ k) × (slice_get t k ≡ Some (end_row v h a))
         go x = out (dec_lt x.0 i)
@@ -74,10 +74,10 @@ module _ (t : List Row) (i : ℕ) where
     one_open w v g h a o p =
         let x = ends_later w g a o in
         let y = ends_later v h a p in
-        let up = rising legal.0 t well o.start y.0 (start_row w g a) (end_row v h a) (let l = o.before in let m = y.1 in omega (arith, l, m)) o.starts y.2 in
-        let down = rising legal.0 t well p.start x.0 (start_row v h a) (end_row w g a) (let l = p.before in let m = x.1 in omega (arith, l, m)) p.starts x.2 in
+        let up = rising ruled.0 t well o.start y.0 (start_row w g a) (end_row v h a) (let l = o.before in let m = y.1 in omega (arith, l, m)) o.starts y.2 in
+        let down = rising ruled.0 t well p.start x.0 (start_row v h a) (end_row w g a) (let l = p.before in let m = x.1 in omega (arith, l, m)) p.starts x.2 in
         let e : g ≡ h = UpTo_antisym g h up down in
-        (one_starter legal.0 t well o.start p.start w v h a (o.starts ∙ ap (λ (k : Tag). Some (start_row w k a)) e) p.starts, e)
+        (one_starter ruled.0 t well o.start p.start w v h a (o.starts ∙ ap (λ (k : Tag). Some (start_row w k a)) e) p.starts, e)
 
     module _ (w : ℕ) (g : Tag) (r : ℕ) (here : slice_get t i ≡ Some (start_row w g r)) where
       -- what starts had no open run
@@ -87,10 +87,10 @@ module _ (t : List Row) (i : ℕ) where
           let o = x.2 in
           let y = ends_later x.0 x.1 r o in
           let past : i < y.0 = behind y.0 y.1 y.2 in
-          let up = rising legal.0 t well o.start i (start_row x.0 x.1 r) (start_row w g r) o.before o.starts here in
-          let down = rising legal.0 t well i y.0 (start_row w g r) (end_row x.0 x.1 r) past here y.2 in
+          let up = rising ruled.0 t well o.start i (start_row x.0 x.1 r) (start_row w g r) o.before o.starts here in
+          let down = rising ruled.0 t well i y.0 (start_row w g r) (end_row x.0 x.1 r) past here y.2 in
           let e : x.1 ≡ g = UpTo_antisym x.1 g up down in
-          let s : o.start ≡ i = one_start legal.0 t well o.start i x.0 w g r (o.starts ∙ ap (λ (k : Tag). Some (start_row x.0 k r)) e) here in
+          let s : o.start ≡ i = one_start ruled.0 t well o.start i x.0 w g r (o.starts ∙ ap (λ (k : Tag). Some (start_row x.0 k r)) e) here in
           let l = o.before in
           absurd (omega (arith, l, s))
         where
@@ -115,7 +115,7 @@ module _ (t : List Row) (i : ℕ) where
     module _ (w : ℕ) (g : Tag) (r : ℕ) (here : slice_get t i ≡ Some (end_row w g r)) where
       is_open : IsOpen t i w g r
       unfolding well
-      is_open = opened legal.0 t well i (end_row w g r) here tt
+      is_open = opened ruled.0 t well i (end_row w g r) here tt
 
       pub ran : Runs t i r
       ran = (w, g, is_open)

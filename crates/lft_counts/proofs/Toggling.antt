@@ -1,12 +1,14 @@
 -- A number put into a set, or taken out of it.
-use Rattle.std.proofs.Common.{zero, suc, [], ◌∷◌, ◌≤◌, ◌≡◌, ◌≢◌, ℕ, ◌+◌, ◌*◌, ◌/◌, ◌%◌, ◌^◌, ◌<◌, List, length, refl, sym, ap, ◌∙◌, arith}
-use Rattle.std.specs.Prelude.{◌↔◌, bit_xor, slice_set, slice_index}
+use Rattle.std.proofs.Common.{zero, suc, [], ◌∷◌, ◌≤◌, ◌≡◌, ◌≢◌, ℕ, ◌+◌, ◌*◌, ◌/◌, ◌%◌, ◌^◌, ◌<◌, List, length, length-set, refl, sym, ap, ◌∙◌, subst, arith}
+use Rattle.std.specs.Prelude.{◌↔◌, bit_or, bit_xor, slice_set, slice_index}
 use Rattle.std.specs.Int.{bit_at}
 use Rattle.std.proofs.lemmas.List.{get_or-set_same, get_or-set_other}
 use Rattle.std.proofs.Math.Pow.{shl_exact}
 use Rattle.std.proofs.lemmas.Nat.Bits.{bit_at_xor, bit_at-zero, bit_at-pow_same, bit_at-pow_other, bit_at-lt}
 use native.Mathlib.Decide.{ℕ_discrete, dec_lt}
+use Rattle.std.specs.Int.Bits.{or_zero_r}
 use Rattle.lft_graph.specs.Sets.{Has}
+use Rattle.lft_graph.proofs.Bits.{AreJoined}
 
 module _ (words : List ℕ) (x word : ℕ) (there : x / 64 < length words) (is_word : slice_index words (x / 64) ≡ word) where
   abbrev bit : ℕ
@@ -55,6 +57,10 @@ module _ (words : List ℕ) (x word : ℕ) (there : x / 64 < length words) (is_w
   pub toggle_taken : Has words x → Has new x → ⊥
   toggle_taken h k = let z = on in let a = at x refl in let b = before x refl in omega arith
 
+-- where a word is 0, none of its numbers is in the set
+pub none_in : (words : List ℕ) (k : ℕ) → slice_index words k ≡ 0 → (r : ℕ) → r / 64 ≡ k → Has words r → ⊥
+none_in words k e r at h = let z : bit_at (slice_index words (r / 64)) (r % 64) ≡ 0 = ap (λ w. bit_at w (r % 64)) (ap (slice_index words) at ∙ e) ∙ bit_at-zero (r % 64) in absurd (omega (arith, z, h))
+
 past : (words : List ℕ) (k : ℕ) → length words ≤ k → slice_index words k ≡ 0
 past [] k l = refl
 past (w ∷ ws) zero l = absurd (omega arith)
@@ -70,3 +76,34 @@ none_there words k l zeros r h = go (dec_lt (r / 64) k)
     go : Dec (r / 64 < k) → ⊥
     go (yes m) = off (zeros (r / 64) m)
     go (no n) = off (past words (r / 64) (omega arith))
+
+-- one word more is joined with that of another set
+pub joined_more : (k : ℕ) (old other new next : List ℕ) (word : ℕ) → slice_index other k ≡ word → k < length new → next ≡ slice_set new k (bit_or (slice_index new k) word) → AreJoined k old other new → AreJoined (k + 1) old other next
+joined_more k old other new next word is there set so = record { as_long = ap (λ (ws : List ℕ). length ws) set ∙ length-set new k (bit_or (slice_index new k) word) ∙ so.as_long; joined = joined; kept = kept }
+  where
+    put : slice_index next k ≡ bit_or (slice_index new k) word
+    put = ap (λ (ws : List ℕ). slice_index ws k) set ∙ get_or-set_same new k (bit_or (slice_index new k) word) 0 there
+
+    other_word : (j : ℕ) → j ≢ k → slice_index next j ≡ slice_index new j
+    other_word j n = ap (λ (ws : List ℕ). slice_index ws j) set ∙ get_or-set_other new k j (bit_or (slice_index new k) word) 0 n
+
+    joined : (j : ℕ) → j < k + 1 → slice_index next j ≡ bit_or (slice_index old j) (slice_index other j)
+    joined j l = go (ℕ_discrete j k)
+      where
+        go : Dec (j ≡ k) → slice_index next j ≡ bit_or (slice_index old j) (slice_index other j)
+        go (yes e) = subst (λ i. slice_index next i ≡ bit_or (slice_index old i) (slice_index other i)) (sym e) (put ∙ ap (λ w. bit_or w word) (so.kept k (omega arith)) ∙ ap (λ w. bit_or (slice_index old k) w) (sym is))
+        go (no n) = other_word j n ∙ so.joined j (omega arith)
+
+    kept : (j : ℕ) → k + 1 ≤ j → slice_index next j ≡ slice_index old j
+    kept j l = other_word j (λ e. absurd (omega (arith, e, l))) ∙ so.kept j (omega arith)
+
+-- a word that is 0 joins nothing
+pub joined_none : (k : ℕ) (old other new : List ℕ) → slice_index other k ≡ 0 → AreJoined k old other new → AreJoined (k + 1) old other new
+joined_none k old other new none so = record { as_long = so.as_long; joined = joined; kept = λ j l. so.kept j (omega arith) }
+  where
+    joined : (j : ℕ) → j < k + 1 → slice_index new j ≡ bit_or (slice_index old j) (slice_index other j)
+    joined j l = go (ℕ_discrete j k)
+      where
+        go : Dec (j ≡ k) → slice_index new j ≡ bit_or (slice_index old j) (slice_index other j)
+        go (yes e) = subst (λ i. slice_index new i ≡ bit_or (slice_index old i) (slice_index other i)) (sym e) (so.kept k (omega arith) ∙ sym (or_zero_r (slice_index old k)) ∙ ap (λ w. bit_or (slice_index old k) w) (sym none))
+        go (no n) = so.joined j (omega arith)

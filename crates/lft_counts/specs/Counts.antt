@@ -6,8 +6,9 @@ use Rattle.lft_flat.specs.declared.parts.Value.{Value}
 use Rattle.lft_flat.specs.declared.parts.Name.TheVariants.{Port}
 use Rattle.lft_steps.specs.declared.row.Row.{Row}
 use Rattle.lft_steps.specs.declared.row.Step.TheVariants.{Write}
+use Rattle.lft_model.specs.declared.breach.Breach.{Breach}
 use Rattle.lft_model.specs.Plans.{PlanParts}
-use Rattle.lft_model.specs.Breaches.{Legal, IsOpen}
+use Rattle.lft_model.specs.Breaches.{RowBreach, IsOpen}
 use Rattle.lft_model.specs.Runs.{start_row}
 
 -- n is the number of the places below k at which P holds
@@ -20,9 +21,9 @@ pub data Count (P : ℕ → Type 0) : ℕ → ℕ → Type 0 where
 abbrev pub AreCounts : (ℕ → ℕ → Type 0) → ℕ → List ℕ → Type 0
 AreCounts P i counts = (x n : ℕ) → slice_get counts x ≡ Some n → Count (P x) i n
 
--- a trace that is legal under some plan
-abbrev pub IsLegal : List Row → Type 0
-IsLegal t = (plan : PlanParts) × Legal plan t
+-- no row of the trace breaks one of the rules 1 to 5, under some plan
+abbrev pub KeepsRows : List Row → Type 0
+KeepsRows t = (plan : PlanParts) × ((b : Breach) → ¬ RowBreach plan t b)
 
 -- how far a trace of a program is gone through: the rows before a place
 pub record Here : Type 0 where

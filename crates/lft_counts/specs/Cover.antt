@@ -1,7 +1,7 @@
 -- All counts of a trace, and whose orders they are.
 use Rattle.std.specs.Prelude.{◌≡◌, ℕ, List, map, length}
 use Rattle.lft_flat.specs.Parts.{Parts}
-use Rattle.lft_graph.specs.Graph.{GraphParts}
+use Rattle.lft_graph.specs.Graph.{GraphParts, IsGraphOf}
 use Rattle.lft_steps.specs.declared.row.Row.{Row}
 use Rattle.lft_counts.specs.declared.cover.Counting.{Counting}
 use Rattle.lft_counts.specs.declared.cover.Cover.{Cover}
@@ -23,7 +23,16 @@ pub record IsCover (program : Parts) (t : List Row) (cover : Cover) : Type 0 whe
   pub counted : IsCounting program t cover.rows cover.counting
   pub met : Stands t (length program.reactions) cover.rows cover.orders
   pub overlapped : Overlap t (length program.reactions) cover.rows cover.overlaps
+  pub inputs : length cover.inputs.items ≡ length program.reactions
 
 -- the orders are those of the short lists of a graph, in order
 abbrev pub IsListed : GraphParts → Cover → Type 0
 IsListed graph cover = map cleared cover.orders.all.items ≡ orders_from 0 graph.before
+
+-- the counts are those of the first n rows, and the orders are those of the program's graph
+pub record CoversRows (program : Parts) (t : List Row) (n : ℕ) (cover : Cover) : Type 0 where
+  pub counts : IsCover program t cover
+  pub rows : cover.rows ≡ n
+  pub graph : GraphParts
+  pub is_graph : IsGraphOf program graph
+  pub listed : IsListed graph cover

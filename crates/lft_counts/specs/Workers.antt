@@ -10,6 +10,10 @@ use Rattle.lft_counts.specs.Counts.{Count, StartsBy}
 abbrev pub runs_by : Workers → ℕ → ℕ
 runs_by workers w = unwrap_or (map.get nat_cmp workers.counts w) 0
 
+-- the workers that start runs, each with how many, in the order of their numbers
+abbrev pub by_number : Workers → List (ℕ × ℕ)
+by_number workers = workers.counts.entries
+
 -- of each worker the starts of its runs before place i
 abbrev pub AreByWorker : List Row → ℕ → Workers → Type 0
 AreByWorker t i workers = (w : ℕ) → Count (StartsBy t w) i (runs_by workers w)

@@ -52,7 +52,12 @@ impl Bits {
         ensures members { (r : ℕ) → Has self.new r ↔ (Has self.old r ⊎ Has other.now r) }
     {
         for place in 0..other.words.len() {
-            self.words[place] |= other.words[place];
+            let word = item_at(other.words.as_slice(), place);
+            // Most words of a large set are 0. There this set stays untouched, which may be far from the
+            // processor.
+            if word != 0 {
+                self.words[place] |= word;
+            }
         }
     }
 
@@ -63,6 +68,14 @@ impl Bits {
     {
         let word = item_at(self.words.as_slice(), number as usize / 64);
         (word >> (number % 64)) % 2 == 1
+    }
+
+    /// Whether none of 64 numbers is in the set: those from 64 times the word on.
+    pub(crate) fn has_none(&self, word: usize) -> bool
+        requires { word < length self.now }
+        ensures { IsTrue result → (r : ℕ) → r / 64 ≡ word → Has self.now r → ⊥ }
+    {
+        item_at(self.words.as_slice(), word) == 0
     }
 
     /// Whether no number is in the set.

@@ -1,4 +1,4 @@
-//! All counts of a legal trace, row by row.
+//! All counts of a trace, row by row.
 
 ghost use Rattle.std.specs.Prelude.{◌≡◌, ◌+◌, ◌≤◌, ◌<◌, ℕ, List, Some, IfOk, OnOk, IfSome, IfNone, length, map, slice_get};
 ghost use Rattle.lft_graph.specs.Graph.{IsGraphOf};
@@ -8,10 +8,11 @@ ghost use Rattle.lft_flat.specs.declared.parts.Name.TheVariants.{Port};
 ghost use Rattle.lft_steps.specs.Fits.{RowFits, RowsFit};
 ghost use Rattle.lft_steps.specs.declared.row.Row.{Row as TheRow};
 ghost use Rattle.lft_steps.specs.declared.row.Step.TheVariants.{Write};
-ghost use Rattle.lft_counts.specs.Counts.{Here, IsLegal};
+ghost use Rattle.lft_counts.specs.Counts.{Here, KeepsRows};
 ghost use Rattle.lft_counts.specs.Orders.{cleared};
 ghost use Rattle.lft_counts.specs.Cover.{IsCounting, IsCover, IsListed};
 
+use crate::inputs::{Inputs, add_row, all_inputs};
 use crate::orders::Orders;
 use crate::overlaps::Overlaps;
 use crate::tally::Tally;
@@ -38,6 +39,8 @@ pub struct Cover {
     pub counting: Counting,
     pub orders: Orders,
     pub overlaps: Overlaps,
+    /// Of each reaction which inputs were present together. No promise says that they are right.
+    pub inputs: Vec<Inputs>,
     /// So many rows are gone through.
     pub rows: usize,
 }
@@ -101,10 +104,12 @@ impl Cover {
         let counting = Counting::new(alloc, program)?;
         let orders = Orders::new(alloc, program, graph)?;
         let overlaps = Overlaps::new(alloc, program.reactions())?;
+        let inputs = all_inputs(alloc, program)?;
         Ok(Cover {
             counting,
             orders,
             overlaps,
+            inputs,
             rows: 0,
         })
     }
@@ -112,7 +117,7 @@ impl Cover {
     /// Goes on past a row.
     fn step(&mut self, row: Row) -> Result<(), NoMemory>
         ghost here: { Here }
-        requires legal { IsLegal here.trace }
+        requires ruled { KeepsRows here.trace }
         requires row { slice_get here.trace here.place ≡ Some row }
         requires few { here.place < 4000000 }
         requires fits { RowFits here.program row }
@@ -124,6 +129,7 @@ impl Cover {
         self.counting.add(row)?;
         self.orders.add(row);
         self.overlaps.add(row);
+        add_row(&mut self.inputs, row);
         self.rows += 1;
         Ok(())
     }
@@ -131,7 +137,7 @@ impl Cover {
     /// Goes on past rows that come next in the trace.
     pub fn add(&mut self, rows: &[Row]) -> Result<(), NoMemory>
         ghost of: { Parts × List TheRow }
-        requires legal { IsLegal of.1 }
+        requires ruled { KeepsRows of.1 }
         requires next { (k : ℕ) (row : TheRow) → slice_get rows.now k ≡ Some row → slice_get of.1 (self.old.rows + k) ≡ Some row }
         requires fit { RowsFit of.0 rows.now }
         requires few { self.old.rows + length rows.now ≤ 4000000 }

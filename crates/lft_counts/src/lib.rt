@@ -1,9 +1,10 @@
 #![tactic(auto)]
-//! How often something holds in a legal trace, counted row by row: runs, writes, orders that are met, runs
-//! that are open together.
+//! How often something holds in a trace, counted row by row: runs, writes, orders that are met, runs that are
+//! open together. No row of the trace may break one of the rules 1 to 5.
 
 mod bits;
 mod cover;
+mod inputs;
 mod many;
 mod orders;
 mod overlaps;
@@ -11,6 +12,7 @@ mod tally;
 mod workers;
 
 pub use cover::{Counting, Cover};
+pub use inputs::{Input, Inputs};
 pub use many::how_many;
 pub use orders::{Last, Order, Orders};
 pub use overlaps::Overlaps;

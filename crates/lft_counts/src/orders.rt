@@ -4,7 +4,7 @@ ghost use Rattle.lft_graph.specs.Graph.{IsGraphOf};
 ghost use Rattle.std.specs.Prelude.{IfOk, OnOk, None, replicate, map, ◌≡◌, ◌++◌, ◌+◌, ◌<◌, ◌≤◌, ℕ, List, Some, length, slice_get};
 ghost use Rattle.lft_steps.specs.declared.row.Row.{Row as TheRow};
 ghost use Rattle.lft_model.specs.Runs.{start_row};
-ghost use Rattle.lft_counts.specs.Counts.{Count, Here, IsLegal};
+ghost use Rattle.lft_counts.specs.Counts.{Count, Here, KeepsRows};
 ghost use Rattle.lft_counts.specs.Orders.{IsApart, IsCounted, IsHeld, IsLast, Stands, cleared, orders_from, unmet};
 
 use lft_flat::Program;
@@ -38,7 +38,7 @@ impl Order {
         requires apart { self.apart < 4000000 }
         ensures first { result.first ≡ self.first }
         ensures then { result.then ≡ self.then }
-        ensures counted { (t : List TheRow) (i : ℕ) → IsLegal t → slice_get t i ≡ Some (start_row worker tag self.then) → IsLast t i self.first last → IsCounted t i self → IsCounted t (i + 1) result }
+        ensures counted { (t : List TheRow) (i : ℕ) → KeepsRows t → slice_get t i ≡ Some (start_row worker tag self.then) → IsLast t i self.first last → IsCounted t i self → IsCounted t (i + 1) result }
     {
         let mut order = self;
         if let Some(start) = last {
@@ -108,7 +108,7 @@ impl Orders {
     /// Goes on past a row that starts a run.
     fn start(&mut self, tag: Tag, worker: u32, reaction: u32)
         ghost here: { Here }
-        requires legal { IsLegal here.trace }
+        requires ruled { KeepsRows here.trace }
         requires stands { Stands here.trace (length here.program.reactions) here.place self.old }
         requires row { slice_get here.trace here.place ≡ Some (start_row worker tag reaction) }
         requires few { here.place < 4000000 }
@@ -129,7 +129,7 @@ impl Orders {
     /// Goes on past a row.
     pub fn add(&mut self, row: Row)
         ghost here: { Here }
-        requires legal { IsLegal here.trace }
+        requires ruled { KeepsRows here.trace }
         requires stands { Stands here.trace (length here.program.reactions) here.place self.old }
         requires row { slice_get here.trace here.place ≡ Some row }
         requires few { here.place < 4000000 }

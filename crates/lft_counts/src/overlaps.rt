@@ -4,7 +4,7 @@ ghost use Rattle.std.specs.Prelude.{◌≡◌, ◌+◌, ◌<◌, ◌/◌, ℕ, L
 ghost use Rattle.lft_graph.specs.Sets.{Has};
 ghost use Rattle.lft_steps.specs.declared.row.Row.{Row as TheRow};
 ghost use Rattle.lft_steps.specs.declared.row.Step.TheVariants.{Start, End};
-ghost use Rattle.lft_counts.specs.Counts.{Here, IsLegal};
+ghost use Rattle.lft_counts.specs.Counts.{Here, KeepsRows};
 ghost use Rattle.lft_counts.specs.Overlaps.{Overlap, met_by};
 
 use crate::bits::Bits;
@@ -57,7 +57,7 @@ impl Overlaps {
     /// Goes on past a row that starts a run.
     fn start(&mut self, row: Row)
         ghost here: { Here }
-        requires legal { IsLegal here.trace }
+        requires ruled { KeepsRows here.trace }
         requires stands { Overlap here.trace (length here.program.reactions) here.place self.old }
         requires row { slice_get here.trace here.place ≡ Some row }
         requires few { here.place < 4000000 }
@@ -74,7 +74,7 @@ impl Overlaps {
     /// Goes on past a row that ends a run.
     fn end(&mut self, row: Row)
         ghost here: { Here }
-        requires legal { IsLegal here.trace }
+        requires ruled { KeepsRows here.trace }
         requires stands { Overlap here.trace (length here.program.reactions) here.place self.old }
         requires row { slice_get here.trace here.place ≡ Some row }
         requires reaction { row.reaction < length here.program.reactions }
@@ -88,7 +88,7 @@ impl Overlaps {
     /// Goes on past a row.
     pub fn add(&mut self, row: Row)
         ghost here: { Here }
-        requires legal { IsLegal here.trace }
+        requires ruled { KeepsRows here.trace }
         requires stands { Overlap here.trace (length here.program.reactions) here.place self.old }
         requires row { slice_get here.trace here.place ≡ Some row }
         requires few { here.place < 4000000 }
@@ -116,6 +116,16 @@ impl Overlaps {
         ensures { IsTrue result ↔ Has (met_by self.now reaction) other }
     {
         self.met[reaction as usize].has(other)
+    }
+
+    /// Whether none of 64 reactions had an open run when a run of this one started: those from 64 times the
+    /// word on.
+    pub fn has_none(&self, reaction: u32, word: usize) -> bool
+        requires reaction { reaction < length self.now.met.items }
+        requires word { word < length (met_by self.now reaction) }
+        ensures { IsTrue result → (r : ℕ) → r / 64 ≡ word → Has (met_by self.now reaction) r → ⊥ }
+    {
+        self.met[reaction as usize].has_none(word)
     }
 
     /// Whether no reaction had an open run when a run of this one started.

@@ -1,8 +1,8 @@
 //! How many runs each worker starts.
 
-ghost use Rattle.std.specs.Prelude.{◌≡◌, ◌+◌, ◌<◌, ◌==◌, ℕ, cond, OnOk, Some, slice_get};
+ghost use Rattle.std.specs.Prelude.{◌≡◌, ◌+◌, ◌<◌, ◌==◌, ℕ, cond, IfOk, OnOk, Some, slice_get};
 ghost use Rattle.lft_steps.specs.declared.row.Row.{Row as TheRow};
-ghost use Rattle.lft_counts.specs.Workers.{runs_by};
+ghost use Rattle.lft_counts.specs.Workers.{by_number, runs_by};
 
 use lft_tag::NoMemory;
 use std::alloc::Global;
@@ -45,5 +45,16 @@ impl Workers {
             Ok(_) => Ok(()),
             Err(_) => Err(NoMemory),
         }
+    }
+
+    /// The workers that start runs, each with how many, in the order of their numbers.
+    pub fn list(&self, alloc: Global) -> Result<Vec<(u32, u64)>, NoMemory>
+        ensures { IfOk result (λ all. all.items ≡ by_number self.now) }
+    {
+        let mut all = Vec::new(alloc);
+        for (worker, runs) in self.counts.iter() {
+            all.push((*worker, *runs))?;
+        }
+        Ok(all)
     }
 }

@@ -8,6 +8,7 @@ use Rattle.lft_counts.specs.declared.orders.Order.{Order}
 use Rattle.lft_counts.specs.declared.cover.Cover.{Cover}
 use Rattle.lft_counts.specs.declared.overlaps.Overlaps.{Overlaps}
 use Rattle.lft_counts.specs.Overlaps.{met_by}
+use Rattle.lft_counts.specs.Workers.{by_number}
 
 -- `reaction X runs=N`: a reaction's number, and how many runs it has
 abbrev pub run_line : Parts → ℕ × ℕ → List ℕ
@@ -29,6 +30,10 @@ order_line program x = codes "order " ++ reaction_words program x.first ++ codes
 abbrev pub width_line : ℕ × ℕ → List ℕ
 width_line d = if nat_eq d.1 0 then [] else codes "open " ++ decimal d.0 ++ codes " starts=" ++ decimal d.1 ++ codes "\n"
 
+-- `worker W runs=N`: a worker's number, and how many runs it starts
+abbrev pub worker_line : ℕ × ℕ → List ℕ
+worker_line d = codes "worker " ++ decimal d.0 ++ codes " runs=" ++ decimal d.1 ++ codes "\n"
+
 -- the test of reaction a being in the set of these words
 abbrev pub has : List ℕ → ℕ → Bool
 has set a = bit_at (slice_index set (a / 64)) (a % 64) == 1
@@ -46,12 +51,12 @@ pub record HasSets (program : Parts) (overlaps : Overlaps) : Type 0 where
 abbrev pub pair_lines : Parts → Overlaps → ℕ → List ℕ
 pair_lines program overlaps b = flat_map (λ d. pair_words program (has (met_by overlaps b) d.0) d.0 b) (enumerate_from 0 program.reactions)
 
--- the facts of a cover: of each reaction, of each port that no connection feeds, of each order, of each two reactions that met, and of each number of open runs
+-- the facts of a cover: of each reaction, of each port that no connection feeds, of each order, of each two reactions that met, of each number of open runs, and of each worker
 abbrev pub fact_lines : Parts → Cover → List ℕ
 fact_lines program cover =
     flat_map (run_line program) (enumerate_from 0 cover.counting.runs) ++ flat_map (write_line program) (enumerate_from 0 cover.counting.writes)
     ++ flat_map (order_line program) cover.orders.all.items ++ flat_map (λ d. pair_lines program cover.overlaps d.0) (enumerate_from 0 program.reactions)
-    ++ flat_map width_line (enumerate_from 0 cover.overlaps.widths)
+    ++ flat_map width_line (enumerate_from 0 cover.overlaps.widths) ++ flat_map worker_line (by_number cover.counting.workers)
 
 -- the cover has a count for each reaction and port of the program, and a set with room for all reactions for each reaction
 pub record HasCounts (program : Parts) (cover : Cover) : Type 0 where

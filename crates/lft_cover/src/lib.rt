@@ -1,6 +1,13 @@
 #![tactic(auto)]
-//! What an accepted trace exercised, as text.
+//! What an accepted trace exercised, as text: one fact a line, or for people.
 
+mod closure;
+mod inputs;
+mod least;
 mod listing;
+mod pairs;
+mod sums;
+mod telling;
 
 pub use listing::push_facts;
+pub use telling::push_told;

@@ -2,13 +2,15 @@
 
 ghost use Rattle.std.specs.Prelude.{◌≡◌, ◌++◌, ◌<◌, ◌≤◌, ℕ, flat_map, length, OnOk, string_bytes};
 ghost use Rattle.std.specs.List.{enumerate_from};
-ghost use Rattle.lft_cover.specs.Facts.{HasSets, HasCounts, fact_lines, order_line, pair_lines, pair_words, run_line, width_line, write_line};
+ghost use Rattle.lft_cover.specs.Facts.{HasSets, HasCounts, fact_lines, order_line, pair_lines, pair_words, run_line, width_line, worker_line, write_line};
+ghost use Rattle.lft_counts.specs.Workers.{by_number};
 
-use lft_counts::{Cover, Order, Overlaps};
+use lft_counts::{Cover, Order, Overlaps, Workers};
 use lft_flat::Program;
 use lft_lists::item_at;
+use lft_tag::NoMemory;
 use lft_words::{push_number, push_port, push_reaction};
-use std::alloc::AllocError;
+use std::alloc::{AllocError, Global};
 
 /// Puts the line of a reaction at the end of a text.
 fn push_run(
@@ -198,8 +200,37 @@ fn push_pairs(text: &mut String, program: &Program, overlaps: &Overlaps) -> Resu
     Ok(())
 }
 
+/// Puts the line of a worker at the end of a text.
+fn push_worker(text: &mut String, worker: u32, runs: u64) -> Result<(), AllocError>
+    ensures { OnOk result (string_bytes text.new ≡ string_bytes text.old ++ worker_line (worker, runs)) }
+{
+    text.push_str("worker ")?;
+    push_number(text, u64::from(worker))?;
+    text.push_str(" runs=")?;
+    push_number(text, runs)?;
+    text.push_str("\n")?;
+    Ok(())
+}
+
+/// Puts the lines of all workers that start runs at the end of a text.
+fn push_workers(text: &mut String, alloc: Global, workers: &Workers) -> Result<(), NoMemory>
+    ensures { OnOk result (string_bytes text.new ≡ string_bytes text.old ++ flat_map worker_line (by_number workers.now)) }
+{
+    let all = workers.list(alloc)?;
+    for place in 0..all.len() {
+        let (worker, runs) = item_at(all.as_slice(), place);
+        push_worker(text, worker, runs)?;
+    }
+    Ok(())
+}
+
 /// Puts what was exercised at the end of a text, one fact a line.
-pub fn push_facts(text: &mut String, program: &Program, cover: &Cover) -> Result<(), AllocError>
+pub fn push_facts(
+    text: &mut String,
+    alloc: Global,
+    program: &Program,
+    cover: &Cover,
+) -> Result<(), NoMemory>
     requires { HasCounts program.now cover.now }
     ensures { OnOk result (string_bytes text.new ≡ string_bytes text.old ++ fact_lines program.now cover.now) }
 {
@@ -208,5 +239,6 @@ pub fn push_facts(text: &mut String, program: &Program, cover: &Cover) -> Result
     push_orders(text, program, cover.orders.as_slice())?;
     push_pairs(text, program, &cover.overlaps)?;
     push_widths(text, cover.overlaps.widths())?;
+    push_workers(text, alloc, &cover.counting.workers)?;
     Ok(())
 }

@@ -92,8 +92,8 @@ fn checked<R: Threads + Sync>(
     }
 }
 
-/// The verdict on rows by so many workers.
-pub(crate) fn verdict_of<R: Threads + Sync>(
+/// The verdict on rows by so many workers, 1 to 64. The fault is that of the checker.
+pub fn verdict_of<R: Threads + Sync>(
     rt: &R,
     alloc: Global,
     plan: &Plan,

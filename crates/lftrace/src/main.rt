@@ -4,6 +4,7 @@
 mod words;
 
 use crate::words::{Job, JudgeWords, PairWords, RecordWords, read_words};
+use lft_covering::cover_answer;
 use lft_front::{
     Fault, Part, bundle_answer, explain_answer, explain_bundle_answer, explain_pair_answer, finish,
     judge_answer, pair_answer, read_input, refusal_of_bundle, refusal_of_pair_texts,
@@ -94,6 +95,30 @@ fn judge_files<F: Files + Threads + Sync, W: Write>(
         externals.as_slice(),
         trace.as_slice(),
         workers_for(words.workers, trace.len()),
+        out,
+    )?;
+    Ok(answer)
+}
+
+/// Judges the trace of three files, all of which are read first, and counts what it exercised.
+fn cover_files<F: Files + Threads + Sync, W: Write>(
+    rt: &F,
+    alloc: Global,
+    words: JudgeWords<'_>,
+    list: bool,
+    out: &mut W,
+) -> Result<bool, Refusal> {
+    let program = read_file(rt, alloc, words.program)?;
+    let externals = read_file(rt, alloc, words.externals)?;
+    let trace = read_file(rt, alloc, words.trace)?;
+    let answer = cover_answer(
+        rt,
+        alloc,
+        program.as_slice(),
+        externals.as_slice(),
+        trace.as_slice(),
+        workers_for(words.workers, trace.len()),
+        list,
         out,
     )?;
     Ok(answer)
@@ -322,7 +347,7 @@ fn words_for(job: Job<'_>, answer: &Result<bool, Refusal>) -> Option<&'static st
         return refusal.cause;
     }
     match job {
-        Job::Bundle | Job::Judge(_) | Job::Pair(_) if has_more(answer) => {
+        Job::Bundle | Job::Judge(_) | Job::Cover { .. } | Job::Pair(_) if has_more(answer) => {
             Some("`lftrace explain` with the same texts tells why")
         }
         Job::Record(_) | Job::Show(_) if has_more_of_program(answer) => {
@@ -394,6 +419,7 @@ fn main(rt: HostRuntime) -> ExitCode {
             judge_bundle(alloc, &mut rt.stdin(), &mut out)
         }
         Job::Judge(words) => judge_files(&rt, alloc, words, &mut out),
+        Job::Cover { words, list } => cover_files(&rt, alloc, words, list, &mut out),
         Job::Explain { words, all } => explain_files(&rt, alloc, words, all, &mut out),
         Job::ExplainBundle { all } => {
             await_bundle(&rt);

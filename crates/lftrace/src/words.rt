@@ -15,6 +15,13 @@ TRACE has the header      event,worker,time,microstep,reaction,name,value,delay
 Times are in nanoseconds. Words are paths of files; /dev/stdin is standard input.
 Printed: accepted runs=R tags=G (status 0), or broken rule=N .. (status 1).";
 
+const COVER_HELP: &str = "\
+EXTERNALS has the header  kind,time,microstep,name,value
+TRACE has the header      event,worker,time,microstep,reaction,name,value,delay
+Times are in nanoseconds. Words are paths of files; /dev/stdin is standard input.
+Printed: the line of judge, with its status; behind accepted .. what the trace
+exercised of the program and of the scheduler. With --list one fact a line.";
+
 const EXPLAIN_HELP: &str = "\
 EXTERNALS has the header  kind,time,microstep,name,value
 TRACE has the header      event,worker,time,microstep,reaction,name,value,delay
@@ -82,6 +89,8 @@ pub enum Job<'a> {
     /// To judge a bundle from standard input.
     Bundle,
     Judge(JudgeWords<'a>),
+    /// To judge, and to tell what an accepted trace exercised: for people, or one fact a line.
+    Cover { words: JudgeWords<'a>, list: bool },
     /// To judge, and to tell the facts behind a broken rule: all, or the first of them.
     Explain { words: JudgeWords<'a>, all: bool },
     /// The same of a bundle from standard input.
@@ -136,6 +145,22 @@ fn judge_command<'a>(alloc: Global) -> Result<Command<'a>, Error> {
         .arg(path(alloc, "TRACE", "the trace table"))?
         .arg(workers(alloc, JUDGES))?
         .after_help(JUDGE_HELP);
+    Ok(command)
+}
+
+fn cover_command<'a>(alloc: Global) -> Result<Command<'a>, Error> {
+    let list = Arg::new(alloc, "list")
+        .long("list")
+        .action(ArgAction::SetTrue)
+        .help("one fact a line, for scripts");
+    let command = Command::new(alloc, "cover")
+        .about("Judges a recorded trace, and counts what it exercised of its program")
+        .arg(path(alloc, "PROGRAM", "the program's text"))?
+        .arg(path(alloc, "EXTERNALS", "the table of external inputs"))?
+        .arg(path(alloc, "TRACE", "the trace table"))?
+        .arg(workers(alloc, JUDGES))?
+        .arg(list)?
+        .after_help(COVER_HELP);
     Ok(command)
 }
 
@@ -208,6 +233,7 @@ fn root_command<'a>(alloc: Global) -> Result<Command<'a>, Error> {
             "Checks recorded executions of reactor programs, and records them. Without a command it judges a bundle from standard input.",
         )
         .subcommand(judge_command(alloc)?)?
+        .subcommand(cover_command(alloc)?)?
         .subcommand(explain_command(alloc)?)?
         .subcommand(pair_command(alloc)?)?
         .subcommand(record_command(alloc)?)?
@@ -269,6 +295,10 @@ pub(crate) fn read_words<'a>(alloc: Global, words: &'a [String]) -> Result<Job<'
     let matches = command.try_get_matches_from(words)?;
     match matches.subcommand() {
         Some(("judge", judge)) => Ok(Job::Judge(judge_words(judge))),
+        Some(("cover", cover)) => Ok(Job::Cover {
+            words: judge_words(cover),
+            list: cover.get_flag("list"),
+        }),
         Some(("explain", explain)) => Ok(explain_job(explain)),
         Some(("pair", pair)) => Ok(Job::Pair(pair_words(pair, "FIRST"))),
         Some(("record", record)) => Ok(Job::Record(RecordWords {

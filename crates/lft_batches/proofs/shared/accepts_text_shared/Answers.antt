@@ -38,4 +38,4 @@ returns g c =
     let all = c.if-not-judge.ensures.rows refl ∙ ap (λ (t : List Row). judged_rows plan body c.in_ok-front.front ++ t) c.as_slice.ensures.value ∙ c.in_ok-front.ensures.rows in
     let begins = subst (λ (t : List Row). BeginsWith plan.program body t c.loop-rest.rest.now) (sym all) c.loop-rest.invariant.begins in
     let table = read_all plan c.args.text.now body c.loop-rest.rest.now front stands c.in_ok-body.ensures begins (eqb-true (length c.loop-rest.rest.now) 0 (sym c.is_empty.ensures ∙ c.loop-rest-test.false)) in
-    IfSome_then c.finish.result c.finish.ensures (λ counts accepted. (judged_rows plan body front, table, accepted (judged_rows plan body front) stands.stands))
+    IfSome_then c.finish.result c.finish.ensures.counts (λ counts accepted. (judged_rows plan body front, table, accepted (judged_rows plan body front) stands.stands))

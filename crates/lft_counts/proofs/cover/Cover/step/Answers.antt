@@ -1,4 +1,4 @@
-use Rattle.std.proofs.Common.{◌+◌, length, ap, sym, subst}
+use Rattle.std.proofs.Common.{◌+◌, length, ap, sym, subst, ◌∙◌, arith}
 use Rattle.lft_counts.specs.Cover.{IsCounting}
 use Rattle.lft_counts.specs.Orders.{Stands}
 use Rattle.lft_counts.specs.Overlaps.{Overlap}
@@ -16,11 +16,16 @@ add-requires-3 g c = let so = c.requires.1.1.1.1 in (c.requires.0, (subst (λ i.
 pub returns-clause-covers : goal.returns-clause-covers
 returns-clause-covers g c =
     let n = ap (λ k. k + 1) (sym c.requires.1.1.1.1.1) in
+    let so = c.requires.1.1.1.1.0 in
     record {
       counted = subst (λ i. IsCounting g.here.program g.here.trace i c.add.new.self) n c.in_ok-add.ensures;
       met = subst (λ i. Stands g.here.trace (length g.here.program.reactions) i c.add-2.new.self) n c.add-2.ensures.stands;
       overlapped = subst (λ i. Overlap g.here.trace (length g.here.program.reactions) i c.add-3.new.self) n c.add-3.ensures;
+      inputs = c.add_row.ensures ∙ so.inputs;
     }
 
 pub returns-clause-listed : goal.returns-clause-listed
 returns-clause-listed g c = c.add-2.ensures.all
+
+pub add_row-requires : goal.add_row-requires
+add_row-requires g c = let so = c.requires.1.1.1.1.0.inputs in let l = c.requires.1.1.1.0.reaction in omega (arith, so, l)

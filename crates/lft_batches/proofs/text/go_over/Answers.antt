@@ -1,0 +1,51 @@
+use Rattle.std.proofs.Common.{◌++◌, ◌∙◌, List, length, ap, refl, rules, sym, subst}
+use Rattle.std.proofs.lemmas.Bool.{eqb-true}
+use Rattle.lft_flat.specs.Parts.{Parts}
+use Rattle.lft_steps.specs.declared.row.Row.{Row}
+use Rattle.lft_reading.specs.Parts.{BeginsWith}
+use Rattle.lft_batches.specs.Fronts.{IsNextBehind, judged_rows}
+use Rattle.lft_batches.proofs.Reading.{batch_next, gone_on, nothing_read, read_all}
+use Rattle.lft_batches.proofs.text.go_over.Goals as goal
+
+pub loop-rest-init : goal.loop-rest-init
+loop-rest-init c =
+    let none = nothing_read c.args.plan.now c.in_ok-body.body.now c.args.front c.new-waiting.result.items c.requires.none c.new-waiting.ensures.items in
+    record { stands = c.requires.stands c.in_ok-body.body.now; fit = search rules; next = none.0; begins = none.1 }
+
+pub add_batch-requires-clause-next : goal.add_batch-requires-clause-next
+add_batch-requires-clause-next c =
+    let plan = c.args.plan.now in
+    let body = c.in_ok-body.body.now in
+    let rest = c.loop-rest.rest.now in
+    let behind = c.in_ok-batch.behind.now in
+    let batch = c.in_ok-batch.batch.items in
+    let waiting = c.loop-rest.waiting.items in
+    let more = subst (λ (p : Parts). BeginsWith p rest batch behind) c.program.ensures.value c.in_ok-batch.ensures.rows in
+    subst (λ (t : List Row). IsNextBehind plan body c.loop-rest.front (waiting ++ t)) (sym c.as_slice.ensures.value) (batch_next plan body c.loop-rest.front waiting rest behind batch c.loop-rest.invariant.begins more c.program.ensures.sound.sound)
+
+pub loop-rest-preserved : goal.loop-rest-preserved
+loop-rest-preserved c =
+    let plan = c.args.plan.now in
+    let body = c.in_ok-body.body.now in
+    let rest = c.loop-rest.rest.now in
+    let behind = c.in_ok-batch.behind.now in
+    let batch = c.in_ok-batch.batch.items in
+    let waiting = c.loop-rest.waiting.items in
+    let more = subst (λ (p : Parts). BeginsWith p rest batch behind) c.program.ensures.value c.in_ok-batch.ensures.rows in
+    let same = c.in_ok-waiting.ensures.rows ∙ ap (λ (t : List Row). judged_rows plan body c.loop-rest.front ++ (waiting ++ t)) c.as_slice.ensures.value in
+    let on = gone_on plan body c.loop-rest.front waiting rest behind batch c.loop-rest.invariant.begins more c.add_batch.new.front c.in_ok-waiting.waiting.items c.program.ensures.sound.sound same in
+    record { stands = c.in_ok-waiting.ensures.stands; fit = c.in_ok-waiting.ensures.fit; next = on.0; begins = on.1 }
+
+pub judge-requires-clause-next : goal.judge-requires-clause-next
+judge-requires-clause-next c = subst (λ (t : List Row). IsNextBehind c.args.plan.now c.in_ok-body.body.now c.loop-rest.front t) (sym c.as_slice-2.ensures.value) c.loop-rest.invariant.next
+
+pub returns : goal.returns
+returns c =
+    let plan = c.args.plan.now in
+    let body = c.in_ok-body.body.now in
+    let front = c.judge.new.self in
+    let stands = c.if-not-judge.ensures.stands refl in
+    let all = c.if-not-judge.ensures.rows refl ∙ ap (λ (t : List Row). judged_rows plan body c.loop-rest.front ++ t) c.as_slice-2.ensures.value in
+    let begins = subst (λ (t : List Row). BeginsWith plan.program body t c.loop-rest.rest.now) (sym all) c.loop-rest.invariant.begins in
+    let table = read_all plan c.args.text.now body c.loop-rest.rest.now front stands c.in_ok-body.ensures begins (eqb-true (length c.loop-rest.rest.now) 0 (sym c.is_empty.ensures ∙ c.loop-rest-test.false)) in
+    record { body = body; stands = stands; table = table }

@@ -1,0 +1,30 @@
+-- The line of sums that people read first.
+use Rattle.std.specs.Prelude.{◌≡◌, ℕ, List, ◌++◌, length, codes, decimal}
+use Rattle.lft_flat.specs.Parts.{Parts}
+use Rattle.lft_steps.specs.declared.row.Row.{Row}
+use Rattle.lft_counts.specs.declared.cover.Cover.{Cover}
+use Rattle.lft_counts.specs.Counts.{Count, IsOver}
+use Rattle.lft_counts.specs.Orders.{Stands, IsApart}
+
+-- a word, a count, a word between, and the number that it is of
+abbrev pub share_words : List ℕ → ℕ → List ℕ → ℕ → List ℕ
+share_words word count between whole = (word ++ decimal count) ++ (between ++ decimal whole)
+
+-- `reactions=R/N ports=F/N orders=A/N pairs=P/N`
+abbrev pub sum_line : ℕ → ℕ → ℕ → ℕ → ℕ → ℕ → ℕ → ℕ → List ℕ
+sum_line ran reactions fed ports apart orders together pairs =
+    share_words (codes "reactions=") ran (codes "/") reactions ++ share_words (codes " ports=") fed (codes "/") ports
+    ++ share_words (codes " orders=") apart (codes "/") orders ++ share_words (codes " pairs=") together (codes "/") pairs ++ codes "\n"
+
+-- a text begins with the line of sums: R is how many reactions have a run, and A how many of the orders were met on two workers
+pub record TellsSums (program : Parts) (cover : Cover) (told : List ℕ) : Type 0 where
+  pub ran : ℕ
+  pub fed : ℕ
+  pub ports : ℕ
+  pub apart : ℕ
+  pub together : ℕ
+  pub pairs : ℕ
+  pub more : List ℕ
+  pub ran_is : Count (IsOver cover.counting.runs) (length cover.counting.runs) ran
+  pub apart_is : (t : List Row) (n i : ℕ) → Stands t n i cover.orders → Count (IsApart t i cover.orders.all.items) (length cover.orders.all.items) apart
+  pub text : told ≡ sum_line ran (length program.reactions) fed ports apart (length cover.orders.all.items) together pairs ++ more

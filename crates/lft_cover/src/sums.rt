@@ -1,0 +1,127 @@
+//! The sums of what was exercised.
+
+ghost use Rattle.std.specs.Prelude.{◌≡◌, ℕ, List, IfOk, length};
+ghost use Rattle.lft_steps.specs.declared.row.Row.{Row as TheRow};
+ghost use Rattle.lft_graph.specs.Graph.{IsGraphOf};
+ghost use Rattle.lft_counts.specs.Counts.{Count, IsOver};
+ghost use Rattle.lft_counts.specs.Orders.{IsApart, Stands};
+ghost use Rattle.lft_cover.specs.Facts.{HasSets};
+
+use crate::closure::ordered_pairs;
+use crate::pairs::met_pairs;
+use lft_counts::{Cover, how_many};
+use lft_flat::Program;
+use lft_graph::Graph;
+use lft_lists::item_at;
+use lft_tag::NoMemory;
+use std::alloc::Global;
+
+/// Of how many things so many have something.
+#[derive(Clone, Copy, Drop)]
+pub(crate) struct Share {
+    pub count: u64,
+    pub of: u64,
+}
+
+/// The sums of a cover.
+#[derive(Clone, Copy, Drop)]
+pub(crate) struct Sums {
+    /// Reactions that ran.
+    pub ran: Share,
+    /// Ports that a connection feeds, and whose origin was written.
+    pub fed: Share,
+    /// Origins of such ports that were written.
+    pub writers: Share,
+    /// Orders of which both reactions ran at one tag.
+    pub met: Share,
+    /// Orders of which both ran at one tag on two workers.
+    pub apart: Share,
+    /// Pairs without an order that ran at the same time.
+    pub together: Share,
+}
+
+/// Whether a count of a list isn't 0.
+fn has_some(counts: &[u64], number: usize) -> bool {
+    number < counts.len() && item_at(counts, number) != 0
+}
+
+/// The ports that a connection feeds, and of these those whose origin was written. The origins are marked.
+fn fed_ports(program: &Program, writes: &[u64], is_writer: &mut Vec<bool>) -> Share {
+    let mut fed = Share { count: 0, of: 0 };
+    for number in 0..program.ports() {
+        let origin = program.port(number as u32).origin as usize;
+        if origin == number || origin >= is_writer.len() {
+            continue;
+        }
+        is_writer[origin] = true;
+        fed.of = fed.of.saturating_add(1);
+        if has_some(writes, origin) {
+            fed.count = fed.count.saturating_add(1);
+        }
+    }
+    fed
+}
+
+/// Of the ports that are marked those that were written.
+fn written_ports(writes: &[u64], is_writer: &Vec<bool>) -> Share {
+    let mut writers = Share { count: 0, of: 0 };
+    for number in 0..is_writer.len() {
+        if item_at(is_writer.as_slice(), number) {
+            writers.of = writers.of.saturating_add(1);
+            if has_some(writes, number) {
+                writers.count = writers.count.saturating_add(1);
+            }
+        }
+    }
+    writers
+}
+
+/// How many pairs of reactions there are.
+fn all_pairs(reactions: u64) -> u64 {
+    reactions.saturating_mul(reactions.saturating_sub(1)) / 2
+}
+
+impl Sums {
+    /// The sums of a cover of the program with this graph.
+    pub(crate) fn of(
+        alloc: Global,
+        program: &Program,
+        graph: &Graph,
+        cover: &Cover,
+    ) -> Result<Sums, NoMemory>
+        requires sets { HasSets program.now cover.now.overlaps }
+        requires graph { IsGraphOf program.now graph.now }
+        ensures reactions { IfOk result (λ sums. sums.ran.of ≡ length program.now.reactions) }
+        ensures ran { IfOk result (λ sums. Count (IsOver cover.now.counting.runs) (length cover.now.counting.runs) sums.ran.count) }
+        ensures orders { IfOk result (λ sums. sums.apart.of ≡ length cover.now.orders.all.items) }
+        ensures apart { IfOk result (λ sums. (t : List TheRow) (n i : ℕ) → Stands t n i cover.now.orders → Count (IsApart t i cover.now.orders.all.items) (length cover.now.orders.all.items) sums.apart.count) }
+    {
+        let runs = cover.counting.runs.as_slice();
+        let writes = cover.counting.writes.as_slice();
+        let orders = cover.orders.as_slice().len() as u64;
+        let reactions = program.reactions() as u64;
+        let ordered = ordered_pairs(alloc, program, graph)?;
+        let mut is_writer = vec![in alloc; false; program.ports()]?;
+        let fed = fed_ports(program, writes, &mut is_writer);
+        Ok(Sums {
+            ran: Share {
+                count: how_many(runs) as u64,
+                of: reactions,
+            },
+            fed,
+            writers: written_ports(writes, &is_writer),
+            met: Share {
+                count: cover.orders.held() as u64,
+                of: orders,
+            },
+            apart: Share {
+                count: cover.orders.apart() as u64,
+                of: orders,
+            },
+            together: Share {
+                count: met_pairs(program, &cover.overlaps),
+                of: all_pairs(reactions).saturating_sub(ordered),
+            },
+        })
+    }
+}
