@@ -1,0 +1,84 @@
+-- Where lines end.
+use Rattle.std.proofs.Common.{◌≡◌, ◌≢◌, ◌+◌, ◌<◌, ◌≤◌, inl, inr, ℕ, zero, suc, List, [], ◌∷◌, ◌++◌, Option, Some, None, length, take, drop, slice_get, slice_index, unwrap_or, refl, sym, ap, subst, ◌∙◌, arith, add-one}
+use Rattle.std.proofs.lemmas.Bool.{eq-eqb, eqb-true}
+use Rattle.std.proofs.lemmas.Option.{get_or_from_slice_get, slice_get-get_or, slice_get_within}
+use Rattle.std.proofs.lemmas.List.{append-nil, append_assoc}
+use Rattle.memchr.specs.Find.{IsFirstByte, IsLastByte, Nowhere, Passes, is_byte}
+use Rattle.lft_flat.proofs.Ranges.{slice_get-drop}
+use Rattle.lft_model.proofs.Places.{slice_get_take}
+use Rattle.lft_lists.proofs.Picked.{take_next}
+use Rattle.lft_reading.specs.Parts.{EndsLine, HasNoQuote}
+use Rattle.lft_log.specs.Logs.{AreLines, HasNoEnd}
+
+-- the byte that a search finds
+byte_there : (text : List ℕ) (b k : ℕ) → k < length text → Passes (is_byte b) text k → slice_get text k ≡ Some b
+byte_there text b k within is = slice_get-get_or text k 0 within ∙ ap (λ (x : ℕ). Some x) (eqb-true (slice_index text k) b is)
+
+-- a byte that a search finds nowhere in a range
+no_byte : (text : List ℕ) (b i j : ℕ) → Nowhere (Passes (is_byte b) text) i j → (k : ℕ) → i ≤ k → k < j → slice_get text k ≢ Some b
+no_byte text b i j none k up down e = none k up down (eq-eqb (slice_index text k) b (get_or_from_slice_get text k b 0 e))
+
+-- what ends with a line feed is a line
+ends_line : (text : List ℕ) (k : ℕ) → slice_get text k ≡ Some 10 → EndsLine (take (k + 1) text)
+ends_line text k e = (take k text, ap (λ (n : ℕ). take n text) (add-one k) ∙ take_next text k 10 e)
+
+-- up to the last end of a line there are whole lines
+pub up_to_last : (text : List ℕ) (k : ℕ) → IsLastByte (is_byte 10) text (Some k) → AreLines (take (k + 1) text)
+up_to_last text k is = inr (ends_line text k (byte_there text 10 k is.0.high is.1))
+
+-- and behind it none ends
+pub behind_last : (text : List ℕ) (k : ℕ) → IsLastByte (is_byte 10) text (Some k) → HasNoEnd (drop (k + 1) text)
+behind_last text k is i e =
+    let at : slice_get text (k + 1 + i) ≡ Some 10 = sym (slice_get-drop text (k + 1) i) ∙ e in
+    no_byte text 10 (k + 1) (length text) is.0.after (k + 1 + i) (omega arith) (slice_get_within text (k + 1 + i) 10 at) at
+
+pub none_ends : (text : List ℕ) → IsLastByte (is_byte 10) text None → HasNoEnd text
+none_ends text is i e = no_byte text 10 0 (length text) is i (omega arith) (slice_get_within text i 10 e) e
+
+-- the first line of whole lines
+pub up_to_first : (text : List ℕ) (k : ℕ) → IsFirstByte (is_byte 10) text (Some k) → EndsLine (take (k + 1) text)
+up_to_first text k is = ends_line text k (byte_there text 10 k is.0.high is.1)
+
+pub some_line : (text : List ℕ) → EndsLine text → 0 < length text
+some_line text ends = rw ends.1 (go ends.0)
+  where
+    go : (line : List ℕ) → 0 < length (line ++ 10 ∷ [])
+    go [] = omega arith
+    go (c ∷ line) = omega arith
+
+-- lines behind lines
+pub lines_both : (a b : List ℕ) → AreLines a → AreLines b → AreLines (a ++ b)
+lines_both a b x (inl e) = subst AreLines (sym (ap (λ (z : List ℕ). a ++ z) e ∙ append-nil a)) x
+lines_both a b x (inr l) = inr (a ++ l.0, ap (λ (z : List ℕ). a ++ z) l.1 ∙ sym (append_assoc a l.0 (10 ∷ [])))
+
+-- what is left of whole lines is whole lines
+pub lines_left : (text : List ℕ) (n : ℕ) → AreLines text → AreLines (drop n text)
+lines_left text n (inl e) = inl (ap (drop n) e ∙ none_left n)
+  where
+    none_left : (n : ℕ) → (let x : List ℕ = [] in drop n x ≡ [])
+    none_left zero = refl
+    none_left (suc n) = refl
+lines_left text n (inr l) = subst (λ (x : List ℕ). AreLines (drop n x)) (sym l.1) (left l.0 n)
+  where
+    left : (line : List ℕ) (n : ℕ) → AreLines (drop n (line ++ 10 ∷ []))
+    left line zero = inr (line, refl)
+    left [] (suc zero) = inl refl
+    left [] (suc (suc n)) = inl refl
+    left (c ∷ line) (suc n) = left line n
+
+-- where some text is left, lines that are whole are some
+pub some_lines : (text : List ℕ) → AreLines text → 0 < length text → EndsLine text
+some_lines text (inl e) some = absurd (let z : 0 < 0 = subst (λ (x : List ℕ). 0 < length x) e some in omega arith)
+some_lines text (inr l) some = l
+
+-- no quotation mark stands before the first
+pub no_quote_before : (text : List ℕ) (q : Option ℕ) (n : ℕ) → IsFirstByte (is_byte 34) text q → n ≤ unwrap_or q (length text) → HasNoQuote (take n text)
+no_quote_before text None n is up i e = let s = slice_get_take n text i 34 e in no_byte text 34 0 (length text) is i (omega arith) (slice_get_within text i 34 s.1) s.1
+no_quote_before text (Some k) n is up i e = let s = slice_get_take n text i 34 e in no_byte text 34 0 k is.0.before i (omega arith) (let a = s.0 in omega arith) s.1
+
+-- nor in a part of what has none
+pub no_quote_left : (text : List ℕ) (n : ℕ) → HasNoQuote text → HasNoQuote (drop n text)
+no_quote_left text n none i e = none (n + i) (sym (slice_get-drop text n i) ∙ e)
+
+pub no_quote_taken : (text : List ℕ) (n : ℕ) → HasNoQuote text → HasNoQuote (take n text)
+no_quote_taken text n none i e = none i (slice_get_take n text i 34 e).1

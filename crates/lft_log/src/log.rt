@@ -1,0 +1,299 @@
+//! A trace table that comes in pieces.
+
+ghost use Rattle.std.specs.Prelude.{◌≡◌, ◌≢◌, ◌++◌, ◌∷◌, ◌^◌, ◌≤◌, ℕ, List, [], Option, true, false, length, IfOk, IfErr, IfSome, MatchOption};
+ghost use Rattle.lft_tag.specs.declared.Tag.{Tag as TheTag};
+ghost use Rattle.lft_trace.specs.declared.fault.TraceFault.{TraceFault as TheFault};
+ghost use Rattle.lft_steps.specs.declared.row.Row.{Row as TheRow};
+ghost use Rattle.lft_steps.specs.Fits.{RowsFit};
+ghost use Rattle.lft_model.specs.Plans.{PlanParts};
+ghost use Rattle.lft_follow.specs.Follows.{IsFollowerOf, IsJudged};
+ghost use Rattle.lft_log.specs.declared.fault.LogFault.TheVariants.{NoRow};
+ghost use Rattle.lft_log.specs.declared.told.Final.TheVariants.{AtEnd};
+ghost use Rattle.lft_log.specs.Logs.{HasNoEnd, IsHead};
+ghost use Rattle.lft_log.specs.Told.{GoPast, IsAskedOf, IsEnded, IsFaultOf, IsFinal, IsLog, IsLogOf, IsSaid, IsSoon};
+
+use crate::asked::Asked;
+use crate::fault::LogFault;
+use crate::front::read_front;
+use crate::lines::{below_header, is_whole, whole_lines};
+use crate::told::{Final, Told};
+use lft_follow::{Ending, Follower, Progress, Reach};
+use lft_model::Plan;
+use lft_steps::Row;
+use lft_tag::{NoMemory, Tag};
+use memchr::memchr;
+use std::alloc::Global;
+
+/// No line has more bytes.
+const LONGEST: usize = 1 << 20;
+
+/// More rows aren't counted.
+const MOST: u64 = 1 << 62;
+
+/// What is kept of a table so far.
+#[derive(Drop)]
+pub struct Log {
+    follower: Follower,
+    /// The bytes of a line whose end hasn't come.
+    rest: Vec<u8>,
+    /// How many rows came.
+    rows: u64,
+    /// Whether the header came.
+    is_begun: bool,
+    asked: Asked,
+}
+
+/// Goes on past rows.
+fn add_rows(
+    follower: &mut Follower,
+    alloc: Global,
+    plan: &Plan,
+    rows: &[Row],
+) -> Result<Option<Told>, LogFault>
+    requires fit { RowsFit plan.now.program rows.now }
+    requires stands { (t : List TheRow) × IsFollowerOf plan.now t follower.old }
+    ensures told { IfOk result (λ o. (t : List TheRow) → IsFollowerOf plan.now t follower.old → MatchOption o (IsFollowerOf plan.now (t ++ rows.now) follower.new) (λ told. (until : Option TheTag) → IsSaid plan.now until (t ++ rows.now) told)) }
+    ensures fault { IfErr result (λ f. (e : TheFault) (line : ℕ) → f ≢ NoRow e line) }
+{
+    match follower.add(alloc, plan, rows) {
+        Ok(Progress::GoesOn) => Ok(None),
+        Ok(Progress::Broken(found)) => Ok(Some(Told::Broken(found))),
+        Ok(Progress::Odd(reach, line)) => Ok(Some(Told::Odd(reach, line))),
+        Ok(Progress::TooMany) => Err(LogFault::TooManyRows),
+        Err(_) => Err(LogFault::NoMemory),
+    }
+}
+
+/// Goes on past the last rows that are asked for.
+fn add_last(
+    follower: &mut Follower,
+    alloc: Global,
+    plan: &Plan,
+    rows: &[Row],
+) -> Result<Told, LogFault>
+    requires fit { RowsFit plan.now.program rows.now }
+    requires stands { (t : List TheRow) × IsFollowerOf plan.now t follower.old }
+    ensures told { IfOk result (λ told. (until : Option TheTag) (t : List TheRow) → IsFollowerOf plan.now t follower.old → GoPast until (t ++ rows.now) → IsSaid plan.now until (t ++ rows.now) told) }
+    ensures fault { IfErr result (λ f. (e : TheFault) (line : ℕ) → f ≢ NoRow e line) }
+{
+    match add_rows(follower, alloc, plan, rows) {
+        Ok(Some(told)) => Ok(told),
+        Ok(None) => Ok(Told::Reached(follower.reach(plan))),
+        Err(fault) => Err(fault),
+    }
+}
+
+/// Goes on past rows, up to the last that is asked for.
+fn add_asked(
+    follower: &mut Follower,
+    asked: &mut Asked,
+    alloc: Global,
+    plan: &Plan,
+    rows: &[Row],
+) -> Result<Option<Told>, LogFault>
+    requires fit { RowsFit plan.now.program rows.now }
+    requires stands { (t : List TheRow) × IsFollowerOf plan.now t follower.old }
+    ensures until { asked.new.until ≡ asked.old.until }
+    ensures told { IfOk result (λ o. (t : List TheRow) → IsFollowerOf plan.now t follower.old → IsAskedOf t asked.old → MatchOption o (IsFollowerOf plan.now (t ++ rows.now) follower.new × IsAskedOf (t ++ rows.now) asked.new) (λ told. (u more : List TheRow) × (rows.now ≡ u ++ more) × IsSaid plan.now asked.old.until (t ++ u) told)) }
+    ensures fault { IfErr result (λ f. (e : TheFault) (line : ℕ) → f ≢ NoRow e line) }
+{
+    match asked.past_end(rows) {
+        Some(end) => match add_last(follower, alloc, plan, &rows[0..end]) {
+            Ok(told) => Ok(Some(told)),
+            Err(fault) => Err(fault),
+        },
+        None => add_rows(follower, alloc, plan, rows),
+    }
+}
+
+/// The lines below the header, which came before or stands above them.
+fn body_of(is_begun: bool, lines: &[u8]) -> Option<&[u8]>
+    ensures begun { IfSome result (λ body. is_begun ≡ true → body.now ≡ lines.now) }
+    ensures fresh { IfSome result (λ body. is_begun ≡ false → (head : List ℕ) × (lines.now ≡ head ++ body.now) × IsHead head) }
+{
+    if is_begun {
+        Some(lines)
+    } else {
+        below_header(lines)
+    }
+}
+
+impl Log {
+    /// Before the first byte. No row is judged behind the first tag with rows at or past the tag.
+    pub fn new(alloc: Global, plan: &Plan, until: Option<Tag>) -> Result<Log, NoMemory>
+        ensures { IfOk result (IsLog plan.now until []) }
+    {
+        Ok(Log {
+            follower: Follower::new(alloc, plan)?,
+            rest: Vec::new(alloc),
+            rows: 0,
+            is_begun: false,
+            asked: Asked::new(until),
+        })
+    }
+
+    /// How many rows came.
+    pub fn rows(&self) -> u64
+        ensures { result ≡ self.now.rows }
+    {
+        self.rows
+    }
+
+    /// How far the rows are judged.
+    pub fn reach(&self, plan: &Plan) -> Reach
+        ensures { (t : List TheRow) → IsFollowerOf plan.now t self.now.follower → IsJudged plan.now t result }
+    {
+        self.follower.reach(plan)
+    }
+
+    /// Goes on past whole lines, which are all that is of no row yet.
+    fn add_lines(
+        &mut self,
+        alloc: Global,
+        plan: &Plan,
+        lines: &[u8],
+    ) -> Result<Option<Told>, LogFault>
+        requires stands { (until : Option TheTag) × (bytes : List ℕ) × IsLogOf plan.now until bytes lines.now self.old }
+        ensures rest { self.new.rest ≡ self.old.rest }
+        ensures told { IfOk result (λ o. (until : Option TheTag) (bytes : List ℕ) → IsLogOf plan.now until bytes lines.now self.old → MatchOption o (IsLogOf plan.now until bytes [] self.new) (IsSoon plan.now until bytes)) }
+        ensures fault { IfErr result (λ f. (until : Option TheTag) (bytes : List ℕ) → IsLogOf plan.now until bytes lines.now self.old → IsFaultOf plan.now.program bytes f) }
+    {
+        if self.rows > MOST {
+            return Err(LogFault::TooManyRows);
+        }
+        let Some(body) = body_of(self.is_begun, lines) else {
+            return Err(LogFault::NoHeader);
+        };
+        self.is_begun = true;
+        let Ok(front) = read_front(alloc, plan.program(), body, self.rows) else {
+            return Err(LogFault::NoMemory);
+        };
+        let rows = front.rows.as_slice();
+        self.rows += rows.len() as u64;
+        match add_asked(&mut self.follower, &mut self.asked, alloc, plan, rows) {
+            Ok(None) => match front.fault {
+                Some(fault) => Err(fault),
+                None => Ok(None),
+            },
+            Ok(Some(told)) => Ok(Some(told)),
+            Err(fault) => Err(fault),
+        }
+    }
+
+    /// Whether the first line of the piece is too long with what came of it.
+    fn is_long(&self, piece: &[u8]) -> bool {
+        let first = memchr(b'\n', piece).unwrap_or(piece.len());
+        self.rest.len().saturating_add(first) > LONGEST
+    }
+
+    /// The number of the line that comes next.
+    fn next_line(&self) -> u64 {
+        if self.is_begun {
+            self.rows.saturating_add(2)
+        } else {
+            1
+        }
+    }
+
+    /// Goes on past the rest and more bytes, which are whole lines together.
+    fn add_whole(
+        &mut self,
+        alloc: Global,
+        plan: &Plan,
+        more: &[u8],
+    ) -> Result<Option<Told>, LogFault>
+        requires { (until : Option TheTag) × (bytes : List ℕ) × IsLog plan.now until bytes self.old }
+        ensures told { IfOk result (λ o. (until : Option TheTag) (bytes : List ℕ) → IsLog plan.now until bytes self.old → MatchOption o (IsLogOf plan.now until (bytes ++ more.now) [] self.new × (self.new.rest.items ≡ [])) (IsSoon plan.now until (bytes ++ more.now))) }
+        ensures fault { IfErr result (λ f. (until : Option TheTag) (bytes : List ℕ) → IsLog plan.now until bytes self.old → IsFaultOf plan.now.program (bytes ++ more.now) f) }
+    {
+        let mut lines = std::mem::replace(&mut self.rest, Vec::new(alloc));
+        let Ok(()) = lines.extend_from_slice(more) else {
+            return Err(LogFault::NoMemory);
+        };
+        self.add_lines(alloc, plan, lines.as_slice())
+    }
+
+    /// Keeps bytes of a line whose end hasn't come.
+    fn keep(&mut self, more: &[u8]) -> Result<Option<Told>, LogFault>
+        ensures told { IfOk result (λ o. (plan : PlanParts) (until : Option TheTag) (bytes : List ℕ) → IsLogOf plan until bytes self.old.rest.items self.old → HasNoEnd (self.old.rest.items ++ more.now) → MatchOption o (IsLog plan until (bytes ++ more.now) self.new) (λ told. ⊥)) }
+        ensures fault { IfErr result (λ f. (e : TheFault) (line : ℕ) → f ≢ NoRow e line) }
+    {
+        match self.rest.extend_from_slice(more) {
+            Ok(()) => Ok(None),
+            Err(_) => Err(LogFault::NoMemory),
+        }
+    }
+
+    /// Goes on past a piece of the table. No piece has more bytes than a line may have.
+    pub fn add(
+        &mut self,
+        alloc: Global,
+        plan: &Plan,
+        piece: &[u8],
+    ) -> Result<Option<Told>, LogFault>
+        requires { (until : Option TheTag) × (bytes : List ℕ) × IsLog plan.now until bytes self.old }
+        ensures told { IfOk result (λ o. (until : Option TheTag) (bytes : List ℕ) → IsLog plan.now until bytes self.old → MatchOption o (IsLog plan.now until (bytes ++ piece.now) self.new) (IsSoon plan.now until (bytes ++ piece.now))) }
+        ensures fault { IfErr result (λ f. (until : Option TheTag) (bytes : List ℕ) → IsLog plan.now until bytes self.old → IsFaultOf plan.now.program (bytes ++ piece.now) f) }
+    {
+        if self.is_long(piece) {
+            return Err(LogFault::LongLine(self.next_line()));
+        }
+        let end = whole_lines(piece);
+        if end == 0 {
+            return self.keep(piece);
+        }
+        match self.add_whole(alloc, plan, &piece[0..end]) {
+            Ok(None) => self.keep(&piece[end..piece.len()]),
+            Ok(Some(told)) => Ok(Some(told)),
+            Err(fault) => Err(fault),
+        }
+    }
+
+    /// What the rows show where no more come.
+    fn end(&mut self, alloc: Global, plan: &Plan) -> Ending
+        requires { (until : Option TheTag) × (bytes : List ℕ) × IsLog plan.now until bytes self.old }
+        ensures { (until : Option TheTag) (bytes : List ℕ) → IsLog plan.now until bytes self.old → self.old.is_begun ≡ true → IsFinal plan.now until bytes (AtEnd result) }
+    {
+        let reach = self.follower.reach(plan);
+        match self.follower.finish(alloc, plan) {
+            Ending::Accepted(counts) => {
+                // Of a line that isn't whole nobody knows what it would have said.
+                if self.rest.is_empty() {
+                    Ending::Accepted(counts)
+                } else {
+                    Ending::Unbroken(reach)
+                }
+            }
+            Ending::Unbroken(reach) => Ending::Unbroken(reach),
+        }
+    }
+
+    /// What the table shows where no more comes and its lines are whole, but for a last one that says nothing.
+    fn told_at_end(&mut self, alloc: Global, plan: &Plan) -> Result<Final, LogFault>
+        requires { (until : Option TheTag) × (bytes : List ℕ) × IsLog plan.now until bytes self.old }
+        ensures ended { IfOk result (λ told. (until : Option TheTag) (bytes : List ℕ) → IsLog plan.now until bytes self.old → IsFinal plan.now until bytes told) }
+        ensures fault { IfErr result (λ f. (e : TheFault) (line : ℕ) → f ≢ NoRow e line) }
+    {
+        if !self.is_begun {
+            return Err(LogFault::NoHeader);
+        }
+        Ok(Final::AtEnd(self.end(alloc, plan)))
+    }
+
+    /// What the table shows where no more comes. A last line without its end counts only if nothing can
+    /// be missing of it.
+    pub fn finish(&mut self, alloc: Global, plan: &Plan) -> Result<Final, LogFault>
+        requires { (until : Option TheTag) × (bytes : List ℕ) × IsLog plan.now until bytes self.old }
+        ensures ended { IfOk result (λ told. (until : Option TheTag) (bytes : List ℕ) → IsLog plan.now until bytes self.old → IsEnded plan.now until bytes told) }
+        ensures fault { IfErr result (λ f. (until : Option TheTag) (bytes : List ℕ) → IsLog plan.now until bytes self.old → IsFaultOf plan.now.program (bytes ++ 10 ∷ []) f) }
+    {
+        if !is_whole(self.rest.as_slice()) {
+            return self.told_at_end(alloc, plan);
+        }
+        match self.add_whole(alloc, plan, b"\n") {
+            Ok(None) => self.told_at_end(alloc, plan),
+            Ok(Some(told)) => Ok(Final::Soon(told)),
+            Err(fault) => Err(fault),
+        }
+    }
+}

@@ -1,0 +1,21 @@
+//! What is told of a table.
+
+use lft_follow::{Ending, Found, Reach};
+
+/// What is told before the end of a table. Nothing is judged behind it.
+#[derive(Clone, Copy, PartialEq, Eq, Debug, Drop)]
+pub enum Told {
+    Broken(Found),
+    /// The rows that are judged break no rule. The next ones, up to the line, may break one of the rules
+    /// 6 to 10, or too much is to be looked at, or memory is refused.
+    Odd(Reach, u64),
+    /// No rule is broken up to the first tag with rows at or past the one that was asked for.
+    Reached(Reach),
+}
+
+/// What is told of a table of which no more comes.
+#[derive(Clone, Copy, PartialEq, Eq, Debug, Drop)]
+pub enum Final {
+    Soon(Told),
+    AtEnd(Ending),
+}
