@@ -25,7 +25,7 @@ pub use explain::explain_texts;
 pub use explain_pair::explain_pair_texts;
 pub use judge::{judge_texts, verdict_of};
 pub use lft_load::{Fault, Part, finish, load, read_input};
-pub use line::verdict_line;
+pub use line::{accepted_line, broken_line, verdict_line};
 pub use pair::pair_texts;
 pub use paired::Paired;
 pub use refused::{refusal_of_bundle, refusal_of_pair_texts, refusal_of_program, refusal_of_texts};

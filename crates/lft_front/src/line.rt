@@ -34,11 +34,11 @@ fn name_of_rule(rule: u8) -> &'static str
 }
 
 /// Puts the line of the table at the end of a line, where a rule is broken at a row.
-fn push_row(line: &mut String, row: u32) -> Result<(), AllocError>
+fn push_row(line: &mut String, row: u64) -> Result<(), AllocError>
     ensures { OnOk result (string_bytes line.new ≡ string_bytes line.old ++ row_words row) }
 {
     if row != 0 {
-        push_field(line, " line=", u64::from(row))?;
+        push_field(line, " line=", row)?;
     }
     Ok(())
 }
@@ -62,21 +62,45 @@ fn push_reaction(
     Ok(())
 }
 
-/// The line of a broken rule, with its line feed.
+/// The line of a broken rule, with its line feed. The row is a line of the table, or 0 where the rule
+/// isn't broken at a row.
+pub fn broken_line(
+    alloc: Global,
+    program: &Program,
+    rule: u8,
+    row: u64,
+    tag: Tag,
+    reaction: Option<u32>,
+) -> Result<String, AllocError>
+    requires { HasReaction program.now reaction }
+    ensures { IfOk result (λ line. string_bytes line ≡ breach_words program.now (record { rule = rule; tag = tag; reaction = reaction; row = row })) }
+{
+    let mut line = String::new(alloc);
+    push_field(&mut line, "broken rule=", u64::from(rule))?;
+    line.push_str(" ")?;
+    line.push_str(name_of_rule(rule))?;
+    push_row(&mut line, row)?;
+    push_field(&mut line, " time=", tag.time)?;
+    push_field(&mut line, " microstep=", u64::from(tag.micro))?;
+    push_reaction(&mut line, program, reaction)?;
+    line.push_str("\n")?;
+    Ok(line)
+}
+
+/// The line of a breach, with its line feed.
 fn breach_line(alloc: Global, program: &Program, breach: Breach) -> Result<String, AllocError>
     requires { HasReaction program.now breach.reaction }
     ensures { IfOk result (λ line. string_bytes line ≡ breach_words program.now breach) }
 {
-    let mut line = String::new(alloc);
-    push_field(&mut line, "broken rule=", u64::from(breach.rule))?;
-    line.push_str(" ")?;
-    line.push_str(name_of_rule(breach.rule))?;
-    push_row(&mut line, breach.row)?;
-    push_field(&mut line, " time=", breach.tag.time)?;
-    push_field(&mut line, " microstep=", u64::from(breach.tag.micro))?;
-    push_reaction(&mut line, program, breach.reaction)?;
-    line.push_str("\n")?;
-    Ok(line)
+    let row = u64::from(breach.row);
+    broken_line(
+        alloc,
+        program,
+        breach.rule,
+        row,
+        breach.tag,
+        breach.reaction,
+    )
 }
 
 /// The line of a broken rule behind the word that tells of which trace, with its line feed.
@@ -96,7 +120,7 @@ fn named_line(
 }
 
 /// The line of an accepted trace, with its line feed.
-fn accepted_line(alloc: Global, runs: u32, tags: u32) -> Result<String, AllocError>
+pub fn accepted_line(alloc: Global, runs: u32, tags: u32) -> Result<String, AllocError>
     ensures { IfOk result (λ line. string_bytes line ≡ accepted_words runs tags) }
 {
     let mut line = String::new(alloc);
