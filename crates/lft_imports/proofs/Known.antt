@@ -11,7 +11,7 @@ use Rattle.lft_lists.proofs.Places.{get_last, get_push, get_push_cases, get_ther
 use Rattle.lft_whole.specs.declared.tree.Import.{Import}
 use Rattle.lft_sources.specs.declared.source.SourceFile.{SourceFile}
 use Rattle.lft_imports.specs.Paths.{meaning}
-use Rattle.lft_imports.specs.Files.{AreNumbered, EachOnce, GoesOn, IsNumbered, IsWhole, paths_of_files}
+use Rattle.lft_imports.specs.Files.{AddsOnly, AreNumbered, EachOnce, GoesOn, HasImport, IsImported, IsNumbered, IsWhole, paths_of_files}
 
 -- each path by its number, and no other
 abbrev pub ByNumber : (List ℕ → Option ℕ) → List (List ℕ) → Type 0
@@ -145,3 +145,49 @@ pub all_whole : (paths : List (List ℕ)) (files : List SourceFile) → AreRead 
 all_whole paths files h n none =
     let enough = files_enough paths files none in
     λ k file at. wider paths (paths_of_files files) (string_bytes file.path) file.tree.imports.items file.imports.items (file_at paths files h enough) (n k file at)
+
+-- ---- which paths are asked for
+
+pub adds_push : (paths : List (List ℕ)) (q : List ℕ) → AddsOnly paths (λ other. other ≡ q) (paths ++ q ∷ [])
+adds_push paths q k p at = of (get_push_cases paths q k p at)
+  where
+    of : (slice_get paths k ≡ Some p) ⊎ ((k ≡ length paths) × (q ≡ p)) → (slice_get paths k ≡ Some p) ⊎ (p ≡ q)
+    of (inl old) = inl old
+    of (inr new) = inr (sym new.1)
+
+-- the path of one import more
+pub adds_more : (a b c : List (List ℕ)) (path : List ℕ) (imports : List Import) (i : ℕ) (import : Import) (q : List ℕ) → AddsOnly a (HasImport path imports) b → AddsOnly b (λ other. other ≡ q) c → slice_get imports i ≡ Some import → q ≡ meaning path import.path.items → AddsOnly a (HasImport path imports) c
+adds_more a b c path imports i import q first second at is k p there = of (second k p there)
+  where
+    of : (slice_get b k ≡ Some p) ⊎ (p ≡ q) → (slice_get a k ≡ Some p) ⊎ HasImport path imports p
+    of (inl old) = first k p old
+    of (inr new) = inr (i, subst (λ (o : Option Import). IsSomeAnd o (λ (x : Import). meaning path x.path.items ≡ p)) (sym at) (sym is ∙ sym new))
+
+abbrev pub AllImported : List (List ℕ) → List SourceFile → Type 0
+AllImported paths files = (k : ℕ) (path : List ℕ) → 0 < k → slice_get paths k ≡ Some path → IsImported files path
+
+pub imported_file : (p : List ℕ) (imports : List Import) (f : SourceFile) (q : List ℕ) → string_bytes f.path ≡ p → f.tree.imports.items ≡ imports → HasImport p imports q → HasImport (string_bytes f.path) f.tree.imports.items q
+imported_file p imports f q a b h = subst (λ (r : List ℕ). HasImport r f.tree.imports.items q) (sym a) (subst (λ (xs : List Import). HasImport p xs q) (sym b) h)
+
+-- a file more, whose imports are asked for
+pub imported_more : (a b : List (List ℕ)) (files : List SourceFile) (f : SourceFile) → AllImported a files → AddsOnly a (HasImport (string_bytes f.path) f.tree.imports.items) b → AllImported b (files ++ f ∷ [])
+imported_more a b files f h adds k p some at = of (adds k p at)
+  where
+    of : (slice_get a k ≡ Some p) ⊎ HasImport (string_bytes f.path) f.tree.imports.items p → IsImported (files ++ f ∷ []) p
+    of (inl old) =
+        let found = h k p some old in
+        (found.0, kept (λ (file : SourceFile). HasImport (string_bytes file.path) file.tree.imports.items p) files f found.0 found.1)
+    of (inr new) = (length files, subst (λ (o : Option SourceFile). IsSomeAnd o (λ (file : SourceFile). HasImport (string_bytes file.path) file.tree.imports.items p)) (sym (get_last files f)) new)
+
+-- of one path alone nothing is to be imported
+pub none_imported : (paths : List (List ℕ)) (q : List ℕ) (files : List SourceFile) → paths ≡ q ∷ [] → AllImported paths files
+none_imported paths q files e zero p some at = absurd (omega arith)
+none_imported paths q files e (suc k) p some at = let none : None ≡ Some p = sym (ap (λ (xs : List (List ℕ)). slice_get xs (suc k)) e) ∙ at in absurd (cc)
+
+-- the second of two, weaker
+pub of_old : (A B C : Type 0) → (B → C) → A ⊎ B → A ⊎ C
+of_old A B C f (inl a) = inl a
+of_old A B C f (inr b) = inr (f b)
+
+pub no_file : (files : List SourceFile) → files ≡ [] → (k : ℕ) (file : SourceFile) → slice_get files k ≡ Some file → ⊥
+no_file files e k file at = let none : None ≡ Some file = sym (ap (λ (fs : List SourceFile). slice_get fs k) e) ∙ at in (cc)

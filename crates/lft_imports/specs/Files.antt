@@ -1,5 +1,5 @@
 -- The files of a program: which paths are asked for, and which file each import names.
-use Rattle.std.specs.Prelude.{◌≡◌, ◌↔◌, ◌⊎◌, ℕ, List, [], ◌∷◌, ◌++◌, Option, Some, IsSomeAnd, length, map, slice_get, string_bytes}
+use Rattle.std.specs.Prelude.{◌≡◌, ◌<◌, ◌↔◌, ◌⊎◌, ℕ, List, [], ◌∷◌, ◌++◌, Option, Some, IsSomeAnd, length, map, slice_get, string_bytes}
 use Rattle.std.specs.BTreeMap.{get_by_text}
 use Rattle.std.specs.Str.{IsUtf8}
 use Rattle.lft_whole.specs.declared.tree.Import.{Import}
@@ -41,11 +41,24 @@ AreNumbered paths path imports numbers = (i : ℕ) (import : Import) → slice_g
 abbrev pub IsNumbered : List (List ℕ) → SourceFile → Type 0
 IsNumbered paths file = AreNumbered paths (string_bytes file.path) file.tree.imports.items file.imports.items
 
--- The files that are read are the first of the paths that are asked for, and each import of them has its number.
+-- An import in a file of the one path means the other.
+abbrev pub HasImport : List ℕ → List Import → List ℕ → Type 0
+HasImport importer imports path = (i : ℕ) × IsSomeAnd (slice_get imports i) (λ import. meaning importer import.path.items ≡ path)
+
+-- An import of one of the files means the path.
+abbrev pub IsImported : List SourceFile → List ℕ → Type 0
+IsImported files path = (k : ℕ) × IsSomeAnd (slice_get files k) (λ file. HasImport (string_bytes file.path) file.tree.imports.items path)
+
+-- Each path of the later list stands at its place in the earlier one, or is such.
+abbrev pub AddsOnly : List (List ℕ) → (List ℕ → Type 0) → List (List ℕ) → Type 0
+AddsOnly before Such after = (k : ℕ) (path : List ℕ) → slice_get after k ≡ Some path → (slice_get before k ≡ Some path) ⊎ Such path
+
+-- The files that are read are the first of the paths that are asked for, each import of them has its number, and each path but the first is asked for by one of these.
 pub record AreSources (sources : Sources) : Type 0 where
   pub known : IsKnown sources.asked
   pub read : (k : ℕ) (file : SourceFile) → slice_get sources.files.items k ≡ Some file → slice_get (paths_of sources.asked) k ≡ Some (string_bytes file.path)
   pub numbered : (k : ℕ) (file : SourceFile) → slice_get sources.files.items k ≡ Some file → IsNumbered (paths_of sources.asked) file
+  pub imported : (k : ℕ) (path : List ℕ) → 0 < k → slice_get (paths_of sources.asked) k ≡ Some path → IsImported sources.files.items path
 
 -- The path that is to be read next, if not all are read.
 abbrev pub next_path : Sources → Option (List ℕ)

@@ -2,7 +2,7 @@
 
 ghost use Rattle.std.specs.Prelude.{◌≡◌, ℕ, List, ◌∷◌, ◌++◌, None, Some, [], IfErr, IfOk, OnOk, slice_get, string_bytes};
 ghost use Rattle.std.specs.BTreeMap.{get_by_text};
-ghost use Rattle.lft_imports.specs.Files.{AreNumbered, GoesOn, IsKnown, IsUnread, paths_of};
+ghost use Rattle.lft_imports.specs.Files.{AddsOnly, AreNumbered, GoesOn, HasImport, IsKnown, IsUnread, paths_of};
 
 use crate::paths::imported;
 use lft_sources::{Place, Stop, Why};
@@ -56,6 +56,7 @@ impl Asked {
         requires { IsKnown self.old }
         ensures known { OnOk result (IsKnown self.new) }
         ensures kept { OnOk result (GoesOn (paths_of self.old) (paths_of self.new)) }
+        ensures added { OnOk result (AddsOnly (paths_of self.old) (λ other. other ≡ string_bytes path) (paths_of self.new)) }
         ensures number { IfOk result (λ n. slice_get (paths_of self.new) n ≡ Some (string_bytes path)) }
     {
         match self.known.get(path.as_str()).copied() {
@@ -79,6 +80,7 @@ impl Asked {
         requires { IsKnown self.old }
         ensures known { OnOk result (IsKnown self.new) }
         ensures kept { OnOk result (GoesOn (paths_of self.old) (paths_of self.new)) }
+        ensures added { OnOk result (AddsOnly (paths_of self.old) (HasImport path.now imports.now) (paths_of self.new)) }
         ensures numbers { IfOk result (λ numbers. AreNumbered (paths_of self.new) path.now imports.now numbers.items) }
         ensures refused { IfErr result (IsUnread file imports.now) }
     {

@@ -2,7 +2,7 @@
 
 ghost use Rattle.std.specs.Prelude.{◌≡◌, [], ◌∷◌, None, IfErr, IfOk, OnOk, option_and_then, option_map, length, slice_get};
 ghost use Rattle.lft_imports.specs.Paths.{normal as normal_path};
-ghost use Rattle.lft_imports.specs.Files.{AreNumbered, AreSources, EachOnce, GoesOn, HasOneMore, IsKnown, IsPlaced, IsRefusalOf, IsWhole, next_path, paths_of, paths_of_files};
+ghost use Rattle.lft_imports.specs.Files.{AddsOnly, AreNumbered, AreSources, EachOnce, GoesOn, HasImport, HasOneMore, IsKnown, IsPlaced, IsRefusalOf, IsWhole, next_path, paths_of, paths_of_files};
 
 use crate::asked::Asked;
 use crate::paths::normal;
@@ -22,6 +22,7 @@ fn numbers_of(
     requires { IsKnown asked.old }
     ensures known { OnOk result (IsKnown asked.new) }
     ensures kept { OnOk result (GoesOn (paths_of asked.old) (paths_of asked.new)) }
+    ensures added { OnOk result (AddsOnly (paths_of asked.old) (HasImport path.now read.now.tree.imports.items) (paths_of asked.new)) }
     ensures numbers { IfOk result (λ numbers. AreNumbered (paths_of asked.new) path.now read.now.tree.imports.items numbers.items) }
     ensures read { OnOk result (read.now.refused ≡ None) }
     ensures refused { IfErr result (IsRefusalOf number read.now) }

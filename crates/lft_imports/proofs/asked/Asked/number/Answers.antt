@@ -1,11 +1,11 @@
-use Rattle.std.proofs.Common.{◌≡◌, [], ◌∷◌, ◌++◌, Some, length, sym, subst, ap, ◌∙◌, arith, string_bytes}
+use Rattle.std.proofs.Common.{◌≡◌, inl, [], ◌∷◌, ◌++◌, Some, length, sym, subst, ap, ◌∙◌, arith, string_bytes}
 use Rattle.std.specs.BTreeMap.{get_by_text}
 use Rattle.std.specs.Prelude.{slice_get}
 use Rattle.std.proofs.lemmas.List.{length-map}
 use Rattle.lft_lists.proofs.Places.{get_last}
 use Rattle.lft_imports.specs.declared.asked.Wanted.{Wanted}
-use Rattle.lft_imports.specs.Files.{GoesOn, paths_of}
-use Rattle.lft_imports.proofs.Known.{go_push}
+use Rattle.lft_imports.specs.Files.{AddsOnly, GoesOn, paths_of}
+use Rattle.lft_imports.proofs.Known.{adds_push, go_push}
 use Rattle.lft_imports.proofs.asked.Asked.number.Goals as goal
 
 pub returns-in-Some-clause-number : goal.returns-in-Some-clause-number
@@ -22,3 +22,9 @@ returns-in_ok-ask-in-None-clause-number c =
     let q = string_bytes c.args.path in
     let many : c.len-number.result ≡ length (paths_of old) = omega (arith, c.len-number.ensures, old.paths.ok.0, length-map old.paths.items (λ (w : Wanted). string_bytes w.path)) in
     ap (λ ps. slice_get ps c.len-number.result) c.in_ok-ask-in-None.ensures.paths ∙ ap (slice_get (paths_of old ++ q ∷ [])) many ∙ get_last (paths_of old) q
+
+pub returns-in_ok-ask-in-None-clause-added : goal.returns-in_ok-ask-in-None-clause-added
+returns-in_ok-ask-in-None-clause-added c = subst (AddsOnly (paths_of c.args.self.now) (λ other. other ≡ string_bytes c.args.path)) (sym c.in_ok-ask-in-None.ensures.paths) (adds_push (paths_of c.args.self.now) (string_bytes c.args.path))
+
+pub returns-in-Some-clause-added : goal.returns-in-Some-clause-added
+returns-in-Some-clause-added c = λ k p at. inl at

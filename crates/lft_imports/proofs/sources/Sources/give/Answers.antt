@@ -1,10 +1,10 @@
 use Rattle.std.proofs.Common.{◌≡◌, Some, length, sym, subst, ap, ◌∙◌, arith, string_bytes}
 use Rattle.std.specs.Prelude.{slice_get}
 use Rattle.lft_lists.proofs.Places.{Some_same}
-use Rattle.lft_imports.specs.Files.{IsPlaced, paths_of}
+use Rattle.lft_imports.specs.Files.{AddsOnly, HasImport, IsPlaced, paths_of}
 use Rattle.lft_imports.specs.Places.{HasSpots}
 use Rattle.lft_imports.specs.Reads.{HasPlaces}
-use Rattle.lft_imports.proofs.Known.{AllNumbered, AreRead, numbered_file, numbered_more, read_more}
+use Rattle.lft_imports.proofs.Known.{AllImported, AllNumbered, AreRead, imported_file, imported_more, of_old, numbered_file, numbered_more, read_more}
 use Rattle.lft_imports.proofs.Telling.{placed}
 use Rattle.lft_imports.proofs.sources.Sources.give.Goals as goal
 
@@ -17,10 +17,13 @@ returns-in_ok-push-in-Ok-clause-sources c =
     let path = ap string_bytes c.file_of.ensures.path in
     let at : slice_get before (length old.files.items) ≡ Some (string_bytes file.path) = sym c.in-Some.ensures ∙ ap Some (sym (path ∙ c.in_ok-path.ensures.ok)) in
     let numbers = numbered_file after c.as_str.result.now c.in_ok-read.read.tree.imports.items c.in-Ok.imports.items file (path ∙ sym c.as_str.ensures.value) (ap (λ t. t.imports.items) c.file_of.ensures.tree) (ap (λ v. v.items) c.file_of.ensures.imports) c.in-Ok.ensures.numbers in
+    let tree = ap (λ t. t.imports.items) c.file_of.ensures.tree in
+    let adds : AddsOnly before (HasImport (string_bytes file.path) file.tree.imports.items) after = λ k p there. of_old (slice_get before k ≡ Some p) _ _ (imported_file c.as_str.result.now c.in_ok-read.read.tree.imports.items file p (path ∙ sym c.as_str.ensures.value) tree) (c.in-Ok.ensures.added k p there) in
     record {
       known = c.in-Ok.ensures.known;
       read = subst (AreRead after) (sym c.in_ok-push-in-Ok.ensures.items) (read_more before after old.files.items file c.in-Ok.ensures.kept c.requires.read at);
       numbered = subst (AllNumbered after) (sym c.in_ok-push-in-Ok.ensures.items) (numbered_more before after old.files.items file c.in-Ok.ensures.kept c.requires.numbered numbers);
+      imported = subst (AllImported after) (sym c.in_ok-push-in-Ok.ensures.items) (imported_more before after old.files.items file c.requires.imported adds);
     }
 
 pub returns-in_ok-push-in-Ok-clause-read : goal.returns-in_ok-push-in-Ok-clause-read

@@ -1,0 +1,7 @@
+mod Bases
+mod Building
+mod Goings
+mod Meanings
+mod Rows
+mod Sets
+mod Walking

@@ -1,0 +1,37 @@
+-- What is in the instances of shapes.
+use Rattle.std.proofs.Common.{◌≡◌, ◌<◌, ℕ, zero, suc, List, [], ◌∷◌, length, get_or, map, Option, Some, None, slice_get, slice_set, refl, sym, ap, ◌∙◌, arith}
+use Rattle.std.proofs.lemmas.Option.{slice_get_read}
+use Rattle.lft_lists.proofs.Places.{length_written}
+use Rattle.std.specs.Option.{option_and_then, option_map}
+use Rattle.lft_lists.proofs.Mapped.{mapped}
+use Rattle.lft_shapes.specs.declared.shapes.Child.{Child}
+use Rattle.lft_shapes.specs.declared.shapes.Shape.{Shape}
+use Rattle.lft_shapes.specs.Shapes.{child_at, tables, inside}
+
+-- what the child of a member is, is inside
+pub inside_of : (shapes : List Shape) (s k : ℕ) (shape : Shape) → slice_get shapes s ≡ Some shape → inside (tables shapes) s k ≡ option_map (λ (c : Child). c.shape) (child_at shape.children.items k)
+inside_of shapes s k shape at = ap (λ (o : Option (List (Option Child))). option_map (λ (c : Child). c.shape) (option_and_then (λ (children : List (Option Child)). child_at children k) o)) (mapped (λ (x : Shape). x.children.items) shapes s shape at)
+
+none_mapped : {X Y : Type 0} (f : X → Y) (xs : List X) (i : ℕ) → slice_get xs i ≡ None → slice_get (map f xs) i ≡ None
+none_mapped f [] i at = refl
+none_mapped f (x ∷ xs) zero at = absurd (cc)
+none_mapped f (x ∷ xs) (suc i) at = none_mapped f xs i at
+
+pub inside_none : (shapes : List Shape) (s k : ℕ) → slice_get shapes s ≡ None → inside (tables shapes) s k ≡ None
+inside_none shapes s k at = ap (λ (o : Option (List (Option Child))). option_map (λ (c : Child). c.shape) (option_and_then (λ (children : List (Option Child)). child_at children k) o)) (none_mapped (λ (x : Shape). x.children.items) shapes s at)
+
+-- an item that is written over by one of the same image
+pub map_written : {X Y : Type 0} (f : X → Y) (xs : List X) (i : ℕ) (x y : X) → slice_get xs i ≡ Some x → f y ≡ f x → map f (slice_set xs i y) ≡ map f xs
+map_written f [] i x y at e = absurd (cc)
+map_written f (z ∷ zs) zero x y at e = let same : z ≡ x = cc in ap (λ w. w ∷ map f zs) (e ∙ ap f (sym same))
+map_written f (z ∷ zs) (suc i) x y at e = ap (λ ws. f z ∷ ws) (map_written f zs i x y at e)
+
+-- the same, where the code has read the item
+pub map_set : {X Y : Type 0} (f : X → Y) (xs : List X) (i : ℕ) (x y : X) → i < length xs → x ≡ get_or xs i x → f y ≡ f x → map f (slice_set xs i y) ≡ map f xs
+map_set f xs i x y within is e = map_written f xs i x y (slice_get_read xs (length xs) i x refl within is) e
+
+pub map_set_twice : {X Y : Type 0} (f : X → Y) (xs : List X) (i : ℕ) (x w y z : X) → i < length xs → x ≡ get_or xs i x → f y ≡ f x → w ≡ get_or (slice_set xs i y) i w → f z ≡ f w → map f (slice_set (slice_set xs i y) i z) ≡ map f xs
+map_set_twice f xs i x w y z within is e was d =
+    let long = length_written xs i y in
+    let still : i < length (slice_set xs i y) = omega (arith, long, within) in
+    map_set f (slice_set xs i y) i w z still was d ∙ map_set f xs i x y within is e

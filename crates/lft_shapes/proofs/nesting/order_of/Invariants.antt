@@ -1,0 +1,9 @@
+use Rattle.lft_shapes.specs.Shapes.{inside, tables}
+use Rattle.lft_shapes.specs.Walks.{IsWalk}
+use Rattle.lft_shapes.proofs.nesting.order_of.Given as goal
+
+abbrev pub invariant-visits : goal.invariant-visits
+invariant-visits l = IsWalk (inside (tables l.shapes)) 0 l.walk
+
+abbrev pub decreases-visits : goal.decreases-visits
+decreases-visits l = l.work.left

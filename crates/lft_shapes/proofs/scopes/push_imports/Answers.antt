@@ -1,0 +1,17 @@
+use Rattle.std.proofs.Common.{◌<◌, length, refl, arith}
+use Rattle.std.proofs.lemmas.Option.{slice_get_read}
+use Rattle.lft_shapes.proofs.scopes.push_imports.Goals as goal
+
+pub loop-place-preserved : goal.loop-place-preserved
+loop-place-preserved c files at own all =
+    let written = c.args.file.now.tree.imports.items in
+    let read = c.args.file.now.imports.items in
+    let low : c.loop-place.place < length written = omega arith in
+    let high : c.loop-place.place < length read = omega arith in
+    c.in_ok-push_names.ensures files (record {
+      here = c.args.file.now;
+      is_here = at;
+      place = c.loop-place.place;
+      is_written = slice_get_read written (length written) c.loop-place.place c.index-import.result.now refl low c.index-import.ensures;
+      is_read = slice_get_read read (length read) c.loop-place.place c.index.result.now refl high c.index.ensures;
+    }) own (c.loop-place.invariant files at own all)

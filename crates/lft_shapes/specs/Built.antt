@@ -1,0 +1,75 @@
+-- What reactors inherit.
+use Rattle.std.specs.Prelude.{◌≡◌, ℕ, List, [], Option, Some, None, map, flat_map, option_map, slice_get}
+use Rattle.lft_whole.specs.declared.tree.Member.{Member}
+use Rattle.lft_whole.specs.declared.tree.Parameter.{Parameter}
+use Rattle.lft_shapes.specs.declared.scopes.Class.{Class}
+use Rattle.lft_shapes.specs.declared.scopes.Scopes.{Scopes}
+use Rattle.lft_shapes.specs.declared.shapes.Inherited.{Inherited}
+use Rattle.lft_shapes.specs.declared.shapes.InheritedParameter.{InheritedParameter}
+use Rattle.lft_shapes.specs.declared.shapes.Shape.{Shape}
+use Rattle.lft_shapes.specs.Chains.{base_of}
+use Rattle.lft_shapes.specs.Scopes.{class_at}
+use Rattle.lft_shapes.specs.Walks.{IsList}
+
+-- members with the numbers of their files
+abbrev pub located : List Inherited → List (ℕ × Member)
+located ms = map (λ m. (m.file, m.member.now)) ms
+
+-- parameters with the numbers of their files
+abbrev pub located_parameters : List InheritedParameter → List (ℕ × Parameter)
+located_parameters ps = map (λ p. (p.file, p.parameter.now)) ps
+
+-- the members that a reactor declares
+abbrev pub members_of : Class → List (ℕ × Member)
+members_of c = map (λ m. (c.file, m)) c.reactor.now.members.items
+
+-- the parameters that a reactor declares
+abbrev pub parameters_of : Class → List (ℕ × Parameter)
+parameters_of c = map (λ p. (c.file, p)) c.reactor.now.parameters.items
+
+-- the members that a reactor declares, if there is one
+abbrev pub members_or_none : Option Class → List (ℕ × Member)
+members_or_none None = []
+members_or_none (Some c) = members_of c
+
+-- the parameters that a reactor declares, if there is one
+abbrev pub parameters_or_none : Option Class → List (ℕ × Parameter)
+parameters_or_none None = []
+parameters_or_none (Some c) = parameters_of c
+
+-- the members that the reactor of this number declares
+abbrev pub members_at : Scopes → ℕ → List (ℕ × Member)
+members_at scopes r = members_or_none (class_at scopes r)
+
+-- the parameters that the reactor of this number declares
+abbrev pub parameters_at : Scopes → ℕ → List (ℕ × Parameter)
+parameters_at scopes r = parameters_or_none (class_at scopes r)
+
+-- a reactor, and the members and parameters that are listed of it
+pub record Core : Type 0 where
+  pub class : Class
+  pub members : List Inherited
+  pub parameters : List InheritedParameter
+
+-- those of a shape
+abbrev pub core : Shape → Core
+core shape = record { class = shape.class; members = shape.members.items; parameters = shape.parameters.items }
+
+-- those of each shape
+abbrev pub cores : List Shape → List Core
+cores shapes = map core shapes
+
+-- the members and parameters are those of all that the reactor extends and of itself, one reactor after another
+pub record IsBuilt (scopes : Scopes) (c : Core) : Type 0 where
+  pub chain : List ℕ
+  pub extends : IsList (base_of scopes) c.class.number chain
+  pub has_members : located c.members ≡ flat_map (members_at scopes) chain
+  pub has_parameters : located_parameters c.parameters ≡ flat_map (parameters_at scopes) chain
+
+-- so it is of each one
+abbrev pub AreBuilt : Scopes → List Core → Type 0
+AreBuilt scopes cs = (i : ℕ) (c : Core) → slice_get cs i ≡ Some c → IsBuilt scopes c
+
+-- the reactor of the first one
+abbrev pub first_class : List Core → Option Class
+first_class cs = option_map (λ c. c.class) (slice_get cs 0)

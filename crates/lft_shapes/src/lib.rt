@@ -1,0 +1,19 @@
+#![tactic(auto)]
+//! Reactors of several files with all that they inherit, and which of their parameters decide widths or are
+//! times.
+
+mod chains;
+mod deciding;
+mod making;
+mod nesting;
+mod scopes;
+mod shapes;
+mod stems;
+mod walk;
+mod weights;
+mod work;
+
+pub use nesting::Nesting;
+pub use scopes::Class;
+pub use shapes::{Child, Given, Inherited, InheritedParameter, Shape, Thing};
+pub use work::Work;
