@@ -5,18 +5,23 @@ _lftrace() {
     [[ $word == = ]] && word=
     [[ $before == = ]] && before=${COMP_WORDS[COMP_CWORD - 2]}
     if [[ $COMP_CWORD -eq 1 ]]; then
-        choice="judge cover explain pair record show help -h --help -V --version"
+        choice="judge cover explain pair follow record show help -h --help -V --version"
     elif [[ $before == help ]]; then
-        choice="judge cover explain pair record show"
+        choice="judge cover explain pair follow record show"
     elif [[ $before == --workers ]]; then
         choice="1 2 4 8 16 32 64"
     elif [[ $before == --max-runs ]]; then
         choice="1000 1000000"
+    elif [[ $before == --until ]]; then
+        choice="0,0"
+    elif [[ $before == --every ]]; then
+        choice="1000000"
     elif [[ $word == -* ]]; then
         case ${COMP_WORDS[1]} in
             judge | pair) choice="--workers -h --help" ;;
             cover) choice="--workers --list -h --help" ;;
             explain) choice="--workers --all -h --help" ;;
+            follow) choice="--until --every -h --help" ;;
             record) choice="--workers --max-runs -h --help" ;;
             show) choice="-h --help" ;;
         esac

@@ -157,6 +157,31 @@ def right_things():
     case("standard input by its path", ["judge", "blink.lf", "externals.csv", "/dev/stdin"], prints(ACCEPTED), stdin=ROWS)
 
 
+def follows():
+    """A trace that is followed: its words, its ends, and what it may not have."""
+    usual = ["follow", "blink.lf", "externals.csv"]
+    lost = ROWS.replace("end,1,5000000,0,main#2,,,\n", "")
+    case("a trace followed from standard input", usual, prints(ACCEPTED), stdin=ROWS)
+    case("a trace followed from a file", ["follow", *USUAL], prints(ACCEPTED))
+    case("a path for standard input, followed", [*usual, "/dev/stdin"], prints(ACCEPTED), stdin=ROWS)
+    case("a trace without its last row, followed", usual, prints("unbroken runs=4 tags=2 time=5000000 microstep=0\n", 3), stdin=ROWS[: ROWS.rindex("end,")])
+    case("a run without an end, followed", usual, prints("broken rule=5 unended line=8 time=5000000 microstep=0 reaction=main#2\n", 1), stdin=lost)
+    case("a run that starts too early, followed", usual, prints("odd line=9 runs=0 tags=0\n", 4), stdin=EARLY)
+    case("followed up to a tag", [*usual, "--until", "5000000,0"], prints("unbroken runs=4 tags=2 time=5000000 microstep=0\n"), stdin=ROWS)
+    case("followed up to a tag, with a sign of equality", [*usual, "--until=0,1"], prints("unbroken runs=4 tags=2 time=5000000 microstep=0\n"), stdin=ROWS)
+    case("followed past the end", [*usual, "--until", "20000000,0"], prints(ACCEPTED), stdin=ROWS)
+    case("followed, and told at each row", [*usual, "--every", "1"], {"status": 0, "out": ACCEPTED, "err": "unbroken runs=4 tags=2 time=5000000 microstep=0\n"}, stdin=ROWS)
+    case("an empty trace, followed", usual, fault("trace 1 BadHeader"), stdin="")
+    case("a name with quotation marks, followed", usual, fault("trace 14 NotPlain line=2"), stdin=ROWS.replace("main#1", '"main#1"', 1))
+    case("a line without an end, followed", usual, fault("trace 13 LongLine line=2"), stdin=HEADER + "\n" + "x" * 2_000_000)
+    case("the events in the log, followed", usual, fault("trace 2 BadFieldCount line=2"), stdin=ROWS.replace("start", "event,0,0,main.a,7\nstart", 1))
+    case("a log that isn't there", [*usual, "nothing.csv"], fault("read 1 Failed nothing.csv"))
+    case("a tag without a microstep", [*usual, "--until", "5000000"], refused("error: `--until` wants TIME,MICROSTEP, as 5000000,0\n"))
+    case("a tag with a unit", [*usual, "--until", "5 ms,0"], refused("error: `--until` wants TIME,MICROSTEP, as 5000000,0\n"))
+    case("no external inputs, followed", ["follow", "blink.lf"], refused("error: the following required arguments were not provided:\n  <EXTERNALS>\n"))
+    case("two logs", [*usual, "trace.csv", "trace.csv"], refused("error: unexpected argument 'trace.csv' found\n"))
+
+
 def long_rows(tags):
     """The rows of the usual program at so many tags from the first on."""
     run = "start,{w},{t},0,main#{r},,,\nend,{w},{t},0,main#{r},,,\n"
@@ -416,6 +441,6 @@ def program_texts():
 
 def cases():
     """All cases, in order."""
-    for group in (right_things, long_tables, headers, rows, words, pairs, recordings, help_and_version, files, causes, seen, bundles, program_texts):
+    for group in (right_things, follows, long_tables, headers, rows, words, pairs, recordings, help_and_version, files, causes, seen, bundles, program_texts):
         group()
     return CASES

@@ -1,6 +1,7 @@
 -- Whether reactions met, as a test.
-use Rattle.std.proofs.Common.{◌≡◌, ◌<◌, ◌+◌, ◌/◌, ◌%◌, ◌++◌, ℕ, Bool, true, false, List, [], ◌∷◌, length, flat_map, refl, sym, ap, ◌∙◌, arith, eq-eqb}
+use Rattle.std.proofs.Common.{◌≡◌, ◌<◌, ◌≤◌, ◌+◌, ◌/◌, ◌%◌, ◌++◌, ℕ, zero, suc, Bool, true, false, List, [], ◌∷◌, length, flat_map, take, refl, sym, ap, ◌∙◌, arith, eq-eqb}
 use Rattle.std.specs.Prelude.{◌↔◌, IsTrue, unwrap_or, slice_index}
+use Rattle.std.specs.List.{enumerate_from}
 use Rattle.std.specs.Int.{bit_at}
 use Rattle.std.proofs.lemmas.Bool.{ne_eqb}
 use Rattle.lft_lists.proofs.Places.{get_there}
@@ -27,3 +28,12 @@ none_met program set then [] empty = refl
 none_met program set then (x ∷ xs) empty =
     let off : has set x.0 ≡ false = ne_eqb (bit_at (slice_index set (x.0 / 64)) (x.0 % 64)) 1 (empty x.0) in
     ap (λ b. pair_words program b x.0 then ++ flat_map (λ d. pair_words program (has set d.0) d.0 then) xs) off ∙ none_met program set then xs empty
+
+-- no lines of so many reactions from a number on, none of which is in the set
+pub none_met_from : {X : Type 0} (program : Parts) (set : List ℕ) (then n from : ℕ) (xs : List X) → ((r : ℕ) → from ≤ r → r < from + n → Has set r → ⊥) → flat_map (λ d. pair_words program (has set d.0) d.0 then) (take n (enumerate_from from xs)) ≡ []
+none_met_from program set then zero from xs none = refl
+none_met_from program set then (suc n) from [] none = refl
+none_met_from program set then (suc n) from (x ∷ xs) none =
+    let off : has set from ≡ false = ne_eqb (bit_at (slice_index set (from / 64)) (from % 64)) 1 (none from (omega arith) (omega arith)) in
+    ap (λ b. pair_words program b from then ++ flat_map (λ d. pair_words program (has set d.0) d.0 then) (take n (enumerate_from (from + 1) xs))) off
+    ∙ none_met_from program set then n (from + 1) xs (λ r l m h. none r (omega (arith, l)) (omega (arith, m)) h)

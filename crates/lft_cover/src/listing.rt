@@ -1,8 +1,9 @@
 //! What was exercised, one fact a line.
 
-ghost use Rattle.std.specs.Prelude.{◌≡◌, ◌++◌, ◌<◌, ◌≤◌, ℕ, flat_map, length, OnOk, string_bytes};
+ghost use Rattle.std.specs.Prelude.{◌≡◌, ◌++◌, ◌<◌, ◌≤◌, ℕ, drop, flat_map, length, OnOk, string_bytes, take};
 ghost use Rattle.std.specs.List.{enumerate_from};
-ghost use Rattle.lft_cover.specs.Facts.{HasSets, HasCounts, fact_lines, order_line, pair_lines, pair_words, run_line, width_line, worker_line, write_line};
+ghost use Rattle.lft_cover.specs.Facts.{HasSets, HasCounts, fact_lines, has, order_line, pair_lines, pair_words, run_line, width_line, worker_line, write_line};
+ghost use Rattle.lft_counts.specs.Overlaps.{met_by};
 ghost use Rattle.lft_counts.specs.Workers.{by_number};
 
 use lft_counts::{Cover, Order, Overlaps, Workers};
@@ -154,7 +155,28 @@ fn push_pair(
     Ok(())
 }
 
+/// Puts the lines of 64 reactions, from a number on, at the end of a text: of those that had an open run when
+/// a run of this one started.
+fn push_met_from(
+    text: &mut String,
+    program: &Program,
+    overlaps: &Overlaps,
+    then: u32,
+    from: usize,
+) -> Result<(), AllocError>
+    requires sets { HasSets program.now overlaps.now }
+    requires reaction { then < length program.now.reactions }
+    ensures { OnOk result (string_bytes text.new ≡ string_bytes text.old ++ flat_map (λ d. pair_words program.now (has (met_by overlaps.now then) d.0) d.0 then) (take 64 (enumerate_from from (drop from program.now.reactions)))) }
+{
+    for number in from..program.reactions().min(from.saturating_add(64)) {
+        let met = overlaps.has_met(then, number as u32);
+        push_pair(text, program, met, number as u32, then)?;
+    }
+    Ok(())
+}
+
 /// Puts the lines of all reactions at the end of a text that had an open run when a run of this one started.
+/// Reactions that had none are passed 64 at a time.
 fn push_met(
     text: &mut String,
     program: &Program,
@@ -165,9 +187,10 @@ fn push_met(
     requires reaction { then < length program.now.reactions }
     ensures { OnOk result (string_bytes text.new ≡ string_bytes text.old ++ pair_lines program.now overlaps.now then) }
 {
-    for number in 0..program.reactions() {
-        let met = overlaps.has_met(then, number as u32);
-        push_pair(text, program, met, number as u32, then)?;
+    for word in 0..program.reactions() / 64 + 1 {
+        if !overlaps.has_none(then, word) {
+            push_met_from(text, program, overlaps, then, word * 64)?;
+        }
     }
     Ok(())
 }

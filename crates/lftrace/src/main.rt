@@ -1,8 +1,10 @@
 //! Judges recorded traces of Lingua Franca programs, compares them, and records executions.
 #![tactic(auto)]
 
+mod follow;
 mod words;
 
+use crate::follow::end_followed;
 use crate::words::{Job, JudgeWords, PairWords, RecordWords, read_words};
 use lft_covering::cover_answer;
 use lft_front::{
@@ -23,9 +25,9 @@ use std::{env, fs, io};
 
 /// Why a command has no answer, and where a file can't be read, the cause in words, if it is known.
 #[derive(Drop)]
-struct Refusal {
+pub(crate) struct Refusal {
     fault: Fault,
-    cause: Option<&'static str>,
+    pub(crate) cause: Option<&'static str>,
 }
 
 impl From<Fault> for Refusal {
@@ -53,19 +55,25 @@ fn is_folder<F: Files>(rt: &F, path: &str) -> bool {
     }
 }
 
-/// The bytes of the file at a path.
-fn read_file<F: Files>(rt: &F, alloc: Global, path: &str) -> Result<Vec<u8>, Refusal> {
+/// The file at a path.
+pub(crate) fn open_file<F: Files>(rt: &F, alloc: Global, path: &str) -> Result<F::File, Refusal> {
     match File::open(rt, path) {
-        Ok(mut file) => match read_input(alloc, path, &mut file) {
-            Ok(bytes) => Ok(bytes),
-            Err(fault) => Err(Refusal {
-                fault,
-                cause: is_folder(rt, path).then_some("that is a folder"),
-            }),
-        },
+        Ok(file) => Ok(file),
         Err(error) => Err(Refusal {
             fault: Fault::of_path(alloc, Part::Read, 1, "Failed", path),
             cause: cause_of(path, error.kind()),
+        }),
+    }
+}
+
+/// The bytes of the file at a path.
+pub(crate) fn read_file<F: Files>(rt: &F, alloc: Global, path: &str) -> Result<Vec<u8>, Refusal> {
+    let mut file = open_file(rt, alloc, path)?;
+    match read_input(alloc, path, &mut file) {
+        Ok(bytes) => Ok(bytes),
+        Err(fault) => Err(Refusal {
+            fault,
+            cause: is_folder(rt, path).then_some("that is a folder"),
         }),
     }
 }
@@ -358,7 +366,7 @@ fn words_for(job: Job<'_>, answer: &Result<bool, Refusal>) -> Option<&'static st
 }
 
 /// Says something at a terminal.
-fn say(rt: &HostRuntime, words: Option<&'static str>) {
+pub(crate) fn say(rt: &HostRuntime, words: Option<&'static str>) {
     if let Some(words) = words
         && rt.stderr().is_terminal()
     {
@@ -377,7 +385,7 @@ fn write_cause<W: Write>(answer: &Result<bool, Refusal>, out: &mut W) {
 
 /// The status of the answer. The line of a fault goes out in one write, where there is memory to put
 /// it together: other processes may write to the same standard error.
-fn end(rt: &HostRuntime, alloc: Global, answer: Result<bool, Refusal>) -> u8 {
+pub(crate) fn end(rt: &HostRuntime, alloc: Global, answer: Result<bool, Refusal>) -> u8 {
     let answer = answer.map_err(|refusal| refusal.fault);
     match BufWriter::new(alloc, rt.stderr()) {
         Ok(mut errors) => {
@@ -429,6 +437,7 @@ fn main(rt: HostRuntime) -> ExitCode {
         Job::ExplainProgram(path) => explain_program(&rt, alloc, path, &mut out),
         Job::Pair(words) => pair_files(&rt, alloc, words, &mut out),
         Job::Record(words) => record_files(&rt, alloc, words, &mut out),
+        Job::Follow(words) => return end_followed(&rt, alloc, words, &mut out),
         Job::Show(path) => show_file(&rt, alloc, path, &mut out),
     };
     if job.is_explained() {

@@ -1,6 +1,9 @@
 //! The command line.
 
+use clap::error::ErrorKind;
 use clap::{Arg, ArgAction, ArgMatches, Command, Error};
+use lft_monitor::{Following, read_until};
+use lft_tag::Tag;
 use std::alloc::Global;
 
 const VERSION: &str = "0.1.0";
@@ -49,6 +52,17 @@ stop), or the state word that each leaves (state). Words are paths of files.
 Printed: the trace table (status 0); where the recording stops, the rows so far,
 and a fault of part pool (status 2).";
 
+const FOLLOW_HELP: &str = "\
+EXTERNALS has the header  kind,time,microstep,name,value
+LOG has the header        event,worker,time,microstep,reaction,name,value,delay
+Times are in nanoseconds. Words are paths of files; without LOG it is standard input.
+Its lines are plain: without quotation marks. Nothing is read behind what is told.
+Printed: accepted runs=R tags=G (status 0); broken rule=N .. (status 1), as soon as
+it is sure, of the rules 1 to 5; odd line=L runs=R tags=G .. (status 4), where the
+rows up to line L may break one of the rules 6 to 10: judge tells; unbroken runs=R
+tags=G time=T microstep=M at the end (status 3), where rows are missing, or with
+--until (status 0).";
+
 const SHOW_HELP: &str = "\
 PROGRAM is the path of a file; /dev/stdin is standard input.
 Printed: port P origin=O after=TIME+STEPS for each port, then
@@ -83,6 +97,16 @@ pub struct RecordWords<'a> {
     pub max_runs: u32,
 }
 
+/// The words of `follow`: two or three paths, and how the table is followed.
+#[derive(Clone, Copy)]
+pub struct FollowWords<'a> {
+    pub program: &'a str,
+    pub externals: &'a str,
+    /// None is standard input.
+    pub log: Option<&'a str>,
+    pub following: Following,
+}
+
 /// What the command line asks for.
 #[derive(Clone, Copy)]
 pub enum Job<'a> {
@@ -101,6 +125,8 @@ pub enum Job<'a> {
     ExplainPair { words: PairWords<'a>, all: bool },
     Pair(PairWords<'a>),
     Record(RecordWords<'a>),
+    /// To judge a trace while it is written.
+    Follow(FollowWords<'a>),
     /// To show the ports and the precedence of the program at a path.
     Show(&'a str),
 }
@@ -218,6 +244,28 @@ fn record_command<'a>(alloc: Global) -> Result<Command<'a>, Error> {
     Ok(command)
 }
 
+fn follow_command<'a>(alloc: Global) -> Result<Command<'a>, Error> {
+    let until = Arg::new(alloc, "until")
+        .long("until")
+        .value_name("TIME,MICROSTEP")
+        .help("ends behind the first tag at or past this one that has rows");
+    let every = Arg::new(alloc, "every")
+        .long("every")
+        .value_name("N")
+        .help("after N rows tells on standard error how far they are judged; 0 is never")
+        .default_value("0")
+        .value_parser(clap::value_parser!(u64).range(0..1_000_000_000_000));
+    let command = Command::new(alloc, "follow")
+        .about("Judges a trace while it is written, and keeps none of its rows")
+        .arg(path(alloc, "PROGRAM", "the program's text"))?
+        .arg(path(alloc, "EXTERNALS", "the table of external inputs"))?
+        .arg(path(alloc, "LOG", "the trace table").required(false))?
+        .arg(until)?
+        .arg(every)?
+        .after_help(FOLLOW_HELP);
+    Ok(command)
+}
+
 fn show_command<'a>(alloc: Global) -> Result<Command<'a>, Error> {
     let command = Command::new(alloc, "show")
         .about("Shows the ports of a program and which of its reactions precede which")
@@ -236,6 +284,7 @@ fn root_command<'a>(alloc: Global) -> Result<Command<'a>, Error> {
         .subcommand(cover_command(alloc)?)?
         .subcommand(explain_command(alloc)?)?
         .subcommand(pair_command(alloc)?)?
+        .subcommand(follow_command(alloc)?)?
         .subcommand(record_command(alloc)?)?
         .subcommand(show_command(alloc)?)?
         .after_help(HELP);
@@ -288,6 +337,38 @@ fn explain_job<'a>(matches: &ArgMatches<'a>) -> Job<'a> {
     }
 }
 
+/// The tag that `--until` names, if it is there.
+fn until<'a>(alloc: Global, matches: &ArgMatches<'a>) -> Result<Option<Tag>, Error> {
+    if !matches.contains_id("until") {
+        return Ok(None);
+    }
+    match read_until(text(matches, "until").as_bytes()) {
+        Some(tag) => Ok(Some(tag)),
+        None => {
+            let words = "`--until` wants TIME,MICROSTEP, as 5000000,0";
+            let mut command = follow_command(alloc)?;
+            Err(command.error(ErrorKind::ValueValidation, words)?)
+        }
+    }
+}
+
+/// The words of `follow`.
+fn follow_words<'a>(alloc: Global, matches: &ArgMatches<'a>) -> Result<FollowWords<'a>, Error> {
+    let until = until(alloc, matches)?;
+    let every = matches.get_one::<u64>("every").unwrap_or(0);
+    let log = if matches.contains_id("LOG") {
+        Some(text(matches, "LOG"))
+    } else {
+        None
+    };
+    Ok(FollowWords {
+        program: text(matches, "PROGRAM"),
+        externals: text(matches, "EXTERNALS"),
+        log,
+        following: Following { until, every },
+    })
+}
+
 /// What the words ask for, the first being the program's own name. The error is the command line's:
 /// a refusal, or the help that was asked for.
 pub(crate) fn read_words<'a>(alloc: Global, words: &'a [String]) -> Result<Job<'a>, Error> {
@@ -301,6 +382,7 @@ pub(crate) fn read_words<'a>(alloc: Global, words: &'a [String]) -> Result<Job<'
         }),
         Some(("explain", explain)) => Ok(explain_job(explain)),
         Some(("pair", pair)) => Ok(Job::Pair(pair_words(pair, "FIRST"))),
+        Some(("follow", follow)) => Ok(Job::Follow(follow_words(alloc, follow)?)),
         Some(("record", record)) => Ok(Job::Record(RecordWords {
             program: text(record, "PROGRAM"),
             externals: text(record, "EXTERNALS"),

@@ -1,4 +1,4 @@
-use Rattle.std.proofs.Common.{◌≡◌, ◌<◌, ℕ, List, length, Some, slice_get, sym, subst, arith}
+use Rattle.std.proofs.Common.{◌≡◌, ◌<◌, ℕ, List, length, Some, slice_get, subst, arith}
 use Rattle.lft_graph.proofs.Ancestry.{member_known, order_known, order_listed}
 use Rattle.lft_cover.proofs.closure.ordered_pairs.Goals as goal
 

@@ -1,0 +1,209 @@
+//! A trace table that is judged while it is written.
+
+ghost use Rattle.std.specs.Prelude.{◌≡◌, ◌≢◌, ◌++◌, ℕ, List, Option, IfOk, IfSome, OnOk, MatchOption};
+ghost use Rattle.std.specs.Io.KnownBytes.{Appends};
+ghost use Rattle.lft_tag.specs.declared.Tag.{Tag as TheTag};
+ghost use Rattle.lft_tag.specs.Tags.{IsRecorded};
+ghost use Rattle.lft_load.specs.declared.fault.Part.TheVariants as part;
+ghost use Rattle.lft_log.specs.Told.{IsLog, IsSoon};
+ghost use Rattle.lft_monitor.specs.Lines.{HasFound, line_of_log, log_status};
+ghost use Rattle.lft_monitor.specs.Followed.{IsFollowed, IsRead, until_words};
+
+use crate::line::{line_of_final, unbroken_line};
+use lft_flat::Program;
+use lft_follow::{Ending, Reach};
+use lft_load::{Detail, Fault, Part, load, write_text};
+use lft_log::{Final, Log, LogFault, Told};
+use lft_model::Plan;
+use lft_tag::{MAX_MICRO, MAX_TIME, Tag};
+use lft_trace::number::read_number;
+use memchr::memchr;
+use std::alloc::Global;
+use std::io::{ErrorKind, Read, Write};
+
+/// So many bytes are read at once at most.
+const CHUNK: usize = 1 << 18;
+
+/// How a table is followed.
+#[derive(Clone, Copy)]
+pub struct Following {
+    /// No row is judged behind the first tag with rows at or past this one.
+    pub until: Option<Tag>,
+    /// After so many rows how far they are judged is told; never where this is 0.
+    pub every: u64,
+}
+
+/// The tag of the words `TIME,MICROSTEP`.
+pub fn read_until(words: &[u8]) -> Option<Tag>
+    ensures { IfSome result (λ g. IsRecorded g × until_words words.now g) }
+{
+    let comma = memchr(b',', words)?;
+    let time = read_number(&words[0..comma], MAX_TIME)?;
+    let micro = read_number(&words[comma + 1..words.len()], u64::from(MAX_MICRO))?;
+    Some(Tag {
+        time,
+        micro: micro as u32,
+    })
+}
+
+/// The status of what is told: 0 where the rows are accepted, or unbroken as far as they were asked for;
+/// 1 broken; 3 unbroken, and rows are missing; 4 where it isn't known.
+pub fn status_of_log(told: Final) -> u8
+    ensures { result ≡ log_status told }
+{
+    match told {
+        Final::AtEnd(Ending::Accepted(_)) => 0,
+        Final::Soon(Told::Reached(_)) => 0,
+        Final::Soon(Told::Broken(_)) => 1,
+        Final::AtEnd(Ending::Unbroken(_)) => 3,
+        Final::Soon(Told::Odd(_, _)) => 4,
+    }
+}
+
+/// A fault of a line of the table, whose number may have 64 bits.
+fn fault_at(alloc: Global, number: u32, name: &'static str, line: u64) -> Fault
+    ensures { result.part ≢ part.Write }
+{
+    if line <= u64::from(u32::MAX) {
+        return Fault::of_line(Part::Trace, number, name, line as u32);
+    }
+    match format!(in alloc; "line={line}") {
+        Ok(words) => Fault {
+            detail: Detail::Words(words),
+            ..Fault::plain(Part::Trace, number, name)
+        },
+        Err(_) => Fault::no_memory(),
+    }
+}
+
+/// The fault of a table that can't be followed.
+fn fault_of(alloc: Global, fault: LogFault) -> Fault
+    ensures { result.part ≢ part.Write }
+{
+    match fault {
+        LogFault::NoHeader => Fault::plain(Part::Trace, 1, "BadHeader"),
+        LogFault::NoRow(fault, line) => {
+            let plain = Fault::trace(fault);
+            fault_at(alloc, plain.number, plain.name, line)
+        }
+        LogFault::LongLine(line) => fault_at(alloc, 13, "LongLine", line),
+        LogFault::NotPlain(line) => fault_at(alloc, 14, "NotPlain", line),
+        LogFault::TooManyRows => Fault::plain(Part::Trace, 10, "TooManyRows"),
+        LogFault::NoMemory => Fault::no_memory(),
+    }
+}
+
+/// Tells how far rows are judged.
+fn tell_reach<E: Write>(alloc: Global, reach: Reach, errors: &mut E) -> Result<(), Fault> {
+    match unbroken_line(alloc, reach) {
+        Ok(line) => write_text(line.as_bytes(), errors),
+        Err(_) => Err(Fault::no_memory()),
+    }
+}
+
+/// Goes on past a piece of the table.
+fn add<E: Write>(
+    log: &mut Log,
+    alloc: Global,
+    plan: &Plan,
+    piece: &[u8],
+    every: u64,
+    errors: &mut E,
+) -> Result<Option<Told>, Fault>
+    requires { (until : Option TheTag) × (bytes : List ℕ) × IsLog plan.now until bytes log.old }
+    ensures { IfOk result (λ o. (until : Option TheTag) (bytes : List ℕ) → IsLog plan.now until bytes log.old → MatchOption o (IsLog plan.now until (bytes ++ piece.now) log.new) (IsSoon plan.now until (bytes ++ piece.now))) }
+{
+    let before = log.rows();
+    match log.add(alloc, plan, piece) {
+        Ok(None) => {
+            if every > 0 && log.rows() / every > before / every {
+                tell_reach(alloc, log.reach(plan), errors)?;
+            }
+            Ok(None)
+        }
+        Ok(Some(told)) => Ok(Some(told)),
+        Err(fault) => Err(fault_of(alloc, fault)),
+    }
+}
+
+/// What the table of a reader shows, up to its end or to what is told before.
+fn read_log<R: Read, E: Write>(
+    alloc: Global,
+    plan: &Plan,
+    path: &str,
+    reader: &mut R,
+    following: Following,
+    errors: &mut E,
+) -> Result<Final, Fault>
+    ensures { IfOk result (IsRead plan.now following.until (R.remaining reader.old) (R.remaining reader.new)) }
+{
+    let Ok(mut log) = Log::new(alloc, plan, following.until) else {
+        return Err(Fault::no_memory());
+    };
+    let mut chunk = [0u8; CHUNK];
+    for _ in 0..u64::MAX {
+        match reader.read(&mut chunk) {
+            Ok(0) => {
+                return match log.finish(alloc, plan) {
+                    Ok(told) => Ok(told),
+                    Err(fault) => Err(fault_of(alloc, fault)),
+                };
+            }
+            Ok(count) => {
+                let piece = &chunk[..count];
+                match add(&mut log, alloc, plan, piece, following.every, errors) {
+                    Ok(None) => {}
+                    Ok(Some(told)) => return Ok(Final::Soon(told)),
+                    Err(fault) => return Err(fault),
+                }
+            }
+            Err(error) => {
+                if error.kind() != ErrorKind::Interrupted {
+                    return Err(Fault::of_path(alloc, Part::Read, 1, "Failed", path));
+                }
+            }
+        }
+    }
+    Err(Fault::of_path(alloc, Part::Read, 2, "TooLarge", path))
+}
+
+/// Writes the line of what is told.
+fn report<W: Write>(alloc: Global, program: &Program, told: Final, out: &mut W) -> Result<(), Fault>
+    requires { HasFound program.now told }
+    ensures { OnOk result (Appends (W.contents out.old) (W.contents out.new) (line_of_log program.now told)) }
+{
+    match line_of_final(alloc, program, told) {
+        Ok(line) => write_text(line.as_bytes(), out),
+        Err(_) => Err(Fault::no_memory()),
+    }
+}
+
+/// Follows the trace table of a reader, and writes the line of what is told of it. Each `every` rows it
+/// writes how far they are judged to `errors`. The fault is that of `load`; or of a line of the table,
+/// once the rows before it are judged; `read` 1 `Failed` where the reader fails; `write` 1 `Failed` where
+/// a writer fails; `memory` 1. The path is for a fault alone.
+pub fn follow_log<R: Read, W: Write, E: Write>(
+    alloc: Global,
+    program: &[u8],
+    externals: &[u8],
+    path: &str,
+    reader: &mut R,
+    following: Following,
+    out: &mut W,
+    errors: &mut E,
+) -> Result<Final, Fault>
+    ensures followed { IfOk result (IsFollowed program.now externals.now following.until (R.remaining reader.old) (R.remaining reader.new) (W.contents out.old) (W.contents out.new)) }
+{
+    let plan = match load(alloc, program, externals) {
+        Ok(plan) => plan,
+        Err(fault) => return Err(fault),
+    };
+    let told = match read_log(alloc, &plan, path, reader, following, errors) {
+        Ok(told) => told,
+        Err(fault) => return Err(fault),
+    };
+    match report(alloc, plan.program(), told, out) {
+        Ok(()) => Ok(told),
+        Err(fault) => Err(fault),
+    }
+}

@@ -1,0 +1,8 @@
+#![tactic(auto)]
+//! Traces that are followed while they are written: from readers to printed lines.
+
+mod follow;
+mod line;
+
+pub use follow::{Following, follow_log, read_until, status_of_log};
+pub use lft_log::{Final, Told};

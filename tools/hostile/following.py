@@ -1,0 +1,146 @@
+"""What `lftrace follow` tells of a trace table, reckoned from docs/FORMATS.md and not from the code.
+
+It goes row by row, and asks the rows up to the last finished tag as a whole each time. `odd` may be told
+with any reach and line that fit: they depend on the pieces in which the table came.
+"""
+from hostile import tables
+from hostile.machine import RULES, Events, at_tag, row_breach, runs_of
+
+HEADER = tables.HEADERS["trace"].encode()
+
+
+def is_whole(line):
+    """Whether nothing can be missing of a last line without its end."""
+    return line.count(b",") == 7 and line.endswith(b",") and not line.startswith(b"schedule,")
+
+
+def rows_before_fault(flat, text):
+    """The rows of a table up to the first line that is none, that line's fault, and whether a half line is left."""
+    *lines, rest = text.split(b"\n")
+    if is_whole(rest):
+        lines, rest = [*lines, rest], b""
+    if not lines or lines[0].removesuffix(b"\r") != HEADER:
+        return [], "trace 1 BadHeader", False
+    rows = []
+    for line in (one.removesuffix(b"\r") for one in lines[1:]):
+        if not line:
+            continue
+        if b"\"" in line or b"\r" in line:
+            return rows, f"trace 14 NotPlain line={len(rows) + 2}", False
+        try:
+            rows += tables.read_trace(flat, HEADER + b"\n" + line)
+        except tables.Refused as fault:
+            return rows, str(fault).replace("line=2", f"line={len(rows) + 2}"), False
+    return rows, "", bool(rest)
+
+
+def before_last(rows):
+    """The rows but those at the tag of the last one."""
+    end = len(rows)
+    while end and rows[end - 1].tag == rows[-1].tag:
+        end -= 1
+    return rows[:end]
+
+
+def reach(rows):
+    """The words for how far rows reach."""
+    tags = sorted({row.tag for row in rows if row.event == "start"})
+    runs = sum(row.event == "start" for row in rows)
+    return f"runs={runs} tags={len(tags)}" + (f" {at_tag(tags[-1])}" if tags else "")
+
+
+def is_clean(plan, rows):
+    """Whether rows at finished tags break no rule from 6 to 10 up to the last one, and make no two events meet."""
+    for tag in sorted({row.tag for row in rows}):
+        if Events(plan, [row for row in rows if row.tag <= tag]).collision():
+            return False
+    events, runs = Events(plan, rows), runs_of(rows)
+    for tag in events.tags(runs):
+        if rows and tag > rows[-1].tag:
+            break
+        due, here = events.due(tag), runs.get(tag, {})
+        if not rows or due != set(here):
+            return not rows
+        for number, run in here.items():
+            if any(one in here and here[one]["end"] > run["start"] for one in plan.flat.preceding[number]):
+                return False
+            if run["reads"] != events.inputs(tag, number):
+                return False
+    return True
+
+
+def first_bad(plan, rows):
+    """The first row behind which a rule from 1 to 5 is sure to be broken: its place, the rule and that rule's row."""
+    for place, row in enumerate(rows):
+        before = rows[:place]
+        if before and row.tag > before[-1].tag:
+            lost = row_breach(plan, before, (5,))
+            if lost and lost[2] < row.tag:
+                return place, lost
+        broken = row_breach(plan, rows[:place + 1], (1, 2, 3, 4)) if row.event != "stop" else row_breach_of_stop(plan, rows[:place + 1])
+        if broken:
+            return place, broken
+    return None
+
+
+def row_breach_of_stop(plan, rows):
+    """The breach of the last row, a stop row: it lowers the stop for the rows behind it alone."""
+    own = rows[-1]._replace(event="end")
+    found = row_breach(plan, [*rows[:-1], own], (1, 2, 3, 4))
+    return found
+
+
+def asked(rows, until):
+    """The rows that are judged, and whether a row behind the last tag that is asked for is among them."""
+    if until is None:
+        return rows, False
+    last = next((row.tag for row in rows if row.tag >= until), None)
+    for place, row in enumerate(rows):
+        if last is not None and row.tag > last and any(other.tag == last for other in rows[:place]):
+            return rows[:place + 1], True
+    return rows, False
+
+
+def told(plan, flat, text, until=None):
+    """The line of `lftrace follow`, and the status. Of `odd` the first word alone."""
+    rows, fault, has_rest = rows_before_fault(flat, text)
+    rows, is_past = asked(rows, until)
+    bad = first_bad(plan, rows)
+    done = before_last(rows[:bad[0]] if bad else rows)
+    if not is_clean(plan, done):
+        return "odd", 4
+    if bad:
+        rule, line, tag, reaction = bad[1]
+        return f"broken rule={rule} {RULES[rule]} line={line} {at_tag(tag)} reaction={plan.flat.reactions[reaction].name}", 1
+    if is_past:
+        return f"unbroken {reach(done)}", 0
+    if fault:
+        return f"fault {fault}", 2
+    if row_breach(plan, rows) or not is_clean(plan, rows):
+        return f"unbroken {reach(done)}", 3
+    if not is_ended(plan, rows):
+        return f"unbroken {reach(rows)}", 3
+    if has_rest:
+        return f"unbroken {reach(done)}", 3
+    return f"accepted {reach(rows).split(' time=')[0]}", 0
+
+
+def is_ended(plan, rows):
+    """Whether nothing is due behind the last row."""
+    events, runs = Events(plan, rows), runs_of(rows)
+    return all(not events.due(tag) - set(runs.get(tag, ())) and not events.collides(tag) for tag in events.tags(runs))
+
+
+def fits_odd(plan, flat, text, line):
+    """Why a line `odd ..` can't be told of a table; nothing if it can."""
+    rows, _, _ = rows_before_fault(flat, text)
+    words = dict(word.split("=") for word in line.split()[1:])
+    place = int(words["line"]) - 1
+    if not 0 < place <= len(rows):
+        return "a line that isn't there"
+    if is_clean(plan, rows[:place]) and not row_breach(plan, rows[:place]):
+        return "no breach up to its line"
+    shown = line.replace(f" line={words['line']}", "").removeprefix("odd ")
+    tags = sorted({row.tag for row in rows[:place]})
+    fronts = [[], *([row for row in rows[:place] if row.tag <= tag] for tag in tags)]
+    return "" if any(reach(front) == shown and is_clean(plan, front) for front in fronts) else "a reach that isn't clean"
