@@ -45,7 +45,7 @@ abbrev pub HasFound : Parts → Final → Type 0
 HasFound program (Soon (Broken b)) = b.reaction < length program.reactions
 HasFound program told = Unit {0}
 
--- the status of what is told: 0 accepted, or unbroken as far as was asked for; 1 broken; 3 unbroken, and rows are missing; 4 where it isn't known
+-- the status of what is told: 0 accepted, or unbroken as far as was asked for; 1 broken; 3 unbroken at the end; 4 odd
 abbrev pub log_status : Final → ℕ
 log_status (Soon (Broken b)) = 1
 log_status (Soon (Odd r line)) = 4

@@ -1,6 +1,6 @@
 //! A trace table that is judged while it is written.
 
-ghost use Rattle.std.specs.Prelude.{◌≡◌, ◌≢◌, ◌++◌, ℕ, List, Option, IfOk, IfSome, OnOk, MatchOption};
+ghost use Rattle.std.specs.Prelude.{◌≡◌, ◌≢◌, ◌++◌, ℕ, List, Option, IfOk, IfNone, IfSome, OnOk, MatchOption};
 ghost use Rattle.std.specs.Io.KnownBytes.{Appends};
 ghost use Rattle.lft_tag.specs.declared.Tag.{Tag as TheTag};
 ghost use Rattle.lft_tag.specs.Tags.{IsRecorded};
@@ -35,7 +35,8 @@ pub struct Following {
 
 /// The tag of the words `TIME,MICROSTEP`.
 pub fn read_until(words: &[u8]) -> Option<Tag>
-    ensures { IfSome result (λ g. IsRecorded g × until_words words.now g) }
+    ensures tag { IfSome result (λ g. IsRecorded g × until_words words.now g) }
+    ensures none { IfNone result ((g : TheTag) → until_words words.now g → ⊥) }
 {
     let comma = memchr(b',', words)?;
     let time = read_number(&words[0..comma], MAX_TIME)?;
@@ -47,7 +48,7 @@ pub fn read_until(words: &[u8]) -> Option<Tag>
 }
 
 /// The status of what is told: 0 where the rows are accepted, or unbroken as far as they were asked for;
-/// 1 broken; 3 unbroken, and rows are missing; 4 where it isn't known.
+/// 1 broken; 3 unbroken at the end; 4 odd.
 pub fn status_of_log(told: Final) -> u8
     ensures { result ≡ log_status told }
 {

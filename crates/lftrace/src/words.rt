@@ -9,7 +9,8 @@ use std::alloc::Global;
 const VERSION: &str = "0.1.0";
 
 const HELP: &str = "\
-Status: 0 accepted, same, recorded or shown, 1 broken or differ, 2 a fault (on standard error).
+Status: 0 accepted, same, recorded or shown, 1 broken or differ, 2 a fault (on standard error);
+of follow also 3 unbroken and 4 odd, where rows are missing or judge has to tell.
 A bundle is the lines `--- program`, `--- externals` and `--- trace`, each with its text after it.";
 
 const JUDGE_HELP: &str = "\
@@ -60,8 +61,8 @@ Its lines are plain: without quotation marks. Nothing is read behind what is tol
 Printed: accepted runs=R tags=G (status 0); broken rule=N .. (status 1), as soon as
 it is sure, of the rules 1 to 5; odd line=L runs=R tags=G .. (status 4), where the
 rows up to line L may break one of the rules 6 to 10: judge tells; unbroken runs=R
-tags=G time=T microstep=M at the end (status 3), where rows are missing, or with
---until (status 0).";
+tags=G time=T microstep=M at the end (status 3), where rows are missing or those at
+the last tag may break a rule: judge tells; the same with --until (status 0).";
 
 const SHOW_HELP: &str = "\
 PROGRAM is the path of a file; /dev/stdin is standard input.
@@ -256,7 +257,7 @@ fn follow_command<'a>(alloc: Global) -> Result<Command<'a>, Error> {
         .default_value("0")
         .value_parser(clap::value_parser!(u64).range(0..1_000_000_000_000));
     let command = Command::new(alloc, "follow")
-        .about("Judges a trace while it is written, and keeps none of its rows")
+        .about("Judges a trace while it is written, and forgets the rows of finished tags")
         .arg(path(alloc, "PROGRAM", "the program's text"))?
         .arg(path(alloc, "EXTERNALS", "the table of external inputs"))?
         .arg(path(alloc, "LOG", "the trace table").required(false))?
@@ -346,7 +347,7 @@ fn until<'a>(alloc: Global, matches: &ArgMatches<'a>) -> Result<Option<Tag>, Err
         Some(tag) => Ok(Some(tag)),
         None => {
             let words = "`--until` wants TIME,MICROSTEP, as 5000000,0";
-            let mut command = follow_command(alloc)?;
+            let mut command = follow_command(alloc)?.bin_name("lftrace follow")?;
             Err(command.error(ErrorKind::ValueValidation, words)?)
         }
     }
