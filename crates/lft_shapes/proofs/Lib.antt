@@ -1,4 +1,3 @@
-mod Bases
 mod Building
 mod Goings
 mod Meanings

@@ -41,9 +41,6 @@ found_in P scope q c is e =
 pub means_push : (P : List ℕ → Class → Type 0) (ms : List Meaning) (m : Meaning) → EachMeans P ms → P m.name.now m.class → EachMeans P (ms ++ m ∷ [])
 means_push P ms m all is i n at = elim (get_push_cases ms m i n at) [ inl old ↦ all i n old | inr last ↦ subst (λ (x : Meaning). P x.name.now x.class) last.1 is ]
 
-pub means_weaker : (P Q : List ℕ → Class → Type 0) (ms : List Meaning) → ((q : List ℕ) (c : Class) → P q c → Q q c) → EachMeans P ms → EachMeans Q ms
-means_weaker P Q ms f all i m at = f m.name.now m.class (all i m at)
-
 -- the scope of such meanings has such ones
 pub scope_has : (P : List ℕ → Class → Type 0) (ms : List Meaning) (scope : Scope) → IsScopeOf ms scope → EachMeans P ms → IsScope P scope
 scope_has P ms scope is all = record {

@@ -1,24 +1,7 @@
 -- What is in the instances of shapes.
-use Rattle.std.proofs.Common.{◌≡◌, ◌<◌, ℕ, zero, suc, List, [], ◌∷◌, length, get_or, map, Option, Some, None, slice_get, slice_set, refl, sym, ap, ◌∙◌, arith}
+use Rattle.std.proofs.Common.{◌≡◌, ◌<◌, ℕ, zero, suc, List, [], ◌∷◌, length, get_or, map, Some, slice_get, slice_set, refl, sym, ap, ◌∙◌, arith}
 use Rattle.std.proofs.lemmas.Option.{slice_get_read}
 use Rattle.lft_lists.proofs.Places.{length_written}
-use Rattle.std.specs.Option.{option_and_then, option_map}
-use Rattle.lft_lists.proofs.Mapped.{mapped}
-use Rattle.lft_shapes.specs.declared.shapes.Child.{Child}
-use Rattle.lft_shapes.specs.declared.shapes.Shape.{Shape}
-use Rattle.lft_shapes.specs.Shapes.{child_at, tables, inside}
-
--- what the child of a member is, is inside
-pub inside_of : (shapes : List Shape) (s k : ℕ) (shape : Shape) → slice_get shapes s ≡ Some shape → inside (tables shapes) s k ≡ option_map (λ (c : Child). c.shape) (child_at shape.children.items k)
-inside_of shapes s k shape at = ap (λ (o : Option (List (Option Child))). option_map (λ (c : Child). c.shape) (option_and_then (λ (children : List (Option Child)). child_at children k) o)) (mapped (λ (x : Shape). x.children.items) shapes s shape at)
-
-none_mapped : {X Y : Type 0} (f : X → Y) (xs : List X) (i : ℕ) → slice_get xs i ≡ None → slice_get (map f xs) i ≡ None
-none_mapped f [] i at = refl
-none_mapped f (x ∷ xs) zero at = absurd (cc)
-none_mapped f (x ∷ xs) (suc i) at = none_mapped f xs i at
-
-pub inside_none : (shapes : List Shape) (s k : ℕ) → slice_get shapes s ≡ None → inside (tables shapes) s k ≡ None
-inside_none shapes s k at = ap (λ (o : Option (List (Option Child))). option_map (λ (c : Child). c.shape) (option_and_then (λ (children : List (Option Child)). child_at children k) o)) (none_mapped (λ (x : Shape). x.children.items) shapes s at)
 
 -- an item that is written over by one of the same image
 pub map_written : {X Y : Type 0} (f : X → Y) (xs : List X) (i : ℕ) (x y : X) → slice_get xs i ≡ Some x → f y ≡ f x → map f (slice_set xs i y) ≡ map f xs

@@ -26,9 +26,6 @@ same_last xs ys x y e =
     let there : slice_get (ys ++ y ∷ []) (length ys) ≡ Some x = subst (λ l. slice_get l (length ys) ≡ Some x) e (subst (λ n. slice_get (xs ++ x ∷ []) n ≡ Some x) longs (get_last xs x)) in
     same_some (slice_get (ys ++ y ∷ []) (length ys)) x y there (get_last ys y)
 
-pub not_empty : (xs : List Visit) (x : Visit) → xs ++ x ∷ [] ≡ [] → ⊥
-not_empty xs x e = let a = push_length xs x in let c : length (xs ++ x ∷ []) ≡ 0 = ap length e in absurd (omega (arith, a, c))
-
 nothing_there : (r : ℕ) → Has [] r → ⊥
 nothing_there r (i, at) = absurd (cc)
 
