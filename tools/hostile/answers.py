@@ -30,6 +30,7 @@ PARTS = {
     "judge": JUDGING,
     "cover": JUDGING,
     "explain": JUDGING,
+    "follow": JUDGING,
     "pair": JUDGING,
     "bundle": (*JUDGING, "bundle"),
     "show": ("lex", "syntax", "program", "graph", "write", "read", "memory"),
@@ -48,10 +49,13 @@ def pattern(form):
 FAULT_LINES = {(part, number): re.compile(f"fault {part} {number} {pattern(form)}\n") for part, numbers in FAULTS.items() for number, form in numbers.items()}
 BROKEN = "|".join(pattern(f"broken rule={rule} {RULES[rule]}{LINED if rule <= 5 else ''} TAG " + ("(outside the profile)" if rule == 6 else "reaction=NAME"))
                   for rule in range(1, 11))
+REACH = r"runs=\d+ tags=\d+( time=\d+ microstep=\d+)?\n"
+UNBROKEN, UNKNOWN = f"unbroken {REACH}", rf"odd line=\d+ {REACH}"
 LINES = {
     "judge": {0: r"accepted runs=\d+ tags=\d+\n", 1: f"({BROKEN})\n"},
     "cover": {0: r"accepted runs=\d+ tags=\d+\n([^\n]*\n)*", 1: f"({BROKEN})\n"},
     "explain": {0: r"accepted runs=\d+ tags=\d+\n", 1: f"({BROKEN})\n\n([^\n]+\n|\n)+"},
+    "follow": {0: r"accepted runs=\d+ tags=\d+\n", 1: f"({BROKEN})\n", 3: UNBROKEN, 4: UNKNOWN},
     "pair": {0: r"same runs=\d+ tags=\d+\n", 1: f"((first|second) ({BROKEN})|{pattern('differ TAG reaction=NAME')})\n"},
     "show": {0: f"({pattern('port NAME origin=NAME after=NUMBER+NUMBER')}\n)*({pattern('reaction NAME level=NUMBER before=NAMES')}\n)*"},
     "record": {0: r"event,worker,time,microstep,reaction,name,value,delay\n([a-z]+,\d+,\d+,\d+,[^\n,]+,[^\n,]*,(-?\d+)?,\d*\n)*"},

@@ -107,6 +107,29 @@ main.b#1 runs at (0, 0), from line 5 on.
     main.a.out (0, 0) --> main.b.x (0, 0)"""
 
 
+COVERED = """accepted runs=2 tags=1
+reactions=2/2 ports=1/1 orders=1/1 pairs=0/0
+
+Reactions that ran: 2 of 2, in 2 runs at 1 tags.
+  least often: main.a#1 1, main.b#1 1
+Fed ports that got an event: 1 of 1, from 1 of 1 writers.
+Orders, `X before Y` of `lftrace show`: 1
+     1  X and Y ran at one tag, on two workers at least once: the scheduler alone kept their order
+     0  X and Y ran at one tag, always on one worker: a race could not have shown
+     0  X and Y never ran at one tag
+Pairs without an order: 0. 0 ran at the same time.
+Workers: 0 had 1 runs, 1 had 1 runs
+  open runs at a start: 2 x 1"""
+LISTED = """accepted runs=2 tags=1
+reaction main.a#1 runs=1
+reaction main.b#1 runs=1
+port main.a.out writes=1
+order main.a#1 main.b#1 both=1 apart=1
+open 1 starts=2
+worker 0 runs=1
+worker 1 runs=1"""
+
+
 @dataclasses.dataclass
 class Example:
     """A command with its files by path, standard input, and its own answer; `recording` has the plan, the
@@ -141,9 +164,9 @@ def example(name, command, files, line, status=0, more=(), where=EXAMPLES):
     where.append(Example(name, command, words, encoded, stdin, own))
 
 
-def judged(name, program, externals, rows, line, status=0, command="judge", where=EXAMPLES):
+def judged(name, program, externals, rows, line, status=0, command="judge", more=(), where=EXAMPLES):
     trace = table("trace", rows) if rows is not None else ""
-    example(name, command, {"program.lf": program, "externals.csv": externals, "trace.csv": trace}, line + "\n", status, where=where)
+    example(name, command, {"program.lf": program, "externals.csv": externals, "trace.csv": trace}, line + "\n", status, more, where)
 
 
 def paired(name, first, second, line, status=0, externals=stop(0, 0), where=EXAMPLES):
@@ -179,6 +202,18 @@ def all_judged():
     judged("again, once", AGAIN, stop(0, 1), AGAIN_ROWS[:AGAIN_ROWS.index("start,0,0,1")], "broken rule=7 not-run time=0 microstep=1 reaction=main#2", 1)
     judged("loop", LOOP, stop(0, 0), "", "fault graph 1 CausalityLoop main.a#1 main.b#1")
     judged("loop, delayed", LOOP.replace("a.z }", "a.z after 0 }"), stop(0, 0), "", "accepted runs=0 tags=0")
+
+
+def all_covered():
+    judged("pipe accepted, covered", PIPE, stop(0, 0), PIPE_ROWS, COVERED, command="cover")
+    judged("pipe accepted, listed", PIPE, stop(0, 0), PIPE_ROWS, LISTED, command="cover", more=["--list"])
+    judged("pipe wrong read, covered", PIPE, stop(0, 0), WRONG_READ, f"broken rule=10 wrong-read {AT_ZERO} reaction=main.b#1", 1, command="cover")
+
+
+def all_followed():
+    judged("deep, followed", DEEP, stop(5000000, 1), DEEP_ROWS, "accepted runs=5 tags=5", command="follow")
+    judged("one run, unended, followed", ONE, stop(0, 0), "start,0,0,0,main#1,,,\n", "unbroken runs=0 tags=0", 3, command="follow")
+    judged("one run, twice, followed", ONE, stop(0, 0), ONE_ROWS * 2, f"broken rule=3 order line=4 {AT_ZERO} reaction=main#1", 1, command="follow")
 
 
 def all_paired():
@@ -220,6 +255,8 @@ def all_large():
 
 
 all_judged()
+all_covered()
+all_followed()
 all_paired()
 all_recorded()
 example("show deep", "show", {"program.lf": DEEP}, DEEP_SHOWN)
