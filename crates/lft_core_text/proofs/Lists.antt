@@ -1,6 +1,6 @@
 -- Lists of which all are so, item by item.
 use Rattle.std.proofs.Common.{◌≡◌, ℕ, zero, suc, ◌+◌, ◌<◌, ◌≤◌, Bool, true, List, [], ◌∷◌, length, take, take_all, add-one, Some, slice_get, get_or, sym, subst, refl, arith}
-use Rattle.std.proofs.lemmas.Bool.Decides.{nat_tests}
+use Rattle.lft_syntax.proofs.Pieces.{letter_in_word}
 use Rattle.lft_tree.specs.Tree.{RefTree}
 use Rattle.lft_printed.specs.Words.{AllAre, AreSide, IsRef}
 use Rattle.lft_printed.specs.Layout.{AllOf, IsWord}
@@ -50,12 +50,9 @@ pub word_head : (bs : List ℕ) → IsWord bs → is_letter (get_or bs 0 0) ≡ 
 word_head [] h = absurd h
 word_head (b ∷ bs) h = h.0
 
-letter_word : (b : ℕ) → is_letter b ≡ true → is_word b ≡ true
-letter_word b h = grind (arith, nat_tests)
-
 pub word_all : (bs : List ℕ) → IsWord bs → AllOf is_word bs
 word_all [] h = tt
-word_all (b ∷ bs) h = (letter_word b h.0, h.1)
+word_all (b ∷ bs) h = (letter_in_word b h.0, h.1)
 
 -- a side of a connection has a reference
 pub no_side : (rs : List RefTree) → length rs ≡ 0 → AreSide rs → ⊥

@@ -25,14 +25,11 @@ no_feed b n = grind (arith, nat_tests)
 longer : (s at : ℕ) → s ≤ at → (at + 1) - s ≡ (at - s) + 1
 longer s at o = omega arith
 
-back_at : (s at : ℕ) → s ≤ at → s + (at - s) ≡ at
-back_at s at o = omega arith
-
 inside_drop : (t : List ℕ) (s at : ℕ) → s ≤ at → at < length t → at - s < length (drop s t)
 inside_drop t s at o l = omega (arith, length-drop s t)
 
 byte_in : (t : List ℕ) (s at : ℕ) → s ≤ at → get_or (drop s t) (at - s) 0 ≡ get_or t at 0
-byte_in t s at o = get_or-drop s t (at - s) 0 ∙ ap (λ (z : ℕ). get_or t z 0) (back_at s at o)
+byte_in t s at o = let back : s + (at - s) ≡ at = omega (arith, o) in get_or-drop s t (at - s) 0 ∙ ap (λ (z : ℕ). get_or t z 0) back
 
 range_yes : (p : ℕ → Bool) (t : List ℕ) (s at : ℕ) → s ≤ at → at < length t → p (get_or t at 0) ≡ true → count_by p (slice_range t s (at + 1)) ≡ count_by p (slice_range t s at) + 1
 range_yes p t s at o l e =
