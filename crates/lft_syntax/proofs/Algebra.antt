@@ -2,16 +2,13 @@
 use Rattle.std.proofs.Common.{◌≡◌, ℕ, zero, suc, ◌+◌, ◌<◌, ◌≤◌, Bool, true, false, cond, List, [], ◌∷◌, length, Option, Some, None, Result, Ok, Err, refl, sym, ap, subst, ◌∙◌, arith, inl, inr}
 use Rattle.std.specs.Prelude.{slice_get}
 use Rattle.std.proofs.lemmas.Option.{slice_get_within}
-use Rattle.std.proofs.lemmas.Bool.{eqb-true}
+use Rattle.std.proofs.lemmas.Bool.{eqb-true, eq-eqb}
 use Rattle.std.proofs.lemmas.Slice.Eq.{bytes_eq-Decides}
 use Rattle.lft_syntax.proofs.Options.{some, some_is}
+use Rattle.lft_syntax.proofs.Begun.{Agree, fewer, Begun, Regular, begun_first, begun_second, both_regular, token_regular, begun_as, as_regular, optional_regular, begun_there, many_regular, begun_item, begun_more, begun_left, begun_right, or_regular, begun_range, range_regular}
 use Rattle.lft_syntax.specs.Lexeme.{Lexeme, Code, Text, Letters, Number, Arrow, Symbol, same}
 use Rattle.lft_syntax.specs.Language.{Spelling, look, token, this, one, ◌&◌, ◌>>◌, ◌<<◌, ◌or◌, optional, many, made, ignored, range}
 use Rattle.lft_syntax.specs.Reading.{Reading, ◌>>=◌, seen_at, token_at, both, second, first, apply, maybe, choice, choice_next, many_at, repeated, range_at}
-
--- the first k tokens are the same
-abbrev pub Agree : ℕ → List Lexeme → List Lexeme → Type 0
-Agree k ws vs = (i : ℕ) → i < k → slice_get ws i ≡ slice_get vs i
 
 -- what may stand after a spelling
 abbrev pub Follow : Type 1
@@ -32,10 +29,11 @@ pub record Known {A : Type 0} (P : Spelling A) (F : Follow) (e h : Horizon) (n :
   pub found : P ws i j x
   pub forced : (vs : List Lexeme) (m : ℕ) (y : A) → Agree (h ws j) ws vs → P vs i m y → F vs m → (y ≡ x) × (m ≡ j)
 
--- the token at k fits no spelling from i
+-- the token at k fits no spelling from i, and those before it begin one
 pub record Refused {A : Type 0} (P : Spelling A) (F : Follow) (e : Horizon) (ws : List Lexeme) (i k : ℕ) : Type 0 where
   pub seen : e ws i ≤ suc k
   pub within : k ≤ length ws
+  pub begun : Begun P ws i k
   pub none : (vs : List Lexeme) (m : ℕ) (y : A) → Agree (suc k) ws vs → P vs i m y → F vs m → ⊥
 
 abbrev pub Outcome : {A : Type 0} → Spelling A → Follow → Horizon → Horizon → ℕ → List Lexeme → ℕ → Result (A × ℕ) ℕ → Type 0
@@ -43,10 +41,8 @@ Outcome P F e h n ws i (Ok r) = Known P F e h n ws i r.0 r.1
 Outcome P F e h n ws i (Err k) = Refused P F e ws i k
 
 pub record Right {A : Type 0} (P : Spelling A) (F : Follow) (e h : Horizon) (n : ℕ) (p : Reading A) : Type 0 where
+  pub regular : Regular P
   pub at : (ws : List Lexeme) (i : ℕ) → i ≤ length ws → Outcome P F e h n ws i (p ws i)
-
-pub fewer : (a b : ℕ) (ws vs : List Lexeme) → a ≤ b → Agree b ws vs → Agree a ws vs
-fewer a b ws vs le agree i lt = agree i (omega arith)
 
 -- what Q begins with may follow P
 abbrev pub Leads : {B : Type 0} → Spelling B → Follow → Follow → Type 0
@@ -57,7 +53,7 @@ pair {B = B} {c = c} {b = b} p q = ap (λ x. (x, b)) p ∙ ap (λ (y : B). (c, y
 
 -- ---- one after the other
 
-module _ {A B : Type 0} (P : Spelling A) (Q : Spelling B) (F G : Follow) (e h g : Horizon) (n m : ℕ) (leads : Leads Q G F) where
+module _ {A B : Type 0} (P : Spelling A) (Q : Spelling B) (F G : Follow) (e h g : Horizon) (n m : ℕ) (leads : Leads Q G F) (one : Regular P) (two : Regular Q) where
   then_second : (ws : List Lexeme) (i : ℕ) (x : A) (j : ℕ) (r : Result (B × ℕ) ℕ) → Known P F e h n ws i x j → Outcome Q G h g m ws j r
       → Outcome (P & Q) G e g (n + m) ws i (r >>= λ b. Ok ((x, b.0), b.1))
   then_second ws i x j (Ok b) k l = record {
@@ -73,6 +69,7 @@ module _ {A B : Type 0} (P : Spelling A) (Q : Spelling B) (F G : Follow) (e h g 
   then_second ws i x j (Err t) k l = record {
     seen = omega (arith, k.seen, l.seen);
     within = l.within;
+    begun = begun_second one two x k.found l.begun;
     none = λ vs o y agree s after.
         let a = k.forced vs s.0 y.0 (fewer _ _ ws vs l.seen agree) s.1 (leads vs s.0 o y.1 s.2 after) in
         l.none vs o y.1 agree (subst (λ (t : ℕ). Q vs t o y.1) a.1 s.2) after;
@@ -84,11 +81,16 @@ module _ {A B : Type 0} (P : Spelling A) (Q : Spelling B) (F G : Follow) (e h g 
   then_first q ws i (Err t) k right = record {
     seen = k.seen;
     within = k.within;
+    begun = begun_first one two k.begun;
     none = λ vs o y agree s after. k.none vs s.0 y.0 agree s.1 (leads vs s.0 o y.1 s.2 after);
   }
 
-  pub right_both : (p : Reading A) (q : Reading B) → Right P F e h n p → Right Q G h g m q → Right (P & Q) G e g (n + m) (both p q)
-  right_both p q one two = record { at = λ ws i le. then_first q ws i (p ws i) (one.at ws i le) two }
+pub right_both : {A B : Type 0} (P : Spelling A) (Q : Spelling B) (F G : Follow) (e h g : Horizon) (n m : ℕ) → Leads Q G F → (p : Reading A) (q : Reading B)
+    → Right P F e h n p → Right Q G h g m q → Right (P & Q) G e g (n + m) (both p q)
+right_both P Q F G e h g n m leads p q one two = record {
+  regular = both_regular one.regular two.regular;
+  at = λ ws i le. then_first P Q F G e h g n m leads one.regular two.regular q ws i (p ws i) (one.at ws i le) two;
+}
 
 -- ---- the same spellings with another value
 
@@ -106,10 +108,10 @@ module _ {A B : Type 0} (f : A → B) (P : Spelling A) (Q : Spelling B) (F : Fol
         let z = k.forced vs m b.0 agree b.1 after in
         (sym b.2 ∙ ap f z.0, z.1);
   }
-  adapt_at ws i (Err t) k = record { seen = k.seen; within = k.within; none = λ vs m y agree s after. let b = back vs i m y s in k.none vs m b.0 agree b.1 after }
+  adapt_at ws i (Err t) k = record { seen = k.seen; within = k.within; begun = begun_as {P = P} f to k.begun; none = λ vs m y agree s after. let b = back vs i m y s in k.none vs m b.0 agree b.1 after }
 
   pub adapt : (p : Reading A) → Right P F e h n p → Right Q F e h n (apply f p)
-  adapt p right = record { at = λ ws i le. adapt_at ws i (p ws i) (right.at ws i le) }
+  adapt p right = record { regular = as_regular f to back right.regular; at = λ ws i le. adapt_at ws i (p ws i) (right.at ws i le) }
 
 pub right_made : {A B : Type 0} (f : A → B) (P : Spelling A) (F : Follow) (e h : Horizon) (n : ℕ) (p : Reading A) → Right P F e h n p → Right (made f P) F e h n (apply f p)
 right_made f P F e h n p right = adapt f P (made f P) F e h n (λ ws i j x s. (x, s, refl)) (λ ws i j y s. s) p right
@@ -130,7 +132,7 @@ right_ignored P F e h n p right = adapt (λ _. tt) P (ignored P) F e h n (λ ws 
 abbrev pub Any : Follow
 Any vs m = Unit {0}
 
-module _ {A : Type 0} (see : Lexeme → Option A) (ws : List Lexeme) (i : ℕ) (le : i ≤ length ws) where
+module _ {A : Type 0} (see : Lexeme → Option A) (regular : Regular (token see)) (ws : List Lexeme) (i : ℕ) (le : i ≤ length ws) where
   look_within : (o : Option Lexeme) (x : A) → slice_get ws i ≡ o → look see o ≡ Some x → i < length ws
   look_within None x e s = absurd cc
   look_within (Some w) x e s = slice_get_within ws i w e
@@ -139,6 +141,7 @@ module _ {A : Type 0} (see : Lexeme → Option A) (ws : List Lexeme) (i : ℕ) (
   token_from None e = record {
     seen = omega arith;
     within = le;
+    begun = regular.word ws i le;
     none = λ vs m y agree s after. let same = agree i (omega arith) in absurd (cc (same, s.0));
   }
   token_from (Some x) e = record {
@@ -149,8 +152,11 @@ module _ {A : Type 0} (see : Lexeme → Option A) (ws : List Lexeme) (i : ℕ) (
     forced = λ vs m y agree s after. let same = agree i (omega arith) in (some_is y x (sym s.0 ∙ sym (ap (look see) same) ∙ e), s.1);
   }
 
-pub right_token : {A : Type 0} (see : Lexeme → Option A) → Right (token see) Any near near 1 (token_at see)
-right_token see = record { at = λ ws i le. token_from see ws i le (look see (slice_get ws i)) refl }
+-- a token in which something is seen, as in w
+pub right_token : {A : Type 0} (see : Lexeme → Option A) (w : Lexeme) (x : A) → see w ≡ Some x → Right (token see) Any near near 1 (token_at see)
+right_token see w x seen =
+    let regular = token_regular see w x seen in
+    record { regular = regular; at = λ ws i le. token_from see regular ws i le (look see (slice_get ws i)) refl }
 
 -- ---- what a spelling begins with
 
@@ -180,6 +186,22 @@ same-true (Number a) (Number b) e = ap Number (eqb-true a b e)
 same-true Arrow Arrow e = refl
 same-true (Symbol a) (Symbol b) e = ap Symbol (eqb-true a b e)
 same-true _ _ e = absurd cc
+
+pub same_self : (w : Lexeme) → same w w ≡ true
+same_self Code = refl
+same_self Text = refl
+same_self (Letters x) = (bytes_eq-Decides x x).1 refl
+same_self (Number n) = eq-eqb n n refl
+same_self Arrow = refl
+same_self (Symbol b) = eq-eqb b b refl
+
+this_self_if : (b : Bool) (w : Lexeme) → same w w ≡ b → ◌≡◌ {A = Option (Unit {0})} (cond b (some tt) None) (Some tt)
+this_self_if true w e = refl
+this_self_if false w e = absurd (let t = same_self w in cc (t, e))
+
+-- a token is this token
+pub this_self : (w : Lexeme) → this w w ≡ Some tt
+this_self w = this_self_if (same w w) w refl
 
 this-is : (w v : Lexeme) (x : Unit {0}) (b : Bool) → same w v ≡ b → cond b (some tt) None ≡ Some x → w ≡ v
 this-is w v x true e s = same-true w v e
@@ -217,6 +239,7 @@ module _ {A : Type 0} (P : Spelling A) (F G : Follow) (e h : Horizon) (n : ℕ) 
   maybe_there ws i is_there (Err t) k = record {
     seen = k.seen;
     within = k.within;
+    begun = begun_there k.begun;
     none = λ vs m y agree s after.
         let same = agree i (omega (arith, k.seen, early ws i)) in
         maybe_none ws vs i m y is_there same s after (λ x u. k.none vs m x agree u (leads vs m after));
@@ -237,7 +260,7 @@ module _ {A : Type 0} (P : Spelling A) (F G : Follow) (e h : Horizon) (n : ℕ) 
   maybe_at p ws i le right false t = maybe_absent ws i le t
 
   pub right_maybe : (p : Reading A) → Right P F e h n p → Right (optional P) G e h 0 (maybe go p)
-  right_maybe p right = record { at = λ ws i le. maybe_at p ws i le right (go (slice_get ws i)) refl }
+  right_maybe p right = record { regular = optional_regular right.regular; at = λ ws i le. maybe_at p ws i le right (go (slice_get ws i)) refl }
 
 -- ---- one or the other
 
@@ -257,6 +280,7 @@ module _ {A : Type 0} (P Q : Spelling A) (F : Follow) (e l r h : Horizon) (n : �
   choice_left ws i is_there (Err t) k = record {
     seen = let o = if_left ws i is_there in omega (arith, k.seen);
     within = k.within;
+    begun = begun_left k.begun;
     none = λ vs m y agree s after.
         let same = agree i (omega (arith, k.seen, early ws i, if_left ws i is_there)) in
         elim s [ inl p ↦ k.none vs m y agree p after | inr q ↦ let no = others.at vs i m y q in cc (no, same, is_there) ];
@@ -275,6 +299,7 @@ module _ {A : Type 0} (P Q : Spelling A) (F : Follow) (e l r h : Horizon) (n : �
   choice_right ws i absent (Err t) k = record {
     seen = let o = if_right ws i absent in omega (arith, k.seen);
     within = k.within;
+    begun = begun_right k.begun;
     none = λ vs m y agree s after.
         let same = agree i (omega (arith, k.seen, early ws i, if_right ws i absent)) in
         elim s [ inl p ↦ let yes = starts.at vs i m y p in cc (yes, same, absent) | inr q ↦ k.none vs m y agree q after ];
@@ -285,7 +310,7 @@ module _ {A : Type 0} (P Q : Spelling A) (F : Follow) (e l r h : Horizon) (n : �
   choice_at p q ws i le one two false t = choice_right ws i t (q ws i) (two.at ws i le)
 
   pub right_choice : (p q : Reading A) → Right P F l h n p → Right Q F r h n q → Right (P or Q) F e h n (choice go p q)
-  right_choice p q one two = record { at = λ ws i le. choice_at p q ws i le one two (go (slice_get ws i)) refl }
+  right_choice p q one two = record { regular = or_regular one.regular two.regular; at = λ ws i le. choice_at p q ws i le one two (go (slice_get ws i)) refl }
 
 -- ---- any number of times
 
@@ -306,9 +331,9 @@ module _ {A : Type 0} (P : Spelling A) (F G : Follow) (h g : Horizon) (n : ℕ) 
   many_goes ws vs i m [] there same s after inner = absurd (let at_end = subst (λ (t : ℕ). G vs t) s after in let no = stops vs i at_end in cc (no, same, there))
   many_goes ws vs i m (y ∷ ys) there same s after inner = inner y ys s.0 refl s.1 s.2
 
-  many_rest : (ws : List Lexeme) (i : ℕ) → go (slice_get ws i) ≡ true → (a : A × ℕ) → Known P F h h (suc n) ws i a.0 a.1 → (r : Result (List A × ℕ) ℕ) → Outcome (many P) G h g 0 ws a.1 r
+  many_rest : Regular P → (ws : List Lexeme) (i : ℕ) → go (slice_get ws i) ≡ true → (a : A × ℕ) → Known P F h h (suc n) ws i a.0 a.1 → (r : Result (List A × ℕ) ℕ) → Outcome (many P) G h g 0 ws a.1 r
       → Outcome (many P) G h g 0 ws i (r >>= λ b. Ok (a.0 ∷ b.0, b.1))
-  many_rest ws i is_there a k (Ok b) l = record {
+  many_rest regular ws i is_there a k (Ok b) l = record {
     further = omega (arith, k.further, l.further);
     within = l.within;
     seen = omega (arith, k.seen, l.seen);
@@ -320,9 +345,10 @@ module _ {A : Type 0} (P : Spelling A) (F G : Follow) (h g : Horizon) (n : ℕ) 
         let y = l.forced vs m zs agree (subst (λ (o : ℕ). many P vs o m zs) x.1 rest) after in
         (made_of ∙ ap (λ (o : A). o ∷ zs) x.0 ∙ ap (λ (o : List A). a.0 ∷ o) y.0, y.1));
   }
-  many_rest ws i is_there a k (Err t) l = record {
+  many_rest regular ws i is_there a k (Err t) l = record {
     seen = omega (arith, k.seen, l.seen);
     within = l.within;
+    begun = begun_more regular a.0 k.found l.begun;
     none = λ vs m ys agree s after.
         let same = agree i (omega (arith, k.seen, l.seen, looks ws i)) in
         many_goes ws vs i m ys is_there same s after (λ z zs o made_of one rest.
@@ -330,13 +356,14 @@ module _ {A : Type 0} (P : Spelling A) (F G : Follow) (h g : Horizon) (n : ℕ) 
         l.none vs m zs agree (subst (λ (u : ℕ). many P vs u m zs) x.1 rest) after);
   }
 
-  many_more : (p : Reading A) (ws : List Lexeme) (count i : ℕ) → go (slice_get ws i) ≡ true → (r : Result (A × ℕ) ℕ) → Outcome P F h h (suc n) ws i r
+  many_more : Regular P → (p : Reading A) (ws : List Lexeme) (count i : ℕ) → go (slice_get ws i) ≡ true → (r : Result (A × ℕ) ℕ) → Outcome P F h h (suc n) ws i r
       → ((j : ℕ) → i < j → j ≤ length ws → Outcome (many P) G h g 0 ws j (many_at go p count ws j))
       → Outcome (many P) G h g 0 ws i (r >>= λ a. many_at go p count ws a.1 >>= λ b. Ok (a.0 ∷ b.0, b.1))
-  many_more p ws count i is_there (Ok a) k rest = many_rest ws i is_there a k (many_at go p count ws a.1) (rest a.1 (omega (arith, k.further)) k.within)
-  many_more p ws count i is_there (Err t) k rest = record {
+  many_more regular p ws count i is_there (Ok a) k rest = many_rest regular ws i is_there a k (many_at go p count ws a.1) (rest a.1 (omega (arith, k.further)) k.within)
+  many_more regular p ws count i is_there (Err t) k rest = record {
     seen = k.seen;
     within = k.within;
+    begun = begun_item regular k.begun;
     none = λ vs m ys agree s after.
         let same = agree i (omega (arith, k.seen, looks ws i)) in
         many_goes ws vs i m ys is_there same s after (λ z zs o made_of one later. k.none vs o z agree one (many_leads vs o m zs later after));
@@ -345,7 +372,7 @@ module _ {A : Type 0} (P : Spelling A) (F G : Follow) (h g : Horizon) (n : ℕ) 
   many_case : (p : Reading A) (ws : List Lexeme) (count i : ℕ) → i ≤ length ws → Right P F h h (suc n) p → (b : Bool) → go (slice_get ws i) ≡ b
       → ((j : ℕ) → i < j → j ≤ length ws → Outcome (many P) G h g 0 ws j (many_at go p count ws j))
       → Outcome (many P) G h g 0 ws i (cond b (p ws i >>= λ a. many_at go p count ws a.1 >>= λ b. Ok (a.0 ∷ b.0, b.1)) (Ok ([], i)))
-  many_case p ws count i le right true t rest = many_more p ws count i t (p ws i) (right.at ws i le) rest
+  many_case p ws count i le right true t rest = many_more right.regular p ws count i t (p ws i) (right.at ws i le) rest
   many_case p ws count i le right false t rest = record {
     further = omega arith;
     within = le;
@@ -360,7 +387,7 @@ module _ {A : Type 0} (P : Spelling A) (F G : Follow) (h g : Horizon) (n : ℕ) 
   many_from p ws (suc count) i le enough right = many_case p ws count i le right (go (slice_get ws i)) refl (λ j lt within. many_from p ws count j within (omega arith) right)
 
   pub right_repeated : (p : Reading A) → Right P F h h (suc n) p → Right (many P) G h g 0 (repeated go p)
-  right_repeated p right = record { at = λ ws i le. many_from p ws (suc (length ws)) i le (omega arith) right }
+  right_repeated p right = record { regular = many_regular right.regular; at = λ ws i le. many_from p ws (suc (length ws)) i le (omega arith) right }
 
 -- ---- promising less
 
@@ -376,12 +403,13 @@ loosen_at P F G d e g h m n leads sooner later le ws i (Ok a) k = record {
 loosen_at P F G d e g h m n leads sooner later le ws i (Err t) k = record {
   seen = omega (arith, k.seen, sooner ws i);
   within = k.within;
+  begun = k.begun;
   none = λ vs o y agree s after. k.none vs o y agree s (leads vs o after);
 }
 
 pub loosen : {A : Type 0} {P : Spelling A} {F : Follow} {e h : Horizon} {n : ℕ} {p : Reading A} (G : Follow) (d g : Horizon) (m : ℕ) → ((vs : List Lexeme) (i : ℕ) → G vs i → F vs i)
     → ((ws : List Lexeme) (i : ℕ) → d ws i ≤ e ws i) → ((ws : List Lexeme) (i : ℕ) → h ws i ≤ g ws i) → m ≤ n → Right P F e h n p → Right P G d g m p
-loosen {A = A} {P = P} {F = F} {e = e} {h = h} {n = n} {p = p} G d g m leads sooner later fewer_of right = record { at = λ ws i le. loosen_at P F G d e g h m n leads sooner later fewer_of ws i (p ws i) (right.at ws i le) }
+loosen {A = A} {P = P} {F = F} {e = e} {h = h} {n = n} {p = p} G d g m leads sooner later fewer_of right = record { regular = right.regular; at = λ ws i le. loosen_at P F G d e g h m n leads sooner later fewer_of ws i (p ws i) (right.at ws i le) }
 
 -- ---- one or the other, by the second token
 
@@ -424,6 +452,7 @@ module _ {A : Type 0} (P Q : Spelling A) (F : Follow) (e h : Horizon) (n : ℕ) 
   next_left ws i there (Err t) k = record {
     seen = k.seen;
     within = k.within;
+    begun = begun_left k.begun;
     none = λ vs m y agree s after. elim s [ inl p ↦ k.none vs m y agree p after | inr q ↦ next_apart ws vs i (suc t) m y k.seen agree there q (head (slice_get ws i)) refl ];
   }
 
@@ -438,6 +467,7 @@ module _ {A : Type 0} (P Q : Spelling A) (F : Follow) (e h : Horizon) (n : ℕ) 
   next_right ws i there (Err t) k = record {
     seen = k.seen;
     within = k.within;
+    begun = begun_right k.begun;
     none = λ vs m y agree s after. elim s [ inl p ↦ next_apart_too ws vs i (suc t) m y k.seen agree there p (head (slice_get ws i)) refl | inr q ↦ k.none vs m y agree q after ];
   }
 
@@ -446,7 +476,7 @@ module _ {A : Type 0} (P Q : Spelling A) (F : Follow) (e h : Horizon) (n : ℕ) 
   next_at p q ws i le one other false t = next_right ws i t (q ws i) (other.at ws i le)
 
   pub right_choice_next : (p q : Reading A) → Right P F e h n p → Right Q F e h n q → Right (P or Q) F e h n (choice_next go p q)
-  right_choice_next p q one other = record { at = λ ws i le. next_at p q ws i le one other (go (slice_get ws (i + 1))) refl }
+  right_choice_next p q one other = record { regular = or_regular one.regular other.regular; at = λ ws i le. next_at p q ws i le one other (go (slice_get ws (i + 1))) refl }
 
 -- ---- which tokens
 
@@ -458,15 +488,15 @@ range_at_from P F e h n ws i (Ok a) k = record {
   found = (k.found, refl);
   forced = λ vs m y agree s after. let z = k.forced vs m tt agree s.0 after in (s.1 ∙ ap (λ (t : ℕ). (i, t)) z.1, z.1);
 }
-range_at_from P F e h n ws i (Err t) k = record { seen = k.seen; within = k.within; none = λ vs m y agree s after. k.none vs m tt agree s.0 after }
+range_at_from P F e h n ws i (Err t) k = record { seen = k.seen; within = k.within; begun = begun_range k.begun; none = λ vs m y agree s after. k.none vs m tt agree s.0 after }
 
 pub right_range : (P : Spelling (Unit {0})) (F : Follow) (e h : Horizon) (n : ℕ) (p : Reading (Unit {0})) → Right P F e h n p → Right (range P) F e h n (range_at p)
-right_range P F e h n p right = record { at = λ ws i le. range_at_from P F e h n ws i (p ws i) (right.at ws i le) }
+right_range P F e h n p right = record { regular = range_regular right.regular; at = λ ws i le. range_at_from P F e h n ws i (p ws i) (right.at ws i le) }
 
 -- ---- another text of the same reading
 
 pub same_reading : {A : Type 0} {P : Spelling A} {F : Follow} {e h : Horizon} {n : ℕ} {p : Reading A} (q : Reading A) → ((ws : List Lexeme) (i : ℕ) → p ws i ≡ q ws i) → Right P F e h n p → Right P F e h n q
-same_reading {A = A} {P = P} {F = F} {e = e} {h = h} {n = n} q same_at right = record { at = λ ws i le. subst (λ (r : Result (A × ℕ) ℕ). Outcome P F e h n ws i r) (same_at ws i) (right.at ws i le) }
+same_reading {A = A} {P = P} {F = F} {e = e} {h = h} {n = n} q same_at right = record { regular = right.regular; at = λ ws i le. subst (λ (r : Result (A × ℕ) ℕ). Outcome P F e h n ws i r) (same_at ws i) (right.at ws i le) }
 
 -- ---- what is spelled is what is read
 

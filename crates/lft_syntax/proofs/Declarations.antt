@@ -2,13 +2,13 @@
 use Rattle.std.proofs.Common.{◌≡◌, ℕ, Bool, true, false, List, Some, refl, arith}
 use Rattle.std.specs.Prelude.{slice_get, codes, ◌||◌}
 use Rattle.std.proofs.lemmas.Bool.{or_from}
-use Rattle.lft_syntax.specs.Lexeme.{Lexeme, Code, Letters, Symbol, is, is_word_of, input_keys, scope_keys, name_in}
+use Rattle.lft_syntax.specs.Lexeme.{Lexeme, Code, Letters, Symbol, is, is_word_of, input_keys, scope_keys}
 use Rattle.lft_syntax.specs.Language.{Spelling, one, ◌&◌, ◌>>◌, ◌<<◌, ◌or◌, optional, made, ignored, range}
 use Rattle.lft_tree.specs.Tree.{TimeTree}
 use Rattle.lft_syntax.specs.Grammar.{key, symbol, name, ptime, enclosed, typed, value, parentheses, braces, port, timer, action, state, preamble, input_of, output_of, timer_of, logical_is, physical_is, action_of}
 use Rattle.lft_syntax.specs.Reading.{Reading, input_at, output_at, port_at, period_at, times_at, timer_at, min_delay_at, origin_at, action_at, is_initial, initial_at, state_at, scope_at, preamble_at, range_at}
-use Rattle.lft_syntax.proofs.Algebra.{Follow, Horizon, near, Right, Leads, Any, Test, Starts, Not, right_token, right_range, starts_one}
-use Rattle.lft_syntax.proofs.Rules.{near_looks, and, and_if, skip, skip_if, before, before_if, making, ignoring, this_one, perhaps, perhaps_to, Here, here, leads_one, leads_ignored, leads_optional, starts_skip, starts_and, starts_before, starts_made, starts_range, starts_or, starts_either, choose, ended, taking, same_follow}
+use Rattle.lft_syntax.proofs.Algebra.{Follow, Horizon, near, Right, Leads, Any, Test, Starts, Not, right_range, starts_one}
+use Rattle.lft_syntax.proofs.Rules.{near_looks, and, and_if, skip, skip_if, before, before_if, making, ignoring, this_one, perhaps, perhaps_to, Here, here, leads_one, leads_ignored, leads_optional, starts_skip, starts_and, starts_before, starts_made, starts_range, starts_or, starts_either, choose, ended, taking, same_follow, right_name}
 use Rattle.lft_syntax.proofs.Lists.{right_enclosed, starts_enclosed}
 use Rattle.lft_syntax.proofs.Lookahead.{far, Ends, far_looks, no_symbol}
 use Rattle.lft_syntax.proofs.Times.{NoUnit, here_no_unit, right_ptime, starts_ptime}
@@ -36,11 +36,11 @@ unfolding input_at
 right_input =
     let change = ignoring (perhaps (Not (is (Letters (codes "mutable")))) (is (Letters (codes "mutable"))) (starts_one (Letters (codes "mutable")) (is (Letters (codes "mutable"))) true refl)
     (same_follow (Not (is (Letters (codes "mutable"))))) (λ vs m h. tt) (this_one (Letters (codes "mutable")))) in
-    making input_of (before (skip (skip_if (leads_starts Any (starts_one (Letters (codes "input")) (is (Letters (codes "mutable"))) false refl)) change (this_one (Letters (codes "input")))) (right_token name_in)) right_typed)
+    making input_of (before (skip (skip_if (leads_starts Any (starts_one (Letters (codes "input")) (is (Letters (codes "mutable"))) false refl)) change (this_one (Letters (codes "input")))) right_name) right_typed)
 
 right_output : Right (made output_of (key (codes "output") >> name << typed)) TypeEnd near near 2 output_at
 unfolding output_at
-right_output = making output_of (before (skip (this_one (Letters (codes "output"))) (right_token name_in)) right_typed)
+right_output = making output_of (before (skip (this_one (Letters (codes "output"))) right_name) right_typed)
 
 pub right_port : Right port TypeEnd near near 2 port_at
 unfolding port_at
@@ -63,7 +63,7 @@ right_times = right_enclosed (starts_and (optional (symbol 44 >> ptime)) starts_
 
 pub right_timer : Right timer (Not (is (Symbol 40))) near near 2 timer_at
 unfolding timer_at
-right_timer = making timer_of (and (skip (this_one (Letters (codes "timer"))) (right_token name_in))
+right_timer = making timer_of (and (skip (this_one (Letters (codes "timer"))) right_name)
     (perhaps (Not (is (Symbol 40))) (is (Symbol 40)) (starts_enclosed (ptime & optional (symbol 44 >> ptime)) refl) (same_follow (Not (is (Symbol 40)))) (λ vs m h. tt) right_times))
 
 pub starts_timer : (go : Test) (b : Bool) → go (Some (Letters (codes "timer"))) ≡ b → Starts timer go b
@@ -87,7 +87,7 @@ right_min_delay = right_enclosed starts_ptime (here_no_unit (Symbol 41) refl) ri
 pub right_action : Right action ActionEnd near near 3 action_at
 unfolding action_at
 right_action = making action_of (before_if (leads_typed ActionEnd (Not (is (Symbol 40))) (λ vs m h. h.1) (here (Symbol 58) (is (Symbol 40)) false refl))
-    (and (and (before right_origin (this_one (Letters (codes "action")))) (right_token name_in))
+    (and (and (before right_origin (this_one (Letters (codes "action")))) right_name)
     (perhaps (Not (is (Symbol 40))) (is (Symbol 40)) (starts_enclosed ptime refl) (same_follow (Not (is (Symbol 40)))) (λ vs m h. tt) right_min_delay))
     (ended ActionEnd near 0 (λ vs m h. h.0) near_looks (omega arith) right_typed))
 
@@ -126,7 +126,7 @@ initial_begins vs i j x s = (
 pub right_state : Right state Ends near far 2 state_at
 unfolding state_at
 right_state = ranging (skip_if (leads_ignored (leads_optional initial Ends TypeEnd ends_type initial_begins))
-    (skip (skip (this_one (Letters (codes "state"))) (ignoring (right_token name_in))) right_typed)
+    (skip (skip (this_one (Letters (codes "state"))) (ignoring right_name)) right_typed)
     (ignoring (perhaps_to Ends is_initial far_looks (starts_initial is_initial true refl refl refl) no_initial (same_follow Ends) right_initial)))
 
 pub starts_state : (go : Test) (b : Bool) → go (Some (Letters (codes "state"))) ≡ b → Starts state go b

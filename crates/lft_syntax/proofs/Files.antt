@@ -1,13 +1,13 @@
 -- The target and the whole file.
 use Rattle.std.proofs.Common.{◌≡◌, ℕ, suc, Bool, true, false, List, Some, None, refl, ap, ◌∙◌, arith}
 use Rattle.std.specs.Prelude.{slice_get, codes}
-use Rattle.lft_syntax.specs.Lexeme.{Lexeme, Letters, Symbol, is, is_there, is_word_of, preamble_keys, name_in}
-use Rattle.lft_syntax.specs.Language.{◌or◌, optional, many, ignored}
+use Rattle.lft_syntax.specs.Lexeme.{Lexeme, Letters, Symbol, is, is_there, is_word_of, preamble_keys}
+use Rattle.lft_syntax.specs.Language.{optional, many, ignored}
 use Rattle.lft_tree.specs.Tree.{ItemTree, PreambleItem, ReactorItem}
-use Rattle.lft_syntax.specs.Grammar.{name, braces, preamble, reactor, target, item, file, file_of}
+use Rattle.lft_syntax.specs.Grammar.{name, braces, target, item, file, file_of}
 use Rattle.lft_syntax.specs.Reading.{maybe, target_at, item_at, items_at, file_at}
-use Rattle.lft_syntax.proofs.Algebra.{Follow, near, Right, Leads, Any, Test, Starts, Not, right_token, starts_one}
-use Rattle.lft_syntax.proofs.Rules.{near_looks, and_if, skip, making, ignoring, this_one, perhaps, leads_many, starts_skip, starts_range, starts_made, starts_or, repeat, choose, taking, same_follow}
+use Rattle.lft_syntax.proofs.Algebra.{Follow, near, Right, Leads, Any, Test, Starts, Not, starts_one}
+use Rattle.lft_syntax.proofs.Rules.{near_looks, and_if, skip, making, ignoring, this_one, perhaps, leads_many, starts_skip, starts_range, starts_made, starts_or, repeat, choose, taking, same_follow, right_name}
 use Rattle.lft_syntax.proofs.Values.{right_braces, starts_group}
 use Rattle.lft_syntax.proofs.Declarations.{ranging, right_preamble, starts_preamble}
 use Rattle.lft_syntax.proofs.Reactors.{right_reactor, starts_reactor}
@@ -16,7 +16,7 @@ use Rattle.lft_syntax.proofs.Reactors.{right_reactor, starts_reactor}
 
 pub right_target : Right target (Not (is (Symbol 123))) near near 2 target_at
 unfolding target_at
-right_target = ranging (skip (skip (this_one (Letters (codes "target"))) (ignoring (right_token name_in)))
+right_target = ranging (skip (skip (this_one (Letters (codes "target"))) (ignoring right_name))
     (ignoring (perhaps (Not (is (Symbol 123))) (is (Symbol 123)) (starts_group (Symbol 123) (Symbol 125) (is (Symbol 123)) true refl) (same_follow (Not (is (Symbol 123)))) (λ vs m h. tt) right_braces)))
 
 starts_target : (go : Test) (b : Bool) → go (Some (Letters (codes "target"))) ≡ b → Starts target go b

@@ -1,27 +1,14 @@
 -- Groups: a count of open brackets finds where a balanced group ends.
-use Rattle.std.proofs.Common.{◌≡◌, ℕ, zero, suc, ◌+◌, ◌≤◌, ◌<◌, Bool, true, false, List, length, Option, Some, None, Result, Ok, Err, refl, sym, ap, subst, ◌∙◌, arith, cond}
+use Rattle.std.proofs.Common.{◌≡◌, ℕ, zero, suc, ◌+◌, ◌≤◌, ◌<◌, Bool, true, false, List, length, Option, Some, None, Result, Ok, Err, refl, sym, ap, subst, ◌∙◌, arith}
 use Rattle.std.specs.Prelude.{slice_get}
-use Rattle.std.specs.Str.{bytes_eq}
-use Rattle.std.proofs.lemmas.Slice.Eq.{bytes_eq-Decides}
-use Rattle.std.proofs.lemmas.Bool.{eq-eqb}
 use Rattle.std.proofs.lemmas.Option.{slice_get_within}
 use Rattle.lft_syntax.proofs.Options.{some}
-use Rattle.lft_syntax.specs.Lexeme.{Lexeme, Code, Text, Letters, Number, Arrow, Symbol, same}
-use Rattle.lft_syntax.specs.Language.{Spelling, look, this, one, Balanced, nothing, another, nested, group}
-use Rattle.lft_syntax.specs.Reading.{◌>>=◌, one_at, inside_step, inside_at, group_at}
-use Rattle.lft_syntax.proofs.Rules.{leads_one}
-use Rattle.lft_syntax.proofs.Algebra.{near, Known, Refused, Outcome, fewer, Right, Any, same-true, right_token}
-
-bytes_self : (x : List ℕ) → bytes_eq x x ≡ true
-bytes_self x = (bytes_eq-Decides x x).1 refl
-
-same_self : (w : Lexeme) → same w w ≡ true
-same_self Code = refl
-same_self Text = refl
-same_self (Letters x) = bytes_self x
-same_self (Number n) = eq-eqb n n refl
-same_self Arrow = refl
-same_self (Symbol b) = eq-eqb b b refl
+use Rattle.lft_syntax.specs.Lexeme.{Lexeme, same}
+use Rattle.lft_syntax.specs.Language.{Spelling, look, this, one, ◌&◌, Balanced, nothing, another, nested, group}
+use Rattle.lft_syntax.specs.Reading.{Reading, ◌>>=◌, one_at, both, inside_step, inside_at, group_at}
+use Rattle.lft_syntax.proofs.Begun.{Agree, Regular, begun_first, begun_as}
+use Rattle.lft_syntax.proofs.Rules.{and, leads_one, this_one}
+use Rattle.lft_syntax.proofs.Algebra.{near, Known, Refused, Outcome, Right, Any, same-true, same_self, this_self, adapt, same_reading}
 
 module _ (opening closing : Lexeme) (apart : opening ≡ closing → ⊥) where
   -- with depth more brackets open than one, the last is closed before j
@@ -30,6 +17,18 @@ module _ (opening closing : Lexeme) (apart : opening ≡ closing → ⊥) where
     out : {d i j : ℕ} → slice_get ws i ≡ Some closing → Closes ws d (i + 1) j → Closes ws (suc d) i j
     deeper : {d i j : ℕ} → slice_get ws i ≡ Some opening → Closes ws (suc d) (i + 1) j → Closes ws d i j
     past : {d i j : ℕ} {w : Lexeme} → slice_get ws i ≡ Some w → (w ≡ opening → ⊥) → (w ≡ closing → ⊥) → Closes ws d (i + 1) j → Closes ws d i j
+
+  closes_forward : (ws : List Lexeme) {d i j : ℕ} → Closes ws d i j → i ≤ j
+  closes_forward ws (last at e) = omega (arith, e)
+  closes_forward ws (out at more) = let le = closes_forward ws more in omega arith
+  closes_forward ws (deeper at more) = let le = closes_forward ws more in omega arith
+  closes_forward ws (past at a b more) = let le = closes_forward ws more in omega arith
+
+  closes_local : (ws vs : List Lexeme) {d i j : ℕ} → Agree j ws vs → Closes ws d i j → Closes vs d i j
+  closes_local ws vs agree (last {i = i} at e) = last (sym (agree i (omega (arith, e))) ∙ at) e
+  closes_local ws vs agree (out {i = i} at more) = out (sym (agree i (let le = closes_forward ws more in omega arith)) ∙ at) (closes_local ws vs agree more)
+  closes_local ws vs agree (deeper {i = i} at more) = deeper (sym (agree i (let le = closes_forward ws more in omega arith)) ∙ at) (closes_local ws vs agree more)
+  closes_local ws vs agree (past {i = i} at a b more) = past (sym (agree i (let le = closes_forward ws more in omega arith)) ∙ at) a b (closes_local ws vs agree more)
 
   -- balanced tokens change no count
   closes_after : (ws : List Lexeme) {i m : ℕ} → Balanced opening closing ws i m → (d j : ℕ) → Closes ws d m j → Closes ws d i j
@@ -90,20 +89,45 @@ module _ (opening closing : Lexeme) (apart : opening ≡ closing → ⊥) where
   abbrev Closing : ℕ → Spelling (Unit {0})
   Closing d ws i j _ = Closes ws d i j
 
+  closing_regular : (d : ℕ) → Regular (Closing d)
+  closing_regular zero = record {
+    forward = λ ws i j x c. closes_forward ws c;
+    local = λ ws vs i j x agree c. closes_local ws vs agree c;
+    word = λ ws i le. begun_as {P = one closing} (λ x. x) (λ us s t x found. last (leads_one closing Any us s t x found tt) found.1) ((this_one closing).regular.word ws i le);
+  }
+  closing_regular (suc d) = record {
+    forward = λ ws i j x c. closes_forward ws c;
+    local = λ ws vs i j x agree c. closes_local ws vs agree c;
+    word = λ ws i le. begun_as {P = one closing & Closing d} (λ x. tt) (λ us s t x found. out (leads_one closing Any us s found.0 tt found.1 tt) (subst (λ (m : ℕ). Closes us d m t) found.1.1 found.2))
+        (begun_first (this_one closing).regular (closing_regular d) ((this_one closing).regular.word ws i le));
+  }
+
   -- one more token
-  step : (ws : List Lexeme) (d e i : ℕ) (w : Lexeme) → slice_get ws i ≡ Some w → ((j : ℕ) → Closes ws e (i + 1) j → Closes ws d i j)
+  step : (ws : List Lexeme) (d e i : ℕ) (w : Lexeme) → slice_get ws i ≡ Some w → ((vs : List Lexeme) (j : ℕ) → slice_get vs i ≡ Some w → Closes vs e (i + 1) j → Closes vs d i j)
       → ((vs : List Lexeme) (m : ℕ) → slice_get vs i ≡ Some w → Closes vs d i m → Closes vs e (i + 1) m)
       → (r : Result (Unit {0} × ℕ) ℕ) → Outcome (Closing e) Any near near 1 ws (i + 1) r → Outcome (Closing d) Any near near 1 ws i r
   step ws d e i w at to back (Ok a) k = record {
     further = omega (arith, k.further);
     within = k.within;
     seen = omega (arith, k.further);
-    found = to a.1 k.found;
+    found = to ws a.1 at k.found;
     forced = λ vs m y agree s after. let same0 = agree i (omega (arith, k.further)) in k.forced vs m y agree (back vs m (sym same0 ∙ at) s) after;
   }
   step ws d e i w at to back (Err t) k = record {
     seen = omega (arith, k.seen);
     within = k.within;
+    begun =
+        let b = k.begun in
+        record {
+          text = b.text;
+          end = b.end;
+          value = tt;
+          order = omega (arith, b.order);
+          past = b.past;
+          within = b.within;
+          same = b.same;
+          spelled = to b.text b.end (sym (b.same i (omega (arith, b.order))) ∙ at) b.spelled;
+        };
     none = λ vs m y agree s after. let same0 = agree i (omega (arith, k.seen)) in k.none vs m y agree (back vs m (sym same0 ∙ at) s) after;
   }
 
@@ -117,7 +141,7 @@ module _ (opening closing : Lexeme) (apart : opening ≡ closing → ⊥) where
   }
 
   too_short : (ws : List Lexeme) (d i : ℕ) → i ≤ length ws → slice_get ws i ≡ None → Refused (Closing d) Any near ws i i
-  too_short ws d i le at = record { seen = omega arith; within = le; none = λ vs m y agree s after. let same0 = agree i (omega arith) in at_end vs s (sym same0 ∙ at) }
+  too_short ws d i le at = record { seen = omega arith; within = le; begun = (closing_regular d).word ws i le; none = λ vs m y agree s after. let same0 = agree i (omega arith) in at_end vs s (sym same0 ∙ at) }
 
   differ : (w v : Lexeme) → same w v ≡ false → (v ≡ w → ⊥)
   differ w v e h = let t = same_self w in cc (ap (same w) h, t, e)
@@ -127,19 +151,19 @@ module _ (opening closing : Lexeme) (apart : opening ≡ closing → ⊥) where
   inside_other ws d i w r at a b k =
       let not_open = differ opening w a in
       let not_shut = differ closing w b in
-      step ws d d i w at (λ j c. past at not_open not_shut c) (λ vs m t c. at_another vs w c t not_open not_shut) r k
+      step ws d d i w at (λ vs j t c. past t not_open not_shut c) (λ vs m t c. at_another vs w c t not_open not_shut) r k
 
   inside_open : (ws : List Lexeme) (d i : ℕ) (w : Lexeme) (r : Result (Unit {0} × ℕ) ℕ) → slice_get ws i ≡ Some w → same opening w ≡ true
       → Outcome (Closing (suc d)) Any near near 1 ws (i + 1) r → Outcome (Closing d) Any near near 1 ws i r
   inside_open ws d i w r at a k =
       let is_open : slice_get ws i ≡ Some opening = at ∙ ap some (sym (same-true opening w a)) in
-      step ws d (suc d) i opening is_open (λ j c. deeper is_open c) (λ vs m t c. at_opening vs c t) r k
+      step ws d (suc d) i opening is_open (λ vs j t c. deeper t c) (λ vs m t c. at_opening vs c t) r k
 
   inside_shut : (ws : List Lexeme) (d i : ℕ) (w : Lexeme) (r : Result (Unit {0} × ℕ) ℕ) → slice_get ws i ≡ Some w → same closing w ≡ true
       → Outcome (Closing d) Any near near 1 ws (i + 1) r → Outcome (Closing (suc d)) Any near near 1 ws i r
   inside_shut ws d i w r at a k =
       let is_shut : slice_get ws i ≡ Some closing = at ∙ ap some (sym (same-true closing w a)) in
-      step ws (suc d) d i closing is_shut (λ j c. out is_shut c) (λ vs m t c. at_closing vs c t) r k
+      step ws (suc d) d i closing is_shut (λ vs j t c. out t c) (λ vs m t c. at_closing vs c t) r k
 
   inside_case : (ws : List Lexeme) (d i : ℕ) (rest : ℕ → Result (Unit {0} × ℕ) ℕ) (w : Lexeme) (a b : Bool) → slice_get ws i ≡ Some w → same opening w ≡ a → same closing w ≡ b
       → ((e : ℕ) → Outcome (Closing e) Any near near 1 ws (i + 1) (rest e)) → Outcome (Closing d) Any near near 1 ws i (inside_step opening closing d i rest (Some w))
@@ -160,45 +184,34 @@ module _ (opening closing : Lexeme) (apart : opening ≡ closing → ⊥) where
   inside_from ws zero d i le enough = absurd (omega arith)
   inside_from ws (suc n) d i le enough = inside_there ws d i le (λ e. inside_at opening closing n e ws (i + 1)) (slice_get ws i) refl (λ e within. inside_from ws n e (i + 1) within (omega arith))
 
-  this_self : (b : Bool) (w : Lexeme) → same w w ≡ b → ◌≡◌ {A = Option (Unit {0})} (cond b (some tt) None) (Some tt)
-  this_self true w e = refl
-  this_self false w e = absurd (let t = same_self w in cc (t, e))
-
   begins : (vs : List Lexeme) (i : ℕ) → slice_get vs i ≡ Some opening → look (this opening) (slice_get vs i) ≡ Some tt
-  begins vs i e = rw e (this_self (same opening opening) opening refl)
+  begins vs i e = rw e (this_self opening)
 
-  begun : (ws : List Lexeme) (i j : ℕ) → one opening ws i j tt → slice_get ws i ≡ Some opening
-  begun ws i j s = leads_one opening Any ws i j tt s tt
+  -- up to the closing bracket that balances one before
+  abbrev inside_all : Reading (Unit {0})
+  inside_all ws i = inside_at opening closing (suc (length ws)) 0 ws i
 
-  group_rest : (ws : List Lexeme) (i m : ℕ) → Known (one opening) Any near near 1 ws i tt m → (r : Result (Unit {0} × ℕ) ℕ) → Outcome (Closing 0) Any near near 1 ws m r → Outcome (group opening closing) Any near near 2 ws i r
+  inside_reads : (r : Result (Unit {0} × ℕ) ℕ) → ◌>>=◌ {A = (Unit {0} × Unit {0}) × ℕ} (r >>= λ b. Ok ((tt, b.0), b.1)) (λ a. Ok (tt, a.1)) ≡ r
+  inside_reads (Ok b) = refl
+  inside_reads (Err k) = refl
+
+  right_inside : Right (Closing 0) Any near near 1 inside_all
+  right_inside = record { regular = closing_regular 0; at = λ ws i le. inside_from ws (suc (length ws)) 0 i le (omega arith) }
+
+  to_group : (ws : List Lexeme) (i j : ℕ) (x : Unit {0} × Unit {0}) → (one opening & Closing 0) ws i j x → group opening closing ws i j tt
   unfolding Opened
-  group_rest ws i m k (Ok a) l = record {
-    further = omega (arith, k.further, l.further);
-    within = l.within;
-    seen = omega (arith, k.further, l.further);
-    found =
-        let o = opened ws l.found in
-        let inner : Balanced opening closing ws (i + 1) o.0 = subst (λ (t : ℕ). Balanced opening closing ws t o.0) k.found.1 o.1 in
-        (o.0, begun ws i m k.found, inner, o.2, o.3);
-    forced = λ vs n y agree s after.
-        let z = k.forced vs (i + 1) tt (fewer _ _ ws vs (omega (arith, l.further)) agree) (begins vs i s.1, refl) tt in
-        let c = closes_after vs s.2 0 n (last s.3 s.4) in
-        (refl, (l.forced vs n tt agree (subst (λ (t : ℕ). Closes vs 0 t n) z.1 c) tt).1);
-  }
-  group_rest ws i m k (Err t) l = record {
-    seen = omega (arith, k.further, l.seen);
-    within = l.within;
-    none = λ vs n y agree s after.
-        let z = k.forced vs (i + 1) tt (fewer _ _ ws vs (omega (arith, l.seen)) agree) (begins vs i s.1, refl) tt in
-        let c = closes_after vs s.2 0 n (last s.3 s.4) in
-        l.none vs n tt agree (subst (λ (t : ℕ). Closes vs 0 t n) z.1 c) tt;
-  }
+  to_group ws i j x s =
+      let o = opened ws s.2 in
+      (o.0, leads_one opening Any ws i s.0 tt s.1 tt, subst (λ (t : ℕ). Balanced opening closing ws t o.0) s.1.1 o.1, o.2, o.3)
 
-  group_from : (ws : List Lexeme) (i : ℕ) (r : Result (Unit {0} × ℕ) ℕ) → Outcome (one opening) Any near near 1 ws i r
-      → Outcome (group opening closing) Any near near 2 ws i (r >>= λ a. inside_at opening closing (suc (length ws)) 0 ws a.1)
-  group_from ws i (Ok a) k = group_rest ws i a.1 k (inside_at opening closing (suc (length ws)) 0 ws a.1) (inside_from ws (suc (length ws)) 0 a.1 k.within (omega arith))
-  group_from ws i (Err t) k = record { seen = k.seen; within = k.within; none = λ vs m y agree s after. k.none vs (i + 1) tt agree (begins vs i s.1, refl) tt }
+  of_group : (ws : List Lexeme) (i j : ℕ) (y : Unit {0}) → group opening closing ws i j y → (x : Unit {0} × Unit {0}) × (one opening & Closing 0) ws i j x × (tt ≡ y)
+  of_group ws i j y s = ((tt, tt), (i + 1, (begins ws i s.1, refl), closes_after ws s.2 0 j (last s.3 s.4)), refl)
+
+  group_reads : (ws : List Lexeme) (r : Result (Unit {0} × ℕ) ℕ) → ◌>>=◌ {A = (Unit {0} × Unit {0}) × ℕ} (r >>= λ a. inside_all ws a.1 >>= λ b. Ok ((a.0, b.0), b.1)) (λ a. Ok (tt, a.1)) ≡ (r >>= λ a. inside_all ws a.1)
+  group_reads ws (Ok a) = inside_reads (inside_all ws a.1)
+  group_reads ws (Err k) = refl
 
   pub right_group : Right (group opening closing) Any near near 2 (group_at opening closing)
   unfolding group_at
-  right_group = record { at = λ ws i le. group_from ws i (one_at opening ws i) ((right_token (this opening)).at ws i le) }
+  right_group = same_reading (group_at opening closing) (λ ws i. group_reads ws (one_at opening ws i))
+      (adapt (λ x. tt) (one opening & Closing 0) (group opening closing) Any near near 2 to_group of_group (both (one_at opening) inside_all) (and (this_one opening) right_inside))

@@ -1,12 +1,12 @@
 -- Instances, and the parameters of a reactor.
 use Rattle.std.proofs.Common.{◌≡◌, Bool, true, false, Some, refl, arith}
 use Rattle.std.specs.Prelude.{codes}
-use Rattle.lft_syntax.specs.Lexeme.{Letters, Symbol, is, is_name, name_in}
+use Rattle.lft_syntax.specs.Lexeme.{Letters, Symbol, is, is_name}
 use Rattle.lft_syntax.specs.Language.{◌>>◌, ◌<<◌, ◌or◌, made}
 use Rattle.lft_syntax.specs.Grammar.{key, symbol, name, time, ptime, listed, enclosed, assign, instance, param, params, or_empty, assignment_of, instance_of, parameter_of}
 use Rattle.lft_syntax.specs.Reading.{is_open, given_value_at, assign_at, assigns_at, instance_at, default_at, param_at, params_at}
-use Rattle.lft_syntax.proofs.Algebra.{near, Right, Leads, Any, Test, Starts, right_token, starts_one}
-use Rattle.lft_syntax.proofs.Rules.{near_looks, and, skip, before, before_if, making, this_one, leads_one, starts_skip, starts_and, starts_before, starts_made, choose, ended, taking}
+use Rattle.lft_syntax.proofs.Algebra.{near, Right, Leads, Any, Test, Starts, starts_one}
+use Rattle.lft_syntax.proofs.Rules.{near_looks, and, skip, before, before_if, making, this_one, leads_one, starts_skip, starts_and, starts_before, starts_made, choose, ended, taking, right_name}
 use Rattle.lft_syntax.proofs.Lists.{right_enclosed_list, starts_enclosed}
 use Rattle.lft_syntax.proofs.Lookahead.{past_name, name_first, starts_name, named}
 use Rattle.lft_syntax.proofs.Times.{NoUnit, here_no_unit, right_time, right_ptime}
@@ -24,7 +24,7 @@ right_given_value = choose (is (Symbol 61)) (starts_skip ptime (starts_one (Symb
 
 pub right_assign : Right assign NoUnit near near 1 assign_at
 unfolding assign_at
-right_assign = taking 1 (omega arith) (making assignment_of (and (right_token name_in) right_given_value))
+right_assign = taking 1 (omega arith) (making assignment_of (and right_name right_given_value))
 
 starts_assign : Starts assign is_name true
 starts_assign = starts_made assignment_of (starts_and (symbol 61 >> ptime or symbol 40 >> ptime << symbol 41) starts_name)
@@ -37,7 +37,7 @@ right_assigns = right_enclosed_list (named is_open true (λ x. refl) starts_assi
 
 pub right_instance : Right instance Any past_name near 6 instance_at
 unfolding instance_at
-right_instance = making instance_of (and (and (before (before name_first (this_one (Symbol 61))) (this_one (Letters (codes "new")))) (right_token name_in)) right_assigns)
+right_instance = making instance_of (and (and (before (before name_first (this_one (Symbol 61))) (this_one (Letters (codes "new")))) right_name) right_assigns)
 
 pub starts_instance : Starts instance is_name true
 starts_instance = starts_made instance_of (starts_and (made or_empty (enclosed (listed assign))) (starts_and name (starts_before (key (codes "new")) (starts_before (symbol 61) starts_name))))
@@ -52,7 +52,7 @@ right_default = choose (is (Symbol 61)) (starts_skip time (starts_one (Symbol 61
 
 pub right_param : Right param NoUnit near near 1 param_at
 unfolding param_at
-right_param = taking 1 (omega arith) (making parameter_of (and (before (before (right_token name_in) (this_one (Symbol 58))) (this_one (Letters (codes "time")))) right_default))
+right_param = taking 1 (omega arith) (making parameter_of (and (before (before right_name (this_one (Symbol 58))) (this_one (Letters (codes "time")))) right_default))
 
 starts_param : Starts param is_name true
 starts_param = starts_made parameter_of (starts_and (symbol 61 >> time or symbol 40 >> time << symbol 41) (starts_before (key (codes "time")) (starts_before (symbol 58) starts_name)))

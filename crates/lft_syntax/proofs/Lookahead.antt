@@ -10,8 +10,8 @@ use Rattle.lft_syntax.specs.Lexeme.{Lexeme, Code, Text, Letters, Number, Arrow, 
 use Rattle.lft_syntax.specs.Language.{Spelling, look}
 use Rattle.lft_syntax.specs.Grammar.{name}
 use Rattle.lft_syntax.specs.Reading.{seen_at, name_at}
-use Rattle.lft_syntax.proofs.Algebra.{Follow, Horizon, near, Known, Refused, Outcome, Right, Any, Test, Starts, right_token, starts_token}
-use Rattle.lft_syntax.proofs.Rules.{starts_by, Here}
+use Rattle.lft_syntax.proofs.Algebra.{Follow, Horizon, near, Known, Refused, Outcome, Right, Any, Test, Starts, starts_token}
+use Rattle.lft_syntax.proofs.Rules.{starts_by, Here, right_name}
 
 -- ---- two tokens ahead
 
@@ -109,15 +109,15 @@ past_none ws i e = rw e (omega arith)
 
 name_first_at : (ws : List Lexeme) (i : ℕ) → i ≤ length ws → (o : Option (List ℕ)) → look name_in (slice_get ws i) ≡ o → Outcome name Any past_name near 1 ws i (seen_at i o)
 name_first_at ws i le (Some x) e =
-    let k : Known name Any near near 1 ws i x (i + 1) = subst (λ (o : Option (List ℕ)). Outcome name Any near near 1 ws i (seen_at i o)) e ((right_token name_in).at ws i le) in
+    let k : Known name Any near near 1 ws i x (i + 1) = subst (λ (o : Option (List ℕ)). Outcome name Any near near 1 ws i (seen_at i o)) e (right_name.at ws i le) in
     record { further = k.further; within = k.within; seen = past_near ws i; found = k.found; forced = k.forced }
 name_first_at ws i le None e =
-    let k : Refused name Any near ws i i = subst (λ (o : Option (List ℕ)). Outcome name Any near near 1 ws i (seen_at i o)) e ((right_token name_in).at ws i le) in
-    record { seen = past_none ws i (no_name (slice_get ws i) e); within = k.within; none = k.none }
+    let k : Refused name Any near ws i i = subst (λ (o : Option (List ℕ)). Outcome name Any near near 1 ws i (seen_at i o)) e (right_name.at ws i le) in
+    record { seen = past_none ws i (no_name (slice_get ws i) e); within = k.within; begun = k.begun; none = k.none }
 
 -- a name, where a member begins with it
 pub name_first : Right name Any past_name near 1 name_at
-name_first = record { at = λ ws i le. name_first_at ws i le (look name_in (slice_get ws i)) refl }
+name_first = record { regular = right_name.regular; at = λ ws i le. name_first_at ws i le (look name_in (slice_get ws i)) refl }
 
 -- ---- what ends a member
 

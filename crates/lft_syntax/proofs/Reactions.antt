@@ -1,13 +1,13 @@
 -- Reactions.
 use Rattle.std.proofs.Common.{◌≡◌, ℕ, Bool, true, false, List, Some, refl, arith}
 use Rattle.std.specs.Prelude.{slice_get, codes}
-use Rattle.lft_syntax.specs.Lexeme.{Lexeme, Code, Letters, Arrow, Symbol, is, is_name, name_in, is_reserved}
+use Rattle.lft_syntax.specs.Lexeme.{Lexeme, Code, Letters, Arrow, Symbol, is, is_name, is_reserved}
 use Rattle.lft_syntax.specs.Language.{one, ◌>>◌, optional, made, ignored}
 use Rattle.lft_tree.specs.Tree.{RefTree, OnRef}
 use Rattle.lft_syntax.specs.Grammar.{name, refs, listed, enclosed, trigger, reaction, or_empty, startup_of, shutdown_of, reaction_of}
 use Rattle.lft_syntax.specs.Reading.{is_open, trigger_at, triggers_at, uses_at, effects_at, reaction_at}
-use Rattle.lft_syntax.proofs.Algebra.{Follow, near, Right, Any, Test, Starts, Not, right_token, starts_one}
-use Rattle.lft_syntax.proofs.Rules.{near_looks, and, and_if, skip, skip_if, before_if, making, ignoring, this_one, perhaps, Here, here, leads_one, leads_optional, starts_skip, starts_and, starts_before, starts_made, starts_or, choose, ended, same_follow}
+use Rattle.lft_syntax.proofs.Algebra.{Follow, near, Right, Any, Test, Starts, Not, starts_one}
+use Rattle.lft_syntax.proofs.Rules.{near_looks, and, and_if, skip, skip_if, before_if, making, ignoring, this_one, perhaps, Here, here, leads_one, leads_optional, starts_skip, starts_and, starts_before, starts_made, starts_or, choose, ended, same_follow, right_name}
 use Rattle.lft_syntax.proofs.Lists.{right_enclosed_list, starts_enclosed}
 use Rattle.lft_syntax.proofs.Lookahead.{starts_name, named, no_word, Reserved}
 use Rattle.lft_syntax.proofs.References.{NoDot, right_ref, starts_ref, right_refs, starts_refs}
@@ -71,7 +71,7 @@ arrow_begins vs i j x s = uses_end Arrow refl refl refl vs i (leads_one Arrow An
 pub right_reaction : Right reaction Any near near 4 reaction_at
 unfolding reaction_at
 right_reaction =
-    let head = skip (this_one (Letters (codes "reaction"))) (ignoring (perhaps (Not is_name) is_name starts_name (same_follow (Not is_name)) (λ vs m h. tt) (right_token name_in))) in
+    let head = skip (this_one (Letters (codes "reaction"))) (ignoring (perhaps (Not is_name) is_name starts_name (same_follow (Not is_name)) (λ vs m h. tt) right_name)) in
     let triggered = skip_if (leads_starts Any (starts_triggers is_name false refl)) head right_triggers in
     let whole = and_if (leads_optional (one Arrow >> refs) (Here Code) UsesEnd (uses_end Code refl refl refl) arrow_begins) (and triggered right_uses) right_effects in
     making reaction_of (before_if (leads_one Code Any) whole (this_one Code))

@@ -1,13 +1,13 @@
 -- Reactors.
 use Rattle.std.proofs.Common.{◌≡◌, Bool, true, false, Some, refl, arith}
 use Rattle.std.specs.Prelude.{slice_get, codes}
-use Rattle.lft_syntax.specs.Lexeme.{Letters, Symbol, is, is_name, name_in}
+use Rattle.lft_syntax.specs.Lexeme.{Letters, Symbol, is, is_name}
 use Rattle.lft_syntax.specs.Language.{Spelling, ◌&◌, ◌>>◌, optional, made}
 use Rattle.lft_tree.specs.Tree.{ReactorTree}
 use Rattle.lft_syntax.specs.Grammar.{key, name, params, body, reactor, reactor_of, main_of}
 use Rattle.lft_syntax.specs.Reading.{maybe, params_at, body_at, reactor_at}
-use Rattle.lft_syntax.proofs.Algebra.{near, Right, Leads, Any, Test, Starts, right_token, starts_one, loosen}
-use Rattle.lft_syntax.proofs.Rules.{and, and_if, skip, before_if, making, this_one, perhaps, Here, here, leads_one, leads_optional, starts_skip, starts_and, starts_made, starts_or, choose, same_follow}
+use Rattle.lft_syntax.proofs.Algebra.{near, Right, Leads, Any, Test, Starts, starts_one, loosen}
+use Rattle.lft_syntax.proofs.Rules.{and, and_if, skip, before_if, making, this_one, perhaps, Here, here, leads_one, leads_optional, starts_skip, starts_and, starts_made, starts_or, choose, same_follow, right_name}
 use Rattle.lft_syntax.proofs.Lookahead.{far_looks, starts_name}
 use Rattle.lft_syntax.proofs.Instances.{right_params, starts_params}
 use Rattle.lft_syntax.proofs.Members.{right_members}
@@ -42,9 +42,9 @@ starts_main go b e = starts_made main_of (starts_and body (starts_and (optional 
 pub right_reactor : Right reactor Any near near 4 reactor_at
 unfolding reactor_at
 right_reactor = choose (is (Letters (codes "reactor"))) (starts_plain (is (Letters (codes "reactor"))) true refl) (starts_main (is (Letters (codes "reactor"))) false refl)
-    (making reactor_of (and_if leads_body (and (skip (this_one (Letters (codes "reactor"))) (right_token name_in)) right_maybe_params) right_body))
+    (making reactor_of (and_if leads_body (and (skip (this_one (Letters (codes "reactor"))) right_name) right_maybe_params) right_body))
     (making main_of (and_if leads_body (and_if params_no_name
-    (skip (skip (this_one (Letters (codes "main"))) (this_one (Letters (codes "reactor")))) (perhaps (λ vs m. is_name (slice_get vs m) ≡ false) is_name starts_name (λ vs m h. h) (λ vs m h. tt) (right_token name_in)))
+    (skip (skip (this_one (Letters (codes "main"))) (this_one (Letters (codes "reactor")))) (perhaps (λ vs m. is_name (slice_get vs m) ≡ false) is_name starts_name (λ vs m h. h) (λ vs m h. tt) right_name))
     right_maybe_params) right_body))
 
 pub starts_reactor : (go : Test) (b : Bool) → go (Some (Letters (codes "reactor"))) ≡ b → go (Some (Letters (codes "main"))) ≡ b → Starts reactor go b

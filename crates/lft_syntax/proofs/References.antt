@@ -1,12 +1,12 @@
 -- References.
 use Rattle.std.proofs.Common.{◌≡◌, ℕ, true, false, List, refl, arith}
 use Rattle.std.specs.Prelude.{slice_get}
-use Rattle.lft_syntax.specs.Lexeme.{Lexeme, Symbol, is, is_name, name_in}
+use Rattle.lft_syntax.specs.Lexeme.{Lexeme, Symbol, is, is_name}
 use Rattle.lft_syntax.specs.Language.{Spelling, ◌>>◌, optional, many}
 use Rattle.lft_syntax.specs.Grammar.{symbol, name, ref, refs, ref_of, with_first}
 use Rattle.lft_syntax.specs.Reading.{ref_at, refs_at}
-use Rattle.lft_syntax.proofs.Algebra.{Follow, near, Right, Leads, Starts, Not, right_token, starts_one, loosen}
-use Rattle.lft_syntax.proofs.Rules.{and, skip, making, this_one, perhaps, here, starts_skip, starts_and, starts_made, same_follow}
+use Rattle.lft_syntax.proofs.Algebra.{Follow, near, Right, Leads, Starts, Not, starts_one, loosen}
+use Rattle.lft_syntax.proofs.Rules.{and, skip, making, this_one, perhaps, here, starts_skip, starts_and, starts_made, same_follow, right_name}
 use Rattle.lft_syntax.proofs.Lookahead.{past_name, past_looks, Ends, no_symbol, name_first, starts_name}
 use Rattle.lft_syntax.proofs.Lists.{right_listed}
 
@@ -20,7 +20,7 @@ RefsEnd vs m = (is (Symbol 46) (slice_get vs m) ≡ false) × (is (Symbol 44) (s
 -- a reference, where a member may begin with it
 pub right_ref_first : Right ref NoDot past_name near 1 ref_at
 unfolding ref_at
-right_ref_first = making ref_of (and name_first (perhaps NoDot (is (Symbol 46)) (starts_skip name (starts_one (Symbol 46) (is (Symbol 46)) true refl)) (same_follow NoDot) (λ vs m a. tt) (skip (this_one (Symbol 46)) (right_token name_in))))
+right_ref_first = making ref_of (and name_first (perhaps NoDot (is (Symbol 46)) (starts_skip name (starts_one (Symbol 46) (is (Symbol 46)) true refl)) (same_follow NoDot) (λ vs m a. tt) (skip (this_one (Symbol 46)) right_name)))
 
 pub right_ref : Right ref NoDot near near 1 ref_at
 right_ref = loosen NoDot near near 1 (same_follow NoDot) past_looks (λ ws i. omega arith) (omega arith) right_ref_first

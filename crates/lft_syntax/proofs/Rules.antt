@@ -1,11 +1,12 @@
 -- The rules, with what the premises show left out.
 use Rattle.std.proofs.Common.{◌≡◌, ℕ, suc, ◌+◌, ◌≤◌, Bool, true, false, List, [], ◌∷◌, Option, Some, None, refl, ap, subst, arith, cond, ◌∙◌, sym, inl, inr}
-use Rattle.std.specs.Prelude.{slice_get}
+use Rattle.std.specs.Prelude.{slice_get, codes}
 use Rattle.lft_syntax.proofs.Options.{some}
-use Rattle.lft_syntax.specs.Lexeme.{Lexeme, same}
+use Rattle.lft_syntax.specs.Lexeme.{Lexeme, Letters, Number, same, is_reserved, name_in, number_in}
 use Rattle.lft_syntax.specs.Language.{Spelling, look, this, one, ◌&◌, ◌>>◌, ◌<<◌, ◌or◌, optional, many, made, ignored, range}
-use Rattle.lft_syntax.specs.Reading.{Reading, one_at, both, second, first, apply, maybe, choice, repeated}
-use Rattle.lft_syntax.proofs.Algebra.{Follow, Horizon, near, Right, Leads, Any, Test, Starts, right_both, right_second, right_first, right_made, right_ignored, right_token, right_maybe, right_choice, right_repeated, same-true, loosen}
+use Rattle.lft_syntax.specs.Grammar.{name, number}
+use Rattle.lft_syntax.specs.Reading.{Reading, one_at, name_at, number_at, both, second, first, apply, maybe, choice, repeated}
+use Rattle.lft_syntax.proofs.Algebra.{Follow, Horizon, near, Right, Leads, Any, Test, Starts, right_both, right_second, right_first, right_made, right_ignored, right_token, right_maybe, right_choice, right_repeated, same-true, this_self, loosen}
 
 pub near_looks : (ws : List Lexeme) (i : ℕ) → i + 1 ≤ near ws i
 near_looks ws i = omega arith
@@ -42,7 +43,14 @@ pub ignoring : {A : Type 0} {P : Spelling A} {F : Follow} {e h : Horizon} {n : �
 ignoring {P = P} {F = F} {e = e} {h = h} {n = n} {p = p} right = right_ignored P F e h n p right
 
 pub this_one : (w : Lexeme) → Right (one w) Any near near 1 (one_at w)
-this_one w = right_token (this w)
+this_one w = right_token (this w) w tt (this_self w)
+
+pub right_name : Right name Any near near 1 name_at
+unfolding is_reserved
+right_name = right_token name_in (Letters (codes "x")) (codes "x") refl
+
+pub right_number : Right number Any near near 1 number_at
+right_number = right_token number_in (Number 0) 0 refl
 
 pub perhaps : {A : Type 0} {P : Spelling A} {F : Follow} {n : ℕ} {p : Reading A} (G : Follow) (go : Test) → Starts P go true
     → ((vs : List Lexeme) (m : ℕ) → G vs m → go (slice_get vs m) ≡ false) → ((vs : List Lexeme) (m : ℕ) → G vs m → F vs m)

@@ -1,17 +1,19 @@
 -- Times, and names in their places.
 use Rattle.std.proofs.Common.{◌≡◌, ℕ, ◌+◌, ◌≤◌, Bool, true, false, List, length, Option, Some, None, Ok, Err, refl, sym, ap, subst, ◌∙◌, arith, cond, eqb, inl, inr}
-use Rattle.std.specs.Prelude.{slice_get}
+use Rattle.std.specs.Prelude.{slice_get, codes}
 use Rattle.std.proofs.lemmas.Bool.{eqb-true, eq-eqb}
 use Rattle.std.proofs.lemmas.Option.{slice_get_within}
 use Rattle.lft_syntax.proofs.Options.{some, some_is}
 use Rattle.lft_tree.specs.declared.tree.TimeUnit.{TimeUnit}
-use Rattle.lft_syntax.specs.Lexeme.{Lexeme, Code, Text, Letters, Number, Arrow, Symbol, is_number, is_name, is_follower, same, name_in, number_in, unit_in}
-use Rattle.lft_syntax.specs.Language.{look, this, made}
+use Rattle.lft_tree.specs.declared.tree.TimeUnit.TheVariants as units
+use Rattle.lft_syntax.specs.Lexeme.{Lexeme, Code, Text, Letters, Number, Arrow, Symbol, is_number, is_name, is_follower, same, name_in, number_in, unit_in, unit_of}
+use Rattle.lft_syntax.specs.Language.{look, this, one, ◌&◌, made}
 use Rattle.lft_tree.specs.Tree.{Written, Named}
-use Rattle.lft_syntax.specs.Grammar.{name, unit, time, ptime, counted, zero_time}
-use Rattle.lft_syntax.specs.Reading.{◌>>=◌, seen_at, time_from, time_at, delay_at, ptime_at, pdelay_at, is_open}
-use Rattle.lft_syntax.proofs.Algebra.{Follow, Horizon, near, Known, Refused, Outcome, Agree, Right, Starts, right_token, starts_token, starts_one, same-true, pair}
-use Rattle.lft_syntax.proofs.Rules.{near_looks, making, Here, starts_and, starts_made, starts_or, starts_by, choose, ended}
+use Rattle.lft_syntax.specs.Grammar.{name, number, unit, time, ptime, counted, zero_time}
+use Rattle.lft_syntax.specs.Reading.{◌>>=◌, seen_at, token_at, time_from, time_at, delay_at, ptime_at, pdelay_at, is_open}
+use Rattle.lft_syntax.proofs.Begun.{Agree, Regular, begun_second, both_regular, begun_as, as_regular, begun_left, or_regular}
+use Rattle.lft_syntax.proofs.Algebra.{Follow, Horizon, near, Known, Refused, Outcome, Right, Any, Starts, right_token, starts_token, starts_one, same-true, pair}
+use Rattle.lft_syntax.proofs.Rules.{near_looks, making, this_one, Here, starts_and, starts_made, starts_or, starts_by, choose, ended, right_name, right_number}
 use Rattle.lft_syntax.proofs.Lookahead.{far, Ends, far_looks, far_two, ends_unit, ends_follower, starts_name, named}
 
 -- no unit stands there
@@ -45,6 +47,14 @@ there_zero (Some w) e = zero_seen w e
 pub look_within : {A : Type 0} (see : Lexeme → Option A) (ws : List Lexeme) (i : ℕ) (x : A) (o : Option Lexeme) → slice_get ws i ≡ o → look see o ≡ Some x → i + 1 ≤ length ws
 look_within see ws i x None e s = absurd cc
 look_within see ws i x (Some w) e s = let lt = slice_get_within ws i w e in omega arith
+
+right_unit : Right unit Any near near 1 (token_at unit_in)
+unfolding unit_of
+right_unit = right_token unit_in (Letters (codes "ms")) units.Millisecond refl
+
+time_regular : Regular time
+time_regular = or_regular (as_regular {P = number & unit} counted (λ ws i j x s. (x, s, refl)) (λ ws i j y s. s) (both_regular right_number.regular right_unit.regular))
+    (as_regular {P = one (Number 0)} zero_time (λ ws i j x s. (x, s, refl)) (λ ws i j y s. s) (this_one (Number 0)).regular)
 
 module _ (F : Follow) (h : Horizon) (looks : (ws : List Lexeme) (i : ℕ) → i + 1 ≤ h ws i) (ws : List Lexeme) (i n : ℕ) (number_there : look number_in (slice_get ws i) ≡ Some n) where
   pub time_counted : (u : TimeUnit) → look unit_in (slice_get ws (i + 1)) ≡ Some u → i + 1 + 1 ≤ length ws
@@ -87,20 +97,23 @@ module _ (F : Follow) (h : Horizon) (looks : (ws : List Lexeme) (i : ℕ) → i 
   }
 
   pub time_none : look unit_in (slice_get ws (i + 1)) ≡ None → (n ≡ 0 → ⊥) → Refused time F near ws i (i + 1)
-  time_none absent positive = record {
-    seen = omega arith;
-    within = look_within number_in ws i n (slice_get ws i) refl number_there;
-    none = λ vs m y agree s after.
-        let same0 = agree i (omega arith) in
-        let same1 = agree (i + 1) (omega arith) in
-        elim s [
-          | inl a ↦
-              let e : look unit_in (slice_get vs (i + 1)) ≡ Some a.0.1 = subst (λ (k : ℕ). look unit_in (slice_get vs k) ≡ Some a.0.1) a.1.1.1 a.1.2.0 in
-              let f : look unit_in (slice_get ws (i + 1)) ≡ look unit_in (slice_get vs (i + 1)) = ap (look unit_in) same1 in
-              cc (e, f, absent)
-          | inr b ↦ positive (some_is _ _ (sym number_there ∙ ap (look number_in) same0 ∙ zero_there (slice_get vs i) b.0 b.1.0))
-        ];
-  }
+  time_none absent positive =
+      let le = look_within number_in ws i n (slice_get ws i) refl number_there in
+      record {
+        seen = omega arith;
+        within = le;
+        begun = begun_left (begun_as {P = number & unit} counted (λ us s t x found. (x, found, refl)) (begun_second right_number.regular right_unit.regular n (number_there, refl) (right_unit.regular.word ws (i + 1) le)));
+        none = λ vs m y agree s after.
+            let same0 = agree i (omega arith) in
+            let same1 = agree (i + 1) (omega arith) in
+            elim s [
+              | inl a ↦
+                  let e : look unit_in (slice_get vs (i + 1)) ≡ Some a.0.1 = subst (λ (k : ℕ). look unit_in (slice_get vs k) ≡ Some a.0.1) a.1.1.1 a.1.2.0 in
+                  let f : look unit_in (slice_get ws (i + 1)) ≡ look unit_in (slice_get vs (i + 1)) = ap (look unit_in) same1 in
+                  cc (e, f, absent)
+              | inr b ↦ positive (some_is _ _ (sym number_there ∙ ap (look number_in) same0 ∙ zero_there (slice_get vs i) b.0 b.1.0))
+            ];
+      }
 
 -- ---- where no name may stand after a time
 
@@ -120,6 +133,7 @@ pub no_number : (F : Follow) (ws : List Lexeme) (i : ℕ) → i ≤ length ws �
 no_number F ws i le absent = record {
   seen = omega arith;
   within = le;
+  begun = time_regular.word ws i le;
   none = λ vs m y agree s after.
       let same0 = agree i (omega arith) in
       let f : look number_in (slice_get ws i) ≡ look number_in (slice_get vs i) = ap (look number_in) same0 in
@@ -133,7 +147,7 @@ time_number ws i le None e = no_number NoUnit ws i le e
 
 pub right_time : Right time NoUnit near near 1 time_at
 unfolding time_at
-right_time = record { at = λ ws i le. time_number ws i le (look number_in (slice_get ws i)) refl }
+right_time = record { regular = time_regular; at = λ ws i le. time_number ws i le (look number_in (slice_get ws i)) refl }
 
 -- ---- the production
 
@@ -195,7 +209,7 @@ delay_number ws i le None e = no_number Ends ws i le e
 
 pub right_delay : Right time Ends near far 1 delay_at
 unfolding delay_at
-right_delay = record { at = λ ws i le. delay_number ws i le (look number_in (slice_get ws i)) refl }
+right_delay = record { regular = time_regular; at = λ ws i le. delay_number ws i le (look number_in (slice_get ws i)) refl }
 
 -- ---- a time, or the name of a parameter
 
@@ -215,11 +229,11 @@ starts_named = starts_made Named (starts_token name_in is_number false name_no_n
 
 pub right_ptime : Right ptime NoUnit near near 1 ptime_at
 unfolding ptime_at
-right_ptime = choose is_number starts_written starts_named (making Written right_time) (ended NoUnit near 1 (λ vs i h. tt) near_looks (omega arith) (making Named (right_token name_in)))
+right_ptime = choose is_number starts_written starts_named (making Written right_time) (ended NoUnit near 1 (λ vs i h. tt) near_looks (omega arith) (making Named right_name))
 
 pub right_pdelay : Right ptime Ends near far 1 pdelay_at
 unfolding pdelay_at
-right_pdelay = choose is_number starts_written starts_named (making Written right_delay) (ended Ends far 1 (λ vs i h. tt) far_looks (omega arith) (making Named (right_token name_in)))
+right_pdelay = choose is_number starts_written starts_named (making Written right_delay) (ended Ends far 1 (λ vs i h. tt) far_looks (omega arith) (making Named right_name))
 
 number_open : (o : Option Lexeme) → is_number o ≡ true → is_open o ≡ true
 number_open None e = refl

@@ -73,8 +73,8 @@ range_ascii t i j order within letters = IsAscii-from_reads (slice_range t i j) 
     (λ k lt. subst (λ (n : ℕ). n < 128) (sym (get_or-take (j - i) (drop i t) k 0 lt ∙ get_or-drop i t k 0)) (word_ascii (get_or t (i + k) 0) (letters (i + k) (omega arith) (omega arith))))
 
 -- the bytes of a name are ASCII, and so UTF-8
+pub in_text_ascii : (t : List ℕ) (k : Token) → InText t k → k.kind ≡ kinds.Name → IsAscii (slice_range t k.start k.end)
+in_text_ascii t k h e = let order = h.order in range_ascii t k.start k.end (omega arith) h.within (h.letters e)
+
 pub name_ascii : (t : List ℕ) (tokens : List Token) (n : ℕ) (k : Token) → Lexes t tokens → slice_get tokens n ≡ Some k → k.kind ≡ kinds.Name → IsAscii (slice_range t k.start k.end)
-name_ascii t tokens n k whole there e =
-    let h = token_at t tokens n k whole there in
-    let order = h.order in
-    range_ascii t k.start k.end (omega arith) h.within (h.letters e)
+name_ascii t tokens n k whole there e = in_text_ascii t k (token_at t tokens n k whole there) e

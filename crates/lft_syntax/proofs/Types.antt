@@ -2,12 +2,12 @@
 use Rattle.std.proofs.Common.{◌≡◌, ℕ, suc, Bool, true, false, List, Some, refl, arith}
 use Rattle.std.specs.Prelude.{slice_get}
 use Rattle.std.proofs.lemmas.Bool.{or_from}
-use Rattle.lft_syntax.specs.Lexeme.{Lexeme, Code, Letters, Symbol, is, is_number, number_in, name_in}
+use Rattle.lft_syntax.specs.Lexeme.{Lexeme, Code, Letters, Symbol, is, is_number, number_in}
 use Rattle.lft_syntax.specs.Language.{◌>>◌, optional, many, ignored}
 use Rattle.lft_syntax.specs.Grammar.{symbol, name, number, type, typed, type_part, array_part}
 use Rattle.lft_syntax.specs.Reading.{symbol_at, is_type_part, type_part_at, type_parts_at, stars_at, array_part_at, array_parts_at, type_at, typed_at, second, ignoring_at, name_at}
-use Rattle.lft_syntax.proofs.Algebra.{Follow, near, Right, Leads, Any, Test, Starts, Not, right_token, starts_token, starts_one}
-use Rattle.lft_syntax.proofs.Rules.{near_looks, skip, skip_if, ignoring, this_one, perhaps, Here, here, leads_one, leads_ignored, leads_many, leads_optional, starts_skip, starts_ignored, starts_or, repeat, choose, ended, taking, same_follow}
+use Rattle.lft_syntax.proofs.Algebra.{Follow, near, Right, Leads, Any, Test, Starts, Not, starts_token, starts_one}
+use Rattle.lft_syntax.proofs.Rules.{near_looks, skip, skip_if, ignoring, this_one, perhaps, Here, here, leads_one, leads_ignored, leads_many, leads_optional, starts_skip, starts_ignored, starts_or, repeat, choose, ended, taking, same_follow, right_name, right_number}
 use Rattle.lft_syntax.proofs.Lookahead.{Ends, no_symbol, starts_name, named}
 use Rattle.lft_syntax.proofs.Times.{number_starts}
 
@@ -28,8 +28,8 @@ ends_type vs m h = (no_symbol 46 refl vs m h, no_symbol 58 refl vs m h, no_symbo
 pub right_type_part : Right type_part Any near near (suc 0) type_part_at
 unfolding type_part_at
 right_type_part = choose (is (Symbol 46)) (starts_skip (ignored name) (starts_one (Symbol 46) (is (Symbol 46)) true refl)) (starts_skip (ignored name) (starts_skip (symbol 58) (starts_one (Symbol 58) (is (Symbol 46)) false refl)))
-    (taking 1 (omega arith) (skip (this_one (Symbol 46)) (ignoring (right_token name_in))))
-    (taking 1 (omega arith) (skip (skip (this_one (Symbol 58)) (this_one (Symbol 58))) (ignoring (right_token name_in))))
+    (taking 1 (omega arith) (skip (this_one (Symbol 46)) (ignoring right_name)))
+    (taking 1 (omega arith) (skip (skip (this_one (Symbol 58)) (this_one (Symbol 58))) (ignoring right_name)))
 
 starts_type_part : Starts type_part is_type_part true
 starts_type_part = starts_or (starts_skip (ignored name) (starts_one (Symbol 46) is_type_part true refl)) (starts_skip (ignored name) (starts_skip (symbol 58) (starts_one (Symbol 58) is_type_part true refl)))
@@ -48,7 +48,7 @@ right_stars = repeat (Not (is (Symbol 42))) near (is (Symbol 42)) near_looks (λ
 pub right_array_part : Right array_part Any near near (suc 1) array_part_at
 unfolding array_part_at
 right_array_part = skip_if (leads_one (Symbol 93) Any)
-    (skip (this_one (Symbol 91)) (ignoring (perhaps (Here (Symbol 93)) is_number (starts_token number_in is_number true number_starts) (here (Symbol 93) is_number false refl) (λ vs m h. tt) (right_token number_in))))
+    (skip (this_one (Symbol 91)) (ignoring (perhaps (Here (Symbol 93)) is_number (starts_token number_in is_number true number_starts) (here (Symbol 93) is_number false refl) (λ vs m h. tt) right_number)))
     (this_one (Symbol 93))
 
 pub right_array_parts : Right (many array_part) (Not (is (Symbol 91))) near near 0 array_parts_at
@@ -66,7 +66,7 @@ named_type : Right (ignored name >> ignored (many type_part) >> ignored (many (s
 named_type =
     skip_if (leads_ignored (leads_many array_part TypeEnd StarsEnd (λ vs m h. (no_part vs m h, h.2)) (λ vs i j x s. (array_begins is_type_part false refl vs i j x s, array_begins (is (Symbol 42)) false refl vs i j x s))))
     (skip_if (leads_ignored (leads_many (symbol 42) StarsEnd (Not is_type_part) (λ vs m h. h.0) star_begins))
-    (skip (ignoring (right_token name_in)) (ignoring right_type_parts))
+    (skip (ignoring right_name) (ignoring right_type_parts))
     (ended StarsEnd near 0 (λ vs m h. h.1) near_looks (omega arith) (ignoring right_stars)))
     (ended TypeEnd near 0 (λ vs m h. h.3) near_looks (omega arith) (ignoring right_array_parts))
 

@@ -3,12 +3,13 @@ use Rattle.std.proofs.Common.{◌≡◌, ℕ, suc, ◌+◌, ◌≤◌, Bool, tru
 use Rattle.std.specs.Prelude.{slice_get}
 use Rattle.std.proofs.lemmas.Bool.{or_from}
 use Rattle.lft_syntax.proofs.Options.{some}
-use Rattle.lft_syntax.specs.Lexeme.{Lexeme, Code, Text, Letters, Number, Arrow, Symbol, is, is_name, is_follower, same, number_in, name_in}
+use Rattle.lft_syntax.specs.Lexeme.{Lexeme, Code, Text, Letters, Number, Arrow, Symbol, is, is_name, is_follower, same, number_in}
 use Rattle.lft_syntax.specs.Language.{Spelling, ◌>>◌, ◌or◌, optional, many, ignored, group}
 use Rattle.lft_syntax.specs.Grammar.{symbol, name, number, braces, brackets, parentheses, suffix, quantity, value}
 use Rattle.lft_syntax.specs.Reading.{Reading, ◌>>=◌, maybe_suffix, braces_at, brackets_at, parentheses_at, signed_at, suffix_at, quantity_at, is_sign, dot_name_at, dot_names_at, path_at, value_at}
-use Rattle.lft_syntax.proofs.Algebra.{near, Outcome, Right, Any, Test, Starts, Not, right_token, starts_token, starts_one}
-use Rattle.lft_syntax.proofs.Rules.{near_looks, skip, skip_if, ignoring, this_one, perhaps, perhaps_to, here, leads_ignored, leads_optional, starts_skip, starts_ignored, starts_or, starts_either, repeat, choose, ended, same_follow}
+use Rattle.lft_syntax.proofs.Begun.{optional_regular, begun_there}
+use Rattle.lft_syntax.proofs.Algebra.{near, Outcome, Right, Any, Test, Starts, Not, starts_token, starts_one}
+use Rattle.lft_syntax.proofs.Rules.{near_looks, skip, skip_if, ignoring, this_one, perhaps, perhaps_to, here, leads_ignored, leads_optional, starts_skip, starts_ignored, starts_or, starts_either, repeat, choose, ended, same_follow, right_name, right_number}
 use Rattle.lft_syntax.proofs.Groups.{right_group}
 use Rattle.lft_syntax.proofs.Lookahead.{far, past_name, Ends, far_looks, far_past, far_two, past_two, no_symbol, ends_follower, name_first, starts_name, named, ends_name}
 
@@ -34,7 +35,7 @@ starts_signed go b plus minus = starts_or (starts_skip (ignored number) (starts_
 pub right_signed : Right (symbol 43 >> ignored number or symbol 45 >> ignored number) Any near near 2 signed_at
 unfolding signed_at
 right_signed = choose (is (Symbol 43)) (starts_skip (ignored number) (starts_one (Symbol 43) (is (Symbol 43)) true refl)) (starts_skip (ignored number) (starts_one (Symbol 45) (is (Symbol 43)) false refl))
-    (skip (this_one (Symbol 43)) (ignoring (right_token number_in))) (skip (this_one (Symbol 45)) (ignoring (right_token number_in)))
+    (skip (this_one (Symbol 43)) (ignoring right_number)) (skip (this_one (Symbol 45)) (ignoring right_number))
 
 no_sign : (vs : List Lexeme) (m : ℕ) → Ends vs m → is_sign (slice_get vs m) ≡ false
 no_sign vs m h = or_from (is (Symbol 43) (slice_get vs m)) (is (Symbol 45) (slice_get vs m)) (no_symbol 43 refl vs m h) (no_symbol 45 refl vs m h)
@@ -116,6 +117,7 @@ module _ (ws : List Lexeme) (i : ℕ) where
   own there alone (Err t) k = record {
     seen = let l = far_past ws i in omega (arith, k.seen);
     within = k.within;
+    begun = begun_there k.begun;
     none = λ vs m y agree s after.
         let two = past_two ws i there in
         let same0 = agree i (omega (arith, k.seen, two)) in
@@ -130,7 +132,7 @@ module _ (ws : List Lexeme) (i : ℕ) where
   suffix_case le false b absent e = bare le absent
 
 right_maybe_suffix : Right (optional suffix) Ends far far 0 (maybe_suffix suffix_at)
-right_maybe_suffix = record { at = λ ws i le. suffix_case ws i le (is_name (slice_get ws i)) (is_follower (slice_get ws (i + 1))) refl refl }
+right_maybe_suffix = record { regular = optional_regular right_suffix.regular; at = λ ws i le. suffix_case ws i le (is_name (slice_get ws i)) (is_follower (slice_get ws (i + 1))) refl refl }
 
 number_so_in : (go : Test) (b : Bool) → ((n : ℕ) → go (Some (Number n)) ≡ b) → (w : Lexeme) (n : ℕ) → number_in w ≡ Some n → go (Some w) ≡ b
 number_so_in go b so (Number k) n e = so k
@@ -149,9 +151,9 @@ right_quantity : Right quantity Ends near far 1 quantity_at
 unfolding quantity_at
 right_quantity =
     let sign = ignoring (perhaps (Not (is (Symbol 45))) (is (Symbol 45)) (starts_one (Symbol 45) (is (Symbol 45)) true refl) (same_follow (Not (is (Symbol 45)))) (λ vs m h. tt) (this_one (Symbol 45))) in
-    let whole = skip_if (λ vs m j y s after. (starts_ignored (starts_number (is (Symbol 45)) false (λ n. refl))).at vs m j y s) sign (ignoring (right_token number_in)) in
+    let whole = skip_if (λ vs m j y s after. (starts_ignored (starts_number (is (Symbol 45)) false (λ n. refl))).at vs m j y s) sign (ignoring right_number) in
     let part = skip whole (ignoring (perhaps_to (Not (is (Symbol 46))) (is (Symbol 46)) far_looks (starts_skip (ignored number) (starts_one (Symbol 46) (is (Symbol 46)) true refl)) (same_follow (Not (is (Symbol 46)))) (λ vs m h. tt)
-    (ended Any far 2 (λ vs m h. tt) far_looks (omega arith) (skip (this_one (Symbol 46)) (ignoring (right_token number_in)))))) in
+    (ended Any far 2 (λ vs m h. tt) far_looks (omega arith) (skip (this_one (Symbol 46)) (ignoring right_number))))) in
     skip_if (leads_ignored (leads_optional suffix Ends (Not (is (Symbol 46))) (no_symbol 46 refl) (named (is (Symbol 46)) false (λ x. refl) starts_suffix).at)) part (ignoring right_maybe_suffix)
 
 starts_quantity : (go : Test) (b : Bool) → go (Some (Symbol 45)) ≡ b → ((n : ℕ) → go (Some (Number n)) ≡ b) → Starts quantity go b
@@ -161,7 +163,7 @@ starts_quantity go b minus num = starts_skip (ignored (optional suffix)) (starts
 
 pub right_dot_name : Right (symbol 46 >> ignored name) Any near near (suc 1) dot_name_at
 unfolding dot_name_at
-right_dot_name = skip (this_one (Symbol 46)) (ignoring (right_token name_in))
+right_dot_name = skip (this_one (Symbol 46)) (ignoring right_name)
 
 pub right_dot_names : Right (many (symbol 46 >> ignored name)) (Not (is (Symbol 46))) near near 0 dot_names_at
 unfolding dot_names_at
@@ -173,7 +175,7 @@ path = ignored name >> ignored (many (symbol 46 >> ignored name))
 
 right_path : Right path (Not (is (Symbol 46))) near near 1 path_at
 unfolding path_at
-right_path = skip (ignoring (right_token name_in)) (ignoring right_dot_names)
+right_path = skip (ignoring right_name) (ignoring right_dot_names)
 
 starts_path : Starts path is_name true
 starts_path = starts_skip (ignored (many (symbol 46 >> ignored name))) (starts_ignored starts_name)

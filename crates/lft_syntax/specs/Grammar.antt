@@ -3,7 +3,7 @@
 -- A name after a number may be its unit or suffix, or begin the next member. The grammar leaves one of
 -- the two: what begins a member with a name has =, . or , or -> as its second token, and none of
 -- these stands after a unit or a suffix.
-use Rattle.std.specs.Prelude.{ℕ, List, [], ◌∷◌, codes, length, Bool, true, false, Option, Some, None}
+use Rattle.std.specs.Prelude.{ℕ, List, [], ◌∷◌, ◌++◌, codes, length, Bool, true, false, Option, Some, None}
 use Rattle.lft_tree.specs.declared.tree.Time.{Time}
 use Rattle.lft_tree.specs.declared.tree.TimeUnit.{TimeUnit}
 use Rattle.lft_syntax.specs.Lexeme.{Lexeme, Code, Text, Letters, Number, Arrow, Symbol, name_in, number_in, unit_in}
@@ -239,3 +239,11 @@ file = made file_of (optional target & many item)
 -- the tokens are those of the tree
 abbrev pub Spells : FileTree → List Lexeme → Type 0
 Spells tree ws = file ws 0 (length ws) tree
+
+-- other tokens can stand behind these so that a tree is spelled
+abbrev pub BeginsTree : List Lexeme → Type 0
+BeginsTree ws = (rest : List Lexeme) × (tree : FileTree) × Spells tree (ws ++ rest)
+
+-- so they can with this token behind these
+abbrev pub CanFollow : List Lexeme → Lexeme → Type 0
+CanFollow ws w = BeginsTree (ws ++ (w ∷ []))

@@ -1,8 +1,6 @@
 -- For the parser's own contracts. No public contract names these.
-use Rattle.std.specs.Prelude.{◌≡◌, ℕ, ◌+◌, ◌≤◌, List, [], ◌∷◌, codes, Option, Some, None, Result, Ok, Err, IsAscii}
+use Rattle.std.specs.Prelude.{◌≡◌, ℕ, ◌+◌, ◌≤◌, List, [], ◌∷◌, codes, Option, Some, None, Result, Ok, Err}
 use Rattle.lft_syntax.specs.declared.input.Input.{Input}
-use Rattle.lft_syntax.specs.declared.input.Seen.{Seen}
-use Rattle.lft_syntax.specs.declared.input.Seen.TheVariants as seen
 use Rattle.lft_syntax.specs.declared.parse_error.ParseError.{ParseError}
 use Rattle.lft_syntax.specs.Lexeme.{Lexeme}
 use Rattle.lft_syntax.specs.View.{lexemes, Fails}
@@ -10,11 +8,6 @@ use Rattle.lft_syntax.specs.View.{lexemes, Fails}
 -- the tokens, as the grammar sees them
 abbrev pub words : Input → List Lexeme
 words input = lexemes input.text.now input.tokens.now
-
--- letters are ASCII
-abbrev pub letters_ascii : Seen → Type 0
-letters_ascii (seen.Letters bytes) = IsAscii bytes.now
-letters_ascii _ = Unit {0}
 
 -- the reserved words, in three parts
 abbrev pub outer_words : List (List ℕ)

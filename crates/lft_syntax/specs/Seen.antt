@@ -1,5 +1,5 @@
 -- What the parser sees of a token.
-use Rattle.std.specs.Prelude.{Option, Some, None}
+use Rattle.std.specs.Prelude.{Option, Some, None, IsAscii}
 use Rattle.lft_syntax.specs.declared.input.Seen.{Seen}
 use Rattle.lft_syntax.specs.declared.input.Seen.TheVariants as seen
 use Rattle.lft_syntax.specs.Lexeme.{Lexeme, Code, Text, Letters, Number, Arrow, Symbol}
@@ -11,6 +11,11 @@ seen_as (seen.Letters bytes) = Letters bytes.now
 seen_as (seen.Number n) = Number n
 seen_as seen.Arrow = Arrow
 seen_as (seen.Symbol b) = Symbol b
+
+-- letters are ASCII
+abbrev pub letters_ascii : Seen → Type 0
+letters_ascii (seen.Letters bytes) = IsAscii bytes.now
+letters_ascii _ = Unit {0}
 
 abbrev pub seen_there : Option Seen → Option Lexeme
 seen_there None = None

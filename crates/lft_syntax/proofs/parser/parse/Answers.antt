@@ -1,20 +1,16 @@
-use Rattle.std.proofs.Common.{◌≡◌, ℕ, List, length, sym, subst, ◌∙◌, ap, arith, Ok, Err}
-use Rattle.std.proofs.lemmas.List.{length-map}
+use Rattle.std.proofs.Common.{◌≡◌, ℕ, List, sym, subst, ◌∙◌, ap, arith, Ok, Err}
 use Rattle.lft_syntax.specs.declared.token.Token.{Token}
 use Rattle.lft_tree.specs.Tree.{FileTree}
 use Rattle.lft_syntax.specs.Grammar.{Spells}
-use Rattle.lft_syntax.specs.View.{lexemes, lexeme_of}
+use Rattle.lft_syntax.specs.View.{lexemes}
 use Rattle.lft_syntax.specs.Placed.{FileStands}
 use Rattle.lft_tree.specs.View.{file_view}
 use Rattle.lft_syntax.specs.Reading.{whole_at}
 use Rattle.lft_syntax.proofs.TokenFacts.{InText, token_at, name_ascii}
-use Rattle.lft_syntax.proofs.Whole.{read_tree, fault_given, read_fault}
+use Rattle.lft_syntax.proofs.Whole.{read_tree, fault_given, begun_given, read_fault}
+use Rattle.lft_syntax.proofs.Behind.{lexemes_length}
 use Rattle.lft_syntax.proofs.DeclaredNames.{has_identifiers}
 use Rattle.lft_syntax.proofs.parser.parse.Goals as goal
-
-lexemes_length : (text : List ℕ) (tokens : List Token) → length (lexemes text tokens) ≡ length tokens
-unfolding lexemes
-lexemes_length text tokens = length-map tokens (lexeme_of text)
 
 only_tree : (text : List ℕ) {slice tokens : List Token} {tree : FileTree} → slice ≡ tokens → whole_at (lexemes text slice) ≡ Ok tree → Spells tree (lexemes text tokens) × ((other : FileTree) → Spells other (lexemes text tokens) → other ≡ tree)
 only_tree text {tokens = tokens} {tree = tree} same e = read_tree (lexemes text tokens) tree (ap (λ (l : List Token). whole_at (lexemes text l)) (sym same) ∙ e)
@@ -43,6 +39,12 @@ returns-in-Ok-clause-tree c = only_tree c.args.text.now c.as_slice.ensures c.in-
 
 pub returns-in-Ok-clause-places : goal.returns-in-Ok-clause-places
 returns-in-Ok-clause-places c = subst (λ (l : List Token). FileStands (lexemes c.args.text.now l) c.in-Ok.content.target c.in-Ok.content.items.items) c.as_slice.ensures c.in-Ok.ensures.stand
+
+pub returns-in-Err-Unexpected-clause-begun : goal.returns-in-Err-Unexpected-clause-begun
+returns-in-Err-Unexpected-clause-begun c =
+    let e : whole_at (lexemes c.args.text.now c.as_slice.result.now) ≡ Err c.in-Err-Unexpected.at = rw c.in-Err-Unexpected.field-0-is at c.in-Err-Unexpected.ensures.gives in
+    let f : whole_at (lexemes c.args.text.now c.args.tokens.now) ≡ Err c.in-Err-Unexpected.at = ap (λ (l : List Token). whole_at (lexemes c.args.text.now l)) (sym c.as_slice.ensures) ∙ e in
+    begun_given (lexemes c.args.text.now c.args.tokens.now) c.in-Err-Unexpected.at f
 
 pub returns-in-Err-Unexpected-clause-unexpected : goal.returns-in-Err-Unexpected-clause-unexpected
 returns-in-Err-Unexpected-clause-unexpected c =
