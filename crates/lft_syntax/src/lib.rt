@@ -1,5 +1,6 @@
 #![tactic(auto)]
-//! Program texts: tokens, and the tree that they spell.
+//! Program texts: tokens, and the tree that they spell. The calls on bytes and words serve other readers of
+//! texts.
 
 mod fault;
 mod form;
@@ -11,11 +12,13 @@ mod piece;
 mod token;
 
 pub use fault::{LexFault, SyntaxFault};
+pub use form::{is_digit, is_in_line, is_letter, is_word};
 pub use input::Seen;
 pub use lexer::{MAX_LENGTH, lex, refused_at};
 pub use lft_tree::{
     Action, Assignment, Ast, Connection, Instance, Item, Member, Parameter, Port, Reaction,
     Reactor, Reference, Time, TimeExpression, TimeUnit, Timer, TokenRange, Trigger,
 };
-pub use parser::{can_stand, parse};
+pub use parser::{can_stand, is_reserved_word, parse, unit_named};
+pub use piece::{digits_end, line_end, word_end};
 pub use token::{Token, TokenKind, Tokens};

@@ -31,7 +31,9 @@ use crate::input::{Input, Seen};
 use crate::parse_error::ParseError;
 use crate::token::{Token, TokenKind, Tokens};
 use lft_tree::Ast;
+pub use names::is_reserved_word;
 use std::alloc::{AllocError, Global};
+pub use times::unit_named;
 
 /// The tree of a program text, from the text and its tokens. Where they spell none, the fault has
 /// the number of the first token, counted from 1, at which no tree can be spelled any more.

@@ -4,8 +4,9 @@ ghost use Rattle.std.specs.Prelude.{◌≡◌, ◌<◌, ◌≤◌, length, true,
 ghost use Rattle.lft_lists.specs.Bytes.{is_digit};
 ghost use Rattle.lft_whole.specs.Tokens.{IsPiece};
 
-use crate::classes::{digit_stands, digits_end, hexadecimal_end, stands};
+use crate::classes::{digit_stands, hexadecimal_end, stands};
 use crate::token::TokenKind;
+use lft_syntax::digits_end;
 
 /// Where an exponent ends whose `e` would stand at a place; that place where none does.
 fn exponent_end(text: &[u8], at: usize) -> usize

@@ -16,7 +16,6 @@ mod reactors;
 mod references;
 mod tokens;
 mod types;
-mod units;
 mod values;
 mod widths;
 

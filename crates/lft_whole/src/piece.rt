@@ -4,12 +4,13 @@ ghost use Rattle.std.specs.Prelude.{◌<◌, ◌≤◌, ◌≡◌, length, slice
 ghost use Rattle.lft_lists.specs.Bytes.{is_letter, is_digit};
 ghost use Rattle.lft_whole.specs.Tokens.{IsPiece};
 
-use crate::classes::{is_digit, is_gap, is_letter, line_end, stands, word_end};
+use crate::classes::{is_gap, stands};
 use crate::numbers::number_piece;
 use crate::quotes::{
     past_code, past_in_line, past_long_string, past_remark, past_string, past_three,
 };
 use crate::token::TokenKind;
+use lft_syntax::{is_digit, is_letter, line_end, word_end};
 
 /// A symbol, or nothing where the byte is none.
 fn symbol_piece(text: &[u8], at: usize) -> Option<(Option<TokenKind>, usize)>

@@ -57,7 +57,8 @@ fn is_other_word(letters: &[u8]) -> bool
         || is_word(letters, b"after")
 }
 
-fn is_reserved_word(letters: &[u8]) -> bool
+/// Whether the word is reserved in a core program.
+pub fn is_reserved_word(letters: &[u8]) -> bool
     ensures { result ≡ is_reserved letters.now }
 {
     if is_outer_word(letters) {

@@ -73,7 +73,7 @@ fn is_week(word: &[u8]) -> bool
 
 /// The unit that a word names.
 #[tactic(auto, unfolding(crate::specs::Lexeme::unit_of))]
-fn unit_named(word: &[u8]) -> Option<TimeUnit>
+pub fn unit_named(word: &[u8]) -> Option<TimeUnit>
     ensures { result ≡ unit_of word.now }
 {
     if is_nanosecond(word) {

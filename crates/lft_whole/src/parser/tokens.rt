@@ -6,6 +6,8 @@ ghost use Rattle.lft_whole.specs.Parsing.{count, Within, Further, Refuses, AreLe
 use crate::fault::TreeFault;
 use crate::input::{Input, Seen};
 use crate::token::TokenKind;
+use lft_syntax::unit_named;
+use lft_tree::TimeUnit;
 
 /// What stands at a place.
 pub fn peek<'a>(input: &Input<'a>, at: usize) -> Option<Seen<'a>>
@@ -179,5 +181,15 @@ pub fn past_item(input: &Input, at: usize, closing: u8) -> Result<usize, TreeFau
         Ok(at)
     } else {
         Err(TreeFault::Unexpected(at))
+    }
+}
+
+/// The unit that stands at a place.
+pub fn unit(input: &Input, at: usize) -> Option<TimeUnit>
+    ensures { IfSome result (λ _. at < count input.now) }
+{
+    match peek(input, at) {
+        Some(Seen::Letters(letters)) => unit_named(letters),
+        _ => None,
     }
 }

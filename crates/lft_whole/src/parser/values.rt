@@ -9,8 +9,8 @@ use crate::parser::groups::{group_end, opens_values};
 use crate::parser::names::text_of;
 use crate::parser::tokens::{
     is_arrow, is_code, is_symbol, is_text, is_tilde_arrow, is_word, past_item, past_symbol, peek,
+    unit,
 };
-use crate::parser::units::unit;
 use crate::tree::{Expression, Value};
 use lft_tree::TimeUnit;
 
