@@ -2,7 +2,6 @@
 use Rattle.std.proofs.Common.{◌≡◌, ◌≢◌, ℕ, zero, suc, ◌+◌, ◌<◌, List, [], ◌∷◌, length, Option, Some, None, refl, sym, subst, ◌∙◌, arith, slice_get}
 use Rattle.std.specs.Option.{option_and_then}
 use Rattle.lft_tree.specs.Tree.{ReactorTree, InstanceTree, instances_of}
-use Rattle.lft_instances.specs.Containment.{Holds}
 use Rattle.lft_instances.specs.declared.walk.Contents.{Contents}
 use Rattle.std.proofs.lemmas.Option.{slice_get_within}
 use Rattle.lft_scope.specs.Causes.{Holds as HoldsIn, HoldsDeep, directly, RecursiveReactor}
@@ -11,7 +10,7 @@ use Rattle.lft_scope.specs.Numbers.{IsNumberOf, IsContents, AreContents}
 use Rattle.lft_scope.proofs.Files.{AllZip-from}
 use Rattle.lft_scope.proofs.Twice.{Any-at}
 use Rattle.lft_lists.proofs.Places.{get_there, same_some}
-use Rattle.lft_causes.specs.Circles.{IsRound}
+use Rattle.lft_causes.specs.Circles.{Holds, IsRound}
 use Rattle.lft_causes.specs.Witnesses.{HoldsAt, IsCircle}
 use Rattle.lft_causes.proofs.Founding.{deeper}
 

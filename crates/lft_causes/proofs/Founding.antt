@@ -3,14 +3,13 @@ use Rattle.std.proofs.Common.{◌≡◌, ℕ, List, Some, slice_get, sym, ap, �
 use Rattle.lft_tree.specs.Tree.{ReactorTree, instances_of}
 use Rattle.lft_instances.specs.declared.walk.Contents.{Contents}
 use Rattle.lft_instances.specs.Contents.{contained}
-use Rattle.lft_instances.specs.Containment.{Holds as HoldsNumber}
 use Rattle.lft_scope.specs.Causes.{Holds, HoldsDeep, directly, through, RecursiveReactor}
 use Rattle.lft_scope.specs.Instances.{reactor_named}
 use Rattle.lft_scope.specs.Numbers.{IsNumberOf, IsContents, AreContents}
 use Rattle.lft_scope.proofs.Directed.{AllZip-to}
 use Rattle.lft_scope.proofs.Twice.{at-Any}
 use Rattle.std.specs.Option.{option_and_then}
-use Rattle.lft_causes.specs.Circles.{Founded, founded, AllFounded}
+use Rattle.lft_causes.specs.Circles.{Holds as HoldsNumber, Founded, founded, AllFounded}
 
 -- one step more
 pub deeper : (rs : List ReactorTree) (a b c : ReactorTree) → HoldsDeep rs a b → Holds rs b c → HoldsDeep rs a c

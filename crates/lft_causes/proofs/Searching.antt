@@ -5,10 +5,9 @@ use Rattle.std.proofs.lemmas.Bool.{cases_lt, cases_eq}
 use Rattle.std.proofs.lemmas.Option.{slice_get_within, slice_get_past, slice_get-map}
 use Rattle.lft_lists.proofs.Mapped.{option_map_some}
 use Rattle.lft_lists.proofs.Places.{get_there, get_written, get_unwritten, get_write_cases, length_written, get_push, get_last, get_push_cases, get_same, length_same, same_some}
-use Rattle.lft_instances.specs.Containment.{Holds}
 use Rattle.lft_instances.specs.Contents.{contained}
 use Rattle.lft_instances.specs.declared.walk.Contents.{Contents}
-use Rattle.lft_causes.specs.Circles.{IsDone, DoneBetween, OnlyDone, IsVisitAt, Founded, founded, AllFounded, IsSearched, KeepsNew, IsRound}
+use Rattle.lft_causes.specs.Circles.{Holds, IsDone, DoneBetween, OnlyDone, IsVisitAt, Founded, founded, AllFounded, IsSearched, KeepsNew, IsRound}
 use Rattle.lft_causes.specs.declared.circle.Stage.{Stage}
 use Rattle.lft_causes.specs.declared.circle.Stage.TheVariants.{New, Open, Done}
 use Rattle.lft_causes.specs.declared.circle.Visit.{Visit}

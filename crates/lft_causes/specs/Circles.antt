@@ -1,10 +1,14 @@
 -- How far the search for a circle has come. The contracts of the crate's own functions alone need this file.
 use Rattle.std.specs.Prelude.{◌≡◌, ◌≢◌, ℕ, ◌+◌, ◌<◌, ◌≤◌, List, Option, Some, length, slice_get}
-use Rattle.lft_instances.specs.Containment.{Holds}
+use Rattle.lft_instances.specs.Contents.{contained}
 use Rattle.lft_instances.specs.declared.walk.Contents.{Contents}
 use Rattle.lft_causes.specs.declared.circle.Stage.{Stage}
 use Rattle.lft_causes.specs.declared.circle.Stage.TheVariants.{New, Open, Done}
 use Rattle.lft_causes.specs.declared.circle.Visit.{Visit}
+
+-- reactor a has an instance of reactor b
+abbrev pub Holds : List Contents → ℕ → ℕ → Type 0
+Holds table a b = (k : ℕ) × (contained table a k ≡ Some b)
 
 -- the reactor is done, or isn't in the list
 abbrev pub IsDone : List Stage → ℕ → Type 0

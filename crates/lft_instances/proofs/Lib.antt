@@ -7,7 +7,6 @@ pub mod Settled
 pub mod Limits
 pub mod Simulation
 pub mod Unique
-pub mod Exploring
 pub mod Things
 pub mod Siblings
 pub mod Entering

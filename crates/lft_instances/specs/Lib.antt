@@ -2,8 +2,6 @@ pub mod Paths
 pub mod Contents
 pub mod Sources
 pub mod Marks
-pub mod Containment
-pub mod Stages
 pub mod Numbers
 pub mod Children
 pub mod Values
