@@ -50,9 +50,9 @@ build() {
   return 1
 }
 
-# limited WORDS..: runs a command, and ends it if it hangs.
+# limited WORDS..: runs a command, and ends it if it hangs: after 30 seconds, or as many as `patience` says.
 limited() {
-  timeout -k 2 30 "$@"
+  timeout -k 2 "${patience:-30}" "$@"
   status=$?
   case $status in 124 | 137) echo "hangs: $*" ;; esac
   return $status
@@ -64,6 +64,16 @@ pair() { verdict pair "$@"; }
 verdict() {
   limited "$lftrace" "$@" 2>&1
   [ $status -le 1 ]
+}
+
+# follow PROGRAM EXTERNALS: prints what is told of a log of standard input while it comes. Its external inputs are left
+# out: `lftrace follow` has to know them from the beginning.
+follow() {
+  told=$(grep --line-buffered -E '^([^,]*,){7}' | limited "$lftrace" follow "$@" 2>&1)
+  case $?,$told in
+    '0,accepted '* | '1,broken '* | '3,unbroken '* | '4,odd '*) echo "$told" ;;
+    *) echo "follow: $told" ;;
+  esac
 }
 
 # begin_table NAME
@@ -82,7 +92,7 @@ line() {
     made=$((made + 1))
   done > verdicts.txt
   counts=$(sed -E -e 's/^(second )?broken rule=([0-9]+) ([a-z-]+) .*/\3 (rule \2)/' \
-    -e 's/^(accepted|same|differ) .*/\1/' verdicts.txt | sort | uniq -c | sort -rn |
+    -e 's/^(accepted|same|differ|unbroken|odd) .*/\1/' verdicts.txt | sort | uniq -c | sort -rn |
     awk '{ n = $1; $1 = ""; printf "%s%s%s", (NR > 1 ? ", " : ""), n, $0 }')
   printf '| %-20s | %4d | %s |\n' "$name" "$made" "$counts"
   found=$(grep -cE "$expected" verdicts.txt)

@@ -214,6 +214,13 @@ def unread_writes(_):
     return Input("judge", 5 * count - 2, program, stop(10**18), table)
 
 
+def follow_writes(_):
+    """a run of 2,000,000 rows, so all are at one tag"""
+    count = 2_000_000
+    table = TRACE + run(0, "main.a#1", "write,0,0,0,main.a#1,main.a.p0,7,\n" * (count - 2))
+    return Input("follow", count, writer(1), stop(0), table)
+
+
 # Shapes of `show`.
 
 def chosen_names(_):
@@ -397,7 +404,8 @@ def terms(chance):
     return Input("record", 2 * count, reader(count), stop(0), cards)
 
 
-SHAPES = [far_workers, names, writes, reads, absent_inputs, precedence, unread_writes, chosen_names,
+SHAPES = [far_workers, names, writes, reads, absent_inputs, precedence, unread_writes,
+          follow_writes, chosen_names,
           explain_shutdown, explain_triggers, explain_schedulings, explain_far_triggers,
           explain_far_reads, explain_writes, explain_delays, pair_effects, pair_writes, pair_reads,
           many_bodies, unread_ports, unread_week, unread_chain, dense_timers, record_absent, terms]

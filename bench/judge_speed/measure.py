@@ -1,11 +1,11 @@
 #!/usr/bin/env python3
-"""measure.py judge|cover|pair|workers LFTRACE BUILT FOLDER ROWS: measures what `bench/run` with that
+"""measure.py judge|cover|follow|pair|workers LFTRACE BUILT FOLDER ROWS: measures what `bench/run` with that
 word built, and prints a table of ratios. bench/README.md tells what they mean.
 
 BUILT has the programs shapes, plain and csv; the tables are made in FOLDER once. From the
 environment: SHAPES (some of them, by name), TURNS (5) and WORKERS (1; not asked by `workers`).
 """
-import hashlib, os, re, subprocess, sys, time
+import hashlib, os, re, statistics, subprocess, sys, time
 
 # Each shape, and the ordinary one with rows of the same kind beside which a corner is put.
 ORDINARY = ["dense", "wide", "sparse", "pipelines", "events", "mixed"]
@@ -14,7 +14,7 @@ CORNERS = {
     "timers": "dense", "equal": "dense", "token": "pipelines", "overlaps": "sparse",
 }
 MOST_BY_CSV, MOST_BY_TENTH, MOST_BYTES, MOST_BY_ORDINARY = 2.5, 12, 110, 5
-MOST_BY_JUDGE = 1.5
+MOST_BY_JUDGE = {"cover": 1.5, "follow": 1.0}
 MOST_BY_DENSE = {"timers": 3, "equal": 3}
 
 # The rows of a small table.
@@ -25,11 +25,12 @@ LONG = 20_000
 
 
 class Run:
-    """The least wall time of a command so far, in ms, its user and system time in that run, and
+    """The least wall time of a command so far, in ms, its user and system time in that run and in each, and
     the greatest peak of memory in kB."""
 
     def __init__(self, words):
         self.words, self.wall, self.busy, self.peak, self.said = words, float("inf"), 0, 0, None
+        self.each_busy = []
 
     def turn(self):
         start = time.perf_counter()
@@ -42,8 +43,9 @@ class Run:
             print(f"status {child.returncode}: {' '.join(self.words)}: {said.strip()}")
         self.said = said
         self.peak = max(self.peak, used.ru_maxrss)
+        self.each_busy.append((used.ru_utime + used.ru_stime) * 1000)
         if wall < self.wall:
-            self.wall, self.busy = wall, (used.ru_utime + used.ru_stime) * 1000
+            self.wall, self.busy = wall, self.each_busy[-1]
 
 
 class Pass(Run):
@@ -81,7 +83,7 @@ class Tables:
             return file.read()
 
 
-def say_program(path, workers, turns):
+def say_program(path, workers, which, turns):
     """Which program is measured, and on what."""
     with open(path, "rb") as file:
         digest = hashlib.sha256(file.read()).hexdigest()[:16]
@@ -93,7 +95,7 @@ def say_program(path, workers, turns):
     print(f"program   {path}\n          {version}, sha256 {digest}.., made {made} UTC")
     print(f"sources   {commit.stdout.decode().strip()}")
     print(f"machine   {os.cpu_count()} processors, load {load}")
-    print(f"measured  --workers {workers}, the least of {turns} turns", flush=True)
+    print(f"measured  --workers {workers}, the {which} of {turns} turns", flush=True)
 
 
 def take_turns(runs, turns):
@@ -171,8 +173,30 @@ def cover_all(options):
         print(form.format(
             shape, tables.rows, f"{sum(tables.bytes) / 1e6:.0f}", f"{judge.wall:.0f}", f"{cover.wall:.0f}", f"{by_judge:.2f}",
             f"{cover.busy / judge.busy:.2f}", f"{judge.peak / 1e3:.0f}", f"{cover.peak / 1e3:.0f}"), flush=True)
-        if shape in ORDINARY and by_judge > MOST_BY_JUDGE:
-            missed.append(f"{shape}: by judge {by_judge:.2f}, at most {MOST_BY_JUDGE}")
+        if shape in ORDINARY and by_judge > MOST_BY_JUDGE["cover"]:
+            missed.append(f"{shape}: by judge {by_judge:.2f}, at most {MOST_BY_JUDGE['cover']}")
+    print("goals missed:" if missed else "no goal missed", *missed, sep="\n  ")
+
+
+def follow_all(options):
+    """`lftrace follow` of the same file beside `lftrace judge`, in turn. Each ratio is one of processor time in one turn."""
+    form = "{:10} {:>8} {:>6} {:>7} {:>7} {:>8} {:>12} {:>10} {:>13} {:>14}"
+    print(form.format("shape", "rows", "MB", "judge", "follow", "by judge", "least, most", "rows/s", "judge peak MB", "follow peak MB"))
+    missed = []
+    for shape in options.shapes:
+        tables = Tables(options, options.rows, shape)
+        judge = Run([options.lftrace, "judge", *tables.paths, "--workers", options.workers])
+        follow = Run([options.lftrace, "follow", *tables.paths])
+        take_turns([judge, follow], options.turns)
+        if follow.said != judge.said:
+            print(f"{shape}: unlike {judge.said!r}: {follow.said!r}")
+        ratios = [ours / theirs for ours, theirs in zip(follow.each_busy, judge.each_busy)]
+        times, by_judge = [statistics.median(run.each_busy) for run in (judge, follow)], statistics.median(ratios)
+        print(form.format(
+            shape, tables.rows, f"{sum(tables.bytes) / 1e6:.0f}", *(f"{time:.0f}" for time in times), f"{by_judge:.2f}",
+            f"{min(ratios):.2f}, {max(ratios):.2f}", f"{tables.rows / times[1] * 1000:.0f}", f"{judge.peak / 1e3:.0f}", f"{follow.peak / 1e3:.0f}"), flush=True)
+        if shape in ORDINARY and by_judge > MOST_BY_JUDGE["follow"]:
+            missed.append(f"{shape}: by judge {by_judge:.2f}, at most {MOST_BY_JUDGE['follow']}")
     print("goals missed:" if missed else "no goal missed", *missed, sep="\n  ")
 
 
@@ -235,11 +259,11 @@ class Options:
 
 
 def main():
-    measures = {"judge": judge_all, "cover": cover_all, "pair": pair_all, "workers": workers_all}
+    measures = {"judge": judge_all, "cover": cover_all, "follow": follow_all, "pair": pair_all, "workers": workers_all}
     if len(sys.argv) != 6 or sys.argv[1] not in measures:
         sys.exit(__doc__)
     options = Options(sys.argv[1:])
-    say_program(options.lftrace, options.workers, options.turns)
+    say_program(options.lftrace, options.workers, "median" if options.what == "follow" else "least", options.turns)
     measures[options.what](options)
 
 

@@ -320,7 +320,7 @@ fn record_on() {
 #[test]
 fn killed() {
     let path = std::env::temp_dir().join(format!("lftrace_{}_killed.csv", std::process::id()));
-    for tags in [1, 10, 100, 1_000] {
+    for tags in (1..1_000).step_by(50) {
         let words = ["--ignored", "--exact", "--nocapture", "record_on"];
         let mut child = Command::new(std::env::current_exe().unwrap());
         let child = child.args(words).env("LFTRACE_KILLED", &path).stdout(Stdio::null()).stderr(Stdio::piped());

@@ -5,7 +5,9 @@
    ./two_workers trace.csv externals.csv careless     no reaction waits for those that precede it
    ./two_workers trace.csv externals.csv late-end     the end row is written after the other worker knows
    ./two_workers trace.csv externals.csv wrong-port   a write row names the port that receives the value
-   lftrace judge two_workers.lf externals.csv trace.csv */
+   lftrace judge two_workers.lf externals.csv trace.csv
+
+   ./two_workers - writes one log while it runs, in place of both tables. Its fault is the second word. */
 #include "lftrace.h"
 #include <pthread.h>
 #include <time.h>
@@ -138,6 +140,7 @@ static void *work(void *arg) {
     if (reaction >= 0) run(worker, reaction);
     else if (runtime.open || (runtime.triggered & ~runtime.done)) pthread_cond_wait(&runtime.change, &runtime.lock);
     else {
+      lft_flush(lft);
       bool at_stop_time = runtime.time == runtime.stop_time;
       if (at_stop_time && runtime.microstep == runtime.stop_microstep) runtime.over = true;
       else if (at_stop_time) begin_tag(runtime.time, runtime.microstep + 1);
@@ -152,12 +155,14 @@ static void *work(void *arg) {
 int main(int argc, char **argv) {
   pthread_t thread[2];
   unsigned number[2] = {0, 1};
-  const char *fault = argc > 3 ? argv[3] : "";
+  bool is_log = argc > 1 && !strcmp(argv[1], "-");
+  int least = is_log ? 2 : 3;
+  const char *fault = argc > least ? argv[least] : "";
   careless = !strcmp(fault, "careless");
   late_end = !strcmp(fault, "late-end");
   wrong_port = !strcmp(fault, "wrong-port");
-  if (argc < 3 || (*fault && !careless && !late_end && !wrong_port)) {
-    fprintf(stderr, "two_workers TRACE EXTERNALS [careless | late-end | wrong-port]\n");
+  if (argc < least || (*fault && !careless && !late_end && !wrong_port)) {
+    fprintf(stderr, "two_workers TRACE EXTERNALS|- [careless | late-end | wrong-port]\n");
     return 2;
   }
 
@@ -168,6 +173,7 @@ int main(int argc, char **argv) {
   f_x = lft_register(lft, "main.f.x");
   f_y = lft_register(lft, "main.f.y");
   a_y = lft_register(lft, "main.a.y");
+  if (is_log) lft_follow_to(lft, stdout);
 
   pthread_barrier_init(&both, NULL, 2);
   begin_tag(0, 0);
@@ -175,7 +181,7 @@ int main(int argc, char **argv) {
     if (pthread_create(&thread[worker], NULL, work, &number[worker])) return 1;
   for (int worker = 0; worker < 2; worker++) pthread_join(thread[worker], NULL);
 
-  const char *why = lft_save(lft, argv[1], argv[2], STOP, 0);
+  const char *why = is_log ? lft_finish(lft, STOP, 0) : lft_save(lft, argv[1], argv[2], STOP, 0);
   if (why) fprintf(stderr, "not recorded: %s\n", why);
   lft_close(lft);
   return why ? 1 : 0;

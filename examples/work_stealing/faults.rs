@@ -28,9 +28,11 @@ pub enum Fault {
     SharedState,
     /// Now and then a worker keeps the lock of a state while code runs, and then takes it again.
     LockTwice,
+    /// The process ends in the middle of a run, as if it were killed.
+    Killed,
 }
 
-pub const FAULTS: [(&str, Fault); 11] = [
+pub const FAULTS: [(&str, Fault); 12] = [
     ("early-start", Fault::EarlyStart),
     ("early-event", Fault::EarlyEvent),
     ("stale-read", Fault::StaleRead),
@@ -42,6 +44,7 @@ pub const FAULTS: [(&str, Fault); 11] = [
     ("next-tag-begins", Fault::NextTagBegins),
     ("shared-state", Fault::SharedState),
     ("lock-twice", Fault::LockTwice),
+    ("killed", Fault::Killed),
 ];
 
 /// The next of the numbers that all workers share.

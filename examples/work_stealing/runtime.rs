@@ -187,6 +187,9 @@ impl<'p> Runtime<'p> {
         let (state, _held) = (*state, self.is_kept(tag, random).then_some(state));
         let mut run = Run { runtime: self, me, tag, reaction, inputs, row, state };
         random.work();
+        if self.is(Fault::Killed) && random.once_in(2048) {
+            std::process::abort();
+        }
         (reaction.code)(&mut run);
         random.work();
         *self.states[reaction.instance].lock().unwrap() = run.state;
