@@ -4,6 +4,9 @@ What is told of a case is mostly what the program writes on standard output, the
 error, and `status N`.
 
 - `show`: of the text of a program.
+- `lower`: of the files of a program, each behind a line `--- PATH`, the program's first. Behind what is printed
+  stands the table of names behind `--- names`, if there is a name in it. What `lower` says of the core program, and
+  what it says without a table, is told where it is something else; so is a fault of `show`.
 - `judge`: of the rows of a trace table under its header, by the given program and external inputs. A number
   beside the word is that of the workers. Where none stands there, the three texts are judged as a bundle too,
   and by 2, 3 and 64 workers; what these say is told only where it is something else.
@@ -42,6 +45,7 @@ HEADERS = {
     "externals": b"kind,time,microstep,name,value\n",
     "trace": b"event,worker,time,microstep,reaction,name,value,delay\n",
     "cards": b"kind,reaction,name,delay,value\n",
+    "names": b"kind,source,core,place\n",
 }
 # Which of the texts a part gives.
 GIVEN = {"program": "program", "externals": "externals", "externals-text": "externals", "trace": "trace"}
@@ -67,7 +71,7 @@ class Runs:
 
     def read(self, text, *words):
         """The same of any words, with a text as standard input."""
-        done = subprocess.run([self.program, *words], check=False, input=text, capture_output=True, timeout=300)
+        done = subprocess.run([self.program, *words], check=False, cwd=self.folder, input=text, capture_output=True, timeout=300)
         return done.stdout, done.stderr, done.returncode
 
 
@@ -179,6 +183,25 @@ def followed(runs, case, table):
     return told + (b"through a pipe:\n" + piped if piped != told else b"")
 
 
+def lowered(runs, case):
+    """What is told of a program of several files, and of the core program that it is lowered to."""
+    parts = re.split(rb"^--- (.*)\n", case.text, flags=re.MULTILINE)
+    paths = [runs.folder / part.decode() for part in parts[1::2]]
+    for path, text in zip(paths, parts[2::2]):
+        path.parent.mkdir(parents=True, exist_ok=True)
+        path.write_bytes(text)
+    words, table = ["lower", paths[0].name], runs.folder / "names.csv"
+    core, err, status = runs.read(b"", *words, "--names", table.name)
+    names = table.read_bytes() if table.exists() else b""
+    alone = runs.read(b"", *words)
+    others = b"without a table:\n" + whole(alone) if alone != (core, err, status) else b""
+    if not status:
+        again, shown = runs.ask("lower", [core]), runs.ask("show", [core])
+        others += b"of the core program:\n" + whole(again) if again != (core, b"", 0) else b""
+        others += b"shown:\n" + whole(shown) if shown[2] else b""
+    return core + (b"" if names == HEADERS["names"] or not names else b"--- names\n" + names) + whole((b"", err, status)) + others
+
+
 def refused(answer):
     """Why a text is refused. Where none is, all that is told."""
     out, err, status = answer
@@ -238,6 +261,7 @@ def fronts(runs, case):
 
 KINDS = {
     "show": lambda runs, case: whole(runs.ask("show", [case.text])),
+    "lower": lowered,
     "judge": lambda runs, case: judged(runs, case, HEADERS["trace"] + case.text),
     "judge-text": lambda runs, case: judged(runs, case, case.text),
     "pair": lambda runs, case: paired(runs, case, HEADERS["trace"] + case.text),

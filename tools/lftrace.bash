@@ -5,9 +5,9 @@ _lftrace() {
     [[ $word == = ]] && word=
     [[ $before == = ]] && before=${COMP_WORDS[COMP_CWORD - 2]}
     if [[ $COMP_CWORD -eq 1 ]]; then
-        choice="judge cover explain pair follow record show help -h --help -V --version"
+        choice="judge cover explain pair follow record show lower help -h --help -V --version"
     elif [[ $before == help ]]; then
-        choice="judge cover explain pair follow record show"
+        choice="judge cover explain pair follow record show lower"
     elif [[ $before == --workers ]]; then
         choice="1 2 4 8 16 32 64"
     elif [[ $before == --max-runs ]]; then
@@ -24,6 +24,7 @@ _lftrace() {
             follow) choice="--until --every -h --help" ;;
             record) choice="--workers --max-runs -h --help" ;;
             show) choice="-h --help" ;;
+            lower) choice="--names -h --help" ;;
         esac
     else
         COMPREPLY=() # the names of files

@@ -329,15 +329,90 @@ def recordings():
     case("a recording to a full device", ["record", "blink.lf", "externals.csv", "cards.csv"], {"status": 2, "err": "fault write 1 Failed\n"}, files={"cards.csv": CARDS}, where="full")
 
 
+def unlowered(line, words):
+    """What `lower` says of a program without an equal in the core: a line, and words below it."""
+    return {"status": 2, "out": "", "err": f"fault lower {line}\n  {words}\n"}
+
+
+def lowerings():
+    at_import = "1 Read whole.lf:1:17"
+    importing = 'import Log from "%s"\nmain reactor { l = new[2] Log() }\n'
+    log = "reactor Log { timer t }\n"
+    core = "target C reactor Log {\ntimer t }\nmain reactor {\nl_0 = new Log ( ) l_1 = new Log ( ) }\n"
+    unread = "The file can't be read. Correct the path."
+
+    def lowered(name, wants, text, words=(), files=(), **more):
+        case(f"{name}, lowered", ["lower", "whole.lf", *words], wants, files={"whole.lf": text, **dict(files)}, **more)
+
+    case("a core program, lowered", ["lower", "blink.lf"], prints(BLINK))
+    case("a core program from standard input, lowered", ["lower", "/dev/stdin", "--names=names.csv"], prints(BLINK), stdin=BLINK)
+    lowered("an import", prints(core), importing % "log.lf", files={"log.lf": log})
+    lowered("an import by another way", prints(core), importing % "././/log.lf", ["--names", "names.csv"], {"log.lf": log})
+    lowered("an import of standard input", prints(core), importing % "/dev/stdin", stdin=log)
+    lowered("a file that imports itself", prints(core), 'import Log from "whole.lf"\n' + log + "main reactor { l = new[2] Log() }\n")
+    lowered("files that import each other", prints(core), importing % "log.lf" + "reactor B { }\n", files={"log.lf": 'import B from "whole.lf"\n' + log})
+    lowered("reactors of two files that contain each other", unlowered("9 Recursive whole.lf:3:13", "By this instance the reactor contains itself. Write a bank in its place."),
+            importing % "log.lf" + "reactor B { l = new Log() }\n", files={"log.lf": 'import B from "whole.lf"\nreactor Log { b = new B() }\n'})
+    lowered("an import that isn't there", unlowered(at_import, f"no/log.lf: there is no such file. {unread}"), importing % "no/log.lf")
+    lowered("an import of a folder", unlowered(at_import, f"/: that is a folder. {unread}"), importing % "/")
+    lowered("an import under a file", unlowered(at_import, f"whole.lf/log.lf: a part of the path is a file, and no folder. {unread}"), importing % "whole.lf/log.lf")
+    lowered("an import with control characters in its path", unlowered(at_import, f"a?[31m: there is no such file. {unread}"), importing % "a\x1b[31m")
+    lowered("an import of a table", unlowered("3 Unexpected log.lf:1:1", "This can't stand here."), importing % "log.lf", files={"log.lf": ROWS})
+    lowered("a reactor that the import has not", unlowered("6 NoReactor whole.lf:1:8", "The imported file has no reactor of this name."), importing % "log.lf", files={"log.lf": "reactor Lag { }\n"})
+    lowered("a package", unlowered("18 Package whole.lf:1:17", "A package isn't looked up. Import its file by its path."), importing.replace('"%s"', "<log/Log.lf>"))
+    case("a program to lower that isn't there", ["lower", "no.lf"], fault("read 1 Failed no.lf"))
+    case("a folder to lower", ["lower", "/"], fault("read 1 Failed /"))
+    case("a folder to lower, at a terminal", ["lower", "/"], {"status": 2, "out": "", "err": "fault read 1 Failed /\nlftrace: that is a folder\n"}, where="seen")
+    case("a table as the program to lower", ["lower", "trace.csv"], unlowered("3 Unexpected trace.csv:1:1", "This can't stand here."))
+    case("an empty program, lowered", ["lower", "/dev/null"], prints(""))
+    for path in ("/dev/full", "no/names.csv", "/"):
+        lowered(f"the names to {path}", fault(f"write 1 Failed {path}"), importing % "log.lf", ["--names", path], {"log.lf": log})
+        case(f"the names of a core program to {path}", ["lower", "blink.lf", "--names", path], fault(f"write 1 Failed {path}"))
+    case("a full device, for what is lowered", ["lower", "blink.lf"], {"status": 2, "err": "fault write 1 Failed\n"}, where="full")
+    case("no words after `lower`", ["lower"], refused("error: the following required arguments were not provided:\n  <PROGRAM>\n"))
+    case("two programs to lower", ["lower", "blink.lf", "blink.lf"], refused("error: unexpected argument 'blink.lf' found\n"))
+    case("no path for the names", ["lower", "blink.lf", "--names"], refused("error: a value is required for '--names <TABLE>' but none was supplied\n"))
+
+
+def wide(count, body):
+    """A main reactor of so many members."""
+    return "main reactor {\n" + "".join(f"  {body.format(at=at)}\n" for at in range(count)) + "}\n"
+
+
+def great_lowerings():
+    """Programs that are counted before anything is made of them, and long ones."""
+
+    def lowered(name, wants, text):
+        case(f"{name}, lowered", ["lower", "whole.lf"], wants, files={"whole.lf": text})
+
+    def too_many(line, what):
+        return unlowered(f"21 TooMany whole.lf:{line}:1", f"The program has more than {what}. Write smaller widths.")
+
+    lowered("a bank of 10^20", too_many(1, "10000 instances"), f"main reactor {{ b = new[{10 ** 20}] B() }} reactor B {{ }}\n")
+    lowered("a multiport of 10^20", too_many(2, "100000 ports"), f"reactor B {{ input[{10 ** 20}] x }}\nmain reactor {{ b = new B() }}\n")
+    lowered("banks in banks", too_many(21, "10000 instances"), "reactor B0 { }\n" + "".join(f"reactor B{at} {{ b = new[10] B{at - 1}() }}\n" for at in range(1, 20)) + "main reactor { b = new B19() }\n")
+    lowered("ten thousand settings", too_many(2, "100000 ports"), "reactor B(n: int = 0) { input[n] x }\n" + wide(9_990, "b{at} = new B(n = {at})"))
+    lowered("all to all of 200", unlowered("22 TooLong whole.lf:2:1", "The core program is longer than 1048576 bytes, which is more than is read. Write smaller widths."),
+            "reactor B { input[200] sink  output source }\nmain reactor { b = new[200] B()  (b.source)+ -> b.sink }\n")
+    bases = "reactor B0 { timer t0 }\n" + "".join(f"reactor B{at} extends B{at - 1} {{ timer t{at} }}\n" for at in range(1, 3_000))
+    lowered("a chain of 3,000 bases, all of them used", unlowered("21 TooMany whole.lf:3001:1", "The reactors with all that they inherit, in all their settings, are more than is listed."), bases + wide(2_999, "b{at} = new B{at}()"))
+    chain = "reactor B0 { timer t }\n" + "".join(f"reactor B{at} {{ b = new B{at - 1}() }}\n" for at in range(1, 9_000))
+    core = "target C reactor B0 {\ntimer t }\n" + "".join(f"reactor B{at} {{\nb = new B{at - 1} ( ) }}\n" for at in range(1, 9_000)) + "main reactor {\nb_0 = new B8999 ( ) }\n"
+    lowered("9,000 nested reactors", prints(core), chain + "main reactor { b = new[1] B8999() }\n")
+    lowered("1 MiB of states", prints("target C main reactor {\n}\n"), wide(40_000, "state long_name_{at}: int[] = 3"))
+
+
 def help_and_version():
     for given in (["-h"], ["--help"], ["help"]):
-        case(f"help by {given[0]}", given, helps("Usage:", "judge", "pair", "record", "show", "Status: 0 accepted, same, recorded or shown, 1 broken or differ, 2 a fault", "--- program", "--version"))
+        case(f"help by {given[0]}", given, helps("Usage:", "judge", "pair", "record", "show", "lower", "Status: 0 accepted, same, recorded, shown or lowered, 1 broken or differ, 2 a fault", "--- program", "--version"))
     for given in (["judge", "-h"], ["judge", "--help"], ["help", "judge"]):
         case(f"help by {' '.join(given)}", given, helps("<PROGRAM> <EXTERNALS> <TRACE>", "--workers <N>", "kind,time,microstep,name,value", "event,worker,time,microstep,reaction,name,value,delay", "/dev/stdin"))
     for given in (["record", "-h"], ["record", "--help"], ["help", "record"]):
         case(f"help by {' '.join(given)}", given, helps("<PROGRAM> <EXTERNALS> <CARDS>", "--workers <N>", "--max-runs <N>", "kind,reaction,name,delay,value"))
     for given in (["pair", "-h"], ["pair", "--help"], ["help", "pair"]):
         case(f"help by {' '.join(given)}", given, helps("<PROGRAM> <EXTERNALS> <FIRST> <SECOND>", "--workers <N>", "same runs=R tags=G (status 0)", "differ time=T microstep=M reaction=X", "/dev/stdin"))
+    for given in (["lower", "-h"], ["lower", "--help"], ["help", "lower"]):
+        case(f"help by {' '.join(given)}", given, helps("<PROGRAM>", "--names <TABLE>", "kind,source,core,place", "fault lower N Name FILE:LINE:COLUMN"))
     case("help by help show", ["help", "show"], helps("<PROGRAM>", "port P origin=O", "/dev/stdin"))
     case("version by -V", ["-V"], prints("lftrace 0.1.0\n"))
     case("version by --version", ["--version"], prints("lftrace 0.1.0\n"))
@@ -441,6 +516,6 @@ def program_texts():
 
 def cases():
     """All cases, in order."""
-    for group in (right_things, follows, long_tables, headers, rows, words, pairs, recordings, help_and_version, files, causes, seen, bundles, program_texts):
+    for group in (right_things, follows, long_tables, headers, rows, words, pairs, recordings, lowerings, great_lowerings, help_and_version, files, causes, seen, bundles, program_texts):
         group()
     return CASES

@@ -34,6 +34,7 @@ PARTS = {
     "pair": JUDGING,
     "bundle": (*JUDGING, "bundle"),
     "show": ("lex", "syntax", "program", "graph", "write", "read", "memory"),
+    "lower": ("write", "read", "memory"),
     "record": ("lex", "syntax", "program", "externals", "graph", "cards", "pool", "write", "read", "memory"),
 }
 
@@ -58,6 +59,7 @@ LINES = {
     "follow": {0: r"accepted runs=\d+ tags=\d+\n", 1: f"({BROKEN})\n", 3: UNBROKEN, 4: UNKNOWN},
     "pair": {0: r"same runs=\d+ tags=\d+\n", 1: f"((first|second) ({BROKEN})|{pattern('differ TAG reaction=NAME')})\n"},
     "show": {0: f"({pattern('port NAME origin=NAME after=NUMBER+NUMBER')}\n)*({pattern('reaction NAME level=NUMBER before=NAMES')}\n)*"},
+    "lower": {0: r"target [^\n]*\n([^\n]*\n)*"},
     "record": {0: r"event,worker,time,microstep,reaction,name,value,delay\n([a-z]+,\d+,\d+,\d+,[^\n,]+,[^\n,]*,(-?\d+)?,\d*\n)*"},
 }
 LINES["bundle"] = LINES["judge"]

@@ -129,11 +129,33 @@ open 1 starts=2
 worker 0 runs=1
 worker 1 runs=1"""
 
+BANK = """target C
+import B from "B.lf"
+reactor A(n: int = 2) { output[n] out  reaction(startup) -> out {= =} }
+main reactor { a = new A()  b = new[2] B()  a.out -> b.x }
+"""
+IMPORTED = """target C
+reactor B { input x: int  reaction(x) {= =} }
+"""
+LOWERED = """target C reactor B {
+input x reaction ( x ) {= =}
+}
+reactor A {
+output out_0 output out_1 reaction ( startup ) -> out_0 , out_1 {= =}
+}
+main reactor {
+a = new A ( ) b_0 = new B ( ) b_1 = new B ( ) a . out_0 -> b_0 . x a . out_1 -> b_1 . x }
+"""
+UNREAD = """fault lower 1 Read program.lf:2:15
+  B.lf: it can't be read. The file can't be read. Correct the path.
+"""
+
 
 @dataclasses.dataclass
 class Example:
     """A command with its files by path, standard input, and its own answer; `recording` has the plan, the
-    cards and the greatest number of runs of what is recorded."""
+    cards and the greatest number of runs of what is recorded. `unopened` has, by path and in order, what is said of
+    each file that can't be opened, where it isn't that it can't be read."""
     name: str
     command: str
     words: list
@@ -141,6 +163,7 @@ class Example:
     stdin: bytes
     own: Answer
     recording: tuple = ()
+    unopened: dict = dataclasses.field(default_factory=dict)
 
 
 EXAMPLES, LARGE = [], []
@@ -239,6 +262,19 @@ def all_recorded():
     recorded("record two", runs, program=TWO, cards=TWO_CARDS)
 
 
+def lowered(name, files, core, more=(), unopened=()):
+    example(name, "lower", files, core)
+    EXAMPLES[-1].words = ["lower", next(iter(files)), *more]
+    EXAMPLES[-1].unopened = dict(unopened)
+
+
+def all_lowered():
+    files, unread = {"program.lf": BANK, "B.lf": IMPORTED}, [("B.lf", UNREAD)]
+    lowered("lower core", {"program.lf": DEEP}, DEEP)
+    lowered("lower bank", files, LOWERED, unopened=unread)
+    lowered("lower bank, names", files, LOWERED, ["--names", "names.csv"], [*unread, ("names.csv", "fault write 1 Failed names.csv\n")])
+
+
 def all_large():
     """*Pipe* to its 5,000th firing: 30,000 rows, right and broken in the last run."""
     rows = "".join(PIPE_ROWS.replace(",0,0,main", f",{time},0,main") for time in range(0, ROUNDS * 10**7, 10**7))
@@ -259,5 +295,6 @@ all_covered()
 all_followed()
 all_paired()
 all_recorded()
+all_lowered()
 example("show deep", "show", {"program.lf": DEEP}, DEEP_SHOWN)
 all_large()

@@ -4,7 +4,7 @@ use Rattle.std.specs.Prelude.{◌↔◌, IsSomeAnd, slice_get}
 use Rattle.std.specs.Map.{update}
 use Rattle.std.specs.Str.{bytes_eq}
 use Rattle.std.specs.Cmp.Lexicographic.{bytes_decides}
-use Rattle.std.proofs.lemmas.Bool.{cases_lt, cond-true, cond-false}
+use Rattle.std.proofs.lemmas.Bool.{cases_Bool, cases_lt, cond-true, cond-false}
 use Rattle.std.proofs.lemmas.Option.{slice_get_within}
 use Rattle.lft_lists.proofs.Mapped.{mapped, mapped_from}
 use Rattle.lft_lists.proofs.Places.{get_last, get_push, get_push_cases, get_there, same_some, Some_same}
@@ -16,10 +16,6 @@ use Rattle.lft_imports.specs.Files.{AddsOnly, AreNumbered, EachOnce, GoesOn, Has
 -- each path by its number, and no other
 abbrev pub ByNumber : (List ℕ → Option ℕ) → List (List ℕ) → Type 0
 ByNumber f paths = (path : List ℕ) (n : ℕ) → (f path ≡ Some n) ↔ (slice_get paths n ≡ Some path)
-
-cases_bool : (b : Bool) → (b ≡ true) ⊎ (b ≡ false)
-cases_bool true = inl refl
-cases_bool false = inr refl
 
 module _ (f g : List ℕ → Option ℕ) (paths : List (List ℕ)) (q : List ℕ) (known : ByNumber f paths) (new : f q ≡ None) (updated : (p : List ℕ) → g p ≡ update bytes_eq f q (Some (length paths)) p) where
   there : (p : List ℕ) → bytes_eq q p ≡ true → g p ≡ Some (length paths)
@@ -48,7 +44,7 @@ module _ (f g : List ℕ → Option ℕ) (paths : List (List ℕ)) (q : List ℕ
   path_of p n (inr e) (inr w) = absurd (not_same p e w.1)
 
   pub known_more : ByNumber g (paths ++ q ∷ [])
-  known_more p n = (number_of p n (cases_bool (bytes_eq q p)), λ at. path_of p n (cases_bool (bytes_eq q p)) (get_push_cases paths q n p at))
+  known_more p n = (number_of p n (cases_Bool (bytes_eq q p)), λ at. path_of p n (cases_Bool (bytes_eq q p)) (get_push_cases paths q n p at))
 
 -- more paths
 pub go_push : (paths : List (List ℕ)) (q : List ℕ) → GoesOn paths (paths ++ q ∷ [])

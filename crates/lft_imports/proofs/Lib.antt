@@ -1,4 +1,5 @@
 pub mod Columns
 pub mod Known
+pub mod Listing
 pub mod Telling
 pub mod Walks

@@ -1,4 +1,5 @@
 pub mod Files
+pub mod Orders
 pub mod Paths
 pub mod Places
 pub mod Reads

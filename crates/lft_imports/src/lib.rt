@@ -2,6 +2,7 @@
 //! The files of a program, each read once.
 
 mod asked;
+mod order;
 mod paths;
 mod reading;
 mod sources;

@@ -3,8 +3,10 @@
 ghost use Rattle.std.specs.Prelude.{◌≡◌, [], ◌∷◌, None, IfErr, IfOk, OnOk, option_and_then, option_map, length, slice_get};
 ghost use Rattle.lft_imports.specs.Paths.{normal as normal_path};
 ghost use Rattle.lft_imports.specs.Files.{AddsOnly, AreNumbered, AreSources, EachOnce, GoesOn, HasImport, HasOneMore, IsKnown, IsPlaced, IsRefusalOf, IsWhole, next_path, paths_of, paths_of_files};
+ghost use Rattle.lft_imports.specs.Orders.{IsOrder, import_of};
 
 use crate::asked::Asked;
+use crate::order::order_of;
 use crate::paths::normal;
 use crate::reading::{Text, read_text};
 use lft_sources::{Place, SourceFile, Stop};
@@ -100,6 +102,14 @@ impl Sources {
         ensures whole { AreSources self.now → next_path self.now ≡ None → IsWhole result.now }
     {
         self.files.as_slice()
+    }
+
+    /// The numbers of the files that are read, in the order in which their reactors are printed: each behind the
+    /// files that it imports, but for those that import it too, at some depth.
+    pub fn order(&self) -> Result<Vec<usize>, NoMemory>
+        ensures { IfOk result (λ order. IsOrder (import_of self.now.files.items) (length self.now.files.items) order.items) }
+    {
+        order_of(self.alloc, &self.files)
     }
 
     /// Takes the text of the file that is wanted. Where it is refused, the file is among those read, so that its

@@ -4,6 +4,7 @@ use Rattle.lft_syntax.specs.declared.input.Seen.{Seen}
 use Rattle.lft_syntax.specs.declared.input.Seen.TheVariants as seen
 use Rattle.lft_syntax.specs.Lexeme.{Lexeme, Code, Text, Letters, Number, Arrow, Symbol}
 
+-- the token as the grammar has it: its kind, its letters or number or sign
 abbrev pub seen_as : Seen → Lexeme
 seen_as seen.Code = Code
 seen_as seen.Text = Text

@@ -1,7 +1,8 @@
 //! `follow`: a trace that is judged while it is written.
 
 use crate::words::FollowWords;
-use crate::{Refusal, end, open_file, read_file, say};
+use crate::{end, say};
+use lft_files::{Failure, open_file, read_file};
 use lft_monitor::{follow_log, status_of_log};
 use std::alloc::Global;
 use std::io::Write;
@@ -13,7 +14,7 @@ fn follow_files<W: Write>(
     alloc: Global,
     words: FollowWords<'_>,
     out: &mut W,
-) -> Result<u8, Refusal> {
+) -> Result<u8, Failure> {
     let program = read_file(rt, alloc, words.program)?;
     let externals = read_file(rt, alloc, words.externals)?;
     let (program, externals) = (program.as_slice(), externals.as_slice());
@@ -56,9 +57,9 @@ pub(crate) fn end_followed<W: Write>(
 ) -> ExitCode {
     match follow_files(rt, alloc, words, out) {
         Ok(status) => ExitCode::from(status),
-        Err(refusal) => {
-            let cause = refusal.cause;
-            let status = end(rt, alloc, Err(refusal));
+        Err(failure) => {
+            let cause = failure.cause;
+            let status = end(rt, alloc, Err(failure));
             say(rt, cause);
             ExitCode::from(status)
         }

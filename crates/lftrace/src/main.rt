@@ -2,11 +2,14 @@
 #![tactic(auto)]
 
 mod follow;
+mod lower;
 mod words;
 
 use crate::follow::end_followed;
+use crate::lower::end_lowered;
 use crate::words::{Job, JudgeWords, PairWords, RecordWords, read_words};
 use lft_covering::cover_answer;
+use lft_files::{Failure, read_file};
 use lft_front::{
     Fault, Part, bundle_answer, explain_answer, explain_bundle_answer, explain_pair_answer, finish,
     judge_answer, pair_answer, read_input, refusal_of_bundle, refusal_of_pair_texts,
@@ -15,68 +18,12 @@ use lft_front::{
 use lft_record::record_answer;
 use lft_tag::NoMemory;
 use std::alloc::Global;
-use std::fs::File;
-use std::io::{BufWriter, ErrorKind, IsTerminal, Read, Write};
+use std::io::{BufWriter, IsTerminal, Read, Write};
 use std::process::ExitCode;
 use std::rt::Files;
 use std::sync::Wait;
 use std::thread::Threads;
-use std::{env, fs, io};
-
-/// Why a command has no answer, and where a file can't be read, the cause in words, if it is known.
-#[derive(Drop)]
-pub(crate) struct Refusal {
-    fault: Fault,
-    pub(crate) cause: Option<&'static str>,
-}
-
-impl From<Fault> for Refusal {
-    fn from(fault: Fault) -> Refusal {
-        Refusal { fault, cause: None }
-    }
-}
-
-/// Why the file at a path can't be opened.
-fn cause_of(path: &str, kind: ErrorKind) -> Option<&'static str> {
-    match kind {
-        ErrorKind::NotFound if path == "-" => Some("standard input is /dev/stdin"),
-        ErrorKind::NotFound => Some("there is no such file"),
-        ErrorKind::NotADirectory => Some("a part of the path is a file, and no folder"),
-        ErrorKind::PermissionDenied => Some("there is no permission to read it"),
-        _ => None,
-    }
-}
-
-/// Whether a folder is at a path.
-fn is_folder<F: Files>(rt: &F, path: &str) -> bool {
-    match fs::metadata(rt, path) {
-        Ok(found) => found.is_dir(),
-        Err(_) => false,
-    }
-}
-
-/// The file at a path.
-pub(crate) fn open_file<F: Files>(rt: &F, alloc: Global, path: &str) -> Result<F::File, Refusal> {
-    match File::open(rt, path) {
-        Ok(file) => Ok(file),
-        Err(error) => Err(Refusal {
-            fault: Fault::of_path(alloc, Part::Read, 1, "Failed", path),
-            cause: cause_of(path, error.kind()),
-        }),
-    }
-}
-
-/// The bytes of the file at a path.
-pub(crate) fn read_file<F: Files>(rt: &F, alloc: Global, path: &str) -> Result<Vec<u8>, Refusal> {
-    let mut file = open_file(rt, alloc, path)?;
-    match read_input(alloc, path, &mut file) {
-        Ok(bytes) => Ok(bytes),
-        Err(fault) => Err(Refusal {
-            fault,
-            cause: is_folder(rt, path).then_some("that is a folder"),
-        }),
-    }
-}
+use std::{env, io};
 
 /// A trace of fewer bytes is judged by one worker: of it a thread costs more than it brings.
 const SHORT: usize = 1 << 20;
@@ -92,7 +39,7 @@ fn judge_files<F: Files + Threads + Sync, W: Write>(
     alloc: Global,
     words: JudgeWords<'_>,
     out: &mut W,
-) -> Result<bool, Refusal> {
+) -> Result<bool, Failure> {
     let program = read_file(rt, alloc, words.program)?;
     let externals = read_file(rt, alloc, words.externals)?;
     let trace = read_file(rt, alloc, words.trace)?;
@@ -115,7 +62,7 @@ fn cover_files<F: Files + Threads + Sync, W: Write>(
     words: JudgeWords<'_>,
     list: bool,
     out: &mut W,
-) -> Result<bool, Refusal> {
+) -> Result<bool, Failure> {
     let program = read_file(rt, alloc, words.program)?;
     let externals = read_file(rt, alloc, words.externals)?;
     let trace = read_file(rt, alloc, words.trace)?;
@@ -148,7 +95,7 @@ fn explain_files<F: Files + Threads + Sync, W: Write>(
     words: JudgeWords<'_>,
     all: bool,
     out: &mut W,
-) -> Result<bool, Refusal> {
+) -> Result<bool, Failure> {
     let program = read_file(rt, alloc, words.program)?;
     let externals = read_file(rt, alloc, words.externals)?;
     let trace = read_file(rt, alloc, words.trace)?;
@@ -179,7 +126,7 @@ fn pair_files<F: Files + Threads + Sync, W: Write>(
     alloc: Global,
     words: PairWords<'_>,
     out: &mut W,
-) -> Result<bool, Refusal> {
+) -> Result<bool, Failure> {
     let program = read_file(rt, alloc, words.program)?;
     let externals = read_file(rt, alloc, words.externals)?;
     let first = read_file(rt, alloc, words.first)?;
@@ -205,7 +152,7 @@ fn explain_pair_files<F: Files + Threads + Sync, W: Write>(
     words: PairWords<'_>,
     all: bool,
     out: &mut W,
-) -> Result<bool, Refusal> {
+) -> Result<bool, Failure> {
     let program = read_file(rt, alloc, words.program)?;
     let externals = read_file(rt, alloc, words.externals)?;
     let first = read_file(rt, alloc, words.first)?;
@@ -230,7 +177,7 @@ fn record_files<R: Files + Threads + Wait + Sync, W: Write>(
     alloc: Global,
     words: RecordWords<'_>,
     out: &mut W,
-) -> Result<bool, Refusal> {
+) -> Result<bool, Failure> {
     let program = read_file(rt, alloc, words.program)?;
     let externals = read_file(rt, alloc, words.externals)?;
     let cards = read_file(rt, alloc, words.cards)?;
@@ -253,7 +200,7 @@ fn show_file<F: Files, W: Write>(
     alloc: Global,
     path: &str,
     out: &mut W,
-) -> Result<bool, Refusal> {
+) -> Result<bool, Failure> {
     let program = read_file(rt, alloc, path)?;
     let answer = show_answer(alloc, program.as_slice(), out)?;
     Ok(answer)
@@ -265,7 +212,7 @@ fn explain_program<F: Files, W: Write>(
     alloc: Global,
     path: &str,
     out: &mut W,
-) -> Result<bool, Refusal> {
+) -> Result<bool, Failure> {
     let program = read_file(rt, alloc, path)?;
     let answer = show_answer(alloc, program.as_slice(), out);
     if answer.is_err() {
@@ -280,7 +227,7 @@ fn judge_bundle<R: Read, W: Write>(
     alloc: Global,
     reader: &mut R,
     out: &mut W,
-) -> Result<bool, Refusal> {
+) -> Result<bool, Failure> {
     let text = read_input(alloc, "-", reader)?;
     let answer = bundle_answer(alloc, text.as_slice(), out)?;
     Ok(answer)
@@ -293,7 +240,7 @@ fn explain_bundle<T: Threads + Sync, R: Read, W: Write>(
     reader: &mut R,
     all: bool,
     out: &mut W,
-) -> Result<bool, Refusal> {
+) -> Result<bool, Failure> {
     let text = read_input(alloc, "-", reader)?;
     let answer = explain_bundle_answer(rt, alloc, text.as_slice(), all, out);
     if answer.is_err() {
@@ -322,13 +269,13 @@ fn is_of_program(fault: &Fault) -> bool {
 
 /// Whether `explain` tells more than the line of the answer: of a broken rule, a difference, or a text that
 /// is refused.
-fn has_more(answer: &Result<bool, Refusal>) -> bool {
+fn has_more(answer: &Result<bool, Failure>) -> bool {
     match answer {
         Ok(is_right) => !*is_right,
-        Err(refusal) => {
-            is_of_program(&refusal.fault)
+        Err(failure) => {
+            is_of_program(&failure.fault)
                 || matches!(
-                    refusal.fault.part,
+                    failure.fault.part,
                     Part::Externals | Part::Trace | Part::Bundle
                 )
         }
@@ -336,23 +283,23 @@ fn has_more(answer: &Result<bool, Refusal>) -> bool {
 }
 
 /// Whether `explain` with the program alone tells more than the line of the answer.
-fn has_more_of_program(answer: &Result<bool, Refusal>) -> bool {
+fn has_more_of_program(answer: &Result<bool, Failure>) -> bool {
     match answer {
         Ok(_) => false,
-        Err(refusal) => is_of_program(&refusal.fault),
+        Err(failure) => is_of_program(&failure.fault),
     }
 }
 
 /// What is said at a terminal below the line of the answer: why a file can't be read, or that `explain`
 /// tells why. What `explain` tells stands on standard output.
-fn words_for(job: Job<'_>, answer: &Result<bool, Refusal>) -> Option<&'static str> {
+fn words_for(job: Job<'_>, answer: &Result<bool, Failure>) -> Option<&'static str> {
     if job.is_explained() {
         return None;
     }
-    if let Err(refusal) = answer
-        && refusal.cause.is_some()
+    if let Err(failure) = answer
+        && failure.cause.is_some()
     {
-        return refusal.cause;
+        return failure.cause;
     }
     match job {
         Job::Bundle | Job::Judge(_) | Job::Cover { .. } | Job::Pair(_) if has_more(answer) => {
@@ -375,18 +322,18 @@ pub(crate) fn say(rt: &HostRuntime, words: Option<&'static str>) {
 }
 
 /// Writes why a file can't be read, where that is known. This is help alone, as what is told of a text.
-fn write_cause<W: Write>(answer: &Result<bool, Refusal>, out: &mut W) {
-    if let Err(refusal) = answer
-        && let Some(cause) = refusal.cause
+fn write_cause<W: Write>(answer: &Result<bool, Failure>, out: &mut W) {
+    if let Err(failure) = answer
+        && let Some(cause) = failure.cause
     {
-        let _ = writeln!(out, "Path{}: {cause}.", refusal.fault.detail);
+        let _ = writeln!(out, "Path{}: {cause}.", failure.fault.detail);
     }
 }
 
 /// The status of the answer. The line of a fault goes out in one write, where there is memory to put
 /// it together: other processes may write to the same standard error.
-pub(crate) fn end(rt: &HostRuntime, alloc: Global, answer: Result<bool, Refusal>) -> u8 {
-    let answer = answer.map_err(|refusal| refusal.fault);
+pub(crate) fn end(rt: &HostRuntime, alloc: Global, answer: Result<bool, Failure>) -> u8 {
+    let answer = answer.map_err(|failure| failure.fault);
     match BufWriter::new(alloc, rt.stderr()) {
         Ok(mut errors) => {
             let status = finish(answer, &mut errors);
@@ -438,6 +385,7 @@ fn main(rt: HostRuntime) -> ExitCode {
         Job::Pair(words) => pair_files(&rt, alloc, words, &mut out),
         Job::Record(words) => record_files(&rt, alloc, words, &mut out),
         Job::Follow(words) => return end_followed(&rt, alloc, words, &mut out),
+        Job::Lower(words) => return end_lowered(&rt, alloc, words, &mut out),
         Job::Show(path) => show_file(&rt, alloc, path, &mut out),
     };
     if job.is_explained() {

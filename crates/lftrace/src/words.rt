@@ -9,7 +9,7 @@ use std::alloc::Global;
 const VERSION: &str = "0.1.0";
 
 const HELP: &str = "\
-Status: 0 accepted, same, recorded or shown, 1 broken or differ, 2 a fault (on standard error);
+Status: 0 accepted, same, recorded, shown or lowered, 1 broken or differ, 2 a fault (on standard error);
 of follow also 3 unbroken and 4 odd, where rows are missing or judge has to tell.
 A bundle is the lines `--- program`, `--- externals` and `--- trace`, each with its text after it.";
 
@@ -69,6 +69,12 @@ PROGRAM is the path of a file; /dev/stdin is standard input.
 Printed: port P origin=O after=TIME+STEPS for each port, then
 reaction X level=K before=Y Z for each reaction (status 0).";
 
+const LOWER_HELP: &str = "\
+PROGRAM is the path of a file; the files that it imports are read too.
+TABLE gets the header  kind,source,core,place  and a row for each name that differs.
+Printed: the core program (status 0); one that is core already as it is. Of what has no
+equal in the core  fault lower N Name FILE:LINE:COLUMN  and what to write in its place.";
+
 /// The words of `judge` and of `explain`: three paths, and how many workers, 1 to 64.
 #[derive(Clone, Copy)]
 pub struct JudgeWords<'a> {
@@ -108,6 +114,13 @@ pub struct FollowWords<'a> {
     pub following: Following,
 }
 
+/// The words of `lower`: the path of the program, and that of the table of names, if it is wanted.
+#[derive(Clone, Copy)]
+pub struct LowerWords<'a> {
+    pub program: &'a str,
+    pub names: Option<&'a str>,
+}
+
 /// What the command line asks for.
 #[derive(Clone, Copy)]
 pub enum Job<'a> {
@@ -130,6 +143,8 @@ pub enum Job<'a> {
     Follow(FollowWords<'a>),
     /// To show the ports and the precedence of the program at a path.
     Show(&'a str),
+    /// To print the core program of a whole one.
+    Lower(LowerWords<'a>),
 }
 
 impl Job<'_> {
@@ -275,6 +290,20 @@ fn show_command<'a>(alloc: Global) -> Result<Command<'a>, Error> {
     Ok(command)
 }
 
+fn lower_command<'a>(alloc: Global) -> Result<Command<'a>, Error> {
+    let names = Arg::new(alloc, "names")
+        .long("names")
+        .value_name("TABLE")
+        .action(ArgAction::Set)
+        .help("writes a table of the names that differ");
+    let command = Command::new(alloc, "lower")
+        .about("Prints a core program with the same coordination as a whole Lingua Franca program")
+        .arg(path(alloc, "PROGRAM", "the program's text"))?
+        .arg(names)?
+        .after_help(LOWER_HELP);
+    Ok(command)
+}
+
 fn root_command<'a>(alloc: Global) -> Result<Command<'a>, Error> {
     let command = Command::new(alloc, "lftrace")
         .version(VERSION)
@@ -288,6 +317,7 @@ fn root_command<'a>(alloc: Global) -> Result<Command<'a>, Error> {
         .subcommand(follow_command(alloc)?)?
         .subcommand(record_command(alloc)?)?
         .subcommand(show_command(alloc)?)?
+        .subcommand(lower_command(alloc)?)?
         .after_help(HELP);
     Ok(command)
 }
@@ -353,6 +383,19 @@ fn until<'a>(alloc: Global, matches: &ArgMatches<'a>) -> Result<Option<Tag>, Err
     }
 }
 
+/// The words of `lower`.
+fn lower_words<'a>(matches: &ArgMatches<'a>) -> LowerWords<'a> {
+    let names = if matches.contains_id("names") {
+        Some(text(matches, "names"))
+    } else {
+        None
+    };
+    LowerWords {
+        program: text(matches, "PROGRAM"),
+        names,
+    }
+}
+
 /// The words of `follow`.
 fn follow_words<'a>(alloc: Global, matches: &ArgMatches<'a>) -> Result<FollowWords<'a>, Error> {
     let until = until(alloc, matches)?;
@@ -392,6 +435,7 @@ pub(crate) fn read_words<'a>(alloc: Global, words: &'a [String]) -> Result<Job<'
             max_runs: number(record, "max-runs", 1_000_000),
         })),
         Some(("show", show)) => Ok(Job::Show(text(show, "PROGRAM"))),
+        Some(("lower", lower)) => Ok(Job::Lower(lower_words(lower))),
         _ => Ok(Job::Bundle),
     }
 }

@@ -67,19 +67,54 @@ fn past_arrays(input: &Input, at: usize) -> Result<usize, TreeFault>
     Ok(next)
 }
 
+/// What arrays are made of: code, a record in braces, or a name with arguments and signs.
+fn element(input: &Input, at: usize) -> Result<usize, TreeFault>
+    requires { Within input.now at }
+    ensures ok { IfOk result (Further input.now at) }
+    ensures err { IfErr result (Refuses input.now) }
+{
+    if is_code(input, at) {
+        return Ok(at + 1);
+    }
+    if is_symbol(input, at, b'{') {
+        return group(input, at, b'{', b'}');
+    }
+    let name_end = joined_names(input, at)?;
+    let arguments_end = past_group(input, name_end, b'<', b'>')?;
+    Ok(past_signs(input, arguments_end))
+}
+
+/// A type without a bar.
+fn member_type(input: &Input, at: usize) -> Result<usize, TreeFault>
+    requires { Within input.now at }
+    ensures ok { IfOk result (Further input.now at) }
+    ensures err { IfErr result (Refuses input.now) }
+{
+    let end = element(input, at)?;
+    past_arrays(input, end)
+}
+
+/// The place behind the types of a union that stand behind the first, each behind a bar.
+fn past_union(input: &Input, at: usize) -> Result<usize, TreeFault>
+    requires { Within input.now at }
+    ensures ok { IfOk result (NotBefore input.now at) }
+    ensures err { IfErr result (Refuses input.now) }
+{
+    let mut next = at;
+    'types: while is_symbol(input, next, b'|') {
+        next = member_type(input, next + 1)?;
+    }
+    Ok(next)
+}
+
 /// A type: whether it is `time`.
 fn type_here(input: &Input, at: usize) -> Result<(bool, usize), TreeFault>
     requires { Within input.now at }
     ensures ok { IfOk result (λ x. Further input.now at x.1) }
     ensures err { IfErr result (Refuses input.now) }
 {
-    if is_code(input, at) {
-        let end = past_arrays(input, at + 1)?;
-        return Ok((false, end));
-    }
-    let name_end = joined_names(input, at)?;
-    let arguments_end = past_group(input, name_end, b'<', b'>')?;
-    let end = past_arrays(input, past_signs(input, arguments_end))?;
+    let first_end = member_type(input, at)?;
+    let end = past_union(input, first_end)?;
     Ok((is_key(input, at, b"time") && end == at + 1, end))
 }
 

@@ -1,0 +1,208 @@
+//! The core tree of a whole program.
+
+ghost use Rattle.std.specs.Prelude.{◌≡◌, IfOk, None, OnOk, true};
+ghost use Rattle.lft_sources.specs.declared.stop.Stop.TheVariants.{Refused};
+ghost use Rattle.lft_lower.specs.Programs.{decentralized_in, target_in};
+
+use crate::instances::needed;
+use crate::naming::{names, sorted};
+use crate::notes::Notes;
+use crate::reactors::Maker;
+use crate::room::Room;
+use lft_settings::Settings;
+use lft_shapes::{InheritedParameter, Shape};
+use lft_sources::{SourceFile, Stop, Why};
+use lft_tree::Item;
+use std::alloc::Global;
+
+/// A program that is lowered: its core tree, and what is said of it.
+#[derive(Drop)]
+pub struct Lowering<'a> {
+    files: &'a [SourceFile],
+    settings: Settings<'a>,
+    items: Vec<Item>,
+    notes: Vec<String>,
+}
+
+impl<'a> Lowering<'a> {
+    /// The reactors of the core program.
+    pub fn items(&self) -> &[Item]
+        ensures { result.now ≡ self.now.items.items }
+    {
+        self.items.as_slice()
+    }
+
+    /// The target of the core program.
+    pub fn target(&self) -> &str
+        ensures { result.now ≡ target_in self.now.files.now }
+    {
+        target_of(self.files)
+    }
+
+    /// A refusal of the program as a whole.
+    pub fn refused(&self, why: Why) -> Stop
+        ensures { result ≡ Refused (record { why = why; place = self.now.settings.work.main }) }
+    {
+        self.settings.work.refused(why)
+    }
+
+    /// Lines about the program, for its author.
+    pub fn notes(&self) -> &[String]
+        ensures { result.now ≡ self.now.notes.items }
+    {
+        self.notes.as_slice()
+    }
+
+    /// The files of the program.
+    pub fn files(&self) -> &'a [SourceFile]
+        ensures { result.now ≡ self.now.files.now }
+    {
+        self.files
+    }
+
+    /// The settings of the program, which are all known.
+    pub fn settings(&self) -> &Settings<'a>
+        ensures { result.now ≡ self.now.settings }
+    {
+        &self.settings
+    }
+}
+
+/// The target of a program.
+fn target_of(files: &[SourceFile]) -> &str
+    ensures { result.now ≡ target_in files.now }
+{
+    match files.first() {
+        Some(file) => match &file.tree.target {
+            Some(name) => name.text.as_str(),
+            None => "C",
+        },
+        None => "C",
+    }
+}
+
+/// What is said of the target.
+fn note_target(notes: &mut Notes, files: &[SourceFile]) -> Result<(), Stop> {
+    if let Some(file) = files.first() {
+        for timeout in &file.tree.timeouts {
+            notes.timeout(timeout)?;
+        }
+    }
+    Ok(())
+}
+
+/// Where a program says that its coordination is decentralized.
+fn decentralized(files: &[SourceFile]) -> Option<usize>
+    ensures { result ≡ decentralized_in files.now }
+{
+    files.first()?.tree.decentralized
+}
+
+/// What is said of a federated program. One whose coordination is decentralized is refused.
+fn note_federated(notes: &mut Notes, files: &[SourceFile], main: &Shape) -> Result<(), Stop>
+    ensures { OnOk result (main.now.class.reactor.now.is_federated ≡ true → decentralized_in files.now ≡ None) }
+{
+    if !main.class.reactor.is_federated {
+        return Ok(());
+    }
+    if let Some(token) = decentralized(files) {
+        return Err(Stop::at(Why::Decentralized, 0, token));
+    }
+    notes.words(
+        0,
+        main.class.reactor.at,
+        "federated: the core program is that of one process. Merge the rows of all federates, sorted by tag. Of requests to stop, the end is that of the core.",
+    )?;
+    Ok(())
+}
+
+/// What is said of the enclaves in a reactor.
+fn note_enclaves(notes: &mut Notes, shape: &Shape) -> Result<(), Stop> {
+    for inherited in &shape.members {
+        if let Some(instance) = inherited.instance()
+            && instance.is_enclave
+        {
+            notes.words(
+                inherited.file,
+                instance.name.at,
+                "enclave: its rows have to stand in the order of tags among the others.",
+            )?;
+        }
+    }
+    Ok(())
+}
+
+/// What is said of the parameters of the main reactor.
+fn note_defaults(notes: &mut Notes, main: &Shape) -> Result<(), Stop> {
+    for number in 0..main.parameters.len() {
+        if main.is_sized(number) || main.is_timed(number) {
+            let InheritedParameter { file, parameter } = main.parameters[number];
+            notes.default(file, parameter.name.at, parameter.name.text.as_str())?;
+        }
+    }
+    Ok(())
+}
+
+/// What is said of a program before its core tree is made.
+fn notes<'a>(
+    alloc: Global,
+    files: &'a [SourceFile],
+    settings: &Settings,
+    used: &[usize],
+) -> Result<Notes<'a>, Stop> {
+    let mut notes = Notes::of(alloc, files);
+    note_target(&mut notes, files)?;
+    if let Some(main) = settings.shape_of(0) {
+        note_federated(&mut notes, files, main)?;
+    }
+    for setting in used.iter().copied() {
+        if let Some(shape) = settings.shape_of(setting) {
+            note_enclaves(&mut notes, shape)?;
+        }
+    }
+    if let Some(main) = settings.shape_of(0) {
+        note_defaults(&mut notes, main)?;
+    }
+    Ok(notes)
+}
+
+/// The core tree of the program that these files are. `order` has their numbers, with those that a file
+/// imports before it.
+pub fn lower<'a>(
+    alloc: Global,
+    files: &'a [SourceFile],
+    order: &[usize],
+) -> Result<Lowering<'a>, Stop>
+    ensures { IfOk result (λ lowering. lowering.files.now ≡ files.now) }
+{
+    let mut settings = Settings::of(alloc, files)?;
+    let used = settings.counted()?;
+    let notes = notes(alloc, files, &settings, &used)?;
+    let used = sorted(alloc, order, &settings, &used)?;
+    let mut room = Room::new();
+    let names = names(alloc, &settings, &used, &mut room)?;
+    let needed = needed(alloc, &settings.shapes)?;
+    let mut maker = Maker {
+        alloc,
+        settings,
+        notes,
+        names,
+        needed,
+        room,
+    };
+    let items = maker.reactors(&used)?;
+    let Maker {
+        alloc: _,
+        settings,
+        notes,
+        names: _,
+        needed: _,
+        room: _,
+    } = maker;
+    Ok(Lowering {
+        files,
+        settings,
+        items,
+        notes: notes.into_lines(),
+    })
+}

@@ -1,0 +1,107 @@
+//! Times, and the parameters that stand for them.
+
+ghost use Rattle.std.specs.Prelude.{◌≡◌, ◌≤◌, Some, IfOk, IsTrue, ◌↔◌};
+ghost use Rattle.lft_tree.specs.Tree.{nanoseconds as nanoseconds_of};
+ghost use Rattle.lft_scope.specs.Causes.{longest};
+ghost use Rattle.lft_lower.specs.Times.{time_in};
+
+use lft_scope::times::nanoseconds;
+use lft_shapes::Shape;
+use lft_sources::{Stop, Why};
+use lft_tree::{Time, TimeExpression};
+use lft_whole::{Expression, Value};
+use std::alloc::Global;
+
+/// The time that a value writes out, if it is one.
+fn time_in(value: &Value) -> Option<Time>
+    ensures { result ≡ time_in value.now }
+{
+    match value {
+        Value::Number {
+            is_negative: false,
+            count,
+            unit: Some(unit),
+        } => Some(Time {
+            count: *count,
+            unit: Some(*unit),
+        }),
+        Value::Number {
+            is_negative: false,
+            count: 0,
+            unit: None,
+        } => Some(Time {
+            count: 0,
+            unit: None,
+        }),
+        _ => None,
+    }
+}
+
+/// A time that is written out: a whole number with a unit, or 0.
+pub(crate) fn written(file: usize, value: &Expression) -> Result<Time, Stop>
+    ensures time { IfOk result (λ time. time_in value.now.value ≡ Some time) }
+    ensures short { IfOk result (λ time. nanoseconds_of time ≤ longest) }
+{
+    let Some(time) = time_in(&value.value) else {
+        return Err(Stop::at(Why::NoTime, file, value.at));
+    };
+    match nanoseconds(time) {
+        Some(_) => Ok(time),
+        None => Err(Stop::at(Why::TimeTooLong, file, value.at)),
+    }
+}
+
+/// Whether a value is 0, with a unit or without.
+pub(crate) fn is_zero(value: &Expression) -> bool {
+    matches!(value.value, Value::Number { count: 0, .. })
+}
+
+/// Whether a value is the word `forever`.
+pub(crate) fn is_forever(value: &Expression) -> bool {
+    match &value.value {
+        Value::Word(word) => word.as_str() == "forever",
+        _ => false,
+    }
+}
+
+/// A time, or the parameter of the reactor that stands for one.
+pub(crate) fn read_time(
+    alloc: Global,
+    shape: &Shape,
+    file: usize,
+    value: &Expression,
+) -> Result<TimeExpression, Stop> {
+    if let Value::Word(word) = &value.value
+        && let Some(parameter) = shape.parameter(word.as_str())
+        && let Some(found) = shape.parameters.get(parameter)
+    {
+        if !found.parameter.is_time {
+            return Err(Stop::at(Why::NotOfTypeTime, file, value.at));
+        }
+        let name = String::from_str(alloc, word.as_str())?;
+        return Ok(TimeExpression::Parameter { name, at: 0 });
+    }
+    let time = written(file, value)?;
+    Ok(TimeExpression::Written { time, at: 0 })
+}
+
+/// The same where a time may be left out.
+pub(crate) fn maybe_time(
+    alloc: Global,
+    shape: &Shape,
+    file: usize,
+    value: &Option<Expression>,
+) -> Result<Option<TimeExpression>, Stop> {
+    match value {
+        None => Ok(None),
+        Some(value) => Ok(Some(read_time(alloc, shape, file, value)?)),
+    }
+}
+
+/// How many bytes a time takes at least, when it is written.
+pub(crate) fn bytes_of(time: &TimeExpression) -> usize {
+    match time {
+        TimeExpression::Written { .. } => 2,
+        TimeExpression::Parameter { name, .. } => name.len(),
+    }
+}

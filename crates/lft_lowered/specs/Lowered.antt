@@ -1,0 +1,54 @@
+-- What is written of a program that is lowered, and what is said of one that isn't.
+use Rattle.std.specs.Prelude.{◌≡◌, ◌⊎◌, ◌++◌, ◌-◌, ℕ, List, [], Option, codes, decimal, option_map, slice_get, string_bytes, unwrap_or}
+use Rattle.std.specs.Io.KnownBytes.{Appends, Keeps}
+use Rattle.lft_load.specs.Written.{AppendsFront}
+use Rattle.lft_load.specs.declared.fault.Part.TheVariants as part
+use Rattle.lft_sources.specs.Causes.{names, number_of, sentence_of}
+use Rattle.lft_sources.specs.Shown.{shown_path}
+use Rattle.lft_sources.specs.Spots.{spot_at}
+use Rattle.lft_sources.specs.declared.source.SourceFile.{SourceFile}
+use Rattle.lft_sources.specs.declared.stop.Place.{Place}
+use Rattle.lft_sources.specs.declared.stop.Refusal.{Refusal}
+use Rattle.lft_sources.specs.declared.why.Why.{Why}
+use Rattle.lft_core_text.specs.CoreTexts.{IsCore}
+use Rattle.lft_lowered.specs.declared.told.Unlowered.{Unlowered}
+use Rattle.lft_lowered.specs.declared.told.Unlowered.TheVariants.{Failed, Refused}
+
+-- the name of a cause
+abbrev pub name_of : Why → List ℕ
+name_of why = unwrap_or (slice_get names (number_of why - 1)) []
+
+-- the number and the name of a cause
+abbrev pub cause_words : Why → List ℕ
+cause_words why = codes "fault lower " ++ decimal (number_of why) ++ codes " " ++ name_of why
+
+-- the path of a file, and where a token of it begins
+abbrev pub spot_words : SourceFile → ℕ → List ℕ
+spot_words file token =
+    codes " " ++ shown_path (string_bytes file.path) ++ codes ":" ++ decimal (spot_at file.spots.items token).line ++ codes ":" ++ decimal (spot_at file.spots.items token).column
+
+-- the same of a place, if there is such a file
+abbrev pub place_words : List SourceFile → Place → List ℕ
+place_words files place = unwrap_or (option_map (λ file. spot_words file place.token) (slice_get files place.file)) []
+
+-- what is said of a cause: something first, then what to write
+abbrev pub said_words : List ℕ → Why → List ℕ
+said_words first why = codes "\n  " ++ first ++ sentence_of why ++ codes "\n"
+
+-- the line of a refusal, and what is said below it
+abbrev pub refusal_words : List SourceFile → Refusal → List ℕ → List ℕ
+refusal_words files refusal first = cause_words refusal.why ++ place_words files refusal.place ++ said_words first refusal.why
+
+-- a refusal says its cause in these words
+abbrev pub IsSaid : Unlowered → Type 0
+IsSaid (Refused text) = (files : List SourceFile) × (refusal : Refusal) × (first : List ℕ) × (string_bytes text ≡ refusal_words files refusal first)
+IsSaid (Failed failure) = Unit {0}
+
+-- a core program was written
+abbrev pub IsWritten : Option (List ℕ) → Option (List ℕ) → Type 0
+IsWritten old new = (core : List ℕ) × IsCore core × Appends old new core
+
+-- nothing was written; or, where a writer failed, a front of a core program
+abbrev pub IsCut : Option (List ℕ) → Option (List ℕ) → Unlowered → Type 0
+IsCut old new (Refused text) = Keeps old new
+IsCut old new (Failed failure) = Keeps old new ⊎ (failure.fault.part ≡ part.Write) × ((core : List ℕ) × IsCore core × AppendsFront old new core)

@@ -1,0 +1,116 @@
+//! A program, lowered and written.
+
+ghost use Rattle.std.specs.Prelude.{IfErr, IfOk, OnOk, string_bytes};
+ghost use Rattle.std.specs.Io.KnownBytes.{Appends};
+ghost use Rattle.lft_core_text.specs.CoreTexts.{IsCore};
+ghost use Rattle.lft_lowered.specs.Lowered.{IsCut, IsSaid, IsWritten};
+
+use crate::names::write_names;
+use crate::reading::read_sources;
+use crate::told::{Unlowered, unlowered_by};
+use lft_core_text::{CoreFault, core_text, is_core};
+use lft_imports::Sources;
+use lft_load::{Fault, write_text};
+use lft_lower::{Lowering, lower};
+use lft_sources::{SourceFile, Why};
+use std::alloc::Global;
+use std::io::Write;
+use std::rt::Files;
+
+/// The text of the core program of a program that is lowered.
+fn text_of(alloc: Global, files: &[SourceFile], lowering: &Lowering) -> Result<String, Unlowered>
+    ensures core { IfOk result (λ text. IsCore (string_bytes text)) }
+    ensures refused { IfErr result IsSaid }
+{
+    match core_text(alloc, lowering.target(), lowering.items()) {
+        Ok(text) => Ok(text),
+        Err(CoreFault::TooLong) => {
+            Err(unlowered_by(alloc, files, lowering.refused(Why::TooLong), ""))
+        }
+        Err(CoreFault::NotPrintable) => {
+            Err(unlowered_by(alloc, files, lowering.refused(Why::Unexpected), ""))
+        }
+        Err(CoreFault::NoMemory) => Err(Unlowered::from(Fault::no_memory())),
+    }
+}
+
+/// Writes what is said of a program, a line each. This is help alone: where it can't be written, the core
+/// program is there all the same.
+fn write_notes<E: Write>(lowering: &Lowering, errors: &mut E) {
+    for note in lowering.notes() {
+        let _ = errors.write_all(note.as_bytes());
+        let _ = errors.write_all(b"\n");
+    }
+}
+
+/// Lowers the program of these files, and writes its table of names and its core program.
+fn lower_sources<F: Files, W: Write, E: Write>(
+    rt: &F,
+    alloc: Global,
+    sources: &Sources,
+    names: Option<&str>,
+    out: &mut W,
+    errors: &mut E,
+) -> Result<(), Unlowered>
+    ensures written { OnOk result (IsWritten (W.contents out.old) (W.contents out.new)) }
+    ensures refused { IfErr result IsSaid }
+    ensures cut { IfErr result (IsCut (W.contents out.old) (W.contents out.new)) }
+{
+    let files = sources.files();
+    let order = sources.order()?;
+    let lowering = match lower(alloc, files, order.as_slice()) {
+        Ok(lowering) => lowering,
+        Err(stop) => return Err(unlowered_by(alloc, files, stop, "")),
+    };
+    let core = text_of(alloc, files, &lowering)?;
+    if let Some(path) = names {
+        write_names(rt, alloc, path, Some(&lowering))?;
+    }
+    write_text(core.as_bytes(), out)?;
+    write_notes(&lowering, errors);
+    Ok(())
+}
+
+/// Writes a program that is core already as it is.
+fn write_own<F: Files, W: Write>(
+    rt: &F,
+    alloc: Global,
+    text: &[u8],
+    names: Option<&str>,
+    out: &mut W,
+) -> Result<(), Unlowered>
+    requires { IsCore text.now }
+    ensures own { OnOk result (Appends (W.contents out.old) (W.contents out.new) text.now) }
+    ensures refused { IfErr result IsSaid }
+    ensures cut { IfErr result (IsCut (W.contents out.old) (W.contents out.new)) }
+{
+    if let Some(path) = names {
+        write_names(rt, alloc, path, None)?;
+    }
+    write_text(text, out)?;
+    Ok(())
+}
+
+/// Writes the core program of the program whose path and text these are; the path is for its imports, which are
+/// read. At `names` the table of the names that differ is written. Lines about the program go to `errors`.
+/// Nothing is written of a program that is refused.
+pub fn lower_answer<F: Files, W: Write, E: Write>(
+    rt: &F,
+    alloc: Global,
+    path: &str,
+    text: &[u8],
+    names: Option<&str>,
+    out: &mut W,
+    errors: &mut E,
+) -> Result<(), Unlowered>
+    ensures own { IsCore text.now → OnOk result (Appends (W.contents out.old) (W.contents out.new) text.now) }
+    ensures written { OnOk result (IsWritten (W.contents out.old) (W.contents out.new)) }
+    ensures refused { IfErr result IsSaid }
+    ensures cut { IfErr result (IsCut (W.contents out.old) (W.contents out.new)) }
+{
+    if is_core(alloc, text)? {
+        return write_own(rt, alloc, text, names, out);
+    }
+    let sources = read_sources(rt, alloc, path, text)?;
+    lower_sources(rt, alloc, &sources, names, out, errors)
+}

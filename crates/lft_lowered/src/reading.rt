@@ -1,0 +1,102 @@
+//! The files of a program, read.
+
+ghost use Rattle.std.specs.Prelude.{IfErr, IfOk, OnOk};
+ghost use Rattle.lft_imports.specs.Files.{AreSources, IsWhole};
+ghost use Rattle.lft_lowered.specs.Lowered.{IsSaid};
+
+use crate::told::{Unlowered, unlowered_by};
+use lft_files::{Failure, read_file};
+use lft_imports::Sources;
+use lft_sources::{Place, Stop, Why, shown_path};
+use std::alloc::{AllocError, Global};
+use std::rt::Files;
+
+/// Which file can't be read, and why, if that is known.
+fn about(alloc: Global, path: &str, failure: &Failure) -> Result<String, AllocError> {
+    let mut text = shown_path(alloc, path)?;
+    text.push_str(": ")?;
+    text.push_str(failure.cause.unwrap_or("it can't be read"))?;
+    text.push_str(". ")?;
+    Ok(text)
+}
+
+/// Why a program isn't lowered whose import at this place names a file that can't be read.
+fn unread(
+    alloc: Global,
+    sources: &Sources,
+    path: &str,
+    place: Place,
+    failure: &Failure,
+) -> Unlowered
+    ensures { IsSaid result }
+{
+    match about(alloc, path, failure) {
+        Ok(about) => {
+            let stop = Stop::at(Why::NotRead, place.file, place.token);
+            unlowered_by(alloc, sources.files(), stop, about.as_str())
+        }
+        Err(error) => Unlowered::from(error),
+    }
+}
+
+/// The bytes of the file that is wanted.
+fn read_wanted<F: Files>(
+    rt: &F,
+    alloc: Global,
+    sources: &Sources,
+    path: &str,
+) -> Result<Vec<u8>, Unlowered>
+    ensures { IfErr result IsSaid }
+{
+    match read_file(rt, alloc, path) {
+        Ok(text) => Ok(text),
+        Err(failure) => match sources.import() {
+            Some(place) => Err(unread(alloc, sources, path, place, &failure)),
+            None => Err(Unlowered::from(failure)),
+        },
+    }
+}
+
+/// Takes the text of the file that is wanted.
+fn give(alloc: Global, sources: &mut Sources, text: &[u8]) -> Result<(), Unlowered>
+    requires { AreSources sources.old }
+    ensures sources { OnOk result (AreSources sources.new) }
+    ensures refused { IfErr result IsSaid }
+{
+    match sources.give(text) {
+        Ok(()) => Ok(()),
+        Err(stop) => Err(unlowered_by(alloc, sources.files(), stop, "")),
+    }
+}
+
+/// Reads the files that are wanted, at any depth of imports.
+fn read_rest<F: Files>(rt: &F, alloc: Global, sources: &mut Sources) -> Result<(), Unlowered>
+    requires { AreSources sources.old }
+    ensures sources { OnOk result (AreSources sources.new) }
+    ensures refused { IfErr result IsSaid }
+{
+    for _ in 0..u64::MAX {
+        let Some(path) = sources.wanted() else {
+            return Ok(());
+        };
+        let text = read_wanted(rt, alloc, sources, path)?;
+        give(alloc, sources, text.as_slice())?;
+    }
+    Ok(())
+}
+
+/// The files of the program whose path and text these are.
+pub(crate) fn read_sources<F: Files>(
+    rt: &F,
+    alloc: Global,
+    path: &str,
+    text: &[u8],
+) -> Result<Sources, Unlowered>
+    ensures sources { IfOk result AreSources }
+    ensures refused { IfErr result IsSaid }
+{
+    let mut sources = Sources::of(alloc, path)?;
+    give(alloc, &mut sources, text)?;
+    read_rest(rt, alloc, &mut sources)?;
+    Ok(sources)
+}

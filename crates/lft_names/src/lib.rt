@@ -1,0 +1,7 @@
+#![tactic(auto)]
+//! The table of the names that differ in a program and in its core program.
+
+mod rows;
+mod table;
+
+pub use table::Rows;

@@ -1,0 +1,4 @@
+pub mod Limits
+pub mod Names
+pub mod Settings
+pub mod Widths

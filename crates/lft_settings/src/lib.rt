@@ -1,0 +1,14 @@
+#![tactic(auto)]
+//! The settings in which the reactors of a program are used, how wide what is in them is, and how many things
+//! there are.
+
+mod counts;
+mod names;
+mod places;
+mod settings;
+mod values;
+mod widths;
+
+pub use names::{Numbered, name_of, stem_of};
+pub use places::Meaning;
+pub use settings::{Setting, Settings};
