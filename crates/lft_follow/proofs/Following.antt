@@ -5,7 +5,7 @@ use native.Mathlib.Decide.{dec_lt}
 use Rattle.std.proofs.lemmas.List.{append_assoc, take-append-le}
 use Rattle.lft_tag.specs.declared.Tag.{Tag}
 use Rattle.lft_tag.specs.Tags.{Before, UpTo}
-use Rattle.lft_tag.proofs.Order.{UpTo-Before, UpTo-refl, order_cases, split_up}
+use Rattle.lft_tag.proofs.Order.{UpTo-Before, UpTo-refl, UpTo_antisym, order_cases, split_up}
 use Rattle.lft_flat.proofs.Ranges.{length-range, range-get}
 use Rattle.lft_lists.proofs.Places.{get_append_cases, get_right, get_there, same_at}
 use Rattle.lft_steps.specs.declared.row.Row.{Row}
@@ -15,6 +15,7 @@ use Rattle.lft_model.specs.Plans.{PlanParts}
 use Rattle.lft_model.specs.Presence.{stop}
 use Rattle.lft_model.proofs.Places.{slice_get_within}
 use Rattle.lft_rows.specs.Firsts.{FirstRow}
+use Rattle.lft_rows.specs.Slices.{Rises}
 use Rattle.lft_rows.specs.Passes.{HasPassed, KeepsEarly}
 use Rattle.lft_coming.specs.AtTag.{AreAt, AreBefore}
 use Rattle.lft_stream.proofs.Parting.{range_fits}
@@ -37,6 +38,38 @@ going_more plan done rows more g is = record {
   where
     same : take g.passed (rows ++ more) ≡ take g.passed rows
     same = take-append-le g.passed rows more is.within
+
+-- rows that are all gone over rise
+pub rises_at_hand : (plan : PlanParts) (done rows : List Row) (g : Going) → IsGoing plan done rows g → g.passed ≡ length rows → Rises rows
+rises_at_hand plan done rows g gone all j k x y l p q = go (order_cases y.tag x.tag)
+  where
+    kept : KeepsEarly g.stop plan rows (length rows)
+    kept = subst (λ (n : ℕ). KeepsEarly g.stop plan rows n) all (subst (λ (u : List Row). KeepsEarly g.stop plan u g.passed) (ap (λ (n : ℕ). take n rows) all ∙ take-length rows) gone.passes.kept)
+
+    go : Before y.tag x.tag ⊎ UpTo x.tag y.tag → UpTo x.tag y.tag
+    go (inl b) = absurd (kept k y 1 (slice_get_within rows k y q) q (omega arith) (inl (refl, (j, x, l, p, b))))
+    go (inr u) = u
+
+-- where the first and the last of them are at one tag, all are
+pub one_tag : (rows : List Row) (x z : Row) → Rises rows → slice_get rows 0 ≡ Some x → slice_get rows (length rows - 1) ≡ Some z → x.tag ≡ z.tag → AreAt rows x.tag
+one_tag rows x z rises first last same i y e = UpTo_antisym y.tag x.tag (subst (λ (g : Tag). UpTo y.tag g) (sym same) up) down
+  where
+    down : UpTo x.tag y.tag
+    down = go (dec_lt 0 i)
+      where
+        go : Dec (0 < i) → UpTo x.tag y.tag
+        go (yes l) = rises 0 i x y l first e
+        go (no m) = subst (λ (r : Row). UpTo x.tag r.tag) (same_at rows 0 i x y first e (omega arith)) (UpTo-refl x.tag)
+
+    up : UpTo y.tag z.tag
+    up = go (dec_lt i (length rows - 1))
+      where
+        go : Dec (i < length rows - 1) → UpTo y.tag z.tag
+        go (yes l) = rises i (length rows - 1) y z l e last
+        go (no m) = let l : i < length rows = slice_get_within rows i y e in subst (λ (r : Row). UpTo y.tag r.tag) (same_at rows i (length rows - 1) y z e last (omega arith)) (UpTo-refl y.tag)
+
+pub none_at_one : (rows : List Row) → length rows ≡ 0 → (g : Tag) × AreAt rows g
+none_at_one rows none = (record { time = 0; micro = 0 }, λ i x e. absurd (let l : i < length rows = slice_get_within rows i x e in omega arith))
 
 -- so many rows are judged as the list of those has
 done_is : (t d u : List Row) (n : ℕ) → n ≡ length d → t ≡ d ++ u → take n t ≡ d
@@ -141,14 +174,7 @@ module _ (plan : PlanParts) (t : List Row) (f : Follower) (h : IsHeld plan t f) 
       final = get_there items (length items - 1) (let l : begin < length items = inside in omega arith)
 
       rising : (j k : ℕ) (x y : Row) → j < k → slice_get items j ≡ Some x → slice_get items k ≡ Some y → UpTo x.tag y.tag
-      rising j k x y l p q = go (order_cases y.tag x.tag)
-        where
-          kept : KeepsEarly f.going.stop plan items (length items)
-          kept = subst (λ (n : ℕ). KeepsEarly f.going.stop plan items n) all (subst (λ (u : List Row). KeepsEarly f.going.stop plan u f.going.passed) (ap (λ (n : ℕ). take n items) all ∙ take-length items) gone.passes.kept)
-
-          go : Before y.tag x.tag ⊎ UpTo x.tag y.tag → UpTo x.tag y.tag
-          go (inl b) = absurd (kept k y 1 (slice_get_within items k y q) q (omega arith) (inl (refl, (j, x, l, p, b))))
-          go (inr u) = u
+      rising = rises_at_hand plan done items f.going gone all
 
       last_before : (x : Row) → slice_get items begin ≡ Some x → Before last.0.tag x.tag
       last_before x e = go (split_up last.0.tag x.tag (rising (begin - 1) begin last.0 x (omega arith) last.1 e))

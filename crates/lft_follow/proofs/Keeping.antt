@@ -1,7 +1,6 @@
 -- Rows that are kept for what they cause later.
-use Rattle.std.proofs.Common.{◌≡◌, ℕ, ◌+◌, ◌<◌, ◌≤◌, ◌⊎◌, inl, inr, List, [], ◌∷◌, ◌++◌, append-nil, length, take, refl, sym, ap, ◌∙◌, subst, arith, Option, Some, None, slice_get, filter_map}
+use Rattle.std.proofs.Common.{◌≡◌, ℕ, ◌+◌, ◌<◌, ◌⊎◌, inl, inr, List, [], ◌∷◌, ◌++◌, append-nil, take, refl, sym, ap, ◌∙◌, subst, arith, Option, Some, None, slice_get, filter_map}
 use Rattle.std.specs.List.{cons_option}
-use Rattle.std.proofs.lemmas.List.{take_all}
 use Rattle.std.proofs.lemmas.List.Elements.{filter_map-append}
 use native.Mathlib.Decide.{ℕ_discrete}
 use Rattle.lft_tag.specs.declared.Tag.{Tag}
@@ -49,9 +48,6 @@ pub record AreKept (plan : PlanParts) (rows : List Row) (low : Tag) (place : ℕ
   pub same : CauseSame plan (take place rows) kept low
   pub own : (x : Row) → Mem x kept → Mem x rows
 
-pub kept_first : (plan : PlanParts) (rows : List Row) (low : Tag) → AreKept plan rows low 0 []
-kept_first plan rows low = record { same = record { scheduled_same = λ g a up. refl; written_same = λ h p o delays is up. refl }; own = λ x m. absurd m }
-
 module _ (plan : PlanParts) (rows : List Row) (low : Tag) (i : ℕ) (kept : List Row) (x : Row) (is : slice_get rows i ≡ Some x) (old : AreKept plan rows low i kept) where
   taken : {Y : Type 0} (f : Row → Option Y) → filter_map f (take i rows) ≡ filter_map f kept → filter_map f (take (i + 1) rows) ≡ filter_map f (kept ++ x ∷ [])
   taken f q = kept_more f rows i x (f x) is refl ∙ ap (λ ys. ys ++ cons_option (f x) []) q ∙ sym (filter_map-append f kept (x ∷ []))
@@ -81,9 +77,6 @@ module _ (plan : PlanParts) (rows : List Row) (low : Tag) (i : ℕ) (kept : List
     };
     own = old.own;
   }
-
-pub kept_all : (plan : PlanParts) (rows : List Row) (low : Tag) (n : ℕ) (kept : List Row) → length rows ≤ n → AreKept plan rows low n kept → CauseSame plan rows kept low
-kept_all plan rows low n kept all are = subst (λ (t : List Row). CauseSame plan t kept low) (take_all n rows all) are.same
 
 pub kept_before : (plan : PlanParts) (rows : List Row) (low : Tag) (n : ℕ) (kept : List Row) → AreKept plan rows low n kept → AreBefore rows low → AreBefore kept low
 kept_before plan rows low n kept are under i x e = let p = get_mem x rows (are.own x (mem_get kept i x e)) in under p.0 x p.1

@@ -1,8 +1,11 @@
 //! Rows that are judged while they come.
 
-ghost use Rattle.std.specs.Prelude.{◌≡◌, ◌+◌, ◌<◌, ◌≤◌, ◌^◌, List, [], ◌++◌, length, Some, IfOk, slice_get};
+ghost use Rattle.std.specs.Prelude.{◌≡◌, ◌+◌, ◌<◌, ◌≤◌, ◌^◌, List, [], ◌++◌, length, Some, IfOk, IsTrue, slice_get};
+ghost use Rattle.lft_tag.specs.declared.Tag.{Tag as TheTag};
 ghost use Rattle.lft_steps.specs.declared.row.Row.{Row as TheRow};
 ghost use Rattle.lft_steps.specs.Fits.{RowsFit};
+ghost use Rattle.lft_rows.specs.Slices.{Rises};
+ghost use Rattle.lft_coming.specs.AtTag.{AreAt};
 ghost use Rattle.lft_follow.specs.Follows.{IsAtHand, IsHeld, IsFollowerOf, IsProgress, IsEnding, IsJudged, IsSureOf, BeginsLast};
 
 use crate::gone::{Going, Halt};
@@ -85,6 +88,18 @@ fn found_at(rows: &[Row], place: usize, before: u64, rule: u8) -> Found
     }
 }
 
+/// Whether rows that rise are all at one tag.
+fn are_at_one(rows: &[Row]) -> bool
+    requires { Rises rows.now }
+    ensures { IsTrue result → (g : TheTag) × AreAt rows.now g }
+{
+    if rows.is_empty() {
+        return true;
+    }
+    let last = row_at(rows, rows.len() - 1).tag;
+    row_at(rows, 0).tag.is_same(last)
+}
+
 impl Follower {
     /// Before the first row.
     pub fn new(alloc: Global, plan: &Plan) -> Result<Follower, NoMemory>
@@ -114,6 +129,10 @@ impl Follower {
         ensures { IfOk result (λ p. (t : List TheRow) → IsAtHand plan.now t self.old → IsProgress plan.now t self.new p) }
     {
         let rows = self.rows.as_slice();
+        // Asked first: rows of one tag that come one by one are not all gone over each time.
+        if are_at_one(rows) {
+            return Ok(Progress::GoesOn);
+        }
         let begin = last_begins(rows, rows.len());
         if begin == 0 {
             return Ok(Progress::GoesOn);

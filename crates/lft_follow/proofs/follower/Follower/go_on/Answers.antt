@@ -1,10 +1,22 @@
 use Rattle.std.proofs.Common.{◌++◌, ◌∙◌, ℕ, List, length, slice_range, refl, sym, ap, subst, arith}
+use Rattle.lft_tag.specs.declared.Tag.{Tag}
 use Rattle.lft_steps.specs.declared.row.Row.{Row}
 use Rattle.lft_steps.specs.Fits.{RowsFit}
 use Rattle.lft_stream.proofs.Parting.{range_fits}
+use Rattle.lft_rows.specs.Slices.{Rises}
+use Rattle.lft_coming.specs.AtTag.{AreAt}
 use Rattle.lft_follow.specs.Follows.{done_of, IsJudgedOf, BeginsLast}
-use Rattle.lft_follow.proofs.Following.{at_one_tag, begins_of, judged_on, clean_before}
+use Rattle.lft_follow.proofs.Following.{at_one_tag, begins_of, judged_on, clean_before, rises_at_hand}
 use Rattle.lft_follow.proofs.follower.Follower.go_on.Goals as goal
+
+pub are_at_one-requires : goal.are_at_one-requires
+are_at_one-requires c =
+    let hand = c.requires.hand.1 in
+    let rows = c.args.self.now.rows.items in
+    subst (λ (x : List Row). Rises x) (sym c.as_slice-rows.ensures.value) (rises_at_hand c.args.plan.now (done_of c.requires.hand.0 c.args.self.now) rows c.args.self.now.going hand.going c.requires.gone)
+
+pub returns-then-are_at_one : goal.returns-then-are_at_one
+returns-then-are_at_one c = λ t hand. record { hand = hand; at_one = subst (λ (x : List Row). (g : Tag) × AreAt x g) c.as_slice-rows.ensures.value (c.if-are_at_one.ensures refl) }
 
 pub returns-then-begin-eq0 : goal.returns-then-begin-eq0
 returns-then-begin-eq0 c = λ t hand.
