@@ -1,37 +1,55 @@
 //! What to write in place of a token, by the tokens before it.
 
-use crate::candidates::{A_MEMBER, SOME_CODE, fits};
+ghost use Rattle.std.specs.Prelude.{◌≡◌, true, IfOk, IfSome};
+ghost use Rattle.lft_syntax.specs.Lexes.{Lexes};
+ghost use Rattle.lft_refusals.specs.Trying.{AreTokens, CanStandBehind};
+
+use crate::thing::Thing;
 use crate::ways::{BROADCAST, FEDERATION, GENERICS, SPACING, TYPE, VALUE, of_token, of_word};
-use lft_syntax::{LexFault, Token, TokenKind, Tokens, lex};
+use lft_syntax::{LexFault, Token, TokenKind, Tokens, can_stand, lex};
 use lft_tag::NoMemory;
 use std::alloc::Global;
 
-/// The text before a token that is refused, and its tokens. They are counted from the last, which is
-/// number 1.
+/// The tokens of a text.
+pub(crate) fn tokens_of(alloc: Global, text: &[u8]) -> Result<Option<Tokens>, NoMemory>
+    ensures { IfOk result (λ tokens. IfSome tokens (Lexes text.now)) }
+{
+    match lex(alloc, text) {
+        Ok(tokens) => Ok(Some(tokens)),
+        Err(LexFault::NoMemory) => Err(NoMemory),
+        Err(_) => Ok(None),
+    }
+}
+
+/// The first `count` tokens of a text: those before the one that is refused. They are counted from the
+/// last, which is number 1.
 #[derive(Drop)]
 pub(crate) struct Before<'a> {
-    alloc: Global,
-    text: &'a [u8],
-    tokens: Tokens,
+    pub alloc: Global,
+    pub text: &'a [u8],
+    pub tokens: &'a Tokens,
+    pub count: usize,
 }
 
 impl<'a> Before<'a> {
-    /// The tokens of the text; None where it has none.
-    pub(crate) fn of(alloc: Global, text: &'a [u8]) -> Result<Option<Before<'a>>, NoMemory> {
-        match lex(alloc, text) {
-            Ok(tokens) => Ok(Some(Before {
-                alloc,
-                text,
-                tokens,
-            })),
-            Err(LexFault::NoMemory) => Err(NoMemory),
-            Err(_) => Ok(None),
-        }
+    /// Whether the thing can stand behind them.
+    pub(crate) fn can_stand(&self, thing: Thing) -> Result<bool, NoMemory>
+        requires lexed { AreTokens self.now }
+        ensures { IfOk result (λ can. can ≡ true → CanStandBehind self.now thing) }
+    {
+        let can = can_stand(
+            self.alloc,
+            self.text,
+            self.tokens,
+            self.count,
+            thing.token(),
+        )?;
+        Ok(can)
     }
 
     /// The token with that number.
     fn token(&self, number: usize) -> Option<Token> {
-        let place = self.tokens.as_slice().len().checked_sub(number)?;
+        let place = self.count.checked_sub(number)?;
         self.tokens.as_slice().get(place).copied()
     }
 
@@ -73,7 +91,10 @@ impl<'a> Before<'a> {
         let Some(last) = self.token(1) else {
             return true;
         };
-        match self.text.get(last.end..) {
+        let Some(next) = self.tokens.as_slice().get(self.count) else {
+            return false;
+        };
+        match self.text.get(last.end..next.start) {
             Some(between) => self.is(1, ")") || between.contains(&b'\n'),
             None => false,
         }
@@ -85,15 +106,16 @@ impl<'a> Before<'a> {
     }
 
     /// What to write in place of a sign where a type, a value or a member is, or in place of one.
-    fn of_sign(&self, sign: u8) -> Result<Option<&'static str>, NoMemory> {
+    fn of_sign(&self, sign: u8) -> Result<Option<&'static str>, NoMemory>
+        requires lexed { AreTokens self.now }
+    {
         if sign == b'@' {
             return Ok(None);
         }
-        let number = self.tokens.as_slice().len() + 1;
-        if self.is(1, ":") && fits(self.alloc, self.text, number, SOME_CODE)? {
+        if self.is(1, ":") && self.can_stand(Thing::Code)? {
             return Ok(Some(TYPE));
         }
-        if !fits(self.alloc, self.text, number, A_MEMBER)? {
+        if !self.can_stand(Thing::Member)? {
             return Ok(None);
         }
         match sign {
@@ -105,14 +127,19 @@ impl<'a> Before<'a> {
     }
 
     /// Whether a member of a reactor could begin in place of the last token.
-    fn last_begins_member(&self) -> Result<bool, NoMemory> {
-        let Some(last) = self.token(1) else {
+    fn last_begins_member(&self) -> Result<bool, NoMemory>
+        requires lexed { AreTokens self.now }
+    {
+        let Some(count) = self.count.checked_sub(1) else {
             return Ok(false);
         };
-        match self.text.get(..last.start) {
-            Some(before) => fits(self.alloc, before, self.tokens.as_slice().len(), A_MEMBER),
-            None => Ok(false),
-        }
+        let shorter = Before {
+            alloc: self.alloc,
+            text: self.text,
+            tokens: self.tokens,
+            count,
+        };
+        shorter.can_stand(Thing::Member)
     }
 
     /// What to write in place of the token that is refused, by those just before it.
@@ -120,7 +147,9 @@ impl<'a> Before<'a> {
         &self,
         kind: TokenKind,
         spelling: &[u8],
-    ) -> Result<Option<&'static str>, NoMemory> {
+    ) -> Result<Option<&'static str>, NoMemory>
+        requires lexed { AreTokens self.now }
+    {
         let is_delayed = self.is(2, "(") && self.is(4, "action")
             || self.is(3, "(") && self.is(5, "action");
         if kind == TokenKind::Symbol(b',') && is_delayed {
@@ -144,7 +173,9 @@ impl<'a> Before<'a> {
 
     /// What to write in place of the last token, where that begins a member of a reactor. So do many that
     /// are left out, as `mode A {`, and they are read as names of instances.
-    pub(crate) fn way_of_last(&self) -> Result<Option<&'static str>, NoMemory> {
+    pub(crate) fn way_of_last(&self) -> Result<Option<&'static str>, NoMemory>
+        requires lexed { AreTokens self.now }
+    {
         let Some(last) = self.token(1) else {
             return Ok(None);
         };

@@ -1,9 +1,12 @@
 //! What is left out of the language and stands in the text behind the place at which it is refused.
 
+ghost use Rattle.std.specs.Prelude.{◌≡◌, ◌++◌, ℕ, List, OnOk, string_bytes};
+ghost use Rattle.lft_refusals.specs.Candidates.{IsLeftOut};
+
 use crate::place::place_of;
 use crate::ways::of_word;
 use crate::words::push_bytes;
-use lft_syntax::{LexFault, Token, TokenKind, lex};
+use lft_syntax::{Token, TokenKind, Tokens};
 use lft_tag::NoMemory;
 use lft_words::push_number;
 use std::alloc::Global;
@@ -121,6 +124,21 @@ impl<'a> Spelled<'a> {
         out.push_str("`\n")?;
         Ok(())
     }
+
+    /// A line for each token that was found, up to the greatest number of them.
+    fn lines(&self, alloc: Global, found: &[Token]) -> Result<String, NoMemory> {
+        let mut out = String::new(alloc);
+        for place in 0..found.len() {
+            if place == MOST_WORDS {
+                out.push_str("    and ")?;
+                push_number(&mut out, (found.len() - MOST_WORDS) as u64)?;
+                out.push_str(" more\n")?;
+                return Ok(out);
+            }
+            self.push_found(alloc, &mut out, found[place])?;
+        }
+        Ok(out)
+    }
 }
 
 /// Puts what is left out from a byte of the text on behind the text, each with its line and column, and how
@@ -129,13 +147,11 @@ pub(crate) fn push_left_out(
     alloc: Global,
     out: &mut String,
     text: &[u8],
+    tokens: &Tokens,
     from: usize,
-) -> Result<(), NoMemory> {
-    let tokens = match lex(alloc, text) {
-        Ok(tokens) => tokens,
-        Err(LexFault::NoMemory) => return Err(NoMemory),
-        Err(_) => return Ok(()),
-    };
+) -> Result<(), NoMemory>
+    ensures { OnOk result ((more : List ℕ) × IsLeftOut more × (string_bytes out.new ≡ string_bytes out.old ++ more)) }
+{
     let spelled = Spelled {
         text,
         tokens: tokens.as_slice(),
@@ -144,15 +160,8 @@ pub(crate) fn push_left_out(
     if found.is_empty() {
         return Ok(());
     }
+    let lines = spelled.lines(alloc, &found)?;
     out.push_str("  Further on these are left out:\n")?;
-    for place in 0..found.len() {
-        if place == MOST_WORDS {
-            out.push_str("    and ")?;
-            push_number(out, (found.len() - MOST_WORDS) as u64)?;
-            out.push_str(" more\n")?;
-            return Ok(());
-        }
-        spelled.push_found(alloc, out, found[place])?;
-    }
+    out.push_str(lines.as_str())?;
     Ok(())
 }

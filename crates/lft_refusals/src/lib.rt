@@ -14,6 +14,7 @@ mod program_text;
 mod quoting;
 mod refusal;
 mod spots;
+mod thing;
 mod ways;
 pub mod words;
 

@@ -1,16 +1,19 @@
 //! Why a program's text is refused, for people.
 
-ghost use Rattle.std.specs.Prelude.{◌≡◌, ◌≤◌, ◌++◌, length, string_bytes, IfOk, OnOk, IfSome, IfNone};
-ghost use Rattle.lft_refusals.specs.Refusals.{HasTree};
+ghost use Rattle.std.specs.Prelude.{◌≡◌, ℕ, ◌≤◌, ◌++◌, List, flat_map, length, string_bytes, IfOk, OnOk, IfSome, IfNone};
+ghost use Rattle.lft_refusals.specs.Candidates.{CanStandAt, IsHelp, IsLeftOut, could_words, few, other_words};
+ghost use Rattle.lft_refusals.specs.Refusals.{HasTree, IsRefusal};
+ghost use Rattle.lft_refusals.specs.Trying.{AreTokens, CanStandBehind};
 ghost use Rattle.lft_refusals.specs.Told.{TellsProgram, fault_words, long_words as words_of_long, sentence, spelled, token_words};
 
-use crate::before::Before;
-use crate::candidates::Candidates;
+use crate::before::{Before, tokens_of};
+use crate::candidates::candidates;
 use crate::headers;
 use crate::left_out::push_left_out;
 use crate::place::place_of;
 use crate::quoting::{push_line, push_place};
 use crate::refusal::{Refusal, Why, refusal_of};
+use crate::thing::Thing;
 use crate::ways::{of_candidates, of_fault, of_token};
 use crate::words::{push_bytes, push_way};
 use lft_syntax::{LexFault, MAX_LENGTH, TokenKind, lex};
@@ -99,69 +102,109 @@ fn push_sentence(
     Ok(())
 }
 
+/// Puts one more thing behind the text that could stand there.
+fn push_other(out: &mut String, thing: Thing) -> Result<(), NoMemory>
+    ensures { OnOk result (string_bytes out.new ≡ string_bytes out.old ++ other_words thing) }
+{
+    out.push_str(", ")?;
+    out.push_str(thing.words())?;
+    Ok(())
+}
+
+/// Puts further things behind the text that could stand there.
+fn push_others(out: &mut String, things: &[Thing]) -> Result<(), NoMemory>
+    ensures { OnOk result (string_bytes out.new ≡ string_bytes out.old ++ flat_map other_words things.now) }
+{
+    for at in 0..things.len() {
+        push_other(out, things[at])?;
+    }
+    Ok(())
+}
+
 /// Puts what could stand there behind the text, where that is few things.
-fn push_candidates(out: &mut String, found: &[&'static str]) -> Result<(), NoMemory> {
-    if found.is_empty() || found.len() > MOST_CANDIDATES {
+fn push_candidates(out: &mut String, found: &[Thing]) -> Result<(), NoMemory>
+    ensures { OnOk result (string_bytes out.new ≡ string_bytes out.old ++ could_words (few found.now)) }
+{
+    if found.len() > MOST_CANDIDATES {
         return Ok(());
     }
+    let Some((first, others)) = found.split_first() else {
+        return Ok(());
+    };
     out.push_str("  There could stand: ")?;
-    for at in 0..found.len() {
-        if at > 0 {
-            out.push_str(", ")?;
-        }
-        out.push_str(found[at])?;
-    }
+    out.push_str(first.words())?;
+    push_others(out, others)?;
     out.push_str(".\n")?;
     Ok(())
 }
 
 /// Puts what to write in place of the token behind the text, or else what could stand there.
 fn push_help_at_token(
-    alloc: Global,
     out: &mut String,
-    before: &[u8],
-    number: usize,
+    before: &Before<'_>,
     kind: TokenKind,
     spelling: &[u8],
-) -> Result<(), NoMemory> {
-    let Some(tokens) = Before::of(alloc, before)? else {
-        return Ok(());
-    };
+) -> Result<(), NoMemory>
+    requires lexed { AreTokens before.now }
+    ensures { OnOk result ((help : List ℕ) × IsHelp (CanStandBehind before.now) help × (string_bytes out.new ≡ string_bytes out.old ++ help)) }
+{
     let way = match of_token(kind, spelling) {
         Some(way) => Some(way),
-        None => tokens.way_of_last()?,
+        None => before.way_of_last()?,
     };
-    let better = tokens.way(kind, spelling)?;
+    let better = before.way(kind, spelling)?;
     if way.is_some() {
         return push_way(out, better.or(way));
     }
-    let candidates = Candidates::of(alloc, before, number)?;
-    push_candidates(out, candidates.found())?;
-    push_way(
-        out,
-        better.or(of_candidates(kind, &tokens, candidates.found())),
-    )
+    let found = candidates(before)?;
+    push_candidates(out, &found)?;
+    push_way(out, better.or(of_candidates(kind, before, &found)))?;
+    Ok(())
 }
 
 /// Puts what to write at the place behind the text.
 fn push_help(alloc: Global, out: &mut String, text: &[u8], refusal: Refusal) -> Result<(), NoMemory>
-    requires { (refusal.start ≤ refusal.end) × (refusal.end ≤ length text.now) }
+    requires inside { (refusal.start ≤ refusal.end) × (refusal.end ≤ length text.now) }
+    requires refusal { IsRefusal text.now refusal }
+    ensures { OnOk result ((help : List ℕ) × IsHelp (CanStandAt text.now refusal.why) help × ((more : List ℕ) × IsLeftOut more × (string_bytes out.new ≡ string_bytes out.old ++ (help ++ more)))) }
 {
     let way = headers::of_program(text);
     if way.is_some() {
-        return push_way(out, way);
+        push_way(out, way)?;
+        return Ok(());
     }
-    let before = &text[..refusal.start];
     match refusal.why {
-        Why::Lex(fault) => push_way(out, of_fault(fault, &text[refusal.start..])),
-        Why::End(number) => {
-            let candidates = Candidates::of(alloc, before, number)?;
-            push_candidates(out, candidates.found())
+        Why::Lex(fault) => {
+            push_way(out, of_fault(fault, &text[refusal.start..]))?;
+            Ok(())
+        }
+        Why::End(_) => {
+            let Some(tokens) = tokens_of(alloc, text)? else {
+                return Ok(());
+            };
+            let before = Before {
+                alloc,
+                text,
+                tokens: &tokens,
+                count: tokens.as_slice().len(),
+            };
+            let found = candidates(&before)?;
+            push_candidates(out, &found)?;
+            Ok(())
         }
         Why::Token(number, kind) => {
-            let spelling = &text[refusal.start..refusal.end];
-            push_help_at_token(alloc, out, before, number, kind, spelling)?;
-            push_left_out(alloc, out, text, refusal.end)
+            let Some(tokens) = tokens_of(alloc, text)? else {
+                return Ok(());
+            };
+            let before = Before {
+                alloc,
+                text,
+                tokens: &tokens,
+                count: number.saturating_sub(1),
+            };
+            push_help_at_token(out, &before, kind, &text[refusal.start..refusal.end])?;
+            push_left_out(alloc, out, text, &tokens, refusal.end)?;
+            Ok(())
         }
     }
 }

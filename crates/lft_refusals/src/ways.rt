@@ -1,7 +1,7 @@
 //! What to write in place of what the language has and `lftrace` leaves out.
 
 use crate::before::Before;
-use crate::candidates::{A_COLON, A_NAME, A_NUMBER, A_UNIT, CODE, THE_TYPE_TIME};
+use crate::thing::Thing;
 use lft_syntax::{LexFault, TokenKind};
 
 pub(crate) const BROADCAST: &str = "Broadcasts are left out: write each connection by itself.";
@@ -66,16 +66,6 @@ pub(crate) fn of_token(kind: TokenKind, spelling: &[u8]) -> Option<&'static str>
     }
 }
 
-/// Whether the words are among those that were found.
-fn is_among(found: &[&'static str], words: &str) -> bool {
-    for other in found {
-        if *other == words {
-            return true;
-        }
-    }
-    false
-}
-
 /// What helps where code could stand behind the tokens.
 fn of_code(before: &Before<'_>) -> &'static str {
     if before.is(1, ":") {
@@ -104,31 +94,31 @@ fn of_time(kind: TokenKind, before: &Before<'_>) -> Option<&'static str> {
 pub(crate) fn of_candidates(
     kind: TokenKind,
     before: &Before<'_>,
-    found: &[&'static str],
+    found: &[Thing],
 ) -> Option<&'static str> {
-    if is_among(found, THE_TYPE_TIME) {
+    if found.contains(&Thing::TypeTime) {
         return Some(PARAMETERS);
     }
-    if found.len() == 1 && is_among(found, A_COLON) {
+    if found.len() == 1 && found.contains(&Thing::Colon) {
         return Some(
             "A parameter is a name and its type, as period: time = 5 ms. Those of other types are left out.",
         );
     }
-    if is_among(found, A_UNIT) && before.is(2, "=") && !before.is(3, "time") {
+    if found.contains(&Thing::Unit) && before.is(2, "=") && !before.is(3, "time") {
         return Some(
             "A time is a whole number with a unit. If it is no time, leave out the parameter and its value.",
         );
     }
-    if is_among(found, A_UNIT) {
+    if found.contains(&Thing::Unit) {
         return Some("A time is a whole number with a unit. Only 0 has none.");
     }
-    if is_among(found, CODE) {
+    if found.contains(&Thing::Code) {
         return Some(of_code(before));
     }
-    if is_among(found, A_NAME) && is_among(found, A_NUMBER) {
+    if found.contains(&Thing::Name) && found.contains(&Thing::Number) {
         return of_time(kind, before);
     }
-    if is_among(found, A_NAME) && kind == TokenKind::Name {
+    if found.contains(&Thing::Name) && kind == TokenKind::Name {
         return Some("That is a word of the language, and no name.");
     }
     None
