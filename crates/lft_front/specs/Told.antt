@@ -15,7 +15,7 @@ use Rattle.lft_refusals.specs.Refusals.{IsLong}
 use Rattle.lft_refusals.specs.Told.{TellsProgram}
 use Rattle.lft_reasons.specs.Reasons.{IsToldOf}
 use Rattle.lft_table_faults.specs.Tables.{Begins, IsWrong, IsWrongThere, NamesField, field_line, heading}
-use Rattle.lft_wiring.specs.Loops.{loop_words}
+use Rattle.lft_reasons.specs.Loops.{loop_words}
 use Rattle.lft_front.specs.Bundles.{IsBundle}
 use Rattle.lft_front.specs.Markers.{IsMissing}
 use Rattle.lft_front.specs.Meaning.{Mean}

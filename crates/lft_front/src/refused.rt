@@ -12,12 +12,11 @@ use crate::bundle::{Marker, has_returned_marker, read_bundle};
 use lft_flat::Program;
 use lft_graph::{Graph, GraphFault};
 use lft_load::{Fault, Part, read_program};
-use lft_reasons::tell_cause;
+use lft_reasons::{tell_cause, tell_loop};
 use lft_refusals::tell_program;
 use lft_table_faults::{tell_externals, tell_trace};
 use lft_tag::NoMemory;
 use lft_trace::{TraceFault, read_externals, read_trace};
-use lft_wiring::tell_loop;
 use std::alloc::Global;
 
 /// What a program's text and that of its external inputs give: the program, or why one of them is refused.

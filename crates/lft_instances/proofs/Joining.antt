@@ -10,10 +10,11 @@ use Rattle.lft_instances.specs.declared.joins.End.{End}
 use Rattle.lft_instances.specs.declared.joins.End.TheVariants.{Own, Inner}
 use Rattle.lft_instances.specs.declared.joins.Join.{Join}
 use Rattle.lft_instances.specs.declared.joins.Connections.{Connections}
+use Rattle.lft_instances.specs.declared.joins.Site.{Site}
 use Rattle.lft_instances.specs.Numbers.{things, AreFirst}
 use Rattle.lft_instances.specs.Values.{clock_in}
 use Rattle.lft_instances.specs.Sources.{AreInside}
-use Rattle.lft_instances.specs.Joins.{port_at, port_of, Declares, IsPort, joins_of, HasJoin, JoinPorts, LeadApart, Joins, AreSources}
+use Rattle.lft_instances.specs.Joins.{port_at, port_of, Declares, IsAt, IsPort, joins_of, HasJoin, JoinPorts, LeadApart, Joins, AreSites, AreSources}
 use Rattle.lft_instances.proofs.Things.{things_more, things_some}
 
 -- the number of a port that is declared is below their count
@@ -149,3 +150,24 @@ sources_inside counts table instances firsts children values sources first ports
     let l = r.2 in
     let k = w.as_long in
     omega arith
+
+-- ---- the joins beside the sources
+
+pub record Sited (table : List Connections) (instances : List Instance) (firsts : List ℕ) (children values : List (List ℕ)) (sources : List (Option Source)) (sites : List Site) : Type 0 where
+  pub as_long : length sites ≡ length sources
+  pub are_sites : AreSites table instances firsts children values sources sites
+
+pub sited_more : (table : List Connections) (instances : List Instance) (firsts : List ℕ) (children values : List (List ℕ)) (sources : List (Option Source)) (sites : List Site) (b : ℕ) (s : Source) (x : Site) → Sited table instances firsts children values sources sites → (j : Joins table instances firsts children values s.port b s.delay) × IsAt x j.number j.place → b < length sources → Sited table instances firsts children values (slice_set sources b (Some s)) (slice_set sites b x)
+sited_more table instances firsts children values sources sites b s x w this low = record {
+  as_long = length_written sites b x ∙ w.as_long ∙ sym (length_written sources b (Some s));
+  are_sites = λ c t e. by c t (get_write_cases sources b c (Some s) (Some t) low e);
+}
+  where
+    by : (c : ℕ) (t : Source) → ((c ≡ b) × (Some s ≡ Some t)) ⊎ ((c ≢ b) × (slice_get sources c ≡ Some (Some t))) → (y : Site) × (slice_get (slice_set sites b x) c ≡ Some y) × ((j : Joins table instances firsts children values t.port c t.delay) × IsAt y j.number j.place)
+    by c t (inl a) =
+        let same : s ≡ t = (let e = a.1 in cc) in (
+          x,
+          subst (λ k. slice_get (slice_set sites b x) k ≡ Some x) (sym a.0) (get_written sites b x (let l = w.as_long in omega arith)),
+          subst (λ k. (j : Joins table instances firsts children values t.port k t.delay) × IsAt x j.number j.place) (sym a.0) (subst (λ (u : Source). (j : Joins table instances firsts children values u.port b u.delay) × IsAt x j.number j.place) same this),
+        )
+    by c t (inr a) = let old = w.are_sites c t a.1 in (old.0, get_unwritten sites b c x a.0 ∙ old.1, old.2)

@@ -29,16 +29,20 @@ leads_step : (sources : List (Option Source)) (p q : ℕ) (s : Source) → Leads
 leads_step sources p q s (one t a e) b = let f : t ≡ s = cc in inl (ap (λ x. x.port) (sym f) ∙ e)
 leads_step sources p q s (more t a r) b = let f : t ≡ s = cc in inr (subst (λ x. Leads sources x.port q) f r)
 
-pub ends_once : (sources : List (Option Source)) (p o : ℕ) (delays : List ℕ) → Origin sources p o delays → Leads sources p p → ⊥
-ends_once sources p o delays (itself e) (one t a f) = cc
-ends_once sources p o delays (itself e) (more t a r) = cc
-ends_once sources p o delays (over s first e rest g) l = ends_once sources s.port o first rest (turn (leads_step sources p p s l e))
+-- one step on, what leads back to itself does so still
+pub leads_next : (sources : List (Option Source)) (p : ℕ) (s : Source) → Leads sources p p → slice_get sources p ≡ Some (Some s) → Leads sources s.port s.port
+leads_next sources p s l e = turn (leads_step sources p p s l e)
   where
     turn : (s.port ≡ p) ⊎ Leads sources s.port p → Leads sources s.port s.port
     turn (inl q) = one s (subst (λ k. slice_get sources k ≡ Some (Some s)) (sym q) e) refl
     turn (inr r) = leads_on sources s.port p s r e
 
-leads_from : (sources : List (Option Source)) (p q : ℕ) → Leads sources p q → p < length sources
+pub ends_once : (sources : List (Option Source)) (p o : ℕ) (delays : List ℕ) → Origin sources p o delays → Leads sources p p → ⊥
+ends_once sources p o delays (itself e) (one t a f) = cc
+ends_once sources p o delays (itself e) (more t a r) = cc
+ends_once sources p o delays (over s first e rest g) l = ends_once sources s.port o first rest (leads_next sources p s l e)
+
+pub leads_from : (sources : List (Option Source)) (p q : ℕ) → Leads sources p q → p < length sources
 leads_from sources p q (one t a e) = slice_get_within sources p (Some t) a
 leads_from sources p q (more t a r) = slice_get_within sources p (Some t) a
 

@@ -164,11 +164,11 @@ settling_first sources before marks port top q stack w n = record {
     leads x (inr (inl e)) = subst (λ k. Leads sources k q) e (one n.0 n.1 n.2)
     leads x (inr (inr z)) = absurd z
 
--- the port before the top is open: it lies on the chain, which comes back to it
-pub settling_cycle : (sources : List (Option Source)) (before marks : List Mark) (port top : ℕ) (stack : List ℕ) → Settling sources before port marks (stack ++ top ∷ []) → IsNext sources marks top Cycle → (p : ℕ) × Leads sources p p
+-- the port before the top is open: it lies on the chain, which comes back to the top
+pub settling_cycle : (sources : List (Option Source)) (before marks : List Mark) (port top : ℕ) (stack : List ℕ) → Settling sources before port marks (stack ++ top ∷ []) → IsNext sources marks top Cycle → Leads sources top top
 settling_cycle sources before marks port top stack w n = go (mem_cases n.0.port stack (top ∷ []) (w.opened n.0.port n.2))
   where
-    go : Mem n.0.port stack ⊎ Mem n.0.port (top ∷ []) → (p : ℕ) × Leads sources p p
-    go (inl m) = (n.0.port, leads_on sources n.0.port top n.0 (pairs_last (Follows sources) stack top w.chain n.0.port m).0 n.1)
-    go (inr (inl e)) = (top, one n.0 n.1 (sym e))
+    go : Mem n.0.port stack ⊎ Mem n.0.port (top ∷ []) → Leads sources top top
+    go (inl m) = more n.0 n.1 (pairs_last (Follows sources) stack top w.chain n.0.port m).0
+    go (inr (inl e)) = one n.0 n.1 (sym e)
     go (inr (inr z)) = absurd z

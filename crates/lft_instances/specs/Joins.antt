@@ -10,6 +10,7 @@ use Rattle.lft_instances.specs.declared.joins.End.{End}
 use Rattle.lft_instances.specs.declared.joins.End.TheVariants.{Own, Inner}
 use Rattle.lft_instances.specs.declared.joins.Join.{Join}
 use Rattle.lft_instances.specs.declared.joins.Connections.{Connections}
+use Rattle.lft_instances.specs.declared.joins.Site.{Site}
 
 -- the number of the port at this place of instance n, by the numbers of first ports
 abbrev pub port_at : List ℕ → ℕ → ℕ → Option ℕ
@@ -63,3 +64,11 @@ pub record Joins (table : List Connections) (instances : List Instance) (firsts 
 pub record AreSources (counts : List ℕ) (table : List Connections) (instances : List Instance) (firsts : List ℕ) (children values : List (List ℕ)) (sources : List (Option Source)) : Type 0 where
   pub as_long : length sources ≡ things counts instances
   pub each : (b : ℕ) (s : Source) → (slice_get sources b ≡ Some (Some s)) ↔ Joins table instances firsts children values s.port b s.delay
+
+-- this join is the one that the site tells
+abbrev pub IsAt : Site → (number place : ℕ) → Type 0
+IsAt x number place = (x.number ≡ number) × (x.place ≡ place)
+
+-- beside each source the join stands that leads from there into the port
+abbrev pub AreSites : List Connections → List Instance → List ℕ → List (List ℕ) → List (List ℕ) → List (Option Source) → List Site → Type 0
+AreSites table instances firsts children values sources sites = (b : ℕ) (s : Source) → slice_get sources b ≡ Some (Some s) → (x : Site) × (slice_get sites b ≡ Some x) × ((j : Joins table instances firsts children values s.port b s.delay) × IsAt x j.number j.place)

@@ -1,6 +1,7 @@
 pub mod Paths
 pub mod Contents
 pub mod Sources
+pub mod Ways
 pub mod Marks
 pub mod Numbers
 pub mod Children

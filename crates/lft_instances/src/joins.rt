@@ -1,7 +1,7 @@
 //! Which connection leads into each port.
 
 ghost use Rattle.std.specs.Prelude.{◌≡◌, ℕ, ◌≤◌, [], Some, length, slice_get, unwrap_or, option_map, IfOk};
-ghost use Rattle.lft_instances.specs.Joins.{AreSources, JoinPorts, LeadApart, joins_of, port_at, port_of};
+ghost use Rattle.lft_instances.specs.Joins.{AreSites, AreSources, JoinPorts, LeadApart, joins_of, port_at, port_of};
 ghost use Rattle.lft_instances.specs.Numbers.{AreFirst, things};
 ghost use Rattle.lft_instances.specs.Sources.{AreInside};
 ghost use Rattle.lft_instances.specs.Values.{clock_in};
@@ -34,6 +34,21 @@ pub struct Join {
 #[derive(Drop)]
 pub struct Connections {
     pub joins: Vec<Join>,
+}
+
+/// A join of an instance: the number of the instance, and the place of the join among those of its reactor.
+#[derive(Clone, Copy, PartialEq, Eq, Drop)]
+pub struct Site {
+    pub number: u32,
+    pub place: usize,
+}
+
+/// The source of each port, in order, and the join that leads from there into it. Where a port has no source,
+/// its site means nothing.
+#[derive(Drop)]
+pub struct Sources {
+    pub sources: Vec<Option<Source>>,
+    pub sites: Vec<Site>,
 }
 
 // the number of the port at this place of an instance
@@ -81,7 +96,7 @@ pub(crate) fn joins_of(table: &[Connections], reactor: u32) -> &[Join]
     }
 }
 
-/// The source of each port, in order, with the delay of the connection from it in nanoseconds. The
+/// The source of each port, with the delay of the connection from it in nanoseconds. The
 /// table has what each reactor joins, by number; a number past its end stands for a reactor without
 /// connections. The counts say how many ports each reactor declares, and the other lists are those
 /// of the same instances: the numbers of their first ports, their children and their values.
@@ -93,16 +108,23 @@ pub fn find_sources(
     firsts: &[u32],
     children: &Children,
     values: &Values,
-) -> Result<Vec<Option<Source>>, NoMemory>
+) -> Result<Sources, NoMemory>
     requires few_instances { length instances.now ≤ 10000 }
     requires few_ports { things counts.now instances.now ≤ 100000 }
     requires numbered { AreFirst counts.now instances.now firsts.now }
     requires ports { JoinPorts counts.now table.now instances.now children.now }
     requires apart { LeadApart table.now instances.now firsts.now children.now }
-    ensures sources { IfOk result (λ v. AreSources counts.now table.now instances.now firsts.now children.now values.now v.items) }
-    ensures inside { IfOk result (λ v. AreInside v.items) }
+    ensures sources { IfOk result (λ v. AreSources counts.now table.now instances.now firsts.now children.now values.now v.sources.items) }
+    ensures sites { IfOk result (λ v. AreSites table.now instances.now firsts.now children.now values.now v.sources.items v.sites.items) }
+    ensures inside { IfOk result (λ v. AreInside v.sources.items) }
 {
-    let mut sources = vec![in alloc; None; count_things(counts, instances)]?;
+    let ports = count_things(counts, instances);
+    let mut sources = vec![in alloc; None; ports]?;
+    let no_site = Site {
+        number: 0,
+        place: 0,
+    };
+    let mut sites = vec![in alloc; no_site; ports]?;
     'instances: for number in 0..instances.len() {
         let instance = number as u32;
         let joins = joins_of(table, item_at(instances, number).reactor);
@@ -112,7 +134,11 @@ pub fn find_sources(
             let to = port_of(firsts, children, instance, join.to);
             let delay = delay_in(values, instance, join.delay);
             sources[to as usize] = Some(Source { port, delay });
+            sites[to as usize] = Site {
+                number: instance,
+                place,
+            };
         }
     }
-    Ok(sources)
+    Ok(Sources { sources, sites })
 }

@@ -1,6 +1,6 @@
 //! The numbers of what instances declare.
 
-ghost use Rattle.std.specs.Prelude.{◌≡◌, ℕ, ◌<◌, ◌≤◌, List, length, IfOk, IfSome, IfNone, MatchOption};
+ghost use Rattle.std.specs.Prelude.{◌≡◌, ℕ, ◌<◌, ◌≤◌, List, length, IfOk, IfSome, IfNone, MatchOption, min};
 ghost use Rattle.lft_instances.specs.Contents.{IsWalk};
 ghost use Rattle.lft_instances.specs.Listing.{AreListed};
 ghost use Rattle.lft_instances.specs.Numbers.{AreFirst, HasMoreThings, count_of, things};
@@ -26,14 +26,14 @@ fn count_at(counts: &[u32], reactor: u32) -> u32
     counts.get(reactor as usize).copied().unwrap_or(0)
 }
 
-// how many things the instances have
-pub(crate) fn count_things(counts: &[u32], instances: &[Instance]) -> usize
-    requires { things counts.now instances.now ≤ 100000 }
-    ensures { result ≡ things counts.now instances.now }
+/// How many things of one kind the instances have, or the greatest number where that is less. The counts
+/// are those of `first_numbers`.
+pub fn count_things(counts: &[u32], instances: &[Instance]) -> usize
+    ensures { result ≡ min (things counts.now instances.now) usize.MAX }
 {
-    let mut total = 0;
+    let mut total: usize = 0;
     'instances: for number in 0..instances.len() {
-        total += count_at(counts, item_at(instances, number).reactor) as usize;
+        total = total.saturating_add(count_at(counts, item_at(instances, number).reactor) as usize);
     }
     total
 }

@@ -19,8 +19,8 @@ pub struct Reached {
 /// Why ports have no origins.
 #[derive(Clone, Copy, PartialEq, Eq, Drop)]
 pub enum OriginFault {
-    /// The chain of some port comes back to it.
-    Cycle,
+    /// The chain of this port comes back to it.
+    Cycle(u32),
     /// A growth of memory was refused.
     NoMemory,
 }
@@ -137,7 +137,7 @@ fn settle(
     ensures none_open { OnOk result (NoneOpen marks.new) }
     ensures kept { KeepsLooked marks.old marks.new }
     ensures looked { OnOk result (slice_get marks.new port ≢ Some New) }
-    ensures cycle { result ≡ Err OriginFault.Cycle → (p : ℕ) × Leads sources.now p p }
+    ensures cycle { (p : ℕ) → result ≡ Err (OriginFault.Cycle p) → Leads sources.now p p }
 {
     match mark_at(marks, port) {
         Mark::New => {}
@@ -151,7 +151,7 @@ fn settle(
             Next::Known(reached) => {
                 marks[top as usize] = Mark::Done(reached);
             }
-            Next::Cycle => return Err(OriginFault::Cycle),
+            Next::Cycle => return Err(OriginFault::Cycle(top)),
             Next::First(before) => {
                 marks[before as usize] = Mark::Open;
                 stack.push(top)?;
@@ -162,14 +162,14 @@ fn settle(
     Ok(())
 }
 
-/// The origin and the folded delays of each port, in order, or that a chain comes back to its port.
+/// The origin and the folded delays of each port, in order, or a port to which its chain comes back.
 /// Each port is followed once, so this takes time in the number of ports.
 pub fn find_origins(alloc: Global, sources: &[Option<Source>]) -> Result<Vec<Reached>, OriginFault>
     requires inside { AreInside sources.now }
     requires few { length sources.now ≤ 100000 }
     ensures reached { IfOk result (λ v. AreReached sources.now v.items) }
     ensures ends { OnOk result ((p : ℕ) → Leads sources.now p p → ⊥) }
-    ensures cycle { result ≡ Err OriginFault.Cycle → (p : ℕ) × Leads sources.now p p }
+    ensures cycle { (p : ℕ) → result ≡ Err (OriginFault.Cycle p) → Leads sources.now p p }
 {
     let mut marks = vec![in alloc; Mark::New; sources.len()]?;
     'ports: for port in 0..sources.len() {

@@ -6,6 +6,7 @@ use Rattle.lft_tree.specs.Tree.{FileTree, TimeTree, ConnectionTree, RefTree, rea
 use Rattle.lft_tag.specs.declared.Source.{Source}
 use Rattle.lft_instances.specs.declared.joins.Join.{Join}
 use Rattle.lft_instances.specs.declared.joins.Connections.{Connections}
+use Rattle.lft_instances.specs.declared.joins.Site.{Site}
 use Rattle.lft_instances.specs.declared.walk.Instance.{Instance}
 use Rattle.lft_instances.specs.Joins.{AreSources, Joins, JoinPorts, LeadApart, HasJoin}
 use Rattle.lft_instances.specs.Values.{clock_in}
@@ -15,6 +16,7 @@ use Rattle.lft_scope.specs.Sheets.{IsJoin, Single, singles_of}
 use Rattle.lft_program.specs.Located.{Located, declared, ports_in}
 use Rattle.lft_program.specs.Nests.{IsNest}
 use Rattle.lft_program.specs.Tables.{AreTables, IsLawful}
+use Rattle.lft_program.specs.Ways.{IsJoined}
 use Rattle.lft_program.specs.declared.nesting.nest.Nest.{Nest}
 use Rattle.lft_program.specs.declared.nesting.tables.Tables.{Tables}
 use Rattle.lft_program.proofs.Checked.{ports_once}
@@ -37,6 +39,27 @@ pub record TreeSources (tree : FileTree) (ports : List Thing) (sources : List (O
   pub complete : (from t : Thing) (delay : Option ℕ) → Connects tree from t delay → (p : ℕ) × (s : Source) × (slice_get ports p ≡ Some t) × (slice_get sources p ≡ Some (Some s)) × (slice_get ports s.port ≡ Some from) × (NoLongTime tree → delay ≡ s.delay)
   pub distinct : (p q : ℕ) (t : Thing) → slice_get ports p ≡ Some t → slice_get ports q ≡ Some t → p ≡ q
 
+-- a single connection is one of a connection
+connects : (tree : FileTree) (instances : List Instance) (x : Site) (from to : Thing) (delay : Option ℕ) → IsJoined tree instances x from to delay → Connects tree from to delay
+connects tree instances x from to delay w =
+    let of = single_back w.inside.reactor x.place w.single w.is_single in
+    record {
+      path = w.path;
+      inside = w.inside;
+      is_inside = w.is_inside;
+      number = of.number;
+      connection = of.connection;
+      is_connection = of.is_connection;
+      place = of.place;
+      from = w.single.from;
+      to = w.single.to;
+      is_from = of.is_from;
+      is_to = of.is_to;
+      from_source = w.from_source;
+      to_destination = w.to_destination;
+      is_delay = ap (option_map (time_in w.inside)) of.is_delay ∙ w.is_delay;
+    }
+
 module _ (tree : FileTree) (tables : Tables) (nest : Nest) (made : AreTables tree tables) (lawful : IsLawful tree) (n : IsNest tree tables nest) (sources : List (Option Source)) (w : AreSources nest.ports.counts.items tables.connections.items nest.instances.items nest.ports.firsts.items nest.children nest.values sources) where
   -- the clock of a delay is its time
   delays : NoLongTime tree → (k : ℕ) (l : Located) → slice_get n.located k ≡ Some l → (number : ℕ) (c : ConnectionTree) → slice_get (connections_of l.inside.reactor) number ≡ Some c → (s : Single) → c.delay ≡ s.delay → (join : Join) → IsJoin (reactors_of tree) l.inside.reactor s join → option_map (time_in l.inside) c.delay ≡ option_map (clock_in (unwrap_or (slice_get nest.values k) [])) join.delay
@@ -48,13 +71,10 @@ module _ (tree : FileTree) (tables : Tables) (nest : Nest) (made : AreTables tre
       no_long : (t : TimeTree) → s.delay ≡ Some t → IsLongTime t → Any HasLongTime (reactors_of tree)
       no_long t g long = let r = instance_of tree tables nest n k l e in long_delay tree r.0.reactor l.inside.reactor r.2 number c t f (same ∙ g) long
 
-  -- a source by number is a connection of the tree
-  joined : (b : ℕ) (t : Thing) (s : Source) → slice_get (ports_in n.located) b ≡ Some t → slice_get sources b ≡ Some (Some s) → (from : Thing) × (delay : Option ℕ) × (slice_get (ports_in n.located) s.port ≡ Some from) × Connects tree from t delay × (NoLongTime tree → delay ≡ s.delay)
-  joined b t s e f = (thing_at end.instance.path end.port.name, option_map (time_in one.instance.inside) of.connection.delay, there, connects, λ short. delays short j.number one.instance one.is_instance of.number of.connection of.is_connection one.single of.is_delay j.join one.is_join ∙ j.is_delay)
+  -- a join by number is a single connection of the tree
+  pub joined_by : (b : ℕ) (t : Thing) (s : Source) → slice_get (ports_in n.located) b ≡ Some t → (j : Joins tables.connections.items nest.instances.items nest.ports.firsts.items nest.children nest.values s.port b s.delay) → (from : Thing) × (delay : Option ℕ) × (slice_get (ports_in n.located) s.port ≡ Some from) × IsJoined tree nest.instances.items (record { number = j.number; place = j.place }) from t delay × (NoLongTime tree → delay ≡ s.delay)
+  joined_by b t s e j = (thing_at end.instance.path end.port.name, option_map (time_in one.instance.inside) one.single.delay, there, joined, λ short. ap (option_map (time_in one.instance.inside)) (sym of.is_delay) ∙ delays short j.number one.instance one.is_instance of.number of.connection of.is_connection one.single of.is_delay j.join one.is_join ∙ j.is_delay)
     where
-      j : Joins tables.connections.items nest.instances.items nest.ports.firsts.items nest.children nest.values s.port b s.delay
-      j = (w.each b s).0 f
-
       one : Joint tree tables nest made n j.number j.place j.join
       one = joint tree tables nest made n j.number j.place j.join j.has_join
 
@@ -73,23 +93,27 @@ module _ (tree : FileTree) (tables : Tables) (nest : Nest) (made : AreTables tre
       destination : Some (thing_at end2.instance.path end2.port.name) ≡ Some t
       destination = let q : Some (base ports_of n.located end2.owner + place_at j.join.to) ≡ Some b = sym end2.is_number ∙ j.to in let z : base ports_of n.located end2.owner + place_at j.join.to ≡ b = cc in sym end2.is_thing ∙ ap (slice_get (ports_in n.located)) z ∙ e
 
-      connects : Connects tree (thing_at end.instance.path end.port.name) t (option_map (time_in one.instance.inside) of.connection.delay)
-      connects = record {
+      made_so : (i : Instance) × (slice_get nest.instances.items j.number ≡ Some i) × (slice_get (reactors_of tree) i.reactor ≡ Some one.instance.inside.reactor)
+      made_so = instance_of tree tables nest n j.number one.instance one.is_instance
+
+      joined : IsJoined tree nest.instances.items (record { number = j.number; place = j.place }) (thing_at end.instance.path end.port.name) t (option_map (time_in one.instance.inside) one.single.delay)
+      joined = record {
         path = one.instance.path;
         inside = one.instance.inside;
         is_inside = inside_of tree tables nest n j.number one.instance one.is_instance;
-        number = of.number;
-        connection = of.connection;
-        is_connection = of.is_connection;
-        place = of.place;
-        from = one.single.from;
-        to = one.single.to;
-        is_from = of.is_from;
-        is_to = of.is_to;
+        instance = made_so.0;
+        is_instance = made_so.1;
+        is_reactor = made_so.2;
+        single = one.single;
+        is_single = one.is_single;
         from_source = end.stands;
         to_destination = end2.stands ∙ destination;
         is_delay = refl;
       }
+
+  -- a source by number is a connection of the tree
+  joined : (b : ℕ) (t : Thing) (s : Source) → slice_get (ports_in n.located) b ≡ Some t → slice_get sources b ≡ Some (Some s) → (from : Thing) × (delay : Option ℕ) × (slice_get (ports_in n.located) s.port ≡ Some from) × Connects tree from t delay × (NoLongTime tree → delay ≡ s.delay)
+  joined b t s e f = let r = joined_by b t s e ((w.each b s).0 f) in (r.0, r.1, r.2, connects tree nest.instances.items _ r.0 t r.1 r.3, r.4)
 
   -- and back, in the instance of a number
   back : (k : ℕ) (l : Located) → slice_get n.located k ≡ Some l → (number : ℕ) (c : ConnectionTree) (place : ℕ) (from to : RefTree) (a t : Thing) → slice_get (connections_of l.inside.reactor) number ≡ Some c → slice_get c.sources place ≡ Some from → slice_get c.destinations place ≡ Some to → stands_for l.inside.reactor l.path from ≡ Some a → stands_for l.inside.reactor l.path to ≡ Some t → (p : ℕ) × (s : Source) × (slice_get (ports_in n.located) p ≡ Some t) × (slice_get sources p ≡ Some (Some s)) × (slice_get (ports_in n.located) s.port ≡ Some a) × (NoLongTime tree → option_map (time_in l.inside) c.delay ≡ s.delay)

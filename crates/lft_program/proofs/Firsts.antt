@@ -1,17 +1,20 @@
 -- The first cause of refusal among lists of causes one after another.
 use Rattle.std.proofs.Common.{◌≡◌, ◌≢◌, ℕ, List, [], ◌∷◌, ◌++◌, Any, inl, inr, Result, Ok, Err, IfErr, refl, sym, subst}
 use Rattle.std.specs.Result.{IsErrAnd}
-use Rattle.lft_tree.specs.Tree.{FileTree, ReactorTree, reactors_of}
+use Rattle.lft_tree.specs.Tree.{FileTree, reactors_of}
 use Rattle.lft_scope.specs.Causes.{IsFirst, NoneHolds, TooMany, HasLongTime, DelayTooLong, causes}
-use Rattle.lft_program.specs.Links.{TellsTime, last_causes, number_of as link_number}
+use Rattle.lft_program.specs.Links.{TellsOf, last_causes, number_of as link_number}
 use Rattle.lft_program.specs.declared.nesting.linking.LinkFault.{LinkFault}
 use Rattle.lft_program.specs.declared.nesting.linking.LinkFault.TheVariants as links
 use Rattle.lft_program.specs.Tables.{IsLawful}
 use Rattle.lft_program.specs.Faults.{reactor_causes}
 use Rattle.lft_program.specs.Refusals.{Tells, cause_of, of_links, of_nest}
+use Rattle.lft_program.specs.Limits.{IsExcess}
+use Rattle.lft_program.specs.declared.nesting.limits.Excess.{Excess}
 use Rattle.lft_program.specs.declared.nesting.nest.NestFault.{NestFault}
 use Rattle.lft_program.specs.declared.nesting.nest.NestFault.TheVariants as nests
 use Rattle.lft_program.specs.declared.refusal.Refusal.TheVariants as refusals
+use Rattle.lft_program.proofs.Excesses.{excess_is_cause}
 
 pub IsFirst-left : (xs ys : List (ℕ × Type 0)) (n : ℕ) → IsFirst xs n → IsFirst (xs ++ ys) n
 IsFirst-left [] ys n f = absurd f
@@ -58,25 +61,25 @@ handed_on P e (Ok v) p h = tt
 handed_on P e (Err x) p h = subst P (sym h) p
 
 -- a limit that is passed comes behind the causes of reactors
-pub nest_first : (tree : FileTree) (f : NestFault) → NoneHolds (reactor_causes tree) → (f ≡ nests.TooMany → TooMany tree) → of_nest f ≢ refusals.NoMemory → IsFirst (causes tree) (cause_of (of_nest f))
-nest_first tree nests.TooMany none many other = IsFirst-right (reactor_causes tree) (rest tree) 15 none (inl (refl, many refl))
+pub nest_first : (tree : FileTree) (f : NestFault) → NoneHolds (reactor_causes tree) → ((e : Excess) → f ≡ nests.TooMany e → IsExcess tree e) → of_nest f ≢ refusals.NoMemory → IsFirst (causes tree) (cause_of (of_nest f))
+nest_first tree (nests.TooMany e) none many other = IsFirst-right (reactor_causes tree) (rest tree) 15 none (inl (refl, excess_is_cause tree e (many e refl)))
 nest_first tree nests.NoMemory none many other = absurd (other refl)
 
 -- a fault of the links has the number of its cause here too
 pub same_number : (tree : FileTree) (e : LinkFault) → (e ≢ links.NoMemory → IsFirst (last_causes tree) (link_number e)) → of_links e ≢ refusals.NoMemory → IsFirst (last_causes tree) (cause_of (of_links e))
-same_number tree links.ConnectionCycle first other = first (λ e. absurd (cc))
+same_number tree (links.ConnectionCycle way) first other = first (λ e. absurd (cc))
 same_number tree (links.LongTime w) first other = first (λ e. absurd (cc))
-same_number tree links.LongChain first other = first (λ e. absurd (cc))
+same_number tree (links.LongChain way) first other = first (λ e. absurd (cc))
 same_number tree links.NoMemory first other = absurd (other refl)
 
 -- ---- what faults tell
 
-pub nest_tells : (rs : List ReactorTree) (f : NestFault) → Tells rs (of_nest f)
-nest_tells rs nests.TooMany = tt
-nest_tells rs nests.NoMemory = tt
+pub nest_tells : (tree : FileTree) (f : NestFault) → ((e : Excess) → f ≡ nests.TooMany e → IsExcess tree e) → Tells tree (of_nest f)
+nest_tells tree (nests.TooMany e) many = many e refl
+nest_tells tree nests.NoMemory many = tt
 
-pub links_tell : (rs : List ReactorTree) (f : LinkFault) → TellsTime rs f → Tells rs (of_links f)
-links_tell rs links.ConnectionCycle told = tt
-links_tell rs (links.LongTime w) told = told
-links_tell rs links.LongChain told = tt
-links_tell rs links.NoMemory told = tt
+pub links_tell : (tree : FileTree) (f : LinkFault) → TellsOf tree f → Tells tree (of_links f)
+links_tell tree (links.ConnectionCycle way) told = told
+links_tell tree (links.LongTime w) told = told
+links_tell tree (links.LongChain way) told = told
+links_tell tree links.NoMemory told = tt

@@ -36,7 +36,7 @@ module _ (tree : FileTree) (ports : List Thing) (sources : List (Option Source))
       by (inr c) = inr (c.0, more_steps first j.1 c.1 j.3 (d ∙ ap (λ l. first ++ l) (sym delay)))
 
   -- the last delay of a port's sources is that of its source
-  last_of : (p o : ℕ) (s : Source) (all : List ℕ) → slice_get sources p ≡ Some (Some s) → Origin sources p o all → (first : List ℕ) × Origin sources s.port o first × (all ≡ first ++ option_to_list s.delay)
+  pub last_of : (p o : ℕ) (s : Source) (all : List ℕ) → slice_get sources p ≡ Some (Some s) → Origin sources p o all → (first : List ℕ) × Origin sources s.port o first × (all ≡ first ++ option_to_list s.delay)
   last_of p o s all e (itself f) = absurd (cc)
   last_of p o s all e (over source first f rest d) =
       let z : source ≡ s = (let y : Some (Some source) ≡ Some (Some s) = sym f ∙ e in cc) in

@@ -6,6 +6,7 @@ pub mod Giving
 pub mod Limiting
 pub mod Listing
 pub mod Locating
+pub mod Excesses
 pub mod WholeNest
 pub mod Valuing
 pub mod Zipping
@@ -22,6 +23,7 @@ pub mod Delays
 pub mod Connected
 pub mod Cycles
 pub mod Lengths
+pub mod Told
 pub mod Reaching
 pub mod Zips
 pub mod Extending

@@ -1,5 +1,5 @@
 -- The nest of a tree, and the limits that it keeps.
-use Rattle.std.proofs.Common.{◌≡◌, ℕ, ◌≤◌, inl, inr, List, length, refl, sym, ◌∙◌, subst, Result, Err, IsErrAnd, map}
+use Rattle.std.proofs.Common.{◌≡◌, ℕ, ◌-◌, ◌<◌, ◌≤◌, arith, inl, inr, List, length, refl, sym, ◌∙◌, subst, Result, Err, IsErrAnd, map}
 use Rattle.lft_tree.specs.Tree.{FileTree, ReactorTree, actions_of, ports_of, reactions_of, reactors_of, timers_of}
 use Rattle.lft_instances.specs.Children.{AreChildren}
 use Rattle.lft_instances.specs.Contents.{IsWalk, contained}
@@ -8,15 +8,15 @@ use Rattle.lft_instances.specs.Paths.{Exists, IsMoreThan}
 use Rattle.lft_instances.specs.Values.{HaveValues, LeadToValues}
 use Rattle.lft_instances.specs.declared.walk.Contents.{Contents}
 use Rattle.lft_instances.specs.declared.walk.Instance.{Instance}
-use Rattle.lft_instances.specs.declared.walk.WalkFault.{WalkFault}
-use Rattle.lft_instances.specs.declared.walk.WalkFault.TheVariants as walk
+use Rattle.lft_instances.proofs.Things.{walk_more_things}
 use Rattle.lft_scope.specs.Causes.{IsDeclaredAt, TooMany, joins_of}
+use Rattle.lft_program.specs.Limits.{HasMoreThan, IsExcess, IsFull, IsPassed, limit_of}
 use Rattle.lft_program.specs.Nests.{IsNest, IsNumbering}
-use Rattle.lft_program.specs.Numbered.{of_walk}
 use Rattle.lft_program.specs.Tables.{AreTables, IsLawful}
+use Rattle.lft_program.specs.declared.nesting.limits.Excess.{Excess}
+use Rattle.lft_program.specs.declared.nesting.limits.LimitedKind.{LimitedKind}
+use Rattle.lft_program.specs.declared.nesting.limits.LimitedKind.TheVariants.{Reactions, Ports, Connections, Actions, Timers}
 use Rattle.lft_program.specs.declared.nesting.nest.Nest.{Nest}
-use Rattle.lft_program.specs.declared.nesting.nest.NestFault.{NestFault}
-use Rattle.lft_program.specs.declared.nesting.nest.NestFault.TheVariants as faults
 use Rattle.lft_program.specs.declared.nesting.nest.Numbering.{Numbering}
 use Rattle.lft_program.specs.declared.nesting.tables.Tables.{Tables}
 use Rattle.lft_program.proofs.Counted.{actions_counted, joins_counted, ports_counted, reactions_counted, timers_counted}
@@ -59,12 +59,8 @@ numbering_is kind rs counts instances limit n e w = record {
 pub same_fault : {X F : Type 0} (r : Result X F) (f g : F) → IsErrAnd r (λ e. e ≡ f) → r ≡ Err g → f ≡ g
 same_fault r f g is e = sym (subst (λ r. IsErrAnd r (λ e. e ≡ f)) e is)
 
-pub walk_fault : {X : Type 0} (r : Result X NestFault) (f : WalkFault) → IsErrAnd r (λ e. e ≡ of_walk f) → r ≡ Err faults.TooMany → f ≡ walk.TooMany
-walk_fault r walk.TooMany is e = refl
-walk_fault r walk.NoMemory is e = let no : faults.NoMemory ≡ faults.TooMany = same_fault r faults.NoMemory faults.TooMany is e in absurd (cc)
-
-pub more_here : (contents : List Contents) (main limit : ℕ) (instances theirs : List Instance) (counts counted : List ℕ) → IsWalk contents main instances → theirs ≡ instances → counted ≡ counts → ((table : List Contents) → (main : ℕ) → IsWalk table main theirs → HasMoreThings table main counted limit) → HasMoreThings contents main counts limit
-more_here contents main limit instances theirs counts counted w e f more = subst (λ l. HasMoreThings contents main l limit) f (more contents main (subst (IsWalk contents main) (sym e) w))
+pub passed_here : (kind : LimitedKind) (instances theirs : List Instance) (counts counted : List ℕ) (x : Excess) → theirs ≡ instances → counted ≡ counts → IsPassed kind (things counted theirs) x → IsPassed kind (things counts instances) x
+passed_here kind instances theirs counts counted x e f w = subst (λ l. IsPassed kind (things l instances) x) f (subst (λ l. IsPassed kind (things counted l) x) e w)
 
 pub none_here : (contents : List Contents) (main limit : ℕ) (instances theirs : List Instance) (counts counted : List ℕ) → IsWalk contents main instances → theirs ≡ instances → counted ≡ counts → ((table : List Contents) → (main : ℕ) → IsWalk table main theirs → HasMoreThings table main counted limit → ⊥) → HasMoreThings contents main counts limit → ⊥
 none_here contents main limit instances theirs counts counted w e f none more = none contents main (subst (IsWalk contents main) (sym e) w) (subst (λ l. HasMoreThings contents main l limit) (sym f) more)
@@ -111,29 +107,40 @@ module _ (tree : FileTree) (tables : Tables) (are : AreTables tree tables) (lawf
   more_by : {X : Type 0} (kind : ReactorTree → List X) (counts : List ℕ) (limit : ℕ) → counts ≡ map (λ r. length (kind r)) (reactors_of tree) → IsMoreThan (IsDeclaredAt tree kind) limit → MoreByNumber counts limit
   more_by kind counts limit e = more_things tree tables.contents.items tables.main are.main are.contents are.is_main are.main_number kind counts e limit
 
-  pub too_many_instances : IsMoreThan (Exists (contained tables.contents.items) tables.main) 10000 → TooMany tree
-  unfolding TooMany
-  too_many_instances w = inl (more_instances tree tables.contents.items tables.main are.main are.contents are.is_main are.main_number 10000 w)
+  pub excess_of_instances : (x : Excess) → IsFull tables.contents.items tables.main x → IsExcess tree x
+  excess_of_instances x w =
+      let more : (n : ℕ) → IsMoreThan (Exists (contained tables.contents.items) tables.main) n → HasMoreThan tree x.kind n = λ n m. subst (λ k. HasMoreThan tree k n) (sym w.is_kind) (more_instances tree tables.contents.items tables.main are.main are.contents are.is_main are.main_number n m) in
+      record {
+        passed = subst (λ k. limit_of k < x.count) (sym w.is_kind) w.passed;
+        has = more (x.count - 1) w.has;
+        more = λ is. more x.count (w.more is);
+      }
 
-  pub too_many_reactions : MoreByNumber (reaction_counts tables) 10000 → TooMany tree
-  unfolding TooMany
-  too_many_reactions w = inr (inl (more_of reactions_of (reaction_counts tables) 10000 (reactions_counted (reactors_of tree) tables.reactions.items are.reactions) w))
+  module _ (instances : List Instance) (walk : IsWalk tables.contents.items tables.main instances) where
+    more_in : {X : Type 0} (kind : ReactorTree → List X) (counts : List ℕ) → counts ≡ map (λ r. length (kind r)) (reactors_of tree) → (n : ℕ) → n < things counts instances → IsMoreThan (IsDeclaredAt tree kind) n
+    more_in kind counts e n l = more_of kind counts n e (walk_more_things counts tables.contents.items tables.main instances n walk l)
 
-  pub too_many_ports : MoreByNumber (port_counts tables) 100000 → TooMany tree
-  unfolding TooMany
-  too_many_ports w = inr (inr (inl (more_of ports_of (port_counts tables) 100000 (ports_counted (reactors_of tree) tables.declarations.items are.declarations) w)))
+    excess : (kind : LimitedKind) (all : ℕ) → ((n : ℕ) → n < all → HasMoreThan tree kind n) → (x : Excess) → IsPassed kind all x → IsExcess tree x
+    excess kind all more x w = record {
+      passed = subst (λ k. limit_of k < x.count) (sym w.is_kind) w.passed;
+      has = subst (λ k. HasMoreThan tree k (x.count - 1)) (sym w.is_kind) (more (x.count - 1) (let p = w.passed in let c = w.counted in omega arith));
+      more = λ is. absurd (let whole = w.whole in cc);
+    }
 
-  pub too_many_joins : MoreByNumber (join_counts tables) 100000 → TooMany tree
-  unfolding TooMany
-  too_many_joins w = inr (inr (inr (inl (more_of joins_of (join_counts tables) 100000 (joins_counted (reactors_of tree) tables.connections.items lawful.later are.connections) w))))
+    pub excess_of_reactions : (x : Excess) → IsPassed Reactions (things (reaction_counts tables) instances) x → IsExcess tree x
+    excess_of_reactions x w = excess Reactions (things (reaction_counts tables) instances) (more_in reactions_of (reaction_counts tables) (reactions_counted (reactors_of tree) tables.reactions.items are.reactions)) x w
 
-  pub too_many_actions : MoreByNumber (action_counts tables) 100000 → TooMany tree
-  unfolding TooMany
-  too_many_actions w = inr (inr (inr (inr (inl (more_of actions_of (action_counts tables) 100000 (actions_counted (reactors_of tree) tables.declarations.items are.declarations) w)))))
+    pub excess_of_ports : (x : Excess) → IsPassed Ports (things (port_counts tables) instances) x → IsExcess tree x
+    excess_of_ports x w = excess Ports (things (port_counts tables) instances) (more_in ports_of (port_counts tables) (ports_counted (reactors_of tree) tables.declarations.items are.declarations)) x w
 
-  pub too_many_timers : MoreByNumber (timer_counts tables) 100000 → TooMany tree
-  unfolding TooMany
-  too_many_timers w = inr (inr (inr (inr (inr (more_of timers_of (timer_counts tables) 100000 (timers_counted (reactors_of tree) tables.declarations.items are.declarations) w)))))
+    pub excess_of_joins : (x : Excess) → IsPassed Connections (things (join_counts tables) instances) x → IsExcess tree x
+    excess_of_joins x w = excess Connections (things (join_counts tables) instances) (more_in joins_of (join_counts tables) (joins_counted (reactors_of tree) tables.connections.items lawful.later are.connections)) x w
+
+    pub excess_of_actions : (x : Excess) → IsPassed Actions (things (action_counts tables) instances) x → IsExcess tree x
+    excess_of_actions x w = excess Actions (things (action_counts tables) instances) (more_in actions_of (action_counts tables) (actions_counted (reactors_of tree) tables.declarations.items are.declarations)) x w
+
+    pub excess_of_timers : (x : Excess) → IsPassed Timers (things (timer_counts tables) instances) x → IsExcess tree x
+    excess_of_timers x w = excess Timers (things (timer_counts tables) instances) (more_in timers_of (timer_counts tables) (timers_counted (reactors_of tree) tables.declarations.items are.declarations)) x w
 
   pub not_too_many : (IsMoreThan (Exists (contained tables.contents.items) tables.main) 10000 → ⊥) → (MoreByNumber (reaction_counts tables) 10000 → ⊥) → (MoreByNumber (port_counts tables) 100000 → ⊥) → (MoreByNumber (join_counts tables) 100000 → ⊥) → (MoreByNumber (action_counts tables) 100000 → ⊥) → (MoreByNumber (timer_counts tables) 100000 → ⊥) → TooMany tree → ⊥
   unfolding TooMany

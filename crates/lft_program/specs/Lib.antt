@@ -1,9 +1,10 @@
 pub mod Located
 pub mod Refusals
 pub mod Tables
+pub mod Limits
 pub mod Nests
+pub mod Ways
 pub mod Links
-pub mod Numbered
 pub mod Linking
 pub mod FullNames
 pub mod Extended

@@ -1,6 +1,6 @@
 -- How ports are reached.
 use Rattle.std.specs.Prelude.{◌≡◌, ℕ, List, [], ◌∷◌, Option, Some, None, map, length, slice_get}
-use Rattle.lft_tree.specs.Tree.{FileTree, ReactorTree}
+use Rattle.lft_tree.specs.Tree.{FileTree, reactors_of}
 use Rattle.lft_tag.specs.Shifts.{join_all, none}
 use Rattle.lft_instances.specs.Sources.{Origin}
 use Rattle.lft_tag.specs.declared.Source.{Source}
@@ -8,6 +8,7 @@ use Rattle.lft_causes.specs.Witnesses.{Shows, cause_shown}
 use Rattle.lft_scope.specs.Causes.{ConnectionCycle as HasCycle, DelayTooLong as HasLongDelay}
 use Rattle.lft_scope.specs.Instances.{Thing, Connects}
 use Rattle.lft_program.specs.Located.{Located, ports_in}
+use Rattle.lft_program.specs.Ways.{IsLongChain, IsRing}
 use Rattle.lft_program.specs.declared.nesting.linking.Linked.{Linked}
 use Rattle.lft_program.specs.declared.nesting.linking.LinkFault.{LinkFault}
 use Rattle.lft_program.specs.declared.nesting.linking.LinkFault.TheVariants.{ConnectionCycle, LongTime, LongChain, NoMemory}
@@ -25,15 +26,17 @@ pub record AreLinks (tree : FileTree) (instances : List Located) (links : List L
 
 -- the number of a fault is that of its cause; want of memory has 16
 abbrev pub number_of : LinkFault → ℕ
-number_of ConnectionCycle = 10
+number_of (ConnectionCycle way) = 10
 number_of (LongTime witness) = cause_shown witness
-number_of LongChain = 14
+number_of (LongChain way) = 14
 number_of NoMemory = 16
 
--- what a fault tells of the reactors of the file is so
-abbrev pub TellsTime : List ReactorTree → LinkFault → Type 0
-TellsTime reactors (LongTime witness) = Shows reactors witness
-TellsTime reactors _ = Unit {0}
+-- what a fault tells of the tree is so
+abbrev pub TellsOf : FileTree → LinkFault → Type 0
+TellsOf tree (ConnectionCycle way) = IsRing tree way
+TellsOf tree (LongTime witness) = Shows (reactors_of tree) witness
+TellsOf tree (LongChain way) = IsLongChain tree way
+TellsOf tree NoMemory = Unit {0}
 
 -- the causes that are looked for in the connections of all instances, in the order in which they are answered
 abbrev pub last_causes : FileTree → List (ℕ × Type 0)

@@ -50,7 +50,7 @@ fn checked_contents(alloc: Global, scopes: &Scopes) -> Result<Vec<Contents>, Ref
     ensures contents { IfOk result (λ v. AreContents (reactors_of scopes.now) v.items) }
     ensures none { OnOk result (NoneHolds (reactor_causes scopes.now)) }
     ensures first { IfErr result (λ f. f ≢ refusals.NoMemory → IsFirst (reactor_causes scopes.now) (cause_of f)) }
-    ensures tells { IfErr result (Tells (reactors_of scopes.now)) }
+    ensures tells { IfErr result (Tells scopes.now) }
 {
     if let Some(witness) = check_first(alloc, scopes)? {
         return Err(Refusal::Shown(witness));
@@ -82,25 +82,15 @@ fn tables_with(alloc: Global, ast: &Ast, contents: Vec<Contents>) -> Result<Tabl
     })
 }
 
+/// The same, if none of the causes that are looked for in each reactor holds.
 fn tables_of(alloc: Global, scopes: &Scopes) -> Result<Tables, Refusal>
     ensures tables { IfOk result (AreTables scopes.now) }
     ensures none { OnOk result (NoneHolds (reactor_causes scopes.now)) }
     ensures first { IfErr result (λ f. f ≢ refusals.NoMemory → IsFirst (reactor_causes scopes.now) (cause_of f)) }
-    ensures tells { IfErr result (Tells (reactors_of scopes.now)) }
+    ensures tells { IfErr result (Tells scopes.now) }
 {
     let contents = checked_contents(alloc, scopes)?;
     Ok(tables_with(alloc, scopes.ast(), contents)?)
-}
-
-/// The tables of the tree's reactors, if none of the causes that are looked for in each reactor
-/// holds.
-pub fn tables(alloc: Global, ast: &Ast) -> Result<Tables, Refusal>
-    ensures tables { IfOk result (AreTables (tree_view ast.now)) }
-    ensures none { OnOk result (NoneHolds (reactor_causes (tree_view ast.now))) }
-    ensures first { IfErr result (λ f. f ≢ refusals.NoMemory → IsFirst (reactor_causes (tree_view ast.now)) (cause_of f)) }
-{
-    let scopes = Scopes::of(alloc, ast)?;
-    tables_of(alloc, &scopes)
 }
 
 /// The program of the tree with these tables, nest and links.
@@ -129,7 +119,7 @@ pub fn flattened(alloc: Global, ast: &Ast) -> Result<Program, Refusal>
     ensures flat { IfOk result (IsFlatOf (tree_view ast.now)) }
     ensures one { IfOk result (λ p. (other : Parts) → IsFlatOf (tree_view ast.now) other → other ≡ p) }
     ensures first { IfErr result (λ f. f ≢ refusals.NoMemory → IsFirst (causes (tree_view ast.now)) (cause_of f)) }
-    ensures tells { IfErr result (Tells (reactors_of (tree_view ast.now))) }
+    ensures tells { IfErr result (Tells (tree_view ast.now)) }
 {
     let scopes = Scopes::of(alloc, ast)?;
     let tables = tables_of(alloc, &scopes)?;

@@ -15,11 +15,9 @@ mod tree_lists;
 mod tree_names;
 
 pub use fault::ProgramFault;
-pub use flattening::{flatten, flattened, tables};
+pub use flattening::{flatten, flattened};
 pub use lft_flat::{
     Action, Found, Name, Names, Port, Program, Reaction, Source, Timer, Trigger, Triggers, Value,
 };
-pub use naming::OwnName;
-pub use nesting::{Nest, NestFault, Numbering, Tables};
+pub use nesting::{Excess, LimitedKind, Way};
 pub use refusal::Refusal;
-pub use tree_lists::Lists;

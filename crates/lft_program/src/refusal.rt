@@ -9,7 +9,7 @@ ghost use Rattle.lft_program.specs.declared.fault.ProgramFault.TheVariants as fa
 ghost use Rattle.lft_program.specs.declared.refusal.Refusal.TheVariants as refusals;
 
 use crate::fault::ProgramFault;
-use crate::nesting::{LinkFault, NestFault};
+use crate::nesting::{Excess, LinkFault, NestFault, Way};
 use lft_causes::{Finding, Witness};
 
 /// Why a tree has no flat program, with what shows it.
@@ -21,11 +21,11 @@ pub enum Refusal {
     /// the first.
     Recursive(Vec<usize>),
     /// A limit on how many things a program has is passed.
-    TooMany,
+    TooMany(Excess),
     /// Connections alone form a cycle.
-    ConnectionCycle,
+    ConnectionCycle(Way),
     /// The delays of a chain of connections together pass 10^18 nanoseconds.
-    LongChain,
+    LongChain(Way),
     /// A growth of memory was refused.
     NoMemory,
 }
@@ -45,7 +45,7 @@ impl From<NestFault> for Refusal {
 
     fn from(fault: NestFault) -> Refusal {
         match fault {
-            NestFault::TooMany => Refusal::TooMany,
+            NestFault::TooMany(excess) => Refusal::TooMany(excess),
             NestFault::NoMemory => Refusal::NoMemory,
         }
     }
@@ -58,9 +58,9 @@ impl From<LinkFault> for Refusal {
 
     fn from(fault: LinkFault) -> Refusal {
         match fault {
-            LinkFault::ConnectionCycle => Refusal::ConnectionCycle,
+            LinkFault::ConnectionCycle(way) => Refusal::ConnectionCycle(way),
             LinkFault::LongTime(witness) => Refusal::Shown(witness),
-            LinkFault::LongChain => Refusal::LongChain,
+            LinkFault::LongChain(way) => Refusal::LongChain(way),
             LinkFault::NoMemory => Refusal::NoMemory,
         }
     }
@@ -110,9 +110,9 @@ impl Refusal {
         match self {
             Refusal::Shown(witness) => of_witness(*witness),
             Refusal::Recursive(_) => ProgramFault::RecursiveReactor,
-            Refusal::TooMany => ProgramFault::TooMany,
-            Refusal::ConnectionCycle => ProgramFault::ConnectionCycle,
-            Refusal::LongChain => ProgramFault::DelayTooLong,
+            Refusal::TooMany(_) => ProgramFault::TooMany,
+            Refusal::ConnectionCycle(_) => ProgramFault::ConnectionCycle,
+            Refusal::LongChain(_) => ProgramFault::DelayTooLong,
             Refusal::NoMemory => ProgramFault::NoMemory,
         }
     }

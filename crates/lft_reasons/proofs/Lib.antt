@@ -1,3 +1,5 @@
 mod Refusing
 mod Picking
 mod Showing
+mod Turned
+mod Numbered

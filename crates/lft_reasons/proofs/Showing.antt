@@ -1,7 +1,7 @@
 -- What is told of a cause stands where a witness of it does, if a place of the text shows it by itself.
 use Rattle.std.proofs.Common.{◌≡◌, ℕ, List, [], ◌∷◌, map, inl, inr, refl, sym, ap, ◌∙◌, subst, arith, Option, Some, None, Result, Ok, Err, IfSome, IfOk}
 use Rattle.std.specs.Borrow.{Bor}
-use Rattle.lft_tree.specs.Tree.{ReactorTree, reactors_of}
+use Rattle.lft_tree.specs.Tree.{FileTree, reactors_of}
 use Rattle.lft_tree.specs.View.{file_view, reactor_view}
 use Rattle.lft_tree.specs.declared.tree.Item.{Item}
 use Rattle.lft_tree.specs.declared.tree.Item.TheVariants as items
@@ -24,21 +24,21 @@ trees_among target (items.Reactor r ∷ parts) = ap (λ ts. reactor_view r ∷ t
 trees_among target (items.Preamble r ∷ parts) = trees_among target parts
 
 -- a witness that a refusal tells of shows its cause
-pub told : (reactors : List ReactorTree) (f : Refusal) (w : Witness) → Some w ≡ witness_in f → Tells reactors f → Shows reactors w × (cause_shown w ≡ cause_of f)
-told reactors (refusals.Shown v) w is tells = let same : w ≡ v = cc in (subst (Shows reactors) (sym same) tells, ap cause_shown same)
-told reactors (refusals.Recursive places) w is tells = absurd (cc)
-told reactors refusals.TooMany w is tells = absurd (cc)
-told reactors refusals.ConnectionCycle w is tells = absurd (cc)
-told reactors refusals.LongChain w is tells = absurd (cc)
-told reactors refusals.NoMemory w is tells = absurd (cc)
+pub told : (tree : FileTree) (f : Refusal) (w : Witness) → Some w ≡ witness_in f → Tells tree f → Shows (reactors_of tree) w × (cause_shown w ≡ cause_of f)
+told tree (refusals.Shown v) w is tells = let same : w ≡ v = cc in (subst (Shows (reactors_of tree)) (sym same) tells, ap cause_shown same)
+told tree (refusals.Recursive places) w is tells = absurd (cc)
+told tree (refusals.TooMany excess) w is tells = absurd (cc)
+told tree (refusals.ConnectionCycle way) w is tells = absurd (cc)
+told tree (refusals.LongChain way) w is tells = absurd (cc)
+told tree refusals.NoMemory w is tells = absurd (cc)
 
 -- a refusal without a witness is of a cause that several places show together
 pub of_whole : (f : Refusal) → None ≡ witness_in f → IsCause (cause_of f) → IsOfWhole (cause_of f)
 of_whole (refusals.Shown v) is few = absurd (cc)
 of_whole (refusals.Recursive places) is few = inl refl
-of_whole refusals.TooMany is few = inr (inr (inr refl))
-of_whole refusals.ConnectionCycle is few = inr (inl refl)
-of_whole refusals.LongChain is few = inr (inr (inl refl))
+of_whole (refusals.TooMany excess) is few = inr (inr (inr refl))
+of_whole (refusals.ConnectionCycle way) is few = inr (inl refl)
+of_whole (refusals.LongChain way) is few = inr (inr (inl refl))
 of_whole refusals.NoMemory is few = absurd (let most = few.1 in omega arith)
 
 -- what is told where a witness stands

@@ -1,2 +1,4 @@
 pub mod Spots
 pub mod Reasons
+pub mod Loops
+pub mod Singles

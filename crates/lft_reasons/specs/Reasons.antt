@@ -56,9 +56,9 @@ pub record HasWitnessAt (tokens : List Token) (reactors : List Reactor) (cause :
 abbrev pub witness_in : Refusal → Option Witness
 witness_in (refusals.Shown w) = Some w
 witness_in (refusals.Recursive places) = None
-witness_in refusals.TooMany = None
-witness_in refusals.ConnectionCycle = None
-witness_in refusals.LongChain = None
+witness_in (refusals.TooMany excess) = None
+witness_in (refusals.ConnectionCycle way) = None
+witness_in (refusals.LongChain way) = None
 witness_in refusals.NoMemory = None
 
 -- reactors that contain one another, connections that form a loop, delays that only together are too long, too many things: several places show the cause together

@@ -1,18 +1,22 @@
 #![tactic(auto)]
 //! Why a program that has a tree is refused, for people: what shows the cause, where in the text it stands,
-//! and what to write.
+//! and what to write. Why a program has no graph.
 
 mod candidates;
 mod findings;
+mod loops;
 mod near;
 mod reason;
 mod reasons;
 mod recursion;
 mod refused;
+mod singles;
 mod spots;
 mod tell;
 mod unknown;
+mod ways;
 mod whole;
 mod words;
 
+pub use loops::tell_loop;
 pub use tell::tell_cause;

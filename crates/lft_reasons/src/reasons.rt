@@ -123,9 +123,9 @@ impl<'a> Refused<'a> {
         match refusal {
             Refusal::Shown(_) => Ok(None),
             Refusal::Recursive(circle) => self.recursive(circle),
-            Refusal::ConnectionCycle => self.cycle(),
-            Refusal::LongChain => self.long_chain(),
-            Refusal::TooMany => self.too_many(),
+            Refusal::ConnectionCycle(way) => self.cycle(way),
+            Refusal::LongChain(way) => Ok(Some(self.long_chain(way)?)),
+            Refusal::TooMany(excess) => Ok(Some(self.too_many(*excess)?)),
             Refusal::NoMemory => Ok(None),
         }
     }

@@ -2,7 +2,7 @@
 
 use lft_causes::declared_name;
 use lft_syntax::Tokens;
-use lft_tree::{Ast, Member, Reactor};
+use lft_tree::{Member, Reactor};
 use std::alloc::Global;
 
 /// A program that has a tree, with its reactors in the order of the file.
@@ -11,7 +11,6 @@ pub(crate) struct Refused<'a> {
     pub alloc: Global,
     pub text: &'a [u8],
     pub tokens: &'a Tokens,
-    pub ast: &'a Ast,
     pub reactors: &'a [&'a Reactor],
 }
 

@@ -1,7 +1,6 @@
 //! Why a program with a tree is refused, for people.
 
 ghost use Rattle.std.specs.Prelude.{◌≡◌, ◌≢◌, ◌⊎◌, IfOk, IfSome, IfNone, string_bytes};
-ghost use Rattle.lft_tree.specs.Tree.{reactors_of};
 ghost use Rattle.lft_tree.specs.View.{tree_view};
 ghost use Rattle.lft_scope.specs.Causes.{IsFirst, causes};
 ghost use Rattle.lft_program.specs.Faults.{number_of as the_number_of};
@@ -103,9 +102,9 @@ fn witness_of(refusal: &Refusal) -> Option<Witness>
     match refusal {
         Refusal::Shown(witness) => Some(*witness),
         Refusal::Recursive(_) => None,
-        Refusal::TooMany => None,
-        Refusal::ConnectionCycle => None,
-        Refusal::LongChain => None,
+        Refusal::TooMany(_) => None,
+        Refusal::ConnectionCycle(_) => None,
+        Refusal::LongChain(_) => None,
         Refusal::NoMemory => None,
     }
 }
@@ -133,7 +132,7 @@ fn reason_of(
     refusal: &Refusal,
     cause: u32,
 ) -> Result<Option<Reason>, NoMemory>
-    requires tells { Tells (reactors_of (tree_view ast.now)) refusal.now }
+    requires tells { Tells (tree_view ast.now) refusal.now }
     requires of_cause { cause_of refusal.now ≡ cause }
     requires is_cause { IsCause cause }
     ensures none { IfOk result (λ found. IfNone found (IsCause cause → ⊥)) }
@@ -144,7 +143,6 @@ fn reason_of(
         alloc,
         text,
         tokens,
-        ast,
         reactors: &reactors,
     };
     match witness_of(refusal) {
@@ -234,7 +232,7 @@ fn refusal_for(alloc: Global, ast: &Ast, cause: u32) -> Result<Option<Refusal>, 
     ensures some { IfOk result (λ found. IfSome found (λ _. IsFirst (causes (tree_view ast.now)) cause)) }
     ensures none { IfOk result (λ found. IfNone found (IsFirst (causes (tree_view ast.now)) cause → ⊥)) }
     ensures cause { IfOk result (λ found. IfSome found (λ _. IsCause cause)) }
-    ensures tells { IfOk result (λ found. IfSome found (Tells (reactors_of (tree_view ast.now)))) }
+    ensures tells { IfOk result (λ found. IfSome found (Tells (tree_view ast.now))) }
     ensures of_cause { IfOk result (λ found. IfSome found (λ f. cause_of f ≡ cause)) }
 {
     let Err(refusal) = flattened(alloc, ast) else {

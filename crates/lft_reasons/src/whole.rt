@@ -3,12 +3,12 @@
 
 use crate::reason::Reason;
 use crate::refused::Refused;
-use crate::spots::{name_at, time_at};
+use crate::ways::first_place;
 use itoa::Buffer;
+use lft_program::{Excess, LimitedKind, Way};
 use lft_refusals::{Spot, name_spot, time_spot};
-use lft_scope::kinds::Role;
 use lft_tag::NoMemory;
-use lft_wiring::{Join, LimitedKind, Told, Wiring, long_chain_of, passed_limit, ring_of};
+use lft_tree::Reference;
 
 /// More ports of a loop aren't named.
 const MOST_NAMES: usize = 12;
@@ -25,91 +25,113 @@ fn kind_words(kind: LimitedKind) -> &'static str {
     }
 }
 
+/// The name with that place in a list.
+fn item(names: &[Reference], place: usize) -> Option<&Reference> {
+    if place < names.len() {
+        Some(&names[place])
+    } else {
+        None
+    }
+}
+
 impl<'a> Refused<'a> {
-    /// Where the name at which a single connection ends stands.
-    fn end_spot(&self, join: Join<'a>) -> Option<Spot> {
-        let site = self.site(join.reactor, join.member)?;
-        name_spot(
-            self.tokens,
-            name_at(site.member, Role::Destination, join.place)?,
-        )
+    /// The name at which the single connection with that place on the way ends.
+    fn end(&self, way: &Way, place: usize) -> Option<(usize, &'a Reference)> {
+        let single = self.single(way, place)?;
+        let names = &single.connection.destinations;
+        Some((single.number, item(names, single.place)?))
     }
 
-    /// Where the delay of a single connection stands.
-    fn delay_spot(&self, join: Join<'a>) -> Option<Spot> {
-        let site = self.site(join.reactor, join.member)?;
-        time_spot(self.tokens, time_at(site.member, 0)?)
+    /// Puts the port at which the single connection with that place on the way ends behind the text.
+    fn push_end(&self, out: &mut String, way: &Way, place: usize) -> Result<(), NoMemory> {
+        match self.end(way, place) {
+            Some((number, name)) => self.push_port(out, way, number, name),
+            None => Ok(()),
+        }
     }
 
-    /// The ports of a loop in the direction of the connections, from the end of the first one on.
-    fn ring_words(
-        &self,
-        wiring: &Wiring<'a>,
-        first: Join<'a>,
-        ring: &[Join<'a>],
-    ) -> Result<String, NoMemory> {
+    /// Puts the port at which the single connection with that place on the way begins behind the text.
+    fn push_start(&self, out: &mut String, way: &Way, place: usize) -> Result<(), NoMemory> {
+        let Some(single) = self.single(way, place) else {
+            return Ok(());
+        };
+        match item(&single.connection.sources, single.place) {
+            Some(name) => self.push_port(out, way, single.number, name),
+            None => Ok(()),
+        }
+    }
+
+    /// Where the name at which the single connection with that place on the way ends stands.
+    fn end_spot(&self, way: &Way, place: usize) -> Option<Spot> {
+        let (_, name) = self.end(way, place)?;
+        name_spot(self.tokens, name)
+    }
+
+    /// Where the delay of the single connection with that place on the way stands.
+    fn delay_spot(&self, way: &Way, place: usize) -> Option<Spot> {
+        match &self.single(way, place)?.connection.delay {
+            Some(time) => time_spot(self.tokens, time),
+            None => None,
+        }
+    }
+
+    /// The ports of a loop in the direction of the connections, from the end of that one on.
+    fn ring_words(&self, way: &Way, first: usize) -> Result<String, NoMemory> {
+        let count = way.joins.len();
         let mut out = String::new(self.alloc);
-        wiring.push_port(self.alloc, &mut out, first.to)?;
-        for (place, join) in ring.iter().rev().enumerate() {
+        self.push_end(&mut out, way, first)?;
+        for step in 1..=count {
             out.push_str(" -> ")?;
-            if place >= MOST_NAMES {
+            if step > MOST_NAMES {
                 out.push_str("..")?;
                 return Ok(out);
             }
-            wiring.push_port(self.alloc, &mut out, join.to)?;
+            let place = if step <= first {
+                first - step
+            } else {
+                count - (step - first)
+            };
+            self.push_end(&mut out, way, place)?;
         }
         Ok(out)
     }
 
-    /// Connections alone form a loop. The place is the end of one of them.
-    pub(crate) fn cycle(&self) -> Result<Option<Reason>, NoMemory> {
-        let Some(told) = ring_of(self.alloc, self.ast)? else {
+    /// Connections alone form a loop. The place is the end of the one that stands first.
+    pub(crate) fn cycle(&self, way: &Way) -> Result<Option<Reason>, NoMemory> {
+        let Some(first) = first_place(&way.joins) else {
             return Ok(None);
         };
-        let Some(first) = told.joins.first().copied() else {
-            return Ok(None);
-        };
-        let words = self.ring_words(&told.wiring, first, &told.joins)?;
+        let words = self.ring_words(way, first)?;
         let reason = Reason::of(self.alloc, "connections alone form a loop")?
-            .at(self.end_spot(first))
+            .at(self.end_spot(way, first))
             .way(words.as_str())?;
-        let way = "No delay breaks such a loop: a reaction has to stand in it.";
-        Ok(Some(reason.way(way)?))
+        let words = "No delay breaks such a loop: a reaction has to stand in it.";
+        Ok(Some(reason.way(words)?))
     }
 
     /// The delays of a chain of connections sum to more than the greatest time. The place is the delay with
     /// which they do.
-    pub(crate) fn long_chain(&self) -> Result<Option<Reason>, NoMemory> {
-        let Some(Told { wiring, joins }) = long_chain_of(self.alloc, self.ast)? else {
-            return Ok(None);
-        };
-        let (Some(last), Some(first)) = (joins.first().copied(), joins.last().copied()) else {
-            return Ok(None);
-        };
+    pub(crate) fn long_chain(&self, way: &Way) -> Result<Reason, NoMemory> {
         let mut ports = String::new(self.alloc);
-        wiring.push_port(self.alloc, &mut ports, first.from)?;
+        self.push_start(&mut ports, way, way.joins.len().saturating_sub(1))?;
         ports.push_str(" to ")?;
-        wiring.push_port(self.alloc, &mut ports, last.to)?;
+        self.push_end(&mut ports, way, 0)?;
         let reason = Reason::of(self.alloc, "the delays from ")?
             .say(ports.as_str())?
             .say(" sum to more than 10^18 nanoseconds")?
-            .at(self.delay_spot(last));
-        Ok(Some(reason.way("That is some 31 years. No chain of connections may delay longer.")?))
+            .at(self.delay_spot(way, 0));
+        reason.way("That is some 31 years. No chain of connections may delay longer.")
     }
 
     /// Which limit the program passes, and how many there are.
-    pub(crate) fn too_many(&self) -> Result<Option<Reason>, NoMemory> {
-        let Some(excess) = passed_limit(self.alloc, self.ast)? else {
-            return Ok(None);
-        };
+    pub(crate) fn too_many(&self, excess: Excess) -> Result<Reason, NoMemory> {
         let (mut counted, mut most) = (Buffer::new(), Buffer::new());
         let more = if excess.is_more { "more than " } else { "" };
-        let reason = Reason::of(self.alloc, "the program has ")?
+        Reason::of(self.alloc, "the program has ")?
             .say(more)?
             .say(counted.format(excess.count))?
             .say(kind_words(excess.kind))?
             .say(", and may have ")?
-            .say(most.format(excess.limit))?;
-        Ok(Some(reason))
+            .say(most.format(u64::from(excess.kind.limit())))
     }
 }

@@ -1,10 +1,11 @@
 //! The source and the origin of each port.
 
-ghost use Rattle.std.specs.Prelude.{◌≡◌, ◌≢◌, ℕ, ◌<◌, None, IfSome, IfNone, IfOk, IfErr, OnOk, length};
-ghost use Rattle.lft_tree.specs.Tree.{reactors_of};
+ghost use Rattle.std.specs.Prelude.{◌≡◌, ◌≢◌, ℕ, ◌<◌, None, IfSome, IfOk, IfErr, OnOk, length};
+ghost use Rattle.lft_instances.specs.Sources.{AreInside};
+ghost use Rattle.lft_instances.specs.Ways.{HaveSites, IsWayBack};
 ghost use Rattle.lft_scope.specs.Causes.{IsFirst, NoneHolds};
 ghost use Rattle.lft_program.specs.Linking.{AreLinked, IsLinked, IsTooLong};
-ghost use Rattle.lft_program.specs.Links.{AreLinks, TellsTime, last_causes, number_of};
+ghost use Rattle.lft_program.specs.Links.{AreLinks, TellsOf, last_causes, number_of};
 ghost use Rattle.lft_program.specs.Nests.{IsNest};
 ghost use Rattle.lft_program.specs.Tables.{AreTables, IsLawful};
 ghost use Rattle.lft_program.specs.declared.nesting.linking.LinkFault.TheVariants as faults;
@@ -12,7 +13,9 @@ ghost use Rattle.lft_program.specs.declared.nesting.linking.LinkFault.TheVariant
 use crate::nesting::nest::Nest;
 use crate::nesting::tables::Tables;
 use lft_causes::{Scopes, Witness, check_times};
-use lft_instances::{OriginFault, Reached, find_origins, find_sources};
+use lft_instances::{
+    Instance, OriginFault, Reached, Site, Sources, find_origins, find_sources, way_back,
+};
 use lft_tag::{NoMemory, Shift, Source};
 use std::alloc::{AllocFailed, Global};
 
@@ -25,15 +28,24 @@ pub(crate) struct Linked {
     pub shift: Shift,
 }
 
+/// Single connections of instances against their direction: each begins where the next one ends.
+#[derive(Drop)]
+pub struct Way {
+    /// The instances of the program in pre-order, of which the main one is the first.
+    pub instances: Vec<Instance>,
+    /// Where each of the connections stands.
+    pub joins: Vec<Site>,
+}
+
 /// Why ports have no origins, in the order in which the causes are answered.
-#[derive(Clone, Copy, Drop)]
+#[derive(Drop)]
 pub(crate) enum LinkFault {
-    /// Connections alone form a cycle.
-    ConnectionCycle,
+    /// Connections alone form a cycle. The last of them begins where the first one ends.
+    ConnectionCycle(Way),
     /// A time is past 10^18 nanoseconds.
     LongTime(Witness),
-    /// The sum of a chain's delays is.
-    LongChain,
+    /// The sum of the delays of this chain is.
+    LongChain(Way),
     /// A growth of memory was refused.
     NoMemory,
 }
@@ -78,25 +90,72 @@ fn link_at(sources: &[Option<Source>], reached: &[Reached], port: usize) -> Opti
     }
 }
 
-// how each port is reached, by the ports' sources and the ends of their chains; None where the delays of
-// a chain sum to too much
+// how each port is reached, by the ports' sources and the ends of their chains, or a port where the delays
+// of the chain sum to too much
 fn link_all(
     alloc: Global,
     sources: &[Option<Source>],
     reached: &[Reached],
-) -> Result<Option<Vec<Linked>>, NoMemory>
+) -> Result<Result<Vec<Linked>, usize>, NoMemory>
     requires { length reached.now ≡ length sources.now }
-    ensures linked { IfOk result (λ found. IfSome found (λ v. AreLinked sources.now reached.now v.items)) }
-    ensures long { IfOk result (λ found. IfNone found ((p : ℕ) × IsTooLong reached.now p)) }
+    ensures linked { IfOk result (λ found. IfOk found (λ v. AreLinked sources.now reached.now v.items)) }
+    ensures long { IfOk result (λ found. IfErr found (IsTooLong reached.now)) }
 {
     let mut links = Vec::new(alloc);
     'ports: for port in 0..sources.len() {
         match link_at(sources, reached, port) {
             Some(link) => links.push(link)?,
-            None => return Ok(None),
+            None => return Ok(Err(port)),
         }
     }
-    Ok(Some(links))
+    Ok(Ok(links))
+}
+
+// the port before this one, if the delays into it sum to too much
+fn long_before(sources: &[Option<Source>], reached: &[Reached], port: usize) -> Option<usize>
+    requires inside { AreInside sources.now }
+    requires as_long { length reached.now ≡ length sources.now }
+    requires known { port < length sources.now }
+    ensures { IfSome result (IsTooLong reached.now) }
+{
+    let before = sources[port]?.port as usize;
+    match reached[before].shift {
+        Some(_) => None,
+        None => Some(before),
+    }
+}
+
+// where the delays of the chain into this port first sum to too much
+fn first_long(sources: &[Option<Source>], reached: &[Reached], port: usize) -> usize
+    requires inside { AreInside sources.now }
+    requires as_long { length reached.now ≡ length sources.now }
+    requires long { IsTooLong reached.now port }
+    ensures { IsTooLong reached.now result }
+{
+    let mut at = port;
+    'back: for _ in 0..sources.len() {
+        match long_before(sources, reached, at) {
+            Some(before) => at = before,
+            None => return at,
+        }
+    }
+    at
+}
+
+// the connections on the way back from a port
+fn way_to(alloc: Global, nest: &Nest, found: &Sources, port: usize) -> Result<Way, NoMemory>
+    requires inside { AreInside found.now.sources.items }
+    requires known { port < length found.now.sources.items }
+    requires sites { HaveSites found.now.sources.items found.now.sites.items }
+    ensures instances { IfOk result (λ w. w.instances.items ≡ nest.now.instances.items) }
+    ensures back { IfOk result (λ w. IsWayBack found.now.sources.items found.now.sites.items port w.joins.items) }
+{
+    let mut instances = Vec::new(alloc);
+    instances.extend_from_slice(&nest.instances)?;
+    Ok(Way {
+        instances,
+        joins: way_back(alloc, found, port)?,
+    })
 }
 
 /// How each port is reached, by the port's number. The file is that of the tables and the nest. A
@@ -113,9 +172,9 @@ pub(crate) fn links(
     ensures links { IfOk result (λ v. (n : IsNest scopes.now tables.now nest.now) → AreLinks scopes.now n.located v.items) }
     ensures none { OnOk result (NoneHolds (last_causes scopes.now)) }
     ensures first { IfErr result (λ f. f ≢ faults.NoMemory → IsFirst (last_causes scopes.now) (number_of f)) }
-    ensures tells { IfErr result (TellsTime (reactors_of scopes.now)) }
+    ensures tells { IfErr result (TellsOf scopes.now) }
 {
-    let sources = find_sources(
+    let found = find_sources(
         alloc,
         &tables.connections,
         &nest.ports.counts,
@@ -124,16 +183,23 @@ pub(crate) fn links(
         &nest.children,
         &nest.values,
     )?;
-    let reached = match find_origins(alloc, &sources) {
+    let reached = match find_origins(alloc, &found.sources) {
         Ok(reached) => reached,
-        Err(OriginFault::Cycle) => return Err(LinkFault::ConnectionCycle),
+        Err(OriginFault::Cycle(port)) => {
+            let way = way_to(alloc, nest, &found, port as usize)?;
+            return Err(LinkFault::ConnectionCycle(way));
+        }
         Err(OriginFault::NoMemory) => return Err(LinkFault::NoMemory),
     };
     if let Some(witness) = check_times(alloc, scopes)? {
         return Err(LinkFault::LongTime(witness));
     }
-    match link_all(alloc, &sources, &reached)? {
-        Some(links) => Ok(links),
-        None => Err(LinkFault::LongChain),
+    match link_all(alloc, &found.sources, &reached)? {
+        Ok(links) => Ok(links),
+        Err(port) => {
+            let first = first_long(&found.sources, &reached, port);
+            let way = way_to(alloc, nest, &found, first)?;
+            Err(LinkFault::LongChain(way))
+        }
     }
 }

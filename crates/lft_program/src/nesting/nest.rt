@@ -1,21 +1,26 @@
 //! The instances of a tree by number, with what is kept of each.
 
-ghost use Rattle.std.specs.Prelude.{◌≡◌, ◌≤◌, ℕ, List, Err, IfOk, OnOk};
+ghost use Rattle.std.specs.Prelude.{◌≡◌, ◌≤◌, ℕ, List, Err, IfOk, OnOk, length};
 ghost use Rattle.lft_tree.specs.Tree.{FileTree};
-ghost use Rattle.lft_instances.specs.Contents.{IsWalk};
+ghost use Rattle.lft_instances.specs.Contents.{IsWalk, contained};
 ghost use Rattle.lft_instances.specs.Numbers.{AreFirst, HasMoreThings, things};
-ghost use Rattle.lft_instances.specs.declared.walk.Contents.{Contents};
+ghost use Rattle.lft_instances.specs.Paths.{Exists, IsMoreThan};
+ghost use Rattle.lft_instances.specs.declared.walk.Contents.{Contents as TheContents};
 ghost use Rattle.lft_scope.specs.Causes.{TooMany};
+ghost use Rattle.lft_program.specs.Limits.{IsExcess, IsFull, IsPassed, limit_of};
 ghost use Rattle.lft_program.specs.Nests.{IsNest};
 ghost use Rattle.lft_program.specs.Tables.{AreTables, IsLawful};
+ghost use Rattle.lft_program.specs.declared.nesting.limits.Excess.{Excess as TheExcess};
 ghost use Rattle.lft_program.specs.declared.nesting.nest.NestFault;
 
 use crate::nesting::counts::{
     action_counts, join_counts, port_counts, reaction_counts, timer_counts,
 };
+use crate::nesting::limits::{Excess, LimitedKind, excess_of_instances};
 use crate::nesting::tables::Tables;
-use lft_instances::{Children, Instance, Values, WalkFault, all_instances, first_numbers};
-use lft_tag::{MAX_REACTIONS, MAX_THINGS};
+use lft_instances::{
+    Children, Contents, Instance, Values, WalkFault, all_instances, count_things, first_numbers,
+};
 use std::alloc::Global;
 
 /// How things of one kind are numbered: how many of them each reactor declares, by the reactor's
@@ -42,9 +47,8 @@ pub struct Nest {
 /// Why there is no nest.
 #[derive(Clone, Copy, PartialEq, Eq, Drop)]
 pub enum NestFault {
-    /// A limit on the number of instances, reactions, ports, single connections, actions or timers
-    /// is passed.
-    TooMany,
+    /// A limit on how many things a program has is passed.
+    TooMany(Excess),
     /// A growth of memory was refused.
     NoMemory,
 }
@@ -60,59 +64,67 @@ impl From<lft_tag::NoMemory> for NestFault {
     }
 }
 
-impl From<WalkFault> for NestFault {
-    ghost use Rattle.std.specs.Prelude.{◌≡◌};
-    ghost use Rattle.lft_program.specs.Numbered.{of_walk};
-
-    ghost from_gives = { λ f e. e ≡ of_walk f };
-
-    fn from(fault: WalkFault) -> NestFault {
-        match fault {
-            WalkFault::TooMany => NestFault::TooMany,
-            WalkFault::NoMemory => NestFault::NoMemory,
+// the instances in pre-order, where they are no more than may be
+fn instances_of(alloc: Global, contents: &[Contents], main: u32) -> Result<Vec<Instance>, NestFault>
+    ensures walk { IfOk result (λ v. IsWalk contents.now main v.items) }
+    ensures few { IfOk result (λ v. length v.items ≤ 10000) }
+    ensures within { OnOk result (IsMoreThan (Exists (contained contents.now) main) 10000 → ⊥) }
+    ensures too_many { (e : TheExcess) → result ≡ Err (NestFault.TooMany e) → IsFull contents.now main e }
+{
+    match all_instances(alloc, contents, main) {
+        Ok(instances) => Ok(instances),
+        Err(WalkFault::TooMany) => {
+            let excess = excess_of_instances(alloc, contents, main)?;
+            Err(NestFault::TooMany(excess))
         }
+        Err(WalkFault::NoMemory) => Err(NestFault::NoMemory),
     }
 }
 
-// how things of one kind are numbered, where they are no more than the limit
+// how things of one kind are numbered, where they are no more than may be
 fn numbered(
     alloc: Global,
     instances: &[Instance],
     counts: Vec<u32>,
-    limit: u32,
+    kind: LimitedKind,
 ) -> Result<Numbering, NestFault>
     ensures counts { IfOk result (λ n. n.counts ≡ counts) }
     ensures firsts { IfOk result (λ n. AreFirst counts.items instances.now n.firsts.items) }
-    ensures few { IfOk result (λ _. things counts.items instances.now ≤ limit) }
-    ensures within { OnOk result ((table : List Contents) → (main : ℕ) → IsWalk table main instances.now → HasMoreThings table main counts.items limit → ⊥) }
-    ensures too_many { result ≡ Err NestFault.TooMany → (table : List Contents) → (main : ℕ) → IsWalk table main instances.now → HasMoreThings table main counts.items limit }
+    ensures few { IfOk result (λ _. things counts.items instances.now ≤ limit_of kind) }
+    ensures within { OnOk result ((table : List TheContents) → (main : ℕ) → IsWalk table main instances.now → HasMoreThings table main counts.items (limit_of kind) → ⊥) }
+    ensures too_many { (e : TheExcess) → result ≡ Err (NestFault.TooMany e) → IsPassed kind (things counts.items instances.now) e }
 {
-    match first_numbers(alloc, instances, &counts, limit)? {
+    match first_numbers(alloc, instances, &counts, kind.limit())? {
         Some(firsts) => Ok(Numbering { counts, firsts }),
-        None => Err(NestFault::TooMany),
+        None => Err(NestFault::TooMany(Excess {
+            kind,
+            count: count_things(&counts, instances) as u64,
+            is_more: false,
+        })),
     }
 }
 
 impl Nest {
-    /// The nest of the tree whose reactors have these tables. Nothing is made past a limit. The
-    /// order of the limits means nothing, since each gives the same fault.
+    /// The nest of the tree whose reactors have these tables. Nothing is made past a limit. Of several
+    /// limits that are passed the first is told, in the order of instances, reactions, ports, connections,
+    /// actions, timers.
     pub fn of(alloc: Global, tables: &Tables) -> Result<Nest, NestFault>
         ensures nest { IfOk result (λ n. (tree : FileTree) → AreTables tree tables.now → IsLawful tree → IsNest tree tables.now n) }
         ensures within { OnOk result ((tree : FileTree) → AreTables tree tables.now → IsLawful tree → TooMany tree → ⊥) }
-        ensures too_many { result ≡ Err NestFault.TooMany → (tree : FileTree) → AreTables tree tables.now → IsLawful tree → TooMany tree }
+        ensures too_many { (e : TheExcess) → result ≡ Err (NestFault.TooMany e) → (tree : FileTree) → AreTables tree tables.now → IsLawful tree → IsExcess tree e }
     {
-        let instances = all_instances(alloc, &tables.contents, tables.main)?;
+        let instances = instances_of(alloc, &tables.contents, tables.main)?;
         let counts = reaction_counts(alloc, &tables.reactions)?;
-        let reactions = numbered(alloc, &instances, counts, MAX_REACTIONS)?;
+        let reactions = numbered(alloc, &instances, counts, LimitedKind::Reactions)?;
         let counts = port_counts(alloc, &tables.declarations)?;
-        let ports = numbered(alloc, &instances, counts, MAX_THINGS)?;
+        let ports = numbered(alloc, &instances, counts, LimitedKind::Ports)?;
         // Connections have no numbers in a flat program: they are counted for their limit alone.
         let counts = join_counts(alloc, &tables.connections)?;
-        numbered(alloc, &instances, counts, MAX_THINGS)?;
+        numbered(alloc, &instances, counts, LimitedKind::Connections)?;
         let counts = action_counts(alloc, &tables.declarations)?;
-        let actions = numbered(alloc, &instances, counts, MAX_THINGS)?;
+        let actions = numbered(alloc, &instances, counts, LimitedKind::Actions)?;
         let counts = timer_counts(alloc, &tables.declarations)?;
-        let timers = numbered(alloc, &instances, counts, MAX_THINGS)?;
+        let timers = numbered(alloc, &instances, counts, LimitedKind::Timers)?;
         Ok(Nest {
             children: Children::of(alloc, &instances)?,
             values: Values::of(alloc, &tables.parameters, &instances)?,

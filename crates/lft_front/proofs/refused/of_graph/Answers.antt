@@ -1,6 +1,6 @@
 use Rattle.std.proofs.Common.{◌≡◌, ℕ, List, ap, subst, Err, Some, slice_get, string_bytes}
 use Rattle.lft_graph.proofs.Cycles.{member_within}
-use Rattle.lft_wiring.specs.Loops.{loop_words}
+use Rattle.lft_reasons.specs.Loops.{loop_words}
 use Rattle.lft_front.proofs.refused.of_graph.Goals as goal
 
 pub tell_loop-requires : goal.tell_loop-requires

@@ -1,7 +1,9 @@
-use Rattle.std.proofs.Common.{◌≡◌, ◌<◌, ◌≤◌, length, Some, slice_get, arith, subst, sym, ◌∙◌}
+use Rattle.std.proofs.Common.{◌≡◌, ◌<◌, ◌≤◌, length, Some, slice_get, arith, refl, subst, sym, ◌∙◌}
 use Rattle.lft_instances.specs.Numbers.{things}
+use Rattle.lft_tag.specs.declared.Source.{Source}
+use Rattle.lft_instances.specs.declared.joins.Site.{Site}
 use Rattle.lft_instances.specs.Joins.{HasJoin}
-use Rattle.lft_instances.proofs.Joining.{port_number, sourced_more, sourced_next, sourced_end, sources_inside}
+use Rattle.lft_instances.proofs.Joining.{port_number, sited_more, sourced_more, sourced_next, sourced_end, sources_inside}
 use Rattle.lft_instances.proofs.joins.find_sources.Goals as goal
 use Rattle.lft_instances.proofs.joins.find_sources.Goals.{After-item_at-join, After-port_of-to}
 
@@ -35,18 +37,43 @@ low c =
 pub index_mut-requires : goal.index_mut-requires
 index_mut-requires c =
     let l = low ((goal.at.index_mut-requires c).After-port_of-to) in
-    let s = c.joins.invariant.as_long in
+    let s = c.joins.invariant.0.as_long in
     let all = c.joins.sources.ok.0 in
     omega arith
 
+pub index_mut-requires-in-joins : goal.index_mut-requires-in-joins
+index_mut-requires-in-joins c =
+    let l = low ((goal.at.index_mut-requires-in-joins c).After-port_of-to) in
+    let s = c.joins.invariant.0.as_long in
+    let t = c.joins.invariant.1.as_long in
+    let all = c.joins.sites.ok.0 in
+    omega arith
+
 pub joins-preserved : goal.joins-preserved
-joins-preserved c = sourced_more c.args.counts.now c.args.table.now c.args.instances.now c.args.firsts.now c.args.children.now c.args.values.now c.requires.apart c.instances.number c.joins.place c.joins.sources.items c.item_at-join.result c.port_of-to.result (record { port = c.port_of-port.result; delay = c.delay_in-delay.result }) c.joins.invariant (has ((goal.at.joins-preserved c).After-item_at-join)) c.port_of-port.ensures c.port_of-to.ensures c.delay_in-delay.ensures (low ((goal.at.joins-preserved c).After-port_of-to))
+joins-preserved c =
+    let table = c.args.table.now in
+    let instances = c.args.instances.now in
+    let firsts = c.args.firsts.now in
+    let children = c.args.children.now in
+    let values = c.args.values.now in
+    let number = c.instances.number in
+    let place = c.joins.place in
+    let join = c.item_at-join.result in
+    let to = c.port_of-to.result in
+    let source : Source = record { port = c.port_of-port.result; delay = c.delay_in-delay.result } in
+    let site : Site = record { number = number; place = place } in
+    let there = has ((goal.at.joins-preserved c).After-item_at-join) in
+    let within = low ((goal.at.joins-preserved c).After-port_of-to) in
+    let long = c.joins.invariant.0.as_long in (
+      sourced_more c.args.counts.now table instances firsts children values c.requires.apart number place c.joins.sources.items join to source c.joins.invariant.0 there c.port_of-port.ensures c.port_of-to.ensures c.delay_in-delay.ensures within,
+      sited_more table instances firsts children values c.joins.sources.items c.joins.sites.items to source site c.joins.invariant.1 (record { number = number; place = place; join = join; has_join = there; from = c.port_of-port.ensures; to = c.port_of-to.ensures; is_delay = sym c.delay_in-delay.ensures }, (refl, refl)) (omega (arith, within, long)),
+    )
 
 pub instances-preserved : goal.instances-preserved
-instances-preserved c = sourced_next c.args.counts.now c.args.table.now c.args.instances.now c.args.firsts.now c.args.children.now c.args.values.now c.instances.number c.joins.place c.joins.sources.items c.item_at.result c.joins.invariant c.item_at.ensures (subst (λ l. length l ≤ c.joins.place) c.joins_of-joins.ensures c.joins-test.false)
+instances-preserved c = (sourced_next c.args.counts.now c.args.table.now c.args.instances.now c.args.firsts.now c.args.children.now c.args.values.now c.instances.number c.joins.place c.joins.sources.items c.item_at.result c.joins.invariant.0 c.item_at.ensures (subst (λ l. length l ≤ c.joins.place) c.joins_of-joins.ensures c.joins-test.false), c.joins.invariant.1)
 
 pub returns-clause-sources : goal.returns-clause-sources
-returns-clause-sources c = sourced_end c.args.counts.now c.args.table.now c.args.instances.now c.args.firsts.now c.args.children.now c.args.values.now c.instances.number 0 c.instances.sources.items c.instances.invariant c.instances-test.false
+returns-clause-sources c = sourced_end c.args.counts.now c.args.table.now c.args.instances.now c.args.firsts.now c.args.children.now c.args.values.now c.instances.number 0 c.instances.sources.items c.instances.invariant.0 c.instances-test.false
 
 pub returns-clause-inside : goal.returns-clause-inside
-returns-clause-inside c = sources_inside c.args.counts.now c.args.table.now c.args.instances.now c.args.firsts.now c.args.children.now c.args.values.now c.instances.sources.items c.requires.numbered c.requires.ports (sourced_end c.args.counts.now c.args.table.now c.args.instances.now c.args.firsts.now c.args.children.now c.args.values.now c.instances.number 0 c.instances.sources.items c.instances.invariant c.instances-test.false)
+returns-clause-inside c = sources_inside c.args.counts.now c.args.table.now c.args.instances.now c.args.firsts.now c.args.children.now c.args.values.now c.instances.sources.items c.requires.numbered c.requires.ports (sourced_end c.args.counts.now c.args.table.now c.args.instances.now c.args.firsts.now c.args.children.now c.args.values.now c.instances.number 0 c.instances.sources.items c.instances.invariant.0 c.instances-test.false)

@@ -4,6 +4,7 @@ use Rattle.lft_lists.proofs.Members.{mem_right}
 use Rattle.lft_instances.specs.declared.origins.Mark.TheVariants.{New, Open, Done}
 use Rattle.lft_instances.specs.declared.origins.Next.TheVariants.{First}
 use Rattle.lft_instances.specs.Marks.{IsNext, tally}
+use Rattle.lft_instances.specs.Sources.{Leads}
 use Rattle.lft_instances.proofs.Settling.{new_weight}
 use Rattle.lft_instances.proofs.Settling.{Settling, settling_start, settling_done, settling_first, settling_cycle, tally_below, tally_written}
 use Rattle.lft_instances.proofs.origins.settle.Goals as goal
@@ -44,8 +45,10 @@ chain-preserved-in-Known c =
     settling_done c.args.sources.now c.args.marks.now c.chain.marks c.args.port c.in-Some.top c.pop.new.self.items c.in-Known.reached (before ((goal.at.chain-preserved-in-Known c).In-Some)) (subst (λ x. IsNext c.args.sources.now c.chain.marks c.in-Some.top x) c.in-Known.is c.look.ensures)
 
 pub returns-in-Cycle-clause-cycle : goal.returns-in-Cycle-clause-cycle
-returns-in-Cycle-clause-cycle c _ =
-    settling_cycle c.args.sources.now c.args.marks.now c.chain.marks c.args.port c.in-Some.top c.pop.new.self.items (before ((goal.at.returns-in-Cycle-clause-cycle c).In-Some)) (subst (λ x. IsNext c.args.sources.now c.chain.marks c.in-Some.top x) c.in-Cycle.is c.look.ensures)
+returns-in-Cycle-clause-cycle c p is =
+    let same : c.in-Some.top ≡ p = cc in
+    subst (λ k. Leads c.args.sources.now k k) same
+    (settling_cycle c.args.sources.now c.args.marks.now c.chain.marks c.args.port c.in-Some.top c.pop.new.self.items (before ((goal.at.returns-in-Cycle-clause-cycle c).In-Some)) (subst (λ x. IsNext c.args.sources.now c.chain.marks c.in-Some.top x) c.in-Cycle.is c.look.ensures))
 
 firsts : (c : goal.In-First) → IsNext c.args.sources.now c.chain.marks c.in-Some.top (First c.in-First.before)
 firsts c = subst (λ x. IsNext c.args.sources.now c.chain.marks c.in-Some.top x) c.in-First.is c.look.ensures

@@ -2,7 +2,7 @@ use Rattle.std.proofs.Common.{◌≡◌, ◌≢◌, List, subst, sym}
 use Rattle.lft_tree.specs.Tree.{FileTree, reactors_of}
 use Rattle.lft_tree.specs.View.{tree_view}
 use Rattle.lft_scope.specs.Causes.{IsFirst, NoneHolds, causes}
-use Rattle.lft_program.specs.Links.{AreLinks, TellsTime, last_causes, number_of as link_number}
+use Rattle.lft_program.specs.Links.{AreLinks, TellsOf, last_causes, number_of as link_number}
 use Rattle.lft_program.specs.Faults.{reactor_causes}
 use Rattle.lft_program.specs.Nests.{IsNest}
 use Rattle.lft_program.specs.Refusals.{Tells, cause_of, of_links, of_nest}
@@ -24,7 +24,7 @@ pub returns-in_err-tables-clause-tells : goal.returns-in_err-tables-clause-tells
 returns-in_err-tables-clause-tells c =
     let tree = tree_view c.args.ast.now in
     let e = c.in_err-tables.field-0.0 in
-    handed_on (Tells (reactors_of tree)) e c.from_residual-in_err-tables.result (subst (λ t. Tells (reactors_of t) e) c.in_ok-scopes.ensures c.in_err-tables.ensures.tells) c.from_residual-in_err-tables.ensures.1
+    handed_on (Tells tree) e c.from_residual-in_err-tables.result (subst (λ t. Tells t e) c.in_ok-scopes.ensures c.in_err-tables.ensures.tells) c.from_residual-in_err-tables.ensures.1
 
 pub returns-in_err-nest-clause-first : goal.returns-in_err-nest-clause-first
 returns-in_err-nest-clause-first c =
@@ -33,12 +33,16 @@ returns-in_err-nest-clause-first c =
     let none = subst (λ t. NoneHolds (reactor_causes t)) c.in_ok-scopes.ensures c.in_ok-tables.ensures.none in
     let are = subst (λ t. AreTables t c.in_ok-tables.tables) c.in_ok-scopes.ensures c.in_ok-tables.ensures.tables in
     handed_on (λ f. f ≢ refusals.NoMemory → IsFirst (causes tree) (cause_of f)) (of_nest e) c.from_residual-in_err-nest.result
-    (nest_first tree e none (λ many. c.in_err-nest.ensures.too_many (cc) tree are (lawful tree none))) c.from_residual-in_err-nest.ensures.1
+    (nest_first tree e none (λ x many. c.in_err-nest.ensures.too_many x (cc) tree are (lawful tree none))) c.from_residual-in_err-nest.ensures.1
 
 pub returns-in_err-nest-clause-tells : goal.returns-in_err-nest-clause-tells
 returns-in_err-nest-clause-tells c =
-    let rs = reactors_of (tree_view c.args.ast.now) in
-    handed_on (Tells rs) (of_nest c.in_err-nest.field-0.0) c.from_residual-in_err-nest.result (nest_tells rs c.in_err-nest.field-0.0) c.from_residual-in_err-nest.ensures.1
+    let tree = tree_view c.args.ast.now in
+    let e = c.in_err-nest.field-0.0 in
+    let none = subst (λ t. NoneHolds (reactor_causes t)) c.in_ok-scopes.ensures c.in_ok-tables.ensures.none in
+    let are = subst (λ t. AreTables t c.in_ok-tables.tables) c.in_ok-scopes.ensures c.in_ok-tables.ensures.tables in
+    handed_on (Tells tree) (of_nest e) c.from_residual-in_err-nest.result
+    (nest_tells tree e (λ x many. c.in_err-nest.ensures.too_many x (cc) tree are (lawful tree none))) c.from_residual-in_err-nest.ensures.1
 
 pub links-requires-clause-lawful : goal.links-requires-clause-lawful
 links-requires-clause-lawful c = lawful _ c.in_ok-tables.ensures.none
@@ -59,9 +63,9 @@ returns-in_err-links-clause-first c =
 
 pub returns-in_err-links-clause-tells : goal.returns-in_err-links-clause-tells
 returns-in_err-links-clause-tells c =
-    let rs = reactors_of (tree_view c.args.ast.now) in
+    let tree = tree_view c.args.ast.now in
     let e = c.in_err-links.field-0.0 in
-    handed_on (Tells rs) (of_links e) c.from_residual-in_err-links.result (links_tell rs e (subst (λ t. TellsTime (reactors_of t) e) c.in_ok-scopes.ensures c.in_err-links.ensures.tells)) c.from_residual-in_err-links.ensures.1
+    handed_on (Tells tree) (of_links e) c.from_residual-in_err-links.result (links_tell tree e (subst (λ t. TellsOf t e) c.in_ok-scopes.ensures c.in_err-links.ensures.tells)) c.from_residual-in_err-links.ensures.1
 
 pub program-requires : goal.program-requires
 program-requires c =

@@ -1,9 +1,9 @@
-use Rattle.std.proofs.Common.{◌≡◌, List, map, ap, ◌∙◌, sym, subst, inr}
+use Rattle.std.proofs.Common.{◌≡◌, List, ap, ◌∙◌, sym, subst, inr}
 use Rattle.std.specs.Borrow.{Bor}
 use Rattle.lft_tree.specs.Tree.{ReactorTree}
-use Rattle.lft_tree.specs.View.{reactor_view}
+use Rattle.lft_tree.specs.View.{tree_view}
 use Rattle.lft_tree.specs.declared.tree.Reactor.{Reactor}
-use Rattle.lft_program.specs.Refusals.{Tells}
+use Rattle.lft_causes.specs.Witnesses.{Shows}
 use Rattle.lft_reasons.specs.Reasons.{IsCause, IsOfWhole, IsShownAt}
 use Rattle.lft_reasons.specs.Spots.{behind, reactors_among, witness_spot}
 use Rattle.lft_reasons.proofs.Showing.{trees_among, told, of_whole, witnessed, of_each, of_found}
@@ -16,9 +16,10 @@ returns-in-Some-clause-shown c =
     let rs = c.in_ok-reactors.reactors.items in
     let w = c.in-Some.witness in
     let same : behind rs ≡ parts = c.in_ok-reactors.ensures ∙ ap reactors_among c.deref.ensures.value in
-    let both = told (map reactor_view parts) c.args.refusal.now w (sym c.in-Some.is ∙ c.witness_of.ensures) (subst (λ (ts : List ReactorTree). Tells ts c.args.refusal.now) (trees_among c.args.ast.now.target c.args.ast.now.items.items) c.requires.tells) in
+    let both = told (tree_view c.args.ast.now) c.args.refusal.now w (sym c.in-Some.is ∙ c.witness_of.ensures) c.requires.tells in
+    let shows = subst (λ (ts : List ReactorTree). Shows ts w) (trees_among c.args.ast.now.target c.args.ast.now.items.items) both.0 in
     of_found c.of_witness.result (λ r. r.at ≡ witness_spot tokens (behind c.deref-2.result.now) w) (λ r. IsShownAt tokens parts c.args.cause r.at)
-    (λ r e. witnessed tokens rs parts same c.args.cause w both.0 (both.1 ∙ c.requires.of_cause) r.at (e ∙ ap (λ (xs : List (Bor Reactor)). witness_spot tokens (behind xs) w) c.deref-2.ensures.value))
+    (λ r e. witnessed tokens rs parts same c.args.cause w shows (both.1 ∙ c.requires.of_cause) r.at (e ∙ ap (λ (xs : List (Bor Reactor)). witness_spot tokens (behind xs) w) c.deref-2.ensures.value))
     c.of_witness.ensures.at
 
 pub returns-clause-shown : goal.returns-clause-shown
