@@ -11,7 +11,7 @@ use Rattle.lft_model.specs.Recorded.{SoFar, OnlyEndedAnswer}
 use Rattle.lft_model.proofs.Places.{slice_get_within}
 use Rattle.lft_model.proofs.Committed.{now}
 use Rattle.lft_model.proofs.Quiet.{pending_triggered, pending_open}
-use Rattle.lft_recording.specs.Starts.{IsBusy, IsAnyOpen, SomethingLeft}
+use Rattle.lft_agenda.specs.Starts.{IsBusy, IsAnyOpen, SomethingLeft}
 
 module _ (plan : PlanParts) (good : IsSoundPlan plan) (t : List Row) (so_far : SoFar plan t) (quiet : OnlyEndedAnswer t) where
   -- what is pending is a reaction

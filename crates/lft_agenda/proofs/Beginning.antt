@@ -12,7 +12,7 @@ use Rattle.lft_model.specs.Plans.{PlanParts, IsSoundPlan}
 use Rattle.lft_model.specs.Recorded.{OnlyEndedAnswer}
 use Rattle.lft_model.proofs.Empty.{empty_so_far}
 use Rattle.lft_agenda.specs.Events.{HasEvents}
-use Rattle.lft_recording.specs.Starts.{IsAnyOpen}
+use Rattle.lft_agenda.specs.Starts.{IsAnyOpen}
 use Rattle.lft_agenda.specs.OpenRuns.{AreOpen}
 use Rattle.lft_agenda.specs.Telling.{IsTold, TriggeredByQueue}
 use Rattle.lft_agenda.specs.Agendas.{IsReached, MayAdvance}

@@ -26,7 +26,7 @@ use Rattle.lft_model.proofs.Begun.{same_stop, same_runs}
 use Rattle.lft_model.proofs.Committed.{now, up_to, its_time}
 use Rattle.lft_agenda.specs.Events.{HasEvents}
 use Rattle.lft_agenda.proofs.Keeping.{narrowed, begun_inert}
-use Rattle.lft_recording.specs.Starts.{IsAnyOpen}
+use Rattle.lft_agenda.specs.Starts.{IsAnyOpen}
 use Rattle.lft_agenda.specs.declared.open.OpenRun.{OpenRun}
 use Rattle.lft_agenda.specs.OpenRuns.{AreOpen, is_run}
 use Rattle.lft_agenda.specs.Waits.{IsLeastTag, IsTurnOf}

@@ -34,3 +34,4 @@ pub mod Beginning
 pub mod Committed
 pub mod Turned
 pub mod Ending
+pub mod BegunRows

@@ -31,7 +31,7 @@ use Rattle.lft_agenda.specs.Events.{IsWatchedName, HasEvents}
 use Rattle.lft_agenda.proofs.Given.{listened_watched}
 use Rattle.lft_agenda.specs.Listeners.{IsListener}
 use Rattle.lft_agenda.proofs.Fed.{some_there}
-use Rattle.lft_recording.specs.Starts.{SomethingLeft}
+use Rattle.lft_agenda.specs.Starts.{SomethingLeft}
 use Rattle.lft_agenda.specs.Waits.{IsBetween, IsCovered, PhaseIs, IsTurnOf}
 use Rattle.lft_agenda.specs.Telling.{IsTold, OccursBy, TriggeredByQueue}
 use Rattle.lft_agenda.specs.Agendas.{MayAdvance, IsReached, IsCurrent}

@@ -23,7 +23,7 @@ use Rattle.lft_model.proofs.Added.{added_row}
 use Rattle.lft_model.proofs.Begun.{steps_same, own_reads}
 use Rattle.lft_model.proofs.Committed.{same_reads}
 use Rattle.lft_model.proofs.Quiet.{pending_time}
-use Rattle.lft_recording.specs.Starts.{IsBusy}
+use Rattle.lft_agenda.specs.Starts.{IsBusy}
 use Rattle.lft_agenda.specs.declared.open.OpenRun.{OpenRun}
 use Rattle.lft_agenda.specs.OpenRuns.{AreOpen, HasReads, is_run}
 use Rattle.lft_agenda.specs.Agendas.{MayBegin, MayEnd}

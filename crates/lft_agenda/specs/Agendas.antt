@@ -16,9 +16,9 @@ use Rattle.lft_model.specs.Runs.{by_ends}
 use Rattle.lft_model.specs.Breaches.{IsOpen}
 use Rattle.lft_model.specs.OneWorker.{IsPending, rows as rows_of_runs}
 use Rattle.lft_model.specs.Recorded.{SoFar, OnlyEndedAnswer, committed_rows}
-use Rattle.lft_recording.specs.Answering.{MayAll}
-use Rattle.lft_recording.specs.Collisions.{CollidesFirst, IsClean}
-use Rattle.lft_recording.specs.Starts.{MayStart, MayStartFirst, NoneMayStart, NothingLeft, SomethingLeft, IsAnyOpen, IsBusy}
+use Rattle.lft_agenda.specs.Answering.{MayAll}
+use Rattle.lft_agenda.specs.Collisions.{CollidesFirst, IsClean}
+use Rattle.lft_agenda.specs.Starts.{MayStart, MayStartFirst, NoneMayStart, NothingLeft, SomethingLeft, IsAnyOpen, IsBusy}
 use Rattle.lft_agenda.specs.Events.{HasEvents}
 use Rattle.lft_agenda.specs.declared.found.NextRun.{NextRun}
 use Rattle.lft_agenda.specs.declared.found.NextRun.TheVariants.{Ready, Blocked, Nothing}

@@ -11,3 +11,6 @@ pub mod Waits
 pub mod Telling
 pub mod Firings
 pub mod Agendas
+pub mod Starts
+pub mod Collisions
+pub mod Answering

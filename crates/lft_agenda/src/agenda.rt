@@ -8,7 +8,7 @@ ghost use Rattle.lft_model.specs.Recorded.{SoFar, OnlyEndedAnswer, begun_rows};
 ghost use Rattle.lft_steps.specs.declared.row.Row.{Row as RowOf};
 ghost use Rattle.lft_steps.specs.declared.row.Step.{Step as StepOf};
 ghost use Rattle.lft_steps.specs.Fits.{StepFits};
-ghost use Rattle.lft_recording.specs.Starts.{IsBusy, MayStart};
+ghost use Rattle.lft_agenda.specs.Starts.{IsBusy, MayStart};
 ghost use Rattle.lft_agenda.specs.Agendas.{IsAgenda, IsOf, MayFind, Finds, MayBegin, MayEnd, EndsWith};
 ghost use Rattle.lft_agenda.specs.OpenRuns.{HasReads};
 

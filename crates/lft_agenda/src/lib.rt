@@ -4,11 +4,14 @@
 
 mod advancing;
 mod agenda;
+mod answering;
 mod events;
 mod firings;
 mod found;
 mod listeners;
 mod open;
+mod opening;
+mod same;
 mod stopping;
 mod telling;
 mod turn;
@@ -16,5 +19,8 @@ mod turning;
 mod writing;
 
 pub use agenda::Agenda;
+pub use answering::{committed, has_long_delay, may_make_all};
 pub use found::NextRun;
 pub use open::OpenRun;
+pub use opening::begun;
+pub use same::same_reads;

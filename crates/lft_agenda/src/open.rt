@@ -3,12 +3,12 @@
 ghost use Rattle.std.specs.Prelude.{◌≡◌, ◌↔◌, ◌<◌, List, filter, not, IsTrue};
 ghost use Rattle.lft_model.specs.Plans.{PlanParts};
 ghost use Rattle.lft_steps.specs.declared.row.Row.{Row};
-ghost use Rattle.lft_recording.specs.Starts.{IsBusy};
+ghost use Rattle.lft_agenda.specs.Starts.{IsBusy};
 ghost use Rattle.lft_agenda.specs.OpenRuns.{AreOpen, HasReads, is_run};
 
+use crate::same::same_reads;
 use lft_flat::Value;
 use lft_model::Reads;
-use lft_recording::same_reads;
 use lft_tag::Tag;
 
 /// A run that has started and hasn't ended, and what it read.

@@ -9,7 +9,7 @@ use Rattle.lft_flat.specs.Parts.{Parts}
 use Rattle.lft_lists.proofs.Places.{get_left, get_right}
 use Rattle.lft_steps.specs.Fits.{RowsFit}
 use Rattle.lft_steps.specs.declared.row.Row.{Row}
-use Rattle.lft_reading.specs.Parts.{rows_of}
+use Rattle.lft_trace.specs.Parts.{rows_of}
 
 module _ (parts : List (Vec Row Global)) (n : ℕ) (part : Vec Row Global) (at : slice_get parts n ≡ Some part) where
   before : take (n + 1) parts ≡ take n parts ++ (part ∷ [])

@@ -8,14 +8,14 @@ ghost use Rattle.lft_trace.specs.Records.{records_of};
 ghost use Rattle.lft_trace.specs.Traces.{Table};
 ghost use Rattle.lft_steps.specs.declared.row.Row.{Row as TheRow};
 ghost use Rattle.lft_rows.specs.Accepted.{IsAccepted};
-ghost use Rattle.lft_reading.specs.Parts.{HoldsRows, rows_of};
+ghost use Rattle.lft_trace.specs.Parts.{HoldsRows, rows_of};
 ghost use Rattle.lft_batches.specs.Fronts.{IsFront, IsNextBehind, judged_rows};
 
 use crate::text::{Front, add_batch, batch_bytes};
 use lft_model::Plan;
-use lft_reading::{below_header, first_lines, read_lines};
 use lft_steps::Row;
 use lft_stream::Counts;
+use lft_trace::{below_header, first_lines, read_lines};
 use std::alloc::Global;
 use std::thread::{Threads, join};
 

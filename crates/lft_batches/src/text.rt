@@ -16,10 +16,10 @@ ghost use Rattle.lft_batches.specs.Fronts.{IsFront, IsNextBehind, IsWholeFront, 
 use crate::rows::rows_together;
 use lft_counts::Cover;
 use lft_model::Plan;
-use lft_reading::{below_header, read_batch};
 use lft_steps::{Row, row_at};
 use lft_stream::{Acceptor, Counts};
 use lft_tag::{MAX_ROWS, NoMemory};
+use lft_trace::{below_header, read_batch};
 use std::alloc::Global;
 
 /// Rows have some bytes fewer in a text, so a batch has a few more rows than are to be taken together.

@@ -18,9 +18,9 @@ use lft_counts::Cover;
 use lft_front::verdict_of;
 use lft_load::Fault;
 use lft_model::{Breach, Plan, is_workers};
-use lft_reading::read_trace_shared;
 use lft_steps::Rows;
 use lft_tag::NoMemory;
+use lft_trace::read_trace_shared;
 use std::alloc::Global;
 use std::thread::Threads;
 

@@ -6,7 +6,7 @@ use Rattle.lft_steps.specs.declared.row.Row.{Row}
 use Rattle.lft_model.specs.Plans.{PlanParts}
 use Rattle.lft_front.specs.Explained.{AreReasons, Writes}
 use Rattle.lft_explain.specs.Shortened.{shown}
-use Rattle.lft_contrast.specs.Shown.{ShowsDifference}
+use Rattle.lft_pair.specs.Shown.{ShowsDifference}
 use Rattle.lft_load.specs.Written.{AppendsFront}
 use Rattle.lft_load.specs.declared.fault.Fault.{Fault}
 use Rattle.lft_load.specs.declared.fault.Part.TheVariants as part

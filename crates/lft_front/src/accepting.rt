@@ -14,9 +14,9 @@ use lft_check::Verdict;
 use lft_load::Fault;
 use lft_model::Plan;
 use lft_model::laws::law_one_worker;
-use lft_reading::below_header;
 use lft_steps::Rows;
 use lft_stream::Counts;
+use lft_trace::below_header;
 use std::alloc::Global;
 use std::io::Write;
 

@@ -7,7 +7,7 @@ use Rattle.memchr.specs.Find.{IsFirstByte, IsLastByte, Nowhere, Passes, is_byte}
 use Rattle.lft_flat.proofs.Ranges.{slice_get-drop}
 use Rattle.lft_model.proofs.Places.{slice_get_take}
 use Rattle.lft_lists.proofs.Picked.{take_next}
-use Rattle.lft_reading.specs.Parts.{EndsLine, HasNoQuote}
+use Rattle.lft_trace.specs.Parts.{EndsLine, HasNoQuote}
 use Rattle.lft_log.specs.Logs.{AreLines, HasNoEnd}
 
 -- the byte that a search finds

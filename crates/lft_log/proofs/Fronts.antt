@@ -4,7 +4,7 @@ use Rattle.std.proofs.Math.Seq.{take-add}
 use Rattle.std.proofs.lemmas.List.{append_assoc, drop-drop, length-drop, length-take-le, take-append-drop, take-take, take_all}
 use Rattle.lft_flat.specs.Parts.{Parts}
 use Rattle.lft_trace.specs.declared.fault.TraceFault.{TraceFault}
-use Rattle.lft_reading.specs.Parts.{EndsLine}
+use Rattle.lft_trace.specs.Parts.{EndsLine}
 use Rattle.lft_steps.specs.Fits.{RowsFit}
 use Rattle.lft_log.specs.Logs.{AreLines, AreRowLines, IsFront, IsNoRow}
 use Rattle.lft_log.specs.declared.fault.LogFault.{LogFault}

@@ -7,9 +7,9 @@ use Rattle.lft_trace.specs.Records.{records_of}
 use Rattle.lft_trace.specs.Faults.{is_told}
 use Rattle.lft_trace.specs.Traces.{IsRow, TraceFails, header}
 use Rattle.lft_trace.specs.declared.fault.TraceFault.{TraceFault}
-use Rattle.lft_reading.specs.Parts.{BeginsPlain, BeginsWith, HasNoQuote, HoldsRows}
-use Rattle.lft_reading.proofs.Beginning.{begins_all, no_record}
-use Rattle.lft_reading.proofs.Together.{holds_both, under_csv_header, under_header}
+use Rattle.lft_trace.specs.Parts.{BeginsPlain, BeginsWith, HasNoQuote, HoldsRows}
+use Rattle.lft_trace.proofs.Beginning.{begins_all, no_record}
+use Rattle.lft_trace.proofs.Together.{holds_both, under_csv_header, under_header}
 use Rattle.lft_steps.specs.declared.row.Row.{Row}
 use Rattle.lft_log.specs.Logs.{AreFirst, AreLines, AreRowLines, HoldSoFar, IsHead, IsNoRow, LogLaw, header_line}
 use Rattle.lft_log.specs.declared.fault.LogFault.TheVariants.{NoRow}

@@ -4,7 +4,7 @@ use Rattle.lft_flat.specs.Parts.{Parts}
 use Rattle.lft_trace.specs.Records.{records_of}
 use Rattle.lft_trace.specs.Traces.{Table, TraceFails}
 use Rattle.lft_trace.specs.declared.fault.TraceFault.{TraceFault}
-use Rattle.lft_reading.specs.Parts.{BeginsPlain, EndsLine, HoldsRows}
+use Rattle.lft_trace.specs.Parts.{BeginsPlain, EndsLine, HoldsRows}
 use Rattle.lft_steps.specs.declared.row.Row.{Row}
 use Rattle.lft_steps.specs.Fits.{RowsFit}
 use Rattle.lft_log.specs.declared.fault.LogFault.TheVariants.{NoRow}

@@ -3,7 +3,7 @@
 ghost use Rattle.std.specs.Prelude.{◌≡◌, ◌≤◌, ◌<◌, ◌+◌, ◌^◌, ℕ, length, take, drop, false, IfOk, IfSome};
 ghost use Rattle.lft_trace.specs.Faults.{is_told};
 ghost use Rattle.lft_trace.specs.declared.fault.TraceFault.{TraceFault as TheFault};
-ghost use Rattle.lft_reading.specs.Parts.{BeginsPlain, EndsLine, HasNoQuote};
+ghost use Rattle.lft_trace.specs.Parts.{BeginsPlain, EndsLine, HasNoQuote};
 ghost use Rattle.lft_steps.specs.Fits.{RowsFit};
 ghost use Rattle.lft_log.specs.declared.fault.LogFault.TheVariants.{NoRow};
 ghost use Rattle.lft_log.specs.Logs.{AreLines, AreRowLines, IsFront, IsNoRow};
@@ -11,10 +11,9 @@ ghost use Rattle.lft_log.specs.Logs.{AreLines, AreRowLines, IsFront, IsNoRow};
 use crate::fault::LogFault;
 use crate::lines::{HEADER, first_line, plain_lines};
 use lft_flat::Program;
-use lft_reading::read_batch;
 use lft_steps::Row;
 use lft_tag::NoMemory;
-use lft_trace::{TraceFault, read_trace};
+use lft_trace::{TraceFault, read_batch, read_trace};
 use std::alloc::Global;
 
 /// A reader of tables takes a byte order mark off where a text begins.

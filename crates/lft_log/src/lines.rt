@@ -1,7 +1,7 @@
 //! Lines of a table that comes in pieces.
 
 ghost use Rattle.std.specs.Prelude.{◌≡◌, ◌≤◌, ◌<◌, ◌++◌, ℕ, List, length, take, drop, IfSome};
-ghost use Rattle.lft_reading.specs.Parts.{EndsLine, HasNoQuote};
+ghost use Rattle.lft_trace.specs.Parts.{EndsLine, HasNoQuote};
 ghost use Rattle.lft_log.specs.Logs.{AreLines, HasNoEnd, IsHead};
 
 use memchr::{memchr, memchr_iter, memrchr};

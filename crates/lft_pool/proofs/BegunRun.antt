@@ -26,7 +26,7 @@ use Rattle.lft_model.proofs.RunSteps.{in_reads, mem_zip}
 use Rattle.lft_model.proofs.Begun.{begun_so_far, same_runs, steps_same}
 use Rattle.lft_model.proofs.Quiet.{pending_time}
 use Rattle.lft_pool.specs.declared.bodies.done.Done.{Done}
-use Rattle.lft_recording.specs.Starts.{MayStart, IsBusy, started_row, started_count}
+use Rattle.lft_agenda.specs.Starts.{MayStart, IsBusy, started_row, started_count}
 use Rattle.lft_pool.specs.Books.{law_of, IsRecording}
 use Rattle.lft_pool.proofs.Known.{ran_of_run}
 use Rattle.lft_flat.proofs.Naming.{input_known}

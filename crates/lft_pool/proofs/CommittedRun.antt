@@ -30,7 +30,7 @@ use Rattle.lft_model.proofs.Reached.{all_stop}
 use Rattle.lft_model.proofs.Recording.{recorded_in_order}
 use Rattle.lft_model.proofs.Committed.{committed_kept, committed_runs, same_reads, committed_so_far, not_ended}
 use Rattle.lft_pool.specs.declared.bodies.done.Done.{Done}
-use Rattle.lft_recording.specs.Starts.{started_row, started_count}
+use Rattle.lft_agenda.specs.Starts.{started_row, started_count}
 use Rattle.lft_agenda.specs.Agendas.{MayEnd}
 use Rattle.lft_agenda.proofs.Committed.{quiet_more, ran_before}
 use Rattle.lft_pool.specs.Books.{law_of, IsRecording}

@@ -9,7 +9,7 @@ use Rattle.lft_pool.specs.Begun.{MatchBegin}
 use Rattle.lft_tag.specs.declared.Tag.{Tag}
 use Rattle.lft_flat.specs.declared.parts.Value.{Value}
 use Rattle.lft_pool.specs.declared.bodies.done.Done.{Done}
-use Rattle.lft_recording.specs.Starts.{SomethingLeft, started_count}
+use Rattle.lft_agenda.specs.Starts.{SomethingLeft, started_count}
 use Rattle.lft_pool.specs.Books.{BookParts, LacksBody}
 use Rattle.lft_pool.specs.Reasons.{StopHolds, ReasonHolds}
 use Rattle.lft_pool.specs.Reasons.StopHolds.{by_begin, by_commit}

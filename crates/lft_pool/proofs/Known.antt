@@ -16,7 +16,7 @@ use Rattle.lft_model.proofs.Empty.{empty_so_far}
 use Rattle.lft_model.proofs.Finished.{AllEnded, finished_legal}
 use Rattle.lft_pool.specs.declared.bodies.done.Done.{Done}
 use Rattle.lft_pool.specs.Books.{IsRecording}
-use Rattle.lft_recording.specs.Starts.{NothingLeft}
+use Rattle.lft_agenda.specs.Starts.{NothingLeft}
 
 -- each ended run has rows
 pub ran_of_run : (plan : PlanParts) (t : List Row) → KeepsFour plan t → (k : ℕ) (u : Run) → slice_get (by_ends plan t) k ≡ Some u → Ran t u.tag u.reaction

@@ -14,7 +14,7 @@ use Rattle.lft_tag.specs.declared.Tag.{Tag}
 use Rattle.lft_lists.proofs.Members.{Mem, get_mem}
 use Rattle.lft_model.specs.Recorded.{MayAnswer, SoFar, committed_rows}
 use Rattle.lft_agenda.specs.Agendas.{AgendaParts, IsAgenda, EndsWith}
-use Rattle.lft_recording.specs.Collisions.{IsClean}
+use Rattle.lft_agenda.specs.Collisions.{IsClean}
 use Rattle.lft_pool.specs.declared.bodies.done.Done.{Done}
 use Rattle.lft_pool.specs.declared.bodies.ticket.Ticket.{Ticket}
 use Rattle.lft_pool.specs.declared.stop.Stop.{Stop}
@@ -23,9 +23,9 @@ use Rattle.lft_pool.specs.Books.{BookParts}
 use Rattle.lft_pool.specs.Causes.{StartCause}
 use Rattle.lft_pool.specs.Reasons.{StopHolds}
 use Rattle.lft_pool.specs.Reasons.StopHolds.{by_begin, by_commit}
-use Rattle.lft_recording.specs.Starts.{IsBusy, MayStartFirst}
+use Rattle.lft_agenda.specs.Starts.{IsBusy, MayStartFirst}
 use Rattle.lft_flat.specs.declared.parts.Value.{Value}
-use Rattle.lft_recording.specs.Answering.{MayAll, IsLong, HasLongDelay}
+use Rattle.lft_agenda.specs.Answering.{MayAll, IsLong, HasLongDelay}
 use Rattle.lft_pool.specs.Answers.{HasTicket, HasClash, with_answer, RefusalCause, EndCause, CommitCause}
 
 -- steps that may be made without a long delay, and rows that are refused

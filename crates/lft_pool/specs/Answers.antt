@@ -10,8 +10,8 @@ use Rattle.lft_model.specs.Runs.{reads_at, by_ends}
 use Rattle.lft_model.specs.OneWorker.{rows}
 use Rattle.lft_model.specs.Breaches.{IsOpen}
 use Rattle.lft_model.specs.Recorded.{committed_rows}
-use Rattle.lft_recording.specs.Answering.{MayAll, HasLongDelay}
-use Rattle.lft_recording.specs.Collisions.{CollidesFirst, IsClean}
+use Rattle.lft_agenda.specs.Answering.{MayAll, HasLongDelay}
+use Rattle.lft_agenda.specs.Collisions.{CollidesFirst, IsClean}
 use Rattle.lft_pool.specs.declared.bodies.done.Done.{Done}
 use Rattle.lft_pool.specs.declared.bodies.ticket.Ticket.{Ticket}
 use Rattle.lft_pool.specs.declared.stop.Stop.{Stop}

@@ -10,7 +10,7 @@ use Rattle.lft_model.specs.Runs.{by_ends}
 use Rattle.lft_model.specs.Recorded.{SoFar, Follows, BodyLaw, OnlyEndedAnswer, instance_of, word_after}
 use Rattle.lft_pool.specs.declared.bodies.done.Done.{Done}
 use Rattle.lft_pool.specs.declared.stop.Stop.{Stop}
-use Rattle.lft_recording.specs.Starts.{MayStart, started_count}
+use Rattle.lft_agenda.specs.Starts.{MayStart, started_count}
 use Rattle.lft_agenda.specs.Agendas.{AgendaParts, IsAgenda}
 
 -- plan, rows, words before and after each ended run, how many bodies each reaction has left, greatest number of runs, why it stopped

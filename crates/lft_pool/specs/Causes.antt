@@ -7,7 +7,7 @@ use Rattle.lft_model.specs.Presence.{Inputs}
 use Rattle.lft_model.specs.Runs.{by_ends}
 use Rattle.lft_model.specs.OneWorker.{rows as rows_of_runs}
 use Rattle.lft_model.specs.Recorded.{begun_rows}
-use Rattle.lft_recording.specs.Starts.{IsBusy, MayStartFirst, started_count}
+use Rattle.lft_agenda.specs.Starts.{IsBusy, MayStartFirst, started_count}
 use Rattle.lft_pool.specs.declared.stop.Stop.{Stop}
 use Rattle.lft_pool.specs.declared.stop.Stop.TheVariants.{NoBody, Collision, UndeclaredEffect, TooManyRuns, Stranger, BodyNoMemory, NoMemory, NoWorker, PlanChanged, BadWorkers, TooManyRows, LimitTag}
 use Rattle.lft_pool.specs.Books.{BookParts}

@@ -2,7 +2,7 @@
 
 ghost use Rattle.std.specs.Prelude.{◌≡◌, ◌≢◌, ◌↔◌, ◌⊎◌, ◌≤◌, [], length, IfOk, IfErr, IfNone, IfSome, true, false, Some, None, is_ok};
 ghost use Rattle.lft_model.specs.Breaches.{Legal};
-ghost use Rattle.lft_recording.specs.Starts.{SomethingLeft, started_count};
+ghost use Rattle.lft_agenda.specs.Starts.{SomethingLeft, started_count};
 ghost use Rattle.lft_pool.specs.Books.{IsRecording, LacksBody};
 ghost use Rattle.lft_pool.specs.Begun.{MatchBegin};
 ghost use Rattle.lft_model.specs.Workers.{IsWorkers};

@@ -12,7 +12,7 @@ use Rattle.lft_model.specs.Breaches.{Legal}
 use Rattle.lft_model.specs.Plans.{PlanParts}
 use Rattle.lft_model.specs.Workers.{IsWorkers}
 use Rattle.lft_pool.specs.declared.bodies.done.Done.{Done}
-use Rattle.lft_recording.specs.Starts.{SomethingLeft, started_count}
+use Rattle.lft_agenda.specs.Starts.{SomethingLeft, started_count}
 use Rattle.lft_pool.specs.Books.{IsRecording, LacksBody}
 use Rattle.lft_pool.specs.Endings.{WhyStopped}
 use Rattle.lft_pool.specs.declared.stop.Stop.{Stop}

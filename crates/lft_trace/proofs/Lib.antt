@@ -16,3 +16,9 @@ pub mod TableFacts
 pub mod TraceFacts
 mod WrittenSamples
 pub mod Telling
+pub mod Joining
+pub mod Cutting
+pub mod Together
+pub mod Behind
+pub mod FirstTold
+pub mod Beginning

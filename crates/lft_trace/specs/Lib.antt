@@ -10,3 +10,4 @@ pub mod Keys
 pub mod Written
 pub mod SeenWriting
 pub mod Telling
+pub mod Parts

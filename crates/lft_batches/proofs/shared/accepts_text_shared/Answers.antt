@@ -2,8 +2,8 @@ use Rattle.std.proofs.Common.{◌∙◌, ◌++◌, List, ap, length, refl, rules
 use Rattle.std.proofs.lemmas.Bool.{eqb-true}
 use Rattle.std.proofs.lemmas.Option.{IfSome_then}
 use Rattle.lft_steps.specs.declared.row.Row.{Row}
-use Rattle.lft_reading.specs.Parts.{BeginsWith, rows_of}
-use Rattle.lft_reading.proofs.Beginning.{begins_lines}
+use Rattle.lft_trace.specs.Parts.{BeginsWith, rows_of}
+use Rattle.lft_trace.proofs.Beginning.{begins_lines}
 use Rattle.lft_batches.specs.Fronts.{judged_rows}
 use Rattle.lft_batches.proofs.Reading.{gone_on, nothing_read, read_all}
 use Rattle.lft_batches.proofs.Sharing.{rows_behind}

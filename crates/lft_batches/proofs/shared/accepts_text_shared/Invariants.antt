@@ -1,6 +1,6 @@
 use Rattle.std.proofs.Common.{◌++◌, length}
 use Rattle.lft_steps.specs.Fits.{RowsFit}
-use Rattle.lft_reading.specs.Parts.{BeginsWith, rows_of}
+use Rattle.lft_trace.specs.Parts.{BeginsWith, rows_of}
 use Rattle.lft_batches.specs.Fronts.{IsFront, IsNextBehind, judged_rows}
 use Rattle.lft_batches.proofs.shared.accepts_text_shared.Given as goal
 

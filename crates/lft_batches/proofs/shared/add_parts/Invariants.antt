@@ -1,6 +1,6 @@
 use Rattle.std.proofs.Common.{◌≡◌, ◌++◌, take}
 use Rattle.lft_steps.specs.Fits.{RowsFit}
-use Rattle.lft_reading.specs.Parts.{rows_of}
+use Rattle.lft_trace.specs.Parts.{rows_of}
 use Rattle.lft_batches.specs.Fronts.{IsFront, judged_rows}
 use Rattle.lft_batches.proofs.shared.add_parts.Given as goal
 

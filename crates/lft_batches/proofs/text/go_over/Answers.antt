@@ -2,7 +2,7 @@ use Rattle.std.proofs.Common.{◌++◌, ◌∙◌, List, length, ap, refl, rules
 use Rattle.std.proofs.lemmas.Bool.{eqb-true}
 use Rattle.lft_flat.specs.Parts.{Parts}
 use Rattle.lft_steps.specs.declared.row.Row.{Row}
-use Rattle.lft_reading.specs.Parts.{BeginsWith}
+use Rattle.lft_trace.specs.Parts.{BeginsWith}
 use Rattle.lft_batches.specs.Fronts.{IsNextBehind, judged_rows}
 use Rattle.lft_batches.proofs.Reading.{batch_next, gone_on, nothing_read, read_all}
 use Rattle.lft_batches.proofs.text.go_over.Goals as goal

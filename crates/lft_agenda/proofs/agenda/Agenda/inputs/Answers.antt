@@ -11,7 +11,7 @@ use Rattle.lft_model.specs.Presence.{Inputs}
 use Rattle.lft_model.specs.Runs.{inputs_of}
 use Rattle.lft_model.proofs.Quiet.{pending_time}
 use Rattle.lft_agenda.proofs.Given.{inputs_read}
-use Rattle.lft_recording.specs.Starts.{SomethingLeft}
+use Rattle.lft_agenda.specs.Starts.{SomethingLeft}
 use Rattle.lft_agenda.specs.Agendas.{AgendaParts, IsAgenda}
 use Rattle.lft_agenda.proofs.agenda.Agenda.inputs.Goals as goal
 use Rattle.std.proofs.lemmas.Result.{IfOk-weaker}

@@ -5,7 +5,7 @@ use Rattle.lft_agenda.specs.Agendas.{IsAgenda, MayFind, Finds}
 use Rattle.lft_agenda.proofs.Awaiting.{busy_left}
 use Rattle.lft_pool.specs.declared.stop.Stop.{Stop}
 use Rattle.lft_pool.specs.Books.{BookParts, AgendaHolds}
-use Rattle.lft_recording.specs.Starts.{MayStartFirst, NoneMayStart, NothingLeft, SomethingLeft, IsBusy, IsAnyOpen}
+use Rattle.lft_agenda.specs.Starts.{MayStartFirst, NoneMayStart, NothingLeft, SomethingLeft, IsBusy, IsAnyOpen}
 use Rattle.lft_pool.specs.Causes.{BeginCause, StartCause}
 use Rattle.lft_pool.proofs.Known.{nothing_left_legal}
 use Rattle.lft_pool.proofs.Refusals.{if_err}

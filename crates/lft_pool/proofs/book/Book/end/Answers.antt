@@ -13,8 +13,8 @@ use Rattle.lft_pool.specs.declared.stop.Stop.{Stop}
 use Rattle.lft_pool.specs.declared.stop.Stop.TheVariants.{NoMemory, UndeclaredEffect, LimitTag}
 use Rattle.lft_pool.specs.Books.{BookParts, IsRecording, IsKept, AgendaHolds}
 use Rattle.lft_pool.specs.Reasons.{StopHolds, ReasonHolds}
-use Rattle.lft_recording.specs.Answering.{MayAll, HasLongDelay}
-use Rattle.lft_recording.specs.Collisions.{IsClean}
+use Rattle.lft_agenda.specs.Answering.{MayAll, HasLongDelay}
+use Rattle.lft_agenda.specs.Collisions.{IsClean}
 use Rattle.lft_pool.specs.Answers.{HasTicket, HasClash, KeepsOpenRuns, RefusalCause, EndCause, Committed, with_answer}
 use Rattle.lft_pool.proofs.Refusals.{memory_holds, before_it, holds_by_end, end_cause, may_mem, short_mem, answer_fits, set_words, ends_clash, ends_clean}
 use Rattle.lft_pool.proofs.Finishing.{if_some}

@@ -10,7 +10,7 @@ use Rattle.lft_model.specs.OneWorker.{IsPending, rows}
 use Rattle.lft_model.specs.Recorded.{begun_rows, word_after}
 use Rattle.lft_model.proofs.Places.{slice_get_within}
 use Rattle.lft_model.proofs.Quiet.{inputs_to_ended}
-use Rattle.lft_recording.specs.Starts.{MayStartFirst, IsBusy}
+use Rattle.lft_agenda.specs.Starts.{MayStartFirst, IsBusy}
 use Rattle.lft_pool.specs.declared.bodies.ticket.Ticket.{Ticket}
 use Rattle.lft_pool.specs.declared.stop.Stop.{Stop}
 use Rattle.lft_pool.specs.Begun.{Started}

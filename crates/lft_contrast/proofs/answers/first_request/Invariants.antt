@@ -1,6 +1,0 @@
-use Rattle.std.proofs.Common.{◌≡◌, [], take, filter_map}
-use Rattle.lft_contrast.specs.Runs.{request_of}
-use Rattle.lft_contrast.proofs.answers.first_request.Given as goal
-
-abbrev pub invariant-loop-place : goal.invariant-loop-place
-invariant-loop-place l = filter_map request_of (take l.place l.steps) ≡ []

@@ -1,6 +1,0 @@
-use Rattle.lft_contrast.specs.Counts.{StartsBefore}
-use Rattle.lft_contrast.proofs.Counting.{CountTo}
-use Rattle.lft_contrast.proofs.counts.count_before.Given as goal
-
-abbrev pub invariant-loop-place : goal.invariant-loop-place
-invariant-loop-place l = CountTo (StartsBefore l.tag) l.rows l.place l.count

@@ -1,6 +1,0 @@
-use Rattle.lft_contrast.specs.Counts.{StartsEarlier}
-use Rattle.lft_contrast.proofs.Counting.{CountTo}
-use Rattle.lft_contrast.proofs.counts.count_earlier.Given as goal
-
-abbrev pub invariant-loop-place : goal.invariant-loop-place
-invariant-loop-place l = CountTo (StartsEarlier l.program l.tag l.reaction) l.rows l.place l.count

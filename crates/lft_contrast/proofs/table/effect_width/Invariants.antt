@@ -1,7 +1,0 @@
-use Rattle.std.proofs.Common.{◌≡◌, take}
-use Rattle.lft_contrast.specs.Words.{effect_words}
-use Rattle.lft_contrast.specs.Told.{widest}
-use Rattle.lft_contrast.proofs.table.effect_width.Given as goal
-
-abbrev pub invariant-loop-place : goal.invariant-loop-place
-invariant-loop-place l = l.width ≡ widest (effect_words l.program) 6 (take l.place l.contrasts)

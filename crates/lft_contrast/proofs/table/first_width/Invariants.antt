@@ -1,7 +1,0 @@
-use Rattle.std.proofs.Common.{◌≡◌, take}
-use Rattle.lft_contrast.specs.Words.{first_words}
-use Rattle.lft_contrast.specs.Told.{widest}
-use Rattle.lft_contrast.proofs.table.first_width.Given as goal
-
-abbrev pub invariant-loop-place : goal.invariant-loop-place
-invariant-loop-place l = l.width ≡ widest (first_words) 5 (take l.place l.contrasts)

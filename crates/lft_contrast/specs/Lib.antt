@@ -1,8 +1,0 @@
-pub mod Runs
-pub mod Answered
-pub mod Counts
-pub mod Contrasts
-pub mod Enough
-pub mod Words
-pub mod Told
-pub mod Shown

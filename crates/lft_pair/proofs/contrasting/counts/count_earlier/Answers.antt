@@ -1,0 +1,22 @@
+use Rattle.std.proofs.Common.{◌≡◌, ℕ, ◌+◌, Bool, false, true, sym, refl, subst, arith}
+use Rattle.lft_pair.specs.Counts.{StartsEarlier}
+use Rattle.lft_pair.proofs.Counting.{CountTo, count_none, count_one, count_other, count_end}
+use Rattle.lft_pair.proofs.contrasting.counts.count_earlier.Goals as goal
+use Rattle.lft_pair.proofs.contrasting.counts.count_earlier.Goals.{then-starts_earlier, else-starts_earlier}
+
+pub loop-place-init : goal.loop-place-init
+loop-place-init c = count_none (StartsEarlier c.args.program.now c.args.tag c.args.reaction) c.args.rows.now
+
+pub loop-place-preserved : goal.loop-place-preserved
+loop-place-preserved c =
+    let P = StartsEarlier c.args.program.now c.args.tag c.args.reaction in
+    let t = c.args.rows.now in
+    let i = c.loop-place.place in
+    let n = c.loop-place.count in
+    elim c.if-starts_earlier.branch [
+      | then-starts_earlier w ↦ subst (λ (k : ℕ). CountTo P t (i + 1) k) (sym w.count-is) (count_one P t i c.row_at.result c.row_at.ensures n c.loop-place.invariant (w.if-starts_earlier.ensures.0 refl))
+      | else-starts_earlier w ↦ subst (λ (k : ℕ). CountTo P t (i + 1) k) (sym w.count-is) (count_other P t i c.row_at.result c.row_at.ensures n c.loop-place.invariant (λ p. let z : ◌≡◌ {A = Bool} false true = w.if-starts_earlier.ensures.1 p in absurd (cc)))
+    ]
+
+pub returns : goal.returns
+returns c = count_end (StartsEarlier c.args.program.now c.args.tag c.args.reaction) c.args.rows.now c.loop-place.place c.loop-place.count (omega arith) c.loop-place.invariant

@@ -1,6 +1,0 @@
-pub mod Joining
-pub mod Cutting
-pub mod Together
-pub mod Behind
-pub mod Telling
-pub mod Beginning

@@ -1,6 +1,0 @@
-use Rattle.std.proofs.Common.{◌≡◌, ◌+◌, length, take}
-use Rattle.lft_reading.specs.Parts.{rows_of}
-use Rattle.lft_reading.proofs.batch.are_few.Given as goal
-
-abbrev pub invariant-loop-place : goal.invariant-loop-place
-invariant-loop-place l = l.left + length (rows_of (take l.place l.parts)) ≡ 4000000

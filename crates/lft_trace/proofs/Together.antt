@@ -1,0 +1,75 @@
+-- The rows of a text are those of its parts, one part after another.
+use Rattle.std.proofs.Common.{◌≡◌, ◌∙◌, ◌++◌, ◌∷◌, ℕ, zero, suc, List, [], Option, Some, IfSome, Bool, true, false, refl, sym, ap, subst, codes}
+use Rattle.std.specs.Prelude.{◌==◌, ◌&&◌, not}
+use Rattle.std.specs.List.{AllZip, list_all}
+use Rattle.std.proofs.lemmas.Bool.{false≢true}
+use Rattle.csv.specs.Machine.{next_record}
+use Rattle.csv.specs.Reading.{records_from, strip_bom}
+use Rattle.lft_flat.specs.Parts.{Parts}
+use Rattle.lft_trace.specs.Records.{records_of}
+use Rattle.lft_trace.specs.Traces.{IsRow, header}
+use Rattle.lft_steps.specs.declared.row.Row.{Row}
+use Rattle.lft_trace.specs.Parts.{HasNoQuote, EndsLine, BeginsPlain, HoldsRows}
+use Rattle.lft_trace.proofs.Cutting.{records_cut}
+
+no_quote_in_both : (a b : List ℕ) → HasNoQuote a → HasNoQuote b → HasNoQuote (a ++ b)
+no_quote_in_both [] b x y i = y i
+no_quote_in_both (c ∷ a) b x y zero = x zero
+no_quote_in_both (c ∷ a) b x y (suc i) = no_quote_in_both a b (λ j. x (suc j)) y i
+
+-- lists that go together one by one, put behind lists that do
+pub zipped : {A B : Type 0} (R : A → B → Type 0) (xs more : List A) (ys others : List B) → AllZip R xs ys → AllZip R more others → AllZip R (xs ++ more) (ys ++ others)
+zipped R [] more [] others h k = k
+zipped R [] more (y ∷ ys) others h k = absurd h
+zipped R (x ∷ xs) more [] others h k = absurd h
+zipped R (x ∷ xs) more (y ∷ ys) others h k = (h.0, zipped R xs more ys others h.1 k)
+
+-- the rows of two parts, one after the other, are those of the whole
+pub holds_both : (program : Parts) (text a b : List ℕ) (rows more : List Row) → text ≡ a ++ b → EndsLine a → BeginsPlain b → HoldsRows program a rows → HoldsRows program b more → HoldsRows program text (rows ++ more)
+holds_both program text a b rows more is ends plain x y =
+    let cut : records_of text ≡ records_of a ++ records_of b = ap records_of is ∙ records_cut a b x.0 ends plain in (
+      subst HasNoQuote (sym is) (no_quote_in_both a b x.0 y.0),
+      subst (λ (t : List (List (List ℕ))). AllZip (IsRow program) t (rows ++ more)) (sym cut) (zipped (IsRow program) (records_of a) (records_of b) rows more x.1 y.1),
+    )
+
+-- what a clause says of what is there
+pub at_some : {X : Type 0} (P : X → Type 0) (r : Option X) (x : X) → r ≡ Some x → IfSome r P → P x
+at_some {X} P r x e h = subst (λ (o : Option X). IfSome o P) e h
+
+second : (a b : Bool) → (a && b) ≡ true → b ≡ true
+second true b h = h
+second false b h = absurd (false≢true h)
+
+-- a text of which each byte was looked at
+quiet : (text : List ℕ) → list_all (λ (c : ℕ). not (c == 34)) text ≡ true → HasNoQuote text
+quiet [] h i e = absurd (cc e)
+quiet (c ∷ text) h zero e = let s : c ≡ 34 = cc e in absurd (false≢true (rw s at h))
+quiet (c ∷ text) h (suc i) e = quiet text (second (not (c == 34)) (list_all (λ (c : ℕ). not (c == 34)) text) h) i e
+
+abbrev pub line : List ℕ
+line = codes "event,worker,time,microstep,reaction,name,value,delay"
+
+-- the header's line with a carriage return before its end
+abbrev pub csv_line : List ℕ
+csv_line = line ++ 13 ∷ []
+
+one_record : records_of (line ++ 10 ∷ []) ≡ header ∷ []
+unfolding records_from next_record strip_bom
+one_record = refl
+
+one_csv_record : records_of (csv_line ++ 10 ∷ []) ≡ header ∷ []
+unfolding records_from next_record strip_bom
+one_csv_record = refl
+
+-- the records of a text that begins with a line that is the header
+under_line : (first text rest : List ℕ) → list_all (λ (c : ℕ). not (c == 34)) (first ++ 10 ∷ []) ≡ true → records_of (first ++ 10 ∷ []) ≡ header ∷ [] → text ≡ (first ++ 10 ∷ []) ++ rest → BeginsPlain rest → records_of text ≡ header ∷ records_of rest
+under_line first text rest none one is plain =
+    ap records_of is ∙ records_cut (first ++ 10 ∷ []) rest (quiet (first ++ 10 ∷ []) none) (first, refl) plain ∙ ap (λ (t : List (List (List ℕ))). t ++ records_of rest) one
+
+-- the records of a text that begins with the header
+pub under_header : (text rest : List ℕ) → text ≡ (line ++ 10 ∷ []) ++ rest → BeginsPlain rest → records_of text ≡ header ∷ records_of rest
+under_header text rest is plain = under_line line text rest refl one_record is plain
+
+-- the same where a carriage return stands before the end of the header's line
+pub under_csv_header : (text rest : List ℕ) → text ≡ (csv_line ++ 10 ∷ []) ++ rest → BeginsPlain rest → records_of text ≡ header ∷ records_of rest
+under_csv_header text rest is plain = under_line csv_line text rest refl one_csv_record is plain

@@ -1,0 +1,11 @@
+//! Trace tables read in batches, and in parts by several workers.
+
+mod batch;
+mod batches;
+mod lines;
+mod shared;
+mod workers;
+
+pub use batch::{first_lines, read_batch, read_lines};
+pub use lines::below_header;
+pub use shared::read_trace_shared;

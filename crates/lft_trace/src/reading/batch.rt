@@ -1,0 +1,85 @@
+//! The rows of a text without a header, read a batch at a time.
+
+ghost use Rattle.std.specs.Prelude.{◌<◌, ◌≤◌, length, IfSome, IsTrue};
+ghost use Rattle.lft_steps.specs.Fits.{RowsFit};
+ghost use Rattle.lft_trace.specs.Parts.{BeginsWith, HoldsRows, IsCut, rows_of};
+
+use crate::reading::lines::cut_behind;
+use crate::reading::workers::{read_parts, read_plain};
+use lft_flat::Program;
+use lft_steps::Row;
+use lft_tag::MAX_ROWS;
+use std::alloc::Global;
+use std::thread::Threads;
+
+/// The first lines of a text, of so many bytes or a few more, and what comes behind them.
+pub fn first_lines(text: &[u8], bytes: usize) -> (&[u8], &[u8])
+    ensures cut { IsCut text.now result.0.now result.1.now }
+    ensures shorter { 0 < length text.now → length result.1.now < length text.now }
+{
+    match cut_behind(text, bytes) {
+        Some(parts) => parts,
+        None => text.split_at(text.len()),
+    }
+}
+
+/// The rows of the first lines of a text without a header, and the text behind these lines. The lines
+/// have so many bytes or a few more, or all of the text.
+///
+/// None where something about them is odd: a quotation mark, a record that is no row, too many rows,
+/// want of memory. Which fault the table has is for `read_trace` of `lft_trace` to say.
+pub fn read_batch<'a>(
+    alloc: Global,
+    program: &Program,
+    text: &'a [u8],
+    bytes: usize,
+) -> Option<(Vec<Row>, &'a [u8])>
+    ensures rows { IfSome result (λ p. BeginsWith program.now text.now p.0.items p.1.now) }
+    ensures fit { IfSome result (λ p. RowsFit program.now p.0.items) }
+    ensures shorter { IfSome result (λ p. 0 < length text.now → length p.1.now < length text.now) }
+{
+    // Asked for what every program keeps: no two of its things have one name.
+    program.keeps();
+    let (lines, behind) = first_lines(text, bytes);
+    let rows = read_plain(alloc, program, lines)?;
+    if rows.len() > MAX_ROWS {
+        return None;
+    }
+    Some((rows, behind))
+}
+
+/// Whether a table may have as many rows as the parts together.
+fn are_few(parts: &[Vec<Row>]) -> bool
+    ensures { IsTrue result → length (rows_of parts.now) ≤ 4000000 }
+{
+    let mut left = MAX_ROWS;
+    for place in 0..parts.len() {
+        let rows = parts[place].len();
+        if left < rows {
+            return false;
+        }
+        left -= rows;
+    }
+    true
+}
+
+/// The rows of lines, read in parts by so many workers: those of each part are in a list of their own.
+/// None as for `read_batch`.
+pub fn read_lines<R: Threads + Sync>(
+    rt: &R,
+    alloc: Global,
+    program: &Program,
+    lines: &[u8],
+    workers: u32,
+) -> Option<Vec<Vec<Row>>>
+    ensures rows { IfSome result (λ parts. HoldsRows program.now lines.now (rows_of parts.items)) }
+    ensures fit { IfSome result (λ parts. RowsFit program.now (rows_of parts.items)) }
+{
+    // Asked for what every program keeps: no two of its things have one name.
+    program.keeps();
+    let parts = read_parts(rt, alloc, program, lines, workers)?;
+    if !are_few(parts.as_slice()) {
+        return None;
+    }
+    Some(parts)
+}
