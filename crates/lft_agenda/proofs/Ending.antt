@@ -34,8 +34,8 @@ use Rattle.lft_agenda.specs.Telling.{IsTold, TriggeredByWrites}
 use Rattle.lft_agenda.specs.Agendas.{AgendaParts, IsOf, IsAgenda, IsCurrent, IsReached, MayAdvance, MayBegin, MayEnd, EndsWith}
 use Rattle.lft_agenda.proofs.Awaiting.{open_pending}
 use Rattle.lft_agenda.proofs.Told.{waits_to, opens_to, at_least, some_run, no_run}
-use Rattle.lft_agenda.proofs.Opening.{opened_at, begun_open, committed_open}
-use Rattle.lft_agenda.proofs.Committed.{its_row, quiet_more}
+use Rattle.lft_agenda.proofs.RunsOpen.{opened_at, begun_open, committed_open}
+use Rattle.lft_agenda.proofs.RunEnded.{its_row, quiet_more}
 use Rattle.lft_agenda.proofs.Turned.{begun_turn, ended_turn}
 
 module _ (plan : PlanParts) (good : IsSoundPlan plan) (t : List Row) (w : ℕ) (g : Tag) (r : ℕ) (shown : List (Option Value)) (b : MayBegin plan t w g r shown) (a : AgendaParts) (is : IsAgenda plan t a) where

@@ -20,7 +20,7 @@ pub mod Mirroring
 pub mod Spreading
 pub mod Changing
 pub mod Starting
-pub mod Opening
+pub mod RunsOpen
 pub mod Stops
 pub mod LedFirings
 pub mod NextFiring
@@ -31,7 +31,7 @@ pub mod NextTags
 pub mod FirstFirings
 pub mod Taking
 pub mod Beginning
-pub mod Committed
+pub mod RunEnded
 pub mod Turned
 pub mod Ending
 pub mod BegunRows

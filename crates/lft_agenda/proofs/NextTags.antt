@@ -35,7 +35,7 @@ use Rattle.lft_agenda.specs.Starts.{SomethingLeft}
 use Rattle.lft_agenda.specs.Waits.{IsBetween, IsCovered, PhaseIs, IsTurnOf}
 use Rattle.lft_agenda.specs.Telling.{IsTold, OccursBy, TriggeredByQueue}
 use Rattle.lft_agenda.specs.Agendas.{MayAdvance, IsReached, IsCurrent}
-use Rattle.lft_agenda.proofs.Opening.{filter_mem}
+use Rattle.lft_agenda.proofs.RunsOpen.{filter_mem}
 use Rattle.lft_agenda.proofs.Told.{pending_back, none_waits, all_idle}
 
 -- no tag is before (0, 0)

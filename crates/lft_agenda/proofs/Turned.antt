@@ -19,7 +19,7 @@ use Rattle.lft_model.proofs.Added.{added_row}
 use Rattle.lft_agenda.specs.Waits.{PhaseIs, IsTurnOf}
 use Rattle.lft_agenda.specs.Telling.{IsTold, TriggeredByWrites}
 use Rattle.lft_agenda.specs.Agendas.{MayEnd}
-use Rattle.lft_agenda.proofs.Committed.{ran_before, ran_on, no_more, called_waits, pending_on, pending_cases}
+use Rattle.lft_agenda.proofs.RunEnded.{ran_before, ran_on, no_more, called_waits, pending_on, pending_cases}
 
 -- a run of r at g has been begun, and the ended runs are as they were
 module _ (plan : PlanParts) (t : List Row) (w : ℕ) (g : Tag) (r : ℕ) (shown : List (Option Value)) (same : by_ends plan (t ++ begun_rows plan w g r shown) ≡ by_ends plan t) (pending : IsPending plan (by_ends plan t) g r) (old new : TurnParts) (is : IsTurnOf plan t g old) where

@@ -2,7 +2,7 @@
 
 ghost use Rattle.std.specs.Prelude.{◌≡◌, ◌↔◌, ◌<◌, length, Contains, IsTrue, IfOk};
 ghost use Rattle.lft_model.specs.Recorded.{MayAnswer, committed_rows};
-ghost use Rattle.lft_agenda.specs.Answering.{MayAll, HasLongDelay, IsLong};
+ghost use Rattle.lft_agenda.specs.Answering.{MayAll, HasLongDelay};
 
 use lft_flat::Name;
 use lft_model::Plan;
@@ -52,23 +52,14 @@ pub fn may_make_all(plan: &Plan, reaction: u32, steps: &[Step]) -> bool
     true
 }
 
-// Whether the step schedules with an extra delay past 10^18.
-fn is_long(step: Step) -> bool
-    ensures { IsTrue result ↔ IsLong step }
-{
-    match step {
-        Step::Schedule(_, _, delay) => return delay > MAX_TIME,
-        _ => return false,
-    }
-}
-
 /// Whether a step schedules with an extra delay past 10^18.
 pub fn has_long_delay(steps: &[Step]) -> bool
     ensures { IsTrue result ↔ HasLongDelay steps.now }
 {
     for at in 0..steps.len() {
-        if is_long(steps[at]) {
-            return true;
+        match steps[at] {
+            Step::Schedule(_, _, delay) if delay > MAX_TIME => return true,
+            _ => (),
         }
     }
     false

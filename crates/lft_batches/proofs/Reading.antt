@@ -9,7 +9,7 @@ use Rattle.lft_steps.specs.declared.row.Row.{Row}
 use Rattle.lft_model.specs.Plans.{PlanParts}
 use Rattle.lft_trace.specs.Parts.{BeginsWith}
 use Rattle.lft_trace.proofs.Beginning.{begins_all, begins_more, begins_none}
-use Rattle.lft_trace.proofs.Telling.{tells}
+use Rattle.lft_trace.proofs.FirstTold.{tells}
 use Rattle.lft_batches.specs.Fronts.{IsFront, IsNextBehind, judged_rows}
 use Rattle.lft_batches.specs.declared.text.Front.{Front}
 

@@ -3,7 +3,7 @@ use Rattle.std.proofs.Common.{◌≡◌, ℕ, ◌+◌, ◌<◌, ◌⊎◌, inl, 
 use native.Mathlib.Decide.{ℕ_discrete}
 use Rattle.lft_tag.specs.declared.Tag.{Tag}
 use Rattle.lft_tag.specs.Tags.{Before, UpTo}
-use Rattle.lft_tag.proofs.Order.{order_cases, UpTo_antisym}
+use Rattle.lft_tag.proofs.Order.{order_cases, UpTo_antisym, UpTo-not, from_first}
 use Rattle.lft_steps.specs.declared.row.Row.{Row}
 use Rattle.lft_steps.specs.declared.row.Step.TheVariants.{Start}
 use Rattle.lft_lists.proofs.Places.{get_there, same_at, get_write_cases, get_written, get_unwritten, get_push, get_last, get_push_cases, length_written, get_same, get_append_cases}
@@ -19,7 +19,7 @@ use Rattle.lft_presence.proofs.Leasts.{least_as}
 use Rattle.lft_by_tag.specs.declared.started.Started.{Started}
 use Rattle.lft_rows.specs.Slices.{AreTags}
 use Rattle.lft_by_tag.specs.Slices.{IsCuttable, IsMissing, IsVacant}
-use Rattle.lft_by_tag.specs.Least.{HasTag, AreTriggered, Lacks}
+use Rattle.lft_by_tag.specs.Least.{HasTag, IsPassed, AreTriggered, Lacks}
 use Rattle.lft_by_tag.specs.Indexes.{AreStartsOf, HasRunsTo, HasRuns, AreDue, AreMarkedTo}
 
 pub starts_begin : (t : List Row) (n : ℕ) (tags : List (List Tag)) (places : List (List ℕ)) → length tags ≡ n → length places ≡ n → ((r : ℕ) (gs : List Tag) → slice_get tags r ≡ Some gs → gs ≡ []) → ((r : ℕ) (ps : List ℕ) → slice_get places r ≡ Some ps → ps ≡ []) → HasRunsTo t 0 n tags places
@@ -177,13 +177,28 @@ starts_of t n started h r gs e =
     let p : (ps : List ℕ) × (slice_get started.places r ≡ Some ps) = get_there started.places r (omega arith) in
     (p.0, p.1, h.lists.starts r gs p.0 e p.1)
 
--- what is lacked of the tags of its runs is missing
-pub missing_of : (cut : TraceParts) (r : ℕ) (gs : List Tag) (ps : List ℕ) (o : Option Tag) → AreStartsOf cut.rows (length cut.rows) r gs ps → LeastTag (Lacks cut gs r) o → LeastTag (IsMissing cut r) o
-missing_of cut r gs ps o starts h = least_as (Lacks cut gs r) (IsMissing cut r) o h (λ g m. record { triggered = m.triggered; in_time = m.in_time; no_run = λ ran. m.not_there (ran_tag cut.rows r gs ps starts g ran) }) (λ g m. record { triggered = m.triggered; in_time = m.in_time; not_there = λ there. m.no_run (tag_ran cut.rows r gs ps starts g there) })
+from_low : (low : Tag) (gs : List Tag) (g : Tag) → ¬ IsPassed low gs g → UpTo low g
+from_low low gs g n = go (order_cases g low)
+  where
+    go : Before g low ⊎ UpTo low g → UpTo low g
+    go (inl b) = absurd (n (inl b))
+    go (inr u) = u
+
+-- what is lacked of the tags of its runs is missing, from the low tag on
+pub missing_of : (cut : TraceParts) (r : ℕ) (low : Tag) (gs : List Tag) (ps : List ℕ) (o : Option Tag) → AreStartsOf cut.rows (length cut.rows) r gs ps → LeastTag (Lacks cut low gs r) o → LeastTag (λ g. IsMissing cut r g × UpTo low g) o
+missing_of cut r low gs ps o starts h = least_as (Lacks cut low gs r) (λ g. IsMissing cut r g × UpTo low g) o h (λ g m. (record { triggered = m.triggered; in_time = m.in_time; no_run = λ ran. m.not_there (inr (ran_tag cut.rows r gs ps starts g ran)) }, from_low low gs g m.not_there)) (λ g m. record { triggered = m.0.triggered; in_time = m.0.in_time; not_there = not_there g m })
+  where
+    not_there : (g : Tag) → IsMissing cut r g × UpTo low g → ¬ IsPassed low gs g
+    not_there g m (inl b) = UpTo-not low g m.1 b
+    not_there g m (inr there) = m.0.no_run (tag_ran cut.rows r gs ps starts g there)
 
 -- what is lacked of the tags with a run is vacant
-pub vacant_of : (cut : TraceParts) (r : ℕ) (gs : List Tag) (o : Option Tag) → AreTags cut.rows gs → LeastTag (Lacks cut gs r) o → LeastTag (IsVacant cut r) o
-vacant_of cut r gs o are h = least_as (Lacks cut gs r) (IsVacant cut r) o h (λ g m. record { triggered = m.triggered; in_time = m.in_time; no_run = λ a ran. m.not_there (are.each g a ran) }) (λ g m. record { triggered = m.triggered; in_time = m.in_time; not_there = λ there. let x = are.ran there.0 g there.1 in m.no_run x.0 x.1 })
+pub vacant_of : (cut : TraceParts) (r : ℕ) (gs : List Tag) (o : Option Tag) → AreTags cut.rows gs → LeastTag (Lacks cut (record { time = 0; micro = 0 }) gs r) o → LeastTag (IsVacant cut r) o
+vacant_of cut r gs o are h = least_as (Lacks cut (record { time = 0; micro = 0 }) gs r) (IsVacant cut r) o h (λ g m. record { triggered = m.triggered; in_time = m.in_time; no_run = λ a ran. m.not_there (inr (are.each g a ran)) }) (λ g m. record { triggered = m.triggered; in_time = m.in_time; not_there = not_there g m })
+  where
+    not_there : (g : Tag) → IsVacant cut r g → ¬ IsPassed (record { time = 0; micro = 0 }) gs g
+    not_there g m (inl b) = UpTo-not (record { time = 0; micro = 0 }) g (from_first g) b
+    not_there g m (inr there) = let x = are.ran there.0 g there.1 in m.no_run x.0 x.1
 
 -- where the front of a list is written over, an item is one of those or an old one
 written_over : (new old : List Bool) (n i : ℕ) → slice_get (take n (new ++ drop (length new) old)) i ≡ Some true → (slice_get new i ≡ Some true) ⊎ (slice_get old i ≡ Some true)
@@ -206,6 +221,13 @@ marks_over cut r gs new old n none h k g p q = go (written_over new old n k p)
     go : (slice_get new k ≡ Some true) ⊎ (slice_get old k ≡ Some true) → Triggered cut.plan cut.rows g r
     go (inl e) = h k g e q
     go (inr e) = absurd (none k e)
+
+pub due_over : (cut : TraceParts) (new old : List Bool) (n : ℕ) → NoneMarked old → AreDue cut new → AreDue cut (take n (new ++ drop (length new) old))
+due_over cut new old n none due i row p q = go (written_over new old n i p)
+  where
+    go : (slice_get new i ≡ Some true) ⊎ (slice_get old i ≡ Some true) → Triggered cut.plan cut.rows row.tag row.reaction
+    go (inl e) = due i row e q
+    go (inr e) = absurd (none i e)
 
 pub none_in : (n : ℕ) (bs : List Bool) → bs ≡ replicate n false → NoneMarked bs
 none_in n bs e k p = let z : true ≡ false = get_same n k false true (ap (λ xs. slice_get xs k) (sym e) ∙ p) in absurd (cc)

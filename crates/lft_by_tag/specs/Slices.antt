@@ -51,6 +51,10 @@ pub record IsMissing (cut : TraceParts) (r : ℕ) (g : Tag) : Type 0 where
 abbrev pub IsFirstMissing : TraceParts → Option (Tag × ℕ) → Type 0
 IsFirstMissing cut o = LeastPair (IsMissing cut) o
 
+-- the same from the low tag on
+abbrev pub IsFirstMissingFrom : TraceParts → Tag → Option (Tag × ℕ) → Type 0
+IsFirstMissingFrom cut low o = LeastPair (λ r g. IsMissing cut r g × UpTo low g) o
+
 -- r is triggered at g, which is up to the stop, and no reaction has a run there
 pub record IsVacant (cut : TraceParts) (r : ℕ) (g : Tag) : Type 0 where
   pub triggered : Triggered cut.plan cut.rows g r

@@ -17,10 +17,11 @@ impl<'a> Sliced<'a> {
         // Asked for what sliced rows keep: their plan is sound, and they are of its program.
         self.keeps();
         let presence = self.presence();
+        let low = Tag { time: 0, micro: 0 };
         let mut first = None;
         for reaction in 0..presence.reactions() as u32 {
             let triggers = presence.program().reaction(reaction).triggers.as_slice();
-            let vacant = lacked(presence, reaction, triggers, tags, &mut []);
+            let vacant = lacked(presence, reaction, low, triggers, tags, &mut []);
             first = first_of(first, vacant, reaction);
         }
         first

@@ -2,6 +2,7 @@
 
 ghost use Rattle.std.specs.Prelude.{◌≡◌, ℕ, ◌<◌, ◌≤◌, length, true, Some, MatchOption, IfSome, IfOk, OnOk, slice_get, slice_set};
 ghost use Rattle.lft_tag.specs.declared.Tag.{Tag as TheTag};
+ghost use Rattle.lft_tag.specs.Tags.{Before};
 ghost use Rattle.lft_flat.specs.Sound.{IsNameOf, IsTriggerOf};
 ghost use Rattle.lft_flat.specs.declared.parts.Trigger.TheVariants.{On};
 ghost use Rattle.lft_model.specs.Presence.{Fires, IsPresent, Occurs, Triggered};
@@ -9,8 +10,8 @@ ghost use Rattle.lft_presence.specs.Causes.{IsCause, Leads};
 ghost use Rattle.lft_presence.specs.Traces.{LeastTag};
 ghost use Rattle.lft_by_tag.specs.Needed.{AreNeededOf};
 ghost use Rattle.lft_by_tag.specs.Indexes.{AreStartsOf, HasRuns, AreDue, AreMarkedTo};
-ghost use Rattle.lft_by_tag.specs.Slices.{IsCuttable, IsFirstMissing};
-ghost use Rattle.lft_by_tag.specs.Least.{AreUp, HasTag, AreTriggered, IsFirstOf, LacksAt, LacksFiring, LacksCause, LacksTrigger, Lacks};
+ghost use Rattle.lft_by_tag.specs.Slices.{IsCuttable, IsFirstMissingFrom};
+ghost use Rattle.lft_by_tag.specs.Least.{AreUp, HasTag, IsFirstFiring, IsFirstTime, AreTriggered, IsFirstOf, LacksAt, LacksFiring, LacksCause, LacksTrigger, Lacks};
 
 use crate::needed::needed_of;
 use crate::started::Started;
@@ -84,11 +85,13 @@ fn mark(known: &mut [bool], place: usize)
     }
 }
 
-/// The tag, where it is up to the stop and none of the tags. Else its place among them is marked.
+/// The tag, where it is up to the stop and not passed. Else its place among the tags, if it has one,
+/// is marked.
 fn lacked_at(
     presence: &Presence,
     tag: Tag,
     reaction: u32,
+    low: Tag,
     tags: &[Tag],
     known: &mut [bool],
 ) -> Option<Tag>
@@ -96,9 +99,9 @@ fn lacked_at(
     requires triggers { Triggered presence.now.plan presence.now.rows tag reaction }
     requires known { AreTriggered presence.now reaction tags.now known.old }
     ensures known { AreTriggered presence.now reaction tags.now known.new }
-    ensures least { LeastTag (LacksAt presence.now tags.now tag) result }
+    ensures least { LeastTag (LacksAt presence.now low tags.now tag) result }
 {
-    if presence.stop().is_before(tag) {
+    if tag.is_before(low) || presence.stop().is_before(tag) {
         return None;
     }
     match find_tag(tags, tag, 0) {
@@ -110,25 +113,56 @@ fn lacked_at(
     }
 }
 
-/// The first tag up to the stop at which the timer fires and which is none of the tags. Each firing
-/// that is looked at but the last one is one of them, and marked.
+/// The first time whose tag with microstep 0 isn't before the tag.
+fn first_time(low: Tag) -> u64
+    requires { low.time ≤ 1000000000000000000 }
+    ensures first { IsFirstTime low result }
+    ensures small { result ≤ 1000000000000000001 }
+{
+    if low.micro == 0 {
+        return low.time;
+    }
+    low.time + 1
+}
+
+/// The first time at which the timer fires at the tag or behind it, if there is one.
+fn first_firing(timer: &Timer, low: Tag) -> Option<u64>
+    requires period { timer.now.period ≤ 1000000000000000000 }
+    requires low { low.time ≤ 1000000000000000000 }
+    ensures { MatchOption result ((g : TheTag) → Fires timer.now g → Before g low) (IsFirstFiring timer.now low) }
+{
+    let due = first_time(low);
+    if timer.offset >= due {
+        return Some(timer.offset);
+    }
+    if timer.period == 0 {
+        return None;
+    }
+    let passed = (due - timer.offset - 1) / timer.period + 1;
+    Some(timer.offset + passed * timer.period)
+}
+
+/// The first tag up to the stop at which the timer fires and which isn't passed. Each firing from the
+/// low tag on that is looked at but the last one is one of the tags, and marked.
 fn lacked_firing(
     presence: &Presence,
     timer: &Timer,
     reaction: u32,
+    low: Tag,
     tags: &[Tag],
     known: &mut [bool],
 ) -> Option<Tag>
     requires period { timer.now.period ≤ 1000000000000000000 }
+    requires low { low.time ≤ 1000000000000000000 }
     requires up { AreUp tags.now }
     requires triggers { (g : TheTag) → Fires timer.now g → Triggered presence.now.plan presence.now.rows g reaction }
     requires known { AreTriggered presence.now reaction tags.now known.old }
     ensures known { AreTriggered presence.now reaction tags.now known.new }
-    ensures least { LeastTag (LacksFiring presence.now timer.now tags.now) result }
+    ensures least { LeastTag (LacksFiring presence.now timer.now low tags.now) result }
 {
     let last = presence.stop().time;
     let mut hint = 0;
-    let mut time = timer.offset;
+    let mut time = first_firing(timer, low)?;
     while time <= last {
         let tag = Tag { time, micro: 0 };
         match find_tag(tags, tag, hint) {
@@ -146,13 +180,14 @@ fn lacked_firing(
     None
 }
 
-/// The first tag up to the stop to which a cause of the name leads and which is none of the tags.
-/// Each tag that is looked at but the last one is one of them, and marked.
+/// The first tag up to the stop to which a cause of the name leads and which isn't passed. Each tag
+/// that is looked at but the last one is one of the tags, and marked.
 fn lacked_cause(
     presence: &Presence,
     name: u32,
     shift: Shift,
     reaction: u32,
+    low: Tag,
     tags: &[Tag],
     known: &mut [bool],
 ) -> Option<Tag>
@@ -160,12 +195,11 @@ fn lacked_cause(
     requires triggers { (g : TheTag) (c : _) → IsCause presence.now.plan presence.now.rows c → Leads name (shift.time, shift.steps) g c → Triggered presence.now.plan presence.now.rows g reaction }
     requires known { AreTriggered presence.now reaction tags.now known.old }
     ensures known { AreTriggered presence.now reaction tags.now known.new }
-    ensures least { LeastTag (LacksCause presence.now name (shift.time, shift.steps) tags.now) result }
+    ensures least { LeastTag (LacksCause presence.now name (shift.time, shift.steps) low tags.now) result }
 {
     let causes = presence.causes();
-    let first = Tag { time: 0, micro: 0 };
     let mut hint = 0;
-    let mut place = position(causes, name, Shift::none(), first, false);
+    let mut place = position(causes, name, shift, low, false);
     while place < causes.len() {
         let cause = item_at(causes, place);
         if cause.name != name {
@@ -187,12 +221,12 @@ fn lacked_cause(
     None
 }
 
-/// The first tag up to the stop at which the port or action is present and which is none of the
-/// tags.
+/// The first tag up to the stop at which the port or action is present and which isn't passed.
 fn lacked_name(
     presence: &Presence,
     name: Name,
     reaction: u32,
+    low: Tag,
     tags: &[Tag],
     known: &mut [bool],
 ) -> Option<Tag>
@@ -201,65 +235,77 @@ fn lacked_name(
     requires triggers { (g : TheTag) → IsPresent presence.now.plan presence.now.rows g name → Triggered presence.now.plan presence.now.rows g reaction }
     requires known { AreTriggered presence.now reaction tags.now known.old }
     ensures known { AreTriggered presence.now reaction tags.now known.new }
-    ensures least { LeastTag (LacksTrigger presence.now (On name) tags.now) result }
+    ensures least { LeastTag (LacksTrigger presence.now (On name) low tags.now) result }
 {
     let program = presence.program();
     match name {
         Name::Port(number) => {
             let port = program.port(number);
-            lacked_cause(presence, port.origin, port.shift, reaction, tags, known)
+            lacked_cause(
+                presence,
+                port.origin,
+                port.shift,
+                reaction,
+                low,
+                tags,
+                known,
+            )
         }
         Name::Action(number) => {
             let key = program.ports() as u32 + number;
-            lacked_cause(presence, key, Shift::none(), reaction, tags, known)
+            lacked_cause(presence, key, Shift::none(), reaction, low, tags, known)
         }
     }
 }
 
-/// The first tag up to the stop at which the trigger is present and which is none of the tags.
+/// The first tag up to the stop at which the trigger is present and which isn't passed.
 fn lacked_trigger(
     presence: &Presence,
     trigger: Trigger,
     reaction: u32,
+    low: Tag,
     tags: &[Tag],
     known: &mut [bool],
 ) -> Option<Tag>
     requires trigger { IsTriggerOf presence.now.plan.program trigger }
+    requires low { low.time ≤ 1000000000000000000 }
     requires up { AreUp tags.now }
     requires triggers { (g : TheTag) → Occurs presence.now.plan presence.now.rows g trigger → Triggered presence.now.plan presence.now.rows g reaction }
     requires known { AreTriggered presence.now reaction tags.now known.old }
     ensures known { AreTriggered presence.now reaction tags.now known.new }
-    ensures least { LeastTag (LacksTrigger presence.now trigger tags.now) result }
+    ensures least { LeastTag (LacksTrigger presence.now trigger low tags.now) result }
 {
     match trigger {
         Trigger::Startup => {
             let first = Tag { time: 0, micro: 0 };
-            lacked_at(presence, first, reaction, tags, known)
+            lacked_at(presence, first, reaction, low, tags, known)
         }
-        Trigger::Shutdown => lacked_at(presence, presence.stop(), reaction, tags, known),
+        Trigger::Shutdown => lacked_at(presence, presence.stop(), reaction, low, tags, known),
         Trigger::Timer(number) => {
             let timer = presence.program().timer(number);
-            lacked_firing(presence, timer, reaction, tags, known)
+            lacked_firing(presence, timer, reaction, low, tags, known)
         }
-        Trigger::On(name) => lacked_name(presence, name, reaction, tags, known),
+        Trigger::On(name) => lacked_name(presence, name, reaction, low, tags, known),
     }
 }
 
-/// The first tag up to the stop at which the reaction is triggered and which is none of the tags, by
-/// triggers that stand for all of the reaction. Marks are set at some of the tags at which it is
-/// triggered: at all, where none is answered.
+/// The first tag up to the stop at which the reaction is triggered and which isn't passed, by triggers
+/// that stand for all of the reaction. Marks are set at some of the tags at which it is triggered: at
+/// all from the low one on, where none is answered.
 pub(crate) fn lacked(
     presence: &Presence,
     reaction: u32,
+    low: Tag,
     triggers: &[Trigger],
     tags: &[Tag],
     known: &mut [bool],
 ) -> Option<Tag>
     requires triggers { AreNeededOf presence.now.plan.program reaction triggers.now }
+    requires low { low.time ≤ 1000000000000000000 }
     requires up { AreUp tags.now }
     requires known { AreTriggered presence.now reaction tags.now known.old }
     ensures known { AreTriggered presence.now reaction tags.now known.new }
-    ensures least { LeastTag (Lacks presence.now tags.now reaction) result }
+    ensures least { LeastTag (Lacks presence.now low tags.now reaction) result }
 {
     // Asked for what every presence keeps: its program is sound, so its triggers are.
     let _ = presence.program();
@@ -268,7 +314,7 @@ pub(crate) fn lacked(
         let trigger = item_at(triggers, place);
         least = sooner(
             least,
-            lacked_trigger(presence, trigger, reaction, tags, known),
+            lacked_trigger(presence, trigger, reaction, low, tags, known),
         );
     }
     least
@@ -307,9 +353,9 @@ fn keep_due(
     }
 }
 
-/// The least tag up to the stop at which a reaction is triggered and has no run, and the least such
-/// reaction. The start rows of runs that are found to be triggered are marked on the way: where
-/// none is answered, of all that are.
+/// The least tag from the low one on, up to the stop, at which a reaction is triggered and has no run,
+/// and the least such reaction. The start rows of runs that are found to be triggered are marked on
+/// the way: where none is answered, of all that are, from that tag on.
 ///
 /// A timer is gone through only up to its first tag without a run. One that triggers nothing is
 /// passed over, and so is one whose firings another timer of the reaction makes too.
@@ -317,13 +363,15 @@ pub(crate) fn first_missing(
     alloc: Global,
     presence: &Presence,
     started: &Started,
+    low: Tag,
     due: &mut [bool],
 ) -> Result<Option<(Tag, u32)>, NoMemory>
     requires rules { IsCuttable presence.now }
+    requires low { low.time ≤ 1000000000000000000 }
     requires started { HasRuns presence.now.rows (length presence.now.plan.program.reactions) started.now }
     requires due { AreDue presence.now due.old }
     ensures due { OnOk result (AreDue presence.now due.new) }
-    ensures missing { IfOk result (IsFirstMissing presence.now) }
+    ensures missing { IfOk result (IsFirstMissingFrom presence.now low) }
 {
     let mut first = None;
     for reaction in 0..presence.reactions() as u32 {
@@ -333,6 +381,7 @@ pub(crate) fn first_missing(
         let missed = lacked(
             presence,
             reaction,
+            low,
             needed.as_slice(),
             tags,
             known.as_mut_slice(),

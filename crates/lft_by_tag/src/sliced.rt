@@ -1,21 +1,24 @@
 //! Rows that break none of the rules 1 to 5, sliced by tag.
 
-ghost use Rattle.std.specs.Prelude.{◌≡◌, ◌<◌, ◌≤◌, ◌↔◌, length, Some, IsTrue, IfSome, IfNone, slice_get};
+ghost use Rattle.std.specs.Prelude.{◌≡◌, ◌<◌, ◌≤◌, ◌↔◌, length, Some, IsTrue, IfOk, IfSome, IfNone, slice_get};
 ghost use Rattle.lft_flat.specs.Sound.{IsNameOf};
 ghost use Rattle.lft_graph.specs.Graph.{IsGraphOf};
 ghost use Rattle.lft_steps.specs.declared.row.Row.{Row as TheRow};
 ghost use Rattle.lft_model.specs.Presence.{At, IsPresent, Triggered};
 ghost use Rattle.lft_presence.specs.Clashes.{IsClash};
 ghost use Rattle.lft_rows.specs.Slices.{runs_in};
-ghost use Rattle.lft_by_tag.specs.Slices.{AreSlices, IsCuttable, IsFirstMissing};
+ghost use Rattle.lft_by_tag.specs.Slices.{AreSlices, IsCuttable, IsFirstMissing, IsFirstMissingFrom};
 
+use crate::missing::first_missing;
 use crate::slicing::Caused;
+use crate::started::started_of;
 use lft_flat::{Name, Program, Value};
 use lft_graph::Graph;
 use lft_presence::Presence;
 use lft_rows::Slice;
 use lft_steps::{Row, row_at};
-use lft_tag::Tag;
+use lft_tag::{NoMemory, Tag};
+use std::alloc::Global;
 use std::marker::Model;
 
 /// The rows of a plan's trace, sliced by tag, with what they cause: all that the rules 6 to 10 are
@@ -126,6 +129,17 @@ impl<'a> Sliced<'a> {
         ensures { IsFirstMissing self.now result }
     {
         self.missing
+    }
+
+    /// The same from the low tag on. Its time is at most 10^18.
+    pub fn missing_from(&self, alloc: Global, low: Tag) -> Result<Option<(Tag, u32)>, NoMemory>
+        requires { low.time ≤ 1000000000000000000 }
+        ensures { IfOk result (IsFirstMissingFrom self.now low) }
+    {
+        // Asked for what sliced rows keep: they break none of the rules 1 to 5.
+        self.keeps();
+        let started = started_of(alloc, self.rows(), self.reactions())?;
+        first_missing(alloc, &self.presence, &started, low, &mut [])
     }
 
     /// Whether the row at the place is known to be of a run whose reaction is triggered at its tag.

@@ -60,7 +60,8 @@ pub(crate) fn caused_by<'a>(
     ensures { IfOk result (λ c. (c.presence ≡ presence.entry) × IsCaused c) }
 {
     let mut due = vec![in alloc; false; presence.rows().len()]?;
-    let missing = first_missing(alloc, &presence, &started, due.as_mut_slice())?;
+    let low = Tag { time: 0, micro: 0 };
+    let missing = first_missing(alloc, &presence, &started, low, due.as_mut_slice())?;
     Ok(Caused {
         presence,
         missing,

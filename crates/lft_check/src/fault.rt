@@ -8,3 +8,14 @@ pub enum CheckFault {
     /// A growth was refused.
     NoMemory,
 }
+
+/// Why the first breach from a tag on isn't found.
+#[derive(Clone, Copy, PartialEq, Eq, Debug, Drop)]
+pub enum FromFault {
+    /// A row breaks one of the rules 1 to 5.
+    RowBroken,
+    /// Two events meet before the tag.
+    EarlyCollision,
+    /// A growth was refused.
+    Refused,
+}

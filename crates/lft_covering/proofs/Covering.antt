@@ -1,7 +1,6 @@
 -- What is answered of a trace table is right for the three texts, where the plan is that of the first two.
-use Rattle.std.proofs.Common.{◌≡◌, ◌⊎◌, ◌++◌, ℕ, Bool, true, List, OnOk, Option, Result, Ok, Err, refl, inl, inr}
+use Rattle.std.proofs.Common.{◌≡◌, ◌⊎◌, ◌++◌, ℕ, Bool, List, OnOk, Option, Result, Ok, Err, refl, inl, inr}
 use Rattle.std.specs.Io.KnownBytes.{Appends}
-use Rattle.lft_flat.specs.Parts.{Parts}
 use Rattle.lft_flat.specs.Sound.{IsSound}
 use Rattle.lft_steps.specs.declared.row.Row.{Row}
 use Rattle.lft_trace.specs.Records.{records_of}
@@ -10,9 +9,6 @@ use Rattle.lft_trace.proofs.TraceFacts.{one_table}
 use Rattle.lft_model.specs.Plans.{PlanParts}
 use Rattle.lft_model.specs.OneWorker.{LegalRunsAreOneWorker, LegalRunsKeepPrecedence}
 use Rattle.lft_check.specs.Verdicts.{IsVerdict}
-use Rattle.lft_counts.specs.Cover.{IsCover}
-use Rattle.lft_counts.specs.declared.cover.Cover.{Cover}
-use Rattle.lft_cover.specs.Facts.{HasCounts}
 use Rattle.lft_load.specs.Meaning.{IsPlanOf, IsOnly}
 use Rattle.lft_load.specs.Written.{AppendsFront}
 use Rattle.lft_load.specs.declared.fault.Fault.{Fault}
@@ -30,14 +26,6 @@ use Rattle.lft_covering.specs.declared.covered.Covered.TheVariants.{Accepted, Br
 pub on_ok : {T E P Q : Type 0} (r : Result T E) → OnOk r P → (P → Q) → OnOk r Q
 on_ok (Ok x) h f = f h
 on_ok (Err e) h f = tt
-
--- counts of a trace have a number for each thing of the program
-pub has_counts : (program : Parts) (t : List Row) (cover : Cover) → IsCover program t cover → HasCounts program cover
-has_counts program t cover so = record {
-  reactions = so.counted.reactions;
-  ports = so.counted.ports;
-  met = record { as_long = so.overlapped.met.as_long; room = so.overlapped.met.room };
-}
 
 -- the verdict alone is right
 pub right_verdict : (plan : PlanParts) (rows : List Row) (covered : Covered) → IsCovered plan rows covered → IsVerdict plan rows (verdict_in covered)

@@ -1,5 +1,5 @@
 -- The way back from a port, found from the port on, and what is said of it from its end on.
-use Rattle.std.proofs.Common.{◌≡◌, ℕ, zero, suc, ◌+◌, ◌≤◌, List, [], ◌∷◌, ◌++◌, Option, Some, None, length, drop, add-one, append-nil, append_assoc, refl, sym, ap, ◌∙◌, arith, slice_get, unwrap_or, option_map}
+use Rattle.std.proofs.Common.{◌≡◌, ℕ, ◌+◌, ◌≤◌, List, [], ◌∷◌, ◌++◌, Option, Some, drop, add-one, append_assoc, sym, ap, ◌∙◌, slice_get, unwrap_or, option_map}
 use Rattle.lft_flat.specs.Parts.{Parts}
 use Rattle.lft_words.proofs.Steps.{drop_next}
 use Rattle.lft_explain.specs.Hops.{source_into, way_back, told_back}
@@ -12,28 +12,7 @@ module _ (program : Parts) (whole xs : List ℕ) (left p : ℕ) (so_far : xs ++ 
       step : p ∷ way_back program n q ≡ way_back program left p
       step = ap (λ (o : Option ℕ). unwrap_or (option_map (λ (r : ℕ). p ∷ way_back program n r) o) []) e ∙ ap (λ k. way_back program k p) (sym (l ∙ add-one n))
 
-  -- no connection leads into the port
-  pub back_ends : (n : ℕ) → left ≡ n + 1 → None ≡ source_into program p → xs ≡ whole
-  back_ends n l e = sym (append-nil xs) ∙ ap (λ zs. xs ++ zs) (sym step) ∙ so_far
-    where
-      step : way_back program left p ≡ []
-      step = ap (λ k. way_back program k p) (l ∙ add-one n) ∙ ap (λ (o : Option ℕ). unwrap_or (option_map (λ (r : ℕ). p ∷ way_back program n r) o) []) (sym e)
-
-  -- no more are looked for
-  pub back_all : left ≡ 0 → xs ≡ whole
-  back_all l = sym (append-nil xs) ∙ ap (λ k. xs ++ way_back program k p) (sym l) ∙ so_far
-
-drop_all : (xs : List ℕ) (i : ℕ) → length xs ≤ i → drop i xs ≡ []
-drop_all [] zero l = refl
-drop_all [] (suc i) l = refl
-drop_all (x ∷ xs) zero l = absurd (omega arith)
-drop_all (x ∷ xs) (suc i) l = drop_all xs i (omega arith)
-
 module _ (says : ℕ → List ℕ) (xs : List ℕ) (s : List ℕ) where
-  -- nothing is said of no items
-  pub said_none : (left : ℕ) → length xs ≤ left → s ≡ s ++ told_back says (drop left xs)
-  said_none left l = sym (append-nil s) ∙ ap (λ zs. s ++ told_back says zs) (sym (drop_all xs left l))
-
   -- one item more, before the others in the list and behind them in the text
   pub said_back : (left n x : ℕ) (old new : List ℕ) → left ≡ n + 1 → slice_get xs n ≡ Some x → old ≡ s ++ told_back says (drop left xs) → new ≡ old ++ says x → new ≡ s ++ told_back says (drop n xs)
   said_back left n x old new l e so_far is =

@@ -1,4 +1,3 @@
 pub mod Back
-pub mod Arriving
 pub mod Texts
 pub mod Lines

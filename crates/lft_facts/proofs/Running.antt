@@ -76,11 +76,5 @@ module _ (t : List Row) (g : Tag) (next : List (Option ℕ)) (start : ℕ) where
   pub all_marked : (end : ℕ × ℕ) → IsLeastOfAll t g next start (Some end) → IsMarked next end.0
   all_marked end least = least.2.1
 
-  pub all_ends : (end : ℕ × ℕ) → IsLeastOfAll t g next start (Some end) → EndsAt t g end.0 end.1
-  all_ends end least = least.2.0
-
-  pub all_after : (end : ℕ × ℕ) → IsLeastOfAll t g next start (Some end) → start < end.1
-  all_after end least = least.2.2
-
   pub all_least : (end : ℕ × ℕ) → IsLeastOfAll t g next start (Some end) → (j a : ℕ) → start < j → EndsAt t g a j → IsMarked next a → IsMarked next end.0 × (end.0 ≤ a)
   all_least end least j a b s m = (least.2.1, least_all t g next start least.0 least.1 end least.2 j a b s m)

@@ -1,13 +1,12 @@
 -- Where lines end.
-use Rattle.std.proofs.Common.{◌≡◌, ◌≢◌, ◌+◌, ◌<◌, ◌≤◌, inl, inr, ℕ, zero, suc, List, [], ◌∷◌, ◌++◌, Option, Some, None, length, take, drop, slice_get, slice_index, unwrap_or, refl, sym, ap, subst, ◌∙◌, arith, add-one}
+use Rattle.std.proofs.Common.{◌≡◌, ◌≢◌, ◌+◌, ◌<◌, ◌≤◌, inl, inr, ℕ, zero, suc, List, [], ◌∷◌, ◌++◌, Some, None, length, take, drop, slice_get, slice_index, refl, sym, ap, subst, ◌∙◌, arith, add-one}
 use Rattle.std.proofs.lemmas.Bool.{eq-eqb, eqb-true}
 use Rattle.std.proofs.lemmas.Option.{get_or_from_slice_get, slice_get-get_or, slice_get_within}
 use Rattle.std.proofs.lemmas.List.{append-nil, append_assoc}
-use Rattle.memchr.specs.Find.{IsFirstByte, IsLastByte, Nowhere, Passes, is_byte}
+use Rattle.memchr.specs.Find.{IsLastByte, Nowhere, Passes, is_byte}
 use Rattle.lft_flat.proofs.Ranges.{slice_get-drop}
-use Rattle.lft_model.proofs.Places.{slice_get_take}
 use Rattle.lft_lists.proofs.Picked.{take_next}
-use Rattle.lft_trace.specs.Parts.{EndsLine, HasNoQuote}
+use Rattle.lft_trace.specs.Parts.{EndsLine}
 use Rattle.lft_log.specs.Logs.{AreLines, HasNoEnd}
 
 -- the byte that a search finds
@@ -35,17 +34,6 @@ behind_last text k is i e =
 pub none_ends : (text : List ℕ) → IsLastByte (is_byte 10) text None → HasNoEnd text
 none_ends text is i e = no_byte text 10 0 (length text) is i (omega arith) (slice_get_within text i 10 e) e
 
--- the first line of whole lines
-pub up_to_first : (text : List ℕ) (k : ℕ) → IsFirstByte (is_byte 10) text (Some k) → EndsLine (take (k + 1) text)
-up_to_first text k is = ends_line text k (byte_there text 10 k is.0.high is.1)
-
-pub some_line : (text : List ℕ) → EndsLine text → 0 < length text
-some_line text ends = rw ends.1 (go ends.0)
-  where
-    go : (line : List ℕ) → 0 < length (line ++ 10 ∷ [])
-    go [] = omega arith
-    go (c ∷ line) = omega arith
-
 -- lines behind lines
 pub lines_both : (a b : List ℕ) → AreLines a → AreLines b → AreLines (a ++ b)
 lines_both a b x (inl e) = subst AreLines (sym (ap (λ (z : List ℕ). a ++ z) e ∙ append-nil a)) x
@@ -65,20 +53,3 @@ lines_left text n (inr l) = subst (λ (x : List ℕ). AreLines (drop n x)) (sym 
     left [] (suc zero) = inl refl
     left [] (suc (suc n)) = inl refl
     left (c ∷ line) (suc n) = left line n
-
--- where some text is left, lines that are whole are some
-pub some_lines : (text : List ℕ) → AreLines text → 0 < length text → EndsLine text
-some_lines text (inl e) some = absurd (let z : 0 < 0 = subst (λ (x : List ℕ). 0 < length x) e some in omega arith)
-some_lines text (inr l) some = l
-
--- no quotation mark stands before the first
-pub no_quote_before : (text : List ℕ) (q : Option ℕ) (n : ℕ) → IsFirstByte (is_byte 34) text q → n ≤ unwrap_or q (length text) → HasNoQuote (take n text)
-no_quote_before text None n is up i e = let s = slice_get_take n text i 34 e in no_byte text 34 0 (length text) is i (omega arith) (slice_get_within text i 34 s.1) s.1
-no_quote_before text (Some k) n is up i e = let s = slice_get_take n text i 34 e in no_byte text 34 0 k is.0.before i (omega arith) (let a = s.0 in omega arith) s.1
-
--- nor in a part of what has none
-pub no_quote_left : (text : List ℕ) (n : ℕ) → HasNoQuote text → HasNoQuote (drop n text)
-no_quote_left text n none i e = none (n + i) (sym (slice_get-drop text n i) ∙ e)
-
-pub no_quote_taken : (text : List ℕ) (n : ℕ) → HasNoQuote text → HasNoQuote (take n text)
-no_quote_taken text n none i e = none i (slice_get_take n text i 34 e).1

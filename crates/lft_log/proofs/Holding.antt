@@ -11,7 +11,7 @@ use Rattle.lft_trace.specs.Parts.{BeginsPlain, BeginsWith, HasNoQuote, HoldsRows
 use Rattle.lft_trace.proofs.Beginning.{begins_all, no_record}
 use Rattle.lft_trace.proofs.Together.{holds_both, under_csv_header, under_header}
 use Rattle.lft_steps.specs.declared.row.Row.{Row}
-use Rattle.lft_log.specs.Logs.{AreFirst, AreLines, AreRowLines, HoldSoFar, IsHead, IsNoRow, LogLaw, header_line}
+use Rattle.lft_log.specs.Logs.{AreLines, AreRowLines, HoldSoFar, IsHead, IsNoRow, LogLaw, header_line}
 use Rattle.lft_log.specs.declared.fault.LogFault.TheVariants.{NoRow}
 use Rattle.lft_log.proofs.Ends.{lines_both}
 
@@ -63,10 +63,6 @@ hold_longer program bytes rest more t h = record {
   is_head = h.is_head;
   is_body = h.is_body;
 }
-
--- all rows of the bytes are first ones
-pub first_all : (program : Parts) (bytes rest : List ℕ) (t : List Row) → HoldSoFar program bytes t rest → AreFirst program bytes t
-first_all program bytes rest t h = ([], rest, subst (λ (u : List Row). HoldSoFar program bytes u rest) (sym (append-nil t)) h)
 
 -- a log of whole lines is a trace table
 pub log_is_table : (program : Parts) → LogLaw program

@@ -32,7 +32,7 @@ use Rattle.lft_model.proofs.Committed.{committed_kept, committed_runs, same_read
 use Rattle.lft_pool.specs.declared.bodies.done.Done.{Done}
 use Rattle.lft_agenda.specs.Starts.{started_row, started_count}
 use Rattle.lft_agenda.specs.Agendas.{MayEnd}
-use Rattle.lft_agenda.proofs.Committed.{quiet_more, ran_before}
+use Rattle.lft_agenda.proofs.RunEnded.{quiet_more, ran_before}
 use Rattle.lft_pool.specs.Books.{law_of, IsRecording}
 use Rattle.lft_pool.proofs.BegunRun.{HandsOn, MeetsLaw}
 

@@ -14,7 +14,7 @@ use Rattle.lft_model.proofs.Legality.{one_starter}
 use Rattle.lft_model.proofs.Grown.{open_triggered, open_inputs}
 use Rattle.lft_model.proofs.Committed.{now, committed_runs}
 use Rattle.lft_agenda.specs.Agendas.{MayEnd}
-use Rattle.lft_agenda.proofs.Opening.{committed_cases}
+use Rattle.lft_agenda.proofs.RunsOpen.{committed_cases}
 use Rattle.lft_pool.specs.Answers.{KeepsOpenRuns}
 
 pub keeps_open_runs : (plan : PlanParts) (good : IsSoundPlan plan) (t : List Row) (w : ℕ) (g : Tag) (r : ℕ) (steps : List Step) → MayEnd plan t w g r steps → KeepsOpenRuns plan t (t ++ committed_rows w g r steps)

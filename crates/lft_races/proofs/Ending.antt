@@ -57,13 +57,6 @@ noted_none t s slice ends low a x e = inl (low a x e, none)
     none : NotEnded t s.tag a s.first
     none j l q = let r : s.first ≤ j = (slice.all j (end_row q.0 s.tag a) q.1 refl).0 in absurd (omega arith)
 
-pub noted_all : (t : List Row) (s : Slice) (place : ℕ) (ends : List ℕ) → AreNoted t s place ends → s.first ≤ place → AreUpTo ends place
-noted_all t s place ends noted from a x e = go (noted a x e)
-  where
-    go : IsNoted t s place a x → x ≤ place
-    go (inl p) = let l : x ≤ s.first = p.0 in omega arith
-    go (inr p) = let l : p.0 < place = p.3 in let z : p.0 + 1 ≡ x = p.1 in omega arith
-
 -- one more row of a slice
 module _ (t : List Row) (s : Slice) (slice : IsSlice t s) (i : ℕ) (row : Row) (is_row : slice_get t i ≡ Some row) (from : s.first ≤ i) (before : i < s.end) where
   here : row.step ≡ End → EndsAt t s.tag row.reaction i

@@ -15,8 +15,7 @@ use Rattle.lft_model.specs.Breaches.{IsOpen, BreaksRow, BreaksAt, RowBreach, Fir
 use Rattle.lft_model.proofs.Places.{stable, dec_both, dec_below, dec_end_at, slice_get_within, slice_get_take, slice_get_taken}
 use Rattle.lft_model.proofs.Legality.{KeepsRows, four, rising, dec_open}
 use Rattle.lft_rows.specs.Slices.{Rises}
-use Rattle.lft_rows.proofs.Steps.{row_eq}
-use Rattle.lft_races.specs.Runs.{StartsAt, EndsAt}
+use Rattle.lft_races.specs.Runs.{EndsAt}
 use Rattle.lft_races.specs.Races.{NotEnded, IsUnfinished, IsRace, StandBefore, IsRaceBefore, EndLater}
 use Rattle.lft_races.specs.Noted.{EndRuns}
 
@@ -137,9 +136,6 @@ unfinished_whole t n start l g a u = record { ran = record { place = u.ran.place
 module _ (program : Parts) (t : List Row) (n start : ℕ) (race : IsRace program (take n t) start) (later : EndLater t n) where
   pub start_there : (start < n) × (slice_get t start ≡ Some race.row)
   start_there = slice_get_take n t start race.row race.is_row
-
-  pub race_starts : StartsAt t race.row.tag race.row.reaction start
-  race_starts = (race.row.worker, start_there.1 ∙ ap Some (row_eq race.row Start race.starts))
 
   pub end_behind : (i : ℕ) × (start < i) × EndsAt t race.row.tag race.earlier i
   end_behind = (e.0, go (dec_lt e.0 start) (ℕ_discrete e.0 start), e.2)

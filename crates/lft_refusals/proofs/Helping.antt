@@ -1,5 +1,5 @@
 -- What is told behind the marked line.
-use Rattle.std.proofs.Common.{◌≡◌, ℕ, ◌-◌, ◌<◌, ◌≤◌, Bool, true, false, List, [], ◌++◌, append-nil, length, take, take_all, Option, None, refl, sym, ap, subst, ◌∙◌, arith, cond, inl}
+use Rattle.std.proofs.Common.{◌≡◌, ℕ, ◌-◌, ◌≤◌, Bool, true, false, List, [], ◌++◌, append-nil, length, take, take_all, Option, None, refl, sym, ap, subst, ◌∙◌, arith, cond, inl}
 use Rattle.std.specs.Prelude.{nat_lt}
 use Rattle.std.specs.List.{All}
 use Rattle.std.proofs.lemmas.Bool.Decides.{nat_tests}
@@ -31,9 +31,6 @@ few_if P false things each = each
 pub all_few : (P : Thing → Type 0) (things : List Thing) → All P things → All P (few things)
 all_few P things each = few_if P (nat_lt 6 (length things)) things each
 
-pub few_none : (things : List Thing) → 6 < length things → could_words (few things) ≡ []
-few_none things many = let t : nat_lt 6 (length things) ≡ true = grind (arith, nat_tests) in rw t refl
-
 pub few_all : (things : List Thing) → length things ≤ 6 → few things ≡ things
 few_all things le = let t : nat_lt 6 (length things) ≡ false = grind (arith, nat_tests) in rw t refl
 
@@ -52,9 +49,6 @@ module _ (Can : Thing → Type 0) where
 
   pub helps_by_list : (things : List Thing) → All Can things → (old new : List ℕ) → new ≡ old ++ could_words things → PutsHelp old new
   helps_by_list things each old new e = helps things each None old new new e (sym (append-nil new))
-
-  pub helps_not : (old : List ℕ) → PutsHelp old old
-  helps_not old = helps_by_way None old old (sym (append-nil old))
 
   -- and with what is left out further on
   abbrev pub PutsAll : List ℕ → List ℕ → Type 0

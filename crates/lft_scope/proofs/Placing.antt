@@ -122,10 +122,6 @@ find-some {X} name q (x ∷ xs) = by (bytes_eq q (name x)) (find-some name q xs)
     by true e = refl
     by false e = e ∙ over (place q (map name xs))
 
-pub something_there : {X : Type 0} (o : Option X) → is_none o ≡ false → o ≡ None → ⊥
-something_there None e n = absurd (cc)
-something_there (Some x) e n = absurd (cc)
-
 pub not_some : {X : Type 0} (o : Option X) → is_some o ≡ false → o ≡ None
 not_some None e = refl
 not_some (Some x) e = absurd (cc)

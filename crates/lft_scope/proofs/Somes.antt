@@ -1,42 +1,11 @@
 -- Loops that look for some element of a list, and tests that answer.
-use Rattle.std.proofs.Common.{◌≡◌, ℕ, ◌+◌, ◌<◌, ◌≤◌, zero, suc, Bool, true, false, IsTrue, ◌↔◌, List, [], ◌∷◌, ◌++◌, map, filter_map, filter, count_by, cond, not, take, length, get_or, Option, Some, None, Result, Ok, Err, IfOk, Any, Contains, IsSomeAnd, ◌≢◌, ◌⊎◌, inl, inr, ⊎_elim, refl, sym, ap, subst, ◌∙◌, arith}
+use Rattle.std.proofs.Common.{◌≡◌, ℕ, ◌+◌, ◌<◌, ◌≤◌, zero, suc, Bool, true, false, IsTrue, ◌↔◌, List, [], ◌∷◌, ◌++◌, map, filter_map, filter, cond, take, length, get_or, Option, Some, None, Any, Contains, IsSomeAnd, ◌≢◌, ◌⊎◌, inl, inr, ⊎_elim, refl, sym, ap, subst, ◌∙◌, arith}
 use Rattle.std.specs.List.{cons_option}
 use Rattle.std.proofs.lemmas.Grind.{common_steps}
-use Rattle.std.proofs.lemmas.List.Sums.{length-filter}
-use Rattle.std.proofs.lemmas.List.Folds.{fold-map}
 
--- a test that answered true of what holds, or false of what doesn't
-pub yes : {P : Type 0} → P → IsTrue true ↔ P
-yes p = (λ _. p, λ _. refl)
-
-pub no : {P : Type 0} → (P → ⊥) → IsTrue false ↔ P
-no none = (λ e. absurd (cc), λ p. absurd (none p))
-
--- and what an answer says
-pub holds : {P : Type 0} (b : Bool) → IsTrue b ↔ P → b ≡ true → P
-holds b answer is = answer.0 is
-
+-- what an answer says
 pub fails : {P : Type 0} (b : Bool) → IsTrue b ↔ P → b ≡ false → P → ⊥
 fails b answer is p = let t : b ≡ true = answer.1 p in cc
-
--- a test turned round
-pub negated : (a b : Bool) → a ≡ b → IsTrue (not a) ↔ (b ≡ false)
-negated true true e = (λ t. absurd (cc), λ f. absurd (cc))
-negated true false e = absurd (cc)
-negated false true e = absurd (cc)
-negated false false e = (λ t. refl, λ f. refl)
-
--- the same answer to what holds both ways
-pub answers : {P Q : Type 0} (b : Bool) → (P → Q) → (Q → P) → IsTrue b ↔ P → IsTrue b ↔ Q
-answers b forth back answer = (λ e. forth (answer.0 e), λ q. answer.1 (back q))
-
-pub ok_answers : {P Q E : Type 0} (r : Result Bool E) → (P → Q) → (Q → P) → IfOk r (λ b. IsTrue b ↔ P) → IfOk r (λ b. IsTrue b ↔ Q)
-ok_answers (Ok b) forth back answer = answers b forth back answer
-ok_answers (Err e) forth back answer = answer
-
--- of two facts, where the first doesn't hold
-pub second : {P E : Type 0} (Q : Type 0) (r : Result Bool E) → (P → ⊥) → IfOk r (λ b. IsTrue b ↔ Q) → IfOk r (λ b. IsTrue b ↔ (P ⊎ Q))
-second Q r none answer = ok_answers r (λ q. inr q) (λ a. ⊎_elim (λ p. absurd (none p)) (λ q. q) a) answer
 
 module _ {X : Type 0} (P : X → Type 0) where
   pub Any-nil : Any P [] → ⊥
@@ -134,29 +103,9 @@ module _ {X : Type 0} (test : X → Bool) where
       by true e go r = ⊎_elim (λ p. Any-head (λ x. (test x ≡ true) × P x) x xs (e, p)) (λ s. Any-tail (λ x. (test x ≡ true) × P x) x xs (go s)) (Any-cases P x (filter test xs) r)
       by false e go r = Any-tail (λ x. (test x ≡ true) × P x) x xs (go r)
 
-  -- how many they are
-  pub count_kept : {C : Type 0} (v : C → X) (xs : List C) → length (filter test (map v xs)) ≡ count_by (λ x. test (v x)) xs
-  count_kept v xs = length-filter test (map v xs) ∙ fold-map (λ a x. a + cond (test x) 1 0) v 0 xs
-
 pub something : {X : Type 0} (xs : List X) → Any (λ _. Unit {0}) xs → xs ≢ []
 something xs (k, x, within, is, p) none = let empty : length xs ≡ 0 = ap length none in absurd (omega arith)
 
 pub some_of : {X : Type 0} (xs : List X) → xs ≢ [] → Any (λ _. Unit {0}) xs
 some_of [] some = absurd (some refl)
 some_of (x ∷ xs) some = Any-head (λ _. Unit {0}) x xs tt
-
--- what a loop answers that looks for an element with P
-module _ {A C : Type 0} (v : C → A) (P : A → Type 0) (xs : List C) (i : ℕ) where
-  pub found : (x : C) → i < length xs → x ≡ get_or xs i x → P (v x) → IsTrue true ↔ Any P (map v xs)
-  found x within is p = yes (some_here v P xs i x within (sym is) p)
-
-  pub not_found : length xs ≤ i → (Any P (map v (take i xs)) → ⊥) → IsTrue false ↔ Any P (map v xs)
-  not_found past none = no (none_done v P xs i past none)
-
--- and one that looks among those that h finds
-module _ {A C Y : Type 0} (v : C → A) (h : A → Option Y) (P : Y → Type 0) (xs all : List C) (same : xs ≡ all) (i : ℕ) where
-  pub found_in : (x : C) → i < length xs → x ≡ get_or xs i x → IsSomeAnd (h (v x)) P → IsTrue true ↔ Any P (filter_map h (map v all))
-  found_in x within is p = yes (picked h P (map v all) (subst (λ l. Any (λ y. IsSomeAnd (h y) P) (map v l)) same (some_here v (λ y. IsSomeAnd (h y) P) xs i x within (sym is) p)))
-
-  pub not_found_in : length xs ≤ i → (Any (λ y. IsSomeAnd (h y) P) (map v (take i xs)) → ⊥) → IsTrue false ↔ Any P (filter_map h (map v all))
-  not_found_in past none = no (λ a. none_done v (λ y. IsSomeAnd (h y) P) xs i past none (subst (λ l. Any (λ y. IsSomeAnd (h y) P) (map v l)) (sym same) (unpicked h P (map v all) a)))

@@ -1,5 +1,5 @@
 -- What stands twice in a list, and loops that note each element and stop at one that was met.
-use Rattle.std.proofs.Common.{◌≡◌, ℕ, ◌+◌, ◌<◌, ◌≤◌, zero, suc, List, [], ◌∷◌, ◌++◌, map, take, drop, length, get_or, slice_get, Some, Any, ◌⊎◌, inl, inr, ⊎_elim, refl, sym, ap, subst, ◌∙◌, arith}
+use Rattle.std.proofs.Common.{◌≡◌, ℕ, ◌+◌, ◌<◌, ◌≤◌, zero, suc, List, [], ◌∷◌, ◌++◌, map, take, length, get_or, slice_get, Some, Any, ◌⊎◌, inl, inr, ⊎_elim, refl, sym, ap, subst, ◌∙◌, arith}
 use Rattle.std.proofs.lemmas.Grind.{common_steps}
 use Rattle.std.proofs.lemmas.List.{map-append}
 use Rattle.std.proofs.lemmas.Option.{slice_get_within, get_or_from_slice_get, slice_get-get_or}
@@ -34,13 +34,6 @@ module _ {X : Type 0} where
   pub twice_left : (xs ys : List X) → IsTwice xs → IsTwice (xs ++ ys)
   twice_left xs ys (i, j, x, lt, first, second) = (i, j, x, lt, slice_get-front xs ys i x first, slice_get-front xs ys j x second)
 
-  -- an element that was met stands twice
-  pub twice_met : (xs rest : List X) (y : X) → Any (λ z. z ≡ y) xs → IsTwice (xs ++ y ∷ rest)
-  twice_met xs rest y met =
-      let at = at-Any (λ z. z ≡ y) xs met in
-      let there : slice_get xs at.0 ≡ Some y = at.2 ∙ ap Some at.3 in
-      (at.0, length xs, y, slice_get_within xs at.0 y there, slice_get-front xs (y ∷ rest) at.0 y there, slice_get-middle xs rest y)
-
   -- one more element stands twice only if it was met
   pub once_pushed : (xs : List X) (y : X) → (IsTwice xs → ⊥) → (Any (λ z. z ≡ y) xs → ⊥) → IsTwice (xs ++ y ∷ []) → ⊥
   once_pushed xs y once new (i, j, x, lt, first, second) = ⊎_elim
@@ -59,12 +52,6 @@ module _ {A C : Type 0} (v : C → A) (xs : List C) (i : ℕ) where
   module _ (x : C) (lt : i < length xs) (is : get_or xs i x ≡ x) where
     pub map_last : map v (take (i + 1) xs) ≡ map v (take i xs) ++ v x ∷ []
     map_last = (let e : take (i + 1) xs ≡ take i xs ++ x ∷ [] = grind (arith, common_steps) in ap (map v) e) ∙ map-append v (take i xs) (x ∷ [])
-
-    pub map_around : map v xs ≡ map v (take i xs) ++ v x ∷ map v (drop (i + 1) xs)
-    map_around = (let e : xs ≡ take i xs ++ x ∷ drop (i + 1) xs = grind (arith, common_steps) in ap (map v) e) ∙ map-append v (take i xs) (x ∷ drop (i + 1) xs)
-
-    pub twice_here : Any (λ z. z ≡ v x) (map v (take i xs)) → IsTwice (map v xs)
-    twice_here met = subst IsTwice (sym map_around) (twice_met (map v (take i xs)) (map v (drop (i + 1) xs)) (v x) met)
 
     pub once_more : (IsTwice (map v (take i xs)) → ⊥) → (Any (λ z. z ≡ v x) (map v (take i xs)) → ⊥) → IsTwice (map v (take (i + 1) xs)) → ⊥
     once_more once new two = once_pushed (map v (take i xs)) (v x) once new (subst IsTwice map_last two)

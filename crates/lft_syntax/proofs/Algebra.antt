@@ -497,12 +497,3 @@ right_range P F e h n p right = record { regular = range_regular right.regular; 
 
 pub same_reading : {A : Type 0} {P : Spelling A} {F : Follow} {e h : Horizon} {n : ℕ} {p : Reading A} (q : Reading A) → ((ws : List Lexeme) (i : ℕ) → p ws i ≡ q ws i) → Right P F e h n p → Right P F e h n q
 same_reading {A = A} {P = P} {F = F} {e = e} {h = h} {n = n} q same_at right = record { regular = right.regular; at = λ ws i le. subst (λ (r : Result (A × ℕ) ℕ). Outcome P F e h n ws i r) (same_at ws i) (right.at ws i le) }
-
--- ---- what is spelled is what is read
-
-outcome_so : {A : Type 0} (P : Spelling A) (F : Follow) (e h : Horizon) (n : ℕ) (ws : List Lexeme) (i j : ℕ) (x : A) → P ws i j x → F ws j → (r : Result (A × ℕ) ℕ) → Outcome P F e h n ws i r → r ≡ Ok (x, j)
-outcome_so {A = A} P F e h n ws i j x s after (Ok r) k = let z = k.forced ws j x (λ i lt. refl) s after in ap (λ (a : A × ℕ). Ok a) (sym (pair z.0 z.1))
-outcome_so P F e h n ws i j x s after (Err t) k = absurd (k.none ws j x (λ i lt. refl) s after)
-
-pub read_so : {A : Type 0} {P : Spelling A} {F : Follow} {e h : Horizon} {n : ℕ} {p : Reading A} → Right P F e h n p → (ws : List Lexeme) (i j : ℕ) (x : A) → i ≤ length ws → P ws i j x → F ws j → p ws i ≡ Ok (x, j)
-read_so {P = P} {F = F} {e = e} {h = h} {n = n} {p = p} right ws i j x le s after = outcome_so P F e h n ws i j x s after (p ws i) (right.at ws i le)

@@ -3,7 +3,7 @@ use Rattle.std.proofs.lemmas.Bool.{false≢true}
 use Rattle.std.proofs.lemmas.Option.{slice_get-get_or}
 use Rattle.lft_model.proofs.Places.{slice_get_within}
 use Rattle.lft_agenda.specs.OpenRuns.{is_run}
-use Rattle.lft_agenda.proofs.Opening.{reads_none, before_one_more, reads_iff}
+use Rattle.lft_agenda.proofs.RunsOpen.{reads_none, before_one_more, reads_iff}
 use Rattle.lft_agenda.proofs.open.has_reads.Goals as goal
 
 pub returns-then-is_of : goal.returns-then-is_of

@@ -2,7 +2,7 @@ use Rattle.std.proofs.Common.{◌≡◌, ◌<◌, Some, length, slice_get, refl,
 use Rattle.std.proofs.lemmas.Bool.{false≢true}
 use Rattle.std.proofs.lemmas.Option.{slice_get-get_or}
 use Rattle.lft_model.proofs.Places.{slice_get_within}
-use Rattle.lft_agenda.proofs.Opening.{busy_with, busy_none, before_one_more}
+use Rattle.lft_agenda.proofs.RunsOpen.{busy_with, busy_none, before_one_more}
 use Rattle.lft_agenda.proofs.open.is_busy.Goals as goal
 
 pub returns-then-runs-at : goal.returns-then-runs-at

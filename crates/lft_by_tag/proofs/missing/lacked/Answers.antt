@@ -12,8 +12,8 @@ pub loop-place-preserved : goal.loop-place-preserved
 loop-place-preserved c =
     record {
       known = c.lacked_trigger.ensures.known;
-      least = lacked_more c.args.presence.now c.args.triggers.now c.loop-place.place c.args.tags.now c.item_at-trigger.result c.loop-place.least c.lacked_trigger.result c.sooner-least.result c.item_at-trigger.ensures c.loop-place.invariant.least c.lacked_trigger.ensures.least c.sooner-least.ensures;
+      least = lacked_more c.args.presence.now c.args.triggers.now c.loop-place.place c.args.low c.args.tags.now c.item_at-trigger.result c.loop-place.least c.lacked_trigger.result c.sooner-least.result c.item_at-trigger.ensures c.loop-place.invariant.least c.lacked_trigger.ensures.least c.sooner-least.ensures;
     }
 
 pub returns-clause-least : goal.returns-clause-least
-returns-clause-least c = lacked_all c.args.presence.now c.args.reaction c.loop-place.place c.args.tags.now c.args.triggers.now c.loop-place.least c.requires.triggers (omega arith) c.loop-place.invariant.least
+returns-clause-least c = lacked_all c.args.presence.now c.args.reaction c.loop-place.place c.args.low c.args.tags.now c.args.triggers.now c.loop-place.least c.requires.triggers (omega arith) c.loop-place.invariant.least

@@ -36,9 +36,9 @@ lacked_cause-requires-in-Action-clause-triggers c g x is leads =
 pub returns-in-Port-clause-least : goal.returns-in-Port-clause-least
 returns-in-Port-clause-least c =
     let fits = c.program-program.ensures.fits in
-    lacked_key c.args.presence.now fits.sound.sound fits.fit c.args.name c.port-port.result.now.origin (c.port-port.result.now.shift.time, c.port-port.result.now.shift.steps) c.args.tags.now c.lacked_cause.result (port_key ((goal.at.returns-in-Port-clause-least c).After-port-port)) c.lacked_cause.ensures.least
+    lacked_key c.args.presence.now fits.sound.sound fits.fit c.args.name c.port-port.result.now.origin (c.port-port.result.now.shift.time, c.port-port.result.now.shift.steps) c.args.low c.args.tags.now c.lacked_cause.result (port_key ((goal.at.returns-in-Port-clause-least c).After-port-port)) c.lacked_cause.ensures.least
 
 pub returns-in-Action-clause-least : goal.returns-in-Action-clause-least
 returns-in-Action-clause-least c =
     let fits = c.program-program.ensures.fits in
-    lacked_key c.args.presence.now fits.sound.sound fits.fit c.args.name (c.ports.result + c.in-Action.number) (c.none.result.time, c.none.result.steps) c.args.tags.now c.lacked_cause-in-Action.result (action_key ((goal.at.returns-in-Action-clause-least c).After-none)) c.lacked_cause-in-Action.ensures.least
+    lacked_key c.args.presence.now fits.sound.sound fits.fit c.args.name (c.ports.result + c.in-Action.number) (c.none.result.time, c.none.result.steps) c.args.low c.args.tags.now c.lacked_cause-in-Action.result (action_key ((goal.at.returns-in-Action-clause-least c).After-none)) c.lacked_cause-in-Action.ensures.least

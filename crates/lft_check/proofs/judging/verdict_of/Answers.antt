@@ -1,6 +1,8 @@
-use Rattle.std.proofs.Common.{◌≤◌, length, arith}
+use Rattle.std.proofs.Common.{◌≤◌, length, arith, subst, Option}
+use Rattle.lft_model.specs.declared.breach.Breach.{Breach}
+use Rattle.lft_check.specs.Verdicts.{LeastOf, BreachFrom}
 use Rattle.lft_check.proofs.Counts.{few_slices, tags_of, are_tags, tags_length}
-use Rattle.lft_check.proofs.Whole.{broken, accepted}
+use Rattle.lft_check.proofs.Whole.{broken, accepted, missing_from_first, inner_from_first, clash_from_first}
 use Rattle.lft_check.proofs.judging.verdict_of.Goals as goal
 
 pub overflow_cast-result : goal.overflow_cast-result
@@ -9,15 +11,24 @@ overflow_cast-result c =
     let rows : length c.args.sliced.now.rows ≤ 4000000 = c.keeps.ensures.rules.fit.few in
     omega arith
 
+pub least_of-requires : goal.least_of-requires
+least_of-requires c = record {
+  slices = c.requires.slices;
+  clash = c.requires.clash;
+  early = clash_from_first c.args.clash;
+  missing = missing_from_first c.args.sliced.now c.missing.result c.missing.ensures;
+  inner = inner_from_first c.args.sliced.now c.args.slices.now c.args.clash c.args.inner c.requires.inner;
+}
+
 pub returns-in-Some : goal.returns-in-Some
-returns-in-Some c = broken c.args.sliced.now c.keeps.ensures.rules c.args.slices.now c.requires.slices c.args.clash c.requires.clash c.missing.result c.missing.ensures c.args.inner c.requires.inner c.of_clash-collision.result c.of_missing-outer.result c.lesser-later.result c.lesser.result c.of_clash-collision.ensures c.of_missing-outer.ensures c.lesser-later.ensures c.lesser.ensures c.in-Some.breach c.in-Some.is
+returns-in-Some c = broken c.args.sliced.now c.keeps.ensures.rules c.in-Some.breach (subst (λ (o : Option Breach). LeastOf (BreachFrom c.args.sliced.now.plan c.args.sliced.now.rows (record { time = 0; micro = 0 })) o) c.in-Some.is c.least_of.ensures)
 
 pub returns-in-None : goal.returns-in-None
 returns-in-None c =
     let cut = c.args.sliced.now in
     let slices = c.args.slices.now in
     record {
-      legal = accepted cut c.keeps.ensures.rules slices c.requires.slices c.args.clash c.requires.clash c.missing.result c.missing.ensures c.args.inner c.requires.inner c.of_clash-collision.result c.of_missing-outer.result c.lesser-later.result c.lesser.result c.of_clash-collision.ensures c.of_missing-outer.ensures c.lesser-later.ensures c.lesser.ensures c.in-None.is;
+      legal = accepted cut c.keeps.ensures.rules (subst (λ (o : Option Breach). LeastOf (BreachFrom cut.plan cut.rows (record { time = 0; micro = 0 })) o) c.in-None.is c.least_of.ensures);
       runs_are = c.runs.ensures;
       tags_are = (tags_of slices, are_tags cut c.keeps.ensures.rules slices c.requires.slices, tags_length cut c.keeps.ensures.rules slices c.requires.slices);
     }

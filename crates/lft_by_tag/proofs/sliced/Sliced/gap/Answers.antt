@@ -14,7 +14,7 @@ pub loop-reaction-preserved : goal.loop-reaction-preserved
 loop-reaction-preserved c =
     let cut = c.args.self.now in
     let r = c.loop-reaction.reaction in
-    first_more (IsVacant cut) r c.loop-reaction.first c.lacked-vacant.result c.first_of-first.result c.loop-reaction.invariant (vacant_of cut r c.args.tags.now c.lacked-vacant.result c.requires (subst (λ (z : TraceParts). LeastTag (Lacks z c.args.tags.now r) c.lacked-vacant.result) c.presence-presence.ensures c.lacked-vacant.ensures.least)) c.first_of-first.ensures
+    first_more (IsVacant cut) r c.loop-reaction.first c.lacked-vacant.result c.first_of-first.result c.loop-reaction.invariant (vacant_of cut r c.args.tags.now c.lacked-vacant.result c.requires (subst (λ (z : TraceParts). LeastTag (Lacks z (record { time = 0; micro = 0 }) c.args.tags.now r) c.lacked-vacant.result) c.presence-presence.ensures c.lacked-vacant.ensures.least)) c.first_of-first.ensures
 
 pub returns : goal.returns
 returns c =

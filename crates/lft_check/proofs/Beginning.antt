@@ -1,0 +1,40 @@
+-- Where the slices from a tag on begin.
+use Rattle.std.proofs.Common.{◌≡◌, ℕ, ◌+◌, ◌<◌, ◌≤◌, ◌⊎◌, inl, inr, List, length, subst, arith, Some, slice_get}
+use native.Mathlib.Decide.{dec_lt}
+use Rattle.lft_tag.specs.declared.Tag.{Tag}
+use Rattle.lft_tag.specs.Tags.{Before, UpTo}
+use Rattle.lft_tag.proofs.Order.{order_cases, UpTo-trans, Before-weaken}
+use Rattle.lft_lists.proofs.Places.{same_at}
+use Rattle.lft_steps.specs.declared.row.Row.{Row}
+use Rattle.lft_model.proofs.Places.{slice_get_within}
+use Rattle.lft_rows.specs.declared.slices.Slice.{Slice}
+use Rattle.lft_by_tag.specs.Slices.{AreSlices}
+use Rattle.lft_check.specs.Verdicts.{IsBegin}
+
+pub not_before : (g low : Tag) → ¬ Before g low → UpTo low g
+not_before g low n = go (order_cases g low)
+  where
+    go : Before g low ⊎ UpTo low g → UpTo low g
+    go (inl b) = absurd (n b)
+    go (inr u) = u
+
+-- the slices below the place are before the tag
+abbrev pub AreBelow : List Slice → Tag → ℕ → Type 0
+AreBelow slices low place = (k : ℕ) (x : Slice) → k < place → slice_get slices k ≡ Some x → Before x.tag low
+
+pub one_below : (slices : List Slice) (low : Tag) (place : ℕ) (here : Slice) → slice_get slices place ≡ Some here → Before here.tag low → AreBelow slices low place → AreBelow slices low (place + 1)
+one_below slices low place here is before below k x l e = go (dec_lt k place)
+  where
+    go : Dec (k < place) → Before x.tag low
+    go (yes m) = below k x m e
+    go (no m) = subst (λ (z : Slice). Before z.tag low) (same_at slices place k here x is e (omega arith)) before
+
+pub begins_here : (t : List Row) (slices : List Slice) → AreSlices t slices → (low : Tag) (place : ℕ) (here : Slice) → slice_get slices place ≡ Some here → ¬ Before here.tag low → AreBelow slices low place → IsBegin slices low place
+begins_here t slices are low place here is n below = record { before = below; from = λ k x l e. go k x l e (dec_lt place k) }
+  where
+    go : (k : ℕ) (x : Slice) → place ≤ k → slice_get slices k ≡ Some x → Dec (place < k) → UpTo low x.tag
+    go k x l e (yes m) = UpTo-trans low here.tag x.tag (not_before here.tag low n) (Before-weaken here.tag x.tag (are.ascending place k here x m is e))
+    go k x l e (no m) = subst (λ (z : Slice). UpTo low z.tag) (same_at slices place k here x is e (omega arith)) (not_before here.tag low n)
+
+pub none_begins : (slices : List Slice) (low : Tag) (n : ℕ) → length slices ≤ n → AreBelow slices low n → IsBegin slices low n
+none_begins slices low n all below = record { before = below; from = λ k x l e. absurd (let m : k < length slices = slice_get_within slices k x e in omega arith) }
