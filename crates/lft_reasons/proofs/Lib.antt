@@ -1,3 +1,4 @@
+mod Firsts
 mod Refusing
 mod Picking
 mod Showing

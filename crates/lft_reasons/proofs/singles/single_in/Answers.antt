@@ -27,7 +27,7 @@ returns-then-left-width-clause-some c =
     let to = length-map c.in-Some.connection.now.destinations.items ref_view in
     let w = c.min-width.ensures in
     let a = c.len.ensures in
-    let b = c.len-2.ensures in
+    let b = c.len-in-Some.ensures in
     let less = c.if-left-width.true in
     let found = found_here views k (member_view x) at cv is c.loop-member.left (omega (arith, from, w, a, b, less)) (omega (arith, to, w, a, b, less)) in
     (found.0, subst (λ n. slice_get (singles_among views) n ≡ Some found.0) c.loop-member.invariant found.1, found.2)
@@ -52,7 +52,7 @@ loop-member-preserved c =
           let more = this_member views k (member_view x) at cv is in
           let v = w.min-width.ensures in
           let a = w.len.ensures in
-          let b = w.len-2.ensures in
+          let b = w.len-in-Some.ensures in
           let past = w.if-left-width.false in
           let left = w.left-is in
           omega (arith, more, from, to, v, a, b, past, left, so_far)
