@@ -4,3 +4,4 @@ mod Picking
 mod Showing
 mod Turned
 mod Numbered
+mod Saying

@@ -19,6 +19,8 @@ use Rattle.lft_causes.specs.Witnesses.{Shows, cause_shown}
 use Rattle.lft_causes.specs.declared.witness.Witness.{Witness}
 use Rattle.lft_program.specs.declared.refusal.Refusal.{Refusal}
 use Rattle.lft_program.specs.declared.refusal.Refusal.TheVariants as refusals
+use Rattle.lft_reasons.specs.Sentences.{cause_told, said, words_in}
+use Rattle.lft_reasons.specs.declared.sentence.Sentence.{Sentence}
 use Rattle.lft_reasons.specs.Spots.{reactors_among, witness_spot}
 
 -- the number of a cause of refusal
@@ -38,11 +40,11 @@ abbrev pub SaySpot : List ℕ → Option Spot → List ℕ → Type 0
 SaySpot t None words = words ≡ codes "Program: "
 SaySpot t (Some spot) words = spot.start ≤ length t → (place : Place) × IsPlace t spot.start place × (words ≡ place_words place)
 
--- the words begin so
-pub record BeginsAt (t : List ℕ) (spot : Option Spot) (words : List ℕ) : Type 0 where
+-- the words begin so, and then with this sentence
+pub record BeginsAt (t : List ℕ) (spot : Option Spot) (sentence words : List ℕ) : Type 0 where
   pub start : List ℕ
   pub rest : List ℕ
-  pub whole : words ≡ start ++ rest
+  pub whole : words ≡ start ++ sentence ++ codes ".\n" ++ rest
   pub place : SaySpot t spot start
 
 -- a witness of these reactors shows the cause, and stands at these bytes
@@ -69,7 +71,7 @@ IsOfWhole cause = (cause ≡ 5) ⊎ (cause ≡ 10) ⊎ (cause ≡ 14) ⊎ (cause
 abbrev pub IsShownAt : List Token → List Reactor → ℕ → Option Spot → Type 0
 IsShownAt tokens reactors cause spot = HasWitnessAt tokens reactors cause spot ⊎ IsOfWhole cause
 
--- the text is refused for that cause, and the words begin with where it is shown: the tree of the text has a target and items, of which each part stands where it says
+-- the text is refused for that cause, and the words begin with where it is shown and a sentence that tells it: the tree of the text has a target and items, of which each part stands where it says
 pub record IsToldOf (t : List ℕ) (cause : ℕ) (words : List ℕ) : Type 0 where
   pub refused : IsRefusedFor t cause
   pub target : Option TokenRange
@@ -78,4 +80,7 @@ pub record IsToldOf (t : List ℕ) (cause : ℕ) (words : List ℕ) : Type 0 whe
   pub stand : FileStands (lexemes t refused.tokens) target parts
   pub spot : Option Spot
   pub shown : IsShownAt refused.tokens (reactors_among parts) cause spot
-  pub begins : BeginsAt t spot words
+  pub sentence : Sentence
+  pub tells : cause_told sentence ≡ cause
+  pub names : List (List ℕ)
+  pub begins : BeginsAt t spot (said (words_in sentence) names) words

@@ -1,17 +1,37 @@
 //! What is said of a finding in one member of a reactor.
 
+ghost use Rattle.std.specs.Prelude.{IfOk, IfSome};
+ghost use Rattle.lft_causes.specs.Findings.{cause_of};
+ghost use Rattle.lft_reasons.specs.Sentences.{IsOf};
+
 use crate::reason::Reason;
 use crate::refused::{Refused, Site};
+use crate::sentence::Sentence;
 use crate::spots::{name_at, time_at};
 use crate::unknown::instance_of;
-use crate::words::{kind_words, port_words, reactor_words, role_way, role_words};
+use crate::words::{kind_words, list_words, name_words, reactor_words, role_way, role_words};
 use itoa::Buffer;
 use lft_causes::{Finding, declared_name};
 use lft_scope::kinds::{Kind, Role};
 use lft_tag::NoMemory;
-use lft_tree::{Connection, Member, TimeExpression};
+use lft_tree::{Member, TimeExpression};
 
 impl<'a> Refused<'a> {
+    /// What the name is, and why it may not stand there.
+    fn not_there(
+        &self,
+        site: Site<'a>,
+        name: String,
+        kind: Kind,
+        why: &'static str,
+    ) -> Result<Reason, NoMemory>
+        ensures { IfOk result (IsOf 7) }
+    {
+        let owner = reactor_words(self.alloc, site.reactor)?;
+        let names = [owner.as_str(), name.as_str(), kind_words(kind), why];
+        Ok(Reason::of(self.alloc, Sentence::WrongPlace, &names)?)
+    }
+
     /// A name may not stand there.
     fn wrong_place(
         &self,
@@ -19,24 +39,14 @@ impl<'a> Refused<'a> {
         role: Role,
         place: usize,
         kind: Kind,
-    ) -> Result<Option<Reason>, NoMemory> {
+    ) -> Result<Option<Reason>, NoMemory>
+        ensures { IfOk result (λ found. IfSome found (IsOf 7)) }
+    {
         let Some(name) = name_at(site.member, role, place) else {
             return Ok(None);
         };
-        let (owner, owner_name) = reactor_words(site.reactor);
-        let (point, port) = port_words(name);
-        let is = kind_words(kind);
-        let reason = Reason::of(self.alloc, "in ")?
-            .say(owner)?
-            .say(owner_name)?
-            .say(" ")?
-            .say(name.head.as_str())?
-            .say(point)?
-            .say(port)?
-            .say(" is ")?
-            .say(is)?
-            .say(", and ")?
-            .say(role_words(role))?;
+        let name = name_words(self.alloc, name)?;
+        let reason = self.not_there(site, name, kind, role_words(role))?;
         Ok(Some(reason.way(role_way(role))?))
     }
 
@@ -46,58 +56,51 @@ impl<'a> Refused<'a> {
         site: Site<'a>,
         place: usize,
         kind: Kind,
-    ) -> Result<Option<Reason>, NoMemory> {
+    ) -> Result<Option<Reason>, NoMemory>
+        ensures { IfOk result (λ found. IfSome found (IsOf 7)) }
+    {
         let Some(TimeExpression::Parameter { name, .. }) = time_at(site.member, place) else {
             return Ok(None);
         };
-        let (owner, owner_name) = reactor_words(site.reactor);
-        let is = kind_words(kind);
-        let reason = Reason::of(self.alloc, "in ")?
-            .say(owner)?
-            .say(owner_name)?
-            .say(" ")?
-            .say(name.as_str())?
-            .say(" is ")?
-            .say(is)?
-            .say(", and no time")?;
+        let reason = self.not_there(site, name.clone()?, kind, "no time")?;
         let way = "A time is a number with a unit, or a parameter of the reactor.";
         Ok(Some(reason.way(way)?))
     }
 
     /// The main reactor has a port.
-    fn main_port(&self, site: Site<'a>) -> Result<Option<Reason>, NoMemory> {
+    fn main_port(&self, site: Site<'a>) -> Result<Option<Reason>, NoMemory>
+        ensures { IfOk result (λ found. IfSome found (IsOf 8)) }
+    {
         let Some(name) = declared_name(site.member) else {
             return Ok(None);
         };
-        let reason = Reason::of(self.alloc, "the main reactor has a port, ")?.say(name)?;
+        let reason = Reason::of(self.alloc, Sentence::MainPort, &[name])?;
         let way = "A main reactor has no ports. What comes from outside is a physical action.";
         Ok(Some(reason.way(way)?))
     }
 
     /// The two lists of a connection differ in length.
-    fn width(&self, site: Site<'a>, connection: &Connection) -> Result<Reason, NoMemory> {
-        let (owner, name) = reactor_words(site.reactor);
+    fn widths(&self, site: Site<'a>) -> Result<Option<Reason>, NoMemory>
+        ensures { IfOk result (λ found. IfSome found (IsOf 11)) }
+    {
+        let Member::Connection(connection) = site.member else {
+            return Ok(None);
+        };
+        let owner = reactor_words(self.alloc, site.reactor)?;
         let (mut from, mut to) = (Buffer::new(), Buffer::new());
         let from = from.format(connection.sources.len() as u64);
         let to = to.format(connection.destinations.len() as u64);
-        let reason = Reason::of(self.alloc, "in ")?
-            .say(owner)?
-            .say(name)?
-            .say(" a connection joins ")?
-            .say(from)?
-            .say(" names to ")?
-            .say(to)?;
-        reason.way("Write as many names behind the arrow as before it.")
+        let reason = Reason::of(self.alloc, Sentence::Widths, &[owner.as_str(), from, to])?;
+        Ok(Some(reason.way("Write as many names behind the arrow as before it.")?))
     }
 
     /// A reaction has no trigger.
-    fn no_trigger(&self, site: Site<'a>) -> Result<Reason, NoMemory> {
-        let (owner, name) = reactor_words(site.reactor);
-        let reason = Reason::of(self.alloc, "a reaction of ")?
-            .say(owner)?
-            .say(name)?
-            .say(" has no trigger")?;
-        reason.way("Write one between the parentheses, as `startup`.")
+    fn no_trigger(&self, site: Site<'a>) -> Result<Option<Reason>, NoMemory>
+        ensures { IfOk result (λ found. IfSome found (IsOf 12)) }
+    {
+        let owner = reactor_words(self.alloc, site.reactor)?;
+        let reason = Reason::of(self.alloc, Sentence::NoTrigger, &[owner.as_str()])?;
+        Ok(Some(reason.way("Write one between the parentheses, as `startup`.")?))
     }
 
     /// A name stands twice in one role of a reaction.
@@ -106,29 +109,23 @@ impl<'a> Refused<'a> {
         site: Site<'a>,
         role: Role,
         second: usize,
-    ) -> Result<Option<Reason>, NoMemory> {
+    ) -> Result<Option<Reason>, NoMemory>
+        ensures { IfOk result (λ found. IfSome found (IsOf 13)) }
+    {
         let Some(name) = name_at(site.member, role, second) else {
             return Ok(None);
         };
-        let (owner, owner_name) = reactor_words(site.reactor);
-        let (point, port) = port_words(name);
-        let what = match role {
-            Role::Read => " twice among what it reads",
-            _ => " twice among its effects",
-        };
-        let reason = Reason::of(self.alloc, "a reaction of ")?
-            .say(owner)?
-            .say(owner_name)?
-            .say(" names ")?
-            .say(name.head.as_str())?
-            .say(point)?
-            .say(port)?
-            .say(what)?;
+        let owner = reactor_words(self.alloc, site.reactor)?;
+        let name = name_words(self.alloc, name)?;
+        let names = [owner.as_str(), name.as_str(), list_words(role)];
+        let reason = Reason::of(self.alloc, Sentence::NamedTwice, &names)?;
         Ok(Some(reason.way("Write it once. A trigger is read too.")?))
     }
 
     /// An instance gives a parameter two values.
-    fn given_twice(&self, site: Site<'a>, second: usize) -> Result<Option<Reason>, NoMemory> {
+    fn given_twice(&self, site: Site<'a>, second: usize) -> Result<Option<Reason>, NoMemory>
+        ensures { IfOk result (λ found. IfSome found (IsOf 3)) }
+    {
         let Some(instance) = instance_of(site.member) else {
             return Ok(None);
         };
@@ -136,22 +133,18 @@ impl<'a> Refused<'a> {
             return Ok(None);
         }
         let name = instance.given[second].name.as_str();
-        let reason = Reason::of(self.alloc, "the instance ")?
-            .say(instance.name.as_str())?
-            .say(" gives the parameter ")?
-            .say(name)?
-            .say(" two values")?;
+        let names = [instance.name.as_str(), name];
+        let reason = Reason::of(self.alloc, Sentence::GivenTwice, &names)?;
         Ok(Some(reason))
     }
 
     /// A time is too long.
-    fn long_time(&self, site: Site<'a>) -> Result<Reason, NoMemory> {
-        let (owner, name) = reactor_words(site.reactor);
-        let reason = Reason::of(self.alloc, "a time of ")?
-            .say(owner)?
-            .say(name)?
-            .say(" is past 10^18 nanoseconds")?;
-        reason.way("That is some 31 years. No time may be longer.")
+    fn long_time(&self, site: Site<'a>) -> Result<Option<Reason>, NoMemory>
+        ensures { IfOk result (λ found. IfSome found (IsOf 14)) }
+    {
+        let owner = reactor_words(self.alloc, site.reactor)?;
+        let reason = Reason::of(self.alloc, Sentence::LongTime, &[owner.as_str()])?;
+        Ok(Some(reason.way("That is some 31 years. No time may be longer.")?))
     }
 
     /// What is said of the finding.
@@ -159,31 +152,22 @@ impl<'a> Refused<'a> {
         &self,
         site: Site<'a>,
         finding: Finding,
-    ) -> Result<Option<Reason>, NoMemory> {
+    ) -> Result<Option<Reason>, NoMemory>
+        ensures { IfOk result (λ found. IfSome found (IsOf (cause_of finding))) }
+    {
         match finding {
             Finding::GivenTwice { second, .. } => self.given_twice(site, second),
             Finding::UnknownReactor => self.unknown_reactor(site),
-            Finding::UnknownName { role, name } => match name_at(site.member, role, name) {
-                Some(name) => Ok(Some(self.unknown_name(site, name)?)),
-                None => Ok(None),
-            },
-            Finding::UnknownTime { time } => match time_at(site.member, time) {
-                Some(TimeExpression::Parameter { name, .. }) => {
-                    Ok(Some(self.unknown_time(site, name.as_str())?))
-                }
-                _ => Ok(None),
-            },
+            Finding::UnknownName { role, name } => self.unknown_name(site, role, name),
+            Finding::UnknownTime { time } => self.unknown_time(site, time),
             Finding::UnknownParameter { value } => self.unknown_parameter(site, value),
             Finding::WrongPlace { role, name, kind } => self.wrong_place(site, role, name, kind),
             Finding::WrongTime { time, kind } => self.wrong_time(site, time, kind),
             Finding::MainHasPort => self.main_port(site),
-            Finding::WidthMismatch => match site.member {
-                Member::Connection(connection) => Ok(Some(self.width(site, connection)?)),
-                _ => Ok(None),
-            },
-            Finding::NoTrigger => Ok(Some(self.no_trigger(site)?)),
+            Finding::WidthMismatch => self.widths(site),
+            Finding::NoTrigger => self.no_trigger(site),
             Finding::NamedTwice { role, second, .. } => self.named_twice(site, role, second),
-            Finding::LongTime { .. } => Ok(Some(self.long_time(site)?)),
+            Finding::LongTime { .. } => self.long_time(site),
         }
     }
 }

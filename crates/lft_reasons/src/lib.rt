@@ -10,6 +10,7 @@ mod reason;
 mod reasons;
 mod recursion;
 mod refused;
+mod sentence;
 mod singles;
 mod spots;
 mod tell;

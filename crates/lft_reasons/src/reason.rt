@@ -1,7 +1,8 @@
 //! Why a program is refused: a sentence, the places that it speaks of, and what to write.
 
-ghost use Rattle.std.specs.Prelude.{◌≡◌};
+ghost use Rattle.std.specs.Prelude.{◌≡◌, IfOk};
 
+use crate::sentence::Sentence;
 use lft_refusals::Spot;
 use lft_tag::NoMemory;
 use std::alloc::Global;
@@ -9,8 +10,10 @@ use std::alloc::Global;
 /// Why a program is refused.
 #[derive(Drop)]
 pub(crate) struct Reason {
-    /// What is wrong, without the point at the end.
-    pub said: String,
+    /// What is wrong.
+    pub sentence: Sentence,
+    /// The names in the sentence, in order.
+    pub names: Vec<String>,
     /// Where that is.
     pub at: Option<Spot>,
     /// What stands there twice, or is written from there too.
@@ -20,35 +23,37 @@ pub(crate) struct Reason {
 }
 
 impl Reason {
-    /// The sentence that begins so.
-    pub(crate) fn of(alloc: Global, words: &str) -> Result<Reason, NoMemory> {
-        let mut said = String::new(alloc);
-        said.push_str(words)?;
+    /// The sentence with these names.
+    pub(crate) fn of(alloc: Global, sentence: Sentence, names: &[&str]) -> Result<Reason, NoMemory>
+        ensures { IfOk result (λ r. r.sentence ≡ sentence) }
+    {
+        let mut owned = Vec::new(alloc);
+        for name in names {
+            let mut copy = String::new(alloc);
+            copy.push_str(*name)?;
+            owned.push(copy)?;
+        }
         Ok(Reason {
-            said,
+            sentence,
+            names: owned,
             at: None,
             before: None,
             ways: String::new(alloc),
         })
     }
 
-    /// The same with these words behind the sentence.
-    pub(crate) fn say(self, words: &str) -> Result<Reason, NoMemory> {
-        let mut reason = self;
-        reason.said.push_str(words)?;
-        Ok(reason)
-    }
-
     /// The same with that place.
     pub(crate) fn at(self, spot: Option<Spot>) -> Reason
-        ensures { result.at ≡ spot }
+        ensures at { result.at ≡ spot }
+        ensures sentence { result.sentence ≡ self.sentence }
     {
         Reason { at: spot, ..self }
     }
 
     /// The same with that place before.
     pub(crate) fn before(self, spot: Option<Spot>) -> Reason
-        ensures { result.at ≡ self.at }
+        ensures at { result.at ≡ self.at }
+        ensures sentence { result.sentence ≡ self.sentence }
     {
         Reason {
             before: spot,
@@ -57,7 +62,9 @@ impl Reason {
     }
 
     /// The same with what to write.
-    pub(crate) fn way(self, words: &str) -> Result<Reason, NoMemory> {
+    pub(crate) fn way(self, words: &str) -> Result<Reason, NoMemory>
+        ensures { IfOk result (λ r. r.sentence ≡ self.sentence) }
+    {
         let mut reason = self;
         reason.ways.push_str("  ")?;
         reason.ways.push_str(words)?;
@@ -66,7 +73,9 @@ impl Reason {
     }
 
     /// The same with the question whether a name was meant.
-    pub(crate) fn ask(self, head: &str, point: &str, name: &str) -> Result<Reason, NoMemory> {
+    pub(crate) fn ask(self, head: &str, point: &str, name: &str) -> Result<Reason, NoMemory>
+        ensures { IfOk result (λ r. r.sentence ≡ self.sentence) }
+    {
         let mut reason = self;
         reason.ways.push_str("  Is it `")?;
         reason.ways.push_str(head)?;
@@ -77,7 +86,9 @@ impl Reason {
     }
 
     /// The same with what one reactor contains.
-    pub(crate) fn link(self, outer: &str, inner: &str) -> Result<Reason, NoMemory> {
+    pub(crate) fn link(self, outer: &str, inner: &str) -> Result<Reason, NoMemory>
+        ensures { IfOk result (λ r. r.sentence ≡ self.sentence) }
+    {
         let mut reason = self;
         reason.ways.push_str("  ")?;
         reason.ways.push_str(outer)?;

@@ -1,9 +1,13 @@
 //! What is said of a reactor that contains itself.
 
+ghost use Rattle.std.specs.Prelude.{◌≡◌, IfOk, IfSome};
+ghost use Rattle.lft_reasons.specs.Sentences.{IsOf};
+
 use crate::reason::Reason;
 use crate::refused::Refused;
+use crate::sentence::Sentence;
 use crate::words::reactor_words;
-use lft_refusals::token_spot;
+use lft_refusals::{Spot, token_spot};
 use lft_tag::NoMemory;
 use lft_tree::{Instance, Member, Reactor};
 
@@ -19,31 +23,36 @@ fn first_instance<'a>(reactor: &'a Reactor, name: &str) -> Option<&'a Instance> 
     None
 }
 
+/// The name of a reactor; nothing where it has none.
+fn own_name(reactor: &Reactor) -> &str {
+    match &reactor.name {
+        Some(name) => name.as_str(),
+        None => "",
+    }
+}
+
 impl<'a> Refused<'a> {
-    /// The reason at the instance of the second reactor in the first.
-    fn at_instance(&self, reason: Reason, first: usize, second: usize) -> Reason {
-        let (Some(outer), Some(inner)) = (self.reactor(first), self.reactor(second)) else {
-            return reason;
-        };
-        let (_, name) = reactor_words(inner);
-        match first_instance(outer, name) {
-            Some(instance) => reason.at(token_spot(self.tokens, instance.reactor_at)),
-            None => reason,
-        }
+    /// Where the first reactor has an instance of the second.
+    fn instance_spot(&self, first: usize, second: usize) -> Option<Spot> {
+        let name = own_name(self.reactor(second)?);
+        let instance = first_instance(self.reactor(first)?, name)?;
+        token_spot(self.tokens, instance.reactor_at)
     }
 
-    /// Puts that the first reactor has an instance of the second behind the sentence.
-    fn say_step(&self, reason: Reason, first: usize, second: usize) -> Result<Reason, NoMemory> {
+    /// The reason with that the first reactor has an instance of the second.
+    fn with_step(&self, reason: Reason, first: usize, second: usize) -> Result<Reason, NoMemory>
+        ensures { IfOk result (λ r. r.sentence ≡ reason.sentence) }
+    {
         let (Some(outer), Some(inner)) = (self.reactor(first), self.reactor(second)) else {
             return Ok(reason);
         };
-        let (_, from) = reactor_words(outer);
-        let (_, to) = reactor_words(inner);
-        reason.link(from, to)
+        reason.link(own_name(outer), own_name(inner))
     }
 
     /// A reactor contains itself. Each of the circle has an instance of the next, and the last of the first.
-    pub(crate) fn recursive(&self, circle: &[usize]) -> Result<Option<Reason>, NoMemory> {
+    pub(crate) fn recursive(&self, circle: &[usize]) -> Result<Option<Reason>, NoMemory>
+        ensures { IfOk result (λ found. IfSome found (IsOf 5)) }
+    {
         if circle.is_empty() {
             return Ok(None);
         }
@@ -51,19 +60,18 @@ impl<'a> Refused<'a> {
         let Some(reactor) = self.reactor(first) else {
             return Ok(None);
         };
-        let (owner, name) = reactor_words(reactor);
-        let mut reason = Reason::of(self.alloc, owner)?
-            .say(name)?
-            .say(" contains itself")?;
+        let owner = reactor_words(self.alloc, reactor)?;
         let second = if circle.len() > 1 { circle[1] } else { first };
-        reason = self.at_instance(reason, first, second);
+        let mut reason = Reason::of(self.alloc, Sentence::Recursive, &[owner.as_str()])?.at(
+            self.instance_spot(first, second),
+        );
         for place in 0..circle.len() {
             let next = if place + 1 < circle.len() {
                 place + 1
             } else {
                 0
             };
-            reason = self.say_step(reason, circle[place], circle[next])?;
+            reason = self.with_step(reason, circle[place], circle[next])?;
         }
         Ok(Some(reason))
     }

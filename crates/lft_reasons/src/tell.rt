@@ -3,14 +3,17 @@
 ghost use Rattle.std.specs.Prelude.{◌≡◌, ◌≢◌, ◌⊎◌, IfOk, IfSome, IfNone, string_bytes};
 ghost use Rattle.lft_tree.specs.View.{tree_view};
 ghost use Rattle.lft_scope.specs.Causes.{IsFirst, causes};
+ghost use Rattle.lft_causes.specs.Witnesses.{cause_shown};
 ghost use Rattle.lft_program.specs.Faults.{number_of as the_number_of};
 ghost use Rattle.lft_program.specs.Refusals.{Tells, cause_of};
 ghost use Rattle.lft_refusals.specs.Refusals.{IsLong};
 ghost use Rattle.lft_reasons.specs.Reasons.{BeginsAt, IsCause, IsRefusedFor, IsShownAt, IsToldOf, SaySpot, witness_in};
+ghost use Rattle.lft_reasons.specs.Sentences.{IsOf, sentence_of};
 ghost use Rattle.lft_reasons.specs.Spots.{behind, reactors_among as the_reactors_among, witness_spot};
 
 use crate::reason::Reason;
 use crate::refused::Refused;
+use crate::sentence::push_said;
 use crate::spots::{reactors_among, spot_of};
 use lft_causes::{Finding, Witness};
 use lft_program::{ProgramFault, Refusal, flattened};
@@ -76,16 +79,26 @@ fn spot_before(tokens: &Tokens, reactors: &[&Reactor], witness: Witness) -> Opti
     spot_of(tokens, reactors, first_of(witness)?)
 }
 
+/// What is said of a witness of the cause.
+fn said_of(refused: &Refused, cause: u32, witness: Witness) -> Result<Option<Reason>, NoMemory>
+    requires { cause_shown witness ≡ cause }
+    ensures some { IfOk result (λ found. IfSome found (IsOf cause)) }
+    ensures none { IfOk result (λ found. IfNone found (IsCause cause → ⊥)) }
+{
+    match refused.of_witness(witness)? {
+        Some(reason) => Ok(Some(reason)),
+        None => refused.of_cause(cause),
+    }
+}
+
 /// What is said of a witness of the cause, and where it stands.
 fn of_witness(refused: &Refused, cause: u32, witness: Witness) -> Result<Option<Reason>, NoMemory>
+    requires { cause_shown witness ≡ cause }
+    ensures some { IfOk result (λ found. IfSome found (IsOf cause)) }
     ensures none { IfOk result (λ found. IfNone found (IsCause cause → ⊥)) }
     ensures at { IfOk result (λ found. IfSome found (λ r. r.at ≡ witness_spot refused.now.tokens.now (behind refused.now.reactors.now) witness)) }
 {
-    let said = match refused.of_witness(witness)? {
-        Some(reason) => Some(reason),
-        None => refused.of_cause(cause)?,
-    };
-    match said {
+    match said_of(refused, cause, witness)? {
         Some(reason) => {
             let before = spot_before(refused.tokens, refused.reactors, witness);
             let spot = spot_of(refused.tokens, refused.reactors, witness);
@@ -97,7 +110,8 @@ fn of_witness(refused: &Refused, cause: u32, witness: Witness) -> Result<Option<
 
 /// The witness that a refusal has, if it has one.
 fn witness_of(refusal: &Refusal) -> Option<Witness>
-    ensures { result ≡ witness_in refusal.now }
+    ensures witness { result ≡ witness_in refusal.now }
+    ensures cause { IfSome result (λ witness. cause_shown witness ≡ cause_of refusal.now) }
 {
     match refusal {
         Refusal::Shown(witness) => Some(*witness),
@@ -115,7 +129,9 @@ fn without_witness(
     refusal: &Refusal,
     cause: u32,
 ) -> Result<Option<Reason>, NoMemory>
-    ensures { IfOk result (λ found. IfNone found (IsCause cause → ⊥)) }
+    requires { cause_of refusal.now ≡ cause }
+    ensures some { IfOk result (λ found. IfSome found (IsOf cause)) }
+    ensures none { IfOk result (λ found. IfNone found (IsCause cause → ⊥)) }
 {
     match refused.of_whole(refusal)? {
         Some(reason) => Ok(Some(reason)),
@@ -135,6 +151,7 @@ fn reason_of(
     requires tells { Tells (tree_view ast.now) refusal.now }
     requires of_cause { cause_of refusal.now ≡ cause }
     requires is_cause { IsCause cause }
+    ensures some { IfOk result (λ found. IfSome found (IsOf cause)) }
     ensures none { IfOk result (λ found. IfNone found (IsCause cause → ⊥)) }
     ensures shown { IfOk result (λ found. IfSome found (λ r. IsShownAt tokens.now (the_reactors_among ast.now.items.items) cause r.at)) }
 {
@@ -181,11 +198,19 @@ fn start_of(alloc: Global, text: &[u8], spot: Option<Spot>) -> Result<String, No
     Ok(out)
 }
 
-/// What is behind the place.
+/// Where it is, and the sentence.
+fn head_of(alloc: Global, text: &[u8], reason: &Reason) -> Result<String, NoMemory>
+    ensures { IfOk result (λ words. BeginsAt text.now reason.now.at (sentence_of reason.now) (string_bytes words)) }
+{
+    let mut out = start_of(alloc, text, reason.at)?;
+    push_said(&mut out, reason.sentence.words(), &reason.names)?;
+    out.push_str(".\n")?;
+    Ok(out)
+}
+
+/// What is behind the sentence: both lines, and what to write.
 fn rest_of(alloc: Global, text: &[u8], reason: &Reason) -> Result<String, NoMemory> {
     let mut out = String::new(alloc);
-    out.push_str(reason.said.as_str())?;
-    out.push_str(".\n")?;
     push_spot(alloc, &mut out, text, reason.before)?;
     push_spot(alloc, &mut out, text, reason.at)?;
     out.push_str(reason.ways.as_str())?;
@@ -194,10 +219,10 @@ fn rest_of(alloc: Global, text: &[u8], reason: &Reason) -> Result<String, NoMemo
 
 /// The reason in lines.
 fn lines(alloc: Global, text: &[u8], reason: &Reason) -> Result<String, NoMemory>
-    ensures { IfOk result (λ words. BeginsAt text.now reason.now.at (string_bytes words)) }
+    ensures { IfOk result (λ words. BeginsAt text.now reason.now.at (sentence_of reason.now) (string_bytes words)) }
 {
     let rest = rest_of(alloc, text, reason)?;
-    let mut out = start_of(alloc, text, reason.at)?;
+    let mut out = head_of(alloc, text, reason)?;
     out.push_str(rest.as_str())?;
     Ok(out)
 }

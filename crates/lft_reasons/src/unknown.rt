@@ -1,12 +1,18 @@
 //! What is said of names that are nothing.
 
+ghost use Rattle.std.specs.Prelude.{◌≡◌, IfOk, IfSome};
+ghost use Rattle.lft_reasons.specs.Sentences.{IsOf};
+
 use crate::reason::Reason;
 use crate::refused::{Refused, Site};
+use crate::sentence::Sentence;
+use crate::spots::{name_at, time_at};
 use crate::words::reactor_words;
 use lft_refusals::has_code_with;
+use lft_scope::kinds::Role;
 use lft_scope::names::Declared;
 use lft_tag::NoMemory;
-use lft_tree::{Instance, Member, Reference};
+use lft_tree::{Instance, Member, TimeExpression};
 
 /// The instance that the member is, if it is one.
 pub(crate) fn instance_of(member: &Member) -> Option<&Instance> {
@@ -17,7 +23,9 @@ pub(crate) fn instance_of(member: &Member) -> Option<&Instance> {
 }
 
 /// The reason with a question, where some name was probably meant.
-fn meant(reason: Reason, near: Option<&str>) -> Result<Reason, NoMemory> {
+fn meant(reason: Reason, near: Option<&str>) -> Result<Reason, NoMemory>
+    ensures { IfOk result (λ r. r.sentence ≡ reason.sentence) }
+{
     match near {
         Some(name) => reason.ask("", "", name),
         None => Ok(reason),
@@ -26,17 +34,16 @@ fn meant(reason: Reason, near: Option<&str>) -> Result<Reason, NoMemory> {
 
 impl<'a> Refused<'a> {
     /// An instance is of a reactor that isn't there.
-    pub(crate) fn unknown_reactor(&self, site: Site<'a>) -> Result<Option<Reason>, NoMemory> {
+    pub(crate) fn unknown_reactor(&self, site: Site<'a>) -> Result<Option<Reason>, NoMemory>
+        ensures { IfOk result (λ found. IfSome found (IsOf 4)) }
+    {
         let Some(instance) = instance_of(site.member) else {
             return Ok(None);
         };
         let wanted = instance.reactor.as_str();
-        let (owner, name) = reactor_words(site.reactor);
-        let reason = Reason::of(self.alloc, owner)?
-            .say(name)?
-            .say(" has an instance of ")?
-            .say(wanted)?
-            .say(", which is no reactor of the text")?;
+        let owner = reactor_words(self.alloc, site.reactor)?;
+        let names = [owner.as_str(), wanted];
+        let reason = Reason::of(self.alloc, Sentence::UnknownReactor, &names)?;
         let reason = meant(reason, self.near_reactor(wanted)?)?;
         if has_code_with(self.text, self.tokens.as_slice(), b"reaction") {
             let way = "Some code has the word `reaction`: is the `=}` before that missing?";
@@ -45,49 +52,51 @@ impl<'a> Refused<'a> {
         Ok(Some(reason))
     }
 
-    /// A plain name is nothing.
-    fn unknown_plain(&self, site: Site<'a>, wanted: &str) -> Result<Reason, NoMemory> {
-        let (owner, name) = reactor_words(site.reactor);
-        let reason = Reason::of(self.alloc, "nothing in ")?
-            .say(owner)?
-            .say(name)?
-            .say(" is named ")?
-            .say(wanted)?;
+    /// A name without a port is nothing.
+    fn unknown_plain(&self, site: Site<'a>, wanted: &str) -> Result<Reason, NoMemory>
+        ensures { IfOk result (IsOf 6) }
+    {
+        let owner = reactor_words(self.alloc, site.reactor)?;
+        let names = [owner.as_str(), wanted];
+        let reason = Reason::of(self.alloc, Sentence::UnknownName, &names)?;
         let reason = meant(reason, self.near_declared(site.reactor, wanted)?)?;
         match self.with_that_port(site.reactor, wanted)? {
-            Some(instance) => reason.ask(instance, ".", wanted),
+            Some(instance) => Ok(reason.ask(instance, ".", wanted)?),
+            None => Ok(reason),
+        }
+    }
+
+    /// An instance is nothing whose port is named.
+    fn unknown_instance(&self, site: Site<'a>, head: &str, port: &str) -> Result<Reason, NoMemory>
+        ensures { IfOk result (IsOf 6) }
+    {
+        let owner = reactor_words(self.alloc, site.reactor)?;
+        let names = [owner.as_str(), head];
+        let reason = Reason::of(self.alloc, Sentence::UnknownInstance, &names)?;
+        match self.near_member(site.reactor, Declared::Instance, head)? {
+            Some(near) => Ok(reason.ask(near, ".", port)?),
             None => Ok(reason),
         }
     }
 
     /// A port of an instance is nothing.
-    fn unknown_port(&self, site: Site<'a>, head: &str, wanted: &str) -> Result<Reason, NoMemory> {
-        let (owner, name) = reactor_words(site.reactor);
-        let Some(instance) = self.instance(site, head) else {
-            let reason = Reason::of(self.alloc, owner)?
-                .say(name)?
-                .say(" has no instance named ")?
-                .say(head)?;
-            return match self.near_member(site.reactor, Declared::Instance, head)? {
-                Some(near) => reason.ask(near, ".", wanted),
-                None => Ok(reason),
-            };
-        };
-        let inner = instance.reactor.as_str();
-        let reason = Reason::of(self.alloc, "in ")?
-            .say(owner)?
-            .say(name)?
-            .say(" ")?
-            .say(head)?
-            .say(" is an instance of ")?
-            .say(inner)?
-            .say(", which has no port named ")?
-            .say(wanted)?;
+    fn unknown_port(
+        &self,
+        site: Site<'a>,
+        instance: &Instance,
+        port: &str,
+    ) -> Result<Reason, NoMemory>
+        ensures { IfOk result (IsOf 6) }
+    {
+        let owner = reactor_words(self.alloc, site.reactor)?;
+        let (head, inner) = (instance.name.as_str(), instance.reactor.as_str());
+        let names = [owner.as_str(), head, inner, port];
+        let reason = Reason::of(self.alloc, Sentence::UnknownPort, &names)?;
         let Some(reactor) = self.named(inner) else {
             return Ok(reason);
         };
-        match self.near_member(reactor, Declared::Port, wanted)? {
-            Some(near) => reason.ask(head, ".", near),
+        match self.near_member(reactor, Declared::Port, port)? {
+            Some(near) => Ok(reason.ask(head, ".", near)?),
             None => Ok(reason),
         }
     }
@@ -108,24 +117,42 @@ impl<'a> Refused<'a> {
     pub(crate) fn unknown_name(
         &self,
         site: Site<'a>,
-        name: &Reference,
-    ) -> Result<Reason, NoMemory> {
-        match &name.port {
-            None => self.unknown_plain(site, name.head.as_str()),
-            Some(port) => self.unknown_port(site, name.head.as_str(), port.as_str()),
+        role: Role,
+        place: usize,
+    ) -> Result<Option<Reason>, NoMemory>
+        ensures { IfOk result (λ found. IfSome found (IsOf 6)) }
+    {
+        let Some(name) = name_at(site.member, role, place) else {
+            return Ok(None);
+        };
+        let head = name.head.as_str();
+        let Some(port) = &name.port else {
+            return Ok(Some(self.unknown_plain(site, head)?));
+        };
+        match self.instance(site, head) {
+            Some(instance) => Ok(Some(self.unknown_port(site, instance, port.as_str())?)),
+            None => Ok(Some(self.unknown_instance(site, head, port.as_str())?)),
         }
     }
 
     /// A time names nothing.
-    pub(crate) fn unknown_time(&self, site: Site<'a>, wanted: &str) -> Result<Reason, NoMemory> {
-        let (owner, name) = reactor_words(site.reactor);
-        let reason = Reason::of(self.alloc, "nothing in ")?
-            .say(owner)?
-            .say(name)?
-            .say(" is named ")?
-            .say(wanted)?;
+    pub(crate) fn unknown_time(
+        &self,
+        site: Site<'a>,
+        place: usize,
+    ) -> Result<Option<Reason>, NoMemory>
+        ensures { IfOk result (λ found. IfSome found (IsOf 6)) }
+    {
+        let Some(TimeExpression::Parameter { name, .. }) = time_at(site.member, place) else {
+            return Ok(None);
+        };
+        let wanted = name.as_str();
+        let owner = reactor_words(self.alloc, site.reactor)?;
+        let names = [owner.as_str(), wanted];
+        let reason = Reason::of(self.alloc, Sentence::UnknownName, &names)?;
         let reason = meant(reason, self.near_parameter(site.reactor, wanted)?)?;
-        reason.way("A time is a number with a unit, or a parameter of the reactor.")
+        let way = "A time is a number with a unit, or a parameter of the reactor.";
+        Ok(Some(reason.way(way)?))
     }
 
     /// A value is for what isn't a parameter.
@@ -133,7 +160,9 @@ impl<'a> Refused<'a> {
         &self,
         site: Site<'a>,
         value: usize,
-    ) -> Result<Option<Reason>, NoMemory> {
+    ) -> Result<Option<Reason>, NoMemory>
+        ensures { IfOk result (λ found. IfSome found (IsOf 6)) }
+    {
         let Some(instance) = instance_of(site.member) else {
             return Ok(None);
         };
@@ -142,14 +171,9 @@ impl<'a> Refused<'a> {
         }
         let given = &instance.given[value];
         let (wanted, inner) = (given.name.as_str(), instance.reactor.as_str());
-        let (owner, owner_name) = reactor_words(site.reactor);
-        let reason = Reason::of(self.alloc, owner)?
-            .say(owner_name)?
-            .say(" gives an instance of ")?
-            .say(inner)?
-            .say(" a value for ")?
-            .say(wanted)?
-            .say(", which is no parameter of it")?;
+        let owner = reactor_words(self.alloc, site.reactor)?;
+        let names = [owner.as_str(), inner, wanted];
+        let reason = Reason::of(self.alloc, Sentence::UnknownParameter, &names)?;
         match self.named(inner) {
             Some(reactor) => Ok(Some(meant(reason, self.near_parameter(reactor, wanted)?)?)),
             None => Ok(Some(reason)),

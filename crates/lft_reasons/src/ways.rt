@@ -2,7 +2,7 @@
 
 use crate::refused::Refused;
 use crate::singles::single_in;
-use crate::words::port_words;
+use crate::words::push_name;
 use lft_instances::{Instance, Site};
 use lft_program::Way;
 use lft_tag::NoMemory;
@@ -105,10 +105,6 @@ impl<'a> Refused<'a> {
             out.push_str(*instance)?;
             out.push_str(".")?;
         }
-        let (point, port) = port_words(name);
-        out.push_str(name.head.as_str())?;
-        out.push_str(point)?;
-        out.push_str(port)?;
-        Ok(())
+        push_name(out, name)
     }
 }

@@ -1,8 +1,12 @@
 //! What is said of a cause that the program shows as a whole: a loop of connections, a sum of delays, a limit
 //! that is passed.
 
+ghost use Rattle.std.specs.Prelude.{IfOk, IfSome};
+ghost use Rattle.lft_reasons.specs.Sentences.{IsOf};
+
 use crate::reason::Reason;
 use crate::refused::Refused;
+use crate::sentence::Sentence;
 use crate::ways::first_place;
 use itoa::Buffer;
 use lft_program::{Excess, LimitedKind, Way};
@@ -97,12 +101,14 @@ impl<'a> Refused<'a> {
     }
 
     /// Connections alone form a loop. The place is the end of the one that stands first.
-    pub(crate) fn cycle(&self, way: &Way) -> Result<Option<Reason>, NoMemory> {
+    pub(crate) fn cycle(&self, way: &Way) -> Result<Option<Reason>, NoMemory>
+        ensures { IfOk result (λ found. IfSome found (IsOf 10)) }
+    {
         let Some(first) = first_place(&way.joins) else {
             return Ok(None);
         };
         let words = self.ring_words(way, first)?;
-        let reason = Reason::of(self.alloc, "connections alone form a loop")?
+        let reason = Reason::of(self.alloc, Sentence::Cycle, &[])?
             .at(self.end_spot(way, first))
             .way(words.as_str())?;
         let words = "No delay breaks such a loop: a reaction has to stand in it.";
@@ -111,27 +117,33 @@ impl<'a> Refused<'a> {
 
     /// The delays of a chain of connections sum to more than the greatest time. The place is the delay with
     /// which they do.
-    pub(crate) fn long_chain(&self, way: &Way) -> Result<Reason, NoMemory> {
-        let mut ports = String::new(self.alloc);
-        self.push_start(&mut ports, way, way.joins.len().saturating_sub(1))?;
-        ports.push_str(" to ")?;
-        self.push_end(&mut ports, way, 0)?;
-        let reason = Reason::of(self.alloc, "the delays from ")?
-            .say(ports.as_str())?
-            .say(" sum to more than 10^18 nanoseconds")?
-            .at(self.delay_spot(way, 0));
-        reason.way("That is some 31 years. No chain of connections may delay longer.")
+    pub(crate) fn long_chain(&self, way: &Way) -> Result<Option<Reason>, NoMemory>
+        ensures { IfOk result (λ found. IfSome found (IsOf 14)) }
+    {
+        let (mut start, mut end) = (String::new(self.alloc), String::new(self.alloc));
+        self.push_start(&mut start, way, way.joins.len().saturating_sub(1))?;
+        self.push_end(&mut end, way, 0)?;
+        let names = [start.as_str(), end.as_str()];
+        let reason = Reason::of(self.alloc, Sentence::LongChain, &names)?.at(self.delay_spot(
+            way, 0,
+        ));
+        let words = "That is some 31 years. No chain of connections may delay longer.";
+        Ok(Some(reason.way(words)?))
     }
 
     /// Which limit the program passes, and how many there are.
-    pub(crate) fn too_many(&self, excess: Excess) -> Result<Reason, NoMemory> {
+    pub(crate) fn too_many(&self, excess: Excess) -> Result<Option<Reason>, NoMemory>
+        ensures { IfOk result (λ found. IfSome found (IsOf 15)) }
+    {
         let (mut counted, mut most) = (Buffer::new(), Buffer::new());
-        let more = if excess.is_more { "more than " } else { "" };
-        Reason::of(self.alloc, "the program has ")?
-            .say(more)?
-            .say(counted.format(excess.count))?
-            .say(kind_words(excess.kind))?
-            .say(", and may have ")?
-            .say(most.format(u64::from(excess.kind.limit())))
+        let mut things = String::new(self.alloc);
+        if excess.is_more {
+            things.push_str("more than ")?;
+        }
+        things.push_str(counted.format(excess.count))?;
+        things.push_str(kind_words(excess.kind))?;
+        let most = most.format(u64::from(excess.kind.limit()));
+        let reason = Reason::of(self.alloc, Sentence::TooMany, &[things.as_str(), most])?;
+        Ok(Some(reason))
     }
 }

@@ -1,23 +1,40 @@
 //! Words for what a name is, where it stands, and what may stand there.
 
 use lft_scope::kinds::{Kind, Role};
+use lft_tag::NoMemory;
 use lft_tree::{Reactor, Reference};
+use std::alloc::Global;
 
-/// How a reactor is called: the words before its name, and the name.
-pub(crate) fn reactor_words(reactor: &Reactor) -> (&'static str, &str) {
+/// How a reactor is called: by its name, if it has one.
+pub(crate) fn reactor_words(alloc: Global, reactor: &Reactor) -> Result<String, NoMemory> {
+    let mut out = String::new(alloc);
     match &reactor.name {
-        Some(name) => ("reactor ", name.as_str()),
-        None => ("the main reactor", ""),
+        Some(name) => {
+            out.push_str("reactor ")?;
+            out.push_str(name.as_str())?;
+        }
+        None => out.push_str("the main reactor")?,
     }
+    Ok(out)
 }
 
-/// The point and the port of a name, or nothing where it has no port.
-pub(crate) fn port_words(name: &Reference) -> (&'static str, &str) {
-    match &name.port {
-        Some(port) => (".", port.as_str()),
-        None => ("", ""),
+/// Puts a name behind the text as it is written, with its point and its port.
+pub(crate) fn push_name(out: &mut String, name: &Reference) -> Result<(), NoMemory> {
+    out.push_str(name.head.as_str())?;
+    if let Some(port) = &name.port {
+        out.push_str(".")?;
+        out.push_str(port.as_str())?;
     }
+    Ok(())
 }
+
+/// The name as it is written.
+pub(crate) fn name_words(alloc: Global, name: &Reference) -> Result<String, NoMemory> {
+    let mut out = String::new(alloc);
+    push_name(&mut out, name)?;
+    Ok(out)
+}
+
 /// What a name is.
 pub(crate) fn kind_words(kind: Kind) -> &'static str {
     match kind {
@@ -55,5 +72,21 @@ pub(crate) fn role_way(role: Role) -> &'static str {
         Role::Destination => {
             "A connection ends at an output of the reactor, or at an input of an instance."
         }
+    }
+}
+
+/// In which list of a reaction a name stands.
+pub(crate) fn list_words(role: Role) -> &'static str {
+    match role {
+        Role::Read => "what it reads",
+        _ => "its effects",
+    }
+}
+
+/// What writes a port from two places.
+pub(crate) fn writer_words(first: Role, second: Role) -> &'static str {
+    match (first, second) {
+        (Role::Destination, Role::Destination) => "two connections",
+        _ => "a connection and an effect",
     }
 }

@@ -16,7 +16,7 @@ returns-in-Some-clause-shown c =
     let rs = c.in_ok-reactors.reactors.items in
     let w = c.in-Some.witness in
     let same : behind rs ≡ parts = c.in_ok-reactors.ensures ∙ ap reactors_among c.deref.ensures.value in
-    let both = told (tree_view c.args.ast.now) c.args.refusal.now w (sym c.in-Some.is ∙ c.witness_of.ensures) c.requires.tells in
+    let both = told (tree_view c.args.ast.now) c.args.refusal.now w (sym c.in-Some.is ∙ c.witness_of.ensures.witness) c.requires.tells in
     let shows = subst (λ (ts : List ReactorTree). Shows ts w) (trees_among c.args.ast.now.target c.args.ast.now.items.items) both.0 in
     of_found c.of_witness.result (λ r. r.at ≡ witness_spot tokens (behind c.deref-2.result.now) w) (λ r. IsShownAt tokens parts c.args.cause r.at)
     (λ r e. witnessed tokens rs parts same c.args.cause w shows (both.1 ∙ c.requires.of_cause) r.at (e ∙ ap (λ (xs : List (Bor Reactor)). witness_spot tokens (behind xs) w) c.deref-2.ensures.value))
@@ -26,5 +26,5 @@ pub returns-clause-shown : goal.returns-clause-shown
 returns-clause-shown c =
     let tokens = c.args.tokens.now in
     let parts = reactors_among c.args.ast.now.items.items in
-    let whole : IsOfWhole c.args.cause = subst IsOfWhole c.requires.of_cause (of_whole c.args.refusal.now (sym c.in-None.is ∙ c.witness_of.ensures) (subst IsCause (sym c.requires.of_cause) c.requires.is_cause)) in
+    let whole : IsOfWhole c.args.cause = subst IsOfWhole c.requires.of_cause (of_whole c.args.refusal.now (sym c.in-None.is ∙ c.witness_of.ensures.witness) (subst IsCause (sym c.requires.of_cause) c.requires.is_cause)) in
     of_each c.without_witness.result (λ r. IsShownAt tokens parts c.args.cause r.at) (λ r. inr whole)

@@ -1,4 +1,4 @@
-use Rattle.std.proofs.Common.{rules, ◌≡◌, IfSome, inr, refl, subst}
+use Rattle.std.proofs.Common.{rules, ◌≡◌, IfSome, inr, map, refl, string_bytes, subst}
 use Rattle.lft_tree.specs.View.{tree_view}
 use Rattle.lft_scope.specs.Causes.{IsFirst, causes}
 use Rattle.lft_syntax.specs.Grammar.{Spells}
@@ -6,6 +6,7 @@ use Rattle.lft_syntax.specs.View.{lexemes}
 use Rattle.lft_syntax.specs.declared.fault.SyntaxFault.{SyntaxFault}
 use Rattle.lft_syntax.specs.declared.fault.SyntaxFault.TheVariants as fault
 use Rattle.lft_reasons.specs.Reasons.{IsRefusedFor, IsShownAt}
+use Rattle.lft_reasons.specs.Sentences.{IsOf}
 use Rattle.lft_reasons.specs.Spots.{reactors_among}
 use Rattle.lft_reasons.proofs.tell.tell_cause.Goals as goal
 
@@ -24,6 +25,9 @@ returns-in-Some-2-clause-some c = record {
   stand = c.in-Ok-parse.ensures.places;
   spot = c.in-Some-2.reason.at;
   shown = subst (λ o. IfSome o (λ r. IsShownAt c.in-Ok.tokens (reactors_among c.in-Ok-parse.ast.items.items) c.args.cause r.at)) c.in-Some-2.is c.in_ok-reason.ensures.shown;
+  sentence = c.in-Some-2.reason.sentence;
+  tells = subst (λ o. IfSome o (IsOf c.args.cause)) c.in-Some-2.is c.in_ok-reason.ensures.some;
+  names = map string_bytes c.in-Some-2.reason.names.items;
   begins = c.in_ok-words-in-Some-2.ensures;
 }
 
