@@ -18,6 +18,8 @@ error, and `status N`.
 - `explain-pair`: of the rows of a second trace beside the given one, in the same way.
 - `explain-program`: of the text of a program alone.
 - `bundle`, `explain-bundle`: of a text on standard input.
+- `named COMMAND`: what `judge`, `explain`, `cover` or `pair`, with the words beside it, tells of what is given by the
+  given table of names; where there are rows, of these as a second trace too. `named-text` has a whole table of names.
 - `refused`: why `explain` says that the text of a program is refused: its standard output alone. Status 2 and
   the line of a fault have to come too.
 - `refused-externals`, `refused-trace`: the same of a whole table of what is given. `refused-bundle`: of a bundle.
@@ -48,7 +50,7 @@ HEADERS = {
     "names": b"kind,source,core,place\n",
 }
 # Which of the texts a part gives.
-GIVEN = {"program": "program", "externals": "externals", "externals-text": "externals", "trace": "trace"}
+GIVEN = {"program": "program", "externals": "externals", "externals-text": "externals", "trace": "trace", "names": "names"}
 # Stands where lines of what `explain` tells are left out.
 LEFT_OUT = b"  More lines, which `--all` prints: "
 # A trace of fewer bytes is judged by one worker.
@@ -202,6 +204,15 @@ def lowered(runs, case):
     return core + (b"" if names == HEADERS["names"] or not names else b"--- names\n" + names) + whole((b"", err, status)) + others
 
 
+def named(runs, case, names, rows):
+    """What is told of tables that have the names of a table of names, and of a second trace, if there are its rows."""
+    texts = [*texts_of(case), case.given["trace"]] + ([HEADERS["trace"] + rows] if rows else [])
+    path = runs.folder / "names.csv"
+    path.write_bytes(names)
+    command, *words = case.words.split()
+    return whole(runs.ask(command, texts, *words, "--names", path))
+
+
 def refused(answer):
     """Why a text is refused. Where none is, all that is told."""
     out, err, status = answer
@@ -272,6 +283,8 @@ KINDS = {
     "explain-program": lambda runs, case: whole(runs.ask("explain", [case.text])),
     "bundle": lambda runs, case: whole(runs.read(case.text)),
     "explain-bundle": lambda runs, case: whole(runs.read(case.text, "explain")),
+    "named": lambda runs, case: named(runs, case, case.given["names"], case.text),
+    "named-text": lambda runs, case: named(runs, case, case.text, b""),
     "refused": lambda runs, case: refused(runs.ask("explain", [case.text, b"", b""])),
     "refused-externals": lambda runs, case: refused(runs.ask("explain", [case.given["program"], case.text, b""])),
     "refused-trace": lambda runs, case: refused(runs.ask("explain", [*texts_of(case), case.text])),

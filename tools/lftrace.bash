@@ -18,9 +18,9 @@ _lftrace() {
         choice="1000000"
     elif [[ $word == -* ]]; then
         case ${COMP_WORDS[1]} in
-            judge | pair) choice="--workers -h --help" ;;
-            cover) choice="--workers --list -h --help" ;;
-            explain) choice="--workers --all -h --help" ;;
+            judge | pair) choice="--workers --names -h --help" ;;
+            cover) choice="--workers --names --list -h --help" ;;
+            explain) choice="--workers --names --all -h --help" ;;
             follow) choice="--until --every -h --help" ;;
             record) choice="--workers --max-runs -h --help" ;;
             show) choice="-h --help" ;;

@@ -402,6 +402,19 @@ def great_lowerings():
     lowered("1 MiB of states", prints("target C main reactor {\n}\n"), wide(40_000, "state long_name_{at}: int[] = 3"))
 
 
+def named():
+    """Names of another program, which a table of names has."""
+    judge = ["judge", *USUAL, "--names", "names.csv"]
+    table = {"names.csv": "kind,source,core,place\nreaction,blink#1,main#1,\n"}
+    case("names of the source", judge, prints(ACCEPTED), files={"trace.csv": ROWS.replace("main#1", "blink#1"), **table})
+    case("a table of names that isn't there", judge, fault("read 1 Failed names.csv"))
+    case("a table of names that isn't there, for a program that isn't there", ["judge", "no.lf", *USUAL[1:], "--names", "names.csv"], fault("read 1 Failed names.csv"))
+    case("a trace for the table of names", ["judge", *USUAL, "--names=trace.csv"], fault("names 1 BadHeader"))
+    case("names for a program alone", ["explain", "blink.lf", "--names", "names.csv"], refused("error: the following required arguments were not provided:\n"))
+    case("no path for the table of names", ["judge", *USUAL, "--names"], refused("error: a value is required for '--names <TABLE>' but none was supplied\n"))
+    case("an answer in names to a full device", judge, fault("write 1 Failed"), files=table, where="full")
+
+
 def help_and_version():
     for given in (["-h"], ["--help"], ["help"]):
         case(f"help by {given[0]}", given, helps("Usage:", "judge", "pair", "record", "show", "lower", "Status: 0 accepted, same, recorded, shown or lowered, 1 broken or differ, 2 a fault", "--- program", "--version"))
@@ -516,6 +529,6 @@ def program_texts():
 
 def cases():
     """All cases, in order."""
-    for group in (right_things, follows, long_tables, headers, rows, words, pairs, recordings, lowerings, great_lowerings, help_and_version, files, causes, seen, bundles, program_texts):
+    for group in (right_things, follows, long_tables, headers, rows, words, pairs, recordings, lowerings, great_lowerings, named, help_and_version, files, causes, seen, bundles, program_texts):
         group()
     return CASES

@@ -1,12 +1,15 @@
-//! `lower`: the core program of a whole one.
+//! `lower`: the core program of a whole one, and whether there is one.
 
 use crate::words::LowerWords;
 use crate::{end, say};
 use lft_files::read_file;
+use lft_front::Part;
 use lft_lowered::{Unlowered, lower_answer};
 use std::alloc::Global;
+use std::io;
 use std::io::Write;
 use std::process::ExitCode;
+use std::rt::Files;
 
 /// Lowers the program of a file.
 fn lower_file<W: Write>(
@@ -46,5 +49,33 @@ pub(crate) fn end_lowered<W: Write>(
             say(rt, cause);
             ExitCode::from(status)
         }
+    }
+}
+
+/// Writes that `lower` takes the program at a path, whose text has a fault of this part. This is help alone: where
+/// it can't be written, the line of the fault comes all the same.
+pub(crate) fn write_lowers<F: Files, W: Write>(
+    rt: &F,
+    alloc: Global,
+    path: &str,
+    text: &[u8],
+    part: Part,
+    out: &mut W,
+) {
+    // A text that has a tree is printed by `lower` as it is.
+    if part != Part::Lex && part != Part::Syntax {
+        return;
+    }
+    let lowered = lower_answer(
+        rt,
+        alloc,
+        path,
+        text,
+        None,
+        &mut io::sink(),
+        &mut io::sink(),
+    );
+    if lowered.is_ok() {
+        let _ = out.write_all(b"  `lftrace lower` takes this program.\n");
     }
 }

@@ -3,11 +3,13 @@
 
 mod follow;
 mod lower;
+mod names;
 mod words;
 
 use crate::follow::end_followed;
-use crate::lower::end_lowered;
-use crate::words::{Job, JudgeWords, PairWords, RecordWords, read_words};
+use crate::lower::{end_lowered, write_lowers};
+use crate::names::{answer_by_names, end_refused, read_table};
+use crate::words::{Job, JudgeWords, PairWords, Question, RecordWords, read_words};
 use lft_covering::cover_answer;
 use lft_files::{Failure, read_file};
 use lft_front::{
@@ -16,6 +18,7 @@ use lft_front::{
     refusal_of_program, refusal_of_texts, show_answer,
 };
 use lft_record::record_answer;
+use lft_renamed::Names;
 use lft_tag::NoMemory;
 use std::alloc::Global;
 use std::io::{BufWriter, IsTerminal, Read, Write};
@@ -38,11 +41,12 @@ fn judge_files<F: Files + Threads + Sync, W: Write>(
     rt: &F,
     alloc: Global,
     words: JudgeWords<'_>,
+    names: Option<&Names>,
     out: &mut W,
 ) -> Result<bool, Failure> {
     let program = read_file(rt, alloc, words.program)?;
-    let externals = read_file(rt, alloc, words.externals)?;
-    let trace = read_file(rt, alloc, words.trace)?;
+    let externals = read_table(rt, alloc, words.externals, names)?;
+    let trace = read_table(rt, alloc, words.trace, names)?;
     let answer = judge_answer(
         rt,
         alloc,
@@ -60,12 +64,13 @@ fn cover_files<F: Files + Threads + Sync, W: Write>(
     rt: &F,
     alloc: Global,
     words: JudgeWords<'_>,
+    names: Option<&Names>,
     list: bool,
     out: &mut W,
 ) -> Result<bool, Failure> {
     let program = read_file(rt, alloc, words.program)?;
-    let externals = read_file(rt, alloc, words.externals)?;
-    let trace = read_file(rt, alloc, words.trace)?;
+    let externals = read_table(rt, alloc, words.externals, names)?;
+    let trace = read_table(rt, alloc, words.trace, names)?;
     let answer = cover_answer(
         rt,
         alloc,
@@ -93,12 +98,13 @@ fn explain_files<F: Files + Threads + Sync, W: Write>(
     rt: &F,
     alloc: Global,
     words: JudgeWords<'_>,
+    names: Option<&Names>,
     all: bool,
     out: &mut W,
 ) -> Result<bool, Failure> {
     let program = read_file(rt, alloc, words.program)?;
-    let externals = read_file(rt, alloc, words.externals)?;
-    let trace = read_file(rt, alloc, words.trace)?;
+    let externals = read_table(rt, alloc, words.externals, names)?;
+    let trace = read_table(rt, alloc, words.trace, names)?;
     let answer = explain_answer(
         rt,
         alloc,
@@ -109,15 +115,16 @@ fn explain_files<F: Files + Threads + Sync, W: Write>(
         all,
         out,
     );
-    if answer.is_err() {
-        let (program, externals) = (program.as_slice(), externals.as_slice());
-        write_told(
-            refusal_of_texts(alloc, program, externals, trace.as_slice()),
-            out,
-        );
+    match answer {
+        Ok(answer) => Ok(answer),
+        Err(fault) => {
+            let (text, externals) = (program.as_slice(), externals.as_slice());
+            let told = refusal_of_texts(alloc, text, externals, trace.as_slice());
+            write_told(told, out);
+            write_lowers(rt, alloc, words.program, text, fault.part, out);
+            Err(Failure::from(fault))
+        }
     }
-    let answer = answer?;
-    Ok(answer)
 }
 
 /// Compares the two traces of four files, all of which are read first.
@@ -125,12 +132,13 @@ fn pair_files<F: Files + Threads + Sync, W: Write>(
     rt: &F,
     alloc: Global,
     words: PairWords<'_>,
+    names: Option<&Names>,
     out: &mut W,
 ) -> Result<bool, Failure> {
     let program = read_file(rt, alloc, words.program)?;
-    let externals = read_file(rt, alloc, words.externals)?;
-    let first = read_file(rt, alloc, words.first)?;
-    let second = read_file(rt, alloc, words.second)?;
+    let externals = read_table(rt, alloc, words.externals, names)?;
+    let first = read_table(rt, alloc, words.first, names)?;
+    let second = read_table(rt, alloc, words.second, names)?;
     let answer = pair_answer(
         rt,
         alloc,
@@ -150,25 +158,29 @@ fn explain_pair_files<F: Files + Threads + Sync, W: Write>(
     rt: &F,
     alloc: Global,
     words: PairWords<'_>,
+    names: Option<&Names>,
     all: bool,
     out: &mut W,
 ) -> Result<bool, Failure> {
     let program = read_file(rt, alloc, words.program)?;
-    let externals = read_file(rt, alloc, words.externals)?;
-    let first = read_file(rt, alloc, words.first)?;
-    let second = read_file(rt, alloc, words.second)?;
+    let externals = read_table(rt, alloc, words.externals, names)?;
+    let first = read_table(rt, alloc, words.first, names)?;
+    let second = read_table(rt, alloc, words.second, names)?;
     let (program, externals) = (program.as_slice(), externals.as_slice());
     let (first, second) = (first.as_slice(), second.as_slice());
     let workers = workers_for(words.workers, first.len().max(second.len()));
     let answer = explain_pair_answer(
         rt, alloc, program, externals, first, second, workers, all, out,
     );
-    if answer.is_err() {
-        let told = refusal_of_pair_texts(alloc, program, externals, first, second);
-        write_told(told, out);
+    match answer {
+        Ok(answer) => Ok(answer),
+        Err(fault) => {
+            let told = refusal_of_pair_texts(alloc, program, externals, first, second);
+            write_told(told, out);
+            write_lowers(rt, alloc, words.program, program, fault.part, out);
+            Err(Failure::from(fault))
+        }
     }
-    let answer = answer?;
-    Ok(answer)
 }
 
 /// Records the program of three files, all of which are read first.
@@ -214,12 +226,15 @@ fn explain_program<F: Files, W: Write>(
     out: &mut W,
 ) -> Result<bool, Failure> {
     let program = read_file(rt, alloc, path)?;
-    let answer = show_answer(alloc, program.as_slice(), out);
-    if answer.is_err() {
-        write_told(refusal_of_program(alloc, program.as_slice()), out);
+    let text = program.as_slice();
+    match show_answer(alloc, text, out) {
+        Ok(answer) => Ok(answer),
+        Err(fault) => {
+            write_told(refusal_of_program(alloc, text), out);
+            write_lowers(rt, alloc, path, text, fault.part, out);
+            Err(Failure::from(fault))
+        }
     }
-    let answer = answer?;
-    Ok(answer)
 }
 
 /// Judges the bundle that a reader gives.
@@ -302,7 +317,7 @@ fn words_for(job: Job<'_>, answer: &Result<bool, Failure>) -> Option<&'static st
         return failure.cause;
     }
     match job {
-        Job::Bundle | Job::Judge(_) | Job::Cover { .. } | Job::Pair(_) if has_more(answer) => {
+        Job::Bundle | Job::Ask { .. } if has_more(answer) => {
             Some("`lftrace explain` with the same texts tells why")
         }
         Job::Record(_) | Job::Show(_) if has_more_of_program(answer) => {
@@ -344,6 +359,26 @@ pub(crate) fn end(rt: &HostRuntime, alloc: Global, answer: Result<bool, Failure>
     }
 }
 
+/// The answer to what is asked of tables, which is written. Where names are given, the tables have names of the
+/// source.
+pub(crate) fn answer_of<R: Files + Threads + Sync, W: Write>(
+    rt: &R,
+    alloc: Global,
+    question: Question<'_>,
+    names: Option<&Names>,
+    out: &mut W,
+) -> Result<bool, Failure> {
+    match question {
+        Question::Judge(words) => judge_files(rt, alloc, words, names, out),
+        Question::Cover { words, list } => cover_files(rt, alloc, words, names, list, out),
+        Question::Explain { words, all } => explain_files(rt, alloc, words, names, all, out),
+        Question::Pair(words) => pair_files(rt, alloc, words, names, out),
+        Question::ExplainPair { words, all } => {
+            explain_pair_files(rt, alloc, words, names, all, out)
+        }
+    }
+}
+
 fn main(rt: HostRuntime) -> ExitCode {
     let alloc = rt.alloc();
     let words: Vec<String> = match env::args(&rt) {
@@ -373,16 +408,17 @@ fn main(rt: HostRuntime) -> ExitCode {
             await_bundle(&rt);
             judge_bundle(alloc, &mut rt.stdin(), &mut out)
         }
-        Job::Judge(words) => judge_files(&rt, alloc, words, &mut out),
-        Job::Cover { words, list } => cover_files(&rt, alloc, words, list, &mut out),
-        Job::Explain { words, all } => explain_files(&rt, alloc, words, all, &mut out),
         Job::ExplainBundle { all } => {
             await_bundle(&rt);
             explain_bundle(&rt, alloc, &mut rt.stdin(), all, &mut out)
         }
-        Job::ExplainPair { words, all } => explain_pair_files(&rt, alloc, words, all, &mut out),
+        Job::Ask { question, names } => {
+            match answer_by_names(&rt, alloc, question, names, &mut out) {
+                Ok(answer) => answer,
+                Err(fault) => return end_refused(&rt, alloc, fault),
+            }
+        }
         Job::ExplainProgram(path) => explain_program(&rt, alloc, path, &mut out),
-        Job::Pair(words) => pair_files(&rt, alloc, words, &mut out),
         Job::Record(words) => record_files(&rt, alloc, words, &mut out),
         Job::Follow(words) => return end_followed(&rt, alloc, words, &mut out),
         Job::Lower(words) => return end_lowered(&rt, alloc, words, &mut out),

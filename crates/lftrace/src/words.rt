@@ -75,7 +75,7 @@ TABLE gets the header  kind,source,core,place  and a row for each name that diff
 Printed: the core program (status 0); one that is core already as it is. Of what has no
 equal in the core  fault lower N Name FILE:LINE:COLUMN  and what to write in its place.";
 
-/// The words of `judge` and of `explain`: three paths, and how many workers, 1 to 64.
+/// The words of `judge`, `cover` and `explain`: three paths, and how many workers, 1 to 64.
 #[derive(Clone, Copy)]
 pub struct JudgeWords<'a> {
     pub program: &'a str,
@@ -121,23 +121,35 @@ pub struct LowerWords<'a> {
     pub names: Option<&'a str>,
 }
 
-/// What the command line asks for.
+/// What is asked of tables.
 #[derive(Clone, Copy)]
-pub enum Job<'a> {
-    /// To judge a bundle from standard input.
-    Bundle,
+pub enum Question<'a> {
     Judge(JudgeWords<'a>),
     /// To judge, and to tell what an accepted trace exercised: for people, or one fact a line.
     Cover { words: JudgeWords<'a>, list: bool },
     /// To judge, and to tell the facts behind a broken rule: all, or the first of them.
     Explain { words: JudgeWords<'a>, all: bool },
-    /// The same of a bundle from standard input.
-    ExplainBundle { all: bool },
-    /// To show the program at a path, or to tell why it is refused.
-    ExplainProgram(&'a str),
+    Pair(PairWords<'a>),
     /// To compare two traces, and to tell where they differ or why one of them breaks a rule.
     ExplainPair { words: PairWords<'a>, all: bool },
-    Pair(PairWords<'a>),
+}
+
+/// What the command line asks for.
+#[derive(Clone, Copy)]
+pub enum Job<'a> {
+    /// To judge a bundle from standard input.
+    Bundle,
+    /// The same, and to tell the facts behind a broken rule.
+    ExplainBundle {
+        all: bool,
+    },
+    /// To answer a question. At `names` is the table of the names that its tables have.
+    Ask {
+        question: Question<'a>,
+        names: Option<&'a str>,
+    },
+    /// To show the program at a path, or to tell why it is refused.
+    ExplainProgram(&'a str),
     Record(RecordWords<'a>),
     /// To judge a trace while it is written.
     Follow(FollowWords<'a>),
@@ -150,13 +162,14 @@ pub enum Job<'a> {
 impl Job<'_> {
     /// Whether it tells people why on standard output.
     pub(crate) fn is_explained(self) -> bool {
-        matches!(
-            self,
-            Job::Explain { .. }
-                | Job::ExplainBundle { .. }
-                | Job::ExplainPair { .. }
-                | Job::ExplainProgram(_)
-        )
+        match self {
+            Job::ExplainBundle { .. } | Job::ExplainProgram(_) => true,
+            Job::Ask { question, .. } => matches!(
+                question,
+                Question::Explain { .. } | Question::ExplainPair { .. }
+            ),
+            _ => false,
+        }
     }
 }
 
@@ -179,6 +192,18 @@ fn workers<'a>(alloc: Global, help: &'a str) -> Arg<'a> {
         .value_parser(clap::value_parser!(u32).range(1..65))
 }
 
+fn names<'a>(alloc: Global, help: &'a str) -> Arg<'a> {
+    Arg::new(alloc, "names")
+        .long("names")
+        .value_name("TABLE")
+        .action(ArgAction::Set)
+        .help(help)
+}
+
+/// The help of `--names` of what judges.
+const NAMED: &str =
+    "the table of names that `lower` wrote: the tables and the answer have those of the source";
+
 fn judge_command<'a>(alloc: Global) -> Result<Command<'a>, Error> {
     let command = Command::new(alloc, "judge")
         .about("Judges a recorded trace, and names the first rule that it breaks")
@@ -186,6 +211,7 @@ fn judge_command<'a>(alloc: Global) -> Result<Command<'a>, Error> {
         .arg(path(alloc, "EXTERNALS", "the table of external inputs"))?
         .arg(path(alloc, "TRACE", "the trace table"))?
         .arg(workers(alloc, JUDGES))?
+        .arg(names(alloc, NAMED))?
         .after_help(JUDGE_HELP);
     Ok(command)
 }
@@ -201,6 +227,7 @@ fn cover_command<'a>(alloc: Global) -> Result<Command<'a>, Error> {
         .arg(path(alloc, "EXTERNALS", "the table of external inputs"))?
         .arg(path(alloc, "TRACE", "the trace table"))?
         .arg(workers(alloc, JUDGES))?
+        .arg(names(alloc, NAMED))?
         .arg(list)?
         .after_help(COVER_HELP);
     Ok(command)
@@ -223,6 +250,7 @@ fn explain_command<'a>(alloc: Global) -> Result<Command<'a>, Error> {
         .arg(path(alloc, "TRACE", "the trace table").required(false))?
         .arg(path(alloc, "SECOND", "another trace table").required(false))?
         .arg(workers(alloc, JUDGES))?
+        .arg(names(alloc, NAMED).requires_arg("TRACE")?)?
         .arg(all)?
         .after_help(EXPLAIN_HELP);
     Ok(command)
@@ -238,6 +266,7 @@ fn pair_command<'a>(alloc: Global) -> Result<Command<'a>, Error> {
         .arg(path(alloc, "FIRST", "a trace table"))?
         .arg(path(alloc, "SECOND", "another trace table"))?
         .arg(workers(alloc, JUDGES))?
+        .arg(names(alloc, NAMED))?
         .after_help(PAIR_HELP);
     Ok(command)
 }
@@ -291,15 +320,10 @@ fn show_command<'a>(alloc: Global) -> Result<Command<'a>, Error> {
 }
 
 fn lower_command<'a>(alloc: Global) -> Result<Command<'a>, Error> {
-    let names = Arg::new(alloc, "names")
-        .long("names")
-        .value_name("TABLE")
-        .action(ArgAction::Set)
-        .help("writes a table of the names that differ");
     let command = Command::new(alloc, "lower")
         .about("Prints a core program with the same coordination as a whole Lingua Franca program")
         .arg(path(alloc, "PROGRAM", "the program's text"))?
-        .arg(names)?
+        .arg(names(alloc, "writes a table of the names that differ"))?
         .after_help(LOWER_HELP);
     Ok(command)
 }
@@ -331,6 +355,15 @@ fn number(matches: &ArgMatches<'_>, id: &str, otherwise: u32) -> u32 {
     matches.get_one::<u32>(id).unwrap_or(otherwise)
 }
 
+/// The path of a word that the command line may have.
+fn given<'a>(matches: &ArgMatches<'a>, id: &str) -> Option<&'a str> {
+    if matches.contains_id(id) {
+        Some(text(matches, id))
+    } else {
+        None
+    }
+}
+
 /// The words of a command that judges one trace.
 fn judge_words<'a>(matches: &ArgMatches<'a>) -> JudgeWords<'a> {
     JudgeWords {
@@ -352,15 +385,23 @@ fn pair_words<'a>(matches: &ArgMatches<'a>, first: &str) -> PairWords<'a> {
     }
 }
 
+/// A question, with the words of its command.
+fn ask<'a>(matches: &ArgMatches<'a>, question: Question<'a>) -> Job<'a> {
+    Job::Ask {
+        question,
+        names: given(matches, "names"),
+    }
+}
+
 /// What the words of `explain` ask for: by how many paths there are.
 fn explain_job<'a>(matches: &ArgMatches<'a>) -> Job<'a> {
     let all = matches.get_flag("all");
     if matches.contains_id("SECOND") {
         let words = pair_words(matches, "TRACE");
-        Job::ExplainPair { words, all }
+        ask(matches, Question::ExplainPair { words, all })
     } else if matches.contains_id("TRACE") {
         let words = judge_words(matches);
-        Job::Explain { words, all }
+        ask(matches, Question::Explain { words, all })
     } else if matches.contains_id("PROGRAM") {
         Job::ExplainProgram(text(matches, "PROGRAM"))
     } else {
@@ -385,14 +426,9 @@ fn until<'a>(alloc: Global, matches: &ArgMatches<'a>) -> Result<Option<Tag>, Err
 
 /// The words of `lower`.
 fn lower_words<'a>(matches: &ArgMatches<'a>) -> LowerWords<'a> {
-    let names = if matches.contains_id("names") {
-        Some(text(matches, "names"))
-    } else {
-        None
-    };
     LowerWords {
         program: text(matches, "PROGRAM"),
-        names,
+        names: given(matches, "names"),
     }
 }
 
@@ -400,15 +436,10 @@ fn lower_words<'a>(matches: &ArgMatches<'a>) -> LowerWords<'a> {
 fn follow_words<'a>(alloc: Global, matches: &ArgMatches<'a>) -> Result<FollowWords<'a>, Error> {
     let until = until(alloc, matches)?;
     let every = matches.get_one::<u64>("every").unwrap_or(0);
-    let log = if matches.contains_id("LOG") {
-        Some(text(matches, "LOG"))
-    } else {
-        None
-    };
     Ok(FollowWords {
         program: text(matches, "PROGRAM"),
         externals: text(matches, "EXTERNALS"),
-        log,
+        log: given(matches, "LOG"),
         following: Following { until, every },
     })
 }
@@ -419,13 +450,14 @@ pub(crate) fn read_words<'a>(alloc: Global, words: &'a [String]) -> Result<Job<'
     let command = root_command(alloc)?;
     let matches = command.try_get_matches_from(words)?;
     match matches.subcommand() {
-        Some(("judge", judge)) => Ok(Job::Judge(judge_words(judge))),
-        Some(("cover", cover)) => Ok(Job::Cover {
-            words: judge_words(cover),
-            list: cover.get_flag("list"),
-        }),
+        Some(("judge", judge)) => Ok(ask(judge, Question::Judge(judge_words(judge)))),
+        Some(("cover", cover)) => {
+            let words = judge_words(cover);
+            let list = cover.get_flag("list");
+            Ok(ask(cover, Question::Cover { words, list }))
+        }
         Some(("explain", explain)) => Ok(explain_job(explain)),
-        Some(("pair", pair)) => Ok(Job::Pair(pair_words(pair, "FIRST"))),
+        Some(("pair", pair)) => Ok(ask(pair, Question::Pair(pair_words(pair, "FIRST")))),
         Some(("follow", follow)) => Ok(Job::Follow(follow_words(alloc, follow)?)),
         Some(("record", record)) => Ok(Job::Record(RecordWords {
             program: text(record, "PROGRAM"),
