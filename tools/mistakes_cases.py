@@ -166,7 +166,7 @@ def follows():
     case("a path for standard input, followed", [*usual, "/dev/stdin"], prints(ACCEPTED), stdin=ROWS)
     case("a trace without its last row, followed", usual, prints("unbroken runs=4 tags=2 time=5000000 microstep=0\n", 3), stdin=ROWS[: ROWS.rindex("end,")])
     case("a run without an end, followed", usual, prints("broken rule=5 unended line=8 time=5000000 microstep=0 reaction=main#2\n", 1), stdin=lost)
-    case("a run that starts too early, followed", usual, prints("odd line=9 runs=0 tags=0\n", 4), stdin=EARLY)
+    case("a run that starts too early, followed", usual, prints("broken rule=9 too-early time=5000000 microstep=0 reaction=main#2\n", 1), stdin=EARLY)
     case("followed up to a tag", [*usual, "--until", "5000000,0"], prints("unbroken runs=4 tags=2 time=5000000 microstep=0\n"), stdin=ROWS)
     case("followed up to a tag, with a sign of equality", [*usual, "--until=0,1"], prints("unbroken runs=4 tags=2 time=5000000 microstep=0\n"), stdin=ROWS)
     case("followed past the end", [*usual, "--until", "20000000,0"], prints(ACCEPTED), stdin=ROWS)

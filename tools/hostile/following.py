@@ -1,10 +1,11 @@
 """What `lftrace follow` tells of a trace table, reckoned from docs/FORMATS.md and not from the code.
 
-It goes row by row, and asks the rows up to the last finished tag as a whole each time. `odd` may be told
-with any reach and line that fit: they depend on the pieces in which the table came.
+It goes row by row, and asks the rows up to the last finished tag as a whole each time. Where two events meet
+at a later tag `odd` may be told from there on, with any reach and line that fit: they depend on the pieces in
+which the table came.
 """
 from hostile import tables
-from hostile.machine import RULES, Events, at_tag, row_breach, runs_of
+from hostile.machine import Events, at_tag, breach_line, row_breach, runs_of, tag_breach
 
 HEADER = tables.HEADERS["trace"].encode()
 
@@ -101,17 +102,46 @@ def asked(rows, until):
     return rows, False
 
 
+def finished(rows):
+    """The rows at finished tags and the tag behind them, each time that one more tag is finished."""
+    for place in range(1, len(rows)):
+        if rows[place].tag > rows[place - 1].tag:
+            yield rows[:place], rows[place].tag
+
+
+def first_broken(plan, rows):
+    """The first rule from 6 to 10 that is told to be broken, and whether `odd` may be told before it. A run that is
+    missing behind the last finished tag is told once one more tag is finished."""
+    may_be_odd = False
+    for front, tag in finished(rows):
+        if is_clean(plan, front):
+            continue
+        breach = tag_breach(plan, front)
+        if breach and breach[2] < tag:
+            return breach, may_be_odd
+        may_be_odd = True
+    return None, may_be_odd
+
+
 def told(plan, flat, text, until=None):
-    """The line of `lftrace follow`, and the status. Of `odd` the first word alone."""
+    """The line of `lftrace follow`, the status, and whether `odd` may be told in its place. Of `odd` the first word
+    alone."""
     rows, fault, has_rest = rows_before_fault(flat, text)
     rows, is_past = asked(rows, until)
     bad = first_bad(plan, rows)
-    done = before_last(rows[:bad[0]] if bad else rows)
-    if not is_clean(plan, done):
-        return "odd", 4
+    breach, may_be_odd = first_broken(plan, rows[:bad[0]] if bad else rows)
+    if breach:
+        return breach_line(plan, breach), 1, may_be_odd
+    if may_be_odd:
+        return "odd", 4, True
+    return *told_of_clean(plan, rows, bad, is_past, fault, has_rest), False
+
+
+def told_of_clean(plan, rows, bad, is_past, fault, has_rest):
+    """The line and the status where no finished tag breaks a rule from 6 to 10."""
+    done = before_last(rows)
     if bad:
-        rule, line, tag, reaction = bad[1]
-        return f"broken rule={rule} {RULES[rule]} line={line} {at_tag(tag)} reaction={plan.flat.reactions[reaction].name}", 1
+        return breach_line(plan, bad[1]), 1
     if is_past:
         return f"unbroken {reach(done)}", 0
     if fault:

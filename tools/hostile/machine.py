@@ -194,6 +194,11 @@ def verdict(plan, rows):
     if breach is None:
         starts = [row.tag for row in rows if row.event == "start"]
         return f"accepted runs={len(starts)} tags={len(set(starts))}"
+    return breach_line(plan, breach)
+
+
+def breach_line(plan, breach):
+    """The line of a breach."""
     rule, line, tag, reaction = breach
     where = f" line={line}" if rule <= 5 else ""
     who = f"reaction={plan.flat.reactions[reaction].name}" if rule != 6 else "(outside the profile)"

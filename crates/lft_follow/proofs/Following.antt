@@ -24,7 +24,7 @@ use Rattle.lft_follow.specs.declared.follower.Follower.{Follower}
 use Rattle.lft_follow.specs.declared.gone.Halt.TheVariants.{AtEnd, AtRow, AtLater}
 use Rattle.lft_follow.specs.Going.{IsGoing, IsFirstBad, IsLost, HasGone}
 use Rattle.lft_follow.specs.declared.judged.Judged.{Judged}
-use Rattle.lft_follow.specs.Follows.{done_of, IsAtHand, IsCleanTo, IsFollowerOf, IsHeld, IsJudged, IsJudgedOf, IsSureBehind, IsSureOf, BeginsLast}
+use Rattle.lft_follow.specs.Follows.{done_of, IsAtHand, IsClean, IsCleanTo, IsFollowerOf, IsHeld, IsJudged, IsJudgedOf, IsSureBehind, IsSureOf, BeginsLast}
 use Rattle.lft_follow.proofs.Judging.{accepted_rise, all_at, parted, rest_at}
 use Rattle.lft_follow.proofs.Telling.{bad_is_sure, lost_is_sure}
 
@@ -217,9 +217,9 @@ judged_so_far plan t f is = record { done = d; left = f.rows.items; parts = h.pa
     at_one [] some earlier g = (g.0, g.1, subst (λ (x : List Row). AreBefore x g.0) (sym (some refl)) (λ i x e. absurd (cc)))
     at_one (y ∷ u) some earlier g = (g.0, g.1, subst (λ (k : Tag). AreBefore d k) (g.1 0 y refl) (earlier y refl))
 
--- the rows that are judged are clean
-pub clean_before : (plan : PlanParts) (t : List Row) (f : Follower) → IsHeld plan t f → (n : ℕ) × IsCleanTo plan t f.judged.reach n
-clean_before plan t f h = (f.judged.count, record { within = let a : length t ≡ length (done_of t f) + length f.rows.items = ap (λ (x : List Row). length x) h.parts ∙ length-append (done_of t f) f.rows.items in let b : f.judged.count ≡ length (done_of t f) = h.judged.counted in omega (arith, a, b); clean = h.judged.clean })
+-- the rows that are judged are clean, whatever rows come behind
+pub clean_before : (plan : PlanParts) (d rows : List Row) (j : Judged) → IsJudgedOf plan d j → (n : ℕ) × IsCleanTo plan (d ++ rows) j.reach n
+clean_before plan d rows j is = (j.count, record { within = let a : length (d ++ rows) ≡ length d + length rows = length-append d rows in let b : j.count ≡ length d = is.counted in omega (arith, a, b); clean = subst (λ (t : List Row). IsClean plan t j.reach) (sym (done_is (d ++ rows) d rows j.count is.counted refl)) is.clean })
 
 -- before the first row
 pub new_follower : (plan : PlanParts) (f : Follower) → IsJudgedOf plan [] f.judged → ((rows : List Row) → IsGoing plan [] rows f.going) → f.rows.items ≡ [] → IsFollowerOf plan [] f
@@ -243,6 +243,17 @@ new_follower plan f judged going none = record {
 -- where the rows of a slice begin that are at its last tag
 pub begins_of : (rows s : List Row) (n begin : ℕ) → s ≡ rows → n ≡ length rows → BeginsLast s n begin → BeginsLast rows (length rows) begin
 begins_of rows s n begin is long begins = subst (λ (x : List Row). BeginsLast x (length rows) begin) is (subst (λ (m : ℕ). BeginsLast s m begin) long begins)
+
+-- and before the end of the rows
+pub begins_within : (rows : List Row) (end begin : ℕ) → BeginsLast rows end begin → end ≤ length rows → 0 < length rows → begin < length rows
+begins_within rows end begin begins within some = go (dec_lt 0 end)
+  where
+    up : begin ≤ end
+    up = begins.last.up
+
+    go : Dec (0 < end) → begin < length rows
+    go (yes l) = let b : begin < end = begins.some l in omega (arith, b)
+    go (no n) = omega (arith, up)
 
 module _ (plan : PlanParts) (t more : List Row) (old now : Follower) (is : IsFollowerOf plan t old) (hand : IsAtHand plan (t ++ more) now) where
   module _ (s : List Row) (rows : s ≡ now.rows.items) where

@@ -22,6 +22,7 @@ use Rattle.lft_follow.specs.Sure.{IsUnbroken}
 use Rattle.lft_follow.specs.Reach.{IsLastOf, IsReach}
 use Rattle.lft_follow.specs.declared.reach.Reach.{Reach}
 use Rattle.lft_follow.specs.declared.judged.Judged.{Judged}
+use Rattle.lft_follow.specs.Kept.{IsPast}
 use Rattle.lft_follow.specs.Follows.{IsJudgedOf, AreLast, BeginsLast}
 use Rattle.lft_follow.proofs.Going.{next_up}
 
@@ -60,10 +61,10 @@ last_up t r x n rises is at long = go r.tag is.last
             subst (λ (y : Row). UpTo g y.tag) q (UpTo-refl g)
 
 -- more rows are judged
-pub judged_more : (plan : PlanParts) (d u : List Row) (old new : Judged) → IsJudgedOf plan d old → 0 < length u → IsAcceptorOf plan (d ++ u) new.acceptor → ((x : Row) → slice_get u (length u - 1) ≡ Some x → IsUnbroken plan (d ++ u) (after x.tag 0)) → new.stop ≡ stop plan (d ++ u) → new.count ≡ old.count + length u → IsReach (d ++ u) new.reach → IsJudgedOf plan (d ++ u) new
-judged_more plan d u old new is some acceptor clean stops count reach = record {
+pub judged_more : (plan : PlanParts) (d u : List Row) (old new : Judged) → IsJudgedOf plan d old → 0 < length u → IsAcceptorOf plan (d ++ u) new.acceptor → ((x : Row) → slice_get u (length u - 1) ≡ Some x → IsUnbroken plan (d ++ u) (after x.tag 0)) → IsPast plan (d ++ u) new.past → new.count ≡ old.count + length u → IsReach (d ++ u) new.reach → IsJudgedOf plan (d ++ u) new
+judged_more plan d u old new is some acceptor clean past count reach = record {
   acceptor = acceptor;
-  stop_is = stops;
+  past = past;
   counted = let a : old.count ≡ length d = is.counted in let b : length (d ++ u) ≡ length d + length u = length-append d u in let c : new.count ≡ old.count + length u = count in omega arith;
   clean = record { reach = reach; unbroken = lower plan (d ++ u) (low_of new.reach.tag) (after last.0.tag 0) up (clean last.0 last.1) };
 }

@@ -15,3 +15,6 @@ pub mod Passing
 pub mod Judging
 pub mod Stops
 pub mod Following
+pub mod Furthest
+pub mod Behind
+pub mod First

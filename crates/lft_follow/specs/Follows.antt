@@ -6,12 +6,12 @@ use Rattle.lft_steps.specs.declared.row.Row.{Row}
 use Rattle.lft_steps.specs.Fits.{RowsFit}
 use Rattle.lft_model.specs.declared.breach.Breach.{Breach}
 use Rattle.lft_model.specs.Plans.{PlanParts}
-use Rattle.lft_model.specs.Presence.{stop}
 use Rattle.lft_model.specs.Breaches.{RowBreach}
 use Rattle.lft_rows.specs.Accepted.{IsAccepted}
 use Rattle.lft_coming.specs.AtTag.{AreAt, AreBefore}
 use Rattle.lft_stream.specs.Kept.{IsAcceptorOf, low_of}
-use Rattle.lft_follow.specs.Sure.{IsUnbroken}
+use Rattle.lft_follow.specs.Sure.{IsUnbroken, IsFirstBefore}
+use Rattle.lft_follow.specs.Kept.{IsPast}
 use Rattle.lft_follow.specs.Going.{IsGoing}
 use Rattle.lft_follow.specs.Reach.{IsReach}
 use Rattle.lft_follow.specs.declared.reach.Reach.{Reach}
@@ -45,7 +45,7 @@ pub record IsJudged (plan : PlanParts) (t : List Row) (r : Reach) : Type 0 where
 -- what is kept of rows that are judged is right for them, and they are clean
 pub record IsJudgedOf (plan : PlanParts) (t : List Row) (j : Judged) : Type 0 where
   pub acceptor : IsAcceptorOf plan t j.acceptor
-  pub stop_is : j.stop ≡ stop plan t
+  pub past : IsPast plan t j.past
   pub counted : j.count ≡ length t
   pub clean : IsClean plan t j.reach
 
@@ -84,13 +84,25 @@ pub record BeginsLast (rows : List Row) (end first : ℕ) : Type 0 where
 
 -- the breach that is found
 abbrev pub breach_of : Found → Breach
-breach_of f = record { rule = f.rule; tag = f.tag; reaction = Some f.reaction; row = f.line }
+breach_of f = record { rule = f.rule; tag = f.tag; reaction = f.reaction; row = f.line }
 
 -- the breach is sure behind the first n rows: the last of them breaks one of the rules 1 to 4, or a run of theirs has no end and the next row is at a later tag
 pub record IsSureBehind (plan : PlanParts) (t : List Row) (b : Breach) (n : ℕ) : Type 0 where
   pub within : n ≤ length t
   pub breaks : RowBreach plan (take n t) b
   pub sure : (b.rule ≤ 4) × (b.row ≡ n + 1) ⊎ (b.rule ≡ 5) × ((x : Row) × (slice_get t n ≡ Some x) × Before b.tag x.tag)
+
+-- the breach of one of the rules 6 to 10 is sure behind the first n rows: it is the first of them before the tag of the last row
+pub record IsFirstBehind (plan : PlanParts) (t : List Row) (b : Breach) (n : ℕ) : Type 0 where
+  pub within : n ≤ length t
+  pub some : 0 < n
+  pub row : Row
+  pub last : slice_get t (n - 1) ≡ Some row
+  pub first : IsFirstBefore plan (take n t) row.tag b
+
+-- the breach is sure behind some of the rows
+abbrev pub IsSureSoFar : PlanParts → List Row → Breach → Type 0
+IsSureSoFar plan t b = (n : ℕ) × (IsSureBehind plan t b n ⊎ IsFirstBehind plan t b n)
 
 -- the rule that is broken by the row of this place at hand is sure
 abbrev pub IsSureOf : PlanParts → List Row → Follower → ℕ → ℕ → Type 0
@@ -99,7 +111,7 @@ IsSureOf plan t f place k = (b : Breach) → b.rule ≡ k → b.row ≡ f.judged
 -- what is told of the rows so far: they are followed on, a breach is sure behind some of them, so many of them are clean, or the follower holds or has judged too many
 abbrev pub IsProgress : PlanParts → List Row → Follower → Progress → Type 0
 IsProgress plan t f GoesOn = IsFollowerOf plan t f
-IsProgress plan t f (Broken b) = (n : ℕ) × IsSureBehind plan t (breach_of b) n
+IsProgress plan t f (Broken b) = IsSureSoFar plan t (breach_of b)
 IsProgress plan t f (Odd r line) = (n : ℕ) × IsCleanTo plan t r n
 IsProgress plan t f TooMany = (4000000 < length f.rows.items) ⊎ (2 ^ 62 < f.judged.count)
 

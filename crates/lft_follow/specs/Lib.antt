@@ -2,4 +2,5 @@ pub mod Sure
 pub mod Timely
 pub mod Going
 pub mod Reach
+pub mod Kept
 pub mod Follows

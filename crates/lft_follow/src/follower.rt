@@ -1,12 +1,13 @@
 //! Rows that are judged while they come.
 
-ghost use Rattle.std.specs.Prelude.{◌≡◌, ◌+◌, ◌<◌, ◌≤◌, ◌^◌, List, [], ◌++◌, length, Some, IfOk, IsTrue, slice_get};
+ghost use Rattle.std.specs.Prelude.{◌≡◌, ◌+◌, ◌<◌, ◌≤◌, ◌^◌, ℕ, List, [], ◌++◌, length, Some, IfOk, IsTrue, MatchOption, slice_get, slice_range};
 ghost use Rattle.lft_tag.specs.declared.Tag.{Tag as TheTag};
 ghost use Rattle.lft_steps.specs.declared.row.Row.{Row as TheRow};
 ghost use Rattle.lft_steps.specs.Fits.{RowsFit};
 ghost use Rattle.lft_rows.specs.Slices.{Rises};
 ghost use Rattle.lft_coming.specs.AtTag.{AreAt};
-ghost use Rattle.lft_follow.specs.Follows.{IsAtHand, IsHeld, IsFollowerOf, IsProgress, IsEnding, IsJudged, IsSureOf, BeginsLast};
+ghost use Rattle.lft_follow.specs.Follows.{IsAtHand, IsHeld, IsFollowerOf, IsProgress, IsEnding, IsJudged, IsJudgedOf, IsSureOf, BeginsLast};
+ghost use Rattle.lft_follow.specs.declared.follower.Follower.{Follower as TheFollower};
 
 use crate::gone::{Going, Halt};
 use crate::judged::{Ending, Judged};
@@ -16,13 +17,15 @@ use lft_steps::{Row, row_at};
 use lft_tag::{MAX_ROWS, NoMemory, Tag};
 use std::alloc::Global;
 
-/// A rule that is broken, told as soon as it is sure: one of 1 to 4 by a row, or 5 by a run without an end.
+/// A rule that is broken, told as soon as it is sure.
 #[derive(Clone, Copy, PartialEq, Eq, Debug, Drop)]
 pub struct Found {
     pub rule: u8,
     pub tag: Tag,
-    pub reaction: u32,
-    /// The row's line of the table. The first row stands in line 2.
+    /// None for rule 6.
+    pub reaction: Option<u32>,
+    /// The row's line of the table, for the rules 1 to 5. The first row stands in line 2. It is 0 for the
+    /// other rules.
     pub line: u64,
 }
 
@@ -33,8 +36,8 @@ pub enum Progress {
     GoesOn,
     /// Nothing is to be judged behind it.
     Broken(Found),
-    /// The rows that are judged break no rule. The next ones, up to the line, may break one of the rules
-    /// 6 to 10, or too much is to be looked at, or memory is refused.
+    /// The rows that are judged break no rule. The next ones, up to the line, may lead to two events that
+    /// meet at a later tag, or too much is to be looked at, or memory is refused.
     Odd(Reach, u64),
     /// More rows stand at one tag than a table may have, or more came than are counted.
     TooMany,
@@ -77,14 +80,48 @@ fn found_at(rows: &[Row], place: usize, before: u64, rule: u8) -> Found
     ensures rule { result.rule ≡ rule }
     ensures line { result.line ≡ before + place + 2 }
     ensures tag { (row : TheRow) → slice_get rows.now place ≡ Some row → result.tag ≡ row.tag }
-    ensures reaction { (row : TheRow) → slice_get rows.now place ≡ Some row → result.reaction ≡ row.reaction }
+    ensures reaction { (row : TheRow) → slice_get rows.now place ≡ Some row → result.reaction ≡ Some row.reaction }
 {
     let row = row_at(rows, place);
     Found {
         rule,
         tag: row.tag,
-        reaction: row.reaction,
+        reaction: Some(row.reaction),
         line: before + place as u64 + 2,
+    }
+}
+
+/// Judges the rows before the place, at which the first row of a later tag stands. It is what is told,
+/// where they may break a rule.
+fn judge_before(
+    alloc: Global,
+    plan: &Plan,
+    judged: &mut Judged,
+    rows: &[Row],
+    begin: usize,
+) -> Result<Option<Progress>, NoMemory>
+    requires few { judged.old.count ≤ 2 ^ 62 }
+    requires fit { RowsFit plan.now.program rows.now }
+    requires begin { begin < length rows.now }
+    requires stands { (done : List TheRow) × IsJudgedOf plan.now done judged.old }
+    ensures { IfOk result (λ o. (done : List TheRow) → IsJudgedOf plan.now done judged.old → MatchOption o (IsJudgedOf plan.now (done ++ slice_range rows.now 0 begin) judged.new) (λ told. (end : ℕ) (follower : TheFollower) → BeginsLast rows.now end begin → end ≤ length rows.now → IsProgress plan.now (done ++ rows.now) follower told)) }
+{
+    let is_clean = judged.judge(alloc, plan, &rows[0..begin])?;
+    if is_clean {
+        return Ok(None);
+    }
+    let high = row_at(rows, begin).tag;
+    match judged.past.first_breach(alloc, plan, &rows[0..begin], high) {
+        Some(breach) => Ok(Some(Progress::Broken(Found {
+            rule: breach.rule,
+            tag: breach.tag,
+            reaction: breach.reaction,
+            line: breach.row as u64,
+        }))),
+        None => {
+            let line = judged.count + begin as u64 + 1;
+            Ok(Some(Progress::Odd(judged.reach, line)))
+        }
     }
 }
 
@@ -137,35 +174,38 @@ impl Follower {
         if begin == 0 {
             return Ok(Progress::GoesOn);
         }
-        let reach = self.judged.reach;
-        let line = self.judged.count + begin as u64 + 1;
-        if !self.judged.judge(alloc, plan, &self.rows[0..begin]) {
-            return Ok(Progress::Odd(reach, line));
+        if let Some(told) = judge_before(alloc, plan, &mut self.judged, rows, begin)? {
+            return Ok(told);
         }
         let rows = self.rows.as_slice();
         let Ok(last) = Vec::from_slice(alloc, &rows[begin..rows.len()]) else {
             return Err(NoMemory);
         };
         self.rows = last;
-        self.going.begin(alloc, plan, self.judged.stop)?;
+        self.going.begin(alloc, plan, self.judged.past.stop)?;
         Ok(Progress::GoesOn)
     }
 
     /// What is told where the row at the place breaks the rule and the end is that of the rows gone over.
-    fn tell(&mut self, alloc: Global, plan: &Plan, place: usize, end: usize, rule: u8) -> Progress
+    fn tell(
+        &mut self,
+        alloc: Global,
+        plan: &Plan,
+        place: usize,
+        end: usize,
+        rule: u8,
+    ) -> Result<Progress, NoMemory>
         requires few { self.old.judged.count ≤ 2 ^ 62 }
         requires held { (t : List TheRow) × IsHeld plan.now t self.old }
         requires place { (place < length self.old.rows.items) × (end ≤ length self.old.rows.items) }
-        ensures { (t : List TheRow) → IsHeld plan.now t self.old → IsSureOf plan.now t self.old place rule → IsProgress plan.now t self.new result }
+        ensures { IfOk result (λ p. (t : List TheRow) → IsHeld plan.now t self.old → IsSureOf plan.now t self.old place rule → IsProgress plan.now t self.new p) }
     {
-        let found = found_at(self.rows.as_slice(), place, self.judged.count, rule);
-        let begin = last_begins(self.rows.as_slice(), end);
-        let reach = self.judged.reach;
-        let line = self.judged.count + begin as u64 + 1;
-        if self.judged.judge(alloc, plan, &self.rows[0..begin]) {
-            Progress::Broken(found)
-        } else {
-            Progress::Odd(reach, line)
+        let rows = self.rows.as_slice();
+        let found = found_at(rows, place, self.judged.count, rule);
+        let begin = last_begins(rows, end);
+        match judge_before(alloc, plan, &mut self.judged, rows, begin)? {
+            Some(told) => Ok(told),
+            None => Ok(Progress::Broken(found)),
         }
     }
 
@@ -183,8 +223,8 @@ impl Follower {
         }
         match self.going.go_over(plan, self.rows.as_slice())? {
             Halt::AtEnd => self.go_on(alloc, plan),
-            Halt::AtRow(place, rule) => Ok(self.tell(alloc, plan, place, place, rule)),
-            Halt::AtLater(start, place) => Ok(self.tell(alloc, plan, start, place, 5)),
+            Halt::AtRow(place, rule) => self.tell(alloc, plan, place, place, rule),
+            Halt::AtLater(start, place) => self.tell(alloc, plan, start, place, 5),
         }
     }
 
@@ -194,9 +234,13 @@ impl Follower {
         ensures { (t : List TheRow) → IsFollowerOf plan.now t self.old → IsEnding plan.now t result }
     {
         let reach = self.judged.reach;
-        if self.judged.count > MOST || !self.judged.judge(alloc, plan, self.rows.as_slice()) {
+        if self.judged.count > MOST {
             return Ending::Unbroken(reach);
         }
-        self.judged.finish(plan)
+        match self.judged.judge(alloc, plan, self.rows.as_slice()) {
+            Ok(true) => self.judged.finish(plan),
+            Ok(false) => Ending::Unbroken(reach),
+            Err(_) => Ending::Unbroken(reach),
+        }
     }
 }

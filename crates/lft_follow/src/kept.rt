@@ -1,66 +1,129 @@
-//! Rows that are kept once their tags are finished: those that cause something later.
+//! Rows that are kept once their tags are finished: those of runs that cause something later.
 
-ghost use Rattle.std.specs.Prelude.{◌≡◌, ℕ, List, IfOk, None, false};
-ghost use Rattle.lft_tag.specs.declared.Tag.{Tag as TheTag};
-ghost use Rattle.lft_tag.specs.Tags.{IsRecorded, Before, UpTo, after_all};
+ghost use Rattle.std.specs.Prelude.{◌≡◌, ◌<◌, ℕ, List, length, IfOk, false};
+ghost use Rattle.lft_tag.specs.Tags.{IsRecorded, Before, after_all};
 ghost use Rattle.lft_flat.specs.Origins.{Origin};
-ghost use Rattle.lft_steps.specs.Fits.{RowFits, RowsFit};
-ghost use Rattle.lft_model.specs.Presence.{scheduled, written, min_delay};
-ghost use Rattle.lft_coming.specs.AtTag.{AreBefore};
-ghost use Rattle.lft_follow.specs.Sure.{CauseSame};
+ghost use Rattle.lft_steps.specs.Fits.{RowFits};
+ghost use Rattle.lft_model.specs.Fitting.{EachFits};
+ghost use Rattle.lft_follow.specs.Kept.{GoesAsFar, AreFurthest, IsIdle, AreMarked, IsKept};
 
 use lft_flat::{Name, Program};
+use lft_lists::item_at;
 use lft_model::Plan;
-use lft_steps::{Row, Step, row_at};
-use lft_tag::{NoMemory, Tag};
+use lft_steps::{Row, Step, is_end, is_start, row_at};
+use lft_tag::{NoMemory, Shift, Tag};
 use std::alloc::Global;
 
-/// Whether delays lead from a write of the port at the tag to one from the low tag on.
-fn leads_on(program: &Program, origin: u32, tag: Tag, low: Tag) -> bool
-    requires { IsRecorded tag }
-    ensures { result ≡ false → (p : ℕ) (delays : List ℕ) → Origin program.now p origin delays → Before (after_all tag delays) low }
+/// The further of two ways.
+fn further(one: Shift, other: Shift) -> Shift
+    ensures one { GoesAsFar one result }
+    ensures other { GoesAsFar other result }
 {
-    for number in 0..program.ports() {
-        let port = program.port(number as u32);
-        if port.origin == origin && !tag.plus(port.shift).is_before(low) {
-            return true;
-        }
+    if one.time < other.time || (one.time == other.time && one.steps < other.steps) {
+        other
+    } else {
+        one
     }
-    false
 }
 
-/// Whether the row causes something from the low tag on.
-fn causes_from(plan: &Plan, row: Row, low: Tag) -> bool
-    requires { RowFits plan.now.program row }
-    ensures scheduled { result ≡ false → (g : TheTag) (a : ℕ) → UpTo low g → scheduled g a (min_delay plan.now.program a) row ≡ None }
-    ensures written { result ≡ false → (h : TheTag) (p o : ℕ) (delays : List ℕ) → Origin plan.now.program p o delays → UpTo low (after_all h delays) → written h o row ≡ None }
+/// For each port the furthest that its writes are carried.
+pub(crate) fn furthest_of(alloc: Global, program: &Program) -> Result<Vec<Shift>, NoMemory>
+    ensures { IfOk result (λ furthest. AreFurthest program.now furthest.items) }
+{
+    let mut furthest = vec![in alloc; Shift::none(); program.ports()]?;
+    for number in 0..program.ports() {
+        let port = program.port(number as u32);
+        let origin = port.origin as usize;
+        furthest[origin] = further(furthest[origin], port.shift);
+    }
+    Ok(furthest)
+}
+
+/// Whether writes of the port at the tag may be carried to the low tag or behind it.
+fn leads_on(program: &Program, furthest: &[Shift], origin: u32, tag: Tag, low: Tag) -> bool
+    requires recorded { IsRecorded tag }
+    requires port { origin < length program.now.ports }
+    requires furthest { AreFurthest program.now furthest.now }
+    ensures { result ≡ false → (p : ℕ) (delays : List ℕ) → Origin program.now p origin delays → Before (after_all tag delays) low }
+{
+    // Asked for what a program keeps: its ports have their origins and their ways.
+    let _ = program.ports();
+    let furthest = item_at(furthest, origin as usize);
+    !tag.plus(furthest).is_before(low)
+}
+
+/// Whether the row causes something from the low tag on, or asks for the stop.
+fn causes_from(plan: &Plan, furthest: &[Shift], row: Row, low: Tag) -> bool
+    requires fit { RowFits plan.now.program row }
+    requires furthest { AreFurthest plan.now.program furthest.now }
+    ensures { result ≡ false → IsIdle plan.now low row }
 {
     match row.step {
         Step::Schedule(Name::Action(number), _, delay) => {
             let min_delay = plan.program().action(number).min_delay;
             !row.tag.after(min_delay, delay).is_before(low)
         }
-        Step::Write(Name::Port(number), _) => leads_on(plan.program(), number, row.tag, low),
+        Step::Write(Name::Port(number), _) => {
+            leads_on(plan.program(), furthest, number, row.tag, low)
+        }
         Step::Schedule(Name::Port(_), _, _) => false,
         Step::Write(Name::Action(_), _) => false,
         Step::Start => false,
         Step::Read(_, _) => false,
-        Step::Stop => false,
+        Step::Stop => true,
         Step::End => false,
     }
 }
 
-/// The rows that cause something from the low tag on, in their order.
-pub fn keep_rows(alloc: Global, plan: &Plan, rows: &[Row], low: Tag) -> Result<Vec<Row>, NoMemory>
-    requires { RowsFit plan.now.program rows.now }
-    ensures same { IfOk result (λ kept. CauseSame plan.now rows.now kept.items low) }
-    ensures before { IfOk result (λ kept. AreBefore rows.now low → AreBefore kept.items low) }
+/// Marks the rows that cause something from the low tag on or ask for the stop, and where their runs
+/// start and end.
+fn marks_of(
+    alloc: Global,
+    plan: &Plan,
+    furthest: &[Shift],
+    rows: &[Row],
+    low: Tag,
+) -> Result<Vec<bool>, NoMemory>
+    requires fit { EachFits plan.now.program rows.now }
+    requires furthest { AreFurthest plan.now.program furthest.now }
+    ensures { IfOk result (λ marks. AreMarked plan.now rows.now low marks.items) }
 {
-    let mut kept = Vec::new(alloc);
+    let mut marks = vec![in alloc; false; rows.len()]?;
+    // Where the last run of each reaction started. A run is over before its reaction has another one.
+    let mut starts = vec![in alloc; 0; plan.program().reactions()]?;
     for place in 0..rows.len() {
         let row = row_at(rows, place);
-        if causes_from(plan, row, low) {
-            kept.push(row)?;
+        let reaction = row.reaction as usize;
+        if causes_from(plan, furthest, row, low) {
+            marks[place] = true;
+            marks[starts[reaction]] = true;
+        } else if is_start(&row.step) {
+            starts[reaction] = place;
+        } else if is_end(&row.step) {
+            marks[place] = marks[starts[reaction]];
+        }
+    }
+    Ok(marks)
+}
+
+/// The rows that cause something from the low tag on or ask for the stop, and where their runs start and
+/// end, in their order.
+pub(crate) fn keep_rows(
+    alloc: Global,
+    plan: &Plan,
+    furthest: &[Shift],
+    rows: &[Row],
+    low: Tag,
+) -> Result<Vec<Row>, NoMemory>
+    requires fit { EachFits plan.now.program rows.now }
+    requires furthest { AreFurthest plan.now.program furthest.now }
+    ensures { IfOk result (λ kept. IsKept plan.now rows.now kept.items low) }
+{
+    let marks = marks_of(alloc, plan, furthest, rows, low)?;
+    let mut kept = Vec::new(alloc);
+    for place in 0..rows.len() {
+        if marks[place] {
+            kept.push(row_at(rows, place))?;
         }
     }
     Ok(kept)

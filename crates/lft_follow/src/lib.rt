@@ -7,11 +7,11 @@ mod judged;
 mod kept;
 mod laws;
 mod monitor;
+mod past;
 mod reach;
 
 pub use follower::{Follower, Found, Progress};
 pub use judged::Ending;
-pub use kept::keep_rows;
 pub use laws::{law_sure, law_timely};
 pub use monitor::{go_on, is_unbroken};
 pub use reach::Reach;

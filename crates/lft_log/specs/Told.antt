@@ -8,7 +8,7 @@ use Rattle.lft_steps.specs.declared.row.Row.{Row}
 use Rattle.lft_model.specs.Plans.{PlanParts}
 use Rattle.lft_rows.specs.Accepted.{IsAccepted}
 use Rattle.lft_follow.specs.declared.judged.Ending.TheVariants as ending
-use Rattle.lft_follow.specs.Follows.{IsFollowerOf, IsSureBehind, IsCleanTo, IsClean, IsJudged, breach_of}
+use Rattle.lft_follow.specs.Follows.{IsFollowerOf, IsSureSoFar, IsCleanTo, IsClean, IsJudged, breach_of}
 use Rattle.lft_log.specs.Logs.{AreFirst, BeginsWithNoRow, HasNoEnd, HoldSoFar}
 use Rattle.lft_log.specs.declared.asked.Asked.{Asked}
 use Rattle.lft_log.specs.declared.fault.LogFault.{LogFault}
@@ -34,7 +34,7 @@ IsAskedOf t a = (g h : Tag) → a.until ≡ Some g → a.last ≡ Some h → Has
 
 -- what is told before the end is so of these rows: a breach is sure behind some of them, so many of them are clean, or those but the ones at the last tag are, and go past what is asked for
 abbrev pub IsSaid : PlanParts → Option Tag → List Row → Told → Type 0
-IsSaid plan until t (Broken b) = (n : ℕ) × IsSureBehind plan t (breach_of b) n
+IsSaid plan until t (Broken b) = IsSureSoFar plan t (breach_of b)
 IsSaid plan until t (Odd r line) = (n : ℕ) × IsCleanTo plan t r n
 IsSaid plan until t (Reached r) = IsJudged plan t r × GoPast until t
 

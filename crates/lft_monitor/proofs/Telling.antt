@@ -1,5 +1,5 @@
 -- The reaction of a breach that is told.
-use Rattle.std.proofs.Common.{◌≡◌, ◌<◌, inl, inr, ℕ, List, [], ◌∷◌, ◌++◌, Option, Some, length, slice_get}
+use Rattle.std.proofs.Common.{◌≡◌, ◌<◌, ◌⊎◌, inl, inr, ℕ, List, [], ◌∷◌, ◌++◌, Option, Some, None, length, take, sym, subst, slice_get}
 use Rattle.std.proofs.lemmas.Option.{slice_get_within}
 use Rattle.lft_tag.specs.declared.Tag.{Tag}
 use Rattle.lft_lists.proofs.Places.{get_left}
@@ -10,8 +10,11 @@ use Rattle.lft_trace.specs.Records.{records_of}
 use Rattle.lft_trace.specs.Traces.{IsRow}
 use Rattle.lft_steps.specs.declared.row.Row.{Row}
 use Rattle.lft_model.specs.Plans.{PlanParts}
+use Rattle.lft_model.specs.Breaches.{BreaksAt}
 use Rattle.lft_model.proofs.Places.{slice_get_take}
+use Rattle.lft_front.specs.Lines.{HasReaction}
 use Rattle.lft_follow.specs.declared.follower.Found.{Found}
+use Rattle.lft_follow.specs.Follows.{IsSureBehind, IsFirstBehind, breach_of}
 use Rattle.lft_log.specs.Logs.{AreRowLines}
 use Rattle.lft_log.specs.Told.{IsEnded, IsFinal, IsSoon}
 use Rattle.lft_log.specs.declared.told.Told.TheVariants.{Broken, Odd, Reached}
@@ -25,12 +28,30 @@ of_row program text t i x sound held e =
     let b = behind (IsRow program) (records_of text) t i x held.rows.1 e in
     rw (← sound.well_named.reactions) (slice_get_within program.names.reactions x.reaction b.1.0.reaction b.1.3.reaction)
 
-of_found : (plan : PlanParts) (until : Option Tag) (bytes : List ℕ) (b : Found) → IsSound plan.program → IsSoon plan until bytes (Broken b) → b.reaction < length plan.program.reactions
-of_found plan until bytes b sound s =
-    let breach = s.2.1.breaks in
-    let at = slice_get_take s.2.0 s.0 breach.place breach.row breach.is_row in
-    let same : b.reaction ≡ breach.row.reaction = cc (breach.reaction_is) in
-    rw same (of_row plan.program s.1.2.body (s.0 ++ s.1.0) breach.place breach.row sound s.1.2.is_body (get_left s.0 s.1.0 breach.place breach.row at.1))
+-- where the reactions of rows are of the program, so is that of what they break at a tag
+module _ (plan : PlanParts) (t : List Row) (own : (i : ℕ) (x : Row) → slice_get t i ≡ Some x → x.reaction < length plan.program.reactions) where
+  of_tag : (g : Tag) (o : Option ℕ) (k : ℕ) → BreaksAt plan t g o k → HasReaction plan.program o
+  of_tag g None k x = tt
+  of_tag g (Some r) k (inl x) = slice_get_within plan.program.reactions r x.1.reaction x.1.is_reaction
+  of_tag g (Some r) k (inr (inl x)) = own x.1.place _ x.1.starts
+  of_tag g (Some r) k (inr (inr (inl x))) = own x.1.place _ x.1.starts
+  of_tag g (Some r) k (inr (inr (inr x))) = own x.1.place _ x.1.starts
+
+of_found : (plan : PlanParts) (until : Option Tag) (bytes : List ℕ) (b : Found) → IsSound plan.program → IsSoon plan until bytes (Broken b) → HasReaction plan.program b.reaction
+of_found plan until bytes b sound s = go s.2.1
+  where
+    t : List Row
+    t = s.0
+
+    n : ℕ
+    n = s.2.0
+
+    own : (i : ℕ) (x : Row) → slice_get (take n t) i ≡ Some x → x.reaction < length plan.program.reactions
+    own i x e = of_row plan.program s.1.2.body (t ++ s.1.0) i x sound s.1.2.is_body (get_left t s.1.0 i x (slice_get_take n t i x e).1)
+
+    go : IsSureBehind plan t (breach_of b) n ⊎ IsFirstBehind plan t (breach_of b) n → HasReaction plan.program b.reaction
+    go (inl o) = subst (λ r. HasReaction plan.program r) (sym o.breaks.reaction_is) (own o.breaks.place o.breaks.row o.breaks.is_row)
+    go (inr o) = of_tag plan (take n t) own b.tag b.reaction b.rule o.first.breaks.breaks
 
 of_final : (plan : PlanParts) (until : Option Tag) (bytes : List ℕ) (told : Final) → IsSound plan.program → IsFinal plan until bytes told → HasFound plan.program told
 of_final plan until bytes (Soon (Broken b)) sound s = of_found plan until bytes b sound s

@@ -1,12 +1,12 @@
 -- The lines that are printed of a trace table that is followed.
-use Rattle.std.specs.Prelude.{ℕ, ◌<◌, List, [], ◌++◌, Option, Some, None, length, codes}
+use Rattle.std.specs.Prelude.{ℕ, List, [], ◌++◌, Option, Some, None, codes}
 use Rattle.lft_tag.specs.declared.Tag.{Tag}
 use Rattle.lft_flat.specs.Parts.{Parts}
 use Rattle.lft_load.specs.Words.{field}
 use Rattle.lft_follow.specs.Follows.{breach_of}
 use Rattle.lft_follow.specs.declared.reach.Reach.{Reach}
 use Rattle.lft_follow.specs.declared.judged.Ending.TheVariants as ending
-use Rattle.lft_front.specs.Lines.{accepted_words, breach_words}
+use Rattle.lft_front.specs.Lines.{HasReaction, accepted_words, breach_words}
 use Rattle.lft_log.specs.declared.told.Told.TheVariants.{Broken, Odd, Reached}
 use Rattle.lft_log.specs.declared.told.Final.{Final}
 use Rattle.lft_log.specs.declared.told.Final.TheVariants.{Soon, AtEnd}
@@ -42,7 +42,7 @@ line_of_log program (AtEnd (ending.Unbroken r)) = unbroken_words r
 
 -- the reaction of a breach that is told is one of the program
 abbrev pub HasFound : Parts → Final → Type 0
-HasFound program (Soon (Broken b)) = b.reaction < length program.reactions
+HasFound program (Soon (Broken b)) = HasReaction program b.reaction
 HasFound program told = Unit {0}
 
 -- the status of what is told: 0 accepted, or unbroken as far as was asked for; 1 broken; 3 unbroken at the end; 4 odd

@@ -2,7 +2,7 @@
 
 ghost use Rattle.std.specs.Prelude.{◌≡◌, ◌<◌, ◌++◌, IfOk, OnOk, length, string_bytes};
 ghost use Rattle.lft_follow.specs.Follows.{breach_of};
-ghost use Rattle.lft_front.specs.Lines.{breach_words};
+ghost use Rattle.lft_front.specs.Lines.{HasReaction, breach_words};
 ghost use Rattle.lft_monitor.specs.Lines.{HasFound, last_words, line_of_log, odd_words, reach_words, tag_words, unbroken_words};
 
 use lft_flat::Program;
@@ -65,11 +65,17 @@ fn odd_line(alloc: Global, reach: Reach, last: u64) -> Result<String, AllocError
 
 /// The line of a broken rule, with its line feed.
 fn found_line(alloc: Global, program: &Program, found: Found) -> Result<String, AllocError>
-    requires { found.reaction < length program.now.reactions }
+    requires { HasReaction program.now found.reaction }
     ensures { IfOk result (λ line. string_bytes line ≡ breach_words program.now (breach_of found)) }
 {
-    let reaction = Some(found.reaction);
-    broken_line(alloc, program, found.rule, found.line, found.tag, reaction)
+    broken_line(
+        alloc,
+        program,
+        found.rule,
+        found.line,
+        found.tag,
+        found.reaction,
+    )
 }
 
 /// The line of what is told of a table, with its line feed.

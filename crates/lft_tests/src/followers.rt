@@ -5,7 +5,7 @@ ghost use Rattle.lft_steps.specs.Fits.{RowsFit};
 ghost use Rattle.lft_follow.specs.Follows.{IsFollowerOf, IsProgress};
 
 use crate::texts::{plan, rows};
-use lft_follow::{Ending, Follower, Found, Progress, Reach};
+use lft_follow::{Ending, Follower, Found, Progress};
 use lft_model::Plan;
 use lft_steps::Row;
 use lft_stream::Counts;
@@ -111,15 +111,16 @@ fn shows(alloc: Global, plan: &Plan, table: &[u8], wanted: Shown) -> Result<bool
 const LOST: Found = Found {
     rule: 5,
     tag: Tag { time: 1, micro: 0 },
-    reaction: 0,
+    reaction: Some(0),
     line: 6,
 };
 
-/// No run.
-const NOWHERE: Reach = Reach {
-    runs: 0,
-    tags: 0,
-    tag: None,
+/// The run of `EARLY` that begins too early.
+const TOO_EARLY: Found = Found {
+    rule: 9,
+    tag: Tag { time: 0, micro: 0 },
+    reaction: Some(1),
+    line: 0,
 };
 
 /// The runs of `RUNS`.
@@ -131,7 +132,7 @@ fn follows_rows_however_they_come(rt: HostRuntime) -> Result<(), Fail> {
     let plan = plan(rt.alloc(), PROGRAM, EXTERNALS)?;
     for (table, wanted) in [
         (RUNS, Shown::AtEnd(Ending::Accepted(ALL))),
-        (EARLY, Shown::Soon(Progress::Odd(NOWHERE, 5))),
+        (EARLY, Shown::Soon(Progress::Broken(TOO_EARLY))),
         (OPEN, Shown::Soon(Progress::Broken(LOST))),
     ] {
         assert!(rt;

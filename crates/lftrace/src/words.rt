@@ -59,8 +59,8 @@ LOG has the header        event,worker,time,microstep,reaction,name,value,delay
 Times are in nanoseconds. Words are paths of files; without LOG it is standard input.
 Its lines are plain: without quotation marks. Nothing is read behind what is told.
 Printed: accepted runs=R tags=G (status 0); broken rule=N .. (status 1), as soon as
-it is sure, of the rules 1 to 5; odd line=L runs=R tags=G .. (status 4), where the
-rows up to line L may break one of the rules 6 to 10: judge tells; unbroken runs=R
+it is sure; odd line=L runs=R tags=G .. (status 4), where the rows up to line L
+can't be judged further, as two events meet at a later tag; unbroken runs=R
 tags=G time=T microstep=M at the end (status 3), where rows are missing or those at
 the last tag may break a rule: judge tells; the same with --until (status 0).";
 

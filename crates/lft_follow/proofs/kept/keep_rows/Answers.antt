@@ -1,14 +1,26 @@
-use Rattle.std.proofs.Common.{◌+◌, List, sym, ap, ◌∙◌, subst}
+use Rattle.std.proofs.Common.{◌+◌, ◌<◌, ◌∙◌, List, length, take, refl, sym, ap, subst, arith, Some}
+use Rattle.std.proofs.lemmas.Option.{slice_get_read}
+use Rattle.lft_lists.proofs.Places.{get_there}
 use Rattle.lft_steps.specs.declared.row.Row.{Row}
-use Rattle.lft_follow.proofs.Keeping.{AreKept, kept_one, kept_none, kept_before}
+use Rattle.lft_follow.specs.Kept.{IsKept}
+use Rattle.lft_follow.proofs.Keeping.{kept_one, kept_less}
 use Rattle.lft_follow.proofs.kept.keep_rows.Goals as goal
-use Rattle.lft_follow.proofs.kept.keep_rows.Goals.{then-causes_from+in_ok-push, else-causes_from}
+use Rattle.lft_follow.proofs.kept.keep_rows.Goals.{then-index+in_ok-push, else-index}
 
 pub loop-place-preserved : goal.loop-place-preserved
-loop-place-preserved c = elim c.if-causes_from.branch [
-  | then-causes_from+in_ok-push w ↦ subst (λ (xs : List Row). AreKept c.args.plan.now c.args.rows.now c.args.low (c.loop-place.place + 1) xs) (sym (ap (λ v. v.items) w.kept-is ∙ w.in_ok-push.ensures.items)) (kept_one c.args.plan.now c.args.rows.now c.args.low c.loop-place.place c.loop-place.kept.items c.row_at-row.result c.row_at-row.ensures c.loop-place.invariant)
-  | else-causes_from w ↦ subst (λ (xs : List Row). AreKept c.args.plan.now c.args.rows.now c.args.low (c.loop-place.place + 1) xs) (sym (ap (λ v. v.items) w.kept-is)) (kept_none c.args.plan.now c.args.rows.now c.args.low c.loop-place.place c.loop-place.kept.items c.row_at-row.result c.row_at-row.ensures c.loop-place.invariant (c.causes_from.ensures.scheduled w.if-causes_from.false) (c.causes_from.ensures.written w.if-causes_from.false))
-]
-
-pub returns-clause-before : goal.returns-clause-before
-returns-clause-before c = kept_before c.args.plan.now c.args.rows.now c.args.low c.loop-place.place c.loop-place.kept.items c.loop-place.invariant
+loop-place-preserved c =
+    let plan = c.args.plan.now in
+    let rows = c.args.rows.now in
+    let low = c.args.low in
+    let n = c.loop-place.place in
+    let kept = c.loop-place.kept.items in
+    let marks = c.in_ok-marks.marks.items in
+    let long = c.in_ok-marks.ensures.as_long in
+    let within : n < length rows = omega arith in
+    elim c.if-index.branch [
+      | then-index+in_ok-push w ↦ subst (λ (xs : List Row). IsKept plan (take (n + 1) rows) xs low) (sym (ap (λ v. v.items) w.kept-is ∙ w.in_ok-push.ensures.items)) (kept_one plan rows low n kept w.row_at.result w.row_at.ensures c.loop-place.invariant)
+      | else-index w ↦
+          let x = get_there rows n within in
+          let mark = slice_get_read marks (length marks) n c.index.result.now refl (omega arith) c.index.ensures ∙ ap Some w.if-index.false in
+          subst (λ (xs : List Row). IsKept plan (take (n + 1) rows) xs low) (sym (ap (λ v. v.items) w.kept-is)) (kept_less plan rows low n kept x.0 x.1 c.loop-place.invariant (c.in_ok-marks.ensures.idle n x.0 mark x.1))
+    ]

@@ -1,5 +1,6 @@
-use Rattle.lft_follow.proofs.Keeping.{AreKept}
+use Rattle.std.proofs.Common.{take}
+use Rattle.lft_follow.specs.Kept.{IsKept}
 use Rattle.lft_follow.proofs.kept.keep_rows.Given as goal
 
 abbrev pub invariant-loop-place : goal.invariant-loop-place
-invariant-loop-place l = AreKept l.plan l.rows l.low l.place l.kept.items
+invariant-loop-place l = IsKept l.plan (take l.place l.rows) l.kept.items l.fn.low

@@ -101,7 +101,7 @@ returns-in-AtEnd c = IfOk-weaker c.go_on.result _ _ (λ p told t is.
     told (t ++ more) e.0) c.go_on.ensures
 
 pub returns-in-AtRow : goal.returns-in-AtRow
-returns-in-AtRow c = λ t is.
+returns-in-AtRow c = IfOk-weaker c.tell.result _ _ (λ p told t is.
     let plan = c.args.plan.now in
     let more = c.args.more.now in
     let old = c.args.self.now in
@@ -113,10 +113,10 @@ returns-in-AtRow c = λ t is.
     let gone = c.in_ok-go_over.ensures (done_of (t ++ more) now) (going_over plan t more old now is hand s rows) in
     let e = over_row plan t more old now is hand s rows c.go_over.new.self c.in-AtRow.place c.in-AtRow.rule (rw c.in-AtRow.is at gone) in
     let held = held_over plan t more old now is hand s rows c.go_over.new.self in
-    c.tell.ensures (t ++ more) held e.1
+    told (t ++ more) held e.1) c.tell.ensures
 
 pub returns-in-AtLater : goal.returns-in-AtLater
-returns-in-AtLater c = λ t is.
+returns-in-AtLater c = IfOk-weaker c.tell-in-AtLater.result _ _ (λ p told t is.
     let plan = c.args.plan.now in
     let more = c.args.more.now in
     let old = c.args.self.now in
@@ -128,4 +128,4 @@ returns-in-AtLater c = λ t is.
     let gone = c.in_ok-go_over.ensures (done_of (t ++ more) now) (going_over plan t more old now is hand s rows) in
     let e = over_later plan t more old now is hand s rows c.go_over.new.self c.in-AtLater.start c.in-AtLater.place (rw c.in-AtLater.is at gone) in
     let held = held_over plan t more old now is hand s rows c.go_over.new.self in
-    c.tell-in-AtLater.ensures (t ++ more) held e.2
+    told (t ++ more) held e.2) c.tell-in-AtLater.ensures

@@ -8,3 +8,9 @@ judge-requires-clause-stands c = (done_of c.requires.0 c.args.self.now, c.requir
 
 pub returns-then-self-gt-MOST : goal.returns-then-self-gt-MOST
 returns-then-self-gt-MOST c = λ t is. inl (judged_so_far c.args.plan.now t c.args.self.now is)
+
+pub returns-in-Ok-false : goal.returns-in-Ok-false
+returns-in-Ok-false c = λ t is. inl (judged_so_far c.args.plan.now t c.args.self.now is)
+
+pub returns-in-Err : goal.returns-in-Err
+returns-in-Err c = λ t is. inl (judged_so_far c.args.plan.now t c.args.self.now is)

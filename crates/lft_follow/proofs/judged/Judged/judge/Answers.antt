@@ -9,11 +9,19 @@ returns-then-is_empty-clause-stands c = λ yes done is. judged_none c.args.plan.
 pub go_on-requires-clause-stands : goal.go_on-requires-clause-stands
 go_on-requires-clause-stands c = (c.requires.stands.0, c.requires.stands.1.acceptor)
 
-pub returns-in-Some-clause-stands : goal.returns-in-Some-clause-stands
-returns-in-Some-clause-stands c = λ yes done is.
+pub add-requires-clause-stands : goal.add-requires-clause-stands
+add-requires-clause-stands c =
+    let done = c.requires.stands.0 in
+    let is = c.requires.stands.1 in
+    let stands = c.if-not-go_on.ensures.stands refl done is.acceptor in
+    (done, is.past, accepted_rise c.args.plan.now (done ++ c.args.rows.now) c.go_on.new.acceptor stands, c.if-not-go_on.ensures.unbroken refl done is.acceptor)
+
+pub returns-clause-stands : goal.returns-clause-stands
+returns-clause-stands c = λ yes done is.
     let plan = c.args.plan.now in
     let rows = c.args.rows.now in
     let some : 0 < length rows = search rules in
     let stands = c.if-not-go_on.ensures.stands refl done is.acceptor in
-    let reach = c.in-Some.ensures done (accepted_rise plan (done ++ rows) c.go_on.new.acceptor stands) is.clean.reach in
-    judged_more plan done rows c.args.self.now _ is some stands (c.if-not-go_on.ensures.unbroken refl done is.acceptor) (c.stop_over-self.ensures plan done is.stop_is) refl reach
+    let unbroken = c.if-not-go_on.ensures.unbroken refl done is.acceptor in
+    let rise = accepted_rise plan (done ++ rows) c.go_on.new.acceptor stands in
+    judged_more plan done rows c.args.self.now _ is some stands unbroken (c.in_ok-add.ensures done is.past rise unbroken) refl (c.in-Some.ensures done rise is.clean.reach)

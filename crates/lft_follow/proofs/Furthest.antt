@@ -1,0 +1,82 @@
+-- How far writes of a port are carried.
+use Rattle.std.proofs.Common.{◌≡◌, ℕ, zero, suc, ◌+◌, ◌<◌, ◌≤◌, ◌⊎◌, inl, inr, List, length, refl, sym, ap, ◌∙◌, subst, arith, Some, slice_get, slice_set}
+use native.Mathlib.Decide.{ℕ_discrete}
+use Rattle.lft_tag.specs.declared.Tag.{Tag}
+use Rattle.lft_tag.specs.declared.Shift.{Shift}
+use Rattle.lft_tag.specs.Tags.{Before, UpTo, after_all}
+use Rattle.lft_tag.specs.Shifts.{Folded, join_all, moved, none, shifted}
+use Rattle.lft_tag.proofs.Order.{UpTo-Before}
+use Rattle.lft_tag.proofs.Chains.{shifted_chain}
+use Rattle.lft_flat.specs.Parts.{Parts}
+use Rattle.lft_flat.specs.Sound.{IsSound}
+use Rattle.lft_flat.specs.Origins.{Origin}
+use Rattle.lft_flat.specs.declared.parts.Port.{Port}
+use Rattle.lft_flat.proofs.Origins.{origin_unique, origin_within}
+use Rattle.lft_lists.proofs.Places.{get_there, get_written, get_unwritten, same_at, same_some}
+use Rattle.lft_model.proofs.Places.{slice_get_within}
+use Rattle.lft_follow.specs.Kept.{GoesAsFar, AreFurthest}
+
+moved_up : (g : Tag) (a b c d : ℕ) → (a < c) ⊎ ((a ≡ c) × (b ≤ d)) → UpTo (moved g a b) (moved g c d)
+moved_up g zero b zero d (inl l) = absurd (omega arith)
+moved_up g zero b zero d (inr e) = let l : b ≤ d = e.1 in inr (refl, omega arith)
+moved_up g zero b (suc c) d h = inl (omega arith)
+moved_up g (suc a) b zero d (inl l) = absurd (omega arith)
+moved_up g (suc a) b zero d (inr e) = let z : suc a ≡ zero = e.0 in absurd (omega arith)
+moved_up g (suc a) b (suc c) d (inl l) = inl (omega arith)
+moved_up g (suc a) b (suc c) d (inr e) = let z : suc a ≡ suc c = e.0 in inr (omega arith, e.1)
+
+far_trans : (s f h : Shift) → GoesAsFar s f → GoesAsFar f h → GoesAsFar s h
+far_trans s f h (inl a) (inl b) = inl (omega arith)
+far_trans s f h (inl a) (inr b) = let e : f.time ≡ h.time = b.0 in inl (omega arith)
+far_trans s f h (inr a) (inl b) = let e : s.time ≡ f.time = a.0 in inl (omega arith)
+far_trans s f h (inr a) (inr b) = let p : s.steps ≤ f.steps = a.1 in let q : f.steps ≤ h.steps = b.1 in inr (a.0 ∙ b.0, omega arith)
+
+-- the ways of the ports before a number go no further than those at the places of their origins
+pub record AreFar (program : Parts) (furthest : List Shift) (n : ℕ) : Type 0 where
+  pub as_long : length furthest ≡ length program.ports
+  pub each : (p : ℕ) (port : Port) → p < n → slice_get program.ports p ≡ Some port → (f : Shift) × (slice_get furthest port.origin ≡ Some f) × GoesAsFar port.shift f
+
+pub far_more : (program : Parts) (old new : List Shift) (n : ℕ) (port : Port) (f far : Shift) → slice_get program.ports n ≡ Some port → slice_get old port.origin ≡ Some f → new ≡ slice_set old port.origin far → length new ≡ length old → GoesAsFar f far → GoesAsFar port.shift far → AreFar program old n → AreFar program new (n + 1)
+far_more program old new n port f far is there writes long over own are = record { as_long = long ∙ are.as_long; each = λ p x l e. go p x l e (ℕ_discrete p n) }
+  where
+    written : slice_get new port.origin ≡ Some far
+    written = ap (λ (xs : List Shift). slice_get xs port.origin) writes ∙ get_written old port.origin far (slice_get_within old port.origin f there)
+
+    goes : (x : Port) (h : Shift) → slice_get old x.origin ≡ Some h → GoesAsFar x.shift h → Dec (x.origin ≡ port.origin) → (z : Shift) × (slice_get new x.origin ≡ Some z) × GoesAsFar x.shift z
+    goes x h at goes_far (yes q) = (far, ap (λ (k : ℕ). slice_get new k) q ∙ written, far_trans x.shift h far goes_far (subst (λ (z : Shift). GoesAsFar z far) (same_at old port.origin x.origin f h there at (sym q)) over))
+    goes x h at goes_far (no m) = (h, ap (λ (xs : List Shift). slice_get xs x.origin) writes ∙ get_unwritten old port.origin x.origin far m ∙ at, goes_far)
+
+    go : (p : ℕ) (x : Port) → p < n + 1 → slice_get program.ports p ≡ Some x → Dec (p ≡ n) → (z : Shift) × (slice_get new x.origin ≡ Some z) × GoesAsFar x.shift z
+    go p x l e (yes q) = let same : port ≡ x = same_at program.ports n p port x is e (sym q) in subst (λ (y : Port). (z : Shift) × (slice_get new y.origin ≡ Some z) × GoesAsFar y.shift z) same (far, written, own)
+    go p x l e (no m) = let h = are.each p x (omega arith) e in goes x h.0 h.1 h.2 (ℕ_discrete x.origin port.origin)
+
+pub far_all : (program : Parts) (furthest : List Shift) (n : ℕ) → length program.ports ≤ n → AreFar program furthest n → AreFurthest program furthest
+far_all program furthest n all are = record { as_long = are.as_long; each = λ p port e. are.each p port (let l : p < length program.ports = slice_get_within program.ports p port e in omega arith) e }
+
+-- where the furthest way from a tag ends before low, all do
+pub leads_before : (program : Parts) → IsSound program → (furthest : List Shift) → AreFurthest program furthest → (origin : ℕ) (f : Shift) (tag low : Tag) → slice_get furthest origin ≡ Some f → Before (shifted tag (f.time, f.steps)) low → (p : ℕ) (delays : List ℕ) → Origin program p origin delays → Before (after_all tag delays) low
+leads_before program sound furthest are origin f tag low there before p delays o = UpTo-Before (after_all tag delays) (shifted tag (f.time, f.steps)) low (subst (λ (k : Tag). UpTo k (shifted tag (f.time, f.steps))) lands up) before
+  where
+    at : (port : Port) × (slice_get program.ports p ≡ Some port)
+    at = get_there program.ports p (origin_within o)
+
+    port : Port
+    port = at.0
+
+    chain : (ds : List ℕ) × Origin program p port.origin ds × (join_all none ds ≡ (port.shift.time, port.shift.steps))
+    chain = sound.origins p port at.1
+
+    same : (port.origin ≡ origin) × (chain.0 ≡ delays)
+    same = origin_unique chain.1 o
+
+    far : (h : Shift) × (slice_get furthest port.origin ≡ Some h) × GoesAsFar port.shift h
+    far = are.each p port at.1
+
+    goes : GoesAsFar port.shift f
+    goes = subst (λ (z : Shift). GoesAsFar port.shift z) (same_some (slice_get furthest origin) far.0 f (ap (λ (k : ℕ). slice_get furthest k) (sym same.0) ∙ far.1) there) far.2
+
+    up : UpTo (shifted tag (port.shift.time, port.shift.steps)) (shifted tag (f.time, f.steps))
+    up = moved_up tag port.shift.time port.shift.steps f.time f.steps goes
+
+    lands : shifted tag (port.shift.time, port.shift.steps) ≡ after_all tag delays
+    lands = ap (λ (s : Folded). shifted tag s) (sym chain.2) ∙ shifted_chain tag chain.0 ∙ ap (λ (ds : List ℕ). after_all tag ds) same.1
