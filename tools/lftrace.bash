@@ -18,7 +18,8 @@ _lftrace() {
         choice="1000000"
     elif [[ $word == -* ]]; then
         case ${COMP_WORDS[1]} in
-            judge | pair) choice="--workers --names -h --help" ;;
+            judge) choice="--workers --names --until -h --help" ;;
+            pair) choice="--workers --names -h --help" ;;
             cover) choice="--workers --names --list -h --help" ;;
             explain) choice="--workers --names --all -h --help" ;;
             follow) choice="--until --every -h --help" ;;

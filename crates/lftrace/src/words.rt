@@ -212,6 +212,10 @@ fn judge_command<'a>(alloc: Global) -> Result<Command<'a>, Error> {
         .arg(path(alloc, "TRACE", "the trace table"))?
         .arg(workers(alloc, JUDGES))?
         .arg(names(alloc, NAMED))?
+        .arg(until_arg(
+            alloc,
+            "judges the rows up to the first tag at or past this one that has rows, as `follow` does",
+        ))?
         .after_help(JUDGE_HELP);
     Ok(command)
 }
@@ -289,11 +293,18 @@ fn record_command<'a>(alloc: Global) -> Result<Command<'a>, Error> {
     Ok(command)
 }
 
-fn follow_command<'a>(alloc: Global) -> Result<Command<'a>, Error> {
-    let until = Arg::new(alloc, "until")
+fn until_arg<'a>(alloc: Global, help: &'a str) -> Arg<'a> {
+    Arg::new(alloc, "until")
         .long("until")
         .value_name("TIME,MICROSTEP")
-        .help("ends behind the first tag at or past this one that has rows");
+        .help(help)
+}
+
+fn follow_command<'a>(alloc: Global) -> Result<Command<'a>, Error> {
+    let until = until_arg(
+        alloc,
+        "ends behind the first tag at or past this one that has rows",
+    );
     let every = Arg::new(alloc, "every")
         .long("every")
         .value_name("N")
@@ -409,8 +420,8 @@ fn explain_job<'a>(matches: &ArgMatches<'a>) -> Job<'a> {
     }
 }
 
-/// The tag that `--until` names, if it is there.
-fn until<'a>(alloc: Global, matches: &ArgMatches<'a>) -> Result<Option<Tag>, Error> {
+/// The tag that `--until` names, if it is there. The command is for its error.
+fn until<'a>(mut command: Command<'a>, matches: &ArgMatches<'a>) -> Result<Option<Tag>, Error> {
     if !matches.contains_id("until") {
         return Ok(None);
     }
@@ -418,9 +429,30 @@ fn until<'a>(alloc: Global, matches: &ArgMatches<'a>) -> Result<Option<Tag>, Err
         Some(tag) => Ok(Some(tag)),
         None => {
             let words = "`--until` wants TIME,MICROSTEP, as 5000000,0";
-            let mut command = follow_command(alloc)?.bin_name("lftrace follow")?;
             Err(command.error(ErrorKind::ValueValidation, words)?)
         }
+    }
+}
+
+/// What the words of `judge` ask for. With `--until` the trace is followed: its rows behind that tag aren't judged.
+fn judge_job<'a>(alloc: Global, matches: &ArgMatches<'a>) -> Result<Job<'a>, Error> {
+    let words = judge_words(matches);
+    let mut command = judge_command(alloc)?.bin_name("lftrace judge")?;
+    if matches.contains_id("until") && matches.contains_id("names") {
+        let words = "`--until` and `--names` don't go together";
+        return Err(command.error(ErrorKind::ArgumentConflict, words)?);
+    }
+    match until(command, matches)? {
+        Some(tag) => Ok(Job::Follow(FollowWords {
+            program: words.program,
+            externals: words.externals,
+            log: Some(words.trace),
+            following: Following {
+                until: Some(tag),
+                every: 0,
+            },
+        })),
+        None => Ok(ask(matches, Question::Judge(words))),
     }
 }
 
@@ -434,7 +466,8 @@ fn lower_words<'a>(matches: &ArgMatches<'a>) -> LowerWords<'a> {
 
 /// The words of `follow`.
 fn follow_words<'a>(alloc: Global, matches: &ArgMatches<'a>) -> Result<FollowWords<'a>, Error> {
-    let until = until(alloc, matches)?;
+    let command = follow_command(alloc)?.bin_name("lftrace follow")?;
+    let until = until(command, matches)?;
     let every = matches.get_one::<u64>("every").unwrap_or(0);
     Ok(FollowWords {
         program: text(matches, "PROGRAM"),
@@ -450,7 +483,7 @@ pub(crate) fn read_words<'a>(alloc: Global, words: &'a [String]) -> Result<Job<'
     let command = root_command(alloc)?;
     let matches = command.try_get_matches_from(words)?;
     match matches.subcommand() {
-        Some(("judge", judge)) => Ok(ask(judge, Question::Judge(judge_words(judge)))),
+        Some(("judge", judge)) => judge_job(alloc, judge),
         Some(("cover", cover)) => {
             let words = judge_words(cover);
             let list = cover.get_flag("list");
