@@ -1,4 +1,7 @@
 pub mod Limits
 pub mod Names
+pub mod Noted
+pub mod Places
 pub mod Settings
+pub mod Values
 pub mod Widths

@@ -1,74 +1,109 @@
 //! The whole numbers that parameters are.
 
-ghost use Rattle.std.specs.Prelude.{◌≡◌, IfOk, vec_len};
+ghost use Rattle.std.specs.Prelude.{◌≡◌, ◌<◌, ℕ, IfOk, map, None, option_map, replicate, slice_get, vec_len};
+ghost use Rattle.lft_settings.specs.Values.{chosen, default_at, given_to, literal, main_value, main_values, number_in, number_named, signed, value_inside, values_inside};
 
 use lft_shapes::{Child, Shape};
 use lft_sources::{Stop, Why};
 use lft_whole::{Expression, Value};
-use std::alloc::Global;
+use std::alloc::{AllocError, Global};
 
 /// A number of this size or more is as good as this one: it passes every limit.
 const LARGE: u64 = 1 << 62;
 
+/// As many times nothing.
+pub(crate) fn nothing<N: Copy>(alloc: Global, count: usize) -> Result<Vec<Option<N>>, AllocError>
+    ensures { IfOk result (λ list. list.items ≡ replicate count None) }
+{
+    let mut list = Vec::new(alloc);
+    for _more in 0..count {
+        list.push(None)?;
+    }
+    Ok(list)
+}
+
 /// A number with a sign, at most `LARGE` in size.
-fn signed(is_negative: bool, count: u64) -> i64 {
+fn signed(is_negative: bool, count: u64) -> i64
+    ensures { result ≡ signed is_negative count }
+{
     let size = count.min(LARGE) as i64;
     if is_negative { -size } else { size }
 }
 
-/// The number that a value is, in a reactor with these values of its parameters. Only those that decide a width
-/// count.
-fn number(shape: Option<(&Shape, &[i64])>, file: usize, value: &Expression) -> Result<i64, Stop> {
-    match &value.value {
+/// The whole number that a value writes out.
+fn literal(value: &Value) -> Option<i64>
+    ensures { result ≡ literal value.now }
+{
+    match value {
         Value::Number {
             is_negative,
             count,
             unit: None,
-        } => return Ok(signed(*is_negative, *count)),
-        Value::Word(word) => {
-            if let Some((outer, values)) = shape
-                && let Some(parameter) = outer.parameter(word.as_str())
-                && outer.is_sized(parameter)
-                && let Some(found) = values.get(parameter)
-            {
-                return Ok(*found);
-            }
-        }
-        _ => {}
+        } => Some(signed(*is_negative, *count)),
+        _ => None,
     }
-    Err(Stop::at(Why::NoWholeNumber, file, value.at))
+}
+
+/// The number of the parameter of this name in a reactor with these values, if a width needs it.
+pub(crate) fn number_named(shape: &Shape, values: &[i64], name: &str) -> Option<i64>
+    ensures { result ≡ number_named shape.now (map (λ v. Some v) values.now) name.now }
+{
+    let parameter = shape.parameter(name)?;
+    if shape.is_sized(parameter) {
+        values.get(parameter).copied()
+    } else {
+        None
+    }
+}
+
+/// The number that a value is, in a reactor with these values of its parameters. Only those that decide a width
+/// count.
+fn number(shape: &Shape, values: &[i64], file: usize, value: &Expression) -> Result<i64, Stop>
+    ensures { IfOk result (λ found. number_in shape.now (map (λ v. Some v) values.now) value.now.value ≡ Some found) }
+{
+    let found = match &value.value {
+        Value::Word(word) => number_named(shape, values, word.as_str()),
+        other => literal(other),
+    };
+    match found {
+        Some(found) => Ok(found),
+        None => Err(Stop::at(Why::NoWholeNumber, file, value.at)),
+    }
 }
 
 /// The default of a parameter. `missing` is what is said where there is none.
-fn default(inner: &Shape, parameter: usize, missing: Stop) -> Result<i64, Stop> {
-    match inner.parameters.get(parameter) {
-        Some(inherited) => match &inherited.parameter.default {
-            Some(value) => number(None, inherited.file, value),
-            None => Err(missing),
-        },
-        None => Err(missing),
+fn default(inner: &Shape, parameter: usize, missing: Stop) -> Result<i64, Stop>
+    ensures { IfOk result (λ found. default_at inner.now parameter ≡ Some found) }
+{
+    let Some(inherited) = inner.parameters.get(parameter) else {
+        return Err(missing);
+    };
+    let Some(value) = &inherited.parameter.default else {
+        return Err(missing);
+    };
+    match literal(&value.value) {
+        Some(found) => Ok(found),
+        None => Err(Stop::at(Why::NoWholeNumber, inherited.file, value.at)),
     }
 }
 
 /// The value of a parameter of the main reactor: its default. Of one that decides no width it is 0.
-fn main_value(main: &Shape, parameter: usize) -> Result<i64, Stop> {
-    let Some(inherited) = main.parameters.get(parameter) else {
-        return Ok(0);
-    };
+fn main_value(main: &Shape, parameter: usize) -> Result<i64, Stop>
+    ensures { IfOk result (λ found. main_value main.now parameter ≡ Some found) }
+{
     if !main.is_sized(parameter) {
         return Ok(0);
     }
-    let missing = Stop::at(
-        Why::MissingNumber,
-        inherited.file,
-        inherited.parameter.name.at,
-    );
-    default(main, parameter, missing)
+    let (file, at) = match main.parameters.get(parameter) {
+        Some(inherited) => (inherited.file, inherited.parameter.name.at),
+        None => (0, 0),
+    };
+    default(main, parameter, Stop::at(Why::MissingNumber, file, at))
 }
 
 /// The values of the parameters of the main reactor.
 pub(crate) fn main_values(alloc: Global, main: &Shape) -> Result<Vec<i64>, Stop>
-    ensures { IfOk result (λ values. vec_len values ≡ vec_len main.now.parameters) }
+    ensures { IfOk result (λ values. map (λ v. Some v) values.items ≡ main_values main.now) }
 {
     let mut values = Vec::new(alloc);
     for parameter in 0..main.parameters.len() {
@@ -86,6 +121,25 @@ pub(crate) struct Given<'o, 'v, 'c, 'a> {
     pub(crate) child: &'c Child<'a>,
 }
 
+/// For each of so many parameters what an instance gives to it.
+fn given_values<'a>(
+    alloc: Global,
+    child: &Child<'a>,
+    count: usize,
+) -> Result<Vec<Option<&'a Expression>>, Stop>
+    ensures long { IfOk result (λ table. vec_len table ≡ count) }
+    ensures given { IfOk result (λ table. (p : ℕ) → p < count → slice_get (map (λ found. option_map (λ value. value.now.value) found) table.items) p ≡ Some (given_to child.now.given.items p)) }
+{
+    let mut table = nothing(alloc, count)?;
+    for place in (0..child.given.len()).rev() {
+        let found = child.given[place];
+        if found.parameter < table.len() {
+            table[found.parameter] = Some(found.value);
+        }
+    }
+    Ok(table)
+}
+
 /// The value of a parameter in an instance that may give it. Of one that decides no width it is 0.
 fn inner_value(
     inner: &Shape,
@@ -93,12 +147,14 @@ fn inner_value(
     given: Given,
     value: Option<&Expression>,
     missing: Stop,
-) -> Result<i64, Stop> {
+) -> Result<i64, Stop>
+    ensures { IfOk result (λ found. (option_map (λ value. value.now.value) value.entry ≡ given_to given.entry.child.now.given.items parameter) → value_inside given.entry.outer.now (map (λ v. Some v) given.entry.values.now) given.entry.child.now.given.items inner.now parameter ≡ Some found) }
+{
     if !inner.is_sized(parameter) {
         return Ok(0);
     }
     match value {
-        Some(value) => number(Some((given.outer, given.values)), given.file, value),
+        Some(value) => number(given.outer, given.values, given.file, value),
         None => default(inner, parameter, missing),
     }
 }
@@ -110,19 +166,14 @@ pub(crate) fn inner_values(
     given: Given,
     missing: Stop,
 ) -> Result<Vec<i64>, Stop>
-    ensures { IfOk result (λ values. vec_len values ≡ vec_len inner.now.parameters) }
+    ensures { IfOk result (λ values. map (λ v. Some v) values.items ≡ values_inside given.entry.outer.now (map (λ v. Some v) given.entry.values.now) given.entry.child.now.given.items inner.now) }
 {
+    let count = inner.parameters.len();
+    let table = given_values(alloc, given.child, count)?;
     let mut values = Vec::new(alloc);
-    let mut next = 0;
-    for parameter in 0..inner.parameters.len() {
-        let value = match given.child.given.get(next) {
-            Some(found) if found.parameter == parameter => Some(found.value),
-            _ => None,
-        };
-        if value.is_some() {
-            next = next.saturating_add(1);
-        }
-        values.push(inner_value(inner, parameter, given, value, missing)?)?;
+    for parameter in 0..count {
+        let value = inner_value(inner, parameter, given, table[parameter], missing)?;
+        values.push(value)?;
     }
     Ok(values)
 }
