@@ -3,7 +3,7 @@
 use crate::words::LowerWords;
 use crate::{end, say};
 use lft_files::read_file;
-use lft_front::Part;
+use lft_front::{Fault, Part};
 use lft_lowered::{Unlowered, lower_answer};
 use std::alloc::Global;
 use std::io;
@@ -52,18 +52,18 @@ pub(crate) fn end_lowered<W: Write>(
     }
 }
 
-/// Writes that `lower` takes the program at a path, whose text has a fault of this part. This is help alone: where
-/// it can't be written, the line of the fault comes all the same.
+/// Writes that `lower` takes the program at a path, whose text has this fault. This is help alone: where it can't be
+/// written, the line of the fault comes all the same.
 pub(crate) fn write_lowers<F: Files, W: Write>(
     rt: &F,
     alloc: Global,
     path: &str,
     text: &[u8],
-    part: Part,
+    fault: &Fault,
     out: &mut W,
 ) {
-    // A text that has a tree is printed by `lower` as it is.
-    if part != Part::Lex && part != Part::Syntax {
+    // Want of memory says nothing of the text. A text that has a tree is printed by `lower` as it is.
+    if fault.name == "NoMemory" || !matches!(fault.part, Part::Lex | Part::Syntax) {
         return;
     }
     let lowered = lower_answer(

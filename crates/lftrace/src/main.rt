@@ -121,7 +121,7 @@ fn explain_files<F: Files + Threads + Sync, W: Write>(
             let (text, externals) = (program.as_slice(), externals.as_slice());
             let told = refusal_of_texts(alloc, text, externals, trace.as_slice());
             write_told(told, out);
-            write_lowers(rt, alloc, words.program, text, fault.part, out);
+            write_lowers(rt, alloc, words.program, text, &fault, out);
             Err(Failure::from(fault))
         }
     }
@@ -177,7 +177,7 @@ fn explain_pair_files<F: Files + Threads + Sync, W: Write>(
         Err(fault) => {
             let told = refusal_of_pair_texts(alloc, program, externals, first, second);
             write_told(told, out);
-            write_lowers(rt, alloc, words.program, program, fault.part, out);
+            write_lowers(rt, alloc, words.program, program, &fault, out);
             Err(Failure::from(fault))
         }
     }
@@ -231,7 +231,7 @@ fn explain_program<F: Files, W: Write>(
         Ok(answer) => Ok(answer),
         Err(fault) => {
             write_told(refusal_of_program(alloc, text), out);
-            write_lowers(rt, alloc, path, text, fault.part, out);
+            write_lowers(rt, alloc, path, text, &fault, out);
             Err(Failure::from(fault))
         }
     }
