@@ -75,7 +75,7 @@ pub record MayAdvance (plan : PlanParts) (t : List Row) (last : Tag) : Type 0 wh
   pub stop_is : last ≡ stop plan t
   pub none_open : ¬ IsAnyOpen t
 
--- what may start next may be asked for
+-- the rows are a recording so far of a sound plan, and only ended runs have answered
 pub record MayFind (plan : PlanParts) (t : List Row) : Type 0 where
   pub sound : IsSoundPlan plan
   pub so_far : SoFar plan t

@@ -35,7 +35,7 @@ NothingLeft plan t = (g : Tag) (r : ℕ) → ¬ IsPending plan (by_ends plan t) 
 abbrev pub IsBusy : List Row → ℕ → Type 0
 IsBusy t w = (g : Tag) × (r : ℕ) × IsOpen t (length t) w g r
 
--- some worker has one
+-- some worker has an open run
 abbrev pub IsAnyOpen : List Row → Type 0
 IsAnyOpen t = (w : ℕ) × IsBusy t w
 

@@ -51,7 +51,7 @@ pub record IsMissing (cut : TraceParts) (r : ℕ) (g : Tag) : Type 0 where
 abbrev pub IsFirstMissing : TraceParts → Option (Tag × ℕ) → Type 0
 IsFirstMissing cut o = LeastPair (IsMissing cut) o
 
--- the same from the low tag on
+-- the least tag from low on, up to the stop, at which a triggered reaction has no run, and the least such reaction
 abbrev pub IsFirstMissingFrom : TraceParts → Tag → Option (Tag × ℕ) → Type 0
 IsFirstMissingFrom cut low o = LeastPair (λ r g. IsMissing cut r g × UpTo low g) o
 

@@ -13,12 +13,12 @@ use Rattle.lft_presence.specs.Traces.{TraceParts}
 abbrev pub IsPast : List Row → ℕ → Tag → Type 0
 IsPast t i h = (j : ℕ) (row : Row) → j < i → slice_get t j ≡ Some row → Before row.tag h
 
--- the walk knows of none but rows before place i
+-- the marks know of no row from place i on; the absences hold from each tag behind the rows before i
 pub record IsBefore (cut : TraceParts) (i : ℕ) (walk : Walk) : Type 0 where
   pub marks : AreBefore cut.plan.program i walk.marks
   pub absences : (h : Tag) → IsPast cut.rows i h → AreAbsences cut h walk.absences.items
 
--- the walk has gone over the rows at the tag of the slice, and no further
+-- the marks are those of the rows of the slice; the absences hold from its tag on
 pub record HasWalked (cut : TraceParts) (s : Slice) (walk : Walk) : Type 0 where
   pub marks : AreMarks cut.plan.program cut.rows s.first s.end walk.marks
   pub absences : AreAbsences cut s.tag walk.absences.items

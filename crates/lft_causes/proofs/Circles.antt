@@ -34,8 +34,8 @@ module _ (rs : List ReactorTree) (table : List Contents) (all : AreContents rs t
       by None e f = absurd (cc)
       by (Some c) e f = is_held a k b c e f
 
-  pub circle_from : (places : List ℕ) → IsRound table places → IsCircle rs places
-  circle_from places round = (λ i a b at bt. held a b (round.leads_on i a b at bt), λ i a b last at bt. held a b (round.closes i a b last at bt))
+  pub circle_from : (places : List ℕ) → 0 < length places → IsRound table places → IsCircle rs places
+  circle_from places some round = (some, λ i a b at bt. held a b (round.leads_on i a b at bt), λ i a b last at bt. held a b (round.closes i a b last at bt))
 
 -- the reactor with the first place has an instance of that with the second, at some depth
 record DeepAt (rs : List ReactorTree) (a b : ℕ) : Type 0 where
@@ -56,29 +56,30 @@ module _ (rs : List ReactorTree) where
 
   module _ (places : List ℕ) (circle : IsCircle rs places) where
     to_later : (k a b : ℕ) → slice_get places 0 ≡ Some a → slice_get places (k + 1) ≡ Some b → DeepAt rs a b
-    to_later zero a b first last = one_deep a b (circle.0 0 a b first last)
+    to_later zero a b first last = one_deep a b (circle.1 0 a b first last)
     to_later (suc k) a b first last =
         let within = slice_get_within places (suc k + 1) b last in
         let before = get_there places (k + 1) (omega (arith, within)) in
         let e : suc k ≡ k + 1 = omega arith in
         let here : slice_get places (suc k) ≡ Some before.0 = subst (λ n. slice_get places n ≡ Some before.0) (sym e) before.1 in
-        one_more a before.0 b (to_later k a before.0 first before.1) (circle.0 (suc k) before.0 b here last)
+        one_more a before.0 b (to_later k a before.0 first before.1) (circle.1 (suc k) before.0 b here last)
 
     around : (n a : ℕ) → length places ≡ suc n → slice_get places 0 ≡ Some a → DeepAt rs a a
-    around zero a long first = one_deep a a (circle.1 0 a a (omega (arith, long)) first first)
+    around zero a long first = one_deep a a (circle.2 0 a a (omega (arith, long)) first first)
     around (suc m) a long first =
         let last = get_there places (m + 1) (omega (arith, long)) in
-        one_more a last.0 a (to_later m a last.0 first last.1) (circle.1 (m + 1) last.0 a (omega (arith, long)) last.1 first)
+        one_more a last.0 a (to_later m a last.0 first last.1) (circle.2 (m + 1) last.0 a (omega (arith, long)) last.1 first)
 
   -- a reactor of a circle contains itself
-  pub circle_recursive : (places : List ℕ) → IsCircle rs places → places ≢ [] → RecursiveReactor rs
+  pub circle_recursive : (places : List ℕ) → IsCircle rs places → RecursiveReactor rs
   unfolding RecursiveReactor
-  circle_recursive [] circle some = absurd (some refl)
-  circle_recursive (a ∷ places) circle some =
+  circle_recursive [] circle = absurd (omega (arith, circle.0))
+  circle_recursive (a ∷ places) circle =
       let d = around (a ∷ places) circle (length places) a refl refl in
       let same : d.inner ≡ d.outer = same_some (slice_get rs a) d.inner d.outer d.is_inner d.is_outer in
       Any-at (λ r. HoldsDeep rs r r) rs a d.outer d.is_outer (subst (λ r. HoldsDeep rs d.outer r) same d.holds)
 
-pub nothing : {X : Type 0} (xs : List X) → length xs ≡ 0 → xs ≡ []
-nothing [] none = refl
-nothing (x ∷ xs) none = absurd (omega arith)
+-- a list that is not empty has an item
+pub some_length : {X : Type 0} (xs : List X) → xs ≢ [] → 0 < length xs
+some_length [] some = absurd (some refl)
+some_length (x ∷ xs) some = omega arith

@@ -98,6 +98,6 @@ LeadsOn reactors places = (i a b : ℕ) → slice_get places i ≡ Some a → sl
 abbrev pub Closes : List ReactorTree → List ℕ → Type 0
 Closes reactors places = (i a b : ℕ) → i + 1 ≡ length places → slice_get places i ≡ Some a → slice_get places 0 ≡ Some b → HoldsAt reactors a b
 
--- each of the reactors has an instance of the next, and the last of the first
+-- there is a reactor, each has an instance of the next, and the last of the first
 abbrev pub IsCircle : List ReactorTree → List ℕ → Type 0
-IsCircle reactors places = LeadsOn reactors places × Closes reactors places
+IsCircle reactors places = (0 < length places) × LeadsOn reactors places × Closes reactors places

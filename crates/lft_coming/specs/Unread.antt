@@ -46,6 +46,6 @@ pub record AreUnread (program : Parts) (t : List Row) (unread : UnreadParts) : T
 abbrev pub IsFree : Parts → List Row → Tag → Tag → ℕ → Type 0
 IsFree program t g last o = (p : ℕ) (port : PortOf) (h : Tag) → slice_get program.ports p ≡ Some port → port.origin ≡ o → is_read program p ≡ false → IsWrittenAt t o h → Before h g → shifted h (port.shift.time, port.shift.steps) ≡ shifted g (port.shift.time, port.shift.steps) → Before last (shifted g (port.shift.time, port.shift.steps))
 
--- it is so for each port that the rows u write at g
+-- each write of the rows u at g is free of all earlier ones by the rows t
 abbrev pub AreFree : Parts → List Row → List Row → Tag → Tag → Type 0
 AreFree program t u g last = (o : ℕ) → IsWrittenAt u o g → IsFree program t g last o

@@ -85,7 +85,7 @@ IsOwn b (fact.Feeds a c p) = Unit {0}
 IsOwn b (fact.Cause c) = Unit {0}
 IsOwn b (fact.Reason x) = IsOwnReason b x
 
--- all of the facts are so
+-- all of the facts are of the breach where their words need it
 abbrev pub AreOwn : Breach → List Fact → Type 0
 AreOwn b facts = All (IsOwn b) facts
 

@@ -59,7 +59,7 @@ pub record IsWithinLimits (program : Parts) : Type 0 where
   pub actions : length program.actions ≤ 100000
   pub timers : length program.timers ≤ 100000
 
--- no delay, offset or period is past 10^18 nanoseconds
+-- no minimum delay, offset or period is past 10^18 nanoseconds
 pub record HasTimes (program : Parts) : Type 0 where
   pub min_delays : (a : ℕ) (action : ActionOf) → slice_get program.actions a ≡ Some action → action.min_delay ≤ 1000000000000000000
   pub offsets : (t : ℕ) (timer : TimerOf) → slice_get program.timers t ≡ Some timer → timer.offset ≤ 1000000000000000000

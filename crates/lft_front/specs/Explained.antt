@@ -74,7 +74,7 @@ pub record IsExplained (all : Bool) (program externals trace : List ℕ) (old ne
 abbrev pub IsExplainedAnswer : Bool → List ℕ → List ℕ → List ℕ → Option (List ℕ) → Option (List ℕ) → Bool → Type 0
 IsExplainedAnswer all program externals trace old new answer = (verdict : Verdict) × IsExplained all program externals trace old new verdict × (IsTrue answer ↔ Accepts verdict)
 
--- the same of the three texts of a bundle
+-- the three texts of a bundle are explained, and true is answered exactly where they are accepted
 abbrev pub IsExplainedBundle : Bool → List ℕ → Option (List ℕ) → Option (List ℕ) → Bool → Type 0
 IsExplainedBundle all text old new answer = (program externals trace : List ℕ) × IsBundle text program externals trace × IsExplainedAnswer all program externals trace old new answer
 

@@ -35,6 +35,6 @@ pub record IsJudged (program externals trace : List ℕ) (old new : Option (List
 abbrev pub IsAccepted : List ℕ → List ℕ → List ℕ → Option (List ℕ) → Option (List ℕ) → Bool → Type 0
 IsAccepted program externals trace old new answer = (verdict : Verdict) × IsJudged program externals trace old new verdict × (IsTrue answer ↔ Accepts verdict)
 
--- the same of the three texts of a bundle
+-- the three texts of a bundle are judged, and true is answered exactly where they are accepted
 abbrev pub IsBundleAccepted : List ℕ → Option (List ℕ) → Option (List ℕ) → Bool → Type 0
 IsBundleAccepted text old new answer = (program externals trace : List ℕ) × IsBundle text program externals trace × IsAccepted program externals trace old new answer

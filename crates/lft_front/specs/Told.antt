@@ -123,7 +123,7 @@ TellsRefusal text externals trace words = TellsNoPlan text externals words ⊎ T
 abbrev pub TellsOneTrace : Parts → List ℕ → List ℕ → List ℕ → Type 0
 TellsOneTrace program first second words = TellsTrace program first (codes "First trace") words ⊎ (IsTrace program first × TellsTrace program second (codes "Second trace") words)
 
--- the same of four texts, of which two are traces
+-- the words tell of the first of four texts that is refused; of a loop of the reactions before the two traces
 abbrev pub TellsRefusalOfBoth : List ℕ → List ℕ → List ℕ → List ℕ → List ℕ → Type 0
 TellsRefusalOfBoth text externals first second words = TellsNoPlan text externals words ⊎ TellsOf text (λ program. IsPlanned program externals × TellsOneTrace program first second words)
 

@@ -9,7 +9,7 @@ use Rattle.lft_sources.specs.declared.source.SourceFile.{SourceFile}
 abbrev pub Imports : Type 0
 Imports = ℕ → ℕ → Option ℕ
 
--- Those of files.
+-- The number of the file that a file's import at a place names.
 abbrev pub import_of : List SourceFile → Imports
 import_of files file place = option_and_then (λ f. slice_get f.imports.items place) (slice_get files file)
 

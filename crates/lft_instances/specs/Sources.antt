@@ -30,7 +30,7 @@ pub record IsReached (sources : List (Option Source)) (p : ℕ) (r : Reached) : 
   pub origin : Origin sources p r.origin delays
   pub folded : IsFolded delays r.shift
 
--- one for each port, in order
+-- for each port in order the end of its chain and the folded delays, or none where they sum past 10^18
 pub record AreReached (sources : List (Option Source)) (all : List Reached) : Type 0 where
   pub as_long : length all ≡ length sources
   pub each : (p : ℕ) (r : Reached) → slice_get all p ≡ Some r → IsReached sources p r

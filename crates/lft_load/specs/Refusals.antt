@@ -28,7 +28,7 @@ use Rattle.lft_load.specs.declared.fault.Fault.{Fault}
 use Rattle.lft_load.specs.declared.fault.Part.{Part}
 use Rattle.lft_load.specs.declared.fault.Part.TheVariants as part
 
--- a fault of this part and number tells something of the texts: it is no refused growth, no fault of the reader of records, and not of the writer or of the number of workers
+-- a fault of this part and number is one of a program's text, of external inputs or of a trace, but for want of memory and records that can't be read
 abbrev pub is_of_text : Part → ℕ → Bool
 is_of_text part.Lex n = not (nat_eq n 7)
 is_of_text part.Syntax n = not (nat_eq n 2)

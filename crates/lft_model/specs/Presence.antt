@@ -126,7 +126,7 @@ abbrev pub Shows : PlanParts → List Row → Tag → Name → Option Value → 
 Shows plan t g n None = ¬ IsPresent plan t g n
 Shows plan t g n (Some v) = At plan t g n v
 
--- what reaction r reads at g: each of its inputs in order
+-- what reaction r is to read at g: of each of its inputs in order the value, or that it is absent
 pub record Inputs (plan : PlanParts) (t : List Row) (g : Tag) (r : ℕ) (reads : List (Option Value)) : Type 0 where
   pub reaction : Reaction
   pub is_reaction : slice_get plan.program.reactions r ≡ Some reaction

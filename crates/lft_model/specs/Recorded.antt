@@ -83,7 +83,7 @@ run_row w g r s = record { worker = w; tag = g; reaction = r; step = s }
 abbrev pub begun_steps : PlanParts → ℕ → List (Option Value) → List Step
 begun_steps plan r shown = Start ∷ filter_map read_step (zip (inputs_of plan.program r) shown)
 
--- and its rows
+-- the rows of a run that is begun
 abbrev pub begun_rows : PlanParts → ℕ → Tag → ℕ → List (Option Value) → List Row
 begun_rows plan w g r shown = map (run_row w g r) (begun_steps plan r shown)
 

@@ -54,6 +54,6 @@ heading_words program g r e f = reaction_words program r ++ codes " at " ++ tag_
 abbrev pub told_in : Parts → Tag → ℕ → ℕ → ℕ → List Contrast → List ℕ
 told_in program g r e f contrasts = heading_words program g r e f ++ flat_map (contrast_words program e f) contrasts
 
--- the same in columns that are as wide as their words
+-- the text of the contrasts, in columns as wide as their words
 abbrev pub told : Parts → Tag → ℕ → List Contrast → List ℕ
 told program g r contrasts = told_in program g r (widest (effect_words program) 6 contrasts) (widest first_words 5 contrasts) contrasts

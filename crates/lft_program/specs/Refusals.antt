@@ -29,7 +29,7 @@ Tells tree (refusals.ConnectionCycle way) = IsRing tree way
 Tells tree (refusals.LongChain way) = IsLongChain tree way
 Tells tree refusals.NoMemory = Unit {0}
 
--- a fault of the instances together
+-- the refusal that a fault of the instances together is
 abbrev pub of_nest : NestFault → Refusal
 of_nest (nests.TooMany excess) = refusals.TooMany excess
 of_nest nests.NoMemory = refusals.NoMemory

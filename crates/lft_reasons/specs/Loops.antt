@@ -52,7 +52,7 @@ step_words program a b = told_step program a b (fed_of program a b)
 abbrev pub turned : List ℕ → List ℕ
 turned xs = drop 1 xs ++ take 1 xs
 
--- how each of the reactions comes before the next one, and the last one before the first
+-- a heading, how each of the reactions comes before the next one and the last one before the first, and a way out
 abbrev pub loop_words : Parts → List ℕ → List ℕ
 loop_words program reactions =
     codes "Program: these reactions wait for one another at one tag.\n"

@@ -35,6 +35,6 @@ abbrev pub last_of_words : {X : Type 0} → ℕ → Option X → ℕ
 last_of_words at None = at + 1
 last_of_words at (Some name) = at
 
--- A reactor is told by its name, and without one by the two words `main reactor`.
+-- The last token of what a reactor is told by: its name, or `reactor` behind `main`.
 abbrev pub last_of_head : Reactor → ℕ
 last_of_head x = last_of_words x.at x.name

@@ -47,14 +47,14 @@ impl<'a> Before<'a> {
         Ok(can)
     }
 
-    /// The token with that number.
-    fn token(&self, number: usize) -> Option<Token> {
+    /// The token with that number. The one that is refused is number 0.
+    pub(crate) fn token(&self, number: usize) -> Option<Token> {
         let place = self.count.checked_sub(number)?;
         self.tokens.as_slice().get(place).copied()
     }
 
     /// Its spelling; nothing where there is none.
-    fn spelling(&self, number: usize) -> &'a [u8] {
+    pub(crate) fn spelling(&self, number: usize) -> &'a [u8] {
         match self.token(number) {
             Some(token) => self.text.get(token.start..token.end).unwrap_or(b""),
             None => b"",
@@ -91,7 +91,7 @@ impl<'a> Before<'a> {
         let Some(last) = self.token(1) else {
             return true;
         };
-        let Some(next) = self.tokens.as_slice().get(self.count) else {
+        let Some(next) = self.token(0) else {
             return false;
         };
         match self.text.get(last.end..next.start) {

@@ -3,6 +3,7 @@
 ghost use Rattle.std.specs.Prelude.{◌≡◌, ◌++◌, ℕ, List, OnOk, string_bytes};
 ghost use Rattle.lft_refusals.specs.Candidates.{IsLeftOut};
 
+use crate::before::Before;
 use crate::place::place_of;
 use crate::ways::of_word;
 use crate::words::push_bytes;
@@ -13,13 +14,6 @@ use std::alloc::Global;
 
 /// More words aren't listed.
 const MOST_WORDS: usize = 10;
-
-/// The tokens of a text, by their places.
-#[derive(Clone, Copy)]
-struct Spelled<'a> {
-    text: &'a [u8],
-    tokens: &'a [Token],
-}
 
 /// Whether a name like others stands behind what is spelled so.
 fn leads_to_name(spelling: &[u8]) -> bool {
@@ -43,41 +37,28 @@ fn leads_to_name(spelling: &[u8]) -> bool {
     )
 }
 
-impl<'a> Spelled<'a> {
-    /// The token so many places before.
-    fn before(&self, place: usize, count: usize) -> Option<Token> {
-        self.tokens.get(place.checked_sub(count)?).copied()
+impl<'a> Before<'a> {
+    /// The token behind the next one.
+    fn second(&self) -> Option<Token> {
+        let place = self.count.checked_add(1)?;
+        self.tokens.as_slice().get(place).copied()
     }
 
-    /// The token behind.
-    fn behind(&self, place: usize) -> Option<Token> {
-        self.tokens.get(place.checked_add(1)?).copied()
-    }
-
-    /// The spelling of a token; nothing where there is none.
-    fn spelling(&self, token: Option<Token>) -> &'a [u8] {
-        match token {
-            Some(token) => self.text.get(token.start..token.end).unwrap_or(b""),
-            None => b"",
-        }
-    }
-
-    /// Whether the token at the place is a word that is left out. The words are no reserved ones: what is
-    /// declared so is a name like others, and the tokens beside it tell.
-    fn is_word(&self, place: usize) -> bool {
-        let before = self.before(place, 1);
-        let word = self.spelling(before);
+    /// Whether the next token is a word that is left out. The words are no reserved ones: what is declared so
+    /// is a name like others, and the tokens beside it tell.
+    fn leads_to_word(&self) -> bool {
+        let word = self.spelling(1);
         let is_name = leads_to_name(word) || of_word(word).is_some();
-        if is_name || of_word(self.spelling(self.before(place, 0))).is_none() {
+        if is_name || of_word(self.spelling(0)).is_none() {
             return false;
         }
-        match self.behind(place) {
+        match self.second() {
             Some(token) => match token.kind {
                 TokenKind::Symbol(b'(') => true,
                 TokenKind::Name | TokenKind::Text | TokenKind::Symbol(b'{') => {
                     word != b"->".as_slice()
                 }
-                TokenKind::Code => match before {
+                TokenKind::Code => match self.token(1) {
                     Some(token) => token.kind == TokenKind::Code,
                     None => false,
                 },
@@ -87,58 +68,70 @@ impl<'a> Spelled<'a> {
         }
     }
 
-    /// Whether the token at the place is a sign that begins what is left out.
-    fn is_sign(&self, place: usize) -> bool {
-        let before = self.spelling(self.before(place, 1));
-        let behind = self.spelling(self.behind(place));
-        match self.spelling(self.before(place, 0)) {
-            b"@" => !behind.is_empty(),
-            b"[" => matches!(before, b"input" | b"output" | b"new"),
-            b"<" => self.spelling(self.before(place, 2)) == b"reactor".as_slice(),
-            b"~" => behind == b">".as_slice(),
+    /// Whether the next token is a sign that begins what is left out.
+    fn leads_to_sign(&self) -> bool {
+        match self.spelling(0) {
+            b"@" => self.second().is_some(),
+            b"[" => matches!(self.spelling(1), b"input" | b"output" | b"new"),
+            b"<" => self.is(2, "reactor"),
+            b"~" => match self.second() {
+                Some(token) => token.kind == TokenKind::Symbol(b'>'),
+                None => false,
+            },
             _ => false,
         }
     }
+}
 
-    /// The tokens from a byte on with which something begins that is left out.
-    fn left_out(&self, alloc: Global, from: usize) -> Result<Vec<Token>, NoMemory> {
-        let mut found = Vec::new(alloc);
-        for place in 0..self.tokens.len() {
-            let token = self.tokens[place];
-            if token.start >= from && (self.is_word(place) || self.is_sign(place)) {
-                found.push(token)?;
-            }
+/// The tokens from a byte on with which something begins that is left out.
+fn left_out(
+    alloc: Global,
+    text: &[u8],
+    tokens: &Tokens,
+    from: usize,
+) -> Result<Vec<Token>, NoMemory> {
+    let mut found = Vec::new(alloc);
+    for count in 0..tokens.as_slice().len() {
+        let before = Before {
+            alloc,
+            text,
+            tokens,
+            count,
+        };
+        let token = tokens.as_slice()[count];
+        if token.start >= from && (before.leads_to_word() || before.leads_to_sign()) {
+            found.push(token)?;
         }
-        Ok(found)
     }
+    Ok(found)
+}
 
-    /// Puts the line, the column and the spelling of a token behind the text.
-    fn push_found(&self, alloc: Global, out: &mut String, token: Token) -> Result<(), NoMemory> {
-        let place = place_of(self.text, token.start.min(self.text.len()));
-        out.push_str("    line ")?;
-        push_number(out, place.line as u64)?;
-        out.push_str(", column ")?;
-        push_number(out, place.column as u64)?;
-        out.push_str(": `")?;
-        push_bytes(alloc, out, self.spelling(Some(token)))?;
-        out.push_str("`\n")?;
-        Ok(())
-    }
+/// Puts the line, the column and the spelling of a token behind the text.
+fn push_found(alloc: Global, out: &mut String, text: &[u8], token: Token) -> Result<(), NoMemory> {
+    let place = place_of(text, token.start.min(text.len()));
+    out.push_str("    line ")?;
+    push_number(out, place.line as u64)?;
+    out.push_str(", column ")?;
+    push_number(out, place.column as u64)?;
+    out.push_str(": `")?;
+    push_bytes(alloc, out, text.get(token.start..token.end).unwrap_or(b""))?;
+    out.push_str("`\n")?;
+    Ok(())
+}
 
-    /// A line for each token that was found, up to the greatest number of them.
-    fn lines(&self, alloc: Global, found: &[Token]) -> Result<String, NoMemory> {
-        let mut out = String::new(alloc);
-        for place in 0..found.len() {
-            if place == MOST_WORDS {
-                out.push_str("    and ")?;
-                push_number(&mut out, (found.len() - MOST_WORDS) as u64)?;
-                out.push_str(" more\n")?;
-                return Ok(out);
-            }
-            self.push_found(alloc, &mut out, found[place])?;
+/// A line for each token that was found, up to the greatest number of them.
+fn lines(alloc: Global, text: &[u8], found: &[Token]) -> Result<String, NoMemory> {
+    let mut out = String::new(alloc);
+    for place in 0..found.len() {
+        if place == MOST_WORDS {
+            out.push_str("    and ")?;
+            push_number(&mut out, (found.len() - MOST_WORDS) as u64)?;
+            out.push_str(" more\n")?;
+            return Ok(out);
         }
-        Ok(out)
+        push_found(alloc, &mut out, text, found[place])?;
     }
+    Ok(out)
 }
 
 /// Puts what is left out from a byte of the text on behind the text, each with its line and column, and how
@@ -152,15 +145,11 @@ pub(crate) fn push_left_out(
 ) -> Result<(), NoMemory>
     ensures { OnOk result ((more : List ℕ) × IsLeftOut more × (string_bytes out.new ≡ string_bytes out.old ++ more)) }
 {
-    let spelled = Spelled {
-        text,
-        tokens: tokens.as_slice(),
-    };
-    let found = spelled.left_out(alloc, from)?;
+    let found = left_out(alloc, text, tokens, from)?;
     if found.is_empty() {
         return Ok(());
     }
-    let lines = spelled.lines(alloc, &found)?;
+    let lines = lines(alloc, text, &found)?;
     out.push_str("  Further on these are left out:\n")?;
     out.push_str(lines.as_str())?;
     Ok(())

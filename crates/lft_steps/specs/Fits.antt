@@ -18,6 +18,7 @@ StepFits program (Schedule n v delay) = IsNameOf program n × (delay ≤ 1000000
 StepFits program Stop = Unit {0}
 StepFits program End = Unit {0}
 
+-- a row whose tag is recorded and whose reaction and step are of the program
 pub record RowFits (program : Parts) (row : Row) : Type 0 where
   pub recorded : IsRecorded row.tag
   pub reaction : row.reaction < length program.reactions
@@ -28,6 +29,7 @@ pub record RowsFit (program : Parts) (t : List Row) : Type 0 where
   pub few : length t ≤ 4000000
   pub each : (i : ℕ) (row : Row) → slice_get t i ≡ Some row → RowFits program row
 
+-- an event that is of the program and recorded
 pub record EventFits (program : Parts) (event : Event) : Type 0 where
   pub recorded : IsRecorded event.tag
   pub action : event.action < length program.actions

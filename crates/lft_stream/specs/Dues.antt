@@ -27,7 +27,7 @@ IsNextFiring t r timer (AtTag g) = (k : ℕ) × HasRunsAt t r timer k × (g ≡ 
 IsNextFiring t r timer AtStop = ⊥
 IsNextFiring t r timer Never = (timer.period ≡ 0) × Ran t (firing timer 0) r
 
--- a trigger of r is due at the first tag where it is present and r has no run so far; never where there is none, and where it waits for an event
+-- a trigger of r is due at a tag, and wherever it is present before that r has a run; never where there is none, and where it waits for an event
 abbrev pub IsDue : PlanParts → List Row → ℕ → Trigger → Due → Type 0
 IsDue plan t r Startup (AtTag g) = g ≡ record { time = 0; micro = 0 }
 IsDue plan t r Startup AtStop = ⊥

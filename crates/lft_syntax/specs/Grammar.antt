@@ -244,6 +244,6 @@ Spells tree ws = file ws 0 (length ws) tree
 abbrev pub BeginsTree : List Lexeme → Type 0
 BeginsTree ws = (rest : List Lexeme) × (tree : FileTree) × Spells tree (ws ++ rest)
 
--- so they can with this token behind these
+-- a tree can begin with these tokens and this one behind them
 abbrev pub CanFollow : List Lexeme → Lexeme → Type 0
 CanFollow ws w = BeginsTree (ws ++ (w ∷ []))

@@ -127,7 +127,7 @@ FaultAt program line fields e = ⊥
 abbrev pub trace_tables : Parts → TableKind Row TraceFault
 trace_tables program = record { header = header; Tells = IsRow program; Together = λ rows. Unit {0}; FaultAt = λ before. FaultAt program; no_header = fault.BadHeader; too_many = fault.TooManyRows }
 
--- the records are the header and those of the rows, one by one
+-- the records are the header and those of the rows, one by one, and no more than a table may hold
 abbrev pub Table : Parts → List (List (List ℕ)) → List Row → Type 0
 Table program records rows = Holds (trace_tables program) records rows
 

@@ -11,7 +11,7 @@ use Rattle.lft_words.specs.Words.{tag_words, value_words, reaction_words, name_w
 abbrev pub line_words : ℕ → List ℕ
 line_words place = codes "line " ++ decimal (place + 2)
 
--- the same at the head of a sentence
+-- `Line` and the number of the row's line
 abbrev pub capital_line_words : ℕ → List ℕ
 capital_line_words place = codes "Line " ++ decimal (place + 2)
 
