@@ -6,6 +6,6 @@ pub mod Behind
 pub mod Explaining
 pub mod PairExplaining
 pub mod Telling
-pub mod Untold
+pub mod Reading
 pub mod Missing
 pub mod Answering

@@ -11,7 +11,6 @@ use Rattle.lft_trace.specs.Traces.{Table, TraceFails}
 use Rattle.lft_trace.specs.declared.fault.TraceFault.{TraceFault}
 use Rattle.lft_model.specs.Plans.{PlanParts}
 use Rattle.lft_load.specs.Meaning.{IsOnly, IsPlanOf, IsProgramOf}
-use Rattle.lft_refusals.specs.Refusals.{IsLong}
 use Rattle.lft_refusals.specs.Told.{TellsProgram}
 use Rattle.lft_reasons.specs.Reasons.{IsToldOf}
 use Rattle.lft_table_faults.specs.Tables.{Begins, IsWrong, IsWrongThere, NamesField, field_line, heading}
@@ -40,6 +39,10 @@ IsNoTable program text = (inputs : ExternalInputs) → ExternalTable program (re
 -- the text is no trace table of the program
 abbrev pub IsNoTrace : Parts → List ℕ → Type 0
 IsNoTrace program text = (rows : List Row) → Table program (records_of text) rows → ⊥
+
+-- the text has no program
+abbrev pub HasNoProgram : List ℕ → Type 0
+HasNoProgram text = (parts : Parts) → IsProgramOf text parts → ⊥
 
 -- no program of the text has an order of its reactions
 abbrev pub HasNoOrder : List ℕ → Type 0
@@ -127,11 +130,15 @@ TellsOneTrace program first second words = TellsTrace program first (codes "Firs
 abbrev pub TellsRefusalOfBoth : List ℕ → List ℕ → List ℕ → List ℕ → List ℕ → Type 0
 TellsRefusalOfBoth text externals first second words = TellsNoPlan text externals words ⊎ TellsOf text (λ program. IsPlanned program externals × TellsOneTrace program first second words)
 
--- what a program's text and that of its external inputs give: the program, where it has a plan; where it has none, the words tell why; nothing is told of a program's text that is too long
+-- what a program's text gives: its one program; where it has none, the words tell why
+abbrev pub Reads : List ℕ → Start → Type 0
+Reads text (start.Program parts) = IsOnly (IsProgramOf text) parts
+Reads text (start.Refused words) = HasNoProgram text × TellsText text (string_bytes words)
+
+-- what a program's text and that of its external inputs give: the program, where it has a plan; where it has none, the words tell why
 abbrev pub Gives : List ℕ → List ℕ → Start → Type 0
 Gives program externals (start.Program parts) = IsOnly (IsProgramOf program) parts × IsPlanned parts externals
 Gives program externals (start.Refused words) = HaveNoPlan program externals × TellsNoPlan program externals (string_bytes words)
-Gives program externals start.Untold = IsLong program
 
 -- the sentence on a missing marker
 abbrev pub missing_words : Marker → List ℕ
@@ -159,10 +166,10 @@ pub record HasNoMeaning (text words : List ℕ) : Type 0 where
 abbrev pub IsBundleRefusal : List ℕ → List ℕ → Type 0
 IsBundleRefusal text words = TellsMissing text words ⊎ HasNoMeaning text words
 
--- the text is a bundle whose three texts have a meaning, or whose program's text is too long
+-- the text is a bundle whose three texts have a meaning
 pub record IsReadBundle (text : List ℕ) : Type 0 where
   pub program : List ℕ
   pub externals : List ℕ
   pub trace : List ℕ
   pub is_bundle : IsBundle text program externals trace
-  pub meant : IsLong program ⊎ HaveMeaning program externals trace
+  pub meant : HaveMeaning program externals trace

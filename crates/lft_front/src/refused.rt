@@ -1,55 +1,56 @@
 //! Why texts are refused, for people. Something is told only of texts that have no meaning.
 
-ghost use Rattle.std.specs.Prelude.{◌≡◌, ◌++◌, ◌⊎◌, ℕ, List, true, IfOk, IfNone, IfSome, string_bytes};
+ghost use Rattle.std.specs.Prelude.{◌≡◌, ◌++◌, ◌⊎◌, ℕ, List, IfOk, IfNone, IfSome, string_bytes};
 ghost use Rattle.lft_graph.specs.Precedence.{HasNoLoop};
 ghost use Rattle.lft_load.specs.Meaning.{IsOnly, IsProgramOf};
-ghost use Rattle.lft_load.specs.Refusals.{ProgramRefusal, is_of_text};
-ghost use Rattle.lft_refusals.specs.Refusals.{IsLong};
 ghost use Rattle.lft_trace.specs.Faults.{is_told};
-ghost use Rattle.lft_front.specs.Told.{Gives, HasNoOrder, HasOrder, HaveMeaning, HaveMeaningBoth, HaveNoMeaning, HaveNoMeaningBoth, IsBundleRefusal, IsNoTable, IsNoTrace, IsReadBundle, IsTable, IsTrace, TellsExternals, TellsLoop, TellsNoOrder, TellsOneTrace, TellsRefusal, TellsRefusalOfBoth, TellsText, TellsTrace, missing_words};
+ghost use Rattle.lft_front.specs.Told.{Gives, HasNoOrder, HasOrder, HaveMeaning, HaveMeaningBoth, HaveNoMeaning, HaveNoMeaningBoth, IsBundleRefusal, IsNoTable, IsNoTrace, IsReadBundle, IsTable, IsTrace, Reads, TellsExternals, TellsLoop, TellsNoOrder, TellsOneTrace, TellsRefusal, TellsRefusalOfBoth, TellsTrace, missing_words};
 
 use crate::bundle::{Marker, has_returned_marker, read_bundle};
 use lft_flat::Program;
 use lft_graph::{Graph, GraphFault};
-use lft_load::{Fault, Part, read_program};
-use lft_reasons::{tell_cause, tell_loop};
-use lft_refusals::tell_program;
+use lft_program::flattened;
+use lft_reasons::{tell_loop, tell_refusal};
+use lft_refusals::{tell_no_tokens, tell_no_tree};
+use lft_syntax::{LexFault, SyntaxFault, lex, parse};
 use lft_table_faults::{tell_externals, tell_trace};
 use lft_tag::NoMemory;
 use lft_trace::{TraceFault, read_externals, read_trace};
 use std::alloc::Global;
 
-/// What a program's text and that of its external inputs give: the program, or why one of them is refused.
-/// Nothing is told of a program's text that is too long to be looked at.
+/// What a program's text gives, alone or with that of its external inputs: the program, or why a text is refused.
 #[derive(Drop)]
 enum Start {
     Program(Program),
     Refused(String),
-    Untold,
 }
 
-/// `NoMemory` as a number of each part that reads a program.
-const LEX_NO_MEMORY: u32 = 7;
-
-const SYNTAX_NO_MEMORY: u32 = 2;
-
-const PROGRAM_NO_MEMORY: u32 = 16;
-
-/// Why a program's text is refused, by the fault.
-// A fault that is none of the text is want of memory, since these three parts have no other.
-fn of_program(alloc: Global, program: &[u8], fault: &Fault) -> Result<Option<String>, NoMemory>
-    requires { ProgramRefusal program.now fault.now }
-    ensures of_text { IfOk result (λ told. IfSome told (λ _. is_of_text fault.now.part fault.now.number ≡ true)) }
-    ensures tells { IfOk result (λ told. IfSome told (λ words. TellsText program.now (string_bytes words))) }
-    ensures none { IfOk result (λ told. IfNone told (IsLong program.now)) }
+/// What a program's text gives. It is read once: what is told is told of the fault at hand.
+fn read(alloc: Global, text: &[u8]) -> Result<Start, NoMemory>
+    ensures { IfOk result (Reads text.now) }
 {
-    match fault.part {
-        Part::Lex if fault.number != LEX_NO_MEMORY => tell_program(alloc, program),
-        Part::Syntax if fault.number != SYNTAX_NO_MEMORY => tell_program(alloc, program),
-        Part::Program if fault.number != PROGRAM_NO_MEMORY => {
-            tell_cause(alloc, program, fault.number)
+    let tokens = match lex(alloc, text) {
+        Ok(tokens) => tokens,
+        Err(LexFault::NoMemory) => return Err(NoMemory),
+        Err(fault) => {
+            let words = tell_no_tokens(alloc, text, fault)?;
+            return Ok(Start::Refused(words));
         }
-        _ => Err(NoMemory),
+    };
+    let ast = match parse(alloc, text, &tokens) {
+        Ok(ast) => ast,
+        Err(SyntaxFault::NoMemory) => return Err(NoMemory),
+        Err(SyntaxFault::Unexpected(number)) => {
+            let words = tell_no_tree(alloc, text, &tokens, number)?;
+            return Ok(Start::Refused(words));
+        }
+    };
+    match flattened(alloc, &ast) {
+        Ok(program) => Ok(Start::Program(program)),
+        Err(refusal) => {
+            let words = tell_refusal(alloc, text, &tokens, &ast, &refusal)?;
+            Ok(Start::Refused(words))
+        }
     }
 }
 
@@ -122,11 +123,11 @@ fn of_graph(alloc: Global, program: &Program) -> Result<Option<String>, NoMemory
 pub fn refusal_of_program(alloc: Global, program: &[u8]) -> Result<Option<String>, NoMemory>
     ensures no_order { IfOk result (λ told. IfSome told (λ _. HasNoOrder program.now)) }
     ensures tells { IfOk result (λ told. IfSome told (λ words. TellsNoOrder program.now (string_bytes words))) }
-    ensures none { IfOk result (λ told. IfNone told (IsLong program.now ⊎ HasOrder program.now)) }
+    ensures none { IfOk result (λ told. IfNone told (HasOrder program.now)) }
 {
-    match read_program(alloc, program) {
-        Ok(flat) => of_graph(alloc, &flat),
-        Err(fault) => of_program(alloc, program, &fault),
+    match read(alloc, program)? {
+        Start::Program(flat) => of_graph(alloc, &flat),
+        Start::Refused(words) => Ok(Some(words)),
     }
 }
 
@@ -148,19 +149,16 @@ fn of_plan(alloc: Global, program: Program, externals: &[u8]) -> Result<Start, N
 fn start_of(alloc: Global, program: &[u8], externals: &[u8]) -> Result<Start, NoMemory>
     ensures { IfOk result (Gives program.now externals.now) }
 {
-    match read_program(alloc, program) {
-        Ok(flat) => of_plan(alloc, flat, externals),
-        Err(fault) => match of_program(alloc, program, &fault)? {
-            Some(words) => Ok(Start::Refused(words)),
-            None => Ok(Start::Untold),
-        },
+    match read(alloc, program)? {
+        Start::Program(flat) => of_plan(alloc, flat, externals),
+        Start::Refused(words) => Ok(Start::Refused(words)),
     }
 }
 
 /// Why the first of three texts that is refused is: where, the line with a mark, and what helps, in lines
 /// that end with a line feed. None where all three are read. `NoMemory` too where the reader of records failed.
 ///
-/// It reads the texts again, so it costs what they do.
+/// It reads each text once, so it costs what they do.
 pub fn refusal_of_texts(
     alloc: Global,
     program: &[u8],
@@ -169,12 +167,11 @@ pub fn refusal_of_texts(
 ) -> Result<Option<String>, NoMemory>
     ensures no_meaning { IfOk result (λ told. IfSome told (λ _. HaveNoMeaning program.now externals.now trace.now)) }
     ensures tells { IfOk result (λ told. IfSome told (λ words. TellsRefusal program.now externals.now trace.now (string_bytes words))) }
-    ensures none { IfOk result (λ told. IfNone told (IsLong program.now ⊎ HaveMeaning program.now externals.now trace.now)) }
+    ensures none { IfOk result (λ told. IfNone told (HaveMeaning program.now externals.now trace.now)) }
 {
     match start_of(alloc, program, externals)? {
         Start::Program(flat) => of_trace(alloc, &flat, trace, "Trace"),
         Start::Refused(words) => Ok(Some(words)),
-        Start::Untold => Ok(None),
     }
 }
 
@@ -205,12 +202,11 @@ pub fn refusal_of_pair_texts(
 ) -> Result<Option<String>, NoMemory>
     ensures no_meaning { IfOk result (λ told. IfSome told (λ _. HaveNoMeaningBoth program.now externals.now first.now second.now)) }
     ensures tells { IfOk result (λ told. IfSome told (λ words. TellsRefusalOfBoth program.now externals.now first.now second.now (string_bytes words))) }
-    ensures none { IfOk result (λ told. IfNone told (IsLong program.now ⊎ HaveMeaningBoth program.now externals.now first.now second.now)) }
+    ensures none { IfOk result (λ told. IfNone told (HaveMeaningBoth program.now externals.now first.now second.now)) }
 {
     match start_of(alloc, program, externals)? {
         Start::Program(flat) => of_traces(alloc, &flat, first, second),
         Start::Refused(words) => Ok(Some(words)),
-        Start::Untold => Ok(None),
     }
 }
 

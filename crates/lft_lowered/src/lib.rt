@@ -6,5 +6,5 @@ mod names;
 mod reading;
 mod told;
 
-pub use lowered::lower_answer;
+pub use lowered::{lower_answer, lower_whole};
 pub use told::Unlowered;

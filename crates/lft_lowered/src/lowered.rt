@@ -91,6 +91,24 @@ fn write_own<F: Files, W: Write>(
     Ok(())
 }
 
+/// What `lower_answer` does with a text that isn't core.
+pub fn lower_whole<F: Files, W: Write, E: Write>(
+    rt: &F,
+    alloc: Global,
+    path: &str,
+    text: &[u8],
+    names: Option<&str>,
+    out: &mut W,
+    errors: &mut E,
+) -> Result<(), Unlowered>
+    ensures written { OnOk result (IsWritten (W.contents out.old) (W.contents out.new)) }
+    ensures refused { IfErr result IsSaid }
+    ensures cut { IfErr result (IsCut (W.contents out.old) (W.contents out.new)) }
+{
+    let sources = read_sources(rt, alloc, path, text)?;
+    lower_sources(rt, alloc, &sources, names, out, errors)
+}
+
 /// Writes the core program of the program whose path and text these are; the path is for its imports, which are
 /// read. At `names` the table of the names that differ is written. Lines about the program go to `errors`.
 /// Nothing is written of a program that is refused.
@@ -111,6 +129,5 @@ pub fn lower_answer<F: Files, W: Write, E: Write>(
     if is_core(alloc, text)? {
         return write_own(rt, alloc, text, names, out);
     }
-    let sources = read_sources(rt, alloc, path, text)?;
-    lower_sources(rt, alloc, &sources, names, out, errors)
+    lower_whole(rt, alloc, path, text, names, out, errors)
 }

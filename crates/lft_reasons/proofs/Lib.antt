@@ -1,5 +1,4 @@
 mod Firsts
-mod Refusing
 mod Picking
 mod Showing
 mod Turned

@@ -1,5 +1,5 @@
 -- What is told of a cause stands where a witness of it does, if a place of the text shows it by itself.
-use Rattle.std.proofs.Common.{◌≡◌, ℕ, List, [], ◌∷◌, map, inl, inr, refl, sym, ap, ◌∙◌, subst, arith, Option, Some, None, Result, Ok, Err, IfSome, IfOk}
+use Rattle.std.proofs.Common.{◌≡◌, ◌≢◌, ℕ, List, [], ◌∷◌, map, inl, inr, refl, sym, ap, ◌∙◌, subst, Option, Some, None}
 use Rattle.std.specs.Borrow.{Bor}
 use Rattle.lft_tree.specs.Tree.{FileTree, reactors_of}
 use Rattle.lft_tree.specs.View.{file_view, reactor_view}
@@ -15,7 +15,7 @@ use Rattle.lft_program.specs.Refusals.{Tells, cause_of}
 use Rattle.lft_program.specs.declared.refusal.Refusal.{Refusal}
 use Rattle.lft_program.specs.declared.refusal.Refusal.TheVariants as refusals
 use Rattle.lft_reasons.specs.Spots.{behind, reactors_among, witness_spot}
-use Rattle.lft_reasons.specs.Reasons.{IsCause, IsOfWhole, IsShownAt, witness_in}
+use Rattle.lft_reasons.specs.Reasons.{IsOfWhole, IsShownAt, witness_in}
 
 -- the trees of the reactors of a file
 pub trees_among : (target : Option TokenRange) (parts : List Item) → reactors_of (file_view target parts) ≡ map reactor_view (reactors_among parts)
@@ -33,26 +33,14 @@ told tree (refusals.LongChain way) w is tells = absurd (cc)
 told tree refusals.NoMemory w is tells = absurd (cc)
 
 -- a refusal without a witness is of a cause that several places show together
-pub of_whole : (f : Refusal) → None ≡ witness_in f → IsCause (cause_of f) → IsOfWhole (cause_of f)
-of_whole (refusals.Shown v) is few = absurd (cc)
-of_whole (refusals.Recursive places) is few = inl refl
-of_whole (refusals.TooMany excess) is few = inr (inr (inr refl))
-of_whole (refusals.ConnectionCycle way) is few = inr (inl refl)
-of_whole (refusals.LongChain way) is few = inr (inr (inl refl))
-of_whole refusals.NoMemory is few = absurd (let most = few.1 in omega arith)
+pub of_whole : (f : Refusal) → None ≡ witness_in f → f ≢ refusals.NoMemory → IsOfWhole (cause_of f)
+of_whole (refusals.Shown v) is told = absurd (cc)
+of_whole (refusals.Recursive places) is told = inl refl
+of_whole (refusals.TooMany excess) is told = inr (inr (inr refl))
+of_whole (refusals.ConnectionCycle way) is told = inr (inl refl)
+of_whole (refusals.LongChain way) is told = inr (inr (inl refl))
+of_whole refusals.NoMemory is told = absurd (told refl)
 
 -- what is told where a witness stands
 pub witnessed : (tokens : List Token) (rs : List (Bor Reactor)) (reactors : List Reactor) → behind rs ≡ reactors → (cause : ℕ) (w : Witness) → Shows (map reactor_view reactors) w → cause_shown w ≡ cause → (spot : Option Spot) → spot ≡ witness_spot tokens (behind rs) w → IsShownAt tokens reactors cause spot
 witnessed tokens rs reactors same cause w shows is spot at = inl (record { witness = w; shows = shows; shows_cause = is; at = at ∙ ap (λ (xs : List Reactor). witness_spot tokens xs w) same })
-
--- what holds of each thing holds of one that is found
-pub of_each : {X E : Type 0} (o : Result (Option X) E) (P : X → Type 0) → ((x : X) → P x) → IfOk o (λ found. IfSome found P)
-of_each (Ok None) P all = tt
-of_each (Ok (Some x)) P all = all x
-of_each (Err e) P all = tt
-
--- what follows of each thing follows of one that is found
-pub of_found : {X E : Type 0} (o : Result (Option X) E) (P Q : X → Type 0) → ((x : X) → P x → Q x) → IfOk o (λ found. IfSome found P) → IfOk o (λ found. IfSome found Q)
-of_found (Ok None) P Q f h = tt
-of_found (Ok (Some x)) P Q f h = f x h
-of_found (Err e) P Q f h = tt

@@ -1,6 +1,5 @@
 -- What is told of a program that has a tree and is refused.
-use Rattle.std.specs.Prelude.{◌≡◌, ℕ, ◌<◌, ◌≤◌, ◌⊎◌, List, ◌++◌, Option, Some, None, codes, length, map}
-use Rattle.lft_tree.specs.Tree.{FileTree}
+use Rattle.std.specs.Prelude.{◌≡◌, ℕ, ◌≤◌, ◌⊎◌, List, ◌++◌, Option, Some, None, codes, length, map}
 use Rattle.lft_tree.specs.View.{file_view, reactor_view}
 use Rattle.lft_tree.specs.declared.tree.Item.{Item}
 use Rattle.lft_tree.specs.declared.tree.Reactor.{Reactor}
@@ -22,18 +21,6 @@ use Rattle.lft_program.specs.declared.refusal.Refusal.TheVariants as refusals
 use Rattle.lft_reasons.specs.Sentences.{cause_told, said, words_in}
 use Rattle.lft_reasons.specs.declared.sentence.Sentence.{Sentence}
 use Rattle.lft_reasons.specs.Spots.{reactors_among, witness_spot}
-
--- the number of a cause of refusal
-abbrev pub IsCause : ℕ → Type 0
-IsCause cause = (0 < cause) × (cause ≤ 15)
-
--- the text spells a tree, and of the causes of refusal the one with that number is the first that holds of it
-pub record IsRefusedFor (t : List ℕ) (cause : ℕ) : Type 0 where
-  pub tokens : List Token
-  pub lexes : Lexes t tokens
-  pub tree : FileTree
-  pub spells : Spells tree (lexemes t tokens)
-  pub first : IsFirst (causes tree) cause
 
 -- the words are the line and the column at which the bytes begin, if the text has them; without bytes they are of the program as a whole
 abbrev pub SaySpot : List ℕ → Option Spot → List ℕ → Type 0
@@ -71,15 +58,17 @@ IsOfWhole cause = (cause ≡ 5) ⊎ (cause ≡ 10) ⊎ (cause ≡ 14) ⊎ (cause
 abbrev pub IsShownAt : List Token → List Reactor → ℕ → Option Spot → Type 0
 IsShownAt tokens reactors cause spot = HasWitnessAt tokens reactors cause spot ⊎ IsOfWhole cause
 
--- the text is refused for that cause, and the words begin with where it is shown and a sentence that tells it: the tree of the text has a target and items, of which each part stands where it says
+-- the tokens of the text spell a tree, of which each part stands where it says; of the causes of refusal the one with that number is the first that holds of it; and the words begin with where it is shown and a sentence that tells it
 pub record IsToldOf (t : List ℕ) (cause : ℕ) (words : List ℕ) : Type 0 where
-  pub refused : IsRefusedFor t cause
+  pub tokens : List Token
+  pub lexed : Lexes t tokens
   pub target : Option TokenRange
   pub parts : List Item
-  pub are_parts : refused.tree ≡ file_view target parts
-  pub stand : FileStands (lexemes t refused.tokens) target parts
+  pub spelled : Spells (file_view target parts) (lexemes t tokens)
+  pub stand : FileStands (lexemes t tokens) target parts
+  pub first : IsFirst (causes (file_view target parts)) cause
   pub spot : Option Spot
-  pub shown : IsShownAt refused.tokens (reactors_among parts) cause spot
+  pub shown : IsShownAt tokens (reactors_among parts) cause spot
   pub sentence : Sentence
   pub tells : cause_told sentence ≡ cause
   pub names : List (List ℕ)

@@ -1,11 +1,10 @@
-//! What is said of a witness, and of a cause that has none.
+//! What is said of a witness, and of a refusal that has none.
 
-ghost use Rattle.std.specs.Prelude.{◌≡◌, IfOk, IfSome, IfNone};
+ghost use Rattle.std.specs.Prelude.{IfOk, IfSome};
 ghost use Rattle.lft_causes.specs.Findings.{cause_of as cause_found};
 ghost use Rattle.lft_causes.specs.Witnesses.{cause_shown};
 ghost use Rattle.lft_program.specs.Refusals.{cause_of};
-ghost use Rattle.lft_reasons.specs.Reasons.{IsCause};
-ghost use Rattle.lft_reasons.specs.Sentences.{IsOf, cause_told};
+ghost use Rattle.lft_reasons.specs.Sentences.{IsOf};
 
 use crate::reason::Reason;
 use crate::refused::Refused;
@@ -151,41 +150,5 @@ impl<'a> Refused<'a> {
             Refusal::TooMany(excess) => self.too_many(*excess),
             Refusal::Shown(_) | Refusal::NoMemory => Ok(None),
         }
-    }
-
-    /// What is said of a cause where no more is found: its sentence without the names.
-    pub(crate) fn of_cause(&self, cause: u32) -> Result<Option<Reason>, NoMemory>
-        ensures some { IfOk result (λ found. IfSome found (IsOf cause)) }
-        ensures none { IfOk result (λ found. IfNone found (IsCause cause → ⊥)) }
-    {
-        match sentence_of(cause) {
-            Some(sentence) => Ok(Some(Reason::of(self.alloc, sentence, &[])?)),
-            None => Ok(None),
-        }
-    }
-}
-
-/// A sentence that tells the cause with that number.
-fn sentence_of(cause: u32) -> Option<Sentence>
-    ensures some { IfSome result (λ sentence. cause_told sentence ≡ cause) }
-    ensures none { IfNone result (IsCause cause → ⊥) }
-{
-    match cause {
-        1 => Some(Sentence::NoMain),
-        2 => Some(Sentence::TwoMains),
-        3 => Some(Sentence::SameThings),
-        4 => Some(Sentence::UnknownReactor),
-        5 => Some(Sentence::Recursive),
-        6 => Some(Sentence::UnknownName),
-        7 => Some(Sentence::WrongPlace),
-        8 => Some(Sentence::MainPort),
-        9 => Some(Sentence::TwoSources),
-        10 => Some(Sentence::Cycle),
-        11 => Some(Sentence::Widths),
-        12 => Some(Sentence::NoTrigger),
-        13 => Some(Sentence::NamedTwice),
-        14 => Some(Sentence::LongTime),
-        15 => Some(Sentence::TooMany),
-        _ => None,
     }
 }

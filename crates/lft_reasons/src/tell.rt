@@ -1,24 +1,28 @@
 //! Why a program with a tree is refused, for people.
 
-ghost use Rattle.std.specs.Prelude.{◌≡◌, ◌≢◌, ◌⊎◌, IfOk, IfSome, IfNone, string_bytes};
+ghost use Rattle.std.specs.Prelude.{◌≡◌, ◌≢◌, IfOk, IfSome, IfNone, string_bytes};
 ghost use Rattle.lft_tree.specs.View.{tree_view};
+ghost use Rattle.lft_syntax.specs.Grammar.{Spells};
+ghost use Rattle.lft_syntax.specs.Lexes.{Lexes};
+ghost use Rattle.lft_syntax.specs.Placed.{FileStands};
+ghost use Rattle.lft_syntax.specs.View.{lexemes};
 ghost use Rattle.lft_scope.specs.Causes.{IsFirst, causes};
 ghost use Rattle.lft_causes.specs.Witnesses.{cause_shown};
-ghost use Rattle.lft_program.specs.Faults.{number_of as the_number_of};
+ghost use Rattle.lft_program.specs.Faults.{number_of};
 ghost use Rattle.lft_program.specs.Refusals.{Tells, cause_of};
-ghost use Rattle.lft_refusals.specs.Refusals.{IsLong};
-ghost use Rattle.lft_reasons.specs.Reasons.{BeginsAt, IsCause, IsRefusedFor, IsShownAt, IsToldOf, SaySpot, witness_in};
-ghost use Rattle.lft_reasons.specs.Sentences.{IsOf, sentence_of};
+ghost use Rattle.lft_program.specs.declared.refusal.Refusal.TheVariants as refusals;
+ghost use Rattle.lft_reasons.specs.Reasons.{BeginsAt, IsShownAt, IsToldOf, SaySpot, witness_in};
+ghost use Rattle.lft_reasons.specs.Sentences.{IsOf, cause_told, sentence_of};
 ghost use Rattle.lft_reasons.specs.Spots.{behind, reactors_among as the_reactors_among, witness_spot};
 
 use crate::reason::Reason;
 use crate::refused::Refused;
-use crate::sentence::push_said;
+use crate::sentence::{Sentence, push_said};
 use crate::spots::{reactors_among, spot_of};
 use lft_causes::{Finding, Witness};
-use lft_program::{ProgramFault, Refusal, flattened};
+use lft_program::{ProgramFault, Refusal};
 use lft_refusals::{Spot, place_of, push_line, push_place};
-use lft_syntax::{LexFault, SyntaxFault, Tokens, lex, parse};
+use lft_syntax::Tokens;
 use lft_tag::NoMemory;
 use lft_tree::{Ast, Reactor};
 use std::alloc::Global;
@@ -79,33 +83,27 @@ fn spot_before(tokens: &Tokens, reactors: &[&Reactor], witness: Witness) -> Opti
     spot_of(tokens, reactors, first_of(witness)?)
 }
 
-/// What is said of a witness of the cause.
-fn said_of(refused: &Refused, cause: u32, witness: Witness) -> Result<Option<Reason>, NoMemory>
-    requires { cause_shown witness ≡ cause }
-    ensures some { IfOk result (λ found. IfSome found (IsOf cause)) }
-    ensures none { IfOk result (λ found. IfNone found (IsCause cause → ⊥)) }
+/// What is said of a witness: what it tells of itself, or else the sentence without names.
+fn said_of(refused: &Refused, witness: Witness, sentence: Sentence) -> Result<Reason, NoMemory>
+    requires { cause_shown witness ≡ cause_told sentence }
+    ensures { IfOk result (IsOf (cause_told sentence)) }
 {
     match refused.of_witness(witness)? {
-        Some(reason) => Ok(Some(reason)),
-        None => refused.of_cause(cause),
+        Some(reason) => Ok(reason),
+        None => Reason::of(refused.alloc, sentence, &[]),
     }
 }
 
-/// What is said of a witness of the cause, and where it stands.
-fn of_witness(refused: &Refused, cause: u32, witness: Witness) -> Result<Option<Reason>, NoMemory>
-    requires { cause_shown witness ≡ cause }
-    ensures some { IfOk result (λ found. IfSome found (IsOf cause)) }
-    ensures none { IfOk result (λ found. IfNone found (IsCause cause → ⊥)) }
-    ensures at { IfOk result (λ found. IfSome found (λ r. r.at ≡ witness_spot refused.now.tokens.now (behind refused.now.reactors.now) witness)) }
+/// What is said of a witness, and where it stands.
+fn of_witness(refused: &Refused, witness: Witness, sentence: Sentence) -> Result<Reason, NoMemory>
+    requires { cause_shown witness ≡ cause_told sentence }
+    ensures cause { IfOk result (IsOf (cause_told sentence)) }
+    ensures at { IfOk result (λ r. r.at ≡ witness_spot refused.now.tokens.now (behind refused.now.reactors.now) witness) }
 {
-    match said_of(refused, cause, witness)? {
-        Some(reason) => {
-            let before = spot_before(refused.tokens, refused.reactors, witness);
-            let spot = spot_of(refused.tokens, refused.reactors, witness);
-            Ok(Some(reason.before(before).at(spot)))
-        }
-        None => Ok(None),
-    }
+    let reason = said_of(refused, witness, sentence)?;
+    let before = spot_before(refused.tokens, refused.reactors, witness);
+    let spot = spot_of(refused.tokens, refused.reactors, witness);
+    Ok(reason.before(before).at(spot))
 }
 
 /// The witness that a refusal has, if it has one.
@@ -123,37 +121,35 @@ fn witness_of(refusal: &Refusal) -> Option<Witness>
     }
 }
 
-/// What is said of a cause that no place of the text shows by itself.
+/// What is said of a refusal that no place of the text shows by itself.
 fn without_witness(
     refused: &Refused,
     refusal: &Refusal,
-    cause: u32,
-) -> Result<Option<Reason>, NoMemory>
-    requires { cause_of refusal.now ≡ cause }
-    ensures some { IfOk result (λ found. IfSome found (IsOf cause)) }
-    ensures none { IfOk result (λ found. IfNone found (IsCause cause → ⊥)) }
+    sentence: Sentence,
+) -> Result<Reason, NoMemory>
+    requires { cause_of refusal.now ≡ cause_told sentence }
+    ensures { IfOk result (IsOf (cause_told sentence)) }
 {
     match refused.of_whole(refusal)? {
-        Some(reason) => Ok(Some(reason)),
-        None => refused.of_cause(cause),
+        Some(reason) => Ok(reason),
+        None => Reason::of(refused.alloc, sentence, &[]),
     }
 }
 
-/// What shows the cause in a program that has this tree.
+/// What is said of a refusal of a program that has this tree. The sentence is one of its cause.
 fn reason_of(
     alloc: Global,
     text: &[u8],
     tokens: &Tokens,
     ast: &Ast,
     refusal: &Refusal,
-    cause: u32,
-) -> Result<Option<Reason>, NoMemory>
+    sentence: Sentence,
+) -> Result<Reason, NoMemory>
     requires tells { Tells (tree_view ast.now) refusal.now }
-    requires of_cause { cause_of refusal.now ≡ cause }
-    requires is_cause { IsCause cause }
-    ensures some { IfOk result (λ found. IfSome found (IsOf cause)) }
-    ensures none { IfOk result (λ found. IfNone found (IsCause cause → ⊥)) }
-    ensures shown { IfOk result (λ found. IfSome found (λ r. IsShownAt tokens.now (the_reactors_among ast.now.items.items) cause r.at)) }
+    requires told { refusal.now ≢ refusals.NoMemory }
+    requires cause { cause_of refusal.now ≡ cause_told sentence }
+    ensures cause { IfOk result (IsOf (cause_told sentence)) }
+    ensures shown { IfOk result (λ r. IsShownAt tokens.now (the_reactors_among ast.now.items.items) (cause_told sentence) r.at) }
 {
     let reactors = reactors_among(alloc, &ast.items)?;
     let refused = Refused {
@@ -163,8 +159,8 @@ fn reason_of(
         reactors: &reactors,
     };
     match witness_of(refusal) {
-        Some(witness) => of_witness(&refused, cause, witness),
-        None => without_witness(&refused, refusal, cause),
+        Some(witness) => of_witness(&refused, witness, sentence),
+        None => without_witness(&refused, refusal, sentence),
     }
 }
 
@@ -227,79 +223,51 @@ fn lines(alloc: Global, text: &[u8], reason: &Reason) -> Result<String, NoMemory
     Ok(out)
 }
 
-/// The number of the cause for which a program is refused.
-fn number_of(fault: ProgramFault) -> u32
-    ensures number { result ≡ the_number_of fault }
-    ensures cause { fault ≢ ProgramFault.NoMemory → IsCause result }
+/// A sentence that tells the fault's cause.
+fn sentence_for(fault: ProgramFault) -> Option<Sentence>
+    ensures some { IfSome result (λ sentence. (cause_told sentence ≡ number_of fault) × (fault ≢ ProgramFault.NoMemory)) }
+    ensures none { IfNone result (fault ≡ ProgramFault.NoMemory) }
 {
     match fault {
-        ProgramFault::NoMain => 1,
-        ProgramFault::TwoMains => 2,
-        ProgramFault::DuplicateName => 3,
-        ProgramFault::UnknownReactor => 4,
-        ProgramFault::RecursiveReactor => 5,
-        ProgramFault::UnknownName => 6,
-        ProgramFault::WrongPlace => 7,
-        ProgramFault::MainHasPorts => 8,
-        ProgramFault::TwoSources => 9,
-        ProgramFault::ConnectionCycle => 10,
-        ProgramFault::WidthMismatch => 11,
-        ProgramFault::NoTrigger => 12,
-        ProgramFault::DuplicateInput => 13,
-        ProgramFault::DelayTooLong => 14,
-        ProgramFault::TooMany => 15,
-        ProgramFault::NoMemory => 16,
+        ProgramFault::NoMain => Some(Sentence::NoMain),
+        ProgramFault::TwoMains => Some(Sentence::TwoMains),
+        ProgramFault::DuplicateName => Some(Sentence::SameThings),
+        ProgramFault::UnknownReactor => Some(Sentence::UnknownReactor),
+        ProgramFault::RecursiveReactor => Some(Sentence::Recursive),
+        ProgramFault::UnknownName => Some(Sentence::UnknownName),
+        ProgramFault::WrongPlace => Some(Sentence::WrongPlace),
+        ProgramFault::MainHasPorts => Some(Sentence::MainPort),
+        ProgramFault::TwoSources => Some(Sentence::TwoSources),
+        ProgramFault::ConnectionCycle => Some(Sentence::Cycle),
+        ProgramFault::WidthMismatch => Some(Sentence::Widths),
+        ProgramFault::NoTrigger => Some(Sentence::NoTrigger),
+        ProgramFault::DuplicateInput => Some(Sentence::NamedTwice),
+        ProgramFault::DelayTooLong => Some(Sentence::LongTime),
+        ProgramFault::TooMany => Some(Sentence::TooMany),
+        ProgramFault::NoMemory => None,
     }
 }
 
-/// Why the tree is refused, if that is for the cause with that number.
-fn refusal_for(alloc: Global, ast: &Ast, cause: u32) -> Result<Option<Refusal>, NoMemory>
-    ensures some { IfOk result (λ found. IfSome found (λ _. IsFirst (causes (tree_view ast.now)) cause)) }
-    ensures none { IfOk result (λ found. IfNone found (IsFirst (causes (tree_view ast.now)) cause → ⊥)) }
-    ensures cause { IfOk result (λ found. IfSome found (λ _. IsCause cause)) }
-    ensures tells { IfOk result (λ found. IfSome found (Tells (tree_view ast.now))) }
-    ensures of_cause { IfOk result (λ found. IfSome found (λ f. cause_of f ≡ cause)) }
+/// Why a program that has this tree is refused, in lines that end with a line feed: the place, what is wrong
+/// there, the line with a mark, and what to write. Where something stands twice, both lines. Of several places
+/// the first in the text. `NoMemory` where the refusal is.
+pub fn tell_refusal(
+    alloc: Global,
+    text: &[u8],
+    tokens: &Tokens,
+    ast: &Ast,
+    refusal: &Refusal,
+) -> Result<String, NoMemory>
+    requires lexed { Lexes text.now tokens.now }
+    requires spelled { Spells (tree_view ast.now) (lexemes text.now tokens.now) }
+    requires places { FileStands (lexemes text.now tokens.now) ast.now.target ast.now.items.items }
+    requires first { refusal.now ≢ refusals.NoMemory → IsFirst (causes (tree_view ast.now)) (cause_of refusal.now) }
+    requires tells { Tells (tree_view ast.now) refusal.now }
+    ensures { IfOk result (λ words. IsToldOf text.now (cause_of refusal.now) (string_bytes words)) }
 {
-    let Err(refusal) = flattened(alloc, ast) else {
-        return Ok(None);
-    };
-    let fault = refusal.fault();
-    if fault == ProgramFault::NoMemory {
+    let Some(sentence) = sentence_for(refusal.fault()) else {
         return Err(NoMemory);
-    }
-    if number_of(fault) == cause {
-        Ok(Some(refusal))
-    } else {
-        Ok(None)
-    }
-}
-
-/// Why a program that has a tree is refused by the cause with that number, in lines that end with a line
-/// feed: the place, what is wrong there, the line with a mark, and what to write. Where something stands
-/// twice, both lines. Of several places the first in the text. None where the text has no tree, and where it
-/// isn't refused for that cause, and where it has more than `lft_syntax::MAX_LENGTH` bytes.
-pub fn tell_cause(alloc: Global, text: &[u8], cause: u32) -> Result<Option<String>, NoMemory>
-    ensures some { IfOk result (λ told. IfSome told (λ words. IsToldOf text.now cause (string_bytes words))) }
-    ensures none { IfOk result (λ told. IfNone told (IsLong text.now ⊎ (IsRefusedFor text.now cause → ⊥))) }
-{
-    let tokens = match lex(alloc, text) {
-        Ok(tokens) => tokens,
-        Err(LexFault::NoMemory) => return Err(NoMemory),
-        Err(_) => return Ok(None),
     };
-    let ast = match parse(alloc, text, &tokens) {
-        Ok(ast) => ast,
-        Err(SyntaxFault::NoMemory) => return Err(NoMemory),
-        Err(_) => return Ok(None),
-    };
-    let Some(refusal) = refusal_for(alloc, &ast, cause)? else {
-        return Ok(None);
-    };
-    match reason_of(alloc, text, &tokens, &ast, &refusal, cause)? {
-        Some(reason) => {
-            let words = lines(alloc, text, &reason)?;
-            Ok(Some(words))
-        }
-        None => Ok(None),
-    }
+    let reason = reason_of(alloc, text, tokens, ast, refusal, sentence)?;
+    lines(alloc, text, &reason)
 }

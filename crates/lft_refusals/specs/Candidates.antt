@@ -88,3 +88,7 @@ IsLeftOut words = (words ≡ []) ⊎ ((lines : List ℕ) × (words ≡ codes "  
 -- The words list things that can stand, and then tell a way out, if there is one.
 abbrev pub IsHelp : (Thing → Type 0) → List ℕ → Type 0
 IsHelp Can words = (things : List Thing) × All Can things × ((way : Option (List ℕ)) × (words ≡ could_words things ++ way_words way))
+
+-- Such words, and behind them nothing or what is left out further on.
+abbrev pub IsWholeHelp : (Thing → Type 0) → List ℕ → Type 0
+IsWholeHelp Can words = (help : List ℕ) × IsHelp Can help × ((more : List ℕ) × IsLeftOut more × (words ≡ help ++ more))

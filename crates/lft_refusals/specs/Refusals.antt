@@ -19,10 +19,6 @@ pub record HasNoTree (t : List ℕ) (tokens : List Token) (number : ℕ) : Type 
 abbrev pub IsLong : List ℕ → Type 0
 IsLong t = 1048576 < length t
 
--- The text spells a tree.
-abbrev pub HasTree : List ℕ → Type 0
-HasTree t = (tokens : List Token) × Lexes t tokens × ((tree : FileTree) × Spells tree (lexemes t tokens))
-
 -- What is said of the bytes from start up to end: the text is cut into tokens up to there and no further; or they are the token with that number, and no tree begins with so many; or the text ends there, before its tree does.
 abbrev pub Tells : List ℕ → ℕ → ℕ → Why → Type 0
 Tells t start end (Lex fault) = IsRefusedAt t start × LexFails t fault × (end ≡ start + 1)

@@ -4,7 +4,7 @@ use Rattle.lft_syntax.specs.declared.fault.LexFault.{LexFault}
 use Rattle.lft_syntax.specs.declared.fault.LexFault.TheVariants as fault
 use Rattle.lft_syntax.specs.declared.token.TokenKind.{TokenKind}
 use Rattle.lft_syntax.specs.declared.token.TokenKind.TheVariants as kind
-use Rattle.lft_refusals.specs.Candidates.{CanStandAt, IsHelp, IsLeftOut}
+use Rattle.lft_refusals.specs.Candidates.{CanStandAt, IsWholeHelp}
 use Rattle.lft_refusals.specs.Places.{IsPlace}
 use Rattle.lft_refusals.specs.Quotes.{marked_line, place_words, quoted}
 use Rattle.lft_refusals.specs.Refusals.{IsLong, IsRefusal}
@@ -46,15 +46,15 @@ why_words (End number) bytes = codes "the text ends too soon."
 abbrev pub sentence : List ℕ → Refusal → List ℕ
 sentence t r = why_words r.why (slice_range t r.start r.end) ++ codes "\n"
 
--- The words begin with the line and the column of the refusal, with what is wrong there, and the line with a mark. What is listed behind that as what could stand there can.
-pub record IsToldAt (t : List ℕ) (r : Refusal) (words : List ℕ) : Type 0 where
+-- The words are the line and the column of the refusal, what is wrong there, the line with a mark, and the help.
+pub record SaysAt (t : List ℕ) (r : Refusal) (help words : List ℕ) : Type 0 where
   pub place : Place
   pub is_place : IsPlace t r.start place
-  pub help : List ℕ
-  pub is_help : IsHelp (CanStandAt t r.why) help
-  pub left_out : List ℕ
-  pub is_left_out : IsLeftOut left_out
-  pub whole : words ≡ place_words place ++ sentence t r ++ marked_line t place r.start r.end ++ (help ++ left_out)
+  pub whole : words ≡ place_words place ++ sentence t r ++ marked_line t place r.start r.end ++ help
+
+-- The words begin with the place of the refusal and what is wrong there. What they list behind the marked line as what could stand there can.
+abbrev pub IsToldAt : List ℕ → Refusal → List ℕ → Type 0
+IsToldAt t r words = (help : List ℕ) × IsWholeHelp (CanStandAt t r.why) help × SaysAt t r help words
 
 -- What is told of a text with so many bytes, which are too many.
 abbrev pub long_words : ℕ → List ℕ

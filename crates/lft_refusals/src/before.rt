@@ -1,25 +1,13 @@
 //! What to write in place of a token, by the tokens before it.
 
-ghost use Rattle.std.specs.Prelude.{◌≡◌, true, IfOk, IfSome};
-ghost use Rattle.lft_syntax.specs.Lexes.{Lexes};
+ghost use Rattle.std.specs.Prelude.{◌≡◌, true, IfOk};
 ghost use Rattle.lft_refusals.specs.Trying.{AreTokens, CanStandBehind};
 
 use crate::thing::Thing;
 use crate::ways::{BROADCAST, FEDERATION, GENERICS, SPACING, TYPE, VALUE, of_token, of_word};
-use lft_syntax::{LexFault, Token, TokenKind, Tokens, can_stand, lex};
+use lft_syntax::{Token, TokenKind, Tokens, can_stand};
 use lft_tag::NoMemory;
 use std::alloc::Global;
-
-/// The tokens of a text.
-pub(crate) fn tokens_of(alloc: Global, text: &[u8]) -> Result<Option<Tokens>, NoMemory>
-    ensures { IfOk result (λ tokens. IfSome tokens (Lexes text.now)) }
-{
-    match lex(alloc, text) {
-        Ok(tokens) => Ok(Some(tokens)),
-        Err(LexFault::NoMemory) => Err(NoMemory),
-        Err(_) => Ok(None),
-    }
-}
 
 /// The first `count` tokens of a text: those before the one that is refused. They are counted from the
 /// last, which is number 1.

@@ -20,6 +20,6 @@ pub mod words;
 
 pub use code::has_code_with;
 pub use place::{Place, place_of};
-pub use program_text::tell_program;
+pub use program_text::{tell_no_tokens, tell_no_tree};
 pub use quoting::{push_line, push_place};
 pub use spots::{Spot, name_spot, reactor_spot, time_spot, token_spot};

@@ -1,22 +1,24 @@
 //! Why a program's text is refused, for people.
 
-ghost use Rattle.std.specs.Prelude.{◌≡◌, ℕ, ◌≤◌, ◌++◌, List, flat_map, length, string_bytes, IfOk, OnOk, IfSome, IfNone};
-ghost use Rattle.lft_refusals.specs.Candidates.{CanStandAt, IsHelp, IsLeftOut, could_words, few, other_words};
-ghost use Rattle.lft_refusals.specs.Refusals.{HasTree, IsRefusal};
+ghost use Rattle.std.specs.Prelude.{◌≡◌, ◌≢◌, ℕ, ◌+◌, ◌<◌, ◌≤◌, ◌++◌, List, flat_map, length, string_bytes, IfOk, OnOk};
+ghost use Rattle.lft_syntax.specs.declared.fault.LexFault.TheVariants.{NoMemory as LexNoMemory};
+ghost use Rattle.lft_syntax.specs.Lexes.{LexFails};
+ghost use Rattle.lft_refusals.specs.Candidates.{IsHelp, IsWholeHelp, could_words, few, other_words};
+ghost use Rattle.lft_refusals.specs.Refusals.{HasNoTree};
 ghost use Rattle.lft_refusals.specs.Trying.{AreTokens, CanStandBehind};
-ghost use Rattle.lft_refusals.specs.Told.{TellsProgram, fault_words, long_words as words_of_long, sentence, spelled, token_words};
+ghost use Rattle.lft_refusals.specs.Told.{SaysAt, TellsProgram, fault_words, long_words as words_of_long, sentence, spelled, token_words};
 
-use crate::before::{Before, tokens_of};
+use crate::before::Before;
 use crate::candidates::candidates;
 use crate::headers;
 use crate::left_out::push_left_out;
 use crate::place::place_of;
 use crate::quoting::{push_line, push_place};
-use crate::refusal::{Refusal, Why, refusal_of};
+use crate::refusal::{Refusal, Why, at_byte, at_token};
 use crate::thing::Thing;
 use crate::ways::{of_candidates, of_fault, of_token};
 use crate::words::{push_bytes, push_way};
-use lft_syntax::{LexFault, MAX_LENGTH, TokenKind, lex};
+use lft_syntax::{LexFault, MAX_LENGTH, TokenKind, Tokens};
 use lft_tag::NoMemory;
 use lft_words::push_number;
 use std::alloc::Global;
@@ -162,49 +164,25 @@ fn push_help_at_token(
     Ok(())
 }
 
-/// Puts what to write at the place behind the text.
-fn push_help(alloc: Global, out: &mut String, text: &[u8], refusal: Refusal) -> Result<(), NoMemory>
-    requires inside { (refusal.start ≤ refusal.end) × (refusal.end ≤ length text.now) }
-    requires refusal { IsRefusal text.now refusal }
-    ensures { OnOk result ((help : List ℕ) × IsHelp (CanStandAt text.now refusal.why) help × ((more : List ℕ) × IsLeftOut more × (string_bytes out.new ≡ string_bytes out.old ++ (help ++ more)))) }
+/// Puts what could stand behind the tokens in place of the next one, or what to write there, behind the text.
+/// What else is left out further on is listed.
+fn push_help(out: &mut String, before: &Before<'_>) -> Result<(), NoMemory>
+    requires lexed { AreTokens before.now }
+    ensures { OnOk result ((help : List ℕ) × IsWholeHelp (CanStandBehind before.now) help × (string_bytes out.new ≡ string_bytes out.old ++ help)) }
 {
-    let way = headers::of_program(text);
+    let way = headers::of_program(before.text);
     if way.is_some() {
         push_way(out, way)?;
         return Ok(());
     }
-    match refusal.why {
-        Why::Lex(fault) => {
-            push_way(out, of_fault(fault, &text[refusal.start..]))?;
-            Ok(())
+    match before.token(0) {
+        Some(token) => {
+            push_help_at_token(out, before, token.kind, before.spelling(0))?;
+            push_left_out(before.alloc, out, before.text, before.tokens, token.end)
         }
-        Why::End(_) => {
-            let Some(tokens) = tokens_of(alloc, text)? else {
-                return Ok(());
-            };
-            let before = Before {
-                alloc,
-                text,
-                tokens: &tokens,
-                count: tokens.as_slice().len(),
-            };
-            let found = candidates(&before)?;
-            push_candidates(out, &found)?;
-            Ok(())
-        }
-        Why::Token(number, kind) => {
-            let Some(tokens) = tokens_of(alloc, text)? else {
-                return Ok(());
-            };
-            let before = Before {
-                alloc,
-                text,
-                tokens: &tokens,
-                count: number.saturating_sub(1),
-            };
-            push_help_at_token(out, &before, kind, &text[refusal.start..refusal.end])?;
-            push_left_out(alloc, out, text, &tokens, refusal.end)?;
-            Ok(())
+        None => {
+            let found = candidates(before)?;
+            push_candidates(out, &found)
         }
     }
 }
@@ -222,30 +200,60 @@ fn long_words(alloc: Global, length: usize) -> Result<String, NoMemory>
     Ok(out)
 }
 
-/// Where and why a program's text has no tree, in lines that end with a line feed: the place, what is
-/// wrong there, the line itself with a mark, what could stand there, and what to write in place of what
-/// the language has and `lftrace` leaves out. What else is left out further on is listed. Of a text of
-/// more than `lft_syntax::MAX_LENGTH` bytes its length is told, and no place. None where the text has a tree.
-///
-/// What could stand there is found by trying: the text before the place is read once for each thing.
-pub fn tell_program(alloc: Global, text: &[u8]) -> Result<Option<String>, NoMemory>
-    ensures some { IfOk result (λ told. IfSome told (λ words. TellsProgram text.now (string_bytes words))) }
-    ensures none { IfOk result (λ told. IfNone told (HasTree text.now)) }
+/// The place, what is wrong there, the line with a mark, and the help, in lines.
+fn words_at(alloc: Global, text: &[u8], refusal: Refusal, help: &str) -> Result<String, NoMemory>
+    requires inside { (refusal.start ≤ refusal.end) × (refusal.end ≤ length text.now) }
+    ensures { IfOk result (λ words. SaysAt text.now refusal help.now (string_bytes words)) }
 {
-    if MAX_LENGTH < text.len() {
-        let words = long_words(alloc, text.len())?;
-        return Ok(Some(words));
-    }
-    let Some(refusal) = refusal_of(alloc, text)? else {
-        return Ok(None);
-    };
-    let mut help = String::new(alloc);
-    push_help(alloc, &mut help, text, refusal)?;
     let place = place_of(text, refusal.start);
     let mut out = String::new(alloc);
     push_place(&mut out, place)?;
     push_sentence(alloc, &mut out, text, refusal)?;
     push_line(alloc, &mut out, text, place, refusal.start, refusal.end)?;
-    out.push_str(help.as_str())?;
-    Ok(Some(out))
+    out.push_str(help)?;
+    Ok(out)
+}
+
+/// Where and why a program's text has no tokens, in lines that end with a line feed: the place, what is
+/// wrong there, the line itself with a mark, and what helps. Of a text of more than
+/// `lft_syntax::MAX_LENGTH` bytes its length is told, and no place.
+pub fn tell_no_tokens(alloc: Global, text: &[u8], fault: LexFault) -> Result<String, NoMemory>
+    requires fails { LexFails text.now fault }
+    requires fault { fault ≢ LexNoMemory }
+    ensures { IfOk result (λ words. TellsProgram text.now (string_bytes words)) }
+{
+    let Some(refusal) = at_byte(text, fault) else {
+        return long_words(alloc, text.len());
+    };
+    let way = headers::of_program(text).or(of_fault(fault, &text[refusal.start..]));
+    let mut help = String::new(alloc);
+    push_way(&mut help, way)?;
+    words_at(alloc, text, refusal, help.as_str())
+}
+
+/// Where and why the tokens of a program's text spell no tree, in such lines. The number is that of the
+/// first token at which no tree can be spelled, as `lft_syntax::parse` gives it. Behind the line with a mark
+/// it is told what could stand there, and what to write in place of what the language has and `lftrace`
+/// leaves out. What else is left out further on is listed.
+///
+/// What could stand there is found by trying: the text before the place is read once for each thing.
+pub fn tell_no_tree(
+    alloc: Global,
+    text: &[u8],
+    tokens: &Tokens,
+    number: usize,
+) -> Result<String, NoMemory>
+    requires number { (0 < number) × (number ≤ length tokens.now + 1) }
+    requires none { HasNoTree text.now tokens.now number }
+    ensures { IfOk result (λ words. TellsProgram text.now (string_bytes words)) }
+{
+    let before = Before {
+        alloc,
+        text,
+        tokens,
+        count: number - 1,
+    };
+    let mut help = String::new(alloc);
+    push_help(&mut help, &before)?;
+    words_at(alloc, text, at_token(text, tokens, number), help.as_str())
 }

@@ -4,7 +4,7 @@ use crate::words::LowerWords;
 use crate::{end, say};
 use lft_files::read_file;
 use lft_front::{Fault, Part};
-use lft_lowered::{Unlowered, lower_answer};
+use lft_lowered::{Unlowered, lower_answer, lower_whole};
 use std::alloc::Global;
 use std::io;
 use std::io::Write;
@@ -62,11 +62,12 @@ pub(crate) fn write_lowers<F: Files, W: Write>(
     fault: &Fault,
     out: &mut W,
 ) {
-    // Want of memory says nothing of the text. A text that has a tree is printed by `lower` as it is.
+    // Want of memory says nothing of the text. A text that has a tree is printed by `lower` as it is: one that
+    // has none is not asked again.
     if fault.name == "NoMemory" || !matches!(fault.part, Part::Lex | Part::Syntax) {
         return;
     }
-    let lowered = lower_answer(
+    let lowered = lower_whole(
         rt,
         alloc,
         path,

@@ -17,13 +17,10 @@ returns-in-Program-clause-tells c =
 pub returns-in-Program-clause-none : goal.returns-in-Program-clause-none
 returns-in-Program-clause-none c =
     let given = subst (λ (s : Start). Gives c.args.program.now c.args.externals.now s) c.in-Program.is c.in_ok-flat.ensures in
-    of_none c.of_traces.result (IsTrace c.in-Program.flat c.args.first.now × IsTrace c.in-Program.flat c.args.second.now) _ (λ are. inr (both_meant c.args.program.now c.args.externals.now c.in-Program.flat given.0 given.1 c.args.first.now c.args.second.now are)) c.of_traces.ensures.none
+    of_none c.of_traces.result (IsTrace c.in-Program.flat c.args.first.now × IsTrace c.in-Program.flat c.args.second.now) _ (λ are. both_meant c.args.program.now c.args.externals.now c.in-Program.flat given.0 given.1 c.args.first.now c.args.second.now are) c.of_traces.ensures.none
 
 pub returns-in-Refused-clause-no_meaning : goal.returns-in-Refused-clause-no_meaning
 returns-in-Refused-clause-no_meaning c = none_of_both c.args.program.now c.args.externals.now c.args.first.now c.args.second.now (subst (λ (s : Start). Gives c.args.program.now c.args.externals.now s) c.in-Refused.is c.in_ok-flat.ensures).0
 
 pub returns-in-Refused-clause-tells : goal.returns-in-Refused-clause-tells
 returns-in-Refused-clause-tells c = inl (subst (λ (s : Start). Gives c.args.program.now c.args.externals.now s) c.in-Refused.is c.in_ok-flat.ensures).1
-
-pub returns-in-Untold-clause-none : goal.returns-in-Untold-clause-none
-returns-in-Untold-clause-none c = inl (subst (λ (s : Start). Gives c.args.program.now c.args.externals.now s) c.in-Untold.is c.in_ok-flat.ensures)

@@ -1,23 +1,27 @@
-use Rattle.std.proofs.Common.{inl, inr, string_bytes}
+use Rattle.std.proofs.Common.{inl, inr, string_bytes, subst}
 use Rattle.lft_graph.specs.Precedence.{HasNoLoop}
-use Rattle.lft_front.specs.Told.{HasNoOrder, TellsLoop, TellsNoOrder, TellsText}
+use Rattle.lft_front.specs.declared.refused.Start.{Start}
+use Rattle.lft_front.specs.Told.{HasNoOrder, Reads, TellsLoop, TellsNoOrder}
 use Rattle.lft_front.proofs.Telling.{of_none, of_found, told_loop, no_order_by_loop, no_order_by_program}
 use Rattle.lft_front.proofs.refused.refusal_of_program.Goals as goal
 
-pub returns-in-Ok-clause-no_order : goal.returns-in-Ok-clause-no_order
-returns-in-Ok-clause-no_order c = of_found c.of_graph.result (λ words. TellsLoop c.in-Ok.flat (string_bytes words)) (λ _. HasNoOrder c.args.program.now) (λ words h. no_order_by_loop c.args.program.now c.in-Ok.flat c.in-Ok.ensures.program (told_loop c.in-Ok.flat (string_bytes words) h)) c.of_graph.ensures.tells
+pub returns-in-Program-clause-no_order : goal.returns-in-Program-clause-no_order
+returns-in-Program-clause-no_order c =
+    let only = subst (λ (s : Start). Reads c.args.program.now s) c.in-Program.is c.in_ok-flat.ensures in
+    of_found c.of_graph.result (λ words. TellsLoop c.in-Program.flat (string_bytes words)) (λ _. HasNoOrder c.args.program.now) (λ words h. no_order_by_loop c.args.program.now c.in-Program.flat only (told_loop c.in-Program.flat (string_bytes words) h)) c.of_graph.ensures.tells
 
-pub returns-in-Ok-clause-tells : goal.returns-in-Ok-clause-tells
-returns-in-Ok-clause-tells c = of_found c.of_graph.result (λ words. TellsLoop c.in-Ok.flat (string_bytes words)) (λ words. TellsNoOrder c.args.program.now (string_bytes words)) (λ words h. inr (record { program = c.in-Ok.flat; only = c.in-Ok.ensures.program; tells = h })) c.of_graph.ensures.tells
+pub returns-in-Program-clause-tells : goal.returns-in-Program-clause-tells
+returns-in-Program-clause-tells c =
+    let only = subst (λ (s : Start). Reads c.args.program.now s) c.in-Program.is c.in_ok-flat.ensures in
+    of_found c.of_graph.result (λ words. TellsLoop c.in-Program.flat (string_bytes words)) (λ words. TellsNoOrder c.args.program.now (string_bytes words)) (λ words h. inr (record { program = c.in-Program.flat; only = only; tells = h })) c.of_graph.ensures.tells
 
-pub returns-in-Ok-clause-none : goal.returns-in-Ok-clause-none
-returns-in-Ok-clause-none c = of_none c.of_graph.result (HasNoLoop c.in-Ok.flat) _ (λ h. inr (c.in-Ok.flat, c.in-Ok.ensures.program.is, h)) c.of_graph.ensures.none
+pub returns-in-Program-clause-none : goal.returns-in-Program-clause-none
+returns-in-Program-clause-none c =
+    let only = subst (λ (s : Start). Reads c.args.program.now s) c.in-Program.is c.in_ok-flat.ensures in
+    of_none c.of_graph.result (HasNoLoop c.in-Program.flat) _ (λ h. (c.in-Program.flat, only.is, h)) c.of_graph.ensures.none
 
-pub returns-in-Err-clause-no_order : goal.returns-in-Err-clause-no_order
-returns-in-Err-clause-no_order c = of_found c.of_program.result _ (λ _. HasNoOrder c.args.program.now) (λ _ h. no_order_by_program c.args.program.now (c.in-Err.ensures.none h)) c.of_program.ensures.of_text
+pub returns-in-Refused-clause-no_order : goal.returns-in-Refused-clause-no_order
+returns-in-Refused-clause-no_order c = no_order_by_program c.args.program.now (subst (λ (s : Start). Reads c.args.program.now s) c.in-Refused.is c.in_ok-flat.ensures).0
 
-pub returns-in-Err-clause-tells : goal.returns-in-Err-clause-tells
-returns-in-Err-clause-tells c = of_found c.of_program.result (λ words. TellsText c.args.program.now (string_bytes words)) (λ words. TellsNoOrder c.args.program.now (string_bytes words)) (λ words h. inl h) c.of_program.ensures.tells
-
-pub returns-in-Err-clause-none : goal.returns-in-Err-clause-none
-returns-in-Err-clause-none c = of_none c.of_program.result _ _ (λ h. inl h) c.of_program.ensures.none
+pub returns-in-Refused-clause-tells : goal.returns-in-Refused-clause-tells
+returns-in-Refused-clause-tells c = inl (subst (λ (s : Start). Reads c.args.program.now s) c.in-Refused.is c.in_ok-flat.ensures).1

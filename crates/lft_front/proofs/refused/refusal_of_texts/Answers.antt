@@ -17,13 +17,10 @@ returns-in-Program-clause-tells c =
 pub returns-in-Program-clause-none : goal.returns-in-Program-clause-none
 returns-in-Program-clause-none c =
     let given = subst (λ (s : Start). Gives c.args.program.now c.args.externals.now s) c.in-Program.is c.in_ok-flat.ensures in
-    of_none c.of_trace.result (IsTrace c.in-Program.flat c.args.trace.now) _ (λ is. inr (meant c.args.program.now c.args.externals.now c.in-Program.flat given.0 given.1 c.args.trace.now is)) c.of_trace.ensures.none
+    of_none c.of_trace.result (IsTrace c.in-Program.flat c.args.trace.now) _ (λ is. meant c.args.program.now c.args.externals.now c.in-Program.flat given.0 given.1 c.args.trace.now is) c.of_trace.ensures.none
 
 pub returns-in-Refused-clause-no_meaning : goal.returns-in-Refused-clause-no_meaning
 returns-in-Refused-clause-no_meaning c = none_by_plan c.args.program.now c.args.externals.now c.args.trace.now (subst (λ (s : Start). Gives c.args.program.now c.args.externals.now s) c.in-Refused.is c.in_ok-flat.ensures).0
 
 pub returns-in-Refused-clause-tells : goal.returns-in-Refused-clause-tells
 returns-in-Refused-clause-tells c = inl (subst (λ (s : Start). Gives c.args.program.now c.args.externals.now s) c.in-Refused.is c.in_ok-flat.ensures).1
-
-pub returns-in-Untold-clause-none : goal.returns-in-Untold-clause-none
-returns-in-Untold-clause-none c = inl (subst (λ (s : Start). Gives c.args.program.now c.args.externals.now s) c.in-Untold.is c.in_ok-flat.ensures)

@@ -1,10 +1,13 @@
-use Rattle.std.proofs.Common.{inl, string_bytes}
-use Rattle.lft_front.specs.Told.{TellsText}
-use Rattle.lft_front.proofs.Telling.{some_is, some_so, none_by_program}
+use Rattle.std.proofs.Common.{inl, subst}
+use Rattle.lft_front.specs.declared.refused.Start.{Start}
+use Rattle.lft_front.specs.Told.{Reads}
+use Rattle.lft_front.proofs.Telling.{none_by_program}
 use Rattle.lft_front.proofs.refused.start_of.Goals as goal
 
-pub returns-in-Some : goal.returns-in-Some
-returns-in-Some c = (
-  none_by_program c.args.program.now c.args.externals.now (c.in-Err.ensures.none (some_so c.in_ok-words-in-Err.field-0 c.in-Some.words _ c.in-Some.is c.in_ok-words-in-Err.ensures.of_text)),
-  inl (some_is c.in_ok-words-in-Err.field-0 c.in-Some.words (λ words. TellsText c.args.program.now (string_bytes words)) c.in-Some.is c.in_ok-words-in-Err.ensures.tells),
-)
+pub returns-in-Program : goal.returns-in-Program
+returns-in-Program c = c.of_plan.ensures c.args.program.now (subst (λ (s : Start). Reads c.args.program.now s) c.in-Program.is c.in_ok-flat.ensures)
+
+pub returns-in-Refused : goal.returns-in-Refused
+returns-in-Refused c =
+    let told = subst (λ (s : Start). Reads c.args.program.now s) c.in-Refused.is c.in_ok-flat.ensures in
+    (none_by_program c.args.program.now c.args.externals.now told.0, inl told.1)

@@ -1,7 +1,7 @@
 use Rattle.std.proofs.Common.{◌-◌, arith}
 use Rattle.std.proofs.lemmas.Option.{slice_get-get_or}
 use Rattle.lft_syntax.proofs.TokenFacts.{InText, token_at}
-use Rattle.lft_refusals.proofs.refusal.of_token.Goals as goal
+use Rattle.lft_refusals.proofs.refusal.at_token.Goals as goal
 
 pub returns-in-Some-clause-inside : goal.returns-in-Some-clause-inside
 returns-in-Some-clause-inside c =
