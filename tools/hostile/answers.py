@@ -23,15 +23,16 @@ FAULTS = {
     "write": {1: "Failed"},
     "read": {1: "Failed PATH", 2: "TooLarge PATH"},
     "bundle": {1: "BadBundle"},
+    "names": {1: "BadHeader", 2: "BadFieldCount" + LINED, 3: "BadName" + LINED, 4: "TooManyRows", 5: "TwoNames" + LINED, 6: "NotCsv", 7: "NoMemory"},
     "memory": {1: "NoMemory"},
 }
 JUDGING = ("lex", "syntax", "program", "externals", "graph", "trace", "check", "write", "read", "memory")
 PARTS = {
-    "judge": JUDGING,
-    "cover": JUDGING,
-    "explain": JUDGING,
+    "judge": (*JUDGING, "names"),
+    "cover": (*JUDGING, "names"),
+    "explain": (*JUDGING, "names"),
     "follow": JUDGING,
-    "pair": JUDGING,
+    "pair": (*JUDGING, "names"),
     "bundle": (*JUDGING, "bundle"),
     "show": ("lex", "syntax", "program", "graph", "write", "read", "memory"),
     "lower": ("write", "read", "memory"),

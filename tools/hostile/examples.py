@@ -106,6 +106,22 @@ main.b#1 runs at (0, 0), from line 5 on.
     line 3 is the last write of main.a.out at (0, 0)
     main.a.out (0, 0) --> main.b.x (0, 0)"""
 
+# The columns are those of the core's names.
+WHY_WRONG_NAMED = f"""broken rule=10 wrong-read {AT_ZERO} reaction=main.b[1]#1
+
+main.b[1]#1 runs at (0, 0), from line 9 on.
+
+  input       read  present
+  main.b[1].x  3     2
+
+  4 | write,0,0,0,main.a#1,main.a.out[1],2,  a cause
+    ..
+  9 | start,0,0,0,main.b[1]#1,,,             <- here
+
+  main.b[1].x gets 2 at (0, 0):
+    line 4 is the last write of main.a.out[1] at (0, 0)
+    main.a.out[1] (0, 0) --> main.b[1].x (0, 0)"""
+
 
 COVERED = """accepted runs=2 tags=1
 reactions=2/2 ports=1/1 orders=1/1 pairs=0/0
@@ -145,6 +161,27 @@ output out_0 output out_1 reaction ( startup ) -> out_0 , out_1 {= =}
 }
 main reactor {
 a = new A ( ) b_0 = new B ( ) b_1 = new B ( ) a . out_0 -> b_0 . x a . out_1 -> b_1 . x }
+"""
+NAMES = """kind,source,core,place
+port,main.a.out[0],main.a.out_0,program.lf:3
+port,main.a.out[1],main.a.out_1,program.lf:3
+instance,main.b[0],main.b_0,program.lf:4
+port,main.b[0].x,main.b_0.x,B.lf:2
+reaction,main.b[0]#1,main.b_0#1,B.lf:2
+instance,main.b[1],main.b_1,program.lf:4
+port,main.b[1].x,main.b_1.x,B.lf:2
+reaction,main.b[1]#1,main.b_1#1,B.lf:2
+"""
+NAMED_ROWS = """start,0,0,0,main.a#1,,,
+write,0,0,0,main.a#1,main.a.out[0],1,
+write,0,0,0,main.a#1,main.a.out[1],2,
+end,0,0,0,main.a#1,,,
+start,0,0,0,main.b[0]#1,,,
+read,0,0,0,main.b[0]#1,main.b[0].x,1,
+end,0,0,0,main.b[0]#1,,,
+start,0,0,0,main.b[1]#1,,,
+read,0,0,0,main.b[1]#1,main.b[1].x,2,
+end,0,0,0,main.b[1]#1,,,
 """
 UNREAD = """fault lower 1 Read program.lf:2:15
   B.lf: it can't be read. The file can't be read. Correct the path.
@@ -275,6 +312,18 @@ def all_lowered():
     lowered("lower bank, names", files, LOWERED, ["--names", "names.csv"], [*unread, ("names.csv", "fault write 1 Failed names.csv\n")])
 
 
+def named(name, command, rows, line, status=0):
+    """An example with names of the source. Their table is read before the other files."""
+    files = {"names.csv": NAMES, "program.lf": LOWERED, "externals.csv": stop(0, 0), "trace.csv": table("trace", rows)}
+    example(name, command, files, line + "\n", status)
+    EXAMPLES[-1].words = [command, *list(files)[1:], "--names", "names.csv"]
+
+
+def all_named():
+    named("names accepted", "judge", NAMED_ROWS, "accepted runs=3 tags=1")
+    named("names wrong read, explained", "explain", NAMED_ROWS.replace("x,2", "x,3"), WHY_WRONG_NAMED, 1)
+
+
 def all_large():
     """*Pipe* to its 5,000th firing: 30,000 rows, right and broken in the last run."""
     rows = "".join(PIPE_ROWS.replace(",0,0,main", f",{time},0,main") for time in range(0, ROUNDS * 10**7, 10**7))
@@ -296,5 +345,6 @@ all_followed()
 all_paired()
 all_recorded()
 all_lowered()
+all_named()
 example("show deep", "show", {"program.lf": DEEP}, DEEP_SHOWN)
 all_large()
