@@ -10,14 +10,14 @@ use crate::faults::{ticket, Fault, Random};
 use crate::lftrace::{self, Log, Tag, Value};
 use crate::program::{after, Program, Reaction, Signal, Trigger};
 use std::collections::{BTreeMap, VecDeque};
-use std::sync::atomic::{AtomicBool, AtomicI32, AtomicUsize, Ordering::SeqCst};
+use std::sync::atomic::{AtomicBool, AtomicI32, AtomicU64, AtomicUsize, Ordering::SeqCst};
 use std::sync::{Condvar, Mutex, RwLock};
 use std::thread;
 use std::time::{Duration, Instant};
 
 const FAR: Tag = (u64::MAX, 0);
 
-/// A run without a row for so long hangs.
+/// A program without a row of a run for so long hangs.
 const PATIENCE: Duration = Duration::from_secs(1);
 
 /// Where the events of physical actions come from.
@@ -45,6 +45,8 @@ pub struct Runtime<'p> {
     now: RwLock<Now>,
     agenda: Mutex<Agenda>,
     promise: Condvar,
+    /// Rows that aren't of runs: events of physical actions.
+    fed: AtomicU64,
     over: AtomicBool,
 }
 
@@ -102,11 +104,12 @@ impl<'p> Runtime<'p> {
             now: RwLock::new(Now { tag: (0, 0), stop: timeout }),
             agenda: Mutex::new(Agenda { events: BTreeMap::new(), promised: FAR }),
             promise: Condvar::new(),
+            fed: AtomicU64::new(0),
             over: AtomicBool::new(false),
         }
     }
 
-    /// Runs the program to its stop. `hangs` is called if no row comes for a second, and doesn't return.
+    /// Runs the program to its stop. `hangs` is called if no run has a row for a second, and doesn't return.
     pub fn run(&self, world: World, hangs: impl FnOnce() + Send) {
         if let World::Script(events) = &world {
             self.agenda.lock().unwrap().promised = events.first().map_or(FAR, |event| event.0);
@@ -121,13 +124,14 @@ impl<'p> Runtime<'p> {
         });
     }
 
-    /// A watchdog. It takes no lock of the runtime, since who hangs may hold it.
+    /// A watchdog. It takes no lock of the runtime, since who hangs may hold it. Events may go on meanwhile.
     fn watch(&self, hangs: impl FnOnce()) {
-        let (mut rows, mut since) = (self.log.rows(), Instant::now());
+        let (mut rows, mut since) = (0, Instant::now());
         while !self.over.load(SeqCst) {
             thread::sleep(Duration::from_millis(10));
-            if self.log.rows() != rows {
-                (rows, since) = (self.log.rows(), Instant::now());
+            let rows_now = self.log.rows().wrapping_sub(self.fed.load(SeqCst));
+            if rows_now != rows {
+                (rows, since) = (rows_now, Instant::now());
             } else if since.elapsed() > PATIENCE {
                 return hangs();
             }
@@ -340,6 +344,11 @@ impl<'p> Runtime<'p> {
         }
     }
 
+    fn record_event(&self, recorder: &mut lftrace::Worker, tag: Tag, action: Signal, value: Value) {
+        recorder.event(tag, action, value);
+        self.fed.fetch_add(1, SeqCst);
+    }
+
     /// The world: a thread that knows nothing of tags, or replays recorded events.
     fn feed(&self, mut recorder: lftrace::Worker, world: World) {
         let (begun, mut random) = (Instant::now(), Random::new(self.deques.len()));
@@ -355,7 +364,7 @@ impl<'p> Runtime<'p> {
                     let mut agenda = self.agenda.lock().unwrap();
                     // The time of its clock, unless a tag of that time has begun.
                     last = (begun.elapsed().as_nanos() as u64).max(self.now.read().unwrap().tag.0 + 1).max(last + 1);
-                    recorder.event((last, 0), action, Some(i64::from(value)));
+                    self.record_event(&mut recorder, (last, 0), action, Some(i64::from(value)));
                     agenda.events.insert(((last, 0), action), Some(i64::from(value)));
                 }
             }
@@ -363,7 +372,7 @@ impl<'p> Runtime<'p> {
                 for (number, (tag, action, value)) in events.iter().enumerate() {
                     thread::sleep(Duration::from_micros(random.below(300)));
                     let mut agenda = self.agenda.lock().unwrap();
-                    recorder.event(*tag, *action, *value);
+                    self.record_event(&mut recorder, *tag, *action, *value);
                     agenda.events.insert((*tag, *action), *value);
                     agenda.promised = events.get(number + 1).map_or(FAR, |next| next.0);
                     self.promise.notify_one();
