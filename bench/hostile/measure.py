@@ -198,11 +198,11 @@ def precedence(_):
     return Input("judge", 4 * count, upstream(400), stop(count - 1, 1), table)
 
 
-def unread_writes(_):
-    """100,000 runs that write, behind a delay of a week 70 ports that nobody reads"""
-    count, ports = 100_000, 70
+def week_of_writes(count, reaction):
+    """So many runs that write, behind a delay of a week 70 ports of a reactor with this reaction"""
+    ports = 70
     program = ("reactor S { output o  logical action q  reaction(startup, q) -> o, q {= =} }\n"
-               f"reactor Q {{ {each(range(ports), 'input i{}', ' ')} }}\n"
+               f"reactor Q {{ physical action p  {each(range(ports), 'input i{}', ' ')}  {reaction} }}\n"
                "main reactor { s = new S()  q = new Q()\n"
                f"{','.join(['s.o'] * ports)} -> {each(range(ports), 'q.i{}')} after {WEEK} }}\n")
     table = TRACE + "".join(
@@ -212,6 +212,29 @@ def unread_writes(_):
             + (f"schedule,0,{time},0,main.s#1,main.s.q,,1\n" if time < count - 1 else ""))
         for time in range(count))
     return Input("judge", 5 * count - 2, program, stop(10**18), table)
+
+
+def unread_writes(_):
+    """100,000 runs that write, behind a delay of a week 70 ports that nobody reads"""
+    return week_of_writes(100_000, "")
+
+
+def many_unread_writes(_):
+    """800,000 runs that write, behind a delay of a week 70 ports that nobody reads"""
+    return week_of_writes(800_000, "")
+
+
+def waiting_writes(_):
+    """800,000 runs that write, behind a delay of a week 70 ports that a reaction reads"""
+    return week_of_writes(800_000, f"reaction(p) {each(range(70), 'i{}')} {{= =}}")
+
+
+def waiting_schedulings(_):
+    """3,900,000 schedulings in one run, all of which wait up to the stop"""
+    count = 3_900_000
+    steps = "".join(f"schedule,0,0,0,main#1,main.q,,{10**17 + place}\n" for place in range(count))
+    program = "main reactor { logical action q  reaction(startup) q -> q {= =} }\n"
+    return Input("judge", count, program, stop(10**18), TRACE + run(0, "main#1", steps))
 
 
 def follow_writes(_):
@@ -405,7 +428,7 @@ def terms(chance):
 
 
 SHAPES = [far_workers, names, writes, reads, absent_inputs, precedence, unread_writes,
-          follow_writes, chosen_names,
+          many_unread_writes, waiting_writes, waiting_schedulings, follow_writes, chosen_names,
           explain_shutdown, explain_triggers, explain_schedulings, explain_far_triggers,
           explain_far_reads, explain_writes, explain_delays, pair_effects, pair_writes, pair_reads,
           many_bodies, unread_ports, unread_week, unread_chain, dense_timers, record_absent, terms]
