@@ -273,6 +273,8 @@ def all_covered():
 def all_followed():
     judged("deep, followed", DEEP, stop(5000000, 1), DEEP_ROWS, "accepted runs=5 tags=5", command="follow")
     judged("one run, unended, followed", ONE, stop(0, 0), "start,0,0,0,main#1,,,\n", "unbroken runs=0 tags=0", 3, command="follow")
+    later = PIPE_ROWS.replace(",0,0,main", ",10000000,0,main")
+    judged("pipe wrong read, followed", PIPE, stop(10**7, 0), WRONG_READ + later, f"broken rule=10 wrong-read {AT_ZERO} reaction=main.b#1", 1, command="follow")
     judged("one run, twice, followed", ONE, stop(0, 0), ONE_ROWS * 2, f"broken rule=3 order line=4 {AT_ZERO} reaction=main#1", 1, command="follow")
 
 
