@@ -47,6 +47,8 @@ pub struct Runtime<'p> {
     promise: Condvar,
     /// Rows that aren't of runs: events of physical actions.
     fed: AtomicU64,
+    /// Whether the log is being written: its reader may be slow.
+    writes: AtomicBool,
     over: AtomicBool,
 }
 
@@ -105,6 +107,7 @@ impl<'p> Runtime<'p> {
             agenda: Mutex::new(Agenda { events: BTreeMap::new(), promised: FAR }),
             promise: Condvar::new(),
             fed: AtomicU64::new(0),
+            writes: AtomicBool::new(false),
             over: AtomicBool::new(false),
         }
     }
@@ -130,7 +133,7 @@ impl<'p> Runtime<'p> {
         while !self.over.load(SeqCst) {
             thread::sleep(Duration::from_millis(10));
             let rows_now = self.log.rows().wrapping_sub(self.fed.load(SeqCst));
-            if rows_now != rows {
+            if rows_now != rows || self.writes.load(SeqCst) {
                 (rows, since) = (rows_now, Instant::now());
             } else if since.elapsed() > PATIENCE {
                 return hangs();
@@ -294,7 +297,9 @@ impl<'p> Runtime<'p> {
     /// All reactions of the tag are settled: writes their rows if the log is followed, and begins the next tag at which
     /// one runs.
     fn next_tag(&self, me: usize, random: &mut Random) {
+        self.writes.store(true, SeqCst);
         self.log.flush();
+        self.writes.store(false, SeqCst);
         loop {
             self.clear(me, random);
             let Now { tag, stop } = *self.now.read().unwrap();
