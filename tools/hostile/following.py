@@ -5,7 +5,7 @@ at a later tag `odd` may be told from there on, with any reach and line that fit
 which the table came.
 """
 from hostile import tables
-from hostile.machine import Events, at_tag, breach_line, row_breach, runs_of, tag_breach
+from hostile.machine import Events, at_tag, breach_line, row_breach, runs_of, tag_breach, verdict
 
 HEADER = tables.HEADERS["trace"].encode()
 
@@ -123,7 +123,7 @@ def first_broken(plan, rows):
     return None, may_be_odd
 
 
-def told(plan, flat, text, until=None):
+def told(plan, flat, text, until=None, whole=False):
     """The line of `lftrace follow`, the status, and whether `odd` may be told in its place. Of `odd` the first word
     alone."""
     rows, fault, has_rest = rows_before_fault(flat, text)
@@ -134,10 +134,10 @@ def told(plan, flat, text, until=None):
         return breach_line(plan, breach), 1, may_be_odd
     if may_be_odd:
         return "odd", 4, True
-    return *told_of_clean(plan, rows, bad, is_past, fault, has_rest), False
+    return *told_of_clean(plan, rows, bad, is_past, fault, has_rest, whole), False
 
 
-def told_of_clean(plan, rows, bad, is_past, fault, has_rest):
+def told_of_clean(plan, rows, bad, is_past, fault, has_rest, whole):
     """The line and the status where no finished tag breaks a rule from 6 to 10."""
     done = before_last(rows)
     if bad:
@@ -146,6 +146,9 @@ def told_of_clean(plan, rows, bad, is_past, fault, has_rest):
         return f"unbroken {reach(done)}", 0
     if fault:
         return f"fault {fault}", 2
+    if whole and not has_rest:
+        line = verdict(plan, rows)
+        return line, int(line.startswith("broken"))
     if row_breach(plan, rows) or not is_clean(plan, rows):
         return f"unbroken {reach(done)}", 3
     if not is_ended(plan, rows):

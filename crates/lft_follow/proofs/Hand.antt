@@ -1,17 +1,18 @@
--- Rows at hand behind rows that are done: what breaks a rule of rows there breaks it in the whole.
-use Rattle.std.proofs.Common.{◌≡◌, ℕ, ◌+◌, ◌<◌, ◌⊎◌, inl, inr, List, ◌++◌, length, refl, ◌∙◌, arith, Some, None, slice_get}
+-- Rows at hand behind rows that are done: what breaks a rule of rows there breaks it in the whole, and the other way round.
+use Rattle.std.proofs.Common.{◌≡◌, ℕ, ◌+◌, ◌<◌, ◌⊎◌, inl, inr, List, ◌++◌, length, refl, ◌∙◌, subst, arith, Some, None, slice_get}
 use Rattle.lft_tag.specs.declared.Tag.{Tag}
-use Rattle.lft_tag.specs.Tags.{UpTo}
-use Rattle.lft_tag.proofs.Order.{UpTo-Before}
+use Rattle.lft_tag.specs.Tags.{Before, UpTo}
+use Rattle.lft_tag.proofs.Order.{Before-irrefl, Before-trans, UpTo-Before}
 use Rattle.lft_lists.proofs.Places.{get_left, get_right, get_append_cases}
 use Rattle.lft_steps.specs.declared.row.Row.{Row}
 use Rattle.lft_steps.specs.declared.row.Step.{Step}
 use Rattle.lft_steps.specs.declared.row.Step.TheVariants.{Start, Read, Write, Schedule, Stop, End}
 use Rattle.lft_model.specs.Plans.{PlanParts}
 use Rattle.lft_model.specs.Runs.{start_row, end_row}
-use Rattle.lft_model.specs.Breaches.{IsOpen, IsOutOfOrder, IsUndeclared, IsUnended, BreaksRowUntil}
+use Rattle.lft_model.specs.Breaches.{IsLate, IsOpen, IsOutOfOrder, IsUndeclared, IsUnended, BreaksRowUntil}
 use Rattle.lft_model.proofs.Places.{slice_get_within}
 use Rattle.lft_rows.specs.Firsts.{FirstRow}
+use Rattle.lft_rows.specs.Parts.{AreEarlier}
 
 module _ (plan : PlanParts) (d v : List Row) (last : Tag) (settled : FirstRow last plan d None) (i : ℕ) where
   -- a start of the rows that are done has its end among them
@@ -57,3 +58,44 @@ module _ (plan : PlanParts) (d v : List Row) (last : Tag) (settled : FirstRow la
   breaks_whole near far up x k few (inr (inr (inl (q, o)))) = inr (inr (inl (q, order_whole x x.step o)))
   breaks_whole near far up x k few (inr (inr (inr (inl (q, o))))) = inr (inr (inr (inl (q, undeclared_whole x x.step o))))
   breaks_whole near far up x k few (inr (inr (inr (inr (q, o))))) = let a : k ≡ 5 = q in absurd (omega arith)
+
+  -- where the rows that are done are earlier, what breaks a rule in the whole breaks it there
+  module _ (earlier : AreEarlier d v) (x : Row) (at : slice_get v i ≡ Some x) where
+    at_hand : (k : ℕ) (y : Row) → y.tag ≡ x.tag → slice_get (d ++ v) k ≡ Some y → (m : ℕ) × (k ≡ length d + m) × (slice_get v m ≡ Some y)
+    at_hand k y same e = go (get_append_cases d v k y e)
+      where
+        go : (slice_get d k ≡ Some y) ⊎ ((m : ℕ) × (k ≡ length d + m) × (slice_get v m ≡ Some y)) → (m : ℕ) × (k ≡ length d + m) × (slice_get v m ≡ Some y)
+        go (inl p) = absurd (Before-irrefl x.tag (subst (λ (g : Tag). Before g x.tag) same (earlier k i y x p at)))
+        go (inr p) = p
+
+    late_own : IsLate (d ++ v) (length d + i) x → IsLate v i x
+    late_own (k, y, l, e, b) = go (get_append_cases d v k y e)
+      where
+        go : (slice_get d k ≡ Some y) ⊎ ((m : ℕ) × (k ≡ length d + m) × (slice_get v m ≡ Some y)) → IsLate v i x
+        go (inl p) = absurd (Before-irrefl x.tag (Before-trans x.tag y.tag x.tag b (earlier k i y x p at)))
+        go (inr (m, q, p)) = let a : k ≡ length d + m = q in (m, y, omega arith, p, b)
+
+    order_own : (s : Step) → IsOutOfOrder (d ++ v) (length d + i) x s → IsOutOfOrder v i x s
+    order_own Start (inl (k, w, l, e)) = let p = at_hand k (start_row w x.tag x.reaction) refl e in let a : k ≡ length d + p.0 = p.1 in inl (p.0, w, omega arith, p.2)
+    order_own Start (inr (g, r, o)) = inr (g, r, open_own x.worker g r o)
+    order_own (Read n y) o = λ z. o (open_whole x.worker x.tag x.reaction z)
+    order_own (Write n y) o = λ z. o (open_whole x.worker x.tag x.reaction z)
+    order_own (Schedule n y w) o = λ z. o (open_whole x.worker x.tag x.reaction z)
+    order_own Stop o = λ z. o (open_whole x.worker x.tag x.reaction z)
+    order_own End o = λ z. o (open_whole x.worker x.tag x.reaction z)
+
+    undeclared_own : (s : Step) → IsUndeclared plan.program (d ++ v) (length d + i) x s → IsUndeclared plan.program v i x s
+    undeclared_own (Read n y) (inl o) = inl o
+    undeclared_own (Read n y) (inr (k, w, z, l, e)) = let p = at_hand k (record { worker = w; tag = x.tag; reaction = x.reaction; step = Read n z }) refl e in let a : k ≡ length d + p.0 = p.1 in inr (p.0, w, z, omega arith, p.2)
+    undeclared_own (Write n y) o = o
+    undeclared_own (Schedule n y w) o = o
+    undeclared_own Start o = o
+    undeclared_own Stop o = o
+    undeclared_own End o = o
+
+    pub breaks_own : (near : Tag) (k : ℕ) → BreaksRowUntil near plan (d ++ v) (length d + i) x k → BreaksRowUntil near plan v i x k
+    breaks_own near k (inl (q, o)) = inl (q, late_own o)
+    breaks_own near k (inr (inl o)) = inr (inl o)
+    breaks_own near k (inr (inr (inl (q, o)))) = inr (inr (inl (q, order_own x.step o)))
+    breaks_own near k (inr (inr (inr (inl (q, o))))) = inr (inr (inr (inl (q, undeclared_own x.step o))))
+    breaks_own near k (inr (inr (inr (inr (q, (o, ends)))))) = inr (inr (inr (inr (q, (o, λ m l e. ends (length d + m) (omega arith) (get_right d v m ∙ e))))))

@@ -18,3 +18,4 @@ pub mod Following
 pub mod Furthest
 pub mod Behind
 pub mod First
+pub mod Ended

@@ -50,6 +50,32 @@ module _ (d u : List Row) where
   undeclared_added plan i y Stop o = o
   undeclared_added plan i y End o = o
 
+  order_back : (i : ℕ) (y : Row) (s : Step) → slice_get d i ≡ Some y → IsOutOfOrder (d ++ u) i y s → IsOutOfOrder d i y s
+  order_back i y Start at (inl o) = inl (o.0, o.1, o.2, in_first o.0 i (start_row o.1 y.tag y.reaction) y o.2 at o.3)
+  order_back i y Start at (inr o) = inr (o.0, o.1, open_back i y.worker o.0 o.1 y at o.2)
+  order_back i y (Read n v) at o = λ z. o (open_added i y.worker y.tag y.reaction y at z)
+  order_back i y (Write n v) at o = λ z. o (open_added i y.worker y.tag y.reaction y at z)
+  order_back i y (Schedule n v w) at o = λ z. o (open_added i y.worker y.tag y.reaction y at z)
+  order_back i y Stop at o = λ z. o (open_added i y.worker y.tag y.reaction y at z)
+  order_back i y End at o = λ z. o (open_added i y.worker y.tag y.reaction y at z)
+
+  undeclared_back : (plan : PlanParts) (i : ℕ) (y : Row) (s : Step) → slice_get d i ≡ Some y → IsUndeclared plan.program (d ++ u) i y s → IsUndeclared plan.program d i y s
+  undeclared_back plan i y Start at o = o
+  undeclared_back plan i y (Read n v) at (inl o) = inl o
+  undeclared_back plan i y (Read n v) at (inr o) = inr (o.0, o.1, o.2, o.3, in_first o.0 i (record { worker = o.1; tag = y.tag; reaction = y.reaction; step = Read n o.2 }) y o.3 at o.4)
+  undeclared_back plan i y (Write n v) at o = o
+  undeclared_back plan i y (Schedule n v w) at o = o
+  undeclared_back plan i y Stop at o = o
+  undeclared_back plan i y End at o = o
+
+  -- and what breaks a rule in the whole breaks it in the first part
+  pub breaks_back : (plan : PlanParts) (last : Tag) (i : ℕ) (y : Row) (k : ℕ) → slice_get d i ≡ Some y → BreaksRowUntil last plan (d ++ u) i y k → BreaksRowUntil last plan d i y k
+  breaks_back plan last i y k at (inl x) = let o = x.1 in inl (x.0, (o.0, o.1, o.2, in_first o.0 i o.1 y o.2 at o.3, o.4))
+  breaks_back plan last i y k at (inr (inl x)) = inr (inl x)
+  breaks_back plan last i y k at (inr (inr (inl x))) = inr (inr (inl (x.0, order_back i y y.step at x.1)))
+  breaks_back plan last i y k at (inr (inr (inr (inl x)))) = inr (inr (inr (inl (x.0, undeclared_back plan i y y.step at x.1))))
+  breaks_back plan last i y k at (inr (inr (inr (inr x)))) = inr (inr (inr (inr (x.0, (x.1.0, λ j l e. x.1.1 j l (get_left d u j (end_row y.worker y.tag y.reaction) e))))))
+
 pub row_law : (plan : PlanParts) → RowLaw plan
 row_law plan d u b few x = record { place = x.place; row = x.row; is_row = get_left d u x.place x.row x.is_row; breaks = go x.breaks; tag_is = x.tag_is; reaction_is = x.reaction_is; row_is = x.row_is }
   where

@@ -12,7 +12,7 @@ use Rattle.lft_model.specs.declared.breach.Breach.{Breach}
 use Rattle.lft_model.specs.Plans.{PlanParts}
 use Rattle.lft_model.specs.Presence.{stop}
 use Rattle.lft_model.specs.Runs.{end_row}
-use Rattle.lft_model.specs.Breaches.{RowBreach, BreaksRowUntil}
+use Rattle.lft_model.specs.Breaches.{IsUnended, RowBreach, BreaksRowUntil}
 use Rattle.lft_model.proofs.Places.{slice_get_within, slice_get_take, slice_get_taken}
 use Rattle.lft_model.proofs.Stops.{stop_append}
 use Rattle.lft_rows.specs.Firsts.{FirstRow}
@@ -21,8 +21,27 @@ use Rattle.lft_follow.specs.Going.{IsFirstBad, IsLost}
 use Rattle.lft_follow.proofs.Hand.{breaks_whole}
 
 -- what a breach says of a row
-abbrev IsOf : Breach → Row → Type 0
+abbrev pub IsOf : Breach → Row → Type 0
 IsOf b x = (b.tag ≡ x.tag) × (b.reaction ≡ Some x.reaction)
+
+-- a run at hand without an end
+pub open_breach : (plan : PlanParts) (d v : List Row) (s : ℕ) (x : Row) → slice_get v s ≡ Some x → IsUnended v s x → (b : Breach) → b.rule ≡ 5 → b.row ≡ length d + s + 2 → IsOf b x → RowBreach plan (d ++ v) b
+open_breach plan d v s x at o b rule row is = record {
+  place = length d + s;
+  row = x;
+  is_row = get_right d v s ∙ at;
+  breaks = inr (inr (inr (inr (rule, (o.0, ends)))));
+  tag_is = is.0;
+  reaction_is = is.1;
+  row_is = row;
+}
+  where
+    ends : (k : ℕ) → length d + s < k → ¬ (slice_get (d ++ v) k ≡ Some (end_row x.worker x.tag x.reaction))
+    ends k l e = go (get_append_cases d v k (end_row x.worker x.tag x.reaction) e)
+      where
+        go : (slice_get d k ≡ Some (end_row x.worker x.tag x.reaction)) ⊎ ((m : ℕ) × (k ≡ length d + m) × (slice_get v m ≡ Some (end_row x.worker x.tag x.reaction))) → ⊥
+        go (inl p) = let a : k < length d = slice_get_within d k (end_row x.worker x.tag x.reaction) p in absurd (omega arith)
+        go (inr p) = let a : k ≡ length d + p.0 = p.1 in o.1 p.0 (omega arith) p.2
 
 module _ (plan : PlanParts) (d u : List Row) (last : Tag) (settled : FirstRow last plan d None) where
   whole : (n : ℕ) → d ++ take n u ≡ take (length d + n) (d ++ u)
@@ -91,20 +110,5 @@ module _ (plan : PlanParts) (d u : List Row) (last : Tag) (settled : FirstRow la
       same : first ≡ o.row
       same = same_some (slice_get u s) first o.row (slice_get_take i u s first o.first.2).1 o.is_row
 
-      ends : (k : ℕ) → length d + s < k → ¬ (slice_get (d ++ v) k ≡ Some (end_row first.worker first.tag first.reaction))
-      ends k l e = go (get_append_cases d v k (end_row first.worker first.tag first.reaction) e)
-        where
-          go : (slice_get d k ≡ Some (end_row first.worker first.tag first.reaction)) ⊎ ((m : ℕ) × (k ≡ length d + m) × (slice_get v m ≡ Some (end_row first.worker first.tag first.reaction))) → ⊥
-          go (inl p) = let a : k < length d = slice_get_within d k (end_row first.worker first.tag first.reaction) p in absurd (omega arith)
-          go (inr p) = let a : k ≡ length d + p.0 = p.1 in o.first.3.1 p.0 (omega arith) p.2
-
       breach : RowBreach plan (d ++ v) b
-      breach = record {
-        place = length d + s;
-        row = first;
-        is_row = get_right d v s ∙ o.first.2;
-        breaks = inr (inr (inr (inr (rule, (o.first.3.0, ends)))));
-        tag_is = (is o.row o.is_row).0 ∙ ap (λ (x : Row). x.tag) (sym same);
-        reaction_is = (is o.row o.is_row).1 ∙ ap (λ (x : Row). Some x.reaction) (sym same);
-        row_is = row;
-      }
+      breach = open_breach plan d v s first o.first.2 o.first.3 b rule row ((is o.row o.is_row).0 ∙ ap (λ (x : Row). x.tag) (sym same), (is o.row o.is_row).1 ∙ ap (λ (x : Row). Some x.reaction) (sym same))

@@ -1,12 +1,12 @@
 -- What is kept of rows that are judged while they come, and what is told of them.
-use Rattle.std.specs.Prelude.{◌≡◌, ℕ, ◌+◌, ◌-◌, ◌^◌, ◌≤◌, ◌<◌, ◌⊎◌, List, [], ◌++◌, length, take, Some, slice_get}
+use Rattle.std.specs.Prelude.{◌≡◌, ℕ, Bool, true, ◌+◌, ◌-◌, ◌^◌, ◌≤◌, ◌<◌, ◌⊎◌, List, [], ◌++◌, length, take, Some, slice_get}
 use Rattle.lft_tag.specs.declared.Tag.{Tag}
 use Rattle.lft_tag.specs.Tags.{Before}
 use Rattle.lft_steps.specs.declared.row.Row.{Row}
 use Rattle.lft_steps.specs.Fits.{RowsFit}
 use Rattle.lft_model.specs.declared.breach.Breach.{Breach}
 use Rattle.lft_model.specs.Plans.{PlanParts}
-use Rattle.lft_model.specs.Breaches.{RowBreach}
+use Rattle.lft_model.specs.Breaches.{RowBreach, First}
 use Rattle.lft_rows.specs.Accepted.{IsAccepted}
 use Rattle.lft_coming.specs.AtTag.{AreAt, AreBefore}
 use Rattle.lft_stream.specs.Kept.{IsAcceptorOf, low_of}
@@ -17,9 +17,9 @@ use Rattle.lft_follow.specs.Reach.{IsReach}
 use Rattle.lft_follow.specs.declared.reach.Reach.{Reach}
 use Rattle.lft_follow.specs.declared.judged.Judged.{Judged}
 use Rattle.lft_follow.specs.declared.judged.Ending.{Ending}
-use Rattle.lft_follow.specs.declared.judged.Ending.TheVariants.{Accepted, Unbroken}
+use Rattle.lft_follow.specs.declared.judged.Ending.TheVariants as ending
 use Rattle.lft_follow.specs.declared.follower.Follower.{Follower}
-use Rattle.lft_follow.specs.declared.follower.Found.{Found}
+use Rattle.lft_follow.specs.declared.found.Found.{Found}
 use Rattle.lft_follow.specs.declared.follower.Progress.{Progress}
 use Rattle.lft_follow.specs.declared.follower.Progress.TheVariants.{GoesOn, Broken, Odd, TooMany}
 
@@ -115,7 +115,12 @@ IsProgress plan t f (Broken b) = IsSureSoFar plan t (breach_of b)
 IsProgress plan t f (Odd r line) = (n : ℕ) × IsCleanTo plan t r n
 IsProgress plan t f TooMany = (4000000 < length f.rows.items) ⊎ (2 ^ 62 < f.judged.count)
 
--- what is told of the rows where no more come: they are accepted, or they are clean, all or but those at the last tag
-abbrev pub IsEnding : PlanParts → List Row → Ending → Type 0
-IsEnding plan t (Accepted c) = IsAccepted plan t c.runs c.tags
-IsEnding plan t (Unbroken r) = IsJudged plan t r ⊎ IsClean plan t r
+-- no row breaks one of the rules 1 to 5
+abbrev pub KeepsRows : PlanParts → List Row → Type 0
+KeepsRows plan t = (b : Breach) → ¬ RowBreach plan t b
+
+-- what is told of the rows where no more come: they are accepted, or they are clean, all or but those at the last tag; or this is their first breach, where none is missing
+abbrev pub IsEnding : PlanParts → Bool → List Row → Ending → Type 0
+IsEnding plan whole t (ending.Accepted c) = IsAccepted plan t c.runs c.tags
+IsEnding plan whole t (ending.Unbroken r) = IsJudged plan t r ⊎ IsClean plan t r
+IsEnding plan whole t (ending.Broken b) = (whole ≡ true) × First plan t (breach_of b)

@@ -1,6 +1,6 @@
 //! Rows that are judged while they come.
 
-ghost use Rattle.std.specs.Prelude.{◌≡◌, ◌+◌, ◌<◌, ◌≤◌, ◌^◌, ℕ, List, [], ◌++◌, length, Some, IfOk, IsTrue, MatchOption, slice_get, slice_range};
+ghost use Rattle.std.specs.Prelude.{◌≡◌, ◌<◌, ◌≤◌, ◌^◌, ℕ, List, [], ◌++◌, length, Some, true, IfOk, IsTrue, MatchOption, slice_get, slice_range};
 ghost use Rattle.lft_tag.specs.declared.Tag.{Tag as TheTag};
 ghost use Rattle.lft_steps.specs.declared.row.Row.{Row as TheRow};
 ghost use Rattle.lft_steps.specs.Fits.{RowsFit};
@@ -9,6 +9,7 @@ ghost use Rattle.lft_coming.specs.AtTag.{AreAt};
 ghost use Rattle.lft_follow.specs.Follows.{IsAtHand, IsHeld, IsFollowerOf, IsProgress, IsEnding, IsJudged, IsJudgedOf, IsSureOf, BeginsLast};
 ghost use Rattle.lft_follow.specs.declared.follower.Follower.{Follower as TheFollower};
 
+use crate::found::{Found, found_at, found_of};
 use crate::gone::{Going, Halt};
 use crate::judged::{Ending, Judged};
 use crate::reach::Reach;
@@ -16,18 +17,6 @@ use lft_model::Plan;
 use lft_steps::{Row, row_at};
 use lft_tag::{MAX_ROWS, NoMemory, Tag};
 use std::alloc::Global;
-
-/// A rule that is broken, told as soon as it is sure.
-#[derive(Clone, Copy, PartialEq, Eq, Debug, Drop)]
-pub struct Found {
-    pub rule: u8,
-    pub tag: Tag,
-    /// None for rule 6.
-    pub reaction: Option<u32>,
-    /// The row's line of the table, for the rules 1 to 5. The first row stands in line 2. It is 0 for the
-    /// other rules.
-    pub line: u64,
-}
 
 /// What rows show that come behind others.
 #[derive(Clone, Copy, PartialEq, Eq, Debug, Drop)]
@@ -72,25 +61,6 @@ fn last_begins(rows: &[Row], end: usize) -> usize
     0
 }
 
-/// The rule that the row at the place breaks, where so many rows stand before these.
-fn found_at(rows: &[Row], place: usize, before: u64, rule: u8) -> Found
-    requires place { place < length rows.now }
-    requires few { before ≤ 2 ^ 62 }
-    requires short { length rows.now ≤ 4000000 }
-    ensures rule { result.rule ≡ rule }
-    ensures line { result.line ≡ before + place + 2 }
-    ensures tag { (row : TheRow) → slice_get rows.now place ≡ Some row → result.tag ≡ row.tag }
-    ensures reaction { (row : TheRow) → slice_get rows.now place ≡ Some row → result.reaction ≡ Some row.reaction }
-{
-    let row = row_at(rows, place);
-    Found {
-        rule,
-        tag: row.tag,
-        reaction: Some(row.reaction),
-        line: before + place as u64 + 2,
-    }
-}
-
 /// Judges the rows before the place, at which the first row of a later tag stands. It is what is told,
 /// where they may break a rule.
 fn judge_before(
@@ -112,12 +82,7 @@ fn judge_before(
     }
     let high = row_at(rows, begin).tag;
     match judged.past.first_breach(alloc, plan, &rows[0..begin], high) {
-        Some(breach) => Ok(Some(Progress::Broken(Found {
-            rule: breach.rule,
-            tag: breach.tag,
-            reaction: breach.reaction,
-            line: breach.row as u64,
-        }))),
+        Some(breach) => Ok(Some(Progress::Broken(found_of(breach)))),
         None => {
             let line = judged.count + begin as u64 + 1;
             Ok(Some(Progress::Odd(judged.reach, line)))
@@ -228,19 +193,35 @@ impl Follower {
         }
     }
 
-    /// What the rows show where no more come. The last tag is judged too, where all of its runs are there.
-    pub fn finish(&mut self, alloc: Global, plan: &Plan) -> Ending
-        requires { (t : List TheRow) × IsFollowerOf plan.now t self.old }
-        ensures { (t : List TheRow) → IsFollowerOf plan.now t self.old → IsEnding plan.now t result }
+    /// What the rows show where no more come and none is missing.
+    fn finish_whole(&mut self, alloc: Global, plan: &Plan) -> Ending
+        requires few { self.old.judged.count ≤ 2 ^ 62 }
+        requires stands { (t : List TheRow) × IsFollowerOf plan.now t self.old }
+        ensures { (t : List TheRow) → IsFollowerOf plan.now t self.old → IsEnding plan.now true t result }
     {
-        let reach = self.judged.reach;
-        if self.judged.count > MOST {
-            return Ending::Unbroken(reach);
+        let rows = self.rows.as_slice();
+        if !self.going.is_over(plan, rows) {
+            return self.judged.finish(alloc, plan, rows, false);
         }
-        match self.judged.judge(alloc, plan, self.rows.as_slice()) {
-            Ok(true) => self.judged.finish(plan),
-            Ok(false) => Ending::Unbroken(reach),
-            Err(_) => Ending::Unbroken(reach),
+        match self.going.first_open(plan, rows) {
+            Some(start) => Ending::Broken(found_at(rows, start, self.judged.count, 5)),
+            None => self.judged.finish(alloc, plan, rows, true),
+        }
+    }
+
+    /// What the rows show where no more come. The last tag is judged too, where all of its runs are there.
+    /// With `whole` no row is missing.
+    pub fn finish(&mut self, alloc: Global, plan: &Plan, whole: bool) -> Ending
+        requires { (t : List TheRow) × IsFollowerOf plan.now t self.old }
+        ensures { (t : List TheRow) → IsFollowerOf plan.now t self.old → IsEnding plan.now whole t result }
+    {
+        if self.judged.count > MOST {
+            return Ending::Unbroken(self.judged.reach);
+        }
+        if whole {
+            self.finish_whole(alloc, plan)
+        } else {
+            self.judged.finish(alloc, plan, self.rows.as_slice(), false)
         }
     }
 }

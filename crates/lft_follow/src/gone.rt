@@ -1,13 +1,15 @@
 //! The rows at hand, gone over for the rules 1 to 5 as they come.
 
-ghost use Rattle.std.specs.Prelude.{◌≡◌, ◌+◌, ◌<◌, List, ◌++◌, ◌∷◌, [], length, IfOk, IfSome, OnOk, MatchOption};
+ghost use Rattle.std.specs.Prelude.{◌≡◌, ◌+◌, ◌<◌, List, ◌++◌, ◌∷◌, [], length, IfOk, IfSome, IsTrue, OnOk, MatchOption};
 ghost use Rattle.lft_tag.specs.Tags.{IsRecorded};
 ghost use Rattle.lft_flat.specs.Parts.{Parts};
 ghost use Rattle.lft_steps.specs.declared.row.Row.{Row as TheRow};
 ghost use Rattle.lft_steps.specs.Fits.{RowsFit};
 ghost use Rattle.lft_model.specs.Plans.{PlanParts};
 ghost use Rattle.lft_model.specs.Presence.{stop as stop_of};
+ghost use Rattle.lft_rows.specs.Passes.{FirstUnended};
 ghost use Rattle.lft_follow.specs.Going.{IsGoing, IsFirstBad, IsLost, HasGone};
+ghost use Rattle.lft_follow.specs.declared.gone.Halt.TheVariants.{AtEnd};
 
 use lft_model::Plan;
 use lft_rows::Pass;
@@ -167,5 +169,28 @@ impl Going {
             }
         }
         Ok(Halt::AtEnd)
+    }
+
+    /// Whether none of the rows at hand breaks one of the rules 1 to 4. It is false too where memory is
+    /// refused.
+    pub(crate) fn is_over(&mut self, plan: &Plan, rows: &[Row]) -> bool
+        requires fit { RowsFit plan.now.program rows.now }
+        requires stands { (d : List TheRow) × IsGoing plan.now d rows.now self.old }
+        ensures { IsTrue result → (done : List TheRow) → IsGoing plan.now done rows.now self.old → HasGone plan.now done rows.now self.new AtEnd }
+    {
+        match self.go_over(plan, rows) {
+            Ok(Halt::AtEnd) => true,
+            _ => false,
+        }
+    }
+
+    /// The first run without an end, where all rows at hand are gone over.
+    // The plan is passed for what the contract says of it.
+    pub(crate) fn first_open(&self, plan: &Plan, rows: &[Row]) -> Option<usize>
+        requires { (d : List TheRow) × HasGone plan.now d rows.now self.now AtEnd }
+        ensures { FirstUnended rows.now (length rows.now) result }
+    {
+        let _ = plan;
+        self.pass.first_open(rows, rows.len())
     }
 }

@@ -3,8 +3,11 @@
 ghost use Rattle.std.specs.Prelude.{◌≡◌, ◌<◌, ◌≤◌, ◌^◌, List, [], ◌++◌, length, false, IfOk, IsTrue};
 ghost use Rattle.lft_steps.specs.declared.row.Row.{Row as TheRow};
 ghost use Rattle.lft_steps.specs.Fits.{RowsFit};
-ghost use Rattle.lft_follow.specs.Follows.{IsEnding, IsJudgedOf};
+ghost use Rattle.lft_follow.specs.Kept.{IsPast};
+ghost use Rattle.lft_follow.specs.Follows.{IsEnding, IsJudged, IsJudgedOf, KeepsRows};
+ghost use Rattle.lft_follow.specs.declared.judged.Ending.TheVariants.{Unbroken};
 
+use crate::found::Found;
 use crate::monitor::go_on;
 use crate::past::Past;
 use crate::reach::{Reach, reach_behind};
@@ -21,6 +24,8 @@ pub enum Ending {
     Accepted(Counts),
     /// No rule is broken up to the tag, and more rows are needed.
     Unbroken(Reach),
+    /// The first rule that is broken, where no row is missing.
+    Broken(Found),
 }
 
 /// What is kept of rows that are judged.
@@ -82,13 +87,38 @@ impl Judged {
         Ok(true)
     }
 
-    /// What the rows show, where no more come.
-    pub(crate) fn finish(&mut self, plan: &Plan) -> Ending
-        ensures { (done : List TheRow) → IsJudgedOf plan.now done self.old → IsEnding plan.now done result }
+    /// What rows show that aren't accepted, where these come behind those that are judged. With `whole`
+    /// none of them breaks one of the rules 1 to 5.
+    fn end(&self, alloc: Global, plan: &Plan, rows: &[Row], whole: bool) -> Ending
+        requires fit { RowsFit plan.now.program rows.now }
+        requires past { (t : List TheRow) × IsPast plan.now t self.now.past }
+        ensures { (t : List TheRow) → IsPast plan.now t self.now.past → (IsTrue whole → KeepsRows plan.now (t ++ rows.now)) → IsEnding plan.now whole (t ++ rows.now) (Unbroken self.now.reach) → IsEnding plan.now whole (t ++ rows.now) result }
     {
-        match self.acceptor.finish(plan) {
-            Some(counts) => Ending::Accepted(counts),
+        if !whole {
+            return Ending::Unbroken(self.reach);
+        }
+        match self.past.first_of_all(alloc, plan, rows) {
+            Some(found) => Ending::Broken(found),
             None => Ending::Unbroken(self.reach),
+        }
+    }
+
+    /// What the rows show, where these come behind those that are judged, and no more come. With
+    /// `whole` none of them breaks one of the rules 1 to 5.
+    pub(crate) fn finish(&mut self, alloc: Global, plan: &Plan, rows: &[Row], whole: bool) -> Ending
+        requires fit { RowsFit plan.now.program rows.now }
+        requires few { self.old.count ≤ 2 ^ 62 }
+        requires stands { (t : List TheRow) × IsJudgedOf plan.now t self.old }
+        ensures { (t : List TheRow) → IsJudgedOf plan.now t self.old → (IsTrue whole → KeepsRows plan.now (t ++ rows.now)) → IsJudged plan.now (t ++ rows.now) self.old.reach → IsEnding plan.now whole (t ++ rows.now) result }
+    {
+        let reach = self.reach;
+        match self.judge(alloc, plan, rows) {
+            Ok(true) => match self.acceptor.finish(plan) {
+                Some(counts) => Ending::Accepted(counts),
+                None => self.end(alloc, plan, &rows[0..0], whole),
+            },
+            Ok(false) => self.end(alloc, plan, rows, whole),
+            Err(_) => Ending::Unbroken(reach),
         }
     }
 }

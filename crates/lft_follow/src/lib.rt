@@ -2,6 +2,7 @@
 //! What is sure of a trace before all of its rows are there.
 
 mod follower;
+mod found;
 mod gone;
 mod judged;
 mod kept;
@@ -10,7 +11,8 @@ mod monitor;
 mod past;
 mod reach;
 
-pub use follower::{Follower, Found, Progress};
+pub use follower::{Follower, Progress};
+pub use found::Found;
 pub use judged::Ending;
 pub use laws::{law_sure, law_timely};
 pub use monitor::{go_on, is_unbroken};

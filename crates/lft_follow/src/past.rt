@@ -4,10 +4,13 @@ ghost use Rattle.std.specs.Prelude.{◌≡◌, ◌-◌, ◌<◌, ◌≤◌, List
 ghost use Rattle.lft_tag.specs.Tags.{after};
 ghost use Rattle.lft_steps.specs.declared.row.Row.{Row as TheRow};
 ghost use Rattle.lft_steps.specs.Fits.{RowsFit};
+ghost use Rattle.lft_model.specs.Breaches.{First};
 ghost use Rattle.lft_rows.specs.Slices.{Rises};
 ghost use Rattle.lft_follow.specs.Sure.{AreFrom, IsUnbroken, IsFirstBefore};
 ghost use Rattle.lft_follow.specs.Kept.{IsPast};
+ghost use Rattle.lft_follow.specs.Follows.{KeepsRows, breach_of};
 
+use crate::found::{Found, found_of};
 use crate::gone::stop_over;
 use crate::kept::{furthest_of, keep_rows};
 use lft_check::first_from;
@@ -18,6 +21,12 @@ use std::alloc::Global;
 
 /// Kept rows are gone over anew once they are twice as many as were left the last time, and so many more.
 const SLACK: usize = 1024;
+
+/// No tag of a run is as late.
+const NEVER: Tag = Tag {
+    time: u64::MAX,
+    micro: 0,
+};
 
 /// What is kept of rows that are judged.
 #[derive(Drop)]
@@ -141,5 +150,16 @@ impl Past {
             Ok(None) => None,
             Err(_) => None,
         }
+    }
+
+    /// The first breach, of the rules 6 to 10, of these rows behind those that are judged, where no more
+    /// come and none of them breaks one of the rules 1 to 5. None where none is found.
+    pub(crate) fn first_of_all(&self, alloc: Global, plan: &Plan, rows: &[Row]) -> Option<Found>
+        requires fit { RowsFit plan.now.program rows.now }
+        requires stands { (t : List TheRow) × IsPast plan.now t self.now }
+        ensures { IfSome result (λ b. (t : List TheRow) → IsPast plan.now t self.now → KeepsRows plan.now (t ++ rows.now) → First plan.now (t ++ rows.now) (breach_of b)) }
+    {
+        let breach = self.first_breach(alloc, plan, rows, NEVER)?;
+        Some(found_of(breach))
     }
 }

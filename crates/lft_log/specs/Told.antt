@@ -1,11 +1,12 @@
 -- What is told of a trace table that comes in pieces.
-use Rattle.std.specs.Prelude.{◌≡◌, ◌⊎◌, ◌+◌, true, false, ℕ, List, [], ◌++◌, ◌∷◌, length, Option, None, Some, slice_get}
+use Rattle.std.specs.Prelude.{◌≡◌, ◌⊎◌, ◌+◌, true, false, ℕ, Bool, List, [], ◌++◌, ◌∷◌, length, Option, None, Some, slice_get}
 use Rattle.lft_flat.specs.Parts.{Parts}
 use Rattle.lft_tag.specs.declared.Tag.{Tag}
 use Rattle.lft_tag.specs.Tags.{Before, UpTo}
 use Rattle.lft_trace.specs.declared.fault.TraceFault.{TraceFault}
 use Rattle.lft_steps.specs.declared.row.Row.{Row}
 use Rattle.lft_model.specs.Plans.{PlanParts}
+use Rattle.lft_model.specs.Breaches.{First}
 use Rattle.lft_rows.specs.Accepted.{IsAccepted}
 use Rattle.lft_follow.specs.declared.judged.Ending.TheVariants as ending
 use Rattle.lft_follow.specs.Follows.{IsFollowerOf, IsSureSoFar, IsCleanTo, IsClean, IsJudged, breach_of}
@@ -42,15 +43,16 @@ IsSaid plan until t (Reached r) = IsJudged plan t r × GoPast until t
 abbrev pub IsSoon : PlanParts → Option Tag → List ℕ → Told → Type 0
 IsSoon plan until bytes told = (t : List Row) × AreFirst plan.program bytes t × IsSaid plan until t told
 
--- what is told at the end: the bytes are the header and rows that are accepted, or the header, rows, and a line without its end; and the rows are clean, all or but those at the last tag
-abbrev pub IsFinal : PlanParts → Option Tag → List ℕ → Final → Type 0
-IsFinal plan until bytes (Soon told) = IsSoon plan until bytes told
-IsFinal plan until bytes (AtEnd (ending.Accepted c)) = (t : List Row) × HoldSoFar plan.program bytes t [] × IsAccepted plan t c.runs c.tags
-IsFinal plan until bytes (AtEnd (ending.Unbroken r)) = (t : List Row) × (rest : List ℕ) × HoldSoFar plan.program bytes t rest × HasNoEnd rest × (IsJudged plan t r ⊎ IsClean plan t r)
+-- what is told at the end: the bytes are the header and rows that are accepted, or the header, rows, and a line without its end, and the rows are clean, all or but those at the last tag; or the bytes are the header and rows, none is missing, and this is their first breach
+abbrev pub IsFinal : PlanParts → Option Tag → Bool → List ℕ → Final → Type 0
+IsFinal plan until whole bytes (Soon told) = IsSoon plan until bytes told
+IsFinal plan until whole bytes (AtEnd (ending.Accepted c)) = (t : List Row) × HoldSoFar plan.program bytes t [] × IsAccepted plan t c.runs c.tags
+IsFinal plan until whole bytes (AtEnd (ending.Unbroken r)) = (t : List Row) × (rest : List ℕ) × HoldSoFar plan.program bytes t rest × HasNoEnd rest × (IsJudged plan t r ⊎ IsClean plan t r)
+IsFinal plan until whole bytes (AtEnd (ending.Broken b)) = (whole ≡ true) × ((t : List Row) × HoldSoFar plan.program bytes t [] × First plan t (breach_of b))
 
 -- what is told at the end is so of the bytes, or of these with a line feed behind: a last line counts too that wants its end alone
-abbrev pub IsEnded : PlanParts → Option Tag → List ℕ → Final → Type 0
-IsEnded plan until bytes told = IsFinal plan until bytes told ⊎ IsFinal plan until (bytes ++ 10 ∷ []) told
+abbrev pub IsEnded : PlanParts → Option Tag → Bool → List ℕ → Final → Type 0
+IsEnded plan until whole bytes told = IsFinal plan until whole bytes told ⊎ IsFinal plan until whole (bytes ++ 10 ∷ []) told
 
 -- where a fault of a row is told, the bytes are the header, lines of rows, and a line that is no row, of this number
 abbrev pub IsFaultOf : Parts → List ℕ → LogFault → Type 0

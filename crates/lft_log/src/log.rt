@@ -249,49 +249,46 @@ impl Log {
         }
     }
 
-    /// What the rows show where no more come.
-    fn end(&mut self, alloc: Global, plan: &Plan) -> Ending
+    /// What the rows show where no more come. With `whole` no row is missing.
+    fn end(&mut self, alloc: Global, plan: &Plan, whole: bool) -> Ending
         requires { (until : Option TheTag) × (bytes : List ℕ) × IsLog plan.now until bytes self.old }
-        ensures { (until : Option TheTag) (bytes : List ℕ) → IsLog plan.now until bytes self.old → self.old.is_begun ≡ true → IsFinal plan.now until bytes (AtEnd result) }
+        ensures { (until : Option TheTag) (bytes : List ℕ) → IsLog plan.now until bytes self.old → self.old.is_begun ≡ true → IsFinal plan.now until whole bytes (AtEnd result) }
     {
         let reach = self.follower.reach(plan);
-        match self.follower.finish(alloc, plan) {
-            Ending::Accepted(counts) => {
-                // Of a line that isn't whole nobody knows what it would have said.
-                if self.rest.is_empty() {
-                    Ending::Accepted(counts)
-                } else {
-                    Ending::Unbroken(reach)
-                }
-            }
+        if self.rest.is_empty() {
+            return self.follower.finish(alloc, plan, whole);
+        }
+        // Of a line that isn't whole nobody knows what it would have said.
+        match self.follower.finish(alloc, plan, false) {
             Ending::Unbroken(reach) => Ending::Unbroken(reach),
+            _ => Ending::Unbroken(reach),
         }
     }
 
     /// What the table shows where no more comes and its lines are whole, but for a last one that says nothing.
-    fn told_at_end(&mut self, alloc: Global, plan: &Plan) -> Result<Final, LogFault>
+    fn told_at_end(&mut self, alloc: Global, plan: &Plan, whole: bool) -> Result<Final, LogFault>
         requires { (until : Option TheTag) × (bytes : List ℕ) × IsLog plan.now until bytes self.old }
-        ensures ended { IfOk result (λ told. (until : Option TheTag) (bytes : List ℕ) → IsLog plan.now until bytes self.old → IsFinal plan.now until bytes told) }
+        ensures ended { IfOk result (λ told. (until : Option TheTag) (bytes : List ℕ) → IsLog plan.now until bytes self.old → IsFinal plan.now until whole bytes told) }
         ensures fault { IfErr result (λ f. (e : TheFault) (line : ℕ) → f ≢ NoRow e line) }
     {
         if !self.is_begun {
             return Err(LogFault::NoHeader);
         }
-        Ok(Final::AtEnd(self.end(alloc, plan)))
+        Ok(Final::AtEnd(self.end(alloc, plan, whole)))
     }
 
     /// What the table shows where no more comes. A last line without its end counts only if nothing can
-    /// be missing of it.
-    pub fn finish(&mut self, alloc: Global, plan: &Plan) -> Result<Final, LogFault>
+    /// be missing of it. With `whole` no row is missing, if the last line counts.
+    pub fn finish(&mut self, alloc: Global, plan: &Plan, whole: bool) -> Result<Final, LogFault>
         requires { (until : Option TheTag) × (bytes : List ℕ) × IsLog plan.now until bytes self.old }
-        ensures ended { IfOk result (λ told. (until : Option TheTag) (bytes : List ℕ) → IsLog plan.now until bytes self.old → IsEnded plan.now until bytes told) }
+        ensures ended { IfOk result (λ told. (until : Option TheTag) (bytes : List ℕ) → IsLog plan.now until bytes self.old → IsEnded plan.now until whole bytes told) }
         ensures fault { IfErr result (λ f. (until : Option TheTag) (bytes : List ℕ) → IsLog plan.now until bytes self.old → IsFaultOf plan.now.program (bytes ++ 10 ∷ []) f) }
     {
         if !is_whole(self.rest.as_slice()) {
-            return self.told_at_end(alloc, plan);
+            return self.told_at_end(alloc, plan, whole);
         }
         match self.add_whole(alloc, plan, b"\n") {
-            Ok(None) => self.told_at_end(alloc, plan),
+            Ok(None) => self.told_at_end(alloc, plan, whole),
             Ok(Some(told)) => Ok(Final::Soon(told)),
             Err(fault) => Err(fault),
         }

@@ -1,5 +1,5 @@
 -- The reaction of a breach that is told.
-use Rattle.std.proofs.Common.{◌≡◌, ◌<◌, ◌⊎◌, inl, inr, ℕ, List, [], ◌∷◌, ◌++◌, Option, Some, None, length, take, sym, subst, slice_get}
+use Rattle.std.proofs.Common.{◌≡◌, ◌<◌, ◌⊎◌, inl, inr, ℕ, Bool, List, [], ◌∷◌, ◌++◌, Option, Some, None, length, take, sym, subst, slice_get}
 use Rattle.std.proofs.lemmas.Option.{slice_get_within}
 use Rattle.lft_tag.specs.declared.Tag.{Tag}
 use Rattle.lft_lists.proofs.Places.{get_left}
@@ -10,12 +10,13 @@ use Rattle.lft_trace.specs.Records.{records_of}
 use Rattle.lft_trace.specs.Traces.{IsRow}
 use Rattle.lft_steps.specs.declared.row.Row.{Row}
 use Rattle.lft_model.specs.Plans.{PlanParts}
-use Rattle.lft_model.specs.Breaches.{BreaksAt}
+use Rattle.lft_model.specs.Breaches.{BreaksAt, First}
 use Rattle.lft_model.proofs.Places.{slice_get_take}
 use Rattle.lft_front.specs.Lines.{HasReaction}
-use Rattle.lft_follow.specs.declared.follower.Found.{Found}
+use Rattle.lft_follow.specs.declared.found.Found.{Found}
+use Rattle.lft_follow.specs.declared.judged.Ending.TheVariants as ending
 use Rattle.lft_follow.specs.Follows.{IsSureBehind, IsFirstBehind, breach_of}
-use Rattle.lft_log.specs.Logs.{AreRowLines}
+use Rattle.lft_log.specs.Logs.{AreRowLines, HoldSoFar}
 use Rattle.lft_log.specs.Told.{IsEnded, IsFinal, IsSoon}
 use Rattle.lft_log.specs.declared.told.Told.TheVariants.{Broken, Odd, Reached}
 use Rattle.lft_log.specs.declared.told.Final.{Final}
@@ -53,13 +54,25 @@ of_found plan until bytes b sound s = go s.2.1
     go (inl o) = subst (λ r. HasReaction plan.program r) (sym o.breaks.reaction_is) (own o.breaks.place o.breaks.row o.breaks.is_row)
     go (inr o) = of_tag plan (take n t) own b.tag b.reaction b.rule o.first.breaks.breaks
 
-of_final : (plan : PlanParts) (until : Option Tag) (bytes : List ℕ) (told : Final) → IsSound plan.program → IsFinal plan until bytes told → HasFound plan.program told
-of_final plan until bytes (Soon (Broken b)) sound s = of_found plan until bytes b sound s
-of_final plan until bytes (Soon (Odd r line)) sound s = tt
-of_final plan until bytes (Soon (Reached r)) sound s = tt
-of_final plan until bytes (AtEnd e) sound s = tt
+of_first : (plan : PlanParts) (bytes : List ℕ) (t : List Row) (b : Found) → IsSound plan.program → HoldSoFar plan.program bytes t [] → First plan t (breach_of b) → HasReaction plan.program b.reaction
+of_first plan bytes t b sound held first = go first
+  where
+    own : (i : ℕ) (x : Row) → slice_get t i ≡ Some x → x.reaction < length plan.program.reactions
+    own i x e = of_row plan.program held.body t i x sound held.is_body e
+
+    go : First plan t (breach_of b) → HasReaction plan.program b.reaction
+    go (inl o) = subst (λ r. HasReaction plan.program r) (sym o.0.reaction_is) (own o.0.place o.0.row o.0.is_row)
+    go (inr o) = of_tag plan t own b.tag b.reaction b.rule o.1.breaks
+
+of_final : (plan : PlanParts) (until : Option Tag) (whole : Bool) (bytes : List ℕ) (told : Final) → IsSound plan.program → IsFinal plan until whole bytes told → HasFound plan.program told
+of_final plan until whole bytes (Soon (Broken b)) sound s = of_found plan until bytes b sound s
+of_final plan until whole bytes (Soon (Odd r line)) sound s = tt
+of_final plan until whole bytes (Soon (Reached r)) sound s = tt
+of_final plan until whole bytes (AtEnd (ending.Accepted c)) sound s = tt
+of_final plan until whole bytes (AtEnd (ending.Unbroken r)) sound s = tt
+of_final plan until whole bytes (AtEnd (ending.Broken b)) sound s = of_first plan bytes s.1.0 b sound s.1.1 s.1.2
 
 -- a breach that is told is of a reaction of the program
-pub has_found : (plan : PlanParts) (until : Option Tag) (bytes : List ℕ) (told : Final) → IsSound plan.program → IsEnded plan until bytes told → HasFound plan.program told
-has_found plan until bytes told sound (inl s) = of_final plan until bytes told sound s
-has_found plan until bytes told sound (inr s) = of_final plan until (bytes ++ 10 ∷ []) told sound s
+pub has_found : (plan : PlanParts) (until : Option Tag) (whole : Bool) (bytes : List ℕ) (told : Final) → IsSound plan.program → IsEnded plan until whole bytes told → HasFound plan.program told
+has_found plan until whole bytes told sound (inl s) = of_final plan until whole bytes told sound s
+has_found plan until whole bytes told sound (inr s) = of_final plan until whole (bytes ++ 10 ∷ []) told sound s

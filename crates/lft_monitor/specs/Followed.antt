@@ -1,5 +1,5 @@
 -- What is told of a reader's trace table, and what was written of it.
-use Rattle.std.specs.Prelude.{◌≡◌, ℕ, List, ◌∷◌, ◌++◌, Option, Some}
+use Rattle.std.specs.Prelude.{◌≡◌, ℕ, Bool, List, ◌∷◌, ◌++◌, Option, Some}
 use Rattle.std.specs.Io.KnownBytes.{Appends, Consumes, IsAtEnd}
 use Rattle.lft_tag.specs.declared.Tag.{Tag}
 use Rattle.lft_trace.specs.Numbers.{number}
@@ -16,15 +16,15 @@ abbrev pub until_words : List ℕ → Tag → Type 0
 until_words words g = (time : List ℕ) × (microstep : List ℕ) × (words ≡ time ++ 44 ∷ microstep) × (number 1000000000000000000 time ≡ Some g.time) × (number 1000000000 microstep ≡ Some g.micro)
 
 -- the reader gave some bytes, and what is told is so of them; at the end it has no more
-pub record IsRead (plan : PlanParts) (until : Option Tag) (old new : Option (List ℕ)) (told : Final) : Type 0 where
+pub record IsRead (plan : PlanParts) (until : Option Tag) (whole : Bool) (old new : Option (List ℕ)) (told : Final) : Type 0 where
   pub bytes : List ℕ
   pub given : Consumes old new bytes
-  pub ended : IsEnded plan until bytes told
+  pub ended : IsEnded plan until whole bytes told
   pub all : (ending : Ending) → told ≡ AtEnd ending → IsAtEnd new
 
 -- the two texts have one plan, what is told is so of the bytes that the reader gave, and its line was written
-pub record IsFollowed (program externals : List ℕ) (until : Option Tag) (old new out_old out_new : Option (List ℕ)) (told : Final) : Type 0 where
+pub record IsFollowed (program externals : List ℕ) (until : Option Tag) (whole : Bool) (old new out_old out_new : Option (List ℕ)) (told : Final) : Type 0 where
   pub plan : PlanParts
   pub is_plan : IsOnly (IsPlanOf program externals) plan
-  pub read : IsRead plan until old new told
+  pub read : IsRead plan until whole old new told
   pub written : Appends out_old out_new (line_of_log plan.program told)

@@ -39,10 +39,12 @@ line_of_log program (Soon (Odd r line)) = odd_words r line
 line_of_log program (Soon (Reached r)) = unbroken_words r
 line_of_log program (AtEnd (ending.Accepted c)) = accepted_words c.runs c.tags
 line_of_log program (AtEnd (ending.Unbroken r)) = unbroken_words r
+line_of_log program (AtEnd (ending.Broken b)) = breach_words program (breach_of b)
 
 -- the reaction of a breach that is told is one of the program
 abbrev pub HasFound : Parts → Final → Type 0
 HasFound program (Soon (Broken b)) = HasReaction program b.reaction
+HasFound program (AtEnd (ending.Broken b)) = HasReaction program b.reaction
 HasFound program told = Unit {0}
 
 -- the status of what is told: 0 accepted, or unbroken as far as was asked for; 1 broken; 3 unbroken at the end; 4 odd
@@ -52,3 +54,4 @@ log_status (Soon (Odd r line)) = 4
 log_status (Soon (Reached r)) = 0
 log_status (AtEnd (ending.Accepted c)) = 0
 log_status (AtEnd (ending.Unbroken r)) = 3
+log_status (AtEnd (ending.Broken b)) = 1

@@ -1,7 +1,7 @@
 //! A trace table that is judged while it is written.
 
-ghost use Rattle.std.specs.Prelude.{◌≡◌, ◌≢◌, ◌++◌, ℕ, List, Option, IfOk, IfNone, IfSome, OnOk, MatchOption};
-ghost use Rattle.std.specs.Io.KnownBytes.{Appends};
+ghost use Rattle.std.specs.Prelude.{◌≡◌, ◌≢◌, ◌<◌, ◌++◌, ℕ, List, Option, length, IfOk, IfNone, IfSome, IsTrue, OnOk, MatchOption};
+ghost use Rattle.std.specs.Io.KnownBytes.{Appends, IsAtEnd};
 ghost use Rattle.lft_tag.specs.declared.Tag.{Tag as TheTag};
 ghost use Rattle.lft_tag.specs.Tags.{IsRecorded};
 ghost use Rattle.lft_load.specs.declared.fault.Part.TheVariants as part;
@@ -29,6 +29,8 @@ const CHUNK: usize = 1 << 18;
 pub struct Following {
     /// No row is judged behind the first tag with rows at or past this one.
     pub until: Option<Tag>,
+    /// At its end no row is missing.
+    pub whole: bool,
     /// After so many rows how far they are judged is told; never where this is 0.
     pub every: u64,
 }
@@ -56,6 +58,7 @@ pub fn status_of_log(told: Final) -> u8
         Final::AtEnd(Ending::Accepted(_)) => 0,
         Final::Soon(Told::Reached(_)) => 0,
         Final::Soon(Told::Broken(_)) => 1,
+        Final::AtEnd(Ending::Broken(_)) => 1,
         Final::AtEnd(Ending::Unbroken(_)) => 3,
         Final::Soon(Told::Odd(_, _)) => 4,
     }
@@ -127,25 +130,26 @@ fn add<E: Write>(
     }
 }
 
-/// What the table of a reader shows, up to its end or to what is told before.
+/// What the table of a reader shows, up to its end or to what is told before. At most a chunk is read at once.
 fn read_log<R: Read, E: Write>(
     alloc: Global,
     plan: &Plan,
     path: &str,
     reader: &mut R,
+    chunk: &mut [u8],
     following: Following,
     errors: &mut E,
 ) -> Result<Final, Fault>
-    ensures { IfOk result (IsRead plan.now following.until (R.remaining reader.old) (R.remaining reader.new)) }
+    requires { 0 < length chunk.old }
+    ensures { IfOk result (IsRead plan.now following.until following.whole (R.remaining reader.old) (R.remaining reader.new)) }
 {
     let Ok(mut log) = Log::new(alloc, plan, following.until) else {
         return Err(Fault::no_memory());
     };
-    let mut chunk = [0u8; CHUNK];
     for _ in 0..u64::MAX {
-        match reader.read(&mut chunk) {
+        match reader.read(chunk) {
             Ok(0) => {
-                return match log.finish(alloc, plan) {
+                return match log.finish(alloc, plan, following.whole) {
                     Ok(told) => Ok(told),
                     Err(fault) => Err(fault_of(alloc, fault)),
                 };
@@ -193,13 +197,17 @@ pub fn follow_log<R: Read, W: Write, E: Write>(
     out: &mut W,
     errors: &mut E,
 ) -> Result<Final, Fault>
-    ensures followed { IfOk result (IsFollowed program.now externals.now following.until (R.remaining reader.old) (R.remaining reader.new) (W.contents out.old) (W.contents out.new)) }
+    ensures followed { IfOk result (IsFollowed program.now externals.now following.until following.whole (R.remaining reader.old) (R.remaining reader.new) (W.contents out.old) (W.contents out.new)) }
 {
     let plan = match load(alloc, program, externals) {
         Ok(plan) => plan,
         Err(fault) => return Err(fault),
     };
-    let told = match read_log(alloc, &plan, path, reader, following, errors) {
+    let Ok(mut chunk) = vec![in alloc; 0u8; CHUNK] else {
+        return Err(Fault::no_memory());
+    };
+    let chunk = chunk.as_mut_slice();
+    let told = match read_log(alloc, &plan, path, reader, chunk, following, errors) {
         Ok(told) => told,
         Err(fault) => return Err(fault),
     };
@@ -207,4 +215,25 @@ pub fn follow_log<R: Read, W: Write, E: Write>(
         Ok(()) => Ok(told),
         Err(fault) => Err(fault),
     }
+}
+
+/// Reads what is left of a reader, and drops it. It is false where the reader fails, or memory is refused.
+pub fn drain<R: Read>(alloc: Global, reader: &mut R) -> bool
+    ensures { IsTrue result → IsAtEnd (R.remaining reader.new) }
+{
+    let Ok(mut chunk) = vec![in alloc; 0u8; CHUNK] else {
+        return false;
+    };
+    for _ in 0..u64::MAX {
+        match reader.read(chunk.as_mut_slice()) {
+            Ok(0) => return true,
+            Ok(_) => {}
+            Err(error) => {
+                if error.kind() != ErrorKind::Interrupted {
+                    return false;
+                }
+            }
+        }
+    }
+    false
 }

@@ -90,6 +90,7 @@ pub(crate) fn line_of_final(
     match told {
         Final::AtEnd(Ending::Accepted(counts)) => accepted_line(alloc, counts.runs, counts.tags),
         Final::AtEnd(Ending::Unbroken(reach)) => unbroken_line(alloc, reach),
+        Final::AtEnd(Ending::Broken(found)) => found_line(alloc, program, found),
         Final::Soon(Told::Reached(reach)) => unbroken_line(alloc, reach),
         Final::Soon(Told::Odd(reach, last)) => odd_line(alloc, reach, last),
         Final::Soon(Told::Broken(found)) => found_line(alloc, program, found),

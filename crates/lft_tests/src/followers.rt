@@ -48,6 +48,15 @@ start,0,1,0,main#1,,,
 start,1,2,0,main#1,,,
 ";
 
+/// At the second tag a run begins, and no more comes.
+const CUT: &[u8] = b"event,worker,time,microstep,reaction,name,value,delay
+start,0,0,0,main#1,,,
+end,0,0,0,main#1,,,
+start,0,0,0,main#2,,,
+end,0,0,0,main#2,,,
+start,0,1,0,main#1,,,
+";
+
 /// What rows show that are followed in parts.
 #[derive(Clone, Copy, PartialEq, Eq, Debug, Drop)]
 enum Shown {
@@ -76,8 +85,8 @@ fn add_part(
     }
 }
 
-/// What rows show that come so many at a time.
-fn followed(alloc: Global, plan: &Plan, rows: &[Row], size: usize) -> Option<Shown>
+/// What rows show that come so many at a time, and none of which is missing if that is said.
+fn followed(alloc: Global, plan: &Plan, rows: &[Row], size: usize, whole: bool) -> Option<Shown>
     requires fit { RowsFit plan.now.program rows.now }
     requires some { 0 < size }
 {
@@ -93,21 +102,27 @@ fn followed(alloc: Global, plan: &Plan, rows: &[Row], size: usize) -> Option<Sho
         }
         first = until;
     }
-    Some(Shown::AtEnd(follower.finish(alloc, plan)))
+    Some(Shown::AtEnd(follower.finish(alloc, plan, whole)))
 }
 
-/// Whether a table shows this, however its rows come.
-fn shows(alloc: Global, plan: &Plan, table: &[u8], wanted: Shown) -> Result<bool, NoMemory> {
+/// Whether a table shows this, however its rows come. None of them is missing if that is said.
+fn shows(
+    alloc: Global,
+    plan: &Plan,
+    table: &[u8],
+    whole: bool,
+    wanted: Shown,
+) -> Result<bool, NoMemory> {
     let rows = rows(alloc, plan, table)?;
     for size in [1, 3, 100] {
-        if followed(alloc, plan, rows.as_slice(), size) != Some(wanted) {
+        if followed(alloc, plan, rows.as_slice(), size, whole) != Some(wanted) {
             return Ok(false);
         }
     }
     Ok(true)
 }
 
-/// The run of `OPEN` without an end.
+/// The run of `OPEN`, and of `CUT`, without an end.
 const LOST: Found = Found {
     rule: 5,
     tag: Tag { time: 1, micro: 0 },
@@ -130,13 +145,14 @@ const ALL: Counts = Counts { runs: 4, tags: 2 };
 #[test]
 fn follows_rows_however_they_come(rt: HostRuntime) -> Result<(), Fail> {
     let plan = plan(rt.alloc(), PROGRAM, EXTERNALS)?;
-    for (table, wanted) in [
-        (RUNS, Shown::AtEnd(Ending::Accepted(ALL))),
-        (EARLY, Shown::Soon(Progress::Broken(TOO_EARLY))),
-        (OPEN, Shown::Soon(Progress::Broken(LOST))),
+    for (table, whole, wanted) in [
+        (RUNS, false, Shown::AtEnd(Ending::Accepted(ALL))),
+        (EARLY, false, Shown::Soon(Progress::Broken(TOO_EARLY))),
+        (OPEN, false, Shown::Soon(Progress::Broken(LOST))),
+        (CUT, true, Shown::AtEnd(Ending::Broken(LOST))),
     ] {
         assert!(rt;
-            shows(rt.alloc(), &plan, table, wanted) == Ok(true),
+            shows(rt.alloc(), &plan, table, whole, wanted) == Ok(true),
             "{wanted:?}"
         );
     }

@@ -3,10 +3,48 @@
 use crate::words::FollowWords;
 use crate::{end, say};
 use lft_files::{Failure, open_file, read_file};
-use lft_monitor::{follow_log, status_of_log};
+use lft_monitor::{drain, follow_log, status_of_log};
 use std::alloc::Global;
-use std::io::Write;
+use std::io::{Read, Write};
 use std::process::ExitCode;
+
+/// Says why a trace can't be followed, and gives the status.
+fn end_failed(rt: &HostRuntime, alloc: Global, failure: Failure) -> u8 {
+    let cause = failure.cause;
+    let status = end(rt, alloc, Err(failure));
+    say(rt, cause);
+    status
+}
+
+/// Follows the trace of a reader, and gives the status. What is told is written before the rest is dropped.
+fn follow_reader<R: Read, W: Write>(
+    rt: &HostRuntime,
+    alloc: Global,
+    texts: (&[u8], &[u8]),
+    words: FollowWords<'_>,
+    reader: &mut R,
+    out: &mut W,
+) -> u8 {
+    let path = words.log.unwrap_or("-");
+    let told = follow_log(
+        alloc,
+        texts.0,
+        texts.1,
+        path,
+        reader,
+        words.following,
+        out,
+        &mut rt.stderr(),
+    );
+    let status = match told {
+        Ok(told) => status_of_log(told),
+        Err(fault) => end_failed(rt, alloc, Failure::from(fault)),
+    };
+    if words.drain {
+        let _ = drain(alloc, reader);
+    }
+    status
+}
 
 /// The status of what the trace of a file, or of standard input, shows.
 fn follow_files<W: Write>(
@@ -17,35 +55,15 @@ fn follow_files<W: Write>(
 ) -> Result<u8, Failure> {
     let program = read_file(rt, alloc, words.program)?;
     let externals = read_file(rt, alloc, words.externals)?;
-    let (program, externals) = (program.as_slice(), externals.as_slice());
-    let following = words.following;
-    let mut errors = rt.stderr();
-    let told = match words.log {
+    let texts = (program.as_slice(), externals.as_slice());
+    let status = match words.log {
         Some(path) => {
             let mut file = open_file(rt, alloc, path)?;
-            follow_log(
-                alloc,
-                program,
-                externals,
-                path,
-                &mut file,
-                following,
-                out,
-                &mut errors,
-            )?
+            follow_reader(rt, alloc, texts, words, &mut file, out)
         }
-        None => follow_log(
-            alloc,
-            program,
-            externals,
-            "-",
-            &mut rt.stdin(),
-            following,
-            out,
-            &mut errors,
-        )?,
+        None => follow_reader(rt, alloc, texts, words, &mut rt.stdin(), out),
     };
-    Ok(status_of_log(told))
+    Ok(status)
 }
 
 /// Follows a trace, and gives the status. Those of 3 and 4 are of this command alone.
@@ -57,11 +75,6 @@ pub(crate) fn end_followed<W: Write>(
 ) -> ExitCode {
     match follow_files(rt, alloc, words, out) {
         Ok(status) => ExitCode::from(status),
-        Err(failure) => {
-            let cause = failure.cause;
-            let status = end(rt, alloc, Err(failure));
-            say(rt, cause);
-            ExitCode::from(status)
-        }
+        Err(failure) => ExitCode::from(end_failed(rt, alloc, failure)),
     }
 }

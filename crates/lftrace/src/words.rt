@@ -62,7 +62,7 @@ Printed: accepted runs=R tags=G (status 0); broken rule=N .. (status 1), as soon
 it is sure; odd line=L runs=R tags=G .. (status 4), where the rows up to line L
 can't be judged further, as two events meet at a later tag; unbroken runs=R
 tags=G time=T microstep=M at the end (status 3), where rows are missing or those at
-the last tag may break a rule: judge tells; the same with --until (status 0).";
+the last tag may break a rule: --whole tells; the same with --until (status 0).";
 
 const SHOW_HELP: &str = "\
 PROGRAM is the path of a file; /dev/stdin is standard input.
@@ -112,6 +112,8 @@ pub struct FollowWords<'a> {
     /// None is standard input.
     pub log: Option<&'a str>,
     pub following: Following,
+    /// Whether what stands behind what is told is read too, and dropped.
+    pub drain: bool,
 }
 
 /// The words of `lower`: the path of the program, and that of the table of names, if it is wanted.
@@ -311,13 +313,25 @@ fn follow_command<'a>(alloc: Global) -> Result<Command<'a>, Error> {
         .help("after N rows tells on standard error how far they are judged; 0 is never")
         .default_value("0")
         .value_parser(clap::value_parser!(u64).range(0..1_000_000_000_000));
+    let whole = Arg::new(alloc, "whole")
+        .long("whole")
+        .action(ArgAction::SetTrue)
+        .help(
+            "no row is missing at the end: then the first rule that is broken is told, as by `judge`",
+        );
+    let drain = Arg::new(alloc, "drain")
+        .long("drain")
+        .action(ArgAction::SetTrue)
+        .help("reads on behind what is told, so that the writer isn't stopped, and drops it");
     let command = Command::new(alloc, "follow")
         .about("Judges a trace while it is written, and forgets the rows of finished tags")
         .arg(path(alloc, "PROGRAM", "the program's text"))?
         .arg(path(alloc, "EXTERNALS", "the table of external inputs"))?
         .arg(path(alloc, "LOG", "the trace table").required(false))?
         .arg(until)?
+        .arg(whole)?
         .arg(every)?
+        .arg(drain)?
         .after_help(FOLLOW_HELP);
     Ok(command)
 }
@@ -449,8 +463,10 @@ fn judge_job<'a>(alloc: Global, matches: &ArgMatches<'a>) -> Result<Job<'a>, Err
             log: Some(words.trace),
             following: Following {
                 until: Some(tag),
+                whole: false,
                 every: 0,
             },
+            drain: false,
         })),
         None => Ok(ask(matches, Question::Judge(words))),
     }
@@ -473,7 +489,12 @@ fn follow_words<'a>(alloc: Global, matches: &ArgMatches<'a>) -> Result<FollowWor
         program: text(matches, "PROGRAM"),
         externals: text(matches, "EXTERNALS"),
         log: given(matches, "LOG"),
-        following: Following { until, every },
+        following: Following {
+            until,
+            whole: matches.get_flag("whole"),
+            every,
+        },
+        drain: matches.get_flag("drain"),
     })
 }
 

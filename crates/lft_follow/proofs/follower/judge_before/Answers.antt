@@ -1,10 +1,11 @@
 use Rattle.std.proofs.Common.{◌≡◌, ◌+◌, ◌-◌, ◌<◌, ◌++◌, inr, ℕ, length, slice_range, sym, subst, arith}
 use Rattle.lft_flat.proofs.Ranges.{length-range}
 use Rattle.lft_stream.proofs.Parting.{range_fits}
+use Rattle.lft_model.specs.declared.breach.Breach.{Breach}
 use Rattle.lft_follow.specs.declared.past.Past.{Past}
 use Rattle.lft_follow.specs.declared.reach.Reach.{Reach}
 use Rattle.lft_follow.specs.Kept.{IsPast}
-use Rattle.lft_follow.specs.Follows.{IsCleanTo}
+use Rattle.lft_follow.specs.Follows.{IsCleanTo, IsFirstBehind}
 use Rattle.lft_follow.proofs.First.{first_behind}
 use Rattle.lft_follow.proofs.Following.{clean_before}
 use Rattle.lft_follow.proofs.follower.judge_before.Goals as goal
@@ -29,7 +30,8 @@ returns-in-Some c = λ done is end follower begins within.
     let past = subst (λ (p : Past). IsPast plan done p) (sym (c.in_ok-is_clean.ensures.past c.if-is_clean.false)) is.past in
     let long : length (slice_range rows 0 begin) ≡ begin - 0 = length-range rows 0 begin (let l = c.requires.begin in omega arith) in
     let some : 0 < length (slice_range rows 0 begin) = c.in_ok-is_clean.ensures.some c.if-is_clean.false in
-    (length done + end, inr (first_behind plan done rows begin end c.row_at.result c.in-Some.breach begins (omega (arith, long, some)) within c.row_at.ensures (λ v later. c.in-Some.ensures done v past later)))
+    let first = first_behind plan done rows begin end c.row_at.result c.in-Some.breach begins (omega (arith, long, some)) within c.row_at.ensures (λ v later. c.in-Some.ensures done v past later) in
+    (length done + end, inr (subst (λ (b : Breach). IsFirstBehind plan (done ++ rows) b (length done + end)) (sym c.found_of.ensures) first))
 
 pub returns-in-None : goal.returns-in-None
 returns-in-None c = λ done is end follower begins within. subst (λ (r : Reach). (n : ℕ) × IsCleanTo c.args.plan.now (done ++ c.args.rows.now) r n) (sym (c.in_ok-is_clean.ensures.reach c.if-is_clean.false)) (clean_before c.args.plan.now done c.args.rows.now c.args.judged.now is)

@@ -1,4 +1,4 @@
-use Rattle.std.proofs.Common.{◌<◌, ◌++◌, ◌∙◌, ℕ, List, IfOk, length, take, inl, sym, subst, arith}
+use Rattle.std.proofs.Common.{◌<◌, ◌++◌, ℕ, List, IfOk, length, take, inl, sym, subst, arith}
 use Rattle.std.proofs.KnownBytes.{Consumes-trans, Consumes-kept}
 use Rattle.lft_log.specs.declared.log.Log.{Log}
 use Rattle.lft_log.specs.Told.{IsLog}
@@ -9,7 +9,7 @@ use Rattle.lft_monitor.proofs.follow.read_log.Goals as goal
 
 pub returns-in-Ok-eq0 : goal.returns-in-Ok-eq0
 returns-in-Ok-eq0 g c =
-    let is = IsRead c.args.plan.now c.args.following.until (g.R.Read.remaining c.args.reader.now) (g.R.Read.remaining c.read.new.self) in
+    let is = IsRead c.args.plan.now c.args.following.until c.args.following.whole (g.R.Read.remaining c.args.reader.now) (g.R.Read.remaining c.read.new.self) in
     let bytes = c.loop.invariant.0 in
     let read = c.in-Ok-eq0.ensures.bytes in
     let room : 0 < length c.read.new.buf = omega (arith, c.loop.invariant.3, c.read.auto.buf) in
@@ -36,7 +36,7 @@ returns-in-Ok-Some g c =
 pub loop-preserved : goal.loop-preserved
 loop-preserved g c =
     let bytes = c.loop.invariant.0 in
-    let long = c.read.auto.buf ∙ c.loop.invariant.3 in
+    let long : 0 < length c.read.new.buf = omega (arith, c.loop.invariant.3, c.read.auto.buf) in
     let kept = λ (x : List ℕ) (log : Log). IsLog c.args.plan.now c.args.following.until x log in
     elim c.match-read.branch [
       | in-Ok-read+in-Ok-None w ↦
