@@ -1,5 +1,5 @@
 -- What stays where settings are made and noted.
-use Rattle.std.proofs.Common.{◌≡◌, ◌≢◌, ℕ, zero, suc, ◌+◌, ◌<◌, ℤ, ◌⊎◌, inl, inr, Bool, true, false, cond, List, [], ◌∷◌, ◌++◌, length, map, replicate, Option, Some, None, slice_get, slice_set, refl, sym, ap, subst, ◌∙◌, arith}
+use Rattle.std.proofs.Common.{◌≡◌, ◌≢◌, ℕ, zero, suc, ◌<◌, ℤ, ◌⊎◌, inl, inr, Bool, true, false, cond, List, [], ◌∷◌, ◌++◌, length, map, replicate, Option, Some, None, slice_get, slice_set, refl, sym, ap, subst, ◌∙◌, arith}
 use Rattle.std.specs.Prelude.{IfSome, Vec, option_map}
 use Rattle.std.specs.Global.{Global}
 use Rattle.std.specs.BTreeMap.{BTreeMap, get_by, is_at}
@@ -24,7 +24,6 @@ use Rattle.lft_shapes.specs.Shapes.{child_at}
 use Rattle.lft_settings.specs.declared.settings.Setting.{Setting}
 use Rattle.lft_settings.specs.declared.settings.Settings.{Settings}
 use Rattle.lft_settings.specs.Noted.{Adds, AreMade, AreSettings, GoesOn, GoesOnIf, IsNoted, IsNumberOf, Known, Table, found_inside, noted_at, noted_for, only_inside, table}
-use Rattle.lft_settings.specs.Places.{IsWidth}
 use Rattle.lft_settings.specs.Settings.{setting_in, valued}
 use Rattle.lft_settings.specs.Values.{IsUnsized, Valued, inside, main_setting, setting_of, values_inside}
 use Rattle.lft_settings.proofs.Valuing.{alike, is_given}

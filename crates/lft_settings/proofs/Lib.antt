@@ -1,2 +1,6 @@
+mod Counting
 mod Keeping
+mod Marks
+mod Standing
+mod Using
 mod Valuing

@@ -5,11 +5,13 @@ use Rattle.std.specs.BTreeMap.{BTreeMap, get_by}
 use Rattle.std.specs.Cmp.Lexicographic.{slice_cmp}
 use Rattle.std.specs.Option.{option_and_then, option_or}
 use Rattle.std.specs.Ordering.{int_cmp}
+use Rattle.lft_whole.specs.declared.tree.Reference.{Reference}
 use Rattle.lft_shapes.specs.declared.shapes.Shape.{Shape}
 use Rattle.lft_shapes.specs.Shapes.{child_at}
+use Rattle.lft_settings.specs.declared.places.Meaning.{Meaning}
 use Rattle.lft_settings.specs.declared.settings.Setting.{Setting}
 use Rattle.lft_settings.specs.declared.settings.Settings.{Settings}
-use Rattle.lft_settings.specs.Places.{IsWidth}
+use Rattle.lft_settings.specs.Places.{IsWidth, meaning_in}
 use Rattle.lft_settings.specs.Settings.{setting_in, valued}
 use Rattle.lft_settings.specs.Values.{Valued, inside, main_setting}
 
@@ -73,6 +75,10 @@ only_inside s shape member = option_and_then (λ outer. option_and_then (λ chil
 -- the number of the setting in an instance that is noted: in the setting around, or else for its shape
 abbrev pub found_inside : Settings → ℕ → ℕ → Option ℕ
 found_inside s setting member = option_and_then (λ t. option_or (noted_at t.inner.items member) (only_inside s t.shape member)) (slice_get s.settings.items setting)
+
+-- the reference means this thing of the setting that has this number, in this instance if in one
+abbrev pub IsMeaning : List Shape → List Setting → Valued → Reference → Meaning → Type 0
+IsMeaning shapes settings t r meaning = (u : Valued) × (setting_in settings meaning.setting ≡ Some u) × (meaning_in shapes t r ≡ Some (record { instance = meaning.instance; setting = u; thing = meaning.thing }))
 
 -- ---- for the crate's own contracts
 

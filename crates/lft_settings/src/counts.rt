@@ -1,11 +1,17 @@
 //! How many things a program has, counted before any of them is made.
 
-ghost use Rattle.std.specs.Prelude.{◌≡◌, ◌+◌, ◌*◌, ◌≤◌, length, slice_get, Some, IfOk};
+ghost use Rattle.std.specs.Prelude.{◌≡◌, ◌<◌, ◌≤◌, ◌⊎◌, ℕ, List, IfOk, IfNone, IfSome, OnOk, Some, length, true};
+ghost use Rattle.lft_shapes.specs.Walks.{Has};
 ghost use Rattle.lft_settings.specs.Limits.{limits, first_passed};
+ghost use Rattle.lft_settings.specs.Noted.{AreMade, AreSettings, GoesOn, table};
+ghost use Rattle.lft_settings.specs.Places.{HasPairs};
+ghost use Rattle.lft_settings.specs.Settings.{setting_at};
+ghost use Rattle.lft_settings.specs.Used.{AreMarked, AreUsed, HasInner, HasNumber, IsIn, IsNumberIn, Stay, is_instance, is_instance_in};
+ghost use Rattle.lft_settings.specs.Values.{Valued};
 
 use crate::settings::Settings;
 use lft_lowering::joined;
-use lft_shapes::Inherited;
+use lft_shapes::Thing;
 use lft_sources::{Stop, Why};
 use lft_tag::{MAX_INSTANCES, MAX_REACTIONS, MAX_THINGS};
 use lft_whole::{Connection, Member};
@@ -82,6 +88,59 @@ impl Counts {
     }
 }
 
+/// Whether a member is an instance.
+fn is_instance(member: &Member) -> bool
+    ensures { result ≡ is_instance member.now }
+{
+    matches!(member, Member::Instance(_))
+}
+
+/// Makes room for marks of so many numbers.
+fn lengthen(is_used: &mut Vec<bool>, count: usize) -> Result<(), Stop>
+    ensures marked { OnOk result ((used : List ℕ) → AreMarked used is_used.old.items → AreMarked used is_used.new.items) }
+    ensures long { OnOk result (count ≤ length is_used.new.items) }
+{
+    for _more in is_used.len()..count {
+        is_used.push(false)?;
+    }
+    Ok(())
+}
+
+/// Puts a number behind a list and marks it, if it isn't marked yet.
+fn mark(used: &mut Vec<usize>, is_used: &mut Vec<bool>, number: usize) -> Result<(), Stop>
+    ensures marked { OnOk result (AreMarked used.old.items is_used.old.items → AreMarked used.new.items is_used.new.items) }
+    ensures stay { OnOk result (Stay used.old.items used.new.items) }
+    ensures has { OnOk result (AreMarked used.old.items is_used.old.items → number < length is_used.old.items → Has used.new.items number) }
+    ensures only { OnOk result ((k : ℕ) → Has used.new.items k → Has used.old.items k ⊎ (k ≡ number)) }
+{
+    if number >= is_used.len() {
+        return Ok(());
+    }
+    if is_used[number] {
+        return Ok(());
+    }
+    is_used[number] = true;
+    used.push(number)?;
+    Ok(())
+}
+
+/// Puts the number of a setting behind a list, if it isn't in it. There are so many settings.
+fn push_new(
+    used: &mut Vec<usize>,
+    is_used: &mut Vec<bool>,
+    count: usize,
+    inner: usize,
+) -> Result<(), Stop>
+    ensures marked { OnOk result (AreMarked used.old.items is_used.old.items → AreMarked used.new.items is_used.new.items) }
+    ensures stay { OnOk result (Stay used.old.items used.new.items) }
+    ensures has { OnOk result (AreMarked used.old.items is_used.old.items → inner < count → Has used.new.items inner) }
+    ensures only { OnOk result ((k : ℕ) → Has used.new.items k → Has used.old.items k ⊎ (k ≡ inner)) }
+{
+    lengthen(is_used, count)?;
+    mark(used, is_used, inner)?;
+    Ok(())
+}
+
 impl<'a> Settings<'a> {
     /// How many pairs a connection joins.
     pub fn pairs(
@@ -89,11 +148,72 @@ impl<'a> Settings<'a> {
         setting: usize,
         file: usize,
         connection: &Connection,
-    ) -> Result<u64, Stop> {
+    ) -> Result<u64, Stop>
+        ensures goes { OnOk result (GoesOn (table self.old) (table self.new)) }
+        ensures pairs { IfOk result (λ n. (t : Valued) → AreMade (table self.old) → setting_at self.old setting ≡ Some t → HasPairs self.old.shapes.items t connection.now n) }
+    {
         let left = self.all_channels(setting, file, &connection.sources)?;
         let right = self.all_channels(setting, file, &connection.destinations)?;
         let pairs = joined(left as usize, right as usize, connection.is_broadcast);
         Ok(pairs as u64)
+    }
+
+    /// How many members a setting has.
+    fn members(&self, setting: usize) -> usize
+        ensures { (t : Valued) (m : ℕ) → setting_at self.now setting ≡ Some t → is_instance_in self.now.shapes.items t m ≡ true → m < result }
+    {
+        let Some(shape) = self.shape_of(setting) else {
+            return 0;
+        };
+        shape.members.len()
+    }
+
+    /// Whether the member of this number is an instance.
+    fn has_instance(&self, setting: usize, member: usize) -> bool
+        ensures { (t : Valued) → setting_at self.now setting ≡ Some t → result ≡ is_instance_in self.now.shapes.items t member }
+    {
+        match self.member(setting, member) {
+            Some(found) => is_instance(found),
+            None => false,
+        }
+    }
+
+    /// The setting in the member of this number, if it is an instance, and no bank without members.
+    fn used_inside(&mut self, setting: usize, member: usize) -> Result<Option<usize>, Stop>
+        ensures goes { OnOk result (GoesOn (table self.old) (table self.new)) }
+        ensures some { IfOk result (λ inner. IfSome inner (λ k. (t : Valued) → AreMade (table self.old) → setting_at self.old setting ≡ Some t → IsNumberIn self.old.shapes.items self.new.settings.items t member k)) }
+        ensures none { IfOk result (λ inner. IfNone inner ((t u : Valued) → AreMade (table self.old) → setting_at self.old setting ≡ Some t → IsIn self.old.shapes.items t member u → ⊥)) }
+    {
+        if !self.has_instance(setting, member) {
+            return Ok(None);
+        }
+        let count = self.many(setting, Thing::Member(member))?;
+        if count == 0 {
+            return Ok(None);
+        }
+        let inner = self.inside(setting, member)?;
+        Ok(inner)
+    }
+
+    /// Puts the setting in the member of this number behind a list, if there is one that isn't in it.
+    fn push_inside(
+        &mut self,
+        setting: usize,
+        member: usize,
+        used: &mut Vec<usize>,
+        is_used: &mut Vec<bool>,
+    ) -> Result<(), Stop>
+        ensures goes { OnOk result (GoesOn (table self.old) (table self.new)) }
+        ensures marked { OnOk result (AreMarked used.old.items is_used.old.items → AreMarked used.new.items is_used.new.items) }
+        ensures stay { OnOk result (Stay used.old.items used.new.items) }
+        ensures has { OnOk result ((t u : Valued) → AreMade (table self.old) → setting_at self.old setting ≡ Some t → AreMarked used.old.items is_used.old.items → IsIn self.old.shapes.items t member u → HasNumber (table self.new) used.new.items u) }
+        ensures only { OnOk result ((t : Valued) → AreMade (table self.old) → setting_at self.old setting ≡ Some t → (k : ℕ) → Has used.new.items k → Has used.old.items k ⊎ IsNumberIn self.old.shapes.items self.new.settings.items t member k) }
+    {
+        let Some(inner) = self.used_inside(setting, member)? else {
+            return Ok(());
+        };
+        push_new(used, is_used, self.settings.len(), inner)?;
+        Ok(())
     }
 
     /// Puts the settings of the instances in a setting behind a list, if they aren't in it.
@@ -102,46 +222,36 @@ impl<'a> Settings<'a> {
         setting: usize,
         used: &mut Vec<usize>,
         is_used: &mut Vec<bool>,
-    ) -> Result<(), Stop> {
-        let count = match self.shape_of(setting) {
-            Some(shape) => shape.members.len(),
-            None => 0,
-        };
-        for member in 0..count {
-            if !matches!(self.member(setting, member), Some(Member::Instance(_))) {
-                continue;
-            }
-            if self.width(setting, member)? == Some(0) {
-                continue;
-            }
-            let Some(inner) = self.inside(setting, member)? else {
-                continue;
-            };
-            for _ in is_used.len()..self.settings.len() {
-                is_used.push(false)?;
-            }
-            if inner < is_used.len() && !is_used[inner] {
-                is_used[inner] = true;
-                used.push(inner)?;
-            }
+    ) -> Result<(), Stop>
+        ensures goes { OnOk result (GoesOn (table self.old) (table self.new)) }
+        ensures marked { OnOk result (AreMarked used.old.items is_used.old.items → AreMarked used.new.items is_used.new.items) }
+        ensures stay { OnOk result (Stay used.old.items used.new.items) }
+        ensures all { OnOk result ((t : Valued) → AreMade (table self.old) → setting_at self.old setting ≡ Some t → AreMarked used.old.items is_used.old.items → HasInner (table self.new) used.new.items t) }
+        ensures only { OnOk result ((t : Valued) → AreMade (table self.old) → setting_at self.old setting ≡ Some t → (k : ℕ) → Has used.new.items k → Has used.old.items k ⊎ ((member : ℕ) × IsNumberIn self.old.shapes.items self.new.settings.items t member k)) }
+    {
+        for member in 0..self.members(setting) {
+            self.push_inside(setting, member, used, is_used)?;
         }
         Ok(())
     }
 
     /// The settings of all instances, each once: the main one, those in it in order, those in these, and so on.
-    fn used(&mut self) -> Result<Vec<usize>, Stop> {
+    fn used(&mut self) -> Result<Vec<usize>, Stop>
+        ensures goes { OnOk result (GoesOn (table self.old) (table self.new)) }
+        ensures used { IfOk result (λ used. AreSettings (table self.old) → AreUsed (table self.new) used.items) }
+    {
         let mut used = Vec::new(self.alloc);
         let mut is_used = Vec::new(self.alloc);
         used.push(0)?;
         is_used.push(true)?;
-        for place in 0..MAX_INSTANCES {
-            let Some(setting) = used.get(place).copied() else {
-                break;
-            };
+        let mut place = 0;
+        'places: while place < used.len() {
+            let setting = used[place];
             self.push_inner(setting, &mut used, &mut is_used)?;
             if used.len() > MAX_INSTANCES {
                 return Err(self.work.refused(Why::TooManyInstances));
             }
+            place += 1;
         }
         Ok(used)
     }
@@ -152,8 +262,10 @@ impl<'a> Settings<'a> {
         setting: usize,
         member: usize,
         totals: &[Counts],
-    ) -> Result<Counts, Stop> {
-        let width = self.width(setting, member)?.unwrap_or(1);
+    ) -> Result<Counts, Stop>
+        ensures { OnOk result (GoesOn (table self.old) (table self.new)) }
+    {
+        let width = self.many(setting, Thing::Member(member))?;
         if width == 0 {
             return Ok(Counts::none());
         }
@@ -171,12 +283,19 @@ impl<'a> Settings<'a> {
         &mut self,
         setting: usize,
         number: usize,
-        inherited: Inherited,
         totals: &[Counts],
-    ) -> Result<Counts, Stop> {
+    ) -> Result<Counts, Stop>
+        ensures { OnOk result (GoesOn (table self.old) (table self.new)) }
+    {
         let mut counts = Counts::none();
+        let Some(shape) = self.shape_of(setting) else {
+            return Ok(counts);
+        };
+        let Some(inherited) = shape.member(number) else {
+            return Ok(counts);
+        };
         match inherited.member {
-            Member::Port(_) => counts.ports = self.width(setting, number)?.unwrap_or(1),
+            Member::Port(_) => counts.ports = self.many(setting, Thing::Member(number))?,
             Member::Connection(connection) => {
                 counts.connections = self.pairs(setting, inherited.file, connection)?;
             }
@@ -190,22 +309,14 @@ impl<'a> Settings<'a> {
     }
 
     /// What one instance of a setting counts, with all in it. That of the settings in it is known.
-    fn count(&mut self, setting: usize, totals: &[Counts]) -> Result<Counts, Stop> {
+    fn count(&mut self, setting: usize, totals: &[Counts]) -> Result<Counts, Stop>
+        ensures { OnOk result (GoesOn (table self.old) (table self.new)) }
+    {
         let mut counts = Counts::none();
         counts.instances = 1;
-        let length = match self.shape_of(setting) {
-            Some(shape) => shape.members.len(),
-            None => 0,
-        };
-        for number in 0..length {
-            let inherited = match self.shape_of(setting) {
-                Some(shape) => shape.member(number),
-                None => None,
-            };
-            if let Some(inherited) = inherited {
-                let other = self.count_member(setting, number, inherited, totals)?;
-                counts = counts.with(other, 1);
-            }
+        for number in 0..self.members(setting) {
+            let other = self.count_member(setting, number, totals)?;
+            counts = counts.with(other, 1);
         }
         Ok(counts)
     }
@@ -238,7 +349,9 @@ impl<'a> Settings<'a> {
     }
 
     /// What one instance of each setting counts, with all in it.
-    fn totals(&mut self, used: &[usize]) -> Result<Vec<Counts>, Stop> {
+    fn totals(&mut self, used: &[usize]) -> Result<Vec<Counts>, Stop>
+        ensures { OnOk result (GoesOn (table self.old) (table self.new)) }
+    {
         let places = self.inner_first(used)?;
         let mut totals = vec![in self.alloc; Counts::none(); self.settings.len()]?;
         for place in 0..places.len() {
@@ -252,7 +365,10 @@ impl<'a> Settings<'a> {
     }
 
     /// The settings of all instances, as `used` has them. A program that passes a limit is refused.
-    pub fn counted(&mut self) -> Result<Vec<usize>, Stop> {
+    pub fn counted(&mut self) -> Result<Vec<usize>, Stop>
+        ensures goes { OnOk result (GoesOn (table self.old) (table self.new)) }
+        ensures used { IfOk result (λ used. AreSettings (table self.old) → AreUsed (table self.new) used.items) }
+    {
         let used = self.used()?;
         let totals = self.totals(&used)?;
         let passed = match totals.first() {

@@ -1,8 +1,11 @@
 //! What references mean in a setting.
 
-ghost use Rattle.std.specs.Prelude.{◌≡◌, ◌≤◌, OnOk, option_and_then, option_map};
+ghost use Rattle.std.specs.Prelude.{◌≡◌, ◌≤◌, IfOk, OnOk, option_and_then, option_map};
 ghost use Rattle.lft_shapes.specs.Shapes.{thing_named};
-ghost use Rattle.lft_settings.specs.Settings.{shape_at};
+ghost use Rattle.lft_settings.specs.Noted.{AreMade, GoesOn, IsMeaning, table};
+ghost use Rattle.lft_settings.specs.Places.{AreMany, AreManyIn, HasPlaces, HavePlaces, port_named};
+ghost use Rattle.lft_settings.specs.Settings.{setting_at, shape_at};
+ghost use Rattle.lft_settings.specs.Values.{Valued};
 ghost use Rattle.lft_settings.specs.Widths.{member_at};
 
 use crate::settings::Settings;
@@ -44,7 +47,9 @@ impl<'a> Settings<'a> {
     }
 
     /// The port of this name in a setting.
-    fn port(&self, setting: usize, name: &str) -> Option<Thing> {
+    fn port(&self, setting: usize, name: &str) -> Option<Thing>
+        ensures { (t : Valued) → setting_at self.now setting ≡ Some t → result ≡ option_map (λ m. Thing.Member m) (port_named self.now.shapes.items t name.now) }
+    {
         match self.find(setting, name) {
             Some(Thing::Member(number)) => match self.member(setting, number) {
                 Some(Member::Port(_)) => Some(Thing::Member(number)),
@@ -62,6 +67,8 @@ impl<'a> Settings<'a> {
         reference: &Reference,
     ) -> Result<Meaning, Stop>
         ensures work { OnOk result (self.new.work.left ≤ self.old.work.left) }
+        ensures goes { OnOk result (GoesOn (table self.old) (table self.new)) }
+        ensures meaning { IfOk result (λ meaning. (t : Valued) → AreMade (table self.old) → setting_at self.old setting ≡ Some t → IsMeaning self.old.shapes.items self.new.settings.items t reference.now meaning) }
     {
         let head = self.find(setting, reference.head.text.as_str());
         let at = reference.head.at;
@@ -91,22 +98,42 @@ impl<'a> Settings<'a> {
         }
     }
 
+    /// How many things a thing of a setting is.
+    pub(crate) fn many(&mut self, setting: usize, thing: Thing) -> Result<u64, Stop>
+        ensures goes { OnOk result (GoesOn (table self.old) (table self.new)) }
+        ensures many { IfOk result (λ n. (t : Valued) → AreMade (table self.old) → setting_at self.old setting ≡ Some t → AreMany self.old.shapes.items t thing n) }
+    {
+        let Thing::Member(member) = thing else {
+            return Ok(1);
+        };
+        let width = self.width(setting, member)?;
+        Ok(width.unwrap_or(1))
+    }
+
+    /// How many instances an instance of a setting is, if there is one.
+    fn many_in(&mut self, setting: usize, instance: Option<usize>) -> Result<u64, Stop>
+        ensures goes { OnOk result (GoesOn (table self.old) (table self.new)) }
+        ensures many { IfOk result (λ n. (t : Valued) → AreMade (table self.old) → setting_at self.old setting ≡ Some t → AreManyIn self.old.shapes.items t instance n) }
+    {
+        let Some(member) = instance else {
+            return Ok(1);
+        };
+        self.many(setting, Thing::Member(member))
+    }
+
     /// How many places a reference has.
     pub fn channels(
         &mut self,
         setting: usize,
         file: usize,
         reference: &Reference,
-    ) -> Result<u64, Stop> {
+    ) -> Result<u64, Stop>
+        ensures goes { OnOk result (GoesOn (table self.old) (table self.new)) }
+        ensures places { IfOk result (λ n. (t : Valued) → AreMade (table self.old) → setting_at self.old setting ≡ Some t → HasPlaces self.old.shapes.items t reference.now n) }
+    {
         let meaning = self.meaning(setting, file, reference)?;
-        let count = match meaning.thing {
-            Thing::Member(number) => self.width(meaning.setting, number)?.unwrap_or(1),
-            Thing::Parameter(_) => 1,
-        };
-        let members = match meaning.instance {
-            Some(instance) => self.width(setting, instance)?.unwrap_or(1),
-            None => 1,
-        };
+        let count = self.many(meaning.setting, meaning.thing)?;
+        let members = self.many_in(setting, meaning.instance)?;
         Ok(count.saturating_mul(members))
     }
 
@@ -116,10 +143,14 @@ impl<'a> Settings<'a> {
         setting: usize,
         file: usize,
         references: &[Reference],
-    ) -> Result<u64, Stop> {
+    ) -> Result<u64, Stop>
+        ensures goes { OnOk result (GoesOn (table self.old) (table self.new)) }
+        ensures places { IfOk result (λ n. (t : Valued) → AreMade (table self.old) → setting_at self.old setting ≡ Some t → HavePlaces self.old.shapes.items t references.now n) }
+    {
         let mut all: u64 = 0;
         for reference in references {
-            all = all.saturating_add(self.channels(setting, file, reference)?);
+            let places = self.channels(setting, file, reference)?;
+            all = all.saturating_add(places);
         }
         Ok(all)
     }

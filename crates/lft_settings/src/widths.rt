@@ -1,10 +1,14 @@
 //! Widths of ports and banks in a setting.
 
-ghost use Rattle.std.specs.Prelude.{◌≡◌, ◌≤◌, ◌↔◌, IfOk, IfSome, IsSome, OnOk, is_some};
+ghost use Rattle.std.specs.Prelude.{◌≡◌, ◌≤◌, ◌↔◌, ℕ, Some, IfOk, IfSome, IsSome, OnOk, is_some, option_and_then};
+ghost use Rattle.lft_settings.specs.Noted.{AreMade, GoesOn, GoesOnIf, table};
+ghost use Rattle.lft_settings.specs.Places.{AreMany, AreManyIn, HasPlaces, HasWidth, IsCount, IsMany, IsWidth, natural, parameter_in, plus, times};
+ghost use Rattle.lft_settings.specs.Settings.{setting_at};
+ghost use Rattle.lft_settings.specs.Values.{Valued};
 ghost use Rattle.lft_settings.specs.Widths.{member_at, width_at, found_width};
 
-use crate::places::Meaning;
-use crate::settings::Settings;
+use crate::settings::{Settings, note};
+use crate::values::number_named;
 use lft_shapes::{Inherited, Thing};
 use lft_sources::{Stop, Why};
 use lft_whole::{Count, Reference, Term};
@@ -14,6 +18,27 @@ use lft_whole::{Count, Reference, Term};
 struct Wanted {
     setting: usize,
     member: usize,
+}
+
+/// Two counts together, if both are known.
+fn plus(one: Option<u64>, other: Option<u64>) -> Option<u64>
+    ensures { result ≡ plus one other }
+{
+    Some(one?.saturating_add(other?))
+}
+
+/// So many for each of so many, if both are known.
+fn times(one: Option<u64>, other: Option<u64>) -> Option<u64>
+    ensures { result ≡ times one other }
+{
+    Some(one?.saturating_mul(other?))
+}
+
+/// Notes that the width of a member is being found.
+fn note_open(list: &mut [bool], member: usize) {
+    if member < list.len() {
+        list[member] = true;
+    }
 }
 
 impl<'a> Settings<'a> {
@@ -52,23 +77,25 @@ impl<'a> Settings<'a> {
 
     /// Notes a width.
     fn note_width(&mut self, wanted: Wanted, width: u64)
-        ensures { self.new.work ≡ self.old.work }
+        ensures work { self.new.work ≡ self.old.work }
+        ensures goes { GoesOnIf ((t : Valued) → setting_at self.old wanted.setting ≡ Some t → IsWidth self.old.shapes.items t wanted.member width) (table self.old) (table self.new) }
     {
-        if let Some(setting) = self.settings.get_mut(wanted.setting)
-            && let Some(place) = setting.widths.get_mut(wanted.member)
-        {
-            *place = Some(width);
+        if wanted.setting < self.settings.len() {
+            note(
+                &mut self.settings[wanted.setting].widths,
+                wanted.member,
+                width,
+            );
         }
     }
 
     /// Notes that a width is being found.
     fn open_width(&mut self, wanted: Wanted)
-        ensures { self.new.work ≡ self.old.work }
+        ensures work { self.new.work ≡ self.old.work }
+        ensures goes { GoesOn (table self.old) (table self.new) }
     {
-        if let Some(setting) = self.settings.get_mut(wanted.setting)
-            && let Some(place) = setting.is_open.get_mut(wanted.member)
-        {
-            *place = true;
+        if wanted.setting < self.settings.len() {
+            note_open(&mut self.settings[wanted.setting].is_open, wanted.member);
         }
     }
 
@@ -80,6 +107,15 @@ impl<'a> Settings<'a> {
         }
     }
 
+    /// The number of the parameter of this name in a setting.
+    fn number_in(&self, setting: usize, word: &str) -> Option<i64>
+        ensures { (t : Valued) → setting_at self.now setting ≡ Some t → result ≡ parameter_in self.now.shapes.items t word.now }
+    {
+        let found = self.settings.get(setting)?;
+        let shape = self.shapes.get(found.shape)?;
+        number_named(shape, found.values.as_slice(), word)
+    }
+
     /// The number of the parameter of this name, which is no width where it is below 0.
     fn parameter_width(
         &self,
@@ -87,16 +123,11 @@ impl<'a> Settings<'a> {
         file: usize,
         word: &str,
         at: usize,
-    ) -> Result<u64, Stop> {
-        let Some(shape) = self.shape_of(setting) else {
-            return Ok(0);
-        };
-        let Some(parameter) = shape.parameter(word) else {
+    ) -> Result<u64, Stop>
+        ensures { IfOk result (λ n. (t : Valued) → setting_at self.now setting ≡ Some t → option_and_then natural (parameter_in self.now.shapes.items t word.now) ≡ Some n) }
+    {
+        let Some(value) = self.number_in(setting, word) else {
             return Err(Stop::at(Why::UnknownParameter, file, at));
-        };
-        let value = match self.settings.get(setting) {
-            Some(found) => found.values.get(parameter).copied().unwrap_or(0),
-            None => 0,
         };
         if value < 0 {
             Err(Stop::at(Why::NegativeWidth, file, at))
@@ -107,7 +138,9 @@ impl<'a> Settings<'a> {
 
     /// How many a member is, on which a width hangs: 1 if it has no width. One that isn't known goes on the stack,
     /// and one that is being found already hangs on itself.
-    fn need(&self, needed: Wanted, open: &mut Vec<Wanted>) -> Result<Option<u64>, Stop> {
+    fn need(&self, needed: Wanted, open: &mut Vec<Wanted>) -> Result<Option<u64>, Stop>
+        ensures { IfOk result (λ found. IfSome found (λ n. (t : Valued) → AreMade (table self.now) → setting_at self.now needed.setting ≡ Some t → IsMany self.now.shapes.items t needed.member n)) }
+    {
         let Some(inherited) = self.inherited(needed) else {
             return Ok(Some(1));
         };
@@ -124,6 +157,36 @@ impl<'a> Settings<'a> {
         Ok(None)
     }
 
+    /// The same of a thing of a setting.
+    fn need_thing(
+        &self,
+        setting: usize,
+        thing: Thing,
+        open: &mut Vec<Wanted>,
+    ) -> Result<Option<u64>, Stop>
+        ensures { IfOk result (λ found. IfSome found (λ n. (t : Valued) → AreMade (table self.now) → setting_at self.now setting ≡ Some t → AreMany self.now.shapes.items t thing n)) }
+    {
+        match thing {
+            Thing::Member(member) => self.need(Wanted { setting, member }, open),
+            Thing::Parameter(_) => Ok(Some(1)),
+        }
+    }
+
+    /// The same of an instance of a setting, if there is one.
+    fn need_instance(
+        &self,
+        setting: usize,
+        instance: Option<usize>,
+        open: &mut Vec<Wanted>,
+    ) -> Result<Option<u64>, Stop>
+        ensures { IfOk result (λ found. IfSome found (λ n. (t : Valued) → AreMade (table self.now) → setting_at self.now setting ≡ Some t → AreManyIn self.now.shapes.items t instance n)) }
+    {
+        match instance {
+            Some(member) => self.need(Wanted { setting, member }, open),
+            None => Ok(Some(1)),
+        }
+    }
+
     /// How many places a reference in a width has, if the widths that it takes are known.
     fn width_of(
         &mut self,
@@ -132,31 +195,14 @@ impl<'a> Settings<'a> {
         reference: &Reference,
         open: &mut Vec<Wanted>,
     ) -> Result<Option<u64>, Stop>
-        ensures { OnOk result (self.new.work.left ≤ self.old.work.left) }
+        ensures work { OnOk result (self.new.work.left ≤ self.old.work.left) }
+        ensures goes { OnOk result (GoesOn (table self.old) (table self.new)) }
+        ensures places { IfOk result (λ found. IfSome found (λ n. (t : Valued) → AreMade (table self.old) → setting_at self.old setting ≡ Some t → HasPlaces self.old.shapes.items t reference.now n)) }
     {
-        let Meaning {
-            instance,
-            setting: inner,
-            thing,
-        } = self.meaning(setting, file, reference)?;
-        let count = match thing {
-            Thing::Member(member) => self.need(
-                Wanted {
-                    setting: inner,
-                    member,
-                },
-                open,
-            )?,
-            Thing::Parameter(_) => Some(1),
-        };
-        let members = match instance {
-            Some(member) => self.need(Wanted { setting, member }, open)?,
-            None => Some(1),
-        };
-        match (count, members) {
-            (Some(count), Some(members)) => Ok(Some(count.saturating_mul(members))),
-            _ => Ok(None),
-        }
+        let meaning = self.meaning(setting, file, reference)?;
+        let count = self.need_thing(meaning.setting, meaning.thing, open)?;
+        let members = self.need_instance(setting, meaning.instance, open)?;
+        Ok(times(count, members))
     }
 
     /// The number that a term of a width is, if the widths that it takes are known.
@@ -167,12 +213,15 @@ impl<'a> Settings<'a> {
         term: &Term,
         open: &mut Vec<Wanted>,
     ) -> Result<Option<u64>, Stop>
-        ensures { OnOk result (self.new.work.left ≤ self.old.work.left) }
+        ensures work { OnOk result (self.new.work.left ≤ self.old.work.left) }
+        ensures goes { OnOk result (GoesOn (table self.old) (table self.new)) }
+        ensures count { IfOk result (λ found. IfSome found (λ n. (t : Valued) → AreMade (table self.old) → setting_at self.old setting ≡ Some t → IsCount self.old.shapes.items t term.now.count n)) }
     {
         match &term.count {
             Count::Number(count) => Ok(Some(*count)),
             Count::Word(word) => {
-                Ok(Some(self.parameter_width(setting, file, word.as_str(), term.at)?))
+                let count = self.parameter_width(setting, file, word.as_str(), term.at)?;
+                Ok(Some(count))
             }
             Count::WidthOf(reference) => self.width_of(setting, file, reference, open),
             Count::Code => Err(Stop::at(Why::WidthByCode, file, term.at)),
@@ -180,10 +229,25 @@ impl<'a> Settings<'a> {
         }
     }
 
-    /// Finds a width, if all that it hangs on is known. Else that goes on the stack, above it.
-    fn find_width(&mut self, wanted: Wanted, open: &mut Vec<Wanted>) -> Result<(), Stop>
-        ensures { OnOk result (self.new.work.left ≤ self.old.work.left) }
+    /// Notes a width whose terms are so many together, and takes it from the stack, if all of them are known.
+    fn close_width(&mut self, wanted: Wanted, all: Option<u64>, open: &mut Vec<Wanted>)
+        ensures work { self.new.work ≡ self.old.work }
+        ensures goes { GoesOnIf (IfSome all (λ width. (t : Valued) → setting_at self.old wanted.setting ≡ Some t → IsWidth self.old.shapes.items t wanted.member width)) (table self.old) (table self.new) }
     {
+        if let Some(width) = all {
+            let _ = open.pop();
+            self.note_width(wanted, width);
+        }
+    }
+
+    /// Finds a width, if it isn't known and all that it hangs on is. Else that goes on the stack, above it.
+    fn find_width(&mut self, wanted: Wanted, open: &mut Vec<Wanted>) -> Result<(), Stop>
+        ensures work { OnOk result (self.new.work.left ≤ self.old.work.left) }
+        ensures goes { OnOk result (GoesOn (table self.old) (table self.new)) }
+    {
+        if self.known(wanted.setting, wanted.member).is_some() {
+            return Ok(());
+        }
         let Some(inherited) = self.inherited(wanted) else {
             return Ok(());
         };
@@ -192,18 +256,12 @@ impl<'a> Settings<'a> {
         };
         self.open_width(wanted);
         open.push(wanted)?;
-        let mut all: u64 = 0;
-        let mut is_known = true;
+        let mut all = Some(0);
         for term in &width.terms {
-            match self.term(wanted.setting, inherited.file, term, open)? {
-                Some(count) => all = all.saturating_add(count),
-                None => is_known = false,
-            }
+            let count = self.term(wanted.setting, inherited.file, term, open)?;
+            all = plus(all, count);
         }
-        if is_known {
-            let _ = open.pop();
-            self.note_width(wanted, all);
-        }
+        self.close_width(wanted, all, open);
         Ok(())
     }
 
@@ -211,6 +269,8 @@ impl<'a> Settings<'a> {
     pub fn width(&mut self, setting: usize, member: usize) -> Result<Option<u64>, Stop>
         ensures plain { IfOk result (λ width. IsSome width ↔ IsSome (width_at self.old setting member)) }
         ensures found { IfOk result (λ width. IfSome width (λ count. found_width self.new setting member ≡ Some count)) }
+        ensures goes { OnOk result (GoesOn (table self.old) (table self.new)) }
+        ensures width { IfOk result (λ width. (t : Valued) → AreMade (table self.old) → setting_at self.old setting ≡ Some t → HasWidth self.old.shapes.items t member width) }
     {
         let first = Wanted { setting, member };
         if !self.is_wide(first) {
@@ -223,9 +283,7 @@ impl<'a> Settings<'a> {
             }
             self.work.spend(1)?;
             let wanted = open.pop().unwrap_or(first);
-            if self.known(wanted.setting, wanted.member).is_none() {
-                self.find_width(wanted, &mut open)?;
-            }
+            self.find_width(wanted, &mut open)?;
         }
     }
 }

@@ -1,4 +1,4 @@
-use Rattle.std.proofs.Common.{◌≡◌, None, Option, length, replicate, ap, ◌∙◌, arith}
+use Rattle.std.proofs.Common.{None, length, ap, ◌∙◌, arith}
 use Rattle.lft_lists.proofs.Places.{length_same}
 use Rattle.lft_settings.proofs.Valuing.{given_none, given_put}
 use Rattle.lft_settings.proofs.values.given_values.Goals as goal

@@ -1,4 +1,4 @@
-use Rattle.std.proofs.Common.{◌<◌, length, Some, map, arith, rules, w64}
+use Rattle.std.proofs.Common.{◌<◌, Some, map, arith, rules, w64}
 use Rattle.std.specs.Prelude.{FitsSigned}
 use Rattle.lft_settings.specs.Values.{value_inside}
 use Rattle.lft_settings.proofs.Valuing.{given_read, number_pushed}

@@ -1,5 +1,4 @@
-use Rattle.std.proofs.Common.{refl, ap, ◌∙◌, ◌≡◌, None}
-use Rattle.lft_settings.specs.declared.settings.Setting.{Setting}
+use Rattle.std.proofs.Common.{refl, ap, ◌∙◌}
 use Rattle.lft_settings.specs.Noted.{noted_at, table}
 use Rattle.lft_settings.proofs.Keeping.{none_noted}
 use Rattle.lft_settings.proofs.settings.Settings.add_setting.Goals as goal

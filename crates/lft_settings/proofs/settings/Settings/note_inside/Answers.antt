@@ -1,4 +1,4 @@
-use Rattle.std.proofs.Common.{◌≡◌, ◌<◌, length, Some, inl, inr, refl, sym, ap, subst, ◌∙◌, arith, slice_get, slice_set}
+use Rattle.std.proofs.Common.{◌≡◌, length, Some, inl, inr, refl, sym, ap, subst, ◌∙◌, arith, slice_get, slice_set}
 use Rattle.std.proofs.lemmas.List.{with_items_is}
 use Rattle.std.proofs.lemmas.Option.{slice_get_read}
 use Rattle.std.specs.Vec.{with_items}

@@ -1,0 +1,8 @@
+use Rattle.lft_settings.proofs.Keeping.{goes_further, goes_nowhere}
+use Rattle.lft_settings.proofs.settings.Settings.totals.Goals as goal
+
+pub loop-place-init : goal.loop-place-init
+loop-place-init c = goes_nowhere _
+
+pub loop-place-preserved : goal.loop-place-preserved
+loop-place-preserved c = goes_further _ _ _ c.loop-place.invariant c.in_ok-counts.ensures
