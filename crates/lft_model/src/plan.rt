@@ -1,11 +1,12 @@
 //! A program with its precedence and its external inputs.
 
-ghost use Rattle.std.specs.Prelude.{◌≡◌, ◌↔◌, ℕ, List, Err, IfOk, OnOk, IsTrue};
+ghost use Rattle.std.specs.Prelude.{◌≡◌, ◌↔◌, ◌≤◌, ◌<◌, ℕ, List, length, Err, IfOk, IfSome, IfNone, OnOk, OnErr, IsTrue};
+ghost use Rattle.std.specs.List.{insert};
 
 use lft_flat::Program;
 use lft_graph::{Graph, GraphFault};
-use lft_steps::Externals;
-use lft_tag::NoMemory;
+use lft_steps::{Event, Externals};
+use lft_tag::{NoMemory, Tag};
 use std::alloc::Global;
 use std::marker::Model;
 
@@ -31,7 +32,9 @@ impl Model for Plan {
 }
 
 impl Plan {
-    ghost use Rattle.lft_steps.specs.Fits.{ExternalsFit};
+    ghost use Rattle.lft_tag.specs.Tags.{IsRecorded};
+    ghost use Rattle.lft_steps.specs.Fits.{EventFits, ExternalsFit};
+    ghost use Rattle.lft_steps.specs.Inputs.{IsTold};
     ghost use Rattle.lft_graph.specs.Graph.{IsGraphOf};
     ghost use Rattle.lft_graph.specs.Loops.{IsLoop};
     ghost use Rattle.lft_graph.specs.Precedence.{HasNoLoop, IsLevelled};
@@ -68,6 +71,35 @@ impl Plan {
             externals,
             graph,
         }
+    }
+
+    /// Puts an external event at its place among the others, and gives the place; or gives None and
+    /// leaves all as it was, where an event of its action at its tag is there already. Where memory is
+    /// refused all stays as it was.
+    pub fn tell(&mut self, event: Event) -> Result<Option<usize>, NoMemory>
+        requires fit { EventFits self.old.program event }
+        requires room { length self.old.externals.events < 4000000 }
+        ensures program { self.new.program ≡ self.old.program }
+        ensures stop { self.new.externals.stop ≡ self.old.externals.stop }
+        ensures some { IfOk result (λ place. IfSome place (λ p. (p ≤ length self.old.externals.events) × (self.new.externals.events ≡ insert self.old.externals.events p event))) }
+        ensures none { IfOk result (λ place. IfNone place (IsTold self.old.externals.events event × (self.new.externals.events ≡ self.old.externals.events))) }
+        ensures err { OnErr result (self.new.externals.events ≡ self.old.externals.events) }
+    {
+        let told = self.externals.tell(event);
+        // Asked for what all external inputs keep: they stand in order.
+        self.externals.keeps();
+        told
+    }
+
+    /// Makes the tag the stop. All else stays.
+    pub fn stop_at(&mut self, stop: Tag)
+        requires { IsRecorded stop }
+        ensures program { self.new.program ≡ self.old.program }
+        ensures externals { self.new.externals ≡ record { stop = stop; events = self.old.externals.events } }
+    {
+        self.externals.stop_at(stop);
+        // Asked for what all external inputs keep: they stand in order.
+        self.externals.keeps();
     }
 
     /// Does nothing. It is called for its clause, where code has the plan and a proof needs what

@@ -1,8 +1,10 @@
 //! External inputs.
 
-ghost use Rattle.std.specs.Prelude.{◌≡◌, ◌↔◌, IfOk, IsTrue};
+ghost use Rattle.std.specs.Prelude.{◌≡◌, ◌↔◌, ◌≤◌, IfOk, IfSome, IfNone, IsTrue, OnErr, length};
+ghost use Rattle.std.specs.List.{insert};
 
 use crate::fits::{event_fits, is_recorded};
+use crate::order::place_of;
 use crate::same::same_events;
 use lft_flat::{Program, Value};
 use lft_tag::{MAX_ROWS, NoMemory, Tag};
@@ -39,7 +41,7 @@ impl Model for Externals {
 
 impl Externals {
     ghost use Rattle.lft_steps.specs.Fits.{ExternalsFit};
-    ghost use Rattle.lft_steps.specs.Inputs.{InOrder};
+    ghost use Rattle.lft_steps.specs.Inputs.{InOrder, IsTold};
 
     /// The external inputs of a stop tag and of events in their order. It takes no memory.
     pub fn from_parts(stop: Tag, events: Vec<Event>) -> Externals
@@ -70,6 +72,31 @@ impl Externals {
         ensures order { InOrder self.now.events }
     {
         self.events.as_slice()
+    }
+
+    /// Puts an event at its place in the order, and gives the place; or gives None and leaves all as
+    /// it was, where an event of its action at its tag is there already. Where memory is refused all
+    /// stays as it was.
+    pub fn tell(&mut self, event: Event) -> Result<Option<usize>, NoMemory>
+        ensures stop { self.new.stop ≡ self.old.stop }
+        ensures some { IfOk result (λ place. IfSome place (λ p. (p ≤ length self.old.events) × (self.new.events ≡ insert self.old.events p event))) }
+        ensures none { IfOk result (λ place. IfNone place (IsTold self.old.events event × (self.new.events ≡ self.old.events))) }
+        ensures err { OnErr result (self.new.events ≡ self.old.events) }
+    {
+        let Some(place) = place_of(self.events.as_slice(), event) else {
+            return Ok(None);
+        };
+        match self.events.insert(place, event) {
+            Ok(()) => Ok(Some(place)),
+            Err(_) => Err(NoMemory),
+        }
+    }
+
+    /// Makes the tag the stop. The events stay.
+    pub fn stop_at(&mut self, stop: Tag)
+        ensures { self.new ≡ record { stop = stop; events = self.old.events } }
+    {
+        self.stop = stop;
     }
 
     /// Whether all actions are of the program and all tags recorded, in at most 4,000,000 events.

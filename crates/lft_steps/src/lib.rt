@@ -3,6 +3,7 @@
 
 mod externals;
 mod fits;
+mod order;
 mod row;
 mod same;
 mod steps;
