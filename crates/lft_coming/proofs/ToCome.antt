@@ -1,5 +1,5 @@
 -- The events to come.
-use Rattle.std.proofs.Common.{◌≡◌, ℕ, suc, ◌+◌, ◌<◌, ◌⊎◌, inl, inr, List, [], ◌∷◌, ◌++◌, drop, length, refl, sym, ap, ◌∙◌, subst, arith, Option, Some, None, Bool, true, false, cond, ◌&&◌, ◌==◌, eqb-true, eq-eqb, ne_eqb, slice_get, slice_index_or, filter_map, option_to_list, Contains}
+use Rattle.std.proofs.Common.{◌≡◌, ℕ, suc, ◌+◌, ◌<◌, ◌⊎◌, inl, inr, List, [], ◌∷◌, ◌++◌, drop, length, refl, sym, ap, ◌∙◌, subst, arith, Option, Some, None, Bool, true, false, cond, ◌&&◌, ◌==◌, eqb-true, eq-eqb, ne_eqb, ⊎_elim, slice_get, slice_index_or, filter_map, option_to_list, Contains}
 use Rattle.std.specs.List.{filter, cons_option}
 use Rattle.std.proofs.lemmas.Bool.{false≢true}
 use Rattle.std.proofs.lemmas.List.{append-nil}
@@ -10,7 +10,7 @@ use native.Mathlib.Decide.{dec_lt}
 use Rattle.lft_lists.proofs.Places.{same_at}
 use Rattle.lft_tag.specs.declared.Tag.{Tag}
 use Rattle.lft_tag.specs.Tags.{Before, UpTo, same_tag}
-use Rattle.lft_tag.proofs.Order.{UpTo-refl, Before-weaken, UpTo-Before, Before-UpTo, Before-trans, Before-irrefl, same_tag_refl, split_up, UpTo-not, same_tag_true}
+use Rattle.lft_tag.proofs.Order.{order_cases, UpTo-refl, Before-weaken, UpTo-Before, Before-UpTo, Before-trans, Before-irrefl, same_tag_refl, split_up, UpTo-not, same_tag_true}
 use Rattle.lft_lists.proofs.Members.{Mem, contains_mem, none_nil}
 use Rattle.lft_flat.proofs.Ranges.{slice_get-drop}
 use Rattle.lft_flat.specs.declared.parts.Value.{Value}
@@ -28,7 +28,7 @@ use Rattle.lft_queue.proofs.Dropping.{later_value}
 use Rattle.lft_queue.proofs.Tests.{not_before, tag_apart}
 use Rattle.lft_coming.specs.declared.coming.Coming.{Coming}
 use Rattle.lft_coming.specs.declared.listeners.Listeners.{Listeners}
-use Rattle.lft_coming.specs.Coming.{given_from, to_come, put_at, AreBrought, ArePassed, IsReached, AreOver}
+use Rattle.lft_coming.specs.Coming.{given_from, to_come, put_at, AreBrought, AreTaken, ArePassed, IsReached, AreOver}
 use Rattle.lft_coming.specs.Listeners.{IsUnheard}
 
 -- an event of the queue is one at its tag
@@ -207,6 +207,14 @@ module _ (events : List Event) (order : InOrder events) (k : ℕ) (x : Event) (i
       go (Port p) false s = refl
       go (Action a) b s = parted a b s ∙ ap (λ (xs : List Event). filter_map (given h a) xs ++ option_to_list (value_of h (Action a) old.queue)) (sym dropped)
 
+-- one event more is taken
+pub one_taken : (events : List Event) (from k next : ℕ) (g : Tag) (x : Event) → next ≡ k + 1 → slice_get events k ≡ Some x → ¬ Before g x.tag → AreTaken events from k g → AreTaken events from next g
+one_taken events from k next g x e at late are i above below = go (dec_lt i k)
+  where
+    go : Dec (i < k) → (y : Event) × (slice_get events i ≡ Some y) × UpTo y.tag g
+    go (yes l) = are i above l
+    go (no m) = let here : i ≡ k = omega arith in (x, ap (λ (n : ℕ). slice_get events n) here ∙ at, ⊎_elim (λ b. absurd (late b)) (λ u. u) (order_cases g x.tag))
+
 -- of an option the value is the one item
 pub item_of : (o : Option Value) (v : Value) → Contains (option_to_list o) v → o ≡ Some v
 item_of None v c = absurd (contains_mem v [] c)
@@ -220,7 +228,7 @@ pub few_of : (o : Option Value) → length (option_to_list o) < 2
 few_of None = omega arith
 few_of (Some v) = omega arith
 
-module _ (events : List Event) (listeners : Listeners) (g : Tag) (old mid new : Coming) (same : (h : Tag) (n : Name) → to_come events mid h n ≡ to_come events old h n) (brought : AreBrought events mid.next g) (next : new.next ≡ mid.next) (passed : ArePassed listeners g mid.queue new.queue) where
+module _ (events : List Event) (listeners : Listeners) (g : Tag) (old mid new : Coming) (same : (h : Tag) (n : Name) → to_come events mid h n ≡ to_come events old h n) (brought : AreBrought events mid.next g) (taken : AreTaken events old.next mid.next g) (next : new.next ≡ mid.next) (passed : ArePassed listeners g mid.queue new.queue) where
   -- up to the tag all is in the queue
   in_queue : (h : Tag) (n : Name) → UpTo h g → to_come events old h n ≡ option_to_list (value_of h n mid.queue)
   in_queue h n up = sym (same h n) ∙ only_queue events mid g h n brought up
@@ -231,6 +239,7 @@ module _ (events : List Event) (listeners : Listeners) (g : Tag) (old mid new : 
     alone = λ h n b. rw (in_queue h n (Before-weaken h g b)) (few_of (value_of h n mid.queue));
     same = λ h n up. ap (λ (k : ℕ). given_from events k h n ++ option_to_list (value_of h n new.queue)) next ∙ ap (λ (o : Option Value). given_from events mid.next h n ++ option_to_list o) (passed.same h n up) ∙ same h n;
     brought = subst (λ (k : ℕ). AreBrought events k g) (sym next) brought;
+    taken = subst (λ (k : ℕ). AreTaken events old.next k g) (sym next) taken;
   }
 
 -- and where what comes at the tag triggers nothing either, all up to the tag is over

@@ -33,17 +33,22 @@ put_at g n v h m = cond (same_key g n h m) (v ∷ []) []
 abbrev pub AreBrought : List Event → ℕ → Tag → Type 0
 AreBrought events place g = (i : ℕ) (x : Event) → place ≤ i → slice_get events i ≡ Some x → Before g x.tag
 
+-- there are external events from one place up to another, and they are up to g
+abbrev pub AreTaken : List Event → ℕ → ℕ → Tag → Type 0
+AreTaken events from to g = (i : ℕ) → from ≤ i → i < to → (x : Event) × (slice_get events i ≡ Some x) × UpTo x.tag g
+
 -- the events before g are gone, and were of names that trigger nothing; all others are as they were
 pub record ArePassed (listeners : Listeners) (g : Tag) (old new : List Pending) : Type 0 where
   pub unheard : (h : Tag) (n : Name) (v : Value) → Before h g → value_of h n old ≡ Some v → IsUnheard listeners n
   pub same : (h : Tag) (n : Name) → UpTo g h → value_of h n new ≡ value_of h n old
 
--- the events before g were of names that trigger nothing, each alone at its tag; from g on all is as it was, and the external events after g alone are outside the queue
+-- the events before g were of names that trigger nothing, each alone at its tag; from g on all is as it was, and the external events after g alone are outside the queue: those that went into it are up to g
 pub record IsReached (events : List Event) (listeners : Listeners) (g : Tag) (old new : Coming) : Type 0 where
   pub unheard : (h : Tag) (n : Name) (v : Value) → Before h g → Contains (to_come events old h n) v → IsUnheard listeners n
   pub alone : (h : Tag) (n : Name) → Before h g → length (to_come events old h n) < 2
   pub same : (h : Tag) (n : Name) → UpTo g h → to_come events new h n ≡ to_come events old h n
   pub brought : AreBrought events new.next g
+  pub taken : AreTaken events old.next new.next g
 
 -- the events up to g are of names that trigger nothing, each alone at its tag
 pub record AreOver (events : List Event) (listeners : Listeners) (g : Tag) (coming : Coming) : Type 0 where

@@ -90,7 +90,8 @@ fn carry(
     last: Tag,
 ) -> bool
     requires { IsRecorded tag }
-    ensures { IsTrue result → (events : List TheEvent) (h : TheTag) (n : TheName) → UpTo h last → to_come events coming.new h n ≡ to_come events coming.old h n ++ filter_map (arrival program.now origin tag value h n) targets.now }
+    ensures next { coming.new.next ≡ coming.old.next }
+    ensures put { IsTrue result → (events : List TheEvent) (h : TheTag) (n : TheName) → UpTo h last → to_come events coming.new h n ≡ to_come events coming.old h n ++ filter_map (arrival program.now origin tag value h n) targets.now }
 {
     for place in 0..targets.len() {
         let target = item_at(targets, place);
@@ -117,7 +118,8 @@ fn carry_row(
     requires fits { RowFits program.now row }
     requires ports { length writes.old ≡ length program.now.ports }
     requires channels { AreReadChannels program.now channels.now }
-    ensures { IsTrue result → (u : List TheRow) (count : ℕ) (start : TheComing) → slice_get u count ≡ Some row → AreCarried program.now (is_read program.now) u row.tag last count start coming.old writes.old → AreCarried program.now (is_read program.now) u row.tag last (count + 1) start coming.new writes.new }
+    ensures next { coming.new.next ≡ coming.old.next }
+    ensures carried { IsTrue result → (u : List TheRow) (count : ℕ) (start : TheComing) → slice_get u count ≡ Some row → AreCarried program.now (is_read program.now) u row.tag last count start coming.old writes.old → AreCarried program.now (is_read program.now) u row.tag last (count + 1) start coming.new writes.new }
 {
     let Some((port, _)) = written_port(&row.step) else {
         return true;
@@ -151,6 +153,7 @@ pub(crate) fn carry_all(
     requires at { AreAt rows.now tag }
     requires channels { AreReadChannels program.now channels.now }
     requires writes { AreWrites program.now rows.now tag writes.old }
+    ensures next { coming.new.next ≡ coming.old.next }
     ensures earlier { IsTrue result → AreEarlier program.now (after tag 0) writes.new }
     ensures carried { IsTrue result → (events : List TheEvent) (h : TheTag) (n : TheName) → IsAwaited program.now n → Before tag h → UpTo h last → to_come events coming.new h n ≡ to_come events coming.old h n ++ held (carried_by program.now rows.now tag n) h }
 {

@@ -6,7 +6,7 @@ ghost use Rattle.lft_tag.specs.Tags.{Before, UpTo};
 ghost use Rattle.lft_flat.specs.declared.parts.Name.{Name as TheName};
 ghost use Rattle.lft_steps.specs.declared.externals.Event.{Event as TheEvent};
 ghost use Rattle.lft_queue.specs.Pending.{value_of, Becomes};
-ghost use Rattle.lft_coming.specs.Coming.{put_at, to_come, AreBrought, ArePassed, IsReached, AreOver, IsClear, IsNoLater};
+ghost use Rattle.lft_coming.specs.Coming.{put_at, to_come, AreBrought, AreTaken, ArePassed, IsReached, AreOver, IsClear, IsNoLater};
 ghost use Rattle.lft_coming.specs.Listeners.{IsUnheard};
 
 use crate::listeners::Listeners;
@@ -70,7 +70,8 @@ impl Coming {
     /// Puts an event in, where it is up to the stop: behind that nobody waits for one. It is false where
     /// the name has an event at the tag already, or memory is refused.
     pub(crate) fn put_until(&mut self, last: Tag, tag: Tag, name: Name, value: Value) -> bool
-        ensures { IsTrue result → (events : List TheEvent) (h : TheTag) (n : TheName) → UpTo h last → to_come events self.new h n ≡ to_come events self.old h n ++ put_at tag name value h n }
+        ensures next { self.new.next ≡ self.old.next }
+        ensures put { IsTrue result → (events : List TheEvent) (h : TheTag) (n : TheName) → UpTo h last → to_come events self.new h n ≡ to_come events self.old h n ++ put_at tag name value h n }
     {
         if last.is_before(tag) {
             return true;
@@ -107,6 +108,7 @@ impl Coming {
     /// its action, or memory is refused.
     fn bring(&mut self, externals: &Externals, tag: Tag) -> bool
         ensures brought { IsTrue result → AreBrought externals.now.events self.new.next tag }
+        ensures taken { AreTaken externals.now.events self.old.next self.new.next tag }
         ensures same { IsTrue result → (h : TheTag) (n : TheName) → to_come externals.now.events self.new h n ≡ to_come externals.now.events self.old h n }
     {
         let events = externals.events();
@@ -186,7 +188,8 @@ impl Coming {
 
     /// Takes the queue's events up to the tag out.
     pub fn drop_until(&mut self, tag: Tag)
-        ensures { (events : List TheEvent) (h : TheTag) (n : TheName) → Before tag h → to_come events self.new h n ≡ to_come events self.old h n }
+        ensures next { self.new.next ≡ self.old.next }
+        ensures same { (events : List TheEvent) (h : TheTag) (n : TheName) → Before tag h → to_come events self.new h n ≡ to_come events self.old h n }
     {
         self.queue.drop_until(tag);
     }

@@ -26,7 +26,8 @@ use lft_tag::{NoMemory, Tag};
 /// events meet, or memory is refused.
 fn schedule(coming: &mut Coming, plan: &Plan, row: Row, last: Tag) -> bool
     requires { RowFits plan.now.program row }
-    ensures { IsTrue result → (events : List TheEvent) (h : TheTag) (n : TheName) → UpTo h last → to_come events coming.new h n ≡ to_come events coming.old h n ++ held (scheduled_by plan.now (row ∷ []) n) h }
+    ensures next { coming.new.next ≡ coming.old.next }
+    ensures put { IsTrue result → (events : List TheEvent) (h : TheTag) (n : TheName) → UpTo h last → to_come events coming.new h n ≡ to_come events coming.old h n ++ held (scheduled_by plan.now (row ∷ []) n) h }
 {
     match row.step {
         Step::Schedule(Name::Action(number), value, delay) => {
@@ -47,7 +48,8 @@ fn schedule(coming: &mut Coming, plan: &Plan, row: Row, last: Tag) -> bool
 /// is refused.
 fn schedule_all(coming: &mut Coming, plan: &Plan, rows: &[Row], last: Tag) -> bool
     requires { RowsFit plan.now.program rows.now }
-    ensures { IsTrue result → (events : List TheEvent) (h : TheTag) (n : TheName) → UpTo h last → to_come events coming.new h n ≡ to_come events coming.old h n ++ held (scheduled_by plan.now rows.now n) h }
+    ensures next { coming.new.next ≡ coming.old.next }
+    ensures put { IsTrue result → (events : List TheEvent) (h : TheTag) (n : TheName) → UpTo h last → to_come events coming.new h n ≡ to_come events coming.old h n ++ held (scheduled_by plan.now rows.now n) h }
 {
     for place in 0..rows.len() {
         if !schedule(coming, plan, row_at(rows, place), last) {
@@ -120,6 +122,7 @@ pub fn pass_on(
     requires at { AreAt rows.now tag }
     requires channels { AreReadChannels plan.now.program channels.now }
     requires writes { AreWrites plan.now.program rows.now tag writes.old }
+    ensures next { coming.new.next ≡ coming.old.next }
     ensures earlier { IsTrue result → AreEarlier plan.now.program (after tag 0) writes.new }
     ensures caused { IsTrue result → (events : List TheEvent) (h : TheTag) (n : TheName) → IsAwaited plan.now.program n → Before tag h → UpTo h last → to_come events coming.new h n ≡ to_come events coming.old h n ++ held (caused_by plan.now rows.now tag n) h }
 {

@@ -2,11 +2,12 @@
 use Rattle.std.proofs.Common.{◌≡◌, ℕ, ◌+◌, ◌<◌, ◌⊎◌, inl, inr, Bool, true, false, List, [], ◌∷◌, ◌++◌, ◌-◌, append_assoc, take, map, length, refl, sym, ap, ◌∙◌, subst, arith, Option, Some, None, IsSome, slice_get, filter_map, option_map, option_to_list, Contains}
 use Rattle.std.specs.List.{last_or}
 use Rattle.std.proofs.lemmas.List.{append-nil}
+use native.Mathlib.Decide.{dec_lt}
 use Rattle.lft_tag.specs.declared.Tag.{Tag}
 use Rattle.lft_tag.specs.Tags.{Before, UpTo, after, after_all, earliest}
 use Rattle.lft_tag.proofs.Order.{UpTo-refl, UpTo-trans, UpTo_antisym, UpTo-Before, Before-UpTo, Before-weaken, order_cases, after_past, from_first}
 use Rattle.lft_lists.proofs.Members.{get_mem, contains_mem, mem_contains}
-use Rattle.lft_lists.proofs.Places.{get_there, get_append_cases}
+use Rattle.lft_lists.proofs.Places.{get_there, get_right, get_append_cases}
 use Rattle.lft_flat.proofs.Ranges.{length-range}
 use Rattle.lft_flat.specs.Origins.{Origin}
 use Rattle.lft_flat.specs.Sound.{IsSound}
@@ -14,6 +15,7 @@ use Rattle.lft_flat.specs.declared.parts.Value.{Value}
 use Rattle.lft_flat.specs.declared.parts.Name.{Name}
 use Rattle.lft_flat.specs.declared.parts.Name.TheVariants.{Port, Action}
 use Rattle.lft_flat.specs.declared.parts.Trigger.TheVariants.{On}
+use Rattle.lft_steps.specs.declared.externals.Event.{Event}
 use Rattle.lft_steps.specs.declared.row.Row.{Row}
 use Rattle.lft_steps.specs.declared.row.Step.{Step}
 use Rattle.lft_model.specs.Plans.{PlanParts}
@@ -35,9 +37,9 @@ use Rattle.lft_stream.specs.Settled.{IsRightBehind}
 use Rattle.lft_stream.specs.StartTags.{AreStartTags}
 use Rattle.lft_coming.specs.Listens.{Listens}
 use Rattle.lft_stream.specs.Dues.{AreDues, NoneOwed}
-use Rattle.lft_stream.specs.Kept.{KeepRules, IsLater, AreUpTo, low_of, state_of, IsStreamOf, IsAtHand, IsJudged}
+use Rattle.lft_stream.specs.Kept.{KeepRules, IsLater, AreUpTo, IsOfRow, low_of, HaveCome, state_of, IsStreamOf, IsAtHand, IsJudged}
 use Rattle.lft_coming.specs.Lanes.{held, first_events, IsMetAt, LaneGoesOn}
-use Rattle.lft_coming.specs.Coming.{to_come, IsReached, AreOver, AreComing}
+use Rattle.lft_coming.specs.Coming.{to_come, AreTaken, IsReached, AreOver, AreComing}
 use Rattle.lft_coming.specs.Shown.{IsInLane, last_write}
 use Rattle.lft_coming.specs.declared.coming.Coming.{Coming}
 use Rattle.lft_coming.specs.declared.listeners.Listeners.{Listeners}
@@ -120,16 +122,30 @@ begins_kept plan s stops none runs tags dues starts writes listeners channels be
   lanes = first_events plan;
   none = λ p h e up. refl;
   coming = λ n h waited up far. first_to_come plan n h ∙ ap (λ (c : Coming). to_come plan.externals.events c h n) (sym begins);
+  come = rw none (ap (λ (c : Coming). c.next) begins);
   alone = λ p h un up far. omega arith;
   state = rw (none, runs, tags) ((stream_law plan).begins s.dues dues);
   stop_is = stops;
   up_to = rw none refl;
+  of_row = rw none tt;
   writes = writes (low_of s.tag);
   starts = starts;
   listeners = listeners;
   channels = channels;
   unread = unread;
 }
+
+-- the events that come up to a later tag are taken behind those that have come
+come_on : (events : List Event) (last : Option Tag) (g : Tag) (from to : ℕ) → IsLater last g → HaveCome events last from → AreTaken events from to g → AreTaken events 0 to g
+come_on events last g from to later come taken i above below = go (dec_lt i from)
+  where
+    before : (o : Option Tag) → IsLater o g → HaveCome events o from → i < from → (x : Event) × (slice_get events i ≡ Some x) × UpTo x.tag g
+    before None l none at = absurd (omega arith)
+    before (Some h) l come at = let c = come i above at in (c.0, c.1, UpTo-trans c.0.tag h g c.2 (Before-weaken h g l))
+
+    go : Dec (i < from) → (x : Event) × (slice_get events i ≡ Some x) × UpTo x.tag g
+    go (yes l) = before last later come l
+    go (no m) = taken i (omega arith) below
 
 -- what the lanes have at a tag is met: of names that somebody waits for where nothing comes that is heard, of the others in any case
 lane_is_met : (plan : PlanParts) (t : List Row) (s : Stream) (is : IsStreamOf plan t s) (h : Tag) → UpTo (low_of s.tag) h → UpTo h s.stop → ((n : Name) → length (to_come plan.externals.events s.coming h n) < 2) → ((n : Name) (v : Value) → Contains (to_come plan.externals.events s.coming h n) v → IsUnheard s.listeners n) → (n : Name) → IsMetAt plan t n h (is.lanes n)
@@ -273,15 +289,17 @@ module _ (plan : PlanParts) (d u : List Row) (g : Tag) (old : Stream) (is : IsSt
           stands = move_law plan (d ++ u) (state_of lanes_at g new) (state_of lanes_at (after g 0) new) ((stream_law plan).grows d u g first.reaction (state_of is.lanes g old) (state_of lanes_at g new) there right some_ran grown) (record { lanes = goes_past; dues = refl; runs = refl; tags = refl })
 
           -- the state over the rows of a later tag
-          pub grows_kept : new.stop ≡ earliest old.stop (requests u) → new.tag ≡ Some g → AreStartTags plan.program (d ++ u) new.starts → AreEarlier plan.program (after g 0) new.writes → AreListeners plan new.listeners → AreReadChannels plan.program new.channels → AreUnread plan.program (d ++ u) new.unread → AreFree plan.program d u g new.stop → ((h : Tag) (n : Name) → IsAwaited plan.program n → Before g h → UpTo h new.stop → to_come plan.externals.events new.coming h n ≡ to_come plan.externals.events c h n ++ held (caused_by plan u g n) h) → IsStreamOf plan (d ++ u) new
-          grows_kept stops tag starts writes listeners channels unread free more = record {
+          pub grows_kept : new.stop ≡ earliest old.stop (requests u) → new.tag ≡ Some g → AreStartTags plan.program (d ++ u) new.starts → AreEarlier plan.program (after g 0) new.writes → AreListeners plan new.listeners → AreReadChannels plan.program new.channels → AreUnread plan.program (d ++ u) new.unread → AreFree plan.program d u g new.stop → ((h : Tag) (n : Name) → IsAwaited plan.program n → Before g h → UpTo h new.stop → to_come plan.externals.events new.coming h n ≡ to_come plan.externals.events c h n ++ held (caused_by plan u g n) h) → new.coming.next ≡ c.next → IsStreamOf plan (d ++ u) new
+          grows_kept stops tag starts writes listeners channels unread free more next = record {
             lanes = lanes_at;
             none = λ p h e up. none p h e (past h up);
             alone = λ p h un up far. lone p h un (past h up) far;
             coming = subst (λ (last : Option Tag). AreComing plan (low_of last) new.stop lanes_at new.coming) (sym tag) (λ n h waited up far. still n h waited (Before-UpTo g (after g 0) h (after_past g 0) up) far);
+            come = subst (λ (last : Option Tag). HaveCome plan.externals.events last new.coming.next) (sym tag) (subst (λ (k : ℕ). AreTaken plan.externals.events 0 k g) (sym next) (come_on plan.externals.events old.tag g old.coming.next c.next later is.come reached.taken));
             state = subst (λ (last : Option Tag). IsStream plan (d ++ u) (state_of lanes_at (low_of last) new)) (sym tag) stands;
             stop_is = stops ∙ stop_now;
             up_to = subst (λ (last : Option Tag). AreUpTo (d ++ u) last) (sym tag) up_to;
+            of_row = subst (λ (last : Option Tag). IsOfRow (d ++ u) last) (sym tag) (length d + 0, first, get_right d u 0 ∙ is_first, at 0 first is_first);
             writes = subst (λ (last : Option Tag). AreEarlier plan.program (low_of last) new.writes) (sym tag) writes;
             starts = starts;
             listeners = listeners;
@@ -387,8 +405,8 @@ module _ (plan : PlanParts) (done rows : List Row) (s : Slice) (slice : IsSlice 
   }
 
   -- and what is kept is right for them too, once they are judged
-  pub slice_grows : IsSound plan.program → (c : Coming) → IsReached plan.externals.events old.listeners s.tag old.coming c → ((r : ℕ) → Ran own s.tag r → ¬ IsTooEarly plan own s.tag r) → (judged new : Stream) → IsJudged plan so_far rows s judged → judged.coming ≡ c → judged.listeners ≡ old.listeners → new.stop ≡ earliest old.stop (requests own) → new.tag ≡ Some s.tag → new.runs ≡ old.runs + runs_in own → new.tags ≡ old.tags + 1 → new.dues ≡ judged.dues → new.starts ≡ judged.starts → AreEarlier plan.program (after s.tag 0) new.writes → new.listeners ≡ judged.listeners → new.channels ≡ old.channels → AreUnread plan.program (so_far ++ own) new.unread → AreFree plan.program so_far own s.tag new.stop → ((h : Tag) (n : Name) → IsAwaited plan.program n → Before s.tag h → UpTo h new.stop → to_come plan.externals.events new.coming h n ≡ to_come plan.externals.events c h n ++ held (caused_by plan own s.tag n) h) → IsStreamOf plan (done ++ take s.end rows) new
-  slice_grows good c reached ranked judged new is_judged coming heard_by stops tag runs tags dues starts writes listeners channels unread free more = subst (λ (t : List Row). IsStreamOf plan t new) together (grows_kept plan so_far own s.tag old is first.0 first.1 (are_at rows s slice) later reach own_kept good c reached is_judged.heard met ranked (λ r o. is_judged.triggered r (ran_of rows s slice r o)) own_reads new runs tags (rw dues is_judged.dues) stops tag (rw starts is_judged.starts) writes (rw listeners is_judged.listeners) (rw channels is.channels) unread free more)
+  pub slice_grows : IsSound plan.program → (c : Coming) → IsReached plan.externals.events old.listeners s.tag old.coming c → ((r : ℕ) → Ran own s.tag r → ¬ IsTooEarly plan own s.tag r) → (judged new : Stream) → IsJudged plan so_far rows s judged → judged.coming ≡ c → judged.listeners ≡ old.listeners → new.stop ≡ earliest old.stop (requests own) → new.tag ≡ Some s.tag → new.runs ≡ old.runs + runs_in own → new.tags ≡ old.tags + 1 → new.dues ≡ judged.dues → new.starts ≡ judged.starts → AreEarlier plan.program (after s.tag 0) new.writes → new.listeners ≡ judged.listeners → new.channels ≡ old.channels → AreUnread plan.program (so_far ++ own) new.unread → AreFree plan.program so_far own s.tag new.stop → ((h : Tag) (n : Name) → IsAwaited plan.program n → Before s.tag h → UpTo h new.stop → to_come plan.externals.events new.coming h n ≡ to_come plan.externals.events c h n ++ held (caused_by plan own s.tag n) h) → new.coming.next ≡ c.next → IsStreamOf plan (done ++ take s.end rows) new
+  slice_grows good c reached ranked judged new is_judged coming heard_by stops tag runs tags dues starts writes listeners channels unread free more next = subst (λ (t : List Row). IsStreamOf plan t new) together (grows_kept plan so_far own s.tag old is first.0 first.1 (are_at rows s slice) later reach own_kept good c reached is_judged.heard met ranked (λ r o. is_judged.triggered r (ran_of rows s slice r o)) own_reads new runs tags (rw dues is_judged.dues) stops tag (rw starts is_judged.starts) writes (rw listeners is_judged.listeners) (rw channels is.channels) unread free more next)
     where
       met : (n : Name) → IsSome (value_of s.tag n c.queue) → AreStarted (so_far ++ own) s.tag old.listeners n
       met n some = subst (λ (l : Listeners). AreStarted (so_far ++ own) s.tag l n) heard_by (is_judged.met n (subst (λ (k : Coming). IsSome (value_of s.tag n k.queue)) (sym coming) some))

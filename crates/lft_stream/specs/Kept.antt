@@ -1,10 +1,11 @@
 -- What is kept of rows at finished tags, and what is asked of the next ones.
 use Rattle.std.specs.Prelude.{◌≡◌, true, false, ℕ, ◌<◌, ◌≤◌, List, [], ◌++◌, length, Option, Some, None, IsSome, MatchOption, IfSome, slice_get, slice_range}
 use Rattle.lft_tag.specs.declared.Tag.{Tag}
-use Rattle.lft_tag.specs.Tags.{Before, UpTo, after}
+use Rattle.lft_tag.specs.Tags.{Before, UpTo, after, earlier}
 use Rattle.lft_flat.specs.declared.parts.Value.{Value}
 use Rattle.lft_flat.specs.declared.parts.Name.{Name}
 use Rattle.lft_flat.specs.declared.parts.Name.TheVariants.{Port}
+use Rattle.lft_steps.specs.declared.externals.Event.{Event}
 use Rattle.lft_steps.specs.declared.row.Row.{Row}
 use Rattle.lft_model.specs.Plans.{PlanParts}
 use Rattle.lft_model.specs.Presence.{stop, Triggered, Inputs, Shows}
@@ -21,7 +22,7 @@ use Rattle.lft_coming.specs.Channels.{AreReadChannels}
 use Rattle.lft_coming.specs.Unread.{AreUnread}
 use Rattle.lft_coming.specs.Lanes.{held}
 use Rattle.lft_coming.specs.Listeners.{AreListeners, AreStarted}
-use Rattle.lft_coming.specs.Coming.{AreComing}
+use Rattle.lft_coming.specs.Coming.{AreComing, AreTaken}
 use Rattle.lft_queue.specs.Pending.{value_of}
 use Rattle.lft_queue.specs.Reading.{is_read}
 use Rattle.lft_stream.specs.Dues.{AreDues}
@@ -42,10 +43,22 @@ IsLater last g = MatchOption last (Unit {0}) (λ h. Before h g)
 abbrev pub AreUpTo : List Row → Option Tag → Type 0
 AreUpTo t last = MatchOption last (t ≡ []) (λ g. (i : ℕ) (x : Row) → slice_get t i ≡ Some x → UpTo x.tag g)
 
+-- the tag, if there is one, is that of a row
+abbrev pub IsOfRow : List Row → Option Tag → Type 0
+IsOfRow t last = MatchOption last (Unit {0}) (λ g. (i : ℕ) × (x : Row) × (slice_get t i ≡ Some x) × (x.tag ≡ g))
+
 -- the tag before which all is done with: the one behind the last row
 abbrev pub low_of : Option Tag → Tag
 low_of None = record { time = 0; micro = 0 }
 low_of (Some g) = after g 0
+
+-- there are external events up to the place, and none of them is past the tag; where there is no tag, the place is the first
+abbrev pub HaveCome : List Event → Option Tag → ℕ → Type 0
+HaveCome events last place = MatchOption last (place ≡ 0) (AreTaken events 0 place)
+
+-- what is kept, with the tag for its stop, where that is earlier
+abbrev pub stopped_stream : Stream → Tag → Stream
+stopped_stream s g = record s { stop = earlier g s.stop }
 
 -- the state that is kept, with these lanes, done with before a tag
 abbrev pub state_of : (Name → List (Tag × Value)) → Tag → Stream → State
@@ -56,10 +69,12 @@ pub record IsStreamOf (plan : PlanParts) (t : List Row) (s : Stream) : Type 0 wh
   pub lanes : Name → List (Tag × Value)
   pub none : (p : ℕ) (h : Tag) → is_undelayed plan.program p ≡ true → UpTo (low_of s.tag) h → held (lanes (Port p)) h ≡ []
   pub coming : AreComing plan (low_of s.tag) s.stop lanes s.coming
+  pub come : HaveCome plan.externals.events s.tag s.coming.next
   pub alone : (p : ℕ) (h : Tag) → is_read plan.program p ≡ false → UpTo (low_of s.tag) h → UpTo h s.stop → length (held (lanes (Port p)) h) < 2
   pub state : IsStream plan t (state_of lanes (low_of s.tag) s)
   pub stop_is : s.stop ≡ stop plan t
   pub up_to : AreUpTo t s.tag
+  pub of_row : IsOfRow t s.tag
   pub writes : AreEarlier plan.program (low_of s.tag) s.writes
   pub starts : AreStartTags plan.program t s.starts
   pub listeners : AreListeners plan s.listeners

@@ -1,11 +1,11 @@
 //! Rows that are gone over part by part.
 
-ghost use Rattle.std.specs.Prelude.{List, [], ◌++◌, IsTrue, IfOk, IfSome};
+ghost use Rattle.std.specs.Prelude.{◌≡◌, List, [], ◌++◌, IsTrue, IfOk, IfSome};
 ghost use Rattle.lft_steps.specs.declared.row.Row.{Row as TheRow};
 ghost use Rattle.lft_steps.specs.Fits.{RowsFit};
 ghost use Rattle.lft_rows.specs.Accepted.{IsAccepted};
 ghost use Rattle.lft_stream.specs.Dues.{NoneDueBefore};
-ghost use Rattle.lft_stream.specs.Kept.{IsAcceptorOf};
+ghost use Rattle.lft_stream.specs.Kept.{IsAcceptorOf, stopped_stream};
 
 use crate::order::Order;
 use crate::stream::{Counts, Stream};
@@ -64,6 +64,13 @@ impl Acceptor {
         ensures { IsTrue result → NoneDueBefore self.now.stream.stop low self.now.stream.dues }
     {
         self.stream.is_timely(low)
+    }
+
+    /// Makes the tag the stop, where it is earlier. All else stays.
+    pub fn stop_at(&mut self, stop: Tag)
+        ensures { self.new ≡ record self.old { stream = stopped_stream self.old.stream stop } }
+    {
+        self.stream.stop_at(stop);
     }
 
     /// The counts, where nothing is owed up to the stop.

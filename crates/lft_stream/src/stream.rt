@@ -4,14 +4,14 @@ ghost use Rattle.std.specs.Prelude.{◌≡◌, ℕ, List, [], ◌++◌, ◌+◌,
 ghost use Rattle.lft_steps.specs.declared.row.Row.{Row as TheRow};
 ghost use Rattle.lft_steps.specs.Fits.{RowsFit};
 ghost use Rattle.lft_graph.specs.Sets.{AreAncestors};
-ghost use Rattle.lft_tag.specs.Tags.{UpTo, earliest};
+ghost use Rattle.lft_tag.specs.Tags.{UpTo, earlier, earliest};
 ghost use Rattle.lft_model.specs.Presence.{stop, requests, Triggered};
 ghost use Rattle.lft_model.specs.Runs.{Ran};
 ghost use Rattle.lft_rows.specs.Marks.{AreMarks, AreBefore as HaveMarksTo, IsLaid};
 ghost use Rattle.lft_rows.specs.Slices.{IsSlice, Rises, runs_in};
 ghost use Rattle.lft_rows.specs.Accepted.{IsAccepted};
 ghost use Rattle.lft_stream.specs.Dues.{AreDues, AreDuesAt, NoneDueBefore};
-ghost use Rattle.lft_stream.specs.Kept.{KeepRules, IsLater, IsStreamOf, RisesAt, IsAtHand, IsJudged};
+ghost use Rattle.lft_stream.specs.Kept.{KeepRules, IsLater, stopped_stream, IsStreamOf, RisesAt, IsAtHand, IsJudged};
 ghost use Rattle.lft_stream.specs.Present.{AreShown};
 
 use crate::dues::Dues;
@@ -53,6 +53,13 @@ pub(crate) struct Stream {
     coming: Coming,
     unread: Unread,
     effort: Effort,
+}
+
+/// The earlier of two tags.
+pub fn earlier_of(tag: Tag, other: Tag) -> Tag
+    ensures { result ≡ earlier tag other }
+{
+    if tag.is_before(other) { tag } else { other }
 }
 
 /// The stop of rows, where these stand behind others with this stop.
@@ -338,6 +345,13 @@ impl Stream {
             first = slice.end;
         }
         true
+    }
+
+    /// Makes the tag the stop, where it is earlier.
+    pub(crate) fn stop_at(&mut self, stop: Tag)
+        ensures { self.new ≡ stopped_stream self.old stop }
+    {
+        self.stop = earlier_of(stop, self.stop);
     }
 
     /// Whether nothing is due before the tag.

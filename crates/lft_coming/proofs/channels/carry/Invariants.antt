@@ -8,4 +8,4 @@ use Rattle.lft_coming.specs.Coming.{to_come}
 use Rattle.lft_coming.proofs.channels.carry.Given as goal
 
 abbrev pub invariant-loop-place : goal.invariant-loop-place
-invariant-loop-place l = (events : List Event) (h : Tag) (n : Name) → UpTo h l.last → to_come events l.coming h n ≡ to_come events l.fn.coming h n ++ filter_map (arrival l.program l.origin l.tag l.value h n) (take l.place l.targets)
+invariant-loop-place l = record { next : l.coming.next ≡ l.fn.coming.next; put : (events : List Event) (h : Tag) (n : Name) → UpTo h l.last → to_come events l.coming h n ≡ to_come events l.fn.coming h n ++ filter_map (arrival l.program l.origin l.tag l.value h n) (take l.place l.targets) }

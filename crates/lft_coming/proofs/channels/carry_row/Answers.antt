@@ -8,11 +8,11 @@ use Rattle.lft_coming.specs.declared.writes.Written.{Written}
 use Rattle.lft_coming.proofs.Carrying.{carried_stays, carried_again, carried_now}
 use Rattle.lft_coming.proofs.channels.carry_row.Goals as goal
 
-pub returns-in_default : goal.returns-in_default
-returns-in_default c = λ z u count start is are. carried_stays c.args.program.now (is_read c.args.program.now) u count c.args.row is start c.args.coming.now c.args.writes.now c.args.last are c.in_default.ensures
+pub returns-in_default-clause-carried : goal.returns-in_default-clause-carried
+returns-in_default-clause-carried c = λ z u count start is are. carried_stays c.args.program.now (is_read c.args.program.now) u count c.args.row is start c.args.coming.now c.args.writes.now c.args.last are c.in_default.ensures
 
-pub returns-in_default-take : goal.returns-in_default-take
-returns-in_default-take c = λ z u count start is are.
+pub returns-in_default-take-clause-carried : goal.returns-in_default-take-clause-carried
+returns-in_default-take-clause-carried c = λ z u count start is are.
     let program = c.args.program.now in
     let row = c.args.row in
     let old = c.args.coming.now in
@@ -23,8 +23,8 @@ returns-in_default-take c = λ z u count start is are.
     let w = get_there writes o within in
     subst (λ (ws : List (Option Written)). AreCarried program (is_read program) u row.tag c.args.last (count + 1) start old ws) (sym c.take.ensures.taken) (carried_again program (is_read program) u count row is start old writes c.args.last are o c.in-Some.field-0-1 c.in-Some.ensures within w.0 w.1 (sym (c.in_default-take.ensures.value w.0 w.1)))
 
-pub returns : goal.returns
-returns c = λ z u count start is are.
+pub returns-clause-carried : goal.returns-clause-carried
+returns-clause-carried c = λ z u count start is are.
     let program = c.args.program.now in
     let row = c.args.row in
     let old = c.args.coming.now in
@@ -33,4 +33,4 @@ returns c = λ z u count start is are.
     let there : o < length program.ports = subst (λ (s : Step). StepFits program s) c.in-Some.ensures c.requires.fits.step in
     let within : o < length writes = let a = c.requires.ports in omega arith in
     let w = get_there writes o within in
-    subst (λ (ws : List (Option Written)). AreCarried program (is_read program) u row.tag c.args.last (count + 1) start c.carry.new.coming ws) (sym c.take.ensures.taken) (carried_now program (is_read program) u count row is start old writes c.args.last are o c.in-Some.field-0-1 c.in-Some.ensures within w.0 w.1 c.args.channels.now c.requires.channels c.of.result.now c.of.ensures c.in-Some-take.value (sym (c.in-Some-take.ensures.value w.0 w.1)) c.carry.new.coming (c.carry.ensures z))
+    subst (λ (ws : List (Option Written)). AreCarried program (is_read program) u row.tag c.args.last (count + 1) start c.carry.new.coming ws) (sym c.take.ensures.taken) (carried_now program (is_read program) u count row is start old writes c.args.last are o c.in-Some.field-0-1 c.in-Some.ensures within w.0 w.1 c.args.channels.now c.requires.channels c.of.result.now c.of.ensures c.in-Some-take.value (sym (c.in-Some-take.ensures.value w.0 w.1)) c.carry.new.coming (c.carry.ensures.put z))

@@ -6,7 +6,10 @@ use Rattle.lft_coming.proofs.Scheduled.{held_more}
 use Rattle.lft_coming.proofs.scheduling.schedule_all.Goals as goal
 
 pub loop-place-preserved : goal.loop-place-preserved
-loop-place-preserved c = λ events h n up.
+loop-place-preserved c =
     let plan = c.args.plan.now in
     let rows = c.args.rows.now in
-    c.if-not-schedule.ensures refl events h n up ∙ ap (λ (vs : List Value). vs ++ held (scheduled_by plan (c.row_at.result ∷ []) n) h) (c.loop-place.invariant events h n up) ∙ append_assoc (to_come events c.args.coming.now h n) (held (scheduled_by plan (take c.loop-place.place rows) n) h) (held (scheduled_by plan (c.row_at.result ∷ []) n) h) ∙ ap (λ (vs : List Value). to_come events c.args.coming.now h n ++ vs) (held_more plan rows c.loop-place.place c.row_at.result n h c.row_at.ensures)
+    record {
+      next = c.if-not-schedule.ensures.next ∙ c.loop-place.invariant.next;
+      put = λ events h n up. c.if-not-schedule.ensures.put refl events h n up ∙ ap (λ (vs : List Value). vs ++ held (scheduled_by plan (c.row_at.result ∷ []) n) h) (c.loop-place.invariant.put events h n up) ∙ append_assoc (to_come events c.args.coming.now h n) (held (scheduled_by plan (take c.loop-place.place rows) n) h) (held (scheduled_by plan (c.row_at.result ∷ []) n) h) ∙ ap (λ (vs : List Value). to_come events c.args.coming.now h n ++ vs) (held_more plan rows c.loop-place.place c.row_at.result n h c.row_at.ensures);
+    }

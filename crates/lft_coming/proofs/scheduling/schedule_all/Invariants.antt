@@ -8,4 +8,4 @@ use Rattle.lft_coming.specs.Lanes.{held}
 use Rattle.lft_coming.proofs.scheduling.schedule_all.Given as goal
 
 abbrev pub invariant-loop-place : goal.invariant-loop-place
-invariant-loop-place l = (events : List Event) (h : Tag) (n : Name) → UpTo h l.last → to_come events l.coming h n ≡ to_come events l.fn.coming h n ++ held (scheduled_by l.plan (take l.place l.rows) n) h
+invariant-loop-place l = record { next : l.coming.next ≡ l.fn.coming.next; put : (events : List Event) (h : Tag) (n : Name) → UpTo h l.last → to_come events l.coming h n ≡ to_come events l.fn.coming h n ++ held (scheduled_by l.plan (take l.place l.rows) n) h }

@@ -1,7 +1,8 @@
 use Rattle.std.proofs.Common.{◌≡◌, ◌+◌, Some, List, length, sym, ap, ◌∙◌, slice_get, refl, arith, add-one}
 use Rattle.lft_model.proofs.Places.{slice_get_within}
 use Rattle.lft_steps.specs.declared.externals.Event.{Event}
-use Rattle.lft_coming.proofs.ToCome.{brought_here, brings}
+use Rattle.std.proofs.lemmas.Bool.{false≢true}
+use Rattle.lft_coming.proofs.ToCome.{brought_here, brings, one_taken}
 use Rattle.lft_coming.proofs.coming.Coming.bring.Goals as goal
 
 pub returns-then-is_before-clause-brought : goal.returns-then-is_before-clause-brought
@@ -16,7 +17,10 @@ loop-self-preserved c =
     let k = c.loop-self.self.next in
     let x = c.item_at-event.result in
     let there : slice_get events k ≡ Some x = ap (λ (es : List Event). slice_get es k) (sym c.events-events.ensures.value) ∙ c.item_at-event.ensures in
-    λ h n. brings events c.events-events.ensures.order k x there c.loop-self.self c.put.new.self.queue (c.put.new.self.next + 1) (ap (λ j. j + 1) (c.if-not-put.ensures.next) ∙ add-one k) refl (c.if-not-put.ensures.absent refl) (c.if-not-put.ensures.put refl) h n ∙ c.loop-self.invariant h n
+    record {
+      same = λ h n. brings events c.events-events.ensures.order k x there c.loop-self.self c.put.new.self.queue (c.put.new.self.next + 1) (ap (λ j. j + 1) (c.if-not-put.ensures.next) ∙ add-one k) refl (c.if-not-put.ensures.absent refl) (c.if-not-put.ensures.put refl) h n ∙ c.loop-self.invariant.same h n;
+      taken = one_taken events c.args.self.now.next k (c.put.new.self.next + 1) c.args.tag x (ap (λ j. j + 1) c.if-not-put.ensures.next) there (λ b. absurd (false≢true (c.if-is_before.ensures.1 b))) c.loop-self.invariant.taken;
+    }
 
 pub returns-clause-brought : goal.returns-clause-brought
 returns-clause-brought c = λ z i x l e. absurd (let w = slice_get_within c.args.externals.now.events i x e in let a = ap (λ (es : List Event). length es) c.events-events.ensures.value in let b = c.loop-self-test.false in omega arith)

@@ -83,4 +83,4 @@ returns-then-pass_on-clause-stands c = λ z d stands.
     let runs = counted.runs z ∙ ap (λ (n : ℕ). n + c.starts_in.result) own.runs ∙ ap (λ (n : ℕ). old.runs + n) c.starts_in.ensures in
     let tags = counted.tags z ∙ ap (λ (n : ℕ). n + 1) own.tags in
     let writes = subst (λ (ws : List (Option Written)). AreEarlier plan.program (after s.tag 0) ws) (sym counted.writes) (caused.earlier refl) in
-    slice_grows plan d rows s slice old stands later reach kept c.program-program.ensures.sound.sound c.reach.new.self reached ordered judged c.count.new.self (c.if-not-judge_slice.ensures.judged refl done hand) own.coming own.listeners (counted.stop ∙ own.stop ∙ c.stop_behind-self.ensures) (counted.tag z) runs tags counted.dues counted.starts writes counted.listeners (counted.channels ∙ own.channels) goes_on free (λ h n waited b up. ap (λ (k : Coming). to_come events k h n) counted.coming ∙ caused.caused refl events h n waited b (subst (λ (k : Tag). UpTo h k) counted.stop up) ∙ ap (λ (vs : List Value). vs ++ held (caused_by plan (rows_of rows s slice) s.tag n) h) (c.drop_until.ensures events h n b ∙ ap (λ (k : Coming). to_come events k h n) own.coming))
+    slice_grows plan d rows s slice old stands later reach kept c.program-program.ensures.sound.sound c.reach.new.self reached ordered judged c.count.new.self (c.if-not-judge_slice.ensures.judged refl done hand) own.coming own.listeners (counted.stop ∙ own.stop ∙ c.stop_behind-self.ensures) (counted.tag z) runs tags counted.dues counted.starts writes counted.listeners (counted.channels ∙ own.channels) goes_on free (λ h n waited b up. ap (λ (k : Coming). to_come events k h n) counted.coming ∙ caused.caused refl events h n waited b (subst (λ (k : Tag). UpTo h k) counted.stop up) ∙ ap (λ (vs : List Value). vs ++ held (caused_by plan (rows_of rows s slice) s.tag n) h) (c.drop_until.ensures.same events h n b ∙ ap (λ (k : Coming). to_come events k h n) own.coming)) (ap (λ (k : Coming). k.next) counted.coming ∙ caused.next ∙ c.drop_until.ensures.next ∙ ap (λ (k : Coming). k.next) own.coming)
