@@ -18,7 +18,7 @@ use Rattle.lft_follow.specs.declared.past.Past.{Past}
 use Rattle.lft_follow.proofs.Keeping.{kept_both, kept_fit, kept_later, kept_self, kept_through}
 
 -- the tag behind another is the first one behind it
-after_least : (h g : Tag) → Before h g → UpTo (after h 0) g
+pub after_least : (h g : Tag) → Before h g → UpTo (after h 0) g
 after_least h g (inl l) = inl l
 after_least h g (inr e) = let l : h.micro < g.micro = e.1 in inr (e.0, omega arith)
 

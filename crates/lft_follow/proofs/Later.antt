@@ -31,7 +31,7 @@ module _ (plan : PlanParts) (one other : ExternalInputs) (t : List Row) (g : Tag
   at_alike (Port p) v o = (o.0, written_alike p o.0 v o.1)
   at_alike (Action a) v c = subst (λ (vs : List Value). Contains vs v) (events_alike a) c
 
-  clash_alike : (n : Name) → ClashesAt (with_inputs plan one) t g n → ClashesAt (with_inputs plan other) t g n
+  pub clash_alike : (n : Name) → ClashesAt (with_inputs plan one) t g n → ClashesAt (with_inputs plan other) t g n
   clash_alike (Port p) k = record { first = k.first; second = k.second; first_value = k.first_value; second_value = k.second_value; is_first = written_alike p k.first k.first_value k.is_first; is_second = written_alike p k.second k.second_value k.is_second; differ = k.differ }
   clash_alike (Action a) k = subst (λ (vs : List Value). 2 ≤ length vs) (events_alike a) k
 
@@ -80,15 +80,15 @@ module _ (plan : PlanParts) (one other : ExternalInputs) (t : List Row) (g : Tag
   }
 
 -- a tag before low, seen from two stops that are the same or both from low on
-same_time : (low g a b : Tag) → Before g low → (a ≡ b) ⊎ UpTo low a × UpTo low b → UpTo g a → UpTo g b
+pub same_time : (low g a b : Tag) → Before g low → (a ≡ b) ⊎ UpTo low a × UpTo low b → UpTo g a → UpTo g b
 same_time low g a b l (inl e) up = subst (λ (k : Tag). UpTo g k) e up
 same_time low g a b l (inr x) up = Before-weaken g b (Before-UpTo g low b l x.1)
 
-same_stop : (low g a b : Tag) → Before g low → (a ≡ b) ⊎ UpTo low a × UpTo low b → g ≡ a → g ≡ b
+pub same_stop : (low g a b : Tag) → Before g low → (a ≡ b) ⊎ UpTo low a × UpTo low b → g ≡ a → g ≡ b
 same_stop low g a b l (inl e) q = q ∙ e
 same_stop low g a b l (inr x) q = absurd (Before-irrefl g (subst (λ (k : Tag). Before g k) (sym q) (Before-UpTo g low a l x.0)))
 
-turned_stop : (low a b : Tag) → (a ≡ b) ⊎ UpTo low a × UpTo low b → (b ≡ a) ⊎ UpTo low b × UpTo low a
+pub turned_stop : (low a b : Tag) → (a ≡ b) ⊎ UpTo low a × UpTo low b → (b ≡ a) ⊎ UpTo low b × UpTo low a
 turned_stop low a b (inl e) = inl (sym e)
 turned_stop low a b (inr x) = inr (x.1, x.0)
 

@@ -14,6 +14,11 @@ pub mod Reaching
 pub mod Passing
 pub mod Judging
 pub mod Stops
+pub mod OtherInputs
+pub mod Passed
+pub mod OneMore
+pub mod Gaining
+pub mod Sooner
 pub mod Following
 pub mod Furthest
 pub mod Behind

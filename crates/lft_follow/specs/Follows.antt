@@ -1,16 +1,19 @@
 -- What is kept of rows that are judged while they come, and what is told of them.
 use Rattle.std.specs.Prelude.{◌≡◌, ℕ, Bool, true, ◌+◌, ◌-◌, ◌^◌, ◌≤◌, ◌<◌, ◌⊎◌, List, [], ◌++◌, length, take, Some, slice_get}
+use Rattle.std.specs.List.{insert}
 use Rattle.lft_tag.specs.declared.Tag.{Tag}
-use Rattle.lft_tag.specs.Tags.{Before}
+use Rattle.lft_tag.specs.Tags.{Before, earlier}
+use Rattle.lft_steps.specs.declared.externals.Event.{Event}
 use Rattle.lft_steps.specs.declared.row.Row.{Row}
 use Rattle.lft_steps.specs.Fits.{RowsFit}
+use Rattle.lft_steps.specs.Inputs.{IsTold}
 use Rattle.lft_model.specs.declared.breach.Breach.{Breach}
 use Rattle.lft_model.specs.Plans.{PlanParts}
 use Rattle.lft_model.specs.Breaches.{RowBreach, First}
 use Rattle.lft_rows.specs.Accepted.{IsAccepted}
 use Rattle.lft_coming.specs.AtTag.{AreAt, AreBefore}
-use Rattle.lft_stream.specs.Kept.{IsAcceptorOf, low_of}
-use Rattle.lft_follow.specs.Sure.{IsUnbroken, IsFirstBefore}
+use Rattle.lft_stream.specs.Kept.{IsAcceptorOf, low_of, stopped_stream}
+use Rattle.lft_follow.specs.Sure.{IsUnbroken, IsFirstBefore, with_inputs}
 use Rattle.lft_follow.specs.Kept.{IsPast}
 use Rattle.lft_follow.specs.Going.{IsGoing}
 use Rattle.lft_follow.specs.Reach.{IsReach}
@@ -22,6 +25,8 @@ use Rattle.lft_follow.specs.declared.follower.Follower.{Follower}
 use Rattle.lft_follow.specs.declared.found.Found.{Found}
 use Rattle.lft_follow.specs.declared.follower.Progress.{Progress}
 use Rattle.lft_follow.specs.declared.follower.Progress.TheVariants.{GoesOn, Broken, Odd, TooMany}
+use Rattle.lft_follow.specs.declared.follower.Receipt.{Receipt}
+use Rattle.lft_follow.specs.declared.follower.Receipt.TheVariants as receipt
 
 -- the rows reach so far, and no rule is broken in them before the tag behind their last
 pub record IsClean (plan : PlanParts) (t : List Row) (r : Reach) : Type 0 where
@@ -49,6 +54,10 @@ pub record IsJudgedOf (plan : PlanParts) (t : List Row) (j : Judged) : Type 0 wh
   pub counted : j.count ≡ length t
   pub clean : IsClean plan t j.reach
 
+-- what is kept of rows that are judged, with the tag for its stop, where that is earlier
+abbrev pub stopped_judged : Judged → Tag → Judged
+stopped_judged j g = record j { acceptor = record j.acceptor { stream = stopped_stream j.acceptor.stream g }; past = record j.past { stop = earlier g j.past.stop } }
+
 -- the rows that the follower has judged
 abbrev pub done_of : List Row → Follower → List Row
 done_of t f = take f.judged.count t
@@ -70,6 +79,29 @@ pub record IsAtHand (plan : PlanParts) (t : List Row) (f : Follower) : Type 0 wh
 pub record IsFollowerOf (plan : PlanParts) (t : List Row) (f : Follower) : Type 0 where
   pub hand : IsAtHand plan t f
   pub at_one : (g : Tag) × AreAt f.rows.items g
+
+-- some row is at a later tag
+abbrev pub IsPassed : List Row → Tag → Type 0
+IsPassed t g = (i : ℕ) × (x : Row) × (slice_get t i ≡ Some x) × Before g x.tag
+
+-- the new plan has one more external event, put at a place among the others
+pub record HasOneMore (old new : PlanParts) (event : Event) : Type 0 where
+  pub program : new.program ≡ old.program
+  pub stop : new.externals.stop ≡ old.externals.stop
+  pub place : ℕ
+  pub within : place ≤ length old.externals.events
+  pub events : new.externals.events ≡ insert old.externals.events place event
+
+-- what is said of an event that is told: the plan has it now, or stays as it was since an event of its action is at its tag already, or there are too many, or it is late
+abbrev pub IsReceipt : PlanParts → PlanParts → Event → Receipt → Type 0
+IsReceipt old new event receipt.Taken = HasOneMore old new event
+IsReceipt old new event receipt.Late = new ≡ old
+IsReceipt old new event receipt.Again = (new ≡ old) × IsTold old.externals.events event
+IsReceipt old new event receipt.TooMany = (new ≡ old) × (4000000 ≤ length old.externals.events)
+
+-- the plan with the tag for its stop, where that is earlier than its own
+abbrev pub stopped_at : PlanParts → Tag → PlanParts
+stopped_at plan g = with_inputs plan (record { stop = earlier g plan.externals.stop; events = plan.externals.events })
 
 -- the rows from the first place up to the end are at the tag of the last of them
 pub record AreLast (rows : List Row) (end first : ℕ) : Type 0 where

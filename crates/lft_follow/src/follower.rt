@@ -1,12 +1,13 @@
 //! Rows that are judged while they come.
 
-ghost use Rattle.std.specs.Prelude.{◌≡◌, ◌<◌, ◌≤◌, ◌^◌, ℕ, List, [], ◌++◌, length, Some, true, IfOk, IsTrue, MatchOption, slice_get, slice_range};
+ghost use Rattle.std.specs.Prelude.{◌≡◌, ◌↔◌, ◌<◌, ◌≤◌, ◌^◌, ℕ, List, [], ◌++◌, length, Some, true, false, IfOk, OnErr, IsTrue, MatchOption, slice_get, slice_range};
 ghost use Rattle.lft_tag.specs.declared.Tag.{Tag as TheTag};
+ghost use Rattle.lft_tag.specs.Tags.{Before, IsRecorded};
 ghost use Rattle.lft_steps.specs.declared.row.Row.{Row as TheRow};
-ghost use Rattle.lft_steps.specs.Fits.{RowsFit};
+ghost use Rattle.lft_steps.specs.Fits.{EventFits, RowsFit};
 ghost use Rattle.lft_rows.specs.Slices.{Rises};
 ghost use Rattle.lft_coming.specs.AtTag.{AreAt};
-ghost use Rattle.lft_follow.specs.Follows.{IsAtHand, IsHeld, IsFollowerOf, IsProgress, IsEnding, IsJudged, IsJudgedOf, IsSureOf, BeginsLast};
+ghost use Rattle.lft_follow.specs.Follows.{IsAtHand, IsHeld, IsFollowerOf, IsPassed, IsReceipt, stopped_at, IsProgress, IsEnding, IsJudged, IsJudgedOf, IsSureOf, BeginsLast};
 ghost use Rattle.lft_follow.specs.declared.follower.Follower.{Follower as TheFollower};
 
 use crate::found::{Found, found_at, found_of};
@@ -14,7 +15,8 @@ use crate::gone::{Going, Halt};
 use crate::judged::{Ending, Judged};
 use crate::reach::Reach;
 use lft_model::Plan;
-use lft_steps::{Row, row_at};
+use lft_steps::{Event, Row, row_at};
+use lft_stream::earlier_of;
 use lft_tag::{MAX_ROWS, NoMemory, Tag};
 use std::alloc::Global;
 
@@ -29,6 +31,19 @@ pub enum Progress {
     /// meet at a later tag, or too much is to be looked at, or memory is refused.
     Odd(Reach, u64),
     /// More rows stand at one tag than a table may have, or more came than are counted.
+    TooMany,
+}
+
+/// What became of an external event that was told.
+#[derive(Clone, Copy, PartialEq, Eq, Debug, Drop)]
+pub enum Receipt {
+    /// It stands in the plan now.
+    Taken,
+    /// A row at a later tag came before.
+    Late,
+    /// An event of its action stands at its tag already.
+    Again,
+    /// There are as many events as a table may have.
     TooMany,
 }
 
@@ -191,6 +206,59 @@ impl Follower {
             Halt::AtRow(place, rule) => self.tell(alloc, plan, place, place, rule),
             Halt::AtLater(start, place) => self.tell(alloc, plan, start, place, 5),
         }
+    }
+
+    /// Whether a row at a later tag came.
+    fn is_past(&self, tag: Tag) -> bool
+        ensures past { IsTrue result → (x : TheRow) × (slice_get self.now.rows.items 0 ≡ Some x) × Before tag x.tag }
+        ensures not { result ≡ false → (x : TheRow) → slice_get self.now.rows.items 0 ≡ Some x → ¬ Before tag x.tag }
+    {
+        let rows = self.rows.as_slice();
+        !rows.is_empty() && tag.is_before(row_at(rows, 0).tag)
+    }
+
+    /// Puts an external event at its place in the plan that the rows are judged by. Of those that aren't
+    /// taken, a late one is told first, then too many. An event at the last row's tag isn't late.
+    pub fn add_event(&self, plan: &mut Plan, event: Event) -> Result<Receipt, NoMemory>
+        requires fit { EventFits plan.old.program event }
+        ensures receipt { IfOk result (IsReceipt plan.old plan.new event) }
+        ensures err { OnErr result (plan.new ≡ plan.old) }
+        ensures late { IfOk result (λ receipt. (t : List TheRow) → IsFollowerOf plan.old t self.now → (receipt ≡ Receipt.Late) ↔ IsPassed t event.tag) }
+        ensures stands { (t : List TheRow) → IsFollowerOf plan.old t self.now → IsFollowerOf plan.new t self.now }
+    {
+        if self.is_past(event.tag) {
+            return Ok(Receipt::Late);
+        }
+        if plan.externals().events().len() >= MAX_ROWS {
+            return Ok(Receipt::TooMany);
+        }
+        match plan.tell(event)? {
+            Some(_) => {
+                // Asked for what every plan keeps: its external events stand in order.
+                plan.keeps();
+                Ok(Receipt::Taken)
+            }
+            None => Ok(Receipt::Again),
+        }
+    }
+
+    /// Makes the tag the stop of the plan that the rows are judged by, where it is earlier than the plan's
+    /// own. It is false where a row at a later tag came: then all stays as it was. A stop at the last row's
+    /// tag isn't late.
+    pub fn stop_at(&mut self, plan: &mut Plan, stop: Tag) -> bool
+        requires { IsRecorded stop }
+        ensures stopped { IsTrue result → plan.new ≡ stopped_at plan.old stop }
+        ensures stays { result ≡ false → (plan.new ≡ plan.old) × (self.new ≡ self.old) }
+        ensures late { (t : List TheRow) → IsFollowerOf plan.old t self.old → (result ≡ false) ↔ IsPassed t stop }
+        ensures stands { (t : List TheRow) → IsFollowerOf plan.old t self.old → IsFollowerOf plan.new t self.new }
+    {
+        if self.is_past(stop) {
+            return false;
+        }
+        plan.stop_at(earlier_of(stop, plan.externals().stop()));
+        self.judged.stop_at(stop);
+        self.going.stop_at(stop);
+        true
     }
 
     /// What the rows show where no more come and none is missing.

@@ -1,7 +1,7 @@
 //! The rows at hand, gone over for the rules 1 to 5 as they come.
 
 ghost use Rattle.std.specs.Prelude.{◌≡◌, ◌+◌, ◌<◌, List, ◌++◌, ◌∷◌, [], length, IfOk, IfSome, IsTrue, OnOk, MatchOption};
-ghost use Rattle.lft_tag.specs.Tags.{IsRecorded};
+ghost use Rattle.lft_tag.specs.Tags.{IsRecorded, earlier};
 ghost use Rattle.lft_flat.specs.Parts.{Parts};
 ghost use Rattle.lft_steps.specs.declared.row.Row.{Row as TheRow};
 ghost use Rattle.lft_steps.specs.Fits.{RowsFit};
@@ -14,6 +14,7 @@ ghost use Rattle.lft_follow.specs.declared.gone.Halt.TheVariants.{AtEnd};
 use lft_model::Plan;
 use lft_rows::Pass;
 use lft_steps::{Row, is_end, is_start, is_stop, row_at};
+use lft_stream::earlier_of;
 use lft_tag::{NoMemory, Tag};
 use std::alloc::Global;
 
@@ -85,6 +86,13 @@ impl Going {
             open: 0,
             passed: 0,
         })
+    }
+
+    /// Makes the tag the stop, where it is earlier.
+    pub(crate) fn stop_at(&mut self, stop: Tag)
+        ensures { self.new ≡ record self.old { stop = earlier stop self.old.stop } }
+    {
+        self.stop = earlier_of(stop, self.stop);
     }
 
     /// Begins anew, before rows that stand behind others with this stop.

@@ -4,7 +4,7 @@ ghost use Rattle.std.specs.Prelude.{◌≡◌, ◌<◌, ◌≤◌, ◌^◌, List
 ghost use Rattle.lft_steps.specs.declared.row.Row.{Row as TheRow};
 ghost use Rattle.lft_steps.specs.Fits.{RowsFit};
 ghost use Rattle.lft_follow.specs.Kept.{IsPast};
-ghost use Rattle.lft_follow.specs.Follows.{IsEnding, IsJudged, IsJudgedOf, KeepsRows};
+ghost use Rattle.lft_follow.specs.Follows.{IsEnding, IsJudged, IsJudgedOf, stopped_judged, KeepsRows};
 ghost use Rattle.lft_follow.specs.declared.judged.Ending.TheVariants.{Unbroken};
 
 use crate::found::Found;
@@ -13,8 +13,8 @@ use crate::past::Past;
 use crate::reach::{Reach, reach_behind};
 use lft_model::Plan;
 use lft_steps::Row;
-use lft_stream::{Acceptor, Counts};
-use lft_tag::NoMemory;
+use lft_stream::{Acceptor, Counts, earlier_of};
+use lft_tag::{NoMemory, Tag};
 use std::alloc::Global;
 
 /// What rows show that are all.
@@ -85,6 +85,14 @@ impl Judged {
         self.reach = reach;
         self.count += rows.len() as u64;
         Ok(true)
+    }
+
+    /// Makes the tag the stop, where it is earlier.
+    pub(crate) fn stop_at(&mut self, stop: Tag)
+        ensures { self.new ≡ stopped_judged self.old stop }
+    {
+        self.acceptor.stop_at(stop);
+        self.past.stop = earlier_of(stop, self.past.stop);
     }
 
     /// What rows show that aren't accepted, where these come behind those that are judged. With `whole`

@@ -11,7 +11,7 @@ mod monitor;
 mod past;
 mod reach;
 
-pub use follower::{Follower, Progress};
+pub use follower::{Follower, Progress, Receipt};
 pub use found::Found;
 pub use judged::Ending;
 pub use laws::{law_sure, law_timely};
