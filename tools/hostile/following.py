@@ -1,8 +1,6 @@
 """What `lftrace follow` tells of a trace table, reckoned from docs/FORMATS.md and not from the code.
 
-It goes row by row, and asks the rows up to the last finished tag as a whole each time. Where two events meet
-at a later tag `odd` may be told from there on, with any reach and line that fit: they depend on the pieces in
-which the table came.
+It goes row by row, and asks the rows up to the last finished tag as a whole each time.
 """
 from hostile import tables
 from hostile.machine import Events, at_tag, breach_line, row_breach, runs_of, tag_breach, verdict
@@ -51,10 +49,7 @@ def reach(rows):
 
 
 def is_clean(plan, rows):
-    """Whether rows at finished tags break no rule from 6 to 10 up to the last one, and make no two events meet."""
-    for tag in sorted({row.tag for row in rows}):
-        if Events(plan, [row for row in rows if row.tag <= tag]).collision():
-            return False
+    """Whether rows at finished tags break no rule from 6 to 10 up to the last one."""
     events, runs = Events(plan, rows), runs_of(rows)
     for tag in events.tags(runs):
         if rows and tag > rows[-1].tag:
@@ -62,6 +57,8 @@ def is_clean(plan, rows):
         due, here = events.due(tag), runs.get(tag, {})
         if not rows or due != set(here):
             return not rows
+        if events.collides(tag):
+            return False
         for number, run in here.items():
             if any(one in here and here[one]["end"] > run["start"] for one in plan.flat.preceding[number]):
                 return False
@@ -110,31 +107,20 @@ def finished(rows):
 
 
 def first_broken(plan, rows):
-    """The first rule from 6 to 10 that is told to be broken, and whether `odd` may be told before it. A run that is
-    missing behind the last finished tag is told once one more tag is finished."""
-    may_be_odd = False
-    for front, tag in finished(rows):
-        if is_clean(plan, front):
-            continue
-        breach = tag_breach(plan, front)
-        if breach and breach[2] < tag:
-            return breach, may_be_odd
-        may_be_odd = True
-    return None, may_be_odd
+    """The first rule from 6 to 10 that is told to be broken. A run that is missing behind the last finished tag, or
+    two events that meet there, are told once one more tag is finished."""
+    return next((tag_breach(plan, front) for front, _ in finished(rows) if not is_clean(plan, front)), None)
 
 
 def told(plan, flat, text, until=None, whole=False):
-    """The line of `lftrace follow`, the status, and whether `odd` may be told in its place. Of `odd` the first word
-    alone."""
+    """The line of `lftrace follow` and the status."""
     rows, fault, has_rest = rows_before_fault(flat, text)
     rows, is_past = asked(rows, until)
     bad = first_bad(plan, rows)
-    breach, may_be_odd = first_broken(plan, rows[:bad[0]] if bad else rows)
+    breach = first_broken(plan, rows[:bad[0]] if bad else rows)
     if breach:
-        return breach_line(plan, breach), 1, may_be_odd
-    if may_be_odd:
-        return "odd", 4, True
-    return *told_of_clean(plan, rows, bad, is_past, fault, has_rest, whole), False
+        return breach_line(plan, breach), 1
+    return told_of_clean(plan, rows, bad, is_past, fault, has_rest, whole)
 
 
 def told_of_clean(plan, rows, bad, is_past, fault, has_rest, whole):
@@ -162,18 +148,3 @@ def is_ended(plan, rows):
     """Whether nothing is due behind the last row."""
     events, runs = Events(plan, rows), runs_of(rows)
     return all(not events.due(tag) - set(runs.get(tag, ())) and not events.collides(tag) for tag in events.tags(runs))
-
-
-def fits_odd(plan, flat, text, line):
-    """Why a line `odd ..` can't be told of a table; nothing if it can."""
-    rows, _, _ = rows_before_fault(flat, text)
-    words = dict(word.split("=") for word in line.split()[1:])
-    place = int(words["line"]) - 1
-    if not 0 < place <= len(rows):
-        return "a line that isn't there"
-    if is_clean(plan, rows[:place]) and not row_breach(plan, rows[:place]):
-        return "no breach up to its line"
-    shown = line.replace(f" line={words['line']}", "").removeprefix("odd ")
-    tags = sorted({row.tag for row in rows[:place]})
-    fronts = [[], *([row for row in rows[:place] if row.tag <= tag] for tag in tags)]
-    return "" if any(reach(front) == shown and is_clean(plan, front) for front in fronts) else "a reach that isn't clean"

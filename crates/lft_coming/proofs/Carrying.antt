@@ -289,8 +289,3 @@ module _ (program : Parts) (test : ℕ → Bool) (u : List Row) (g : Tag) (count
       go : IsCarried program u g last p start new writes ⊎ IsUncarried program u g last count p start new writes → to_come events new h (Port p) ≡ to_come events start h (Port p) ++ held (carried_to program u g p) h
       go (inl c) = c.put events h b up
       go (inr r) = r.same events h up ∙ sym (append-nil (to_come events start h (Port p))) ∙ ap (λ (z : Option Value). to_come events start h (Port p) ++ held (option_to_list (option_map (λ v. (arrives_at program g p, v)) z)) h) (sym (none r))
-
--- each name passes the test that all ports pass
-pub all_pass : (n : Name) → Passes (λ p. true) n
-all_pass (Port p) = refl
-all_pass (Action a) = tt

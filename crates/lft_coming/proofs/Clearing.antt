@@ -1,5 +1,5 @@
 -- Tags that are clear of a clash.
-use Rattle.std.proofs.Common.{◌≡◌, ◌≢◌, ℕ, true, ◌+◌, ◌<◌, ◌⊎◌, inl, inr, List, length, refl, sym, ◌∙◌, subst, arith, Option, Some, None, slice_get, slice_set}
+use Rattle.std.proofs.Common.{◌≡◌, ◌≢◌, ℕ, ◌+◌, ◌<◌, ◌⊎◌, inl, inr, List, length, refl, sym, ◌∙◌, subst, arith, Option, Some, None, slice_get, slice_set}
 use Rattle.std.proofs.lemmas.Option.{none-some}
 use Rattle.lft_lists.proofs.Places.{get_write_cases, length_written}
 use Rattle.lft_flat.specs.Parts.{Parts}
@@ -7,6 +7,7 @@ use Rattle.lft_steps.specs.declared.row.Row.{Row}
 use Rattle.lft_tag.specs.declared.Tag.{Tag}
 use Rattle.lft_tag.specs.Tags.{UpTo, after}
 use Rattle.lft_tag.proofs.Order.{UpTo-Before, after_past}
+use Rattle.lft_queue.specs.Reading.{is_read}
 use Rattle.lft_coming.specs.AtOnce.{origin_of}
 use Rattle.lft_coming.specs.Channels.{AreCarried, AreCarriedClear}
 use Rattle.lft_coming.specs.Coming.{IsClear, IsNoLater}
@@ -32,8 +33,8 @@ fewer_set writes o l = record { as_long = length_written writes o None; each = e
         go (inl x) = absurd (none-some w x.1)
         go (inr x) = x.1
 
-pub clear_first : (program : Parts) (u : List Row) (g last : Tag) (clash : Option Tag) (start : Coming) (writes : List (Option Written)) → AreWrites program u g writes → AreCarriedClear program u g last 0 clash clash start start writes
-clear_first program u g last clash start writes are = record {
+pub clear_first : (program : Parts) (u : List Row) (g last : Tag) (start : Coming) (writes : List (Option Written)) → AreWrites program u g writes → AreCarriedClear program u g last 0 start start writes
+clear_first program u g last start writes are = record {
   as_long = are.as_long;
   up_to = are.up_to;
   no_later = λ h clear. clear;
@@ -41,13 +42,13 @@ clear_first program u g last clash start writes are = record {
 }
 
 -- one more row has carried what it writes
-pub clear_more : (program : Parts) (u : List Row) (g last : Tag) (count : ℕ) (row : Row) (clash noted next : Option Tag) (start old new : Coming) (writes rest : List (Option Written)) → slice_get u count ≡ Some row → row.tag ≡ g → IsNoLater noted next → AreFewer writes rest → ((h : Tag) → UpTo h last → IsClear next h → AreCarried program (λ p. true) u row.tag h count start old writes → AreCarried program (λ p. true) u row.tag h (count + 1) start new rest) → AreCarriedClear program u g last count clash noted start old writes → AreCarriedClear program u g last (count + 1) clash next start new rest
-clear_more program u g last count row clash noted next start old new writes rest is at no_later fewer step are = record {
+pub clear_more : (program : Parts) (u : List Row) (g last : Tag) (count : ℕ) (row : Row) (start old new : Coming) (writes rest : List (Option Written)) → slice_get u count ≡ Some row → row.tag ≡ g → IsNoLater old.clash new.clash → AreFewer writes rest → ((h : Tag) → UpTo h last → IsClear new.clash h → AreCarried program (is_read program) u row.tag h count start old writes → AreCarried program (is_read program) u row.tag h (count + 1) start new rest) → AreCarriedClear program u g last count start old writes → AreCarriedClear program u g last (count + 1) start new rest
+clear_more program u g last count row start old new writes rest is at no_later fewer step are = record {
   as_long = fewer.as_long ∙ are.as_long;
   up_to = λ p w e. are.up_to p w (fewer.each p w e);
   no_later = λ h clear. are.no_later h (no_later h clear);
-  carried = λ h up clear. subst (λ (k : Tag). AreCarried program (λ p. true) u k h (count + 1) start new rest) at (step h up clear (subst (λ (k : Tag). AreCarried program (λ p. true) u k h count start old writes) (sym at) (are.carried h up (no_later h clear))));
+  carried = λ h up clear. subst (λ (k : Tag). AreCarried program (is_read program) u k h (count + 1) start new rest) at (step h up clear (subst (λ (k : Tag). AreCarried program (is_read program) u k h count start old writes) (sym at) (are.carried h up (no_later h clear))));
 }
 
-pub clear_earlier : (program : Parts) (u : List Row) (g last : Tag) (count : ℕ) (clash noted : Option Tag) (start new : Coming) (writes : List (Option Written)) → AreCarriedClear program u g last count clash noted start new writes → AreEarlier program (after g 0) writes
-clear_earlier program u g last count clash noted start new writes are = record { as_long = are.as_long; each = λ p w e. UpTo-Before w.tag g (after g 0) (are.up_to p w e) (after_past g 0) }
+pub clear_earlier : (program : Parts) (u : List Row) (g last : Tag) (count : ℕ) (start new : Coming) (writes : List (Option Written)) → AreCarriedClear program u g last count start new writes → AreEarlier program (after g 0) writes
+clear_earlier program u g last count start new writes are = record { as_long = are.as_long; each = λ p w e. UpTo-Before w.tag g (after g 0) (are.up_to p w e) (after_past g 0) }

@@ -5,5 +5,5 @@ pub mod Scheduled
 pub mod Carried
 pub mod Carrying
 pub mod Clearing
+pub mod Ways
 pub mod Meeting
-pub mod Listed

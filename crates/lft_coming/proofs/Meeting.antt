@@ -1,11 +1,12 @@
 -- Writes that meet at ports that no reaction reads.
-use Rattle.std.proofs.Common.{◌≡◌, ◌≢◌, ◌⊎◌, inl, inr, ◌<◌, ◌≤◌, ◌+◌, ℕ, zero, suc, Bool, true, false, List, [], ◌∷◌, ◌++◌, length, replicate, refl, sym, ap, ◌∙◌, subst, arith, Option, Some, None, MatchOption, slice_get, slice_set}
+use Rattle.std.proofs.Common.{◌≡◌, ◌≢◌, ◌⊎◌, inl, inr, ◌<◌, ◌+◌, ℕ, Bool, true, false, List, [], ◌∷◌, ◌++◌, length, replicate, refl, sym, ap, ◌∙◌, subst, arith, Option, Some, None, MatchOption, slice_get, slice_set}
 use Rattle.std.proofs.lemmas.Bool.{cases_eq, false≢true}
 use Rattle.std.proofs.lemmas.Option.{none-some}
 use Rattle.lft_tag.specs.declared.Tag.{Tag}
 use Rattle.lft_tag.specs.Tags.{Before, UpTo}
 use Rattle.lft_tag.specs.Shifts.{shifted}
-use Rattle.lft_tag.proofs.Order.{Before-irrefl, UpTo-refl, split_up}
+use Rattle.lft_tag.specs.declared.Shift.{Shift}
+use Rattle.lft_tag.proofs.Order.{Before-irrefl, Before-UpTo, UpTo-refl, split_up}
 use Rattle.lft_lists.proofs.Places.{get_there, get_same, length_same, get_push, get_last, get_push_cases, get_left, get_append_cases, get_write_cases, length_written, same_at}
 use Rattle.lft_flat.specs.Parts.{Parts}
 use Rattle.lft_flat.specs.declared.parts.Port.{Port as PortOf}
@@ -21,13 +22,14 @@ use Rattle.lft_model.proofs.Steps.{some_written}
 use Rattle.lft_queue.specs.Reading.{is_read}
 use Rattle.lft_queue.proofs.Tests.{together}
 use Rattle.lft_coming.specs.AtTag.{AreBefore, AreAt}
-use Rattle.lft_coming.specs.Unread.{UnreadParts, AreSoonest, IsWrittenAt, IsLastTag, AreUnread, IsFree, AreFree}
+use Rattle.lft_coming.proofs.Ways.{moved_up, far_trans}
+use Rattle.lft_coming.specs.Unread.{GoesAsFar, UnreadParts, AreSoonest, IsWrittenAt, IsLastTag, AreUnread, IsFree, AreFree}
 
 -- how soon a write arrives, port by port
-pub soonest_first : (program : Parts) (n : ℕ) (soonest : List (Option ℕ)) → soonest ≡ replicate n None → n ≡ length program.ports → AreSoonest program 0 soonest
+pub soonest_first : (program : Parts) (n : ℕ) (soonest : List (Option Shift)) → soonest ≡ replicate n None → n ≡ length program.ports → AreSoonest program 0 soonest
 soonest_first program n soonest same count = record { as_long = ap length same ∙ length_same n None ∙ count; each = λ p port time l e un some there. absurd (omega (arith, l)) }
 
-module _ (program : Parts) (n : ℕ) (port : PortOf) (here : slice_get program.ports n ≡ Some port) (soonest : List (Option ℕ)) (before : AreSoonest program n soonest) where
+module _ (program : Parts) (n : ℕ) (port : PortOf) (here : slice_get program.ports n ≡ Some port) (soonest : List (Option Shift)) (before : AreSoonest program n soonest) where
   same_port : (p : ℕ) (other : PortOf) → p ≡ n → slice_get program.ports p ≡ Some other → other ≡ port
   same_port p other q e = same_at program.ports p n other port e here q
 
@@ -35,42 +37,42 @@ module _ (program : Parts) (n : ℕ) (port : PortOf) (here : slice_get program.p
   pub soonest_stays : (is_read program n ≡ true) ⊎ ¬ (0 < port.shift.time) → AreSoonest program (n + 1) soonest
   soonest_stays why = record { as_long = before.as_long; each = each }
     where
-      each : (p : ℕ) (other : PortOf) (time : Option ℕ) → p < n + 1 → slice_get program.ports p ≡ Some other → is_read program p ≡ false → 0 < other.shift.time → slice_get soonest other.origin ≡ Some time → MatchOption time ⊥ (λ s. s ≤ other.shift.time)
+      each : (p : ℕ) (other : PortOf) (time : Option Shift) → p < n + 1 → slice_get program.ports p ≡ Some other → is_read program p ≡ false → 0 < other.shift.time → slice_get soonest other.origin ≡ Some time → MatchOption time ⊥ (λ s. GoesAsFar s other.shift)
       each p other time l e un some there = go (cases_eq p n)
         where
           none : p ≡ n → (is_read program n ≡ true) ⊎ ¬ (0 < port.shift.time) → ⊥
           none q (inl r) = false≢true (sym un ∙ ap (λ (k : ℕ). is_read program k) q ∙ r)
           none q (inr z) = z (subst (λ (x : PortOf). 0 < x.shift.time) (same_port p other q e) some)
 
-          go : (p ≡ n) ⊎ (p ≡ n → ⊥) → MatchOption time ⊥ (λ s. s ≤ other.shift.time)
+          go : (p ≡ n) ⊎ (p ≡ n → ⊥) → MatchOption time ⊥ (λ s. GoesAsFar s other.shift)
           go (inl q) = absurd (none q why)
           go (inr d) = before.each p other time (omega (arith, l, d)) e un some there
 
-  at_most : (s m : ℕ) (time : Option ℕ) → Some s ≡ time → s ≤ m → MatchOption time ⊥ (λ k. k ≤ m)
-  at_most s m time e l = subst (λ (o : Option ℕ). MatchOption o ⊥ (λ k. k ≤ m)) e l
+  at_most : (s m : Shift) (time : Option Shift) → Some s ≡ time → GoesAsFar s m → MatchOption time ⊥ (λ k. GoesAsFar k m)
+  at_most s m time e l = subst (λ (o : Option Shift). MatchOption o ⊥ (λ k. GoesAsFar k m)) e l
 
   -- another one does where a write arrives there sooner
-  pub soonest_set : (old : Option ℕ) (s : ℕ) → slice_get soonest port.origin ≡ Some old → s ≤ port.shift.time → MatchOption old (Unit {0}) (λ k. s ≤ k) → AreSoonest program (n + 1) (slice_set soonest port.origin (Some s))
+  pub soonest_set : (old : Option Shift) (s : Shift) → slice_get soonest port.origin ≡ Some old → GoesAsFar s port.shift → MatchOption old (Unit {0}) (λ k. GoesAsFar s k) → AreSoonest program (n + 1) (slice_set soonest port.origin (Some s))
   soonest_set old s there l less = record { as_long = length_written soonest port.origin (Some s) ∙ before.as_long; each = each }
     where
       within : port.origin < length soonest
       within = slice_get_within soonest port.origin old there
 
-      lesser : (o : Option ℕ) (m : ℕ) → MatchOption o (Unit {0}) (λ k. s ≤ k) → MatchOption o ⊥ (λ k. k ≤ m) → s ≤ m
+      lesser : (o : Option Shift) (m : Shift) → MatchOption o (Unit {0}) (λ k. GoesAsFar s k) → MatchOption o ⊥ (λ k. GoesAsFar k m) → GoesAsFar s m
       lesser None m a b = absurd b
-      lesser (Some k) m a b = let x : s ≤ k = a in let y : k ≤ m = b in omega arith
+      lesser (Some k) m a b = far_trans s k m a b
 
-      each : (p : ℕ) (other : PortOf) (time : Option ℕ) → p < n + 1 → slice_get program.ports p ≡ Some other → is_read program p ≡ false → 0 < other.shift.time → slice_get (slice_set soonest port.origin (Some s)) other.origin ≡ Some time → MatchOption time ⊥ (λ k. k ≤ other.shift.time)
+      each : (p : ℕ) (other : PortOf) (time : Option Shift) → p < n + 1 → slice_get program.ports p ≡ Some other → is_read program p ≡ false → 0 < other.shift.time → slice_get (slice_set soonest port.origin (Some s)) other.origin ≡ Some time → MatchOption time ⊥ (λ k. GoesAsFar k other.shift)
       each p other time m e un some f = go (cases_eq p n) (get_write_cases soonest port.origin other.origin (Some s) time within f)
         where
-          go : (p ≡ n) ⊎ (p ≡ n → ⊥) → ((other.origin ≡ port.origin) × (Some s ≡ time)) ⊎ ((other.origin ≢ port.origin) × (slice_get soonest other.origin ≡ Some time)) → MatchOption time ⊥ (λ k. k ≤ other.shift.time)
-          go (inl q) (inl x) = at_most s other.shift.time time x.1 (subst (λ (z : PortOf). s ≤ z.shift.time) (sym (same_port p other q e)) l)
+          go : (p ≡ n) ⊎ (p ≡ n → ⊥) → ((other.origin ≡ port.origin) × (Some s ≡ time)) ⊎ ((other.origin ≢ port.origin) × (slice_get soonest other.origin ≡ Some time)) → MatchOption time ⊥ (λ k. GoesAsFar k other.shift)
+          go (inl q) (inl x) = at_most s other.shift time x.1 (subst (λ (z : PortOf). GoesAsFar s z.shift) (sym (same_port p other q e)) l)
           go (inl q) (inr x) = absurd (x.0 (ap (λ (z : PortOf). z.origin) (same_port p other q e)))
-          go (inr d) (inl x) = at_most s other.shift.time time x.1 (lesser old other.shift.time less (before.each p other old (omega (arith, m, d)) e un some (ap (λ (k : ℕ). slice_get soonest k) x.0 ∙ there)))
+          go (inr d) (inl x) = at_most s other.shift time x.1 (lesser old other.shift less (before.each p other old (omega (arith, m, d)) e un some (ap (λ (k : ℕ). slice_get soonest k) x.0 ∙ there)))
           go (inr d) (inr x) = before.each p other time (omega (arith, m, d)) e un some x.1
 
 -- no row writes anything
-pub unread_first : (program : Parts) (n : ℕ) (soonest : List (Option ℕ)) (any : Bool) (written : List (Option Tag)) → AreSoonest program (length program.ports) soonest → (any ≡ false → (o : ℕ) (time : Option ℕ) → slice_get soonest o ≡ Some time → time ≡ None) → written ≡ replicate n None → n ≡ length program.ports → AreUnread program [] (record { soonest = soonest; any = any; written = written })
+pub unread_first : (program : Parts) (n : ℕ) (soonest : List (Option Shift)) (any : Bool) (written : List (Option Tag)) → AreSoonest program (length program.ports) soonest → (any ≡ false → (o : ℕ) (way : Option Shift) → slice_get soonest o ≡ Some way → way ≡ None) → written ≡ replicate n None → n ≡ length program.ports → AreUnread program [] (record { soonest = soonest; any = any; written = written })
 unread_first program n soonest any written are none_is same count = record { soonest = are; none = none_is; as_long = ap length same ∙ length_same n None ∙ count; last = λ z. last }
   where
     none : (o : ℕ) (k : Option Tag) → k ≡ None → IsLastTag [] o k
@@ -113,7 +115,7 @@ module _ (t : List Row) (row : Row) where
   unread_stays program unread none are = record { soonest = are.soonest; none = are.none; as_long = are.as_long; last = λ z o k e. last_stays o k (λ v s. none-some v (sym (none o) ∙ ap (λ (z : Step). value_written o z) s ∙ some_written o v)) (are.last z o k e) }
 
   -- a row that writes a port
-  module _ (program : Parts) (o : ℕ) (v : Value) (step : row.step ≡ Write (Port o) v) (earlier : (i : ℕ) (x : Row) → slice_get t i ≡ Some x → UpTo x.tag row.tag) (soonest : List (Option ℕ)) (any : Bool) (written : List (Option Tag)) (some : any ≡ true) (within : o < length program.ports) (are : AreUnread program t (record { soonest = soonest; any = any; written = written })) where
+  module _ (program : Parts) (o : ℕ) (v : Value) (step : row.step ≡ Write (Port o) v) (earlier : (i : ℕ) (x : Row) → slice_get t i ≡ Some x → UpTo x.tag row.tag) (soonest : List (Option Shift)) (any : Bool) (written : List (Option Tag)) (some : any ≡ true) (within : o < length program.ports) (are : AreUnread program t (record { soonest = soonest; any = any; written = written })) where
     no_later : (g : Tag) → IsWrittenAt t o g → UpTo g row.tag
     no_later g w = subst (λ (k : Tag). UpTo k row.tag) w.tag_is (earlier w.place w.row w.is_row)
 
@@ -135,11 +137,7 @@ module _ (t : List Row) (row : Row) where
             go (inr x) = last_stays q k (λ w s. x.0 (let both : Write (Port o) v ≡ Write (Port q) w = sym step ∙ s in let same : o ≡ q = cc in sym same)) (are.last some q k x.1)
 
     -- where the test says so, it is free of earlier ones, or the port is written at the tag already
-    module _ (last : Tag) (test : (s : ℕ) (k : Tag) → slice_get soonest o ≡ Some (Some s) → slice_get written o ≡ Some (Some k) → k.time ≡ row.tag.time → k.micro ≢ row.tag.micro → last.time < row.tag.time + s) where
-      shifted_time : (g : Tag) (d n : ℕ) → 0 < d → (shifted g (d, n)).time ≡ g.time + d
-      shifted_time g zero n l = absurd (omega arith)
-      shifted_time g (suc d) n l = refl
-
+    module _ (last : Tag) (test : (s : Shift) (k : Tag) → slice_get soonest o ≡ Some (Some s) → slice_get written o ≡ Some (Some k) → k.time ≡ row.tag.time → k.micro ≢ row.tag.micro → Before last (shifted row.tag (s.time, s.steps))) where
       -- an earlier tag of the same time
       other_micro : (k g : Tag) → Before k g → k.time ≡ g.time → k.micro ≢ g.micro
       other_micro k g (inl l) e m = omega (arith, l, e)
@@ -159,13 +157,10 @@ module _ (t : List Row) (row : Row) where
           let soon = get_there soonest o (omega (arith, within, long)) in
           go soon.0 soon.1 both.0 time (are.soonest.each p port soon.0 (slice_get_within program.ports p port is) is un both.0 (ap (λ (z : ℕ). slice_get soonest z) own ∙ soon.1))
         where
-          go : (z : Option ℕ) → slice_get soonest o ≡ Some z → 0 < port.shift.time → k.time ≡ row.tag.time → MatchOption z ⊥ (λ s. s ≤ port.shift.time) → Before last (shifted row.tag (port.shift.time, port.shift.steps))
+          go : (z : Option Shift) → slice_get soonest o ≡ Some z → 0 < port.shift.time → k.time ≡ row.tag.time → MatchOption z ⊥ (λ s. GoesAsFar s port.shift) → Before last (shifted row.tag (port.shift.time, port.shift.steps))
           go None e l f less = absurd less
           go (Some s) e l f less =
-              let past : last.time < row.tag.time + s = test s k e there f (other_micro k row.tag before f) in
-              let at : (shifted row.tag (port.shift.time, port.shift.steps)).time ≡ row.tag.time + port.shift.time = shifted_time row.tag port.shift.time port.shift.steps l in
-              let most : s ≤ port.shift.time = less in
-              inl (omega (arith, past, at, most))
+              Before-UpTo last (shifted row.tag (s.time, s.steps)) (shifted row.tag (port.shift.time, port.shift.steps)) (test s k e there f (other_micro k row.tag before f)) (moved_up row.tag s.time s.steps port.shift.time port.shift.steps less)
 
       pub free_or_written : IsFree program t row.tag last o ⊎ IsWrittenAt t o row.tag
       free_or_written = let long = are.as_long in let k = get_there written o (omega (arith, within, long)) in go k.0 k.1 (are.last some o k.0 k.1)
@@ -227,7 +222,7 @@ free_all program t u g last unread fit none are o here p port h is own un w befo
     let soon = get_there unread.soonest o (omega (arith, within, long)) in
     go soon.0 (are.none none o soon.0 soon.1) (are.soonest.each p port soon.0 (slice_get_within program.ports p port is) is un both.0 (ap (λ (z : ℕ). slice_get unread.soonest z) own ∙ soon.1))
   where
-    go : (z : Option ℕ) → z ≡ None → MatchOption z ⊥ (λ s. s ≤ port.shift.time) → Before last (shifted g (port.shift.time, port.shift.steps))
+    go : (z : Option Shift) → z ≡ None → MatchOption z ⊥ (λ s. GoesAsFar s port.shift) → Before last (shifted g (port.shift.time, port.shift.steps))
     go None e less = absurd less
     go (Some s) e less = absurd (cc)
 

@@ -28,7 +28,7 @@ use Rattle.lft_queue.proofs.Dropping.{later_value}
 use Rattle.lft_queue.proofs.Tests.{not_before, tag_apart}
 use Rattle.lft_coming.specs.declared.coming.Coming.{Coming}
 use Rattle.lft_coming.specs.declared.listeners.Listeners.{Listeners}
-use Rattle.lft_coming.specs.Coming.{given_from, to_come, put_at, AreBrought, AreTaken, ArePassed, IsReached, AreOver}
+use Rattle.lft_coming.specs.Coming.{given_from, to_come, put_at, AreBrought, AreTaken, IsClear, ArePassed, IsReached, AreOver}
 use Rattle.lft_coming.specs.Listeners.{IsUnheard}
 
 -- an event of the queue is one at its tag
@@ -228,7 +228,7 @@ pub few_of : (o : Option Value) → length (option_to_list o) < 2
 few_of None = omega arith
 few_of (Some v) = omega arith
 
-module _ (events : List Event) (listeners : Listeners) (g : Tag) (old mid new : Coming) (same : (h : Tag) (n : Name) → to_come events mid h n ≡ to_come events old h n) (brought : AreBrought events mid.next g) (taken : AreTaken events old.next mid.next g) (next : new.next ≡ mid.next) (passed : ArePassed listeners g mid.queue new.queue) where
+module _ (events : List Event) (listeners : Listeners) (g : Tag) (old mid new : Coming) (same : (h : Tag) (n : Name) → to_come events mid h n ≡ to_come events old h n) (brought : AreBrought events mid.next g) (taken : AreTaken events old.next mid.next g) (next : new.next ≡ mid.next) (clear : IsClear old.clash g) (clash : new.clash ≡ old.clash) (passed : ArePassed listeners g mid.queue new.queue) where
   -- up to the tag all is in the queue
   in_queue : (h : Tag) (n : Name) → UpTo h g → to_come events old h n ≡ option_to_list (value_of h n mid.queue)
   in_queue h n up = sym (same h n) ∙ only_queue events mid g h n brought up
@@ -240,11 +240,13 @@ module _ (events : List Event) (listeners : Listeners) (g : Tag) (old mid new : 
     same = λ h n up. ap (λ (k : ℕ). given_from events k h n ++ option_to_list (value_of h n new.queue)) next ∙ ap (λ (o : Option Value). given_from events mid.next h n ++ option_to_list o) (passed.same h n up) ∙ same h n;
     brought = subst (λ (k : ℕ). AreBrought events k g) (sym next) brought;
     taken = subst (λ (k : ℕ). AreTaken events old.next k g) (sym next) taken;
+    clear = clear;
+    clash = clash;
   }
 
 -- and where what comes at the tag triggers nothing either, all up to the tag is over
 pub are_over : (events : List Event) (listeners : Listeners) (g : Tag) (old new : Coming) → IsReached events listeners g old new → ((n : Name) → IsUnheard listeners n ⊎ (value_of g n new.queue ≡ None)) → AreOver events listeners g old
-are_over events listeners g old new reached last = record { unheard = λ h n v up c. by h n v c (split_up h g up); alone = λ h n up. few h n (split_up h g up) }
+are_over events listeners g old new reached last = record { unheard = λ h n v up c. by h n v c (split_up h g up); alone = λ h n up. few h n (split_up h g up); clear = reached.clear }
   where
     there : (n : Name) → to_come events old g n ≡ option_to_list (value_of g n new.queue)
     there n = sym (reached.same g n (UpTo-refl g)) ∙ only_queue events new g g n reached.brought (UpTo-refl g)

@@ -39,10 +39,6 @@ pub record AreChannelsTo (program : Parts) (test : ℕ → Bool) (lists : List (
   pub as_long : length lists ≡ length program.ports
   pub each : (p : ℕ) (port : PortOf) (list : List ℕ) → test p ≡ true → slice_get program.ports p ≡ Some port → is_undelayed program p ≡ false → slice_get lists port.origin ≡ Some list → Contains list p
 
--- the list of each origin has all ports that lie behind a delay of it
-abbrev pub AreChannels : Parts → List (List ℕ) → Type 0
-AreChannels program lists = AreChannelsTo program (λ p. true) lists
-
 -- the list of each origin has all ports that lie behind a delay of it and that some reaction reads
 abbrev pub AreReadChannels : Parts → List (List ℕ) → Type 0
 AreReadChannels program lists = AreChannelsTo program (is_read program) lists
@@ -79,9 +75,9 @@ pub record AreCarried (program : Parts) (test : ℕ → Bool) (u : List Row) (g 
   pub actions : (events : List Event) (h : Tag) (a : ℕ) → UpTo h last → to_come events new h (Action a) ≡ to_come events old h (Action a)
   pub ports : (p : ℕ) → test p ≡ true → IsCarried program u g last p old new writes ⊎ IsUncarried program u g last count p old new writes
 
--- so many first rows have carried what they write, of all tags that are clear of what is noted
-pub record AreCarriedClear (program : Parts) (u : List Row) (g last : Tag) (count : ℕ) (clash noted : Option Tag) (old new : Coming) (writes : List (Option Written)) : Type 0 where
+-- so many first rows have carried what they write, to the ports that some reaction reads, at all tags that are clear
+pub record AreCarriedClear (program : Parts) (u : List Row) (g last : Tag) (count : ℕ) (old new : Coming) (writes : List (Option Written)) : Type 0 where
   pub as_long : length writes ≡ length program.ports
   pub up_to : (p : ℕ) (w : Written) → slice_get writes p ≡ Some (Some w) → UpTo w.tag g
-  pub no_later : IsNoLater clash noted
-  pub carried : (h : Tag) → UpTo h last → IsClear noted h → AreCarried program (λ p. true) u g h count old new writes
+  pub no_later : IsNoLater old.clash new.clash
+  pub carried : (h : Tag) → UpTo h last → IsClear new.clash h → AreCarried program (is_read program) u g h count old new writes

@@ -1,8 +1,9 @@
 -- What is kept of ports behind delays that no reaction reads: nobody waits for their events.
-use Rattle.std.specs.Prelude.{◌≡◌, ℕ, ◌<◌, ◌≤◌, Bool, true, false, List, length, Option, Some, None, MatchOption, slice_get}
+use Rattle.std.specs.Prelude.{◌≡◌, ℕ, ◌<◌, ◌≤◌, ◌⊎◌, Bool, true, false, List, length, Option, Some, None, MatchOption, slice_get}
 use Rattle.lft_tag.specs.declared.Tag.{Tag}
 use Rattle.lft_tag.specs.Tags.{Before, UpTo}
 use Rattle.lft_tag.specs.Shifts.{shifted}
+use Rattle.lft_tag.specs.declared.Shift.{Shift}
 use Rattle.lft_flat.specs.Parts.{Parts}
 use Rattle.lft_flat.specs.declared.parts.Port.{Port as PortOf}
 use Rattle.lft_flat.specs.declared.parts.Value.{Value}
@@ -11,16 +12,20 @@ use Rattle.lft_steps.specs.declared.row.Row.{Row}
 use Rattle.lft_steps.specs.declared.row.Step.TheVariants.{Write}
 use Rattle.lft_queue.specs.Reading.{is_read}
 
+-- the second way leads as far as the first
+abbrev pub GoesAsFar : Shift → Shift → Type 0
+GoesAsFar s f = (s.time < f.time) ⊎ ((s.time ≡ f.time) × (s.steps ≤ f.steps))
+
 -- of each port, as an origin, how soon a write of it arrives at a port that no reaction reads, if it does later than at once; whether it does of any; and the tag at which it is written last, if it is
 pub record UnreadParts : Type 0 where
-  pub soonest : List (Option ℕ)
+  pub soonest : List (Option Shift)
   pub any : Bool
   pub written : List (Option Tag)
 
 -- of each unread port below a number, a write of its origin arrives there no sooner than is kept
-pub record AreSoonest (program : Parts) (below : ℕ) (soonest : List (Option ℕ)) : Type 0 where
+pub record AreSoonest (program : Parts) (below : ℕ) (soonest : List (Option Shift)) : Type 0 where
   pub as_long : length soonest ≡ length program.ports
-  pub each : (p : ℕ) (port : PortOf) (time : Option ℕ) → p < below → slice_get program.ports p ≡ Some port → is_read program p ≡ false → 0 < port.shift.time → slice_get soonest port.origin ≡ Some time → MatchOption time ⊥ (λ s. s ≤ port.shift.time)
+  pub each : (p : ℕ) (port : PortOf) (way : Option Shift) → p < below → slice_get program.ports p ≡ Some port → is_read program p ≡ false → 0 < port.shift.time → slice_get soonest port.origin ≡ Some way → MatchOption way ⊥ (λ s. GoesAsFar s port.shift)
 
 -- a row of t writes port o at g
 pub record IsWrittenAt (t : List Row) (o : ℕ) (g : Tag) : Type 0 where
@@ -38,7 +43,7 @@ IsLastTag t o last = MatchOption last ((g : Tag) → ¬ IsWrittenAt t o g) (λ k
 -- what is kept is right for the rows t, as far as any write arrives at such a port
 pub record AreUnread (program : Parts) (t : List Row) (unread : UnreadParts) : Type 0 where
   pub soonest : AreSoonest program (length program.ports) unread.soonest
-  pub none : unread.any ≡ false → (o : ℕ) (time : Option ℕ) → slice_get unread.soonest o ≡ Some time → time ≡ None
+  pub none : unread.any ≡ false → (o : ℕ) (way : Option Shift) → slice_get unread.soonest o ≡ Some way → way ≡ None
   pub as_long : length unread.written ≡ length program.ports
   pub last : unread.any ≡ true → (o : ℕ) (k : Option Tag) → slice_get unread.written o ≡ Some k → IsLastTag t o k
 

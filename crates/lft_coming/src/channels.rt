@@ -1,13 +1,13 @@
 //! The ports behind delays, and the events that writes carry to them.
 
-ghost use Rattle.std.specs.Prelude.{◌≡◌, ◌+◌, ◌<◌, ◌++◌, ℕ, Bool, true, false, List, IfOk, OnOk, IsTrue, length, filter_map, slice_get, Some};
+ghost use Rattle.std.specs.Prelude.{◌≡◌, ◌+◌, ◌<◌, ◌++◌, ℕ, Bool, true, false, List, IfOk, IsTrue, length, filter_map, slice_get, Some};
 ghost use Rattle.lft_tag.specs.declared.Tag.{Tag as TheTag};
 ghost use Rattle.lft_tag.specs.Tags.{IsRecorded, Before, UpTo, after};
 ghost use Rattle.lft_flat.specs.declared.parts.Name.{Name as TheName};
 ghost use Rattle.lft_steps.specs.declared.externals.Event.{Event as TheEvent};
 ghost use Rattle.lft_steps.specs.declared.row.Row.{Row as TheRow};
 ghost use Rattle.lft_steps.specs.Fits.{RowFits, RowsFit};
-ghost use Rattle.lft_coming.specs.Channels.{is_behind as lies_behind, arrival, AreChannels, AreChannelsTo, AreReadChannels, AreCarried, carried_by};
+ghost use Rattle.lft_coming.specs.Channels.{is_behind as lies_behind, arrival, AreChannelsTo, AreReadChannels, AreCarried, carried_by};
 ghost use Rattle.lft_coming.specs.AtOnce.{IsAwaited, is_undelayed as is_reached};
 ghost use Rattle.lft_queue.specs.Reading.{is_read};
 ghost use Rattle.lft_coming.specs.Coming.{to_come, IsClear, IsNoLater};
@@ -50,15 +50,6 @@ fn channels_to(alloc: Global, program: &Program, marked: &[bool]) -> Result<Numb
     Ok(channels)
 }
 
-/// For each port, as an origin, the ports that lie behind a delay of it.
-pub fn channels_of(alloc: Global, program: &Program) -> Result<NumberLists, NoMemory>
-    ensures { IfOk result (AreChannels program.now) }
-{
-    let marked = vec![in alloc; true; program.ports()]?;
-    let channels = channels_to(alloc, program, marked.as_slice())?;
-    Ok(channels)
-}
-
 /// For each port, as an origin, the ports that lie behind a delay of it and that some reaction reads.
 pub fn read_channels_of(alloc: Global, program: &Program) -> Result<NumberLists, NoMemory>
     ensures { IfOk result (AreReadChannels program.now) }
@@ -79,7 +70,7 @@ fn is_behind(program: &Program, origin: u32, number: u32) -> bool
 }
 
 /// Puts an event in for each of the ports that lies behind a delay of the origin, which is written at the
-/// tag, where it arrives up to the stop. It is false where two events meet, or memory is refused.
+/// tag, where it arrives up to the stop. It is false where memory is refused.
 fn carry(
     coming: &mut Coming,
     program: &Program,
@@ -91,7 +82,8 @@ fn carry(
 ) -> bool
     requires { IsRecorded tag }
     ensures next { coming.new.next ≡ coming.old.next }
-    ensures put { IsTrue result → (events : List TheEvent) (h : TheTag) (n : TheName) → UpTo h last → to_come events coming.new h n ≡ to_come events coming.old h n ++ filter_map (arrival program.now origin tag value h n) targets.now }
+    ensures no_later { IsNoLater coming.old.clash coming.new.clash }
+    ensures put { IsTrue result → (events : List TheEvent) (h : TheTag) (n : TheName) → UpTo h last → IsClear coming.new.clash h → to_come events coming.new h n ≡ to_come events coming.old h n ++ filter_map (arrival program.now origin tag value h n) targets.now }
 {
     for place in 0..targets.len() {
         let target = item_at(targets, place);
@@ -106,7 +98,8 @@ fn carry(
 }
 
 /// Where the row writes a port, puts in what the port's last write carries to those in its list, up
-/// to the stop. A write is kept no more then, so a second row that writes the port finds none.
+/// to the stop. A write is kept no more then, so a second row that writes the port finds none. It is false
+/// where memory is refused.
 fn carry_row(
     coming: &mut Coming,
     writes: &mut Writes,
@@ -119,7 +112,9 @@ fn carry_row(
     requires ports { length writes.old ≡ length program.now.ports }
     requires channels { AreReadChannels program.now channels.now }
     ensures next { coming.new.next ≡ coming.old.next }
-    ensures carried { IsTrue result → (u : List TheRow) (count : ℕ) (start : TheComing) → slice_get u count ≡ Some row → AreCarried program.now (is_read program.now) u row.tag last count start coming.old writes.old → AreCarried program.now (is_read program.now) u row.tag last (count + 1) start coming.new writes.new }
+    ensures no_later { IsNoLater coming.old.clash coming.new.clash }
+    ensures fewer { AreFewer writes.old writes.new }
+    ensures carried { IsTrue result → (u : List TheRow) (count : ℕ) (start : TheComing) (h : TheTag) → UpTo h last → IsClear coming.new.clash h → slice_get u count ≡ Some row → AreCarried program.now (is_read program.now) u row.tag h count start coming.old writes.old → AreCarried program.now (is_read program.now) u row.tag h (count + 1) start coming.new writes.new }
 {
     let Some((port, _)) = written_port(&row.step) else {
         return true;
@@ -139,7 +134,7 @@ fn carry_row(
 }
 
 /// Puts in what the last writes of the rows, which are all at the tag, carry to the ports behind delays that
-/// some reaction reads, up to the stop. It is false where two events meet, or memory is refused.
+/// some reaction reads, up to the stop. It is false where memory is refused.
 pub(crate) fn carry_all(
     coming: &mut Coming,
     writes: &mut Writes,
@@ -154,8 +149,9 @@ pub(crate) fn carry_all(
     requires channels { AreReadChannels program.now channels.now }
     requires writes { AreWrites program.now rows.now tag writes.old }
     ensures next { coming.new.next ≡ coming.old.next }
+    ensures no_later { IsNoLater coming.old.clash coming.new.clash }
     ensures earlier { IsTrue result → AreEarlier program.now (after tag 0) writes.new }
-    ensures carried { IsTrue result → (events : List TheEvent) (h : TheTag) (n : TheName) → IsAwaited program.now n → Before tag h → UpTo h last → to_come events coming.new h n ≡ to_come events coming.old h n ++ held (carried_by program.now rows.now tag n) h }
+    ensures carried { IsTrue result → (events : List TheEvent) (h : TheTag) (n : TheName) → IsAwaited program.now n → Before tag h → UpTo h last → IsClear coming.new.clash h → to_come events coming.new h n ≡ to_come events coming.old h n ++ held (carried_by program.now rows.now tag n) h }
 {
     for place in 0..rows.len() {
         if !carry_row(coming, writes, channels, program, row_at(rows, place), last) {
@@ -163,94 +159,4 @@ pub(crate) fn carry_all(
         }
     }
     true
-}
-
-/// The same as `carry`, where the tag is noted at which two events meet, if none before it was. Gives the tag
-/// that is noted now.
-fn note_carry(
-    coming: &mut Coming,
-    program: &Program,
-    targets: &[u32],
-    origin: u32,
-    tag: Tag,
-    value: Value,
-    clash: Option<Tag>,
-    last: Tag,
-) -> Result<Option<Tag>, NoMemory>
-    requires { IsRecorded tag }
-    ensures no_later { IfOk result (IsNoLater clash) }
-    ensures put { IfOk result (λ new. (events : List TheEvent) (h : TheTag) (n : TheName) → UpTo h last → IsClear new h → to_come events coming.new h n ≡ to_come events coming.old h n ++ filter_map (arrival program.now origin tag value h n) targets.now) }
-{
-    let mut noted = clash;
-    for place in 0..targets.len() {
-        let target = item_at(targets, place);
-        if is_behind(program, origin, target) {
-            let arrives = tag.plus(program.port(target).shift);
-            noted = coming.note_until(noted, last, arrives, Name::Port(target), value)?;
-        }
-    }
-    Ok(noted)
-}
-
-/// The same as `carry_row`, where the tag is noted at which two events meet.
-fn note_carry_row(
-    coming: &mut Coming,
-    writes: &mut Writes,
-    channels: &NumberLists,
-    program: &Program,
-    row: Row,
-    clash: Option<Tag>,
-    last: Tag,
-) -> Result<Option<Tag>, NoMemory>
-    requires fits { RowFits program.now row }
-    requires ports { length writes.old ≡ length program.now.ports }
-    requires channels { AreChannels program.now channels.now }
-    ensures no_later { IfOk result (IsNoLater clash) }
-    ensures fewer { OnOk result (AreFewer writes.old writes.new) }
-    ensures carried { IfOk result (λ new. (u : List TheRow) (count : ℕ) (start : TheComing) (h : TheTag) → UpTo h last → IsClear new h → slice_get u count ≡ Some row → AreCarried program.now (λ p. true) u row.tag h count start coming.old writes.old → AreCarried program.now (λ p. true) u row.tag h (count + 1) start coming.new writes.new) }
-{
-    let Some((port, _)) = written_port(&row.step) else {
-        return Ok(clash);
-    };
-    let Some(value) = writes.take(row.tag, port) else {
-        return Ok(clash);
-    };
-    let noted = note_carry(
-        coming,
-        program,
-        channels.of(port),
-        port,
-        row.tag,
-        value,
-        clash,
-        last,
-    )?;
-    Ok(noted)
-}
-
-/// The same as `carry_all`, where the tag is noted at which two events meet, if none before it was.
-pub(crate) fn note_carry_all(
-    coming: &mut Coming,
-    writes: &mut Writes,
-    channels: &NumberLists,
-    program: &Program,
-    rows: &[Row],
-    tag: Tag,
-    clash: Option<Tag>,
-    last: Tag,
-) -> Result<Option<Tag>, NoMemory>
-    requires fit { RowsFit program.now rows.now }
-    requires at { AreAt rows.now tag }
-    requires channels { AreChannels program.now channels.now }
-    requires writes { AreWrites program.now rows.now tag writes.old }
-    ensures no_later { IfOk result (IsNoLater clash) }
-    ensures earlier { OnOk result (AreEarlier program.now (after tag 0) writes.new) }
-    ensures carried { IfOk result (λ new. (events : List TheEvent) (h : TheTag) (n : TheName) → Before tag h → UpTo h last → IsClear new h → to_come events coming.new h n ≡ to_come events coming.old h n ++ held (carried_by program.now rows.now tag n) h) }
-{
-    let mut noted = clash;
-    for place in 0..rows.len() {
-        let row = row_at(rows, place);
-        noted = note_carry_row(coming, writes, channels, program, row, noted, last)?;
-    }
-    Ok(noted)
 }

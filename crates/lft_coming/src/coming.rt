@@ -1,6 +1,6 @@
 //! The events to come.
 
-ghost use Rattle.std.specs.Prelude.{◌≡◌, ◌↔◌, ◌⊎◌, ◌++◌, [], List, Some, None, IsSome, IsTrue, IfOk, Contains};
+ghost use Rattle.std.specs.Prelude.{◌≡◌, ◌↔◌, ◌⊎◌, ◌++◌, [], List, Some, None, IsSome, IsTrue, OnOk, IfErr, Contains};
 ghost use Rattle.lft_tag.specs.declared.Tag.{Tag as TheTag};
 ghost use Rattle.lft_tag.specs.Tags.{Before, UpTo};
 ghost use Rattle.lft_flat.specs.declared.parts.Name.{Name as TheName};
@@ -14,7 +14,7 @@ use lft_flat::{Name, Value};
 use lft_lists::item_at;
 use lft_queue::{NamesAt, Queue, QueueFault};
 use lft_steps::Externals;
-use lft_tag::{NoMemory, Tag};
+use lft_tag::Tag;
 use std::alloc::Global;
 
 /// So many events may be in the queue at once, which is some 25 MB. A program whose delays keep more
@@ -27,80 +27,79 @@ pub struct Coming {
     queue: Queue,
     /// The place of the first external event that isn't in the queue.
     next: usize,
+    /// The least tag at which two events of a name are known to meet, if there is one. The queue has what
+    /// comes before it.
+    clash: Option<Tag>,
 }
 
-/// The earlier of a tag and another, if there is one.
-fn earlier_of(clash: Option<Tag>, tag: Tag) -> Tag
-    ensures before { (h : TheTag) → Before h result → IsClear clash h × Before h tag }
-    ensures one { (result ≡ tag) ⊎ (clash ≡ Some result) }
+/// The earlier of two tags, of those that there are.
+pub(crate) fn earlier_of(one: Option<Tag>, other: Option<Tag>) -> Option<Tag>
+    ensures clear { (h : TheTag) → IsClear result h ↔ IsClear one h × IsClear other h }
+    ensures one { (result ≡ one) ⊎ (result ≡ other) }
 {
-    match clash {
-        Some(other) => { if other.is_before(tag) { other } else { tag } }
-        None => tag,
+    match (one, other) {
+        (Some(tag), Some(next)) => { if next.is_before(tag) { other } else { one } }
+        (Some(_), None) => one,
+        (None, _) => other,
     }
 }
 
 impl Coming {
     /// All external events are to come, and nothing else.
     pub fn new(alloc: Global) -> Coming
-        ensures { result ≡ record { queue = []; next = 0 } }
+        ensures { result ≡ record { queue = []; next = 0; clash = None } }
     {
         Coming {
             queue: Queue::new(alloc),
             next: 0,
+            clash: None,
         }
     }
 
-    /// Puts an event in. It is false where the name has an event at the tag already, too many events
-    /// are in the queue, or memory is refused.
-    fn put(&mut self, tag: Tag, name: Name, value: Value) -> bool
+    /// Puts an event in. Too many events count as memory that is refused.
+    fn put(&mut self, tag: Tag, name: Name, value: Value) -> Result<(), QueueFault>
         ensures next { self.new.next ≡ self.old.next }
-        ensures absent { IsTrue result → value_of tag name self.old.queue ≡ None }
-        ensures put { IsTrue result → Becomes self.old.queue self.new.queue tag name (Some value) }
+        ensures clash { self.new.clash ≡ self.old.clash }
+        ensures absent { OnOk result (value_of tag name self.old.queue ≡ None) }
+        ensures put { OnOk result (Becomes self.old.queue self.new.queue tag name (Some value)) }
+        ensures err { IfErr result (λ e. self.new ≡ self.old) }
+        ensures collision { IfErr result (λ e. e ≡ QueueFault.Collision → IsSome (value_of tag name self.old.queue)) }
     {
         if self.queue.len() >= MOST {
-            return false;
+            return Err(QueueFault::NoMemory);
         }
-        match self.queue.put(tag, name, value) {
-            Ok(()) => true,
-            Err(_) => false,
-        }
+        self.queue.put(tag, name, value)
     }
 
-    /// Puts an event in, where it is up to the stop: behind that nobody waits for one. It is false where
-    /// the name has an event at the tag already, or memory is refused.
+    /// Notes the tag, if there is one, as one at which two events meet.
+    pub fn note(&mut self, met: Option<Tag>)
+        ensures next { self.new.next ≡ self.old.next }
+        ensures same { (events : List TheEvent) (h : TheTag) (n : TheName) → to_come events self.new h n ≡ to_come events self.old h n }
+        ensures clear { (h : TheTag) → IsClear self.new.clash h ↔ IsClear self.old.clash h × IsClear met h }
+        ensures one { (self.new.clash ≡ self.old.clash) ⊎ (self.new.clash ≡ met) }
+    {
+        self.clash = earlier_of(self.clash, met);
+    }
+
+    /// Puts an event in, where it is up to the stop: behind that nobody waits for one. Where the name has an
+    /// event at the tag already, that one stays, and the tag is noted, if none before it was. It is false
+    /// where too many events are in the queue, or memory is refused.
     pub(crate) fn put_until(&mut self, last: Tag, tag: Tag, name: Name, value: Value) -> bool
         ensures next { self.new.next ≡ self.old.next }
-        ensures put { IsTrue result → (events : List TheEvent) (h : TheTag) (n : TheName) → UpTo h last → to_come events self.new h n ≡ to_come events self.old h n ++ put_at tag name value h n }
+        ensures no_later { IsNoLater self.old.clash self.new.clash }
+        ensures put { IsTrue result → (events : List TheEvent) (h : TheTag) (n : TheName) → UpTo h last → IsClear self.new.clash h → to_come events self.new h n ≡ to_come events self.old h n ++ put_at tag name value h n }
+        ensures met { (self.new.clash ≡ self.old.clash) ⊎ (self.new.clash ≡ Some tag) × IsSome (value_of tag name self.old.queue) }
     {
         if last.is_before(tag) {
             return true;
         }
-        self.put(tag, name, value)
-    }
-
-    /// Puts an event in, where it is up to the stop. Where the name has an event at the tag already, this
-    /// one stays, and the tag is noted, if none before it was: two events meet there. Gives the tag that is
-    /// noted now.
-    pub(crate) fn note_until(
-        &mut self,
-        clash: Option<Tag>,
-        last: Tag,
-        tag: Tag,
-        name: Name,
-        value: Value,
-    ) -> Result<Option<Tag>, NoMemory>
-        ensures no_later { IfOk result (IsNoLater clash) }
-        ensures put { IfOk result (λ new. (events : List TheEvent) (h : TheTag) (n : TheName) → UpTo h last → IsClear new h → to_come events self.new h n ≡ to_come events self.old h n ++ put_at tag name value h n) }
-        ensures met { IfOk result (λ new. (new ≡ clash) ⊎ (new ≡ Some tag) × IsSome (value_of tag name self.old.queue)) }
-    {
-        if last.is_before(tag) {
-            return Ok(clash);
-        }
-        match self.queue.put(tag, name, value) {
-            Ok(()) => Ok(clash),
-            Err(QueueFault::NoMemory) => Err(NoMemory),
-            Err(QueueFault::Collision) => Ok(Some(earlier_of(clash, tag))),
+        match self.put(tag, name, value) {
+            Ok(()) => true,
+            Err(QueueFault::NoMemory) => false,
+            Err(QueueFault::Collision) => {
+                self.note(Some(tag));
+                true
+            }
         }
     }
 
@@ -109,6 +108,7 @@ impl Coming {
     fn bring(&mut self, externals: &Externals, tag: Tag) -> bool
         ensures brought { IsTrue result → AreBrought externals.now.events self.new.next tag }
         ensures taken { AreTaken externals.now.events self.old.next self.new.next tag }
+        ensures clash { self.new.clash ≡ self.old.clash }
         ensures same { IsTrue result → (h : TheTag) (n : TheName) → to_come externals.now.events self.new h n ≡ to_come externals.now.events self.old h n }
     {
         let events = externals.events();
@@ -117,9 +117,9 @@ impl Coming {
             if tag.is_before(event.tag) {
                 return true;
             }
-            if !self.put(event.tag, Name::Action(event.action), event.value) {
+            let Ok(()) = self.put(event.tag, Name::Action(event.action), event.value) else {
                 return false;
-            }
+            };
             self.next += 1;
         }
         true
@@ -155,6 +155,7 @@ impl Coming {
     /// triggers something: then a run is missing.
     fn pass(&mut self, listeners: &Listeners, tag: Tag) -> bool
         ensures next { self.new.next ≡ self.old.next }
+        ensures clash { self.new.clash ≡ self.old.clash }
         ensures passed { IsTrue result → ArePassed listeners.now tag self.old.queue self.new.queue }
     {
         while let Some(first) = self.queue.first_tag() {
@@ -169,12 +170,25 @@ impl Coming {
         true
     }
 
+    /// Whether the tag is before the one at which two events are known to meet.
+    fn is_clear(&self, tag: Tag) -> bool
+        ensures { IsTrue result ↔ IsClear self.now.clash tag }
+    {
+        match self.clash {
+            Some(clash) => tag.is_before(clash),
+            None => true,
+        }
+    }
+
     /// Goes on to a later tag: what comes at the tag is in the queue, and nothing that comes before it.
-    /// It is false where an event before the tag is of a name that triggers something, where two meet, or
-    /// memory is refused.
+    /// It is false where an event before the tag is of a name that triggers something, where two meet up to
+    /// the tag, or memory is refused.
     pub fn reach(&mut self, externals: &Externals, listeners: &Listeners, tag: Tag) -> bool
         ensures { IsTrue result → IsReached externals.now.events listeners.now tag self.old self.new }
     {
+        if !self.is_clear(tag) {
+            return false;
+        }
         self.bring(externals, tag) && self.pass(listeners, tag)
     }
 
@@ -189,6 +203,7 @@ impl Coming {
     /// Takes the queue's events up to the tag out.
     pub fn drop_until(&mut self, tag: Tag)
         ensures next { self.new.next ≡ self.old.next }
+        ensures clash { self.new.clash ≡ self.old.clash }
         ensures same { (events : List TheEvent) (h : TheTag) (n : TheName) → Before tag h → to_come events self.new h n ≡ to_come events self.old h n }
     {
         self.queue.drop_until(tag);

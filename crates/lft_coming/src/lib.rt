@@ -11,10 +11,10 @@ mod unread;
 mod writes;
 
 pub use at_once::is_undelayed;
-pub use channels::{channels_of, read_channels_of};
+pub use channels::read_channels_of;
 pub use coming::Coming;
 pub use listeners::Listeners;
 pub use number_lists::NumberLists;
-pub use scheduling::{note_pass_on, pass_on};
+pub use scheduling::pass_on;
 pub use unread::Unread;
 pub use writes::{Writes, written_port};

@@ -1,33 +1,34 @@
 //! The events that rows cause at later tags.
 
-ghost use Rattle.std.specs.Prelude.{◌≡◌, ◌++◌, [], ◌∷◌, List, IsTrue, IfOk, OnOk};
+ghost use Rattle.std.specs.Prelude.{◌≡◌, ◌++◌, [], ◌∷◌, List, IsTrue};
 ghost use Rattle.lft_tag.specs.declared.Tag.{Tag as TheTag};
 ghost use Rattle.lft_flat.specs.declared.parts.Name.{Name as TheName};
 ghost use Rattle.lft_steps.specs.declared.externals.Event.{Event as TheEvent};
 ghost use Rattle.lft_steps.specs.Fits.{RowFits, RowsFit};
 ghost use Rattle.lft_tag.specs.Tags.{Before, UpTo, after};
-ghost use Rattle.lft_coming.specs.Channels.{AreChannels, AreReadChannels, caused_by};
+ghost use Rattle.lft_coming.specs.Channels.{AreReadChannels, caused_by};
 ghost use Rattle.lft_coming.specs.AtOnce.{IsAwaited};
 ghost use Rattle.lft_coming.specs.Coming.{to_come, scheduled_by, IsClear, IsNoLater};
 ghost use Rattle.lft_coming.specs.Lanes.{held};
 ghost use Rattle.lft_coming.specs.AtTag.{AreAt};
 ghost use Rattle.lft_coming.specs.Writes.{AreWrites, AreEarlier};
 
-use crate::channels::{carry_all, note_carry_all};
+use crate::channels::carry_all;
 use crate::coming::Coming;
 use crate::number_lists::NumberLists;
 use crate::writes::Writes;
-use lft_flat::{Name, Program};
+use lft_flat::Name;
 use lft_model::Plan;
 use lft_steps::{Row, Step, row_at};
-use lft_tag::{NoMemory, Tag};
+use lft_tag::Tag;
 
-/// Puts the event in that the row schedules up to the stop, if it schedules one. It is false where two
-/// events meet, or memory is refused.
+/// Puts the event in that the row schedules up to the stop, if it schedules one. It is false where memory
+/// is refused.
 fn schedule(coming: &mut Coming, plan: &Plan, row: Row, last: Tag) -> bool
     requires { RowFits plan.now.program row }
     ensures next { coming.new.next ≡ coming.old.next }
-    ensures put { IsTrue result → (events : List TheEvent) (h : TheTag) (n : TheName) → UpTo h last → to_come events coming.new h n ≡ to_come events coming.old h n ++ held (scheduled_by plan.now (row ∷ []) n) h }
+    ensures no_later { IsNoLater coming.old.clash coming.new.clash }
+    ensures put { IsTrue result → (events : List TheEvent) (h : TheTag) (n : TheName) → UpTo h last → IsClear coming.new.clash h → to_come events coming.new h n ≡ to_come events coming.old h n ++ held (scheduled_by plan.now (row ∷ []) n) h }
 {
     match row.step {
         Step::Schedule(Name::Action(number), value, delay) => {
@@ -44,12 +45,12 @@ fn schedule(coming: &mut Coming, plan: &Plan, row: Row, last: Tag) -> bool
     }
 }
 
-/// Puts the events in that the rows schedule up to the stop. It is false where two events meet, or memory
-/// is refused.
+/// Puts the events in that the rows schedule up to the stop. It is false where memory is refused.
 fn schedule_all(coming: &mut Coming, plan: &Plan, rows: &[Row], last: Tag) -> bool
     requires { RowsFit plan.now.program rows.now }
     ensures next { coming.new.next ≡ coming.old.next }
-    ensures put { IsTrue result → (events : List TheEvent) (h : TheTag) (n : TheName) → UpTo h last → to_come events coming.new h n ≡ to_come events coming.old h n ++ held (scheduled_by plan.now rows.now n) h }
+    ensures no_later { IsNoLater coming.old.clash coming.new.clash }
+    ensures put { IsTrue result → (events : List TheEvent) (h : TheTag) (n : TheName) → UpTo h last → IsClear coming.new.clash h → to_come events coming.new h n ≡ to_come events coming.old h n ++ held (scheduled_by plan.now rows.now n) h }
 {
     for place in 0..rows.len() {
         if !schedule(coming, plan, row_at(rows, place), last) {
@@ -59,56 +60,9 @@ fn schedule_all(coming: &mut Coming, plan: &Plan, rows: &[Row], last: Tag) -> bo
     true
 }
 
-/// The same, where the tag is noted at which two events meet, if none before it was: of the tags before it all
-/// is as it was and with the event. Gives the tag that is noted now.
-fn note_schedule(
-    coming: &mut Coming,
-    plan: &Plan,
-    row: Row,
-    clash: Option<Tag>,
-    last: Tag,
-) -> Result<Option<Tag>, NoMemory>
-    requires { RowFits plan.now.program row }
-    ensures no_later { IfOk result (IsNoLater clash) }
-    ensures put { IfOk result (λ new. (events : List TheEvent) (h : TheTag) (n : TheName) → UpTo h last → IsClear new h → to_come events coming.new h n ≡ to_come events coming.old h n ++ held (scheduled_by plan.now (row ∷ []) n) h) }
-{
-    match row.step {
-        Step::Schedule(Name::Action(number), value, delay) => {
-            let min_delay = plan.program().action(number).min_delay;
-            let tag = row.tag.after(min_delay, delay);
-            coming.note_until(clash, last, tag, Name::Action(number), value)
-        }
-        Step::Schedule(Name::Port(_), _, _) => Ok(clash),
-        Step::Start => Ok(clash),
-        Step::Read(_, _) => Ok(clash),
-        Step::Write(_, _) => Ok(clash),
-        Step::Stop => Ok(clash),
-        Step::End => Ok(clash),
-    }
-}
-
-/// Puts the events in that the rows schedule up to the stop, and notes where two meet.
-pub(crate) fn note_schedules(
-    coming: &mut Coming,
-    plan: &Plan,
-    rows: &[Row],
-    clash: Option<Tag>,
-    last: Tag,
-) -> Result<Option<Tag>, NoMemory>
-    requires { RowsFit plan.now.program rows.now }
-    ensures no_later { IfOk result (IsNoLater clash) }
-    ensures put { IfOk result (λ new. (events : List TheEvent) (h : TheTag) (n : TheName) → UpTo h last → IsClear new h → to_come events coming.new h n ≡ to_come events coming.old h n ++ held (scheduled_by plan.now rows.now n) h) }
-{
-    let mut noted = clash;
-    for place in 0..rows.len() {
-        noted = note_schedule(coming, plan, row_at(rows, place), noted, last)?;
-    }
-    Ok(noted)
-}
-
 /// Puts in what the rows, which are all at the tag, cause later and up to the stop: the events that they
-/// schedule, and what their last writes carry to the ports behind delays that some reaction reads. It is
-/// false where two events meet, or memory is refused.
+/// schedule, and what their last writes carry to the ports behind delays that some reaction reads. Where two
+/// events meet, their tag is noted: what comes before it is right still. It is false where memory is refused.
 pub fn pass_on(
     coming: &mut Coming,
     writes: &mut Writes,
@@ -123,37 +77,10 @@ pub fn pass_on(
     requires channels { AreReadChannels plan.now.program channels.now }
     requires writes { AreWrites plan.now.program rows.now tag writes.old }
     ensures next { coming.new.next ≡ coming.old.next }
+    ensures no_later { IsNoLater coming.old.clash coming.new.clash }
     ensures earlier { IsTrue result → AreEarlier plan.now.program (after tag 0) writes.new }
-    ensures caused { IsTrue result → (events : List TheEvent) (h : TheTag) (n : TheName) → IsAwaited plan.now.program n → Before tag h → UpTo h last → to_come events coming.new h n ≡ to_come events coming.old h n ++ held (caused_by plan.now rows.now tag n) h }
+    ensures caused { IsTrue result → (events : List TheEvent) (h : TheTag) (n : TheName) → IsAwaited plan.now.program n → Before tag h → UpTo h last → IsClear coming.new.clash h → to_come events coming.new h n ≡ to_come events coming.old h n ++ held (caused_by plan.now rows.now tag n) h }
 {
     schedule_all(coming, plan, rows, last)
         && carry_all(coming, writes, channels, plan.program(), rows, tag, last)
-}
-
-/// The same as `pass_on`, where the tag is noted at which two events meet, if none before it was. Gives the
-/// tag that is noted now.
-pub fn note_pass_on(
-    coming: &mut Coming,
-    writes: &mut Writes,
-    channels: &NumberLists,
-    plan: &Plan,
-    rows: &[Row],
-    tag: Tag,
-    clash: Option<Tag>,
-    last: Tag,
-) -> Result<Option<Tag>, NoMemory>
-    requires fit { RowsFit plan.now.program rows.now }
-    requires at { AreAt rows.now tag }
-    requires channels { AreChannels plan.now.program channels.now }
-    requires writes { AreWrites plan.now.program rows.now tag writes.old }
-    ensures no_later { IfOk result (IsNoLater clash) }
-    ensures earlier { OnOk result (AreEarlier plan.now.program (after tag 0) writes.new) }
-    ensures caused { IfOk result (λ new. (events : List TheEvent) (h : TheTag) (n : TheName) → Before tag h → UpTo h last → IsClear new h → to_come events coming.new h n ≡ to_come events coming.old h n ++ held (caused_by plan.now rows.now tag n) h) }
-{
-    let scheduled = note_schedules(coming, plan, rows, clash, last)?;
-    let program = plan.program();
-    let noted = note_carry_all(
-        coming, writes, channels, program, rows, tag, scheduled, last,
-    )?;
-    Ok(noted)
 }

@@ -1,22 +1,26 @@
 //! Ports behind delays that no reaction reads.
 
-ghost use Rattle.std.specs.Prelude.{◌≡◌, ◌≢◌, ◌⊎◌, ◌<◌, ◌≤◌, ◌+◌, ◌∷◌, ◌++◌, [], ℕ, true, false, List, Option, length, Some, None, IfOk, IfSome, IsTrue, slice_get};
+ghost use Rattle.std.specs.Prelude.{◌≡◌, ◌≢◌, ◌⊎◌, ◌<◌, ◌∷◌, ◌++◌, [], ℕ, true, false, List, Option, length, Some, None, IfOk, IfSome, slice_get};
 ghost use Rattle.lft_tag.specs.declared.Tag.{Tag as TheTag};
-ghost use Rattle.lft_tag.specs.Tags.{UpTo};
+ghost use Rattle.lft_tag.specs.declared.Shift.{Shift as TheShift};
+ghost use Rattle.lft_tag.specs.Shifts.{shifted};
+ghost use Rattle.lft_tag.specs.Tags.{Before, UpTo, IsRecorded};
 ghost use Rattle.lft_flat.specs.declared.parts.Name.TheVariants.{Port as PortName};
 ghost use Rattle.lft_flat.specs.declared.parts.Value.{Value as TheValue};
 ghost use Rattle.lft_steps.specs.declared.row.Row.{Row as TheRow};
 ghost use Rattle.lft_steps.specs.declared.row.Step.TheVariants.{Write};
 ghost use Rattle.lft_steps.specs.Fits.{RowFits, RowsFit};
 ghost use Rattle.lft_coming.specs.AtTag.{AreBefore, AreAt};
-ghost use Rattle.lft_coming.specs.Unread.{AreSoonest, IsWrittenAt, AreUnread, IsFree, AreFree};
+ghost use Rattle.lft_coming.specs.Coming.{IsClear};
+ghost use Rattle.lft_coming.specs.Unread.{GoesAsFar, AreSoonest, IsWrittenAt, AreUnread, IsFree, AreFree};
 
+use crate::coming::earlier_of;
 use crate::writes::written_port;
 use lft_flat::{Port, Program};
 use lft_lists::item_at;
 use lft_queue::read_ports;
 use lft_steps::{Row, row_at};
-use lft_tag::{NoMemory, Tag};
+use lft_tag::{NoMemory, Shift, Tag};
 use std::alloc::Global;
 use std::marker::Model;
 
@@ -25,9 +29,9 @@ use std::marker::Model;
 // So the tag of its last write is enough: tags rise.
 #[derive(Drop)]
 pub struct Unread {
-    /// For each port, as an origin, how soon a write of it arrives at such a port, if it does later than at
-    /// once.
-    soonest: Vec<Option<u64>>,
+    /// For each port, as an origin, the way to such a port where a write of it arrives soonest, if it does at
+    /// a later time.
+    soonest: Vec<Option<Shift>>,
     /// Whether it does of some port. Else nothing meets, and nothing more is kept.
     any: bool,
     /// For each port the tag at which it is written last, if it is.
@@ -42,14 +46,20 @@ impl Model for Unread {
     ghost view = { λ unread. record { soonest = unread.soonest.items; any = unread.any; written = unread.written.items } };
 }
 
-/// The lesser of a time and another, if there is one.
-fn lesser_of(other: Option<u64>, time: u64) -> u64
-    ensures time { result ≤ time }
-    ensures other { IfSome other (λ s. result ≤ s) }
+/// The nearer of a way and another, if there is one.
+fn nearer_of(other: Option<Shift>, way: Shift) -> Shift
+    ensures way { GoesAsFar result way }
+    ensures other { IfSome other (λ s. GoesAsFar result s) }
 {
     match other {
-        Some(least) => least.min(time),
-        None => time,
+        Some(least) => {
+            if least.time < way.time || (least.time == way.time && least.steps < way.steps) {
+                least
+            } else {
+                way
+            }
+        }
+        None => way,
     }
 }
 
@@ -60,9 +70,9 @@ fn is_unread(is_read: bool, port: &Port) -> bool
     !is_read && port.shift.time > 0
 }
 
-/// For each port, as an origin, how soon a write of it arrives at a port that no reaction reads, if it does
-/// later than at once.
-fn soonest_of(alloc: Global, program: &Program) -> Result<Vec<Option<u64>>, NoMemory>
+/// For each port, as an origin, the way to a port that no reaction reads where a write of it arrives
+/// soonest, if it does at a later time.
+fn soonest_of(alloc: Global, program: &Program) -> Result<Vec<Option<Shift>>, NoMemory>
     ensures { IfOk result (λ soonest. AreSoonest program.now (length program.now.ports) soonest.items) }
 {
     let read = read_ports(alloc, program)?;
@@ -70,7 +80,7 @@ fn soonest_of(alloc: Global, program: &Program) -> Result<Vec<Option<u64>>, NoMe
     'ports: for number in 0..program.ports() {
         let port = program.port(number as u32);
         let origin = port.origin as usize;
-        let least = lesser_of(soonest[origin], port.shift.time);
+        let least = nearer_of(soonest[origin], port.shift);
         if is_unread(item_at(read.as_slice(), number), port) {
             soonest[origin] = Some(least);
         }
@@ -78,9 +88,9 @@ fn soonest_of(alloc: Global, program: &Program) -> Result<Vec<Option<u64>>, NoMe
     Ok(soonest)
 }
 
-/// Whether there is a time.
-fn is_any(soonest: &[Option<u64>]) -> bool
-    ensures { result ≡ false → (o : ℕ) (time : Option ℕ) → slice_get soonest.now o ≡ Some time → time ≡ None }
+/// Whether there is a way.
+fn is_any(soonest: &[Option<Shift>]) -> bool
+    ensures { result ≡ false → (o : ℕ) (way : Option TheShift) → slice_get soonest.now o ≡ Some way → way ≡ None }
 {
     for place in 0..soonest.len() {
         if item_at(soonest, place).is_some() {
@@ -90,15 +100,17 @@ fn is_any(soonest: &[Option<u64>]) -> bool
     false
 }
 
-/// Whether writes of an origin at a tag and at a later one may arrive at one tag up to the stop, where they
-/// arrive no sooner than this.
-fn may_meet(soonest: u64, earlier: Tag, tag: Tag, last: Tag) -> bool
-    ensures { result ≡ false → earlier.time ≡ tag.time → earlier.micro ≢ tag.micro → last.time < tag.time + soonest }
+/// Where a write of an origin at the tag and one at an earlier tag arrive together by a way that takes time,
+/// if they do.
+fn meet_at(way: Shift, earlier: Tag, tag: Tag) -> Option<Tag>
+    requires { IsRecorded tag }
+    ensures { (h : TheTag) → IsClear result h → earlier.time ≡ tag.time → earlier.micro ≢ tag.micro → Before h (shifted tag (way.time, way.steps)) }
 {
-    earlier.time == tag.time
-        && earlier.micro != tag.micro
-        && tag.time <= last.time
-        && soonest <= last.time - tag.time
+    if earlier.time == tag.time && earlier.micro != tag.micro {
+        Some(tag.plus(way))
+    } else {
+        None
+    }
 }
 
 impl Unread {
@@ -116,22 +128,24 @@ impl Unread {
         })
     }
 
-    /// Whether a write of the port at the tag may meet its last one at an unread port, up to the stop.
-    fn meets(&self, port: u32, tag: Tag, last: Tag) -> bool
+    /// Where a write of the port at the tag meets its last one at an unread port, if it does.
+    fn meets(&self, port: u32, tag: Tag) -> Option<Tag>
+        requires recorded { IsRecorded tag }
         requires soonest { port < length self.now.soonest }
         requires written { port < length self.now.written }
-        ensures { result ≡ false → (s : ℕ) (k : TheTag) → slice_get self.now.soonest port ≡ Some (Some s) → slice_get self.now.written port ≡ Some (Some k) → k.time ≡ tag.time → k.micro ≢ tag.micro → last.time < tag.time + s }
+        ensures { (h : TheTag) (s : TheShift) (k : TheTag) → IsClear result h → slice_get self.now.soonest port ≡ Some (Some s) → slice_get self.now.written port ≡ Some (Some k) → k.time ≡ tag.time → k.micro ≢ tag.micro → Before h (shifted tag (s.time, s.steps)) }
     {
         let soonest = item_at(self.soonest.as_slice(), port as usize);
         let written = item_at(self.written.as_slice(), port as usize);
         match (soonest, written) {
-            (Some(soonest), Some(earlier)) => may_meet(soonest, earlier, tag, last),
-            _ => false,
+            (Some(soonest), Some(earlier)) => meet_at(soonest, earlier, tag),
+            _ => None,
         }
     }
 
-    /// Goes on past a row. It is false where what it writes may meet an earlier write at an unread port.
-    fn pass(&mut self, program: &Program, row: Row, last: Tag) -> bool
+    /// Goes on past a row. Gives the tag at which what it writes meets an earlier write at an unread port, if
+    /// it does.
+    fn pass(&mut self, program: &Program, row: Row) -> Option<Tag>
         requires fits { RowFits program.now row }
         requires any { self.old.any ≡ true }
         requires soonest { length self.old.soonest ≡ length program.now.ports }
@@ -139,37 +153,35 @@ impl Unread {
         ensures any { self.new.any ≡ true }
         ensures soonest { self.new.soonest ≡ self.old.soonest }
         ensures written { length self.new.written ≡ length self.old.written }
-        ensures unread { IsTrue result → (t : List TheRow) → ((i : ℕ) (x : TheRow) → slice_get t i ≡ Some x → UpTo x.tag row.tag) → AreUnread program.now t self.old → AreUnread program.now (t ++ row ∷ []) self.new }
-        ensures free { IsTrue result → (t : List TheRow) (o : ℕ) (v : TheValue) → ((i : ℕ) (x : TheRow) → slice_get t i ≡ Some x → UpTo x.tag row.tag) → AreUnread program.now t self.old → row.step ≡ Write (PortName o) v → IsFree program.now t row.tag last o ⊎ IsWrittenAt t o row.tag }
+        ensures unread { (t : List TheRow) → ((i : ℕ) (x : TheRow) → slice_get t i ≡ Some x → UpTo x.tag row.tag) → AreUnread program.now t self.old → AreUnread program.now (t ++ row ∷ []) self.new }
+        ensures free { (t : List TheRow) (o : ℕ) (v : TheValue) (h : TheTag) → IsClear result h → ((i : ℕ) (x : TheRow) → slice_get t i ≡ Some x → UpTo x.tag row.tag) → AreUnread program.now t self.old → row.step ≡ Write (PortName o) v → IsFree program.now t row.tag h o ⊎ IsWrittenAt t o row.tag }
     {
         let Some((port, _)) = written_port(&row.step) else {
-            return true;
+            return None;
         };
-        if self.meets(port, row.tag, last) {
-            return false;
-        }
+        let met = self.meets(port, row.tag);
         self.written[port as usize] = Some(row.tag);
-        true
+        met
     }
 
-    /// Goes on past the rows of a later tag. It is false where what they write may meet an earlier write at an
-    /// unread port, up to the stop.
-    pub fn pass_all(&mut self, program: &Program, rows: &[Row], tag: Tag, last: Tag) -> bool
+    /// Goes on past the rows of a later tag. Gives the least tag at which what they write meets an earlier
+    /// write at an unread port, if it does.
+    pub fn pass_all(&mut self, program: &Program, rows: &[Row], tag: Tag) -> Option<Tag>
         requires fit { RowsFit program.now rows.now }
         requires at { AreAt rows.now tag }
         requires soonest { length self.old.soonest ≡ length program.now.ports }
         requires written { length self.old.written ≡ length program.now.ports }
-        ensures unread { IsTrue result → (t : List TheRow) → AreBefore t tag → AreUnread program.now t self.old → AreUnread program.now (t ++ rows.now) self.new }
-        ensures free { IsTrue result → (t : List TheRow) → AreBefore t tag → AreUnread program.now t self.old → AreFree program.now t rows.now tag last }
+        ensures unread { (t : List TheRow) → AreBefore t tag → AreUnread program.now t self.old → AreUnread program.now (t ++ rows.now) self.new }
+        ensures free { (t : List TheRow) (h : TheTag) → IsClear result h → AreBefore t tag → AreUnread program.now t self.old → AreFree program.now t rows.now tag h }
     {
+        let mut clash = None;
         if !self.any {
-            return true;
+            return clash;
         }
         for place in 0..rows.len() {
-            if !self.pass(program, row_at(rows, place), last) {
-                return false;
-            }
+            let met = self.pass(program, row_at(rows, place));
+            clash = earlier_of(clash, met);
         }
-        true
+        clash
     }
 }

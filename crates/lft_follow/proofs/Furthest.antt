@@ -1,10 +1,10 @@
 -- How far writes of a port are carried.
-use Rattle.std.proofs.Common.{◌≡◌, ℕ, zero, suc, ◌+◌, ◌<◌, ◌≤◌, ◌⊎◌, inl, inr, List, length, refl, sym, ap, ◌∙◌, subst, arith, Some, slice_get, slice_set}
+use Rattle.std.proofs.Common.{◌≡◌, ℕ, ◌+◌, ◌<◌, ◌≤◌, List, length, sym, ap, ◌∙◌, subst, arith, Some, slice_get, slice_set}
 use native.Mathlib.Decide.{ℕ_discrete}
 use Rattle.lft_tag.specs.declared.Tag.{Tag}
 use Rattle.lft_tag.specs.declared.Shift.{Shift}
 use Rattle.lft_tag.specs.Tags.{Before, UpTo, after_all}
-use Rattle.lft_tag.specs.Shifts.{Folded, join_all, moved, none, shifted}
+use Rattle.lft_tag.specs.Shifts.{Folded, join_all, none, shifted}
 use Rattle.lft_tag.proofs.Order.{UpTo-Before}
 use Rattle.lft_tag.proofs.Chains.{shifted_chain}
 use Rattle.lft_flat.specs.Parts.{Parts}
@@ -14,22 +14,9 @@ use Rattle.lft_flat.specs.declared.parts.Port.{Port}
 use Rattle.lft_flat.proofs.Origins.{origin_unique, origin_within}
 use Rattle.lft_lists.proofs.Places.{get_there, get_written, get_unwritten, same_at, same_some}
 use Rattle.lft_model.proofs.Places.{slice_get_within}
-use Rattle.lft_follow.specs.Kept.{GoesAsFar, AreFurthest}
-
-moved_up : (g : Tag) (a b c d : ℕ) → (a < c) ⊎ ((a ≡ c) × (b ≤ d)) → UpTo (moved g a b) (moved g c d)
-moved_up g zero b zero d (inl l) = absurd (omega arith)
-moved_up g zero b zero d (inr e) = let l : b ≤ d = e.1 in inr (refl, omega arith)
-moved_up g zero b (suc c) d h = inl (omega arith)
-moved_up g (suc a) b zero d (inl l) = absurd (omega arith)
-moved_up g (suc a) b zero d (inr e) = let z : suc a ≡ zero = e.0 in absurd (omega arith)
-moved_up g (suc a) b (suc c) d (inl l) = inl (omega arith)
-moved_up g (suc a) b (suc c) d (inr e) = let z : suc a ≡ suc c = e.0 in inr (omega arith, e.1)
-
-far_trans : (s f h : Shift) → GoesAsFar s f → GoesAsFar f h → GoesAsFar s h
-far_trans s f h (inl a) (inl b) = inl (omega arith)
-far_trans s f h (inl a) (inr b) = let e : f.time ≡ h.time = b.0 in inl (omega arith)
-far_trans s f h (inr a) (inl b) = let e : s.time ≡ f.time = a.0 in inl (omega arith)
-far_trans s f h (inr a) (inr b) = let p : s.steps ≤ f.steps = a.1 in let q : f.steps ≤ h.steps = b.1 in inr (a.0 ∙ b.0, omega arith)
+use Rattle.lft_coming.specs.Unread.{GoesAsFar}
+use Rattle.lft_coming.proofs.Ways.{moved_up, far_trans}
+use Rattle.lft_follow.specs.Kept.{AreFurthest}
 
 -- the ways of the ports before a number go no further than those at the places of their origins
 pub record AreFar (program : Parts) (furthest : List Shift) (n : ℕ) : Type 0 where

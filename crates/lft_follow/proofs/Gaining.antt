@@ -210,8 +210,8 @@ module _ (plan : PlanParts) (event : Event) (place : ℕ) (within : place ≤ le
     lane_action a = let old = is.state.actions a in record { past = λ h b. done_more t (Action a) h (Before-UpTo h (low_of s.tag) event.tag b up) (old.past h b); ahead = λ h l. kept_action t a h (is.lanes (Action a)) (old.ahead h l) }
 
     coming_more : AreComing more (low_of s.tag) s.stop lanes s.coming
-    coming_more (Port p) h waited from near = is.coming (Port p) h waited from near
-    coming_more (Action a) h waited from near = held_given h a event (is.lanes (Action a)) ∙ go _ (is.coming (Action a) h waited from near)
+    coming_more (Port p) h waited from near clear = is.coming (Port p) h waited from near clear
+    coming_more (Action a) h waited from near clear = held_given h a event (is.lanes (Action a)) ∙ go _ (is.coming (Action a) h waited from near clear)
       where
         new : Option Value
         new = given h a event

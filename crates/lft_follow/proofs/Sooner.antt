@@ -140,9 +140,9 @@ module _ (plan : PlanParts) (g : Tag) where
     stream_sooner s is = record {
       lanes = is.lanes;
       none = is.none;
-      coming = λ n h waited from far. is.coming n h waited from (UpTo-trans h (earlier g s.stop) s.stop far (up_second g s.stop));
+      coming = λ n h waited from far clear. is.coming n h waited from (UpTo-trans h (earlier g s.stop) s.stop far (up_second g s.stop)) clear;
       come = is.come;
-      alone = λ p h un from far. is.alone p h un from (UpTo-trans h (earlier g s.stop) s.stop far (up_second g s.stop));
+      alone = λ p h un from far clear. is.alone p h un from (UpTo-trans h (earlier g s.stop) s.stop far (up_second g s.stop)) clear;
       state = record {
         settled = record { rows = λ b x. is.state.settled.rows b (row_other plan inputs (stop plan t) (stop sooner t) t b past_back x); runs = λ h r x. run_sooner h r x (is.state.settled.runs h r x) };
         counted = is.state.counted;

@@ -1,5 +1,5 @@
 -- What is kept of rows that are judged, so that what is broken behind them can be named.
-use Rattle.std.specs.Prelude.{◌≡◌, ℕ, ◌<◌, ◌≤◌, ◌⊎◌, Bool, List, length, Some, None, false, slice_get, Contains}
+use Rattle.std.specs.Prelude.{◌≡◌, ℕ, ◌≤◌, Bool, List, length, Some, None, false, slice_get, Contains}
 use Rattle.lft_tag.specs.declared.Tag.{Tag}
 use Rattle.lft_tag.specs.Tags.{UpTo, after_all}
 use Rattle.lft_tag.specs.declared.Shift.{Shift}
@@ -11,12 +11,9 @@ use Rattle.lft_model.specs.Plans.{PlanParts}
 use Rattle.lft_model.specs.Presence.{asked, requests, scheduled, written, min_delay, stop}
 use Rattle.lft_model.specs.Fitting.{EachFits}
 use Rattle.lft_coming.specs.AtTag.{AreBefore}
+use Rattle.lft_coming.specs.Unread.{GoesAsFar}
 use Rattle.lft_follow.specs.Sure.{IsUnbroken, CauseSame}
 use Rattle.lft_follow.specs.declared.past.Past.{Past}
-
--- the second way leads as far as the first
-abbrev pub GoesAsFar : Shift → Shift → Type 0
-GoesAsFar s f = (s.time < f.time) ⊎ ((s.time ≡ f.time) × (s.steps ≤ f.steps))
 
 -- there is a way for each port, and the way of a port is no further than that at the place of its origin
 pub record AreFurthest (program : Parts) (furthest : List Shift) : Type 0 where

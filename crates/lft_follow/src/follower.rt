@@ -27,8 +27,8 @@ pub enum Progress {
     GoesOn,
     /// Nothing is to be judged behind it.
     Broken(Found),
-    /// The rows that are judged break no rule. The next ones, up to the line, may lead to two events that
-    /// meet at a later tag, or too much is to be looked at, or memory is refused.
+    /// The rows that are judged break no rule. Of the next ones, up to the line, too much is to be kept or
+    /// looked at, or memory is refused.
     Odd(Reach, u64),
     /// More rows stand at one tag than a table may have, or more came than are counted.
     TooMany,

@@ -5,7 +5,8 @@ ghost use Rattle.lft_tag.specs.Tags.{IsRecorded, Before, after_all};
 ghost use Rattle.lft_flat.specs.Origins.{Origin};
 ghost use Rattle.lft_steps.specs.Fits.{RowFits};
 ghost use Rattle.lft_model.specs.Fitting.{EachFits};
-ghost use Rattle.lft_follow.specs.Kept.{GoesAsFar, AreFurthest, IsIdle, AreMarked, IsKept};
+ghost use Rattle.lft_coming.specs.Unread.{GoesAsFar};
+ghost use Rattle.lft_follow.specs.Kept.{AreFurthest, IsIdle, AreMarked, IsKept};
 
 use lft_flat::{Name, Program};
 use lft_lists::item_at;

@@ -122,8 +122,7 @@ impl Past {
     }
 
     /// The first breach of the rules 6 to 10 before the high tag, of these rows behind those that are
-    /// judged. None where none is found: two events may meet later, or there are too many rows, or memory
-    /// is refused.
+    /// judged. None where none is found: there is none, or there are too many rows, or memory is refused.
     pub(crate) fn first_breach(
         &self,
         alloc: Global,

@@ -6,8 +6,8 @@ use lft_follow::{Ending, Found, Reach};
 #[derive(Clone, Copy, PartialEq, Eq, Debug, Drop)]
 pub enum Told {
     Broken(Found),
-    /// The rows that are judged break no rule. The next ones, up to the line, may break one of the rules
-    /// 6 to 10, or too much is to be looked at, or memory is refused.
+    /// The rows that are judged break no rule. Of the next ones, up to the line, too much is to be kept or
+    /// looked at, or memory is refused.
     Odd(Reach, u64),
     /// No rule is broken up to the first tag with rows at or past the one that was asked for.
     Reached(Reach),

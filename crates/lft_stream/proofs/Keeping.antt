@@ -39,7 +39,7 @@ use Rattle.lft_coming.specs.Listens.{Listens}
 use Rattle.lft_stream.specs.Dues.{AreDues, NoneOwed}
 use Rattle.lft_stream.specs.Kept.{KeepRules, IsLater, AreUpTo, IsOfRow, low_of, HaveCome, state_of, IsStreamOf, IsAtHand, IsJudged}
 use Rattle.lft_coming.specs.Lanes.{held, first_events, IsMetAt, LaneGoesOn}
-use Rattle.lft_coming.specs.Coming.{to_come, AreTaken, IsReached, AreOver, AreComing}
+use Rattle.lft_coming.specs.Coming.{to_come, AreTaken, IsClear, IsNoLater, IsReached, AreOver, AreComing}
 use Rattle.lft_coming.specs.Shown.{IsInLane, last_write}
 use Rattle.lft_coming.specs.declared.coming.Coming.{Coming}
 use Rattle.lft_coming.specs.declared.listeners.Listeners.{Listeners}
@@ -49,6 +49,7 @@ use Rattle.lft_coming.specs.Writes.{AreEarlier}
 use Rattle.lft_coming.proofs.AtOnce.{undelayed_way, delayed_way, origin_is, heard_there}
 use Rattle.lft_coming.proofs.Carrying.{carried_is, one_held, held_one, none_after, none_now, at_once_held}
 use Rattle.lft_coming.proofs.Writing.{earlier_on}
+use Rattle.lft_coming.proofs.Clearing.{clear_up}
 use Rattle.lft_stream.proofs.Before.{ran_whole}
 use Rattle.lft_stream.proofs.Lanes.{held_append, held_first}
 use Rattle.lft_stream.proofs.Lone.{unread_met, still_alone}
@@ -81,7 +82,7 @@ listener_of : (plan : PlanParts) (listeners : Listeners) → AreListeners plan l
 listener_of plan listeners are n has r list l e = are.each n r list l (ap (λ (m : Name). list_of listeners m) (heard_there plan.program n has) ∙ e)
 
 -- the first events are those that are to come first
-first_to_come : (plan : PlanParts) (n : Name) (h : Tag) → held (first_events plan n) h ≡ to_come plan.externals.events (record { queue = []; next = 0 }) h n
+first_to_come : (plan : PlanParts) (n : Name) (h : Tag) → held (first_events plan n) h ≡ to_come plan.externals.events (record { queue = []; next = 0; clash = None }) h n
 first_to_come plan (Port p) h = refl
 first_to_come plan (Action a) h = held_first plan a h ∙ sym (append-nil (filter_map (given h a) plan.externals.events))
 
@@ -117,13 +118,13 @@ next_up : (g h : Tag) → Before g h → UpTo (after g 0) h
 next_up g h (inl l) = inl l
 next_up g h (inr p) = let l : g.micro < h.micro = p.1 in inr (p.0, omega arith)
 
-pub begins_kept : (plan : PlanParts) (s : Stream) → s.stop ≡ plan.externals.stop → s.tag ≡ None → s.runs ≡ 0 → s.tags ≡ 0 → AreDues plan [] s.dues → AreStartTags plan.program [] s.starts → ((g : Tag) → AreEarlier plan.program g s.writes) → AreListeners plan s.listeners → AreReadChannels plan.program s.channels → s.coming ≡ record { queue = []; next = 0 } → AreUnread plan.program [] s.unread → IsStreamOf plan [] s
+pub begins_kept : (plan : PlanParts) (s : Stream) → s.stop ≡ plan.externals.stop → s.tag ≡ None → s.runs ≡ 0 → s.tags ≡ 0 → AreDues plan [] s.dues → AreStartTags plan.program [] s.starts → ((g : Tag) → AreEarlier plan.program g s.writes) → AreListeners plan s.listeners → AreReadChannels plan.program s.channels → s.coming ≡ record { queue = []; next = 0; clash = None } → AreUnread plan.program [] s.unread → IsStreamOf plan [] s
 begins_kept plan s stops none runs tags dues starts writes listeners channels begins unread = record {
   lanes = first_events plan;
   none = λ p h e up. refl;
-  coming = λ n h waited up far. first_to_come plan n h ∙ ap (λ (c : Coming). to_come plan.externals.events c h n) (sym begins);
+  coming = λ n h waited up far clear. first_to_come plan n h ∙ ap (λ (c : Coming). to_come plan.externals.events c h n) (sym begins);
   come = rw none (ap (λ (c : Coming). c.next) begins);
-  alone = λ p h un up far. omega arith;
+  alone = λ p h un up far clear. omega arith;
   state = rw (none, runs, tags) ((stream_law plan).begins s.dues dues);
   stop_is = stops;
   up_to = rw none refl;
@@ -148,15 +149,15 @@ come_on events last g from to later come taken i above below = go (dec_lt i from
     go (no m) = taken i (omega arith) below
 
 -- what the lanes have at a tag is met: of names that somebody waits for where nothing comes that is heard, of the others in any case
-lane_is_met : (plan : PlanParts) (t : List Row) (s : Stream) (is : IsStreamOf plan t s) (h : Tag) → UpTo (low_of s.tag) h → UpTo h s.stop → ((n : Name) → length (to_come plan.externals.events s.coming h n) < 2) → ((n : Name) (v : Value) → Contains (to_come plan.externals.events s.coming h n) v → IsUnheard s.listeners n) → (n : Name) → IsMetAt plan t n h (is.lanes n)
-lane_is_met plan t s is h low near alone unheard n = go n
+lane_is_met : (plan : PlanParts) (t : List Row) (s : Stream) (is : IsStreamOf plan t s) (h : Tag) → UpTo (low_of s.tag) h → UpTo h s.stop → IsClear s.coming.clash h → ((n : Name) → length (to_come plan.externals.events s.coming h n) < 2) → ((n : Name) (v : Value) → Contains (to_come plan.externals.events s.coming h n) v → IsUnheard s.listeners n) → (n : Name) → IsMetAt plan t n h (is.lanes n)
+lane_is_met plan t s is h low near clear alone unheard n = go n
   where
     awaited : (n : Name) → IsAwaited plan.program n → IsMetAt plan t n h (is.lanes n)
-    awaited n waited = unheard_met plan t h n (is.lanes n) s.listeners is.listeners (λ p e z. ap (λ (k : Name). held (is.lanes k) h) e ∙ is.none p h z low) (rw (is.coming n h waited low near) (alone n)) (λ v k. unheard n v (subst (λ (vs : List Value). Contains vs v) (is.coming n h waited low near) k))
+    awaited n waited = unheard_met plan t h n (is.lanes n) s.listeners is.listeners (λ p e z. ap (λ (k : Name). held (is.lanes k) h) e ∙ is.none p h z low) (rw (is.coming n h waited low near clear) (alone n)) (λ v k. unheard n v (subst (λ (vs : List Value). Contains vs v) (is.coming n h waited low near clear) k))
 
     port : (p : ℕ) (b : Bool) → is_read plan.program p ≡ b → IsMetAt plan t (Port p) h (is.lanes (Port p))
     port p true e = awaited (Port p) e
-    port p false e = unread_met plan t h p (is.lanes (Port p)) e (is.alone p h e low near)
+    port p false e = unread_met plan t h p (is.lanes (Port p)) e (is.alone p h e low near clear)
 
     go : (n : Name) → IsMetAt plan t n h (is.lanes n)
     go (Port p) = port p (is_read plan.program p) refl
@@ -189,11 +190,11 @@ module _ (plan : PlanParts) (d u : List Row) (g : Tag) (old : Stream) (is : IsSt
 
   -- what was to come before the tag triggered nothing
   module _ (good : IsSound plan.program) (c : Coming) (reached : IsReached plan.externals.events old.listeners g old.coming c) where
-    at_hand_at : (n : Name) (h : Tag) → IsAwaited plan.program n → UpTo g h → UpTo h old.stop → held (is.lanes n) h ≡ to_come plan.externals.events c h n
-    at_hand_at n h waited up near = is.coming n h waited (UpTo-trans (low_of old.tag) g h (passed old.tag later) up) near ∙ sym (reached.same h n up)
+    at_hand_at : (n : Name) (h : Tag) → IsAwaited plan.program n → UpTo g h → UpTo h old.stop → IsClear old.coming.clash h → held (is.lanes n) h ≡ to_come plan.externals.events c h n
+    at_hand_at n h waited up near clear = is.coming n h waited (UpTo-trans (low_of old.tag) g h (passed old.tag later) up) near clear ∙ sym (reached.same h n up)
 
     in_queue : (n : Name) → IsAwaited plan.program n → held (is.lanes n) g ≡ option_to_list (value_of g n c.queue)
-    in_queue n waited = at_hand_at n g waited (UpTo-refl g) reach ∙ only_queue plan.externals.events c g g n reached.brought (UpTo-refl g)
+    in_queue n waited = at_hand_at n g waited (UpTo-refl g) reach reached.clear ∙ only_queue plan.externals.events c g g n reached.brought (UpTo-refl g)
 
     near : (h : Tag) → Before h g → UpTo h old.stop
     near h b = UpTo-trans h g old.stop (Before-weaken h g b) reach
@@ -201,7 +202,7 @@ module _ (plan : PlanParts) (d u : List Row) (g : Tag) (old : Stream) (is : IsSt
     goes_up : (n : Name) → LaneGoesOn plan d n (low_of old.tag) (is.lanes n) g (is.lanes n)
     goes_up n = record {
       up = passed old.tag later;
-      met = λ h up b. lane_is_met plan d old is h up (near h b) (λ m. reached.alone h m b) (λ m v k. reached.unheard h m v b k) n;
+      met = λ h up b. lane_is_met plan d old is h up (near h b) (clear_up old.coming.clash h g (Before-weaken h g b) reached.clear) (λ m. reached.alone h m b) (λ m v k. reached.unheard h m v b k) n;
       same = λ h up. refl;
     }
 
@@ -242,7 +243,7 @@ module _ (plan : PlanParts) (d u : List Row) (g : Tag) (old : Stream) (is : IsSt
 
       delayed_met : (p : ℕ) (b : Bool) → is_undelayed plan.program p ≡ false → is_read plan.program p ≡ b → IsMetAt plan (d ++ u) (Port p) g (lanes_at (Port p))
       delayed_met p true has e = event_met (Port p) has e
-      delayed_met p false has e = unread_met plan (d ++ u) g p (lanes_at (Port p)) e (subst (λ (vs : List Value). length vs < 2) (sym (at_once (Port p) has)) (is.alone p g e (passed old.tag later) reach))
+      delayed_met p false has e = unread_met plan (d ++ u) g p (lanes_at (Port p)) e (subst (λ (vs : List Value). length vs < 2) (sym (at_once (Port p) has)) (is.alone p g e (passed old.tag later) reach reached.clear))
 
       -- the write of a port at the tag is met
       write_met : (p : ℕ) → is_undelayed plan.program p ≡ true → IsMetAt plan (d ++ u) (Port p) g (lanes_at (Port p))
@@ -289,12 +290,12 @@ module _ (plan : PlanParts) (d u : List Row) (g : Tag) (old : Stream) (is : IsSt
           stands = move_law plan (d ++ u) (state_of lanes_at g new) (state_of lanes_at (after g 0) new) ((stream_law plan).grows d u g first.reaction (state_of is.lanes g old) (state_of lanes_at g new) there right some_ran grown) (record { lanes = goes_past; dues = refl; runs = refl; tags = refl })
 
           -- the state over the rows of a later tag
-          pub grows_kept : new.stop ≡ earliest old.stop (requests u) → new.tag ≡ Some g → AreStartTags plan.program (d ++ u) new.starts → AreEarlier plan.program (after g 0) new.writes → AreListeners plan new.listeners → AreReadChannels plan.program new.channels → AreUnread plan.program (d ++ u) new.unread → AreFree plan.program d u g new.stop → ((h : Tag) (n : Name) → IsAwaited plan.program n → Before g h → UpTo h new.stop → to_come plan.externals.events new.coming h n ≡ to_come plan.externals.events c h n ++ held (caused_by plan u g n) h) → new.coming.next ≡ c.next → IsStreamOf plan (d ++ u) new
-          grows_kept stops tag starts writes listeners channels unread free more next = record {
+          pub grows_kept : new.stop ≡ earliest old.stop (requests u) → new.tag ≡ Some g → AreStartTags plan.program (d ++ u) new.starts → AreEarlier plan.program (after g 0) new.writes → AreListeners plan new.listeners → AreReadChannels plan.program new.channels → AreUnread plan.program (d ++ u) new.unread → ((h : Tag) → IsClear new.coming.clash h → AreFree plan.program d u g h) → IsNoLater c.clash new.coming.clash → ((h : Tag) (n : Name) → IsAwaited plan.program n → Before g h → UpTo h new.stop → IsClear new.coming.clash h → to_come plan.externals.events new.coming h n ≡ to_come plan.externals.events c h n ++ held (caused_by plan u g n) h) → new.coming.next ≡ c.next → IsStreamOf plan (d ++ u) new
+          grows_kept stops tag starts writes listeners channels unread free sooner more next = record {
             lanes = lanes_at;
             none = λ p h e up. none p h e (past h up);
-            alone = λ p h un up far. lone p h un (past h up) far;
-            coming = subst (λ (last : Option Tag). AreComing plan (low_of last) new.stop lanes_at new.coming) (sym tag) (λ n h waited up far. still n h waited (Before-UpTo g (after g 0) h (after_past g 0) up) far);
+            alone = λ p h un up far clear. lone p h un (past h up) far clear;
+            coming = subst (λ (last : Option Tag). AreComing plan (low_of last) new.stop lanes_at new.coming) (sym tag) (λ n h waited up far clear. still n h waited (Before-UpTo g (after g 0) h (after_past g 0) up) far clear);
             come = subst (λ (last : Option Tag). HaveCome plan.externals.events last new.coming.next) (sym tag) (subst (λ (k : ℕ). AreTaken plan.externals.events 0 k g) (sym next) (come_on plan.externals.events old.tag g old.coming.next c.next later is.come reached.taken));
             state = subst (λ (last : Option Tag). IsStream plan (d ++ u) (state_of lanes_at (low_of last) new)) (sym tag) stands;
             stop_is = stops ∙ stop_now;
@@ -318,12 +319,16 @@ module _ (plan : PlanParts) (d u : List Row) (g : Tag) (old : Stream) (is : IsSt
               no_later : UpTo new.stop old.stop
               no_later = subst (λ (k : Tag). UpTo k old.stop) (sym (stops ∙ stop_now)) (subst (λ (k : Tag). UpTo (stop plan (d ++ u)) k) (sym is.stop_is) (stop_append plan d u))
 
-              still : (n : Name) (h : Tag) → IsAwaited plan.program n → Before g h → UpTo h new.stop → held (lanes_at n) h ≡ to_come plan.externals.events new.coming h n
-              still n h waited b far = held_append (is.lanes n) (caused_by plan u g n) h ∙ ap (λ (vs : List Value). vs ++ held (caused_by plan u g n) h) (at_hand_at n h waited (Before-weaken g h b) (UpTo-trans h new.stop old.stop far no_later)) ∙ sym (more h n waited b far)
+              -- what is clear now was so before
+              clear_before : (h : Tag) → IsClear new.coming.clash h → IsClear old.coming.clash h
+              clear_before h clear = subst (λ (k : Option Tag). IsClear k h) reached.clash (sooner h clear)
+
+              still : (n : Name) (h : Tag) → IsAwaited plan.program n → Before g h → UpTo h new.stop → IsClear new.coming.clash h → held (lanes_at n) h ≡ to_come plan.externals.events new.coming h n
+              still n h waited b far clear = held_append (is.lanes n) (caused_by plan u g n) h ∙ ap (λ (vs : List Value). vs ++ held (caused_by plan u g n) h) (at_hand_at n h waited (Before-weaken g h b) (UpTo-trans h new.stop old.stop far no_later) (clear_before h clear)) ∙ sym (more h n waited b far clear)
 
               -- an unread port has no two events at a tag
-              lone : (p : ℕ) (h : Tag) → is_read plan.program p ≡ false → Before g h → UpTo h new.stop → length (held (lanes_at (Port p)) h) < 2
-              lone p h un b far = go (is_undelayed plan.program p) refl
+              lone : (p : ℕ) (h : Tag) → is_read plan.program p ≡ false → Before g h → UpTo h new.stop → IsClear new.coming.clash h → length (held (lanes_at (Port p)) h) < 2
+              lone p h un b far clear = go (is_undelayed plan.program p) refl
                 where
                   up : UpTo (low_of old.tag) h
                   up = UpTo-trans (low_of old.tag) g h (passed old.tag later) (Before-weaken g h b)
@@ -334,7 +339,7 @@ module _ (plan : PlanParts) (d u : List Row) (g : Tag) (old : Stream) (is : IsSt
                       let way = delayed_way plan.program good p e in
                       let ds = way.1 ∷ way.2 in
                       let same = carried_is plan.program good u g p way.0 ds way.3 in
-                      subst (λ (es : List (Tag × Value)). length (held (is.lanes (Port p) ++ es) h) < 2) (sym same) (still_alone plan good d u g new.stop (low_of old.tag) p way.0 ds (is.lanes (Port p)) way.3 un before free (is.state.ports p way.0 ds way.3) h up far (is.alone p h un up (UpTo-trans h new.stop old.stop far no_later)) (one_held (after_all g ds) h (last_or None (filter_map (written g way.0) u))))
+                      subst (λ (es : List (Tag × Value)). length (held (is.lanes (Port p) ++ es) h) < 2) (sym same) (still_alone plan good d u g h (low_of old.tag) p way.0 ds (is.lanes (Port p)) way.3 un before (free h clear) (is.state.ports p way.0 ds way.3) h up (UpTo-refl h) (is.alone p h un up (UpTo-trans h new.stop old.stop far no_later) (clear_before h clear)) (one_held (after_all g ds) h (last_or None (filter_map (written g way.0) u))))
 
               up_to : (i : ℕ) (x : Row) → slice_get (d ++ u) i ≡ Some x → UpTo x.tag g
               up_to i x e = go (get_append_cases d u i x e)
@@ -357,7 +362,7 @@ accepts_kept plan t s is none over = by (order_cases (stop plan t) (low_of s.tag
       up = UpTo-trans (low_of s.tag) last (after last 0) up (Before-weaken last (after last 0) (after_past last 0));
       met = λ h low b.
           let there : UpTo h s.stop = subst (λ (k : Tag). UpTo h k) (sym is.stop_is) (up_to_last last h b) in
-          lane_is_met plan t s is h low there (λ m. over.alone h m there) (λ m v k. over.unheard h m v there k) n;
+          lane_is_met plan t s is h low there (clear_up s.coming.clash h s.stop there over.clear) (λ m. over.alone h m there) (λ m v k. over.unheard h m v there k) n;
       same = λ h far. refl;
     }
 
@@ -405,8 +410,8 @@ module _ (plan : PlanParts) (done rows : List Row) (s : Slice) (slice : IsSlice 
   }
 
   -- and what is kept is right for them too, once they are judged
-  pub slice_grows : IsSound plan.program → (c : Coming) → IsReached plan.externals.events old.listeners s.tag old.coming c → ((r : ℕ) → Ran own s.tag r → ¬ IsTooEarly plan own s.tag r) → (judged new : Stream) → IsJudged plan so_far rows s judged → judged.coming ≡ c → judged.listeners ≡ old.listeners → new.stop ≡ earliest old.stop (requests own) → new.tag ≡ Some s.tag → new.runs ≡ old.runs + runs_in own → new.tags ≡ old.tags + 1 → new.dues ≡ judged.dues → new.starts ≡ judged.starts → AreEarlier plan.program (after s.tag 0) new.writes → new.listeners ≡ judged.listeners → new.channels ≡ old.channels → AreUnread plan.program (so_far ++ own) new.unread → AreFree plan.program so_far own s.tag new.stop → ((h : Tag) (n : Name) → IsAwaited plan.program n → Before s.tag h → UpTo h new.stop → to_come plan.externals.events new.coming h n ≡ to_come plan.externals.events c h n ++ held (caused_by plan own s.tag n) h) → new.coming.next ≡ c.next → IsStreamOf plan (done ++ take s.end rows) new
-  slice_grows good c reached ranked judged new is_judged coming heard_by stops tag runs tags dues starts writes listeners channels unread free more next = subst (λ (t : List Row). IsStreamOf plan t new) together (grows_kept plan so_far own s.tag old is first.0 first.1 (are_at rows s slice) later reach own_kept good c reached is_judged.heard met ranked (λ r o. is_judged.triggered r (ran_of rows s slice r o)) own_reads new runs tags (rw dues is_judged.dues) stops tag (rw starts is_judged.starts) writes (rw listeners is_judged.listeners) (rw channels is.channels) unread free more next)
+  pub slice_grows : IsSound plan.program → (c : Coming) → IsReached plan.externals.events old.listeners s.tag old.coming c → ((r : ℕ) → Ran own s.tag r → ¬ IsTooEarly plan own s.tag r) → (judged new : Stream) → IsJudged plan so_far rows s judged → judged.coming ≡ c → judged.listeners ≡ old.listeners → new.stop ≡ earliest old.stop (requests own) → new.tag ≡ Some s.tag → new.runs ≡ old.runs + runs_in own → new.tags ≡ old.tags + 1 → new.dues ≡ judged.dues → new.starts ≡ judged.starts → AreEarlier plan.program (after s.tag 0) new.writes → new.listeners ≡ judged.listeners → new.channels ≡ old.channels → AreUnread plan.program (so_far ++ own) new.unread → ((h : Tag) → IsClear new.coming.clash h → AreFree plan.program so_far own s.tag h) → IsNoLater c.clash new.coming.clash → ((h : Tag) (n : Name) → IsAwaited plan.program n → Before s.tag h → UpTo h new.stop → IsClear new.coming.clash h → to_come plan.externals.events new.coming h n ≡ to_come plan.externals.events c h n ++ held (caused_by plan own s.tag n) h) → new.coming.next ≡ c.next → IsStreamOf plan (done ++ take s.end rows) new
+  slice_grows good c reached ranked judged new is_judged coming heard_by stops tag runs tags dues starts writes listeners channels unread free sooner more next = subst (λ (t : List Row). IsStreamOf plan t new) together (grows_kept plan so_far own s.tag old is first.0 first.1 (are_at rows s slice) later reach own_kept good c reached is_judged.heard met ranked (λ r o. is_judged.triggered r (ran_of rows s slice r o)) own_reads new runs tags (rw dues is_judged.dues) stops tag (rw starts is_judged.starts) writes (rw listeners is_judged.listeners) (rw channels is.channels) unread free sooner more next)
     where
       met : (n : Name) → IsSome (value_of s.tag n c.queue) → AreStarted (so_far ++ own) s.tag old.listeners n
       met n some = subst (λ (l : Listeners). AreStarted (so_far ++ own) s.tag l n) heard_by (is_judged.met n (subst (λ (k : Coming). IsSome (value_of s.tag n k.queue)) (sym coming) some))

@@ -22,7 +22,7 @@ use Rattle.lft_coming.specs.Channels.{AreReadChannels}
 use Rattle.lft_coming.specs.Unread.{AreUnread}
 use Rattle.lft_coming.specs.Lanes.{held}
 use Rattle.lft_coming.specs.Listeners.{AreListeners, AreStarted}
-use Rattle.lft_coming.specs.Coming.{AreComing, AreTaken}
+use Rattle.lft_coming.specs.Coming.{AreComing, AreTaken, IsClear}
 use Rattle.lft_queue.specs.Pending.{value_of}
 use Rattle.lft_queue.specs.Reading.{is_read}
 use Rattle.lft_stream.specs.Dues.{AreDues}
@@ -70,7 +70,7 @@ pub record IsStreamOf (plan : PlanParts) (t : List Row) (s : Stream) : Type 0 wh
   pub none : (p : ℕ) (h : Tag) → is_undelayed plan.program p ≡ true → UpTo (low_of s.tag) h → held (lanes (Port p)) h ≡ []
   pub coming : AreComing plan (low_of s.tag) s.stop lanes s.coming
   pub come : HaveCome plan.externals.events s.tag s.coming.next
-  pub alone : (p : ℕ) (h : Tag) → is_read plan.program p ≡ false → UpTo (low_of s.tag) h → UpTo h s.stop → length (held (lanes (Port p)) h) < 2
+  pub alone : (p : ℕ) (h : Tag) → is_read plan.program p ≡ false → UpTo (low_of s.tag) h → UpTo h s.stop → IsClear s.coming.clash h → length (held (lanes (Port p)) h) < 2
   pub state : IsStream plan t (state_of lanes (low_of s.tag) s)
   pub stop_is : s.stop ≡ stop plan t
   pub up_to : AreUpTo t s.tag

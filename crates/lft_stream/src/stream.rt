@@ -304,9 +304,8 @@ impl Stream {
             return false;
         }
         self.coming.drop_until(slice.tag);
-        if !self.unread.pass_all(program, own, slice.tag, self.stop) {
-            return false;
-        }
+        let met = self.unread.pass_all(program, own, slice.tag);
+        self.coming.note(met);
         pass_on(
             &mut self.coming,
             &mut self.writes,

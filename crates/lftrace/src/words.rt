@@ -60,7 +60,7 @@ Times are in nanoseconds. Words are paths of files; without LOG it is standard i
 Its lines are plain: without quotation marks. Nothing is read behind what is told.
 Printed: accepted runs=R tags=G (status 0); broken rule=N .. (status 1), as soon as
 it is sure; odd line=L runs=R tags=G .. (status 4), where the rows up to line L
-can't be judged further, as two events meet at a later tag; unbroken runs=R
+can't be judged further, as too many events wait; unbroken runs=R
 tags=G time=T microstep=M at the end (status 3), where rows are missing or those at
 the last tag may break a rule: --whole tells; the same with --until (status 0).";
 

@@ -4,8 +4,8 @@ use Rattle.lft_tag.specs.Tags.{UpTo}
 use Rattle.lft_flat.specs.declared.parts.Name.{Name}
 use Rattle.lft_steps.specs.declared.externals.Event.{Event}
 use Rattle.lft_coming.specs.Channels.{arrival}
-use Rattle.lft_coming.specs.Coming.{to_come}
+use Rattle.lft_coming.specs.Coming.{to_come, IsClear, IsNoLater}
 use Rattle.lft_coming.proofs.channels.carry.Given as goal
 
 abbrev pub invariant-loop-place : goal.invariant-loop-place
-invariant-loop-place l = record { next : l.coming.next ≡ l.fn.coming.next; put : (events : List Event) (h : Tag) (n : Name) → UpTo h l.last → to_come events l.coming h n ≡ to_come events l.fn.coming h n ++ filter_map (arrival l.program l.origin l.tag l.value h n) (take l.place l.targets) }
+invariant-loop-place l = record { next : l.coming.next ≡ l.fn.coming.next; no_later : IsNoLater l.fn.coming.clash l.coming.clash; put : (events : List Event) (h : Tag) (n : Name) → UpTo h l.last → IsClear l.coming.clash h → to_come events l.coming h n ≡ to_come events l.fn.coming h n ++ filter_map (arrival l.program l.origin l.tag l.value h n) (take l.place l.targets) }

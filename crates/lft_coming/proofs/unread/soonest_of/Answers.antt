@@ -29,7 +29,7 @@ ports-preserved c =
     let within : n < length program.ports = let t = c.ports-test.true in let e = c.ports-number-end.ensures.count in omega arith in
     let read : c.item_at.result ≡ is_read program n = Some_same c.item_at.result (is_read program n) (sym c.item_at.ensures ∙ ap (λ (ms : List Bool). slice_get ms n) c.as_slice.ensures.value ∙ c.in_ok-read.ensures.read n within) in
     elim c.if-is_unread.branch [
-      | then-is_unread w ↦ (let y = soonest_set program n port here c.ports.soonest.items c.ports.invariant c.index.result.now c.lesser_of-least.result there c.lesser_of-least.ensures.time c.lesser_of-least.ensures.other in subst (λ fs. AreSoonest program (n + 1) fs.items) (sym w.soonest-is) y)
+      | then-is_unread w ↦ (let y = soonest_set program n port here c.ports.soonest.items c.ports.invariant c.index.result.now c.nearer_of-least.result there c.nearer_of-least.ensures.way c.nearer_of-least.ensures.other in subst (λ fs. AreSoonest program (n + 1) fs.items) (sym w.soonest-is) y)
       | else-is_unread w ↦ (let why : (is_read program n ≡ true) ⊎ ¬ (0 < port.shift.time) = by (c.is_unread.ensures w.if-is_unread.false) read in let y = soonest_stays program n port here c.ports.soonest.items c.ports.invariant why in subst (λ fs. AreSoonest program (n + 1) fs.items) (sym w.soonest-is) y)
     ]
   where

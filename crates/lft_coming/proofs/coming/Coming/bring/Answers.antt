@@ -18,8 +18,9 @@ loop-self-preserved c =
     let x = c.item_at-event.result in
     let there : slice_get events k ≡ Some x = ap (λ (es : List Event). slice_get es k) (sym c.events-events.ensures.value) ∙ c.item_at-event.ensures in
     record {
-      same = λ h n. brings events c.events-events.ensures.order k x there c.loop-self.self c.put.new.self.queue (c.put.new.self.next + 1) (ap (λ j. j + 1) (c.if-not-put.ensures.next) ∙ add-one k) refl (c.if-not-put.ensures.absent refl) (c.if-not-put.ensures.put refl) h n ∙ c.loop-self.invariant.same h n;
-      taken = one_taken events c.args.self.now.next k (c.put.new.self.next + 1) c.args.tag x (ap (λ j. j + 1) c.if-not-put.ensures.next) there (λ b. absurd (false≢true (c.if-is_before.ensures.1 b))) c.loop-self.invariant.taken;
+      same = λ h n. brings events c.events-events.ensures.order k x there c.loop-self.self c.put.new.self.queue (c.put.new.self.next + 1) (ap (λ j. j + 1) (c.put.ensures.next) ∙ add-one k) refl (c.in-Ok.ensures.absent) (c.in-Ok.ensures.put) h n ∙ c.loop-self.invariant.same h n;
+      taken = one_taken events c.args.self.now.next k (c.put.new.self.next + 1) c.args.tag x (ap (λ j. j + 1) c.put.ensures.next) there (λ b. absurd (false≢true (c.if-is_before.ensures.1 b))) c.loop-self.invariant.taken;
+      clash = c.put.ensures.clash ∙ c.loop-self.invariant.clash;
     }
 
 pub returns-clause-brought : goal.returns-clause-brought

@@ -9,7 +9,7 @@ use Rattle.lft_coming.proofs.ToCome.{OnTheWay, none_passed, all_passed, one_pass
 use Rattle.lft_coming.proofs.coming.Coming.pass.Goals as goal
 
 pub loop-first-init : goal.loop-first-init
-loop-first-init c = record { next = refl; way = none_passed c.args.listeners.now c.args.tag c.args.self.now.queue }
+loop-first-init c = record { next = refl; clash = refl; way = none_passed c.args.listeners.now c.args.tag c.args.self.now.queue }
 
 pub loop-first-preserved : goal.loop-first-preserved
 loop-first-preserved c =
@@ -17,6 +17,7 @@ loop-first-preserved c =
     let mid = c.loop-first.self.queue in
     record {
       next = c.loop-first.invariant.next;
+      clash = c.loop-first.invariant.clash;
       way = subst (λ (q : List Pending). OnTheWay c.args.listeners.now c.args.tag c.args.self.now.queue q) (sym c.drop_until.ensures) (one_passed c.args.listeners.now c.args.tag f c.args.self.now.queue mid (c.if-not-is_before.ensures.0 refl) (λ e m. c.in-Some.ensures.least e (mem_contains e mid m)) (c.if-not-are_unheard.ensures refl) c.loop-first.invariant.way);
     }
 

@@ -1,8 +1,10 @@
 use Rattle.std.proofs.Common.{◌≡◌, ◌++◌, true, List, length, take}
 use Rattle.lft_steps.specs.declared.row.Row.{Row}
+use Rattle.lft_tag.specs.declared.Tag.{Tag}
 use Rattle.lft_coming.specs.AtTag.{AreBefore}
+use Rattle.lft_coming.specs.Coming.{IsClear}
 use Rattle.lft_coming.specs.Unread.{AreUnread, AreFree}
 use Rattle.lft_coming.proofs.unread.Unread.pass_all.Given as goal
 
 abbrev pub invariant-loop-place : goal.invariant-loop-place
-invariant-loop-place l = record { any : l.self.any ≡ true; soonest : l.self.soonest ≡ l.fn.self.soonest; written : length l.self.written ≡ length l.fn.self.written; passed : (t : List Row) → AreBefore t l.fn.tag → AreUnread l.program t l.fn.self → AreUnread l.program (t ++ take l.place l.rows) l.self × AreFree l.program t (take l.place l.rows) l.fn.tag l.last }
+invariant-loop-place l = record { any : l.self.any ≡ true; soonest : l.self.soonest ≡ l.fn.self.soonest; written : length l.self.written ≡ length l.fn.self.written; passed : (t : List Row) → AreBefore t l.fn.tag → AreUnread l.program t l.fn.self → AreUnread l.program (t ++ take l.place l.rows) l.self × ((h : Tag) → IsClear l.clash h → AreFree l.program t (take l.place l.rows) l.fn.tag h) }

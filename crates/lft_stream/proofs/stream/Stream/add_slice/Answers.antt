@@ -8,7 +8,7 @@ use Rattle.lft_steps.specs.Inputs.{ExternalInputs}
 use Rattle.lft_rows.specs.Marks.{AreMarks}
 use Rattle.lft_coming.specs.Channels.{caused_by}
 use Rattle.lft_coming.specs.Unread.{UnreadParts, AreUnread, AreFree}
-use Rattle.lft_coming.specs.Coming.{to_come, IsReached}
+use Rattle.lft_coming.specs.Coming.{to_come, IsReached, IsClear, IsNoLater}
 use Rattle.lft_coming.specs.declared.coming.Coming.{Coming}
 use Rattle.lft_coming.specs.Lanes.{held}
 use Rattle.lft_coming.specs.declared.writes.Written.{Written}
@@ -28,11 +28,11 @@ judge_slice-requires c =
     let hand = at_hand plan done rows s slice c.args.self.now c.requires.stands.1 (c.if-not-may_reach.ensures.later refl) (c.if-not-may_reach.ensures.in_time refl) c.requires.kept c.program-program.ensures.sound.sound (record { stop = c.stop_behind-self.result; tag = c.args.self.now.tag; runs = c.args.self.now.runs; tags = c.args.self.now.tags; dues = c.args.self.now.dues; starts = c.args.self.now.starts; writes = c.args.self.now.writes; listeners = c.args.self.now.listeners; channels = c.args.self.now.channels; coming = c.reach.new.self; unread = c.args.self.now.unread; effort = c.allows.new.self }) reached c.stop_behind-self.ensures refl refl refl refl in
     record { fit = c.requires.fit; slice = slice; marks = subst (λ (p : Parts). AreMarks p rows s.first s.end c.pass_all.new.self) c.program-program.ensures.value c.pass_all.ensures; hand = (done ++ take s.first rows, hand) }
 
-pub pass_all-requires-2-clause-fit : goal.pass_all-requires-2-clause-fit
-pass_all-requires-2-clause-fit c = subst (λ (p : Parts). RowsFit p (rows_of c.args.rows.now c.args.slice c.requires.slice)) (sym c.program-program.ensures.value) (part_fits c.args.rows.now c.args.slice c.requires.slice c.args.plan.now.program c.requires.fit)
+pub pass_all-met-requires-clause-fit : goal.pass_all-met-requires-clause-fit
+pass_all-met-requires-clause-fit c = subst (λ (p : Parts). RowsFit p (rows_of c.args.rows.now c.args.slice c.requires.slice)) (sym c.program-program.ensures.value) (part_fits c.args.rows.now c.args.slice c.requires.slice c.args.plan.now.program c.requires.fit)
 
-pub pass_all-requires-2-clause-at : goal.pass_all-requires-2-clause-at
-pass_all-requires-2-clause-at c = are_at c.args.rows.now c.args.slice c.requires.slice
+pub pass_all-met-requires-clause-at : goal.pass_all-met-requires-clause-at
+pass_all-met-requires-clause-at c = are_at c.args.rows.now c.args.slice c.requires.slice
 
 pub pass_on-requires-clause-fit : goal.pass_on-requires-clause-fit
 pass_on-requires-clause-fit c = part_fits c.args.rows.now c.args.slice c.requires.slice c.args.plan.now.program c.requires.fit
@@ -72,15 +72,17 @@ returns-then-pass_on-clause-stands c = λ z d stands.
     let own = c.judge_slice.ensures in
     let caused = c.if-pass_on.ensures in
     let counted = c.count.ensures in
-    let passed = c.if-not-pass_all.ensures in
+    let passed = c.pass_all-met.ensures in
     let before = own_before plan d rows s slice old stands later reach kept in
     let is = c.program-program.ensures.value in
     let done = d ++ take s.first rows in
     let here = rows_of rows s slice in
     let unread = subst (λ (x : UnreadParts). AreUnread c.program-program.result.now done x) (sym own.unread) (subst (λ (p : Parts). AreUnread p done old.unread) (sym is) stands.unread) in
-    let goes_on = subst (λ (x : UnreadParts). AreUnread plan.program (done ++ here) x) (sym counted.unread) (subst (λ (p : Parts). AreUnread p (done ++ here) c.pass_all-2.new.self) is (passed.unread refl done before unread)) in
-    let free = subst (λ (k : Tag). AreFree plan.program done here s.tag k) (sym counted.stop) (subst (λ (p : Parts). AreFree p done here s.tag judged.stop) is (passed.free refl done before unread)) in
+    let goes_on = subst (λ (x : UnreadParts). AreUnread plan.program (done ++ here) x) (sym counted.unread) (subst (λ (p : Parts). AreUnread p (done ++ here) c.pass_all-met.new.self) is (passed.unread done before unread)) in
+    let cleared : (h : Tag) → IsClear c.count.new.self.coming.clash h → IsClear c.drop_until.new.self.clash h × IsClear c.pass_all-met.result h = λ h clear. (c.note.ensures.clear h).0 (caused.no_later h (subst (λ (k : Coming). IsClear k.clash h) counted.coming clear)) in
+    let free : (h : Tag) → IsClear c.count.new.self.coming.clash h → AreFree plan.program done here s.tag h = λ h clear. subst (λ (p : Parts). AreFree p done here s.tag h) is (passed.free done h (cleared h clear).1 before unread) in
     let runs = counted.runs z ∙ ap (λ (n : ℕ). n + c.starts_in.result) own.runs ∙ ap (λ (n : ℕ). old.runs + n) c.starts_in.ensures in
     let tags = counted.tags z ∙ ap (λ (n : ℕ). n + 1) own.tags in
     let writes = subst (λ (ws : List (Option Written)). AreEarlier plan.program (after s.tag 0) ws) (sym counted.writes) (caused.earlier refl) in
-    slice_grows plan d rows s slice old stands later reach kept c.program-program.ensures.sound.sound c.reach.new.self reached ordered judged c.count.new.self (c.if-not-judge_slice.ensures.judged refl done hand) own.coming own.listeners (counted.stop ∙ own.stop ∙ c.stop_behind-self.ensures) (counted.tag z) runs tags counted.dues counted.starts writes counted.listeners (counted.channels ∙ own.channels) goes_on free (λ h n waited b up. ap (λ (k : Coming). to_come events k h n) counted.coming ∙ caused.caused refl events h n waited b (subst (λ (k : Tag). UpTo h k) counted.stop up) ∙ ap (λ (vs : List Value). vs ++ held (caused_by plan (rows_of rows s slice) s.tag n) h) (c.drop_until.ensures.same events h n b ∙ ap (λ (k : Coming). to_come events k h n) own.coming)) (ap (λ (k : Coming). k.next) counted.coming ∙ caused.next ∙ c.drop_until.ensures.next ∙ ap (λ (k : Coming). k.next) own.coming)
+    let no_later : IsNoLater c.reach.new.self.clash c.count.new.self.coming.clash = λ h clear. subst (λ (k : Coming). IsClear k.clash h) own.coming (subst (λ (k : Option Tag). IsClear k h) c.drop_until.ensures.clash (cleared h clear).0) in
+    slice_grows plan d rows s slice old stands later reach kept c.program-program.ensures.sound.sound c.reach.new.self reached ordered judged c.count.new.self (c.if-not-judge_slice.ensures.judged refl done hand) own.coming own.listeners (counted.stop ∙ own.stop ∙ c.stop_behind-self.ensures) (counted.tag z) runs tags counted.dues counted.starts writes counted.listeners (counted.channels ∙ own.channels) goes_on free no_later (λ h n waited b up clear. ap (λ (k : Coming). to_come events k h n) counted.coming ∙ caused.caused refl events h n waited b (subst (λ (k : Tag). UpTo h k) counted.stop up) (subst (λ (k : Coming). IsClear k.clash h) counted.coming clear) ∙ ap (λ (vs : List Value). vs ++ held (caused_by plan (rows_of rows s slice) s.tag n) h) (c.note.ensures.same events h n ∙ c.drop_until.ensures.same events h n b ∙ ap (λ (k : Coming). to_come events k h n) own.coming)) (ap (λ (k : Coming). k.next) counted.coming ∙ caused.next ∙ c.note.ensures.next ∙ c.drop_until.ensures.next ∙ ap (λ (k : Coming). k.next) own.coming)
