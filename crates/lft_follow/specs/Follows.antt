@@ -92,12 +92,17 @@ pub record HasOneMore (old new : PlanParts) (event : Event) : Type 0 where
   pub within : place ≤ length old.externals.events
   pub events : new.externals.events ≡ insert old.externals.events place event
 
--- what is said of an event that is told: the plan has it now, or stays as it was since an event of its action is at its tag already, or there are too many, or it is late
+-- the event that has 65,536 others behind it is at a later tag
+abbrev pub HasManyLater : List Event → Tag → Type 0
+HasManyLater events g = (65536 < length events) × ((x : Event) × (slice_get events (length events - 65537) ≡ Some x) × Before g x.tag)
+
+-- what is said of an event that is told: the plan has it now, or stays as it was since an event of its action is at its tag already, or there are too many, too many are later, or it is late
 abbrev pub IsReceipt : PlanParts → PlanParts → Event → Receipt → Type 0
 IsReceipt old new event receipt.Taken = HasOneMore old new event
 IsReceipt old new event receipt.Late = new ≡ old
 IsReceipt old new event receipt.Again = (new ≡ old) × IsTold old.externals.events event
 IsReceipt old new event receipt.TooMany = (new ≡ old) × (4000000 ≤ length old.externals.events)
+IsReceipt old new event receipt.TooManyLater = (new ≡ old) × HasManyLater old.externals.events event.tag
 
 -- the plan with the tag for its stop, where that is earlier than its own
 abbrev pub stopped_at : PlanParts → Tag → PlanParts

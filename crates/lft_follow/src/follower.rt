@@ -7,7 +7,7 @@ ghost use Rattle.lft_steps.specs.declared.row.Row.{Row as TheRow};
 ghost use Rattle.lft_steps.specs.Fits.{EventFits, RowsFit};
 ghost use Rattle.lft_rows.specs.Slices.{Rises};
 ghost use Rattle.lft_coming.specs.AtTag.{AreAt};
-ghost use Rattle.lft_follow.specs.Follows.{IsAtHand, IsHeld, IsFollowerOf, IsPassed, IsReceipt, stopped_at, IsProgress, IsEnding, IsJudged, IsJudgedOf, IsSureOf, BeginsLast};
+ghost use Rattle.lft_follow.specs.Follows.{IsAtHand, IsHeld, IsFollowerOf, IsPassed, HasManyLater, IsReceipt, stopped_at, IsProgress, IsEnding, IsJudged, IsJudgedOf, IsSureOf, BeginsLast};
 ghost use Rattle.lft_follow.specs.declared.follower.Follower.{Follower as TheFollower};
 
 use crate::found::{Found, found_at, found_of};
@@ -45,10 +45,16 @@ pub enum Receipt {
     Again,
     /// There are as many events as a table may have.
     TooMany,
+    /// More than 65,536 events are at later tags. The event would have to be put before all of these.
+    TooManyLater,
 }
 
 /// More rows aren't counted.
 const MOST: u64 = 1 << 62;
+
+/// So many events may be moved for one that is told before them. Without a bound events that are told in
+/// falling order would cost the square of their number.
+const MOST_LATER: usize = 65_536;
 
 /// What is kept of rows so far: those of the last tag, and of those before what causes something later.
 #[derive(Drop)]
@@ -103,6 +109,13 @@ fn judge_before(
             Ok(Some(Progress::Odd(judged.reach, line)))
         }
     }
+}
+
+/// Whether the event that has `MOST_LATER` others behind it is at a later tag.
+fn has_many_later(events: &[Event], tag: Tag) -> bool
+    ensures { IsTrue result → HasManyLater events.now tag }
+{
+    events.len() > MOST_LATER && tag.is_before(events[events.len() - 1 - MOST_LATER].tag)
 }
 
 /// Whether rows that rise are all at one tag.
@@ -231,6 +244,9 @@ impl Follower {
         }
         if plan.externals().events().len() >= MAX_ROWS {
             return Ok(Receipt::TooMany);
+        }
+        if has_many_later(plan.externals().events(), event.tag) {
+            return Ok(Receipt::TooManyLater);
         }
         match plan.tell(event)? {
             Some(_) => {

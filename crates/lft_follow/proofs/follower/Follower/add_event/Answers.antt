@@ -11,6 +11,9 @@ returns-then-is_past-clause-late c = λ t is. ((λ e. let x = c.if-is_past.ensur
 pub returns-then-events-ge-MAX_ROWS-clause-late : goal.returns-then-events-ge-MAX_ROWS-clause-late
 returns-then-events-ge-MAX_ROWS-clause-late c = λ t is. ((λ e. absurd (cc)), λ p. absurd (not_passed c.args.plan.now t c.args.self.now c.args.event.tag is (c.if-is_past.ensures.not refl) p))
 
+pub returns-then-has_many_later-clause-late : goal.returns-then-has_many_later-clause-late
+returns-then-has_many_later-clause-late c = λ t is. ((λ e. absurd (cc)), λ p. absurd (not_passed c.args.plan.now t c.args.self.now c.args.event.tag is (c.if-is_past.ensures.not refl) p))
+
 pub returns-in_err-tell-clause-stands : goal.returns-in_err-tell-clause-stands
 returns-in_err-tell-clause-stands c = λ t is. subst (λ (plan : PlanParts). IsFollowerOf plan t c.args.self.now) (same_parts c.args.plan.now c.tell.new.self c.args.plan.now.externals.events c.tell.ensures.program c.tell.ensures.stop c.in_err-tell.ensures.err) is
 
