@@ -2,7 +2,7 @@
 
 ghost use Rattle.std.specs.Prelude.{IfOk};
 ghost use Rattle.lft_steps.specs.Fits.{RowsFit};
-ghost use Rattle.lft_model.specs.Breaches.{First};
+ghost use Rattle.lft_races.specs.Races.{FirstSoFar};
 ghost use Rattle.lft_explain.specs.Explained.{Explains};
 
 use crate::telling::tell;
@@ -12,7 +12,7 @@ use lft_steps::Rows;
 use lft_tag::NoMemory;
 use std::alloc::Global;
 
-/// The text of facts behind the first breach of a trace: all of it, or of each part the first 60 lines.
+/// The text of facts behind the first breach of a trace, or of rows behind which runs may end yet: all of it, or of each part the first 60 lines.
 pub fn explain(
     alloc: Global,
     plan: &Plan,
@@ -21,7 +21,7 @@ pub fn explain(
     all: bool,
 ) -> Result<Vec<u8>, NoMemory>
     requires fit { RowsFit plan.now.program rows.now }
-    requires first { First plan.now rows.now breach }
+    requires first { FirstSoFar plan.now rows.now breach }
     ensures { IfOk result (λ text. Explains all plan.now rows.now breach text.items) }
 {
     let facts = find(alloc, plan, rows, breach)?;

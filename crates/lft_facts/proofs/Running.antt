@@ -78,3 +78,6 @@ module _ (t : List Row) (g : Tag) (next : List (Option ℕ)) (start : ℕ) where
 
   pub all_least : (end : ℕ × ℕ) → IsLeastOfAll t g next start (Some end) → (j a : ℕ) → start < j → EndsAt t g a j → IsMarked next a → IsMarked next end.0 × (end.0 ≤ a)
   all_least end least j a b s m = (least.2.1, least_all t g next start least.0 least.1 end least.2 j a b s m)
+
+  pub all_end : (end : ℕ × ℕ) → IsLeastOfAll t g next start (Some end) → (i : ℕ) × (start < i) × EndsMarked t g next i
+  all_end end least = (end.1, least.2.2, (end.0, least.2.0, least.2.1))

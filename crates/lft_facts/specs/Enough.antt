@@ -11,7 +11,7 @@ use Rattle.lft_model.specs.Plans.{PlanParts}
 use Rattle.lft_model.specs.Presence.{stop, Occurs, Collision}
 use Rattle.lft_model.specs.Breaches.{BreaksRow, BreaksAt, RowBreach, TagBreach}
 use Rattle.lft_answers.specs.Answers.{KeepsRows}
-use Rattle.lft_races.specs.Races.{IsFirstRace, StandBefore}
+use Rattle.lft_races.specs.Races.{EndLater, IsFirstRace, StandBefore}
 use Rattle.lft_facts.specs.declared.facts.Fact.{Fact}
 use Rattle.lft_facts.specs.declared.facts.Fact.TheVariants as fact
 use Rattle.lft_facts.specs.declared.facts.Cause.{Cause}
@@ -151,6 +151,6 @@ pub record EndWithRace (program : Parts) (rows : List Row) (facts : List Fact) (
   pub chain : GivesChain steps earlier later
   pub chosen : IsChosen program rows tag earlier later i
 
--- of a breach of one of the rules 1 to 8 the first race among the rows before it is told, if there is one
+-- of a breach of one of the rules 1 to 8 the first race among the rows before it is told, if there is one and all runs that start before it end
 abbrev pub TellsRace : PlanParts → List Row → Breach → List Fact → Type 0
-TellsRace plan t b facts = b.rule < 9 → (n : ℕ) × (o : Option ℕ) × StandBefore t b n × IsFirstRace plan.program (take n t) o × MatchOption o (Unit {0}) (EndWithRace plan.program (take n t) facts)
+TellsRace plan t b facts = b.rule < 9 → (n : ℕ) × (o : Option ℕ) × StandBefore t b n × IsFirstRace plan.program (take n t) o × MatchOption o (Unit {0}) (λ i. EndLater t n → EndWithRace plan.program (take n t) facts i)

@@ -66,7 +66,12 @@ fn lesser(
 
 /// Of the reactions from which a way leads on, and which end at the tag behind the place, the least, if
 /// there are any: itself and its place.
-fn least_end(rows: &[Row], tag: Tag, start: u32, next: &[Option<u32>]) -> Option<(u32, u32)>
+pub(crate) fn least_end(
+    rows: &[Row],
+    tag: Tag,
+    start: u32,
+    next: &[Option<u32>],
+) -> Option<(u32, u32)>
     requires few { length rows.now ≤ 4000000 }
     requires known { (i : ℕ) → (row : TheRow) → slice_get rows.now i ≡ Some row → row.reaction < length next.now }
     ensures { IsLeastOfAll rows.now tag next.now start result }

@@ -3,6 +3,7 @@
 ghost use Rattle.std.specs.Prelude.{◌≡◌, IfOk};
 ghost use Rattle.lft_steps.specs.Fits.{RowsFit};
 ghost use Rattle.lft_model.specs.Breaches.{First};
+ghost use Rattle.lft_races.specs.Races.{FirstSoFar};
 ghost use Rattle.lft_facts.specs.Facts.{AreFacts};
 ghost use Rattle.lft_facts.specs.Enough.{Proves, ProvesTag, AreOwn, TellsRace};
 
@@ -72,7 +73,7 @@ fn of_breach(
     breach: Breach,
 ) -> Result<Vec<Fact>, NoMemory>
     requires fit { RowsFit plan.now.program rows.now }
-    requires first { First plan.now rows.now breach }
+    requires first { FirstSoFar plan.now rows.now breach }
     ensures holds { IfOk result (λ facts. AreFacts plan.now rows.now facts.items) }
     ensures enough { IfOk result (λ facts. Proves facts.items breach) }
     ensures own { IfOk result (λ facts. AreOwn breach facts.items) }
@@ -85,10 +86,11 @@ fn of_breach(
 }
 
 /// The facts behind the first breach of a trace, in the order in which they are told: those that are
-/// enough, reasons behind them, and last the first race before a breach of one of the rules 1 to 8.
+/// enough, reasons behind them, and last the first race before a breach of one of the rules 1 to 8. Where
+/// runs may end yet the race may be left out: no row ends the run that had to end first.
 pub fn find(alloc: Global, plan: &Plan, rows: &Rows, breach: Breach) -> Result<Facts, NoMemory>
     requires fit { RowsFit plan.now.program rows.now }
-    requires first { First plan.now rows.now breach }
+    requires first { FirstSoFar plan.now rows.now breach }
     ensures holds { IfOk result (λ facts. AreFacts plan.now rows.now facts) }
     ensures enough { IfOk result (λ facts. Proves facts breach) }
     ensures own { IfOk result (λ facts. AreOwn breach facts) }

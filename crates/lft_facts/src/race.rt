@@ -3,14 +3,13 @@
 ghost use Rattle.std.specs.Prelude.{◌≡◌, ◌↔◌, ◌<◌, ◌≤◌, ℕ, Some, length, slice_get, take, IfOk, OnOk, true};
 ghost use Rattle.lft_steps.specs.Fits.{RowsFit};
 ghost use Rattle.lft_model.specs.declared.breach.Breach.{Breach as TheBreach};
-ghost use Rattle.lft_model.specs.Breaches.{First};
-ghost use Rattle.lft_races.specs.Races.{EndLater, IsRace, StandBefore};
+ghost use Rattle.lft_races.specs.Races.{EndLater, FirstSoFar, IsRace, StandBefore};
 ghost use Rattle.lft_facts.specs.Facts.{AreFacts};
 ghost use Rattle.lft_facts.specs.Enough.{Adds, AreOwn, EndWithRace, TellsRace};
 ghost use Rattle.lft_facts.specs.Ways.{IsMarked};
 
 use crate::chain::chain;
-use crate::early::late_end;
+use crate::early::{late_end, least_end};
 use crate::facts::Fact;
 use crate::ways::{steps, ways};
 use lft_lists::item_at;
@@ -41,7 +40,7 @@ fn only(alloc: Global, marks: &[Option<u32>], these: &[bool]) -> Result<Vec<Opti
 }
 
 /// The race that starts in the row at the place, and the steps from the one reaction to the other. The
-/// one that had to end first is named as for rule 9.
+/// one that had to end first is named as for rule 9. Nothing where no row ends a run that had to.
 fn race_facts(
     alloc: Global,
     plan: &Plan,
@@ -52,10 +51,9 @@ fn race_facts(
     requires fit { RowsFit plan.now.program rows.now }
     requires before { before ≤ length rows.now }
     requires race { IsRace plan.now.program (take before rows.now) start }
-    requires ends { EndLater rows.now before }
     ensures holds { IfOk result (λ facts. AreFacts plan.now rows.now facts.items) }
     ensures own { IfOk result (λ facts. (b : TheBreach) → StandBefore rows.now b before → AreOwn b facts.items) }
-    ensures race { IfOk result (λ facts. EndWithRace plan.now.program (take before rows.now) facts.items start) }
+    ensures race { IfOk result (λ facts. EndLater rows.now before → EndWithRace plan.now.program (take before rows.now) facts.items start) }
 {
     let graph = plan.graph();
     let reactions = plan.program().reactions();
@@ -65,6 +63,10 @@ fn race_facts(
     let unfinished = unfinished_at(alloc, &rows[..before], row.tag, start as usize, reactions)?;
     let late = only(alloc, next.as_slice(), unfinished.as_slice())?;
     let late_near = only(alloc, near.as_slice(), unfinished.as_slice())?;
+    let least = least_end(rows, row.tag, start, late.as_slice());
+    let Some(_) = least else {
+        return Ok(Vec::new(alloc));
+    };
     let (earlier, end) = late_end(rows, row.tag, start, late_near.as_slice(), late.as_slice());
     let way = chain(alloc, plan, graph, next.as_slice(), earlier, row.reaction)?;
     let mut facts = Vec::new(alloc);
@@ -88,7 +90,7 @@ pub(crate) fn add_race(
     facts: &mut Vec<Fact>,
 ) -> Result<(), NoMemory>
     requires fit { RowsFit plan.now.program rows.now }
-    requires first { First plan.now rows.now breach }
+    requires first { FirstSoFar plan.now rows.now breach }
     ensures adds { OnOk result (Adds breach plan.now rows.now facts.old.items facts.new.items) }
     ensures race { OnOk result (TellsRace plan.now rows.now breach facts.new.items) }
 {

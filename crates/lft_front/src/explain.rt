@@ -4,9 +4,9 @@ ghost use Rattle.std.specs.Prelude.{◌≡◌, ◌≢◌, true, OnOk, IfOk, IfEr
 ghost use Rattle.std.specs.Io.KnownBytes.{Keeps};
 ghost use Rattle.lft_steps.specs.Fits.{RowsFit};
 ghost use Rattle.lft_steps.specs.declared.row.Row.{Row};
-ghost use Rattle.lft_model.specs.Breaches.{First};
 ghost use Rattle.lft_model.specs.Plans.{PlanParts};
 ghost use Rattle.lft_model.specs.Workers.{IsWorkers};
+ghost use Rattle.lft_races.specs.Races.{FirstSoFar};
 ghost use Rattle.lft_check.specs.Verdicts.{IsVerdict};
 ghost use Rattle.lft_front.specs.Meaning.{Mean};
 ghost use Rattle.lft_front.specs.Judged.{AcceptedRuns};
@@ -29,7 +29,7 @@ use std::thread::Threads;
 /// What a breach usually comes of, as a guess; nothing where no hint holds.
 fn guess(alloc: Global, plan: &Plan, rows: &Rows, breach: Breach) -> Result<String, NoMemory>
     requires fit { RowsFit plan.now.program rows.now }
-    requires first { First plan.now rows.now breach }
+    requires first { FirstSoFar plan.now rows.now breach }
     ensures { IfOk result (λ text. Guesses plan.now rows.now breach (string_bytes text)) }
 {
     match hint_of(alloc, plan, rows, breach)? {
@@ -50,7 +50,7 @@ fn reasons(
     all: bool,
 ) -> Result<Vec<u8>, NoMemory>
     requires fit { RowsFit plan.now.program rows.now }
-    requires first { First plan.now rows.now breach }
+    requires first { FirstSoFar plan.now rows.now breach }
     ensures { IfOk result (λ text. AreReasons all plan.now rows.now breach text.items) }
 {
     let why = explain(alloc, plan, rows, breach, all)?;
@@ -71,7 +71,7 @@ pub(crate) fn write_reasons<W: Write>(
     out: &mut W,
 ) -> Result<(), Fault>
     requires fit { RowsFit plan.now.program rows.now }
-    requires first { First plan.now rows.now breach }
+    requires first { FirstSoFar plan.now rows.now breach }
     ensures written { OnOk result (Writes (AreReasons all plan.now rows.now breach) (W.contents out.old) (W.contents out.new)) }
     ensures refused { IfErr result (WriteRefusal (AreReasons all plan.now rows.now breach) (W.contents out.old) (W.contents out.new)) }
 {

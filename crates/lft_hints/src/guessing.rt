@@ -4,8 +4,8 @@ ghost use Rattle.std.specs.Prelude.{◌≡◌, ◌≢◌, ◌↔◌, ◌+◌, �
 ghost use Rattle.lft_flat.specs.declared.parts.Trigger.TheVariants.{Shutdown};
 ghost use Rattle.lft_steps.specs.Fits.{RowsFit};
 ghost use Rattle.lft_model.specs.Plans.{PlanParts};
-ghost use Rattle.lft_model.specs.Breaches.{First};
 ghost use Rattle.lft_model.specs.Presence.{stop, Triggered};
+ghost use Rattle.lft_races.specs.Races.{FirstSoFar};
 ghost use Rattle.lft_hints.specs.declared.hint.Hint.{Hint as TheHint};
 ghost use Rattle.lft_hints.specs.Actions.{AreActions};
 ghost use Rattle.lft_hints.specs.Hints.{HasPort, HasRace, HasTrigger, HasWholeDelay, IsHint, IsSmallStop, IsThousandfold, IsUntriggeredHint, SchedulesWhole};
@@ -225,7 +225,7 @@ fn of_order(
     breach: Breach,
 ) -> Result<Option<Hint>, NoMemory>
     requires fit { RowsFit plan.now.program rows.now }
-    requires first { First plan.now rows.now breach }
+    requires first { FirstSoFar plan.now rows.now breach }
     requires rule { (breach.rule ≡ 1) ⊎ (breach.rule ≡ 3) }
     ensures some { IfOk result (λ hint. IfSome hint (IsHint plan.now rows.now breach)) }
     ensures none { IfOk result (λ hint. IfNone hint ((other : TheHint) → IsHint plan.now rows.now breach other → ⊥)) }
@@ -318,7 +318,7 @@ pub fn hint_of(
     breach: Breach,
 ) -> Result<Option<Hint>, NoMemory>
     requires fit { RowsFit plan.now.program rows.now }
-    requires first { First plan.now rows.now breach }
+    requires first { FirstSoFar plan.now rows.now breach }
     ensures some { IfOk result (λ hint. IfSome hint (IsHint plan.now rows.now breach)) }
     ensures none { IfOk result (λ hint. IfNone hint ((other : TheHint) → IsHint plan.now rows.now breach other → ⊥)) }
 {

@@ -1,5 +1,5 @@
 -- Races: runs that start although one that precedes them at their tag hasn't ended.
-use Rattle.std.specs.Prelude.{◌≡◌, ◌↔◌, ℕ, ◌+◌, ◌<◌, ◌≤◌, Bool, true, List, length, take, Option, Some, MatchOption, slice_get}
+use Rattle.std.specs.Prelude.{◌≡◌, ◌↔◌, ℕ, ◌+◌, ◌<◌, ◌≤◌, ◌⊎◌, Bool, true, List, length, take, Option, Some, MatchOption, slice_get}
 use Rattle.lft_tag.specs.declared.Tag.{Tag}
 use Rattle.lft_tag.specs.Tags.{UpTo}
 use Rattle.lft_flat.specs.Parts.{Parts}
@@ -8,8 +8,17 @@ use Rattle.lft_steps.specs.declared.row.Row.{Row}
 use Rattle.lft_steps.specs.declared.row.Step.TheVariants.{Start}
 use Rattle.lft_model.specs.declared.breach.Breach.{Breach}
 use Rattle.lft_model.specs.Plans.{PlanParts}
+use Rattle.lft_model.specs.Breaches.{First, RowBreach, RowOrder}
 use Rattle.lft_model.specs.Runs.{Ran}
 use Rattle.lft_races.specs.Runs.{StartsAt, EndsAt}
+
+-- the first row that breaks one of the rules 1 to 4, whichever runs have no end
+abbrev pub FirstEarly : PlanParts → List Row → Breach → Type 0
+FirstEarly plan t b = (b.rule ≤ 4) × RowBreach plan t b × ((c : Breach) → RowBreach plan t c → c.rule ≤ 4 → RowOrder b c)
+
+-- the first breach, or that of rows behind which runs may end yet
+abbrev pub FirstSoFar : PlanParts → List Row → Breach → Type 0
+FirstSoFar plan t b = First plan t b ⊎ FirstEarly plan t b
 
 -- no row before place i ends a run of a at g
 abbrev pub NotEnded : List Row → Tag → ℕ → ℕ → Type 0

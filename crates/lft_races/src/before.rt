@@ -3,8 +3,7 @@
 ghost use Rattle.std.specs.Prelude.{◌≡◌, ◌≤◌, length, IfOk};
 ghost use Rattle.lft_steps.specs.Fits.{RowsFit};
 ghost use Rattle.lft_model.specs.Plans.{PlanParts};
-ghost use Rattle.lft_model.specs.Breaches.{First};
-ghost use Rattle.lft_races.specs.Races.{StandBefore, IsRaceBefore};
+ghost use Rattle.lft_races.specs.Races.{FirstSoFar, StandBefore, IsRaceBefore};
 
 use crate::finding::first_race;
 use lft_model::{Breach, Plan};
@@ -14,7 +13,7 @@ use std::alloc::Global;
 
 /// How many rows stand before the breach.
 pub fn rows_before(rows: &[Row], breach: Breach) -> usize
-    requires { (plan : PlanParts) × First plan rows.now breach }
+    requires { (plan : PlanParts) × FirstSoFar plan rows.now breach }
     ensures { StandBefore rows.now breach result }
 {
     if breach.row > 0 {
@@ -36,7 +35,7 @@ pub fn race_before(
     breach: Breach,
 ) -> Result<Option<u32>, NoMemory>
     requires fit { RowsFit plan.now.program rows.now }
-    requires first { First plan.now rows.now breach }
+    requires first { FirstSoFar plan.now rows.now breach }
     ensures { IfOk result (IsRaceBefore plan.now rows.now breach) }
 {
     let before = rows_before(rows, breach);

@@ -1,6 +1,6 @@
 use Rattle.std.proofs.Common.{List, sym, subst}
 use Rattle.lft_steps.specs.declared.row.Row.{Row}
-use Rattle.lft_model.specs.Breaches.{First}
+use Rattle.lft_races.specs.Races.{FirstSoFar}
 use Rattle.lft_facts.specs.declared.facts.Fact.{Fact}
 use Rattle.lft_facts.specs.Facts.{AreFacts}
 use Rattle.lft_facts.specs.Enough.{Proves, AreOwn, TellsRace}
@@ -9,10 +9,10 @@ use Rattle.lft_facts.proofs.FirstRace.{adds_proves}
 use Rattle.lft_facts.proofs.finding.find.Goals as goal
 
 pub of_breach-requires-clause-first : goal.of_breach-requires-clause-first
-of_breach-requires-clause-first c = subst (λ (t : List Row). First c.args.plan.now t c.args.breach) (sym c.as_slice-rows.ensures) c.requires.first
+of_breach-requires-clause-first c = subst (λ (t : List Row). FirstSoFar c.args.plan.now t c.args.breach) (sym c.as_slice-rows.ensures) c.requires.first
 
 pub add_race-requires-clause-first : goal.add_race-requires-clause-first
-add_race-requires-clause-first c = subst (λ (t : List Row). First c.args.plan.now t c.args.breach) (sym c.as_slice-rows.ensures) c.requires.first
+add_race-requires-clause-first c = subst (λ (t : List Row). FirstSoFar c.args.plan.now t c.args.breach) (sym c.as_slice-rows.ensures) c.requires.first
 
 pub returns-clause-holds : goal.returns-clause-holds
 returns-clause-holds c = subst (λ (fs : List Fact). AreFacts c.args.plan.now c.args.rows.now fs) (sym c.from_vec.ensures) (subst (λ (t : List Row). AreFacts c.args.plan.now t c.add_race.new.facts.items) c.as_slice-rows.ensures (adds_holds c.args.plan.now c.as_slice-rows.result.now c.in_ok-facts.facts.items c.add_race.new.facts.items c.in_ok-add_race.ensures.adds c.in_ok-facts.ensures.holds))

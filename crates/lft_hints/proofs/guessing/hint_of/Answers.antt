@@ -1,15 +1,15 @@
 use Rattle.std.proofs.Common.{List, IfOk, IfSome, IfNone, sym, subst}
 use Rattle.lft_steps.specs.declared.row.Row.{Row}
-use Rattle.lft_model.specs.Breaches.{First}
+use Rattle.lft_races.specs.Races.{FirstSoFar}
 use Rattle.lft_hints.specs.declared.hint.Hint.{Hint as TheHint}
 use Rattle.lft_hints.specs.Hints.{IsHint}
 use Rattle.lft_hints.proofs.guessing.hint_of.Goals as goal
 
 pub of_order-requires-clause-first : goal.of_order-requires-clause-first
-of_order-requires-clause-first c = subst (λ (t : List Row). First c.args.plan.now t c.args.breach) (sym c.as_slice-rows.ensures) c.requires.first
+of_order-requires-clause-first c = subst (λ (t : List Row). FirstSoFar c.args.plan.now t c.args.breach) (sym c.as_slice-rows.ensures) c.requires.first
 
 pub of_order-requires-in-3-clause-first : goal.of_order-requires-in-3-clause-first
-of_order-requires-in-3-clause-first c = subst (λ (t : List Row). First c.args.plan.now t c.args.breach) (sym c.as_slice-rows.ensures) c.requires.first
+of_order-requires-in-3-clause-first c = subst (λ (t : List Row). FirstSoFar c.args.plan.now t c.args.breach) (sym c.as_slice-rows.ensures) c.requires.first
 
 pub returns-in-1-clause-some : goal.returns-in-1-clause-some
 returns-in-1-clause-some c = subst (λ (t : List Row). IfOk c.of_order.result (λ hint. IfSome hint (IsHint c.args.plan.now t c.args.breach))) c.as_slice-rows.ensures c.of_order.ensures.some
