@@ -1,13 +1,14 @@
 -- Where lines end.
-use Rattle.std.proofs.Common.{◌≡◌, ◌≢◌, ◌+◌, ◌<◌, ◌≤◌, inl, inr, ℕ, zero, suc, List, [], ◌∷◌, ◌++◌, Some, None, length, take, drop, slice_get, slice_index, refl, sym, ap, subst, ◌∙◌, arith, add-one}
+use Rattle.std.proofs.Common.{◌≡◌, ◌≢◌, ◌+◌, ◌<◌, ◌≤◌, inl, inr, ℕ, zero, suc, Bool, true, false, List, [], ◌∷◌, ◌++◌, Some, None, length, take, drop, slice_get, slice_index, refl, sym, ap, subst, ◌∙◌, arith, add-one}
 use Rattle.std.proofs.lemmas.Bool.{eq-eqb, eqb-true}
 use Rattle.std.proofs.lemmas.Option.{get_or_from_slice_get, slice_get-get_or, slice_get_within}
-use Rattle.std.proofs.lemmas.List.{append-nil, append_assoc}
+use Rattle.std.proofs.Math.Seq.{drop-append_seam}
+use Rattle.std.proofs.lemmas.List.{append-nil, append_assoc, length-take-le}
 use Rattle.memchr.specs.Find.{IsLastByte, Nowhere, Passes, is_byte}
 use Rattle.lft_flat.proofs.Ranges.{slice_get-drop}
 use Rattle.lft_lists.proofs.Picked.{take_next}
 use Rattle.lft_trace.specs.Parts.{EndsLine}
-use Rattle.lft_log.specs.Logs.{AreLines, HasNoEnd}
+use Rattle.lft_log.specs.Logs.{AreLines, HasNoEnd, IsHead}
 
 -- the byte that a search finds
 byte_there : (text : List ℕ) (b k : ℕ) → k < length text → Passes (is_byte b) text k → slice_get text k ≡ Some b
@@ -53,3 +54,22 @@ lines_left text n (inr l) = subst (λ (x : List ℕ). AreLines (drop n x)) (sym 
     left [] (suc zero) = inl refl
     left [] (suc (suc n)) = inl refl
     left (c ∷ line) (suc n) = left line n
+
+-- lines up to a place behind some bytes end there
+pub ends_some : (text : List ℕ) (n : ℕ) → 0 < n → n ≤ length text → AreLines (take n text) → EndsLine (take n text)
+ends_some text n some within (inl e) =
+    let long : length (take n text) ≡ n = length-take-le n text within in
+    let none : length (take n text) ≡ 0 = ap (λ (x : List ℕ). length x) e in
+    absurd (omega arith)
+ends_some text n some within (inr ends) = ends
+
+-- what ends with a line is a line
+pub ends_behind : (a b : List ℕ) → EndsLine b → EndsLine (a ++ b)
+ends_behind a b l = (a ++ l.0, ap (λ (z : List ℕ). a ++ z) l.1 ∙ sym (append_assoc a l.0 (10 ∷ [])))
+
+-- the lines below a header
+pub lines_below : (b : Bool) (lines body : List ℕ) → (b ≡ true → body ≡ lines) → (b ≡ false → (head : List ℕ) × (lines ≡ head ++ body) × IsHead head) → AreLines lines → AreLines body
+lines_below true lines body same above are = subst AreLines (sym (same refl)) are
+lines_below false lines body same above are =
+    let h = above refl in
+    subst AreLines (drop-append_seam h.0 body) (subst (λ (x : List ℕ). AreLines (drop (length h.0) x)) h.1 (lines_left lines (length h.0) are))

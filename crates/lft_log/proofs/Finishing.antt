@@ -1,16 +1,20 @@
 -- What is told at the end, where no half line is left.
-use Rattle.std.proofs.Common.{ℕ, Bool, List, [], Option}
+use Rattle.std.proofs.Common.{ℕ, Bool, List, [], Option, refl}
 use Rattle.lft_tag.specs.declared.Tag.{Tag}
-use Rattle.lft_steps.specs.declared.row.Row.{Row}
 use Rattle.lft_model.specs.Plans.{PlanParts}
 use Rattle.lft_follow.specs.declared.judged.Ending.{Ending}
 use Rattle.lft_follow.specs.declared.judged.Ending.TheVariants.{Accepted, Unbroken, Broken}
 use Rattle.lft_follow.specs.Follows.{IsEnding}
-use Rattle.lft_log.specs.Logs.{HoldSoFar}
-use Rattle.lft_log.specs.Told.{IsFinal}
+use Rattle.lft_log.specs.Logs.{HoldSoFar, rows}
+use Rattle.lft_log.specs.Told.{IsFinal, IsLogOf, TellsPlan}
+use Rattle.lft_log.specs.declared.log.Log.{Log}
 use Rattle.lft_log.specs.declared.told.Final.TheVariants.{AtEnd}
 
-pub final_of : (plan : PlanParts) (until : Option Tag) (whole : Bool) (bytes : List ℕ) (t : List Row) → HoldSoFar plan.program bytes t [] → (e : Ending) → IsEnding plan whole t e → IsFinal plan until whole bytes (AtEnd e)
-final_of plan until whole bytes t held (Accepted c) is = (t, held, is)
-final_of plan until whole bytes t held (Unbroken r) is = (t, [], held, λ i e. absurd (cc e), is)
-final_of plan until whole bytes t held (Broken b) is = (is.0, (t, held, is.1))
+-- what is kept of a log whose header came
+pub tells_plan : (base plan : PlanParts) (until : Option Tag) (bytes rest left : List ℕ) (log : Log) (is : IsLogOf base plan until bytes rest log) → HoldSoFar base.program bytes is.parts left → TellsPlan base bytes plan (rows is.parts) left
+tells_plan base plan until bytes rest left log is held = record { parts = is.parts; held = held; rows_are = refl; timely = is.timely; told = is.told }
+
+pub final_of : (base plan : PlanParts) (until : Option Tag) (whole : Bool) (bytes rest : List ℕ) (log : Log) (is : IsLogOf base plan until bytes rest log) → HoldSoFar base.program bytes is.parts [] → (e : Ending) → IsEnding plan whole (rows is.parts) e → IsFinal base until whole bytes (AtEnd e)
+final_of base plan until whole bytes rest log is held (Accepted c) so = (plan, rows is.parts, tells_plan base plan until bytes rest [] log is held, so)
+final_of base plan until whole bytes rest log is held (Unbroken r) so = (plan, rows is.parts, [], tells_plan base plan until bytes rest [] log is held, λ i e. absurd (cc e), so)
+final_of base plan until whole bytes rest log is held (Broken b) so = (so.0, (plan, rows is.parts, tells_plan base plan until bytes rest [] log is held, so.1))

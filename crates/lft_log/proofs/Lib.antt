@@ -5,3 +5,5 @@ pub mod Asking
 pub mod Fronts
 pub mod Pieces
 pub mod Finishing
+pub mod Plans
+pub mod Reading

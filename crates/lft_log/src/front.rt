@@ -2,14 +2,12 @@
 
 ghost use Rattle.std.specs.Prelude.{◌≡◌, ◌≤◌, ◌<◌, ◌+◌, ◌^◌, ℕ, length, take, drop, false, IfOk, IfSome};
 ghost use Rattle.lft_trace.specs.Faults.{is_told};
-ghost use Rattle.lft_trace.specs.declared.fault.TraceFault.{TraceFault as TheFault};
 ghost use Rattle.lft_trace.specs.Parts.{BeginsPlain, EndsLine, HasNoQuote};
 ghost use Rattle.lft_steps.specs.Fits.{RowsFit};
-ghost use Rattle.lft_log.specs.declared.fault.LogFault.TheVariants.{NoRow};
-ghost use Rattle.lft_log.specs.Logs.{AreLines, AreRowLines, IsFront, IsNoRow};
+ghost use Rattle.lft_log.specs.Logs.{AreLines, AreRowLines, IsFront, IsRowFault};
 
 use crate::fault::LogFault;
-use crate::lines::{HEADER, first_line, plain_lines};
+use crate::lines::{HEADER, line_end, plain_lines};
 use lft_flat::Program;
 use lft_steps::Row;
 use lft_tag::NoMemory;
@@ -57,7 +55,8 @@ fn is_told(fault: TraceFault) -> bool
 
 /// The fault of this line of this number, which is no row.
 fn fault_of_line(alloc: Global, program: &Program, line: &[u8], number: u64) -> LogFault
-    ensures { (e : TheFault) (n : ℕ) → result ≡ NoRow e n → (n ≡ number) × IsNoRow program.now line.now e }
+    requires { EndsLine line.now }
+    ensures { IsRowFault program.now line.now number result }
 {
     let Ok(mut text) = Vec::from_slice(alloc, HEADER) else {
         return LogFault::NoMemory;
@@ -81,7 +80,7 @@ fn place_of_no_row(alloc: Global, program: &Program, lines: &[u8]) -> usize
 {
     let mut begin = 0;
     while begin < lines.len() {
-        let end = begin + first_line(&lines[begin..lines.len()]);
+        let end = line_end(lines, begin);
         if read_rows(alloc, program, &lines[begin..end]).is_none() {
             return begin;
         }
@@ -109,8 +108,7 @@ fn rows_before(
     if end == lines.len() {
         return Err(NoMemory);
     }
-    let rest = &lines[end..lines.len()];
-    let line = &rest[0..first_line(rest)];
+    let line = &lines[end..line_end(lines, end)];
     let number = before + rows.len() as u64 + 2;
     let fault = Some(fault_of_line(alloc, program, line, number));
     Ok(Front { rows, end, fault })

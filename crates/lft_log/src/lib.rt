@@ -1,12 +1,14 @@
 #![tactic(auto)]
-//! Trace tables that come in pieces, judged while they come.
+//! Logs: trace tables that come in pieces, with external inputs among their rows, judged while they come.
 
 mod asked;
 mod fault;
 mod front;
+mod input;
 mod laws;
 mod lines;
 mod log;
+mod telling;
 mod told;
 
 pub use fault::LogFault;

@@ -1,21 +1,22 @@
-//! A trace table that comes in pieces.
+//! A log: a trace table that comes in pieces, with lines of external inputs among its rows.
 
-ghost use Rattle.std.specs.Prelude.{◌≡◌, ◌≢◌, ◌++◌, ◌∷◌, ◌^◌, ◌≤◌, ℕ, List, [], Option, true, false, length, IfOk, IfErr, IfSome, MatchOption};
+ghost use Rattle.std.specs.Prelude.{◌≡◌, ◌++◌, ◌∷◌, ◌^◌, ◌≤◌, ℕ, List, [], Option, true, false, length, IfOk, IfErr, IfSome, MatchOption};
 ghost use Rattle.lft_tag.specs.declared.Tag.{Tag as TheTag};
-ghost use Rattle.lft_trace.specs.declared.fault.TraceFault.{TraceFault as TheFault};
+ghost use Rattle.lft_trace.specs.Parts.{EndsLine};
 ghost use Rattle.lft_steps.specs.declared.row.Row.{Row as TheRow};
 ghost use Rattle.lft_steps.specs.Fits.{RowsFit};
 ghost use Rattle.lft_model.specs.Plans.{PlanParts};
 ghost use Rattle.lft_follow.specs.Follows.{IsFollowerOf, IsJudged};
-ghost use Rattle.lft_log.specs.declared.fault.LogFault.TheVariants.{NoRow};
 ghost use Rattle.lft_log.specs.declared.told.Final.TheVariants.{AtEnd};
-ghost use Rattle.lft_log.specs.Logs.{HasNoEnd, IsHead};
-ghost use Rattle.lft_log.specs.Told.{GoPast, IsAskedOf, IsEnded, IsFaultOf, IsFinal, IsLog, IsLogOf, IsSaid, IsSoon};
+ghost use Rattle.lft_log.specs.Logs.{AreLines, HasNoEnd, IsHead};
+ghost use Rattle.lft_log.specs.Told.{GoPast, IsAskedOf, IsBegun, IsEnded, IsFaultOf, IsFinal, IsLog, IsLogOf, IsSaid, IsSoon};
 
 use crate::asked::Asked;
 use crate::fault::LogFault;
 use crate::front::read_front;
-use crate::lines::{below_header, is_whole, whole_lines};
+use crate::input::read_input;
+use crate::lines::{below_header, first_part, is_whole, whole_lines};
+use crate::telling::tell;
 use crate::told::{Final, Told};
 use lft_follow::{Ending, Follower, Progress, Reach};
 use lft_model::Plan;
@@ -27,10 +28,10 @@ use std::alloc::Global;
 /// No line has more bytes.
 const LONGEST: usize = 1 << 20;
 
-/// More rows aren't counted.
+/// More rows aren't counted, and no more external inputs.
 const MOST: u64 = 1 << 62;
 
-/// What is kept of a table so far.
+/// What is kept of a log so far.
 #[derive(Drop)]
 pub struct Log {
     follower: Follower,
@@ -38,6 +39,8 @@ pub struct Log {
     rest: Vec<u8>,
     /// How many rows came.
     rows: u64,
+    /// How many external inputs came.
+    inputs: u64,
     /// Whether the header came.
     is_begun: bool,
     asked: Asked,
@@ -53,7 +56,7 @@ fn add_rows(
     requires fit { RowsFit plan.now.program rows.now }
     requires stands { (t : List TheRow) × IsFollowerOf plan.now t follower.old }
     ensures told { IfOk result (λ o. (t : List TheRow) → IsFollowerOf plan.now t follower.old → MatchOption o (IsFollowerOf plan.now (t ++ rows.now) follower.new) (λ told. (until : Option TheTag) → IsSaid plan.now until (t ++ rows.now) told)) }
-    ensures fault { IfErr result (λ f. (e : TheFault) (line : ℕ) → f ≢ NoRow e line) }
+    ensures fault { IfErr result (λ f. (base : PlanParts) (bytes : List ℕ) → IsFaultOf base bytes f) }
 {
     match follower.add(alloc, plan, rows) {
         Ok(Progress::GoesOn) => Ok(None),
@@ -74,7 +77,7 @@ fn add_last(
     requires fit { RowsFit plan.now.program rows.now }
     requires stands { (t : List TheRow) × IsFollowerOf plan.now t follower.old }
     ensures told { IfOk result (λ told. (until : Option TheTag) (t : List TheRow) → IsFollowerOf plan.now t follower.old → GoPast until (t ++ rows.now) → IsSaid plan.now until (t ++ rows.now) told) }
-    ensures fault { IfErr result (λ f. (e : TheFault) (line : ℕ) → f ≢ NoRow e line) }
+    ensures fault { IfErr result (λ f. (base : PlanParts) (bytes : List ℕ) → IsFaultOf base bytes f) }
 {
     match add_rows(follower, alloc, plan, rows) {
         Ok(Some(told)) => Ok(told),
@@ -95,7 +98,7 @@ fn add_asked(
     requires stands { (t : List TheRow) × IsFollowerOf plan.now t follower.old }
     ensures until { asked.new.until ≡ asked.old.until }
     ensures told { IfOk result (λ o. (t : List TheRow) → IsFollowerOf plan.now t follower.old → IsAskedOf t asked.old → MatchOption o (IsFollowerOf plan.now (t ++ rows.now) follower.new × IsAskedOf (t ++ rows.now) asked.new) (λ told. (u more : List TheRow) × (rows.now ≡ u ++ more) × IsSaid plan.now asked.old.until (t ++ u) told)) }
-    ensures fault { IfErr result (λ f. (e : TheFault) (line : ℕ) → f ≢ NoRow e line) }
+    ensures fault { IfErr result (λ f. (base : PlanParts) (bytes : List ℕ) → IsFaultOf base bytes f) }
 {
     match asked.past_end(rows) {
         Some(end) => match add_last(follower, alloc, plan, &rows[0..end]) {
@@ -121,12 +124,15 @@ fn body_of(is_begun: bool, lines: &[u8]) -> Option<&[u8]>
 impl Log {
     /// Before the first byte. No row is judged behind the first tag with rows at or past the tag.
     pub fn new(alloc: Global, plan: &Plan, until: Option<Tag>) -> Result<Log, NoMemory>
-        ensures { IfOk result (IsLog plan.now until []) }
+        ensures { IfOk result (IsLog plan.now plan.now until []) }
     {
+        // Asked for what every plan keeps: its external events stand in order.
+        plan.keeps();
         Ok(Log {
             follower: Follower::new(alloc, plan)?,
             rest: Vec::new(alloc),
             rows: 0,
+            inputs: 0,
             is_begun: false,
             asked: Asked::new(until),
         })
@@ -146,26 +152,22 @@ impl Log {
         self.follower.reach(plan)
     }
 
-    /// Goes on past whole lines, which are all that is of no row yet.
-    fn add_lines(
+    /// Goes on past lines of rows.
+    fn add_rows_of(
         &mut self,
         alloc: Global,
         plan: &Plan,
         lines: &[u8],
     ) -> Result<Option<Told>, LogFault>
-        requires stands { (until : Option TheTag) × (bytes : List ℕ) × IsLogOf plan.now until bytes lines.now self.old }
+        requires stands { (base : PlanParts) × (until : Option TheTag) × (bytes : List ℕ) × (behind : List ℕ) × IsBegun base plan.now until bytes (lines.now ++ behind) self.old }
         ensures rest { self.new.rest ≡ self.old.rest }
-        ensures told { IfOk result (λ o. (until : Option TheTag) (bytes : List ℕ) → IsLogOf plan.now until bytes lines.now self.old → MatchOption o (IsLogOf plan.now until bytes [] self.new) (IsSoon plan.now until bytes)) }
-        ensures fault { IfErr result (λ f. (until : Option TheTag) (bytes : List ℕ) → IsLogOf plan.now until bytes lines.now self.old → IsFaultOf plan.now.program bytes f) }
+        ensures told { IfOk result (λ o. (base : PlanParts) (until : Option TheTag) (bytes behind : List ℕ) → IsBegun base plan.now until bytes (lines.now ++ behind) self.old → MatchOption o (IsBegun base plan.now until bytes behind self.new) (IsSoon base until bytes)) }
+        ensures fault { IfErr result (λ f. (base : PlanParts) (until : Option TheTag) (bytes behind : List ℕ) → IsBegun base plan.now until bytes (lines.now ++ behind) self.old → IsFaultOf base bytes f) }
     {
         if self.rows > MOST {
             return Err(LogFault::TooManyRows);
         }
-        let Some(body) = body_of(self.is_begun, lines) else {
-            return Err(LogFault::NoHeader);
-        };
-        self.is_begun = true;
-        let Ok(front) = read_front(alloc, plan.program(), body, self.rows) else {
+        let Ok(front) = read_front(alloc, plan.program(), lines, self.rows) else {
             return Err(LogFault::NoMemory);
         };
         let rows = front.rows.as_slice();
@@ -178,6 +180,104 @@ impl Log {
             Ok(Some(told)) => Ok(Some(told)),
             Err(fault) => Err(fault),
         }
+    }
+
+    /// Goes on past the line of an external input.
+    fn add_input(&mut self, alloc: Global, plan: &mut Plan, line: &[u8]) -> Result<(), LogFault>
+        requires line { EndsLine line.now }
+        ensures program { plan.new.program ≡ plan.old.program }
+        ensures rest { self.new.rest ≡ self.old.rest }
+        ensures told { IfOk result (λ _. (base : PlanParts) (until : Option TheTag) (bytes behind : List ℕ) → IsBegun base plan.old until bytes (line.now ++ behind) self.old → IsBegun base plan.new until bytes behind self.new) }
+        ensures fault { IfErr result (λ f. (base : PlanParts) (until : Option TheTag) (bytes behind : List ℕ) → IsBegun base plan.old until bytes (line.now ++ behind) self.old → IsFaultOf base bytes f) }
+    {
+        if self.inputs > MOST {
+            return Err(LogFault::TooManyInputs);
+        }
+        let number = self.inputs + 2;
+        let input = match read_input(alloc, plan.program(), line, number) {
+            Ok(input) => input,
+            Err(fault) => return Err(fault),
+        };
+        match tell(&mut self.follower, plan, input, number) {
+            Ok(()) => {
+                self.inputs += 1;
+                Ok(())
+            }
+            Err(fault) => Err(fault),
+        }
+    }
+
+    /// Goes on past lines of rows, or past the line of an external input.
+    fn add_part(
+        &mut self,
+        alloc: Global,
+        plan: &mut Plan,
+        lines: &[u8],
+        is_input: bool,
+    ) -> Result<Option<Told>, LogFault>
+        requires lines { EndsLine lines.now }
+        requires stands { (base : PlanParts) × (until : Option TheTag) × (bytes : List ℕ) × (behind : List ℕ) × IsBegun base plan.old until bytes (lines.now ++ behind) self.old }
+        ensures program { plan.new.program ≡ plan.old.program }
+        ensures rest { self.new.rest ≡ self.old.rest }
+        ensures told { IfOk result (λ o. (base : PlanParts) (until : Option TheTag) (bytes behind : List ℕ) → IsBegun base plan.old until bytes (lines.now ++ behind) self.old → MatchOption o (IsBegun base plan.new until bytes behind self.new) (IsSoon base until bytes)) }
+        ensures fault { IfErr result (λ f. (base : PlanParts) (until : Option TheTag) (bytes behind : List ℕ) → IsBegun base plan.old until bytes (lines.now ++ behind) self.old → IsFaultOf base bytes f) }
+    {
+        if !is_input {
+            return self.add_rows_of(alloc, plan, lines);
+        }
+        match self.add_input(alloc, plan, lines) {
+            Ok(()) => Ok(None),
+            Err(fault) => Err(fault),
+        }
+    }
+
+    /// Goes on past whole lines below the header, which are all that is of no part yet.
+    fn add_body(
+        &mut self,
+        alloc: Global,
+        plan: &mut Plan,
+        lines: &[u8],
+    ) -> Result<Option<Told>, LogFault>
+        requires lines { AreLines lines.now }
+        requires stands { (base : PlanParts) × (until : Option TheTag) × (bytes : List ℕ) × IsBegun base plan.old until bytes lines.now self.old }
+        ensures program { plan.new.program ≡ plan.old.program }
+        ensures rest { self.new.rest ≡ self.old.rest }
+        ensures told { IfOk result (λ o. (base : PlanParts) (until : Option TheTag) (bytes : List ℕ) → IsBegun base plan.old until bytes lines.now self.old → MatchOption o (IsBegun base plan.new until bytes [] self.new) (IsSoon base until bytes)) }
+        ensures fault { IfErr result (λ f. (base : PlanParts) (until : Option TheTag) (bytes : List ℕ) → IsBegun base plan.old until bytes lines.now self.old → IsFaultOf base bytes f) }
+    {
+        let mut begin = 0;
+        while begin < lines.len() {
+            let left = &lines[begin..lines.len()];
+            let (end, is_input) = first_part(left);
+            match self.add_part(alloc, plan, &left[0..end], is_input) {
+                Ok(None) => {}
+                Ok(Some(told)) => return Ok(Some(told)),
+                Err(fault) => return Err(fault),
+            }
+            begin += end;
+        }
+        Ok(None)
+    }
+
+    /// Goes on past whole lines, which are all that is of no part yet.
+    fn add_lines(
+        &mut self,
+        alloc: Global,
+        plan: &mut Plan,
+        lines: &[u8],
+    ) -> Result<Option<Told>, LogFault>
+        requires lines { AreLines lines.now }
+        requires stands { (base : PlanParts) × (until : Option TheTag) × (bytes : List ℕ) × IsLogOf base plan.old until bytes lines.now self.old }
+        ensures program { plan.new.program ≡ plan.old.program }
+        ensures rest { self.new.rest ≡ self.old.rest }
+        ensures told { IfOk result (λ o. (base : PlanParts) (until : Option TheTag) (bytes : List ℕ) → IsLogOf base plan.old until bytes lines.now self.old → MatchOption o (IsLogOf base plan.new until bytes [] self.new) (IsSoon base until bytes)) }
+        ensures fault { IfErr result (λ f. (base : PlanParts) (until : Option TheTag) (bytes : List ℕ) → IsLogOf base plan.old until bytes lines.now self.old → IsFaultOf base bytes f) }
+    {
+        let Some(body) = body_of(self.is_begun, lines) else {
+            return Err(LogFault::NoHeader);
+        };
+        self.is_begun = true;
+        self.add_body(alloc, plan, body)
     }
 
     /// Whether the first line of the piece is too long with what came of it.
@@ -199,12 +299,14 @@ impl Log {
     fn add_whole(
         &mut self,
         alloc: Global,
-        plan: &Plan,
+        plan: &mut Plan,
         more: &[u8],
     ) -> Result<Option<Told>, LogFault>
-        requires { (until : Option TheTag) × (bytes : List ℕ) × IsLog plan.now until bytes self.old }
-        ensures told { IfOk result (λ o. (until : Option TheTag) (bytes : List ℕ) → IsLog plan.now until bytes self.old → MatchOption o (IsLogOf plan.now until (bytes ++ more.now) [] self.new × (self.new.rest.items ≡ [])) (IsSoon plan.now until (bytes ++ more.now))) }
-        ensures fault { IfErr result (λ f. (until : Option TheTag) (bytes : List ℕ) → IsLog plan.now until bytes self.old → IsFaultOf plan.now.program (bytes ++ more.now) f) }
+        requires line { EndsLine more.now }
+        requires stands { (base : PlanParts) × (until : Option TheTag) × (bytes : List ℕ) × IsLog base plan.old until bytes self.old }
+        ensures program { plan.new.program ≡ plan.old.program }
+        ensures told { IfOk result (λ o. (base : PlanParts) (until : Option TheTag) (bytes : List ℕ) → IsLog base plan.old until bytes self.old → MatchOption o (IsLogOf base plan.new until (bytes ++ more.now) [] self.new × (self.new.rest.items ≡ [])) (IsSoon base until (bytes ++ more.now))) }
+        ensures fault { IfErr result (λ f. (base : PlanParts) (until : Option TheTag) (bytes : List ℕ) → IsLog base plan.old until bytes self.old → IsFaultOf base (bytes ++ more.now) f) }
     {
         let mut lines = std::mem::replace(&mut self.rest, Vec::new(alloc));
         let Ok(()) = lines.extend_from_slice(more) else {
@@ -215,8 +317,8 @@ impl Log {
 
     /// Keeps bytes of a line whose end hasn't come.
     fn keep(&mut self, more: &[u8]) -> Result<Option<Told>, LogFault>
-        ensures told { IfOk result (λ o. (plan : PlanParts) (until : Option TheTag) (bytes : List ℕ) → IsLogOf plan until bytes self.old.rest.items self.old → HasNoEnd (self.old.rest.items ++ more.now) → MatchOption o (IsLog plan until (bytes ++ more.now) self.new) (λ told. ⊥)) }
-        ensures fault { IfErr result (λ f. (e : TheFault) (line : ℕ) → f ≢ NoRow e line) }
+        ensures told { IfOk result (λ o. (base plan : PlanParts) (until : Option TheTag) (bytes : List ℕ) → IsLogOf base plan until bytes self.old.rest.items self.old → HasNoEnd (self.old.rest.items ++ more.now) → MatchOption o (IsLog base plan until (bytes ++ more.now) self.new) (λ told. ⊥)) }
+        ensures fault { IfErr result (λ f. (base : PlanParts) (bytes : List ℕ) → IsFaultOf base bytes f) }
     {
         match self.rest.extend_from_slice(more) {
             Ok(()) => Ok(None),
@@ -228,12 +330,13 @@ impl Log {
     pub fn add(
         &mut self,
         alloc: Global,
-        plan: &Plan,
+        plan: &mut Plan,
         piece: &[u8],
     ) -> Result<Option<Told>, LogFault>
-        requires { (until : Option TheTag) × (bytes : List ℕ) × IsLog plan.now until bytes self.old }
-        ensures told { IfOk result (λ o. (until : Option TheTag) (bytes : List ℕ) → IsLog plan.now until bytes self.old → MatchOption o (IsLog plan.now until (bytes ++ piece.now) self.new) (IsSoon plan.now until (bytes ++ piece.now))) }
-        ensures fault { IfErr result (λ f. (until : Option TheTag) (bytes : List ℕ) → IsLog plan.now until bytes self.old → IsFaultOf plan.now.program (bytes ++ piece.now) f) }
+        requires { (base : PlanParts) × (until : Option TheTag) × (bytes : List ℕ) × IsLog base plan.old until bytes self.old }
+        ensures program { plan.new.program ≡ plan.old.program }
+        ensures told { IfOk result (λ o. (base : PlanParts) (until : Option TheTag) (bytes : List ℕ) → IsLog base plan.old until bytes self.old → MatchOption o (IsLog base plan.new until (bytes ++ piece.now) self.new) (IsSoon base until (bytes ++ piece.now))) }
+        ensures fault { IfErr result (λ f. (base : PlanParts) (until : Option TheTag) (bytes : List ℕ) → IsLog base plan.old until bytes self.old → IsFaultOf base (bytes ++ piece.now) f) }
     {
         if self.is_long(piece) {
             return Err(LogFault::LongLine(self.next_line()));
@@ -251,8 +354,8 @@ impl Log {
 
     /// What the rows show where no more come. With `whole` no row is missing.
     fn end(&mut self, alloc: Global, plan: &Plan, whole: bool) -> Ending
-        requires { (until : Option TheTag) × (bytes : List ℕ) × IsLog plan.now until bytes self.old }
-        ensures { (until : Option TheTag) (bytes : List ℕ) → IsLog plan.now until bytes self.old → self.old.is_begun ≡ true → IsFinal plan.now until whole bytes (AtEnd result) }
+        requires { (base : PlanParts) × (until : Option TheTag) × (bytes : List ℕ) × IsLog base plan.now until bytes self.old }
+        ensures { (base : PlanParts) (until : Option TheTag) (bytes : List ℕ) → IsLog base plan.now until bytes self.old → self.old.is_begun ≡ true → IsFinal base until whole bytes (AtEnd result) }
     {
         let reach = self.follower.reach(plan);
         if self.rest.is_empty() {
@@ -267,9 +370,9 @@ impl Log {
 
     /// What the table shows where no more comes and its lines are whole, but for a last one that says nothing.
     fn told_at_end(&mut self, alloc: Global, plan: &Plan, whole: bool) -> Result<Final, LogFault>
-        requires { (until : Option TheTag) × (bytes : List ℕ) × IsLog plan.now until bytes self.old }
-        ensures ended { IfOk result (λ told. (until : Option TheTag) (bytes : List ℕ) → IsLog plan.now until bytes self.old → IsFinal plan.now until whole bytes told) }
-        ensures fault { IfErr result (λ f. (e : TheFault) (line : ℕ) → f ≢ NoRow e line) }
+        requires { (base : PlanParts) × (until : Option TheTag) × (bytes : List ℕ) × IsLog base plan.now until bytes self.old }
+        ensures ended { IfOk result (λ told. (base : PlanParts) (until : Option TheTag) (bytes : List ℕ) → IsLog base plan.now until bytes self.old → IsFinal base until whole bytes told) }
+        ensures fault { IfErr result (λ f. (base : PlanParts) (bytes : List ℕ) → IsFaultOf base bytes f) }
     {
         if !self.is_begun {
             return Err(LogFault::NoHeader);
@@ -279,10 +382,11 @@ impl Log {
 
     /// What the table shows where no more comes. A last line without its end counts only if nothing can
     /// be missing of it. With `whole` no row is missing, if the last line counts.
-    pub fn finish(&mut self, alloc: Global, plan: &Plan, whole: bool) -> Result<Final, LogFault>
-        requires { (until : Option TheTag) × (bytes : List ℕ) × IsLog plan.now until bytes self.old }
-        ensures ended { IfOk result (λ told. (until : Option TheTag) (bytes : List ℕ) → IsLog plan.now until bytes self.old → IsEnded plan.now until whole bytes told) }
-        ensures fault { IfErr result (λ f. (until : Option TheTag) (bytes : List ℕ) → IsLog plan.now until bytes self.old → IsFaultOf plan.now.program (bytes ++ 10 ∷ []) f) }
+    pub fn finish(&mut self, alloc: Global, plan: &mut Plan, whole: bool) -> Result<Final, LogFault>
+        requires { (base : PlanParts) × (until : Option TheTag) × (bytes : List ℕ) × IsLog base plan.old until bytes self.old }
+        ensures program { plan.new.program ≡ plan.old.program }
+        ensures ended { IfOk result (λ told. (base : PlanParts) (until : Option TheTag) (bytes : List ℕ) → IsLog base plan.old until bytes self.old → IsEnded base until whole bytes told) }
+        ensures fault { IfErr result (λ f. (base : PlanParts) (until : Option TheTag) (bytes : List ℕ) → IsLog base plan.old until bytes self.old → IsFaultOf base (bytes ++ 10 ∷ []) f) }
     {
         if !is_whole(self.rest.as_slice()) {
             return self.told_at_end(alloc, plan, whole);

@@ -1,5 +1,6 @@
 -- The reaction of a breach that is told.
 use Rattle.std.proofs.Common.{◌≡◌, ◌<◌, ◌⊎◌, inl, inr, ℕ, Bool, List, [], ◌∷◌, ◌++◌, Option, Some, None, length, take, sym, subst, slice_get}
+use Rattle.std.specs.List.{flat_map}
 use Rattle.std.proofs.lemmas.Option.{slice_get_within}
 use Rattle.lft_tag.specs.declared.Tag.{Tag}
 use Rattle.lft_lists.proofs.Places.{get_left}
@@ -16,8 +17,9 @@ use Rattle.lft_front.specs.Lines.{HasReaction}
 use Rattle.lft_follow.specs.declared.found.Found.{Found}
 use Rattle.lft_follow.specs.declared.judged.Ending.TheVariants as ending
 use Rattle.lft_follow.specs.Follows.{IsSureBehind, IsFirstBehind, breach_of}
-use Rattle.lft_log.specs.Logs.{AreRowLines, HoldSoFar}
-use Rattle.lft_log.specs.Told.{IsEnded, IsFinal, IsSoon}
+use Rattle.lft_log.specs.Logs.{AreRowLines, row_text_of}
+use Rattle.lft_log.specs.Told.{IsEnded, IsFinal, IsSoon, TellsPlan}
+use Rattle.lft_log.proofs.Holding.{row_lines}
 use Rattle.lft_log.specs.declared.told.Told.TheVariants.{Broken, Odd, Reached}
 use Rattle.lft_log.specs.declared.told.Final.{Final}
 use Rattle.lft_log.specs.declared.told.Final.TheVariants.{Soon, AtEnd}
@@ -38,41 +40,42 @@ module _ (plan : PlanParts) (t : List Row) (own : (i : ℕ) (x : Row) → slice_
   of_tag g (Some r) k (inr (inr (inl x))) = own x.1.place _ x.1.starts
   of_tag g (Some r) k (inr (inr (inr x))) = own x.1.place _ x.1.starts
 
-of_found : (plan : PlanParts) (until : Option Tag) (bytes : List ℕ) (b : Found) → IsSound plan.program → IsSoon plan until bytes (Broken b) → HasReaction plan.program b.reaction
-of_found plan until bytes b sound s = go s.2.1
+-- the reactions of rows of a log are of the program
+of_log : (base plan : PlanParts) (bytes rest : List ℕ) (t : List Row) → IsSound base.program → TellsPlan base bytes plan t rest → (i : ℕ) (x : Row) → slice_get t i ≡ Some x → x.reaction < length plan.program.reactions
+of_log base plan bytes rest t sound is i x e =
+    let held = subst (λ (u : List Row). AreRowLines base.program (flat_map row_text_of is.parts) u) is.rows_are (row_lines base.program is.parts is.held.each) in
+    subst (λ (p : Parts). x.reaction < length p.reactions) (sym is.told.program) (of_row base.program (flat_map row_text_of is.parts) t i x sound held e)
+
+-- what is so of the plan of a log is so of the one given before
+of_base : (base plan : PlanParts) (bytes rest : List ℕ) (t : List Row) (o : Option ℕ) → TellsPlan base bytes plan t rest → HasReaction plan.program o → HasReaction base.program o
+of_base base plan bytes rest t o is x = subst (λ (p : Parts). HasReaction p o) is.told.program x
+
+of_found : (base : PlanParts) (until : Option Tag) (bytes : List ℕ) (b : Found) → IsSound base.program → IsSoon base until bytes (Broken b) → HasReaction base.program b.reaction
+of_found base until bytes b sound (plan, t, more, rest, is, (n, sure)) = of_base base plan bytes rest (t ++ more) b.reaction is (go sure)
   where
-    t : List Row
-    t = s.0
-
-    n : ℕ
-    n = s.2.0
-
     own : (i : ℕ) (x : Row) → slice_get (take n t) i ≡ Some x → x.reaction < length plan.program.reactions
-    own i x e = of_row plan.program s.1.2.body (t ++ s.1.0) i x sound s.1.2.is_body (get_left t s.1.0 i x (slice_get_take n t i x e).1)
+    own i x e = of_log base plan bytes rest (t ++ more) sound is i x (get_left t more i x (slice_get_take n t i x e).1)
 
     go : IsSureBehind plan t (breach_of b) n ⊎ IsFirstBehind plan t (breach_of b) n → HasReaction plan.program b.reaction
     go (inl o) = subst (λ r. HasReaction plan.program r) (sym o.breaks.reaction_is) (own o.breaks.place o.breaks.row o.breaks.is_row)
     go (inr o) = of_tag plan (take n t) own b.tag b.reaction b.rule o.first.breaks.breaks
 
-of_first : (plan : PlanParts) (bytes : List ℕ) (t : List Row) (b : Found) → IsSound plan.program → HoldSoFar plan.program bytes t [] → First plan t (breach_of b) → HasReaction plan.program b.reaction
-of_first plan bytes t b sound held first = go first
+of_first : (base plan : PlanParts) (bytes : List ℕ) (t : List Row) (b : Found) → IsSound base.program → TellsPlan base bytes plan t [] → First plan t (breach_of b) → HasReaction base.program b.reaction
+of_first base plan bytes t b sound is first = of_base base plan bytes [] t b.reaction is (go first)
   where
-    own : (i : ℕ) (x : Row) → slice_get t i ≡ Some x → x.reaction < length plan.program.reactions
-    own i x e = of_row plan.program held.body t i x sound held.is_body e
-
     go : First plan t (breach_of b) → HasReaction plan.program b.reaction
-    go (inl o) = subst (λ r. HasReaction plan.program r) (sym o.0.reaction_is) (own o.0.place o.0.row o.0.is_row)
-    go (inr o) = of_tag plan t own b.tag b.reaction b.rule o.1.breaks
+    go (inl o) = subst (λ r. HasReaction plan.program r) (sym o.0.reaction_is) (of_log base plan bytes [] t sound is o.0.place o.0.row o.0.is_row)
+    go (inr o) = of_tag plan t (of_log base plan bytes [] t sound is) b.tag b.reaction b.rule o.1.breaks
 
-of_final : (plan : PlanParts) (until : Option Tag) (whole : Bool) (bytes : List ℕ) (told : Final) → IsSound plan.program → IsFinal plan until whole bytes told → HasFound plan.program told
-of_final plan until whole bytes (Soon (Broken b)) sound s = of_found plan until bytes b sound s
-of_final plan until whole bytes (Soon (Odd r line)) sound s = tt
-of_final plan until whole bytes (Soon (Reached r)) sound s = tt
-of_final plan until whole bytes (AtEnd (ending.Accepted c)) sound s = tt
-of_final plan until whole bytes (AtEnd (ending.Unbroken r)) sound s = tt
-of_final plan until whole bytes (AtEnd (ending.Broken b)) sound s = of_first plan bytes s.1.0 b sound s.1.1 s.1.2
+of_final : (base : PlanParts) (until : Option Tag) (whole : Bool) (bytes : List ℕ) (told : Final) → IsSound base.program → IsFinal base until whole bytes told → HasFound base.program told
+of_final base until whole bytes (Soon (Broken b)) sound s = of_found base until bytes b sound s
+of_final base until whole bytes (Soon (Odd r line)) sound s = tt
+of_final base until whole bytes (Soon (Reached r)) sound s = tt
+of_final base until whole bytes (AtEnd (ending.Accepted c)) sound s = tt
+of_final base until whole bytes (AtEnd (ending.Unbroken r)) sound s = tt
+of_final base until whole bytes (AtEnd (ending.Broken b)) sound s = of_first base s.1.0 bytes s.1.1 b sound s.1.2 s.1.3
 
 -- a breach that is told is of a reaction of the program
-pub has_found : (plan : PlanParts) (until : Option Tag) (whole : Bool) (bytes : List ℕ) (told : Final) → IsSound plan.program → IsEnded plan until whole bytes told → HasFound plan.program told
-has_found plan until whole bytes told sound (inl s) = of_final plan until whole bytes told sound s
-has_found plan until whole bytes told sound (inr s) = of_final plan until whole (bytes ++ 10 ∷ []) told sound s
+pub has_found : (base : PlanParts) (until : Option Tag) (whole : Bool) (bytes : List ℕ) (told : Final) → IsSound base.program → IsEnded base until whole bytes told → HasFound base.program told
+has_found base until whole bytes told sound (inl s) = of_final base until whole bytes told sound s
+has_found base until whole bytes told sound (inr s) = of_final base until whole (bytes ++ 10 ∷ []) told sound s

@@ -1,9 +1,10 @@
-//! A trace table that is judged while it is written.
+//! A log that is judged while it is written.
 
 ghost use Rattle.std.specs.Prelude.{◌≡◌, ◌≢◌, ◌<◌, ◌++◌, ℕ, List, Option, length, IfOk, IfNone, IfSome, IsTrue, OnOk, MatchOption};
 ghost use Rattle.std.specs.Io.KnownBytes.{Appends, IsAtEnd};
 ghost use Rattle.lft_tag.specs.declared.Tag.{Tag as TheTag};
 ghost use Rattle.lft_tag.specs.Tags.{IsRecorded};
+ghost use Rattle.lft_model.specs.Plans.{PlanParts};
 ghost use Rattle.lft_load.specs.declared.fault.Part.TheVariants as part;
 ghost use Rattle.lft_log.specs.Told.{IsLog, IsSoon};
 ghost use Rattle.lft_monitor.specs.Lines.{HasFound, line_of_log, log_status};
@@ -64,23 +65,38 @@ pub fn status_of_log(told: Final) -> u8
     }
 }
 
-/// A fault of a line of the table, whose number may have 64 bits.
-fn fault_at(alloc: Global, number: u32, name: &'static str, line: u64) -> Fault
+/// A fault of a line of a table, whose number may have 64 bits.
+fn fault_at(alloc: Global, table: Part, number: u32, name: &'static str, line: u64) -> Fault
+    requires { table ≢ part.Write }
     ensures { result.part ≢ part.Write }
 {
     if line <= u64::from(u32::MAX) {
-        return Fault::of_line(Part::Trace, number, name, line as u32);
+        return Fault::of_line(table, number, name, line as u32);
     }
     match format!(in alloc; "line={line}") {
         Ok(words) => Fault {
             detail: Detail::Words(words),
-            ..Fault::plain(Part::Trace, number, name)
+            ..Fault::plain(table, number, name)
         },
         Err(_) => Fault::no_memory(),
     }
 }
 
-/// The fault of a table that can't be followed.
+/// The fault of a line that is no row.
+fn fault_of_row(alloc: Global, number: u32, name: &'static str, line: u64) -> Fault
+    ensures { result.part ≢ part.Write }
+{
+    fault_at(alloc, Part::Trace, number, name, line)
+}
+
+/// The fault of a line of an external input.
+fn fault_of_input(alloc: Global, number: u32, name: &'static str, line: u64) -> Fault
+    ensures { result.part ≢ part.Write }
+{
+    fault_at(alloc, Part::Externals, number, name, line)
+}
+
+/// The fault of a log that can't be followed.
 fn fault_of(alloc: Global, fault: LogFault) -> Fault
     ensures { result.part ≢ part.Write }
 {
@@ -88,11 +104,19 @@ fn fault_of(alloc: Global, fault: LogFault) -> Fault
         LogFault::NoHeader => Fault::plain(Part::Trace, 1, "BadHeader"),
         LogFault::NoRow(fault, line) => {
             let plain = Fault::trace(fault);
-            fault_at(alloc, plain.number, plain.name, line)
+            fault_of_row(alloc, plain.number, plain.name, line)
         }
-        LogFault::LongLine(line) => fault_at(alloc, 13, "LongLine", line),
-        LogFault::NotPlain(line) => fault_at(alloc, 14, "NotPlain", line),
+        LogFault::LongLine(line) => fault_of_row(alloc, 13, "LongLine", line),
+        LogFault::NotPlain(line) => fault_of_row(alloc, 14, "NotPlain", line),
         LogFault::TooManyRows => Fault::plain(Part::Trace, 10, "TooManyRows"),
+        LogFault::NoInput(fault, line) => {
+            let plain = Fault::externals(fault);
+            fault_of_input(alloc, plain.number, plain.name, line)
+        }
+        LogFault::LateInput(line) => fault_of_input(alloc, 13, "LateExternal", line),
+        LogFault::InputAgain(line) => fault_of_input(alloc, 7, "DuplicateExternal", line),
+        LogFault::NotPlainInput(line) => fault_of_input(alloc, 14, "NotPlain", line),
+        LogFault::TooManyInputs => Fault::plain(Part::Externals, 10, "TooManyRows"),
         LogFault::NoMemory => Fault::no_memory(),
     }
 }
@@ -109,13 +133,14 @@ fn tell_reach<E: Write>(alloc: Global, reach: Reach, errors: &mut E) -> Result<(
 fn add<E: Write>(
     log: &mut Log,
     alloc: Global,
-    plan: &Plan,
+    plan: &mut Plan,
     piece: &[u8],
     every: u64,
     errors: &mut E,
 ) -> Result<Option<Told>, Fault>
-    requires { (until : Option TheTag) × (bytes : List ℕ) × IsLog plan.now until bytes log.old }
-    ensures { IfOk result (λ o. (until : Option TheTag) (bytes : List ℕ) → IsLog plan.now until bytes log.old → MatchOption o (IsLog plan.now until (bytes ++ piece.now) log.new) (IsSoon plan.now until (bytes ++ piece.now))) }
+    requires { (base : PlanParts) × (until : Option TheTag) × (bytes : List ℕ) × IsLog base plan.old until bytes log.old }
+    ensures program { plan.new.program ≡ plan.old.program }
+    ensures told { IfOk result (λ o. (base : PlanParts) (until : Option TheTag) (bytes : List ℕ) → IsLog base plan.old until bytes log.old → MatchOption o (IsLog base plan.new until (bytes ++ piece.now) log.new) (IsSoon base until (bytes ++ piece.now))) }
 {
     let before = log.rows();
     match log.add(alloc, plan, piece) {
@@ -130,10 +155,10 @@ fn add<E: Write>(
     }
 }
 
-/// What the table of a reader shows, up to its end or to what is told before. At most a chunk is read at once.
+/// What the log of a reader shows, up to its end or to what is told before. At most a chunk is read at once.
 fn read_log<R: Read, E: Write>(
     alloc: Global,
-    plan: &Plan,
+    plan: &mut Plan,
     path: &str,
     reader: &mut R,
     chunk: &mut [u8],
@@ -141,7 +166,8 @@ fn read_log<R: Read, E: Write>(
     errors: &mut E,
 ) -> Result<Final, Fault>
     requires { 0 < length chunk.old }
-    ensures { IfOk result (IsRead plan.now following.until following.whole (R.remaining reader.old) (R.remaining reader.new)) }
+    ensures program { plan.new.program ≡ plan.old.program }
+    ensures read { IfOk result (IsRead plan.old following.until following.whole (R.remaining reader.old) (R.remaining reader.new)) }
 {
     let Ok(mut log) = Log::new(alloc, plan, following.until) else {
         return Err(Fault::no_memory());
@@ -183,9 +209,9 @@ fn report<W: Write>(alloc: Global, program: &Program, told: Final, out: &mut W) 
     }
 }
 
-/// Follows the trace table of a reader, and writes the line of what is told of it. Each `every` rows it
-/// writes how far they are judged to `errors`. The fault is that of `load`; or of a line of the table,
-/// once the rows before it are judged; `read` 1 `Failed` where the reader fails; `write` 1 `Failed` where
+/// Follows the log of a reader, and writes the line of what is told of it. Each `every` rows it writes how
+/// far they are judged to `errors`. The fault is that of `load`; or of a line of the log, once the rows
+/// before it are judged: part `trace`, or `externals` of an event or a stop; `read` 1 `Failed` where the reader fails; `write` 1 `Failed` where
 /// a writer fails; `memory` 1. The path is for a fault alone.
 pub fn follow_log<R: Read, W: Write, E: Write>(
     alloc: Global,
@@ -199,7 +225,7 @@ pub fn follow_log<R: Read, W: Write, E: Write>(
 ) -> Result<Final, Fault>
     ensures followed { IfOk result (IsFollowed program.now externals.now following.until following.whole (R.remaining reader.old) (R.remaining reader.new) (W.contents out.old) (W.contents out.new)) }
 {
-    let plan = match load(alloc, program, externals) {
+    let mut plan = match load(alloc, program, externals) {
         Ok(plan) => plan,
         Err(fault) => return Err(fault),
     };
@@ -207,7 +233,7 @@ pub fn follow_log<R: Read, W: Write, E: Write>(
         return Err(Fault::no_memory());
     };
     let chunk = chunk.as_mut_slice();
-    let told = match read_log(alloc, &plan, path, reader, chunk, following, errors) {
+    let told = match read_log(alloc, &mut plan, path, reader, chunk, following, errors) {
         Ok(told) => told,
         Err(fault) => return Err(fault),
     };

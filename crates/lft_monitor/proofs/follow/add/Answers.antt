@@ -1,4 +1,4 @@
 use Rattle.lft_monitor.proofs.follow.add.Goals as goal
 
-pub returns-in-Ok-Some : goal.returns-in-Ok-Some
-returns-in-Ok-Some g c = λ until bytes is. rw c.in-Ok-Some.field-0-is at (c.in-Ok-Some.ensures.told until bytes is)
+pub returns-in-Ok-Some-clause-told : goal.returns-in-Ok-Some-clause-told
+returns-in-Ok-Some-clause-told g c = λ base until bytes is. rw c.in-Ok-Some.field-0-is at (c.in-Ok-Some.ensures.told base until bytes is)

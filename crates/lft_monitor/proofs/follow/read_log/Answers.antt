@@ -1,5 +1,6 @@
-use Rattle.std.proofs.Common.{◌<◌, ◌++◌, ℕ, List, IfOk, length, take, inl, sym, subst, arith}
+use Rattle.std.proofs.Common.{◌≡◌, ◌∙◌, ◌<◌, ◌++◌, ℕ, List, IfOk, length, take, inl, sym, subst, arith}
 use Rattle.std.proofs.KnownBytes.{Consumes-trans, Consumes-kept}
+use Rattle.lft_model.specs.Plans.{PlanParts}
 use Rattle.lft_log.specs.declared.log.Log.{Log}
 use Rattle.lft_log.specs.Told.{IsLog}
 use Rattle.lft_monitor.specs.Followed.{IsRead}
@@ -7,8 +8,8 @@ use Rattle.lft_monitor.proofs.Reading.{none_more, soon_is_no_end}
 use Rattle.lft_monitor.proofs.follow.read_log.Goals.{in-Ok-finish, in-Err-finish, in-Ok-read+in-Ok-None, in-Err+else-ne}
 use Rattle.lft_monitor.proofs.follow.read_log.Goals as goal
 
-pub returns-in-Ok-eq0 : goal.returns-in-Ok-eq0
-returns-in-Ok-eq0 g c =
+pub returns-in-Ok-eq0-clause-read : goal.returns-in-Ok-eq0-clause-read
+returns-in-Ok-eq0-clause-read g c =
     let is = IsRead c.args.plan.now c.args.following.until c.args.following.whole (g.R.Read.remaining c.args.reader.now) (g.R.Read.remaining c.read.new.self) in
     let bytes = c.loop.invariant.0 in
     let read = c.in-Ok-eq0.ensures.bytes in
@@ -17,30 +18,32 @@ returns-in-Ok-eq0 g c =
       | in-Ok-finish w ↦ subst (λ r. IfOk r is) (sym w.result-is) (record {
         bytes = bytes;
         given = none_more _ _ _ bytes _ _ c.loop.invariant.1 c.in-Ok-eq0.field-0-test read.0;
-        ended = w.in-Ok-finish.ensures.ended c.args.following.until bytes c.loop.invariant.2;
+        ended = w.in-Ok-finish.ensures.ended c.args.plan.now c.args.following.until bytes c.loop.invariant.2;
         all = λ ending q. read.1 c.in-Ok-eq0.field-0-test room;
       })
       | in-Err-finish w ↦ subst (λ r. IfOk r is) (sym w.result-is) tt
     ]
 
-pub returns-in-Ok-Some : goal.returns-in-Ok-Some
-returns-in-Ok-Some g c =
+pub returns-in-Ok-Some-clause-read : goal.returns-in-Ok-Some-clause-read
+returns-in-Ok-Some-clause-read g c =
     let bytes = c.loop.invariant.0 in
     record {
       bytes = bytes ++ take c.in-Ok-read.count c.read.new.buf;
       given = Consumes-trans _ _ _ _ _ c.loop.invariant.1 c.in-Ok-read.ensures.bytes.0;
-      ended = inl (rw c.in-Ok-Some.field-0-is at (c.in-Ok-Some.ensures c.args.following.until bytes c.loop.invariant.2));
+      ended = inl (rw c.in-Ok-Some.field-0-is at (c.in-Ok-Some.ensures.told c.args.plan.now c.args.following.until bytes c.loop.invariant.2));
       all = λ ending q. absurd (soon_is_no_end c.in-Ok-Some.told ending q);
     }
 
 pub loop-preserved : goal.loop-preserved
 loop-preserved g c =
+    let base = c.args.plan.now in
+    let until = c.args.following.until in
     let bytes = c.loop.invariant.0 in
     let long : 0 < length c.read.new.buf = omega (arith, c.loop.invariant.3, c.read.auto.buf) in
-    let kept = λ (x : List ℕ) (log : Log). IsLog c.args.plan.now c.args.following.until x log in
+    let kept = λ (plan : PlanParts) (x : List ℕ) (log : Log). IsLog base plan until x log in
     elim c.match-read.branch [
       | in-Ok-read+in-Ok-None w ↦
           let more = bytes ++ take w.in-Ok-read.count c.read.new.buf in
-          (more, Consumes-trans _ _ _ _ _ c.loop.invariant.1 w.in-Ok-read.ensures.bytes.0, subst (kept more) (sym w.log-is) (rw w.in-Ok-None.field-0-is at (w.in-Ok-None.ensures c.args.following.until bytes c.loop.invariant.2)), long)
-      | in-Err+else-ne w ↦ (bytes, Consumes-kept _ _ _ _ c.loop.invariant.1 w.in-Err.ensures.bytes, subst (kept bytes) (sym w.log-is) c.loop.invariant.2, long)
+          (more, Consumes-trans _ _ _ _ _ c.loop.invariant.1 w.in-Ok-read.ensures.bytes.0, subst (λ (plan : PlanParts). kept plan more c.match-read.log) (sym w.plan-is) (subst (kept _ more) (sym w.log-is) (rw w.in-Ok-None.field-0-is at (w.in-Ok-None.ensures.told base until bytes c.loop.invariant.2))), long, subst (λ (plan : PlanParts). plan.program ≡ base.program) (sym w.plan-is) (w.in-Ok-None.ensures.program ∙ c.loop.invariant.4))
+      | in-Err+else-ne w ↦ (bytes, Consumes-kept _ _ _ _ c.loop.invariant.1 w.in-Err.ensures.bytes, subst (λ (plan : PlanParts). kept plan bytes c.match-read.log) (sym w.plan-is) (subst (kept _ bytes) (sym w.log-is) c.loop.invariant.2), long, subst (λ (plan : PlanParts). plan.program ≡ base.program) (sym w.plan-is) c.loop.invariant.4)
     ]

@@ -7,33 +7,33 @@ use Rattle.lft_log.proofs.Pieces.{kept_behind, whole_piece}
 use Rattle.lft_log.proofs.log.Log.add.Goals as goal
 
 pub returns-then-end-eq0-clause-told : goal.returns-then-end-eq0-clause-told
-returns-then-end-eq0-clause-told c = IfOk-weaker c.keep.result _ _ (λ o told until bytes is.
+returns-then-end-eq0-clause-told c = IfOk-weaker c.keep.result _ _ (λ o told base until bytes is.
     let piece = c.args.piece.now in
     let none = subst (λ (n : ℕ). HasNoEnd (drop n piece)) c.if-end-eq0.true c.whole_lines-end.ensures.rest in
-    none_told _ _ o (told c.args.plan.now until bytes is.kept (no_end_both c.args.self.now.rest.items piece is.open_line none))) c.keep.ensures.told
+    none_told _ _ o (told base c.args.plan.now until bytes is.kept (no_end_both c.args.self.now.rest.items piece is.open_line none))) c.keep.ensures.told
 
 pub returns-then-end-eq0-clause-fault : goal.returns-then-end-eq0-clause-fault
-returns-then-end-eq0-clause-fault c = IfErr-weaker c.keep.result _ _ (λ f never until bytes is e line q. absurd (never e line q)) c.keep.ensures.fault
+returns-then-end-eq0-clause-fault c = IfErr-weaker c.keep.result _ _ (λ f any base until bytes is. any base (bytes ++ c.args.piece.now)) c.keep.ensures.fault
 
 pub returns-in-Ok-None-clause-told : goal.returns-in-Ok-None-clause-told
-returns-in-Ok-None-clause-told c = IfOk-weaker c.keep-in-Ok-None.result _ _ (λ o told until bytes is.
+returns-in-Ok-None-clause-told c = IfOk-weaker c.keep-in-Ok-None.result _ _ (λ o told base until bytes is.
     let piece = c.args.piece.now in
     let end = c.whole_lines-end.result in
-    let whole = rw c.in-Ok-None.field-0-is at (c.in-Ok-None.ensures.told until bytes is) in
-    kept_behind c.args.plan.now until bytes piece end c.add_whole.new.self _ o _ whole c.whole_lines-end.ensures.rest (told c.args.plan.now until (bytes ++ slice_range piece 0 end))) c.keep-in-Ok-None.ensures.told
+    let whole = rw c.in-Ok-None.field-0-is at (c.in-Ok-None.ensures.told base until bytes is) in
+    kept_behind base c.add_whole.new.plan until bytes piece end c.add_whole.new.self _ o _ whole c.whole_lines-end.ensures.rest (told base c.add_whole.new.plan until (bytes ++ slice_range piece 0 end))) c.keep-in-Ok-None.ensures.told
 
 pub returns-in-Ok-None-clause-fault : goal.returns-in-Ok-None-clause-fault
-returns-in-Ok-None-clause-fault c = IfErr-weaker c.keep-in-Ok-None.result _ _ (λ f never until bytes is e line q. absurd (never e line q)) c.keep-in-Ok-None.ensures.fault
+returns-in-Ok-None-clause-fault c = IfErr-weaker c.keep-in-Ok-None.result _ _ (λ f any base until bytes is. any base (bytes ++ c.args.piece.now)) c.keep-in-Ok-None.ensures.fault
 
 pub returns-in-Ok-Some-clause-told : goal.returns-in-Ok-Some-clause-told
-returns-in-Ok-Some-clause-told c = λ until bytes is.
+returns-in-Ok-Some-clause-told c = λ base until bytes is.
     let piece = c.args.piece.now in
     let end = c.whole_lines-end.result in
-    let told = rw c.in-Ok-Some.field-0-is at (c.in-Ok-Some.ensures.told until bytes is) in
-    subst (λ (x : List ℕ). IsSoon c.args.plan.now until x c.in-Ok-Some.told) (whole_piece bytes piece end) (soon_longer c.args.plan.now until (bytes ++ slice_range piece 0 end) (slice_range piece end (length piece)) c.in-Ok-Some.told told)
+    let told = rw c.in-Ok-Some.field-0-is at (c.in-Ok-Some.ensures.told base until bytes is) in
+    subst (λ (x : List ℕ). IsSoon base until x c.in-Ok-Some.told) (whole_piece bytes piece end) (soon_longer base until (bytes ++ slice_range piece 0 end) (slice_range piece end (length piece)) c.in-Ok-Some.told told)
 
 pub returns-in-Err-clause-fault : goal.returns-in-Err-clause-fault
-returns-in-Err-clause-fault c = λ until bytes is.
+returns-in-Err-clause-fault c = λ base until bytes is.
     let piece = c.args.piece.now in
     let end = c.whole_lines-end.result in
-    subst (λ (x : List ℕ). IsFaultOf c.args.plan.now.program x c.in-Err.fault) (whole_piece bytes piece end) (fault_longer c.args.plan.now.program (bytes ++ slice_range piece 0 end) (slice_range piece end (length piece)) c.in-Err.fault (c.in-Err.ensures.fault until bytes is))
+    subst (λ (x : List ℕ). IsFaultOf base x c.in-Err.fault) (whole_piece bytes piece end) (fault_longer base (bytes ++ slice_range piece 0 end) (slice_range piece end (length piece)) c.in-Err.fault (c.in-Err.ensures.fault base until bytes is))

@@ -1,42 +1,20 @@
-use Rattle.std.proofs.Common.{◌≡◌, ◌+◌, ◌∙◌, ◌++◌, List, [], Option, length, refl, sym, subst, arith}
-use Rattle.std.proofs.lemmas.List.{length-append}
-use Rattle.lft_tag.specs.declared.Tag.{Tag}
-use Rattle.lft_flat.specs.Parts.{Parts}
-use Rattle.lft_steps.specs.declared.row.Row.{Row}
-use Rattle.lft_log.specs.Logs.{HoldSoFar, IsFront}
-use Rattle.lft_log.specs.Told.{IsSaid}
-use Rattle.lft_log.proofs.Keeping.{all_held, body_held, fault_held, kept_on, soon_held}
+use Rattle.std.proofs.Common.{refl}
+use Rattle.std.proofs.lemmas.Result.{IfOk-weaker, IfErr-weaker}
+use Rattle.lft_log.proofs.Ends.{lines_below}
+use Rattle.lft_log.proofs.Keeping.{begun_as, only_kept}
 use Rattle.lft_log.proofs.log.Log.add_lines.Goals as goal
 
-pub returns-in-Some-fault-clause-fault : goal.returns-in-Some-fault-clause-fault
-returns-in-Some-fault-clause-fault c = λ until bytes is.
-    let plan = c.args.plan.now in
+pub add_body-requires : goal.add_body-requires
+add_body-requires c =
+    let stands = c.requires.stands in
     let body = c.in-Some.body.now in
-    let front = c.in-Ok.front in
-    let held = body_held plan until bytes c.args.lines.now body c.args.self.now is c.in-Some.ensures.begun c.in-Some.ensures.fresh in
-    let fronts = subst (λ (p : Parts). IsFront p body c.args.self.now.rows front) c.program.ensures.value c.in-Ok.ensures in
-    fault_held plan until bytes body is.t c.args.self.now.rows front held fronts is.counted c.in-Some-fault.fault c.in-Some-fault.is
+    record {
+      lines = lines_below c.args.self.now.is_begun c.args.lines.now body c.in-Some.ensures.begun c.in-Some.ensures.fresh c.requires.lines;
+      stands = (stands.0, stands.1, stands.2, begun_as stands.0 c.args.plan.now stands.1 stands.2 c.args.lines.now body c.args.self.now _ refl refl refl refl refl c.in-Some.ensures.begun c.in-Some.ensures.fresh stands.3);
+    }
 
-pub returns-in-Ok-None-clause-told : goal.returns-in-Ok-None-clause-told
-returns-in-Ok-None-clause-told c = λ until bytes is.
-    let plan = c.args.plan.now in
-    let body = c.in-Some.body.now in
-    let front = c.in-Ok.front in
-    let rows = c.as_slice-rows.result.now in
-    let held = body_held plan until bytes c.args.lines.now body c.args.self.now is c.in-Some.ensures.begun c.in-Some.ensures.fresh in
-    let fronts = subst (λ (p : Parts). IsFront p body c.args.self.now.rows front) c.program.ensures.value c.in-Ok.ensures in
-    let on = rw c.in-Ok-None.field-0-is at (c.in-Ok-None.ensures.told is.t is.follower is.asked) in
-    let all = subst (λ (x : List Row). HoldSoFar plan.program bytes (is.t ++ x) []) (sym c.as_slice-rows.ensures.value) (all_held plan until bytes body is.t c.args.self.now.rows front held fronts c.in-None.is) in
-    let long : length (is.t ++ rows) ≡ length is.t + length rows = length-append is.t rows in
-    let before = is.counted in
-    kept_on plan until bytes (is.t ++ rows) _ on.0 (omega arith) (c.in-Ok-None.ensures.until ∙ is.until_is) on.1 refl all
+pub returns-clause-told : goal.returns-clause-told
+returns-clause-told c = IfOk-weaker c.add_body.result _ _ (λ o told base until bytes is. only_kept _ _ _ o (told base until bytes (begun_as base c.args.plan.now until bytes c.args.lines.now c.in-Some.body.now c.args.self.now _ refl refl refl refl refl c.in-Some.ensures.begun c.in-Some.ensures.fresh is))) c.add_body.ensures.told
 
-pub returns-in-Ok-Some-clause-told : goal.returns-in-Ok-Some-clause-told
-returns-in-Ok-Some-clause-told c = λ until bytes is.
-    let plan = c.args.plan.now in
-    let body = c.in-Some.body.now in
-    let front = c.in-Ok.front in
-    let held = body_held plan until bytes c.args.lines.now body c.args.self.now is c.in-Some.ensures.begun c.in-Some.ensures.fresh in
-    let fronts = subst (λ (p : Parts). IsFront p body c.args.self.now.rows front) c.program.ensures.value c.in-Ok.ensures in
-    let x = rw c.in-Ok-Some.field-0-is at (c.in-Ok-Some.ensures.told is.t is.follower is.asked) in
-    soon_held plan until bytes body is.t c.args.self.now.rows front held fronts c.in-Ok-Some.told x.0 x.1 (sym c.as_slice-rows.ensures.value ∙ x.2) (subst (λ (o : Option Tag). IsSaid plan o (is.t ++ x.0) c.in-Ok-Some.told) is.until_is x.3)
+pub returns-clause-fault : goal.returns-clause-fault
+returns-clause-fault c = IfErr-weaker c.add_body.result _ _ (λ f told base until bytes is. told base until bytes (begun_as base c.args.plan.now until bytes c.args.lines.now c.in-Some.body.now c.args.self.now _ refl refl refl refl refl c.in-Some.ensures.begun c.in-Some.ensures.fresh is)) c.add_body.ensures.fault

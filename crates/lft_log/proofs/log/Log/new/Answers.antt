@@ -1,0 +1,21 @@
+use Rattle.std.proofs.Common.{[], refl, sym, subst}
+use Rattle.lft_log.specs.Logs.{HasNoEnd}
+use Rattle.lft_log.proofs.Plans.{told_none}
+use Rattle.lft_log.proofs.log.Log.new.Goals as goal
+
+pub returns : goal.returns
+returns c = record {
+  kept = record {
+    parts = [];
+    told = told_none c.args.plan.now c.keeps.ensures.sound.in_order;
+    timely = tt;
+    follower = c.in_ok-new.ensures;
+    counted = refl;
+    numbered = refl;
+    until_is = c.new-3.ensures.until;
+    asked = c.new-3.ensures.asked;
+    begun = λ e. absurd (cc e);
+    fresh = λ e. (sym c.new-2.ensures.items, refl);
+  };
+  open_line = subst HasNoEnd (sym c.new-2.ensures.items) (λ i e. absurd (cc e));
+}

@@ -1,0 +1,15 @@
+use Rattle.lft_log.specs.declared.input.Input.TheVariants.{Event}
+use Rattle.lft_log.proofs.Plans.{told_event}
+use Rattle.lft_log.proofs.telling.tell_event.Goals as goal
+
+pub returns-in-Ok-Taken-clause-told : goal.returns-in-Ok-Taken-clause-told
+returns-in-Ok-Taken-clause-told c = λ base before told. told_event base before c.args.plan.now c.add_event.new.plan c.args.event (rw c.in-Ok-Taken.field-0-is at c.in-Ok-Taken.ensures.receipt) c.keeps.ensures.sound.in_order told
+
+pub returns-in-Ok-Taken-clause-timely : goal.returns-in-Ok-Taken-clause-timely
+returns-in-Ok-Taken-clause-timely c = λ t is passed. let late = (c.in-Ok-Taken.ensures.late t is).1 passed in absurd (cc (late, c.in-Ok-Taken.field-0-is))
+
+pub returns-in-Ok-Late-clause-fault : goal.returns-in-Ok-Late-clause-fault
+returns-in-Ok-Late-clause-fault c = λ base bytes parts stands told follower numbered. (parts, Event c.args.event, stands, (c.in-Ok-Late.ensures.late _ follower).0 c.in-Ok-Late.field-0-is, numbered)
+
+pub returns-in-Ok-Again-clause-fault : goal.returns-in-Ok-Again-clause-fault
+returns-in-Ok-Again-clause-fault c = λ base bytes parts stands told follower numbered. (parts, c.args.event, stands, (c.args.plan.now, told, (rw c.in-Ok-Again.field-0-is at c.in-Ok-Again.ensures.receipt).1), numbered)
