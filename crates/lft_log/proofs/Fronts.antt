@@ -9,7 +9,7 @@ use Rattle.lft_steps.specs.declared.row.Row.{Row}
 use Rattle.lft_steps.specs.Fits.{RowsFit}
 use Rattle.lft_log.specs.Logs.{AreLines, AreRowLines, IsFront, IsRowFault}
 use Rattle.lft_log.specs.declared.fault.LogFault.{LogFault}
-use Rattle.lft_log.specs.declared.fault.LogFault.TheVariants.{NoHeader, NoRow, NotPlain, LongLine, TooManyRows, NoInput, NotPlainInput, LateInput, InputAgain, TooManyInputs, NoMemory}
+use Rattle.lft_log.specs.declared.fault.LogFault.TheVariants.{NoHeader, NoRow, NotPlain, LongLine, TooManyRows, NoInput, NotPlainInput, LateInput, InputAgain, ManyLater, TooManyInputs, NoMemory}
 use Rattle.lft_log.specs.declared.front.Front.{Front}
 use Rattle.lft_log.proofs.Ends.{lines_both, lines_left}
 
@@ -44,6 +44,7 @@ fault_before program text more number (NoRow e line) x = let b = x.1 in (x.0, (b
 fault_before program text more number (NoInput e line) x = absurd x
 fault_before program text more number (LateInput line) x = absurd x
 fault_before program text more number (InputAgain line) x = absurd x
+fault_before program text more number (ManyLater line) x = absurd x
 fault_before program text more number NoHeader x = tt
 fault_before program text more number (NotPlain line) x = tt
 fault_before program text more number (LongLine line) x = tt

@@ -13,7 +13,7 @@ use Rattle.lft_follow.specs.Follows.{IsFollowerOf, IsPassed}
 use Rattle.lft_log.specs.declared.asked.Asked.{Asked}
 use Rattle.lft_log.specs.declared.fault.LogFault.{LogFault}
 use Rattle.lft_log.specs.declared.front.Front.{Front}
-use Rattle.lft_log.specs.declared.fault.LogFault.TheVariants.{NoHeader, NoRow, NotPlain, LongLine, TooManyRows, NoInput, NotPlainInput, LateInput, InputAgain, TooManyInputs, NoMemory}
+use Rattle.lft_log.specs.declared.fault.LogFault.TheVariants.{NoHeader, NoRow, NotPlain, LongLine, TooManyRows, NoInput, NotPlainInput, LateInput, InputAgain, ManyLater, TooManyInputs, NoMemory}
 use Rattle.lft_log.specs.declared.input.Input.{Input}
 use Rattle.lft_log.specs.declared.input.Input.TheVariants.{Event}
 use Rattle.lft_log.specs.declared.log.Log.{Log}
@@ -99,6 +99,7 @@ module _ (base plan : PlanParts) (until : Option Tag) (bytes lines behind : List
       of_row (NoInput e line) x = absurd x
       of_row (LateInput line) x = absurd x
       of_row (InputAgain line) x = absurd x
+      of_row (ManyLater line) x = absurd x
       of_row NoHeader x = tt
       of_row (NotPlain line) x = tt
       of_row (LongLine line) x = tt
@@ -208,6 +209,7 @@ fault_longer base bytes more (NoRow e line) x = (x.0, behind_longer base.program
 fault_longer base bytes more (NoInput e line) x = (x.0, behind_longer base.program bytes more x.0 (IsNoInput base.program e) x.1, x.2)
 fault_longer base bytes more (LateInput line) x = (x.0, x.1, behind_longer base.program bytes more x.0 (IsInputLine base.program x.1) x.2, x.3, x.4)
 fault_longer base bytes more (InputAgain line) x = (x.0, x.1, behind_longer base.program bytes more x.0 (IsInputLine base.program (Event x.1)) x.2, x.3, x.4)
+fault_longer base bytes more (ManyLater line) x = (x.0, x.1, behind_longer base.program bytes more x.0 (IsInputLine base.program (Event x.1)) x.2, x.3, x.4)
 fault_longer base bytes more NoHeader x = tt
 fault_longer base bytes more (NotPlain line) x = tt
 fault_longer base bytes more (LongLine line) x = tt

@@ -14,7 +14,7 @@ use Rattle.lft_steps.specs.Inputs.{ExternalInputs}
 use Rattle.lft_steps.specs.Fits.{RowsFit}
 use Rattle.lft_follow.specs.Follows.{IsPassed}
 use Rattle.lft_log.specs.declared.fault.LogFault.{LogFault}
-use Rattle.lft_log.specs.declared.fault.LogFault.TheVariants.{NoRow, NoInput, LateInput, InputAgain}
+use Rattle.lft_log.specs.declared.fault.LogFault.TheVariants.{NoRow, NoInput, LateInput, InputAgain, ManyLater}
 use Rattle.lft_log.specs.declared.front.Front.{Front}
 use Rattle.lft_log.specs.declared.input.Input.{Input}
 use Rattle.lft_log.specs.declared.input.Input.TheVariants.{Event, Stop}
@@ -144,6 +144,7 @@ IsRowFault program text number (NoRow e line) = (line ≡ number) × BeginsWithL
 IsRowFault program text number (NoInput e line) = ⊥
 IsRowFault program text number (LateInput line) = ⊥
 IsRowFault program text number (InputAgain line) = ⊥
+IsRowFault program text number (ManyLater line) = ⊥
 IsRowFault program text number f = Unit {0}
 
 -- the front's rows are those of the lines up to its end, behind so many others; it is the end of all where there is no fault, and where there is one, it is of the next line

@@ -13,11 +13,11 @@ use Rattle.lft_model.specs.Breaches.{First}
 use Rattle.lft_rows.specs.Accepted.{IsAccepted}
 use Rattle.lft_follow.specs.declared.judged.Ending.TheVariants as ending
 use Rattle.lft_follow.specs.declared.follower.Follower.{Follower}
-use Rattle.lft_follow.specs.Follows.{IsFollowerOf, IsSureSoFar, IsCleanTo, IsClean, IsJudged, IsPassed, breach_of}
+use Rattle.lft_follow.specs.Follows.{HasManyLater, IsFollowerOf, IsSureSoFar, IsCleanTo, IsClean, IsJudged, IsPassed, breach_of}
 use Rattle.lft_log.specs.Logs.{AreTimely, BeginsWithLine, HasNoEnd, HoldSoFar, IsInputLine, IsNoInput, IsNoRow, Part, inputs, rows, tag_of}
 use Rattle.lft_log.specs.declared.asked.Asked.{Asked}
 use Rattle.lft_log.specs.declared.fault.LogFault.{LogFault}
-use Rattle.lft_log.specs.declared.fault.LogFault.TheVariants.{NoRow, NoInput, LateInput, InputAgain}
+use Rattle.lft_log.specs.declared.fault.LogFault.TheVariants.{NoRow, NoInput, LateInput, InputAgain, ManyLater}
 use Rattle.lft_log.specs.declared.input.Input.{Input}
 use Rattle.lft_log.specs.declared.input.Input.TheVariants.{Event, Stop}
 use Rattle.lft_log.specs.declared.log.Log.{Log}
@@ -89,12 +89,13 @@ IsEnded base until whole bytes told = IsFinal base until whole bytes told ⊎ Is
 abbrev pub StandsBehind : Parts → List ℕ → List Part → (List ℕ → Type 0) → Type 0
 StandsBehind program bytes parts P = (rest : List ℕ) × HoldSoFar program bytes parts rest × BeginsWithLine P rest
 
--- the fault of a line behind the parts of a log, with its number among rows or among external inputs: it is no row, no external input, one behind a row at a later tag, or an event that is there already
+-- the fault of a line behind the parts of a log, with its number among rows or among external inputs: it is no row, no external input, one behind a row at a later tag, or an event that is there already, or before too many others
 abbrev pub IsFaultOf : PlanParts → List ℕ → LogFault → Type 0
 IsFaultOf base bytes (NoRow e line) = (parts : List Part) × StandsBehind base.program bytes parts (IsNoRow base.program e) × (line ≡ length (rows parts) + 2)
 IsFaultOf base bytes (NoInput e line) = (parts : List Part) × StandsBehind base.program bytes parts (IsNoInput base.program e) × (line ≡ length (inputs parts) + 2)
 IsFaultOf base bytes (LateInput line) = (parts : List Part) × (input : Input) × StandsBehind base.program bytes parts (IsInputLine base.program input) × IsPassed (rows parts) (tag_of input) × (line ≡ length (inputs parts) + 2)
 IsFaultOf base bytes (InputAgain line) = (parts : List Part) × (event : EventOf) × StandsBehind base.program bytes parts (IsInputLine base.program (Event event)) × ((plan : PlanParts) × HasTold base (inputs parts) plan × IsTold plan.externals.events event) × (line ≡ length (inputs parts) + 2)
+IsFaultOf base bytes (ManyLater line) = (parts : List Part) × (event : EventOf) × StandsBehind base.program bytes parts (IsInputLine base.program (Event event)) × ((plan : PlanParts) × HasTold base (inputs parts) plan × HasManyLater plan.externals.events event.tag) × (line ≡ length (inputs parts) + 2)
 IsFaultOf base bytes f = Unit {0}
 
 -- the fault is that of a log whose next line is this one, of this number

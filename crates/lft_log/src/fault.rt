@@ -25,6 +25,9 @@ pub enum LogFault {
     LateInput(u64),
     /// An event of the line's action at the line's tag is there already.
     InputAgain(u64),
+    /// The line is that of an event before which more than 65,536 others would have to be moved, which are
+    /// at later tags.
+    ManyLater(u64),
     /// There are 4,000,000 external events, or more lines of external inputs came than are counted. The
     /// events are kept for ever, in 32 bytes each.
     TooManyInputs,

@@ -115,6 +115,7 @@ fn fault_of(alloc: Global, fault: LogFault) -> Fault
         }
         LogFault::LateInput(line) => fault_of_input(alloc, 13, "LateExternal", line),
         LogFault::InputAgain(line) => fault_of_input(alloc, 7, "DuplicateExternal", line),
+        LogFault::ManyLater(line) => fault_of_input(alloc, 15, "ManyLater", line),
         LogFault::NotPlainInput(line) => fault_of_input(alloc, 14, "NotPlain", line),
         LogFault::TooManyInputs => Fault::plain(Part::Externals, 10, "TooManyRows"),
         LogFault::NoMemory => Fault::no_memory(),
