@@ -1,18 +1,37 @@
 //! `follow`: a trace that is judged while it is written.
 
 use crate::words::FollowWords;
-use crate::{end, say};
+use crate::{await_text, end, say};
 use lft_files::{Failure, open_file, read_file};
+use lft_front::Part;
 use lft_monitor::{drain, follow_log, status_of_log};
 use std::alloc::Global;
 use std::io::{Read, Write};
 use std::process::ExitCode;
 
+/// External inputs where no table of them is given: no event, and the greatest stop. The log may tell more.
+const NO_EXTERNALS: &[u8] =
+    b"kind,time,microstep,name,value\nstop,1000000000000000000,1000000000,,\n";
+
+/// What is said at a terminal below the line of the fault, where it helps. A log in the place of EXTERNALS has
+/// another header.
+fn words_for(failure: &Failure) -> Option<&'static str> {
+    if failure.cause.is_some() {
+        return failure.cause;
+    }
+    match failure.fault.part {
+        Part::Externals if failure.fault.number == 1 => {
+            Some("a log that has its external inputs: `lftrace follow PROGRAM < LOG`")
+        }
+        _ => None,
+    }
+}
+
 /// Says why a trace can't be followed, and gives the status.
 fn end_failed(rt: &HostRuntime, alloc: Global, failure: Failure) -> u8 {
-    let cause = failure.cause;
+    let words = words_for(&failure);
     let status = end(rt, alloc, Err(failure));
-    say(rt, cause);
+    say(rt, words);
     status
 }
 
@@ -54,14 +73,24 @@ fn follow_files<W: Write>(
     out: &mut W,
 ) -> Result<u8, Failure> {
     let program = read_file(rt, alloc, words.program)?;
-    let externals = read_file(rt, alloc, words.externals)?;
-    let texts = (program.as_slice(), externals.as_slice());
+    let table = match words.externals {
+        Some(path) => Some(read_file(rt, alloc, path)?),
+        None => None,
+    };
+    let externals = match &table {
+        Some(table) => table.as_slice(),
+        None => NO_EXTERNALS,
+    };
+    let texts = (program.as_slice(), externals);
     let status = match words.log {
         Some(path) => {
             let mut file = open_file(rt, alloc, path)?;
             follow_reader(rt, alloc, texts, words, &mut file, out)
         }
-        None => follow_reader(rt, alloc, texts, words, &mut rt.stdin(), out),
+        None => {
+            await_text(rt, "a log");
+            follow_reader(rt, alloc, texts, words, &mut rt.stdin(), out)
+        }
     };
     Ok(status)
 }

@@ -265,11 +265,11 @@ fn explain_bundle<T: Threads + Sync, R: Read, W: Write>(
     Ok(answer)
 }
 
-/// Says at a terminal that a bundle is awaited.
-fn await_bundle(rt: &HostRuntime) {
+/// Says at a terminal what is awaited.
+pub(crate) fn await_text(rt: &HostRuntime, what: &str) {
     if rt.stdin().is_terminal() {
         let _ = eprintln!(rt;
-            "lftrace: reading a bundle from standard input; `lftrace --help` tells more"
+            "lftrace: reading {what} from standard input; `lftrace --help` tells more"
         );
     }
 }
@@ -405,11 +405,11 @@ fn main(rt: HostRuntime) -> ExitCode {
     let mut out = io::writer(&rt);
     let answer = match job {
         Job::Bundle => {
-            await_bundle(&rt);
+            await_text(&rt, "a bundle");
             judge_bundle(alloc, &mut rt.stdin(), &mut out)
         }
         Job::ExplainBundle { all } => {
-            await_bundle(&rt);
+            await_text(&rt, "a bundle");
             explain_bundle(&rt, alloc, &mut rt.stdin(), all, &mut out)
         }
         Job::Ask { question, names } => {

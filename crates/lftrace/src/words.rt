@@ -57,6 +57,8 @@ const FOLLOW_HELP: &str = "\
 EXTERNALS has the header  kind,time,microstep,name,value
 LOG has the header        event,worker,time,microstep,reaction,name,value,delay
 Times are in nanoseconds. Words are paths of files; without LOG it is standard input.
+LOG may have lines of EXTERNALS among its rows: an event before rows at later tags, and
+an earlier stop. Without EXTERNALS it has all of them: lftrace follow PROGRAM < LOG.
 Its lines are plain: without quotation marks. Nothing is read behind what is told.
 Printed: accepted runs=R tags=G (status 0); broken rule=N .. (status 1), as soon as
 it is sure; odd line=L runs=R tags=G .. (status 4), where the rows up to line L
@@ -104,11 +106,12 @@ pub struct RecordWords<'a> {
     pub max_runs: u32,
 }
 
-/// The words of `follow`: two or three paths, and how the table is followed.
+/// The words of `follow`: up to three paths, and how the log is followed.
 #[derive(Clone, Copy)]
 pub struct FollowWords<'a> {
     pub program: &'a str,
-    pub externals: &'a str,
+    /// Where there is none, the log has all external inputs.
+    pub externals: Option<&'a str>,
     /// None is standard input.
     pub log: Option<&'a str>,
     pub following: Following,
@@ -302,6 +305,11 @@ fn until_arg<'a>(alloc: Global, help: &'a str) -> Arg<'a> {
         .help(help)
 }
 
+/// The help of the table of external inputs of `follow`, which may be left out.
+const EXTERNALS_HELP: &str = "the table of external inputs, where the log hasn't all of them";
+/// The help of the log, which may be left out too.
+const LOG_HELP: &str = "the trace table, among whose rows external inputs may stand";
+
 fn follow_command<'a>(alloc: Global) -> Result<Command<'a>, Error> {
     let until = until_arg(
         alloc,
@@ -326,8 +334,8 @@ fn follow_command<'a>(alloc: Global) -> Result<Command<'a>, Error> {
     let command = Command::new(alloc, "follow")
         .about("Judges a trace while it is written, and forgets the rows of finished tags")
         .arg(path(alloc, "PROGRAM", "the program's text"))?
-        .arg(path(alloc, "EXTERNALS", "the table of external inputs"))?
-        .arg(path(alloc, "LOG", "the trace table").required(false))?
+        .arg(path(alloc, "EXTERNALS", EXTERNALS_HELP).required(false))?
+        .arg(path(alloc, "LOG", LOG_HELP).required(false))?
         .arg(until)?
         .arg(whole)?
         .arg(every)?
@@ -459,7 +467,7 @@ fn judge_job<'a>(alloc: Global, matches: &ArgMatches<'a>) -> Result<Job<'a>, Err
     match until(command, matches)? {
         Some(tag) => Ok(Job::Follow(FollowWords {
             program: words.program,
-            externals: words.externals,
+            externals: Some(words.externals),
             log: Some(words.trace),
             following: Following {
                 until: Some(tag),
@@ -487,7 +495,7 @@ fn follow_words<'a>(alloc: Global, matches: &ArgMatches<'a>) -> Result<FollowWor
     let every = matches.get_one::<u64>("every").unwrap_or(0);
     Ok(FollowWords {
         program: text(matches, "PROGRAM"),
-        externals: text(matches, "EXTERNALS"),
+        externals: given(matches, "EXTERNALS"),
         log: given(matches, "LOG"),
         following: Following {
             until,
