@@ -25,8 +25,9 @@ error, and `status N`.
 - `refused-externals`, `refused-trace`: the same of a whole table of what is given. `refused-bundle`: of a bundle.
 - `record WORKERS MAX_RUNS`: of the rows of a table of cards. Behind the status of a recording that came to its
   stop stands what `judge` says of it.
-- `follow`: of the rows of a trace table that is followed, with the words beside the kind, as `--until 5,0`. What is
-  told where it comes from standard input, a byte at a time, is told only where it is something else.
+- `follow`: of the rows and external inputs of a log that is followed, with the words beside the kind, as
+  `--until 5,0`. What is told where it comes from standard input, a byte at a time, is told only where it is something
+  else. `follow-alone`: of one on standard input without a table of external inputs.
 - `recordings TIMES WORKERS`: what `judge` says of so many recordings by so many workers, and of how many it says so.
 - `fronts PLACE`: what is told of each front of a text, from none of its bytes to all. It stands in the place of
   the given `program`, `externals` or `trace`, which are judged by one worker and by three, or it is the table of
@@ -169,15 +170,17 @@ def explained_pair(runs, case):
     return told if case.words else told + with_all(runs, texts, told)
 
 
-def followed(runs, case, table):
-    """What is told of a trace table that is followed."""
-    texts, words = texts_of(case), case.words.split() if case.words else []
-    told = whole(runs.ask("follow", [*texts, table], *words))
-    paths = [runs.folder / str(place) for place in range(2)]
+def followed(runs, case, log, is_alone=False):
+    """What is told of a log that is followed."""
+    texts, words = texts_of(case)[:1 if is_alone else 2], case.words.split() if case.words else []
+    paths = [runs.folder / str(place) for place in range(len(texts))]
+    for path, text in zip(paths, texts):
+        path.write_bytes(text)
+    told = whole(runs.read(log, "follow", *paths, *words) if is_alone else runs.ask("follow", [*texts, log], *words))
     with subprocess.Popen([runs.program, "follow", *paths, *words], stdin=subprocess.PIPE, stdout=subprocess.PIPE, stderr=subprocess.PIPE) as child:
         try:
-            for place in range(len(table)):
-                os.write(child.stdin.fileno(), table[place:place + 1])
+            for place in range(len(log)):
+                os.write(child.stdin.fileno(), log[place:place + 1])
         except BrokenPipeError:
             pass
         out, err = child.communicate(timeout=300)
@@ -290,6 +293,7 @@ KINDS = {
     "refused-trace": lambda runs, case: refused(runs.ask("explain", [*texts_of(case), case.text])),
     "refused-bundle": lambda runs, case: refused(runs.read(case.text, "explain")),
     "follow": lambda runs, case: followed(runs, case, HEADERS["trace"] + case.text),
+    "follow-alone": lambda runs, case: followed(runs, case, HEADERS["trace"] + case.text, True),
     "follow-text": lambda runs, case: followed(runs, case, case.text),
     "record": lambda runs, case: recorded(runs, case, HEADERS["cards"] + case.text),
     "record-text": lambda runs, case: recorded(runs, case, case.text),

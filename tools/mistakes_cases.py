@@ -188,11 +188,19 @@ def follows():
     case("an empty trace, followed", usual, fault("trace 1 BadHeader"), stdin="")
     case("a name with quotation marks, followed", usual, fault("trace 14 NotPlain line=2"), stdin=ROWS.replace("main#1", '"main#1"', 1))
     case("a line without an end, followed", usual, fault("trace 13 LongLine line=2"), stdin=HEADER + "\n" + "x" * 2_000_000)
-    case("the events in the log, followed", usual, fault("trace 2 BadFieldCount line=2"), stdin=ROWS.replace("start", "event,0,0,main.a,7\nstart", 1))
+    case("an event of no action in the log", usual, fault("externals 5 UnknownName line=2"), stdin=ROWS.replace("start", "event,0,0,main.a,7\nstart", 1))
+    case("a row that lacks its end, in the log", usual, fault("trace 2 BadFieldCount line=2"), stdin=ROWS.replace("start,0,0,0,main#1,,,", "start,0,0,0,main#1", 1))
+    case("the stop in the log", ["follow", "blink.lf"], prints(ACCEPTED), stdin=ROWS + "stop,10000000,0,,\n")
+    case("the stop in a log in which it is too late", ["follow", "blink.lf"], fault("externals 13 LateExternal line=2"), stdin=ROWS + "stop,9999999,0,,\n")
+    case("no stop, followed", ["follow", "blink.lf"], prints("unbroken runs=6 tags=3 time=10000000 microstep=0\n", 3), stdin=ROWS)
+    case("a log in the place of the external inputs", ["follow", "blink.lf", "trace.csv"], fault("externals 1 BadHeader"))
+    hint = "lftrace: a log that has its external inputs: `lftrace follow PROGRAM < LOG`\n"
+    case("a log in the place of the external inputs, at a terminal", ["follow", "blink.lf", "trace.csv"], {"status": 2, "out": "", "err": f"fault externals 1 BadHeader\n{hint}"}, where="seen")
+    case("a log that is typed at a terminal", ["follow", "blink.lf"], {"status": 2, "out": "", "err": WAITING.replace("a bundle", "a log") + "fault trace 1 BadHeader\n"}, where="terminal")
     case("a log that isn't there", [*usual, "nothing.csv"], fault("read 1 Failed nothing.csv"))
     case("a tag without a microstep", [*usual, "--until", "5000000"], refused("error: `--until` wants TIME,MICROSTEP, as 5000000,0\n"))
     case("a tag with a unit", [*usual, "--until", "5 ms,0"], refused("error: `--until` wants TIME,MICROSTEP, as 5000000,0\n"))
-    case("no external inputs, followed", ["follow", "blink.lf"], refused("error: the following required arguments were not provided:\n  <EXTERNALS>\n"))
+    case("no program, followed", ["follow"], refused("error: the following required arguments were not provided:\n  <PROGRAM>\n"))
     case("two logs", [*usual, "trace.csv", "trace.csv"], refused("error: unexpected argument 'trace.csv' found\n"))
 
 

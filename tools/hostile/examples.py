@@ -30,6 +30,13 @@ main reactor { p = new S()  q = new S() }
 """
 ONE = "main reactor { reaction(startup, shutdown) {= =} }\n"
 EMPTY = "main reactor { }\n"
+KEY = "main reactor { physical action key: int  reaction(key) {= =} }\n"
+KEY_LOG = """event,5,0,main.key,7
+start,0,5,0,main#1,,,
+read,0,5,0,main#1,main.key,7,
+end,0,5,0,main#1,,,
+stop,5,0,,
+"""
 PIPE_ROWS = """start,0,0,0,main.a#1,,,
 write,0,0,0,main.a#1,main.a.out,1,
 end,0,0,0,main.a#1,,,
@@ -275,6 +282,10 @@ def all_followed():
     judged("one run, unended, followed", ONE, stop(0, 0), "start,0,0,0,main#1,,,\n", "unbroken runs=0 tags=0", 3, command="follow")
     later = PIPE_ROWS.replace(",0,0,main", ",10000000,0,main")
     judged("pipe wrong read, followed", PIPE, stop(10**7, 0), WRONG_READ + later, f"broken rule=10 wrong-read {AT_ZERO} reaction=main.b#1", 1, command="follow")
+    judged("events in the log, followed", KEY, stop(10**18, 0), KEY_LOG, "accepted runs=1 tags=1", command="follow")
+    judged("a late event in the log, followed", KEY, stop(10**18, 0), KEY_LOG + "event,4,0,main.key,7\n", "fault externals 13 LateExternal line=4", command="follow")
+    example("the log alone, followed", "follow", {"program.lf": KEY}, "accepted runs=1 tags=1\n")
+    EXAMPLES[-1].stdin = table("trace", KEY_LOG).encode()
     judged("one run, twice, followed", ONE, stop(0, 0), ONE_ROWS * 2, f"broken rule=3 order line=4 {AT_ZERO} reaction=main#1", 1, command="follow")
 
 

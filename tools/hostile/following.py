@@ -1,11 +1,19 @@
-"""What `lftrace follow` tells of a trace table, reckoned from docs/FORMATS.md and not from the code.
+"""What `lftrace follow` tells of a log, reckoned from docs/FORMATS.md and not from the code.
 
-It goes row by row, and asks the rows up to the last finished tag as a whole each time.
+It goes row by row, and asks the rows up to the last finished tag as a whole each time, with the external inputs that
+were told by then.
 """
+import collections
+import dataclasses
+
 from hostile import tables
-from hostile.machine import Events, at_tag, breach_line, row_breach, runs_of, tag_breach, verdict
+from hostile.machine import Events, Plan, at_tag, breach_line, row_breach, runs_of, tag_breach, verdict
 
 HEADER = tables.HEADERS["trace"].encode()
+EXTERNALS = tables.HEADERS["externals"].encode()
+# The rows of a log up to the first line that is none, with the plan that was told when each came, and in the end; that
+# line's fault, and whether a half line is left.
+Log = collections.namedtuple("Log", "rows plans fault has_rest")
 
 
 def is_whole(line):
@@ -13,24 +21,66 @@ def is_whole(line):
     return line.count(b",") == 7 and line.endswith(b",") and not line.startswith(b"schedule,")
 
 
-def rows_before_fault(flat, text):
-    """The rows of a table up to the first line that is none, that line's fault, and whether a half line is left."""
+def is_external(line):
+    """Whether a line is of the table of external inputs: of no row, or a stop of five parts."""
+    return line.startswith(b"event,") or line.startswith(b"stop,") and line.count(b",") == 4
+
+
+def is_table(text):
+    """Whether no line of a text is of the table of external inputs."""
+    return not any(map(is_external, text.split(b"\n")))
+
+
+def told_external(plan, line, rows, number):
+    """The plan behind a line of an event or a stop."""
+    end = b"" if line.startswith(b"stop,") else b"\nstop,0,0,,"
+    try:
+        stop, events = tables.read_externals(plan.flat, EXTERNALS + b"\n" + line + end)
+    except tables.Refused as fault:
+        raise tables.Refused(str(fault).replace("line=2", f"line={number}")) from None
+    last = max((row.tag for row in rows), default=(0, 0))
+    if min([*(tag for tag, _ in events), *([] if events else [stop])]) < last:
+        raise tables.Refused(f"externals 13 LateExternal line={number}")
+    if events.keys() & plan.externals.keys():
+        raise tables.Refused(f"externals 7 DuplicateExternal line={number}")
+    return dataclasses.replace(plan, stop=plan.stop if events else min(plan.stop, stop), externals={**plan.externals, **events})
+
+
+def read_line(plan, line, rows, told):
+    """The row of a line, or the plan behind it. So many lines of external inputs stand before it."""
+    part, number = ("externals", told + 2) if is_external(line) else ("trace", len(rows) + 2)
+    if b"\"" in line or b"\r" in line:
+        raise tables.Refused(f"{part} 14 NotPlain line={number}")
+    if part == "externals":
+        return told_external(plan, line, rows, number)
+    try:
+        return tables.read_trace(plan.flat, HEADER + b"\n" + line)[0]
+    except tables.Refused as fault:
+        raise tables.Refused(str(fault).replace("line=2", f"line={number}")) from None
+
+
+def read_log(plan, text):
+    """What a text has as a log, where a plan has the external inputs that are known before."""
     *lines, rest = text.split(b"\n")
     if is_whole(rest):
         lines, rest = [*lines, rest], b""
     if not lines or lines[0].removesuffix(b"\r") != HEADER:
-        return [], "trace 1 BadHeader", False
-    rows = []
+        return Log([], [plan], "trace 1 BadHeader", False)
+    rows, plans, told = [], [plan], 0
     for line in (one.removesuffix(b"\r") for one in lines[1:]):
         if not line:
             continue
-        if b"\"" in line or b"\r" in line:
-            return rows, f"trace 14 NotPlain line={len(rows) + 2}", False
         try:
-            rows += tables.read_trace(flat, HEADER + b"\n" + line)
+            read = read_line(plans[-1], line, rows, told)
         except tables.Refused as fault:
-            return rows, str(fault).replace("line=2", f"line={len(rows) + 2}"), False
-    return rows, "", bool(rest)
+            return Log(rows, plans, str(fault), False)
+        if isinstance(read, Plan):
+            plans[-1] = read
+            told += 1
+        else:
+            rows.append(read)
+            plans.append(plans[-1])
+    return Log(rows, plans, "", bool(rest))
 
 
 def before_last(rows):
@@ -67,10 +117,10 @@ def is_clean(plan, rows):
     return True
 
 
-def first_bad(plan, rows):
+def first_bad(rows, plans):
     """The first row behind which a rule from 1 to 5 is sure to be broken: its place, the rule and that rule's row."""
     for place, row in enumerate(rows):
-        before = rows[:place]
+        before, plan = rows[:place], plans[place]
         if before and row.tag > before[-1].tag:
             lost = row_breach(plan, before, (5,))
             if lost and lost[2] < row.tag:
@@ -99,28 +149,28 @@ def asked(rows, until):
     return rows, False
 
 
-def finished(rows):
-    """The rows at finished tags and the tag behind them, each time that one more tag is finished."""
+def finished(rows, plans):
+    """The rows at finished tags, and the plan, each time that one more tag is finished."""
     for place in range(1, len(rows)):
         if rows[place].tag > rows[place - 1].tag:
-            yield rows[:place], rows[place].tag
+            yield rows[:place], plans[place]
 
 
-def first_broken(plan, rows):
+def first_broken(rows, plans):
     """The first rule from 6 to 10 that is told to be broken. A run that is missing behind the last finished tag, or
     two events that meet there, are told once one more tag is finished."""
-    return next((tag_breach(plan, front) for front, _ in finished(rows) if not is_clean(plan, front)), None)
+    return next((tag_breach(plan, front) for front, plan in finished(rows, plans) if not is_clean(plan, front)), None)
 
 
-def told(plan, flat, text, until=None, whole=False):
-    """The line of `lftrace follow` and the status."""
-    rows, fault, has_rest = rows_before_fault(flat, text)
-    rows, is_past = asked(rows, until)
-    bad = first_bad(plan, rows)
-    breach = first_broken(plan, rows[:bad[0]] if bad else rows)
+def told(plan, text, until=None, whole=False):
+    """The line of `lftrace follow` and the status. The plan has the external inputs that are known before."""
+    log = read_log(plan, text)
+    rows, is_past = asked(log.rows, until)
+    bad = first_bad(rows, log.plans)
+    breach = first_broken(rows[:bad[0]] if bad else rows, log.plans)
     if breach:
         return breach_line(plan, breach), 1
-    return told_of_clean(plan, rows, bad, is_past, fault, has_rest, whole)
+    return told_of_clean(log.plans[-1], rows, bad, is_past, log.fault, log.has_rest, whole)
 
 
 def told_of_clean(plan, rows, bad, is_past, fault, has_rest, whole):
