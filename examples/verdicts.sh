@@ -66,10 +66,9 @@ verdict() {
   [ $status -le 1 ]
 }
 
-# follow PROGRAM EXTERNALS: prints what is told of a log of standard input while it comes. Its external inputs are left
-# out: `lftrace follow` has to know them from the beginning.
+# follow PROGRAM: prints what is told of a log of standard input while it comes.
 follow() {
-  told=$(grep --line-buffered -E '^([^,]*,){7}' | limited "$lftrace" follow "$@" 2>&1)
+  told=$(limited "$lftrace" follow "$1" 2>&1)
   case $?,$told in
     '0,accepted '* | '1,broken '* | '3,unbroken '* | '4,odd '*) echo "$told" ;;
     *) echo "follow: $told" ;;

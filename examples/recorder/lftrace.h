@@ -21,7 +21,7 @@
 
    Of a run that hangs lft_save_front writes the rows so far. A watchdog calls it where lft_rows stands still.
 
-   A run of any length is written while it runs, as one log of both tables:
+   A run of any length is written while it runs, as one log of both tables, which lftrace follow reads:
 
      lft_follow_to(log, stdout);     before the workers begin
      lft_flush(log);                 the runtime goes on to the next tag

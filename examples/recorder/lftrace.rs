@@ -4,8 +4,9 @@
 //! order. `lftrace.h` says why a relaxed counter is enough. A worker locks its rows for one push. No code of a reaction
 //! runs there, so [`Log::save_front`] and [`Log::flush`] can be called while workers hang.
 //!
-//! A run of any length is written while it runs, as one log of both tables: [`Log::follow`] before the workers begin,
-//! [`Log::flush`] where the runtime goes on to the next tag, and [`Log::finish`] in place of [`Log::save`].
+//! A run of any length is written while it runs, as one log of both tables, which `lftrace follow` reads: [`Log::follow`]
+//! before the workers begin, [`Log::flush`] where the runtime goes on to the next tag, and [`Log::finish`] in place of
+//! [`Log::save`].
 
 #![allow(dead_code)] // a runtime may need a part of it
 
