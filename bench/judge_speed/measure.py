@@ -28,13 +28,14 @@ class Run:
     """The least wall time of a command so far, in ms, its user and system time in that run and in each, and
     the greatest peak of memory in kB."""
 
-    def __init__(self, words):
+    def __init__(self, words, stdin=os.devnull):
         self.words, self.wall, self.busy, self.peak, self.said = words, float("inf"), 0, 0, None
-        self.each_busy = []
+        self.stdin, self.each_busy = stdin, []
 
     def turn(self):
         start = time.perf_counter()
-        child = subprocess.Popen(self.words, stdout=subprocess.PIPE)
+        with open(self.stdin, "rb") as stdin:
+            child = subprocess.Popen(self.words, stdin=stdin, stdout=subprocess.PIPE)
         said = child.stdout.read().decode()
         _, status, used = os.wait4(child.pid, 0)
         wall = (time.perf_counter() - start) * 1000
@@ -81,6 +82,32 @@ class Tables:
                 file.write(made.stdout)
         with open(told) as file:
             return file.read()
+
+
+def tag_of(fields):
+    return int(fields[0]), int(fields[1])
+
+
+def log_of(tables):
+    """The path of one log of a shape, made once: each event stands before the first row at its tag or a later one."""
+    _, externals, trace = tables.paths
+    log = os.path.join(tables.folder, "log.csv")
+    if os.path.exists(log):
+        return log
+    with open(externals) as file:
+        lines = file.readlines()[1:]
+    events = sorted((line for line in lines if line.startswith("event,")), key=lambda line: tag_of(line.split(",")[1:3]))
+    waiting = events[::-1]
+    with open(trace) as rows, open(log + ".part", "w") as file:
+        file.write(next(rows))
+        for row in rows:
+            tag = tag_of(row.split(",", 4)[2:4])
+            while waiting and tag_of(waiting[-1].split(",")[1:3]) <= tag:
+                file.write(waiting.pop())
+            file.write(row)
+        file.writelines(waiting[::-1] + [line for line in lines if line.startswith("stop,")])
+    os.rename(log + ".part", log)
+    return log
 
 
 def say_program(path, workers, which, turns):
@@ -179,22 +206,26 @@ def cover_all(options):
 
 
 def follow_all(options):
-    """`lftrace follow` of the same file beside `lftrace judge`, in turn. Each ratio is one of processor time in one turn."""
-    form = "{:10} {:>8} {:>6} {:>7} {:>7} {:>8} {:>12} {:>10} {:>13} {:>14}"
-    print(form.format("shape", "rows", "MB", "judge", "follow", "by judge", "least, most", "rows/s", "judge peak MB", "follow peak MB"))
+    """`lftrace follow` of the same file and of one log beside `lftrace judge`, in turn. Each ratio is one of processor
+    time in one turn."""
+    form = "{:10} {:>8} {:>6} {:>7} {:>7} {:>7} {:>8} {:>12} {:>13} {:>10} {:>13} {:>14} {:>11}"
+    print(form.format("shape", "rows", "MB", "judge", "follow", "log", "by judge", "least, most", "log by follow", "rows/s", "judge peak MB", "follow peak MB", "log peak MB"))
     missed = []
     for shape in options.shapes:
         tables = Tables(options, options.rows, shape)
         judge = Run([options.lftrace, "judge", *tables.paths, "--workers", options.workers])
         follow = Run([options.lftrace, "follow", *tables.paths])
-        take_turns([judge, follow], options.turns)
-        if follow.said != judge.said:
-            print(f"{shape}: unlike {judge.said!r}: {follow.said!r}")
-        ratios = [ours / theirs for ours, theirs in zip(follow.each_busy, judge.each_busy)]
-        times, by_judge = [statistics.median(run.each_busy) for run in (judge, follow)], statistics.median(ratios)
+        log = Run([options.lftrace, "follow", tables.paths[0]], log_of(tables))
+        take_turns([judge, follow, log], options.turns)
+        for run in (follow, log):
+            if run.said != judge.said:
+                print(f"{shape}: unlike {judge.said!r}: {run.said!r}")
+        ratios, by_follow = ([ours / theirs for ours, theirs in zip(*pair)] for pair in ((follow.each_busy, judge.each_busy), (log.each_busy, follow.each_busy)))
+        times, by_judge = [statistics.median(run.each_busy) for run in (judge, follow, log)], statistics.median(ratios)
         print(form.format(
             shape, tables.rows, f"{sum(tables.bytes) / 1e6:.0f}", *(f"{time:.0f}" for time in times), f"{by_judge:.2f}",
-            f"{min(ratios):.2f}, {max(ratios):.2f}", f"{tables.rows / times[1] * 1000:.0f}", f"{judge.peak / 1e3:.0f}", f"{follow.peak / 1e3:.0f}"), flush=True)
+            f"{min(ratios):.2f}, {max(ratios):.2f}", f"{statistics.median(by_follow):.2f}", f"{tables.rows / times[1] * 1000:.0f}",
+            *(f"{run.peak / 1e3:.0f}" for run in (judge, follow, log))), flush=True)
         if shape in ORDINARY and by_judge > MOST_BY_JUDGE["follow"]:
             missed.append(f"{shape}: by judge {by_judge:.2f}, at most {MOST_BY_JUDGE['follow']}")
     print("goals missed:" if missed else "no goal missed", *missed, sep="\n  ")
