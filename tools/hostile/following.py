@@ -18,7 +18,8 @@ Log = collections.namedtuple("Log", "rows plans fault has_rest")
 
 def is_whole(line):
     """Whether nothing can be missing of a last line without its end."""
-    return line.count(b",") == 7 and line.endswith(b",") and not line.startswith(b"schedule,")
+    is_stop = line.startswith(b"stop,") and line.count(b",") == 4 and line.endswith(b",,")
+    return is_stop or line.count(b",") == 7 and line.endswith(b",") and not line.startswith(b"schedule,")
 
 
 def is_external(line):
