@@ -15,6 +15,7 @@ CORNERS = {
 }
 MOST_BY_CSV, MOST_BY_TENTH, MOST_BYTES, MOST_BY_ORDINARY = 2.5, 12, 110, 5
 MOST_BY_JUDGE = {"cover": 1.5, "follow": 1.0}
+MOST_BY_FOLLOW = 1.2
 MOST_BY_DENSE = {"timers": 3, "equal": 3}
 
 # The rows of a small table.
@@ -221,13 +222,13 @@ def follow_all(options):
             if run.said != judge.said:
                 print(f"{shape}: unlike {judge.said!r}: {run.said!r}")
         ratios, by_follow = ([ours / theirs for ours, theirs in zip(*pair)] for pair in ((follow.each_busy, judge.each_busy), (log.each_busy, follow.each_busy)))
-        times, by_judge = [statistics.median(run.each_busy) for run in (judge, follow, log)], statistics.median(ratios)
+        times, by_judge, log_by_follow = [statistics.median(run.each_busy) for run in (judge, follow, log)], statistics.median(ratios), statistics.median(by_follow)
         print(form.format(
             shape, tables.rows, f"{sum(tables.bytes) / 1e6:.0f}", *(f"{time:.0f}" for time in times), f"{by_judge:.2f}",
-            f"{min(ratios):.2f}, {max(ratios):.2f}", f"{statistics.median(by_follow):.2f}", f"{tables.rows / times[1] * 1000:.0f}",
+            f"{min(ratios):.2f}, {max(ratios):.2f}", f"{log_by_follow:.2f}", f"{tables.rows / times[1] * 1000:.0f}",
             *(f"{run.peak / 1e3:.0f}" for run in (judge, follow, log))), flush=True)
-        if shape in ORDINARY and by_judge > MOST_BY_JUDGE["follow"]:
-            missed.append(f"{shape}: by judge {by_judge:.2f}, at most {MOST_BY_JUDGE['follow']}")
+        goals = [("by judge", by_judge, MOST_BY_JUDGE["follow"]), ("log by follow", log_by_follow, MOST_BY_FOLLOW)]
+        missed += [f"{shape}: {what} {value:.2f}, at most {most}" for what, value, most in goals if shape in ORDINARY and value > most]
     print("goals missed:" if missed else "no goal missed", *missed, sep="\n  ")
 
 
