@@ -27,9 +27,10 @@ def is_external(line):
     return line.startswith(b"event,") or line.startswith(b"stop,") and line.count(b",") == 4
 
 
-def is_table(text):
-    """Whether no line of a text is of the table of external inputs."""
-    return not any(map(is_external, text.split(b"\n")))
+def without_externals(text):
+    """The trace table of a log: its text without the lines of external inputs."""
+    header, *lines = text.split(b"\n")
+    return b"\n".join([header, *(line for line in lines if not is_external(line.removesuffix(b"\r")))])
 
 
 def told_external(plan, line, rows, number):
