@@ -244,6 +244,15 @@ def follow_writes(_):
     return Input("follow", count, writer(1), stop(0), table)
 
 
+def follow_events(_):
+    """40,000 external events in the log, told in falling order of their tags before the first row"""
+    count = 40_000
+    program = "main reactor { physical action a  reaction(a) {= =} }\n"
+    events = "".join(f"event,{time},0,main.a,\n" for time in range(count, 0, -1))
+    rows = "".join(run(time, "main#1", f"read,0,{time},0,main#1,main.a,,\n") for time in range(1, count + 1))
+    return Input("follow", 4 * count, program, stop(count), TRACE + events + rows)
+
+
 # Shapes of `show`.
 
 def chosen_names(_):
@@ -428,7 +437,7 @@ def terms(chance):
 
 
 SHAPES = [far_workers, names, writes, reads, absent_inputs, precedence, unread_writes,
-          many_unread_writes, waiting_writes, waiting_schedulings, follow_writes, chosen_names,
+          many_unread_writes, waiting_writes, waiting_schedulings, follow_writes, follow_events, chosen_names,
           explain_shutdown, explain_triggers, explain_schedulings, explain_far_triggers,
           explain_far_reads, explain_writes, explain_delays, pair_effects, pair_writes, pair_reads,
           many_bodies, unread_ports, unread_week, unread_chain, dense_timers, record_absent, terms]
