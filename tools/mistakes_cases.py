@@ -192,6 +192,8 @@ def follows():
     case("a row that lacks its end, in the log", usual, fault("trace 2 BadFieldCount line=2"), stdin=ROWS.replace("start,0,0,0,main#1,,,", "start,0,0,0,main#1", 1))
     case("the stop in the log", ["follow", "blink.lf"], prints(ACCEPTED), stdin=ROWS + "stop,10000000,0,,\n")
     case("the stop in a log in which it is too late", ["follow", "blink.lf"], fault("externals 13 LateExternal line=2"), stdin=ROWS + "stop,9999999,0,,\n")
+    told = "".join(f"event,{time},0,main.a,7\n" for time in (*range(2, 65_539), 1))
+    case("an event of a log that stands before 65,537 others", ["follow", "key.lf"], fault("externals 15 ManyLater line=65539"), files={"key.lf": "main reactor { physical action a: int reaction(a) {= =} }\n"}, stdin=HEADER + "\n" + told)
     case("no stop, followed", ["follow", "blink.lf"], prints("unbroken runs=6 tags=3 time=10000000 microstep=0\n", 3), stdin=ROWS)
     case("a log in the place of the external inputs", ["follow", "blink.lf", "trace.csv"], fault("externals 1 BadHeader"))
     hint = "lftrace: a log that has its external inputs: `lftrace follow PROGRAM < LOG`\n"
