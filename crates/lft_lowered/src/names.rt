@@ -33,8 +33,8 @@ fn write_rows<W: Write>(
     };
     for _ in 0..u64::MAX {
         match rows.next_rows() {
-            Ok(Some(bytes)) => write_part(alloc, path, bytes, file)?,
-            Ok(None) => return Ok(()),
+            Ok(true) => write_part(alloc, path, rows.rows(), file)?,
+            Ok(false) => return Ok(()),
             Err(_) => return Err(Fault::no_memory()),
         }
     }
