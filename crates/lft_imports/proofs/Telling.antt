@@ -1,6 +1,6 @@
 -- Where a refusal stands.
 use Rattle.std.proofs.Common.{◌≡◌, ℕ, zero, suc, ◌<◌, ◌≤◌, ◌⊎◌, inl, inr, List, [], ◌∷◌, ◌++◌, length, Some, sym, subst, ap, ◌∙◌, arith}
-use Rattle.std.specs.Prelude.{IsSomeAnd, slice_get}
+use Rattle.std.specs.Prelude.{IfErr, IfSome, IsSomeAnd, Result, Ok, Err, slice_get}
 use Rattle.std.proofs.lemmas.Bool.{cases_lt}
 use Rattle.lft_lists.proofs.Places.{get_last, get_there}
 use Rattle.lft_sources.specs.declared.source.Spot.{Spot}
@@ -11,10 +11,11 @@ use Rattle.lft_sources.specs.declared.why.Why.{Why}
 use Rattle.lft_sources.specs.declared.why.Why.TheVariants.{NotRead}
 use Rattle.lft_whole.specs.declared.token.Token.{Token}
 use Rattle.lft_whole.specs.Tokens.{AreTokens, StandBetween}
+use Rattle.lft_imports.specs.declared.reading.Refused.{Refused}
 use Rattle.lft_imports.specs.declared.reading.Text.{Text}
-use Rattle.lft_imports.specs.Files.{IsPlaced, IsRefusalOf}
+use Rattle.lft_imports.specs.Files.{HasCause, HasUnread, IsCauseOf, IsPlaced, IsRefusalOf, IsUnread}
 use Rattle.lft_imports.specs.Places.{AreSpots, IsSpot, IsSpotOf}
-use Rattle.lft_imports.specs.Reads.{HasPlaces, IsRead}
+use Rattle.lft_imports.specs.Reads.{HasPlaces, IsOfText, IsRead, SaysWhy}
 
 -- a token begins in the text
 begins : (text : List ℕ) (ts : List Token) (i : ℕ) (t : Token) (from to : ℕ) → StandBetween text from ts to → slice_get ts i ≡ Some t → t.start ≤ length text
@@ -53,3 +54,20 @@ placed t files f number read (stop.Refused refusal) e spots r h =
     of : (refusal.why ≡ NotRead) ⊎ (read.refused ≡ Some (record { why = refusal.why; token = refusal.place.token })) → (refusal.why ≡ NotRead) ⊎ IsSomeAnd (slice_get f.spots.items refusal.place.token) (IsSpotOf t)
     of (inl w) = inl w
     of (inr w) = inr (subst (λ (v : List Spot). IsSomeAnd (slice_get v refusal.place.token) (IsSpotOf t)) (ap (λ v. v.items) (sym spots)) (subst (HasPlaces t read.spots.items) w r))
+
+-- the cause of the refusal of the file that was read last
+pub caused : (files : List SourceFile) (f : SourceFile) (number : ℕ) (read : Text) (s : Stop) → number ≡ length files → f.tree ≡ read.tree → SaysWhy read → IsCauseOf number read s → HasCause (files ++ f ∷ []) s
+caused files f number read stop.NoMemory e tree says h = tt
+caused files f number read (stop.Refused refusal) e tree says h = of h
+  where
+    of : (read.refused ≡ Some (record { why = refusal.why; token = refusal.place.token })) ⊎ IsUnread number read.tree.imports.items (stop.Refused refusal) → HasCause (files ++ f ∷ []) (stop.Refused refusal)
+    of (inl w) = inl (subst (λ o. IfSome o (λ (r : Refused). IsOfText r.why)) w says)
+    of (inr u) =
+        let last : slice_get (files ++ f ∷ []) refusal.place.file ≡ Some f = ap (slice_get (files ++ f ∷ [])) (u.1 ∙ e) ∙ get_last files f in
+        inr (u.0, subst (λ o. IsSomeAnd o (λ (file : SourceFile). HasUnread file.tree.imports.items refusal.place.token)) (sym last) (subst (λ t. HasUnread t.imports.items refusal.place.token) (sym tree) u.2))
+
+-- that of a path is a cause
+pub unread_is_cause : {X : Type 0} (r : Result X Stop) (number : ℕ) (read : Text) → IfErr r (IsUnread number read.tree.imports.items) → IfErr r (IsCauseOf number read)
+unread_is_cause (Ok x) number read h = tt
+unread_is_cause (Err (stop.Refused refusal)) number read h = inr h
+unread_is_cause (Err stop.NoMemory) number read h = tt

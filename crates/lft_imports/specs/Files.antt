@@ -12,6 +12,7 @@ use Rattle.lft_imports.specs.declared.reading.Text.{Text}
 use Rattle.lft_imports.specs.declared.sources.Sources.{Sources}
 use Rattle.lft_imports.specs.Paths.{meaning}
 use Rattle.lft_imports.specs.Places.{HasSpots, IsSpotOf}
+use Rattle.lft_imports.specs.Reads.{IsOfText}
 
 -- The paths that are asked for, by number.
 abbrev pub paths_of : Asked → List (List ℕ)
@@ -82,6 +83,15 @@ abbrev pub IsPlaced : List ℕ → List SourceFile → Stop → Type 0
 IsPlaced t files (stop.Refused refusal) = IsSomeAnd (slice_get files refusal.place.file) (λ file. (refusal.why ≡ NotRead) ⊎ IsSomeAnd (slice_get file.spots.items refusal.place.token) (IsSpotOf t))
 IsPlaced t files stop.NoMemory = Unit {0}
 
+-- An import at that token has a path that is no UTF-8.
+abbrev pub HasUnread : List Import → ℕ → Type 0
+HasUnread imports token = (i : ℕ) × IsSomeAnd (slice_get imports i) (λ import. (token ≡ import.at) × (IsUtf8 import.path.items → ⊥))
+
+-- A refusal is that of a text, or of an import of the file that it is of, whose path is no UTF-8.
+abbrev pub HasCause : List SourceFile → Stop → Type 0
+HasCause files (stop.Refused refusal) = IsOfText refusal.why ⊎ ((refusal.why ≡ NotRead) × IsSomeAnd (slice_get files refusal.place.file) (λ file. HasUnread file.tree.imports.items refusal.place.token))
+HasCause files stop.NoMemory = Unit {0}
+
 -- The refusal is of a path that is no UTF-8, of an import of the file of that number.
 abbrev pub IsUnread : ℕ → List Import → Stop → Type 0
 IsUnread number imports (stop.Refused refusal) = (refusal.why ≡ NotRead) × (refusal.place.file ≡ number) × ((i : ℕ) × IsSomeAnd (slice_get imports i) (λ import. (refusal.place.token ≡ import.at) × (IsUtf8 import.path.items → ⊥)))
@@ -91,3 +101,8 @@ IsUnread number imports stop.NoMemory = Unit {0}
 abbrev pub IsRefusalOf : ℕ → Text → Stop → Type 0
 IsRefusalOf number read (stop.Refused refusal) = (refusal.place.file ≡ number) × ((refusal.why ≡ NotRead) ⊎ (read.refused ≡ Some (record { why = refusal.why; token = refusal.place.token })))
 IsRefusalOf number read stop.NoMemory = Unit {0}
+
+-- The refusal is that of the text, or of a path in the file of that number that is no UTF-8.
+abbrev pub IsCauseOf : ℕ → Text → Stop → Type 0
+IsCauseOf number read (stop.Refused refusal) = (read.refused ≡ Some (record { why = refusal.why; token = refusal.place.token })) ⊎ IsUnread number read.tree.imports.items (stop.Refused refusal)
+IsCauseOf number read stop.NoMemory = Unit {0}

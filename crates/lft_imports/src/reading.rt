@@ -1,7 +1,7 @@
 //! The tree of a text, and where its tokens stand.
 
 ghost use Rattle.std.specs.Prelude.{◌≡◌, ◌<◌, Some, IfOk, length};
-ghost use Rattle.lft_imports.specs.Reads.{IsRead};
+ghost use Rattle.lft_imports.specs.Reads.{IsRead, SaysWhy};
 
 use crate::spots::{spot_of, spots};
 use lft_sources::{Spot, Why};
@@ -39,7 +39,8 @@ fn no_file(alloc: Global) -> File {
 /// What is read of a text without tokens. They end at a byte.
 fn without_tokens(alloc: Global, text: &[u8], at: usize) -> Result<Text, NoMemory>
     requires { at < length text.now }
-    ensures { IfOk result (IsRead text.now) }
+    ensures read { IfOk result (IsRead text.now) }
+    ensures why { IfOk result SaysWhy }
 {
     let mut spots = Vec::new(alloc);
     spots.push(spot_of(text, at))?;
@@ -60,7 +61,8 @@ fn without_tree(alloc: Global, spots: Vec<Spot>, why: Why, token: usize) -> Text
 
 /// The tree of a text, or why it has none.
 pub(crate) fn read_text(alloc: Global, text: &[u8]) -> Result<Text, NoMemory>
-    ensures { IfOk result (IsRead text.now) }
+    ensures read { IfOk result (IsRead text.now) }
+    ensures why { IfOk result SaysWhy }
 {
     let tokens = match lex(alloc, text) {
         Ok(tokens) => tokens,
