@@ -292,21 +292,6 @@ goes_on mid new top child coming begun empty is next opened =
     } in
     subst (λ (l : List Coming). Follows files s l new true) (sym list) (refl, rows, at)
 
--- none is gone over any more
-pub ends : (r : Rows) (coming : List Coming) → r.is_begun ≡ true → r.path.items ≡ [] → all_coming r ≡ coming → Follows r.current.files.now r.current.settings.now coming r false
-ends r coming begun empty is =
-    let files = r.current.files.now in
-    let s = r.current.settings.now in
-    let none : all_coming r ≡ [] = ap (coming_in_all files s r.current.source.items r.current.core.items) empty in
-    let at : IsAt files s r [] = record {
-      files_are = refl;
-      settings_are = refl;
-      nested = subst (λ (l : List Visit). AreNested l (length r.current.source.items) (length r.current.core.items)) (sym empty) (none_nested (length r.current.source.items) (length r.current.core.items));
-      fresh = λ e. absurd (cc);
-      coming_are = begun_coming r begun ∙ none;
-    } in
-    subst (λ (l : List Coming). Follows files s l r false) (sym none ∙ is) (refl, at)
-
 -- the main one
 pub begins : (files : List SourceFile) (s : Settings) (coming : List Coming) (old new : Rows) → IsAt files s old coming → old.is_begun ≡ false → new.current ≡ old.current → new.is_begun ≡ true → new.rows.items ≡ setting_rows old.current.files.now old.current.settings.now (named_of old.current) (Some 0) → new.path.items ≡ old.path.items ++ fresh_visits (named_of old.current) (Some 0) → Follows files s coming new true
 begins files s coming old new at begun current is_begun rows path =
@@ -333,7 +318,3 @@ begins files s coming old new at begun current is_begun rows path =
       coming_are = begun_coming new is_begun ∙ there;
     } in
     subst (λ (l : List Coming). Follows files s l new true) (sym list) (refl, rows_are, is_at)
-
--- where the table was begun
-pub still_begun : (files : List SourceFile) (s : Settings) (coming : List Coming) (r : Rows) → IsAt files s r coming → r.is_begun ≡ true → all_coming r ≡ coming
-still_begun files s coming r at begun = sym (begun_coming r begun) ∙ at.coming_are

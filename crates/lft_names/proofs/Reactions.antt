@@ -1,16 +1,15 @@
 -- Reactions among the members of a setting.
 use Rattle.std.proofs.Common.{◌≡◌, ℕ, zero, suc, ◌+◌, ◌<◌, ◌≤◌, List, [], ◌∷◌, length, take, get_or, Option, Some, None, slice_get, refl, sym, ap, ◌∙◌, arith}
-use Rattle.std.specs.Prelude.{count_by, is_some, option_map, unwrap_or}
+use Rattle.std.specs.Prelude.{is_some, option_map, unwrap_or}
 use Rattle.std.specs.Option.{option_and_then}
 use Rattle.std.proofs.lemmas.List.Sums.{count_by-le-length, count_by_more_no, count_by_more_yes}
 use Rattle.std.proofs.lemmas.Option.{slice_get-get_or, slice_get_within}
-use Rattle.lft_sources.specs.declared.source.SourceFile.{SourceFile}
 use Rattle.lft_shapes.specs.declared.shapes.Inherited.{Inherited}
 use Rattle.lft_shapes.specs.declared.shapes.Shape.{Shape}
 use Rattle.lft_settings.specs.declared.settings.Settings.{Settings}
 use Rattle.lft_settings.specs.Settings.{shape_at}
 use Rattle.lft_settings.specs.Widths.{member_at}
-use Rattle.lft_names.specs.Table.{Named, members_at, reaction_at, reaction_row, reaction_rows, reactions_before}
+use Rattle.lft_names.specs.Table.{members_at, reaction_at, reactions_before}
 
 -- a member stands at its place among the members
 member_is : (s : Settings) (k m : ℕ) → member_at s k m ≡ slice_get (members_at s k) m
@@ -46,32 +45,3 @@ next_no s k m found e r =
     let ms = members_at s k in
     let at : slice_get ms m ≡ Some found = sym (member_is s k m) ∙ e in
     count_by_more_no (λ (x : Inherited). is_some (reaction_at x.member.now)) ms m found (slice_get_within ms m found at) (ap (λ (x : Inherited). is_some (reaction_at x.member.now)) (at_place ms m found at) ∙ ap is_some r)
-
--- past the last one there is none
-all_taken : (n : ℕ) (xs : List Inherited) → slice_get xs n ≡ None → take (n + 1) xs ≡ take n xs
-all_taken zero [] e = refl
-all_taken zero (x ∷ xs) e = absurd (cc)
-all_taken (suc n) [] e = let s : suc n + 1 ≡ suc (n + 1) = omega arith in ap (λ k. take k []) s
-all_taken (suc n) (x ∷ xs) e = let s : suc n + 1 ≡ suc (n + 1) = omega arith in ap (λ k. take k (x ∷ xs)) s ∙ ap (λ l. x ∷ l) (all_taken n xs e)
-
-pub next_none : (s : Settings) (k m : ℕ) → member_at s k m ≡ None → reactions_before (members_at s k) (m + 1) ≡ reactions_before (members_at s k) m
-next_none s k m e = ap (count_by (λ (x : Inherited). is_some (reaction_at x.member.now))) (all_taken m (members_at s k) (sym (member_is s k m) ∙ e))
-
--- ---- rows of members
-
-pub reaction_here : (files : List SourceFile) (s : Settings) (named : Named) (k m : ℕ) (found : Inherited) (token : ℕ) → member_at s k m ≡ Some found → reaction_at found.member.now ≡ Some token → reaction_rows files s named k m ≡ reaction_row files named (reactions_before (members_at s k) m + 1) found token
-reaction_here files s named k m found token e r =
-    let n = reactions_before (members_at s k) m + 1 in
-    ap (λ (o : Option Inherited). unwrap_or (option_and_then (λ (x : Inherited). option_map (reaction_row files named n x) (reaction_at x.member.now)) o) []) e
-    ∙ ap (λ (o : Option ℕ). unwrap_or (option_map (reaction_row files named n found) o) []) r
-
-pub no_reaction : (files : List SourceFile) (s : Settings) (named : Named) (k m : ℕ) (found : Inherited) → member_at s k m ≡ Some found → reaction_at found.member.now ≡ None → reaction_rows files s named k m ≡ []
-no_reaction files s named k m found e r =
-    let n = reactions_before (members_at s k) m + 1 in
-    ap (λ (o : Option Inherited). unwrap_or (option_and_then (λ (x : Inherited). option_map (reaction_row files named n x) (reaction_at x.member.now)) o) []) e
-    ∙ ap (λ (o : Option ℕ). unwrap_or (option_map (reaction_row files named n found) o) []) r
-
-pub no_member : (files : List SourceFile) (s : Settings) (named : Named) (k m : ℕ) → member_at s k m ≡ None → reaction_rows files s named k m ≡ []
-no_member files s named k m e =
-    let n = reactions_before (members_at s k) m + 1 in
-    ap (λ (o : Option Inherited). unwrap_or (option_and_then (λ (x : Inherited). option_map (reaction_row files named n x) (reaction_at x.member.now)) o) []) e

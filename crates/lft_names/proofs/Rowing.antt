@@ -19,10 +19,6 @@ flat_more f start so_far now n was is =
     let all : flat_map f (below (n + 1)) ≡ flat_map f (below n) ++ f n = ap (flat_map f) (below_more n) ∙ flat_map-append f (below n) (n ∷ []) ∙ ap (λ l. flat_map f (below n) ++ l) (append-nil (f n)) in
     is ∙ ap (λ l. l ++ f n) was ∙ append_assoc start (flat_map f (below n)) (f n) ∙ ap (λ l. start ++ l) (sym all)
 
--- one that adds nothing
-pub flat_skip : (f : ℕ → List ℕ) (start so_far : List ℕ) (n : ℕ) → so_far ≡ start ++ flat_map f (below n) → f n ≡ [] → so_far ≡ start ++ flat_map f (below (n + 1))
-flat_skip f start so_far n was none = flat_more f start so_far so_far n was (sym (ap (λ l. so_far ++ l) none ∙ append-nil so_far))
-
 -- rows of the same things are the same
 pub row_same : (files : List SourceFile) (named : Named) (kind kind' source source' core core' : List ℕ) (file token token' : ℕ) (differs differs' : Bool) → kind ≡ kind' → source ≡ source' → core ≡ core' → token ≡ token' → differs ≡ differs' → row_in files named kind source core file token differs ≡ row_in files named kind' source' core' file token' differs'
 row_same files named kind kind' source source' core core' file token token' differs differs' k s c t d =
