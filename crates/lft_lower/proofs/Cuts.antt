@@ -4,10 +4,12 @@ use Rattle.std.specs.Prelude.{slice_get}
 use Rattle.std.specs.List.{flat_map, range_with_len}
 use Rattle.std.proofs.Math.Nat.{eq-or-lt_of_le}
 use Rattle.std.proofs.Math.Seq.{take-append-add, take-suc}
-use Rattle.std.proofs.lemmas.List.{take_all}
+use Rattle.std.proofs.lemmas.List.{length-map, take_all}
 use Rattle.std.proofs.lemmas.List.FromFn.{length-map-range_with_len}
 use Rattle.std.proofs.lemmas.Option.{slice_get_within, get_or_from_slice_get}
-use Rattle.lft_lowering.specs.Channels.{places}
+use Rattle.lft_lowering.specs.Channels.{Place, places}
+use Rattle.lft_lowering.specs.Lowered.{inner, own}
+use Rattle.lft_lower.specs.Places.{Several, count_of, inner_places, name_at, own_places}
 
 -- one more
 pub cut_more : {X : Type 0} (old more : List X) (k : ℕ) (x : X) → slice_get more k ≡ Some x → (old ++ take k more) ++ x ∷ [] ≡ old ++ take (k + 1) more
@@ -50,3 +52,11 @@ grid_length f a (suc m) n =
 pub length_places : (members channels : ℕ) (interleaved : Bool) → length (places members channels interleaved) ≡ members * channels
 length_places members channels false = grid_length (λ m c. (m, c)) 0 members channels
 length_places members channels true = let turned : channels * members ≡ members * channels = grind arith in grid_length (λ c m. (m, c)) 0 channels members ∙ turned
+
+-- so many places a thing of the reactor has
+pub length_own : (thing : Several) → length (own_places thing) ≡ count_of thing
+length_own thing = length-map-range_with_len (λ k. own (name_at thing k)) 0 (count_of thing)
+
+-- so many places a port of a bank has
+pub length_inner : (members ports : Several) (interleaved : Bool) → length (inner_places members ports interleaved) ≡ count_of members * count_of ports
+length_inner members ports interleaved = length-map (places (count_of members) (count_of ports) interleaved) (λ (p : Place). inner (name_at members p.0) (name_at ports p.1)) ∙ length_places (count_of members) (count_of ports) interleaved

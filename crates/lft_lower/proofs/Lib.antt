@@ -1,2 +1,7 @@
+mod Adding
 mod Apart
 mod Cuts
+mod Growing
+mod Joining
+mod Placed
+mod Turns

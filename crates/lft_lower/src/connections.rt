@@ -1,14 +1,18 @@
 //! What a connection becomes.
 
-ghost use Rattle.std.specs.Prelude.{◌≡◌, OnOk, false};
+ghost use Rattle.std.specs.Prelude.{◌≡◌, IfOk, IsTrue, OnOk, false, option_map, true};
+ghost use Rattle.lft_tree.specs.ItemView.{connection_view, ref_view, ref_views, time_view};
+ghost use Rattle.lft_lowering.specs.Lowered.{single};
+ghost use Rattle.lft_lower.specs.Lowered.{Adds, AreConnected, AreEach, AreSides, IsRead, MeanSides, time_at};
+ghost use Rattle.lft_lower.specs.Meanings.{all_places, here};
 
 use crate::copies::{copied_reference, copied_time};
 use crate::notes::Notes;
-use crate::places::{Within, is_wide, places};
+use crate::places::{Within, count, meaning, some_places};
 use crate::room::Room;
 use crate::times::{bytes_of, maybe_time};
 use lft_lowering::{joined, source};
-use lft_settings::Settings;
+use lft_shapes::Work;
 use lft_sources::{Stop, Why};
 use lft_tree::{Connection, Member, Reference, TimeExpression};
 use lft_whole::Connection as Written;
@@ -17,59 +21,55 @@ use std::alloc::Global;
 /// How many places a connection has on each side.
 #[derive(Clone, Copy)]
 struct Sides {
-    left: u64,
-    right: u64,
+    left: usize,
+    right: usize,
 }
 
 impl Sides {
-    fn of(settings: &mut Settings, within: Within, connection: &Written) -> Result<Sides, Stop> {
-        let Within { setting, file } = within;
-        let left = settings.all_channels(setting, file, &connection.sources)?;
-        let right = settings.all_channels(setting, file, &connection.destinations)?;
+    fn of(within: Within, connection: &Written) -> Result<Sides, Stop>
+        ensures sides { IfOk result (AreSides (here within.entry) connection.now) }
+        ensures mean { OnOk result (MeanSides (here within.entry) connection.now) }
+    {
+        let left = count(within, &connection.sources)?;
+        let right = count(within, &connection.destinations)?;
         Ok(Sides { left, right })
     }
 
     /// What is said of sides that differ.
     fn note(self, notes: &mut Notes, within: Within, connection: &Written) -> Result<(), Stop> {
-        if connection.is_broadcast && self.left != 0 {
-            if self.right % self.left != 0 {
-                notes.divide(within.file, connection.at, self.left, self.right)?;
+        let (left, right) = (self.left as u64, self.right as u64);
+        if connection.is_broadcast && left != 0 {
+            if right % left != 0 {
+                notes.divide(within.file, connection.at, left, right)?;
             }
-        } else if self.left != self.right {
-            notes.differ(within.file, connection.at, self.left, self.right)?;
+        } else if left != right {
+            notes.differ(within.file, connection.at, left, right)?;
         }
         Ok(())
     }
 }
 
 /// Whether none of the references has a width in it.
-fn are_plain(
-    settings: &mut Settings,
-    within: Within,
-    references: &[lft_whole::Reference],
-) -> Result<bool, Stop> {
+fn are_plain(within: Within, references: &[lft_whole::Reference]) -> Result<bool, Stop> {
     for reference in references {
-        if is_wide(settings, within, reference)? {
+        if meaning(within, reference)?.is_wide() {
             return Ok(false);
         }
     }
     Ok(true)
 }
 
-/// Whether a connection stays as it is: no part of it has a width, and none is left over.
-fn stays(
-    settings: &mut Settings,
-    within: Within,
-    connection: &Written,
-    sides: Sides,
-) -> Result<bool, Stop> {
-    if connection.is_broadcast || sides.left != sides.right {
+/// Whether a connection stays as it is: no part of it has a width, and of its places none is left over.
+fn stays(within: Within, connection: &Written, sides: Sides) -> Result<bool, Stop>
+    ensures { IfOk result (λ yes. IsTrue yes → (connection.now.is_broadcast ≡ false) × (sides.left ≡ sides.right)) }
+{
+    if connection.is_broadcast || sides.left != sides.right || sides.left == 0 {
         return Ok(false);
     }
-    if !are_plain(settings, within, &connection.sources)? {
+    if !are_plain(within, &connection.sources)? {
         return Ok(false);
     }
-    are_plain(settings, within, &connection.destinations)
+    are_plain(within, &connection.destinations)
 }
 
 /// How many bytes a reference takes at least, when it is written.
@@ -95,7 +95,9 @@ fn connected(
     from: &Reference,
     to: &Reference,
     delay: &Option<TimeExpression>,
-) -> Result<Connection, Stop> {
+) -> Result<Connection, Stop>
+    ensures { IfOk result (λ made. connection_view made ≡ single (option_map time_view delay.now) (ref_view from.now) (ref_view to.now)) }
+{
     let mut sources = Vec::new(alloc);
     sources.push(copied_reference(from)?)?;
     let mut destinations = Vec::new(alloc);
@@ -113,72 +115,49 @@ fn connected(
 fn push_pairs(
     alloc: Global,
     room: &mut Room,
-    settings: &Settings,
+    work: &Work,
     sources: &[Reference],
     destinations: &[Reference],
     delay: &Option<TimeExpression>,
     list: &mut Vec<Member>,
-) -> Result<(), Stop> {
+) -> Result<(), Stop>
+    ensures { OnOk result (Adds list.old.items list.new.items (AreEach (ref_views sources.now) (ref_views destinations.now) true (option_map time_view delay.now))) }
+{
     let right = destinations.len();
-    for pair in 0..joined(sources.len(), right, true) {
-        let from = &sources[source(sources.len(), right, true, pair)];
+    let pairs = joined(sources.len(), right, true);
+    for pair in 0..pairs {
+        let place = source(sources.len(), right, true, pair);
+        let from = &sources[place];
+        let to = &destinations[pair];
         if pair >= sources.len() {
-            room.spend(bytes_of_reference(from), &settings.work)?;
+            room.spend(bytes_of_reference(from), work)?;
         }
-        room.spend(bytes_of_delay(delay), &settings.work)?;
-        let connection = connected(alloc, from, &destinations[pair], delay)?;
+        room.spend(bytes_of_delay(delay), work)?;
+        let connection = connected(alloc, from, to, delay)?;
         list.push(Member::Connection(connection))?;
     }
     Ok(())
 }
 
-/// The delay of a connection.
-fn delay(
-    alloc: Global,
-    settings: &Settings,
-    within: Within,
-    connection: &Written,
-) -> Result<Option<TimeExpression>, Stop> {
-    match settings.shape_of(within.setting) {
-        Some(shape) => maybe_time(alloc, shape, within.file, &connection.delay),
-        None => Ok(None),
-    }
-}
-
-/// Puts what a connection becomes at the end of a list: itself if no width is in it, else one connection a pair.
-pub(crate) fn push_connection(
+/// Puts the connections between two sides at the end of a list, of which so many pairs are joined.
+fn push_sides(
     alloc: Global,
     room: &mut Room,
-    settings: &mut Settings,
-    notes: &mut Notes,
     within: Within,
     connection: &Written,
+    sides: Sides,
+    delay: Option<TimeExpression>,
     list: &mut Vec<Member>,
 ) -> Result<(), Stop>
-    ensures { OnOk result (connection.now.is_physical ≡ false) }
+    requires { AreSides (here within) connection.now sides }
+    ensures { OnOk result (Adds list.old.items list.new.items (AreConnected (all_places (here within.entry) connection.now.sources.items) (all_places (here within.entry) connection.now.destinations.items) connection.now.is_broadcast (option_map time_view delay))) }
 {
-    if connection.is_physical {
-        return Err(Stop::at(Why::PhysicalConnection, within.file, connection.arrow));
-    }
-    let delay = delay(alloc, settings, within, connection)?;
-    let sides = Sides::of(settings, within, connection)?;
-    sides.note(notes, within, connection)?;
-    let left = sides.left as usize;
-    let pairs = joined(left, sides.right as usize, connection.is_broadcast);
-    if pairs == 0 {
-        return Ok(());
-    }
-    let most = pairs.min(left);
-    let sources = places(alloc, room, settings, within, &connection.sources, most)?;
-    let destinations = places(
-        alloc,
-        room,
-        settings,
-        within,
-        &connection.destinations,
-        pairs,
-    )?;
-    if stays(settings, within, connection, sides)? {
+    let pairs = joined(sides.left, sides.right, connection.is_broadcast);
+    let most = pairs.min(sides.left);
+    let sources = some_places(alloc, room, within, &connection.sources, most)?;
+    let destinations = some_places(alloc, room, within, &connection.destinations, pairs)?;
+    let is_whole = stays(within, connection, sides)?;
+    if is_whole {
         list.push(Member::Connection(Connection {
             sources,
             destinations,
@@ -187,5 +166,38 @@ pub(crate) fn push_connection(
         }))?;
         return Ok(());
     }
-    push_pairs(alloc, room, settings, &sources, &destinations, &delay, list)
+    push_pairs(
+        alloc,
+        room,
+        &within.settings.work,
+        &sources,
+        &destinations,
+        &delay,
+        list,
+    )?;
+    Ok(())
+}
+
+/// Puts what a connection becomes at the end of a list: itself if no width is in it, else one connection a pair.
+pub(crate) fn push_connection(
+    alloc: Global,
+    room: &mut Room,
+    notes: &mut Notes,
+    within: Within,
+    connection: &Written,
+    list: &mut Vec<Member>,
+) -> Result<(), Stop>
+    ensures logical { OnOk result (connection.now.is_physical ≡ false) }
+    ensures mean { OnOk result (MeanSides (here within.entry) connection.now) }
+    ensures read { OnOk result (IsRead connection.now.delay) }
+    ensures joined { OnOk result (Adds list.old.items list.new.items (AreConnected (all_places (here within.entry) connection.now.sources.items) (all_places (here within.entry) connection.now.destinations.items) connection.now.is_broadcast (time_at connection.now.delay))) }
+{
+    if connection.is_physical {
+        return Err(Stop::at(Why::PhysicalConnection, within.file, connection.arrow));
+    }
+    let delay = maybe_time(alloc, within.shape, within.file, &connection.delay)?;
+    let sides = Sides::of(within, connection)?;
+    sides.note(notes, within, connection)?;
+    push_sides(alloc, room, within, connection, sides, delay, list)?;
+    Ok(())
 }

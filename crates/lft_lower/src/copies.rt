@@ -1,10 +1,15 @@
 //! Copies of parts of a core tree.
 
+ghost use Rattle.std.specs.Prelude.{◌≡◌, IfOk, map, option_map};
+ghost use Rattle.lft_tree.specs.ItemView.{assignment_view, ref_view, time_view};
+
 use lft_tree::{Assignment, Reference, TimeExpression};
 use std::alloc::{AllocError, Global};
 
 /// A copy of a time.
-fn copied(time: &TimeExpression) -> Result<TimeExpression, AllocError> {
+fn copied(time: &TimeExpression) -> Result<TimeExpression, AllocError>
+    ensures { IfOk result (λ copy. time_view copy ≡ time_view time.now) }
+{
     match time {
         TimeExpression::Written { time, at } => Ok(TimeExpression::Written {
             time: *time,
@@ -20,7 +25,9 @@ fn copied(time: &TimeExpression) -> Result<TimeExpression, AllocError> {
 /// A copy of a time, if there is one.
 pub(crate) fn copied_time(
     time: &Option<TimeExpression>,
-) -> Result<Option<TimeExpression>, AllocError> {
+) -> Result<Option<TimeExpression>, AllocError>
+    ensures { IfOk result (λ copy. option_map time_view copy ≡ option_map time_view time.now) }
+{
     match time {
         Some(time) => Ok(Some(copied(time)?)),
         None => Ok(None),
@@ -28,7 +35,9 @@ pub(crate) fn copied_time(
 }
 
 /// A copy of a reference.
-pub(crate) fn copied_reference(reference: &Reference) -> Result<Reference, AllocError> {
+pub(crate) fn copied_reference(reference: &Reference) -> Result<Reference, AllocError>
+    ensures { IfOk result (λ copy. ref_view copy ≡ ref_view reference.now) }
+{
     Ok(Reference {
         head: reference.head.clone()?,
         port: match &reference.port {
@@ -39,18 +48,27 @@ pub(crate) fn copied_reference(reference: &Reference) -> Result<Reference, Alloc
     })
 }
 
+/// A copy of what a parameter is given.
+fn copied_assignment(assignment: &Assignment) -> Result<Assignment, AllocError>
+    ensures { IfOk result (λ copy. assignment_view copy ≡ assignment_view assignment.now) }
+{
+    Ok(Assignment {
+        name: assignment.name.clone()?,
+        value: copied(&assignment.value)?,
+        at: assignment.at,
+    })
+}
+
 /// Copies of what an instance gives.
 pub(crate) fn copied_given(
     alloc: Global,
     given: &[Assignment],
-) -> Result<Vec<Assignment>, AllocError> {
+) -> Result<Vec<Assignment>, AllocError>
+    ensures { IfOk result (λ copies. map assignment_view copies.items ≡ map assignment_view given.now) }
+{
     let mut list = Vec::new(alloc);
-    for Assignment { name, value, at } in given {
-        list.push(Assignment {
-            name: name.clone()?,
-            value: copied(value)?,
-            at: *at,
-        })?;
+    for place in 0..given.len() {
+        list.push(copied_assignment(&given[place])?)?;
     }
     Ok(list)
 }

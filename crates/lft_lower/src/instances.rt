@@ -1,11 +1,19 @@
 //! What an instance becomes.
 
+ghost use Rattle.std.specs.Prelude.{◌≡◌, ◌++◌, [], Some, IfOk, OnOk, map, option_map};
+ghost use Rattle.std.specs.List.{All, cons_option};
+ghost use Rattle.lft_tree.specs.ItemView.{assignment_view, member_views};
+ghost use Rattle.lft_lower.specs.Lowered.{Adds, AreGiven, AreInstances, IsGiven, given_times, instances, reactor_at, time_given};
+ghost use Rattle.lft_lower.specs.Meanings.{here};
+ghost use Rattle.lft_lower.specs.Names.{texts};
+ghost use Rattle.lft_lower.specs.Places.{several};
+
 use crate::copies::copied_given;
-use crate::places::{Within, wide_thing};
+use crate::maker::Maker;
+use crate::places::{Wide, Within};
 use crate::room::Room;
 use crate::times::{bytes_of, read_time};
-use lft_settings::Settings;
-use lft_shapes::{Child, Shape, Thing};
+use lft_shapes::{Child, Given, Shape, Work};
 use lft_sources::{Stop, Why};
 use lft_tree::{Assignment, Instance, Member};
 use lft_whole::Instance as Written;
@@ -45,52 +53,97 @@ fn gives_needed(inner: &Shape, child: &Child, needed: usize) -> bool {
     count >= needed
 }
 
+/// The time that an instance gives to a parameter, if times are read from that one.
+fn assigned(
+    alloc: Global,
+    outer: &Shape,
+    file: usize,
+    inner: &Shape,
+    given: Given,
+) -> Result<Option<Assignment>, Stop>
+    ensures made { IfOk result (λ made. option_map assignment_view made ≡ time_given inner.now given.entry) }
+    ensures read { OnOk result (IsGiven inner.now given.entry) }
+{
+    if !inner.is_timed(given.parameter) {
+        return Ok(None);
+    }
+    let Some(found) = inner.parameters.get(given.parameter) else {
+        return Err(Stop::at(Why::MissingTime, file, given.value.at));
+    };
+    let value = read_time(alloc, outer, file, given.value)?;
+    Ok(Some(Assignment {
+        name: found.parameter.name.text.clone()?,
+        value,
+        at: 0,
+    }))
+}
+
+/// Puts what a parameter is given at the end of a list, if it is given something.
+fn push_given(list: &mut Vec<Assignment>, made: Option<Assignment>) -> Result<(), AllocError>
+    ensures { OnOk result (map assignment_view list.new.items ≡ map assignment_view list.old.items ++ cons_option (option_map assignment_view made) []) }
+{
+    if let Some(assignment) = made {
+        list.push(assignment)?;
+    }
+    Ok(())
+}
+
 /// The times that an instance gives to the parameters of its reactor that need them.
-fn given(
+fn given_times(
     alloc: Global,
     outer: &Shape,
     file: usize,
     inner: &Shape,
     child: &Child,
-) -> Result<Vec<Assignment>, Stop> {
+) -> Result<Vec<Assignment>, Stop>
+    ensures given { IfOk result (λ list. map assignment_view list.items ≡ given_times inner.now child.now) }
+    ensures read { OnOk result (All (IsGiven inner.now) child.now.given.items) }
+{
     let mut list = Vec::new(alloc);
-    for given in &child.given {
-        if !inner.is_timed(given.parameter) {
-            continue;
-        }
-        let Some(found) = inner.parameters.get(given.parameter) else {
-            continue;
-        };
-        let value = read_time(alloc, outer, file, given.value)?;
-        list.push(Assignment {
-            name: found.parameter.name.text.clone()?,
-            value,
-            at: 0,
-        })?;
+    for place in 0..child.given.len() {
+        let given = child.given[place];
+        let made = assigned(alloc, outer, file, inner, given)?;
+        push_given(&mut list, made)?;
     }
     Ok(list)
 }
 
 /// What an instance gives, where it gives all that it has to.
-fn checked(
-    alloc: Global,
-    settings: &Settings,
-    needed: &[usize],
+fn checked(maker: Maker, within: Within, member: usize, at: usize) -> Result<Vec<Assignment>, Stop>
+    ensures { IfOk result (λ given. AreGiven (here within.entry) member (map assignment_view given.items)) }
+{
+    let missing = Stop::at(Why::UnknownInstance, within.file, at);
+    let Some(child) = within.shape.child(member) else {
+        return Err(missing);
+    };
+    let Some(inner) = within.inner_shape(member) else {
+        return Err(missing);
+    };
+    let needed = maker.needed.get(child.shape).copied().unwrap_or(0);
+    if !gives_needed(inner, child, needed) {
+        return Err(Stop::at(Why::MissingTime, within.file, at));
+    }
+    let given = given_times(maker.alloc, within.shape, within.file, inner, child)?;
+    Ok(given)
+}
+
+/// The name of the core reactor of the instance of this number.
+fn reactor_of<'n>(
+    maker: Maker<'n, '_>,
     within: Within,
     member: usize,
     at: usize,
-) -> Result<Vec<Assignment>, Stop> {
-    if let Some(outer) = settings.shape_of(within.setting)
-        && let Some(child) = outer.child(member)
-        && let Some(inner) = settings.shapes.get(child.shape)
-    {
-        let needed = needed.get(child.shape).copied().unwrap_or(0);
-        if !gives_needed(inner, child, needed) {
-            return Err(Stop::at(Why::MissingTime, within.file, at));
-        }
-        return given(alloc, outer, within.file, inner, child);
+) -> Result<&'n str, Stop>
+    ensures { IfOk result (λ name. reactor_at (texts maker.entry.names.now) (here within.entry) member ≡ Some name.now) }
+{
+    let name = match within.settings.known_inside(within.setting, member) {
+        Some(inner) => maker.name(inner),
+        None => None,
+    };
+    match name {
+        Some(name) => Ok(name),
+        None => Err(Stop::at(Why::UnknownInstance, within.file, at)),
     }
-    Ok(Vec::new(alloc))
 }
 
 /// How many bytes what an instance gives takes at least, when it is written.
@@ -104,41 +157,59 @@ fn bytes_of_given(given: &[Assignment]) -> usize {
     bytes
 }
 
-/// Puts what an instance becomes at the end of the members: one instance, or those of its bank. `names` are the
-/// names of the settings in the core, and `needed` says of each shape how many parameters have to be given.
-pub(crate) fn push_instances(
+/// Puts an instance of a core reactor for each name at the end of the members.
+fn push_each(
     alloc: Global,
     room: &mut Room,
-    settings: &mut Settings,
-    names: &[Option<String>],
-    needed: &[usize],
-    within: Within,
-    member: usize,
-    instance: &Written,
+    work: &Work,
+    members: Wide,
+    reactor: &str,
+    given: &[Assignment],
     list: &mut Vec<Member>,
-) -> Result<(), Stop> {
-    let members = wide_thing(settings, within.setting, Thing::Member(member))?;
-    if members.count() == 0 {
-        return Ok(());
-    }
-    let Some(inner) = settings.inside(within.setting, member)? else {
-        return Ok(());
-    };
-    let Some(Some(reactor)) = names.get(inner) else {
-        return Ok(());
-    };
-    let given = checked(alloc, settings, needed, within, member, instance.name.at)?;
-    let bytes = reactor.len().saturating_add(bytes_of_given(&given));
+) -> Result<(), Stop>
+    ensures { OnOk result (member_views list.new.items ≡ member_views list.old.items ++ instances (several members.entry) reactor.now (map assignment_view given.now)) }
+{
+    let bytes = reactor.len().saturating_add(bytes_of_given(given));
     for number in 0..members.count() {
         let name = members.at(number);
-        room.spend(name.bytes().saturating_add(bytes), &settings.work)?;
+        room.spend(name.bytes().saturating_add(bytes), work)?;
         list.push(Member::Instance(Instance {
             name: name.core(alloc)?,
-            reactor: reactor.clone()?,
-            given: copied_given(alloc, &given)?,
+            reactor: String::from_str(alloc, reactor)?,
+            given: copied_given(alloc, given)?,
             at: 0,
             reactor_at: 0,
         }))?;
     }
+    Ok(())
+}
+
+/// Puts what an instance becomes at the end of the members: one instance, or those of its bank.
+pub(crate) fn push_instances(
+    maker: Maker,
+    room: &mut Room,
+    within: Within,
+    member: usize,
+    instance: &Written,
+    list: &mut Vec<Member>,
+) -> Result<(), Stop>
+    ensures { OnOk result (Adds list.old.items list.new.items (AreInstances (texts maker.entry.names.now) (here within.entry) member)) }
+{
+    let members = within.member(member);
+    if members.count() == 0 {
+        return Ok(());
+    }
+    let at = instance.name.at;
+    let reactor = reactor_of(maker, within, member, at)?;
+    let given = checked(maker, within, member, at)?;
+    push_each(
+        maker.alloc,
+        room,
+        &within.settings.work,
+        members,
+        reactor,
+        &given,
+        list,
+    )?;
     Ok(())
 }

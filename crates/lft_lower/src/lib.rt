@@ -4,6 +4,7 @@
 mod connections;
 mod copies;
 mod instances;
+mod maker;
 mod making;
 mod naming;
 mod notes;

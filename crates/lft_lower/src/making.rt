@@ -1,13 +1,16 @@
 //! The core tree of a whole program.
 
-ghost use Rattle.std.specs.Prelude.{◌≡◌, IfOk, None, OnOk, true};
+ghost use Rattle.std.specs.Prelude.{◌≡◌, IfOk, None, OnOk, map, true};
 ghost use Rattle.lft_sources.specs.declared.stop.Stop.TheVariants.{Refused};
+ghost use Rattle.lft_tree.specs.ItemView.{item_view};
 ghost use Rattle.lft_lower.specs.Programs.{decentralized_in, target_in};
+ghost use Rattle.lft_lower.specs.Reactors.{IsLowering};
 
 use crate::instances::needed;
+use crate::maker::Maker;
 use crate::naming::{names, sorted};
 use crate::notes::Notes;
-use crate::reactors::Maker;
+use crate::reactors::reactors;
 use crate::room::Room;
 use lft_settings::Settings;
 use lft_shapes::{InheritedParameter, Shape};
@@ -173,32 +176,23 @@ pub fn lower<'a>(
     files: &'a [SourceFile],
     order: &[usize],
 ) -> Result<Lowering<'a>, Stop>
-    ensures { IfOk result (λ lowering. lowering.files.now ≡ files.now) }
+    ensures files { IfOk result (λ lowering. lowering.files.now ≡ files.now) }
+    ensures made { IfOk result (λ lowering. IsLowering files.now lowering.settings (map item_view lowering.items.items)) }
 {
     let mut settings = Settings::of(alloc, files)?;
     let used = settings.counted()?;
-    let notes = notes(alloc, files, &settings, &used)?;
-    let used = sorted(alloc, order, &settings, &used)?;
+    let mut notes = notes(alloc, files, &settings, &used)?;
+    let sorted = sorted(alloc, order, &settings, &used)?;
     let mut room = Room::new();
-    let names = names(alloc, &settings, &used, &mut room)?;
+    let names = names(alloc, &settings, &sorted, &mut room)?;
     let needed = needed(alloc, &settings.shapes)?;
-    let mut maker = Maker {
+    let maker = Maker {
         alloc,
-        settings,
-        notes,
-        names,
-        needed,
-        room,
+        settings: &settings,
+        names: &names,
+        needed: &needed,
     };
-    let items = maker.reactors(&used)?;
-    let Maker {
-        alloc: _,
-        settings,
-        notes,
-        names: _,
-        needed: _,
-        room: _,
-    } = maker;
+    let items = reactors(maker, &mut room, &mut notes, &sorted)?;
     Ok(Lowering {
         files,
         settings,

@@ -1,11 +1,13 @@
 //! The names of reactors in the core.
 
-ghost use Rattle.std.specs.Prelude.{◌≡◌, ℕ, List, IfOk, IsTrue, OnOk, bytes_eq, cond, false, string_bytes, true};
+ghost use Rattle.std.specs.Prelude.{◌≡◌, ℕ, List, IfOk, IsTrue, OnOk, bytes_eq, cond, false, map, string_bytes, true};
+ghost use Rattle.std.specs.List.Sorted.{IsPermutation};
 ghost use Rattle.std.specs.BTreeSet.{contains_text};
 ghost use Rattle.lft_lower.specs.Names.{AreApart, AreNames, texts};
 
 use crate::room::Room;
 use itoa::Buffer;
+use lft_lists::item_at;
 use lft_settings::Settings;
 use lft_shapes::{Shape, Work};
 use lft_sources::{Stop, Why};
@@ -27,27 +29,60 @@ fn file_places(alloc: Global, order: &[usize]) -> Result<Vec<usize>, AllocError>
     Ok(places)
 }
 
+/// Where a setting stands, which is used as the one of this number. `places` has the place of each file.
+fn key(settings: &Settings, places: &[usize], setting: usize, number: usize) -> Key {
+    match settings.shape_of(setting) {
+        Some(shape) => {
+            let file = places.get(shape.class.file).copied().unwrap_or(0);
+            (file, shape.class.reactor.at, number)
+        }
+        None => (0, 0, number),
+    }
+}
+
+/// The settings, each behind the place where it stands.
+fn keyed(
+    alloc: Global,
+    order: &[usize],
+    settings: &Settings,
+    used: &[usize],
+) -> Result<Vec<(Key, usize)>, AllocError>
+    ensures { IfOk result (λ keyed. map (λ k. k.1) keyed.items ≡ used.now) }
+{
+    let places = file_places(alloc, order)?;
+    let mut keyed = Vec::new(alloc);
+    for number in 0..used.len() {
+        let setting = item_at(used, number);
+        let place = key(settings, &places, setting, number);
+        keyed.push((place, setting))?;
+    }
+    Ok(keyed)
+}
+
+/// The settings alone.
+fn unkeyed(alloc: Global, keyed: &[(Key, usize)]) -> Result<Vec<usize>, AllocError>
+    ensures { IfOk result (λ settings. settings.items ≡ map (λ k. k.1) keyed.now) }
+{
+    let mut settings = Vec::new(alloc);
+    for number in 0..keyed.len() {
+        let item = item_at(keyed, number);
+        settings.push(item.1)?;
+    }
+    Ok(settings)
+}
+
 /// The settings in the order of the core: by file, then by place, then as they are used.
 pub(crate) fn sorted(
     alloc: Global,
     order: &[usize],
     settings: &Settings,
     used: &[usize],
-) -> Result<Vec<usize>, Stop> {
-    let places = file_places(alloc, order)?;
-    let mut keys: Vec<(Key, usize)> = Vec::new(alloc);
-    for first in 0..used.len() {
-        let setting = used[first];
-        if let Some(shape) = settings.shape_of(setting) {
-            let file = places.get(shape.class.file).copied().unwrap_or(0);
-            keys.push(((file, shape.class.reactor.at, first), setting))?;
-        }
-    }
-    keys.sort()?;
-    let mut sorted = Vec::new(alloc);
-    for (_, setting) in keys.iter().copied() {
-        sorted.push(setting)?;
-    }
+) -> Result<Vec<usize>, Stop>
+    ensures { IfOk result (λ sorted. IsPermutation used.now sorted.items) }
+{
+    let mut keyed = keyed(alloc, order, settings, used)?;
+    keyed.sort()?;
+    let sorted = unkeyed(alloc, &keyed)?;
     Ok(sorted)
 }
 

@@ -1,19 +1,27 @@
 //! What a reaction becomes.
 
+ghost use Rattle.std.specs.Prelude.{◌≡◌, ◌++◌, [], ◌∷◌, None, Some, IfOk, OnOk, flat_map, map, option_map, string_bytes};
+ghost use Rattle.std.specs.List.{All};
+ghost use Rattle.lft_tree.specs.ItemView.{member_views, ref_views, trigger_view};
+ghost use Rattle.lft_tree.specs.Tree.{OnRef};
+ghost use Rattle.lft_shapes.specs.Shapes.{thing_named};
+ghost use Rattle.lft_lower.specs.Lowered.{Adds, AreTriggers, IsAsleep, IsReaction, MeansAll, MeansEffect, MeansTrigger, all_triggers, asleep, effect_places, trigger_places};
+ghost use Rattle.lft_lower.specs.Meanings.{here};
+
 use crate::places::{Within, places, push_places};
 use crate::room::Room;
-use lft_settings::Settings;
+use lft_shapes::Shape;
 use lft_sources::{Stop, Why};
 use lft_tree::{Action, Member, Reaction, Reference, Trigger};
 use lft_whole::{Effect, Reaction as Written, Trigger as WrittenTrigger};
 use std::alloc::Global;
 
 /// The name of an action that has no events: no thing of the reactor has it.
-fn never(alloc: Global, settings: &Settings, setting: usize) -> Result<String, Stop> {
+fn never(alloc: Global, within: Within) -> Result<String, Stop>
+    ensures { IfOk result (λ name. thing_named within.entry.shape.now (string_bytes name) ≡ None) }
+{
+    let shape = within.shape;
     let mut name = String::from_str(alloc, "never")?;
-    let Some(shape) = settings.shape_of(setting) else {
-        return Ok(name);
-    };
     let names = shape.members.len().saturating_add(shape.parameters.len());
     for _ in 0..names.saturating_add(1) {
         if shape.find(name.as_str()).is_none() {
@@ -21,13 +29,39 @@ fn never(alloc: Global, settings: &Settings, setting: usize) -> Result<String, S
         }
         name.push_str("_")?;
     }
-    Err(settings.work.refused(Why::TooMuch))
+    Err(within.settings.work.refused(Why::TooMuch))
 }
 
 /// Puts references at the end of a list of triggers.
-fn push_references(list: &mut Vec<Trigger>, references: Vec<Reference>) -> Result<(), Stop> {
+fn push_references(list: &mut Vec<Trigger>, references: Vec<Reference>) -> Result<(), Stop>
+    ensures { OnOk result (map trigger_view list.new.items ≡ map trigger_view list.old.items ++ map OnRef (ref_views references.items)) }
+{
     for reference in references {
         list.push(Trigger::Reference(reference))?;
+    }
+    Ok(())
+}
+
+/// Puts the places of a trigger at the end of a list.
+fn push_trigger(
+    alloc: Global,
+    room: &mut Room,
+    within: Within,
+    trigger: &WrittenTrigger,
+    list: &mut Vec<Trigger>,
+) -> Result<(), Stop>
+    ensures places { OnOk result (map trigger_view list.new.items ≡ map trigger_view list.old.items ++ trigger_places (here within.entry) trigger.now) }
+    ensures means { OnOk result (MeansTrigger (here within.entry) trigger.now) }
+{
+    match trigger {
+        WrittenTrigger::Startup => list.push(Trigger::Startup)?,
+        WrittenTrigger::Shutdown => list.push(Trigger::Shutdown)?,
+        WrittenTrigger::Reset { at } => return Err(Stop::at(Why::Mode, within.file, *at)),
+        WrittenTrigger::Reference(reference) => {
+            let mut found = Vec::new(alloc);
+            push_places(alloc, room, within, reference, &mut found)?;
+            push_references(list, found)?;
+        }
     }
     Ok(())
 }
@@ -36,126 +70,141 @@ fn push_references(list: &mut Vec<Trigger>, references: Vec<Reference>) -> Resul
 fn triggers(
     alloc: Global,
     room: &mut Room,
-    settings: &mut Settings,
     within: Within,
     reaction: &Written,
-) -> Result<Vec<Trigger>, Stop> {
+) -> Result<Vec<Trigger>, Stop>
+    ensures places { IfOk result (λ list. map trigger_view list.items ≡ all_triggers (here within.entry) reaction.now) }
+    ensures means { OnOk result (All (MeansTrigger (here within.entry)) reaction.now.triggers.items) }
+{
     if reaction.triggers.is_empty() {
         return Err(Stop::at(Why::NoTrigger, within.file, reaction.at));
     }
     let mut list = Vec::new(alloc);
-    for trigger in &reaction.triggers {
-        match trigger {
-            WrittenTrigger::Startup => list.push(Trigger::Startup)?,
-            WrittenTrigger::Shutdown => list.push(Trigger::Shutdown)?,
-            WrittenTrigger::Reset { at } => return Err(Stop::at(Why::Mode, within.file, *at)),
-            WrittenTrigger::Reference(reference) => {
-                let mut found = Vec::new(alloc);
-                push_places(
-                    alloc,
-                    room,
-                    settings,
-                    within,
-                    reference,
-                    usize::MAX,
-                    &mut found,
-                )?;
-                push_references(&mut list, found)?;
-            }
-        }
+    for place in 0..reaction.triggers.len() {
+        push_trigger(alloc, room, within, &reaction.triggers[place], &mut list)?;
     }
     Ok(list)
+}
+
+/// Puts the places of an effect at the end of a list.
+fn push_effect(
+    alloc: Global,
+    room: &mut Room,
+    within: Within,
+    effect: &Effect,
+    list: &mut Vec<Reference>,
+) -> Result<(), Stop>
+    ensures places { OnOk result (ref_views list.new.items ≡ ref_views list.old.items ++ effect_places (here within.entry) effect.now) }
+    ensures means { OnOk result (MeansEffect (here within.entry) effect.now) }
+{
+    match effect {
+        Effect::Mode { at } => Err(Stop::at(Why::Mode, within.file, *at)),
+        Effect::Reference(reference) => { push_places(alloc, room, within, reference, list) }
+    }
 }
 
 /// The effects of a reaction.
 fn effects(
     alloc: Global,
     room: &mut Room,
-    settings: &mut Settings,
     within: Within,
     reaction: &Written,
-) -> Result<Vec<Reference>, Stop> {
+) -> Result<Vec<Reference>, Stop>
+    ensures places { IfOk result (λ list. ref_views list.items ≡ flat_map (effect_places (here within.entry)) reaction.now.effects.items) }
+    ensures means { OnOk result (All (MeansEffect (here within.entry)) reaction.now.effects.items) }
+{
     let mut list = Vec::new(alloc);
-    for effect in &reaction.effects {
-        match effect {
-            Effect::Mode { at } => return Err(Stop::at(Why::Mode, within.file, *at)),
-            Effect::Reference(reference) => {
-                push_places(
-                    alloc,
-                    room,
-                    settings,
-                    within,
-                    reference,
-                    usize::MAX,
-                    &mut list,
-                )?;
-            }
-        }
+    for place in 0..reaction.effects.len() {
+        push_effect(alloc, room, within, &reaction.effects[place], &mut list)?;
     }
     Ok(list)
 }
 
-/// A trigger that never comes: a physical action without events. `name` is its name, which is put at the end of
-/// the members where it isn't known yet.
-fn push_never(
+/// Puts an action without events at the end of the members. Its name is that.
+fn add_asleep(
     alloc: Global,
     room: &mut Room,
-    settings: &Settings,
-    setting: usize,
-    name: &mut Option<String>,
-    triggers: &mut Vec<Trigger>,
+    within: Within,
     list: &mut Vec<Member>,
-) -> Result<(), Stop> {
-    let known = match name {
-        Some(known) => known.clone()?,
-        None => {
-            let free = never(alloc, settings, setting)?;
-            room.spend(free.len(), &settings.work)?;
-            list.push(Member::Action(Action {
-                name: free.clone()?,
-                is_physical: true,
-                min_delay: None,
-                at: 0,
-            }))?;
-            *name = Some(free.clone()?);
-            free
-        }
-    };
-    room.spend(known.len(), &settings.work)?;
-    triggers.push(Trigger::Reference(Reference {
-        head: known,
-        port: None,
+) -> Result<String, Stop>
+    ensures free { IfOk result (λ name. thing_named within.entry.shape.now (string_bytes name) ≡ None) }
+    ensures added { IfOk result (λ name. member_views list.new.items ≡ member_views list.old.items ++ asleep (string_bytes name) ∷ []) }
+{
+    let free = never(alloc, within)?;
+    room.spend(free.len(), &within.settings.work)?;
+    list.push(Member::Action(Action {
+        name: free.clone()?,
+        is_physical: true,
+        min_delay: None,
         at: 0,
     }))?;
-    Ok(())
+    Ok(free)
 }
 
-/// Puts what a reaction becomes at the end of the members. One whose triggers have no place never runs, and
-/// stands all the same between the others.
-pub(crate) fn push_reaction(
+/// The name of the action without events. If it isn't known yet, that is put at the end of the members.
+fn asleep(
     alloc: Global,
     room: &mut Room,
-    settings: &mut Settings,
+    within: Within,
+    name: &mut Option<String>,
+    list: &mut Vec<Member>,
+) -> Result<String, Stop>
+    ensures name { IfOk result (λ found. option_map string_bytes name.new ≡ Some (string_bytes found)) }
+    ensures added { IfOk result (λ found. Adds list.old.items list.new.items (IsAsleep (here within.entry) (string_bytes found) (option_map string_bytes name.old))) }
+{
+    if let Some(known) = name {
+        let known = known.clone()?;
+        return Ok(known);
+    }
+    let free = add_asleep(alloc, room, within, list)?;
+    *name = Some(free.clone()?);
+    Ok(free)
+}
+
+/// The triggers of a reaction. One whose triggers have no place never runs, and stands all the same between the
+/// others.
+fn some_triggers(
+    alloc: Global,
+    room: &mut Room,
     within: Within,
     reaction: &Written,
     never: &mut Option<String>,
     list: &mut Vec<Member>,
-) -> Result<(), Stop> {
-    let mut triggers = triggers(alloc, room, settings, within, reaction)?;
-    if triggers.is_empty() {
-        push_never(
-            alloc,
-            room,
-            settings,
-            within.setting,
-            never,
-            &mut triggers,
-            list,
-        )?;
+) -> Result<Vec<Trigger>, Stop>
+    ensures means { OnOk result (All (MeansTrigger (here within.entry)) reaction.now.triggers.items) }
+    ensures triggers { IfOk result (λ found. Adds list.old.items list.new.items (λ more. AreTriggers (here within.entry) reaction.now (option_map string_bytes never.old) more (option_map string_bytes never.new) (map trigger_view found.items))) }
+{
+    let mut triggers = triggers(alloc, room, within, reaction)?;
+    let count = triggers.len();
+    if count != 0 {
+        return Ok(triggers);
     }
-    let uses = places(alloc, room, settings, within, &reaction.uses, usize::MAX)?;
-    let effects = effects(alloc, room, settings, within, reaction)?;
-    room.spend(16, &settings.work)?;
+    let head = asleep(alloc, room, within, never, list)?;
+    room.spend(head.len(), &within.settings.work)?;
+    triggers.push(Trigger::Reference(Reference {
+        head,
+        port: None,
+        at: 0,
+    }))?;
+    Ok(triggers)
+}
+
+/// Puts what a reaction becomes at the end of the members.
+pub(crate) fn push_reaction(
+    alloc: Global,
+    room: &mut Room,
+    within: Within,
+    reaction: &Written,
+    never: &mut Option<String>,
+    list: &mut Vec<Member>,
+) -> Result<(), Stop>
+    ensures means { OnOk result (MeansAll (here within.entry) reaction.now) }
+    ensures lowered { OnOk result (Adds list.old.items list.new.items (λ more. IsReaction (here within.entry) reaction.now (option_map string_bytes never.old) more (option_map string_bytes never.new))) }
+{
+    let triggers = some_triggers(alloc, room, within, reaction, never, list)?;
+    let uses = places(alloc, room, within, &reaction.uses)?;
+    let effects = effects(alloc, room, within, reaction)?;
+    room.spend(16, &within.settings.work)?;
     list.push(Member::Reaction(Reaction {
         triggers,
         uses,

@@ -1,38 +1,37 @@
 //! What a reactor becomes in a setting.
 
-ghost use Rattle.std.specs.Prelude.{◌≡◌, ◌↔◌, IfOk, IsTrue, string_bytes};
+ghost use Rattle.std.specs.Prelude.{◌≡◌, ◌++◌, [], ◌∷◌, Some, IfOk, OnOk, false, map, option_map, string_bytes};
+ghost use Rattle.std.specs.List.{cons_option};
+ghost use Rattle.lft_tree.specs.ItemView.{action_view, item_view, member_views, parameter_view, reactor_view, time_view, timer_view};
+ghost use Rattle.lft_tree.specs.Tree.{ActionMember, TimerMember};
+ghost use Rattle.lft_lower.specs.Lowered.{Adds, IsLowered, IsMeasured, IsRead, action_tree, is_spaced, period_at, ports, timer_tree};
+ghost use Rattle.lft_lower.specs.Meanings.{here};
+ghost use Rattle.lft_lower.specs.Names.{texts};
+ghost use Rattle.lft_lower.specs.Places.{several};
+ghost use Rattle.lft_lower.specs.Reactors.{AreMembers, AreReactors, IsReactor, default_time, timed_parameter, timed_parameters};
 
 use crate::connections::push_connection;
 use crate::instances::push_instances;
+use crate::maker::Maker;
 use crate::notes::Notes;
-use crate::places::{Within, wide_thing};
+use crate::places::{Wide, Within};
 use crate::reactions::push_reaction;
 use crate::room::Room;
-use crate::times::{is_forever, is_zero, maybe_time, written};
-use lft_settings::Settings;
-use lft_shapes::{Inherited, InheritedParameter, Shape, Thing, Work};
+use crate::times::{is_forever, is_zero, maybe_time, read_time, written};
+use lft_lists::item_at;
+use lft_shapes::{Inherited, InheritedParameter, Shape, Work};
 use lft_sources::{Stop, Why};
-use lft_tree::{Action, Item, Member, Parameter, Port, Reactor, Time, Timer};
+use lft_tree::{Action, Item, Member, Parameter, Port, Reactor, Time, TimeExpression, Timer};
 use lft_whole::{
-    Action as WrittenAction, Member as Written, Port as WrittenPort, Timer as WrittenTimer, Value,
+    Action as WrittenAction, Expression, Member as Written, Port as WrittenPort,
+    Timer as WrittenTimer, Value,
 };
-use std::alloc::Global;
-
-/// What is made of all reactors.
-#[derive(Drop)]
-pub(crate) struct Maker<'a> {
-    pub(crate) alloc: Global,
-    pub(crate) settings: Settings<'a>,
-    pub(crate) notes: Notes<'a>,
-    /// The names of the settings in the core.
-    pub(crate) names: Vec<Option<String>>,
-    /// For each shape how many parameters each instance of it has to give.
-    pub(crate) needed: Vec<usize>,
-    pub(crate) room: Room,
-}
+use std::alloc::{AllocError, Global};
 
 /// The default of a time that is needed. One that each instance has to give is 0, which is never read.
-fn default(inherited: InheritedParameter, is_main: bool) -> Result<Time, Stop> {
+fn default(inherited: InheritedParameter, is_main: bool) -> Result<Time, Stop>
+    ensures { IfOk result (λ time. default_time inherited.entry.parameter.now.default ≡ Some time) }
+{
     let InheritedParameter { file, parameter } = inherited;
     let at = parameter.name.at;
     if !parameter.is_time {
@@ -54,6 +53,42 @@ fn default(inherited: InheritedParameter, is_main: bool) -> Result<Time, Stop> {
     }
 }
 
+/// The parameter of this number, if a time is read from it.
+fn timed(
+    room: &mut Room,
+    work: &Work,
+    shape: &Shape,
+    is_main: bool,
+    number: usize,
+) -> Result<Option<Parameter>, Stop>
+    ensures { IfOk result (λ made. option_map parameter_view made ≡ timed_parameter shape.now number) }
+{
+    if !shape.is_timed(number) {
+        return Ok(None);
+    }
+    let Some(inherited) = shape.parameters.get(number) else {
+        return Ok(None);
+    };
+    let default = default(*inherited, is_main)?;
+    let name = &inherited.parameter.name.text;
+    room.spend(name.len(), work)?;
+    Ok(Some(Parameter {
+        name: name.clone()?,
+        default,
+        at: 0,
+    }))
+}
+
+/// Puts a parameter at the end of a list, if there is one.
+fn push_parameter(list: &mut Vec<Parameter>, made: Option<Parameter>) -> Result<(), AllocError>
+    ensures { OnOk result (map parameter_view list.new.items ≡ map parameter_view list.old.items ++ cons_option (option_map parameter_view made) []) }
+{
+    if let Some(parameter) = made {
+        list.push(parameter)?;
+    }
+    Ok(())
+}
+
 /// The parameters that are needed as times.
 fn parameters(
     alloc: Global,
@@ -61,23 +96,36 @@ fn parameters(
     work: &Work,
     shape: &Shape,
     is_main: bool,
-) -> Result<Vec<Parameter>, Stop> {
+) -> Result<Vec<Parameter>, Stop>
+    ensures { IfOk result (λ list. map parameter_view list.items ≡ timed_parameters shape.now) }
+{
     let mut list = Vec::new(alloc);
     for number in 0..shape.parameters.len() {
-        if !shape.is_timed(number) {
-            continue;
-        }
-        let inherited = shape.parameters[number];
-        let default = default(inherited, is_main)?;
-        let name = &inherited.parameter.name.text;
-        room.spend(name.len(), work)?;
-        list.push(Parameter {
-            name: name.clone()?,
-            default,
-            at: 0,
-        })?;
+        let made = timed(room, work, shape, is_main, number)?;
+        push_parameter(&mut list, made)?;
     }
     Ok(list)
+}
+
+/// The period of a timer, which has none where it is `forever`.
+fn period(
+    alloc: Global,
+    shape: &Shape,
+    file: usize,
+    value: &Option<Expression>,
+) -> Result<Option<TimeExpression>, Stop>
+    ensures time { IfOk result (λ time. option_map time_view time ≡ period_at value.now) }
+    ensures read { OnOk result (IsRead value.now) }
+{
+    match value {
+        Some(period) => {
+            if is_forever(period) {
+                return Ok(None);
+            }
+            Ok(Some(read_time(alloc, shape, file, period)?))
+        }
+        None => Ok(None),
+    }
 }
 
 /// What a timer becomes.
@@ -87,17 +135,13 @@ fn lowered_timer(
     file: usize,
     timer: &WrittenTimer,
 ) -> Result<Timer, Stop>
-    ensures { IfOk result (λ made. string_bytes made.name ≡ string_bytes timer.now.name.text) }
+    ensures made { IfOk result (λ made. timer_view made ≡ timer_tree timer.now) }
+    ensures read { OnOk result (IsRead timer.now.offset × IsRead timer.now.period) }
 {
-    let offset = maybe_time(alloc, shape, file, &timer.offset)?;
-    let period = match &timer.period {
-        Some(period) if is_forever(period) => None,
-        period => maybe_time(alloc, shape, file, period)?,
-    };
     Ok(Timer {
         name: timer.name.text.clone()?,
-        offset,
-        period,
+        offset: maybe_time(alloc, shape, file, &timer.offset)?,
+        period: period(alloc, shape, file, &timer.period)?,
         at: 0,
     })
 }
@@ -109,8 +153,9 @@ fn lowered_action(
     file: usize,
     action: &WrittenAction,
 ) -> Result<Action, Stop>
-    ensures name { IfOk result (λ made. string_bytes made.name ≡ string_bytes action.now.name.text) }
-    ensures origin { IfOk result (λ made. made.is_physical ≡ action.now.is_physical) }
+    ensures made { IfOk result (λ made. action_view made ≡ action_tree action.now) }
+    ensures read { OnOk result (IsRead action.now.min_delay) }
+    ensures spacing { OnOk result (is_spaced action.now ≡ false) }
 {
     if let Some(spacing) = &action.spacing
         && !action.is_physical
@@ -126,163 +171,201 @@ fn lowered_action(
     })
 }
 
-impl<'a> Maker<'a> {
-    /// Puts the channels of a port at the end of the members.
-    fn push_ports(
-        &mut self,
-        setting: usize,
-        member: usize,
-        port: &WrittenPort,
-        list: &mut Vec<Member>,
-    ) -> Result<(), Stop> {
-        let channels = wide_thing(&mut self.settings, setting, Thing::Member(member))?;
-        for number in 0..channels.count() {
-            let name = channels.at(number);
-            self.room.spend(name.bytes(), &self.settings.work)?;
-            list.push(Member::Port(Port {
-                name: name.core(self.alloc)?,
-                is_input: port.is_input,
-                at: 0,
-            }))?;
-        }
-        Ok(())
+/// Puts the channels of a port at the end of the members.
+fn push_ports(
+    alloc: Global,
+    room: &mut Room,
+    work: &Work,
+    channels: Wide,
+    is_input: bool,
+    list: &mut Vec<Member>,
+) -> Result<(), Stop>
+    ensures { OnOk result (member_views list.new.items ≡ member_views list.old.items ++ ports (several channels.entry) is_input) }
+{
+    for number in 0..channels.count() {
+        let name = channels.at(number);
+        room.spend(name.bytes(), work)?;
+        list.push(Member::Port(Port {
+            name: name.core(alloc)?,
+            is_input,
+            at: 0,
+        }))?;
     }
+    Ok(())
+}
 
-    /// Puts a timer at the end of the members.
-    fn push_timer(
-        &mut self,
-        within: Within,
-        timer: &WrittenTimer,
-        list: &mut Vec<Member>,
-    ) -> Result<(), Stop> {
-        self.room.spend(timer.name.text.len(), &self.settings.work)?;
-        if let Some(shape) = self.settings.shape_of(within.setting) {
-            list.push(Member::Timer(lowered_timer(self.alloc, shape, within.file, timer)?))?;
+/// Puts a timer at the end of the members.
+fn push_timer(
+    alloc: Global,
+    room: &mut Room,
+    within: Within,
+    timer: &WrittenTimer,
+    list: &mut Vec<Member>,
+) -> Result<(), Stop>
+    ensures made { OnOk result (member_views list.new.items ≡ member_views list.old.items ++ TimerMember (timer_tree timer.now) ∷ []) }
+    ensures read { OnOk result (IsRead timer.now.offset × IsRead timer.now.period) }
+{
+    room.spend(timer.name.text.len(), &within.settings.work)?;
+    list.push(Member::Timer(lowered_timer(alloc, within.shape, within.file, timer)?))?;
+    Ok(())
+}
+
+/// Puts an action at the end of the members.
+fn push_action(
+    alloc: Global,
+    room: &mut Room,
+    within: Within,
+    action: &WrittenAction,
+    list: &mut Vec<Member>,
+) -> Result<(), Stop>
+    ensures made { OnOk result (member_views list.new.items ≡ member_views list.old.items ++ ActionMember (action_tree action.now) ∷ []) }
+    ensures read { OnOk result (IsRead action.now.min_delay) }
+    ensures spacing { OnOk result (is_spaced action.now ≡ false) }
+{
+    room.spend(action.name.text.len(), &within.settings.work)?;
+    list.push(Member::Action(lowered_action(alloc, within.shape, within.file, action)?))?;
+    Ok(())
+}
+
+/// Puts what the member of this number becomes at the end of the members.
+fn push_member(
+    maker: Maker,
+    room: &mut Room,
+    notes: &mut Notes,
+    within: Within,
+    number: usize,
+    member: &Written,
+    never: &mut Option<String>,
+    list: &mut Vec<Member>,
+) -> Result<(), Stop>
+    ensures { OnOk result (Adds list.old.items list.new.items (λ more. IsLowered (texts maker.entry.names.now) (here within.entry) number (option_map string_bytes never.old) more (option_map string_bytes never.new) member.now)) }
+{
+    let alloc = maker.alloc;
+    match member {
+        Written::Port(port) => {
+            let channels = within.member(number);
+            push_ports(
+                alloc,
+                room,
+                &within.settings.work,
+                channels,
+                port.is_input,
+                list,
+            )?;
+            Ok(())
         }
-        Ok(())
-    }
-
-    /// Puts an action at the end of the members.
-    fn push_action(
-        &mut self,
-        within: Within,
-        action: &WrittenAction,
-        list: &mut Vec<Member>,
-    ) -> Result<(), Stop> {
-        self.room
-            .spend(action.name.text.len(), &self.settings.work)?;
-        if let Some(shape) = self.settings.shape_of(within.setting) {
-            list.push(Member::Action(lowered_action(self.alloc, shape, within.file, action)?))?;
+        Written::Timer(timer) => {
+            push_timer(alloc, room, within, timer, list)?;
+            Ok(())
         }
-        Ok(())
+        Written::Action(action) => {
+            push_action(alloc, room, within, action, list)?;
+            Ok(())
+        }
+        Written::Reaction(reaction) => {
+            push_reaction(alloc, room, within, reaction, never, list)?;
+            Ok(())
+        }
+        Written::Instance(instance) => {
+            push_instances(maker, room, within, number, instance, list)?;
+            Ok(())
+        }
+        Written::Connection(connection) => {
+            push_connection(alloc, room, notes, within, connection, list)?;
+            Ok(())
+        }
+        // Such a member is refused before a setting is made.
+        Written::Foreign { at, .. } => Err(Stop::at(Why::Mode, within.file, *at)),
     }
+}
 
-    /// Puts what the member of this number becomes at the end of the members.
-    fn push_member(
-        &mut self,
-        setting: usize,
-        member: usize,
-        inherited: Inherited<'a>,
-        never: &mut Option<String>,
-        list: &mut Vec<Member>,
-    ) -> Result<(), Stop> {
-        let alloc = self.alloc;
+/// Refuses a member whose width is written and isn't known. There is none.
+fn check_width(within: Within, number: usize, inherited: Inherited) -> Result<(), Stop>
+    ensures { OnOk result (IsMeasured (here within.entry) number inherited.entry.member.now) }
+{
+    if inherited.width().is_some() && within.settings.known(within.setting, number).is_none() {
+        return Err(within.settings.work.refused(Why::TooMuch));
+    }
+    Ok(())
+}
+
+/// The members of the reactor of a setting.
+fn members<'s, 'a>(
+    maker: Maker<'s, 'a>,
+    room: &mut Room,
+    notes: &mut Notes,
+    setting: usize,
+    shape: &'s Shape<'a>,
+) -> Result<Vec<Member>, Stop>
+    ensures { IfOk result (λ list. AreMembers maker.entry.settings.now (texts maker.entry.names.now) setting shape.now (member_views list.items)) }
+{
+    let mut list = Vec::new(maker.alloc);
+    let mut never = None;
+    for number in 0..shape.members.len() {
+        let inherited = shape.members[number];
         let within = Within {
+            settings: maker.settings,
             setting,
+            shape,
             file: inherited.file,
         };
-        match inherited.member {
-            Written::Port(port) => self.push_ports(setting, member, port, list),
-            Written::Timer(timer) => self.push_timer(within, timer, list),
-            Written::Action(action) => self.push_action(within, action, list),
-            Written::Reaction(reaction) => {
-                push_reaction(
-                    alloc,
-                    &mut self.room,
-                    &mut self.settings,
-                    within,
-                    reaction,
-                    never,
-                    list,
-                )
-            }
-            Written::Instance(instance) => {
-                push_instances(
-                    alloc,
-                    &mut self.room,
-                    &mut self.settings,
-                    self.names.as_slice(),
-                    self.needed.as_slice(),
-                    within,
-                    member,
-                    instance,
-                    list,
-                )
-            }
-            Written::Connection(connection) => {
-                push_connection(
-                    alloc,
-                    &mut self.room,
-                    &mut self.settings,
-                    &mut self.notes,
-                    within,
-                    connection,
-                    list,
-                )
-            }
-            Written::Foreign { .. } => Ok(()),
-        }
+        check_width(within, number, inherited)?;
+        push_member(
+            maker,
+            room,
+            notes,
+            within,
+            number,
+            inherited.member,
+            &mut never,
+            &mut list,
+        )?;
     }
+    Ok(list)
+}
 
-    /// The members of the reactor of a setting, which has so many as they are written.
-    fn members(&mut self, setting: usize, count: usize) -> Result<Vec<Member>, Stop> {
-        let mut list = Vec::new(self.alloc);
-        let mut never = None;
-        for number in 0..count {
-            let inherited = match self.settings.shape_of(setting) {
-                Some(shape) => shape.member(number),
-                None => None,
-            };
-            if let Some(inherited) = inherited {
-                self.push_member(setting, number, inherited, &mut never, &mut list)?;
-            }
-        }
-        Ok(list)
-    }
+/// The reactor of a setting. That of number 0 is the main one.
+fn core_reactor<'s, 'a>(
+    maker: Maker<'s, 'a>,
+    room: &mut Room,
+    notes: &mut Notes,
+    setting: usize,
+    shape: &'s Shape<'a>,
+) -> Result<Reactor, Stop>
+    ensures { IfOk result (λ made. IsReactor maker.entry.settings.now (texts maker.entry.names.now) setting shape.now (reactor_view made)) }
+{
+    let is_main = setting == 0;
+    let name = match maker.name(setting) {
+        Some(name) => Some(String::from_str(maker.alloc, name)?),
+        None => None,
+    };
+    let parameters = parameters(maker.alloc, room, &maker.settings.work, shape, is_main)?;
+    let members = members(maker, room, notes, setting, shape)?;
+    Ok(Reactor {
+        is_main,
+        name,
+        parameters,
+        members,
+        at: 0,
+    })
+}
 
-    /// The reactor of a setting. That of number 0 is the main one.
-    fn reactor(&mut self, setting: usize) -> Result<Reactor, Stop>
-        ensures { IfOk result (λ reactor. IsTrue reactor.is_main ↔ setting ≡ 0) }
-    {
-        let is_main = setting == 0;
-        let name = match self.names.get(setting) {
-            Some(Some(name)) => Some(name.clone()?),
-            _ => None,
+/// The reactors of settings, in this order.
+pub(crate) fn reactors(
+    maker: Maker,
+    room: &mut Room,
+    notes: &mut Notes,
+    settings: &[usize],
+) -> Result<Vec<Item>, Stop>
+    ensures { IfOk result (λ items. AreReactors maker.entry.settings.now (texts maker.entry.names.now) settings.now (map item_view items.items)) }
+{
+    let mut items = Vec::new(maker.alloc);
+    for place in 0..settings.len() {
+        let setting = item_at(settings, place);
+        let Some(shape) = maker.settings.shape_of(setting) else {
+            return Err(maker.settings.work.refused(Why::TooMuch));
         };
-        let work = self.settings.work;
-        let (parameters, count) = match self.settings.shape_of(setting) {
-            Some(shape) => {
-                let parameters = parameters(self.alloc, &mut self.room, &work, shape, is_main)?;
-                (parameters, shape.members.len())
-            }
-            None => (Vec::new(self.alloc), 0),
-        };
-        let members = self.members(setting, count)?;
-        Ok(Reactor {
-            is_main,
-            name,
-            parameters,
-            members,
-            at: 0,
-        })
+        items.push(Item::Reactor(core_reactor(maker, room, notes, setting, shape)?))?;
     }
-
-    /// The reactors of settings, in this order.
-    pub(crate) fn reactors(&mut self, settings: &[usize]) -> Result<Vec<Item>, Stop> {
-        let mut items = Vec::new(self.alloc);
-        for setting in settings.iter().copied() {
-            items.push(Item::Reactor(self.reactor(setting)?))?;
-        }
-        Ok(items)
-    }
+    Ok(items)
 }

@@ -1,8 +1,10 @@
 //! Times, and the parameters that stand for them.
 
-ghost use Rattle.std.specs.Prelude.{◌≡◌, ◌≤◌, Some, IfOk, IsTrue, ◌↔◌};
+ghost use Rattle.std.specs.Prelude.{◌≡◌, ◌≤◌, Some, IfOk, OnOk, not, option_map};
 ghost use Rattle.lft_tree.specs.Tree.{nanoseconds as nanoseconds_of};
+ghost use Rattle.lft_tree.specs.ItemView.{time_view};
 ghost use Rattle.lft_scope.specs.Causes.{longest};
+ghost use Rattle.lft_lower.specs.Lowered.{IsRead, is_forever, is_some_time, time_at, time_for};
 ghost use Rattle.lft_lower.specs.Times.{time_in};
 
 use lft_scope::times::nanoseconds;
@@ -52,12 +54,16 @@ pub(crate) fn written(file: usize, value: &Expression) -> Result<Time, Stop>
 }
 
 /// Whether a value is 0, with a unit or without.
-pub(crate) fn is_zero(value: &Expression) -> bool {
+pub(crate) fn is_zero(value: &Expression) -> bool
+    ensures { result ≡ not (is_some_time value.now.value) }
+{
     matches!(value.value, Value::Number { count: 0, .. })
 }
 
 /// Whether a value is the word `forever`.
-pub(crate) fn is_forever(value: &Expression) -> bool {
+pub(crate) fn is_forever(value: &Expression) -> bool
+    ensures { result ≡ is_forever value.now.value }
+{
     match &value.value {
         Value::Word(word) => word.as_str() == "forever",
         _ => false,
@@ -70,7 +76,9 @@ pub(crate) fn read_time(
     shape: &Shape,
     file: usize,
     value: &Expression,
-) -> Result<TimeExpression, Stop> {
+) -> Result<TimeExpression, Stop>
+    ensures { IfOk result (λ time. time_for value.now.value ≡ Some (time_view time)) }
+{
     if let Value::Word(word) = &value.value
         && let Some(parameter) = shape.parameter(word.as_str())
         && let Some(found) = shape.parameters.get(parameter)
@@ -91,7 +99,10 @@ pub(crate) fn maybe_time(
     shape: &Shape,
     file: usize,
     value: &Option<Expression>,
-) -> Result<Option<TimeExpression>, Stop> {
+) -> Result<Option<TimeExpression>, Stop>
+    ensures time { IfOk result (λ time. option_map time_view time ≡ time_at value.now) }
+    ensures read { OnOk result (IsRead value.now) }
+{
     match value {
         None => Ok(None),
         Some(value) => Ok(Some(read_time(alloc, shape, file, value)?)),

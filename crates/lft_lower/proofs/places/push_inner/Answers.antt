@@ -6,7 +6,7 @@ use Rattle.lft_tree.specs.View.{ref_view, ref_views}
 use Rattle.lft_settings.specs.Names.{core_name}
 use Rattle.lft_lowering.specs.Channels.{Place, places}
 use Rattle.lft_lowering.specs.Lowered.{inner}
-use Rattle.lft_lower.specs.Places.{count_of, name_at, inner_places}
+use Rattle.lft_lower.specs.Places.{count_of, inner_places, name_at, several}
 use Rattle.lft_lower.proofs.Cuts.{cut_more, cut_full, cut_end, length_places}
 use Rattle.lft_lower.proofs.places.push_inner.Goals as goal
 
@@ -24,8 +24,8 @@ loop-place-preserved c =
     let start = ref_views c.args.list.now.items in
     let items = c.loop-place.list.items in
     let place = c.loop-place.place in
-    let members = c.args.members in
-    let channels = c.args.channels in
+    let members = several c.args.members in
+    let channels = several c.args.channels in
     let b = c.args.is_interleaved in
     let spot = c.place_at-spot.result in
     let made = c.in_ok-reference.reference in
@@ -44,13 +44,13 @@ returns-then-len-most c =
     let start = ref_views c.args.list.now.items in
     let low : length start + c.loop-place.place ≤ max c.args.most (length start) = omega (arith, c.loop-place.invariant.many, c.loop-place.invariant.few) in
     let full : c.args.most ≤ length start + c.loop-place.place = omega (arith, c.loop-place.invariant.many) in
-    c.loop-place.invariant.made ∙ cut_full start (inner_places c.args.members c.args.channels c.args.is_interleaved) c.loop-place.place c.args.most low full
+    c.loop-place.invariant.made ∙ cut_full start (inner_places (several c.args.members) (several c.args.channels) c.args.is_interleaved) c.loop-place.place c.args.most low full
 
 pub returns : goal.returns
 returns c =
     let start = ref_views c.args.list.now.items in
-    let members = c.args.members in
-    let channels = c.args.channels in
+    let members = several c.args.members in
+    let channels = several c.args.channels in
     let b = c.args.is_interleaved in
     let more = inner_places members channels b in
     let low : length start + c.loop-place.place ≤ max c.args.most (length start) = omega (arith, c.loop-place.invariant.many, c.loop-place.invariant.few) in

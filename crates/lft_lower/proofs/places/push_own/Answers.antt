@@ -4,7 +4,7 @@ use Rattle.std.proofs.lemmas.List.FromFn.{length-map-range_with_len}
 use Rattle.lft_tree.specs.View.{ref_view, ref_views}
 use Rattle.lft_lowering.specs.Lowered.{own}
 use Rattle.lft_lowering.proofs.Grids.{row_at}
-use Rattle.lft_lower.specs.Places.{count_of, name_at, own_places}
+use Rattle.lft_lower.specs.Places.{count_of, name_at, own_places, several}
 use Rattle.lft_lower.proofs.Cuts.{cut_more, cut_full, cut_all}
 use Rattle.lft_lower.proofs.places.push_own.Goals as goal
 
@@ -22,7 +22,7 @@ loop-place-preserved c =
     let start = ref_views c.args.list.now.items in
     let items = c.loop-place.list.items in
     let place = c.loop-place.place in
-    let thing = c.args.thing in
+    let thing = several c.args.thing in
     let made = c.in_ok-reference.reference in
     let longer = ap length c.in_ok-push.ensures.items ∙ length_push items made in
     let within : place < count_of thing = omega (arith, c.count-count.ensures) in
@@ -39,12 +39,12 @@ returns-then-len-most c =
     let start = ref_views c.args.list.now.items in
     let low : length start + c.loop-place.place ≤ max c.args.most (length start) = omega (arith, c.loop-place.invariant.many, c.loop-place.invariant.few) in
     let full : c.args.most ≤ length start + c.loop-place.place = omega (arith, c.loop-place.invariant.many) in
-    c.loop-place.invariant.made ∙ cut_full start (own_places c.args.thing) c.loop-place.place c.args.most low full
+    c.loop-place.invariant.made ∙ cut_full start (own_places (several c.args.thing)) c.loop-place.place c.args.most low full
 
 pub returns : goal.returns
 returns c =
     let start = ref_views c.args.list.now.items in
-    let thing = c.args.thing in
+    let thing = several c.args.thing in
     let low : length start + c.loop-place.place ≤ max c.args.most (length start) = omega (arith, c.loop-place.invariant.many, c.loop-place.invariant.few) in
     let all : length (own_places thing) ≤ c.loop-place.place = omega (arith, length-map-range_with_len (λ k. own (name_at thing k)) 0 (count_of thing), c.count-count.ensures) in
     c.loop-place.invariant.made ∙ cut_all start (own_places thing) c.loop-place.place c.args.most low all

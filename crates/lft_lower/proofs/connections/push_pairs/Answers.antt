@@ -1,0 +1,48 @@
+use Rattle.std.proofs.Common.{◌≡◌, ◌<◌, ◌++◌, [], ◌∷◌, true, Some, map, length, refl, sym, ap, subst, ◌∙◌, arith}
+use Rattle.std.specs.Prelude.{option_map, slice_get}
+use Rattle.std.proofs.lemmas.List.{append-nil, length-map, map-append}
+use Rattle.std.proofs.lemmas.Option.{slice_get-get_or}
+use Rattle.lft_lists.proofs.Mapped.{mapped}
+use Rattle.lft_lowering.specs.Channels.{joined, source}
+use Rattle.lft_lowering.specs.Lowered.{single}
+use Rattle.lft_tree.specs.Tree.{ConnectionMember}
+use Rattle.lft_tree.specs.View.{member_view, member_views, ref_view, ref_views, time_view}
+use Rattle.lft_lower.proofs.Joining.{added_next, joined_low, pairs_all, pairs_more, pairs_none}
+use Rattle.lft_lower.proofs.connections.push_pairs.Goals as goal
+
+pub loop-pair-init : goal.loop-pair-init
+loop-pair-init c = ([], pairs_none (ref_views c.args.sources.now) (ref_views c.args.destinations.now) true (option_map time_view c.args.delay.now), omega arith, sym (append-nil (member_views c.args.list.now.items)))
+
+pub loop-pair-preserved : goal.loop-pair-preserved
+loop-pair-preserved c =
+    let lefts = c.args.sources.now in
+    let rights = c.args.destinations.now in
+    let delay = option_map time_view c.args.delay.now in
+    let pair = c.loop-pair.pair in
+    let cs = c.loop-pair.invariant.0 in
+    let from = c.index-sources-place.result in
+    let to = c.index-destinations-pair.result in
+    let place = c.source-place.result in
+    let test = c.loop-pair-test.true in
+    let of_left : slice_get lefts place ≡ Some from = slice_get-get_or lefts place from c.source-place.ensures.there ∙ ap Some (sym c.index-sources-place.is) in
+    let there : place ≡ source (length (ref_views lefts)) true pair = c.source-place.ensures.result ∙ ap (λ n. source n true pair) (sym (length-map lefts ref_view)) in
+    let at_left : slice_get (ref_views lefts) (source (length (ref_views lefts)) true pair) ≡ Some (ref_view from) = ap (slice_get (ref_views lefts)) (sym there) ∙ mapped ref_view lefts place from of_left in
+    let under : pair < joined (length lefts) (length rights) true = omega (arith, c.joined-pairs.ensures) in
+    let low : pair < length rights = joined_low (length lefts) (length rights) pair under in
+    let at_right : slice_get (ref_views rights) pair ≡ Some (ref_view to) = mapped ref_view rights pair to (slice_get-get_or rights pair to low ∙ ap Some (sym c.index-destinations-pair.is)) in
+    let one = single delay (ref_view from) (ref_view to) in (
+      cs ++ one ∷ [],
+      pairs_more (ref_views lefts) (ref_views rights) true delay pair cs (ref_view from) (ref_view to) c.loop-pair.invariant.1 at_left at_right,
+      omega (arith, under),
+      added_next member_view c.loop-pair.list.items _ _ (member_views c.args.list.now.items) cs one c.in_ok-push.ensures.items (ap ConnectionMember c.in_ok-connection.ensures) c.loop-pair.invariant.3,
+    )
+
+pub returns : goal.returns
+returns c =
+    let lefts = c.args.sources.now in
+    let rights = c.args.destinations.now in
+    let test = c.loop-pair-test.false in
+    let few = c.loop-pair.invariant.2 in
+    let end : c.loop-pair.pair ≡ joined (length lefts) (length rights) true = omega (arith, few, c.joined-pairs.ensures) in
+    let all : c.loop-pair.pair ≡ joined (length (ref_views lefts)) (length (ref_views rights)) true = end ∙ ap (λ n. joined n (length rights) true) (sym (length-map lefts ref_view)) ∙ ap (λ n. joined (length (ref_views lefts)) n true) (sym (length-map rights ref_view)) in
+    (map ConnectionMember c.loop-pair.invariant.0, (c.loop-pair.invariant.0, pairs_all (ref_views lefts) (ref_views rights) true (option_map time_view c.args.delay.now) c.loop-pair.pair c.loop-pair.invariant.0 all c.loop-pair.invariant.1, refl), c.loop-pair.invariant.3)

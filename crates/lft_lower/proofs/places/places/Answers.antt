@@ -1,0 +1,23 @@
+use Rattle.std.proofs.Common.{◌≡◌, Some, slice_get, sym, ap, ◌∙◌, arith}
+use Rattle.std.proofs.lemmas.Option.{slice_get-get_or}
+use Rattle.lft_lower.specs.Meanings.{Means, here, places_in}
+use Rattle.lft_lower.proofs.Growing.{all_done, all_next, flat_all, flat_grown}
+use Rattle.lft_lower.proofs.places.places.Goals as goal
+
+pub loop-place-preserved : goal.loop-place-preserved
+loop-place-preserved c =
+    let items = c.args.references.now in
+    let place = c.loop-place.place in
+    let item = c.index-references-place.result in
+    let test = c.loop-place-test.true in
+    let there : slice_get items place ≡ Some item = slice_get-get_or items place item (omega arith) ∙ ap Some (sym c.index-references-place.is) in
+    let h = here c.args.within in (
+      flat_grown (places_in h) items place item _ _ there c.loop-place.invariant.0 c.in_ok-push_places.ensures.places,
+      all_next (Means h) items place item there c.loop-place.invariant.1 c.in_ok-push_places.ensures.means,
+    )
+
+pub returns-clause-means : goal.returns-clause-means
+returns-clause-means c = all_done (Means (here c.args.within)) c.args.references.now c.loop-place.place c.loop-place-test.false c.loop-place.invariant.1
+
+pub returns-clause-places : goal.returns-clause-places
+returns-clause-places c = flat_all (places_in (here c.args.within)) (c.args.references.now) c.loop-place.place _ c.loop-place-test.false c.loop-place.invariant.0

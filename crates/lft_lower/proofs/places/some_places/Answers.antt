@@ -1,0 +1,18 @@
+use Rattle.std.proofs.Common.{◌≡◌, Some, slice_get, take, sym, ap, ◌∙◌, arith}
+use Rattle.std.proofs.lemmas.List.{take_all}
+use Rattle.std.proofs.lemmas.Option.{slice_get-get_or}
+use Rattle.lft_lower.specs.Meanings.{all_places, here}
+use Rattle.lft_lower.proofs.Placed.{cut_next}
+use Rattle.lft_lower.proofs.places.some_places.Goals as goal
+
+pub loop-place-preserved : goal.loop-place-preserved
+loop-place-preserved c =
+    let items = c.args.references.now in
+    let place = c.loop-place.place in
+    let item = c.index-references-place.result in
+    let test = c.loop-place-test.true in
+    let there : slice_get items place ≡ Some item = slice_get-get_or items place item (omega arith) ∙ ap Some (sym c.index-references-place.is) in
+    cut_next (here c.args.within) items place item c.args.most _ _ there c.loop-place.invariant c.in_ok-push_some.ensures
+
+pub returns : goal.returns
+returns c = c.loop-place.invariant ∙ ap (λ rs. take c.args.most (all_places (here c.args.within) rs)) (take_all c.loop-place.place c.args.references.now c.loop-place-test.false)

@@ -1,0 +1,23 @@
+use Rattle.std.proofs.Common.{◌≡◌, [], Some, None, length, slice_get, take, string_bytes, refl, subst, sym, arith}
+use Rattle.std.specs.Prelude.{option_map}
+use Rattle.std.proofs.lemmas.Option.{slice_get_read}
+use Rattle.lft_tree.specs.View.{member_views}
+use Rattle.lft_lower.specs.Lowered.{AreLowered, no_members}
+use Rattle.lft_lower.specs.Names.{texts}
+use Rattle.lft_lower.proofs.Turns.{lowered_all, lowered_next}
+use Rattle.lft_lower.proofs.reactors.members.Goals as goal
+
+pub loop-number-init : goal.loop-number-init
+loop-number-init c = subst (λ xs. AreLowered (texts c.args.maker.names.now) (record { settings = c.args.maker.settings.now; setting = c.args.setting; shape = c.args.shape.now }) [] (member_views xs) None) (sym c.new-list.ensures.items) no_members
+
+pub loop-number-preserved : goal.loop-number-preserved
+loop-number-preserved c =
+    let items = c.args.shape.now.members.items in
+    let number = c.loop-number.number in
+    let item = c.index-inherited.result.now in
+    let test = c.loop-number-test.true in
+    let there : slice_get items number ≡ Some item = slice_get_read items (length items) number item refl (omega (arith, c.len-number-end.ensures)) c.index-inherited.ensures in
+    lowered_next (texts c.args.maker.names.now) _ items number item _ c.in_ok-push_member.ensures.0 _ _ _ there c.loop-number.invariant c.in_ok-check_width.ensures c.in_ok-push_member.ensures.1 c.in_ok-push_member.ensures.2
+
+pub returns : goal.returns
+returns c = lowered_all c.args.maker.settings.now (texts c.args.maker.names.now) c.args.setting c.args.shape.now c.loop-number.number _ _ (omega (arith, c.len-number-end.ensures, c.loop-number-test.false)) c.loop-number.invariant

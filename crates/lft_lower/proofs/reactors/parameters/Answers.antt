@@ -1,0 +1,29 @@
+use Rattle.std.proofs.Common.{◌≡◌, ◌<◌, ◌≤◌, ◌++◌, [], Some, filter_map, length, slice_get, sym, ap, ◌∙◌, arith, zero-add}
+use Rattle.std.specs.List.{cons_option}
+use Rattle.std.specs.Prelude.{option_map}
+use Rattle.std.proofs.lemmas.List.{take_all}
+use Rattle.std.proofs.lemmas.List.FromFn.{get_or-range_with_len, length-range_with_len}
+use Rattle.std.proofs.lemmas.Option.{slice_get-get_or}
+use Rattle.lft_lists.proofs.Picked.{kept_more}
+use Rattle.lft_tree.specs.View.{parameter_view}
+use Rattle.lft_lowering.specs.Channels.{below}
+use Rattle.lft_lower.specs.Reactors.{timed_parameter}
+use Rattle.lft_lower.proofs.reactors.parameters.Goals as goal
+
+pub loop-number-preserved : goal.loop-number-preserved
+loop-number-preserved c =
+    let n = length c.args.shape.now.parameters.items in
+    let number = c.loop-number.number in
+    let test = c.loop-number-test.true in
+    let less : number < n = omega arith in
+    let within : number < length (below n) = omega (arith, length-range_with_len 0 n) in
+    let there : slice_get (below n) number ≡ Some number = slice_get-get_or (below n) number number within ∙ ap Some (get_or-range_with_len 0 n number number less ∙ zero-add number) in
+    let made = option_map parameter_view c.in_ok-made.made in
+    c.in_ok-push_parameter.ensures ∙ ap (λ ys. ys ++ cons_option made []) c.loop-number.invariant ∙ sym (kept_more (timed_parameter c.args.shape.now) (below n) number number made there c.in_ok-made.ensures)
+
+pub returns : goal.returns
+returns c =
+    let n = length c.args.shape.now.parameters.items in
+    let test = c.loop-number-test.false in
+    let all : length (below n) ≤ c.loop-number.number = omega (arith, length-range_with_len 0 n) in
+    c.loop-number.invariant ∙ ap (filter_map (timed_parameter c.args.shape.now)) (take_all c.loop-number.number (below n) all)

@@ -1,0 +1,26 @@
+use Rattle.std.proofs.Common.{◌≡◌, ◌<◌, ◌≤◌, ◌++◌, List, ℕ, map, sym, ap, ◌∙◌, arith}
+use Rattle.std.proofs.lemmas.List.{append-nil}
+use Rattle.lft_tree.specs.Tree.{MemberTree, PortMember}
+use Rattle.lft_tree.specs.View.{member_view, member_views}
+use Rattle.lft_lower.specs.Places.{count_of, name_at, several}
+use Rattle.lft_lower.proofs.Growing.{named_all, named_grown}
+use Rattle.lft_lower.proofs.reactors.push_ports.Goals as goal
+
+pub loop-number-init : goal.loop-number-init
+loop-number-init c = sym (append-nil (member_views c.args.list.now.items))
+
+pub loop-number-preserved : goal.loop-number-preserved
+loop-number-preserved c =
+    let x = several c.args.channels in
+    let f : List ℕ → MemberTree = λ name. PortMember (record { name = name; is_input = c.args.is_input }) in
+    let number = c.loop-number.number in
+    let test = c.loop-number-test.true in
+    let less : number < count_of x = omega (arith, c.count-number-end.ensures) in
+    named_grown member_view f (name_at x) (count_of x) number c.loop-number.list.items _ _ (member_views c.args.list.now.items) less c.in_ok-push.ensures.items (ap f (c.in_ok-core.ensures ∙ c.at-name.ensures)) c.loop-number.invariant
+
+pub returns : goal.returns
+returns c =
+    let x = several c.args.channels in
+    let test = c.loop-number-test.false in
+    let all : count_of x ≤ c.loop-number.number = omega (arith, c.count-number-end.ensures) in
+    named_all (λ name. PortMember (record { name = name; is_input = c.args.is_input })) (name_at x) (count_of x) c.loop-number.number _ (member_views c.args.list.now.items) all c.loop-number.invariant

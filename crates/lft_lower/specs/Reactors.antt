@@ -1,0 +1,69 @@
+-- The core reactors of settings.
+use Rattle.std.specs.Prelude.{◌≡◌, ◌↔◌, ℕ, IsTrue, List, [], ◌∷◌, ◌++◌, Option, Some, None, filter_map, if◌then◌else◌, length, option_map, slice_get, slice_index_or, string_bytes}
+use Rattle.std.specs.List.Sorted.{IsPermutation}
+use Rattle.std.specs.Option.{option_and_then}
+use Rattle.lft_tree.specs.Tree.{ItemTree, MemberTree, ParameterTree, ReactorTree, ReactorItem}
+use Rattle.lft_tree.specs.declared.tree.Time.{Time}
+use Rattle.lft_whole.specs.declared.tree.Expression.{Expression}
+use Rattle.lft_sources.specs.declared.source.SourceFile.{SourceFile}
+use Rattle.lft_shapes.specs.Nestings.{IsNesting}
+use Rattle.lft_shapes.specs.declared.nesting.Nesting.{Nesting}
+use Rattle.lft_shapes.specs.declared.shapes.InheritedParameter.{InheritedParameter}
+use Rattle.lft_shapes.specs.declared.shapes.Shape.{Shape}
+use Rattle.lft_lowering.specs.Channels.{below}
+use Rattle.lft_settings.specs.declared.settings.Settings.{Settings}
+use Rattle.lft_settings.specs.Noted.{AreSettings, table}
+use Rattle.lft_settings.specs.Settings.{shape_at}
+use Rattle.lft_settings.specs.Used.{AreUsed}
+use Rattle.lft_lower.specs.Lowered.{AreLowered, is_timed}
+use Rattle.lft_lower.specs.Names.{AreApart}
+use Rattle.lft_lower.specs.Times.{time_in}
+
+-- the time of a default; where none is written, each instance gives one, and this one is never read
+abbrev pub default_time : Option Expression → Option Time
+default_time None = Some (record { count = 0; unit = None })
+default_time (Some e) = time_in e.value
+
+-- a parameter with its default
+abbrev pub parameter_tree : InheritedParameter → Option ParameterTree
+parameter_tree p = option_map (λ time. record { name = string_bytes p.parameter.now.name.text; default = time }) (default_time p.parameter.now.default)
+
+-- the parameter of this number, if a time is read from it
+abbrev pub timed_parameter : Shape → ℕ → Option ParameterTree
+timed_parameter shape n = if is_timed shape n then option_and_then parameter_tree (slice_get shape.parameters.items n) else None
+
+-- the parameters from which times are read
+abbrev pub timed_parameters : Shape → List ParameterTree
+timed_parameters shape = filter_map (timed_parameter shape) (below (length shape.parameters.items))
+
+-- these are what the members of a shape become in a setting of it
+abbrev pub AreMembers : Settings → List (Option (List ℕ)) → ℕ → Shape → List MemberTree → Type 0
+AreMembers s names setting shape members = (never : Option (List ℕ)) × AreLowered names (record { settings = s; setting = setting; shape = shape }) shape.members.items members never
+
+-- the core reactor of a setting: the first is the main one; each has its name, the parameters from which times are read, and what its members become
+pub record IsReactor (s : Settings) (names : List (Option (List ℕ))) (setting : ℕ) (shape : Shape) (r : ReactorTree) : Type 0 where
+  pub main : IsTrue r.is_main ↔ (setting ≡ 0)
+  pub name : r.name ≡ slice_index_or names setting None
+  pub parameters : r.parameters ≡ timed_parameters shape
+  pub members : AreMembers s names setting shape r.members
+
+-- a core reactor for each setting, in order
+pub data AreReactors (s : Settings) (names : List (Option (List ℕ))) : List ℕ → List ItemTree → Type 0 where
+  no_reactors : AreReactors s names [] []
+  more_reactors : (front : List ℕ) (setting : ℕ) (shape : Shape) (items : List ItemTree) (r : ReactorTree) → AreReactors s names front items → shape_at s setting ≡ Some shape → IsReactor s names setting shape r → AreReactors s names (front ++ setting ∷ []) (items ++ ReactorItem r ∷ [])
+
+-- the shapes are of the main reactor of these files and of all that it contains
+abbrev pub AreShapes : List SourceFile → List Shape → Type 0
+AreShapes files shapes = (scopes : _) × (nesting : Nesting) × IsNesting files scopes nesting × (nesting.shapes.items ≡ shapes)
+
+-- The program of these files is lowered: its items are a core reactor for each setting that its instances have, and no others, with names that differ.
+pub record IsLowering (files : List SourceFile) (s : Settings) (items : List ItemTree) : Type 0 where
+  pub shapes : AreShapes files s.shapes.items
+  pub settings : AreSettings (table s)
+  pub used : List ℕ
+  pub are_used : AreUsed (table s) used
+  pub order : List ℕ
+  pub reordered : IsPermutation used order
+  pub names : List (Option (List ℕ))
+  pub apart : AreApart names
+  pub reactors : AreReactors s names order items
