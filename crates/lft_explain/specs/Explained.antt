@@ -2,7 +2,9 @@
 use Rattle.std.specs.Prelude.{◌≡◌, ℕ, Bool, List}
 use Rattle.lft_steps.specs.declared.row.Row.{Row}
 use Rattle.lft_model.specs.declared.breach.Breach.{Breach}
+use Rattle.lft_model.specs.Breaches.{First}
 use Rattle.lft_model.specs.Plans.{PlanParts}
+use Rattle.lft_races.specs.Races.{EndLater, StandBefore}
 use Rattle.lft_facts.specs.declared.facts.Fact.{Fact}
 use Rattle.lft_facts.specs.Facts.{AreFacts}
 use Rattle.lft_facts.specs.Enough.{Proves, AreOwn, TellsRace}
@@ -16,3 +18,7 @@ pub record Explains (all : Bool) (plan : PlanParts) (t : List Row) (b : Breach) 
   pub own : AreOwn b facts
   pub race : TellsRace plan t b facts
   pub is_told : text ≡ told all plan.program t facts
+
+-- all runs that start before the first breach of a trace end
+abbrev pub RaceLaw : PlanParts → Type 0
+RaceLaw plan = (t : List Row) (b : Breach) (n : ℕ) → First plan t b → StandBefore t b n → EndLater t n

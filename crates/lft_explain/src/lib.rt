@@ -4,6 +4,7 @@
 mod causes;
 mod explaining;
 mod hops;
+mod laws;
 mod neighbours;
 mod orders;
 mod reads;
@@ -16,5 +17,6 @@ mod telling;
 mod ways;
 
 pub use explaining::explain;
+pub use laws::law_race;
 pub use shortening::push_shown;
 pub use telling::tell;
