@@ -23,8 +23,8 @@ def is_whole(line):
 
 
 def is_external(line):
-    """Whether a line is of the table of external inputs: of no row, or a stop of five parts."""
-    return line.startswith(b"event,") or line.startswith(b"stop,") and line.count(b",") == 4
+    """Whether a line is of the table of external inputs: an event or a stop of five parts."""
+    return line.startswith((b"event,", b"stop,")) and line.count(b",") == 4
 
 
 def without_externals(text):
