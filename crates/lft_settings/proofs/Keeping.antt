@@ -345,10 +345,11 @@ module _ (shapes : List Shape) (settings : List Setting) (k m : ℕ) (x : Settin
   pub no_inner : (outer : Shape) (child : Child) → slice_get shapes x.shape ≡ Some outer → child_at outer.children.items m ≡ Some child → slice_get shapes child.shape ≡ None → inside shapes t m ≡ None
   no_inner outer child e f g = over ∙ ap (option_and_then (λ (o : Shape). option_and_then (setting_of shapes o (valued x).values) (child_at o.children.items m))) e ∙ ap (option_and_then (setting_of shapes outer (valued x).values)) f ∙ ap (option_map (λ (i : Shape). record { shape = child.shape; values = values_inside outer (valued x).values child.given.items i })) g
 
+  pub there_inside : (outer : Shape) (child : Child) (inner : Shape) → slice_get shapes x.shape ≡ Some outer → child_at outer.children.items m ≡ Some child → slice_get shapes child.shape ≡ Some inner → inside shapes t m ≡ Some (record { shape = child.shape; values = values_inside outer (map (λ v. Some v) x.values.items) child.given.items inner })
+  there_inside outer child inner e f g = over ∙ ap (option_and_then (λ (o : Shape). option_and_then (setting_of shapes o (valued x).values) (child_at o.children.items m))) e ∙ ap (option_and_then (setting_of shapes outer (valued x).values)) f ∙ ap (option_map (λ (i : Shape). record { shape = child.shape; values = values_inside outer (valued x).values child.given.items i })) g
+
   pub is_inside : (outer : Shape) (child : Child) (inner : Shape) (vs : List ℤ) → slice_get shapes x.shape ≡ Some outer → child_at outer.children.items m ≡ Some child → slice_get shapes child.shape ≡ Some inner → map (λ v. Some v) vs ≡ values_inside outer (map (λ v. Some v) x.values.items) child.given.items inner → inside shapes t m ≡ Some (record { shape = child.shape; values = map (λ v. Some v) vs })
-  is_inside outer child inner vs e f g values =
-      over ∙ ap (option_and_then (λ (o : Shape). option_and_then (setting_of shapes o (valued x).values) (child_at o.children.items m))) e ∙ ap (option_and_then (setting_of shapes outer (valued x).values)) f ∙ ap (option_map (λ (i : Shape). record { shape = child.shape; values = values_inside outer (valued x).values child.given.items i })) g
-      ∙ ap (λ vs. Some (record { shape = child.shape; values = vs })) (sym values)
+  is_inside outer child inner vs e f g values = there_inside outer child inner e f g ∙ ap (λ vs. Some (record { shape = child.shape; values = vs })) (sym values)
 
 -- ---- the setting in an instance is made and noted
 

@@ -1,6 +1,7 @@
 mod Counting
 mod Keeping
 mod Marks
+mod Refusing
 mod Standing
 mod Using
 mod Valuing

@@ -2,6 +2,7 @@ pub mod Limits
 pub mod Names
 pub mod Noted
 pub mod Places
+pub mod Refused
 pub mod Settings
 pub mod Used
 pub mod Values

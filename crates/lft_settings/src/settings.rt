@@ -1,8 +1,9 @@
 //! The reactors with the values of those of their parameters that decide widths.
 
-ghost use Rattle.std.specs.Prelude.{◌≡◌, ◌≤◌, ◌<◌, ℕ, [], Some, IfOk, IfSome, OnOk, length, map, option_map, slice_get, slice_set};
+ghost use Rattle.std.specs.Prelude.{◌≡◌, ◌≤◌, ◌<◌, ℕ, [], Some, IfErr, IfOk, IfSome, OnOk, length, map, option_map, slice_get, slice_set};
 ghost use Rattle.lft_shapes.specs.Nestings.{IsNesting};
 ghost use Rattle.lft_settings.specs.Noted.{Adds, AreMade, AreSettings, GoesOn, GoesOnIf, IsNumberOf, found_inside, noted_for, table};
+ghost use Rattle.lft_settings.specs.Refused.{HasCause, IsTooMuch};
 ghost use Rattle.lft_settings.specs.Settings.{setting_at, shape_at};
 ghost use Rattle.lft_settings.specs.Values.{IsUnsized, Valued, inside};
 
@@ -111,6 +112,7 @@ impl<'a> Settings<'a> {
         ensures goes { OnOk result (shape < length self.old.shapes.items → GoesOn (table self.old) (table self.new)) }
         ensures number { IfOk result (λ k. shape < length self.old.shapes.items → AreMade (table self.old) → setting_at self.new k ≡ Some (record { shape = shape; values = map (λ v. Some v) values.items })) }
         ensures first { IfOk result (λ k. self.old.settings.items ≡ [] → AreMade (table self.old) → k ≡ 0) }
+        ensures cause { IfErr result IsTooMuch }
         ensures rest { OnOk result ((self.new.shapes ≡ self.old.shapes) × (self.new.order ≡ self.old.order)) }
     {
         if let Some(known) = self.noted(shape, values.as_slice()) {
@@ -129,6 +131,7 @@ impl<'a> Settings<'a> {
     fn add_setting(&mut self, shape: usize, values: Vec<i64>) -> Result<(), Stop>
         ensures work { OnOk result (self.new.work.left ≤ self.old.work.left) }
         ensures adds { OnOk result (Adds (table self.old) (table self.new) shape values.items) }
+        ensures cause { IfErr result IsTooMuch }
         ensures rest { OnOk result ((self.new.shapes ≡ self.old.shapes) × (self.new.order ≡ self.old.order)) }
     {
         let (count, weight) = match self.shapes.get(shape) {
@@ -184,6 +187,7 @@ impl<'a> Settings<'a> {
         ensures inside { IfOk result (λ found. (t : Valued) → setting_at self.old setting ≡ Some t → option_map (λ p. record { shape = p.0; values = map (λ v. Some v) p.1.items }) found ≡ inside self.old.shapes.items t member) }
         ensures there { IfOk result (λ found. IfSome found (λ p. p.0 < length self.old.shapes.items)) }
         ensures around { IfOk result (λ found. IfSome found (λ _. setting < length self.old.settings.items)) }
+        ensures cause { IfErr result (λ stop. (t : Valued) → setting_at self.old setting ≡ Some t → HasCause self.old.shapes.items t member stop) }
     {
         let Some(found) = self.settings.get(setting) else {
             return Ok(None);
@@ -242,6 +246,7 @@ impl<'a> Settings<'a> {
         ensures work { OnOk result (self.new.work.left ≤ self.old.work.left) }
         ensures goes { OnOk result (GoesOn (table self.old) (table self.new)) }
         ensures inside { IfOk result (λ inner. (t : Valued) → AreMade (table self.old) → setting_at self.old setting ≡ Some t → IsNumberOf self.new.settings.items (inside self.old.shapes.items t member) inner) }
+        ensures cause { IfErr result (λ stop. (t : Valued) → setting_at self.old setting ≡ Some t → HasCause self.old.shapes.items t member stop) }
     {
         if let Some(known) = self.known_inside(setting, member) {
             return Ok(Some(known));

@@ -1,6 +1,7 @@
 //! The whole numbers that parameters are.
 
-ghost use Rattle.std.specs.Prelude.{◌≡◌, ◌<◌, ℕ, IfOk, map, None, option_map, replicate, slice_get, vec_len};
+ghost use Rattle.std.specs.Prelude.{◌≡◌, ◌<◌, ℕ, IfErr, IfOk, map, None, option_map, replicate, slice_get, vec_len};
+ghost use Rattle.lft_settings.specs.Refused.{IsLacking, OneIsLacking, SaysNoNumber};
 ghost use Rattle.lft_settings.specs.Values.{chosen, default_at, given_to, literal, main_value, main_values, number_in, number_named, signed, value_inside, values_inside};
 
 use lft_shapes::{Child, Shape};
@@ -59,7 +60,8 @@ pub(crate) fn number_named(shape: &Shape, values: &[i64], name: &str) -> Option<
 /// The number that a value is, in a reactor with these values of its parameters. Only those that decide a width
 /// count.
 fn number(shape: &Shape, values: &[i64], file: usize, value: &Expression) -> Result<i64, Stop>
-    ensures { IfOk result (λ found. number_in shape.now (map (λ v. Some v) values.now) value.now.value ≡ Some found) }
+    ensures found { IfOk result (λ found. number_in shape.now (map (λ v. Some v) values.now) value.now.value ≡ Some found) }
+    ensures lacking { IfErr result (IsLacking (number_in shape.now (map (λ v. Some v) values.now) value.now.value)) }
 {
     let found = match &value.value {
         Value::Word(word) => number_named(shape, values, word.as_str()),
@@ -73,7 +75,8 @@ fn number(shape: &Shape, values: &[i64], file: usize, value: &Expression) -> Res
 
 /// The default of a parameter. `missing` is what is said where there is none.
 fn default(inner: &Shape, parameter: usize, missing: Stop) -> Result<i64, Stop>
-    ensures { IfOk result (λ found. default_at inner.now parameter ≡ Some found) }
+    ensures found { IfOk result (λ found. default_at inner.now parameter ≡ Some found) }
+    ensures lacking { IfErr result (λ stop. SaysNoNumber missing → IsLacking (default_at inner.now parameter) stop) }
 {
     let Some(inherited) = inner.parameters.get(parameter) else {
         return Err(missing);
@@ -128,6 +131,7 @@ fn given_values<'a>(
     count: usize,
 ) -> Result<Vec<Option<&'a Expression>>, Stop>
     ensures long { IfOk result (λ table. vec_len table ≡ count) }
+    ensures memory { IfErr result (λ stop. stop ≡ Stop.NoMemory) }
     ensures given { IfOk result (λ table. (p : ℕ) → p < count → slice_get (map (λ found. option_map (λ value. value.now.value) found) table.items) p ≡ Some (given_to child.now.given.items p)) }
 {
     let mut table = nothing(alloc, count)?;
@@ -148,7 +152,8 @@ fn inner_value(
     value: Option<&Expression>,
     missing: Stop,
 ) -> Result<i64, Stop>
-    ensures { IfOk result (λ found. (option_map (λ value. value.now.value) value.entry ≡ given_to given.entry.child.now.given.items parameter) → value_inside given.entry.outer.now (map (λ v. Some v) given.entry.values.now) given.entry.child.now.given.items inner.now parameter ≡ Some found) }
+    ensures found { IfOk result (λ found. (option_map (λ value. value.now.value) value.entry ≡ given_to given.entry.child.now.given.items parameter) → value_inside given.entry.outer.now (map (λ v. Some v) given.entry.values.now) given.entry.child.now.given.items inner.now parameter ≡ Some found) }
+    ensures lacking { IfErr result (λ stop. SaysNoNumber missing → (option_map (λ value. value.now.value) value.entry ≡ given_to given.entry.child.now.given.items parameter) → IsLacking (value_inside given.entry.outer.now (map (λ v. Some v) given.entry.values.now) given.entry.child.now.given.items inner.now parameter) stop) }
 {
     if !inner.is_sized(parameter) {
         return Ok(0);
@@ -166,7 +171,8 @@ pub(crate) fn inner_values(
     given: Given,
     missing: Stop,
 ) -> Result<Vec<i64>, Stop>
-    ensures { IfOk result (λ values. map (λ v. Some v) values.items ≡ values_inside given.entry.outer.now (map (λ v. Some v) given.entry.values.now) given.entry.child.now.given.items inner.now) }
+    ensures found { IfOk result (λ values. map (λ v. Some v) values.items ≡ values_inside given.entry.outer.now (map (λ v. Some v) given.entry.values.now) given.entry.child.now.given.items inner.now) }
+    ensures lacking { IfErr result (λ stop. SaysNoNumber missing → OneIsLacking (values_inside given.entry.outer.now (map (λ v. Some v) given.entry.values.now) given.entry.child.now.given.items inner.now) stop) }
 {
     let count = inner.parameters.len();
     let table = given_values(alloc, given.child, count)?;
