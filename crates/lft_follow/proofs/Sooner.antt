@@ -57,7 +57,8 @@ up_both k g h a b = go (earlier_cases g h)
     go (inl p) = subst (λ (j : Tag). UpTo k j) (sym p.0) a
     go (inr p) = subst (λ (j : Tag). UpTo k j) (sym p.0) b
 
-swapped : (h g k : Tag) → earlier h (earlier g k) ≡ earlier g (earlier h k)
+-- of three tags the earliest is one, whichever two are compared first
+pub swapped : (h g k : Tag) → earlier h (earlier g k) ≡ earlier g (earlier h k)
 swapped h g k = UpTo_antisym (earlier h (earlier g k)) (earlier g (earlier h k)) (below h g k) (below g h k)
   where
     below : (h g k : Tag) → UpTo (earlier h (earlier g k)) (earlier g (earlier h k))

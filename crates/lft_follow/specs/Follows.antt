@@ -102,7 +102,7 @@ IsReceipt old new event receipt.Taken = HasOneMore old new event
 IsReceipt old new event receipt.Late = new ≡ old
 IsReceipt old new event receipt.Again = (new ≡ old) × IsTold old.externals.events event
 IsReceipt old new event receipt.TooMany = (new ≡ old) × (4000000 ≤ length old.externals.events)
-IsReceipt old new event receipt.TooManyLater = (new ≡ old) × HasManyLater old.externals.events event.tag
+IsReceipt old new event receipt.ManyLater = (new ≡ old) × HasManyLater old.externals.events event.tag
 
 -- the plan with the tag for its stop, where that is earlier than its own
 abbrev pub stopped_at : PlanParts → Tag → PlanParts

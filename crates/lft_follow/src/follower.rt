@@ -46,7 +46,7 @@ pub enum Receipt {
     /// There are as many events as a table may have.
     TooMany,
     /// More than 65,536 events are at later tags. The event would have to be put before all of these.
-    TooManyLater,
+    ManyLater,
 }
 
 /// More rows aren't counted.
@@ -246,7 +246,7 @@ impl Follower {
             return Ok(Receipt::TooMany);
         }
         if has_many_later(plan.externals().events(), event.tag) {
-            return Ok(Receipt::TooManyLater);
+            return Ok(Receipt::ManyLater);
         }
         match plan.tell(event)? {
             Some(_) => {

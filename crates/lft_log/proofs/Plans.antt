@@ -1,56 +1,25 @@
 -- The plan of a log, with one more external input.
-use Rattle.std.proofs.Common.{◌≡◌, ◌∙◌, ◌⊎◌, inl, inr, List, [], ◌∷◌, ◌++◌, filter_map, refl, sym, ap, subst}
+use Rattle.std.proofs.Common.{◌≡◌, ◌∙◌, List, [], ◌∷◌, ◌++◌, filter_map, refl, sym, ap, subst}
 use Rattle.std.specs.List.{insert}
 use Rattle.std.specs.List.Sorted.{IsPermutation}
 use Rattle.std.proofs.lemmas.List.{append_assoc, append-nil}
 use Rattle.std.proofs.lemmas.List.Elements.{filter_map-append}
 use Rattle.std.proofs.lemmas.List.Sorted.{IsPermutation-insert, IsPermutation-refl, IsPermutation-push_more}
 use Rattle.lft_tag.specs.declared.Tag.{Tag}
-use Rattle.lft_tag.specs.Tags.{UpTo, earlier, earliest}
-use Rattle.lft_tag.proofs.Order.{UpTo-refl, UpTo-trans, UpTo_antisym, earlier_cases}
+use Rattle.lft_tag.specs.Tags.{earlier, earliest}
 use Rattle.lft_steps.specs.declared.externals.Event.{Event as EventOf}
 use Rattle.lft_steps.specs.Inputs.{InOrder}
 use Rattle.lft_model.specs.Plans.{PlanParts}
 use Rattle.lft_follow.specs.Follows.{HasOneMore, stopped_at}
+use Rattle.lft_follow.proofs.Sooner.{swapped}
 use Rattle.lft_log.specs.Told.{HasTold, event_of, stop_of}
 use Rattle.lft_log.specs.declared.input.Input.{Input}
 use Rattle.lft_log.specs.declared.input.Input.TheVariants.{Event, Stop}
 
--- the earlier of two tags is up to both
-earlier_left : (g h : Tag) → UpTo (earlier g h) g
-earlier_left g h = go (earlier_cases g h)
-  where
-    go : ((earlier g h ≡ g) × UpTo g h) ⊎ ((earlier g h ≡ h) × UpTo h g) → UpTo (earlier g h) g
-    go (inl p) = subst (λ (k : Tag). UpTo k g) (sym p.0) (UpTo-refl g)
-    go (inr p) = subst (λ (k : Tag). UpTo k g) (sym p.0) p.1
-
-earlier_right : (g h : Tag) → UpTo (earlier g h) h
-earlier_right g h = go (earlier_cases g h)
-  where
-    go : ((earlier g h ≡ g) × UpTo g h) ⊎ ((earlier g h ≡ h) × UpTo h g) → UpTo (earlier g h) h
-    go (inl p) = subst (λ (k : Tag). UpTo k h) (sym p.0) p.1
-    go (inr p) = subst (λ (k : Tag). UpTo k h) (sym p.0) (UpTo-refl h)
-
--- and no earlier than what is up to both
-earlier_most : (k g h : Tag) → UpTo k g → UpTo k h → UpTo k (earlier g h)
-earlier_most k g h a b = go (earlier_cases g h)
-  where
-    go : ((earlier g h ≡ g) × UpTo g h) ⊎ ((earlier g h ≡ h) × UpTo h g) → UpTo k (earlier g h)
-    go (inl p) = subst (λ (j : Tag). UpTo k j) (sym p.0) a
-    go (inr p) = subst (λ (j : Tag). UpTo k j) (sym p.0) b
-
-swapped : (g h k : Tag) → UpTo (earlier g (earlier h k)) (earlier h (earlier g k))
-swapped g h k =
-    let least = earlier g (earlier h k) in
-    let inner = earlier_right g (earlier h k) in
-    let second = UpTo-trans least (earlier h k) h inner (earlier_left h k) in
-    let third = UpTo-trans least (earlier h k) k inner (earlier_right h k) in
-    earlier_most least h (earlier g k) second (earlier_most least g k (earlier_left g (earlier h k)) third)
-
 -- the earliest with one tag more
 earliest_push : (g : Tag) (hs : List Tag) (k : Tag) → earlier k (earliest g hs) ≡ earliest g (hs ++ k ∷ [])
 earliest_push g [] k = refl
-earliest_push g (h ∷ hs) k = UpTo_antisym (earlier k (earlier h (earliest g hs))) (earlier h (earlier k (earliest g hs))) (swapped k h (earliest g hs)) (swapped h k (earliest g hs)) ∙ ap (λ (j : Tag). earlier h j) (earliest_push g hs k)
+earliest_push g (h ∷ hs) k = swapped k h (earliest g hs) ∙ ap (λ (j : Tag). earlier h j) (earliest_push g hs k)
 
 -- nothing is told yet
 pub told_none : (base : PlanParts) → InOrder base.externals.events → HasTold base [] base

@@ -39,7 +39,7 @@ fn tell_event(
         }
         Ok(Receipt::Late) => Err(LogFault::LateInput(number)),
         Ok(Receipt::Again) => Err(LogFault::InputAgain(number)),
-        Ok(Receipt::TooManyLater) => Err(LogFault::ManyLater(number)),
+        Ok(Receipt::ManyLater) => Err(LogFault::ManyLater(number)),
         Ok(Receipt::TooMany) => Err(LogFault::TooManyInputs),
         Err(_) => Err(LogFault::NoMemory),
     }

@@ -14,5 +14,5 @@ returns-in-Ok-Late-clause-fault c = λ base bytes parts stands told follower num
 pub returns-in-Ok-Again-clause-fault : goal.returns-in-Ok-Again-clause-fault
 returns-in-Ok-Again-clause-fault c = λ base bytes parts stands told follower numbered. (parts, c.args.event, stands, (c.args.plan.now, told, (rw c.in-Ok-Again.field-0-is at c.in-Ok-Again.ensures.receipt).1), numbered)
 
-pub returns-in-Ok-TooManyLater-clause-fault : goal.returns-in-Ok-TooManyLater-clause-fault
-returns-in-Ok-TooManyLater-clause-fault c = λ base bytes parts stands told follower numbered. (parts, c.args.event, stands, (c.args.plan.now, told, (rw c.in-Ok-TooManyLater.field-0-is at c.in-Ok-TooManyLater.ensures.receipt).1), numbered)
+pub returns-in-Ok-ManyLater-clause-fault : goal.returns-in-Ok-ManyLater-clause-fault
+returns-in-Ok-ManyLater-clause-fault c = λ base bytes parts stands told follower numbered. (parts, c.args.event, stands, (c.args.plan.now, told, (rw c.in-Ok-ManyLater.field-0-is at c.in-Ok-ManyLater.ensures.receipt).1), numbered)
