@@ -1,5 +1,5 @@
 -- What is written of a program that is lowered, and what is said of one that isn't.
-use Rattle.std.specs.Prelude.{◌≡◌, ◌⊎◌, ◌++◌, ◌-◌, ℕ, List, [], Option, codes, decimal, option_map, slice_get, string_bytes, unwrap_or}
+use Rattle.std.specs.Prelude.{◌≡◌, ◌⊎◌, ◌++◌, ◌-◌, ℕ, IsSomeAnd, List, [], Option, Some, codes, decimal, option_map, slice_get, string_bytes, unwrap_or}
 use Rattle.std.specs.Io.KnownBytes.{Appends, Keeps}
 use Rattle.lft_load.specs.Written.{AppendsFront}
 use Rattle.lft_load.specs.declared.fault.Part.TheVariants as part
@@ -10,7 +10,13 @@ use Rattle.lft_sources.specs.declared.source.SourceFile.{SourceFile}
 use Rattle.lft_sources.specs.declared.stop.Place.{Place}
 use Rattle.lft_sources.specs.declared.stop.Refusal.{Refusal}
 use Rattle.lft_sources.specs.declared.why.Why.{Why}
+use Rattle.lft_imports.specs.Files.{IsFileOf, IsWhole}
+use Rattle.lft_imports.specs.Paths.{normal}
+use Rattle.lft_tree.specs.Tree.{ItemTree}
+use Rattle.lft_printed.specs.Read.{IsRead}
 use Rattle.lft_core_text.specs.CoreTexts.{IsCore}
+use Rattle.lft_settings.specs.declared.settings.Settings.{Settings}
+use Rattle.lft_lower.specs.Reactors.{IsLowering}
 use Rattle.lft_lowered.specs.declared.told.Unlowered.{Unlowered}
 use Rattle.lft_lowered.specs.declared.told.Unlowered.TheVariants.{Failed, Refused}
 
@@ -48,7 +54,30 @@ IsSaid (Failed failure) = Unit {0}
 abbrev pub IsWritten : Option (List ℕ) → Option (List ℕ) → Type 0
 IsWritten old new = (core : List ℕ) × IsCore core × Appends old new core
 
+-- The first of the files has this path, and the spots of the tokens of this text; each import of the files names one of them.
+pub record AreFilesOf (path text : List ℕ) (files : List SourceFile) : Type 0 where
+  pub first : IsSomeAnd (slice_get files 0) (IsFileOf (normal path) text)
+  pub whole : IsWhole files
+
+-- The core text is read as items to which the program of these files is lowered.
+abbrev pub IsLoweredTo : List SourceFile → List ℕ → Type 0
+IsLoweredTo files core = (settings : Settings) × (items : List ItemTree) × IsLowering files settings items × IsRead core items
+
+-- A core program was written to which the program of these files is lowered.
+abbrev pub WritesLowered : List SourceFile → Option (List ℕ) → Option (List ℕ) → Type 0
+WritesLowered files old new = (core : List ℕ) × IsCore core × IsLoweredTo files core × Appends old new core
+
+-- A core program was written to which the program of files of this path and this text is lowered.
+abbrev pub WritesLoweredOf : List ℕ → List ℕ → Option (List ℕ) → Option (List ℕ) → Type 0
+WritesLoweredOf path text old new = (files : List SourceFile) × AreFilesOf path text files × WritesLowered files old new
+
 -- nothing was written; or, where a writer failed, a front of a core program
 abbrev pub IsCut : Option (List ℕ) → Option (List ℕ) → Unlowered → Type 0
 IsCut old new (Refused text) = Keeps old new
 IsCut old new (Failed failure) = Keeps old new ⊎ (failure.fault.part ≡ part.Write) × ((core : List ℕ) × IsCore core × AppendsFront old new core)
+
+-- ---- for the crate's own contracts
+
+-- the first file stays
+abbrev pub BeginsAs : List SourceFile → List SourceFile → Type 0
+BeginsAs old new = (file : SourceFile) → slice_get old 0 ≡ Some file → slice_get new 0 ≡ Some file

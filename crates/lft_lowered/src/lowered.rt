@@ -1,9 +1,11 @@
 //! A program, lowered and written.
 
-ghost use Rattle.std.specs.Prelude.{IfErr, IfOk, OnOk, string_bytes};
+ghost use Rattle.std.specs.Prelude.{◌≡◌, IfErr, IfOk, OnOk, map, string_bytes};
 ghost use Rattle.std.specs.Io.KnownBytes.{Appends};
 ghost use Rattle.lft_core_text.specs.CoreTexts.{IsCore};
-ghost use Rattle.lft_lowered.specs.Lowered.{IsCut, IsSaid, IsWritten};
+ghost use Rattle.lft_printed.specs.Read.{IsRead};
+ghost use Rattle.lft_tree.specs.ItemView.{item_view};
+ghost use Rattle.lft_lowered.specs.Lowered.{IsCut, IsSaid, IsWritten, WritesLowered, WritesLoweredOf};
 
 use crate::names::write_names;
 use crate::reading::read_sources;
@@ -20,6 +22,7 @@ use std::rt::Files;
 /// The text of the core program of a program that is lowered.
 fn text_of(alloc: Global, files: &[SourceFile], lowering: &Lowering) -> Result<String, Unlowered>
     ensures core { IfOk result (λ text. IsCore (string_bytes text)) }
+    ensures read { IfOk result (λ text. IsRead (string_bytes text) (map item_view lowering.now.items.items)) }
     ensures refused { IfErr result IsSaid }
 {
     match core_text(alloc, lowering.target(), lowering.items()) {
@@ -52,7 +55,7 @@ fn lower_sources<F: Files, W: Write, E: Write>(
     out: &mut W,
     errors: &mut E,
 ) -> Result<(), Unlowered>
-    ensures written { OnOk result (IsWritten (W.contents out.old) (W.contents out.new)) }
+    ensures written { OnOk result (WritesLowered sources.now.files.items (W.contents out.old) (W.contents out.new)) }
     ensures refused { IfErr result IsSaid }
     ensures cut { IfErr result (IsCut (W.contents out.old) (W.contents out.new)) }
 {
@@ -101,7 +104,7 @@ pub fn lower_whole<F: Files, W: Write, E: Write>(
     out: &mut W,
     errors: &mut E,
 ) -> Result<(), Unlowered>
-    ensures written { OnOk result (IsWritten (W.contents out.old) (W.contents out.new)) }
+    ensures written { OnOk result (WritesLoweredOf path.now text.now (W.contents out.old) (W.contents out.new)) }
     ensures refused { IfErr result IsSaid }
     ensures cut { IfErr result (IsCut (W.contents out.old) (W.contents out.new)) }
 {
@@ -122,6 +125,7 @@ pub fn lower_answer<F: Files, W: Write, E: Write>(
     errors: &mut E,
 ) -> Result<(), Unlowered>
     ensures own { IsCore text.now → OnOk result (Appends (W.contents out.old) (W.contents out.new) text.now) }
+    ensures lowered { (IsCore text.now → ⊥) → OnOk result (WritesLoweredOf path.now text.now (W.contents out.old) (W.contents out.new)) }
     ensures written { OnOk result (IsWritten (W.contents out.old) (W.contents out.new)) }
     ensures refused { IfErr result IsSaid }
     ensures cut { IfErr result (IsCut (W.contents out.old) (W.contents out.new)) }

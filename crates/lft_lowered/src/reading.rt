@@ -1,12 +1,13 @@
 //! The files of a program, read.
 
-ghost use Rattle.std.specs.Prelude.{IfErr, IfOk, OnOk};
-ghost use Rattle.lft_imports.specs.Files.{AreSources, IsWhole};
-ghost use Rattle.lft_lowered.specs.Lowered.{IsSaid};
+ghost use Rattle.std.specs.Prelude.{◌≡◌, IfErr, IfOk, None, OnOk};
+ghost use Rattle.lft_imports.specs.Files.{AreSources, HasOneMore, next_path};
+ghost use Rattle.lft_lowered.specs.Lowered.{AreFilesOf, BeginsAs, IsSaid};
 
 use crate::told::{Unlowered, unlowered_by};
 use lft_files::{Failure, read_file};
 use lft_imports::Sources;
+use lft_load::Fault;
 use lft_sources::{Place, Stop, Why, shown_path};
 use std::alloc::{AllocError, Global};
 use std::rt::Files;
@@ -61,6 +62,7 @@ fn read_wanted<F: Files>(
 fn give(alloc: Global, sources: &mut Sources, text: &[u8]) -> Result<(), Unlowered>
     requires { AreSources sources.old }
     ensures sources { OnOk result (AreSources sources.new) }
+    ensures read { OnOk result (HasOneMore text.now sources.old sources.new) }
     ensures refused { IfErr result IsSaid }
 {
     match sources.give(text) {
@@ -73,6 +75,8 @@ fn give(alloc: Global, sources: &mut Sources, text: &[u8]) -> Result<(), Unlower
 fn read_rest<F: Files>(rt: &F, alloc: Global, sources: &mut Sources) -> Result<(), Unlowered>
     requires { AreSources sources.old }
     ensures sources { OnOk result (AreSources sources.new) }
+    ensures all { OnOk result (next_path sources.new ≡ None) }
+    ensures first { OnOk result (BeginsAs sources.old.files.items sources.new.files.items) }
     ensures refused { IfErr result IsSaid }
 {
     for _ in 0..u64::MAX {
@@ -82,7 +86,8 @@ fn read_rest<F: Files>(rt: &F, alloc: Global, sources: &mut Sources) -> Result<(
         let text = read_wanted(rt, alloc, sources, path)?;
         give(alloc, sources, text.as_slice())?;
     }
-    Ok(())
+    // so many files fit in no memory
+    Err(Unlowered::from(Fault::no_memory()))
 }
 
 /// The files of the program whose path and text these are.
@@ -92,7 +97,7 @@ pub(crate) fn read_sources<F: Files>(
     path: &str,
     text: &[u8],
 ) -> Result<Sources, Unlowered>
-    ensures sources { IfOk result AreSources }
+    ensures files { IfOk result (λ sources. AreFilesOf path.now text.now sources.files.items) }
     ensures refused { IfErr result IsSaid }
 {
     let mut sources = Sources::of(alloc, path)?;
