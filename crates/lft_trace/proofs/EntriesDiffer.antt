@@ -17,7 +17,7 @@ use Rattle.lft_trace.specs.declared.kind.EntryKind.TheVariants as kind
 abbrev of_list : List (List ℕ) → ExternalFields
 of_list xs = record { kind = get_or xs 0 []; time = get_or xs 1 []; microstep = get_or xs 2 []; name = get_or xs 3 []; value = get_or xs 4 [] }
 
-same_fields : (c d : ExternalFields) → in_order c ≡ in_order d → c ≡ d
+pub same_fields : (c d : ExternalFields) → in_order c ≡ in_order d → c ≡ d
 same_fields c d h = ap of_list h
 
 abbrev kind_of : List ℕ → EntryKind

@@ -107,13 +107,13 @@ stop_behind [] s h = cc (h)
 stop_behind (Happens x ∷ entries) s h = let r = stop_behind entries s h in (suc r.0, r.1)
 stop_behind (Stops g ∷ entries) s h = let e : g ≡ s = cc (h) in (0, ap (λ (y : Tag). Some (Stops y)) e)
 
-event_fits : (program : Parts) (k : EntryKind) (c : ExternalFields) (e : Event) → IsOfKind program k c (Happens e) → EventFits program e
+pub event_fits : (program : Parts) (k : EntryKind) (c : ExternalFields) (e : Event) → IsOfKind program k c (Happens e) → EventFits program e
 event_fits program kind.Event c e h =
     let s : h.0 ≡ e = cc (h.4) in
     subst (λ (x : Event). EventFits program x) s (record { recorded = recorded c h.0.tag h.1; action = slice_get_within program.actions h.0.action h.2.1.0 h.2.1.1 })
 event_fits program kind.Stop c e h = let q = h.4 in cc (q)
 
-stop_fits : (program : Parts) (k : EntryKind) (c : ExternalFields) (g : Tag) → IsOfKind program k c (Stops g) → IsRecorded g
+pub stop_fits : (program : Parts) (k : EntryKind) (c : ExternalFields) (g : Tag) → IsOfKind program k c (Stops g) → IsRecorded g
 stop_fits program kind.Event c g h = let q = h.4 in absurd (cc (q))
 stop_fits program kind.Stop c g h = let s : h.0 ≡ g = cc (h.4) in subst IsRecorded s (recorded c h.0 h.1)
 

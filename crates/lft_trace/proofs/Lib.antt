@@ -5,6 +5,7 @@ pub mod EventFacts
 pub mod ExternalFacts
 pub mod ExternalTableFacts
 pub mod Fuel
+pub mod LogTableFacts
 pub mod Members
 pub mod NumbersBack
 pub mod PlainRows

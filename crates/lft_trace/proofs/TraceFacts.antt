@@ -56,7 +56,7 @@ step_fits program Schedule c s sound h = rw h.6 (thing_there program c.name h.0 
 step_fits program Stop c s sound h = rw h.3 tt
 step_fits program End c s sound h = rw h.3 tt
 
-row_fits : (program : Parts) (kind : RowKind) (c : TraceFields) (row : Row) → IsSound program → RowOf program kind c row → RowFits program row
+pub row_fits : (program : Parts) (kind : RowKind) (c : TraceFields) (row : Row) → IsSound program → RowOf program kind c row → RowFits program row
 row_fits program kind c row sound h = record {
   recorded = (within 1000000000000000000 c.time row.tag.time h.time, within 1000000000 c.microstep row.tag.micro h.microstep);
   reaction = rw (← sound.well_named.reactions) (slice_get_within program.names.reactions row.reaction c.reaction h.reaction);

@@ -11,3 +11,4 @@ pub mod Written
 pub mod SeenWriting
 pub mod Telling
 pub mod Parts
+pub mod LogTables

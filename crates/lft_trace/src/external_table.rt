@@ -24,8 +24,8 @@ use lft_tag::Tag;
 use std::alloc::Global;
 
 /// What a record tells: an event of a physical action, or the stop.
-#[derive(Clone, Copy, PartialEq, Eq, Drop)]
-pub(crate) enum Entry {
+#[derive(Clone, Copy, PartialEq, Eq, Debug, Drop)]
+pub enum Entry {
     Happens(Event),
     Stops(Tag),
 }
@@ -135,7 +135,11 @@ fn is_header(fields: &ByteRecord) -> bool
 }
 
 // The event or the stop of a record, or the first fault that it has.
-fn read_entry(program: &Program, fields: &ByteRecord, line: u32) -> Result<Entry, TraceFault>
+pub(crate) fn read_entry(
+    program: &Program,
+    fields: &ByteRecord,
+    line: u32,
+) -> Result<Entry, TraceFault>
     ensures entry { IfOk result (λ entry. IsEntry program.now (fields_of fields.now) entry) }
     ensures fault { (before : List Entry) → IfErr result (λ e. FaultAt program.now before line (fields_of fields.now) e) }
 {

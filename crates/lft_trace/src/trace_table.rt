@@ -209,7 +209,7 @@ fn read_step(
 
 // The row of a record, or the first fault that it has. `last` is the reaction of the row before,
 // `next` where its names are looked for first.
-fn read_row(
+pub(crate) fn read_row(
     program: &Program,
     last: Option<u32>,
     next: NextNames,

@@ -1,0 +1,179 @@
+-- What one more record does to rows with external inputs among them, and that what is read fits its program.
+use Rattle.std.proofs.Common.{◌≡◌, ◌∙◌, ◌+◌, ◌≤◌, ◌++◌, ℕ, zero, suc, List, [], ◌∷◌, length, filter_map, Some, true, false, slice_get, refl, sym, ap, arith, append_assoc, append-nil, length-append}
+use Rattle.std.specs.List.{AllZip}
+use Rattle.std.proofs.lemmas.List.Elements.{All-cons, All-nil, filter_map-append}
+use Rattle.std.proofs.lemmas.Slice.Zip.{all_zipped_more}
+use Rattle.csv.specs.Records.{fields_of}
+use Rattle.lft_flat.specs.Parts.{Parts}
+use Rattle.lft_flat.specs.Sound.{IsSound}
+use Rattle.lft_lists.proofs.Zips.{behind}
+use Rattle.lft_steps.specs.Fits.{RowsFit}
+use Rattle.lft_steps.specs.declared.row.Row.{Row as TheRow}
+use Rattle.lft_trace.specs.ExternalTables.{FaultAt, IsEntry}
+use Rattle.lft_trace.specs.LogTables.{BeginsAsInput, EntryFits, InputsFit, IsLine, ReadsLines, inputs_behind, row_of}
+use Rattle.lft_trace.specs.Records.{IsNext, IsPlain, IsUnread, records_left, records_of}
+use Rattle.lft_trace.specs.SeenExternals.{is_of_input}
+use Rattle.lft_trace.specs.Traces.{IsRow}
+use Rattle.lft_trace.specs.declared.external_table.Entry.{Entry}
+use Rattle.lft_trace.specs.declared.external_table.Entry.TheVariants.{Happens, Stops}
+use Rattle.lft_trace.specs.declared.fault.TraceFault.{TraceFault}
+use Rattle.lft_trace.specs.declared.fault.TraceFault.TheVariants as fault
+use Rattle.lft_trace.specs.declared.log_table.Among.{Among}
+use Rattle.lft_trace.specs.declared.log_table.Line.{Line}
+use Rattle.lft_trace.specs.declared.log_table.Line.TheVariants.{Row, Input}
+use Rattle.lft_trace.specs.declared.log_table.LogLines.{LogLines}
+use Rattle.lft_trace.specs.declared.records.Records.{Records}
+use Rattle.lft_trace.proofs.EntriesDiffer.{same_fields}
+use Rattle.lft_trace.proofs.ExternalTableFacts.{event_fits, stop_fits}
+use Rattle.lft_trace.proofs.TableFacts.{Texts}
+use Rattle.lft_trace.proofs.TraceFacts.{row_fits}
+
+-- ---- one record
+
+-- a record with another fault than of its count or its kind begins as an external input
+pub begins : (program : Parts) (fields : List (List ℕ)) (e : TraceFault) → FaultAt program [] 2 fields e → is_of_input e ≡ true → BeginsAsInput fields
+begins program fields (fault.BadFieldCount n) f t = absurd (cc (t))
+begins program fields (fault.BadEvent n) f t = absurd (cc (t))
+begins program fields (fault.BadNumber n) f t = (f.2, f.1, f.3)
+begins program fields (fault.UnknownName n) f t = (f.2, f.1, f.3)
+begins program fields (fault.FieldInPlace n) f t = (f.2, f.1, f.3)
+begins program fields (fault.DuplicateExternal n) f t = (f.2.1, f.2.0, (f.2.2, f.2.3))
+begins program fields (fault.TwoStops n) f t = (f.2.1, f.2.0, (f.2.2, f.2.3))
+begins program fields fault.BadHeader f t = absurd f
+begins program fields fault.NoStop f t = absurd f
+begins program fields fault.TooManyRows f t = absurd f
+begins program fields fault.NotCsv f t = absurd f
+begins program fields fault.NoMemory f t = absurd f
+
+-- a record with the fault of its count or its kind doesn't
+pub begins_not : (program : Parts) (fields : List (List ℕ)) (e : TraceFault) → FaultAt program [] 2 fields e → is_of_input e ≡ false → BeginsAsInput fields → ⊥
+begins_not program fields (fault.BadFieldCount n) f t b = f.1 (ap length b.2.0)
+begins_not program fields (fault.BadEvent n) f t b = f.3 b.0 (rw (same_fields f.1 b.1 (sym f.2 ∙ b.2.0)) b.2.1)
+begins_not program fields (fault.BadNumber n) f t b = absurd (cc (t))
+begins_not program fields (fault.UnknownName n) f t b = absurd (cc (t))
+begins_not program fields (fault.FieldInPlace n) f t b = absurd (cc (t))
+begins_not program fields (fault.DuplicateExternal n) f t b = absurd (cc (t))
+begins_not program fields (fault.TwoStops n) f t b = absurd (cc (t))
+begins_not program fields fault.BadHeader f t b = absurd f
+begins_not program fields fault.NoStop f t b = absurd f
+begins_not program fields fault.TooManyRows f t b = absurd f
+begins_not program fields fault.NotCsv f t b = absurd f
+begins_not program fields fault.NoMemory f t b = absurd f
+
+-- ---- many
+
+abbrev pub among : ℕ → Entry → Among
+among n e = record { rows_before = n; entry = e }
+
+-- a row behind all lines is before no external input
+behind_row : (n : ℕ) (lines : List Line) (row : TheRow) → inputs_behind n (lines ++ (Row row ∷ [])) ≡ inputs_behind n lines
+behind_row n [] row = refl
+behind_row n (Row r ∷ lines) row = behind_row (n + 1) lines row
+behind_row n (Input e ∷ lines) row = ap (λ (t : List Among). among n e ∷ t) (behind_row n lines row)
+
+-- an external input behind all lines has all their rows before it
+behind_input : (n : ℕ) (lines : List Line) (e : Entry) → inputs_behind n (lines ++ (Input e ∷ [])) ≡ inputs_behind n lines ++ (among (n + length (filter_map row_of lines)) e ∷ [])
+behind_input n [] e = let m : n ≡ n + 0 = omega arith in ap (λ (k : ℕ). among k e ∷ []) m
+behind_input n (Row r ∷ lines) e =
+    let m : n + 1 + length (filter_map row_of lines) ≡ n + length (r ∷ filter_map row_of lines) = omega arith in
+    behind_input (n + 1) lines e ∙ ap (λ (k : ℕ). inputs_behind (n + 1) lines ++ (among k e ∷ [])) m
+behind_input n (Input x ∷ lines) e = ap (λ (t : List Among). among n x ∷ t) (behind_input n lines e)
+
+-- what is read up to a record: these rows and external inputs, with the others left
+pub record Gone (program : Parts) (records : Texts) (rows : List TheRow) (inputs : List Among) (r : Records) : Type 0 where
+  pub lines : List Line
+  pub first : Texts
+  pub plain : IsPlain r
+  pub whole : records ≡ first ++ records_left r
+  pub each : AllZip (IsLine program) first lines
+  pub rows_are : rows ≡ filter_map row_of lines
+  pub inputs_are : inputs ≡ inputs_behind 0 lines
+  pub few : length rows ≤ r.line
+  pub line : r.line ≤ r.last
+  pub last : r.last ≡ 4000000
+
+pub start : (program : Parts) (text : List ℕ) (r : Records) → IsUnread r text 4000000 → Gone program (records_of text) [] [] r
+start program text r u = record {
+  lines = [];
+  first = [];
+  plain = u.plain;
+  whole = sym u.left;
+  each = tt;
+  rows_are = refl;
+  inputs_are = refl;
+  few = omega arith;
+  line = let a = u.line in let b = u.last in omega (arith, a, b);
+  last = u.last;
+}
+
+module _ (program : Parts) (records : Texts) (rows : List TheRow) (inputs : List Among) (old new : Records) (r : Gone program records rows inputs old) (g : IsNext old new) where
+  whole_after : records ≡ (r.first ++ (fields_of new.fields ∷ [])) ++ records_left new
+  whole_after = r.whole ∙ ap (λ (t : Texts). r.first ++ t) g.left ∙ sym (append_assoc r.first (fields_of new.fields ∷ []) (records_left new))
+
+  line_after : new.line ≤ new.last
+  line_after = let next = g.line in let inside = g.within in let last = g.last in omega (arith, next, inside, last)
+
+  pub row_more : (row : TheRow) → IsRow program (fields_of new.fields) row → Gone program records (rows ++ (row ∷ [])) inputs new
+  row_more row is = record {
+    lines = r.lines ++ (Row row ∷ []);
+    first = r.first ++ (fields_of new.fields ∷ []);
+    plain = g.plain;
+    whole = whole_after;
+    each = all_zipped_more (IsLine program) r.first r.lines (fields_of new.fields) (Row row) r.each is;
+    rows_are = ap (λ (t : List TheRow). t ++ (row ∷ [])) r.rows_are ∙ sym (filter_map-append row_of r.lines (Row row ∷ []));
+    inputs_are = r.inputs_are ∙ sym (behind_row 0 r.lines row);
+    few = let l = length-append rows (row ∷ []) in let few = r.few in let next = g.line in omega (arith, l, few, next);
+    line = line_after;
+    last = g.last ∙ r.last;
+  }
+
+  pub input_more : (entry : Entry) → IsEntry program (fields_of new.fields) entry → Gone program records rows (inputs ++ (record { rows_before = length rows; entry = entry } ∷ [])) new
+  input_more entry is = record {
+    lines = r.lines ++ (Input entry ∷ []);
+    first = r.first ++ (fields_of new.fields ∷ []);
+    plain = g.plain;
+    whole = whole_after;
+    each = all_zipped_more (IsLine program) r.first r.lines (fields_of new.fields) (Input entry) r.each is;
+    rows_are = r.rows_are ∙ sym (filter_map-append row_of r.lines (Input entry ∷ []) ∙ append-nil (filter_map row_of r.lines));
+    inputs_are =
+        let l : length rows ≡ length (filter_map row_of r.lines) = ap length r.rows_are in
+        let m : length rows ≡ 0 + length (filter_map row_of r.lines) = omega arith in
+        ap (λ (t : List Among). t ++ (among (length rows) entry ∷ [])) r.inputs_are ∙ ap (λ (k : ℕ). inputs_behind 0 r.lines ++ (among k entry ∷ [])) m ∙ sym (behind_input 0 r.lines entry);
+    few = let few = r.few in let next = g.line in omega (arith, few, next);
+    line = line_after;
+    last = g.last ∙ r.last;
+  }
+
+-- ---- fits
+
+row_behind : (lines : List Line) (i : ℕ) (row : TheRow) → slice_get (filter_map row_of lines) i ≡ Some row → (j : ℕ) × (slice_get lines j ≡ Some (Row row))
+row_behind [] i row h = cc (h)
+row_behind (Row x ∷ lines) zero row h = let s : x ≡ row = cc (h) in (0, ap (λ (y : TheRow). Some (Row y)) s)
+row_behind (Row x ∷ lines) (suc i) row h = let r = row_behind lines i row h in (suc r.0, r.1)
+row_behind (Input e ∷ lines) i row h = let r = row_behind lines i row h in (suc r.0, r.1)
+
+pub rows_fit : (program : Parts) (records : Texts) (read : LogLines) → IsSound program → ReadsLines program records read → length read.rows.items ≤ 4000000 → RowsFit program read.rows.items
+rows_fit program records read sound h few = record {
+  few = few;
+  each = λ i row at.
+      let j = row_behind h.lines i row (rw (← h.rows_are) at) in
+      let b = behind (IsLine program) h.first h.lines j.0 (Row row) h.each j.1 in
+      row_fits program b.1.1 b.1.0 row sound b.1.3;
+}
+
+entry_fits : (program : Parts) (fields : List (List ℕ)) (entry : Entry) → IsEntry program fields entry → EntryFits program entry
+entry_fits program fields (Happens e) h = event_fits program h.1 h.0 e h.4
+entry_fits program fields (Stops g) h = stop_fits program h.1 h.0 g h.4
+
+abbrev FitsIn : Parts → Among → Type 0
+FitsIn program a = EntryFits program a.entry
+
+entries_fit : (program : Parts) (n : ℕ) (first : Texts) (lines : List Line) → AllZip (IsLine program) first lines → InputsFit program (inputs_behind n lines)
+entries_fit program n [] [] h = All-nil (FitsIn program)
+entries_fit program n (f ∷ first) [] h = absurd h
+entries_fit program n [] (line ∷ lines) h = absurd h
+entries_fit program n (f ∷ first) (Row row ∷ lines) h = entries_fit program (n + 1) first lines h.1
+entries_fit program n (f ∷ first) (Input entry ∷ lines) h = All-cons (FitsIn program) (among n entry) (inputs_behind n lines) (entry_fits program f entry h.0) (entries_fit program n first lines h.1)
+
+pub inputs_fit : (program : Parts) (records : Texts) (read : LogLines) → ReadsLines program records read → InputsFit program read.inputs.items
+inputs_fit program records read h = rw h.inputs_are (entries_fit program 0 h.first h.lines h.each)

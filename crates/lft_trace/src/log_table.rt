@@ -1,0 +1,154 @@
+//! Rows with external inputs among them.
+
+ghost use Rattle.std.specs.Prelude.{◌≡◌, ◌<◌, ◌≤◌, length, IfSome, IfOk, IfErr};
+ghost use Rattle.csv.specs.Records.{fields_of};
+ghost use Rattle.lft_steps.specs.Fits.{RowsFit};
+ghost use Rattle.lft_trace.specs.LogTables.{InputsFit, IsLine, IsNoLine, IsWithin, ReadsLines};
+ghost use Rattle.lft_trace.specs.Records.{records_of};
+ghost use Rattle.lft_trace.specs.SeenExternals.{is_of_input};
+
+use crate::external_table::{Entry, read_entry};
+use crate::fault::TraceFault;
+use crate::next_names::NextNames;
+use crate::records::{Records, Unread};
+use crate::trace_table::read_row;
+use csv::ByteRecord;
+use lft_flat::Program;
+use lft_steps::Row;
+use lft_tag::MAX_ROWS;
+use std::alloc::Global;
+
+/// The line that a record has in a table of its own. The header is line 1.
+const ONLY_LINE: u32 = 2;
+
+/// What a record tells that stands among rows.
+#[derive(Clone, Copy, PartialEq, Eq, Drop)]
+pub(crate) enum Line {
+    Row(Row),
+    Input(Entry),
+}
+
+/// Why a record among rows tells nothing. The line of the fault itself is that in a table of the header
+/// and this record.
+#[derive(Clone, Copy, PartialEq, Eq, Debug, Drop)]
+pub enum LineFault {
+    /// It is no row.
+    NoRow(TraceFault),
+    /// It has the fields of an external input and begins with the word of one, and is none.
+    NoInput(TraceFault),
+}
+
+/// An external input among rows.
+#[derive(Clone, Copy, PartialEq, Eq, Debug, Drop)]
+pub struct Among {
+    /// How many rows stand before it.
+    pub rows_before: usize,
+    pub entry: Entry,
+}
+
+/// Rows and the external inputs among them, up to a record that is neither.
+#[derive(Drop)]
+pub struct LogLines {
+    pub rows: Vec<Row>,
+    pub inputs: Vec<Among>,
+    /// What is wrong with the next record. There is none where all records were read.
+    pub fault: Option<LineFault>,
+}
+
+/// Whether a record that has this fault as an external input begins as one.
+fn is_of_input(fault: TraceFault) -> bool
+    ensures { result ≡ is_of_input fault }
+{
+    !matches!(
+        fault,
+        TraceFault::BadFieldCount(_) | TraceFault::BadEvent(_)
+    )
+}
+
+/// What a record tells. `last` is the reaction of the row before, `next` where the names of a row are
+/// looked for first.
+fn read_line(
+    program: &Program,
+    last: Option<u32>,
+    next: NextNames,
+    fields: &ByteRecord,
+) -> Result<Line, LineFault>
+    requires { IfSome last (λ r. r < length program.now.reactions) }
+    ensures line { IfOk result (λ line. IsLine program.now (fields_of fields.now) line) }
+    ensures fault { IfErr result (λ e. IsNoLine program.now (fields_of fields.now) e) }
+    ensures within { IfOk result (λ line. IsWithin program.now line) }
+{
+    match read_entry(program, fields, ONLY_LINE) {
+        Ok(entry) => Ok(Line::Input(entry)),
+        Err(fault) => {
+            if is_of_input(fault) {
+                return Err(LineFault::NoInput(fault));
+            }
+            match read_row(program, last, next, fields, ONLY_LINE) {
+                Ok(row) => Ok(Line::Row(row)),
+                Err(fault) => Err(LineFault::NoRow(fault)),
+            }
+        }
+    }
+}
+
+fn read_lines_of(alloc: Global, program: &Program, text: &[u8]) -> Result<LogLines, Unread>
+    ensures read { IfOk result (λ read. ReadsLines program.now (records_of text.now) read) }
+    ensures few { IfOk result (λ read. length read.rows.items ≤ 4000000) }
+{
+    let mut records = Records::new(alloc, text, MAX_ROWS as u32);
+    let mut rows = Vec::new(alloc);
+    let mut inputs = Vec::new(alloc);
+    let mut last = None;
+    let mut next = NextNames::first();
+    'lines: loop {
+        match records.next() {
+            Ok(true) => {}
+            Ok(false) => {
+                return Ok(LogLines {
+                    rows,
+                    inputs,
+                    fault: None,
+                });
+            }
+            Err(stop) => return Err(stop),
+        }
+        match read_line(program, last, next, &records.fields) {
+            Ok(Line::Row(row)) => {
+                if rows.push(row).is_err() {
+                    return Err(Unread::NoMemory);
+                }
+                last = Some(row.reaction);
+                next = next.after(program, row);
+            }
+            Ok(Line::Input(entry)) => {
+                let rows_before = rows.len();
+                if inputs.push(Among { rows_before, entry }).is_err() {
+                    return Err(Unread::NoMemory);
+                }
+            }
+            Err(fault) => {
+                return Ok(LogLines {
+                    rows,
+                    inputs,
+                    fault: Some(fault),
+                });
+            }
+        }
+    }
+}
+
+/// The rows and the external inputs of a text without a header, up to a record that is neither. The text
+/// is read once.
+///
+/// An error tells nothing of a line: there are more records than a table may have rows, a reader failed,
+/// or a growth of memory was refused.
+pub fn read_log(alloc: Global, program: &Program, text: &[u8]) -> Result<LogLines, Unread>
+    ensures read { IfOk result (λ read. ReadsLines program.now (records_of text.now) read) }
+    ensures rows { IfOk result (λ read. RowsFit program.now read.rows.items) }
+    ensures inputs { IfOk result (λ read. InputsFit program.now read.inputs.items) }
+{
+    // Asked for what every program keeps: no two of its things have one name.
+    program.keeps();
+    read_lines_of(alloc, program, text)
+}
