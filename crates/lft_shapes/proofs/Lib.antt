@@ -1,6 +1,9 @@
 mod Building
+mod Circles
 mod Goings
 mod Meanings
+mod Naming
+mod Refusing
 mod Rows
 mod Sets
 mod Walking

@@ -30,8 +30,8 @@ nothing_there : (r : ℕ) → Has [] r → ⊥
 nothing_there r (i, at) = absurd (cc)
 
 -- nothing is listed yet
-pub begun : (next : Ways) (first : ℕ) (done met : ℕ → Bool) → ((r : ℕ) → done r ≡ true → ⊥) → met first ≡ true → Walking next first [] done met (at_first first ∷ [])
-begun next first done met none known = record {
+pub begun : (next : Ways) (first : ℕ) (done met : ℕ → Bool) → ((r : ℕ) → done r ≡ true → ⊥) → met first ≡ true → ((r : ℕ) → met r ≡ true → r ≡ first) → Walking next first [] done met (at_first first ∷ [])
+begun next first done met none known alone = record {
   behind = nothing;
   in_list = λ r d. absurd (none r d);
   met_list = λ r h. absurd (nothing_there r h);
@@ -42,6 +42,8 @@ begun next first done met none known = record {
   reached_list = λ r h. absurd (nothing_there r h);
   reached_path = λ i v at. subst (Reaches next first) (node i v at) itself;
   held = inr (0, (at_first first, refl, refl));
+  met_is = λ r m. inr (0, (at_first first, refl, sym (alone r m)));
+  leads = λ i j v w a b le. subst (λ n. Reaches next n w.node) (node i v a) (subst (Reaches next first) (node j w b) itself);
 }
   where
     only : (i : ℕ) (v : Visit) → slice_get (at_first first ∷ []) i ≡ Some v → v ≡ at_first first
@@ -51,7 +53,7 @@ begun next first done met none known = record {
     node i v at = sym (ap (λ x. x.node) (only i v at))
 
 -- the last one of the path leads to no more
-module _ (next : Ways) (first : ℕ) (listed : List ℕ) (done met more : ℕ → Bool) (front : List Visit) (top : Visit) (s : Walking next first listed done met (front ++ top ∷ [])) (none : (k : ℕ) → top.next ≤ k → next top.node k ≡ None) (only : (r : ℕ) → more r ≡ true → (r ≡ top.node) ⊎ (done r ≡ true)) where
+module _ (next : Ways) (first : ℕ) (listed : List ℕ) (done met more : ℕ → Bool) (front : List Visit) (top : Visit) (s : Walking next first listed done met (front ++ top ∷ [])) (none : (k : ℕ) → top.next ≤ k → next top.node k ≡ None) (only : (r : ℕ) → more r ≡ true → (r ≡ top.node) ⊎ (done r ≡ true)) (kept : (r : ℕ) → done r ≡ true → more r ≡ true) (known : more top.node ≡ true) where
   top_at : slice_get (front ++ top ∷ []) (length front) ≡ Some top
   top_at = get_last front top
 
@@ -79,6 +81,15 @@ module _ (next : Ways) (first : ℕ) (listed : List ℕ) (done met more : ℕ �
     ])
   ]
 
+  still_met : (r : ℕ) → met r ≡ true → (more r ≡ true) ⊎ ((i : ℕ) × IsVisitAt front i r)
+  still_met r m = elim (s.met_is r m) [
+    | inl d ↦ inl (kept r d)
+    | inr on ↦ (elim (get_push_cases front top on.0 on.1.0 on.1.1) [
+      | inl old ↦ inr (on.0, (on.1.0, old, on.1.2))
+      | inr last ↦ inl (subst (λ x. more x ≡ true) (ap (λ x. x.node) last.1 ∙ on.1.2) known)
+    ])
+  ]
+
   pub ended : Walking next first (listed ++ top.node ∷ []) more met front
   ended = record {
     behind = one listed top.node s.behind (s.left (length front) top top_at) all_listed;
@@ -91,6 +102,8 @@ module _ (next : Ways) (first : ℕ) (listed : List ℕ) (done met more : ℕ �
     reached_list = λ r h. elim (has_cases listed top.node r h) [ inl o ↦ s.reached_list r o | inr e ↦ subst (Reaches next first) e (s.reached_path (length front) top top_at) ];
     reached_path = λ i v at. s.reached_path i v (older i v at);
     held = still_held;
+    met_is = still_met;
+    leads = λ i j v w a b le. s.leads i j v w (older i v a) (older j w b) le;
   }
 
 -- the last one of the path goes on to a place
@@ -132,10 +145,18 @@ module _ (next : Ways) (first : ℕ) (listed : List ℕ) (done met : ℕ → Boo
         | inr last ↦ inr (length front, (again, get_last front again, same ∙ ap (λ x. x.node) last.1 ∙ on.1.2))
       ])
     ];
+    met_is = λ r m. elim (s.met_is r m) [
+      | inl d ↦ inl d
+      | inr on ↦ (elim (get_push_cases front top on.0 on.1.0 on.1.1) [
+        | inl old ↦ inr (on.0, (on.1.0, get_push front again on.0 on.1.0 old, on.1.2))
+        | inr last ↦ inr (length front, (again, get_last front again, same ∙ ap (λ x. x.node) last.1 ∙ on.1.2))
+      ])
+    ];
+    leads = λ i j v u a b le. (let w = before i v a in let x = before j u b in subst (λ n. Reaches next n u.node) w.2 (subst (Reaches next w.0.node) x.2 (s.leads i j w.0 x.0 w.1 x.1 le)));
   }
 
 -- one that wasn't met is gone over next
-module _ (next : Ways) (first : ℕ) (listed : List ℕ) (done met more : ℕ → Bool) (path : List Visit) (node : ℕ) (s : Walking next first listed done met path) (new : met node ≡ false) (reached : Reaches next first node) (now : more node ≡ true) (kept : (r : ℕ) → met r ≡ true → more r ≡ true) where
+module _ (next : Ways) (first : ℕ) (listed : List ℕ) (done met more : ℕ → Bool) (path : List Visit) (node : ℕ) (s : Walking next first listed done met path) (new : met node ≡ false) (reached : Reaches next first node) (onto : (i : ℕ) (v : Visit) → slice_get path i ≡ Some v → Reaches next v.node node) (now : more node ≡ true) (kept : (r : ℕ) → met r ≡ true → more r ≡ true) (only : (r : ℕ) → more r ≡ true → (r ≡ node) ⊎ (met r ≡ true)) where
   not_met : (r : ℕ) → node ≡ r → met r ≡ true → ⊥
   not_met r e h = let f : false ≡ true = sym new ∙ ap met e ∙ h in absurd (cc)
 
@@ -154,6 +175,27 @@ module _ (next : Ways) (first : ℕ) (listed : List ℕ) (done met more : ℕ �
     ])
   ]
 
+  new_met : (r : ℕ) → more r ≡ true → (done r ≡ true) ⊎ ((i : ℕ) × IsVisitAt (path ++ at_first node ∷ []) i r)
+  new_met r m = elim (only r m) [
+    | inl e ↦ inr (length path, (at_first node, get_last path (at_first node), sym e))
+    | inr o ↦ (elim (s.met_is r o) [
+      | inl d ↦ inl d
+      | inr on ↦ inr (on.0, (on.1.0, get_push path (at_first node) on.0 on.1.0 on.1.1, on.1.2))
+    ])
+  ]
+
+  new_leads : (i j : ℕ) (v w : Visit) → slice_get (path ++ at_first node ∷ []) i ≡ Some v → slice_get (path ++ at_first node ∷ []) j ≡ Some w → i ≤ j → Reaches next v.node w.node
+  new_leads i j v w a b le = elim (split i v a) [
+    | inl old ↦ (elim (split j w b) [
+      | inl older ↦ s.leads i j v w old older le
+      | inr last ↦ subst (Reaches next v.node) (ap (λ x. x.node) last.1) (onto i v old)
+    ])
+    | inr last ↦ (elim (split j w b) [
+      | inl older ↦ absurd (let l = slice_get_within path j w older in let e = last.0 in omega (arith, l, e, le))
+      | inr also ↦ subst (λ n. Reaches next n w.node) (ap (λ x. x.node) last.1) (subst (Reaches next node) (ap (λ x. x.node) also.1) itself)
+    ])
+  ]
+
   pub entered : Walking next first listed done more (path ++ at_first node ∷ [])
   entered = record {
     behind = s.behind;
@@ -166,6 +208,8 @@ module _ (next : Ways) (first : ℕ) (listed : List ℕ) (done met more : ℕ �
     reached_list = s.reached_list;
     reached_path = λ i v at. elim (split i v at) [ inl old ↦ s.reached_path i v old | inr last ↦ subst (Reaches next first) (ap (λ x. x.node) last.1) reached ];
     held = elim s.held [ inl h ↦ inl h | inr on ↦ inr (on.0, (on.1.0, get_push path (at_first node) on.0 on.1.0 on.1.1, on.1.2)) ];
+    met_is = new_met;
+    leads = new_leads;
   }
 
 -- at the end all is listed
@@ -202,14 +246,14 @@ last_none (x ∷ xs) at =
     let e : None ≡ Some there.0 = sym at ∙ there.1 in
     absurd (cc)
 
-pub begun_as : (next : Ways) (first : ℕ) (listed : List ℕ) (done met : ℕ → Bool) (path : List Visit) → listed ≡ [] → path ≡ record { node = first; next = 0 } ∷ [] → ((r : ℕ) → done r ≡ true → ⊥) → met first ≡ true → Walking next first listed done met path
-begun_as next first listed done met path empty start none known = subst (λ l. Walking next first l done met path) (sym empty) (subst (Walking next first [] done met) (sym start) (begun next first done met none known))
+pub begun_as : (next : Ways) (first : ℕ) (listed : List ℕ) (done met : ℕ → Bool) (path : List Visit) → listed ≡ [] → path ≡ record { node = first; next = 0 } ∷ [] → ((r : ℕ) → done r ≡ true → ⊥) → met first ≡ true → ((r : ℕ) → met r ≡ true → r ≡ first) → Walking next first listed done met path
+begun_as next first listed done met path empty start none known alone = subst (λ l. Walking next first l done met path) (sym empty) (subst (Walking next first [] done met) (sym start) (begun next first done met none known alone))
 
-pub ended_as : (next : Ways) (first : ℕ) (listed : List ℕ) (done met more : ℕ → Bool) (path rest : List Visit) (top : Visit) (longer : List ℕ) → (v : Visit) × ((front : List Visit) × (path ≡ front ++ v ∷ [])) × ((k : ℕ) → v.next ≤ k → next v.node k ≡ None) → Walking next first listed done met path → path ≡ rest ++ top ∷ [] → longer ≡ listed ++ top.node ∷ [] → ((r : ℕ) → more r ≡ true → (r ≡ top.node) ⊎ (done r ≡ true)) → Walking next first longer more met rest
-ended_as next first listed done met more path rest top longer ends s popped pushed only =
+pub ended_as : (next : Ways) (first : ℕ) (listed : List ℕ) (done met more : ℕ → Bool) (path rest : List Visit) (top : Visit) (longer : List ℕ) → (v : Visit) × ((front : List Visit) × (path ≡ front ++ v ∷ [])) × ((k : ℕ) → v.next ≤ k → next v.node k ≡ None) → Walking next first listed done met path → path ≡ rest ++ top ∷ [] → longer ≡ listed ++ top.node ∷ [] → ((r : ℕ) → more r ≡ true → (r ≡ top.node) ⊎ (done r ≡ true)) → ((r : ℕ) → done r ≡ true → more r ≡ true) → more top.node ≡ true → Walking next first longer more met rest
+ended_as next first listed done met more path rest top longer ends s popped pushed only kept known =
     let same : ends.0 ≡ top = same_last ends.1.0 rest ends.0 top (sym ends.1.1 ∙ popped) in
     let none : (k : ℕ) → top.next ≤ k → next top.node k ≡ None = subst (λ (w : Visit). (k : ℕ) → w.next ≤ k → next w.node k ≡ None) same ends.2 in
-    subst (λ l. Walking next first l more met rest) (sym pushed) (ended next first listed done met more rest top (subst (Walking next first listed done met) popped s) none only)
+    subst (λ l. Walking next first l more met rest) (sym pushed) (ended next first listed done met more rest top (subst (Walking next first listed done met) popped s) none only kept known)
 
 pub moved_as : (next : Ways) (first : ℕ) (listed : List ℕ) (done met : ℕ → Bool) (path rest now : List Visit) (top again : Visit) (number : ℕ) → (v : Visit) × ((front : List Visit) × (path ≡ front ++ v ∷ [])) × ((k r : ℕ) → v.next ≤ k → k < number → next v.node k ≡ Some r → done r ≡ true) → Walking next first listed done met path → path ≡ rest ++ top ∷ [] → again ≡ record { node = top.node; next = number } → now ≡ rest ++ again ∷ [] → Walking next first listed done met now
 moved_as next first listed done met path rest now top again number passes s popped new pushed =
@@ -219,11 +263,27 @@ moved_as next first listed done met path rest now top again number passes s popp
     let all : now ≡ rest ++ onward ∷ [] = pushed ∙ ap (λ w. rest ++ w ∷ []) new in
     subst (Walking next first listed done met) (sym all) (moved next first listed done met rest top onward (subst (Walking next first listed done met) popped s) refl between)
 
-pub entered_as : (next : Ways) (first : ℕ) (listed : List ℕ) (done met more : ℕ → Bool) (path now : List Visit) (node : ℕ) → (v : Visit) × ((front : List Visit) × (path ≡ front ++ v ∷ [])) × ((k : ℕ) × (next v.node k ≡ Some node)) → Walking next first listed done met path → met node ≡ false → now ≡ path ++ record { node = node; next = 0 } ∷ [] → more node ≡ true → ((r : ℕ) → met r ≡ true → more r ≡ true) → Walking next first listed done more now
-entered_as next first listed done met more path now node leads s new pushed known kept =
+pub entered_as : (next : Ways) (first : ℕ) (listed : List ℕ) (done met more : ℕ → Bool) (path now : List Visit) (node : ℕ) → (v : Visit) × ((front : List Visit) × (path ≡ front ++ v ∷ [])) × ((k : ℕ) × (next v.node k ≡ Some node)) → Walking next first listed done met path → met node ≡ false → now ≡ path ++ record { node = node; next = 0 } ∷ [] → more node ≡ true → ((r : ℕ) → met r ≡ true → more r ≡ true) → ((r : ℕ) → more r ≡ true → (r ≡ node) ⊎ (met r ≡ true)) → Walking next first listed done more now
+entered_as next first listed done met more path now node leads s new pushed known kept only =
     let at : slice_get path (length leads.1.0) ≡ Some leads.0 = ap (λ l. slice_get l (length leads.1.0)) leads.1.1 ∙ get_last leads.1.0 leads.0 in
     let reached : Reaches next first node = further leads.2.0 (s.reached_path (length leads.1.0) leads.0 at) leads.2.1 in
-    subst (Walking next first listed done more) (sym pushed) (entered next first listed done met more path node s new reached known kept)
+    let onto : (i : ℕ) (v : Visit) → slice_get path i ≡ Some v → Reaches next v.node node = λ i v is. (
+    let within = slice_get_within path i v is in
+    let long = push_length leads.1.0 leads.0 in
+    let same = ap length leads.1.1 in
+    further leads.2.0 (s.leads i (length leads.1.0) v leads.0 is at (omega (arith, within, long, same))) leads.2.1) in
+    subst (Walking next first listed done more) (sym pushed) (entered next first listed done met more path node s new reached onto known kept only)
+
+-- one that was met and isn't done is on the path: from it there is a way to the one that is gone over
+pub closed : (next : Ways) (first : ℕ) (listed : List ℕ) (done met : ℕ → Bool) (path : List Visit) (node : ℕ) → Walking next first listed done met path → met node ≡ true → done node ≡ false → (v : Visit) × ((front : List Visit) × (path ≡ front ++ v ∷ [])) × Reaches next node v.node
+closed next first listed done met path node s known left = of (s.met_is node known)
+  where
+    of : (done node ≡ true) ⊎ ((i : ℕ) × IsVisitAt path i node) → (v : Visit) × ((front : List Visit) × (path ≡ front ++ v ∷ [])) × Reaches next node v.node
+    of (inl d) = let e : false ≡ true = sym left ∙ d in absurd (cc)
+    of (inr on) =
+        let within = slice_get_within path on.0 on.1.0 on.1.1 in
+        let last = get_there path (length path - 1) (omega (arith, within)) in
+        (last.0, last_some path last.0 last.1, subst (λ n. Reaches next n last.0.node) on.1.2 (s.leads on.0 (length path - 1) on.1.0 last.0 on.1.1 last.1 (omega (arith, within))))
 
 -- what it leads to at one place is done
 pub one_passed : (next : Ways) (done : ℕ → Bool) (node from to base : ℕ) → next node from ≡ Some base → done base ≡ true → to ≤ from + 1 → (k r : ℕ) → from ≤ k → k < to → next node k ≡ Some r → done r ≡ true
@@ -238,3 +298,7 @@ gap_passed next done node from member to inner at gap is le k r low high there =
   | inl l ↦ (let e : None ≡ Some r = sym (gap k low l) ∙ there in absurd (cc))
   | inr g ↦ one_passed next done node member to inner at is le k r g high there
 ]
+
+-- the one that is gone over is reached
+pub top_reached : (next : Ways) (first : ℕ) (listed : List ℕ) (done met : ℕ → Bool) (path front : List Visit) (v : Visit) → path ≡ front ++ v ∷ [] → Walking next first listed done met path → Reaches next first v.node
+top_reached next first listed done met path front v e s = s.reached_path (length front) v (ap (λ l. slice_get l (length front)) e ∙ get_last front v)

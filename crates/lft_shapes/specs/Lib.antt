@@ -1,7 +1,10 @@
 pub mod Built
 pub mod Chains
+pub mod Circles
 pub mod Makings
 pub mod Nestings
+pub mod Refused
 pub mod Scopes
 pub mod Shapes
+pub mod Unnamed
 pub mod Walks

@@ -47,6 +47,8 @@ pub record Walking (next : Ways) (first : ℕ) (listed : List ℕ) (done met : �
   pub reached_list : (r : ℕ) → Has listed r → Reaches next first r
   pub reached_path : (i : ℕ) (v : Visit) → slice_get path i ≡ Some v → Reaches next first v.node
   pub held : Has listed first ⊎ ((i : ℕ) × IsVisitAt path i first)
+  pub met_is : (r : ℕ) → met r ≡ true → (done r ≡ true) ⊎ ((i : ℕ) × IsVisitAt path i r)
+  pub leads : (i j : ℕ) (v w : Visit) → slice_get path i ≡ Some v → slice_get path j ≡ Some w → i ≤ j → Reaches next v.node w.node
 
 -- the number is done
 abbrev pub is_done : Walk → ℕ → Bool
@@ -79,3 +81,7 @@ PassesTo next walk number = (v : Visit) × IsTop walk v × ((k r : ℕ) → v.ne
 -- the one that is gone over leads to that node
 abbrev pub LeadsTo : Ways → Walk → ℕ → Type 0
 LeadsTo next walk node = (v : Visit) × IsTop walk v × ((k : ℕ) × (next v.node k ≡ Some node))
+
+-- from that node there is a way to the one that is gone over
+abbrev pub ClosesCircle : Ways → Walk → ℕ → Type 0
+ClosesCircle next walk node = (v : Visit) × IsTop walk v × Reaches next node v.node

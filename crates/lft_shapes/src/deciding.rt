@@ -1,11 +1,13 @@
 //! Which parameters decide widths, and which are times.
 
-ghost use Rattle.std.specs.Prelude.{◌≡◌, OnOk};
+ghost use Rattle.std.specs.Prelude.{◌≡◌, IfErr, OnOk};
 ghost use Rattle.lft_shapes.specs.Built.{cores};
+ghost use Rattle.lft_shapes.specs.Circles.{HasNoParameter};
 ghost use Rattle.lft_shapes.specs.Shapes.{tables};
 
 use crate::shapes::{Given, Inherited, Shape};
 use lft_sources::{Stop, Why};
+use lft_tag::NoMemory;
 use lft_whole::{Connection, Count, Expression, Member, Value, Width};
 use std::alloc::Global;
 
@@ -42,12 +44,9 @@ impl Needs {
     }
 
     /// Notes the parameters that a width names.
-    fn note_width(
-        &mut self,
-        shape: &Shape,
-        file: usize,
-        width: &Option<Width>,
-    ) -> Result<(), Stop> {
+    fn note_width(&mut self, shape: &Shape, file: usize, width: &Option<Width>) -> Result<(), Stop>
+        ensures { IfErr result (HasNoParameter shape.now file width.now) }
+    {
         if let Some(width) = width {
             for term in &width.terms {
                 if let Count::Word(word) = &term.count {
@@ -117,7 +116,7 @@ impl Needs {
 }
 
 /// As many times `false`.
-fn none(alloc: Global, count: usize) -> Result<Vec<bool>, Stop> {
+fn none(alloc: Global, count: usize) -> Result<Vec<bool>, NoMemory> {
     let mut list = Vec::new(alloc);
     for _ in 0..count {
         list.push(false)?;

@@ -1,7 +1,9 @@
 //! The shapes of the main reactor and of all that it contains, each made when it is asked for first.
 
-ghost use Rattle.std.specs.Prelude.{◌≡◌, Some, OnOk, IfOk};
+ghost use Rattle.std.specs.Prelude.{◌≡◌, Some, OnOk, IfErr, IfOk, map, string_bytes};
+ghost use Rattle.lft_scope.specs.Tests.{texts};
 ghost use Rattle.lft_shapes.specs.Built.{AreBuilt, cores, first_class};
+ghost use Rattle.lft_shapes.specs.Circles.{HasWrongGiven};
 ghost use Rattle.lft_shapes.specs.Makings.{AddsShape, GoesOn};
 
 use crate::scopes::{Class, Scopes};
@@ -9,7 +11,8 @@ use crate::shapes::{Child, Given, Shape};
 use crate::work::Work;
 use lft_scope::index::Index;
 use lft_sources::{Stop, Why};
-use lft_whole::Instance;
+use lft_tag::NoMemory;
+use lft_whole::{Assignment, Instance};
 use std::alloc::Global;
 
 /// The shapes so far.
@@ -23,17 +26,27 @@ struct Making<'a> {
     known: Vec<Option<usize>>,
 }
 
+/// The names to which values are given.
+fn given_names<'a>(alloc: Global, given: &'a [Assignment]) -> Result<Vec<&'a str>, NoMemory>
+    ensures { IfOk result (λ v. texts v.items ≡ map (λ a. string_bytes a.name.text) given.now) }
+{
+    let mut names = Vec::new(alloc);
+    for assignment in given {
+        names.push(assignment.name.text.as_str())?;
+    }
+    Ok(names)
+}
+
 /// For what the parameters of a shape are given, in the order of the parameters.
 fn given_of<'a>(
     alloc: Global,
     inner: &Shape<'a>,
     file: usize,
     instance: &'a Instance,
-) -> Result<Vec<Given<'a>>, Stop> {
-    let mut names: Vec<&'a str> = Vec::new(alloc);
-    for assignment in &instance.given {
-        names.push(assignment.name.text.as_str())?;
-    }
+) -> Result<Vec<Given<'a>>, Stop>
+    ensures { IfErr result (HasWrongGiven inner.now file instance.now.given.items) }
+{
+    let names = given_names(alloc, &instance.given)?;
     let index = Index::of(alloc, &names)?;
     let mut given = Vec::new(alloc);
     for place in 0..instance.given.len() {
@@ -42,7 +55,7 @@ fn given_of<'a>(
         let Some(parameter) = inner.parameter(name) else {
             return Err(Stop::at(Why::GivesNoParameter, file, assignment.name.at));
         };
-        if index.get(name) != Some(place) {
+        if index.get(name).unwrap_or(place) != place {
             return Err(Stop::at(Why::GivenTwice, file, assignment.name.at));
         }
         given.push(Given {
@@ -55,7 +68,7 @@ fn given_of<'a>(
 }
 
 /// As many times nothing.
-fn nothing(alloc: Global, count: usize) -> Result<Vec<Option<usize>>, Stop> {
+fn nothing(alloc: Global, count: usize) -> Result<Vec<Option<usize>>, NoMemory> {
     let mut list = Vec::new(alloc);
     for _ in 0..count {
         list.push(None)?;

@@ -1,7 +1,8 @@
 //! All reactors below the main one, contained ones first.
 
-ghost use Rattle.std.specs.Prelude.{◌≡◌, ◌≤◌, ◌<◌, ℕ, Some, None, IfOk, IfSome, IfNone, OnOk, IsTrue, true, false};
+ghost use Rattle.std.specs.Prelude.{◌≡◌, ◌≤◌, ◌<◌, ℕ, Some, None, IfErr, IfOk, IfSome, IfNone, OnOk, IsTrue, true, false};
 ghost use Rattle.lft_shapes.specs.declared.scopes.Scopes.{Scopes};
+ghost use Rattle.lft_shapes.specs.Circles.{HasCircle, SaysContains};
 ghost use Rattle.lft_shapes.specs.Nestings.{IsNesting};
 ghost use Rattle.lft_shapes.specs.Shapes.{inside, tables};
 ghost use Rattle.lft_shapes.specs.Walks.{IsWalk, IsList, IsOver};
@@ -42,21 +43,23 @@ fn next_child(shapes: &[Shape], visit: Visit) -> Option<(usize, usize)>
 }
 
 /// Why a shape may not be in the instance of this number, as it contains that.
-fn contains_itself(shapes: &[Shape], shape: usize, member: usize) -> Stop {
-    let inherited = match shapes.get(shape) {
-        Some(found) => found.member(member),
-        None => None,
+fn contains_itself(shapes: &[Shape], shape: usize, member: usize) -> Stop
+    ensures { SaysContains shapes.now shape member result }
+{
+    let Some(found) = shapes.get(shape) else {
+        return Stop::NoMemory;
     };
-    match inherited {
-        Some(inherited) => Stop::at(Why::ContainsItself, inherited.file, inherited.at()),
-        None => Stop::NoMemory,
-    }
+    let Some(inherited) = found.member(member) else {
+        return Stop::NoMemory;
+    };
+    Stop::at(Why::ContainsItself, inherited.file, inherited.at())
 }
 
 /// Goes on with the instances of the shape that is gone over; whether there was one.
 fn step(shapes: &[Shape], work: &mut Work, walk: &mut Walk) -> Result<bool, Stop>
     ensures walk { OnOk result ((first : ℕ) → IsWalk (inside (tables shapes.now)) first walk.old → IsWalk (inside (tables shapes.now)) first walk.new) }
     ensures over { IfOk result (λ more. more ≡ false → IsOver walk.new) }
+    ensures cause { IfErr result (λ stop. (first : ℕ) → IsWalk (inside (tables shapes.now)) first walk.old → HasCircle shapes.now first stop) }
     ensures work { IfOk result (λ more. IsTrue more → work.new.left < work.old.left) }
 {
     let Some(visit) = walk.top() else {
@@ -79,7 +82,8 @@ fn step(shapes: &[Shape], work: &mut Work, walk: &mut Walk) -> Result<bool, Stop
 
 /// The shapes, each behind those that it contains. None may contain itself.
 fn order_of(alloc: Global, shapes: &[Shape], work: &mut Work) -> Result<Vec<usize>, Stop>
-    ensures { IfOk result (λ order. IsList (inside (tables shapes.now)) 0 order.items) }
+    ensures order { IfOk result (λ order. IsList (inside (tables shapes.now)) 0 order.items) }
+    ensures cause { IfErr result (HasCircle shapes.now 0) }
 {
     let mut walk = Walk::of(alloc, 0)?;
     'visits: loop {

@@ -1,8 +1,11 @@
 //! What the names of reactors mean in each file.
 
-ghost use Rattle.std.specs.Prelude.{◌≡◌, List, Some, true, false, IfOk, IfSome, OnOk, map, slice_get};
+ghost use Rattle.std.specs.Prelude.{◌≡◌, ◌≢◌, ◌≤◌, ◌<◌, ◌⊎◌, ℕ, List, Some, true, false, IfErr, IfNone, IfOk, IfSome, OnOk, map, slice_get};
+ghost use Rattle.lft_scope.specs.Places.{IsIndexOf};
 ghost use Rattle.lft_scope.specs.Tests.{texts};
 ghost use Rattle.lft_sources.specs.declared.source.SourceFile.{SourceFile};
+ghost use Rattle.lft_shapes.specs.Refused.{HasNoOneMain, IsMainAt};
+ghost use Rattle.lft_shapes.specs.Unnamed.{GivesNone, SaysNotGiven, SaysNotImported, SaysTwoMeanings};
 ghost use Rattle.lft_shapes.specs.Scopes.{in_scope, meaning_in, class_at, EachMeans, IsScopeOf, IsScope, IsOf, AreOf, IsOwn, AreOwnScopes, IsImport, IsMeant, AreMeantScopes, IsMain, AreScopes};
 
 use lft_lists::item_at;
@@ -98,7 +101,7 @@ fn own_scope<'a>(
     number: usize,
     file: &'a SourceFile,
     classes: &mut Vec<Class<'a>>,
-) -> Result<Scope<'a>, Stop>
+) -> Result<Scope<'a>, NoMemory>
     ensures own { IfOk result (λ scope. (files : List SourceFile) → slice_get files number ≡ Some file.now → IsScope (IsOwn files number) scope) }
     ensures classes { OnOk result ((files : List SourceFile) → slice_get files number ≡ Some file.now → AreOf files classes.old.items → AreOf files classes.new.items) }
 {
@@ -118,7 +121,8 @@ fn own_scope<'a>(
 
 /// The reactor that an import of this name from a file gives: no main one.
 fn exported<'a>(own: &[Scope<'a>], target: usize, name: &str) -> Option<Class<'a>>
-    ensures { IfSome result (λ class. (class.reactor.now.is_main ≡ false) × ((files : List SourceFile) → AreOwnScopes files own.now → IsOwn files target name.now class)) }
+    ensures some { IfSome result (λ class. (class.reactor.now.is_main ≡ false) × ((files : List SourceFile) → AreOwnScopes files own.now → IsOwn files target name.now class)) }
+    ensures none { IfNone result (GivesNone own.now target name.now) }
 {
     let Some(scope) = own.get(target) else {
         return None;
@@ -137,7 +141,8 @@ fn push_names<'a>(
     target: usize,
     import: &'a Import,
 ) -> Result<(), Stop>
-    ensures { OnOk result ((files : List SourceFile) → IsImport files number target import.now → AreOwnScopes files own.now → EachMeans (IsMeant files number) meanings.old.items → EachMeans (IsMeant files number) meanings.new.items) }
+    ensures meant { OnOk result ((files : List SourceFile) → IsImport files number target import.now → AreOwnScopes files own.now → EachMeans (IsMeant files number) meanings.old.items → EachMeans (IsMeant files number) meanings.new.items) }
+    ensures cause { IfErr result (SaysNotGiven own.now number target import.now) }
 {
     for place in 0..import.names.len() {
         let imported = &import.names[place];
@@ -160,7 +165,8 @@ fn push_imports<'a>(
     number: usize,
     file: &'a SourceFile,
 ) -> Result<(), Stop>
-    ensures { OnOk result ((files : List SourceFile) → slice_get files number ≡ Some file.now → AreOwnScopes files own.now → EachMeans (IsMeant files number) meanings.old.items → EachMeans (IsMeant files number) meanings.new.items) }
+    ensures meant { OnOk result ((files : List SourceFile) → slice_get files number ≡ Some file.now → AreOwnScopes files own.now → EachMeans (IsMeant files number) meanings.old.items → EachMeans (IsMeant files number) meanings.new.items) }
+    ensures cause { IfErr result (SaysNotImported own.now number file.now) }
 {
     let count = file.tree.imports.len().min(file.imports.len());
     for place in 0..count {
@@ -175,7 +181,7 @@ fn own_meanings<'a>(
     alloc: Global,
     own: &[Scope<'a>],
     number: usize,
-) -> Result<Vec<Meaning<'a>>, Stop>
+) -> Result<Vec<Meaning<'a>>, NoMemory>
     ensures { IfOk result (λ v. (files : List SourceFile) → AreOwnScopes files own.now → EachMeans (IsMeant files number) v.items) }
 {
     let Some(scope) = own.get(number) else {
@@ -186,14 +192,18 @@ fn own_meanings<'a>(
 }
 
 /// Whether both say the same, at two tokens: so a reactor may be imported twice.
-fn is_again(first: Meaning, second: Meaning) -> bool {
+fn is_again(first: Meaning, second: Meaning) -> bool
+    ensures { result ≡ false → (first.entry.class.number ≢ second.entry.class.number) ⊎ (first.entry.at ≡ second.entry.at) }
+{
     first.at != second.at && first.class.number == second.class.number
 }
 
 /// Refuses a name of two meanings.
-fn refuse_twice(scope: &Scope, number: usize) -> Result<(), Stop> {
+fn refuse_twice(scope: &Scope, number: usize) -> Result<(), Stop>
+    ensures { IfErr result (λ stop. IsIndexOf scope.now.names (map (λ m. m.name.now) scope.now.meanings.items) → SaysTwoMeanings scope.now.meanings.items number stop) }
+{
     for place in 0..scope.meanings.len() {
-        let meaning = scope.meanings[place];
+        let meaning = item_at(&scope.meanings, place);
         let first = scope.names.get(meaning.name).unwrap_or(place);
         if let Some(other) = scope.meanings.get(first)
             && first != place
@@ -226,7 +236,7 @@ fn own_scopes<'a>(
     alloc: Global,
     files: &'a [SourceFile],
     classes: &mut Vec<Class<'a>>,
-) -> Result<Vec<Scope<'a>>, Stop>
+) -> Result<Vec<Scope<'a>>, NoMemory>
     ensures own { IfOk result (λ own. AreOwnScopes files.now own.items) }
     ensures classes { OnOk result (AreOf files.now classes.old.items → AreOf files.now classes.new.items) }
 {
@@ -289,7 +299,8 @@ impl<'a> Scopes<'a> {
 
     /// The next main reactor of the first file, from this number on.
     fn next_main(&self, from: usize) -> Option<(usize, Class<'a>)>
-        ensures { IfSome result (λ found. (class_at self.now found.0 ≡ Some found.1) × (found.1.file ≡ 0) × (found.1.reactor.now.is_main ≡ true)) }
+        ensures some { IfSome result (λ found. IsMainAt self.now found.0 found.1 × (from ≤ found.0) × (found.0 < usize.MAX)) }
+        ensures none { IfNone result ((number : ℕ) (c : Class) → from ≤ number → IsMainAt self.now number c → ⊥) }
     {
         for place in from..self.classes.len() {
             let class = item_at(&self.classes, place);
@@ -302,7 +313,8 @@ impl<'a> Scopes<'a> {
 
     /// The main reactor of the first file, which ends at the token.
     pub(crate) fn main(&self, end: usize) -> Result<Class<'a>, Stop>
-        ensures { IfOk result (IsMain self.now) }
+        ensures main { IfOk result (IsMain self.now) }
+        ensures cause { IfErr result (HasNoOneMain self.now end) }
     {
         let Some((place, class)) = self.next_main(0) else {
             return Err(Stop::at(Why::NoMain, 0, end));

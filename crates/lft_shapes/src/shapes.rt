@@ -1,10 +1,15 @@
 //! A reactor with the members of its bases before its own, and what its names are.
 
-ghost use Rattle.std.specs.Prelude.{◌≡◌, ◌≢◌, ◌++◌, ◌↔◌, ℕ, IfOk, IfSome, IfNone, OnOk, IsTrue, flat_map, slice_get, option_map, true};
+ghost use Rattle.std.specs.Prelude.{◌≡◌, ◌≢◌, ◌++◌, ◌↔◌, ℕ, List, IfErr, IfOk, IfSome, IfNone, OnOk, IsTrue, flat_map, map, slice_get, option_map, true};
+ghost use Rattle.lft_scope.specs.Places.{IsIndexOf};
+ghost use Rattle.lft_scope.specs.Tests.{texts};
+ghost use Rattle.lft_whole.specs.declared.tree.Foreign.{Foreign};
 ghost use Rattle.lft_whole.specs.declared.tree.Instance.{Instance};
+ghost use Rattle.lft_whole.specs.declared.tree.Name.{Name};
 ghost use Rattle.lft_whole.specs.declared.tree.Port.{Port};
 ghost use Rattle.lft_shapes.specs.Shapes.{thing_named, child_at, width_of, is_at};
 ghost use Rattle.lft_shapes.specs.Built.{IsBuilt, core, located, located_parameters, members_of, members_at, parameters_of, parameters_at};
+ghost use Rattle.lft_shapes.specs.Refused.{HasCause, IsTooMuch, SaysForeign, SaysTwice, name_of, names_in, noted, noted_if, why_of, written};
 
 use crate::chains::chain;
 use crate::scopes::{Class, Scopes};
@@ -14,7 +19,8 @@ use crate::work::Work;
 use lft_lists::item_at;
 use lft_scope::index::Index;
 use lft_sources::{Stop, Why};
-use lft_whole::{Expression, Foreign, Instance, Member, Parameter, Port, Width};
+use lft_tag::NoMemory;
+use lft_whole::{Expression, Foreign, Instance, Member, Name, Parameter, Port, Width};
 use std::alloc::Global;
 
 /// A member, and the number of the file in which it stands.
@@ -82,12 +88,14 @@ pub struct Shape<'a> {
 }
 
 /// The name of a member that has one.
-fn name_of(member: &Member) -> Option<&str> {
+fn name_of(member: &Member) -> Option<&Name>
+    ensures { option_map (λ name. name.now) result ≡ name_of member.now }
+{
     match member {
-        Member::Port(port) => Some(port.name.text.as_str()),
-        Member::Timer(timer) => Some(timer.name.text.as_str()),
-        Member::Action(action) => Some(action.name.text.as_str()),
-        Member::Instance(instance) => Some(instance.name.text.as_str()),
+        Member::Port(port) => Some(&port.name),
+        Member::Timer(timer) => Some(&timer.name),
+        Member::Action(action) => Some(&action.name),
+        Member::Instance(instance) => Some(&instance.name),
         Member::Reaction(_) | Member::Connection(_) | Member::Foreign { .. } => None,
     }
 }
@@ -102,7 +110,9 @@ fn wide_name(member: &Member) -> Option<&str> {
 }
 
 /// Why a member can't be in a core program at all.
-fn foreign(member: &Member) -> Option<(Why, usize)> {
+fn foreign(member: &Member) -> Option<(Why, usize)>
+    ensures { IfSome result (λ found. (what : Foreign) × (member.now ≡ Member.Foreign what found.1) × (found.0 ≡ why_of what)) }
+{
     match member {
         Member::Foreign { what, at } => {
             let why = match *what {
@@ -178,7 +188,8 @@ fn push_members<'a>(
     work: &mut Work,
     class: Class<'a>,
 ) -> Result<u64, Stop>
-    ensures { OnOk result (located members.new.items ≡ located members.old.items ++ members_of class.entry) }
+    ensures members { OnOk result (located members.new.items ≡ located members.old.items ++ members_of class.entry) }
+    ensures cause { IfErr result IsTooMuch }
 {
     let mut all: u64 = 0;
     for member in &class.reactor.members {
@@ -199,7 +210,8 @@ fn push_parameters<'a>(
     work: &mut Work,
     class: Class<'a>,
 ) -> Result<u64, Stop>
-    ensures { OnOk result (located_parameters parameters.new.items ≡ located_parameters parameters.old.items ++ parameters_of class.entry) }
+    ensures parameters { OnOk result (located_parameters parameters.new.items ≡ located_parameters parameters.old.items ++ parameters_of class.entry) }
+    ensures cause { IfErr result IsTooMuch }
 {
     let mut all: u64 = 0;
     for parameter in &class.reactor.parameters {
@@ -223,6 +235,7 @@ fn push_class<'a>(
 ) -> Result<(), Stop>
     ensures members { OnOk result (located parts.new.members.items ≡ located parts.old.members.items ++ members_at scopes.now number) }
     ensures parameters { OnOk result (located_parameters parts.new.parameters.items ≡ located_parameters parts.old.parameters.items ++ parameters_at scopes.now number) }
+    ensures cause { IfErr result IsTooMuch }
 {
     let Some(class) = scopes.class(number) else {
         return Ok(());
@@ -245,6 +258,7 @@ fn parts_of<'a>(
 ) -> Result<Parts<'a>, Stop>
     ensures members { IfOk result (λ parts. located parts.members.items ≡ flat_map (members_at scopes.now) chain.now) }
     ensures parameters { IfOk result (λ parts. located_parameters parts.parameters.items ≡ flat_map (parameters_at scopes.now) chain.now) }
+    ensures cause { IfErr result IsTooMuch }
 {
     let mut parts = Parts {
         members: Vec::new(alloc),
@@ -258,40 +272,58 @@ fn parts_of<'a>(
     Ok(parts)
 }
 
+/// Puts the name of the member of this number behind others, if it has one.
+fn push_named<'a>(
+    named: &mut Vec<Named<'a>>,
+    number: usize,
+    inherited: Inherited<'a>,
+) -> Result<(), NoMemory>
+    ensures { OnOk result (noted named.new.items ≡ noted named.old.items ++ noted_if inherited.entry.file (name_of inherited.entry.member.now)) }
+{
+    let Some(name) = name_of(inherited.member) else {
+        return Ok(());
+    };
+    named.push(Named {
+        name: name.text.as_str(),
+        thing: Thing::Member(number),
+        file: inherited.file,
+        at: name.at,
+    })?;
+    Ok(())
+}
+
 /// The names of parameters and then those of members.
 fn all_named<'a>(
     alloc: Global,
     parameters: &[InheritedParameter<'a>],
     members: &[Inherited<'a>],
-) -> Result<Vec<Named<'a>>, Stop> {
+) -> Result<Vec<Named<'a>>, NoMemory>
+    ensures { IfOk result (λ named. noted named.items ≡ written (names_in (located_parameters parameters.now) (located members.now))) }
+{
     let mut named = Vec::new(alloc);
     for number in 0..parameters.len() {
-        let InheritedParameter { file, parameter } = parameters[number];
+        let declared = item_at(parameters, number);
         named.push(Named {
-            name: parameter.name.text.as_str(),
+            name: declared.parameter.name.text.as_str(),
             thing: Thing::Parameter(number),
-            file,
-            at: parameter.name.at,
+            file: declared.file,
+            at: declared.parameter.name.at,
         })?;
     }
     for number in 0..members.len() {
-        let inherited = members[number];
-        if let Some(name) = name_of(inherited.member) {
-            named.push(Named {
-                name,
-                thing: Thing::Member(number),
-                file: inherited.file,
-                at: inherited.at(),
-            })?;
-        }
+        let inherited = item_at(members, number);
+        push_named(&mut named, number, inherited)?;
     }
     Ok(named)
 }
 
 /// The names alone.
-fn names_of<'a>(alloc: Global, named: &[Named<'a>]) -> Result<Vec<&'a str>, Stop> {
+fn names_of<'a>(alloc: Global, all: &[Named<'a>]) -> Result<Vec<&'a str>, NoMemory>
+    ensures { IfOk result (λ v. texts v.items ≡ map (λ n. n.name.now) all.now) }
+{
     let mut names = Vec::new(alloc);
-    for named in named {
+    for place in 0..all.len() {
+        let named = item_at(all, place);
         names.push(named.name)?;
     }
     Ok(names)
@@ -307,6 +339,7 @@ impl<'a> Shape<'a> {
     ) -> Result<Shape<'a>, Stop>
         ensures class { IfOk result (λ shape. shape.class ≡ class.entry) }
         ensures built { IfOk result (λ shape. IsBuilt scopes.now (core shape)) }
+        ensures cause { IfErr result (HasCause scopes.now class.entry.number) }
     {
         let chain = chain(alloc, scopes, work, class.number)?;
         let parts = parts_of(alloc, scopes, work, &chain)?;
@@ -393,18 +426,22 @@ impl<'a> Shape<'a> {
 }
 
 /// Refuses two things of one name.
-fn refuse_twice(index: &Index, named: &[Named]) -> Result<(), Stop> {
+fn refuse_twice(index: &Index, named: &[Named]) -> Result<(), Stop>
+    ensures { IfErr result (λ stop. IsIndexOf index.now (map (λ n. n.name.now) named.now) → (names : List (ℕ × Name)) → noted named.now ≡ written names → SaysTwice names stop) }
+{
     for place in 0..named.len() {
-        let Named { name, file, at, .. } = named[place];
-        if index.get(name).unwrap_or(place) != place {
-            return Err(Stop::at(Why::TwoNames, file, at));
+        let found = item_at(named, place);
+        if index.get(found.name).unwrap_or(place) != place {
+            return Err(Stop::at(Why::TwoNames, found.file, found.at));
         }
     }
     Ok(())
 }
 
 /// Refuses what no core program has in its place.
-fn refuse_foreign(members: &[Inherited]) -> Result<(), Stop> {
+fn refuse_foreign(members: &[Inherited]) -> Result<(), Stop>
+    ensures { IfErr result (SaysForeign (located members.now)) }
+{
     for inherited in members {
         if let Some((why, at)) = foreign(inherited.member) {
             return Err(Stop::at(why, inherited.file, at));
@@ -414,7 +451,10 @@ fn refuse_foreign(members: &[Inherited]) -> Result<(), Stop> {
 }
 
 /// For each member its name, if it has a width.
-fn wide_names<'a>(alloc: Global, members: &[Inherited<'a>]) -> Result<Vec<Option<&'a str>>, Stop> {
+fn wide_names<'a>(
+    alloc: Global,
+    members: &[Inherited<'a>],
+) -> Result<Vec<Option<&'a str>>, NoMemory> {
     let mut wide = Vec::new(alloc);
     for inherited in members {
         wide.push(wide_name(inherited.member))?;

@@ -1,6 +1,7 @@
 //! What stands before the number of a channel, or of a member of a bank.
 
-ghost use Rattle.std.specs.Prelude.{◌≡◌, ◌<◌, IfOk, length, vec_len};
+ghost use Rattle.std.specs.Prelude.{◌≡◌, ◌<◌, IfErr, IfOk, length, vec_len};
+ghost use Rattle.lft_shapes.specs.Refused.{IsTooMuch};
 
 use crate::work::Work;
 use lft_sources::Stop;
@@ -38,7 +39,8 @@ fn stem(
     taken: &mut BTreeSet<Vec<u8>>,
     name: &[u8],
 ) -> Result<usize, Stop>
-    ensures { IfOk result (λ count. 0 < count) }
+    ensures count { IfOk result (λ count. 0 < count) }
+    ensures cause { IfErr result IsTooMuch }
 {
     let mut stem = Vec::from_slice(alloc, name)?;
     stem.push(b'_')?;
@@ -60,7 +62,8 @@ pub(crate) fn stems(
     names: &[&str],
     wide: &[Option<&str>],
 ) -> Result<Vec<usize>, Stop>
-    ensures { IfOk result (λ v. vec_len v ≡ length wide.now) }
+    ensures each { IfOk result (λ v. vec_len v ≡ length wide.now) }
+    ensures cause { IfErr result IsTooMuch }
 {
     let mut taken = before_digits(alloc, names)?;
     let mut stems = Vec::new(alloc);

@@ -1,7 +1,7 @@
 //! A walk that lists all that is reached from a first one, each behind all that it leads to.
 
-ghost use Rattle.std.specs.Prelude.{◌≡◌, ℕ, Option, true, IfOk, IfSome, IfNone, OnOk};
-ghost use Rattle.lft_shapes.specs.Walks.{IsWalk, IsList, IsTop, IsOver, EndsAt, PassesTo, LeadsTo, is_done};
+ghost use Rattle.std.specs.Prelude.{◌≡◌, ℕ, Option, true, false, IfOk, IfSome, IfNone, OnOk};
+ghost use Rattle.lft_shapes.specs.Walks.{IsWalk, IsList, IsTop, IsOver, EndsAt, PassesTo, LeadsTo, ClosesCircle, is_done};
 
 use std::alloc::{AllocError, Global};
 use std::collections::BTreeSet;
@@ -88,7 +88,8 @@ impl Walk {
 
     /// Goes on with one that the one leads to which is gone over now. False if it was met before.
     pub(crate) fn enter(&mut self, node: usize) -> Result<bool, AllocError>
-        ensures { IfOk result (λ is_new. is_new ≡ true → (next : ℕ → ℕ → Option ℕ) (first : ℕ) → LeadsTo next self.old node → IsWalk next first self.old → IsWalk next first self.new) }
+        ensures new { IfOk result (λ is_new. is_new ≡ true → (next : ℕ → ℕ → Option ℕ) (first : ℕ) → LeadsTo next self.old node → IsWalk next first self.old → IsWalk next first self.new) }
+        ensures circle { IfOk result (λ is_new. is_new ≡ false → is_done self.old node ≡ false → (next : ℕ → ℕ → Option ℕ) (first : ℕ) → IsWalk next first self.old → ClosesCircle next self.old node) }
     {
         let is_new = self.met.insert(node)?;
         if is_new {

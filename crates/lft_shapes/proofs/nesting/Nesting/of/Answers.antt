@@ -8,7 +8,7 @@ returns c = (
   record {
     scopes_are = c.in_ok-scopes.ensures;
     main = c.in_ok-main.main;
-    main_is = c.in_ok-main.ensures;
+    main_is = c.in_ok-main.ensures.main;
     is_first = ap first_class c.loop-place.invariant.same ∙ c.in_ok-made.ensures.first;
     built = subst (AreBuilt c.in_ok-scopes.scopes) (sym c.loop-place.invariant.same) c.in_ok-made.ensures.built;
     order = c.loop-place.invariant.order;

@@ -1,11 +1,11 @@
 use Rattle.std.proofs.Common.{length, ap, arith}
-use Rattle.lft_shapes.proofs.Sets.{only}
+use Rattle.lft_shapes.proofs.Sets.{kept, only}
 use Rattle.std.proofs.lemmas.Option.{MatchOption-at_none}
 use Rattle.lft_shapes.proofs.Walking.{ended_as, push_length}
 use Rattle.lft_shapes.proofs.walk.Walk.end.Goals as goal
 
 pub returns : goal.returns
-returns c next first ends s = ended_as next first _ _ _ _ _ _ c.in-Some.top _ ends s c.in-Some.ensures.items c.in_ok-push.ensures.items (only c.args.self.now.done c.insert.new.self c.in-Some.top.node c.in_ok-insert.ensures.updates)
+returns c next first ends s = ended_as next first _ _ _ _ _ _ c.in-Some.top _ ends s c.in-Some.ensures.items c.in_ok-push.ensures.items (only c.args.self.now.done c.insert.new.self c.in-Some.top.node c.in_ok-insert.ensures.updates) (kept c.args.self.now.done c.insert.new.self c.in-Some.top.node c.in_ok-insert.ensures.updates) c.in_ok-insert.ensures.updates.1
 
 pub returns-in_default : goal.returns-in_default
 returns-in_default c next first ends s =
