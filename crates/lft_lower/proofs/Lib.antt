@@ -4,4 +4,5 @@ mod Cuts
 mod Growing
 mod Joining
 mod Placed
+mod Refusing
 mod Turns

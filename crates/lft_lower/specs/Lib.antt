@@ -5,4 +5,5 @@ pub mod Notes
 pub mod Places
 pub mod Programs
 pub mod Reactors
+pub mod Refused
 pub mod Times

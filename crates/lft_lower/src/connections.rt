@@ -1,10 +1,12 @@
 //! What a connection becomes.
 
-ghost use Rattle.std.specs.Prelude.{◌≡◌, IfOk, IsTrue, OnOk, false, option_map, true};
+ghost use Rattle.std.specs.Prelude.{◌≡◌, ◌⊎◌, IfErr, IfOk, IsTrue, OnOk, false, option_map, true};
 ghost use Rattle.lft_tree.specs.ItemView.{connection_view, ref_view, ref_views, time_view};
 ghost use Rattle.lft_lowering.specs.Lowered.{single};
 ghost use Rattle.lft_lower.specs.Lowered.{Adds, AreConnected, AreEach, AreSides, IsRead, MeanSides, time_at};
+ghost use Rattle.lft_sources.specs.declared.stop.Stop.TheVariants.{NoMemory};
 ghost use Rattle.lft_lower.specs.Meanings.{all_places, here};
+ghost use Rattle.lft_lower.specs.Refused.{IfRefused, IsOfConnection, IsOfOne, IsOfSides, IsPassed};
 
 use crate::copies::{copied_reference, copied_time};
 use crate::notes::Notes;
@@ -29,6 +31,7 @@ impl Sides {
     fn of(within: Within, connection: &Written) -> Result<Sides, Stop>
         ensures sides { IfOk result (AreSides (here within.entry) connection.now) }
         ensures mean { OnOk result (MeanSides (here within.entry) connection.now) }
+        ensures cause { IfErr result (IfRefused (λ r. IsPassed within.entry.settings.now.work.main r ⊎ IsOfSides (here within.entry) within.entry.file connection.now r)) }
     {
         let left = count(within, &connection.sources)?;
         let right = count(within, &connection.destinations)?;
@@ -36,7 +39,9 @@ impl Sides {
     }
 
     /// What is said of sides that differ.
-    fn note(self, notes: &mut Notes, within: Within, connection: &Written) -> Result<(), Stop> {
+    fn note(self, notes: &mut Notes, within: Within, connection: &Written) -> Result<(), Stop>
+        ensures { IfErr result (λ stop. stop ≡ NoMemory) }
+    {
         let (left, right) = (self.left as u64, self.right as u64);
         if connection.is_broadcast && left != 0 {
             if right % left != 0 {
@@ -50,7 +55,9 @@ impl Sides {
 }
 
 /// Whether none of the references has a width in it.
-fn are_plain(within: Within, references: &[lft_whole::Reference]) -> Result<bool, Stop> {
+fn are_plain(within: Within, references: &[lft_whole::Reference]) -> Result<bool, Stop>
+    ensures { IfErr result (IfRefused (IsOfOne (here within.entry) within.entry.file references.now)) }
+{
     for reference in references {
         if meaning(within, reference)?.is_wide() {
             return Ok(false);
@@ -61,7 +68,8 @@ fn are_plain(within: Within, references: &[lft_whole::Reference]) -> Result<bool
 
 /// Whether a connection stays as it is: no part of it has a width, and of its places none is left over.
 fn stays(within: Within, connection: &Written, sides: Sides) -> Result<bool, Stop>
-    ensures { IfOk result (λ yes. IsTrue yes → (connection.now.is_broadcast ≡ false) × (sides.left ≡ sides.right)) }
+    ensures plain { IfOk result (λ yes. IsTrue yes → (connection.now.is_broadcast ≡ false) × (sides.left ≡ sides.right)) }
+    ensures cause { IfErr result (IfRefused (IsOfSides (here within.entry) within.entry.file connection.now)) }
 {
     if connection.is_broadcast || sides.left != sides.right || sides.left == 0 {
         return Ok(false);
@@ -96,7 +104,8 @@ fn connected(
     to: &Reference,
     delay: &Option<TimeExpression>,
 ) -> Result<Connection, Stop>
-    ensures { IfOk result (λ made. connection_view made ≡ single (option_map time_view delay.now) (ref_view from.now) (ref_view to.now)) }
+    ensures made { IfOk result (λ made. connection_view made ≡ single (option_map time_view delay.now) (ref_view from.now) (ref_view to.now)) }
+    ensures cause { IfErr result (λ stop. stop ≡ NoMemory) }
 {
     let mut sources = Vec::new(alloc);
     sources.push(copied_reference(from)?)?;
@@ -121,7 +130,8 @@ fn push_pairs(
     delay: &Option<TimeExpression>,
     list: &mut Vec<Member>,
 ) -> Result<(), Stop>
-    ensures { OnOk result (Adds list.old.items list.new.items (AreEach (ref_views sources.now) (ref_views destinations.now) true (option_map time_view delay.now))) }
+    ensures made { OnOk result (Adds list.old.items list.new.items (AreEach (ref_views sources.now) (ref_views destinations.now) true (option_map time_view delay.now))) }
+    ensures cause { IfErr result (IfRefused (IsPassed work.now.main)) }
 {
     let right = destinations.len();
     let pairs = joined(sources.len(), right, true);
@@ -150,7 +160,8 @@ fn push_sides(
     list: &mut Vec<Member>,
 ) -> Result<(), Stop>
     requires { AreSides (here within) connection.now sides }
-    ensures { OnOk result (Adds list.old.items list.new.items (AreConnected (all_places (here within.entry) connection.now.sources.items) (all_places (here within.entry) connection.now.destinations.items) connection.now.is_broadcast (option_map time_view delay))) }
+    ensures made { OnOk result (Adds list.old.items list.new.items (AreConnected (all_places (here within.entry) connection.now.sources.items) (all_places (here within.entry) connection.now.destinations.items) connection.now.is_broadcast (option_map time_view delay))) }
+    ensures cause { IfErr result (IfRefused (λ r. IsPassed within.entry.settings.now.work.main r ⊎ IsOfSides (here within.entry) within.entry.file connection.now r)) }
 {
     let pairs = joined(sides.left, sides.right, connection.is_broadcast);
     let most = pairs.min(sides.left);
@@ -191,6 +202,7 @@ pub(crate) fn push_connection(
     ensures mean { OnOk result (MeanSides (here within.entry) connection.now) }
     ensures read { OnOk result (IsRead connection.now.delay) }
     ensures joined { OnOk result (Adds list.old.items list.new.items (AreConnected (all_places (here within.entry) connection.now.sources.items) (all_places (here within.entry) connection.now.destinations.items) connection.now.is_broadcast (time_at connection.now.delay))) }
+    ensures cause { IfErr result (IfRefused (λ r. IsPassed within.entry.settings.now.work.main r ⊎ IsOfConnection (here within.entry) within.entry.file connection.now r)) }
 {
     if connection.is_physical {
         return Err(Stop::at(Why::PhysicalConnection, within.file, connection.arrow));

@@ -1,12 +1,14 @@
 //! What an instance becomes.
 
-ghost use Rattle.std.specs.Prelude.{◌≡◌, ◌++◌, [], Some, IfOk, OnOk, map, option_map};
+ghost use Rattle.std.specs.Prelude.{◌≡◌, ◌++◌, [], None, Some, IfErr, IfOk, OnOk, map, option_map};
 ghost use Rattle.std.specs.List.{All, cons_option};
 ghost use Rattle.lft_tree.specs.ItemView.{assignment_view, member_views};
 ghost use Rattle.lft_lower.specs.Lowered.{Adds, AreGiven, AreInstances, IsGiven, given_times, instances, reactor_at, time_given};
 ghost use Rattle.lft_lower.specs.Meanings.{here};
 ghost use Rattle.lft_lower.specs.Names.{texts};
 ghost use Rattle.lft_lower.specs.Places.{several};
+ghost use Rattle.lft_lower.specs.Refused.{IfRefused, IsAt, IsOfGiven, IsOfSome, IsPassed};
+ghost use Rattle.lft_sources.specs.declared.why.Why.TheVariants.{UnknownInstance};
 
 use crate::copies::copied_given;
 use crate::maker::Maker;
@@ -63,6 +65,7 @@ fn assigned(
 ) -> Result<Option<Assignment>, Stop>
     ensures made { IfOk result (λ made. option_map assignment_view made ≡ time_given inner.now given.entry) }
     ensures read { OnOk result (IsGiven inner.now given.entry) }
+    ensures cause { IfErr result (IfRefused (IsOfGiven outer.now file inner.now given.entry)) }
 {
     if !inner.is_timed(given.parameter) {
         return Ok(None);
@@ -98,6 +101,7 @@ fn given_times(
 ) -> Result<Vec<Assignment>, Stop>
     ensures given { IfOk result (λ list. map assignment_view list.items ≡ given_times inner.now child.now) }
     ensures read { OnOk result (All (IsGiven inner.now) child.now.given.items) }
+    ensures cause { IfErr result (IfRefused (IsOfSome (IsOfGiven outer.now file inner.now) child.now.given.items)) }
 {
     let mut list = Vec::new(alloc);
     for place in 0..child.given.len() {
@@ -134,7 +138,8 @@ fn reactor_of<'n>(
     member: usize,
     at: usize,
 ) -> Result<&'n str, Stop>
-    ensures { IfOk result (λ name. reactor_at (texts maker.entry.names.now) (here within.entry) member ≡ Some name.now) }
+    ensures name { IfOk result (λ name. reactor_at (texts maker.entry.names.now) (here within.entry) member ≡ Some name.now) }
+    ensures cause { IfErr result (IfRefused (λ r. IsAt within.entry.file at r × (r.why ≡ UnknownInstance) × (reactor_at (texts maker.entry.names.now) (here within.entry) member ≡ None))) }
 {
     let name = match within.settings.known_inside(within.setting, member) {
         Some(inner) => maker.name(inner),
@@ -167,7 +172,8 @@ fn push_each(
     given: &[Assignment],
     list: &mut Vec<Member>,
 ) -> Result<(), Stop>
-    ensures { OnOk result (member_views list.new.items ≡ member_views list.old.items ++ instances (several members.entry) reactor.now (map assignment_view given.now)) }
+    ensures cause { IfErr result (IfRefused (IsPassed work.now.main)) }
+    ensures made { OnOk result (member_views list.new.items ≡ member_views list.old.items ++ instances (several members.entry) reactor.now (map assignment_view given.now)) }
 {
     let bytes = reactor.len().saturating_add(bytes_of_given(given));
     for number in 0..members.count() {

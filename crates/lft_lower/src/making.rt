@@ -1,10 +1,11 @@
 //! The core tree of a whole program.
 
-ghost use Rattle.std.specs.Prelude.{◌≡◌, IfOk, None, OnOk, map, true};
+ghost use Rattle.std.specs.Prelude.{◌≡◌, IfErr, IfOk, None, OnOk, map, true};
 ghost use Rattle.lft_sources.specs.declared.stop.Stop.TheVariants.{Refused};
 ghost use Rattle.lft_tree.specs.ItemView.{item_view};
 ghost use Rattle.lft_lower.specs.Programs.{decentralized_in, target_in};
 ghost use Rattle.lft_lower.specs.Reactors.{IsLowering};
+ghost use Rattle.lft_lower.specs.Refused.{IfRefused, IsDecentralized};
 
 use crate::instances::needed;
 use crate::maker::Maker;
@@ -103,7 +104,8 @@ fn decentralized(files: &[SourceFile]) -> Option<usize>
 
 /// What is said of a federated program. One whose coordination is decentralized is refused.
 fn note_federated(notes: &mut Notes, files: &[SourceFile], main: &Shape) -> Result<(), Stop>
-    ensures { OnOk result (main.now.class.reactor.now.is_federated ≡ true → decentralized_in files.now ≡ None) }
+    ensures known { OnOk result (main.now.class.reactor.now.is_federated ≡ true → decentralized_in files.now ≡ None) }
+    ensures cause { IfErr result (IfRefused (λ r. (main.now.class.reactor.now.is_federated ≡ true) × IsDecentralized files.now r)) }
 {
     if !main.class.reactor.is_federated {
         return Ok(());

@@ -1,9 +1,11 @@
 //! The names of reactors in the core.
 
-ghost use Rattle.std.specs.Prelude.{◌≡◌, ℕ, List, IfOk, IsTrue, OnOk, bytes_eq, cond, false, map, string_bytes, true};
+ghost use Rattle.std.specs.Prelude.{◌≡◌, ℕ, List, IfErr, IfOk, IsTrue, OnOk, bytes_eq, cond, false, map, string_bytes, true};
 ghost use Rattle.std.specs.List.Sorted.{IsPermutation};
 ghost use Rattle.std.specs.BTreeSet.{contains_text};
+ghost use Rattle.lft_sources.specs.declared.stop.Stop.TheVariants.{NoMemory};
 ghost use Rattle.lft_lower.specs.Names.{AreApart, AreNames, texts};
+ghost use Rattle.lft_lower.specs.Refused.{IfRefused, IsPassed};
 
 use crate::room::Room;
 use itoa::Buffer;
@@ -78,7 +80,8 @@ pub(crate) fn sorted(
     settings: &Settings,
     used: &[usize],
 ) -> Result<Vec<usize>, Stop>
-    ensures { IfOk result (λ sorted. IsPermutation used.now sorted.items) }
+    ensures same { IfOk result (λ sorted. IsPermutation used.now sorted.items) }
+    ensures cause { IfErr result (λ stop. stop ≡ NoMemory) }
 {
     let mut keyed = keyed(alloc, order, settings, used)?;
     keyed.sort()?;
@@ -139,6 +142,7 @@ impl<'a> CoreNames<'a> {
         ensures free { IfOk result (λ name. contains_text self.old.taken (string_bytes name) ≡ false) }
         ensures taken { IfOk result (λ name. (q : List ℕ) → contains_text self.new.taken q ≡ cond (bytes_eq (string_bytes name) q) true (contains_text self.old.taken q)) }
         ensures found { self.new.found ≡ self.old.found }
+        ensures cause { IfErr result (IfRefused (IsPassed work.now.main)) }
     {
         let mut name = wanted.clone()?;
         let mut number = self.tried.get(wanted.as_str()).copied().unwrap_or(1);
@@ -162,7 +166,8 @@ impl<'a> CoreNames<'a> {
     /// Finds the name of a setting.
     fn put(&mut self, setting: usize, wanted: String, own: &str, work: &Work) -> Result<(), Stop>
         requires { AreNames self.old }
-        ensures { OnOk result (AreNames self.new) }
+        ensures names { OnOk result (AreNames self.new) }
+        ensures cause { IfErr result (IfRefused (IsPassed work.now.main)) }
     {
         let name = self.take(wanted, own, work)?;
         if setting < self.found.len() {
@@ -190,7 +195,9 @@ fn kept<'a>(
     alloc: Global,
     settings: &Settings<'a>,
     used: &[usize],
-) -> Result<BTreeSet<&'a str>, Stop> {
+) -> Result<BTreeSet<&'a str>, Stop>
+    ensures { IfErr result (λ stop. stop ≡ NoMemory) }
+{
     let mut kept: BTreeSet<&'a str> = BTreeSet::new(alloc);
     for setting in used {
         if let Some(shape) = settings.shape_of(*setting)
@@ -246,7 +253,8 @@ pub(crate) fn names(
     used: &[usize],
     room: &mut Room,
 ) -> Result<Vec<Option<String>>, Stop>
-    ensures { IfOk result (λ names. AreApart (texts names.items)) }
+    ensures apart { IfOk result (λ names. AreApart (texts names.items)) }
+    ensures cause { IfErr result (IfRefused (IsPassed settings.now.work.main)) }
 {
     let counts = alike(alloc, settings, used)?;
     let mut names = no_names(alloc, kept(alloc, settings, used)?, settings.settings.len())?;

@@ -1,12 +1,13 @@
 //! What references become: a reference for each place.
 
-ghost use Rattle.std.specs.Prelude.{◌≡◌, ◌+◌, ◌*◌, ◌++◌, Bool, Some, IfOk, OnOk, length, option_map, string_bytes, take};
+ghost use Rattle.std.specs.Prelude.{◌≡◌, ◌+◌, ◌*◌, ◌++◌, ◌⊎◌, Bool, Some, IfErr, IfOk, OnOk, length, option_map, string_bytes, take};
 ghost use Rattle.std.specs.List.{All};
 ghost use Rattle.lft_shapes.specs.declared.shapes.Thing.TheVariants as things;
 ghost use Rattle.lft_tree.specs.View.{ref_view, ref_views};
 ghost use Rattle.lft_settings.specs.Names.{core_name};
 ghost use Rattle.lft_lower.specs.Meanings.{Means, all_places, here, inner_width, member_in, parameter_in, places_in, port_in, port_sense, sense_in, shape_inside, thing_in};
 ghost use Rattle.lft_lower.specs.Places.{count_of, inner_places, name_at, own_places, places_of, sense, several, up_to};
+ghost use Rattle.lft_lower.specs.Refused.{IfRefused, IsAt, IsNoPort, IsOfOne, IsOfReference, IsPassed};
 
 use crate::room::Room;
 use lft_lowering::place_at;
@@ -158,7 +159,8 @@ pub(crate) enum Meant<'a> {
 
 /// The sum of two counts. One that can't be counted is refused.
 fn sum(work: &Work, left: usize, right: usize) -> Result<usize, Stop>
-    ensures { IfOk result (λ sum. sum ≡ left + right) }
+    ensures sum { IfOk result (λ sum. sum ≡ left + right) }
+    ensures cause { IfErr result (IfRefused (IsPassed work.now.main)) }
 {
     match left.checked_add(right) {
         Some(sum) => Ok(sum),
@@ -168,7 +170,8 @@ fn sum(work: &Work, left: usize, right: usize) -> Result<usize, Stop>
 
 /// The product of two counts. One that can't be counted is refused.
 fn product(work: &Work, left: usize, right: usize) -> Result<usize, Stop>
-    ensures { IfOk result (λ product. product ≡ left * right) }
+    ensures product { IfOk result (λ product. product ≡ left * right) }
+    ensures cause { IfErr result (IfRefused (IsPassed work.now.main)) }
 {
     match left.checked_mul(right) {
         Some(product) => Ok(product),
@@ -179,7 +182,8 @@ fn product(work: &Work, left: usize, right: usize) -> Result<usize, Stop>
 impl Meant<'_> {
     /// How many places it has. More than can be counted are refused.
     fn count(self, work: &Work) -> Result<usize, Stop>
-        ensures { IfOk result (λ count. (interleaved : Bool) → count ≡ length (places_of interleaved (sense self.entry))) }
+        ensures cause { IfErr result (IfRefused (IsPassed work.now.main)) }
+        ensures count { IfOk result (λ count. (interleaved : Bool) → count ≡ length (places_of interleaved (sense self.entry))) }
     {
         match self {
             Meant::Own(thing) => Ok(thing.count()),
@@ -206,7 +210,8 @@ fn inner<'a>(
     reference: &Written,
     name: &Name,
 ) -> Result<Meant<'a>, Stop>
-    ensures { IfOk result (λ meant. port_sense (here within.entry) instance (string_bytes name.now.text) ≡ Some (sense meant)) }
+    ensures sense { IfOk result (λ meant. port_sense (here within.entry) instance (string_bytes name.now.text) ≡ Some (sense meant)) }
+    ensures cause { IfErr result (IfRefused (λ r. IsAt within.entry.file reference.now.head.at r × IsNoPort (shape_inside (here within.entry) instance) (string_bytes name.now.text) r.why)) }
 {
     let at = reference.head.at;
     let Some(shape) = within.inner_shape(instance) else {
@@ -221,7 +226,8 @@ fn inner<'a>(
 
 /// What a reference means in a setting.
 pub(crate) fn meaning<'a>(within: Within<'_, 'a>, reference: &Written) -> Result<Meant<'a>, Stop>
-    ensures { IfOk result (λ meant. sense_in (here within.entry) reference.now ≡ Some (sense meant)) }
+    ensures sense { IfOk result (λ meant. sense_in (here within.entry) reference.now ≡ Some (sense meant)) }
+    ensures cause { IfErr result (IfRefused (IsOfReference (here within.entry) within.entry.file reference.now)) }
 {
     let at = reference.head.at;
     let head = within.shape.find(reference.head.text.as_str());
@@ -245,7 +251,8 @@ fn made(
     head: Numbered,
     port: Option<Numbered>,
 ) -> Result<Reference, Stop>
-    ensures { IfOk result (λ made. ref_view made ≡ record { head = core_name head.entry; port = option_map core_name port.entry }) }
+    ensures made { IfOk result (λ made. ref_view made ≡ record { head = core_name head.entry; port = option_map core_name port.entry }) }
+    ensures cause { IfErr result (IfRefused (IsPassed work.now.main)) }
 {
     let mut bytes = head.bytes();
     if let Some(port) = port {
@@ -271,7 +278,8 @@ fn push_own(
     most: usize,
     list: &mut Vec<Reference>,
 ) -> Result<(), Stop>
-    ensures { OnOk result (ref_views list.new.items ≡ up_to most (ref_views list.old.items) (own_places (several thing.entry))) }
+    ensures places { OnOk result (ref_views list.new.items ≡ up_to most (ref_views list.old.items) (own_places (several thing.entry))) }
+    ensures cause { IfErr result (IfRefused (IsPassed work.now.main)) }
 {
     let count = thing.count();
     for place in 0..count {
@@ -295,7 +303,8 @@ fn push_inner(
     most: usize,
     list: &mut Vec<Reference>,
 ) -> Result<(), Stop>
-    ensures { OnOk result (ref_views list.new.items ≡ up_to most (ref_views list.old.items) (inner_places (several members.entry) (several channels.entry) is_interleaved)) }
+    ensures places { OnOk result (ref_views list.new.items ≡ up_to most (ref_views list.old.items) (inner_places (several members.entry) (several channels.entry) is_interleaved)) }
+    ensures cause { IfErr result (IfRefused (IsPassed work.now.main)) }
 {
     let rows = members.count();
     let width = channels.count();
@@ -317,6 +326,7 @@ fn push_inner(
 pub(crate) fn count(within: Within, references: &[Written]) -> Result<usize, Stop>
     ensures count { IfOk result (λ count. count ≡ length (all_places (here within.entry) references.now)) }
     ensures means { OnOk result (All (Means (here within.entry)) references.now) }
+    ensures cause { IfErr result (IfRefused (λ r. IsPassed within.entry.settings.now.work.main r ⊎ IsOfOne (here within.entry) within.entry.file references.now r)) }
 {
     let work = &within.settings.work;
     let mut all: usize = 0;
@@ -338,7 +348,8 @@ fn push_meant(
     most: usize,
     list: &mut Vec<Reference>,
 ) -> Result<(), Stop>
-    ensures { OnOk result (ref_views list.new.items ≡ up_to most (ref_views list.old.items) (places_of is_interleaved (sense meant.entry))) }
+    ensures places { OnOk result (ref_views list.new.items ≡ up_to most (ref_views list.old.items) (places_of is_interleaved (sense meant.entry))) }
+    ensures cause { IfErr result (IfRefused (IsPassed work.now.main)) }
 {
     match meant {
         Meant::Own(thing) => push_own(alloc, room, work, thing, most, list),
@@ -366,7 +377,8 @@ fn push_some(
     most: usize,
     list: &mut Vec<Reference>,
 ) -> Result<(), Stop>
-    ensures { OnOk result (ref_views list.new.items ≡ up_to most (ref_views list.old.items) (places_in (here within.entry) reference.now)) }
+    ensures places { OnOk result (ref_views list.new.items ≡ up_to most (ref_views list.old.items) (places_in (here within.entry) reference.now)) }
+    ensures cause { IfErr result (IfRefused (λ r. IsPassed within.entry.settings.now.work.main r ⊎ IsOfReference (here within.entry) within.entry.file reference.now r)) }
 {
     let meant = meaning(within, reference)?;
     let is_interleaved = reference.is_interleaved;
@@ -390,7 +402,8 @@ pub(crate) fn some_places(
     references: &[Written],
     most: usize,
 ) -> Result<Vec<Reference>, Stop>
-    ensures { IfOk result (λ list. ref_views list.items ≡ take most (all_places (here within.entry) references.now)) }
+    ensures places { IfOk result (λ list. ref_views list.items ≡ take most (all_places (here within.entry) references.now)) }
+    ensures cause { IfErr result (IfRefused (λ r. IsPassed within.entry.settings.now.work.main r ⊎ IsOfOne (here within.entry) within.entry.file references.now r)) }
 {
     let mut list = Vec::new(alloc);
     for place in 0..references.len() {
@@ -409,6 +422,7 @@ pub(crate) fn push_places(
 ) -> Result<(), Stop>
     ensures places { OnOk result (ref_views list.new.items ≡ ref_views list.old.items ++ places_in (here within.entry) reference.now) }
     ensures means { OnOk result (Means (here within.entry) reference.now) }
+    ensures cause { IfErr result (IfRefused (λ r. IsPassed within.entry.settings.now.work.main r ⊎ IsOfReference (here within.entry) within.entry.file reference.now r)) }
 {
     let meant = meaning(within, reference)?;
     let work = &within.settings.work;
@@ -428,6 +442,7 @@ pub(crate) fn places(
 ) -> Result<Vec<Reference>, Stop>
     ensures places { IfOk result (λ list. ref_views list.items ≡ all_places (here within.entry) references.now) }
     ensures means { OnOk result (All (Means (here within.entry)) references.now) }
+    ensures cause { IfErr result (IfRefused (λ r. IsPassed within.entry.settings.now.work.main r ⊎ IsOfOne (here within.entry) within.entry.file references.now r)) }
 {
     let mut list = Vec::new(alloc);
     for place in 0..references.len() {

@@ -1,12 +1,14 @@
 //! What a reaction becomes.
 
-ghost use Rattle.std.specs.Prelude.{◌≡◌, ◌++◌, [], ◌∷◌, None, Some, IfOk, OnOk, flat_map, map, option_map, string_bytes};
+ghost use Rattle.std.specs.Prelude.{◌≡◌, ◌++◌, ◌⊎◌, [], ◌∷◌, None, Some, IfErr, IfOk, OnOk, flat_map, map, option_map, string_bytes};
 ghost use Rattle.std.specs.List.{All};
 ghost use Rattle.lft_tree.specs.ItemView.{member_views, ref_views, trigger_view};
 ghost use Rattle.lft_tree.specs.Tree.{OnRef};
 ghost use Rattle.lft_shapes.specs.Shapes.{thing_named};
 ghost use Rattle.lft_lower.specs.Lowered.{Adds, AreTriggers, IsAsleep, IsReaction, MeansAll, MeansEffect, MeansTrigger, all_triggers, asleep, effect_places, trigger_places};
+ghost use Rattle.lft_sources.specs.declared.stop.Stop.TheVariants.{NoMemory};
 ghost use Rattle.lft_lower.specs.Meanings.{here};
+ghost use Rattle.lft_lower.specs.Refused.{AreOfTriggers, IfRefused, IsOfEffect, IsOfReaction, IsOfSome, IsOfTrigger, IsPassed};
 
 use crate::places::{Within, places, push_places};
 use crate::room::Room;
@@ -18,7 +20,8 @@ use std::alloc::Global;
 
 /// The name of an action that has no events: no thing of the reactor has it.
 fn never(alloc: Global, within: Within) -> Result<String, Stop>
-    ensures { IfOk result (λ name. thing_named within.entry.shape.now (string_bytes name) ≡ None) }
+    ensures free { IfOk result (λ name. thing_named within.entry.shape.now (string_bytes name) ≡ None) }
+    ensures cause { IfErr result (IfRefused (IsPassed within.entry.settings.now.work.main)) }
 {
     let shape = within.shape;
     let mut name = String::from_str(alloc, "never")?;
@@ -34,7 +37,8 @@ fn never(alloc: Global, within: Within) -> Result<String, Stop>
 
 /// Puts references at the end of a list of triggers.
 fn push_references(list: &mut Vec<Trigger>, references: Vec<Reference>) -> Result<(), Stop>
-    ensures { OnOk result (map trigger_view list.new.items ≡ map trigger_view list.old.items ++ map OnRef (ref_views references.items)) }
+    ensures places { OnOk result (map trigger_view list.new.items ≡ map trigger_view list.old.items ++ map OnRef (ref_views references.items)) }
+    ensures cause { IfErr result (λ stop. stop ≡ NoMemory) }
 {
     for reference in references {
         list.push(Trigger::Reference(reference))?;
@@ -52,6 +56,7 @@ fn push_trigger(
 ) -> Result<(), Stop>
     ensures places { OnOk result (map trigger_view list.new.items ≡ map trigger_view list.old.items ++ trigger_places (here within.entry) trigger.now) }
     ensures means { OnOk result (MeansTrigger (here within.entry) trigger.now) }
+    ensures cause { IfErr result (IfRefused (λ r. IsPassed within.entry.settings.now.work.main r ⊎ IsOfTrigger (here within.entry) within.entry.file trigger.now r)) }
 {
     match trigger {
         WrittenTrigger::Startup => list.push(Trigger::Startup)?,
@@ -75,6 +80,7 @@ fn triggers(
 ) -> Result<Vec<Trigger>, Stop>
     ensures places { IfOk result (λ list. map trigger_view list.items ≡ all_triggers (here within.entry) reaction.now) }
     ensures means { OnOk result (All (MeansTrigger (here within.entry)) reaction.now.triggers.items) }
+    ensures cause { IfErr result (IfRefused (λ r. IsPassed within.entry.settings.now.work.main r ⊎ AreOfTriggers (here within.entry) within.entry.file reaction.now r)) }
 {
     if reaction.triggers.is_empty() {
         return Err(Stop::at(Why::NoTrigger, within.file, reaction.at));
@@ -96,6 +102,7 @@ fn push_effect(
 ) -> Result<(), Stop>
     ensures places { OnOk result (ref_views list.new.items ≡ ref_views list.old.items ++ effect_places (here within.entry) effect.now) }
     ensures means { OnOk result (MeansEffect (here within.entry) effect.now) }
+    ensures cause { IfErr result (IfRefused (λ r. IsPassed within.entry.settings.now.work.main r ⊎ IsOfEffect (here within.entry) within.entry.file effect.now r)) }
 {
     match effect {
         Effect::Mode { at } => Err(Stop::at(Why::Mode, within.file, *at)),
@@ -112,6 +119,7 @@ fn effects(
 ) -> Result<Vec<Reference>, Stop>
     ensures places { IfOk result (λ list. ref_views list.items ≡ flat_map (effect_places (here within.entry)) reaction.now.effects.items) }
     ensures means { OnOk result (All (MeansEffect (here within.entry)) reaction.now.effects.items) }
+    ensures cause { IfErr result (IfRefused (λ r. IsPassed within.entry.settings.now.work.main r ⊎ IsOfSome (IsOfEffect (here within.entry) within.entry.file) reaction.now.effects.items r)) }
 {
     let mut list = Vec::new(alloc);
     for place in 0..reaction.effects.len() {
@@ -129,6 +137,7 @@ fn add_asleep(
 ) -> Result<String, Stop>
     ensures free { IfOk result (λ name. thing_named within.entry.shape.now (string_bytes name) ≡ None) }
     ensures added { IfOk result (λ name. member_views list.new.items ≡ member_views list.old.items ++ asleep (string_bytes name) ∷ []) }
+    ensures cause { IfErr result (IfRefused (IsPassed within.entry.settings.now.work.main)) }
 {
     let free = never(alloc, within)?;
     room.spend(free.len(), &within.settings.work)?;
@@ -151,6 +160,7 @@ fn asleep(
 ) -> Result<String, Stop>
     ensures name { IfOk result (λ found. option_map string_bytes name.new ≡ Some (string_bytes found)) }
     ensures added { IfOk result (λ found. Adds list.old.items list.new.items (IsAsleep (here within.entry) (string_bytes found) (option_map string_bytes name.old))) }
+    ensures cause { IfErr result (IfRefused (IsPassed within.entry.settings.now.work.main)) }
 {
     if let Some(known) = name {
         let known = known.clone()?;
@@ -173,6 +183,7 @@ fn some_triggers(
 ) -> Result<Vec<Trigger>, Stop>
     ensures means { OnOk result (All (MeansTrigger (here within.entry)) reaction.now.triggers.items) }
     ensures triggers { IfOk result (λ found. Adds list.old.items list.new.items (λ more. AreTriggers (here within.entry) reaction.now (option_map string_bytes never.old) more (option_map string_bytes never.new) (map trigger_view found.items))) }
+    ensures cause { IfErr result (IfRefused (λ r. IsPassed within.entry.settings.now.work.main r ⊎ AreOfTriggers (here within.entry) within.entry.file reaction.now r)) }
 {
     let mut triggers = triggers(alloc, room, within, reaction)?;
     let count = triggers.len();
@@ -200,6 +211,7 @@ pub(crate) fn push_reaction(
 ) -> Result<(), Stop>
     ensures means { OnOk result (MeansAll (here within.entry) reaction.now) }
     ensures lowered { OnOk result (Adds list.old.items list.new.items (λ more. IsReaction (here within.entry) reaction.now (option_map string_bytes never.old) more (option_map string_bytes never.new))) }
+    ensures cause { IfErr result (IfRefused (λ r. IsPassed within.entry.settings.now.work.main r ⊎ IsOfReaction (here within.entry) within.entry.file reaction.now r)) }
 {
     let triggers = some_triggers(alloc, room, within, reaction, never, list)?;
     let uses = places(alloc, room, within, &reaction.uses)?;

@@ -1,6 +1,6 @@
 //! What a reactor becomes in a setting.
 
-ghost use Rattle.std.specs.Prelude.{◌≡◌, ◌++◌, [], ◌∷◌, Some, IfOk, OnOk, false, map, option_map, string_bytes};
+ghost use Rattle.std.specs.Prelude.{◌≡◌, ◌++◌, ◌⊎◌, ℕ, [], ◌∷◌, Some, IfErr, IfOk, OnOk, false, map, option_map, string_bytes};
 ghost use Rattle.std.specs.List.{cons_option};
 ghost use Rattle.lft_tree.specs.ItemView.{action_view, item_view, member_views, parameter_view, reactor_view, time_view, timer_view};
 ghost use Rattle.lft_tree.specs.Tree.{ActionMember, TimerMember};
@@ -8,6 +8,7 @@ ghost use Rattle.lft_lower.specs.Lowered.{Adds, IsLowered, IsMeasured, IsRead, a
 ghost use Rattle.lft_lower.specs.Meanings.{here};
 ghost use Rattle.lft_lower.specs.Names.{texts};
 ghost use Rattle.lft_lower.specs.Places.{several};
+ghost use Rattle.lft_lower.specs.Refused.{IfRefused, IsOfAction, IsOfDefault, IsOfParameter, IsOfPeriod, IsOfTimer, IsPassed};
 ghost use Rattle.lft_lower.specs.Reactors.{AreMembers, AreReactors, IsReactor, default_time, timed_parameter, timed_parameters};
 
 use crate::connections::push_connection;
@@ -30,7 +31,8 @@ use std::alloc::{AllocError, Global};
 
 /// The default of a time that is needed. One that each instance has to give is 0, which is never read.
 fn default(inherited: InheritedParameter, is_main: bool) -> Result<Time, Stop>
-    ensures { IfOk result (λ time. default_time inherited.entry.parameter.now.default ≡ Some time) }
+    ensures time { IfOk result (λ time. default_time inherited.entry.parameter.now.default ≡ Some time) }
+    ensures cause { IfErr result (IfRefused (IsOfDefault is_main inherited.entry)) }
 {
     let InheritedParameter { file, parameter } = inherited;
     let at = parameter.name.at;
@@ -61,7 +63,8 @@ fn timed(
     is_main: bool,
     number: usize,
 ) -> Result<Option<Parameter>, Stop>
-    ensures { IfOk result (λ made. option_map parameter_view made ≡ timed_parameter shape.now number) }
+    ensures made { IfOk result (λ made. option_map parameter_view made ≡ timed_parameter shape.now number) }
+    ensures cause { IfErr result (IfRefused (λ r. IsPassed work.now.main r ⊎ IsOfParameter is_main shape.now number r)) }
 {
     if !shape.is_timed(number) {
         return Ok(None);
@@ -97,7 +100,8 @@ fn parameters(
     shape: &Shape,
     is_main: bool,
 ) -> Result<Vec<Parameter>, Stop>
-    ensures { IfOk result (λ list. map parameter_view list.items ≡ timed_parameters shape.now) }
+    ensures made { IfOk result (λ list. map parameter_view list.items ≡ timed_parameters shape.now) }
+    ensures cause { IfErr result (IfRefused (λ r. IsPassed work.now.main r ⊎ ((number : ℕ) × IsOfParameter is_main shape.now number r))) }
 {
     let mut list = Vec::new(alloc);
     for number in 0..shape.parameters.len() {
@@ -116,6 +120,7 @@ fn period(
 ) -> Result<Option<TimeExpression>, Stop>
     ensures time { IfOk result (λ time. option_map time_view time ≡ period_at value.now) }
     ensures read { OnOk result (IsRead value.now) }
+    ensures cause { IfErr result (IfRefused (IsOfPeriod shape.now file value.now)) }
 {
     match value {
         Some(period) => {
@@ -137,6 +142,7 @@ fn lowered_timer(
 ) -> Result<Timer, Stop>
     ensures made { IfOk result (λ made. timer_view made ≡ timer_tree timer.now) }
     ensures read { OnOk result (IsRead timer.now.offset × IsRead timer.now.period) }
+    ensures cause { IfErr result (IfRefused (IsOfTimer shape.now file timer.now)) }
 {
     Ok(Timer {
         name: timer.name.text.clone()?,
@@ -156,6 +162,7 @@ fn lowered_action(
     ensures made { IfOk result (λ made. action_view made ≡ action_tree action.now) }
     ensures read { OnOk result (IsRead action.now.min_delay) }
     ensures spacing { OnOk result (is_spaced action.now ≡ false) }
+    ensures cause { IfErr result (IfRefused (IsOfAction shape.now file action.now)) }
 {
     if let Some(spacing) = &action.spacing
         && !action.is_physical
@@ -180,7 +187,8 @@ fn push_ports(
     is_input: bool,
     list: &mut Vec<Member>,
 ) -> Result<(), Stop>
-    ensures { OnOk result (member_views list.new.items ≡ member_views list.old.items ++ ports (several channels.entry) is_input) }
+    ensures made { OnOk result (member_views list.new.items ≡ member_views list.old.items ++ ports (several channels.entry) is_input) }
+    ensures cause { IfErr result (IfRefused (IsPassed work.now.main)) }
 {
     for number in 0..channels.count() {
         let name = channels.at(number);
@@ -204,6 +212,7 @@ fn push_timer(
 ) -> Result<(), Stop>
     ensures made { OnOk result (member_views list.new.items ≡ member_views list.old.items ++ TimerMember (timer_tree timer.now) ∷ []) }
     ensures read { OnOk result (IsRead timer.now.offset × IsRead timer.now.period) }
+    ensures cause { IfErr result (IfRefused (λ r. IsPassed within.entry.settings.now.work.main r ⊎ IsOfTimer within.entry.shape.now within.entry.file timer.now r)) }
 {
     room.spend(timer.name.text.len(), &within.settings.work)?;
     list.push(Member::Timer(lowered_timer(alloc, within.shape, within.file, timer)?))?;
@@ -221,6 +230,7 @@ fn push_action(
     ensures made { OnOk result (member_views list.new.items ≡ member_views list.old.items ++ ActionMember (action_tree action.now) ∷ []) }
     ensures read { OnOk result (IsRead action.now.min_delay) }
     ensures spacing { OnOk result (is_spaced action.now ≡ false) }
+    ensures cause { IfErr result (IfRefused (λ r. IsPassed within.entry.settings.now.work.main r ⊎ IsOfAction within.entry.shape.now within.entry.file action.now r)) }
 {
     room.spend(action.name.text.len(), &within.settings.work)?;
     list.push(Member::Action(lowered_action(alloc, within.shape, within.file, action)?))?;

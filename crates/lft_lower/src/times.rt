@@ -1,14 +1,15 @@
 //! Times, and the parameters that stand for them.
 
-ghost use Rattle.std.specs.Prelude.{◌≡◌, ◌≤◌, Some, IfOk, OnOk, not, option_map};
+ghost use Rattle.std.specs.Prelude.{◌≡◌, ◌≤◌, Some, IfErr, IfOk, OnOk, not, option_map};
 ghost use Rattle.lft_tree.specs.Tree.{nanoseconds as nanoseconds_of};
 ghost use Rattle.lft_tree.specs.ItemView.{time_view};
 ghost use Rattle.lft_scope.specs.Causes.{longest};
 ghost use Rattle.lft_lower.specs.Lowered.{IsRead, is_forever, is_some_time, time_at, time_for};
+ghost use Rattle.lft_lower.specs.Refused.{IfRefused, IsAt, IsNoTime, IsNoWritten, IsOfTime, named_by};
 ghost use Rattle.lft_lower.specs.Times.{time_in};
 
 use lft_scope::times::nanoseconds;
-use lft_shapes::Shape;
+use lft_shapes::{InheritedParameter, Shape, Thing};
 use lft_sources::{Stop, Why};
 use lft_tree::{Time, TimeExpression};
 use lft_whole::{Expression, Value};
@@ -43,6 +44,7 @@ fn time_in(value: &Value) -> Option<Time>
 pub(crate) fn written(file: usize, value: &Expression) -> Result<Time, Stop>
     ensures time { IfOk result (λ time. time_in value.now.value ≡ Some time) }
     ensures short { IfOk result (λ time. nanoseconds_of time ≤ longest) }
+    ensures cause { IfErr result (IfRefused (λ r. IsAt file value.now.at r × IsNoWritten value.now.value r.why)) }
 {
     let Some(time) = time_in(&value.value) else {
         return Err(Stop::at(Why::NoTime, file, value.at));
@@ -70,6 +72,19 @@ pub(crate) fn is_forever(value: &Expression) -> bool
     }
 }
 
+/// The parameter of the reactor whose name a value is.
+fn named_by<'a>(shape: &Shape<'a>, value: &Value) -> Option<InheritedParameter<'a>>
+    ensures { result ≡ named_by shape.now value.now }
+{
+    let Value::Word(word) = value else {
+        return None;
+    };
+    match shape.find(word.as_str()) {
+        Some(Thing::Parameter(number)) => shape.parameters.get(number).copied(),
+        _ => None,
+    }
+}
+
 /// A time, or the parameter of the reactor that stands for one.
 pub(crate) fn read_time(
     alloc: Global,
@@ -77,20 +92,22 @@ pub(crate) fn read_time(
     file: usize,
     value: &Expression,
 ) -> Result<TimeExpression, Stop>
-    ensures { IfOk result (λ time. time_for value.now.value ≡ Some (time_view time)) }
+    ensures time { IfOk result (λ time. time_for value.now.value ≡ Some (time_view time)) }
+    ensures cause { IfErr result (IfRefused (λ r. IsAt file value.now.at r × IsNoTime shape.now value.now.value r.why)) }
 {
-    if let Value::Word(word) = &value.value
-        && let Some(parameter) = shape.parameter(word.as_str())
-        && let Some(found) = shape.parameters.get(parameter)
-    {
-        if !found.parameter.is_time {
-            return Err(Stop::at(Why::NotOfTypeTime, file, value.at));
-        }
-        let name = String::from_str(alloc, word.as_str())?;
-        return Ok(TimeExpression::Parameter { name, at: 0 });
+    let found = named_by(shape, &value.value);
+    let Value::Word(word) = &value.value else {
+        let time = written(file, value)?;
+        return Ok(TimeExpression::Written { time, at: 0 });
+    };
+    let Some(found) = found else {
+        return Err(Stop::at(Why::NoTime, file, value.at));
+    };
+    if !found.parameter.is_time {
+        return Err(Stop::at(Why::NotOfTypeTime, file, value.at));
     }
-    let time = written(file, value)?;
-    Ok(TimeExpression::Written { time, at: 0 })
+    let name = String::from_str(alloc, word.as_str())?;
+    Ok(TimeExpression::Parameter { name, at: 0 })
 }
 
 /// The same where a time may be left out.
@@ -102,6 +119,7 @@ pub(crate) fn maybe_time(
 ) -> Result<Option<TimeExpression>, Stop>
     ensures time { IfOk result (λ time. option_map time_view time ≡ time_at value.now) }
     ensures read { OnOk result (IsRead value.now) }
+    ensures cause { IfErr result (IfRefused (IsOfTime shape.now file value.now)) }
 {
     match value {
         None => Ok(None),

@@ -1,10 +1,12 @@
 -- Why there is no setting in an instance.
-use Rattle.std.specs.Prelude.{◌≡◌, ◌⊎◌, ℕ, ℤ, List, Option, Some, None, slice_get}
+use Rattle.std.specs.Prelude.{◌≡◌, ◌⊎◌, ℕ, ℤ, List, IsSomeAnd, Option, Some, None, slice_get, string_bytes}
 use Rattle.lft_sources.specs.declared.stop.Stop.{Stop}
 use Rattle.lft_sources.specs.declared.stop.Stop.TheVariants as stop
 use Rattle.lft_sources.specs.declared.why.Why.{Why}
 use Rattle.lft_sources.specs.declared.why.Why.TheVariants as why
 use Rattle.lft_shapes.specs.declared.shapes.Shape.{Shape}
+use Rattle.lft_whole.specs.declared.tree.Reference.{Reference}
+use Rattle.lft_settings.specs.Places.{meaning_in, member_named, natural, parameter_in}
 use Rattle.lft_settings.specs.Values.{Valued, inside}
 
 -- a number is missing, or what stands for one is no whole number
@@ -22,7 +24,21 @@ abbrev pub HasCause : List Shape → Valued → ℕ → Stop → Type 0
 HasCause shapes t m (stop.Refused refusal) = (refusal.why ≡ why.TooMuch) ⊎ (IsNoNumber refusal.why × LacksNumber shapes t m)
 HasCause shapes t m stop.NoMemory = Unit {0}
 
+-- no thing, no instance, or no port of an instance has the name
+abbrev pub IsNoName : Why → Type 0
+IsNoName w = (w ≡ why.UnknownName) ⊎ (w ≡ why.UnknownInstance) ⊎ (w ≡ why.UnknownPort)
+
+-- A refusal is of the reference, which means nothing; or of the setting in the instance that it names.
+abbrev pub IsOfReference : List Shape → Valued → ℕ → Reference → Stop → Type 0
+IsOfReference shapes t file r (stop.Refused refusal) = (IsNoName refusal.why × (refusal.place ≡ record { file = file; token = r.head.at }) × (meaning_in shapes t r ≡ None)) ⊎ ((m : ℕ) × (member_named shapes t (string_bytes r.head.text) ≡ Some m) × HasCause shapes t m (stop.Refused refusal))
+IsOfReference shapes t file r stop.NoMemory = Unit {0}
+
 -- ---- for the crate's own contracts
+
+-- the refusal is of a term that is a word: no parameter whose number is known has this name, or the number is below 0
+abbrev pub IsOfWord : List Shape → Valued → ℕ → ℕ → List ℕ → Stop → Type 0
+IsOfWord shapes t file at word (stop.Refused refusal) = (refusal.place ≡ record { file = file; token = at }) × (((refusal.why ≡ why.UnknownParameter) × (parameter_in shapes t word ≡ None)) ⊎ ((refusal.why ≡ why.NegativeWidth) × IsSomeAnd (parameter_in shapes t word) (λ n. natural n ≡ None)))
+IsOfWord shapes t file at word stop.NoMemory = Unit {0}
 
 -- the refusal says that a number is missing or no whole one
 abbrev pub SaysNoNumber : Stop → Type 0

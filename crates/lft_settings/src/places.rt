@@ -1,9 +1,10 @@
 //! What references mean in a setting.
 
-ghost use Rattle.std.specs.Prelude.{◌≡◌, ◌≤◌, IfOk, OnOk, option_and_then, option_map};
+ghost use Rattle.std.specs.Prelude.{◌≡◌, ◌≤◌, IfErr, IfOk, OnOk, option_and_then, option_map};
 ghost use Rattle.lft_shapes.specs.Shapes.{thing_named};
 ghost use Rattle.lft_settings.specs.Noted.{AreMade, GoesOn, IsMeaning, table};
 ghost use Rattle.lft_settings.specs.Places.{AreMany, AreManyIn, HasPlaces, HavePlaces, port_named};
+ghost use Rattle.lft_settings.specs.Refused.{IsOfReference};
 ghost use Rattle.lft_settings.specs.Settings.{setting_at, shape_at};
 ghost use Rattle.lft_settings.specs.Values.{Valued};
 ghost use Rattle.lft_settings.specs.Widths.{member_at};
@@ -69,6 +70,7 @@ impl<'a> Settings<'a> {
         ensures work { OnOk result (self.new.work.left ≤ self.old.work.left) }
         ensures goes { OnOk result (GoesOn (table self.old) (table self.new)) }
         ensures meaning { IfOk result (λ meaning. (t : Valued) → AreMade (table self.old) → setting_at self.old setting ≡ Some t → IsMeaning self.old.shapes.items self.new.settings.items t reference.now meaning) }
+        ensures cause { IfErr result (λ stop. (t : Valued) → AreMade (table self.old) → setting_at self.old setting ≡ Some t → IsOfReference self.old.shapes.items t file reference.now stop) }
     {
         let head = self.find(setting, reference.head.text.as_str());
         let at = reference.head.at;

@@ -1,8 +1,9 @@
 //! Widths of ports and banks in a setting.
 
-ghost use Rattle.std.specs.Prelude.{◌≡◌, ◌≤◌, ◌↔◌, ℕ, Some, IfOk, IfSome, IsSome, OnOk, is_some, option_and_then};
+ghost use Rattle.std.specs.Prelude.{◌≡◌, ◌≤◌, ◌↔◌, ℕ, Some, IfErr, IfOk, IfSome, IsSome, OnOk, is_some, option_and_then};
 ghost use Rattle.lft_settings.specs.Noted.{AreMade, GoesOn, GoesOnIf, table};
 ghost use Rattle.lft_settings.specs.Places.{AreMany, AreManyIn, HasPlaces, HasWidth, IsCount, IsMany, IsWidth, natural, parameter_in, plus, times};
+ghost use Rattle.lft_settings.specs.Refused.{IsOfWord};
 ghost use Rattle.lft_settings.specs.Settings.{setting_at};
 ghost use Rattle.lft_settings.specs.Values.{Valued};
 ghost use Rattle.lft_settings.specs.Widths.{member_at, width_at, found_width};
@@ -124,7 +125,8 @@ impl<'a> Settings<'a> {
         word: &str,
         at: usize,
     ) -> Result<u64, Stop>
-        ensures { IfOk result (λ n. (t : Valued) → setting_at self.now setting ≡ Some t → option_and_then natural (parameter_in self.now.shapes.items t word.now) ≡ Some n) }
+        ensures number { IfOk result (λ n. (t : Valued) → setting_at self.now setting ≡ Some t → option_and_then natural (parameter_in self.now.shapes.items t word.now) ≡ Some n) }
+        ensures cause { IfErr result (λ stop. (t : Valued) → setting_at self.now setting ≡ Some t → IsOfWord self.now.shapes.items t file at word.now stop) }
     {
         let Some(value) = self.number_in(setting, word) else {
             return Err(Stop::at(Why::UnknownParameter, file, at));

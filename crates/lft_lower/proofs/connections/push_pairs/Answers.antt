@@ -34,11 +34,11 @@ loop-pair-preserved c =
       cs ++ one ∷ [],
       pairs_more (ref_views lefts) (ref_views rights) true delay pair cs (ref_view from) (ref_view to) c.loop-pair.invariant.1 at_left at_right,
       omega (arith, under),
-      added_next member_view c.loop-pair.list.items _ _ (member_views c.args.list.now.items) cs one c.in_ok-push.ensures.items (ap ConnectionMember c.in_ok-connection.ensures) c.loop-pair.invariant.3,
+      added_next member_view c.loop-pair.list.items _ _ (member_views c.args.list.now.items) cs one c.in_ok-push.ensures.items (ap ConnectionMember c.in_ok-connection.ensures.made) c.loop-pair.invariant.3,
     )
 
-pub returns : goal.returns
-returns c =
+pub returns-clause-made : goal.returns-clause-made
+returns-clause-made c =
     let lefts = c.args.sources.now in
     let rights = c.args.destinations.now in
     let test = c.loop-pair-test.false in

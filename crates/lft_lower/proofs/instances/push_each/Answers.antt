@@ -25,8 +25,8 @@ loop-number-preserved c =
     let named : string_bytes c.in_ok-from_str.field-0 ≡ c.args.reactor.now = search rules in
     named_grown member_view f (name_at x) (count_of x) number c.loop-number.list.items _ _ (member_views c.args.list.now.items) less c.in_ok-push.ensures.items (is_made (string_bytes c.in_ok-core.field-0) (string_bytes c.in_ok-from_str.field-0) (name_at x number) c.args.reactor.now (map assignment_view c.in_ok-copied_given.field-0.items) (map assignment_view c.args.given.now) (c.in_ok-core.ensures ∙ c.at-name.ensures) named c.in_ok-copied_given.ensures) c.loop-number.invariant
 
-pub returns : goal.returns
-returns c =
+pub returns-clause-made : goal.returns-clause-made
+returns-clause-made c =
     let x = several c.args.members in
     let test = c.loop-number-test.false in
     let all : count_of x ≤ c.loop-number.number = omega (arith, c.count-number-end.ensures) in

@@ -13,4 +13,4 @@ returns-then-count-eq0 c =
     instances_none (texts c.args.maker.names.now) (here c.args.within) c.args.member c.args.list.now.items (ap count_of (sym c.member-members.ensures) ∙ sym c.count.ensures ∙ none)
 
 pub returns : goal.returns
-returns c = instances_some (texts c.args.maker.names.now) (here c.args.within) c.args.member c.args.list.now.items _ (several c.member-members.result) _ _ c.member-members.ensures c.in_ok-reactor.ensures c.in_ok-given.ensures (c.in_ok-push_each.ensures ∙ ap (λ gs. member_views c.args.list.now.items ++ instances (several c.member-members.result) c.in_ok-reactor.reactor.now (map assignment_view gs)) c.deref.ensures.value)
+returns c = instances_some (texts c.args.maker.names.now) (here c.args.within) c.args.member c.args.list.now.items _ (several c.member-members.result) _ _ c.member-members.ensures c.in_ok-reactor.ensures.name c.in_ok-given.ensures (c.in_ok-push_each.ensures.made ∙ ap (λ gs. member_views c.args.list.now.items ++ instances (several c.member-members.result) c.in_ok-reactor.reactor.now (map assignment_view gs)) c.deref.ensures.value)

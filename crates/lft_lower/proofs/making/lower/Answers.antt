@@ -29,8 +29,8 @@ returns-clause-made c =
       used = c.in_ok-used.used.items;
       are_used = c.in_ok-used.ensures.used all;
       order = c.in_ok-sorted.sorted.items;
-      reordered = subst (λ xs. IsPermutation xs c.in_ok-sorted.sorted.items) c.deref-2.ensures.value c.in_ok-sorted.ensures;
+      reordered = subst (λ xs. IsPermutation xs c.in_ok-sorted.sorted.items) c.deref-2.ensures.value c.in_ok-sorted.ensures.same;
       names = texts c.in_ok-names.names.items;
-      apart = c.in_ok-names.ensures;
+      apart = c.in_ok-names.ensures.apart;
       reactors = same_reactors _ _ _ _ _ _ c.deref-5.ensures.value c.deref-7.ensures.value c.in_ok-items.ensures;
     }

@@ -16,8 +16,8 @@ loop-place-preserved c =
     let test = c.loop-place-test.true in
     let there : slice_get items place ≡ Some item = slice_get-get_or items place item (omega arith) ∙ ap Some (sym c.index-references-place.is) in
     let h = here c.args.within in (
-      count_next h items place item (sense c.in_ok-meant.meant) c.loop-place.all c.in_ok-count.count _ there c.in_ok-meant.ensures c.in_ok-count.ensures c.in_ok-all.ensures c.loop-place.invariant.0,
-      all_next (Means h) items place item there c.loop-place.invariant.1 (ap is_some c.in_ok-meant.ensures),
+      count_next h items place item (sense c.in_ok-meant.meant) c.loop-place.all c.in_ok-count.count _ there c.in_ok-meant.ensures.sense c.in_ok-count.ensures.count c.in_ok-all.ensures.sum c.loop-place.invariant.0,
+      all_next (Means h) items place item there c.loop-place.invariant.1 (ap is_some c.in_ok-meant.ensures.sense),
     )
 
 pub returns-clause-means : goal.returns-clause-means

@@ -31,7 +31,7 @@ loop-place-preserved c =
     let made = c.in_ok-reference.reference in
     let longer = ap length c.in_ok-push.ensures.items ∙ length_push items made in
     let stands : slice_get (places (count_of members) (count_of channels) b) place ≡ Some spot = ap (λ r. slice_get (places r (count_of channels) b) place) (sym c.count-rows.ensures) ∙ ap (λ w. slice_get (places c.count-rows.result w b) place) (sym c.count-width.ensures) ∙ c.place_at-spot.ensures in
-    let viewed : ref_view made ≡ inner (name_at members spot.0) (name_at channels spot.1) = c.in_ok-reference.ensures ∙ ap (λ h. inner h (core_name c.at-port.result)) c.at-head.ensures ∙ ap (λ p. inner (name_at members spot.0) p) c.at-port.ensures in
+    let viewed : ref_view made ≡ inner (name_at members spot.0) (name_at channels spot.1) = c.in_ok-reference.ensures.made ∙ ap (λ h. inner h (core_name c.at-port.result)) c.at-head.ensures ∙ ap (λ p. inner (name_at members spot.0) p) c.at-port.ensures in
     let there : slice_get (inner_places members channels b) place ≡ Some (ref_view made) = slice_get-map (λ (p : Place). inner (name_at members p.0) (name_at channels p.1)) (places (count_of members) (count_of channels) b) place ∙ ap (option_map (λ (p : Place). inner (name_at members p.0) (name_at channels p.1))) stands ∙ ap Some (sym viewed) in
     record {
       many = omega (arith, longer, c.loop-place.invariant.many);
@@ -39,15 +39,15 @@ loop-place-preserved c =
       made = ap ref_views c.in_ok-push.ensures.items ∙ map-append ref_view items (made ∷ []) ∙ ap (λ vs. vs ++ ref_view made ∷ []) c.loop-place.invariant.made ∙ cut_more start (inner_places members channels b) place (ref_view made) there;
     }
 
-pub returns-then-len-most : goal.returns-then-len-most
-returns-then-len-most c =
+pub returns-then-len-most-clause-places : goal.returns-then-len-most-clause-places
+returns-then-len-most-clause-places c =
     let start = ref_views c.args.list.now.items in
     let low : length start + c.loop-place.place ≤ max c.args.most (length start) = omega (arith, c.loop-place.invariant.many, c.loop-place.invariant.few) in
     let full : c.args.most ≤ length start + c.loop-place.place = omega (arith, c.loop-place.invariant.many) in
     c.loop-place.invariant.made ∙ cut_full start (inner_places (several c.args.members) (several c.args.channels) c.args.is_interleaved) c.loop-place.place c.args.most low full
 
-pub returns : goal.returns
-returns c =
+pub returns-clause-places : goal.returns-clause-places
+returns-clause-places c =
     let start = ref_views c.args.list.now.items in
     let members = several c.args.members in
     let channels = several c.args.channels in

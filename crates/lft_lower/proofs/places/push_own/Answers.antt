@@ -26,7 +26,7 @@ loop-place-preserved c =
     let made = c.in_ok-reference.reference in
     let longer = ap length c.in_ok-push.ensures.items ∙ length_push items made in
     let within : place < count_of thing = omega (arith, c.count-count.ensures) in
-    let viewed : ref_view made ≡ own (name_at thing place) = c.in_ok-reference.ensures ∙ ap own c.at.ensures in
+    let viewed : ref_view made ≡ own (name_at thing place) = c.in_ok-reference.ensures.made ∙ ap own c.at.ensures in
     let there : slice_get (own_places thing) place ≡ Some (ref_view made) = row_at (λ k. own (name_at thing k)) 0 (count_of thing) place within ∙ ap (λ k. Some (own (name_at thing k))) (zero-add place) ∙ ap Some (sym viewed) in
     record {
       many = omega (arith, longer, c.loop-place.invariant.many);
@@ -34,15 +34,15 @@ loop-place-preserved c =
       made = ap ref_views c.in_ok-push.ensures.items ∙ map-append ref_view items (made ∷ []) ∙ ap (λ vs. vs ++ ref_view made ∷ []) c.loop-place.invariant.made ∙ cut_more start (own_places thing) place (ref_view made) there;
     }
 
-pub returns-then-len-most : goal.returns-then-len-most
-returns-then-len-most c =
+pub returns-then-len-most-clause-places : goal.returns-then-len-most-clause-places
+returns-then-len-most-clause-places c =
     let start = ref_views c.args.list.now.items in
     let low : length start + c.loop-place.place ≤ max c.args.most (length start) = omega (arith, c.loop-place.invariant.many, c.loop-place.invariant.few) in
     let full : c.args.most ≤ length start + c.loop-place.place = omega (arith, c.loop-place.invariant.many) in
     c.loop-place.invariant.made ∙ cut_full start (own_places (several c.args.thing)) c.loop-place.place c.args.most low full
 
-pub returns : goal.returns
-returns c =
+pub returns-clause-places : goal.returns-clause-places
+returns-clause-places c =
     let start = ref_views c.args.list.now.items in
     let thing = several c.args.thing in
     let low : length start + c.loop-place.place ≤ max c.args.most (length start) = omega (arith, c.loop-place.invariant.many, c.loop-place.invariant.few) in

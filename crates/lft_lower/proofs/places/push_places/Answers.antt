@@ -9,12 +9,12 @@ use Rattle.lft_lower.proofs.Placed.{its_places}
 use Rattle.lft_lower.proofs.places.push_places.Goals as goal
 
 pub returns-clause-means : goal.returns-clause-means
-returns-clause-means c = ap is_some c.in_ok-meant.ensures
+returns-clause-means c = ap is_some c.in_ok-meant.ensures.sense
 
 pub returns-clause-places : goal.returns-clause-places
 returns-clause-places c =
     let old = ref_views c.args.list.now.items in
     let r = c.args.reference.now in
     let more = places_of r.is_interleaved (sense c.in_ok-meant.meant) in
-    let long : c.in_ok-most.most ≡ length old + length more = omega (arith, c.in_ok-most.ensures, c.in_ok-count.ensures r.is_interleaved, length-map c.args.list.now.items ref_view) in
-    c.in_ok-push_meant.ensures ∙ ap (λ most. up_to most old more) long ∙ take_whole old more ∙ ap (λ ms. old ++ ms) (sym (its_places (here c.args.within) r (sense c.in_ok-meant.meant) c.in_ok-meant.ensures))
+    let long : c.in_ok-most.most ≡ length old + length more = omega (arith, c.in_ok-most.ensures.sum, c.in_ok-count.ensures.count r.is_interleaved, length-map c.args.list.now.items ref_view) in
+    c.in_ok-push_meant.ensures.places ∙ ap (λ most. up_to most old more) long ∙ take_whole old more ∙ ap (λ ms. old ++ ms) (sym (its_places (here c.args.within) r (sense c.in_ok-meant.meant) c.in_ok-meant.ensures.sense))

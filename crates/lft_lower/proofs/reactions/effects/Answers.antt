@@ -1,8 +1,11 @@
 use Rattle.std.proofs.Common.{◌≡◌, Some, length, slice_get, refl, arith}
 use Rattle.std.proofs.lemmas.Option.{slice_get_read}
+use Rattle.std.proofs.lemmas.Result.{err_from_is_err_and}
 use Rattle.lft_lower.specs.Lowered.{MeansEffect, effect_places}
 use Rattle.lft_lower.specs.Meanings.{here}
 use Rattle.lft_lower.proofs.Growing.{all_done, all_next, flat_all, flat_grown}
+use Rattle.lft_lower.specs.Refused.{IsOfEffect, IsPassed}
+use Rattle.lft_lower.proofs.Refusing.{of_this}
 use Rattle.lft_lower.proofs.reactions.effects.Goals as goal
 
 pub loop-place-preserved : goal.loop-place-preserved
@@ -22,3 +25,15 @@ returns-clause-means c = all_done (MeansEffect (here c.args.within)) c.args.reac
 
 pub returns-clause-places : goal.returns-clause-places
 returns-clause-places c = flat_all (effect_places (here c.args.within)) (c.args.reaction.now.effects.items) c.loop-place.place _ (omega (arith, c.len-place-end.ensures, c.loop-place-test.false)) c.loop-place.invariant.0
+
+pub returns-in_err-push_effect-clause-cause : goal.returns-in_err-push_effect-clause-cause
+returns-in_err-push_effect-clause-cause c =
+    let p = err_from_is_err_and c.from_residual.result c.from_residual.ensures.1 in
+    let items = c.args.reaction.now.effects.items in
+    let place = c.loop-place.place in
+    let item = c.index.result.now in
+    let test = c.loop-place-test.true in
+    let there : slice_get items place ≡ Some item = slice_get_read items (length items) place item refl (omega (arith, c.len-place-end.ensures)) c.index.ensures in
+    let w = c.args.within in
+    let main = IsPassed w.settings.now.work.main in
+    rw (p.1, p.2) (of_this (IsOfEffect (here w) w.file) main items place item c.in_err-push_effect.field-0.0 there c.in_err-push_effect.ensures.cause)

@@ -20,7 +20,7 @@ loop-reference-preserved c =
     ∙ append_assoc start (map OnRef (ref_views yielded)) (OnRef one ∷ [])
     ∙ ap (λ ts. start ++ ts) (sym (ap (map OnRef) (map-append ref_view yielded (c.in-Some.reference ∷ [])) ∙ map-append OnRef (ref_views yielded) (one ∷ [])))
 
-pub returns : goal.returns
-returns c =
+pub returns-clause-places : goal.returns-clause-places
+returns-clause-places c =
     let all = YieldsList-end (YieldsList-from_vec {s = c.into_iter-reference-iterator.result} c.args.references.items (search rules) (search rules)) c.loop-reference.yielded c.loop-reference.reference-iterator c.loop-reference.yielded_by c.next.result c.next.new.self c.in-None.is c.next.ensures.steps in
     c.loop-reference.invariant ∙ ap (λ rs. map trigger_view c.args.list.now.items ++ map OnRef (ref_views rs)) (sym (map-id c.loop-reference.yielded) ∙ all.0)

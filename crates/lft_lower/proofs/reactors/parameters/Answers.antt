@@ -19,10 +19,10 @@ loop-number-preserved c =
     let within : number < length (below n) = omega (arith, length-range_with_len 0 n) in
     let there : slice_get (below n) number ≡ Some number = slice_get-get_or (below n) number number within ∙ ap Some (get_or-range_with_len 0 n number number less ∙ zero-add number) in
     let made = option_map parameter_view c.in_ok-made.made in
-    c.in_ok-push_parameter.ensures ∙ ap (λ ys. ys ++ cons_option made []) c.loop-number.invariant ∙ sym (kept_more (timed_parameter c.args.shape.now) (below n) number number made there c.in_ok-made.ensures)
+    c.in_ok-push_parameter.ensures ∙ ap (λ ys. ys ++ cons_option made []) c.loop-number.invariant ∙ sym (kept_more (timed_parameter c.args.shape.now) (below n) number number made there c.in_ok-made.ensures.made)
 
-pub returns : goal.returns
-returns c =
+pub returns-clause-made : goal.returns-clause-made
+returns-clause-made c =
     let n = length c.args.shape.now.parameters.items in
     let test = c.loop-number-test.false in
     let all : length (below n) ≤ c.loop-number.number = omega (arith, length-range_with_len 0 n) in

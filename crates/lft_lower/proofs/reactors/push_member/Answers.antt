@@ -10,7 +10,7 @@ use Rattle.lft_lower.proofs.reactors.push_member.Goals as goal
 pub returns-in_ok-push_ports-in-Port : goal.returns-in_ok-push_ports-in-Port
 returns-in_ok-push_ports-in-Port c =
     let before = option_map string_bytes c.args.never.now in
-    lowered_as (texts c.args.maker.names.now) (here c.args.within) c.args.number before before c.args.list.now.items _ c.args.member.now (member.Port c.in-Port.port) c.in-Port.is (_, (refl, ap (λ t. ports t c.in-Port.port.is_input) c.member-channels.ensures), c.in_ok-push_ports-in-Port.ensures)
+    lowered_as (texts c.args.maker.names.now) (here c.args.within) c.args.number before before c.args.list.now.items _ c.args.member.now (member.Port c.in-Port.port) c.in-Port.is (_, (refl, ap (λ t. ports t c.in-Port.port.is_input) c.member-channels.ensures), c.in_ok-push_ports-in-Port.ensures.made)
 
 pub returns-in_ok-push_timer-in-Timer : goal.returns-in_ok-push_timer-in-Timer
 returns-in_ok-push_timer-in-Timer c =

@@ -18,8 +18,8 @@ loop-number-preserved c =
     let less : number < count_of x = omega (arith, c.count-number-end.ensures) in
     named_grown member_view f (name_at x) (count_of x) number c.loop-number.list.items _ _ (member_views c.args.list.now.items) less c.in_ok-push.ensures.items (ap f (c.in_ok-core.ensures ∙ c.at-name.ensures)) c.loop-number.invariant
 
-pub returns : goal.returns
-returns c =
+pub returns-clause-made : goal.returns-clause-made
+returns-clause-made c =
     let x = several c.args.channels in
     let test = c.loop-number-test.false in
     let all : count_of x ≤ c.loop-number.number = omega (arith, c.count-number-end.ensures) in

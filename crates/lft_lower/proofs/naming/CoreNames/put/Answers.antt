@@ -6,8 +6,8 @@ use Rattle.lft_lower.specs.Names.{AreApart, texts}
 use Rattle.lft_lower.proofs.Apart.{AreIn, apart_more, taken_more, taken_still}
 use Rattle.lft_lower.proofs.naming.CoreNames.put.Goals as goal
 
-pub returns-then-setting-len : goal.returns-then-setting-len
-returns-then-setting-len c =
+pub returns-then-setting-len-clause-names : goal.returns-then-setting-len-clause-names
+returns-then-setting-len-clause-names c =
     let old = c.args.self.now in
     let new = c.take.new.self in
     let q = string_bytes c.in_ok-name.name in
@@ -22,8 +22,8 @@ returns-then-setting-len c =
       taken = subst (λ ns. AreIn ns after) (sym written) (taken_more (texts new.found.items) before after c.args.setting q within known c.in_ok-name.ensures.taken);
     }
 
-pub returns-else-setting-len : goal.returns-else-setting-len
-returns-else-setting-len c =
+pub returns-else-setting-len-clause-names : goal.returns-else-setting-len-clause-names
+returns-else-setting-len-clause-names c =
     let old = c.args.self.now in
     let new = c.take.new.self in
     let before = contains_text old.taken in

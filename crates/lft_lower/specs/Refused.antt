@@ -1,0 +1,182 @@
+-- Why what is written isn't lowered.
+use Rattle.std.specs.Prelude.{◌≡◌, ◌<◌, ◌⊎◌, ℕ, Bool, true, false, List, [], IsSomeAnd, Option, Some, None, option_map, slice_get, string_bytes}
+use Rattle.std.specs.Option.{option_and_then}
+use Rattle.lft_scope.specs.Causes.{longest}
+use Rattle.lft_tree.specs.Tree.{nanoseconds}
+use Rattle.lft_sources.specs.declared.source.SourceFile.{SourceFile}
+use Rattle.lft_sources.specs.declared.stop.Place.{Place}
+use Rattle.lft_sources.specs.declared.stop.Refusal.{Refusal}
+use Rattle.lft_sources.specs.declared.stop.Stop.{Stop}
+use Rattle.lft_sources.specs.declared.stop.Stop.TheVariants as stop
+use Rattle.lft_sources.specs.declared.why.Why.{Why}
+use Rattle.lft_sources.specs.declared.why.Why.TheVariants as why
+use Rattle.lft_shapes.specs.declared.shapes.Given.{Given}
+use Rattle.lft_shapes.specs.declared.shapes.InheritedParameter.{InheritedParameter}
+use Rattle.lft_shapes.specs.declared.shapes.Shape.{Shape}
+use Rattle.lft_shapes.specs.declared.shapes.Thing.{Thing}
+use Rattle.lft_shapes.specs.declared.shapes.Thing.TheVariants as things
+use Rattle.lft_shapes.specs.Shapes.{thing_named}
+use Rattle.lft_whole.specs.declared.tree.Action.{Action}
+use Rattle.lft_whole.specs.declared.tree.Connection.{Connection}
+use Rattle.lft_whole.specs.declared.tree.Effect.{Effect}
+use Rattle.lft_whole.specs.declared.tree.Effect.TheVariants as effects
+use Rattle.lft_whole.specs.declared.tree.Expression.{Expression}
+use Rattle.lft_whole.specs.declared.tree.Reaction.{Reaction}
+use Rattle.lft_whole.specs.declared.tree.Reference.{Reference}
+use Rattle.lft_whole.specs.declared.tree.Timer.{Timer}
+use Rattle.lft_whole.specs.declared.tree.Trigger.{Trigger}
+use Rattle.lft_whole.specs.declared.tree.Trigger.TheVariants as triggers
+use Rattle.lft_whole.specs.declared.tree.Value.{Value}
+use Rattle.lft_whole.specs.declared.tree.Value.TheVariants as value
+use Rattle.lft_lower.specs.Lowered.{is_forever, is_spaced, is_timed}
+use Rattle.lft_lower.specs.Meanings.{Here, port_in, shape_inside}
+use Rattle.lft_lower.specs.Programs.{decentralized_in}
+use Rattle.lft_lower.specs.Times.{time_in}
+
+-- if memory didn't run out, the refusal is such a one
+abbrev pub IfRefused : (Refusal → Type 0) → Stop → Type 0
+IfRefused Is (stop.Refused refusal) = Is refusal
+IfRefused Is stop.NoMemory = Unit {0}
+
+-- it is of this token of this file
+abbrev pub IsAt : ℕ → ℕ → Refusal → Type 0
+IsAt file token r = r.place ≡ record { file = file; token = token }
+
+-- a limit of the program as a whole is passed
+abbrev pub IsLimit : Why → Type 0
+IsLimit w = (w ≡ why.TooMuch) ⊎ (w ≡ why.TooLong)
+
+-- the refusal says so, of the main reactor
+abbrev pub IsPassed : Place → Refusal → Type 0
+IsPassed main r = (r.place ≡ main) × IsLimit r.why
+
+-- the refusal is of one of these things
+abbrev pub IsOfSome : {A : Type 0} → (A → Refusal → Type 0) → List A → Refusal → Type 0
+IsOfSome Is xs r = (k : ℕ) × IsSomeAnd (slice_get xs k) (λ x. Is x r)
+
+-- ---- times
+
+-- the parameter that a thing is
+abbrev pub parameter_of : Shape → Thing → Option InheritedParameter
+parameter_of shape (things.Parameter n) = slice_get shape.parameters.items n
+parameter_of shape (things.Member n) = None
+
+-- the parameter whose name a value is
+abbrev pub named_by : Shape → Value → Option InheritedParameter
+named_by shape (value.Word word) = option_and_then (parameter_of shape) (thing_named shape (string_bytes word))
+named_by shape _ = None
+
+-- the value writes out no time, or one past the greatest
+abbrev pub IsNoWritten : Value → Why → Type 0
+IsNoWritten v w = ((w ≡ why.NoTime) × (time_in v ≡ None)) ⊎ ((w ≡ why.TimeTooLong) × IsSomeAnd (time_in v) (λ time. longest < nanoseconds time))
+
+-- the value is a parameter that is no time; or it is no parameter, and writes out no time
+abbrev pub IsNoTime : Shape → Value → Why → Type 0
+IsNoTime shape v w = ((w ≡ why.NotOfTypeTime) × IsSomeAnd (named_by shape v) (λ p. p.parameter.now.is_time ≡ false)) ⊎ ((named_by shape v ≡ None) × IsNoWritten v w)
+
+-- the refusal is of a time that is written there and is none
+abbrev pub IsOfTime : Shape → ℕ → Option Expression → Refusal → Type 0
+IsOfTime shape file value r = IsSomeAnd value (λ e. IsAt file e.at r × IsNoTime shape e.value r.why)
+
+-- the refusal is of a period that isn't `forever`
+abbrev pub IsOfPeriod : Shape → ℕ → Option Expression → Refusal → Type 0
+IsOfPeriod shape file value r = IsSomeAnd value (λ e. (is_forever e.value ≡ false) × IsAt file e.at r × IsNoTime shape e.value r.why)
+
+-- the refusal is of the offset or the period of a timer
+abbrev pub IsOfTimer : Shape → ℕ → Timer → Refusal → Type 0
+IsOfTimer shape file t r = IsOfTime shape file t.offset r ⊎ IsOfPeriod shape file t.period r
+
+-- the refusal is of a least spacing that isn't 0 of a logical action, or of an action's delay
+abbrev pub IsOfAction : Shape → ℕ → Action → Refusal → Type 0
+IsOfAction shape file a r = ((is_spaced a ≡ true) × (r.why ≡ why.Spacing) × IsSomeAnd a.spacing (λ e. IsAt file e.at r)) ⊎ IsOfTime shape file a.min_delay r
+
+-- the value is a word
+abbrev pub is_word : Value → Bool
+is_word (value.Word word) = true
+is_word _ = false
+
+-- the value is a name; or it is none, and writes out no time
+abbrev pub IsNoDefault : Value → Why → Type 0
+IsNoDefault v w = ((w ≡ why.DefaultByName) × (is_word v ≡ true)) ⊎ ((is_word v ≡ false) × IsNoWritten v w)
+
+-- a parameter from which a time is read isn't of type `time`; or it is of the main reactor and has no default
+abbrev pub LacksTime : Bool → InheritedParameter → Why → Type 0
+LacksTime main p w = ((w ≡ why.StandsForTime) × (p.parameter.now.is_time ≡ false)) ⊎ ((w ≡ why.MissingInMain) × (main ≡ true) × (p.parameter.now.default ≡ None))
+
+-- the refusal is of such a parameter, or of its default
+abbrev pub IsOfDefault : Bool → InheritedParameter → Refusal → Type 0
+IsOfDefault main p r = (IsAt p.file p.parameter.now.name.at r × LacksTime main p r.why) ⊎ IsSomeAnd p.parameter.now.default (λ e. IsAt p.file e.at r × IsNoDefault e.value r.why)
+
+-- the refusal is of the parameter of this number, from which a time is read
+abbrev pub IsOfParameter : Bool → Shape → ℕ → Refusal → Type 0
+IsOfParameter main shape n r = (is_timed shape n ≡ true) × IsSomeAnd (slice_get shape.parameters.items n) (λ p. IsOfDefault main p r)
+
+-- the refusal is of a value for a parameter from which a time is read: it is no time around, or there is no such parameter
+abbrev pub IsOfGiven : Shape → ℕ → Shape → Given → Refusal → Type 0
+IsOfGiven outer file inner g r = (is_timed inner g.parameter ≡ true) × IsAt file g.value.now.at r × (IsNoTime outer g.value.now.value r.why ⊎ ((r.why ≡ why.MissingTime) × (slice_get inner.parameters.items g.parameter ≡ None)))
+
+-- ---- references
+
+-- the shape of the instance that a thing is
+abbrev pub shape_behind : Here → Thing → Option Shape
+shape_behind h (things.Member n) = shape_inside h n
+shape_behind h (things.Parameter n) = None
+
+-- the shape of the instance of this name
+abbrev pub shape_named : Here → List ℕ → Option Shape
+shape_named h name = option_and_then (shape_behind h) (thing_named h.shape name)
+
+-- there is no instance, or it has no port of the name
+abbrev pub IsNoPort : Option Shape → List ℕ → Why → Type 0
+IsNoPort None port w = w ≡ why.UnknownInstance
+IsNoPort (Some shape) port w = (w ≡ why.UnknownPort) × (port_in shape port ≡ None)
+
+-- what stands there means nothing: there is no thing of the name, or no port of the instance of the name
+abbrev pub IsUnknown : Here → List ℕ → Option (List ℕ) → Why → Type 0
+IsUnknown h head None w = (w ≡ why.UnknownName) × (thing_named h.shape head ≡ None)
+IsUnknown h head (Some port) w = IsNoPort (shape_named h head) port w
+
+-- the refusal is of a reference that means nothing
+abbrev pub IsOfReference : Here → ℕ → Reference → Refusal → Type 0
+IsOfReference h file r refusal = IsAt file r.head.at refusal × IsUnknown h (string_bytes r.head.text) (option_map (λ name. string_bytes name.text) r.port) refusal.why
+
+-- the refusal is of one of these references
+abbrev pub IsOfOne : Here → ℕ → List Reference → Refusal → Type 0
+IsOfOne h file rs refusal = IsOfSome (IsOfReference h file) rs refusal
+
+-- ---- reactions
+
+-- the refusal is of a trigger: it is of a mode, or means nothing
+abbrev pub IsOfTrigger : Here → ℕ → Trigger → Refusal → Type 0
+IsOfTrigger h file (triggers.Reset at) refusal = IsAt file at refusal × (refusal.why ≡ why.Mode)
+IsOfTrigger h file (triggers.Reference r) refusal = IsOfReference h file r refusal
+IsOfTrigger h file _ refusal = ⊥
+
+-- the refusal is of an effect: it is of a mode, or means nothing
+abbrev pub IsOfEffect : Here → ℕ → Effect → Refusal → Type 0
+IsOfEffect h file (effects.Mode at) refusal = IsAt file at refusal × (refusal.why ≡ why.Mode)
+IsOfEffect h file (effects.Reference r) refusal = IsOfReference h file r refusal
+
+-- the refusal is of a reaction that has no trigger, or of one of its triggers
+abbrev pub AreOfTriggers : Here → ℕ → Reaction → Refusal → Type 0
+AreOfTriggers h file re r = ((re.triggers.items ≡ []) × IsAt file re.at r × (r.why ≡ why.NoTrigger)) ⊎ IsOfSome (IsOfTrigger h file) re.triggers.items r
+
+-- the refusal is of the triggers, the uses or the effects of a reaction
+abbrev pub IsOfReaction : Here → ℕ → Reaction → Refusal → Type 0
+IsOfReaction h file re r = AreOfTriggers h file re r ⊎ IsOfOne h file re.uses.items r ⊎ IsOfSome (IsOfEffect h file) re.effects.items r
+
+-- ---- connections
+
+-- the refusal is of a reference on one of the sides
+abbrev pub IsOfSides : Here → ℕ → Connection → Refusal → Type 0
+IsOfSides h file c r = IsOfOne h file c.sources.items r ⊎ IsOfOne h file c.destinations.items r
+
+-- the refusal is of a physical connection, of its delay, or of a reference in it
+abbrev pub IsOfConnection : Here → ℕ → Connection → Refusal → Type 0
+IsOfConnection h file c r = ((c.is_physical ≡ true) × IsAt file c.arrow r × (r.why ≡ why.PhysicalConnection)) ⊎ IsOfTime h.shape file c.delay r ⊎ IsOfSides h file c r
+
+-- ---- programs
+
+-- the refusal is of the word that the coordination is decentralized, in the first file
+abbrev pub IsDecentralized : List SourceFile → Refusal → Type 0
+IsDecentralized files r = IsSomeAnd (decentralized_in files) (λ token. IsAt 0 token r × (r.why ≡ why.Decentralized))
