@@ -12,7 +12,7 @@ error, and `status N`.
   and by 2, 3 and 64 workers; what these say is told only where it is something else.
 - `pair`: of the rows of a second trace beside the given one, in the same way.
 - `explain`: of the rows of a trace, by one worker; what 3 say, and what `--all` says where no lines are left
-  out, is told where it is something else. With `explain --all` it is what that says.
+  out, is told where it is something else. With words beside it, as `--all` or `--until 5,0`, it is what these say.
 - `cover`, `cover --list`: of the rows of a trace, by one worker; what 3 say, and what is said of the rows with
   quotation marks, is told where it is something else.
 - `explain-pair`: of the rows of a second trace beside the given one, in the same way.

@@ -21,7 +21,7 @@ _lftrace() {
             judge) choice="--workers --names --until -h --help" ;;
             pair) choice="--workers --names -h --help" ;;
             cover) choice="--workers --names --list -h --help" ;;
-            explain) choice="--workers --names --all -h --help" ;;
+            explain) choice="--workers --names --until --all -h --help" ;;
             follow) choice="--until --whole --every --drain -h --help" ;;
             record) choice="--workers --max-runs -h --help" ;;
             show) choice="-h --help" ;;

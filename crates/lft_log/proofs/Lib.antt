@@ -7,3 +7,4 @@ pub mod Pieces
 pub mod Finishing
 pub mod Plans
 pub mod Reading
+pub mod Gathering

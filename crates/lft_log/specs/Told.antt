@@ -6,7 +6,7 @@ use Rattle.lft_tag.specs.declared.Tag.{Tag}
 use Rattle.lft_tag.specs.Tags.{Before, IsRecorded, UpTo, earliest}
 use Rattle.lft_steps.specs.declared.externals.Event.{Event as EventOf}
 use Rattle.lft_steps.specs.declared.row.Row.{Row}
-use Rattle.lft_steps.specs.Fits.{EventFits}
+use Rattle.lft_steps.specs.Fits.{EventFits, RowsFit}
 use Rattle.lft_steps.specs.Inputs.{InOrder, IsTold}
 use Rattle.lft_model.specs.Plans.{PlanParts}
 use Rattle.lft_model.specs.Breaches.{First}
@@ -21,6 +21,7 @@ use Rattle.lft_log.specs.declared.fault.LogFault.TheVariants.{NoRow, NoInput, La
 use Rattle.lft_log.specs.declared.input.Input.{Input}
 use Rattle.lft_log.specs.declared.input.Input.TheVariants.{Event, Stop}
 use Rattle.lft_log.specs.declared.log.Log.{Log}
+use Rattle.lft_log.specs.declared.rows.LogRows.{LogRows}
 use Rattle.lft_log.specs.declared.told.Told.{Told}
 use Rattle.lft_log.specs.declared.told.Told.TheVariants.{Broken, Odd, Reached}
 use Rattle.lft_log.specs.declared.told.Final.{Final}
@@ -132,3 +133,18 @@ IsInputFault plan follower input number f = (base : PlanParts) (bytes : List ℕ
 pub record IsLog (base plan : PlanParts) (until : Option Tag) (bytes : List ℕ) (log : Log) : Type 0 where
   pub kept : IsLogOf base plan until bytes log.rest.items log
   pub open_line : HasNoEnd log.rest.items
+
+-- the rows that are read are those with which the bytes begin, for the plan that they tell
+abbrev pub HasRead : PlanParts → PlanParts → List ℕ → LogRows → Type 0
+HasRead base plan bytes r = ((rest : List ℕ) × TellsPlan base bytes plan r.rows.items rest) × RowsFit plan.program r.rows.items
+
+-- the same, up to a rest, and they are followed
+pub record IsReadSoFar (base plan : PlanParts) (bytes rest : List ℕ) (r : LogRows) : Type 0 where
+  pub tells : TellsPlan base bytes plan r.rows.items rest
+  pub fit : RowsFit plan.program r.rows.items
+  pub follower : IsFollowerOf plan r.rows.items r.follower
+
+-- the rows are read up to a rest, or no more is to be read
+abbrev pub IsReadOn : Bool → PlanParts → PlanParts → List ℕ → List ℕ → LogRows → Type 0
+IsReadOn true base plan bytes rest r = IsReadSoFar base plan bytes rest r
+IsReadOn false base plan bytes rest r = HasRead base plan bytes r

@@ -8,10 +8,12 @@ mod input;
 mod laws;
 mod lines;
 mod log;
+mod rows;
 mod telling;
 mod told;
 
 pub use fault::LogFault;
 pub use laws::law_log;
 pub use log::Log;
+pub use rows::rows_of_log;
 pub use told::{Final, Told};

@@ -1,6 +1,6 @@
 //! External inputs told to the plan that rows are judged by.
 
-ghost use Rattle.std.specs.Prelude.{◌≡◌, ◌++◌, ◌∷◌, List, [], IfOk, IfErr};
+ghost use Rattle.std.specs.Prelude.{◌≡◌, ◌++◌, ◌∷◌, List, [], IfOk, IfErr, OnErr};
 ghost use Rattle.lft_tag.specs.Tags.{IsRecorded};
 ghost use Rattle.lft_steps.specs.declared.row.Row.{Row as TheRow};
 ghost use Rattle.lft_steps.specs.Fits.{EventFits};
@@ -29,6 +29,7 @@ fn tell_event(
     ensures told { IfOk result (λ _. (base : PlanParts) (before : List TheInput) → HasTold base before plan.old → HasTold base (before ++ Input.Event event ∷ []) plan.new) }
     ensures timely { IfOk result (λ _. (t : List TheRow) → IsFollowerOf plan.old t follower.now → ¬ IsPassed t event.tag) }
     ensures stands { (t : List TheRow) → IsFollowerOf plan.old t follower.now → IsFollowerOf plan.new t follower.now }
+    ensures stays { OnErr result (plan.new ≡ plan.old) }
     ensures fault { IfErr result (IsInputFault plan.old follower.now (Input.Event event) number) }
 {
     match follower.add_event(plan, event) {
@@ -57,6 +58,7 @@ fn tell_stop(
     ensures told { IfOk result (λ _. (base : PlanParts) (before : List TheInput) → HasTold base before plan.old → HasTold base (before ++ Input.Stop stop ∷ []) plan.new) }
     ensures timely { IfOk result (λ _. (t : List TheRow) → IsFollowerOf plan.old t follower.old → ¬ IsPassed t stop) }
     ensures stands { (t : List TheRow) → IsFollowerOf plan.old t follower.old → IsFollowerOf plan.new t follower.new }
+    ensures stays { OnErr result (plan.new ≡ plan.old) }
     ensures fault { IfErr result (IsInputFault plan.old follower.old (Input.Stop stop) number) }
 {
     if follower.stop_at(plan, stop) {
@@ -78,6 +80,7 @@ pub(crate) fn tell(
     ensures told { IfOk result (λ _. (base : PlanParts) (before : List TheInput) → HasTold base before plan.old → HasTold base (before ++ input ∷ []) plan.new) }
     ensures timely { IfOk result (λ _. (t : List TheRow) → IsFollowerOf plan.old t follower.old → ¬ IsPassed t (tag_of input)) }
     ensures stands { (t : List TheRow) → IsFollowerOf plan.old t follower.old → IsFollowerOf plan.new t follower.new }
+    ensures stays { OnErr result (plan.new ≡ plan.old) }
     ensures fault { IfErr result (IsInputFault plan.old follower.old input number) }
 {
     match input {

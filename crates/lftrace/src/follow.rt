@@ -1,10 +1,12 @@
 //! `follow`: a trace that is judged while it is written.
 
-use crate::words::FollowWords;
+use crate::words::{FollowWords, JudgeWords};
 use crate::{await_text, end, say};
 use lft_files::{Failure, open_file, read_file};
 use lft_front::Part;
 use lft_monitor::{drain, follow_log, status_of_log};
+use lft_tag::Tag;
+use lft_until::explain_until;
 use std::alloc::Global;
 use std::io::{Read, Write};
 use std::process::ExitCode;
@@ -103,6 +105,46 @@ pub(crate) fn end_followed<W: Write>(
     out: &mut W,
 ) -> ExitCode {
     match follow_files(rt, alloc, words, out) {
+        Ok(status) => ExitCode::from(status),
+        Err(failure) => ExitCode::from(end_failed(rt, alloc, failure)),
+    }
+}
+
+/// The status of what the trace of a file shows up to a tag. What explains it is written.
+fn explain_file<W: Write>(
+    rt: &HostRuntime,
+    alloc: Global,
+    words: JudgeWords<'_>,
+    until: Tag,
+    all: bool,
+    out: &mut W,
+) -> Result<u8, Failure> {
+    let program = read_file(rt, alloc, words.program)?;
+    let externals = read_file(rt, alloc, words.externals)?;
+    let trace = read_file(rt, alloc, words.trace)?;
+    let told = explain_until(
+        alloc,
+        program.as_slice(),
+        externals.as_slice(),
+        words.trace,
+        trace.as_slice(),
+        until,
+        all,
+        out,
+    )?;
+    Ok(status_of_log(told))
+}
+
+/// Judges a trace up to a tag, explains a broken rule, and gives the status.
+pub(crate) fn end_explained<W: Write>(
+    rt: &HostRuntime,
+    alloc: Global,
+    words: JudgeWords<'_>,
+    until: Tag,
+    all: bool,
+    out: &mut W,
+) -> ExitCode {
+    match explain_file(rt, alloc, words, until, all, out) {
         Ok(status) => ExitCode::from(status),
         Err(failure) => ExitCode::from(end_failed(rt, alloc, failure)),
     }

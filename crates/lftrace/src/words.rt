@@ -35,7 +35,9 @@ why that is refused (status 2), or else prints what show prints.
 Printed: the line of judge, with its status; behind broken rule=N .. an empty line
 and the facts that show it. With two traces the line of pair, with its status;
 behind differ .. an empty line and both answers. Of each part the first 60 lines
-are printed, and how many others there are; with --all all lines.";
+are printed, and how many others there are; with --all all lines.
+With --until the line and the status are those of judge --until, and the facts are of
+the rows up to the one behind which the breach is sure.";
 
 const PAIR_HELP: &str = "\
 EXTERNALS has the header          kind,time,microstep,name,value
@@ -158,6 +160,12 @@ pub enum Job<'a> {
     Record(RecordWords<'a>),
     /// To judge a trace while it is written.
     Follow(FollowWords<'a>),
+    /// To judge a trace up to a tag, and to tell the facts behind a broken rule: all, or the first of them.
+    ExplainUntil {
+        words: JudgeWords<'a>,
+        until: Tag,
+        all: bool,
+    },
     /// To show the ports and the precedence of the program at a path.
     Show(&'a str),
     /// To print the core program of a whole one.
@@ -168,7 +176,7 @@ impl Job<'_> {
     /// Whether it tells people why on standard output.
     pub(crate) fn is_explained(self) -> bool {
         match self {
-            Job::ExplainBundle { .. } | Job::ExplainProgram(_) => true,
+            Job::ExplainBundle { .. } | Job::ExplainProgram(_) | Job::ExplainUntil { .. } => true,
             Job::Ask { question, .. } => matches!(
                 question,
                 Question::Explain { .. } | Question::ExplainPair { .. }
@@ -209,6 +217,9 @@ fn names<'a>(alloc: Global, help: &'a str) -> Arg<'a> {
 const NAMED: &str =
     "the table of names that `lower` wrote: the tables and the answer have those of the source";
 
+const UNTIL: &str =
+    "judges the rows up to the first tag at or past this one that has rows, as `follow` does";
+
 fn judge_command<'a>(alloc: Global) -> Result<Command<'a>, Error> {
     let command = Command::new(alloc, "judge")
         .about("Judges a recorded trace, and names the first rule that it breaks")
@@ -217,10 +228,7 @@ fn judge_command<'a>(alloc: Global) -> Result<Command<'a>, Error> {
         .arg(path(alloc, "TRACE", "the trace table"))?
         .arg(workers(alloc, JUDGES))?
         .arg(names(alloc, NAMED))?
-        .arg(until_arg(
-            alloc,
-            "judges the rows up to the first tag at or past this one that has rows, as `follow` does",
-        ))?
+        .arg(until_arg(alloc, UNTIL))?
         .after_help(JUDGE_HELP);
     Ok(command)
 }
@@ -260,6 +268,7 @@ fn explain_command<'a>(alloc: Global) -> Result<Command<'a>, Error> {
         .arg(path(alloc, "SECOND", "another trace table").required(false))?
         .arg(workers(alloc, JUDGES))?
         .arg(names(alloc, NAMED).requires_arg("TRACE")?)?
+        .arg(until_arg(alloc, UNTIL).requires_arg("TRACE")?)?
         .arg(all)?
         .after_help(EXPLAIN_HELP);
     Ok(command)
@@ -426,22 +435,6 @@ fn ask<'a>(matches: &ArgMatches<'a>, question: Question<'a>) -> Job<'a> {
     }
 }
 
-/// What the words of `explain` ask for: by how many paths there are.
-fn explain_job<'a>(matches: &ArgMatches<'a>) -> Job<'a> {
-    let all = matches.get_flag("all");
-    if matches.contains_id("SECOND") {
-        let words = pair_words(matches, "TRACE");
-        ask(matches, Question::ExplainPair { words, all })
-    } else if matches.contains_id("TRACE") {
-        let words = judge_words(matches);
-        ask(matches, Question::Explain { words, all })
-    } else if matches.contains_id("PROGRAM") {
-        Job::ExplainProgram(text(matches, "PROGRAM"))
-    } else {
-        Job::ExplainBundle { all }
-    }
-}
-
 /// The tag that `--until` names, if it is there. The command is for its error.
 fn until<'a>(mut command: Command<'a>, matches: &ArgMatches<'a>) -> Result<Option<Tag>, Error> {
     if !matches.contains_id("until") {
@@ -456,15 +449,23 @@ fn until<'a>(mut command: Command<'a>, matches: &ArgMatches<'a>) -> Result<Optio
     }
 }
 
-/// What the words of `judge` ask for. With `--until` the trace is followed: its rows behind that tag aren't judged.
-fn judge_job<'a>(alloc: Global, matches: &ArgMatches<'a>) -> Result<Job<'a>, Error> {
-    let words = judge_words(matches);
-    let mut command = judge_command(alloc)?.bin_name("lftrace judge")?;
+/// The tag that `--until` names, where the tables have no names of the source.
+fn until_alone<'a>(
+    mut command: Command<'a>,
+    matches: &ArgMatches<'a>,
+) -> Result<Option<Tag>, Error> {
     if matches.contains_id("until") && matches.contains_id("names") {
         let words = "`--until` and `--names` don't go together";
         return Err(command.error(ErrorKind::ArgumentConflict, words)?);
     }
-    match until(command, matches)? {
+    until(command, matches)
+}
+
+/// What the words of `judge` ask for. With `--until` the trace is followed: its rows behind that tag aren't judged.
+fn judge_job<'a>(alloc: Global, matches: &ArgMatches<'a>) -> Result<Job<'a>, Error> {
+    let words = judge_words(matches);
+    let command = judge_command(alloc)?.bin_name("lftrace judge")?;
+    match until_alone(command, matches)? {
         Some(tag) => Ok(Job::Follow(FollowWords {
             program: words.program,
             externals: Some(words.externals),
@@ -477,6 +478,39 @@ fn judge_job<'a>(alloc: Global, matches: &ArgMatches<'a>) -> Result<Job<'a>, Err
             drain: false,
         })),
         None => Ok(ask(matches, Question::Judge(words))),
+    }
+}
+
+/// What the words of `explain` ask for without `--until`: by how many paths there are.
+fn explain_all<'a>(matches: &ArgMatches<'a>, all: bool) -> Job<'a> {
+    if matches.contains_id("SECOND") {
+        let words = pair_words(matches, "TRACE");
+        ask(matches, Question::ExplainPair { words, all })
+    } else if matches.contains_id("TRACE") {
+        let words = judge_words(matches);
+        ask(matches, Question::Explain { words, all })
+    } else if matches.contains_id("PROGRAM") {
+        Job::ExplainProgram(text(matches, "PROGRAM"))
+    } else {
+        Job::ExplainBundle { all }
+    }
+}
+
+/// What the words of `explain` ask for. Two traces aren't compared up to a tag.
+fn explain_job<'a>(alloc: Global, matches: &ArgMatches<'a>) -> Result<Job<'a>, Error> {
+    let all = matches.get_flag("all");
+    let mut command = explain_command(alloc)?.bin_name("lftrace explain")?;
+    if matches.contains_id("until") && matches.contains_id("SECOND") {
+        let words = "`--until` is of one trace";
+        return Err(command.error(ErrorKind::ArgumentConflict, words)?);
+    }
+    match until_alone(command, matches)? {
+        Some(until) => Ok(Job::ExplainUntil {
+            words: judge_words(matches),
+            until,
+            all,
+        }),
+        None => Ok(explain_all(matches, all)),
     }
 }
 
@@ -518,7 +552,7 @@ pub(crate) fn read_words<'a>(alloc: Global, words: &'a [String]) -> Result<Job<'
             let list = cover.get_flag("list");
             Ok(ask(cover, Question::Cover { words, list }))
         }
-        Some(("explain", explain)) => Ok(explain_job(explain)),
+        Some(("explain", explain)) => explain_job(alloc, explain),
         Some(("pair", pair)) => Ok(ask(pair, Question::Pair(pair_words(pair, "FIRST")))),
         Some(("follow", follow)) => Ok(Job::Follow(follow_words(alloc, follow)?)),
         Some(("record", record)) => Ok(Job::Record(RecordWords {
