@@ -22,7 +22,7 @@ _lftrace() {
             pair) choice="--workers --names -h --help" ;;
             cover) choice="--workers --names --list -h --help" ;;
             explain) choice="--workers --names --until --all -h --help" ;;
-            follow) choice="--until --whole --every --drain -h --help" ;;
+            follow) choice="--until --whole --every --drain --explain --all -h --help" ;;
             record) choice="--workers --max-runs -h --help" ;;
             show) choice="-h --help" ;;
             lower) choice="--names -h --help" ;;

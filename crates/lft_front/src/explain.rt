@@ -61,9 +61,8 @@ fn reasons(
     Ok(text)
 }
 
-/// Writes an empty line and what explains a breach, the first of the rows or that of rows behind which runs
-/// may end yet: all facts, or the first lines of each part.
-pub fn write_reasons<W: Write>(
+/// Writes an empty line and what explains a breach.
+pub(crate) fn write_reasons<W: Write>(
     alloc: Global,
     plan: &Plan,
     rows: &Rows,

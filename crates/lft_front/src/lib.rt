@@ -21,7 +21,7 @@ pub use answer::{
     pair_answer, show_answer,
 };
 pub use bundle::{Bundle, split_bundle};
-pub use explain::{explain_texts, write_reasons};
+pub use explain::explain_texts;
 pub use explain_pair::explain_pair_texts;
 pub use judge::{judge_texts, verdict_of};
 pub use lft_load::{Fault, Part, finish, load, read_input};

@@ -1,5 +1,6 @@
 -- What is told of a reader's log, and what was written of it.
-use Rattle.std.specs.Prelude.{◌≡◌, ℕ, Bool, List, ◌∷◌, ◌++◌, Option, Some}
+use Rattle.std.specs.Prelude.{◌≡◌, ℕ, Bool, List, ◌∷◌, ◌++◌, Option, Some, IfSome}
+use Rattle.std.specs.Global.{Vec}
 use Rattle.std.specs.Io.KnownBytes.{Appends, Consumes, IsAtEnd}
 use Rattle.lft_tag.specs.declared.Tag.{Tag}
 use Rattle.lft_trace.specs.Numbers.{number}
@@ -15,16 +16,23 @@ use Rattle.lft_monitor.specs.Lines.{line_of_log}
 abbrev pub until_words : List ℕ → Tag → Type 0
 until_words words g = (time : List ℕ) × (microstep : List ℕ) × (words ≡ time ++ 44 ∷ microstep) × (number 1000000000000000000 time ≡ Some g.time) × (number 1000000000 microstep ≡ Some g.micro)
 
--- the reader gave some bytes, and what is told is so of them, where this plan was given before; at the end it has no more
-pub record IsRead (base : PlanParts) (until : Option Tag) (whole : Bool) (old new : Option (List ℕ)) (told : Final) : Type 0 where
-  pub bytes : List ℕ
+-- what is kept is what was kept and these bytes behind it, or nothing
+abbrev pub IsKeptOn : Option (Vec ℕ) → Option (Vec ℕ) → List ℕ → Type 0
+IsKeptOn old new bytes = IfSome new (λ v. (u : Vec ℕ) × (old ≡ Some u) × (v.items ≡ u.items ++ bytes))
+
+-- the reader gave these bytes, and what is told is so of them, where this plan was given before; at the end it has no more
+pub record IsRead (base : PlanParts) (until : Option Tag) (whole : Bool) (bytes : List ℕ) (old new : Option (List ℕ)) (told : Final) : Type 0 where
   pub given : Consumes old new bytes
   pub ended : IsEnded base until whole bytes told
   pub all : (ending : Ending) → told ≡ AtEnd ending → IsAtEnd new
 
--- the two texts have one plan, what is told is so of the bytes that the reader gave to it, and its line was written
-pub record IsFollowed (program externals : List ℕ) (until : Option Tag) (whole : Bool) (old new out_old out_new : Option (List ℕ)) (told : Final) : Type 0 where
+-- the reader gave some bytes of which this is so, and they are kept
+abbrev pub IsReadKept : PlanParts → Option Tag → Bool → Option (Vec ℕ) → Option (Vec ℕ) → Option (List ℕ) → Option (List ℕ) → Final → Type 0
+IsReadKept base until whole kept_old kept_new old new told = (bytes : List ℕ) × IsRead base until whole bytes old new told × IsKeptOn kept_old kept_new bytes
+
+-- the two texts have one plan, what is told is so of the bytes that the reader gave to it, which are kept, and its line was written
+pub record IsFollowed (program externals : List ℕ) (until : Option Tag) (whole : Bool) (kept_old kept_new : Option (Vec ℕ)) (old new out_old out_new : Option (List ℕ)) (told : Final) : Type 0 where
   pub plan : PlanParts
   pub is_plan : IsOnly (IsPlanOf program externals) plan
-  pub read : IsRead plan until whole old new told
+  pub read : IsReadKept plan until whole kept_old kept_new old new told
   pub written : Appends out_old out_new (line_of_log plan.program told)

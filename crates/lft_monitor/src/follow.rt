@@ -8,7 +8,7 @@ ghost use Rattle.lft_model.specs.Plans.{PlanParts};
 ghost use Rattle.lft_load.specs.declared.fault.Part.TheVariants as part;
 ghost use Rattle.lft_log.specs.Told.{IsLog, IsSoon};
 ghost use Rattle.lft_monitor.specs.Lines.{HasFound, line_of_log, log_status};
-ghost use Rattle.lft_monitor.specs.Followed.{IsFollowed, IsRead, until_words};
+ghost use Rattle.lft_monitor.specs.Followed.{IsFollowed, IsKeptOn, IsReadKept, until_words};
 
 use crate::line::{line_of_final, unbroken_line};
 use lft_flat::Program;
@@ -24,6 +24,9 @@ use std::io::{ErrorKind, Read, Write};
 
 /// So many bytes are read at once at most.
 const CHUNK: usize = 1 << 18;
+
+/// No more bytes of a log are kept.
+const MOST: usize = 1 << 30;
 
 /// How a table is followed.
 #[derive(Clone, Copy)]
@@ -156,6 +159,22 @@ fn add<E: Write>(
     }
 }
 
+/// Puts a piece of a log behind what is kept of it. All is given up where that is more than may be kept, or
+/// memory is refused.
+fn keep(kept: &mut Option<Vec<u8>>, piece: &[u8])
+    ensures { IsKeptOn kept.old kept.new piece.now }
+{
+    let Some(mut bytes) = kept.take() else {
+        return;
+    };
+    if piece.len() > MOST || bytes.len() > MOST - piece.len() {
+        return;
+    }
+    if bytes.extend_from_slice(piece).is_ok() {
+        *kept = Some(bytes);
+    }
+}
+
 /// What the log of a reader shows, up to its end or to what is told before. At most a chunk is read at once.
 fn read_log<R: Read, E: Write>(
     alloc: Global,
@@ -164,11 +183,12 @@ fn read_log<R: Read, E: Write>(
     reader: &mut R,
     chunk: &mut [u8],
     following: Following,
+    kept: &mut Option<Vec<u8>>,
     errors: &mut E,
 ) -> Result<Final, Fault>
     requires { 0 < length chunk.old }
     ensures program { plan.new.program ≡ plan.old.program }
-    ensures read { IfOk result (IsRead plan.old following.until following.whole (R.remaining reader.old) (R.remaining reader.new)) }
+    ensures read { IfOk result (IsReadKept plan.old following.until following.whole kept.old kept.new (R.remaining reader.old) (R.remaining reader.new)) }
 {
     let Ok(mut log) = Log::new(alloc, plan, following.until) else {
         return Err(Fault::no_memory());
@@ -183,6 +203,7 @@ fn read_log<R: Read, E: Write>(
             }
             Ok(count) => {
                 let piece = &chunk[..count];
+                keep(kept, piece);
                 match add(&mut log, alloc, plan, piece, following.every, errors) {
                     Ok(None) => {}
                     Ok(Some(told)) => return Ok(Final::Soon(told)),
@@ -211,7 +232,8 @@ fn report<W: Write>(alloc: Global, program: &Program, told: Final, out: &mut W) 
 }
 
 /// Follows the log of a reader, and writes the line of what is told of it. Each `every` rows it writes how
-/// far they are judged to `errors`. The fault is that of `load`; or of a line of the log, once the rows
+/// far they are judged to `errors`. What is read is put behind `kept`, where something is kept: up to 2^30
+/// bytes, and as long as memory suffices. The fault is that of `load`; or of a line of the log, once the rows
 /// before it are judged: part `trace`, or `externals` of an event or a stop; `read` 1 `Failed` where the reader fails; `write` 1 `Failed` where
 /// a writer fails; `memory` 1. The path is for a fault alone.
 pub fn follow_log<R: Read, W: Write, E: Write>(
@@ -221,10 +243,11 @@ pub fn follow_log<R: Read, W: Write, E: Write>(
     path: &str,
     reader: &mut R,
     following: Following,
+    kept: &mut Option<Vec<u8>>,
     out: &mut W,
     errors: &mut E,
 ) -> Result<Final, Fault>
-    ensures followed { IfOk result (IsFollowed program.now externals.now following.until following.whole (R.remaining reader.old) (R.remaining reader.new) (W.contents out.old) (W.contents out.new)) }
+    ensures followed { IfOk result (IsFollowed program.now externals.now following.until following.whole kept.old kept.new (R.remaining reader.old) (R.remaining reader.new) (W.contents out.old) (W.contents out.new)) }
 {
     let mut plan = match load(alloc, program, externals) {
         Ok(plan) => plan,
@@ -234,7 +257,9 @@ pub fn follow_log<R: Read, W: Write, E: Write>(
         return Err(Fault::no_memory());
     };
     let chunk = chunk.as_mut_slice();
-    let told = match read_log(alloc, &mut plan, path, reader, chunk, following, errors) {
+    let told = match read_log(
+        alloc, &mut plan, path, reader, chunk, following, kept, errors,
+    ) {
         Ok(told) => told,
         Err(fault) => return Err(fault),
     };

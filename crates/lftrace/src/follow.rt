@@ -1,12 +1,11 @@
 //! `follow`: a trace that is judged while it is written.
 
-use crate::words::{FollowWords, JudgeWords};
+use crate::words::FollowWords;
 use crate::{await_text, end, say};
+use lft_explain_log::explain_log;
 use lft_files::{Failure, open_file, read_file};
-use lft_front::Part;
-use lft_monitor::{drain, follow_log, status_of_log};
-use lft_tag::Tag;
-use lft_until::explain_until;
+use lft_front::{Fault, Part};
+use lft_monitor::{Final, drain, follow_log, status_of_log};
 use std::alloc::Global;
 use std::io::{Read, Write};
 use std::process::ExitCode;
@@ -37,6 +36,51 @@ fn end_failed(rt: &HostRuntime, alloc: Global, failure: Failure) -> u8 {
     status
 }
 
+/// What is told of the trace of a reader, and behind the line of a broken rule the facts, where they are asked for.
+fn tell_reader<R: Read, W: Write>(
+    rt: &HostRuntime,
+    alloc: Global,
+    texts: (&[u8], &[u8]),
+    words: FollowWords<'_>,
+    reader: &mut R,
+    out: &mut W,
+) -> Result<Final, Fault> {
+    let (program, externals) = texts;
+    let path = words.log.unwrap_or("-");
+    let following = words.following;
+    let mut errors = rt.stderr();
+    if !words.explain {
+        return follow_log(
+            alloc,
+            program,
+            externals,
+            path,
+            reader,
+            following,
+            &mut None,
+            out,
+            &mut errors,
+        );
+    }
+    let explained = explain_log(
+        alloc,
+        program,
+        externals,
+        path,
+        reader,
+        following,
+        words.all,
+        out,
+        &mut errors,
+    )?;
+    if explained.is_unexplained {
+        let _ = eprintln!(rt;
+            "lftrace: the facts are not told: more was read than a table may have, or memory is refused"
+        );
+    }
+    Ok(explained.told)
+}
+
 /// Follows the trace of a reader, and gives the status. What is told is written before the rest is dropped.
 fn follow_reader<R: Read, W: Write>(
     rt: &HostRuntime,
@@ -46,18 +90,7 @@ fn follow_reader<R: Read, W: Write>(
     reader: &mut R,
     out: &mut W,
 ) -> u8 {
-    let path = words.log.unwrap_or("-");
-    let told = follow_log(
-        alloc,
-        texts.0,
-        texts.1,
-        path,
-        reader,
-        words.following,
-        out,
-        &mut rt.stderr(),
-    );
-    let status = match told {
+    let status = match tell_reader(rt, alloc, texts, words, reader, out) {
         Ok(told) => status_of_log(told),
         Err(fault) => end_failed(rt, alloc, Failure::from(fault)),
     };
@@ -105,46 +138,6 @@ pub(crate) fn end_followed<W: Write>(
     out: &mut W,
 ) -> ExitCode {
     match follow_files(rt, alloc, words, out) {
-        Ok(status) => ExitCode::from(status),
-        Err(failure) => ExitCode::from(end_failed(rt, alloc, failure)),
-    }
-}
-
-/// The status of what the trace of a file shows up to a tag. What explains it is written.
-fn explain_file<W: Write>(
-    rt: &HostRuntime,
-    alloc: Global,
-    words: JudgeWords<'_>,
-    until: Tag,
-    all: bool,
-    out: &mut W,
-) -> Result<u8, Failure> {
-    let program = read_file(rt, alloc, words.program)?;
-    let externals = read_file(rt, alloc, words.externals)?;
-    let trace = read_file(rt, alloc, words.trace)?;
-    let told = explain_until(
-        alloc,
-        program.as_slice(),
-        externals.as_slice(),
-        words.trace,
-        trace.as_slice(),
-        until,
-        all,
-        out,
-    )?;
-    Ok(status_of_log(told))
-}
-
-/// Judges a trace up to a tag, explains a broken rule, and gives the status.
-pub(crate) fn end_explained<W: Write>(
-    rt: &HostRuntime,
-    alloc: Global,
-    words: JudgeWords<'_>,
-    until: Tag,
-    all: bool,
-    out: &mut W,
-) -> ExitCode {
-    match explain_file(rt, alloc, words, until, all, out) {
         Ok(status) => ExitCode::from(status),
         Err(failure) => ExitCode::from(end_failed(rt, alloc, failure)),
     }

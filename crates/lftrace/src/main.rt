@@ -6,7 +6,7 @@ mod lower;
 mod names;
 mod words;
 
-use crate::follow::{end_explained, end_followed};
+use crate::follow::end_followed;
 use crate::lower::{end_lowered, write_lowers};
 use crate::names::{answer_by_names, end_refused, read_table};
 use crate::words::{Job, JudgeWords, PairWords, Question, RecordWords, read_words};
@@ -421,9 +421,6 @@ fn main(rt: HostRuntime) -> ExitCode {
         Job::ExplainProgram(path) => explain_program(&rt, alloc, path, &mut out),
         Job::Record(words) => record_files(&rt, alloc, words, &mut out),
         Job::Follow(words) => return end_followed(&rt, alloc, words, &mut out),
-        Job::ExplainUntil { words, until, all } => {
-            return end_explained(&rt, alloc, words, until, all, &mut out);
-        }
         Job::Lower(words) => return end_lowered(&rt, alloc, words, &mut out),
         Job::Show(path) => show_file(&rt, alloc, path, &mut out),
     };

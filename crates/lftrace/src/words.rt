@@ -37,7 +37,7 @@ and the facts that show it. With two traces the line of pair, with its status;
 behind differ .. an empty line and both answers. Of each part the first 60 lines
 are printed, and how many others there are; with --all all lines.
 With --until the line and the status are those of judge --until, and the facts are of
-the rows up to the one behind which the breach is sure.";
+the trace up to the line that they name.";
 
 const PAIR_HELP: &str = "\
 EXTERNALS has the header          kind,time,microstep,name,value
@@ -66,7 +66,10 @@ Printed: accepted runs=R tags=G (status 0); broken rule=N .. (status 1), as soon
 it is sure; odd line=L runs=R tags=G .. (status 4), where the rows up to line L
 can't be judged further, as too many events wait; unbroken runs=R
 tags=G time=T microstep=M at the end (status 3), where rows are missing or those at
-the last tag may break a rule: --whole tells; the same with --until (status 0).";
+the last tag may break a rule: --whole tells; the same with --until (status 0).
+With --explain an empty line and the facts that show it stand behind broken .., of the
+trace up to the line that they name. For them what is read is kept, as much as a table
+may have.";
 
 const SHOW_HELP: &str = "\
 PROGRAM is the path of a file; /dev/stdin is standard input.
@@ -119,6 +122,10 @@ pub struct FollowWords<'a> {
     pub following: Following,
     /// Whether what stands behind what is told is read too, and dropped.
     pub drain: bool,
+    /// Whether the facts behind a broken rule are told.
+    pub explain: bool,
+    /// Whether all of them are, and not the first of each part.
+    pub all: bool,
 }
 
 /// The words of `lower`: the path of the program, and that of the table of names, if it is wanted.
@@ -160,12 +167,6 @@ pub enum Job<'a> {
     Record(RecordWords<'a>),
     /// To judge a trace while it is written.
     Follow(FollowWords<'a>),
-    /// To judge a trace up to a tag, and to tell the facts behind a broken rule: all, or the first of them.
-    ExplainUntil {
-        words: JudgeWords<'a>,
-        until: Tag,
-        all: bool,
-    },
     /// To show the ports and the precedence of the program at a path.
     Show(&'a str),
     /// To print the core program of a whole one.
@@ -176,7 +177,7 @@ impl Job<'_> {
     /// Whether it tells people why on standard output.
     pub(crate) fn is_explained(self) -> bool {
         match self {
-            Job::ExplainBundle { .. } | Job::ExplainProgram(_) | Job::ExplainUntil { .. } => true,
+            Job::ExplainBundle { .. } | Job::ExplainProgram(_) => true,
             Job::Ask { question, .. } => matches!(
                 question,
                 Question::Explain { .. } | Question::ExplainPair { .. }
@@ -250,14 +251,17 @@ fn cover_command<'a>(alloc: Global) -> Result<Command<'a>, Error> {
     Ok(command)
 }
 
+fn all_arg<'a>(alloc: Global) -> Arg<'a> {
+    Arg::new(alloc, "all")
+        .long("all")
+        .action(ArgAction::SetTrue)
+        .help("print all lines of each part, and not the first 60")
+}
+
 fn explain_command<'a>(alloc: Global) -> Result<Command<'a>, Error> {
     let externals = path(alloc, "EXTERNALS", "the table of external inputs")
         .required(false)
         .requires_arg("TRACE")?;
-    let all = Arg::new(alloc, "all")
-        .long("all")
-        .action(ArgAction::SetTrue)
-        .help("print all lines of each part, and not the first 60");
     let command = Command::new(alloc, "explain")
         .about(
             "Judges a recorded trace, and tells the facts behind the first rule that it breaks; compares two, and tells where they differ; tells why a program is refused",
@@ -269,7 +273,7 @@ fn explain_command<'a>(alloc: Global) -> Result<Command<'a>, Error> {
         .arg(workers(alloc, JUDGES))?
         .arg(names(alloc, NAMED).requires_arg("TRACE")?)?
         .arg(until_arg(alloc, UNTIL).requires_arg("TRACE")?)?
-        .arg(all)?
+        .arg(all_arg(alloc))?
         .after_help(EXPLAIN_HELP);
     Ok(command)
 }
@@ -340,6 +344,10 @@ fn follow_command<'a>(alloc: Global) -> Result<Command<'a>, Error> {
         .long("drain")
         .action(ArgAction::SetTrue)
         .help("reads on behind what is told, so that the writer isn't stopped, and drops it");
+    let explain = Arg::new(alloc, "explain")
+        .long("explain")
+        .action(ArgAction::SetTrue)
+        .help("tells behind a broken rule the facts that show it, as `explain` does");
     let command = Command::new(alloc, "follow")
         .about("Judges a trace while it is written, and forgets the rows of finished tags")
         .arg(path(alloc, "PROGRAM", "the program's text"))?
@@ -349,6 +357,8 @@ fn follow_command<'a>(alloc: Global) -> Result<Command<'a>, Error> {
         .arg(whole)?
         .arg(every)?
         .arg(drain)?
+        .arg(explain)?
+        .arg(all_arg(alloc).requires_arg("explain")?)?
         .after_help(FOLLOW_HELP);
     Ok(command)
 }
@@ -461,22 +471,29 @@ fn until_alone<'a>(
     until(command, matches)
 }
 
-/// What the words of `judge` ask for. With `--until` the trace is followed: its rows behind that tag aren't judged.
+/// A trace of three files is followed up to a tag: its rows behind that tag aren't judged.
+fn follow_until(words: JudgeWords<'_>, until: Tag, explain: bool, all: bool) -> Job<'_> {
+    Job::Follow(FollowWords {
+        program: words.program,
+        externals: Some(words.externals),
+        log: Some(words.trace),
+        following: Following {
+            until: Some(until),
+            whole: false,
+            every: 0,
+        },
+        drain: false,
+        explain,
+        all,
+    })
+}
+
+/// What the words of `judge` ask for.
 fn judge_job<'a>(alloc: Global, matches: &ArgMatches<'a>) -> Result<Job<'a>, Error> {
     let words = judge_words(matches);
     let command = judge_command(alloc)?.bin_name("lftrace judge")?;
     match until_alone(command, matches)? {
-        Some(tag) => Ok(Job::Follow(FollowWords {
-            program: words.program,
-            externals: Some(words.externals),
-            log: Some(words.trace),
-            following: Following {
-                until: Some(tag),
-                whole: false,
-                every: 0,
-            },
-            drain: false,
-        })),
+        Some(until) => Ok(follow_until(words, until, false, false)),
         None => Ok(ask(matches, Question::Judge(words))),
     }
 }
@@ -505,11 +522,7 @@ fn explain_job<'a>(alloc: Global, matches: &ArgMatches<'a>) -> Result<Job<'a>, E
         return Err(command.error(ErrorKind::ArgumentConflict, words)?);
     }
     match until_alone(command, matches)? {
-        Some(until) => Ok(Job::ExplainUntil {
-            words: judge_words(matches),
-            until,
-            all,
-        }),
+        Some(until) => Ok(follow_until(judge_words(matches), until, true, all)),
         None => Ok(explain_all(matches, all)),
     }
 }
@@ -524,7 +537,12 @@ fn lower_words<'a>(matches: &ArgMatches<'a>) -> LowerWords<'a> {
 
 /// The words of `follow`.
 fn follow_words<'a>(alloc: Global, matches: &ArgMatches<'a>) -> Result<FollowWords<'a>, Error> {
-    let command = follow_command(alloc)?.bin_name("lftrace follow")?;
+    let mut command = follow_command(alloc)?.bin_name("lftrace follow")?;
+    if matches.get_flag("explain") && matches.get_flag("whole") {
+        let words =
+            "`--explain` and `--whole` don't go together: `lftrace explain` tells of a whole trace";
+        return Err(command.error(ErrorKind::ArgumentConflict, words)?);
+    }
     let until = until(command, matches)?;
     let every = matches.get_one::<u64>("every").unwrap_or(0);
     Ok(FollowWords {
@@ -537,6 +555,8 @@ fn follow_words<'a>(alloc: Global, matches: &ArgMatches<'a>) -> Result<FollowWor
             every,
         },
         drain: matches.get_flag("drain"),
+        explain: matches.get_flag("explain"),
+        all: matches.get_flag("all"),
     })
 }
 

@@ -1,0 +1,3 @@
+pub mod Cuts
+pub mod Reasons
+pub mod Explained

@@ -1,0 +1,180 @@
+//! The line of a log, and the facts behind a broken rule.
+
+ghost use Rattle.std.specs.Prelude.{◌≡◌, IfOk, IfSome};
+ghost use Rattle.lft_steps.specs.Fits.{RowsFit};
+ghost use Rattle.lft_follow.specs.Follows.{breach_of};
+ghost use Rattle.lft_explain_log.specs.Explained.{ExplainsCut, ExplainsFirst, IsExplained, IsLogCut, IsReasonOf, found_in};
+
+use crate::cut::cut_at;
+use crate::first::is_first_so_far;
+use crate::reasons::reasons;
+use lft_follow::{Ending, Found};
+use lft_load::{Fault, load, write_text};
+use lft_log::rows_of_log;
+use lft_model::{Breach, Plan};
+use lft_monitor::{Final, Following, Told, follow_log};
+use lft_steps::Rows;
+use lft_tag::NoMemory;
+use std::alloc::Global;
+use std::io::{Read, Write};
+
+/// What is told of a log, with what explains it.
+#[derive(Clone, Copy)]
+pub struct Explained {
+    pub told: Final,
+    /// A rule is broken, and what explains it can't be had: more was read than a table may have, or memory is
+    /// refused.
+    pub is_unexplained: bool,
+}
+
+/// The breach that is told, if one is.
+fn found_in(told: Final) -> Option<Found>
+    ensures { result ≡ found_in told }
+{
+    match told {
+        Final::Soon(Told::Broken(found)) => Some(found),
+        Final::AtEnd(Ending::Broken(found)) => Some(found),
+        _ => None,
+    }
+}
+
+/// The same breach, where its line is one of a table.
+fn breach_in_table(found: Found) -> Option<Breach>
+    ensures { IfSome result (λ breach. breach ≡ breach_of found) }
+{
+    if found.line > u64::from(u32::MAX) {
+        return None;
+    }
+    Some(Breach {
+        rule: found.rule,
+        tag: found.tag,
+        reaction: found.reaction,
+        row: found.line as u32,
+    })
+}
+
+/// The rows of a log up to the one behind which the breach is sure; the plan becomes the one that the log
+/// tells. None where they can't be read.
+fn cut_of(
+    alloc: Global,
+    plan: &mut Plan,
+    log: &[u8],
+    breach: Breach,
+) -> Result<Option<Rows>, NoMemory>
+    ensures cut { IfOk result (λ o. IfSome o (λ rows. IsLogCut plan.old log.now plan.new breach rows)) }
+    ensures fit { IfOk result (λ o. IfSome o (λ rows. RowsFit plan.new.program rows)) }
+{
+    let Some(rows) = rows_of_log(alloc, plan, log)? else {
+        return Ok(None);
+    };
+    cut_at(alloc, rows.as_slice(), breach)
+}
+
+/// What explains a breach of these rows, where it is their first.
+fn reasons_of_first(
+    alloc: Global,
+    plan: &Plan,
+    rows: &Rows,
+    breach: Breach,
+    all: bool,
+) -> Result<Vec<u8>, NoMemory>
+    requires fit { RowsFit plan.now.program rows.now }
+    ensures { IfOk result (λ text. ExplainsFirst all plan.now rows.now breach text.items) }
+{
+    if is_first_so_far(alloc, plan, rows, breach)? {
+        reasons(alloc, plan, rows, breach, all)
+    } else {
+        Ok(Vec::new(alloc))
+    }
+}
+
+/// What explains a breach that is told of a log. None where its rows can't be had.
+fn reasons_of_log(
+    alloc: Global,
+    plan: &mut Plan,
+    log: &[u8],
+    found: Found,
+    all: bool,
+) -> Result<Option<Vec<u8>>, NoMemory>
+    ensures { IfOk result (λ o. IfSome o (λ text. ExplainsCut all plan.old log.now (breach_of found) text.items)) }
+{
+    let Some(breach) = breach_in_table(found) else {
+        return Ok(None);
+    };
+    let Some(rows) = cut_of(alloc, plan, log, breach)? else {
+        return Ok(None);
+    };
+    let text = reasons_of_first(alloc, plan, &rows, breach, all)?;
+    Ok(Some(text))
+}
+
+/// What explains a breach that is told of two texts and a log, of which all may be kept. None where it can't
+/// be had.
+fn reasons_of_kept(
+    alloc: Global,
+    program: &[u8],
+    externals: &[u8],
+    kept: Option<Vec<u8>>,
+    found: Found,
+    all: bool,
+) -> Option<Vec<u8>>
+    ensures { IfSome result (λ text. IsReasonOf program.now externals.now kept found all text.items) }
+{
+    let Some(log) = kept else {
+        return None;
+    };
+    let Ok(mut plan) = load(alloc, program, externals) else {
+        return None;
+    };
+    match reasons_of_log(alloc, &mut plan, log.as_slice(), found, all) {
+        Ok(text) => text,
+        Err(_) => None,
+    }
+}
+
+/// Follows the log of a reader as `follow_log` does, and writes behind the line of a broken rule the facts that
+/// explain it: all, or the first lines of each part. They are of the rows up to the one behind which the
+/// breach is sure, as their heading says. The line is written before the facts are looked for. Nothing stands
+/// behind it where the breach isn't the first of these rows: a row that breaks rule 1 asks for a stop before
+/// an earlier row. For the facts what is read is kept, as far as `follow_log` keeps it. The faults are those
+/// of `follow_log`.
+pub fn explain_log<R: Read, W: Write, E: Write>(
+    alloc: Global,
+    program: &[u8],
+    externals: &[u8],
+    path: &str,
+    reader: &mut R,
+    following: Following,
+    all: bool,
+    out: &mut W,
+    errors: &mut E,
+) -> Result<Explained, Fault>
+    ensures { IfOk result (IsExplained program.now externals.now following.until following.whole all (R.remaining reader.old) (R.remaining reader.new) (W.contents out.old) (W.contents out.new)) }
+{
+    let mut kept = Some(Vec::new(alloc));
+    let told = match follow_log(
+        alloc, program, externals, path, reader, following, &mut kept, out, errors,
+    ) {
+        Ok(told) => told,
+        Err(fault) => return Err(fault),
+    };
+    let Some(found) = found_in(told) else {
+        return Ok(Explained {
+            told,
+            is_unexplained: false,
+        });
+    };
+    let Some(text) = reasons_of_kept(alloc, program, externals, kept, found, all) else {
+        return Ok(Explained {
+            told,
+            is_unexplained: true,
+        });
+    };
+    match write_text(text.as_slice(), out) {
+        Ok(()) => Ok(Explained {
+            told,
+            is_unexplained: false,
+        }),
+        Err(fault) => Err(fault),
+    }
+}
