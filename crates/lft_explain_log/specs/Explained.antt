@@ -29,7 +29,7 @@ found_in told = None
 
 -- the rows are those of the log up to the one behind which the breach is sure, for the plan that the log tells: a last line without its end may count
 abbrev pub IsLogCut : PlanParts → List ℕ → PlanParts → Breach → List Row → Type 0
-IsLogCut base log plan b rows = (t : List Row) × (rest : List ℕ) × (n : ℕ) × TellsPlan base (log ++ 10 ∷ []) plan t rest × IsCutBehind t b n × (rows ≡ take n t)
+IsLogCut base log plan b rows = (t : List Row) × (others : List (List (List ℕ))) × (rest : List ℕ) × (n : ℕ) × TellsPlan base (log ++ 10 ∷ []) plan t others rest × IsCutBehind t b n × (rows ≡ take n t)
 
 -- where the breach is the first of the rows, what explains it of them, else nothing
 abbrev pub ExplainsFirst : Bool → PlanParts → List Row → Breach → List ℕ → Type 0

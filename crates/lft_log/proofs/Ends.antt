@@ -73,3 +73,9 @@ lines_below true lines body same above are = subst AreLines (sym (same refl)) ar
 lines_below false lines body same above are =
     let h = above refl in
     subst AreLines (drop-append_seam h.0 body) (subst (λ (x : List ℕ). AreLines (drop (length h.0) x)) h.1 (lines_left lines (length h.0) are))
+
+-- a byte that is in neither of two texts isn't in one behind the other
+pub never_both : (c : ℕ) (a b : List ℕ) → ((i : ℕ) → slice_get a i ≢ Some c) → ((i : ℕ) → slice_get b i ≢ Some c) → (i : ℕ) → slice_get (a ++ b) i ≢ Some c
+never_both c [] b x y i = y i
+never_both c (d ∷ a) b x y zero = x zero
+never_both c (d ∷ a) b x y (suc i) = never_both c a b (λ j. x (suc j)) y i

@@ -11,10 +11,10 @@ use Rattle.lft_log.specs.declared.log.Log.{Log}
 use Rattle.lft_log.specs.declared.told.Final.TheVariants.{AtEnd}
 
 -- what is kept of a log whose header came
-pub tells_plan : (base plan : PlanParts) (until : Option Tag) (bytes rest left : List ℕ) (log : Log) (is : IsLogOf base plan until bytes rest log) → HoldSoFar base.program bytes is.parts left → TellsPlan base bytes plan (rows is.parts) left
-tells_plan base plan until bytes rest left log is held = record { parts = is.parts; held = held; rows_are = refl; timely = is.timely; told = is.told }
+pub tells_plan : (base plan : PlanParts) (until : Option Tag) (bytes rest left : List ℕ) (log : Log) (is : IsLogOf base plan until bytes rest log) → HoldSoFar base.program bytes is.lines [] left → TellsPlan base bytes plan (rows is.lines) [] left
+tells_plan base plan until bytes rest left log is held = record { lines = is.lines; held = held; rows_are = refl; timely = is.timely; told = is.told }
 
-pub final_of : (base plan : PlanParts) (until : Option Tag) (whole : Bool) (bytes rest : List ℕ) (log : Log) (is : IsLogOf base plan until bytes rest log) → HoldSoFar base.program bytes is.parts [] → (e : Ending) → IsEnding plan whole (rows is.parts) e → IsFinal base until whole bytes (AtEnd e)
-final_of base plan until whole bytes rest log is held (Accepted c) so = (plan, rows is.parts, tells_plan base plan until bytes rest [] log is held, so)
-final_of base plan until whole bytes rest log is held (Unbroken r) so = (plan, rows is.parts, [], tells_plan base plan until bytes rest [] log is held, λ i e. absurd (cc e), so)
-final_of base plan until whole bytes rest log is held (Broken b) so = (so.0, (plan, rows is.parts, tells_plan base plan until bytes rest [] log is held, so.1))
+pub final_of : (base plan : PlanParts) (until : Option Tag) (whole : Bool) (bytes rest : List ℕ) (log : Log) (is : IsLogOf base plan until bytes rest log) → HoldSoFar base.program bytes is.lines [] [] → (e : Ending) → IsEnding plan whole (rows is.lines) e → IsFinal base until whole bytes (AtEnd e)
+final_of base plan until whole bytes rest log is held (Accepted c) so = (plan, rows is.lines, tells_plan base plan until bytes rest [] log is held, so)
+final_of base plan until whole bytes rest log is held (Unbroken r) so = (plan, rows is.lines, [], tells_plan base plan until bytes rest [] log is held, λ i e. absurd (cc e), so)
+final_of base plan until whole bytes rest log is held (Broken b) so = (so.0, (plan, rows is.lines, tells_plan base plan until bytes rest [] log is held, so.1))

@@ -1,17 +1,17 @@
--- The rows of the first lines, up to one that is none.
-use Rattle.std.proofs.Common.{◌≡◌, ◌+◌, ◌-◌, ◌≤◌, ◌∙◌, ℕ, zero, suc, List, [], ◌∷◌, ◌++◌, Some, None, Vec, inr, length, take, drop, slice_range, refl, sym, ap, subst, arith}
-use Rattle.std.proofs.Math.Seq.{take-add}
-use Rattle.std.proofs.lemmas.List.{append_assoc, drop-drop, length-drop, length-take-le, take-append-drop, take-take, take_all}
+-- What the first of whole lines tell.
+use Rattle.std.proofs.Common.{◌≡◌, ◌+◌, ◌-◌, ◌<◌, ◌≤◌, ◌∙◌, inl, inr, ℕ, zero, suc, List, [], ◌∷◌, None, Option, IfSome, length, take, drop, slice_range, refl, sym, ap, subst, arith}
+use Rattle.std.proofs.lemmas.List.{length-drop, length-take, take-take, take_all}
 use Rattle.lft_flat.specs.Parts.{Parts}
-use Rattle.std.specs.declared.alloc.Global.{Global}
-use Rattle.lft_trace.specs.Parts.{EndsLine}
-use Rattle.lft_steps.specs.declared.row.Row.{Row}
+use Rattle.lft_trace.specs.LogTables.{InputsFit, ReadsLines, StopsAt}
+use Rattle.lft_trace.specs.Parts.{EndsLine, HasNoQuote}
+use Rattle.lft_trace.specs.declared.log_table.LineFault.{LineFault}
+use Rattle.lft_trace.specs.declared.log_table.LogLines.{LogLines}
 use Rattle.lft_steps.specs.Fits.{RowsFit}
-use Rattle.lft_log.specs.Logs.{AreLines, AreRowLines, IsFront, IsRowFault}
+use Rattle.lft_log.specs.Logs.{AreLines, IsFront, IsRecordFault, inputs, records_below, rows}
 use Rattle.lft_log.specs.declared.fault.LogFault.{LogFault}
-use Rattle.lft_log.specs.declared.fault.LogFault.TheVariants.{NoHeader, NoRow, NotPlain, LongLine, TooManyRows, NoInput, NotPlainInput, LateInput, InputAgain, ManyLater, TooManyInputs, NoMemory}
 use Rattle.lft_log.specs.declared.front.Front.{Front}
-use Rattle.lft_log.proofs.Ends.{lines_both, lines_left}
+use Rattle.lft_log.proofs.Ends.{lines_left}
+use Rattle.lft_log.proofs.Behind.{length_inputs}
 
 pub rest_from : (text : List ℕ) (n : ℕ) → slice_range text n (length text) ≡ drop n text
 rest_from text n = let l : length (drop n text) ≤ length text - n = omega (arith, length-drop n text) in take_all (length text - n) (drop n text) l
@@ -19,91 +19,72 @@ rest_from text n = let l : length (drop n text) ≤ length text - n = omega (ari
 pub range_take : {X : Type 0} (xs : List X) (n : ℕ) → slice_range xs 0 n ≡ take n xs
 range_take xs n = let e : n - 0 ≡ n = omega arith in ap (λ (k : ℕ). take k xs) e
 
--- whole lines up to a place, with the line there
-module _ (text : List ℕ) (a n : ℕ) (within : a ≤ length text) (short : n ≤ length (slice_range text a (length text))) where
-  pub line_within : a + n ≤ length text
-  line_within = let l : length (drop a text) ≡ length text - a = length-drop a text in let s : n ≤ length (drop a text) = subst (λ (x : List ℕ). n ≤ length x) (rest_from text a) short in omega arith
+pub all_dropped : {X : Type 0} (xs : List X) (n : ℕ) → n ≡ length xs → drop n xs ≡ []
+all_dropped {X} [] n e = none_left n
+  where
+    none_left : (n : ℕ) → (let ys : List X = [] in drop n ys ≡ [])
+    none_left zero = refl
+    none_left (suc n) = refl
+all_dropped (x ∷ xs) zero e = absurd (omega arith)
+all_dropped (x ∷ xs) (suc n) e = all_dropped xs n (omega arith)
 
-  pub line_more : AreLines (take a text) → EndsLine (take n (slice_range text a (length text))) → AreLines (take (a + n) text)
-  line_more before ends = subst AreLines (sym (take-add a n text)) (lines_both (take a text) (take n (drop a text)) before (inr (subst (λ (x : List ℕ). EndsLine (take n x)) (rest_from text a) ends)))
+-- what is left of whole lines
+pub left_lines : (text : List ℕ) (n : ℕ) → AreLines text → AreLines (slice_range text n (length text))
+left_lines text n are = subst AreLines (sym (rest_from text n)) (lines_left text n are)
 
-  pub line_left : AreLines (drop a text) → AreLines (drop (a + n) text)
-  line_left rest = subst AreLines (drop-drop n a text) (lines_left (drop a text) n rest)
+-- whole lines from a place on
+pub lines_there : (text : List ℕ) (a n b : ℕ) → n ≤ length (slice_range text a b) → AreLines (take n (slice_range text a b)) → AreLines (slice_range text a (a + n))
+lines_there text a n b within are =
+    let long = length-take (b - a) (drop a text) in
+    let up : n ≤ b - a = omega (arith, long, within) in
+    let e : a + n - a ≡ n = omega arith in
+    subst (λ (k : ℕ). AreLines (take k (drop a text))) (sym e) (subst AreLines (take-take n (b - a) (drop a text) up) are)
 
--- a part of what is left, and what is left behind it
-pub split_left : (text : List ℕ) (a n : ℕ) → slice_range (slice_range text a (length text)) 0 n ++ drop (a + n) text ≡ drop a text
-split_left text a n = ap (λ (x : List ℕ). x ++ drop (a + n) text) (range_take (slice_range text a (length text)) n ∙ ap (λ (x : List ℕ). take n x) (rest_from text a)) ∙ ap (λ (x : List ℕ). take n (drop a text) ++ x) (sym (drop-drop n a text)) ∙ take-append-drop n (drop a text)
+pub nothing : {X : Type 0} (xs : List X) → length xs ≡ 0 → xs ≡ []
+nothing [] e = refl
+nothing (x ∷ xs) e = absurd (omega arith)
 
--- a line from a place on
-pub line_there : (text : List ℕ) (a n : ℕ) → EndsLine (take n (slice_range text a (length text))) → EndsLine (slice_range text a (a + n))
-line_there text a n ends = let e : a + n - a ≡ n = omega arith in subst (λ (k : ℕ). EndsLine (take k (drop a text))) (sym e) (subst (λ (x : List ℕ). EndsLine (take n x)) (rest_from text a) ends)
+-- lines that aren't nothing end
+pub some_lines : (text : List ℕ) → AreLines text → 0 < length text → EndsLine text
+some_lines text (inl e) some = let none : length text ≡ 0 = ap (λ (x : List ℕ). length x) e in absurd (omega (arith, none, some))
+some_lines text (inr ends) some = ends
 
--- a fault of a text's first line is one of a longer text's
-pub fault_before : (program : Parts) (text more : List ℕ) (number : ℕ) (f : LogFault) → IsRowFault program text number f → IsRowFault program (text ++ more) number f
-fault_before program text more number (NoRow e line) x = let b = x.1 in (x.0, (b.0, b.1 ++ more, ap (λ (y : List ℕ). y ++ more) b.2 ∙ append_assoc b.0 b.1 more, b.3, b.4))
-fault_before program text more number (NoInput e line) x = absurd x
-fault_before program text more number (LateInput line) x = absurd x
-fault_before program text more number (InputAgain line) x = absurd x
-fault_before program text more number (ManyLater line) x = absurd x
-fault_before program text more number NoHeader x = tt
-fault_before program text more number (NotPlain line) x = tt
-fault_before program text more number (LongLine line) x = tt
-fault_before program text more number TooManyRows x = tt
-fault_before program text more number (NotPlainInput line) x = tt
-fault_before program text more number TooManyInputs x = tt
-fault_before program text more number NoMemory x = tt
+-- a fault of the next record, or one behind the lines that are read
+abbrev pub IsNextFault : Option LineFault → ℕ → ℕ → LogFault → Type 0
+IsNextFault fault row input f = (program : Parts) (records : List (List (List ℕ))) → StopsAt program records fault → IsRecordFault program records row input f
 
--- the rows before a line that is none
-pub front_before : (program : Parts) (lines : List ℕ) (before to number : ℕ) (front : Front) (f : LogFault) → front.end ≤ length lines → AreRowLines program (slice_range lines 0 front.end) front.rows.items → RowsFit program front.rows.items → front.fault ≡ Some f → number ≡ before + length front.rows.items + 2 → IsRowFault program (slice_range lines front.end to) number f → IsFront program lines before front
-front_before program lines before to number front f within held fit is counted of = record {
+pub front_is : (program : Parts) (text : List ℕ) (rows_before inputs_before plain : ℕ) (read : LogLines) (front : Front) (row input : ℕ)
+    → plain ≤ length text → AreLines (take plain text) → HasNoQuote (take plain text)
+    → ReadsLines program (records_below (slice_range text 0 plain)) read → RowsFit program read.rows.items → InputsFit program read.inputs.items
+    → front.rows ≡ read.rows → front.inputs ≡ read.inputs
+    → (front.fault ≡ None → (read.fault ≡ None) × (length (slice_range text plain (length text)) ≡ 0))
+    → IfSome front.fault (IsNextFault read.fault row input)
+    → row ≡ rows_before + length read.rows.items + 2 → input ≡ inputs_before + length read.inputs.items + 2
+    → IsFront program text rows_before inputs_before front
+front_is program text rows_before inputs_before plain read front row input within are quiet reads rows_fit inputs_fit rows_same inputs_same all none row_is input_is = record {
+  plain = plain;
   within = within;
-  held = subst (λ (x : List ℕ). AreRowLines program x front.rows.items) (range_take lines front.end) held;
-  fit = fit;
-  all = λ none. absurd (cc (is, none));
-  none = λ g named.
-      let same : f ≡ g = cc (is, named) in
-      let longer = fault_before program (slice_range lines front.end to) (drop (to - front.end) (drop front.end lines)) number f of in
-      let whole = subst (λ (x : List ℕ). IsRowFault program x number f) (take-append-drop (to - front.end) (drop front.end lines)) longer in
-      subst (λ (h : LogFault). IsRowFault program (drop front.end lines) (before + length front.rows.items + 2) h) same (subst (λ (n : ℕ). IsRowFault program (drop front.end lines) n f) counted whole);
+  are = are;
+  quiet = quiet;
+  lines = reads.lines;
+  first = reads.first;
+  others = reads.rest;
+  whole = ap records_below (sym (range_take text plain)) ∙ reads.whole;
+  each = reads.each;
+  rows_are = ap (λ v. v.items) rows_same ∙ reads.rows_are;
+  inputs_are = ap (λ v. v.items) inputs_same ∙ reads.inputs_are;
+  rows_fit = subst (λ v. RowsFit program v.items) (sym rows_same) rows_fit;
+  inputs_fit = subst (λ v. InputsFit program v.items) (sym inputs_same) inputs_fit;
+  all = λ e.
+      let a = all e in
+      let l : length (slice_range text plain (length text)) ≡ length text - plain = ap (λ (x : List ℕ). length x) (rest_from text plain) ∙ length-drop plain text in
+      let whole = a.1 in
+      let end : plain ≡ length text = omega (arith, l, whole, within) in
+      (subst (λ (o : Option LineFault). StopsAt program reads.rest o) a.0 reads.stops, end);
+  none = λ f named.
+      let so = subst (λ (o : Option LogFault). IfSome o (IsNextFault read.fault row input)) named none in
+      let counted : input ≡ inputs_before + length (inputs reads.lines) + 2 = (let long = ap (λ xs. length xs) reads.inputs_are ∙ length_inputs 0 reads.lines in omega (arith, long, input_is)) in
+      let long_rows = ap (λ xs. length xs) reads.rows_are in
+      let numbered : row ≡ rows_before + length (rows reads.lines) + 2 = omega (arith, long_rows, row_is) in
+      subst (λ (n : ℕ). IsRecordFault program reads.rest n (inputs_before + length (inputs reads.lines) + 2) f) numbered (subst (λ (n : ℕ). IsRecordFault program reads.rest row n f) counted (so program reads.rest reads.stops));
 }
-
-drop_front : (n : ℕ) (a b : List ℕ) → n ≤ length a → drop n (a ++ b) ≡ drop n a ++ b
-drop_front zero a b h = refl
-drop_front (suc n) [] b h = absurd (omega arith)
-drop_front (suc n) (c ∷ a) b h = drop_front n a b (omega arith)
-
-module _ (program : Parts) (lines : List ℕ) (before plain : ℕ) (front : Front) (within : plain ≤ length lines) (given : IsFront program (slice_range lines 0 plain) before front) where
-  is : IsFront program (take plain lines) before front
-  is = subst (λ (x : List ℕ). IsFront program x before front) (range_take lines plain) given
-
-  long : length (take plain lines) ≡ plain
-  long = length-take-le plain lines within
-
-  up : front.end ≤ plain
-  up = subst (λ (n : ℕ). front.end ≤ n) long is.within
-
-  held : AreRowLines program (take front.end lines) front.rows.items
-  held = subst (λ (x : List ℕ). AreRowLines program x front.rows.items) (take-take front.end plain lines up) is.held
-
-  parted : drop front.end (take plain lines) ++ drop plain lines ≡ drop front.end lines
-  parted = sym (ap (drop front.end) (sym (take-append-drop plain lines)) ∙ drop_front front.end (take plain lines) (drop plain lines) is.within)
-
-  -- a front of the first lines is one of all lines, where it has a fault or they are all
-  pub front_longer : (front.fault ≡ None → plain ≡ length lines) → IsFront program lines before front
-  front_longer all = record {
-    within = omega (arith, up, within);
-    held = held;
-    fit = is.fit;
-    all = λ none. is.all none ∙ long ∙ all none;
-    none = λ f named. subst (λ (x : List ℕ). IsRowFault program x (before + length front.rows.items + 2) f) parted (fault_before program (drop front.end (take plain lines)) (drop plain lines) (before + length front.rows.items + 2) f (is.none f named));
-  }
-
-  -- the same with the fault that the next line isn't plain
-  pub front_not_plain : (line : ℕ) (new : Front) → new.rows ≡ front.rows → new.end ≡ front.end → new.fault ≡ Some (NotPlain line) → IsFront program lines before new
-  front_not_plain line new rows end fault = record {
-    within = let w : front.end ≤ length lines = omega (arith, up, within) in subst (λ (n : ℕ). n ≤ length lines) (sym end) w;
-    held = subst (λ (n : ℕ). AreRowLines program (take n lines) new.rows.items) (sym end) (subst (λ r. AreRowLines program (take front.end lines) r) (sym (ap (λ (v : Vec Row Global). v.items) rows)) held);
-    fit = subst (λ r. RowsFit program r) (sym (ap (λ (v : Vec Row Global). v.items) rows)) is.fit;
-    all = λ none. absurd (cc (fault, none));
-    none = λ f named. let same : NotPlain line ≡ f = cc (fault, named) in subst (λ (g : LogFault). IsRowFault program (drop new.end lines) (before + length new.rows.items + 2) g) same tt;
-  }

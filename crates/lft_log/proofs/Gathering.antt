@@ -1,4 +1,4 @@
--- Rows of a log that are read, over more parts.
+-- Rows of a log that are read, over more lines.
 use Rattle.std.proofs.Common.{◌≡◌, ◌+◌, ◌-◌, ◌≤◌, ◌∙◌, ⊎_elim, ℕ, Bool, true, false, List, [], ◌∷◌, ◌++◌, Option, Some, None, length, take, drop, slice_range, refl, sym, ap, subst, arith, length-append}
 use Rattle.std.specs.Prelude.{MatchOption, is_some}
 use Rattle.std.proofs.lemmas.Bool.{false≢true}
@@ -8,16 +8,19 @@ use Rattle.lft_flat.specs.Parts.{Parts}
 use Rattle.lft_steps.specs.declared.row.Row.{Row}
 use Rattle.lft_steps.specs.Fits.{RowsFit}
 use Rattle.lft_steps.specs.Inputs.{InOrder}
+use Rattle.lft_trace.specs.LogTables.{inputs_behind}
+use Rattle.lft_trace.specs.declared.log_table.Line.{Line}
 use Rattle.lft_model.specs.Plans.{PlanParts}
-use Rattle.lft_follow.specs.Follows.{IsFollowerOf, IsPassed}
-use Rattle.lft_log.specs.Logs.{AreRowLines, HoldSoFar, IsFront, IsHead, IsInputLine, InputLine, Part, RowLines, inputs, tag_of}
-use Rattle.lft_log.specs.Told.{HasRead, HasTold, IsReadOn, IsReadSoFar, TellsPlan}
+use Rattle.lft_model.proofs.Places.{slice_get_take}
+use Rattle.lft_follow.specs.Follows.{IsFollowerOf}
+use Rattle.lft_log.specs.Logs.{IsFront, IsHead, rows}
+use Rattle.lft_log.specs.Told.{HasRead, IsReadOn, IsReadSoFar, IsTaken, TellsPlan}
 use Rattle.lft_log.specs.declared.front.Front.{Front}
-use Rattle.lft_log.specs.declared.input.Input.{Input}
 use Rattle.lft_log.specs.declared.rows.LogRows.{LogRows}
+use Rattle.lft_log.specs.declared.telling.Taken.{Taken}
 use Rattle.lft_log.proofs.Fronts.{rest_from}
-use Rattle.lft_log.proofs.Holding.{header_there, hold_part, inputs_pushed, inputs_same, rows_pushed, rows_same, timely_push}
-use Rattle.lft_log.proofs.Keeping.{all_dropped}
+use Rattle.lft_log.proofs.Holding.{header_there}
+use Rattle.lft_log.proofs.Taking.{grown_tells, tells_all}
 use Rattle.lft_log.proofs.Plans.{told_none}
 
 -- a part of what is left, and what is left behind it
@@ -30,6 +33,16 @@ split_at text behind a b up = sym (append_assoc (slice_range text a b) (drop b t
     both : take (b - a) (drop a text) ++ drop b text ≡ drop a text
     both = ap (λ (x : List ℕ). take (b - a) (drop a text) ++ x) left ∙ take-append-drop (b - a) (drop a text)
 
+-- the first of rows fit
+first_short : (t : List Row) (n : ℕ) → length (slice_range t 0 n) ≤ length t
+first_short t n = let l = length-append (take (n - 0) t) (drop (n - 0) t) in let e = ap (λ (s : List Row). length s) (take-append-drop (n - 0) t) in omega (arith, l, e)
+
+pub fit_first : (program : Parts) (t : List Row) (n : ℕ) → RowsFit program t → RowsFit program (slice_range t 0 n)
+fit_first program t n fit = record {
+  few = let l = first_short t n in let m = fit.few in omega (arith, l, m);
+  each = λ i row q. fit.each i row (slice_get_take (n - 0) t i row q).1;
+}
+
 -- more rows fit
 pub fit_none : (program : Parts) (t : List Row) → t ≡ [] → RowsFit program t
 fit_none program t e = subst (λ (u : List Row). RowsFit program u) (sym e) (record { few = omega arith; each = λ i row q. absurd (cc) })
@@ -41,58 +54,43 @@ fit_more program t more new x y few e = subst (λ (u : List Row). RowsFit progra
     many = let z : length (t ++ more) ≡ length t + length more = length-append t more in let w : length t ≤ 4000000 = x.few in omega (arith, few)
 
 -- the header came
-pub tells_none : (base : PlanParts) (log body more : List ℕ) (t : List Row) → InOrder base.externals.events → (head : List ℕ) × (log ≡ head ++ body) × IsHead head → t ≡ [] → TellsPlan base (log ++ more) base t (body ++ more)
+pub tells_none : (base : PlanParts) (log body more : List ℕ) (t : List Row) → InOrder base.externals.events → (head : List ℕ) × (log ≡ head ++ body) × IsHead head → t ≡ [] → TellsPlan base (log ++ more) base t [] (body ++ more)
 tells_none base log body more t order (head, e, is) none = record {
-  parts = [];
+  lines = [];
   held = header_there base.program (log ++ more) (log ++ more) head (body ++ more) refl (ap (λ (x : List ℕ). x ++ more) e ∙ append_assoc head body more) is;
   rows_are = sym none;
   timely = tt;
   told = told_none base order;
 }
 
--- behind come lines of rows
-pub tells_rows : (base plan : PlanParts) (bytes lines behind : List ℕ) (t new : List Row) (before : ℕ) (front : Front) → TellsPlan base bytes plan t (lines ++ behind) → IsFront plan.program lines before front → new ≡ t ++ front.rows.items → TellsPlan base bytes plan new (drop front.end lines ++ behind)
-tells_rows base plan bytes lines behind t new before front is fronts e = record {
-  parts = is.parts ++ part ∷ [];
-  held = hold_part base.program bytes (drop front.end lines ++ behind) is.parts part (subst (λ (x : List ℕ). HoldSoFar base.program bytes is.parts x) parted is.held) (subst (λ (p : Parts). AreRowLines p text u) is.told.program fronts.held);
-  rows_are = rows_pushed is.parts text u ∙ ap (λ (s : List Row). s ++ u) is.rows_are ∙ sym e;
-  timely = timely_push [] is.parts part is.timely tt;
-  told = subst (λ i. HasTold base i plan) (sym (inputs_same is.parts text u)) is.told;
-}
-  where
-    text : List ℕ
-    text = take front.end lines
-
-    u : List Row
-    u = front.rows.items
-
-    part : Part
-    part = RowLines text u
-
-    parted : lines ++ behind ≡ text ++ (drop front.end lines ++ behind)
-    parted = sym (sym (append_assoc text (drop front.end lines) behind) ∙ ap (λ (x : List ℕ). x ++ behind) (take-append-drop front.end lines))
-
--- and they fit
-pub rows_read : (base plan : PlanParts) (bytes lines behind : List ℕ) (r : LogRows) (new : List Row) (before : ℕ) (front : Front) → IsReadSoFar base plan bytes (lines ++ behind) r → IsFront plan.program lines before front → new ≡ r.rows.items ++ front.rows.items → length front.rows.items ≤ 4000000 - length r.rows.items → TellsPlan base bytes plan new (drop front.end lines ++ behind) × RowsFit plan.program new
-rows_read base plan bytes lines behind r new before front is fronts e few = (tells_rows base plan bytes lines behind r.rows.items new before front is.tells fronts e, fit_more plan.program r.rows.items front.rows.items new is.fit fronts.fit few e)
-
 pub none_is : {X : Type 0} (o : Option X) → is_some o ≡ false → o ≡ None
 none_is None e = refl
 none_is (Some x) e = absurd (false≢true (sym e))
 
--- all of them
-pub tells_all : (base plan : PlanParts) (bytes lines behind : List ℕ) (t : List Row) (end : ℕ) → end ≡ length lines → TellsPlan base bytes plan t (drop end lines ++ behind) → TellsPlan base bytes plan t behind
-tells_all base plan bytes lines behind t end e is = subst (λ (x : List ℕ). TellsPlan base bytes plan t (x ++ behind)) (all_dropped lines end e) is
+-- the first lines of a front are taken behind those that are read
+module _ (base old new : PlanParts) (bytes text behind : List ℕ) (r : LogRows) (rows_before inputs_before : ℕ) (front : Front) (taken : Taken) (t : List Row) (so : IsReadSoFar base old bytes (text ++ behind) r) (given : IsFront old.program text rows_before inputs_before front) (program : new.program ≡ old.program) (are : (s : List Row) (lines : List Line) → IsFollowerOf old s r.follower → front.rows.items ≡ rows lines → front.inputs.items ≡ inputs_behind 0 lines → IsTaken old new s inputs_before front lines taken) (few : length front.rows.items ≤ 4000000 - length r.rows.items) (e : t ≡ r.rows.items ++ slice_range front.rows.items 0 taken.rows) where
+  fronts : IsFront base.program text rows_before inputs_before front
+  fronts = subst (λ (p : Parts). IsFront p text rows_before inputs_before front) so.tells.told.program given
 
--- behind comes the line of an external input
-pub tells_input : (base plan after : PlanParts) (bytes line behind : List ℕ) (t : List Row) (input : Input) → TellsPlan base bytes plan t (line ++ behind) → IsInputLine plan.program input line → ((base : PlanParts) (before : List Input) → HasTold base before plan → HasTold base (before ++ input ∷ []) after) → ¬ IsPassed t (tag_of input) → TellsPlan base bytes after t behind
-tells_input base plan after bytes line behind t input is tells told timely = record {
-  parts = is.parts ++ InputLine line input ∷ [];
-  held = hold_part base.program bytes behind is.parts (InputLine line input) is.held (subst (λ (p : Parts). IsInputLine p input line) is.told.program tells);
-  rows_are = rows_same is.parts line input ∙ is.rows_are;
-  timely = timely_push [] is.parts (InputLine line input) is.timely (subst (λ (s : List Row). ¬ IsPassed s (tag_of input)) (sym is.rows_are) timely, tt);
-  told = subst (λ i. HasTold base i after) (sym (inputs_pushed is.parts line input)) (told base (inputs is.parts) is.told);
-}
+  takes : IsTaken old new (rows so.tells.lines) inputs_before front fronts.lines taken
+  takes = are (rows so.tells.lines) fronts.lines (subst (λ (s : List Row). IsFollowerOf old s r.follower) (sym so.tells.rows_are) so.follower) fronts.rows_are fronts.inputs_are
+
+  whole : t ≡ rows so.tells.lines ++ slice_range front.rows.items 0 taken.rows
+  whole = e ∙ ap (λ (s : List Row). s ++ slice_range front.rows.items 0 taken.rows) (sym so.tells.rows_are)
+
+  pub rows_fit : RowsFit new.program t
+  rows_fit = subst (λ (p : Parts). RowsFit p t) (sym program) (fit_more old.program r.rows.items (slice_range front.rows.items 0 taken.rows) t so.fit (fit_first old.program front.rows.items taken.rows given.rows_fit) fewer e)
+    where
+      fewer : length (slice_range front.rows.items 0 taken.rows) ≤ 4000000 - length r.rows.items
+      fewer =
+          let l : length (slice_range front.rows.items 0 taken.rows) ≤ length front.rows.items = first_short front.rows.items taken.rows in
+          omega (arith, l, few)
+
+  pub rows_read : ((others : List (List (List ℕ))) × (rest : List ℕ) × TellsPlan base bytes new t others rest) × RowsFit new.program t
+  rows_read = ((_, _, grown_tells base old new bytes text behind so.tells.lines rows_before inputs_before front taken so.tells.held fronts takes so.tells.timely so.tells.told t whole), rows_fit)
+
+  pub all_read : taken.fault ≡ None → TellsPlan base bytes new t [] behind
+  all_read none = tells_all base old new bytes text behind so.tells.lines rows_before inputs_before front taken so.tells.held fronts takes so.tells.timely so.tells.told none t whole
 
 -- nothing is read yet
 pub read_none : (base : PlanParts) (log body more : List ℕ) (r : LogRows) → InOrder base.externals.events → (head : List ℕ) × (log ≡ head ++ body) × IsHead head → r.rows.items ≡ [] → IsFollowerOf base [] r.follower → IsReadSoFar base base (log ++ more) (body ++ more) r
@@ -103,7 +101,7 @@ read_none base log body more r order below none follower = record {
 }
 
 pub has_read : (base plan : PlanParts) (bytes rest : List ℕ) (r : LogRows) → IsReadSoFar base plan bytes rest r → HasRead base plan bytes r
-has_read base plan bytes rest r is = ((rest, is.tells), is.fit)
+has_read base plan bytes rest r is = (([], rest, is.tells), is.fit)
 
 -- whether more is to be read or not
 pub still_read : (base plan : PlanParts) (bytes rest : List ℕ) (r : LogRows) (on : Bool) → IsReadOn on base plan bytes rest r → HasRead base plan bytes r

@@ -1,182 +1,114 @@
 -- What is kept of a table, over more lines and over more bytes.
-use Rattle.std.proofs.Common.{◌≡◌, ◌+◌, ◌∙◌, ℕ, zero, suc, Bool, true, false, List, [], ◌∷◌, ◌++◌, Option, Some, None, length, take, drop, refl, sym, ap, subst, arith}
+use Rattle.std.proofs.Common.{◌≡◌, ◌+◌, ◌∙◌, ℕ, Bool, true, false, List, [], ◌∷◌, ◌++◌, Option, Some, None, length, take, drop, slice_range, refl, sym, ap, subst, arith}
 use Rattle.std.specs.Prelude.{MatchOption}
 use Rattle.std.proofs.lemmas.List.{append_assoc, append-nil, length-append, take-append-drop}
 use Rattle.std.proofs.lemmas.Bool.{false≢true}
 use Rattle.lft_tag.specs.declared.Tag.{Tag}
 use Rattle.lft_flat.specs.Parts.{Parts}
-use Rattle.lft_trace.specs.Parts.{EndsLine}
+use Rattle.lft_trace.specs.ExternalTables.{IsEntry}
+use Rattle.lft_trace.specs.LogTables.{IsNoLine, inputs_behind}
+use Rattle.lft_trace.specs.declared.external_table.Entry.TheVariants.{Happens}
+use Rattle.lft_trace.specs.declared.log_table.Line.{Line}
+use Rattle.lft_trace.specs.declared.log_table.LineFault.TheVariants as none
 use Rattle.lft_steps.specs.declared.row.Row.{Row}
 use Rattle.lft_model.specs.Plans.{PlanParts}
 use Rattle.lft_follow.specs.declared.follower.Follower.{Follower}
-use Rattle.lft_follow.specs.Follows.{IsFollowerOf, IsPassed}
+use Rattle.lft_follow.specs.Follows.{IsFollowerOf}
 use Rattle.lft_log.specs.declared.asked.Asked.{Asked}
 use Rattle.lft_log.specs.declared.fault.LogFault.{LogFault}
 use Rattle.lft_log.specs.declared.front.Front.{Front}
 use Rattle.lft_log.specs.declared.fault.LogFault.TheVariants.{NoHeader, NoRow, NotPlain, LongLine, TooManyRows, NoInput, NotPlainInput, LateInput, InputAgain, ManyLater, TooManyInputs, NoMemory}
-use Rattle.lft_log.specs.declared.input.Input.{Input}
-use Rattle.lft_log.specs.declared.input.Input.TheVariants.{Event}
 use Rattle.lft_log.specs.declared.log.Log.{Log}
+use Rattle.lft_log.specs.declared.telling.Taken.{Taken}
 use Rattle.lft_log.specs.declared.told.Told.{Told}
-use Rattle.lft_log.specs.Logs.{AreTimely, HasNoEnd, HoldSoFar, InputLine, IsFront, IsHead, IsInputLine, IsNoInput, IsNoRow, IsRowFault, Part, RowLines, inputs, rows, tag_of}
-use Rattle.lft_log.specs.Told.{HasTold, IsAskedOf, IsBegun, IsFaultOf, IsInputFault, IsLineFault, IsLogOf, IsSaid, IsSoon, StandsBehind}
-use Rattle.lft_log.proofs.Fronts.{fault_before}
-use Rattle.lft_log.proofs.Holding.{header_there, hold_longer, hold_part, inputs_pushed, inputs_same, rows_pushed, rows_same, timely_push}
-
-pub all_dropped : (text : List ℕ) (n : ℕ) → n ≡ length text → drop n text ≡ []
-all_dropped [] n e = none_left n
-  where
-    none_left : (n : ℕ) → (let x : List ℕ = [] in drop n x ≡ [])
-    none_left zero = refl
-    none_left (suc n) = refl
-all_dropped (c ∷ text) zero e = absurd (omega arith)
-all_dropped (c ∷ text) (suc n) e = all_dropped text n (omega arith)
+use Rattle.lft_log.specs.Logs.{HoldSoFar, IsFront, IsHead, rows}
+use Rattle.lft_log.specs.Told.{IsAskedOf, IsBegun, IsFaultOf, IsLogOf, IsSaid, IsSoon, IsTaken, StandsBehind}
+use Rattle.lft_log.proofs.Holding.{header_there, hold_longer}
+use Rattle.lft_log.proofs.Taking.{all_held, fault_held, grown, grown_numbered, grown_rows, grown_tells, grown_timely, grown_told, taken_rows}
 
 -- the lines below the header
-pub body_held : (base plan : PlanParts) (until : Option Tag) (bytes lines body : List ℕ) (log : Log) (is : IsLogOf base plan until bytes lines log) → (log.is_begun ≡ true → body ≡ lines) → (log.is_begun ≡ false → (head : List ℕ) × (lines ≡ head ++ body) × IsHead head) → HoldSoFar base.program bytes is.parts body
+pub body_held : (base plan : PlanParts) (until : Option Tag) (bytes lines body : List ℕ) (log : Log) (is : IsLogOf base plan until bytes lines log) → (log.is_begun ≡ true → body ≡ lines) → (log.is_begun ≡ false → (head : List ℕ) × (lines ≡ head ++ body) × IsHead head) → HoldSoFar base.program bytes is.lines [] body
 body_held base plan until bytes lines body log is below above = go log.is_begun refl
   where
-    go : (b : Bool) → log.is_begun ≡ b → HoldSoFar base.program bytes is.parts body
-    go true e = subst (λ (x : List ℕ). HoldSoFar base.program bytes is.parts x) (sym (below e)) (is.begun e)
+    go : (b : Bool) → log.is_begun ≡ b → HoldSoFar base.program bytes is.lines [] body
+    go true e = subst (λ (x : List ℕ). HoldSoFar base.program bytes is.lines [] x) (sym (below e)) (is.begun e)
     go false e =
         let f = is.fresh e in
         let h = above e in
-        subst (λ (parts : List Part). HoldSoFar base.program bytes parts body) (sym f.1) (header_there base.program bytes lines h.0 body f.0 h.1 h.2)
+        subst (λ (l : List Line). HoldSoFar base.program bytes l [] body) (sym f.1) (header_there base.program bytes lines h.0 body f.0 h.1 h.2)
 
--- the rows of a front of the lines are rows of the bytes
-module _ (base plan : PlanParts) (until : Option Tag) (bytes lines behind : List ℕ) (log : Log) (is : IsBegun base plan until bytes (lines ++ behind) log) (front : Front) (fronts : IsFront base.program lines log.rows front) where
-  abbrev parts : List Part
-  parts = is.0.parts
+-- whole lines are read and told
+module _ (base old new : PlanParts) (until : Option Tag) (bytes text : List ℕ) (log : Log) (front : Front) (taken : Taken) (is : IsBegun base old until bytes text log) (given : IsFront old.program text log.rows log.inputs front) (are : (t : List Row) (lines : List Line) → IsFollowerOf old t log.follower → front.rows.items ≡ rows lines → front.inputs.items ≡ inputs_behind 0 lines → IsTaken old new t log.inputs front lines taken) where
+  abbrev so_far : List Line
+  so_far = is.0.lines
 
   abbrev u : List Row
-  u = front.rows.items
+  u = slice_range front.rows.items 0 taken.rows
 
-  abbrev text : List ℕ
-  text = take front.end lines
+  held : HoldSoFar base.program bytes so_far [] (text ++ [])
+  held = subst (λ (x : List ℕ). HoldSoFar base.program bytes so_far [] x) (sym (append-nil text)) (is.0.begun is.1)
 
-  abbrev grown : List Part
-  grown = parts ++ RowLines text u ∷ []
+  fronts : IsFront base.program text log.rows log.inputs front
+  fronts = subst (λ (p : Parts). IsFront p text log.rows log.inputs front) is.0.told.program given
 
-  grown_held : HoldSoFar base.program bytes grown (drop front.end lines ++ behind)
-  grown_held = hold_part base.program bytes (drop front.end lines ++ behind) parts (RowLines text u) (subst (λ (x : List ℕ). HoldSoFar base.program bytes parts x) (sym (sym (append_assoc text (drop front.end lines) behind) ∙ ap (λ (x : List ℕ). x ++ behind) (take-append-drop front.end lines))) (is.0.begun is.1)) fronts.held
+  takes : IsTaken old new (rows so_far) log.inputs front fronts.lines taken
+  takes = are (rows so_far) fronts.lines is.0.follower fronts.rows_are fronts.inputs_are
 
-  grown_timely : AreTimely [] grown
-  grown_timely = timely_push [] parts (RowLines text u) is.0.timely tt
-
-  grown_told : HasTold base (inputs grown) plan
-  grown_told = subst (λ i. HasTold base i plan) (sym (inputs_same parts text u)) is.0.told
-
-  -- where there is no fault they are all
-  pub rows_on : front.fault ≡ None → (new : Log) → IsFollowerOf plan (rows parts ++ u) new.follower → new.rows ≡ length (rows parts ++ u) → new.inputs ≡ log.inputs → new.asked.until ≡ log.asked.until → IsAskedOf (rows parts ++ u) new.asked → new.is_begun ≡ true → IsBegun base plan until bytes behind new
-  rows_on none new follower counted numbered until_is asked begun = (
+  -- without a fault they are all
+  pub lines_on : taken.fault ≡ None → (after : Log) → IsFollowerOf new (rows so_far ++ u) after.follower → after.rows ≡ log.rows + taken.rows → after.inputs ≡ log.inputs + taken.inputs → after.asked.until ≡ log.asked.until → IsAskedOf (rows so_far ++ u) after.asked → after.is_begun ≡ true → IsBegun base new until bytes [] after
+  lines_on none after follower counted numbered until_is asked begun = (
     record {
-      parts = grown;
-      told = grown_told;
-      timely = grown_timely;
-      follower = subst (λ t. IsFollowerOf plan t new.follower) (sym (rows_pushed parts text u)) follower;
-      counted = counted ∙ ap (λ (t : List Row). length t) (sym (rows_pushed parts text u));
-      numbered = numbered ∙ is.0.numbered ∙ ap (λ i. length i) (sym (inputs_same parts text u));
+      lines = grown base old new bytes text [] so_far log.rows log.inputs front taken held fronts takes;
+      told = grown_told base old new bytes text [] so_far log.rows log.inputs front taken held fronts takes is.0.timely is.0.told;
+      timely = grown_timely base old new bytes text [] so_far log.rows log.inputs front taken held fronts takes is.0.timely is.0.told;
+      follower = subst (λ (t : List Row). IsFollowerOf new t after.follower) (sym more) follower;
+      counted =
+          let l = length-append (rows so_far) u in
+          let m = ap (λ (t : List Row). length t) more in
+          let n = ap (λ (t : List Row). length t) (taken_rows base old new bytes text [] so_far log.rows log.inputs front taken held fronts takes) in
+          let k = takes.counted in
+          let before = is.0.counted in
+          omega (arith, l, m, n, k, before, counted);
+      numbered =
+          let m = grown_numbered base old new bytes text [] so_far log.rows log.inputs front taken held fronts takes in
+          let before = is.0.numbered in
+          omega (arith, m, before, numbered);
       until_is = until_is ∙ is.0.until_is;
-      asked = subst (λ t. IsAskedOf t new.asked) (sym (rows_pushed parts text u)) asked;
-      begun = λ _. subst (λ (x : List ℕ). HoldSoFar base.program bytes grown (x ++ behind)) (all_dropped lines front.end (fronts.all none)) grown_held;
+      asked = subst (λ (t : List Row). IsAskedOf t after.asked) (sym more) asked;
+      begun = λ _. all_held base old new bytes text [] so_far log.rows log.inputs front taken held fronts takes none;
       fresh = λ e. absurd (false≢true (sym e ∙ begun));
     },
     begun,
   )
-
-  pub fault_held : (f : LogFault) → front.fault ≡ Some f → IsFaultOf base bytes f
-  fault_held f at = of_row f (fault_before base.program (drop front.end lines) behind (log.rows + length u + 2) f (fronts.none f at))
     where
-      number : log.rows + length u + 2 ≡ length (rows grown) + 2
-      number =
-          let long : length (rows parts ++ u) ≡ length (rows parts) + length u = length-append (rows parts) u in
-          let same : length (rows grown) ≡ length (rows parts ++ u) = ap (λ (t : List Row). length t) (rows_pushed parts text u) in
-          let before = is.0.counted in
-          omega arith
+      more : rows (grown base old new bytes text [] so_far log.rows log.inputs front taken held fronts takes) ≡ rows so_far ++ u
+      more = grown_rows base old new bytes text [] so_far log.rows log.inputs front taken held fronts takes
 
-      of_row : (f : LogFault) → IsRowFault base.program (drop front.end lines ++ behind) (log.rows + length u + 2) f → IsFaultOf base bytes f
-      of_row (NoRow e line) x = (grown, (drop front.end lines ++ behind, grown_held, x.1), x.0 ∙ number)
-      of_row (NoInput e line) x = absurd x
-      of_row (LateInput line) x = absurd x
-      of_row (InputAgain line) x = absurd x
-      of_row (ManyLater line) x = absurd x
-      of_row NoHeader x = tt
-      of_row (NotPlain line) x = tt
-      of_row (LongLine line) x = tt
-      of_row TooManyRows x = tt
-      of_row (NotPlainInput line) x = tt
-      of_row TooManyInputs x = tt
-      of_row NoMemory x = tt
+  pub fault_on : (f : LogFault) → taken.fault ≡ Some f → IsFaultOf base bytes f
+  fault_on f named = fault_held base old new bytes text [] so_far log.rows log.inputs front taken held fronts takes is.0.timely is.0.told f named is.0.counted is.0.numbered
 
-  pub soon_held : (told : Told) (first others : List Row) → u ≡ first ++ others → IsSaid plan until (rows parts ++ first) told → IsSoon base until bytes told
-  soon_held told first others parted said = (
-    plan,
-    rows parts ++ first,
-    others,
-    drop front.end lines ++ behind,
-    record {
-      parts = grown;
-      held = grown_held;
-      rows_are = rows_pushed parts text u ∙ ap (λ (x : List Row). rows parts ++ x) parted ∙ sym (append_assoc (rows parts) first others);
-      timely = grown_timely;
-      told = grown_told;
-    },
+  pub soon_on : (told : Told) (first more : List Row) → u ≡ first ++ more → IsSaid new until (rows so_far ++ first) told → IsSoon base until bytes told
+  soon_on told first more parted said = (
+    new,
+    rows so_far ++ first,
+    more,
+    _,
+    _,
+    grown_tells base old new bytes text [] so_far log.rows log.inputs front taken held fronts takes is.0.timely is.0.told ((rows so_far ++ first) ++ more) (append_assoc (rows so_far) first more ∙ ap (λ (t : List Row). rows so_far ++ t) (sym parted)),
     said,
   )
 
--- the next line is that of an external input
-module _ (base plan : PlanParts) (until : Option Tag) (bytes line behind : List ℕ) (log : Log) (is : IsBegun base plan until bytes (line ++ behind) log) (ends : EndsLine line) where
-  stands : (P : List ℕ → Type 0) → P line → StandsBehind base.program bytes is.0.parts P
-  stands P p = (line ++ behind, is.0.begun is.1, (line, behind, refl, ends, p))
-
-  -- it tells none
-  pub line_fault : (number : ℕ) (f : LogFault) → number ≡ log.inputs + 2 → IsLineFault plan.program line number f → IsFaultOf base bytes f
-  line_fault number f numbered of = of base bytes is.0.parts (sym is.0.told.program) (subst (λ (p : Parts). StandsBehind p bytes is.0.parts (λ text. text ≡ line)) (sym is.0.told.program) (stands (λ text. text ≡ line) refl)) (numbered ∙ ap (λ (n : ℕ). n + 2) is.0.numbered)
-
-  module _ (input : Input) (tells : IsInputLine plan.program input line) where
-    its : IsInputLine base.program input line
-    its = subst (λ (p : Parts). IsInputLine p input line) is.0.told.program tells
-
-    -- it tells one that can't be taken
-    pub input_fault : (number : ℕ) (f : LogFault) → number ≡ log.inputs + 2 → IsInputFault plan log.follower input number f → IsFaultOf base bytes f
-    input_fault number f numbered of = of base bytes is.0.parts (stands (IsInputLine base.program input) its) is.0.told is.0.follower (numbered ∙ ap (λ (n : ℕ). n + 2) is.0.numbered)
-
-    -- it tells one that is taken
-    pub input_on : (after : PlanParts) (new : Log) → ((base : PlanParts) (before : List Input) → HasTold base before plan → HasTold base (before ++ input ∷ []) after) → ((t : List Row) → IsFollowerOf plan t log.follower → ¬ IsPassed t (tag_of input)) → ((t : List Row) → IsFollowerOf plan t log.follower → IsFollowerOf after t new.follower) → new.rows ≡ log.rows → new.inputs ≡ log.inputs + 1 → new.asked ≡ log.asked → new.is_begun ≡ log.is_begun → IsBegun base after until bytes behind new
-    input_on after new told timely follows rows_are numbered asked begun = (
-      record {
-        parts = is.0.parts ++ InputLine line input ∷ [];
-        told = subst (λ i. HasTold base i after) (sym (inputs_pushed is.0.parts line input)) (told base (inputs is.0.parts) is.0.told);
-        timely = timely_push [] is.0.parts (InputLine line input) is.0.timely (timely (rows is.0.parts) is.0.follower, tt);
-        follower = subst (λ t. IsFollowerOf after t new.follower) (sym same) (follows (rows is.0.parts) is.0.follower);
-        counted = rows_are ∙ is.0.counted ∙ ap (λ (t : List Row). length t) (sym same);
-        numbered =
-            let long : length (inputs is.0.parts ++ input ∷ []) ≡ length (inputs is.0.parts) + 1 = length-append (inputs is.0.parts) (input ∷ []) in
-            let more : length (inputs (is.0.parts ++ InputLine line input ∷ [])) ≡ length (inputs is.0.parts ++ input ∷ []) = ap (λ i. length i) (inputs_pushed is.0.parts line input) in
-            let before = is.0.numbered in
-            omega arith;
-        until_is = ap (λ (a : Asked). a.until) asked ∙ is.0.until_is;
-        asked = subst (λ (a : Asked). IsAskedOf (rows (is.0.parts ++ InputLine line input ∷ [])) a) (sym asked) (subst (λ t. IsAskedOf t log.asked) (sym same) is.0.asked);
-        begun = λ _. hold_part base.program bytes behind is.0.parts (InputLine line input) (is.0.begun is.1) its;
-        fresh = λ e. absurd (false≢true (sym e ∙ begun ∙ is.1));
-      },
-      begun ∙ is.1,
-    )
-      where
-        same : rows (is.0.parts ++ InputLine line input ∷ []) ≡ rows is.0.parts
-        same = rows_same is.0.parts line input
-
 -- the rest may be another, and what is kept elsewhere
-pub kept_as : (base plan : PlanParts) (until : Option Tag) (bytes rest other lines : List ℕ) (log new : Log) → new.follower ≡ log.follower → new.rows ≡ log.rows → new.inputs ≡ log.inputs → new.asked ≡ log.asked → (is : IsLogOf base plan until bytes rest log) → (new.is_begun ≡ true → HoldSoFar base.program other is.parts lines) → (new.is_begun ≡ false → (other ≡ lines) × (is.parts ≡ [])) → IsLogOf base plan until other lines new
+pub kept_as : (base plan : PlanParts) (until : Option Tag) (bytes rest other lines : List ℕ) (log new : Log) → new.follower ≡ log.follower → new.rows ≡ log.rows → new.inputs ≡ log.inputs → new.asked ≡ log.asked → (is : IsLogOf base plan until bytes rest log) → (new.is_begun ≡ true → HoldSoFar base.program other is.lines [] lines) → (new.is_begun ≡ false → (other ≡ lines) × (is.lines ≡ [])) → IsLogOf base plan until other lines new
 kept_as base plan until bytes rest other lines log new follower rows_are numbered asked is begun fresh = record {
-  parts = is.parts;
+  lines = is.lines;
   told = is.told;
   timely = is.timely;
-  follower = subst (λ x. IsFollowerOf plan (rows is.parts) x) (sym follower) is.follower;
+  follower = subst (λ x. IsFollowerOf plan (rows is.lines) x) (sym follower) is.follower;
   counted = rows_are ∙ is.counted;
   numbered = numbered ∙ is.numbered;
   until_is = ap (λ (a : Asked). a.until) asked ∙ is.until_is;
-  asked = subst (λ (a : Asked). IsAskedOf (rows is.parts) a) (sym asked) is.asked;
+  asked = subst (λ (a : Asked). IsAskedOf (rows is.lines) a) (sym asked) is.asked;
   begun = begun;
   fresh = fresh;
 }
@@ -186,14 +118,15 @@ pub begun_as : (base plan : PlanParts) (until : Option Tag) (bytes lines body : 
 begun_as base plan until bytes lines body log new follower rows_are numbered asked begun below above is = (kept_as base plan until bytes lines bytes body log new follower rows_are numbered asked is (λ _. body_held base plan until bytes lines body log is below above) (λ e. absurd (false≢true (sym e ∙ begun))), begun)
 
 pub soon_longer : (base : PlanParts) (until : Option Tag) (bytes more : List ℕ) (told : Told) → IsSoon base until bytes told → IsSoon base until (bytes ++ more) told
-soon_longer base until bytes more told (plan, t, others, rest, is, said) = (
+soon_longer base until bytes more told (plan, t, later, others, rest, is, said) = (
   plan,
   t,
+  later,
   others,
   rest ++ more,
   record {
-    parts = is.parts;
-    held = hold_longer base.program bytes rest more is.parts is.held;
+    lines = is.lines;
+    held = hold_longer base.program bytes rest more is.lines others is.held;
     rows_are = is.rows_are;
     timely = is.timely;
     told = is.told;
@@ -201,15 +134,15 @@ soon_longer base until bytes more told (plan, t, others, rest, is, said) = (
   said,
 )
 
-behind_longer : (program : Parts) (bytes more : List ℕ) (parts : List Part) (P : List ℕ → Type 0) → StandsBehind program bytes parts P → StandsBehind program (bytes ++ more) parts P
-behind_longer program bytes more parts P (rest, held, b) = (rest ++ more, hold_longer program bytes rest more parts held, (b.0, b.1 ++ more, ap (λ (y : List ℕ). y ++ more) b.2 ∙ append_assoc b.0 b.1 more, b.3, b.4))
+behind_longer : (program : Parts) (bytes more : List ℕ) (lines : List Line) (P : List (List ℕ) → Type 0) → StandsBehind program bytes lines P → StandsBehind program (bytes ++ more) lines P
+behind_longer program bytes more lines P (others, rest, held, b) = (others, rest ++ more, hold_longer program bytes rest more lines others held, b)
 
 pub fault_longer : (base : PlanParts) (bytes more : List ℕ) (f : LogFault) → IsFaultOf base bytes f → IsFaultOf base (bytes ++ more) f
-fault_longer base bytes more (NoRow e line) x = (x.0, behind_longer base.program bytes more x.0 (IsNoRow base.program e) x.1, x.2)
-fault_longer base bytes more (NoInput e line) x = (x.0, behind_longer base.program bytes more x.0 (IsNoInput base.program e) x.1, x.2)
-fault_longer base bytes more (LateInput line) x = (x.0, x.1, behind_longer base.program bytes more x.0 (IsInputLine base.program x.1) x.2, x.3, x.4)
-fault_longer base bytes more (InputAgain line) x = (x.0, x.1, behind_longer base.program bytes more x.0 (IsInputLine base.program (Event x.1)) x.2, x.3, x.4)
-fault_longer base bytes more (ManyLater line) x = (x.0, x.1, behind_longer base.program bytes more x.0 (IsInputLine base.program (Event x.1)) x.2, x.3, x.4)
+fault_longer base bytes more (NoRow e line) x = (x.0, behind_longer base.program bytes more x.0 (λ f. IsNoLine base.program f (none.NoRow e)) x.1, x.2)
+fault_longer base bytes more (NoInput e line) x = (x.0, behind_longer base.program bytes more x.0 (λ f. IsNoLine base.program f (none.NoInput e)) x.1, x.2)
+fault_longer base bytes more (LateInput line) x = (x.0, x.1, behind_longer base.program bytes more x.0 (λ f. IsEntry base.program f x.1) x.2, x.3, x.4)
+fault_longer base bytes more (InputAgain line) x = (x.0, x.1, behind_longer base.program bytes more x.0 (λ f. IsEntry base.program f (Happens x.1)) x.2, x.3, x.4)
+fault_longer base bytes more (ManyLater line) x = (x.0, x.1, behind_longer base.program bytes more x.0 (λ f. IsEntry base.program f (Happens x.1)) x.2, x.3, x.4)
 fault_longer base bytes more NoHeader x = tt
 fault_longer base bytes more (NotPlain line) x = tt
 fault_longer base bytes more (LongLine line) x = tt
@@ -218,13 +151,7 @@ fault_longer base bytes more (NotPlainInput line) x = tt
 fault_longer base bytes more TooManyInputs x = tt
 fault_longer base bytes more NoMemory x = tt
 
--- no line ends in two texts, one behind the other
-pub no_end_both : (a b : List ℕ) → HasNoEnd a → HasNoEnd b → HasNoEnd (a ++ b)
-no_end_both [] b x y i = y i
-no_end_both (c ∷ a) b x y zero = x zero
-no_end_both (c ∷ a) b x y (suc i) = no_end_both a b (λ j. x (suc j)) y i
-
--- the parts of a piece behind the bytes are the whole
+-- a piece behind the bytes is the whole
 pub piece_parts : (bytes piece : List ℕ) (n : ℕ) → (bytes ++ take n piece) ++ drop n piece ≡ bytes ++ piece
 piece_parts bytes piece n = append_assoc bytes (take n piece) (drop n piece) ∙ ap (λ (x : List ℕ). bytes ++ x) (take-append-drop n piece)
 
@@ -248,5 +175,5 @@ none_told A Q (Some told) never = absurd never
 -- the rest and more bytes are all that is of no part yet
 pub kept_all : (base plan : PlanParts) (until : Option Tag) (bytes rest more lines : List ℕ) (log new : Log) → lines ≡ rest ++ more → new.follower ≡ log.follower → new.rows ≡ log.rows → new.inputs ≡ log.inputs → new.asked ≡ log.asked → new.is_begun ≡ log.is_begun → IsLogOf base plan until bytes rest log → IsLogOf base plan until (bytes ++ more) lines new
 kept_all base plan until bytes rest more lines log new parted follower rows_are numbered asked begun is = kept_as base plan until bytes rest (bytes ++ more) lines log new follower rows_are numbered asked is
-    (λ e. subst (λ (x : List ℕ). HoldSoFar base.program (bytes ++ more) is.parts x) (sym parted) (hold_longer base.program bytes rest more is.parts (is.begun (sym begun ∙ e))))
+    (λ e. subst (λ (x : List ℕ). HoldSoFar base.program (bytes ++ more) is.lines [] x) (sym parted) (hold_longer base.program bytes rest more is.lines [] (is.begun (sym begun ∙ e))))
     (λ e. let f = is.fresh (sym begun ∙ e) in (ap (λ (x : List ℕ). x ++ more) f.0 ∙ sym parted, f.1))

@@ -1,10 +1,13 @@
 pub mod Ends
+pub mod Below
+pub mod Behind
 pub mod Holding
+pub mod Taking
 pub mod Keeping
 pub mod Asking
 pub mod Fronts
 pub mod Pieces
 pub mod Finishing
 pub mod Plans
-pub mod Reading
+pub mod Inputs
 pub mod Gathering

@@ -12,9 +12,10 @@ use Rattle.lft_steps.specs.Inputs.{InOrder}
 use Rattle.lft_model.specs.Plans.{PlanParts}
 use Rattle.lft_follow.specs.Follows.{HasOneMore, stopped_at}
 use Rattle.lft_follow.proofs.Sooner.{swapped}
-use Rattle.lft_log.specs.Told.{HasTold, event_of, stop_of}
-use Rattle.lft_log.specs.declared.input.Input.{Input}
-use Rattle.lft_log.specs.declared.input.Input.TheVariants.{Event, Stop}
+use Rattle.lft_log.specs.Told.{HasTold}
+use Rattle.lft_trace.specs.ExternalTables.{event_of, stop_of}
+use Rattle.lft_trace.specs.declared.external_table.Entry.{Entry}
+use Rattle.lft_trace.specs.declared.external_table.Entry.TheVariants.{Happens, Stops}
 
 -- the earliest with one tag more
 earliest_push : (g : Tag) (hs : List Tag) (k : Tag) → earlier k (earliest g hs) ≡ earliest g (hs ++ k ∷ [])
@@ -31,12 +32,12 @@ told_none base order = record {
 }
 
 -- an event is put at its place
-pub told_event : (base : PlanParts) (before : List Input) (old new : PlanParts) (e : EventOf) → HasOneMore old new e → InOrder new.externals.events → HasTold base before old → HasTold base (before ++ Event e ∷ []) new
+pub told_event : (base : PlanParts) (before : List Entry) (old new : PlanParts) (e : EventOf) → HasOneMore old new e → InOrder new.externals.events → HasTold base before old → HasTold base (before ++ Happens e ∷ []) new
 told_event base before old new e more order told = record {
   program = more.program ∙ told.program;
   events = subst (λ xs. IsPermutation xs new.externals.events) whole (subst (λ zs. IsPermutation ((first ++ mine) ++ e ∷ []) zs) (sym more.events) (IsPermutation-push_more (first ++ mine) old.externals.events (insert old.externals.events more.place e) e told.events (IsPermutation-insert old.externals.events more.place e)));
   order = order;
-  stop = more.stop ∙ told.stop ∙ ap (λ (gs : List Tag). earliest base.externals.stop gs) (sym (filter_map-append stop_of before (Event e ∷ []) ∙ append-nil (filter_map stop_of before)));
+  stop = more.stop ∙ told.stop ∙ ap (λ (gs : List Tag). earliest base.externals.stop gs) (sym (filter_map-append stop_of before (Happens e ∷ []) ∙ append-nil (filter_map stop_of before)));
 }
   where
     first : List EventOf
@@ -45,14 +46,14 @@ told_event base before old new e more order told = record {
     mine : List EventOf
     mine = filter_map event_of before
 
-    whole : (first ++ mine) ++ e ∷ [] ≡ first ++ filter_map event_of (before ++ Event e ∷ [])
-    whole = append_assoc first mine (e ∷ []) ∙ ap (λ (es : List EventOf). first ++ es) (sym (filter_map-append event_of before (Event e ∷ [])))
+    whole : (first ++ mine) ++ e ∷ [] ≡ first ++ filter_map event_of (before ++ Happens e ∷ [])
+    whole = append_assoc first mine (e ∷ []) ∙ ap (λ (es : List EventOf). first ++ es) (sym (filter_map-append event_of before (Happens e ∷ [])))
 
 -- the stop is lowered
-pub told_stop : (base : PlanParts) (before : List Input) (old new : PlanParts) (g : Tag) → new ≡ stopped_at old g → HasTold base before old → HasTold base (before ++ Stop g ∷ []) new
-told_stop base before old new g is told = subst (λ (plan : PlanParts). HasTold base (before ++ Stop g ∷ []) plan) (sym is) (record {
+pub told_stop : (base : PlanParts) (before : List Entry) (old new : PlanParts) (g : Tag) → new ≡ stopped_at old g → HasTold base before old → HasTold base (before ++ Stops g ∷ []) new
+told_stop base before old new g is told = subst (λ (plan : PlanParts). HasTold base (before ++ Stops g ∷ []) plan) (sym is) (record {
   program = told.program;
-  events = subst (λ es. IsPermutation (base.externals.events ++ es) old.externals.events) (sym (filter_map-append event_of before (Stop g ∷ []) ∙ append-nil (filter_map event_of before))) told.events;
+  events = subst (λ es. IsPermutation (base.externals.events ++ es) old.externals.events) (sym (filter_map-append event_of before (Stops g ∷ []) ∙ append-nil (filter_map event_of before))) told.events;
   order = told.order;
-  stop = ap (λ (h : Tag). earlier g h) told.stop ∙ earliest_push base.externals.stop (filter_map stop_of before) g ∙ ap (λ (gs : List Tag). earliest base.externals.stop gs) (sym (filter_map-append stop_of before (Stop g ∷ [])));
+  stop = ap (λ (h : Tag). earlier g h) told.stop ∙ earliest_push base.externals.stop (filter_map stop_of before) g ∙ ap (λ (gs : List Tag). earliest base.externals.stop gs) (sym (filter_map-append stop_of before (Stops g ∷ [])));
 })

@@ -1,56 +1,52 @@
 -- What is told of a log.
-use Rattle.std.specs.Prelude.{◌≡◌, ◌⊎◌, ◌+◌, true, false, ℕ, Bool, List, [], ◌++◌, ◌∷◌, length, filter_map, Option, None, Some, slice_get}
+use Rattle.std.specs.Prelude.{◌≡◌, ◌↔◌, ◌⊎◌, ◌+◌, true, false, ℕ, Bool, List, [], ◌++◌, ◌∷◌, length, filter_map, Option, None, Some, slice_get}
 use Rattle.std.specs.List.Sorted.{IsPermutation}
 use Rattle.lft_flat.specs.Parts.{Parts}
 use Rattle.lft_tag.specs.declared.Tag.{Tag}
-use Rattle.lft_tag.specs.Tags.{Before, IsRecorded, UpTo, earliest}
+use Rattle.lft_tag.specs.Tags.{Before, UpTo, earliest}
 use Rattle.lft_steps.specs.declared.externals.Event.{Event as EventOf}
 use Rattle.lft_steps.specs.declared.row.Row.{Row}
-use Rattle.lft_steps.specs.Fits.{EventFits, RowsFit}
+use Rattle.lft_steps.specs.Fits.{RowsFit}
 use Rattle.lft_steps.specs.Inputs.{InOrder, IsTold}
 use Rattle.lft_model.specs.Plans.{PlanParts}
 use Rattle.lft_model.specs.Breaches.{First}
 use Rattle.lft_rows.specs.Accepted.{IsAccepted}
 use Rattle.lft_follow.specs.declared.judged.Ending.TheVariants as ending
-use Rattle.lft_follow.specs.declared.follower.Follower.{Follower}
 use Rattle.lft_follow.specs.Follows.{HasManyLater, IsFollowerOf, IsSureSoFar, IsCleanTo, IsClean, IsJudged, IsPassed, breach_of}
-use Rattle.lft_log.specs.Logs.{AreTimely, BeginsWithLine, HasNoEnd, HoldSoFar, IsInputLine, IsNoInput, IsNoRow, Part, inputs, rows, tag_of}
+use Rattle.lft_trace.specs.ExternalTables.{IsEntry, event_of, stop_of}
+use Rattle.lft_trace.specs.LogTables.{IsNoLine}
+use Rattle.lft_trace.specs.declared.external_table.Entry.{Entry}
+use Rattle.lft_trace.specs.declared.external_table.Entry.TheVariants.{Happens}
+use Rattle.lft_trace.specs.declared.log_table.Line.{Line}
+use Rattle.lft_trace.specs.declared.log_table.LineFault.TheVariants as none
+use Rattle.lft_trace.specs.declared.log_table.Line.TheVariants.{Input}
+use Rattle.lft_log.specs.Logs.{AreTimely, BeginsWithRecord, HasNoEnd, HoldSoFar, inputs, rows, tag_of}
 use Rattle.lft_log.specs.declared.asked.Asked.{Asked}
 use Rattle.lft_log.specs.declared.fault.LogFault.{LogFault}
 use Rattle.lft_log.specs.declared.fault.LogFault.TheVariants.{NoRow, NoInput, LateInput, InputAgain, ManyLater}
-use Rattle.lft_log.specs.declared.input.Input.{Input}
-use Rattle.lft_log.specs.declared.input.Input.TheVariants.{Event, Stop}
+use Rattle.lft_log.specs.declared.front.Front.{Front}
 use Rattle.lft_log.specs.declared.log.Log.{Log}
 use Rattle.lft_log.specs.declared.rows.LogRows.{LogRows}
+use Rattle.lft_log.specs.declared.telling.Taken.{Taken}
 use Rattle.lft_log.specs.declared.told.Told.{Told}
 use Rattle.lft_log.specs.declared.told.Told.TheVariants.{Broken, Odd, Reached}
 use Rattle.lft_log.specs.declared.told.Final.{Final}
 use Rattle.lft_log.specs.declared.told.Final.TheVariants.{Soon, AtEnd}
 
--- the event of an external input, if it is one
-abbrev pub event_of : Input → Option EventOf
-event_of (Event e) = Some e
-event_of (Stop g) = None
-
--- the stop of an external input, if it is one
-abbrev pub stop_of : Input → Option Tag
-stop_of (Event e) = None
-stop_of (Stop g) = Some g
-
 -- the plan of a log: its events are those given before and those of the log, and its stop is the least of them
-pub record HasTold (base : PlanParts) (inputs : List Input) (plan : PlanParts) : Type 0 where
+pub record HasTold (base : PlanParts) (inputs : List Entry) (plan : PlanParts) : Type 0 where
   pub program : plan.program ≡ base.program
   pub events : IsPermutation (base.externals.events ++ filter_map event_of inputs) plan.externals.events
   pub order : InOrder plan.externals.events
   pub stop : plan.externals.stop ≡ earliest base.externals.stop (filter_map stop_of inputs)
 
--- the bytes are a log of the rows, up to a rest, whose external inputs are told in time, and this is its plan
-pub record TellsPlan (base : PlanParts) (bytes : List ℕ) (plan : PlanParts) (t : List Row) (rest : List ℕ) : Type 0 where
-  pub parts : List Part
-  pub held : HoldSoFar base.program bytes parts rest
-  pub rows_are : rows parts ≡ t
-  pub timely : AreTimely [] parts
-  pub told : HasTold base (inputs parts) plan
+-- the bytes are a log of the rows, up to other records and a rest, whose external inputs are told in time, and this is its plan
+pub record TellsPlan (base : PlanParts) (bytes : List ℕ) (plan : PlanParts) (t : List Row) (others : List (List (List ℕ))) (rest : List ℕ) : Type 0 where
+  pub lines : List Line
+  pub held : HoldSoFar base.program bytes lines others rest
+  pub rows_are : rows lines ≡ t
+  pub timely : AreTimely [] lines
+  pub told : HasTold base (inputs lines) plan
 
 -- a row is at or past the tag
 abbrev pub HasFrom : Tag → Tag → List Row → Type 0
@@ -73,61 +69,76 @@ IsSaid plan until t (Reached r) = IsJudged plan t r × GoPast until t
 
 -- what is told before the end is so of the first rows of the bytes, for the plan that they tell
 abbrev pub IsSoon : PlanParts → Option Tag → List ℕ → Told → Type 0
-IsSoon base until bytes told = (plan : PlanParts) × (t : List Row) × (more : List Row) × (rest : List ℕ) × TellsPlan base bytes plan (t ++ more) rest × IsSaid plan until t told
+IsSoon base until bytes told = (plan : PlanParts) × (t : List Row) × (more : List Row) × (others : List (List (List ℕ))) × (rest : List ℕ) × TellsPlan base bytes plan (t ++ more) others rest × IsSaid plan until t told
 
 -- what is told at the end: the bytes are a log whose rows are accepted, for the plan that it tells; or a log and a line without its end, and the rows are clean, all or but those at the last tag; or the bytes are a log, no row is missing, and this is their first breach
 abbrev pub IsFinal : PlanParts → Option Tag → Bool → List ℕ → Final → Type 0
 IsFinal base until whole bytes (Soon told) = IsSoon base until bytes told
-IsFinal base until whole bytes (AtEnd (ending.Accepted c)) = (plan : PlanParts) × (t : List Row) × TellsPlan base bytes plan t [] × IsAccepted plan t c.runs c.tags
-IsFinal base until whole bytes (AtEnd (ending.Unbroken r)) = (plan : PlanParts) × (t : List Row) × (rest : List ℕ) × TellsPlan base bytes plan t rest × HasNoEnd rest × (IsJudged plan t r ⊎ IsClean plan t r)
-IsFinal base until whole bytes (AtEnd (ending.Broken b)) = (whole ≡ true) × ((plan : PlanParts) × (t : List Row) × TellsPlan base bytes plan t [] × First plan t (breach_of b))
+IsFinal base until whole bytes (AtEnd (ending.Accepted c)) = (plan : PlanParts) × (t : List Row) × TellsPlan base bytes plan t [] [] × IsAccepted plan t c.runs c.tags
+IsFinal base until whole bytes (AtEnd (ending.Unbroken r)) = (plan : PlanParts) × (t : List Row) × (rest : List ℕ) × TellsPlan base bytes plan t [] rest × HasNoEnd rest × (IsJudged plan t r ⊎ IsClean plan t r)
+IsFinal base until whole bytes (AtEnd (ending.Broken b)) = (whole ≡ true) × ((plan : PlanParts) × (t : List Row) × TellsPlan base bytes plan t [] [] × First plan t (breach_of b))
 
 -- what is told at the end is so of the bytes, or of these with a line feed behind: a last line counts too that wants its end alone
 abbrev pub IsEnded : PlanParts → Option Tag → Bool → List ℕ → Final → Type 0
 IsEnded base until whole bytes told = IsFinal base until whole bytes told ⊎ IsFinal base until whole (bytes ++ 10 ∷ []) told
 
--- behind the parts of a log stands a line of which this is so
-abbrev pub StandsBehind : Parts → List ℕ → List Part → (List ℕ → Type 0) → Type 0
-StandsBehind program bytes parts P = (rest : List ℕ) × HoldSoFar program bytes parts rest × BeginsWithLine P rest
+-- behind the lines of a log stands a record of which this is so
+abbrev pub StandsBehind : Parts → List ℕ → List Line → (List (List ℕ) → Type 0) → Type 0
+StandsBehind program bytes lines P = (others : List (List (List ℕ))) × (rest : List ℕ) × HoldSoFar program bytes lines others rest × BeginsWithRecord P others
 
--- the fault of a line behind the parts of a log, with its number among rows or among external inputs: it is no row, no external input, one behind a row at a later tag, or an event that is there already, or before too many others
+-- the fault of a record behind the lines of a log, with its number among rows or among external inputs: it is no row, no external input, one behind a row at a later tag, or an event that is there already, or before too many others
 abbrev pub IsFaultOf : PlanParts → List ℕ → LogFault → Type 0
-IsFaultOf base bytes (NoRow e line) = (parts : List Part) × StandsBehind base.program bytes parts (IsNoRow base.program e) × (line ≡ length (rows parts) + 2)
-IsFaultOf base bytes (NoInput e line) = (parts : List Part) × StandsBehind base.program bytes parts (IsNoInput base.program e) × (line ≡ length (inputs parts) + 2)
-IsFaultOf base bytes (LateInput line) = (parts : List Part) × (input : Input) × StandsBehind base.program bytes parts (IsInputLine base.program input) × IsPassed (rows parts) (tag_of input) × (line ≡ length (inputs parts) + 2)
-IsFaultOf base bytes (InputAgain line) = (parts : List Part) × (event : EventOf) × StandsBehind base.program bytes parts (IsInputLine base.program (Event event)) × ((plan : PlanParts) × HasTold base (inputs parts) plan × IsTold plan.externals.events event) × (line ≡ length (inputs parts) + 2)
-IsFaultOf base bytes (ManyLater line) = (parts : List Part) × (event : EventOf) × StandsBehind base.program bytes parts (IsInputLine base.program (Event event)) × ((plan : PlanParts) × HasTold base (inputs parts) plan × HasManyLater plan.externals.events event.tag) × (line ≡ length (inputs parts) + 2)
+IsFaultOf base bytes (NoRow e line) = (lines : List Line) × StandsBehind base.program bytes lines (λ f. IsNoLine base.program f (none.NoRow e)) × (line ≡ length (rows lines) + 2)
+IsFaultOf base bytes (NoInput e line) = (lines : List Line) × StandsBehind base.program bytes lines (λ f. IsNoLine base.program f (none.NoInput e)) × (line ≡ length (inputs lines) + 2)
+IsFaultOf base bytes (LateInput line) = (lines : List Line) × (entry : Entry) × StandsBehind base.program bytes lines (λ f. IsEntry base.program f entry) × IsPassed (rows lines) (tag_of entry) × (line ≡ length (inputs lines) + 2)
+IsFaultOf base bytes (InputAgain line) = (lines : List Line) × (event : EventOf) × StandsBehind base.program bytes lines (λ f. IsEntry base.program f (Happens event)) × ((plan : PlanParts) × HasTold base (inputs lines) plan × IsTold plan.externals.events event) × (line ≡ length (inputs lines) + 2)
+IsFaultOf base bytes (ManyLater line) = (lines : List Line) × (event : EventOf) × StandsBehind base.program bytes lines (λ f. IsEntry base.program f (Happens event)) × ((plan : PlanParts) × HasTold base (inputs lines) plan × HasManyLater plan.externals.events event.tag) × (line ≡ length (inputs lines) + 2)
 IsFaultOf base bytes f = Unit {0}
 
--- the fault is that of a log whose next line is this one, of this number
-abbrev pub IsLineFault : Parts → List ℕ → ℕ → LogFault → Type 0
-IsLineFault program line number f = (base : PlanParts) (bytes : List ℕ) (parts : List Part) → base.program ≡ program → StandsBehind program bytes parts (λ text. text ≡ line) → number ≡ length (inputs parts) + 2 → IsFaultOf base bytes f
-
--- what is kept is right for the bytes, of which the rest is of no part yet, and for the plan that they tell
+-- what is kept is right for the bytes, of which the rest is of no line yet, and for the plan that they tell
 pub record IsLogOf (base plan : PlanParts) (until : Option Tag) (bytes rest : List ℕ) (log : Log) : Type 0 where
-  pub parts : List Part
-  pub told : HasTold base (inputs parts) plan
-  pub timely : AreTimely [] parts
-  pub follower : IsFollowerOf plan (rows parts) log.follower
-  pub counted : log.rows ≡ length (rows parts)
-  pub numbered : log.inputs ≡ length (inputs parts)
+  pub lines : List Line
+  pub told : HasTold base (inputs lines) plan
+  pub timely : AreTimely [] lines
+  pub follower : IsFollowerOf plan (rows lines) log.follower
+  pub counted : log.rows ≡ length (rows lines)
+  pub numbered : log.inputs ≡ length (inputs lines)
   pub until_is : log.asked.until ≡ until
-  pub asked : IsAskedOf (rows parts) log.asked
-  pub begun : log.is_begun ≡ true → HoldSoFar base.program bytes parts rest
-  pub fresh : log.is_begun ≡ false → (bytes ≡ rest) × (parts ≡ [])
+  pub asked : IsAskedOf (rows lines) log.asked
+  pub begun : log.is_begun ≡ true → HoldSoFar base.program bytes lines [] rest
+  pub fresh : log.is_begun ≡ false → (bytes ≡ rest) × (lines ≡ [])
 
 -- what is kept is right for the bytes, and the header came
 abbrev pub IsBegun : PlanParts → PlanParts → Option Tag → List ℕ → List ℕ → Log → Type 0
 IsBegun base plan until bytes rest log = IsLogOf base plan until bytes rest log × (log.is_begun ≡ true)
 
--- the event is of the program and recorded, or the stop is recorded
-abbrev pub InputFits : Parts → Input → Type 0
-InputFits program (Event e) = EventFits program e
-InputFits program (Stop g) = IsRecorded g
+-- the fault is that of a log behind whose lines stands a record of the external input, with this number
+abbrev pub IsInputFault : PlanParts → List Row → Entry → ℕ → LogFault → Type 0
+IsInputFault plan t entry number f = (base : PlanParts) (bytes : List ℕ) (lines : List Line) → StandsBehind base.program bytes lines (λ f. IsEntry base.program f entry) → HasTold base (inputs lines) plan → rows lines ≡ t → number ≡ length (inputs lines) + 2 → IsFaultOf base bytes f
 
--- the fault is that of a log whose next line tells the input and has this number
-abbrev pub IsInputFault : PlanParts → Follower → Input → ℕ → LogFault → Type 0
-IsInputFault plan follower input number f = (base : PlanParts) (bytes : List ℕ) (parts : List Part) → StandsBehind base.program bytes parts (IsInputLine base.program input) → HasTold base (inputs parts) plan → IsFollowerOf plan (rows parts) follower → number ≡ length (inputs parts) + 2 → IsFaultOf base bytes f
+-- the tag is before this one, where there is one
+abbrev pub IsBeforeLatest : Tag → Option Tag → Type 0
+IsBeforeLatest g None = ⊥
+IsBeforeLatest g (Some latest) = Before g latest
+
+-- the latest tag of rows, where there are some: a tag is passed where it is before it
+abbrev pub IsLatest : List Row → Option Tag → Type 0
+IsLatest t latest = (g : Tag) → IsPassed t g ↔ IsBeforeLatest g latest
+
+-- the next line is an external input of which the fault is told, behind these rows and so many external inputs, where the plan has these
+abbrev pub IsRefused : PlanParts → List Row → ℕ → List Line → Option LogFault → Type 0
+IsRefused plan t number lines fault = (entry : Entry) × (more : List Line) × (lines ≡ Input entry ∷ more) × ((f : LogFault) × (fault ≡ Some f) × IsInputFault plan t entry number f)
+
+-- behind these rows and so many external inputs the first lines of a front are taken: their external inputs are told to the plan in time; they are all, with the front's own fault, or the next is refused
+pub record IsTaken (old new : PlanParts) (t : List Row) (before : ℕ) (front : Front) (lines : List Line) (taken : Taken) : Type 0 where
+  pub first : List Line
+  pub others : List Line
+  pub parted : lines ≡ first ++ others
+  pub counted : taken.rows ≡ length (rows first)
+  pub numbered : taken.inputs ≡ length (inputs first)
+  pub timely : AreTimely t first
+  pub told : (base : PlanParts) (earlier : List Entry) → HasTold base earlier old → HasTold base (earlier ++ inputs first) new
+  pub ends : (others ≡ []) × (taken.fault ≡ front.fault) ⊎ IsRefused new (t ++ rows first) (before + taken.inputs + 2) others taken.fault
 
 -- what is kept is right for the bytes, and the rest is that of a line whose end hasn't come
 pub record IsLog (base plan : PlanParts) (until : Option Tag) (bytes : List ℕ) (log : Log) : Type 0 where
@@ -136,11 +147,11 @@ pub record IsLog (base plan : PlanParts) (until : Option Tag) (bytes : List ℕ)
 
 -- the rows that are read are those with which the bytes begin, for the plan that they tell
 abbrev pub HasRead : PlanParts → PlanParts → List ℕ → LogRows → Type 0
-HasRead base plan bytes r = ((rest : List ℕ) × TellsPlan base bytes plan r.rows.items rest) × RowsFit plan.program r.rows.items
+HasRead base plan bytes r = ((others : List (List (List ℕ))) × (rest : List ℕ) × TellsPlan base bytes plan r.rows.items others rest) × RowsFit plan.program r.rows.items
 
 -- the same, up to a rest, and they are followed
 pub record IsReadSoFar (base plan : PlanParts) (bytes rest : List ℕ) (r : LogRows) : Type 0 where
-  pub tells : TellsPlan base bytes plan r.rows.items rest
+  pub tells : TellsPlan base bytes plan r.rows.items [] rest
   pub fit : RowsFit plan.program r.rows.items
   pub follower : IsFollowerOf plan r.rows.items r.follower
 

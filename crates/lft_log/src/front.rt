@@ -1,27 +1,29 @@
-//! The rows of the first lines, up to one that is none.
+//! What whole lines tell, up to one that tells nothing.
 
-ghost use Rattle.std.specs.Prelude.{◌≡◌, ◌≤◌, ◌<◌, ◌+◌, ◌^◌, ℕ, length, take, drop, false, IfOk, IfSome};
-ghost use Rattle.lft_trace.specs.Faults.{is_told};
-ghost use Rattle.lft_trace.specs.Parts.{BeginsPlain, EndsLine, HasNoQuote};
+ghost use Rattle.std.specs.Prelude.{◌≡◌, ◌≤◌, ◌^◌, ℕ, List, length, false, None, IfOk, IfSome};
+ghost use Rattle.lft_flat.specs.Parts.{Parts};
 ghost use Rattle.lft_steps.specs.Fits.{RowsFit};
-ghost use Rattle.lft_log.specs.Logs.{AreLines, AreRowLines, IsFront, IsRowFault};
+ghost use Rattle.lft_trace.specs.LogTables.{InputsFit, ReadsLines, StopsAt};
+ghost use Rattle.lft_trace.specs.Parts.{BeginsPlain, EndsLine};
+ghost use Rattle.lft_log.specs.Logs.{AreLines, IsFront, IsRecordFault, records_below};
 
 use crate::fault::LogFault;
-use crate::lines::{HEADER, line_end, plain_lines};
+use crate::lines::{first_line, is_input, plain_lines};
 use lft_flat::Program;
 use lft_steps::Row;
 use lft_tag::NoMemory;
-use lft_trace::{TraceFault, read_batch, read_trace};
+use lft_trace::records::Unread;
+use lft_trace::{Among, LineFault, LogLines, read_log};
 use std::alloc::Global;
 
 /// A reader of tables takes a byte order mark off where a text begins.
 const MARK: u8 = 239;
 
-/// The rows of lines up to a place, and the fault of the line there, if it is no row.
+/// The rows and the external inputs of lines, and the fault of the line behind them, if it has one.
 #[derive(Drop)]
 pub(crate) struct Front {
     pub rows: Vec<Row>,
-    pub end: usize,
+    pub inputs: Vec<Among>,
     pub fault: Option<LogFault>,
 }
 
@@ -32,124 +34,85 @@ fn may_begin_with_mark(lines: &[u8]) -> bool
     !lines.is_empty() && lines[0] == MARK
 }
 
-/// The rows of whole lines without a quotation mark, if each is a row.
-fn read_rows(alloc: Global, program: &Program, lines: &[u8]) -> Option<Vec<Row>>
-    requires lines { AreLines lines.now }
-    requires plain { HasNoQuote lines.now }
-    ensures held { IfSome result (λ rows. AreRowLines program.now lines.now rows.items) }
-    ensures fit { IfSome result (λ rows. RowsFit program.now rows.items) }
+/// What lines tell that stand below others. A reader takes a byte order mark off where a text begins, so
+/// an empty line is put before lines that may begin with one. An empty line is no record.
+fn read_below(alloc: Global, program: &Program, lines: &[u8]) -> Result<LogLines, Unread>
+    ensures read { IfOk result (λ read. ReadsLines program.now (records_below lines.now) read) }
+    ensures rows { IfOk result (λ read. RowsFit program.now read.rows.items) }
+    ensures inputs { IfOk result (λ read. InputsFit program.now read.inputs.items) }
 {
-    if may_begin_with_mark(lines) {
-        return None;
+    if !may_begin_with_mark(lines) {
+        return read_log(alloc, program, lines);
     }
-    let (rows, behind) = read_batch(alloc, program, lines, lines.len())?;
-    if behind.is_empty() { Some(rows) } else { None }
+    let Ok(mut text) = Vec::from_slice(alloc, b"\n") else {
+        return Err(Unread::NoMemory);
+    };
+    let Ok(()) = text.extend_from_slice(lines) else {
+        return Err(Unread::NoMemory);
+    };
+    read_log(alloc, program, text.as_slice())
 }
 
-/// Whether the fault tells something of the line.
-fn is_told(fault: TraceFault) -> bool
-    ensures { result ≡ is_told fault }
+/// The fault of the first line, which isn't plain. It has one of these numbers.
+fn fault_of_odd(lines: &[u8], row: u64, input: u64) -> LogFault
+    requires { EndsLine lines.now }
+    ensures { (program : Parts) (records : List (List (List ℕ))) → IsRecordFault program records row input result }
 {
-    !matches!(fault, TraceFault::NotCsv | TraceFault::NoMemory)
-}
-
-/// The fault of this line of this number, which is no row.
-fn fault_of_line(alloc: Global, program: &Program, line: &[u8], number: u64) -> LogFault
-    requires { EndsLine line.now }
-    ensures { IsRowFault program.now line.now number result }
-{
-    let Ok(mut text) = Vec::from_slice(alloc, HEADER) else {
-        return LogFault::NoMemory;
-    };
-    let Ok(()) = text.extend_from_slice(line) else {
-        return LogFault::NoMemory;
-    };
-    match read_trace(alloc, program, text.as_slice()) {
-        Err(fault) if is_told(fault) => LogFault::NoRow(fault, number),
-        _ => LogFault::NoMemory,
+    if is_input(&lines[0..first_line(lines)]) {
+        LogFault::NotPlainInput(input)
+    } else {
+        LogFault::NotPlain(row)
     }
 }
 
-/// Where the first line begins that is no row, or where the lines end.
-fn place_of_no_row(alloc: Global, program: &Program, lines: &[u8]) -> usize
-    requires lines { AreLines lines.now }
-    requires plain { HasNoQuote lines.now }
-    ensures within { result ≤ length lines.now }
-    ensures lines { AreLines (take result lines.now) }
-    ensures rest { AreLines (drop result lines.now) }
+/// The fault of the record behind those that are read, or else of the first line that isn't plain. It has
+/// one of these numbers.
+fn fault_behind(
+    fault: Option<LineFault>,
+    behind: &[u8],
+    row: u64,
+    input: u64,
+) -> Option<LogFault>
+    requires { AreLines behind.now }
+    ensures all { result ≡ None → (fault ≡ None) × (length behind.now ≡ 0) }
+    ensures none { IfSome result (λ f. (program : Parts) (records : List (List (List ℕ))) → StopsAt program records fault → IsRecordFault program records row input f) }
 {
-    let mut begin = 0;
-    while begin < lines.len() {
-        let end = line_end(lines, begin);
-        if read_rows(alloc, program, &lines[begin..end]).is_none() {
-            return begin;
+    match fault {
+        Some(LineFault::NoRow(fault)) => Some(LogFault::NoRow(fault, row)),
+        Some(LineFault::NoInput(fault)) => Some(LogFault::NoInput(fault, input)),
+        None => {
+            if behind.is_empty() {
+                None
+            } else {
+                Some(fault_of_odd(behind, row, input))
+            }
         }
-        begin = end;
-    }
-    begin
-}
-
-/// The rows before the first line that is none, where so many rows stand before these.
-fn rows_before(
-    alloc: Global,
-    program: &Program,
-    lines: &[u8],
-    before: u64,
-) -> Result<Front, NoMemory>
-    requires few { before ≤ 2 ^ 62 }
-    requires lines { AreLines lines.now }
-    requires plain { HasNoQuote lines.now }
-    ensures { IfOk result (IsFront program.now lines.now before) }
-{
-    let end = place_of_no_row(alloc, program, lines);
-    let Some(rows) = read_rows(alloc, program, &lines[0..end]) else {
-        return Err(NoMemory);
-    };
-    if end == lines.len() {
-        return Err(NoMemory);
-    }
-    let line = &lines[end..line_end(lines, end)];
-    let number = before + rows.len() as u64 + 2;
-    let fault = Some(fault_of_line(alloc, program, line, number));
-    Ok(Front { rows, end, fault })
-}
-
-/// The rows of whole lines without a quotation mark, where so many rows stand before them.
-fn rows_of(alloc: Global, program: &Program, lines: &[u8], before: u64) -> Result<Front, NoMemory>
-    requires few { before ≤ 2 ^ 62 }
-    requires lines { AreLines lines.now }
-    requires plain { HasNoQuote lines.now }
-    ensures { IfOk result (IsFront program.now lines.now before) }
-{
-    match read_rows(alloc, program, lines) {
-        Some(rows) => Ok(Front {
-            rows,
-            end: lines.len(),
-            fault: None,
-        }),
-        None => rows_before(alloc, program, lines, before),
     }
 }
 
-/// The rows of the first lines, up to one that isn't plain or no row, where so many rows stand before them.
+/// What whole lines tell up to one that isn't plain or tells nothing, where so many rows and so many
+/// external inputs stand before them.
 pub(crate) fn read_front(
     alloc: Global,
     program: &Program,
     lines: &[u8],
-    before: u64,
+    rows_before: u64,
+    inputs_before: u64,
 ) -> Result<Front, NoMemory>
-    requires few { before ≤ 2 ^ 62 }
-    ensures { IfOk result (IsFront program.now lines.now before) }
+    requires few { (rows_before ≤ 2 ^ 62) × (inputs_before ≤ 2 ^ 62) }
+    requires lines { AreLines lines.now }
+    ensures { IfOk result (IsFront program.now lines.now rows_before inputs_before) }
 {
     let plain = plain_lines(lines);
-    let front = rows_of(alloc, program, &lines[0..plain], before)?;
-    if front.fault.is_some() || plain == lines.len() {
-        return Ok(front);
-    }
-    let line = before + front.rows.len() as u64 + 2;
+    let Ok(read) = read_below(alloc, program, &lines[0..plain]) else {
+        return Err(NoMemory);
+    };
+    let row = rows_before + read.rows.len() as u64 + 2;
+    let input = inputs_before + read.inputs.len() as u64 + 2;
+    let fault = fault_behind(read.fault, &lines[plain..lines.len()], row, input);
     Ok(Front {
-        rows: front.rows,
-        end: front.end,
-        fault: Some(LogFault::NotPlain(line)),
+        rows: read.rows,
+        inputs: read.inputs,
+        fault,
     })
 }

@@ -4,8 +4,8 @@ ghost use Rattle.lft_log.specs.Logs.{LogLaw};
 
 use lft_flat::Program;
 
-/// Without its lines of external inputs a log of whole lines is the trace table of the rows that are
-/// followed.
+/// Without the records of external inputs the whole lines of a log are the trace table of the rows that
+/// are followed.
 pub fn law_log(program: &Program)
     ensures { LogLaw program.now }
 {

@@ -4,7 +4,6 @@
 mod asked;
 mod fault;
 mod front;
-mod input;
 mod laws;
 mod lines;
 mod log;

@@ -1,13 +1,13 @@
 //! Lines of a table that comes in pieces.
 
-ghost use Rattle.std.specs.Prelude.{◌≡◌, ◌≤◌, ◌<◌, ◌++◌, ℕ, List, length, take, drop, slice_range, IfSome};
+ghost use Rattle.std.specs.Prelude.{◌≡◌, ◌≤◌, ◌++◌, ℕ, List, length, take, drop, IfSome};
 ghost use Rattle.lft_trace.specs.Parts.{EndsLine, HasNoQuote};
 ghost use Rattle.lft_log.specs.Logs.{AreLines, HasNoEnd, IsHead};
 
 use memchr::{memchr, memchr_iter, memrchr};
 
 /// The header's line.
-pub(crate) const HEADER: &[u8] = b"event,worker,time,microstep,reaction,name,value,delay\n";
+const HEADER: &[u8] = b"event,worker,time,microstep,reaction,name,value,delay\n";
 
 /// The same as writers of tables in CSV mostly end their lines.
 const HEADER_OF_CSV: &[u8] = b"event,worker,time,microstep,reaction,name,value,delay\r\n";
@@ -35,10 +35,9 @@ pub(crate) fn whole_lines(text: &[u8]) -> usize
 }
 
 /// How many bytes the first of whole lines has.
-fn first_line(lines: &[u8]) -> usize
+pub(crate) fn first_line(lines: &[u8]) -> usize
     requires { EndsLine lines.now }
     ensures within { result ≤ length lines.now }
-    ensures some { 0 < result }
     ensures line { EndsLine (take result lines.now) }
 {
     match memchr(b'\n', lines) {
@@ -47,58 +46,11 @@ fn first_line(lines: &[u8]) -> usize
     }
 }
 
-/// Where the line ends that begins at the place.
-pub(crate) fn line_end(lines: &[u8], begin: usize) -> usize
-    requires within { begin < length lines.now }
-    requires lines { AreLines (take begin lines.now) }
-    requires rest { AreLines (drop begin lines.now) }
-    ensures within { (begin < result) × (result ≤ length lines.now) }
-    ensures line { EndsLine (slice_range lines.now begin result) }
-    ensures lines { AreLines (take result lines.now) }
-    ensures rest { AreLines (drop result lines.now) }
-{
-    begin + first_line(&lines[begin..lines.len()])
-}
-
 /// Whether the line is of an external input: it begins with the word of one, and has five parts. A row
 /// has eight.
-fn is_input(line: &[u8]) -> bool {
+pub(crate) fn is_input(line: &[u8]) -> bool {
     (line.starts_with(b"event,") || line.starts_with(b"stop,"))
         && memchr_iter(b',', line).count() == 4
-}
-
-/// Where the first line of an external input begins, or where the lines end.
-fn input_begin(lines: &[u8]) -> usize
-    requires { AreLines lines.now }
-    ensures within { result ≤ length lines.now }
-    ensures lines { AreLines (take result lines.now) }
-    ensures rest { AreLines (drop result lines.now) }
-{
-    let mut begin = 0;
-    while begin < lines.len() {
-        let end = line_end(lines, begin);
-        if is_input(&lines[begin..end]) {
-            return begin;
-        }
-        begin = end;
-    }
-    begin
-}
-
-/// How many bytes the first part of whole lines has, and whether it is the line of an external input.
-/// Else it is lines before one.
-pub(crate) fn first_part(lines: &[u8]) -> (usize, bool)
-    requires { EndsLine lines.now }
-    ensures within { (0 < result.0) × (result.0 ≤ length lines.now) }
-    ensures part { EndsLine (take result.0 lines.now) }
-    ensures rest { AreLines (drop result.0 lines.now) }
-{
-    let begin = input_begin(lines);
-    if begin > 0 {
-        (begin, false)
-    } else {
-        (line_end(lines, 0), true)
-    }
 }
 
 /// Whether a line feed stands at the place.

@@ -14,9 +14,8 @@ ghost use Rattle.lft_log.specs.Told.{GoPast, IsAskedOf, IsBegun, IsEnded, IsFaul
 use crate::asked::Asked;
 use crate::fault::LogFault;
 use crate::front::read_front;
-use crate::input::read_input;
-use crate::lines::{below_header, first_part, is_whole, whole_lines};
-use crate::telling::tell;
+use crate::lines::{below_header, is_whole, whole_lines};
+use crate::telling::tell_all;
 use crate::told::{Final, Told};
 use lft_follow::{Ending, Follower, Progress, Reach};
 use lft_model::Plan;
@@ -152,85 +151,6 @@ impl Log {
         self.follower.reach(plan)
     }
 
-    /// Goes on past lines of rows.
-    fn add_rows_of(
-        &mut self,
-        alloc: Global,
-        plan: &Plan,
-        lines: &[u8],
-    ) -> Result<Option<Told>, LogFault>
-        requires stands { (base : PlanParts) × (until : Option TheTag) × (bytes : List ℕ) × (behind : List ℕ) × IsBegun base plan.now until bytes (lines.now ++ behind) self.old }
-        ensures rest { self.new.rest ≡ self.old.rest }
-        ensures told { IfOk result (λ o. (base : PlanParts) (until : Option TheTag) (bytes behind : List ℕ) → IsBegun base plan.now until bytes (lines.now ++ behind) self.old → MatchOption o (IsBegun base plan.now until bytes behind self.new) (IsSoon base until bytes)) }
-        ensures fault { IfErr result (λ f. (base : PlanParts) (until : Option TheTag) (bytes behind : List ℕ) → IsBegun base plan.now until bytes (lines.now ++ behind) self.old → IsFaultOf base bytes f) }
-    {
-        if self.rows > MOST {
-            return Err(LogFault::TooManyRows);
-        }
-        let Ok(front) = read_front(alloc, plan.program(), lines, self.rows) else {
-            return Err(LogFault::NoMemory);
-        };
-        let rows = front.rows.as_slice();
-        self.rows += rows.len() as u64;
-        match add_asked(&mut self.follower, &mut self.asked, alloc, plan, rows) {
-            Ok(None) => match front.fault {
-                Some(fault) => Err(fault),
-                None => Ok(None),
-            },
-            Ok(Some(told)) => Ok(Some(told)),
-            Err(fault) => Err(fault),
-        }
-    }
-
-    /// Goes on past the line of an external input.
-    fn add_input(&mut self, alloc: Global, plan: &mut Plan, line: &[u8]) -> Result<(), LogFault>
-        requires line { EndsLine line.now }
-        ensures program { plan.new.program ≡ plan.old.program }
-        ensures rest { self.new.rest ≡ self.old.rest }
-        ensures told { IfOk result (λ _. (base : PlanParts) (until : Option TheTag) (bytes behind : List ℕ) → IsBegun base plan.old until bytes (line.now ++ behind) self.old → IsBegun base plan.new until bytes behind self.new) }
-        ensures fault { IfErr result (λ f. (base : PlanParts) (until : Option TheTag) (bytes behind : List ℕ) → IsBegun base plan.old until bytes (line.now ++ behind) self.old → IsFaultOf base bytes f) }
-    {
-        if self.inputs > MOST {
-            return Err(LogFault::TooManyInputs);
-        }
-        let number = self.inputs + 2;
-        let input = match read_input(alloc, plan.program(), line, number) {
-            Ok(input) => input,
-            Err(fault) => return Err(fault),
-        };
-        match tell(&mut self.follower, plan, input, number) {
-            Ok(()) => {
-                self.inputs += 1;
-                Ok(())
-            }
-            Err(fault) => Err(fault),
-        }
-    }
-
-    /// Goes on past lines of rows, or past the line of an external input.
-    fn add_part(
-        &mut self,
-        alloc: Global,
-        plan: &mut Plan,
-        lines: &[u8],
-        is_input: bool,
-    ) -> Result<Option<Told>, LogFault>
-        requires lines { EndsLine lines.now }
-        requires stands { (base : PlanParts) × (until : Option TheTag) × (bytes : List ℕ) × (behind : List ℕ) × IsBegun base plan.old until bytes (lines.now ++ behind) self.old }
-        ensures program { plan.new.program ≡ plan.old.program }
-        ensures rest { self.new.rest ≡ self.old.rest }
-        ensures told { IfOk result (λ o. (base : PlanParts) (until : Option TheTag) (bytes behind : List ℕ) → IsBegun base plan.old until bytes (lines.now ++ behind) self.old → MatchOption o (IsBegun base plan.new until bytes behind self.new) (IsSoon base until bytes)) }
-        ensures fault { IfErr result (λ f. (base : PlanParts) (until : Option TheTag) (bytes behind : List ℕ) → IsBegun base plan.old until bytes (lines.now ++ behind) self.old → IsFaultOf base bytes f) }
-    {
-        if !is_input {
-            return self.add_rows_of(alloc, plan, lines);
-        }
-        match self.add_input(alloc, plan, lines) {
-            Ok(()) => Ok(None),
-            Err(fault) => Err(fault),
-        }
-    }
-
     /// Goes on past whole lines below the header, which are all that is of no part yet.
     fn add_body(
         &mut self,
@@ -245,18 +165,27 @@ impl Log {
         ensures told { IfOk result (λ o. (base : PlanParts) (until : Option TheTag) (bytes : List ℕ) → IsBegun base plan.old until bytes lines.now self.old → MatchOption o (IsBegun base plan.new until bytes [] self.new) (IsSoon base until bytes)) }
         ensures fault { IfErr result (λ f. (base : PlanParts) (until : Option TheTag) (bytes : List ℕ) → IsBegun base plan.old until bytes lines.now self.old → IsFaultOf base bytes f) }
     {
-        let mut begin = 0;
-        while begin < lines.len() {
-            let left = &lines[begin..lines.len()];
-            let (end, is_input) = first_part(left);
-            match self.add_part(alloc, plan, &left[0..end], is_input) {
-                Ok(None) => {}
-                Ok(Some(told)) => return Ok(Some(told)),
-                Err(fault) => return Err(fault),
-            }
-            begin += end;
+        if self.rows > MOST {
+            return Err(LogFault::TooManyRows);
         }
-        Ok(None)
+        if self.inputs > MOST {
+            return Err(LogFault::TooManyInputs);
+        }
+        let Ok(front) = read_front(alloc, plan.program(), lines, self.rows, self.inputs) else {
+            return Err(LogFault::NoMemory);
+        };
+        let taken = tell_all(&mut self.follower, plan, &front, self.inputs);
+        self.inputs += taken.inputs as u64;
+        self.rows += taken.rows as u64;
+        let rows = &front.rows.as_slice()[0..taken.rows];
+        match add_asked(&mut self.follower, &mut self.asked, alloc, plan, rows) {
+            Ok(None) => match taken.fault {
+                Some(fault) => Err(fault),
+                None => Ok(None),
+            },
+            Ok(Some(told)) => Ok(Some(told)),
+            Err(fault) => Err(fault),
+        }
     }
 
     /// Goes on past whole lines, which are all that is of no part yet.

@@ -3,13 +3,12 @@
 ghost use Rattle.std.specs.Prelude.{◌≡◌, ◌++◌, ◌∷◌, ◌≤◌, ◌<◌, List, [], ℕ, length, drop, slice_range, IfOk, IfSome, MatchOption};
 ghost use Rattle.lft_model.specs.Plans.{PlanParts};
 ghost use Rattle.lft_steps.specs.Fits.{RowsFit};
-ghost use Rattle.lft_trace.specs.Parts.{EndsLine};
+ghost use Rattle.lft_log.specs.Logs.{AreLines};
 ghost use Rattle.lft_log.specs.Told.{HasRead, IsReadOn, IsReadSoFar, TellsPlan};
 
 use crate::front::read_front;
-use crate::input::read_input;
-use crate::lines::{below_header, first_part, is_whole, whole_lines};
-use crate::telling::tell;
+use crate::lines::{below_header, is_whole, whole_lines};
+use crate::telling::tell_all;
 use lft_follow::{Follower, Progress};
 use lft_model::Plan;
 use lft_steps::Row;
@@ -26,36 +25,38 @@ pub(crate) struct LogRows {
     follower: Follower,
 }
 
-/// Where the part of a log ends that begins at the place, and whether it is the line of an external input.
-/// None where no line ends.
-fn next_part(text: &[u8], begin: usize) -> Option<(usize, bool)>
+/// Where the whole lines of a part of a text end that begins at the place. None where no line ends.
+fn lines_end(text: &[u8], begin: usize) -> Option<usize>
     requires { begin < length text.now }
-    ensures within { IfSome result (λ p. (begin < p.0) × (p.0 ≤ length text.now)) }
-    ensures line { IfSome result (λ p. EndsLine (slice_range text.now begin p.0)) }
+    ensures within { IfSome result (λ end. (begin < end) × (end ≤ length text.now)) }
+    ensures lines { IfSome result (λ end. AreLines (slice_range text.now begin end)) }
 {
     let size = (text.len() - begin).min(MOST);
-    let piece = &text[begin..begin + size];
-    let end = whole_lines(piece);
-    if end == 0 {
-        return None;
-    }
-    let (end, is_input) = first_part(&piece[0..end]);
-    Some((begin + end, is_input))
+    let whole = whole_lines(&text[begin..begin + size]);
+    if whole > 0 { Some(begin + whole) } else { None }
 }
 
 impl LogRows {
-    /// Goes on past lines of rows. It is false where no more is to be read.
-    fn add_rows(&mut self, alloc: Global, plan: &Plan, lines: &[u8]) -> Result<bool, NoMemory>
-        requires stands { (base : PlanParts) × (bytes rest : List ℕ) × IsReadSoFar base plan.now bytes rest self.old }
-        ensures { IfOk result (λ on. (base : PlanParts) (bytes behind : List ℕ) → IsReadSoFar base plan.now bytes (lines.now ++ behind) self.old → IsReadOn on base plan.now bytes behind self.new) }
+    /// Goes on past whole lines. It is false where no more is to be read.
+    fn add_lines(
+        &mut self,
+        alloc: Global,
+        plan: &mut Plan,
+        lines: &[u8],
+    ) -> Result<bool, NoMemory>
+        requires lines { AreLines lines.now }
+        requires stands { (base : PlanParts) × (bytes rest : List ℕ) × IsReadSoFar base plan.old bytes (lines.now ++ rest) self.old }
+        ensures program { plan.new.program ≡ plan.old.program }
+        ensures read { IfOk result (λ on. (base : PlanParts) (bytes behind : List ℕ) → IsReadSoFar base plan.old bytes (lines.now ++ behind) self.old → IsReadOn on base plan.new bytes behind self.new) }
     {
-        let front = read_front(alloc, plan.program(), lines, 0)?;
-        let rows = front.rows.as_slice();
-        if rows.len() > MAX_ROWS - self.rows.len() {
+        let front = read_front(alloc, plan.program(), lines, 0, 0)?;
+        if front.rows.len() > MAX_ROWS - self.rows.len() {
             return Ok(false);
         }
+        let taken = tell_all(&mut self.follower, plan, &front, 0);
+        let rows = &front.rows.as_slice()[0..taken.rows];
         self.rows.extend_from_slice(rows)?;
-        if front.fault.is_some() {
+        if taken.fault.is_some() {
             return Ok(false);
         }
         match self.follower.add(alloc, plan, rows)? {
@@ -64,44 +65,9 @@ impl LogRows {
         }
     }
 
-    /// Goes on past the line of an external input. It is false where no more is to be read.
-    fn add_input(&mut self, alloc: Global, plan: &mut Plan, line: &[u8]) -> bool
-        requires { EndsLine line.now }
-        ensures program { plan.new.program ≡ plan.old.program }
-        ensures read { (base : PlanParts) (bytes behind : List ℕ) → IsReadSoFar base plan.old bytes (line.now ++ behind) self.old → IsReadOn result base plan.new bytes behind self.new }
-    {
-        let Ok(input) = read_input(alloc, plan.program(), line, 0) else {
-            return false;
-        };
-        match tell(&mut self.follower, plan, input, 0) {
-            Ok(()) => true,
-            Err(_) => false,
-        }
-    }
-
-    /// Goes on past a part of a log. It is false where no more is to be read.
-    fn add_part(
-        &mut self,
-        alloc: Global,
-        plan: &mut Plan,
-        part: &[u8],
-        is_input: bool,
-    ) -> Result<bool, NoMemory>
-        requires line { EndsLine part.now }
-        requires stands { (base : PlanParts) × (bytes rest : List ℕ) × IsReadSoFar base plan.old bytes rest self.old }
-        ensures program { plan.new.program ≡ plan.old.program }
-        ensures read { IfOk result (λ on. (base : PlanParts) (bytes behind : List ℕ) → IsReadSoFar base plan.old bytes (part.now ++ behind) self.old → IsReadOn on base plan.new bytes behind self.new) }
-    {
-        if is_input {
-            Ok(self.add_input(alloc, plan, part))
-        } else {
-            self.add_rows(alloc, plan, part)
-        }
-    }
-
     /// Goes on past the lines of a text. It gives where those that are read end, or nothing where no more is
     /// to be read.
-    fn add_lines(
+    fn add_text(
         &mut self,
         alloc: Global,
         plan: &mut Plan,
@@ -114,10 +80,10 @@ impl LogRows {
     {
         let mut begin = 0;
         while begin < text.len() {
-            let Some((end, is_input)) = next_part(text, begin) else {
+            let Some(end) = lines_end(text, begin) else {
                 return Ok(Some(begin));
             };
-            if !self.add_part(alloc, plan, &text[begin..end], is_input)? {
+            if !self.add_lines(alloc, plan, &text[begin..end])? {
                 return Ok(None);
             }
             begin = end;
@@ -132,7 +98,7 @@ impl LogRows {
 /// can be missing of it.
 pub fn rows_of_log(alloc: Global, plan: &mut Plan, log: &[u8]) -> Result<Option<Vec<Row>>, NoMemory>
     ensures program { plan.new.program ≡ plan.old.program }
-    ensures told { IfOk result (λ o. IfSome o (λ rows. (rest : List ℕ) × TellsPlan plan.old (log.now ++ 10 ∷ []) plan.new rows.items rest)) }
+    ensures told { IfOk result (λ o. IfSome o (λ rows. (others : List (List (List ℕ))) × (rest : List ℕ) × TellsPlan plan.old (log.now ++ 10 ∷ []) plan.new rows.items others rest)) }
     ensures fit { IfOk result (λ o. IfSome o (λ rows. RowsFit plan.new.program rows.items)) }
 {
     let Some(body) = below_header(log) else {
@@ -144,7 +110,7 @@ pub fn rows_of_log(alloc: Global, plan: &mut Plan, log: &[u8]) -> Result<Option<
         rows: Vec::new(alloc),
         follower: Follower::new(alloc, plan)?,
     };
-    let Some(end) = read.add_lines(alloc, plan, body)? else {
+    let Some(end) = read.add_text(alloc, plan, body)? else {
         return Ok(Some(read.rows));
     };
     let last = &body[end..body.len()];
@@ -153,6 +119,6 @@ pub fn rows_of_log(alloc: Global, plan: &mut Plan, log: &[u8]) -> Result<Option<
     }
     let mut line = Vec::from_slice(alloc, last)?;
     line.push(b'\n')?;
-    let _ = read.add_lines(alloc, plan, line.as_slice())?;
+    let _ = read.add_text(alloc, plan, line.as_slice())?;
     Ok(Some(read.rows))
 }

@@ -1,13 +1,12 @@
 -- The reaction of a breach that is told.
 use Rattle.std.proofs.Common.{◌≡◌, ◌<◌, ◌⊎◌, inl, inr, ℕ, Bool, List, [], ◌∷◌, ◌++◌, Option, Some, None, length, take, sym, subst, slice_get}
-use Rattle.std.specs.List.{flat_map}
+use Rattle.std.specs.List.{AllZip}
 use Rattle.std.proofs.lemmas.Option.{slice_get_within}
 use Rattle.lft_tag.specs.declared.Tag.{Tag}
 use Rattle.lft_lists.proofs.Places.{get_left}
 use Rattle.lft_lists.proofs.Zips.{behind}
 use Rattle.lft_flat.specs.Parts.{Parts}
 use Rattle.lft_flat.specs.Sound.{IsSound}
-use Rattle.lft_trace.specs.Records.{records_of}
 use Rattle.lft_trace.specs.Traces.{IsRow}
 use Rattle.lft_steps.specs.declared.row.Row.{Row}
 use Rattle.lft_model.specs.Plans.{PlanParts}
@@ -17,18 +16,18 @@ use Rattle.lft_front.specs.Lines.{HasReaction}
 use Rattle.lft_follow.specs.declared.found.Found.{Found}
 use Rattle.lft_follow.specs.declared.judged.Ending.TheVariants as ending
 use Rattle.lft_follow.specs.Follows.{IsSureBehind, IsFirstBehind, breach_of}
-use Rattle.lft_log.specs.Logs.{AreRowLines, row_text_of}
+use Rattle.lft_log.specs.Logs.{row_records}
 use Rattle.lft_log.specs.Told.{IsEnded, IsFinal, IsSoon, TellsPlan}
-use Rattle.lft_log.proofs.Holding.{row_lines}
+use Rattle.lft_log.proofs.Behind.{rows_each}
 use Rattle.lft_log.specs.declared.told.Told.TheVariants.{Broken, Odd, Reached}
 use Rattle.lft_log.specs.declared.told.Final.{Final}
 use Rattle.lft_log.specs.declared.told.Final.TheVariants.{Soon, AtEnd}
 use Rattle.lft_monitor.specs.Lines.{HasFound}
 
--- the reaction of a row of the bytes is one of the program
-of_row : (program : Parts) (text : List ℕ) (t : List Row) (i : ℕ) (x : Row) → IsSound program → AreRowLines program text t → slice_get t i ≡ Some x → x.reaction < length program.reactions
-of_row program text t i x sound held e =
-    let b = behind (IsRow program) (records_of text) t i x held.rows.1 e in
+-- the reaction of a row of a record is one of the program
+of_row : (program : Parts) (records : List (List (List ℕ))) (t : List Row) (i : ℕ) (x : Row) → IsSound program → AllZip (IsRow program) records t → slice_get t i ≡ Some x → x.reaction < length program.reactions
+of_row program records t i x sound each e =
+    let b = behind (IsRow program) records t i x each e in
     rw (← sound.well_named.reactions) (slice_get_within program.names.reactions x.reaction b.1.0.reaction b.1.3.reaction)
 
 -- where the reactions of rows are of the program, so is that of what they break at a tag
@@ -41,31 +40,32 @@ module _ (plan : PlanParts) (t : List Row) (own : (i : ℕ) (x : Row) → slice_
   of_tag g (Some r) k (inr (inr (inr x))) = own x.1.place _ x.1.starts
 
 -- the reactions of rows of a log are of the program
-of_log : (base plan : PlanParts) (bytes rest : List ℕ) (t : List Row) → IsSound base.program → TellsPlan base bytes plan t rest → (i : ℕ) (x : Row) → slice_get t i ≡ Some x → x.reaction < length plan.program.reactions
-of_log base plan bytes rest t sound is i x e =
-    let held = subst (λ (u : List Row). AreRowLines base.program (flat_map row_text_of is.parts) u) is.rows_are (row_lines base.program is.parts is.held.each) in
-    subst (λ (p : Parts). x.reaction < length p.reactions) (sym is.told.program) (of_row base.program (flat_map row_text_of is.parts) t i x sound held e)
+of_log : (base plan : PlanParts) (bytes : List ℕ) (others : List (List (List ℕ))) (rest : List ℕ) (t : List Row) → IsSound base.program → TellsPlan base bytes plan t others rest → (i : ℕ) (x : Row) → slice_get t i ≡ Some x → x.reaction < length plan.program.reactions
+of_log base plan bytes others rest t sound is i x e =
+    let records = row_records is.held.first is.lines in
+    let each = subst (λ (u : List Row). AllZip (IsRow base.program) records u) is.rows_are (rows_each base.program is.held.first is.lines is.held.each) in
+    subst (λ (p : Parts). x.reaction < length p.reactions) (sym is.told.program) (of_row base.program records t i x sound each e)
 
 -- what is so of the plan of a log is so of the one given before
-of_base : (base plan : PlanParts) (bytes rest : List ℕ) (t : List Row) (o : Option ℕ) → TellsPlan base bytes plan t rest → HasReaction plan.program o → HasReaction base.program o
-of_base base plan bytes rest t o is x = subst (λ (p : Parts). HasReaction p o) is.told.program x
+of_base : (base plan : PlanParts) (bytes : List ℕ) (others : List (List (List ℕ))) (rest : List ℕ) (t : List Row) (o : Option ℕ) → TellsPlan base bytes plan t others rest → HasReaction plan.program o → HasReaction base.program o
+of_base base plan bytes others rest t o is x = subst (λ (p : Parts). HasReaction p o) is.told.program x
 
 of_found : (base : PlanParts) (until : Option Tag) (bytes : List ℕ) (b : Found) → IsSound base.program → IsSoon base until bytes (Broken b) → HasReaction base.program b.reaction
-of_found base until bytes b sound (plan, t, more, rest, is, (n, sure)) = of_base base plan bytes rest (t ++ more) b.reaction is (go sure)
+of_found base until bytes b sound (plan, t, more, others, rest, is, (n, sure)) = of_base base plan bytes others rest (t ++ more) b.reaction is (go sure)
   where
     own : (i : ℕ) (x : Row) → slice_get (take n t) i ≡ Some x → x.reaction < length plan.program.reactions
-    own i x e = of_log base plan bytes rest (t ++ more) sound is i x (get_left t more i x (slice_get_take n t i x e).1)
+    own i x e = of_log base plan bytes others rest (t ++ more) sound is i x (get_left t more i x (slice_get_take n t i x e).1)
 
     go : IsSureBehind plan t (breach_of b) n ⊎ IsFirstBehind plan t (breach_of b) n → HasReaction plan.program b.reaction
     go (inl o) = subst (λ r. HasReaction plan.program r) (sym o.breaks.reaction_is) (own o.breaks.place o.breaks.row o.breaks.is_row)
     go (inr o) = of_tag plan (take n t) own b.tag b.reaction b.rule o.first.breaks.breaks
 
-of_first : (base plan : PlanParts) (bytes : List ℕ) (t : List Row) (b : Found) → IsSound base.program → TellsPlan base bytes plan t [] → First plan t (breach_of b) → HasReaction base.program b.reaction
-of_first base plan bytes t b sound is first = of_base base plan bytes [] t b.reaction is (go first)
+of_first : (base plan : PlanParts) (bytes : List ℕ) (t : List Row) (b : Found) → IsSound base.program → TellsPlan base bytes plan t [] [] → First plan t (breach_of b) → HasReaction base.program b.reaction
+of_first base plan bytes t b sound is first = of_base base plan bytes [] [] t b.reaction is (go first)
   where
     go : First plan t (breach_of b) → HasReaction plan.program b.reaction
-    go (inl o) = subst (λ r. HasReaction plan.program r) (sym o.0.reaction_is) (of_log base plan bytes [] t sound is o.0.place o.0.row o.0.is_row)
-    go (inr o) = of_tag plan t (of_log base plan bytes [] t sound is) b.tag b.reaction b.rule o.1.breaks
+    go (inl o) = subst (λ r. HasReaction plan.program r) (sym o.0.reaction_is) (of_log base plan bytes [] [] t sound is o.0.place o.0.row o.0.is_row)
+    go (inr o) = of_tag plan t (of_log base plan bytes [] [] t sound is) b.tag b.reaction b.rule o.1.breaks
 
 of_final : (base : PlanParts) (until : Option Tag) (whole : Bool) (bytes : List ℕ) (told : Final) → IsSound base.program → IsFinal base until whole bytes told → HasFound base.program told
 of_final base until whole bytes (Soon (Broken b)) sound s = of_found base until bytes b sound s

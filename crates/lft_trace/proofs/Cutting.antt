@@ -125,6 +125,10 @@ stands_left (x ∷ xs) ys (suc i) c h = stands_left xs ys i c h
 quiet : (line a : List ℕ) → a ≡ line ++ 10 ∷ [] → HasNoQuote a → HasNoQuote line
 quiet line a is none i there = none i (ap (λ (t : List ℕ). slice_get t i) is ∙ stands_left line (10 ∷ []) i 34 there)
 
+-- whole lines without a quotation mark lead from where a record begins to where one begins
+pub lines_lead : (a : List ℕ) → HasNoQuote a → EndsLine a → LeadsToStart st.StartRecord a
+lines_lead a none (line, is) = subst (λ (t : List ℕ). LeadsToStart st.StartRecord t) (sym is) (leads st.StartRecord line refl (quiet line a is none))
+
 -- the records of a text that is cut behind a line, where no quotation mark stands before the cut and no byte order mark behind
 pub records_cut : (a b : List ℕ) → HasNoQuote a → EndsLine a → BeginsPlain b → records_of (a ++ b) ≡ records_of a ++ records_of b
 records_cut a b none (line, is) plain =

@@ -23,7 +23,7 @@ const ONLY_LINE: u32 = 2;
 
 /// What a record tells that stands among rows.
 #[derive(Clone, Copy, PartialEq, Eq, Drop)]
-pub(crate) enum Line {
+pub enum Line {
     Row(Row),
     Input(Entry),
 }

@@ -1,12 +1,19 @@
-use Rattle.std.proofs.Common.{List, IfOk, sym, subst}
+use Rattle.std.proofs.Common.{◌++◌, List, IfOk, IfErr, sym, subst}
 use Rattle.lft_steps.specs.declared.row.Row.{Row}
+use Rattle.lft_trace.specs.declared.external_table.Entry.{Entry}
 use Rattle.lft_follow.specs.Follows.{IsFollowerOf, IsPassed}
 use Rattle.lft_log.specs.Logs.{tag_of}
-use Rattle.lft_log.specs.declared.input.Input.{Input}
+use Rattle.lft_log.specs.Told.{IsInputFault}
 use Rattle.lft_log.proofs.telling.tell.Goals as goal
 
-pub returns-in-Event-clause-timely : goal.returns-in-Event-clause-timely
-returns-in-Event-clause-timely c = subst (λ (i : Input). IfOk c.tell_event.result (λ x. (t : List Row) → IsFollowerOf c.args.plan.now t c.args.follower.now → ¬ IsPassed t (tag_of i))) (sym c.in-Event.is) c.tell_event.ensures.timely
+pub returns-in-Happens-clause-timely : goal.returns-in-Happens-clause-timely
+returns-in-Happens-clause-timely c = subst (λ (e : Entry). IfOk c.tell_event.result (λ x. (t : List Row) → IsFollowerOf c.args.plan.now t c.args.follower.now → ¬ IsPassed t (tag_of e))) (sym c.in-Happens.is) c.tell_event.ensures.timely
 
-pub returns-in-Stop-clause-timely : goal.returns-in-Stop-clause-timely
-returns-in-Stop-clause-timely c = subst (λ (i : Input). IfOk c.tell_stop.result (λ x. (t : List Row) → IsFollowerOf c.args.plan.now t c.args.follower.now → ¬ IsPassed t (tag_of i))) (sym c.in-Stop.is) c.tell_stop.ensures.timely
+pub returns-in-Stops-clause-timely : goal.returns-in-Stops-clause-timely
+returns-in-Stops-clause-timely c = subst (λ (e : Entry). IfOk c.tell_stop.result (λ x. (t : List Row) → IsFollowerOf c.args.plan.now t c.args.follower.now → ¬ IsPassed t (tag_of e))) (sym c.in-Stops.is) c.tell_stop.ensures.timely
+
+pub returns-in-Happens-clause-fault : goal.returns-in-Happens-clause-fault
+returns-in-Happens-clause-fault c = subst (λ (e : Entry). IfErr c.tell_event.result (λ f. (t u : List Row) → IsFollowerOf c.args.plan.now t c.args.follower.now → IsInputFault c.args.plan.now (t ++ u) e c.args.number f)) (sym c.in-Happens.is) c.tell_event.ensures.fault
+
+pub returns-in-Stops-clause-fault : goal.returns-in-Stops-clause-fault
+returns-in-Stops-clause-fault c = subst (λ (e : Entry). IfErr c.tell_stop.result (λ f. (t u : List Row) → IsFollowerOf c.args.plan.now t c.args.follower.now → IsInputFault c.args.plan.now (t ++ u) e c.args.number f)) (sym c.in-Stops.is) c.tell_stop.ensures.fault

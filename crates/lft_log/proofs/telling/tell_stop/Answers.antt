@@ -1,5 +1,8 @@
-use Rattle.lft_log.specs.declared.input.Input.TheVariants.{Stop}
+use Rattle.std.proofs.Common.{sym, subst}
+use Rattle.lft_trace.specs.declared.external_table.Entry.TheVariants.{Stops}
+use Rattle.lft_follow.specs.Follows.{IsPassed}
 use Rattle.lft_log.proofs.Plans.{told_stop}
+use Rattle.lft_log.proofs.Inputs.{passed_left}
 use Rattle.lft_log.proofs.telling.tell_stop.Goals as goal
 
 pub returns-then-stop_at-clause-told : goal.returns-then-stop_at-clause-told
@@ -9,4 +12,4 @@ pub returns-then-stop_at-clause-timely : goal.returns-then-stop_at-clause-timely
 returns-then-stop_at-clause-timely c = λ t is passed. absurd (cc ((c.stop_at.ensures.late t is).1 passed, c.if-stop_at.true))
 
 pub returns-else-stop_at-clause-fault : goal.returns-else-stop_at-clause-fault
-returns-else-stop_at-clause-fault c = λ base bytes parts stands told follower numbered. (parts, Stop c.args.stop, stands, (c.stop_at.ensures.late _ follower).0 c.if-stop_at.false, numbered)
+returns-else-stop_at-clause-fault c = λ t u follower base bytes lines stands told same numbered. (lines, Stops c.args.stop, stands, subst (λ r. IsPassed r c.args.stop) (sym same) (passed_left t u c.args.stop ((c.stop_at.ensures.late t follower).0 c.if-stop_at.false)), numbered)

@@ -2,7 +2,8 @@ use Rattle.std.proofs.Common.{ℕ, ◌++◌, List, drop, length, slice_range, su
 use Rattle.std.proofs.lemmas.Result.{IfOk-weaker, IfErr-weaker}
 use Rattle.lft_log.specs.Logs.{HasNoEnd}
 use Rattle.lft_log.specs.Told.{IsFaultOf, IsSoon}
-use Rattle.lft_log.proofs.Keeping.{fault_longer, no_end_both, none_told, soon_longer}
+use Rattle.lft_log.proofs.Ends.{never_both}
+use Rattle.lft_log.proofs.Keeping.{fault_longer, none_told, soon_longer}
 use Rattle.lft_log.proofs.Pieces.{kept_behind, whole_piece}
 use Rattle.lft_log.proofs.log.Log.add.Goals as goal
 
@@ -10,7 +11,7 @@ pub returns-then-end-eq0-clause-told : goal.returns-then-end-eq0-clause-told
 returns-then-end-eq0-clause-told c = IfOk-weaker c.keep.result _ _ (λ o told base until bytes is.
     let piece = c.args.piece.now in
     let none = subst (λ (n : ℕ). HasNoEnd (drop n piece)) c.if-end-eq0.true c.whole_lines-end.ensures.rest in
-    none_told _ _ o (told base c.args.plan.now until bytes is.kept (no_end_both c.args.self.now.rest.items piece is.open_line none))) c.keep.ensures.told
+    none_told _ _ o (told base c.args.plan.now until bytes is.kept (never_both 10 c.args.self.now.rest.items piece is.open_line none))) c.keep.ensures.told
 
 pub returns-then-end-eq0-clause-fault : goal.returns-then-end-eq0-clause-fault
 returns-then-end-eq0-clause-fault c = IfErr-weaker c.keep.result _ _ (λ f any base until bytes is. any base (bytes ++ c.args.piece.now)) c.keep.ensures.fault

@@ -6,7 +6,7 @@ use Rattle.lft_log.proofs.log.Log.new.Goals as goal
 pub returns : goal.returns
 returns c = record {
   kept = record {
-    parts = [];
+    lines = [];
     told = told_none c.args.plan.now c.keeps.ensures.sound.in_order;
     timely = tt;
     follower = c.in_ok-new.ensures;

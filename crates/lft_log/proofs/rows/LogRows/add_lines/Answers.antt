@@ -1,34 +1,34 @@
-use Rattle.std.proofs.Common.{◌≤◌, ◌++◌, ◌∙◌, ℕ, List, drop, sym, subst, arith}
-use Rattle.lft_log.specs.Told.{IsReadSoFar}
-use Rattle.lft_log.proofs.Gathering.{read_on, split_at, still_read}
+use Rattle.std.proofs.Common.{◌≡◌, ◌-◌, ◌≤◌, ◌++◌, ◌∙◌, ℕ, List, drop, length, slice_range, sym, ap, subst, arith}
+use Rattle.lft_flat.specs.Parts.{Parts}
+use Rattle.lft_steps.specs.declared.row.Row.{Row}
+use Rattle.lft_follow.specs.Follows.{IsFollowerOf}
+use Rattle.lft_log.specs.Logs.{IsFront}
+use Rattle.lft_log.proofs.Gathering.{all_read, fit_first, has_read, none_is, rows_fit, rows_read}
 use Rattle.lft_log.proofs.rows.LogRows.add_lines.Goals as goal
 
-pub add_part-requires-clause-stands : goal.add_part-requires-clause-stands
-add_part-requires-clause-stands c =
-    let some = c.loop-begin.invariant.some in
-    (some.0, some.1, drop c.loop-begin.begin c.args.text.now ++ some.2, c.loop-begin.invariant.stands some.0 some.1 some.2 some.3)
+pub returns-then-is_some-clause-read : goal.returns-then-is_some-clause-read
+returns-then-is_some-clause-read c = λ base bytes behind is.
+    let old = c.args.plan.now in
+    let new = c.tell_all-taken.new.plan in
+    let taken = c.tell_all-taken.result in
+    let front = c.in_ok-front.front in
+    let t = c.args.self.now.rows.items in
+    let given = subst (λ (p : Parts). IsFront p c.args.lines.now 0 0 front) c.program.ensures.value c.in_ok-front.ensures in
+    let few : length front.rows.items ≤ 4000000 - length t = (let n = c.if-len.false in let a = c.len.ensures in let b = c.len-2.ensures in omega (arith, n, a, b)) in
+    rows_read base old new bytes c.args.lines.now behind c.args.self.now 0 0 front taken c.extend_from_slice.new.self.items is given c.tell_all-taken.ensures.program c.tell_all-taken.ensures.taken few (c.in_ok-extend_from_slice.ensures.items ∙ ap (λ (u : List Row). t ++ slice_range u 0 taken.rows) c.as_slice.ensures.value)
 
-pub returns-then-not-branch-clause-read : goal.returns-then-not-branch-clause-read
-returns-then-not-branch-clause-read c = λ base bytes behind is.
-    let text = c.args.text.now in
-    let begin = c.loop-begin.begin in
-    let end = c.in-Some.end in
-    let up : begin ≤ end = omega (arith, c.in-Some.ensures.within.0) in
-    let now = subst (λ (x : List ℕ). IsReadSoFar base c.loop-begin.plan bytes x c.loop-begin.self) (sym (split_at text behind begin end up)) (c.loop-begin.invariant.stands base bytes behind is) in
-    still_read base c.add_part.new.plan bytes (drop end text ++ behind) c.add_part.new.self c.in_ok-add_part.field-0 (c.in_ok-add_part.ensures.read base bytes (drop end text ++ behind) now)
-
-pub loop-begin-preserved : goal.loop-begin-preserved
-loop-begin-preserved c =
-    let text = c.args.text.now in
-    let begin = c.loop-begin.begin in
-    let end = c.in-Some.end in
-    let inv = c.loop-begin.invariant in
-    let up : begin ≤ end = omega (arith, c.in-Some.ensures.within.0) in
+pub returns-in-GoesOn-clause-read : goal.returns-in-GoesOn-clause-read
+returns-in-GoesOn-clause-read c = λ base bytes behind is.
+    let old = c.args.plan.now in
+    let new = c.tell_all-taken.new.plan in
+    let taken = c.tell_all-taken.result in
+    let front = c.in_ok-front.front in
+    let t = c.args.self.now.rows.items in
+    let given = subst (λ (p : Parts). IsFront p c.args.lines.now 0 0 front) c.program.ensures.value c.in_ok-front.ensures in
+    let few : length front.rows.items ≤ 4000000 - length t = (let n = c.if-len.false in let a = c.len.ensures in let b = c.len-2.ensures in omega (arith, n, a, b)) in
+    let whole = c.in_ok-extend_from_slice.ensures.items ∙ ap (λ (u : List Row). t ++ slice_range u 0 taken.rows) c.as_slice.ensures.value in
     record {
-      within = c.in-Some.ensures.within.1;
-      program = c.in_ok-add_part.ensures.program ∙ inv.program;
-      some = inv.some;
-      stands = λ base bytes behind is.
-          let now = subst (λ (x : List ℕ). IsReadSoFar base c.loop-begin.plan bytes x c.loop-begin.self) (sym (split_at text behind begin end up)) (inv.stands base bytes behind is) in
-          read_on base c.add_part.new.plan bytes (drop end text ++ behind) c.add_part.new.self c.in_ok-add_part.field-0 c.if-not-branch.false (c.in_ok-add_part.ensures.read base bytes (drop end text ++ behind) now);
+      tells = all_read base old new bytes c.args.lines.now behind c.args.self.now 0 0 front taken c.extend_from_slice.new.self.items is given c.tell_all-taken.ensures.program c.tell_all-taken.ensures.taken few whole (none_is taken.fault (sym c.is_some.ensures ∙ c.if-is_some.false));
+      fit = rows_fit base old new bytes c.args.lines.now behind c.args.self.now 0 0 front taken c.extend_from_slice.new.self.items is given c.tell_all-taken.ensures.program c.tell_all-taken.ensures.taken few whole;
+      follower = subst (λ (u : List Row). IsFollowerOf new u c.add.new.self) (sym c.in_ok-extend_from_slice.ensures.items) (rw c.in-GoesOn.is at (c.in_ok-add.ensures t (c.tell_all-taken.ensures.stands t is.follower)));
     }

@@ -1,0 +1,140 @@
+-- The first lines of a front are taken: they stand behind those of the log so far.
+use Rattle.std.proofs.Common.{◌≡◌, ◌+◌, ◌∙◌, ℕ, List, [], ◌∷◌, ◌++◌, ◌⊎◌, inl, inr, None, Some, length, take, drop, slice_range, refl, sym, ap, subst, arith}
+use Rattle.std.specs.List.{AllZip}
+use Rattle.std.proofs.Math.Seq.{take-append_seam}
+use Rattle.std.proofs.lemmas.List.{append_assoc, length-append}
+use Rattle.lft_flat.specs.Parts.{Parts}
+use Rattle.lft_trace.specs.ExternalTables.{IsEntry}
+use Rattle.lft_trace.specs.LogTables.{IsLine}
+use Rattle.lft_trace.specs.declared.external_table.Entry.{Entry}
+use Rattle.lft_trace.specs.declared.log_table.Line.{Line}
+use Rattle.lft_trace.specs.declared.log_table.Line.TheVariants.{Input}
+use Rattle.lft_steps.specs.declared.row.Row.{Row}
+use Rattle.lft_model.specs.Plans.{PlanParts}
+use Rattle.lft_log.specs.declared.fault.LogFault.{LogFault}
+use Rattle.lft_log.specs.declared.fault.LogFault.TheVariants.{NoHeader, NoRow, NotPlain, LongLine, TooManyRows, NoInput, NotPlainInput, LateInput, InputAgain, ManyLater, TooManyInputs, NoMemory}
+use Rattle.lft_log.specs.declared.front.Front.{Front}
+use Rattle.lft_log.specs.declared.telling.Taken.{Taken}
+use Rattle.lft_log.specs.Logs.{AreTimely, HoldSoFar, IsFront, IsRecordFault, inputs, rows}
+use Rattle.lft_log.specs.Told.{HasTold, IsFaultOf, IsRefused, IsTaken, StandsBehind, TellsPlan}
+use Rattle.lft_log.proofs.Fronts.{all_dropped, range_take}
+use Rattle.lft_log.proofs.Holding.{hold_cut, hold_front}
+use Rattle.lft_log.proofs.Behind.{inputs_both, rows_both, timely_both}
+
+-- no records tell no lines
+pub zip_none : {A B : Type 0} (R : A → B → Type 0) (fs : List A) (xs : List B) → xs ≡ [] → AllZip R fs xs → fs ≡ []
+zip_none R [] xs e h = refl
+zip_none R (f ∷ fs) [] e h = absurd h
+zip_none R (f ∷ fs) (x ∷ xs) e h = absurd (cc e)
+
+-- a fault of a record behind lines is one of the log
+record_fault : (base : PlanParts) (bytes : List ℕ) (lines : List Line) (others : List (List (List ℕ))) (rest : List ℕ) → HoldSoFar base.program bytes lines others rest → (row input : ℕ) (f : LogFault) → row ≡ length (rows lines) + 2 → input ≡ length (inputs lines) + 2 → IsRecordFault base.program others row input f → IsFaultOf base bytes f
+record_fault base bytes lines others rest h row input (NoRow e line) counted numbered x = (lines, (others, rest, h, x.1), x.0 ∙ counted)
+record_fault base bytes lines others rest h row input (NoInput e line) counted numbered x = (lines, (others, rest, h, x.1), x.0 ∙ numbered)
+record_fault base bytes lines others rest h row input (LateInput line) counted numbered x = absurd x
+record_fault base bytes lines others rest h row input (InputAgain line) counted numbered x = absurd x
+record_fault base bytes lines others rest h row input (ManyLater line) counted numbered x = absurd x
+record_fault base bytes lines others rest h row input NoHeader counted numbered x = tt
+record_fault base bytes lines others rest h row input (NotPlain line) counted numbered x = tt
+record_fault base bytes lines others rest h row input (LongLine line) counted numbered x = tt
+record_fault base bytes lines others rest h row input TooManyRows counted numbered x = tt
+record_fault base bytes lines others rest h row input (NotPlainInput line) counted numbered x = tt
+record_fault base bytes lines others rest h row input TooManyInputs counted numbered x = tt
+record_fault base bytes lines others rest h row input NoMemory counted numbered x = tt
+
+-- the next line is that of an external input
+behind_cut : (program : Parts) (bytes : List ℕ) (lines : List Line) (cut others : List (List (List ℕ))) (rest : List ℕ) (left : List Line) (entry : Entry) (more : List Line) → HoldSoFar program bytes lines (cut ++ others) rest → left ≡ Input entry ∷ more → AllZip (IsLine program) cut left → StandsBehind program bytes lines (λ f. IsEntry program f entry)
+behind_cut program bytes lines [] others rest left entry more h next each = absurd (subst (λ (l : List Line). AllZip (IsLine program) [] l) next each)
+behind_cut program bytes lines (f ∷ cut) others rest left entry more h next each =
+    let e = subst (λ (l : List Line). AllZip (IsLine program) (f ∷ cut) l) next each in
+    ((f ∷ cut) ++ others, rest, h, (f, cut ++ others, refl, e.0))
+
+-- the first lines of a front are taken
+module _ (base old new : PlanParts) (bytes text behind : List ℕ) (before : List Line) (rows_before inputs_before : ℕ) (front : Front) (taken : Taken) (held : HoldSoFar base.program bytes before [] (text ++ behind)) (fronts : IsFront base.program text rows_before inputs_before front) (is : IsTaken old new (rows before) inputs_before front fronts.lines taken) where
+  abbrev pub grown : List Line
+  grown = before ++ is.first
+
+  abbrev pub rest : List ℕ
+  rest = drop fronts.plain text ++ behind
+
+  whole : HoldSoFar base.program bytes (before ++ fronts.lines) fronts.others rest
+  whole = hold_front base.program bytes text behind before rows_before inputs_before front held fronts
+
+  parted : before ++ fronts.lines ≡ grown ++ is.others
+  parted = ap (λ (l : List Line). before ++ l) is.parted ∙ sym (append_assoc before is.first is.others)
+
+  pub cut : (cut : List (List (List ℕ))) × HoldSoFar base.program bytes grown (cut ++ fronts.others) rest × AllZip (IsLine base.program) cut is.others
+  cut = hold_cut base.program bytes rest grown is.others fronts.others (subst (λ (l : List Line). HoldSoFar base.program bytes l fronts.others rest) parted whole)
+
+  -- their rows are the first of the front
+  pub taken_rows : slice_range front.rows.items 0 taken.rows ≡ rows is.first
+  taken_rows =
+      let all : front.rows.items ≡ rows is.first ++ rows is.others = fronts.rows_are ∙ ap rows is.parted ∙ rows_both is.first is.others in
+      range_take front.rows.items taken.rows ∙ ap (λ (n : ℕ). take n front.rows.items) is.counted ∙ ap (λ (t : List Row). take (length (rows is.first)) t) all ∙ take-append_seam (rows is.first) (rows is.others)
+
+  pub grown_rows : rows grown ≡ rows before ++ slice_range front.rows.items 0 taken.rows
+  grown_rows = rows_both before is.first ∙ ap (λ (t : List Row). rows before ++ t) (sym taken_rows)
+
+  pub grown_numbered : length (inputs grown) ≡ length (inputs before) + taken.inputs
+  grown_numbered =
+      let long : length (inputs before ++ inputs is.first) ≡ length (inputs before) + length (inputs is.first) = length-append (inputs before) (inputs is.first) in
+      let both = ap (λ (l : List Entry). length l) (inputs_both before is.first) in
+      let numbered = is.numbered in
+      omega (arith, long, both, numbered)
+
+  -- without a fault they are all lines
+  pub all_held : taken.fault ≡ None → HoldSoFar base.program bytes grown [] behind
+  all_held none = go is.ends
+    where
+      go : (is.others ≡ []) × (taken.fault ≡ front.fault) ⊎ IsRefused new (rows before ++ rows is.first) (inputs_before + taken.inputs + 2) is.others taken.fault → HoldSoFar base.program bytes grown [] behind
+      go (inl (end, same)) =
+          let all = fronts.all (sym same ∙ none) in
+          let no_cut : cut.0 ≡ [] = zip_none (IsLine base.program) cut.0 is.others end cut.2 in
+          let no_others : cut.0 ++ fronts.others ≡ [] = ap (λ r. r ++ fronts.others) no_cut ∙ all.0 in
+          let no_rest : rest ≡ behind = ap (λ (x : List ℕ). x ++ behind) (all_dropped text fronts.plain all.1) in
+          subst (λ (x : List ℕ). HoldSoFar base.program bytes grown [] x) no_rest (subst (λ r. HoldSoFar base.program bytes grown r rest) no_others cut.1)
+      go (inr refused) = absurd (cc (none, refused.3.1))
+
+  module _ (timely : AreTimely [] before) (told : HasTold base (inputs before) old) where
+    pub grown_timely : AreTimely [] grown
+    grown_timely = timely_both [] before is.first timely is.timely
+
+    pub grown_told : HasTold base (inputs grown) new
+    grown_told = subst (λ (l : List Entry). HasTold base l new) (sym (inputs_both before is.first)) (is.told base (inputs before) told)
+
+    -- so these are the lines so far
+    pub grown_tells : (t : List Row) → t ≡ rows before ++ slice_range front.rows.items 0 taken.rows → TellsPlan base bytes new t (cut.0 ++ fronts.others) rest
+    grown_tells t e = record {
+      lines = grown;
+      held = cut.1;
+      rows_are = grown_rows ∙ sym e;
+      timely = grown_timely;
+      told = grown_told;
+    }
+
+    -- without a fault they are all
+    pub tells_all : taken.fault ≡ None → (t : List Row) → t ≡ rows before ++ slice_range front.rows.items 0 taken.rows → TellsPlan base bytes new t [] behind
+    tells_all none t e = record {
+      lines = grown;
+      held = all_held none;
+      rows_are = grown_rows ∙ sym e;
+      timely = grown_timely;
+      told = grown_told;
+    }
+
+    -- a fault is that of the next line
+    pub fault_held : (f : LogFault) → taken.fault ≡ Some f → rows_before ≡ length (rows before) → inputs_before ≡ length (inputs before) → IsFaultOf base bytes f
+    fault_held f named counted numbered = go is.ends
+      where
+        go : (is.others ≡ []) × (taken.fault ≡ front.fault) ⊎ IsRefused new (rows before ++ rows is.first) (inputs_before + taken.inputs + 2) is.others taken.fault → IsFaultOf base bytes f
+        go (inl (end, same)) =
+            let of = fronts.none f (sym same ∙ named) in
+            record_fault base bytes (before ++ fronts.lines) fronts.others rest whole _ _ f
+                (let l = length-append (rows before) (rows fronts.lines) in let b = ap (λ (t : List Row). length t) (rows_both before fronts.lines) in omega (arith, l, b, counted))
+                (let l = length-append (inputs before) (inputs fronts.lines) in let b = ap (λ (t : List Entry). length t) (inputs_both before fronts.lines) in omega (arith, l, b, numbered))
+                of
+        go (inr (entry, more, next, (g, has, of))) =
+            let same : g ≡ f = cc (has, named) in
+            let stands = behind_cut base.program bytes grown cut.0 fronts.others rest is.others entry more cut.1 next cut.2 in
+            let number : inputs_before + taken.inputs + 2 ≡ length (inputs grown) + 2 = omega (arith, grown_numbered, numbered) in
+            subst (λ (h : LogFault). IsFaultOf base bytes h) same (of base bytes grown stands grown_told (rows_both before is.first) number)

@@ -1,0 +1,7 @@
+use Rattle.std.proofs.Common.{◌++◌, List, take}
+use Rattle.lft_steps.specs.declared.row.Row.{Row}
+use Rattle.lft_log.specs.Told.{IsLatest}
+use Rattle.lft_log.proofs.telling.latest_of.Given as goal
+
+abbrev pub invariant-loop-place : goal.invariant-loop-place
+invariant-loop-place l = (t : List Row) → IsLatest t l.fn.before → IsLatest (t ++ take l.place l.rows) l.latest
