@@ -1,57 +1,141 @@
 -- What stays where shapes are made.
-use Rattle.std.proofs.Common.{◌≡◌, inl, inr, List, [], ◌∷◌, ◌++◌, Some, refl, sym, ap, subst, ◌∙◌}
-use Rattle.lft_lists.proofs.Places.{get_push_cases}
+use Rattle.std.proofs.Common.{◌≡◌, ◌⊎◌, ◌<◌, ℕ, inl, inr, List, [], ◌∷◌, ◌++◌, Option, Some, length, map, option_map, slice_get, slice_set, refl, sym, ap, subst, ◌∙◌}
+use Rattle.std.specs.Option.{option_and_then}
+use Rattle.std.proofs.lemmas.List.{length-map}
+use Rattle.std.proofs.lemmas.Option.{option_and_then_some}
+use Rattle.lft_lists.proofs.Mapped.{mapped, mapped_from, option_map_some}
+use Rattle.lft_lists.proofs.Places.{get_last, get_push, get_push_cases, get_write_cases}
 use Rattle.lft_shapes.specs.declared.making.Making.{Making}
 use Rattle.lft_shapes.specs.declared.scopes.Class.{Class}
 use Rattle.lft_shapes.specs.declared.scopes.Scopes.{Scopes}
-use Rattle.lft_shapes.specs.Built.{Core, IsBuilt, AreBuilt, cores, first_class}
-use Rattle.lft_shapes.specs.Makings.{AddsShape, GoesOn}
+use Rattle.lft_shapes.specs.declared.shapes.Child.{Child}
+use Rattle.lft_shapes.specs.declared.shapes.Shape.{Shape}
+use Rattle.lft_shapes.specs.Below.{IsBelow, itself}
+use Rattle.lft_shapes.specs.Built.{Core, IsBuilt, AreBuilt, AreInside, IsInside, core, cores, first_class}
+use Rattle.lft_shapes.specs.Makings.{AddsShape, AreMade, AreShapes, GoesOn, IsOfClass, SetsOne}
+use Rattle.lft_shapes.specs.Shapes.{child_at, inside, tables}
 
--- one more that is built
-pub built_push : (scopes : Scopes) (cs : List Core) (c : Core) → AreBuilt scopes cs → IsBuilt scopes c → AreBuilt scopes (cs ++ c ∷ [])
-built_push scopes cs c all is i d at = elim (get_push_cases cs c i d at) [ inl old ↦ all i d old | inr last ↦ subst (IsBuilt scopes) last.1 is ]
+-- the shapes of the one are among those of the other, at the same places
+abbrev pub Kept : List Core → List Core → Type 0
+Kept cs ds = (i : ℕ) (c : Core) → slice_get cs i ≡ Some c → slice_get ds i ≡ Some c
 
--- the first one stays
-pub first_push : (cs : List Core) (c : Core) (class : Class) → first_class cs ≡ Some class → first_class (cs ++ c ∷ []) ≡ Some class
-first_push [] c class e = absurd (cc)
-first_push (d ∷ ds) c class e = e
+pub class_kept : (cs ds : List Core) (s r : ℕ) → Kept cs ds → IsOfClass cs s r → IsOfClass ds s r
+class_kept cs ds s r kept is = record { core = is.core; is_core = kept s is.core is.is_core; is_of = is.is_of }
 
-pub goes_nowhere : (m : Making) → GoesOn m m
-goes_nowhere m = record { scopes = refl; built = λ all. all; first = λ c e. e }
-
-pub goes_added : (old new : Making) (class : Class) → AddsShape old new class → GoesOn old new
-goes_added old new class a = record {
-  scopes = a.scopes;
-  built = λ all. subst (AreBuilt old.scopes) (sym a.shapes) (built_push old.scopes (cores old.shapes.items) a.fresh all a.built);
-  first = λ c e. ap first_class a.shapes ∙ first_push (cores old.shapes.items) a.fresh c e;
+pub inside_kept : (scopes : Scopes) (cs ds : List Core) (s k t : ℕ) → Kept cs ds → IsInside scopes cs s k t → IsInside scopes ds s k t
+inside_kept scopes cs ds s k t kept is = record {
+  outer = is.outer;
+  is_outer = kept s is.outer is.is_outer;
+  member = is.member;
+  is_member = is.is_member;
+  inner = is.inner;
+  is_inner = kept t is.inner is.is_inner;
+  means = is.means;
 }
 
-pub goes_further : (one two three : Making) → GoesOn one two → GoesOn two three → GoesOn one three
-goes_further one two three a b = record {
+-- in one more in which nothing is noted there is nothing
+pub inside_push : (rows : List (List (Option Child))) (s k t : ℕ) → inside (rows ++ [] ∷ []) s k ≡ Some t → inside rows s k ≡ Some t
+inside_push rows s k t e =
+    let one = option_map_some (λ (c : Child). c.shape) (option_and_then (λ (children : List (Option Child)). child_at children k) (slice_get (rows ++ [] ∷ []) s)) t e in
+    option_and_then_some (λ (children : List (Option Child)). child_at children k) (slice_get (rows ++ [] ∷ []) s) one.0 one.1 (λ (children : List (Option Child)) at is. elim (get_push_cases rows [] s children at) [
+      | inl old ↦ ap (λ o. option_map (λ (c : Child). c.shape) (option_and_then (λ (cs : List (Option Child)). child_at cs k) o)) old ∙ ap (option_map (λ (c : Child). c.shape)) is ∙ ap Some one.2
+      | inr last ↦ absurd (let none = ap (λ (cs : List (Option Child)). child_at cs k) last.1 ∙ is in cc)
+    ])
+
+pub goes_nowhere : (needs : ℕ → Type 0) (m : Making) → GoesOn needs m m
+goes_nowhere needs m = record { scopes = refl; made = λ first n all. all; kept = λ i c e. e }
+
+pub goes_weaker : (needs more : ℕ → Type 0) (old new : Making) → ((first : ℕ) → more first → AreMade old.scopes first old → needs first) → GoesOn needs old new → GoesOn more old new
+goes_weaker needs more old new f g = record { scopes = g.scopes; made = λ first m all. g.made first (f first m all) all; kept = g.kept }
+
+module _ (old new : Making) (class : Class) (number : ℕ) (a : AddsShape old new class number) where
+  added_kept : Kept (cores old.shapes.items) (cores new.shapes.items)
+  added_kept i c e = ap (λ l. slice_get l i) a.shapes ∙ get_push (cores old.shapes.items) a.fresh i c e
+
+  pub added_class : IsOfClass (cores new.shapes.items) number class.number
+  added_class =
+      let long : number ≡ length (cores old.shapes.items) = a.number_is ∙ sym (length-map old.shapes.items core) in
+      record { core = a.fresh; is_core = ap (slice_get (cores new.shapes.items)) long ∙ ap (λ l. slice_get l (length (cores old.shapes.items))) a.shapes ∙ get_last (cores old.shapes.items) a.fresh; is_of = ap (λ (c : Class). c.number) a.is_of }
+
+  split : (i : ℕ) (c : Core) → slice_get (cores new.shapes.items) i ≡ Some c → (slice_get (cores old.shapes.items) i ≡ Some c) ⊎ ((i ≡ length (cores old.shapes.items)) × (a.fresh ≡ c))
+  split i c at = get_push_cases (cores old.shapes.items) a.fresh i c (ap (λ l. slice_get l i) (sym a.shapes) ∙ at)
+
+  added_made : (first : ℕ) → IsBelow old.scopes first class.number → AreMade old.scopes first old → AreMade old.scopes first new
+  added_made first below all = record {
+    shapes = record {
+      built = λ i c at. elim (split i c at) [ inl was ↦ all.shapes.built i c was | inr last ↦ subst (IsBuilt old.scopes) last.1 a.built ];
+      below = λ i c at. elim (split i c at) [ inl was ↦ all.shapes.below i c was | inr last ↦ subst (IsBelow old.scopes first) (sym (ap (λ (d : Class). d.number) a.is_of) ∙ ap (λ (d : Core). d.class.number) last.1) below ];
+      inside = λ s k t e. inside_kept old.scopes (cores old.shapes.items) (cores new.shapes.items) s k t added_kept (all.shapes.inside s k t (inside_push (tables old.shapes.items) s k t (ap (λ rows. inside rows s k) (sym a.empty) ∙ e)));
+    };
+    known = λ r s e. elim (a.knows r s e) [
+      | inl was ↦ class_kept (cores old.shapes.items) (cores new.shapes.items) s r added_kept (all.known r s was)
+      | inr this ↦ subst (λ n. IsOfClass (cores new.shapes.items) n r) (sym this.1) (subst (IsOfClass (cores new.shapes.items) number) (sym this.0) added_class)
+    ];
+  }
+
+  pub goes_added : GoesOn (λ first. IsBelow old.scopes first class.number) old new
+  goes_added = record { scopes = a.scopes; made = added_made; kept = added_kept }
+
+-- one step after the other
+pub goes_further : (needs : ℕ → Type 0) (one two three : Making) → GoesOn needs one two → GoesOn needs two three → GoesOn needs one three
+goes_further needs one two three a b = record {
   scopes = b.scopes ∙ a.scopes;
-  built = λ all. subst (λ s. AreBuilt s (cores three.shapes.items)) a.scopes (b.built (subst (λ s. AreBuilt s (cores two.shapes.items)) (sym a.scopes) (a.built all)));
-  first = λ c e. b.first c (a.first c e);
+  made = λ first n all. subst (λ s. AreMade s first three) a.scopes (b.made first n (subst (λ s. AreMade s first two) (sym a.scopes) (a.made first n all)));
+  kept = λ i c e. b.kept i c (a.kept i c e);
 }
 
--- only what is in the members of shapes differs
-pub goes_same : (old new : Making) → new.scopes ≡ old.scopes → cores new.shapes.items ≡ cores old.shapes.items → GoesOn old new
-goes_same old new scopes same = record {
-  scopes = scopes;
-  built = λ all. subst (AreBuilt old.scopes) (sym same) all;
-  first = λ c e. ap first_class same ∙ e;
+-- what is noted in one shape
+pub sets_one : (old : List Shape) (number : ℕ) (y : Shape) (children : List (Option Child)) → number < length old → y.children.items ≡ children → SetsOne old (slice_set old number y) number children
+sets_one old number y children within is s k t e =
+    let rows : Shape → List (Option Child) = λ x. x.children.items in
+    let number_of : Child → ℕ = λ c. c.shape in
+    let child = option_map_some number_of (option_and_then (λ (cs : List (Option Child)). child_at cs k) (slice_get (tables (slice_set old number y)) s)) t e in
+    option_and_then_some (λ (cs : List (Option Child)). child_at cs k) (slice_get (tables (slice_set old number y)) s) child.0 child.1 (λ (cs : List (Option Child)) at there.
+    let from = mapped_from rows (slice_set old number y) s cs at in
+    elim (get_write_cases old number s y from.0 within from.1) [
+      | inl this ↦ inr (this.0, ap (option_map number_of) (ap (λ (l : List (Option Child)). child_at l k) (sym is ∙ ap rows this.1 ∙ from.2) ∙ there) ∙ ap Some child.2)
+      | inr other ↦ inl (ap (λ o. option_map number_of (option_and_then (λ (l : List (Option Child)). child_at l k) o)) (mapped rows old s from.0 other.1 ∙ ap Some from.2) ∙ ap (option_map number_of) there ∙ ap Some child.2)
+    ])
+
+pub set_made : (scopes : Scopes) (first : ℕ) (old new : Making) (number : ℕ) (children : List (Option Child)) → new.known ≡ old.known → cores new.shapes.items ≡ cores old.shapes.items → SetsOne old.shapes.items new.shapes.items number children → AreMade scopes first old → ((k : ℕ) (child : Child) → child_at children k ≡ Some child → IsInside scopes (cores old.shapes.items) number k child.shape) → AreMade scopes first new
+set_made scopes first old new number children known same sets all is = record {
+  shapes = record {
+    built = subst (AreBuilt scopes) (sym same) all.shapes.built;
+    below = λ i c at. all.shapes.below i c (ap (λ l. slice_get l i) (sym same) ∙ at);
+    inside = λ s k t e. subst (λ cs. IsInside scopes cs s k t) (sym same) (elim (sets s k t e) [
+      | inl was ↦ all.shapes.inside s k t was
+      | inr this ↦ (let child = option_map_some (λ (c : Child). c.shape) (child_at children k) t this.1 in subst (λ m. IsInside scopes (cores old.shapes.items) s k m) child.2 (subst (λ m. IsInside scopes (cores old.shapes.items) m k child.0.shape) (sym this.0) (is k child.0 child.1)))
+    ]);
+  };
+  known = λ r s e. subst (λ cs. IsOfClass cs s r) (sym same) (all.known r s (ap (λ v. slice_get v.items r) (sym known) ∙ e));
 }
 
--- of none all are built
-pub none_built : (scopes : Scopes) (cs : List Core) → cs ≡ [] → AreBuilt scopes cs
-none_built scopes cs empty = subst (AreBuilt scopes) (sym empty) (λ i c at. absurd (cc))
+-- one child more, which is in its member
+pub child_push : (Q : ℕ → Child → Type 0) (children : List (Option Child)) (o : Option Child) (number : ℕ) → length children ≡ number → ((k : ℕ) (child : Child) → child_at children k ≡ Some child → Q k child) → ((child : Child) → o ≡ Some child → Q number child) → (k : ℕ) (child : Child) → child_at (children ++ o ∷ []) k ≡ Some child → Q k child
+child_push Q children o number long before is k child e = option_and_then_some (λ (x : Option Child). x) (slice_get (children ++ o ∷ []) k) child e (λ x at there. elim (get_push_cases children o k x at) [
+  | inl old ↦ before k child (ap (option_and_then (λ (y : Option Child). y)) old ∙ there)
+  | inr last ↦ subst (λ n. Q n child) (sym (last.0 ∙ long)) (is child (last.1 ∙ there))
+])
 
--- the first one that is made is the first one
-pub first_added : (cs now : List Core) (c : Core) (class : Class) → cs ≡ [] → now ≡ cs ++ c ∷ [] → c.class ≡ class → first_class now ≡ Some class
-first_added cs now c class empty more same = ap first_class (more ∙ ap (λ l. l ++ c ∷ []) empty) ∙ ap Some same
+-- of none all are made
+pub none_made : (m : Making) (first : ℕ) → cores m.shapes.items ≡ [] → tables m.shapes.items ≡ [] → ((r s : ℕ) → slice_get m.known.items r ≡ Some (Some s) → ⊥) → AreMade m.scopes first m
+none_made m first empty bare none = record {
+  shapes = record {
+    built = subst (AreBuilt m.scopes) (sym empty) (λ i c at. absurd (cc));
+    below = subst (λ cs. (i : ℕ) (c : Core) → slice_get cs i ≡ Some c → IsBelow m.scopes first c.class.number) (sym empty) (λ i c at. absurd (cc));
+    inside = subst (AreInside m.scopes (cores m.shapes.items)) (sym bare) (λ s k t e. absurd (cc));
+  };
+  known = λ r s e. absurd (none r s e);
+}
 
 -- after the first one others are made
-pub made : (before one all : Making) (class : Class) → cores before.shapes.items ≡ [] → AddsShape before one class → GoesOn one all → AreBuilt before.scopes (cores all.shapes.items) × (first_class (cores all.shapes.items) ≡ Some class)
-made before one all class empty a g =
-    let begun : AreBuilt before.scopes (cores one.shapes.items) = subst (AreBuilt before.scopes) (sym a.shapes) (built_push before.scopes (cores before.shapes.items) a.fresh (none_built before.scopes (cores before.shapes.items) empty) a.built) in
-    let ended : AreBuilt one.scopes (cores all.shapes.items) = g.built (subst (λ s. AreBuilt s (cores one.shapes.items)) (sym a.scopes) begun) in
-    (subst (λ s. AreBuilt s (cores all.shapes.items)) a.scopes ended, g.first class (first_added (cores before.shapes.items) (cores one.shapes.items) a.fresh class empty a.shapes a.is_of))
+pub made : (before one all : Making) (class : Class) (number : ℕ) → AreMade before.scopes class.number before → AddsShape before one class number → GoesOn (λ first. Unit {0}) one all → AreShapes before.scopes class.number (cores all.shapes.items) (tables all.shapes.items)
+made before one all class number given a g =
+    let begun = (goes_added before one class number a).made class.number itself given in
+    let ended = g.made class.number tt (subst (λ s. AreMade s class.number one) (sym a.scopes) begun) in
+    subst (λ s. AreShapes s class.number (cores all.shapes.items) (tables all.shapes.items)) a.scopes ended.shapes
+
+pub made_first : (before one all : Making) (class : Class) (number : ℕ) → cores before.shapes.items ≡ [] → AddsShape before one class number → GoesOn (λ first. Unit {0}) one all → first_class (cores all.shapes.items) ≡ Some class
+made_first before one all class number empty a g =
+    let one_is : slice_get (cores one.shapes.items) 0 ≡ Some a.fresh = ap (λ l. slice_get l 0) (a.shapes ∙ ap (λ l. l ++ a.fresh ∷ []) empty) in
+    ap (option_map (λ (c : Core). c.class)) (g.kept 0 a.fresh one_is) ∙ ap Some a.is_of

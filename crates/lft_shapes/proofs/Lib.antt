@@ -1,8 +1,11 @@
 mod Building
+mod Causing
 mod Circles
 mod Goings
 mod Meanings
 mod Naming
+mod Needing
+mod Numbering
 mod Refusing
 mod Rows
 mod Sets

@@ -1,14 +1,20 @@
 -- What reactors inherit.
-use Rattle.std.specs.Prelude.{◌≡◌, ℕ, List, [], Option, Some, None, map, flat_map, option_map, slice_get}
+use Rattle.std.specs.Prelude.{◌≡◌, ◌↔◌, ℕ, List, [], Option, Some, None, map, flat_map, option_map, slice_get, string_bytes}
 use Rattle.lft_whole.specs.declared.tree.Member.{Member}
+use Rattle.lft_whole.specs.declared.tree.Member.TheVariants as member
+use Rattle.lft_whole.specs.declared.tree.Name.{Name}
 use Rattle.lft_whole.specs.declared.tree.Parameter.{Parameter}
 use Rattle.lft_shapes.specs.declared.scopes.Class.{Class}
 use Rattle.lft_shapes.specs.declared.scopes.Scopes.{Scopes}
+use Rattle.lft_shapes.specs.declared.shapes.Child.{Child}
 use Rattle.lft_shapes.specs.declared.shapes.Inherited.{Inherited}
 use Rattle.lft_shapes.specs.declared.shapes.InheritedParameter.{InheritedParameter}
 use Rattle.lft_shapes.specs.declared.shapes.Shape.{Shape}
-use Rattle.lft_shapes.specs.Chains.{base_of}
+use Rattle.lft_shapes.specs.declared.shapes.Thing.{Thing}
+use Rattle.lft_shapes.specs.declared.shapes.Thing.TheVariants as thing
+use Rattle.lft_shapes.specs.Chains.{base_of, extended}
 use Rattle.lft_shapes.specs.Scopes.{class_at}
+use Rattle.lft_shapes.specs.Shapes.{inside, name_of, thing_named}
 use Rattle.lft_shapes.specs.Walks.{IsList}
 
 -- members with the numbers of their files
@@ -45,26 +51,33 @@ members_at scopes r = members_or_none (class_at scopes r)
 abbrev pub parameters_at : Scopes → ℕ → List (ℕ × Parameter)
 parameters_at scopes r = parameters_or_none (class_at scopes r)
 
--- a reactor, and the members and parameters that are listed of it
+-- a reactor, the members and parameters that are listed of it, and what names are
 pub record Core : Type 0 where
   pub class : Class
   pub members : List Inherited
   pub parameters : List InheritedParameter
+  pub things : List ℕ → Option Thing
 
 -- those of a shape
 abbrev pub core : Shape → Core
-core shape = record { class = shape.class; members = shape.members.items; parameters = shape.parameters.items }
+core shape = record { class = shape.class; members = shape.members.items; parameters = shape.parameters.items; things = thing_named shape }
 
 -- those of each shape
 abbrev pub cores : List Shape → List Core
 cores shapes = map core shapes
 
--- the members and parameters are those of all that the reactor extends and of itself, one reactor after another
+-- the parameter or member has the name
+abbrev pub HasName : List InheritedParameter → List Inherited → List ℕ → Thing → Type 0
+HasName ps ms q (thing.Parameter n) = (p : InheritedParameter) × (slice_get ps n ≡ Some p) × (string_bytes p.parameter.now.name.text ≡ q)
+HasName ps ms q (thing.Member n) = (m : Inherited) × (slice_get ms n ≡ Some m) × (option_map (λ (name : Name). string_bytes name.text) (name_of m.member.now) ≡ Some q)
+
+-- The members and parameters are those of all that the reactor extends and of itself, one reactor after another. A name is the parameter or member that has it.
 pub record IsBuilt (scopes : Scopes) (c : Core) : Type 0 where
   pub chain : List ℕ
   pub extends : IsList (base_of scopes) c.class.number chain
   pub has_members : located c.members ≡ flat_map (members_at scopes) chain
   pub has_parameters : located_parameters c.parameters ≡ flat_map (parameters_at scopes) chain
+  pub has_names : (q : List ℕ) (t : Thing) → (c.things q ≡ Some t) ↔ HasName c.parameters c.members q t
 
 -- so it is of each one
 abbrev pub AreBuilt : Scopes → List Core → Type 0
@@ -73,3 +86,22 @@ AreBuilt scopes cs = (i : ℕ) (c : Core) → slice_get cs i ≡ Some c → IsBu
 -- the reactor of the first one
 abbrev pub first_class : List Core → Option Class
 first_class cs = option_map (λ c. c.class) (slice_get cs 0)
+
+-- the number of the reactor of which a member of the file is an instance
+abbrev pub instance_of : Scopes → ℕ × Member → Option ℕ
+instance_of scopes (file, member.Instance instance) = extended scopes file instance.reactor
+instance_of scopes _ = None
+
+-- the member of the one number of the one reactor is an instance of the other reactor
+pub record IsInside (scopes : Scopes) (cs : List Core) (s k t : ℕ) : Type 0 where
+  pub outer : Core
+  pub is_outer : slice_get cs s ≡ Some outer
+  pub member : Inherited
+  pub is_member : slice_get outer.members k ≡ Some member
+  pub inner : Core
+  pub is_inner : slice_get cs t ≡ Some inner
+  pub means : instance_of scopes (member.file, member.member.now) ≡ Some inner.class.number
+
+-- so it is wherever a shape is noted
+abbrev pub AreInside : Scopes → List Core → List (List (Option Child)) → Type 0
+AreInside scopes cs rows = (s k t : ℕ) → inside rows s k ≡ Some t → IsInside scopes cs s k t

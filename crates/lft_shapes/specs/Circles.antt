@@ -38,15 +38,19 @@ abbrev pub HasCircle : List Shape → ℕ → Stop → Type 0
 HasCircle shapes first (stop.Refused refusal) = (refusal.why ≡ why.TooMuch) ⊎ ((refusal.why ≡ why.ContainsItself) × ContainsItself shapes first refusal.place)
 HasCircle shapes first stop.NoMemory = Unit {0}
 
--- a term of the width, at the token, is a name that is no parameter of the shape
-pub record NamesNoParameter (shape : Shape) (width : Width) (token : ℕ) : Type 0 where
+-- a term of the width, at the token, is this name
+pub record NamesAt (width : Width) (name : List ℕ) (token : ℕ) : Type 0 where
   pub which : ℕ
   pub term : Term
   pub is_term : slice_get width.terms.items which ≡ Some term
   pub word : String Global
   pub is_word : term.count ≡ count.Word word
+  pub is_name : string_bytes word ≡ name
   pub stands : token ≡ term.at
-  pub means_none : (n : ℕ) → thing_named shape (string_bytes word) ≢ Some (thing.Parameter n)
+
+-- a term of the width, at the token, is a name that is no parameter of the shape
+abbrev pub NamesNoParameter : Shape → Width → ℕ → Type 0
+NamesNoParameter shape width token = (q : List ℕ) × NamesAt width q token × ((n : ℕ) → thing_named shape q ≢ Some (thing.Parameter n))
 
 -- A refusal says so of a width in this file.
 abbrev pub HasNoParameter : Shape → ℕ → Option Width → Stop → Type 0

@@ -1,7 +1,10 @@
+pub mod Below
 pub mod Built
+pub mod Causes
 pub mod Chains
 pub mod Circles
 pub mod Makings
+pub mod Naming
 pub mod Nestings
 pub mod Refused
 pub mod Scopes

@@ -17,6 +17,7 @@ use Rattle.lft_shapes.specs.declared.shapes.Named.{Named}
 use Rattle.lft_shapes.specs.Built.{members_at, parameters_at}
 use Rattle.lft_shapes.specs.Chains.{base_of}
 use Rattle.lft_shapes.specs.Scopes.{class_at, meaning_in}
+use Rattle.lft_shapes.specs.Shapes.{name_of}
 use Rattle.lft_shapes.specs.Walks.{IsList, Reaches}
 
 -- the reactor of this number is a main one of the first file
@@ -79,14 +80,6 @@ pub record HasForeign (scopes : Scopes) (first : ℕ) (what : Foreign) (place : 
   pub which : ℕ
   pub is_there : slice_get (members_at scopes class) which ≡ Some (place.file, member.Foreign what place.token)
 
--- the name of a member that has one
-abbrev pub name_of : Member → Option Name
-name_of (member.Port port) = Some port.name
-name_of (member.Timer timer) = Some timer.name
-name_of (member.Action action) = Some action.name
-name_of (member.Instance instance) = Some instance.name
-name_of _ = None
-
 -- the names of parameters and then those of members, with the numbers of their files
 abbrev pub names_in : List (ℕ × Parameter) → List (ℕ × Member) → List (ℕ × Name)
 names_in ps ms = map (λ p. (p.0, p.1.name)) ps ++ filter_map (λ m. option_map (λ n. (m.0, n)) (name_of m.1)) ms
@@ -114,20 +107,20 @@ pub record HasTwoNames (scopes : Scopes) (first : ℕ) (place : Place) : Type 0 
   pub is_twice : IsTwice (names_along scopes chain) place
 
 -- what holds at the place, for each cause that a reactor can have
-abbrev pub IsCause : Scopes → ℕ → Why → Place → Type 0
-IsCause scopes first why.NoReactor place = LacksBase scopes first place
-IsCause scopes first why.ExtendsItself place = ExtendsItself scopes first place
-IsCause scopes first why.TwoNames place = HasTwoNames scopes first place
-IsCause scopes first why.Mode place = HasForeign scopes first foreign.Mode place
-IsCause scopes first why.Mutation place = HasForeign scopes first foreign.Mutation place
-IsCause scopes first why.Watchdog place = HasForeign scopes first foreign.Watchdog place
-IsCause scopes first why.TooMuch place = Unit {0}
-IsCause scopes first _ place = ⊥
+abbrev pub IsCauseIn : Scopes → ℕ → Why → Place → Type 0
+IsCauseIn scopes first why.NoReactor place = LacksBase scopes first place
+IsCauseIn scopes first why.ExtendsItself place = ExtendsItself scopes first place
+IsCauseIn scopes first why.TwoNames place = HasTwoNames scopes first place
+IsCauseIn scopes first why.Mode place = HasForeign scopes first foreign.Mode place
+IsCauseIn scopes first why.Mutation place = HasForeign scopes first foreign.Mutation place
+IsCauseIn scopes first why.Watchdog place = HasForeign scopes first foreign.Watchdog place
+IsCauseIn scopes first why.TooMuch place = Unit {0}
+IsCauseIn scopes first _ place = ⊥
 
 -- The cause of a refusal holds of the reactor of this number, or of one that it extends, at the place.
-abbrev pub HasCause : Scopes → ℕ → Stop → Type 0
-HasCause scopes first (stop.Refused refusal) = IsCause scopes first refusal.why refusal.place
-HasCause scopes first stop.NoMemory = Unit {0}
+abbrev pub HasCauseIn : Scopes → ℕ → Stop → Type 0
+HasCauseIn scopes first (stop.Refused refusal) = IsCauseIn scopes first refusal.why refusal.place
+HasCauseIn scopes first stop.NoMemory = Unit {0}
 
 -- ---- for the crate's own contracts
 

@@ -1,9 +1,11 @@
 -- What the names of reactors mean in each file.
-use Rattle.std.specs.Prelude.{◌≡◌, ℕ, ◌⊎◌, true, false, List, Option, Some, map, option_map, slice_get, string_bytes}
+use Rattle.std.specs.Prelude.{◌≡◌, ℕ, ◌⊎◌, true, false, List, Option, Some, flat_map, length, map, option_map, slice_get, string_bytes, take}
+use Rattle.std.specs.List.{enumerate_from}
 use Rattle.std.specs.Option.{option_and_then}
 use Rattle.lft_scope.specs.Places.{place_in, IsIndexOf}
 use Rattle.lft_whole.specs.declared.tree.Import.{Import}
 use Rattle.lft_whole.specs.declared.tree.ImportedName.{ImportedName}
+use Rattle.lft_whole.specs.declared.tree.Reactor.{Reactor}
 use Rattle.lft_sources.specs.declared.source.SourceFile.{SourceFile}
 use Rattle.lft_shapes.specs.declared.scopes.Class.{Class}
 use Rattle.lft_shapes.specs.declared.scopes.Meaning.{Meaning}
@@ -26,16 +28,29 @@ class_at scopes number = slice_get scopes.classes.items number
 abbrev pub name_in : Class → Option (List ℕ)
 name_in c = option_map (λ n. string_bytes n.text) c.reactor.now.name
 
--- the reactor stands in its file
-pub record IsOf (files : List SourceFile) (c : Class) : Type 0 where
-  pub file : SourceFile
-  pub is_file : slice_get files c.file ≡ Some file
-  pub place : ℕ
-  pub is_there : slice_get file.tree.reactors.items place ≡ Some c.reactor.now
+-- the reactors of a file, with its number
+abbrev pub reactors_of : ℕ × SourceFile → List (ℕ × Reactor)
+reactors_of f = map (λ r. (f.0, r)) f.1.tree.reactors.items
 
--- each reactor stands in its file, and its number is its place among them all
-abbrev pub AreOf : List SourceFile → List Class → Type 0
-AreOf files classes = (i : ℕ) (c : Class) → slice_get classes i ≡ Some c → (c.number ≡ i) × IsOf files c
+-- the reactors of the files, with the numbers of these
+abbrev pub reactors_in : List SourceFile → List (ℕ × Reactor)
+reactors_in files = flat_map reactors_of (enumerate_from 0 files)
+
+-- those of the files before this one
+abbrev pub reactors_before : List SourceFile → ℕ → List (ℕ × Reactor)
+reactors_before files n = flat_map reactors_of (take n (enumerate_from 0 files))
+
+-- the reactor stands in its file, and has its number among those of all files
+abbrev pub IsOf : List SourceFile → Class → Type 0
+IsOf files c = slice_get (reactors_in files) c.number ≡ Some (c.file, c.reactor.now)
+
+-- reactors with the numbers of their files
+abbrev pub placed : List Class → List (ℕ × Reactor)
+placed classes = map (λ c. (c.file, c.reactor.now)) classes
+
+-- the number of each is its place
+abbrev pub AreNumbered : List Class → Type 0
+AreNumbered classes = (i : ℕ) (c : Class) → slice_get classes i ≡ Some c → c.number ≡ i
 
 -- the reactor stands in the file of this number, under this name
 pub record IsOwn (files : List SourceFile) (file : ℕ) (q : List ℕ) (c : Class) : Type 0 where
@@ -67,10 +82,16 @@ pub record IsImported (files : List SourceFile) (file : ℕ) (q : List ℕ) (c :
 abbrev pub IsMeant : List SourceFile → ℕ → List ℕ → Class → Type 0
 IsMeant files file q c = IsOwn files file q c ⊎ IsImported files file q c
 
--- the reactors are those of the files, and a name has in each file a meaning that it may have
+-- so it is, and the token says it: that at which the reactor begins, or that of the name that the import gives
+abbrev pub MeansAt : List SourceFile → ℕ → List ℕ → Class → ℕ → Type 0
+MeansAt files file q c at = (IsOwn files file q c × (at ≡ c.reactor.now.at)) ⊎ ((is : IsImported files file q c) × (at ≡ is.name.alias.at))
+
+-- The reactors are those of the files, in order. What a name means in a file is what it may mean there, and a name that may mean a reactor means one.
 pub record AreScopes (files : List SourceFile) (scopes : Scopes) : Type 0 where
-  pub reactors : AreOf files scopes.classes.items
+  pub reactors : placed scopes.classes.items ≡ reactors_in files
+  pub numbers : AreNumbered scopes.classes.items
   pub meanings : (file : ℕ) (q : List ℕ) (c : Class) → meaning_in scopes file q ≡ Some c → IsMeant files file q c
+  pub all : (file : ℕ) (q : List ℕ) (c : Class) → IsMeant files file q c → (d : Class) × (meaning_in scopes file q ≡ Some d)
 
 -- a main reactor of the first file
 pub record IsMain (scopes : Scopes) (c : Class) : Type 0 where
@@ -81,24 +102,38 @@ pub record IsMain (scopes : Scopes) (c : Class) : Type 0 where
 
 -- ---- for the crate's own contracts
 
--- each of the meanings is such a one
-abbrev pub EachMeans : (List ℕ → Class → Type 0) → List Meaning → Type 0
-EachMeans P ms = (i : ℕ) (m : Meaning) → slice_get ms i ≡ Some m → P m.name.now m.class
+-- the reactor stands in the file under this name, and begins at the token
+abbrev pub IsOwnAt : List SourceFile → ℕ → List ℕ → Class → ℕ → Type 0
+IsOwnAt files file q c at = IsOwn files file q c × (at ≡ c.reactor.now.at)
+
+-- such a meaning is each one
+abbrev pub EachMeans : (List ℕ → Class → ℕ → Type 0) → List Meaning → Type 0
+EachMeans P ms = (i : ℕ) (m : Meaning) → slice_get ms i ≡ Some m → P m.name.now m.class m.at
+
+-- the name has a meaning
+abbrev pub HasMeaning : List Meaning → List ℕ → Type 0
+HasMeaning ms q = (i : ℕ) × ((m : Meaning) × (slice_get ms i ≡ Some m) × (m.name.now ≡ q))
 
 -- the scope has these meanings, by name
 pub record IsScopeOf (ms : List Meaning) (scope : Scope) : Type 0 where
   pub names : IsIndexOf scope.names (map (λ m. m.name.now) ms)
   pub meanings : scope.meanings.items ≡ ms
 
--- the scope has such meanings, by name
-pub record IsScope (P : List ℕ → Class → Type 0) (scope : Scope) : Type 0 where
+-- the scope has such meanings alone, by name, and each name that may have one has one
+pub record IsScope (P : List ℕ → Class → ℕ → Type 0) (scope : Scope) : Type 0 where
   pub names : IsIndexOf scope.names (map (λ m. m.name.now) scope.meanings.items)
   pub each : EachMeans P scope.meanings.items
+  pub all : (q : List ℕ) (c : Class) (at : ℕ) → P q c at → HasMeaning scope.meanings.items q
+
+-- each file has such a scope
+pub record EachHasScope (P : ℕ → List ℕ → Class → ℕ → Type 0) (files : List SourceFile) (scopes : List Scope) : Type 0 where
+  pub count : length scopes ≡ length files
+  pub each : (t : ℕ) (s : Scope) → slice_get scopes t ≡ Some s → IsScope (P t) s
 
 -- the scopes have the reactors of their files
 abbrev pub AreOwnScopes : List SourceFile → List Scope → Type 0
-AreOwnScopes files own = (t : ℕ) (s : Scope) → slice_get own t ≡ Some s → IsScope (IsOwn files t) s
+AreOwnScopes files own = EachHasScope (IsOwnAt files) files own
 
 -- the scopes have the meanings that names may have in their files
 abbrev pub AreMeantScopes : List SourceFile → List Scope → Type 0
-AreMeantScopes files scopes = (t : ℕ) (s : Scope) → slice_get scopes t ≡ Some s → IsScope (IsMeant files t) s
+AreMeantScopes files scopes = EachHasScope (MeansAt files) files scopes

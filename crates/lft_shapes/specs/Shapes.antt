@@ -1,9 +1,10 @@
 -- What stands in a reactor with all that it inherits.
-use Rattle.std.specs.Prelude.{ℕ, List, Option, None, map, option_map, slice_get}
+use Rattle.std.specs.Prelude.{ℕ, List, Option, Some, None, map, option_map, slice_get}
 use Rattle.std.specs.Option.{option_and_then}
 use Rattle.lft_scope.specs.Places.{place_in}
 use Rattle.lft_whole.specs.declared.tree.Member.{Member}
 use Rattle.lft_whole.specs.declared.tree.Member.TheVariants as member
+use Rattle.lft_whole.specs.declared.tree.Name.{Name}
 use Rattle.lft_whole.specs.declared.tree.Width.{Width}
 use Rattle.lft_shapes.specs.declared.shapes.Child.{Child}
 use Rattle.lft_shapes.specs.declared.shapes.Shape.{Shape}
@@ -22,6 +23,14 @@ is_at (member.Timer timer) = timer.name.at
 is_at (member.Action action) = action.name.at
 is_at (member.Instance instance) = instance.name.at
 is_at _ = 0
+
+-- the name of a member that has one
+abbrev pub name_of : Member → Option Name
+name_of (member.Port port) = Some port.name
+name_of (member.Timer timer) = Some timer.name
+name_of (member.Action action) = Some action.name
+name_of (member.Instance instance) = Some instance.name
+name_of _ = None
 
 -- what the name is in the shape
 abbrev pub thing_named : Shape → List ℕ → Option Thing

@@ -3,7 +3,7 @@
 ghost use Rattle.std.specs.Prelude.{◌≡◌, ◌≤◌, ◌<◌, ℕ, Some, None, IfErr, IfOk, IfSome, OnOk, MatchOption, IsTrue, true, false};
 ghost use Rattle.lft_whole.specs.declared.tree.Name.{Name};
 ghost use Rattle.lft_shapes.specs.Chains.{base_of};
-ghost use Rattle.lft_shapes.specs.Refused.{HasCause, NamesBase};
+ghost use Rattle.lft_shapes.specs.Refused.{HasCauseIn, NamesBase};
 ghost use Rattle.lft_shapes.specs.Walks.{IsWalk, IsList, IsOver, Reaches};
 
 use crate::scopes::Scopes;
@@ -29,7 +29,7 @@ fn base_at(
 ) -> Result<Option<Base>, Stop>
     ensures base { IfOk result (λ o. MatchOption o ((k : ℕ) → number ≤ k → base_of scopes.now class k ≡ None) (λ base. base_of scopes.now class number ≡ Some base.class)) }
     ensures place { IfOk result (λ o. IfSome o (λ base. (name : Name) × NamesBase scopes.now class number name (record { file = base.file; token = base.at }))) }
-    ensures cause { IfErr result (λ stop. (first : ℕ) → Reaches (base_of scopes.now) first class → HasCause scopes.now first stop) }
+    ensures cause { IfErr result (λ stop. (first : ℕ) → Reaches (base_of scopes.now) first class → HasCauseIn scopes.now first stop) }
     ensures work { work.new.left ≤ work.old.left }
 {
     let Some(here) = scopes.class(class) else {
@@ -53,7 +53,7 @@ fn base_at(
 fn step(scopes: &Scopes, work: &mut Work, walk: &mut Walk) -> Result<bool, Stop>
     ensures walk { OnOk result ((first : ℕ) → IsWalk (base_of scopes.now) first walk.old → IsWalk (base_of scopes.now) first walk.new) }
     ensures over { IfOk result (λ more. more ≡ false → IsOver walk.new) }
-    ensures cause { IfErr result (λ stop. (first : ℕ) → IsWalk (base_of scopes.now) first walk.old → HasCause scopes.now first stop) }
+    ensures cause { IfErr result (λ stop. (first : ℕ) → IsWalk (base_of scopes.now) first walk.old → HasCauseIn scopes.now first stop) }
     ensures work { IfOk result (λ more. IsTrue more → work.new.left < work.old.left) }
 {
     let Some(visit) = walk.top() else {
@@ -82,7 +82,7 @@ pub(crate) fn chain(
     class: usize,
 ) -> Result<Vec<usize>, Stop>
     ensures list { IfOk result (λ v. IsList (base_of scopes.now) class v.items) }
-    ensures cause { IfErr result (HasCause scopes.now class) }
+    ensures cause { IfErr result (HasCauseIn scopes.now class) }
 {
     let mut walk = Walk::of(alloc, class)?;
     'visits: loop {

@@ -1,8 +1,11 @@
 //! Which parameters decide widths, and which are times.
 
-ghost use Rattle.std.specs.Prelude.{◌≡◌, IfErr, OnOk};
+ghost use Rattle.std.specs.Prelude.{◌≡◌, ℕ, Some, IfErr, OnOk, slice_get};
+ghost use Rattle.lft_shapes.specs.declared.scopes.Scopes.{Scopes};
 ghost use Rattle.lft_shapes.specs.Built.{cores};
+ghost use Rattle.lft_shapes.specs.Causes.{SaysBelow};
 ghost use Rattle.lft_shapes.specs.Circles.{HasNoParameter};
+ghost use Rattle.lft_shapes.specs.Makings.{AreShapes};
 ghost use Rattle.lft_shapes.specs.Shapes.{tables};
 
 use crate::shapes::{Given, Inherited, Shape};
@@ -86,7 +89,9 @@ impl Needs {
         shape: &Shape,
         number: usize,
         inherited: Inherited,
-    ) -> Result<(), Stop> {
+    ) -> Result<(), Stop>
+        ensures { IfErr result (λ stop. (scopes : Scopes) (first s : ℕ) → AreShapes scopes first (cores shapes.now) (tables shapes.now) → slice_get shapes.now s ≡ Some shape.now → slice_get shape.now.members.items number ≡ Some inherited.entry → SaysBelow scopes first stop) }
+    {
         match inherited.member {
             Member::Port(port) => self.note_width(shape, inherited.file, &port.width)?,
             Member::Timer(timer) => {
@@ -101,9 +106,9 @@ impl Needs {
                     && let Some(inner) = shapes.get(child.shape)
                 {
                     self.note_given(shape, inner, &child.given);
-                    let index = inner.parameter("bank_index");
                     if instance.width.is_some()
-                        && index.is_some_and(|index| inner.is_sized(index))
+                        && let Some(index) = inner.parameter("bank_index")
+                        && inner.is_sized(index)
                     {
                         return Err(Stop::at(Why::WidthByIndex, inherited.file, instance.name.at));
                     }
@@ -125,7 +130,9 @@ fn none(alloc: Global, count: usize) -> Result<Vec<bool>, NoMemory> {
 }
 
 /// What a shape needs of its parameters, where that is known of the shapes in it.
-fn needs_of(alloc: Global, shapes: &[Shape], shape: &Shape) -> Result<Needs, Stop> {
+fn needs_of(alloc: Global, shapes: &[Shape], shape: &Shape) -> Result<Needs, Stop>
+    ensures { IfErr result (λ stop. (scopes : Scopes) (first s : ℕ) → AreShapes scopes first (cores shapes.now) (tables shapes.now) → slice_get shapes.now s ≡ Some shape.now → SaysBelow scopes first stop) }
+{
     let count = shape.parameters.len();
     let mut needs = Needs {
         sized: none(alloc, count)?,
@@ -141,6 +148,7 @@ fn needs_of(alloc: Global, shapes: &[Shape], shape: &Shape) -> Result<Needs, Sto
 pub(crate) fn decide(alloc: Global, shapes: &mut Vec<Shape>, number: usize) -> Result<(), Stop>
     ensures tables { OnOk result (tables shapes.new.items ≡ tables shapes.old.items) }
     ensures cores { OnOk result (cores shapes.new.items ≡ cores shapes.old.items) }
+    ensures cause { IfErr result (λ stop. (scopes : Scopes) (first : ℕ) → AreShapes scopes first (cores shapes.old.items) (tables shapes.old.items) → SaysBelow scopes first stop) }
 {
     if number >= shapes.len() {
         return Ok(());

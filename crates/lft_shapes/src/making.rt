@@ -1,10 +1,15 @@
 //! The shapes of the main reactor and of all that it contains, each made when it is asked for first.
 
-ghost use Rattle.std.specs.Prelude.{◌≡◌, Some, OnOk, IfErr, IfOk, map, string_bytes};
+ghost use Rattle.std.specs.Prelude.{◌≡◌, ℕ, Some, OnOk, IfErr, IfOk, IfSome, map, string_bytes};
 ghost use Rattle.lft_scope.specs.Tests.{texts};
-ghost use Rattle.lft_shapes.specs.Built.{AreBuilt, cores, first_class};
+ghost use Rattle.lft_shapes.specs.Below.{Declares, IsBelow};
+ghost use Rattle.lft_shapes.specs.Built.{IsInside, cores, first_class};
+ghost use Rattle.lft_shapes.specs.Causes.{SaysBelow};
+ghost use Rattle.lft_shapes.specs.Chains.{extended};
 ghost use Rattle.lft_shapes.specs.Circles.{HasWrongGiven};
-ghost use Rattle.lft_shapes.specs.Makings.{AddsShape, GoesOn};
+ghost use Rattle.lft_shapes.specs.Makings.{AddsShape, AreMade, AreShapes, GoesOn, IsNeeded, IsOfClass, KnowsNone, KnowsOne, SetsOne};
+ghost use Rattle.lft_shapes.specs.Refused.{HasCauseIn};
+ghost use Rattle.lft_shapes.specs.Shapes.{tables};
 
 use crate::scopes::{Class, Scopes};
 use crate::shapes::{Child, Given, Shape};
@@ -68,7 +73,9 @@ fn given_of<'a>(
 }
 
 /// As many times nothing.
-fn nothing(alloc: Global, count: usize) -> Result<Vec<Option<usize>>, NoMemory> {
+fn nothing(alloc: Global, count: usize) -> Result<Vec<Option<usize>>, NoMemory>
+    ensures { IfOk result (λ v. KnowsNone v.items) }
+{
     let mut list = Vec::new(alloc);
     for _ in 0..count {
         list.push(None)?;
@@ -77,7 +84,9 @@ fn nothing(alloc: Global, count: usize) -> Result<Vec<Option<usize>>, NoMemory> 
 }
 
 /// Notes the number of the shape of a reactor.
-fn note(known: &mut Vec<Option<usize>>, class: usize, shape: usize) {
+fn note(known: &mut Vec<Option<usize>>, class: usize, shape: usize)
+    ensures { KnowsOne known.old.items known.new.items class shape }
+{
     if class < known.len() {
         known[class] = Some(shape);
     }
@@ -85,7 +94,8 @@ fn note(known: &mut Vec<Option<usize>>, class: usize, shape: usize) {
 
 /// Notes what is in the members of a shape.
 fn set_children<'a>(shapes: &mut Vec<Shape<'a>>, shape: usize, children: Vec<Option<Child<'a>>>)
-    ensures { cores shapes.new.items ≡ cores shapes.old.items }
+    ensures cores { cores shapes.new.items ≡ cores shapes.old.items }
+    ensures tables { SetsOne shapes.old.items shapes.new.items shape children.entry.items }
 {
     if shape < shapes.len() {
         shapes[shape].children = children;
@@ -95,7 +105,8 @@ fn set_children<'a>(shapes: &mut Vec<Shape<'a>>, shape: usize, children: Vec<Opt
 impl<'a> Making<'a> {
     /// Makes the shape of a reactor; its number.
     fn add_shape(&mut self, class: Class<'a>) -> Result<usize, Stop>
-        ensures { OnOk result (AddsShape self.old self.new class.entry) }
+        ensures adds { IfOk result (AddsShape self.old self.new class.entry) }
+        ensures cause { IfErr result (HasCauseIn self.old.scopes class.entry.number) }
     {
         let number = self.shapes.len();
         let shape = Shape::of(self.alloc, &self.scopes, &mut self.work, class)?;
@@ -106,7 +117,9 @@ impl<'a> Making<'a> {
 
     /// The number of the shape of a reactor.
     fn shape_of(&mut self, class: Class<'a>) -> Result<usize, Stop>
-        ensures { OnOk result (GoesOn self.old self.new) }
+        ensures goes { OnOk result (GoesOn (λ first. IsBelow self.old.scopes first class.entry.number) self.old self.new) }
+        ensures shape { IfOk result (λ shape. (first : ℕ) → IsBelow self.old.scopes first class.entry.number → AreMade self.old.scopes first self.old → IsOfClass (cores self.new.shapes.items) shape class.entry.number) }
+        ensures cause { IfErr result (HasCauseIn self.old.scopes class.entry.number) }
     {
         if let Some(Some(known)) = self.known.get(class.number).copied() {
             return Ok(known);
@@ -117,7 +130,9 @@ impl<'a> Making<'a> {
 
     /// What is in an instance.
     fn child_of(&mut self, file: usize, instance: &'a Instance) -> Result<Child<'a>, Stop>
-        ensures { OnOk result (GoesOn self.old self.new) }
+        ensures goes { OnOk result (GoesOn (IsNeeded self.old.scopes file instance.now) self.old self.new) }
+        ensures child { IfOk result (λ child. (first : ℕ) → IsNeeded self.old.scopes file instance.now first → AreMade self.old.scopes first self.old → (r : ℕ) × (extended self.old.scopes file instance.now.reactor ≡ Some r) × IsOfClass (cores self.new.shapes.items) child.shape r) }
+        ensures cause { IfErr result (λ stop. (first r which : ℕ) → AreMade self.old.scopes first self.old → IsBelow self.old.scopes first r → Declares self.old.scopes r which file instance.now → SaysBelow self.old.scopes first stop) }
     {
         let Some(class) = self.scopes.get(file, instance.reactor.text.as_str()) else {
             return Err(Stop::at(Why::NoReactor, file, instance.reactor.at));
@@ -132,13 +147,14 @@ impl<'a> Making<'a> {
 
     /// What is in the member of this number of a shape, if it is an instance.
     fn child_at(&mut self, shape: usize, number: usize) -> Result<Option<Child<'a>>, Stop>
-        ensures { OnOk result (GoesOn self.old self.new) }
+        ensures goes { OnOk result (GoesOn (λ first. Unit {0}) self.old self.new) }
+        ensures child { IfOk result (λ o. IfSome o (λ child. (first : ℕ) → AreMade self.old.scopes first self.old → IsInside self.old.scopes (cores self.new.shapes.items) shape number child.shape)) }
+        ensures cause { IfErr result (λ stop. (first : ℕ) → AreMade self.old.scopes first self.old → SaysBelow self.old.scopes first stop) }
     {
-        let inherited = match self.shapes.get(shape) {
-            Some(found) => found.member(number),
-            None => None,
+        let Some(found) = self.shapes.get(shape) else {
+            return Ok(None);
         };
-        let Some(inherited) = inherited else {
+        let Some(inherited) = found.member(number) else {
             return Ok(None);
         };
         let Some(instance) = inherited.instance() else {
@@ -150,7 +166,8 @@ impl<'a> Making<'a> {
 
     /// Notes what is in each instance of a shape, which has so many members.
     fn fill(&mut self, shape: usize, count: usize) -> Result<(), Stop>
-        ensures { OnOk result (GoesOn self.old self.new) }
+        ensures goes { OnOk result (GoesOn (λ first. Unit {0}) self.old self.new) }
+        ensures cause { IfErr result (λ stop. (first : ℕ) → AreMade self.old.scopes first self.old → SaysBelow self.old.scopes first stop) }
     {
         let mut children = Vec::new(self.alloc);
         for number in 0..count {
@@ -163,7 +180,8 @@ impl<'a> Making<'a> {
 
     /// Notes what is in each instance of each shape, also of those that are made meanwhile.
     fn fill_all(&mut self) -> Result<(), Stop>
-        ensures { OnOk result (GoesOn self.old self.new) }
+        ensures goes { OnOk result (GoesOn (λ first. Unit {0}) self.old self.new) }
+        ensures cause { IfErr result (λ stop. (first : ℕ) → AreMade self.old.scopes first self.old → SaysBelow self.old.scopes first stop) }
     {
         for shape in 0..usize::MAX {
             let count = match self.shapes.get(shape) {
@@ -183,8 +201,9 @@ pub(crate) fn shapes_of<'a>(
     work: Work,
     main: Class<'a>,
 ) -> Result<(Work, Vec<Shape<'a>>), Stop>
-    ensures built { IfOk result (λ made. AreBuilt scopes.entry (cores made.1.items)) }
+    ensures shapes { IfOk result (λ made. AreShapes scopes.entry main.entry.number (cores made.1.items) (tables made.1.items)) }
     ensures first { IfOk result (λ made. first_class (cores made.1.items) ≡ Some main.entry) }
+    ensures cause { IfErr result (SaysBelow scopes.entry main.entry.number) }
 {
     let known = nothing(alloc, scopes.len())?;
     let shapes = Vec::new(alloc);

@@ -2,6 +2,7 @@
 
 ghost use Rattle.std.specs.Prelude.{◌≡◌, ◌≤◌, ◌<◌, ℕ, Some, None, IfErr, IfOk, IfSome, IfNone, OnOk, IsTrue, true, false};
 ghost use Rattle.lft_shapes.specs.declared.scopes.Scopes.{Scopes};
+ghost use Rattle.lft_shapes.specs.Causes.{HasCause, last_token};
 ghost use Rattle.lft_shapes.specs.Circles.{HasCircle, SaysContains};
 ghost use Rattle.lft_shapes.specs.Nestings.{IsNesting};
 ghost use Rattle.lft_shapes.specs.Shapes.{inside, tables};
@@ -95,7 +96,9 @@ fn order_of(alloc: Global, shapes: &[Shape], work: &mut Work) -> Result<Vec<usiz
 }
 
 /// The number of the last token of the first file, which is its end.
-fn last_token(files: &[SourceFile]) -> usize {
+fn last_token(files: &[SourceFile]) -> usize
+    ensures { result ≡ last_token files.now }
+{
     match files.first() {
         Some(file) => file.spots.len().saturating_sub(1),
         None => 0,
@@ -105,7 +108,8 @@ fn last_token(files: &[SourceFile]) -> usize {
 impl<'a> Nesting<'a> {
     /// The reactors of the files that the main one of the first file contains.
     pub fn of(alloc: Global, files: &'a [SourceFile]) -> Result<Nesting<'a>, Stop>
-        ensures { IfOk result (λ nesting. (scopes : Scopes) × IsNesting files.now scopes nesting) }
+        ensures nesting { IfOk result (λ nesting. (scopes : Scopes) × IsNesting files.now scopes nesting) }
+        ensures cause { IfErr result (HasCause files.now) }
     {
         let scopes = Scopes::of(alloc, files)?;
         let main = scopes.main(last_token(files))?;

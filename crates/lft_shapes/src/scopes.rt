@@ -1,12 +1,14 @@
 //! What the names of reactors mean in each file.
 
-ghost use Rattle.std.specs.Prelude.{◌≡◌, ◌≢◌, ◌≤◌, ◌<◌, ◌⊎◌, ℕ, List, Some, true, false, IfErr, IfNone, IfOk, IfSome, OnOk, map, slice_get};
-ghost use Rattle.lft_scope.specs.Places.{IsIndexOf};
+ghost use Rattle.std.specs.Prelude.{◌≡◌, ◌≤◌, ◌<◌, ◌++◌, ℕ, List, [], Some, false, IfErr, IfNone, IfOk, IfSome, OnOk, map, slice_get, string_bytes};
 ghost use Rattle.lft_scope.specs.Tests.{texts};
 ghost use Rattle.lft_sources.specs.declared.source.SourceFile.{SourceFile};
+ghost use Rattle.lft_whole.specs.declared.tree.Import.{Import};
+ghost use Rattle.lft_whole.specs.declared.tree.ImportedName.{ImportedName};
+ghost use Rattle.lft_shapes.specs.Causes.{HasCause};
 ghost use Rattle.lft_shapes.specs.Refused.{HasNoOneMain, IsMainAt};
-ghost use Rattle.lft_shapes.specs.Unnamed.{GivesNone, SaysNotGiven, SaysNotImported, SaysTwoMeanings};
-ghost use Rattle.lft_shapes.specs.Scopes.{in_scope, meaning_in, class_at, EachMeans, IsScopeOf, IsScope, IsOf, AreOf, IsOwn, AreOwnScopes, IsImport, IsMeant, AreMeantScopes, IsMain, AreScopes};
+ghost use Rattle.lft_shapes.specs.Unnamed.{ExportsNone};
+ghost use Rattle.lft_shapes.specs.Scopes.{in_scope, meaning_in, class_at, name_in, EachMeans, HasMeaning, IsScopeOf, IsScope, IsOf, AreNumbered, IsOwn, IsOwnAt, AreOwnScopes, IsImport, MeansAt, AreMeantScopes, IsMain, AreScopes, placed, reactors_before, reactors_in, reactors_of};
 
 use lft_lists::item_at;
 use lft_scope::index::Index;
@@ -82,7 +84,9 @@ impl<'a> Scope<'a> {
 
 /// Puts the name of a reactor behind others, if it has one.
 fn push_named<'a>(meanings: &mut Vec<Meaning<'a>>, class: Class<'a>) -> Result<(), NoMemory>
-    ensures { OnOk result ((files : List SourceFile) → IsOf files class.entry → EachMeans (IsOwn files class.entry.file) meanings.old.items → EachMeans (IsOwn files class.entry.file) meanings.new.items) }
+    ensures own { OnOk result ((files : List SourceFile) → IsOf files class.entry → EachMeans (IsOwnAt files class.entry.file) meanings.old.items → EachMeans (IsOwnAt files class.entry.file) meanings.new.items) }
+    ensures kept { OnOk result ((q : List ℕ) → HasMeaning meanings.old.items q → HasMeaning meanings.new.items q) }
+    ensures has { OnOk result ((q : List ℕ) → name_in class.entry ≡ Some q → HasMeaning meanings.new.items q) }
 {
     let Some(name) = &class.reactor.name else {
         return Ok(());
@@ -102,8 +106,9 @@ fn own_scope<'a>(
     file: &'a SourceFile,
     classes: &mut Vec<Class<'a>>,
 ) -> Result<Scope<'a>, NoMemory>
-    ensures own { IfOk result (λ scope. (files : List SourceFile) → slice_get files number ≡ Some file.now → IsScope (IsOwn files number) scope) }
-    ensures classes { OnOk result ((files : List SourceFile) → slice_get files number ≡ Some file.now → AreOf files classes.old.items → AreOf files classes.new.items) }
+    ensures own { IfOk result (λ scope. (files : List SourceFile) → slice_get files number ≡ Some file.now → placed classes.old.items ≡ reactors_before files number → IsScope (IsOwnAt files number) scope) }
+    ensures classes { OnOk result (placed classes.new.items ≡ placed classes.old.items ++ reactors_of (number, file.now)) }
+    ensures numbers { OnOk result (AreNumbered classes.old.items → AreNumbered classes.new.items) }
 {
     let mut meanings = Vec::new(alloc);
     for place in 0..file.tree.reactors.len() {
@@ -122,7 +127,7 @@ fn own_scope<'a>(
 /// The reactor that an import of this name from a file gives: no main one.
 fn exported<'a>(own: &[Scope<'a>], target: usize, name: &str) -> Option<Class<'a>>
     ensures some { IfSome result (λ class. (class.reactor.now.is_main ≡ false) × ((files : List SourceFile) → AreOwnScopes files own.now → IsOwn files target name.now class)) }
-    ensures none { IfNone result (GivesNone own.now target name.now) }
+    ensures none { IfNone result (ExportsNone own.now target name.now) }
 {
     let Some(scope) = own.get(target) else {
         return None;
@@ -141,8 +146,10 @@ fn push_names<'a>(
     target: usize,
     import: &'a Import,
 ) -> Result<(), Stop>
-    ensures meant { OnOk result ((files : List SourceFile) → IsImport files number target import.now → AreOwnScopes files own.now → EachMeans (IsMeant files number) meanings.old.items → EachMeans (IsMeant files number) meanings.new.items) }
-    ensures cause { IfErr result (SaysNotGiven own.now number target import.now) }
+    ensures meant { OnOk result ((files : List SourceFile) → IsImport files number target import.now → AreOwnScopes files own.now → EachMeans (MeansAt files number) meanings.old.items → EachMeans (MeansAt files number) meanings.new.items) }
+    ensures kept { OnOk result ((q : List ℕ) → HasMeaning meanings.old.items q → HasMeaning meanings.new.items q) }
+    ensures all { OnOk result ((which : ℕ) (name : ImportedName) → slice_get import.now.names.items which ≡ Some name → HasMeaning meanings.new.items (string_bytes name.alias.text)) }
+    ensures cause { IfErr result (λ stop. (files : List SourceFile) → IsImport files number target import.now → AreOwnScopes files own.now → HasCause files stop) }
 {
     for place in 0..import.names.len() {
         let imported = &import.names[place];
@@ -165,8 +172,10 @@ fn push_imports<'a>(
     number: usize,
     file: &'a SourceFile,
 ) -> Result<(), Stop>
-    ensures meant { OnOk result ((files : List SourceFile) → slice_get files number ≡ Some file.now → AreOwnScopes files own.now → EachMeans (IsMeant files number) meanings.old.items → EachMeans (IsMeant files number) meanings.new.items) }
-    ensures cause { IfErr result (SaysNotImported own.now number file.now) }
+    ensures meant { OnOk result ((files : List SourceFile) → slice_get files number ≡ Some file.now → AreOwnScopes files own.now → EachMeans (MeansAt files number) meanings.old.items → EachMeans (MeansAt files number) meanings.new.items) }
+    ensures kept { OnOk result ((q : List ℕ) → HasMeaning meanings.old.items q → HasMeaning meanings.new.items q) }
+    ensures all { OnOk result ((place other : ℕ) (what : Import) (which : ℕ) (name : ImportedName) → slice_get file.now.tree.imports.items place ≡ Some what → slice_get file.now.imports.items place ≡ Some other → slice_get what.names.items which ≡ Some name → HasMeaning meanings.new.items (string_bytes name.alias.text)) }
+    ensures cause { IfErr result (λ stop. (files : List SourceFile) → slice_get files number ≡ Some file.now → AreOwnScopes files own.now → HasCause files stop) }
 {
     let count = file.tree.imports.len().min(file.imports.len());
     for place in 0..count {
@@ -182,7 +191,8 @@ fn own_meanings<'a>(
     own: &[Scope<'a>],
     number: usize,
 ) -> Result<Vec<Meaning<'a>>, NoMemory>
-    ensures { IfOk result (λ v. (files : List SourceFile) → AreOwnScopes files own.now → EachMeans (IsMeant files number) v.items) }
+    ensures meant { IfOk result (λ v. (files : List SourceFile) → AreOwnScopes files own.now → EachMeans (MeansAt files number) v.items) }
+    ensures all { IfOk result (λ v. (files : List SourceFile) → AreOwnScopes files own.now → (q : List ℕ) (c : Class) → IsOwn files number q c → HasMeaning v.items q) }
 {
     let Some(scope) = own.get(number) else {
         return Ok(Vec::new(alloc));
@@ -191,23 +201,14 @@ fn own_meanings<'a>(
     Ok(meanings)
 }
 
-/// Whether both say the same, at two tokens: so a reactor may be imported twice.
-fn is_again(first: Meaning, second: Meaning) -> bool
-    ensures { result ≡ false → (first.entry.class.number ≢ second.entry.class.number) ⊎ (first.entry.at ≡ second.entry.at) }
-{
-    first.at != second.at && first.class.number == second.class.number
-}
-
-/// Refuses a name of two meanings.
+/// Refuses a name that means two reactors. One reactor may be imported twice.
 fn refuse_twice(scope: &Scope, number: usize) -> Result<(), Stop>
-    ensures { IfErr result (λ stop. IsIndexOf scope.now.names (map (λ m. m.name.now) scope.now.meanings.items) → SaysTwoMeanings scope.now.meanings.items number stop) }
+    ensures { IfErr result (λ stop. (files : List SourceFile) → IsScope (MeansAt files number) scope.now → HasCause files stop) }
 {
     for place in 0..scope.meanings.len() {
         let meaning = item_at(&scope.meanings, place);
-        let first = scope.names.get(meaning.name).unwrap_or(place);
-        if let Some(other) = scope.meanings.get(first)
-            && first != place
-            && !is_again(*other, meaning)
+        if let Some(other) = scope.get(meaning.name)
+            && other.number != meaning.class.number
         {
             return Err(Stop::at(Why::TwoReactors, number, meaning.at));
         }
@@ -222,7 +223,8 @@ fn scope_of<'a>(
     number: usize,
     file: &'a SourceFile,
 ) -> Result<Scope<'a>, Stop>
-    ensures { IfOk result (λ scope. (files : List SourceFile) → slice_get files number ≡ Some file.now → AreOwnScopes files own.now → IsScope (IsMeant files number) scope) }
+    ensures meant { IfOk result (λ scope. (files : List SourceFile) → slice_get files number ≡ Some file.now → AreOwnScopes files own.now → IsScope (MeansAt files number) scope) }
+    ensures cause { IfErr result (λ stop. (files : List SourceFile) → slice_get files number ≡ Some file.now → AreOwnScopes files own.now → HasCause files stop) }
 {
     let mut meanings = own_meanings(alloc, own, number)?;
     push_imports(&mut meanings, own, number, file)?;
@@ -231,14 +233,15 @@ fn scope_of<'a>(
     Ok(scope)
 }
 
-/// The reactors of all files that have a name, file by file. All reactors are put behind others.
+/// The reactors of all files that have a name, file by file. All reactors are put in, where there are none yet.
 fn own_scopes<'a>(
     alloc: Global,
     files: &'a [SourceFile],
     classes: &mut Vec<Class<'a>>,
 ) -> Result<Vec<Scope<'a>>, NoMemory>
-    ensures own { IfOk result (λ own. AreOwnScopes files.now own.items) }
-    ensures classes { OnOk result (AreOf files.now classes.old.items → AreOf files.now classes.new.items) }
+    ensures own { IfOk result (λ own. placed classes.old.items ≡ [] → AreOwnScopes files.now own.items) }
+    ensures classes { OnOk result (placed classes.old.items ≡ [] → placed classes.new.items ≡ reactors_in files.now) }
+    ensures numbers { OnOk result (AreNumbered classes.old.items → AreNumbered classes.new.items) }
 {
     let mut own = Vec::new(alloc);
     for number in 0..files.len() {
@@ -254,7 +257,8 @@ fn all_scopes<'a>(
     files: &'a [SourceFile],
     own: &[Scope<'a>],
 ) -> Result<Vec<Scope<'a>>, Stop>
-    ensures { IfOk result (λ scopes. AreOwnScopes files.now own.now → AreMeantScopes files.now scopes.items) }
+    ensures meant { IfOk result (λ scopes. AreOwnScopes files.now own.now → AreMeantScopes files.now scopes.items) }
+    ensures cause { IfErr result (λ stop. AreOwnScopes files.now own.now → HasCause files.now stop) }
 {
     let mut scopes = Vec::new(alloc);
     for number in 0..files.len() {
@@ -267,7 +271,8 @@ fn all_scopes<'a>(
 impl<'a> Scopes<'a> {
     /// The reactors of the files, and what their names mean.
     pub(crate) fn of(alloc: Global, files: &'a [SourceFile]) -> Result<Scopes<'a>, Stop>
-        ensures { IfOk result (AreScopes files.now) }
+        ensures scopes { IfOk result (AreScopes files.now) }
+        ensures cause { IfErr result (HasCause files.now) }
     {
         let mut classes = Vec::new(alloc);
         let own = own_scopes(alloc, files, &mut classes)?;

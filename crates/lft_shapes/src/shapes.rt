@@ -1,15 +1,16 @@
 //! A reactor with the members of its bases before its own, and what its names are.
 
-ghost use Rattle.std.specs.Prelude.{◌≡◌, ◌≢◌, ◌++◌, ◌↔◌, ℕ, List, IfErr, IfOk, IfSome, IfNone, OnOk, IsTrue, flat_map, map, slice_get, option_map, true};
-ghost use Rattle.lft_scope.specs.Places.{IsIndexOf};
+ghost use Rattle.std.specs.Prelude.{◌≡◌, ◌≢◌, ◌++◌, ◌↔◌, ℕ, List, [], Some, IfErr, IfOk, IfSome, IfNone, OnOk, IsTrue, flat_map, map, slice_get, option_map, string_bytes, true};
+ghost use Rattle.lft_scope.specs.Places.{IsIndexOf, place_in};
 ghost use Rattle.lft_scope.specs.Tests.{texts};
 ghost use Rattle.lft_whole.specs.declared.tree.Foreign.{Foreign};
 ghost use Rattle.lft_whole.specs.declared.tree.Instance.{Instance};
 ghost use Rattle.lft_whole.specs.declared.tree.Name.{Name};
 ghost use Rattle.lft_whole.specs.declared.tree.Port.{Port};
-ghost use Rattle.lft_shapes.specs.Shapes.{thing_named, child_at, width_of, is_at};
-ghost use Rattle.lft_shapes.specs.Built.{IsBuilt, core, located, located_parameters, members_of, members_at, parameters_of, parameters_at};
-ghost use Rattle.lft_shapes.specs.Refused.{HasCause, IsTooMuch, SaysForeign, SaysTwice, name_of, names_in, noted, noted_if, why_of, written};
+ghost use Rattle.lft_shapes.specs.Shapes.{thing_named, child_at, name_of, width_of, is_at};
+ghost use Rattle.lft_shapes.specs.Built.{HasName, IsBuilt, core, located, located_parameters, members_of, members_at, parameters_of, parameters_at};
+ghost use Rattle.lft_shapes.specs.Naming.{EachNamed, HasNamed};
+ghost use Rattle.lft_shapes.specs.Refused.{HasCauseIn, IsTooMuch, SaysForeign, SaysTwice, names_in, noted, noted_if, why_of, written};
 
 use crate::chains::chain;
 use crate::scopes::{Class, Scopes};
@@ -278,7 +279,10 @@ fn push_named<'a>(
     number: usize,
     inherited: Inherited<'a>,
 ) -> Result<(), NoMemory>
-    ensures { OnOk result (noted named.new.items ≡ noted named.old.items ++ noted_if inherited.entry.file (name_of inherited.entry.member.now)) }
+    ensures noted { OnOk result (noted named.new.items ≡ noted named.old.items ++ noted_if inherited.entry.file (name_of inherited.entry.member.now)) }
+    ensures each { OnOk result ((ps : List InheritedParameter) (ms : List Inherited) → slice_get ms number ≡ Some inherited.entry → EachNamed ps ms named.old.items → EachNamed ps ms named.new.items) }
+    ensures kept { OnOk result ((q : List ℕ) (t : Thing) → HasNamed named.old.items q t → HasNamed named.new.items q t) }
+    ensures has { OnOk result ((q : List ℕ) → option_map (λ n. string_bytes n.text) (name_of inherited.entry.member.now) ≡ Some q → HasNamed named.new.items q (Thing.Member number)) }
 {
     let Some(name) = name_of(inherited.member) else {
         return Ok(());
@@ -298,7 +302,9 @@ fn all_named<'a>(
     parameters: &[InheritedParameter<'a>],
     members: &[Inherited<'a>],
 ) -> Result<Vec<Named<'a>>, NoMemory>
-    ensures { IfOk result (λ named. noted named.items ≡ written (names_in (located_parameters parameters.now) (located members.now))) }
+    ensures noted { IfOk result (λ named. noted named.items ≡ written (names_in (located_parameters parameters.now) (located members.now))) }
+    ensures each { IfOk result (λ named. EachNamed parameters.now members.now named.items) }
+    ensures all { IfOk result (λ named. (q : List ℕ) (t : Thing) → HasName parameters.now members.now q t → HasNamed named.items q t) }
 {
     let mut named = Vec::new(alloc);
     for number in 0..parameters.len() {
@@ -339,7 +345,8 @@ impl<'a> Shape<'a> {
     ) -> Result<Shape<'a>, Stop>
         ensures class { IfOk result (λ shape. shape.class ≡ class.entry) }
         ensures built { IfOk result (λ shape. IsBuilt scopes.now (core shape)) }
-        ensures cause { IfErr result (HasCause scopes.now class.entry.number) }
+        ensures empty { IfOk result (λ shape. shape.children.items ≡ []) }
+        ensures cause { IfErr result (HasCauseIn scopes.now class.entry.number) }
     {
         let chain = chain(alloc, scopes, work, class.number)?;
         let parts = parts_of(alloc, scopes, work, &chain)?;
@@ -427,7 +434,8 @@ impl<'a> Shape<'a> {
 
 /// Refuses two things of one name.
 fn refuse_twice(index: &Index, named: &[Named]) -> Result<(), Stop>
-    ensures { IfErr result (λ stop. IsIndexOf index.now (map (λ n. n.name.now) named.now) → (names : List (ℕ × Name)) → noted named.now ≡ written names → SaysTwice names stop) }
+    ensures once { OnOk result (IsIndexOf index.now (map (λ n. n.name.now) named.now) → (k : ℕ) (n : Named) → slice_get named.now k ≡ Some n → place_in index.now n.name.now ≡ Some k) }
+    ensures cause { IfErr result (λ stop. IsIndexOf index.now (map (λ n. n.name.now) named.now) → (names : List (ℕ × Name)) → noted named.now ≡ written names → SaysTwice names stop) }
 {
     for place in 0..named.len() {
         let found = item_at(named, place);

@@ -1,6 +1,6 @@
 use Rattle.std.proofs.Common.{option_copied, slice_get, refl, sym, ap, subst, ◌∙◌}
 use Rattle.lft_scope.proofs.Placing.{lent}
-use Rattle.lft_shapes.specs.Refused.{HasCause}
+use Rattle.lft_shapes.specs.Refused.{HasCauseIn}
 use Rattle.lft_shapes.specs.Scopes.{meaning_in}
 use Rattle.lft_shapes.proofs.chains.base_at.Goals as goal
 
@@ -16,7 +16,7 @@ returns-in-Some-get-2-clause-place c = (
 )
 
 pub returns-in-None-clause-cause : goal.returns-in-None-clause-cause
-returns-in-None-clause-cause c first reached = subst (HasCause c.args.scopes.now first) (sym c.at.ensures) (record {
+returns-in-None-clause-cause c first reached = subst (HasCauseIn c.args.scopes.now first) (sym c.at.ensures) (record {
   class = c.args.class;
   reached = reached;
   which = c.args.number;

@@ -6,7 +6,7 @@ use Rattle.lft_whole.specs.declared.tree.Name.{Name}
 use Rattle.lft_shapes.specs.declared.chains.Base.{Base}
 use Rattle.lft_shapes.specs.declared.walk.Visit.{Visit}
 use Rattle.lft_shapes.specs.Chains.{base_of}
-use Rattle.lft_shapes.specs.Refused.{HasCause, NamesBase}
+use Rattle.lft_shapes.specs.Refused.{HasCauseIn, NamesBase}
 use Rattle.lft_shapes.specs.Walks.{Reaches, is_done}
 use Rattle.lft_shapes.proofs.Walking.{one_passed, same_last, top_reached}
 use Rattle.lft_shapes.proofs.chains.step.Goals as goal
@@ -49,7 +49,7 @@ returns-clause-cause c first s =
     let named = found (λ (b : Base). (name : Name) × NamesBase c.args.scopes.now visit.node visit.next name (record { file = b.file; token = b.at })) _ base c.in_ok-base.ensures.place c.in-Some-2.is in
     let circle = c.in_ok-enter.ensures.circle c.if-branch.false (sym c.is_done.ensures ∙ c.if-is_done.false) next first s in
     let top : circle.0 ≡ visit = same_last circle.1.0 c.in-Some.ensures.some.0 circle.0 visit (sym circle.1.1 ∙ c.in-Some.ensures.some.1) in
-    subst (HasCause c.args.scopes.now first) (sym c.at.ensures) (record {
+    subst (HasCauseIn c.args.scopes.now first) (sym c.at.ensures) (record {
       class = visit.node;
       reached = top_reached next first _ _ _ _ c.in-Some.ensures.some.0 visit c.in-Some.ensures.some.1 s;
       which = visit.next;

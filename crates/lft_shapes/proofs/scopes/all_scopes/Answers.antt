@@ -1,6 +1,7 @@
-use Rattle.std.proofs.Common.{◌≡◌, ◌+◌, length, Some, slice_get, refl, sym, ap, subst, ◌∙◌}
+use Rattle.std.proofs.Common.{◌≡◌, ◌+◌, length, Some, slice_get, refl, sym, ap, subst, ◌∙◌, arith}
 use Rattle.std.proofs.lemmas.Option.{slice_get_read}
-use Rattle.lft_shapes.specs.Scopes.{AreMeantScopes, IsMeant, IsScope}
+use Rattle.std.proofs.lemmas.Result.{err_from_is_err_and}
+use Rattle.lft_shapes.specs.Scopes.{IsScope, MeansAt}
 use Rattle.lft_shapes.proofs.Meanings.{scopes_push}
 use Rattle.lft_shapes.proofs.Walking.{push_length}
 use Rattle.lft_shapes.proofs.scopes.all_scopes.Goals as goal
@@ -13,5 +14,16 @@ loop-number-preserved c =
     let at : slice_get files n ≡ Some c.index-files-number.result = slice_get_read files (length files) n c.index-files-number.result refl c.loop-number-test.true c.index-files-number.is in
     record {
       count = ap length c.in_ok-push.ensures.items ∙ push_length before c.in_ok-scope.scope ∙ ap (λ m. m + 1) c.loop-number.invariant.count;
-      scopes = λ own. subst (AreMeantScopes files) (sym c.in_ok-push.ensures.items) (scopes_push (λ t s. IsScope (IsMeant files t) s) before n c.in_ok-scope.scope c.loop-number.invariant.count (c.loop-number.invariant.scopes own) (c.in_ok-scope.ensures files at own));
+      each = λ own. subst (λ ss. (t : _) (s : _) → slice_get ss t ≡ Some s → IsScope (MeansAt files t) s) (sym c.in_ok-push.ensures.items) (scopes_push (λ t s. IsScope (MeansAt files t) s) before n c.in_ok-scope.scope c.loop-number.invariant.count (c.loop-number.invariant.each own) (c.in_ok-scope.ensures.meant files at own));
     }
+
+pub returns-clause-meant : goal.returns-clause-meant
+returns-clause-meant c own = record { count = c.loop-number.invariant.count ∙ omega arith; each = c.loop-number.invariant.each own }
+
+pub returns-in_err-scope-clause-cause : goal.returns-in_err-scope-clause-cause
+returns-in_err-scope-clause-cause c =
+    let p = err_from_is_err_and c.from_residual.result c.from_residual.ensures.1 in
+    let files = c.args.files.now in
+    let n = c.loop-number.number in
+    let at : slice_get files n ≡ Some c.index-files-number.result = slice_get_read files (length files) n c.index-files-number.result refl c.loop-number-test.true c.index-files-number.is in
+    rw (p.1, p.2) (λ own. c.in_err-scope.ensures.cause files at own)

@@ -1,18 +1,39 @@
-use Rattle.std.proofs.Common.{◌≡◌, ◌<◌, length, Some, slice_get, refl, sym, subst, ◌∙◌, arith}
-use Rattle.std.proofs.lemmas.Option.{slice_get_read}
-use Rattle.lft_shapes.specs.Scopes.{AreOf, IsOwn}
-use Rattle.lft_shapes.proofs.Meanings.{of_push, scope_has}
+use Rattle.std.proofs.Common.{◌≡◌, ◌<◌, ◌++◌, ℕ, List, length, Some, map, take, option_map, string_bytes, get_or, slice_get, refl, sym, ap, subst, ◌∙◌, arith}
+use Rattle.std.proofs.lemmas.Grind.{common_steps}
+use Rattle.std.proofs.lemmas.Option.{slice_get_read, slice_get_within}
+use Rattle.std.proofs.lemmas.Bool.{cases_lt}
+use Rattle.lft_lists.proofs.Places.{same_at}
+use Rattle.lft_whole.specs.declared.tree.Reactor.{Reactor}
+use Rattle.lft_shapes.specs.Scopes.{AreNumbered, IsOwnAt, placed}
+use Rattle.lft_shapes.proofs.Building.{pushed}
+use Rattle.lft_shapes.proofs.Meanings.{has_below, numbers_push, scope_has}
+use Rattle.lft_shapes.proofs.Numbering.{next_stands, own_item}
 use Rattle.lft_shapes.proofs.scopes.own_scope.Goals as goal
 
 pub loop-place-preserved : goal.loop-place-preserved
 loop-place-preserved c =
     let items = c.args.file.now.tree.reactors.items in
-    let within : c.loop-place.place < length items = omega arith in
-    let there : slice_get items c.loop-place.place ≡ Some c.index.result.now = slice_get_read items (length items) c.loop-place.place c.index.result.now refl within c.index.ensures in
+    let k = c.loop-place.place in
+    let classes = c.loop-place.classes.items in
+    let reactor = c.index.result.now in
+    let pair : Reactor → ℕ × Reactor = λ r. (c.args.number, r) in
+    let within : k < length items = omega arith in
+    let there : slice_get items k ≡ Some reactor = slice_get_read items (length items) k reactor refl within c.index.ensures in
     record {
-      own = λ files at. c.in_ok-push_named.ensures files (record { file = c.args.file.now; is_file = at; place = c.loop-place.place; is_there = there }) (c.loop-place.invariant.own files at);
-      classes = λ files at all. subst (AreOf files) (sym c.in_ok-push.ensures.items) (of_push files c.loop-place.classes.items _ (c.loop-place.invariant.classes files at all) (c.len.ensures ∙ c.loop-place.classes.ok.0) (record { file = c.args.file.now; is_file = at; place = c.loop-place.place; is_there = there }));
+      own = λ files at before. c.in_ok-push_named.ensures.own files (next_stands files c.args.number c.args.file.now c.args.classes.now.items classes k _ reactor at before c.loop-place.invariant.classes within there (c.len.ensures ∙ c.loop-place.classes.ok.0)) (c.loop-place.invariant.own files at before);
+      has = has_below (λ r q. option_map (λ n. string_bytes n.text) r.name ≡ Some q) items k reactor c.loop-place.meanings.items c.push_named.new.meanings.items there c.loop-place.invariant.has c.in_ok-push_named.ensures.kept c.in_ok-push_named.ensures.has;
+      classes = ap placed c.in_ok-push.ensures.items ∙ pushed (λ x. (x.file, x.reactor.now)) pair (placed c.args.classes.now.items) classes items k _ reactor within (sym c.index.ensures) refl c.loop-place.invariant.classes;
+      numbers = λ all. subst AreNumbered (sym c.in_ok-push.ensures.items) (numbers_push classes _ (c.loop-place.invariant.numbers all) (c.len.ensures ∙ c.loop-place.classes.ok.0));
     }
 
 pub returns-clause-own : goal.returns-clause-own
-returns-clause-own c files at = scope_has (IsOwn files c.args.number) _ _ c.in_ok-scope.ensures (c.loop-place.invariant.own files at)
+returns-clause-own c files at before = scope_has (IsOwnAt files c.args.number) _ _ c.in_ok-scope.ensures (c.loop-place.invariant.own files at before) (λ q d token is.
+    let item = own_item files c.args.number c.args.file.now d at is.0.stands is.0.in_file in
+    let within = slice_get_within c.args.file.now.tree.reactors.items item.0 d.reactor.now item.1 in
+    c.loop-place.invariant.has item.0 d.reactor.now q (omega (arith, within)) item.1 is.0.has_name)
+
+pub returns-clause-classes : goal.returns-clause-classes
+returns-clause-classes c =
+    let items = c.args.file.now.tree.reactors.items in
+    let whole : take c.loop-place.place items ≡ items = grind (arith, common_steps) in
+    c.loop-place.invariant.classes ∙ ap (λ rs. placed c.args.classes.now.items ++ map (λ r. (c.args.number, r)) rs) whole

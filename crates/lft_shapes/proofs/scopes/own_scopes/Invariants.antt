@@ -1,10 +1,12 @@
-use Rattle.std.proofs.Common.{◌≡◌, length}
-use Rattle.lft_shapes.specs.Scopes.{AreOf, AreOwnScopes}
+use Rattle.std.proofs.Common.{◌≡◌, ℕ, [], length, Some, slice_get}
+use Rattle.lft_shapes.specs.declared.scopes.Scope.{Scope}
+use Rattle.lft_shapes.specs.Scopes.{AreNumbered, IsOwnAt, IsScope, placed, reactors_before}
 use Rattle.lft_shapes.proofs.scopes.own_scopes.Given as goal
 
 abbrev pub invariant-loop-number : goal.invariant-loop-number
 invariant-loop-number l = record {
   count : length l.own.items ≡ l.number;
-  classes : AreOf l.files l.initial.classes.items → AreOf l.files l.classes.items;
-  own : AreOwnScopes l.files l.own.items;
+  classes : placed l.initial.classes.items ≡ [] → placed l.classes.items ≡ reactors_before l.files l.number;
+  numbers : AreNumbered l.initial.classes.items → AreNumbered l.classes.items;
+  own : placed l.initial.classes.items ≡ [] → (t : ℕ) (s : Scope) → slice_get l.own.items t ≡ Some s → IsScope (IsOwnAt l.files t) s;
 }

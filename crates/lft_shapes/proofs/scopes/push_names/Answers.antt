@@ -1,44 +1,59 @@
-use Rattle.std.proofs.Common.{◌≡◌, ◌<◌, inr, length, Some, slice_get, refl, sym, subst, arith}
-use Rattle.std.proofs.lemmas.Option.{slice_get_read}
+use Rattle.std.proofs.Common.{inl, ◌≡◌, ◌<◌, ℕ, List, inr, length, Some, slice_get, string_bytes, refl, sym, ap, subst, ◌∙◌, arith}
+use Rattle.std.proofs.lemmas.Option.{slice_get_read, slice_get_within}
 use Rattle.lft_lists.proofs.Options.{lacking}
-use Rattle.lft_shapes.specs.Unnamed.{GivesNone, SaysNotGiven}
-use Rattle.lft_shapes.specs.Scopes.{EachMeans, IsMeant, IsOwn}
-use Rattle.lft_shapes.proofs.Meanings.{means_push}
+use Rattle.lft_whole.specs.declared.tree.ImportedName.{ImportedName}
+use Rattle.lft_shapes.specs.Causes.{HasCause}
+use Rattle.lft_shapes.specs.Unnamed.{ExportsNone, GivesNone}
+use Rattle.lft_shapes.specs.Scopes.{EachMeans, HasMeaning, IsOwn, MeansAt}
+use Rattle.lft_shapes.proofs.Meanings.{exports_none, has_below, has_last, has_push, means_push}
 use Rattle.lft_shapes.proofs.scopes.push_names.Goals as goal
 
 pub loop-place-preserved : goal.loop-place-preserved
-loop-place-preserved c files is own all =
+loop-place-preserved c =
+    let items = c.args.import.now.names.items in
+    let imported = c.index-imported.result.now in
+    let before = c.loop-place.meanings.items in
+    let within : c.loop-place.place < length items = omega arith in
+    let among : slice_get items c.loop-place.place ≡ Some imported = slice_get_read items (length items) c.loop-place.place imported refl within c.index-imported.ensures in
+    let kept : (q : List ℕ) → HasMeaning before q → HasMeaning c.push.new.self.items q = λ q has. subst (λ ms. HasMeaning ms q) (sym c.in_ok-push.ensures.items) (has_push before _ q has) in
+    let named : (q : List ℕ) → string_bytes imported.alias.text ≡ q → HasMeaning c.push.new.self.items q = λ q is. subst (HasMeaning c.push.new.self.items) (c.as_str-in-loop-place.ensures.value ∙ is) (subst (λ ms. HasMeaning ms c.as_str-in-loop-place.result.now) (sym c.in_ok-push.ensures.items) (has_last before _)) in
+    record {
+      meant = λ files is own all. subst (EachMeans (MeansAt files c.args.number)) (sym c.in_ok-push.ensures.items) (means_push (MeansAt files c.args.number) before _ (c.loop-place.invariant.meant files is own all) (inr (
+        record {
+          other = c.args.target;
+          what = c.args.import.now;
+          is_import = is;
+          place = c.loop-place.place;
+          name = imported;
+          is_among = among;
+          alias = sym c.as_str-in-loop-place.ensures.value;
+          is_there = subst (λ q. IsOwn files c.args.target q c.in-Some.class) c.as_str.ensures.value (c.in-Some.ensures.some.1 files own);
+          is_not_main = c.in-Some.ensures.some.0;
+        },
+        refl,
+      )));
+      kept = λ q has. kept q (c.loop-place.invariant.kept q has);
+      all = has_below (λ (n : ImportedName) q. string_bytes n.alias.text ≡ q) items c.loop-place.place imported before c.push.new.self.items among c.loop-place.invariant.all kept named;
+    }
+
+pub returns-clause-all : goal.returns-clause-all
+returns-clause-all c which name at =
+    let within = slice_get_within c.args.import.now.names.items which name at in
+    c.loop-place.invariant.all which name (string_bytes name.alias.text) (omega (arith, within)) at refl
+
+pub returns-in_default-clause-cause : goal.returns-in_default-clause-cause
+returns-in_default-clause-cause c files is own =
     let items = c.args.import.now.names.items in
     let imported = c.index-imported.result.now in
     let within : c.loop-place.place < length items = omega arith in
     let among : slice_get items c.loop-place.place ≡ Some imported = slice_get_read items (length items) c.loop-place.place imported refl within c.index-imported.ensures in
-    subst (EachMeans (IsMeant files c.args.number)) (sym c.in_ok-push.ensures.items) (means_push (IsMeant files c.args.number) c.loop-place.meanings.items _ (c.loop-place.invariant files is own all) (inr (record {
+    subst (HasCause files) (sym c.at.ensures) (inl (record {
       other = c.args.target;
       what = c.args.import.now;
       is_import = is;
-      place = c.loop-place.place;
+      which = c.loop-place.place;
       name = imported;
       is_among = among;
-      alias = sym c.as_str-in-loop-place.ensures.value;
-      is_there = subst (λ q. IsOwn files c.args.target q c.in-Some.class) c.as_str.ensures.value (c.in-Some.ensures.some.1 files own);
-      is_not_main = c.in-Some.ensures.some.0;
-    })))
-
-pub returns-in_default-clause-cause : goal.returns-in_default-clause-cause
-returns-in_default-clause-cause c =
-    let own = c.args.own.now in
-    let items = c.args.import.now.names.items in
-    let imported = c.index-imported.result.now in
-    let within : c.loop-place.place < length items = omega arith in
-    let among : slice_get items c.loop-place.place ≡ Some imported = slice_get_read items (length items) c.loop-place.place imported refl within c.index-imported.ensures in
-    subst (SaysNotGiven own c.args.number c.args.target c.args.import.now) (sym c.at.ensures) (
-      refl,
-      refl,
-      record {
-        which = c.loop-place.place;
-        name = imported;
-        is_among = among;
-        stands = refl;
-        gives_none = subst (GivesNone own c.args.target) c.as_str.ensures.value (lacking (GivesNone own c.args.target c.as_str.result.now) c.exported.result c.exported.ensures.none c.in_default.is);
-      },
-    )
+      stands = refl;
+      gives_none = subst (GivesNone files c.args.target) c.as_str.ensures.value (exports_none files c.args.own.now c.args.target c.as_str.result.now own (lacking (ExportsNone c.args.own.now c.args.target c.as_str.result.now) c.exported.result c.exported.ensures.none c.in_default.is));
+    }))

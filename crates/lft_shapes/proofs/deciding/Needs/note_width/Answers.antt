@@ -1,4 +1,4 @@
-use Rattle.std.proofs.Common.{◌≡◌, ◌≢◌, ◌<◌, ℕ, Some, length, slice_get, refl, sym, subst, arith}
+use Rattle.std.proofs.Common.{◌≡◌, ◌≢◌, ◌<◌, ℕ, Some, length, slice_get, string_bytes, refl, sym, subst, arith}
 use Rattle.std.proofs.lemmas.Option.{slice_get_read}
 use Rattle.lft_lists.proofs.Options.{lacking}
 use Rattle.lft_shapes.specs.declared.shapes.Thing.TheVariants as thing
@@ -21,14 +21,10 @@ returns-in_default-parameter c =
       (
         c.in-Some.width,
         c.in-Some.is,
-        record {
-          which = i;
-          term = term;
-          is_term = there;
-          word = c.in-Word.word;
-          is_word = c.in-Word.is;
-          stands = refl;
-          means_none = subst (λ q. (n : ℕ) → thing_named shape q ≢ Some (thing.Parameter n)) c.as_str.ensures.value none;
-        },
+        (
+          string_bytes c.in-Word.word,
+          record { which = i; term = term; is_term = there; word = c.in-Word.word; is_word = c.in-Word.is; is_name = refl; stands = refl },
+          subst (λ q. (n : ℕ) → thing_named shape q ≢ Some (thing.Parameter n)) c.as_str.ensures.value none,
+        ),
       ),
     )

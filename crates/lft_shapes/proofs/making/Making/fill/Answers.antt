@@ -1,12 +1,51 @@
-use Rattle.std.proofs.Common.{refl}
-use Rattle.lft_shapes.proofs.Goings.{goes_nowhere, goes_further, goes_same}
+use Rattle.std.proofs.Common.{◌≡◌, ◌+◌, ℕ, length, Some, slice_get, refl, sym, ap, subst, ◌∙◌}
+use Rattle.std.proofs.lemmas.Result.{err_from_is_err_and}
+use Rattle.lft_lists.proofs.Options.{found}
+use Rattle.lft_shapes.specs.declared.shapes.Child.{Child}
+use Rattle.lft_shapes.specs.Built.{IsInside, cores}
+use Rattle.lft_shapes.specs.Causes.{SaysBelow}
+use Rattle.lft_shapes.specs.Makings.{AreMade}
+use Rattle.lft_shapes.specs.Shapes.{child_at}
+use Rattle.lft_shapes.proofs.Goings.{child_push, goes_nowhere, goes_further, inside_kept, set_made}
+use Rattle.lft_shapes.proofs.Walking.{push_length}
 use Rattle.lft_shapes.proofs.making.Making.fill.Goals as goal
 
 pub loop-number-init : goal.loop-number-init
-loop-number-init c = goes_nowhere _
+loop-number-init c = record {
+  goes = goes_nowhere _ _;
+  count = ap length c.new-children.ensures.items;
+  children = λ first all k child at. absurd (let e = ap (λ l. child_at l k) (sym c.new-children.ensures.items) ∙ at in cc);
+}
 
 pub loop-number-preserved : goal.loop-number-preserved
-loop-number-preserved c = goes_further _ _ _ c.loop-number.invariant c.in_ok-child.ensures
+loop-number-preserved c =
+    let before = c.loop-number.invariant in
+    let old = c.loop-number.self in
+    let scopes = c.args.self.now.scopes in
+    let children = c.loop-number.children.items in
+    let cs = cores c.child_at.new.self.shapes.items in
+    let Q : ℕ → Child → Type 0 = λ k child. IsInside scopes cs c.args.shape k child.shape in
+    record {
+      goes = goes_further _ _ _ _ before.goes c.in_ok-child.ensures.goes;
+      count = ap length c.in_ok-push.ensures.items ∙ push_length children c.in_ok-child.child ∙ ap (λ n. n + 1) before.count;
+      children = λ first all. subst (λ l. (k : ℕ) (child : Child) → child_at l k ≡ Some child → Q k child) (sym c.in_ok-push.ensures.items) (child_push Q children c.in_ok-child.child c.loop-number.number before.count (λ k child at. inside_kept scopes (cores old.shapes.items) cs c.args.shape k child.shape c.in_ok-child.ensures.goes.kept (before.children first all k child at)) (λ child is.
+          let P : Child → Type 0 = λ x. (n : ℕ) → AreMade old.scopes n old → IsInside old.scopes cs c.args.shape c.loop-number.number x.shape in
+          subst (λ s. IsInside s cs c.args.shape c.loop-number.number child.shape) before.goes.scopes (found P c.in_ok-child.child child c.in_ok-child.ensures.child is first (subst (λ s. AreMade s first old) (sym before.goes.scopes) (before.goes.made first tt all)))));
+    }
 
-pub returns : goal.returns
-returns c = goes_further _ _ _ c.loop-number.invariant (goes_same _ _ refl c.set_children.ensures)
+pub returns-clause-goes : goal.returns-clause-goes
+returns-clause-goes c =
+    let before = c.loop-number.invariant in
+    let scopes = c.args.self.now.scopes in
+    record {
+      scopes = before.goes.scopes;
+      made = λ first n all. set_made scopes first c.loop-number.self _ c.args.shape c.loop-number.children.items refl c.set_children.ensures.cores c.set_children.ensures.tables (before.goes.made first n all) (before.children first all);
+      kept = λ i d at. ap (λ l. slice_get l i) c.set_children.ensures.cores ∙ before.goes.kept i d at;
+    }
+
+pub returns-in_err-child-clause-cause : goal.returns-in_err-child-clause-cause
+returns-in_err-child-clause-cause c =
+    let p = err_from_is_err_and c.from_residual.result c.from_residual.ensures.1 in
+    let before = c.loop-number.invariant in
+    let old = c.loop-number.self in
+    rw (p.1, p.2) (λ first all. subst (λ s. SaysBelow s first c.in_err-child.field-0.0) before.goes.scopes (c.in_err-child.ensures.cause first (subst (λ s. AreMade s first old) (sym before.goes.scopes) (before.goes.made first tt all))))

@@ -1,16 +1,54 @@
-use Rattle.std.proofs.Common.{sym, ap, subst, ◌∙◌}
-use Rattle.lft_shapes.specs.Built.{AreBuilt, first_class}
+use Rattle.std.proofs.Common.{◌≡◌, Some, inl, inr, slice_get, sym, ap, subst, ◌∙◌}
+use Rattle.std.proofs.lemmas.Result.{err_from_is_err_and}
+use Rattle.lft_shapes.specs.Built.{AreBuilt, AreInside, cores, first_class}
+use Rattle.lft_shapes.specs.Circles.{HasCircle}
+use Rattle.lft_shapes.specs.Makings.{AreShapes}
+use Rattle.lft_shapes.specs.Shapes.{inside, tables}
+use Rattle.lft_shapes.specs.Walks.{IsList}
+use Rattle.lft_shapes.proofs.Causing.{circle_is_below, first_core, main_is_cause, main_has_cause}
 use Rattle.lft_shapes.proofs.nesting.Nesting.of.Goals as goal
 
-pub returns : goal.returns
-returns c = (
-  c.in_ok-scopes.scopes,
-  record {
-    scopes_are = c.in_ok-scopes.ensures;
-    main = c.in_ok-main.main;
-    main_is = c.in_ok-main.ensures.main;
-    is_first = ap first_class c.loop-place.invariant.same ∙ c.in_ok-made.ensures.first;
-    built = subst (AreBuilt c.in_ok-scopes.scopes) (sym c.loop-place.invariant.same) c.in_ok-made.ensures.built;
-    order = c.loop-place.invariant.order;
-  },
-)
+pub returns-clause-nesting : goal.returns-clause-nesting
+returns-clause-nesting c =
+    let scopes = c.in_ok-scopes.scopes in
+    let made = c.in_ok-made.ensures in
+    let inv = c.loop-place.invariant in
+    let shapes = c.in_ok-made.made.1.items in
+    let now = c.loop-place.shapes.items in (
+      scopes,
+      record {
+        scopes_are = c.in_ok-scopes.ensures.scopes;
+        main = c.in_ok-main.main;
+        main_is = c.in_ok-main.ensures.main;
+        is_first = ap first_class inv.same ∙ made.first;
+        built = subst (AreBuilt scopes) (sym inv.same) made.shapes.built;
+        inside_are = subst (λ cs. AreInside scopes cs (tables now)) (sym inv.same) (subst (AreInside scopes (cores shapes)) (sym inv.rows) made.shapes.inside);
+        order = subst (λ rows. IsList (inside rows) 0 c.in_ok-order.order.items) (sym inv.rows) (subst (λ l. IsList (inside (tables l)) 0 c.in_ok-order.order.items) c.deref.ensures.value c.in_ok-order.ensures.order);
+      },
+    )
+
+pub returns-in_err-main-clause-cause : goal.returns-in_err-main-clause-cause
+returns-in_err-main-clause-cause c =
+    let p = err_from_is_err_and c.from_residual-in_err-main.result c.from_residual-in_err-main.ensures.1 in
+    rw (p.1, p.2) (main_is_cause c.args.files.now c.in_ok-scopes.scopes c.last_token.result _ c.in_ok-scopes.ensures.scopes c.last_token.ensures c.in_err-main.ensures.cause)
+
+pub returns-in_err-made-clause-cause : goal.returns-in_err-made-clause-cause
+returns-in_err-made-clause-cause c =
+    let p = err_from_is_err_and c.from_residual-in_err-made.result c.from_residual-in_err-made.ensures.1 in
+    rw (p.1, p.2) (main_has_cause c.args.files.now c.in_ok-scopes.scopes c.in_ok-main.main _ c.in_ok-scopes.ensures.scopes c.in_ok-main.ensures.main c.in_err-made.ensures.cause)
+
+pub returns-in_err-order-clause-cause : goal.returns-in_err-order-clause-cause
+returns-in_err-order-clause-cause c =
+    let p = err_from_is_err_and c.from_residual-in_err-order.result c.from_residual-in_err-order.ensures.1 in
+    let first = first_core (cores c.in_ok-made.made.1.items) c.in_ok-main.main c.in_ok-made.ensures.first in
+    rw (p.1, p.2) (main_has_cause c.args.files.now c.in_ok-scopes.scopes c.in_ok-main.main _ c.in_ok-scopes.ensures.scopes c.in_ok-main.ensures.main (circle_is_below c.in_ok-scopes.scopes c.in_ok-main.main.number c.in_ok-made.made.1.items first.0 _ c.in_ok-made.ensures.shapes (subst (λ l. HasCircle l 0 c.in_err-order.field-0.0) c.deref.ensures.value c.in_err-order.ensures.cause) first.1))
+
+pub returns-in_err-decide-clause-cause : goal.returns-in_err-decide-clause-cause
+returns-in_err-decide-clause-cause c =
+    let p = err_from_is_err_and c.from_residual-in_err-decide.result c.from_residual-in_err-decide.ensures.1 in
+    let scopes = c.in_ok-scopes.scopes in
+    let main = c.in_ok-main.main in
+    let inv = c.loop-place.invariant in
+    let now = c.loop-place.shapes.items in
+    let shapes : AreShapes scopes main.number (cores now) (tables now) = subst (λ cs. AreShapes scopes main.number cs (tables now)) (sym inv.same) (subst (AreShapes scopes main.number (cores c.in_ok-made.made.1.items)) (sym inv.rows) c.in_ok-made.ensures.shapes) in
+    rw (p.1, p.2) (main_has_cause c.args.files.now scopes main _ c.in_ok-scopes.ensures.scopes c.in_ok-main.ensures.main (c.in_err-decide.ensures.cause scopes main.number shapes))

@@ -1,10 +1,14 @@
-use Rattle.std.proofs.Common.{◌≡◌, map, sym, ap, subst, ◌∙◌}
+use Rattle.std.proofs.Common.{◌≡◌, ℕ, List, Some, slice_get, map, sym, ap, subst, ◌∙◌}
 use Rattle.std.specs.Prelude.{flat_map}
 use Rattle.std.proofs.lemmas.Result.{err_from_is_err_and}
-use Rattle.lft_scope.specs.Places.{IsIndexOf}
+use Rattle.lft_scope.specs.Places.{IsIndexOf, place_in}
 use Rattle.lft_scope.specs.Tests.{texts}
-use Rattle.lft_shapes.specs.Built.{located, located_parameters, members_at, parameters_at}
+use Rattle.lft_shapes.specs.declared.shapes.Named.{Named}
+use Rattle.lft_shapes.specs.declared.shapes.Thing.{Thing}
+use Rattle.lft_shapes.specs.Naming.{EachNamed, HasNamed}
+use Rattle.lft_shapes.specs.Built.{HasName, located, located_parameters, members_at, parameters_at}
 use Rattle.lft_shapes.specs.Refused.{SaysForeign, names_along, names_in, noted, written}
+use Rattle.lft_shapes.proofs.Naming.{is_thing, thing_of}
 use Rattle.lft_shapes.proofs.Refusing.{foreign_is_cause, much_is_cause, twice_is_cause}
 use Rattle.lft_shapes.proofs.shapes.Shape.of.Goals as goal
 
@@ -26,8 +30,8 @@ returns-in_err-refuse_twice-clause-cause c =
     let parameters : located_parameters c.deref-2.result.now ≡ flat_map (parameters_at scopes) chain = ap located_parameters c.deref-2.ensures.value ∙ c.in_ok-parts.ensures.parameters ∙ ap (flat_map (parameters_at scopes)) c.deref.ensures.value in
     let members : located c.deref-3.result.now ≡ flat_map (members_at scopes) chain = ap located c.deref-3.ensures.value ∙ c.in_ok-parts.ensures.members ∙ ap (flat_map (members_at scopes)) c.deref.ensures.value in
     let names : texts c.deref-5.result.now ≡ map (λ n. n.name.now) c.deref-6.result.now = ap texts c.deref-5.ensures.value ∙ c.in_ok-names.ensures ∙ ap (map (λ n. n.name.now)) (c.deref-4.ensures.value ∙ sym c.deref-6.ensures.value) in
-    let notes : noted c.deref-6.result.now ≡ written (names_along scopes chain) = ap noted c.deref-6.ensures.value ∙ c.in_ok-named.ensures ∙ ap (λ ps. written (names_in ps (located c.deref-3.result.now))) parameters ∙ ap (λ ms. written (names_in (flat_map (parameters_at scopes) chain) ms)) members in
-    rw (p.1, p.2) (twice_is_cause scopes c.args.class.number chain _ c.in_ok-chain.ensures.list (c.in_err-refuse_twice.ensures (subst (IsIndexOf c.in_ok-index.index) names c.in_ok-index.ensures) (names_along scopes chain) notes))
+    let notes : noted c.deref-6.result.now ≡ written (names_along scopes chain) = ap noted c.deref-6.ensures.value ∙ c.in_ok-named.ensures.noted ∙ ap (λ ps. written (names_in ps (located c.deref-3.result.now))) parameters ∙ ap (λ ms. written (names_in (flat_map (parameters_at scopes) chain) ms)) members in
+    rw (p.1, p.2) (twice_is_cause scopes c.args.class.number chain _ c.in_ok-chain.ensures.list (c.in_err-refuse_twice.ensures.cause (subst (IsIndexOf c.in_ok-index.index) names c.in_ok-index.ensures) (names_along scopes chain) notes))
 
 pub returns-in_err-refuse_foreign-clause-cause : goal.returns-in_err-refuse_foreign-clause-cause
 returns-in_err-refuse_foreign-clause-cause c =
@@ -36,3 +40,23 @@ returns-in_err-refuse_foreign-clause-cause c =
     let chain = c.in_ok-chain.chain.items in
     let members : located c.deref-7.result.now ≡ flat_map (members_at scopes) chain = ap located c.deref-7.ensures.value ∙ c.in_ok-parts.ensures.members ∙ ap (flat_map (members_at scopes)) c.deref.ensures.value in
     rw (p.1, p.2) (foreign_is_cause scopes c.args.class.number chain _ c.in_ok-chain.ensures.list (subst (λ ms. SaysForeign ms c.in_err-refuse_foreign.field-0.0) members c.in_err-refuse_foreign.ensures))
+
+pub returns-clause-built : goal.returns-clause-built
+returns-clause-built c =
+    let scopes = c.args.scopes.now in
+    let ps = c.in_ok-parts.parts.parameters.items in
+    let ms = c.in_ok-parts.parts.members.items in
+    let ns = c.in_ok-named.named.items in
+    let index = c.in_ok-index.index in
+    let names : texts c.deref-5.result.now ≡ map (λ n. n.name.now) ns = ap texts c.deref-5.ensures.value ∙ c.in_ok-names.ensures ∙ ap (map (λ n. n.name.now)) c.deref-4.ensures.value in
+    let is : IsIndexOf index (map (λ n. n.name.now) ns) = subst (IsIndexOf index) names c.in_ok-index.ensures in
+    let each : EachNamed ps ms ns = subst (λ xs. EachNamed xs ms ns) c.deref-2.ensures.value (subst (λ xs. EachNamed c.deref-2.result.now xs ns) c.deref-3.ensures.value c.in_ok-named.ensures.each) in
+    let all : (q : List ℕ) (t : Thing) → HasName ps ms q t → HasNamed ns q t = subst (λ xs. (q : List ℕ) (t : Thing) → HasName xs ms q t → HasNamed ns q t) c.deref-2.ensures.value (subst (λ xs. (q : List ℕ) (t : Thing) → HasName c.deref-2.result.now xs q t → HasNamed ns q t) c.deref-3.ensures.value c.in_ok-named.ensures.all) in
+    let once : (k : ℕ) (n : Named) → slice_get ns k ≡ Some n → place_in index n.name.now ≡ Some k = subst (λ xs. IsIndexOf index (map (λ n. n.name.now) xs) → (k : ℕ) (n : Named) → slice_get xs k ≡ Some n → place_in index n.name.now ≡ Some k) c.deref-6.ensures.value c.in_ok-refuse_twice.ensures.once is in
+    record {
+      chain = c.in_ok-chain.chain.items;
+      extends = c.in_ok-chain.ensures.list;
+      has_members = c.in_ok-parts.ensures.members ∙ ap (flat_map (members_at scopes)) c.deref.ensures.value;
+      has_parameters = c.in_ok-parts.ensures.parameters ∙ ap (flat_map (parameters_at scopes)) c.deref.ensures.value;
+      has_names = λ q t. (thing_of ps ms ns index is each q t, λ has. is_thing ns index once q t (all q t has));
+    }

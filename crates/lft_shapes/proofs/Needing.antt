@@ -1,0 +1,89 @@
+-- What reactors need.
+use Rattle.std.proofs.Common.{◌≡◌, ℕ, inl, inr, List, [], ◌∷◌, ◌++◌, Option, Some, None, map, option_map, slice_get, string_bytes, refl, sym, ap, subst, ◌∙◌}
+use Rattle.std.specs.Prelude.{flat_map}
+use Rattle.std.specs.Option.{option_and_then}
+use Rattle.lft_lists.proofs.Mapped.{mapped, mapped_from}
+use Rattle.lft_lists.proofs.Members.{get_mem, mem_flat, mem_get}
+use Rattle.lft_lists.proofs.Places.{get_push, get_push_cases}
+use Rattle.lft_whole.specs.declared.tree.Instance.{Instance}
+use Rattle.lft_whole.specs.declared.tree.Member.{Member}
+use Rattle.lft_whole.specs.declared.tree.Member.TheVariants as member
+use Rattle.lft_whole.specs.declared.tree.Parameter.{Parameter}
+use Rattle.lft_shapes.specs.declared.scopes.Scopes.{Scopes}
+use Rattle.lft_shapes.specs.declared.shapes.Inherited.{Inherited}
+use Rattle.lft_shapes.specs.declared.shapes.InheritedParameter.{InheritedParameter}
+use Rattle.lft_shapes.specs.declared.shapes.Thing.TheVariants as thing
+use Rattle.lft_shapes.specs.Below.{Declares, HasParameter, IsBelow, base, inner, instance_at, itself as self}
+use Rattle.lft_shapes.specs.Built.{Core, IsBuilt, instance_of, members_at, parameters_at}
+use Rattle.lft_shapes.specs.Chains.{base_of, extended}
+use Rattle.lft_shapes.specs.Walks.{Has, IsBehind, IsList, Reaches, Ways, further, itself, nothing, one}
+use Rattle.lft_shapes.proofs.Refusing.{listed_of}
+
+-- a list has what those in it lead to
+pub closed_under : (next : Ways) (list : List ℕ) → IsBehind next list → (x k r : ℕ) → Has list x → next x k ≡ Some r → Has list r
+closed_under next _ nothing x k r has at = absurd (let e = has.1 in cc)
+closed_under next _ (one xs y behind new below) x k r has at = elim (get_push_cases xs y has.0 x has.1) [
+  | inl old ↦ (let h = closed_under next xs behind x k r (has.0, old) at in (h.0, get_push xs y h.0 r h.1))
+  | inr last ↦ (let h = below k r (ap (λ z. next z k) last.1 ∙ at) in (h.0, get_push xs y h.0 r h.1))
+]
+
+-- what is reached is listed
+pub listed_all : (next : Ways) (first : ℕ) (list : List ℕ) → IsList next first list → (r : ℕ) → Reaches next first r → Has list r
+listed_all next first list is _ itself = is.has_first
+listed_all next first list is _ (further {r = a} {s = b} k way at) = closed_under next list is.behind a k b (listed_all next first list is a way) at
+
+-- what one below extends is below too
+pub below_reached : (scopes : Scopes) (first a : ℕ) → IsBelow scopes first a → (b : ℕ) → Reaches (base_of scopes) a b → IsBelow scopes first b
+below_reached scopes first a is _ itself = is
+below_reached scopes first a is _ (further {r = c} k way at) = base k (below_reached scopes first a is c way) at
+
+-- where a member of a reactor with all that it inherits is declared
+pub record IsDeclared (scopes : Scopes) (r : ℕ) (m : ℕ × Member) : Type 0 where
+  pub class : ℕ
+  pub reached : Reaches (base_of scopes) r class
+  pub which : ℕ
+  pub is_there : slice_get (members_at scopes class) which ≡ Some m
+
+pub declared : (scopes : Scopes) (c : Core) (k : ℕ) (m : Inherited) → IsBuilt scopes c → slice_get c.members k ≡ Some m → IsDeclared scopes c.class.number (m.file, m.member.now)
+declared scopes c k m is at =
+    let locate : Inherited → ℕ × Member = λ x. (x.file, x.member.now) in
+    let from = listed_of (members_at scopes) is.chain k (locate m) (ap (λ l. slice_get l k) (sym is.has_members) ∙ mapped locate c.members k m at) in
+    record { class = from.1.0; reached = is.extends.reached from.1.0 (from.0, from.1.1); which = from.1.2.0; is_there = from.1.2.1 }
+
+-- a parameter that the reactor has is one of its shape
+pub parameter_of : (scopes : Scopes) (c : Core) (q : List ℕ) → IsBuilt scopes c → HasParameter scopes c.class.number q → (n : ℕ) × (c.things q ≡ Some (thing.Parameter n))
+parameter_of scopes c q is h =
+    let locate : InheritedParameter → ℕ × Parameter = λ x. (x.file, x.parameter.now) in
+    let has = listed_all (base_of scopes) c.class.number is.chain is.extends h.class h.reached in
+    let mem = mem_flat (parameters_at scopes) h.class h.parameter is.chain (mem_get is.chain has.0 h.class has.1) (mem_get (parameters_at scopes h.class) h.which h.parameter h.is_declared) in
+    let there = get_mem h.parameter (flat_map (parameters_at scopes) is.chain) mem in
+    let p = mapped_from locate c.parameters there.0 h.parameter (ap (λ l. slice_get l there.0) is.has_parameters ∙ there.1) in
+    (there.0, (is.has_names q (thing.Parameter there.0)).1 (p.0, p.1, ap (λ (x : ℕ × Parameter). string_bytes x.1.name.text) p.2 ∙ h.has_name))
+
+-- and one of its shape is one that it has
+pub parameter_has : (scopes : Scopes) (c : Core) (q : List ℕ) (n : ℕ) → IsBuilt scopes c → c.things q ≡ Some (thing.Parameter n) → HasParameter scopes c.class.number q
+parameter_has scopes c q n is e =
+    let locate : InheritedParameter → ℕ × Parameter = λ x. (x.file, x.parameter.now) in
+    let p = (is.has_names q (thing.Parameter n)).0 e in
+    let from = listed_of (parameters_at scopes) is.chain n (locate p.0) (ap (λ l. slice_get l n) (sym is.has_parameters) ∙ mapped locate c.parameters n p.0 p.1) in
+    record { class = from.1.0; reached = is.extends.reached from.1.0 (from.0, from.1.1); which = from.1.2.0; parameter = locate p.0; is_declared = from.1.2.1; has_name = p.2 }
+
+-- the reactor of a member that is an instance
+pub instance_is : (scopes : Scopes) (r which : ℕ) (m : ℕ × Member) → slice_get (members_at scopes r) which ≡ Some m → instance_at scopes r which ≡ instance_of scopes m
+instance_is scopes r which m at = ap (option_and_then (instance_of scopes)) at
+
+-- what a member contains is an instance
+pub is_instance : (scopes : Scopes) (file : ℕ) (m : Member) (n : ℕ) → instance_of scopes (file, m) ≡ Some n → (instance : Instance) × (m ≡ member.Instance instance)
+is_instance scopes file (member.Instance instance) n e = (instance, refl)
+is_instance scopes file (member.Port x) n e = absurd (cc)
+is_instance scopes file (member.Timer x) n e = absurd (cc)
+is_instance scopes file (member.Action x) n e = absurd (cc)
+is_instance scopes file (member.Reaction x) n e = absurd (cc)
+is_instance scopes file (member.Connection x) n e = absurd (cc)
+is_instance scopes file (member.Foreign what at) n e = absurd (cc)
+
+-- what is in a member of one below is below too
+pub below_inside : (scopes : Scopes) (first : ℕ) (c : Core) (k : ℕ) (m : Inherited) (n : ℕ) → IsBuilt scopes c → IsBelow scopes first c.class.number → slice_get c.members k ≡ Some m → instance_of scopes (m.file, m.member.now) ≡ Some n → IsBelow scopes first n
+below_inside scopes first c k m n is below at means =
+    let d = declared scopes c k m is at in
+    inner d.which (below_reached scopes first c.class.number below d.class d.reached) (instance_is scopes d.class d.which (m.file, m.member.now) d.is_there ∙ means)

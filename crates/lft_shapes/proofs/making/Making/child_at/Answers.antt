@@ -1,0 +1,61 @@
+use Rattle.std.proofs.Common.{◌≡◌, ℕ, Some, option_copied, slice_get, refl, sym, ap, subst, ◌∙◌}
+use Rattle.std.proofs.lemmas.Result.{err_from_is_err_and}
+use Rattle.lft_lists.proofs.Mapped.{mapped}
+use Rattle.lft_scope.proofs.Placing.{lent}
+use Rattle.lft_whole.specs.declared.tree.Member.TheVariants as member
+use Rattle.lft_shapes.specs.Built.{core, cores, instance_of}
+use Rattle.lft_shapes.specs.Makings.{IsNeeded}
+use Rattle.lft_shapes.proofs.Goings.{goes_weaker}
+use Rattle.lft_shapes.proofs.Needing.{below_inside, below_reached, declared}
+use Rattle.lft_shapes.proofs.making.Making.child_at.Goals as goal
+
+pub returns-clause-goes : goal.returns-clause-goes
+returns-clause-goes c =
+    let scopes = c.args.self.now.scopes in
+    let shapes = c.args.self.now.shapes.items in
+    let shape = c.in-Some.found.now in
+    let m = c.in-Some-member.inherited in
+    let there : slice_get shapes c.args.shape ≡ Some shape = ap (λ l. slice_get l c.args.shape) (sym c.deref.ensures.value) ∙ sym (lent c.deref.result.now c.args.shape c.get.result c.get.ensures.lookup) ∙ ap option_copied c.in-Some.is in
+    let at : slice_get (cores shapes) c.args.shape ≡ Some (core shape) = mapped core shapes c.args.shape shape there in
+    let is_member : slice_get shape.members.items c.args.number ≡ Some m = sym c.member.ensures ∙ c.in-Some-member.is in
+    let is : m.member.now ≡ member.Instance c.in-Some-instance.instance.now = c.in-Some-instance.ensures.some in
+    goes_weaker (IsNeeded scopes m.file c.in-Some-instance.instance.now) (λ first. Unit {0}) _ _ (λ first n all r means. below_inside scopes first (core shape) c.args.number m r (all.shapes.built c.args.shape (core shape) at) (all.shapes.below c.args.shape (core shape) at) is_member (ap (λ x. instance_of scopes (m.file, x)) is ∙ means)) c.in_ok-child.ensures.goes
+
+pub returns-clause-child : goal.returns-clause-child
+returns-clause-child c first all =
+    let scopes = c.args.self.now.scopes in
+    let shapes = c.args.self.now.shapes.items in
+    let shape = c.in-Some.found.now in
+    let m = c.in-Some-member.inherited in
+    let there : slice_get shapes c.args.shape ≡ Some shape = ap (λ l. slice_get l c.args.shape) (sym c.deref.ensures.value) ∙ sym (lent c.deref.result.now c.args.shape c.get.result c.get.ensures.lookup) ∙ ap option_copied c.in-Some.is in
+    let at : slice_get (cores shapes) c.args.shape ≡ Some (core shape) = mapped core shapes c.args.shape shape there in
+    let is_member : slice_get shape.members.items c.args.number ≡ Some m = sym c.member.ensures ∙ c.in-Some-member.is in
+    let is : m.member.now ≡ member.Instance c.in-Some-instance.instance.now = c.in-Some-instance.ensures.some in
+    let built = all.shapes.built c.args.shape (core shape) at in
+    let below = all.shapes.below c.args.shape (core shape) at in
+    let needed : IsNeeded scopes m.file c.in-Some-instance.instance.now first = λ r means. below_inside scopes first (core shape) c.args.number m r built below is_member (ap (λ x. instance_of scopes (m.file, x)) is ∙ means) in
+    let child = c.in_ok-child.ensures.child first needed all in
+    record {
+      outer = core shape;
+      is_outer = c.in_ok-child.ensures.goes.kept c.args.shape (core shape) at;
+      member = m;
+      is_member = is_member;
+      inner = child.2.core;
+      is_inner = child.2.is_core;
+      means = ap (λ x. instance_of scopes (m.file, x)) is ∙ child.1 ∙ ap Some (sym child.2.is_of);
+    }
+
+pub returns-in_err-child-clause-cause : goal.returns-in_err-child-clause-cause
+returns-in_err-child-clause-cause c =
+    let p = err_from_is_err_and c.from_residual.result c.from_residual.ensures.1 in
+    let scopes = c.args.self.now.scopes in
+    let shapes = c.args.self.now.shapes.items in
+    let shape = c.in-Some.found.now in
+    let m = c.in-Some-member.inherited in
+    let there : slice_get shapes c.args.shape ≡ Some shape = ap (λ l. slice_get l c.args.shape) (sym c.deref.ensures.value) ∙ sym (lent c.deref.result.now c.args.shape c.get.result c.get.ensures.lookup) ∙ ap option_copied c.in-Some.is in
+    let at : slice_get (cores shapes) c.args.shape ≡ Some (core shape) = mapped core shapes c.args.shape shape there in
+    let is_member : slice_get shape.members.items c.args.number ≡ Some m = sym c.member.ensures ∙ c.in-Some-member.is in
+    let is : m.member.now ≡ member.Instance c.in-Some-instance.instance.now = c.in-Some-instance.ensures.some in
+    rw (p.1, p.2) (λ first all.
+    let d = declared scopes (core shape) c.args.number m (all.shapes.built c.args.shape (core shape) at) is_member in
+    c.in_err-child.ensures.cause first d.class d.which all (below_reached scopes first shape.class.number (all.shapes.below c.args.shape (core shape) at) d.class d.reached) (d.is_there ∙ ap (λ x. Some (m.file, x)) is))
