@@ -1,4 +1,5 @@
 mod Counting
+mod Finding
 mod Keeping
 mod Marks
 mod Refusing

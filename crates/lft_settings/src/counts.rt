@@ -1,10 +1,12 @@
 //! How many things a program has, counted before any of them is made.
 
-ghost use Rattle.std.specs.Prelude.{◌≡◌, ◌<◌, ◌≤◌, ◌⊎◌, ℕ, List, IfOk, IfNone, IfSome, OnOk, Some, length, true};
+ghost use Rattle.std.specs.Prelude.{◌≡◌, ◌<◌, ◌≤◌, ◌⊎◌, ℕ, List, IfErr, IfOk, IfNone, IfSome, OnOk, Some, length, true};
 ghost use Rattle.lft_shapes.specs.Walks.{Has};
 ghost use Rattle.lft_settings.specs.Limits.{limits, first_passed};
 ghost use Rattle.lft_settings.specs.Noted.{AreMade, AreSettings, GoesOn, table};
+ghost use Rattle.lft_settings.specs.Passed.{IsOfMember};
 ghost use Rattle.lft_settings.specs.Places.{HasPairs};
+ghost use Rattle.lft_settings.specs.Refused.{IsOfPairs};
 ghost use Rattle.lft_settings.specs.Settings.{setting_at};
 ghost use Rattle.lft_settings.specs.Used.{AreMarked, AreUsed, HasInner, HasNumber, IsIn, IsNumberIn, Stay, is_instance, is_instance_in};
 ghost use Rattle.lft_settings.specs.Values.{Valued};
@@ -15,6 +17,7 @@ use lft_shapes::Thing;
 use lft_sources::{Stop, Why};
 use lft_tag::{MAX_INSTANCES, MAX_REACTIONS, MAX_THINGS};
 use lft_whole::{Connection, Member};
+use std::alloc::AllocError;
 
 /// How many things of each kind.
 #[derive(Clone, Copy)]
@@ -96,7 +99,7 @@ fn is_instance(member: &Member) -> bool
 }
 
 /// Makes room for marks of so many numbers.
-fn lengthen(is_used: &mut Vec<bool>, count: usize) -> Result<(), Stop>
+fn lengthen(is_used: &mut Vec<bool>, count: usize) -> Result<(), AllocError>
     ensures marked { OnOk result ((used : List ℕ) → AreMarked used is_used.old.items → AreMarked used is_used.new.items) }
     ensures long { OnOk result (count ≤ length is_used.new.items) }
 {
@@ -107,7 +110,11 @@ fn lengthen(is_used: &mut Vec<bool>, count: usize) -> Result<(), Stop>
 }
 
 /// Puts a number behind a list and marks it, if it isn't marked yet.
-fn mark(used: &mut Vec<usize>, is_used: &mut Vec<bool>, number: usize) -> Result<(), Stop>
+fn mark(
+    used: &mut Vec<usize>,
+    is_used: &mut Vec<bool>,
+    number: usize,
+) -> Result<(), AllocError>
     ensures marked { OnOk result (AreMarked used.old.items is_used.old.items → AreMarked used.new.items is_used.new.items) }
     ensures stay { OnOk result (Stay used.old.items used.new.items) }
     ensures has { OnOk result (AreMarked used.old.items is_used.old.items → number < length is_used.old.items → Has used.new.items number) }
@@ -130,7 +137,7 @@ fn push_new(
     is_used: &mut Vec<bool>,
     count: usize,
     inner: usize,
-) -> Result<(), Stop>
+) -> Result<(), AllocError>
     ensures marked { OnOk result (AreMarked used.old.items is_used.old.items → AreMarked used.new.items is_used.new.items) }
     ensures stay { OnOk result (Stay used.old.items used.new.items) }
     ensures has { OnOk result (AreMarked used.old.items is_used.old.items → inner < count → Has used.new.items inner) }
@@ -151,6 +158,7 @@ impl<'a> Settings<'a> {
     ) -> Result<u64, Stop>
         ensures goes { OnOk result (GoesOn (table self.old) (table self.new)) }
         ensures pairs { IfOk result (λ n. (t : Valued) → AreMade (table self.old) → setting_at self.old setting ≡ Some t → HasPairs self.old.shapes.items t connection.now n) }
+        ensures cause { IfErr result (λ stop. (t : Valued) → AreMade (table self.old) → setting_at self.old setting ≡ Some t → IsOfPairs self.old.shapes.items t file connection.now stop) }
     {
         let left = self.all_channels(setting, file, &connection.sources)?;
         let right = self.all_channels(setting, file, &connection.destinations)?;
@@ -183,6 +191,7 @@ impl<'a> Settings<'a> {
         ensures goes { OnOk result (GoesOn (table self.old) (table self.new)) }
         ensures some { IfOk result (λ inner. IfSome inner (λ k. (t : Valued) → AreMade (table self.old) → setting_at self.old setting ≡ Some t → IsNumberIn self.old.shapes.items self.new.settings.items t member k)) }
         ensures none { IfOk result (λ inner. IfNone inner ((t u : Valued) → AreMade (table self.old) → setting_at self.old setting ≡ Some t → IsIn self.old.shapes.items t member u → ⊥)) }
+        ensures cause { IfErr result (λ stop. (t : Valued) → AreMade (table self.old) → setting_at self.old setting ≡ Some t → IsOfMember self.old.shapes.items t member stop) }
     {
         if !self.has_instance(setting, member) {
             return Ok(None);
@@ -208,6 +217,7 @@ impl<'a> Settings<'a> {
         ensures stay { OnOk result (Stay used.old.items used.new.items) }
         ensures has { OnOk result ((t u : Valued) → AreMade (table self.old) → setting_at self.old setting ≡ Some t → AreMarked used.old.items is_used.old.items → IsIn self.old.shapes.items t member u → HasNumber (table self.new) used.new.items u) }
         ensures only { OnOk result ((t : Valued) → AreMade (table self.old) → setting_at self.old setting ≡ Some t → (k : ℕ) → Has used.new.items k → Has used.old.items k ⊎ IsNumberIn self.old.shapes.items self.new.settings.items t member k) }
+        ensures cause { IfErr result (λ stop. (t : Valued) → AreMade (table self.old) → setting_at self.old setting ≡ Some t → IsOfMember self.old.shapes.items t member stop) }
     {
         let Some(inner) = self.used_inside(setting, member)? else {
             return Ok(());

@@ -4,6 +4,7 @@
 
 mod counts;
 mod names;
+mod path;
 mod places;
 mod settings;
 mod values;

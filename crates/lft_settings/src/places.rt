@@ -4,7 +4,7 @@ ghost use Rattle.std.specs.Prelude.{◌≡◌, ◌≤◌, IfErr, IfOk, OnOk, opt
 ghost use Rattle.lft_shapes.specs.Shapes.{thing_named};
 ghost use Rattle.lft_settings.specs.Noted.{AreMade, GoesOn, IsMeaning, table};
 ghost use Rattle.lft_settings.specs.Places.{AreMany, AreManyIn, HasPlaces, HavePlaces, port_named};
-ghost use Rattle.lft_settings.specs.Refused.{IsOfReference};
+ghost use Rattle.lft_settings.specs.Refused.{IsOfInstance, IsOfOne, IsOfPlaces, IsOfReference, IsOfThing};
 ghost use Rattle.lft_settings.specs.Settings.{setting_at, shape_at};
 ghost use Rattle.lft_settings.specs.Values.{Valued};
 ghost use Rattle.lft_settings.specs.Widths.{member_at};
@@ -104,6 +104,7 @@ impl<'a> Settings<'a> {
     pub(crate) fn many(&mut self, setting: usize, thing: Thing) -> Result<u64, Stop>
         ensures goes { OnOk result (GoesOn (table self.old) (table self.new)) }
         ensures many { IfOk result (λ n. (t : Valued) → AreMade (table self.old) → setting_at self.old setting ≡ Some t → AreMany self.old.shapes.items t thing n) }
+        ensures cause { IfErr result (λ stop. (t : Valued) → AreMade (table self.old) → setting_at self.old setting ≡ Some t → IsOfThing self.old.shapes.items t thing stop) }
     {
         let Thing::Member(member) = thing else {
             return Ok(1);
@@ -116,6 +117,7 @@ impl<'a> Settings<'a> {
     fn many_in(&mut self, setting: usize, instance: Option<usize>) -> Result<u64, Stop>
         ensures goes { OnOk result (GoesOn (table self.old) (table self.new)) }
         ensures many { IfOk result (λ n. (t : Valued) → AreMade (table self.old) → setting_at self.old setting ≡ Some t → AreManyIn self.old.shapes.items t instance n) }
+        ensures cause { IfErr result (λ stop. (t : Valued) → AreMade (table self.old) → setting_at self.old setting ≡ Some t → IsOfInstance self.old.shapes.items t instance stop) }
     {
         let Some(member) = instance else {
             return Ok(1);
@@ -132,6 +134,7 @@ impl<'a> Settings<'a> {
     ) -> Result<u64, Stop>
         ensures goes { OnOk result (GoesOn (table self.old) (table self.new)) }
         ensures places { IfOk result (λ n. (t : Valued) → AreMade (table self.old) → setting_at self.old setting ≡ Some t → HasPlaces self.old.shapes.items t reference.now n) }
+        ensures cause { IfErr result (λ stop. (t : Valued) → AreMade (table self.old) → setting_at self.old setting ≡ Some t → IsOfPlaces self.old.shapes.items t file reference.now stop) }
     {
         let meaning = self.meaning(setting, file, reference)?;
         let count = self.many(meaning.setting, meaning.thing)?;
@@ -148,6 +151,7 @@ impl<'a> Settings<'a> {
     ) -> Result<u64, Stop>
         ensures goes { OnOk result (GoesOn (table self.old) (table self.new)) }
         ensures places { IfOk result (λ n. (t : Valued) → AreMade (table self.old) → setting_at self.old setting ≡ Some t → HavePlaces self.old.shapes.items t references.now n) }
+        ensures cause { IfErr result (λ stop. (t : Valued) → AreMade (table self.old) → setting_at self.old setting ≡ Some t → IsOfOne self.old.shapes.items t file references.now stop) }
     {
         let mut all: u64 = 0;
         for reference in references {

@@ -3,6 +3,7 @@
 ghost use Rattle.std.specs.Prelude.{◌≡◌, ◌≤◌, ◌<◌, ℕ, [], Some, IfErr, IfOk, IfSome, OnOk, length, map, option_map, slice_get, slice_set};
 ghost use Rattle.lft_shapes.specs.Nestings.{IsNesting};
 ghost use Rattle.lft_settings.specs.Noted.{Adds, AreMade, AreSettings, GoesOn, GoesOnIf, IsNumberOf, found_inside, noted_for, table};
+ghost use Rattle.lft_settings.specs.Passed.{IsOfMain};
 ghost use Rattle.lft_settings.specs.Refused.{HasCause, IsTooMuch};
 ghost use Rattle.lft_settings.specs.Settings.{setting_at, shape_at};
 ghost use Rattle.lft_settings.specs.Values.{IsUnsized, Valued, inside};
@@ -20,8 +21,6 @@ pub struct Setting {
     pub values: Vec<i64>,
     /// For each member its width, once it is known.
     pub(crate) widths: Vec<Option<u64>>,
-    /// For each member whether its width is being found.
-    pub(crate) is_open: Vec<bool>,
     /// For each member the setting in it, once it is known.
     inner: Vec<Option<usize>>,
 }
@@ -83,6 +82,7 @@ impl<'a> Settings<'a> {
     fn add_main(&mut self) -> Result<(), Stop>
         ensures main { OnOk result ((main : Shape) → slice_get self.old.shapes.items 0 ≡ Some main → self.old.settings.items ≡ [] → AreMade (table self.old) → AreSettings (table self.new)) }
         ensures rest { OnOk result ((self.new.shapes ≡ self.old.shapes) × (self.new.order ≡ self.old.order)) }
+        ensures cause { IfErr result (IsOfMain self.old.shapes.items) }
     {
         if let Some(shape) = self.shapes.first() {
             let values = main_values(self.alloc, shape)?;
@@ -140,13 +140,11 @@ impl<'a> Settings<'a> {
         };
         self.work.spend(weight)?;
         let widths = nothing(self.alloc, count)?;
-        let is_open = vec![in self.alloc; false; count]?;
         let inner = nothing(self.alloc, count)?;
         self.settings.push(Setting {
             shape,
             values,
             widths,
-            is_open,
             inner,
         })?;
         Ok(())

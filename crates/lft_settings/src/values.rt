@@ -92,7 +92,8 @@ fn default(inner: &Shape, parameter: usize, missing: Stop) -> Result<i64, Stop>
 
 /// The value of a parameter of the main reactor: its default. Of one that decides no width it is 0.
 fn main_value(main: &Shape, parameter: usize) -> Result<i64, Stop>
-    ensures { IfOk result (λ found. main_value main.now parameter ≡ Some found) }
+    ensures found { IfOk result (λ found. main_value main.now parameter ≡ Some found) }
+    ensures lacking { IfErr result (IsLacking (main_value main.now parameter)) }
 {
     if !main.is_sized(parameter) {
         return Ok(0);
@@ -106,7 +107,8 @@ fn main_value(main: &Shape, parameter: usize) -> Result<i64, Stop>
 
 /// The values of the parameters of the main reactor.
 pub(crate) fn main_values(alloc: Global, main: &Shape) -> Result<Vec<i64>, Stop>
-    ensures { IfOk result (λ values. map (λ v. Some v) values.items ≡ main_values main.now) }
+    ensures found { IfOk result (λ values. map (λ v. Some v) values.items ≡ main_values main.now) }
+    ensures lacking { IfErr result (OneIsLacking (main_values main.now)) }
 {
     let mut values = Vec::new(alloc);
     for parameter in 0..main.parameters.len() {

@@ -1,25 +1,21 @@
 //! Widths of ports and banks in a setting.
 
 ghost use Rattle.std.specs.Prelude.{◌≡◌, ◌≤◌, ◌↔◌, ℕ, Some, IfErr, IfOk, IfSome, IsSome, OnOk, is_some, option_and_then};
+ghost use Rattle.lft_settings.specs.Finding.{AddsIf, AddsOnly, IsNext, IsPath};
 ghost use Rattle.lft_settings.specs.Noted.{AreMade, GoesOn, GoesOnIf, table};
-ghost use Rattle.lft_settings.specs.Places.{AreMany, AreManyIn, HasPlaces, HasWidth, IsCount, IsMany, IsWidth, natural, parameter_in, plus, times};
-ghost use Rattle.lft_settings.specs.Refused.{IsOfWord};
+ghost use Rattle.lft_settings.specs.Places.{AreMany, AreManyIn, HasPlaces, HasWidth, IsCount, IsMany, IsSum, IsWidth, natural, parameter_in, plus, times};
+ghost use Rattle.lft_settings.specs.Refused.{IsCounted, IsCountedBy, IsCountedIn, IsOfCount, IsOfReference, IsOfTerms, IsOfWidth, IsOfWord};
 ghost use Rattle.lft_settings.specs.Settings.{setting_at};
 ghost use Rattle.lft_settings.specs.Values.{Valued};
 ghost use Rattle.lft_settings.specs.Widths.{member_at, width_at, found_width};
 
+use crate::path::{Path, Wanted};
 use crate::settings::{Settings, note};
 use crate::values::number_named;
 use lft_shapes::{Inherited, Thing};
 use lft_sources::{Stop, Why};
 use lft_whole::{Count, Reference, Term};
-
-/// A member of a setting whose width is wanted.
-#[derive(Clone, Copy)]
-struct Wanted {
-    setting: usize,
-    member: usize,
-}
+use std::alloc::AllocError;
 
 /// Two counts together, if both are known.
 fn plus(one: Option<u64>, other: Option<u64>) -> Option<u64>
@@ -33,13 +29,6 @@ fn times(one: Option<u64>, other: Option<u64>) -> Option<u64>
     ensures { result ≡ times one other }
 {
     Some(one?.saturating_mul(other?))
-}
-
-/// Notes that the width of a member is being found.
-fn note_open(list: &mut [bool], member: usize) {
-    if member < list.len() {
-        list[member] = true;
-    }
 }
 
 impl<'a> Settings<'a> {
@@ -90,24 +79,6 @@ impl<'a> Settings<'a> {
         }
     }
 
-    /// Notes that a width is being found.
-    fn open_width(&mut self, wanted: Wanted)
-        ensures work { self.new.work ≡ self.old.work }
-        ensures goes { GoesOn (table self.old) (table self.new) }
-    {
-        if wanted.setting < self.settings.len() {
-            note_open(&mut self.settings[wanted.setting].is_open, wanted.member);
-        }
-    }
-
-    /// Whether a width is being found.
-    fn is_open(&self, wanted: Wanted) -> bool {
-        match self.settings.get(wanted.setting) {
-            Some(setting) => setting.is_open.get(wanted.member) == Some(&true),
-            None => false,
-        }
-    }
-
     /// The number of the parameter of this name in a setting.
     fn number_in(&self, setting: usize, word: &str) -> Option<i64>
         ensures { (t : Valued) → setting_at self.now setting ≡ Some t → result ≡ parameter_in self.now.shapes.items t word.now }
@@ -138,24 +109,18 @@ impl<'a> Settings<'a> {
         }
     }
 
-    /// How many a member is, on which a width hangs: 1 if it has no width. One that isn't known goes on the stack,
-    /// and one that is being found already hangs on itself.
-    fn need(&self, needed: Wanted, open: &mut Vec<Wanted>) -> Result<Option<u64>, Stop>
-        ensures { IfOk result (λ found. IfSome found (λ n. (t : Valued) → AreMade (table self.now) → setting_at self.now needed.setting ≡ Some t → IsMany self.now.shapes.items t needed.member n)) }
+    /// How many a member is, on which a width hangs: 1 if it has no width. One that isn't known is put behind a list.
+    fn need(&self, needed: Wanted, needs: &mut Vec<Wanted>) -> Result<Option<u64>, AllocError>
+        ensures many { IfOk result (λ found. IfSome found (λ n. (t : Valued) → AreMade (table self.now) → setting_at self.now needed.setting ≡ Some t → IsMany self.now.shapes.items t needed.member n)) }
+        ensures needs { OnOk result (AddsIf (λ w. w ≡ needed) needs.old.items needs.new.items) }
     {
-        let Some(inherited) = self.inherited(needed) else {
-            return Ok(Some(1));
-        };
-        if inherited.width().is_none() {
+        if !self.is_wide(needed) {
             return Ok(Some(1));
         }
         if let Some(width) = self.known(needed.setting, needed.member) {
             return Ok(Some(width));
         }
-        if self.is_open(needed) {
-            return Err(Stop::at(Why::WidthOfItself, inherited.file, inherited.at()));
-        }
-        open.push(needed)?;
+        needs.push(needed)?;
         Ok(None)
     }
 
@@ -164,12 +129,13 @@ impl<'a> Settings<'a> {
         &self,
         setting: usize,
         thing: Thing,
-        open: &mut Vec<Wanted>,
-    ) -> Result<Option<u64>, Stop>
-        ensures { IfOk result (λ found. IfSome found (λ n. (t : Valued) → AreMade (table self.now) → setting_at self.now setting ≡ Some t → AreMany self.now.shapes.items t thing n)) }
+        needs: &mut Vec<Wanted>,
+    ) -> Result<Option<u64>, AllocError>
+        ensures many { IfOk result (λ found. IfSome found (λ n. (t : Valued) → AreMade (table self.now) → setting_at self.now setting ≡ Some t → AreMany self.now.shapes.items t thing n)) }
+        ensures needs { OnOk result (AddsIf (λ w. (w.setting ≡ setting) × (thing ≡ Thing.Member w.member)) needs.old.items needs.new.items) }
     {
         match thing {
-            Thing::Member(member) => self.need(Wanted { setting, member }, open),
+            Thing::Member(member) => self.need(Wanted { setting, member }, needs),
             Thing::Parameter(_) => Ok(Some(1)),
         }
     }
@@ -179,12 +145,13 @@ impl<'a> Settings<'a> {
         &self,
         setting: usize,
         instance: Option<usize>,
-        open: &mut Vec<Wanted>,
-    ) -> Result<Option<u64>, Stop>
-        ensures { IfOk result (λ found. IfSome found (λ n. (t : Valued) → AreMade (table self.now) → setting_at self.now setting ≡ Some t → AreManyIn self.now.shapes.items t instance n)) }
+        needs: &mut Vec<Wanted>,
+    ) -> Result<Option<u64>, AllocError>
+        ensures many { IfOk result (λ found. IfSome found (λ n. (t : Valued) → AreMade (table self.now) → setting_at self.now setting ≡ Some t → AreManyIn self.now.shapes.items t instance n)) }
+        ensures needs { OnOk result (AddsIf (λ w. (w.setting ≡ setting) × (instance ≡ Some w.member)) needs.old.items needs.new.items) }
     {
         match instance {
-            Some(member) => self.need(Wanted { setting, member }, open),
+            Some(member) => self.need(Wanted { setting, member }, needs),
             None => Ok(Some(1)),
         }
     }
@@ -195,15 +162,17 @@ impl<'a> Settings<'a> {
         setting: usize,
         file: usize,
         reference: &Reference,
-        open: &mut Vec<Wanted>,
+        needs: &mut Vec<Wanted>,
     ) -> Result<Option<u64>, Stop>
         ensures work { OnOk result (self.new.work.left ≤ self.old.work.left) }
         ensures goes { OnOk result (GoesOn (table self.old) (table self.new)) }
         ensures places { IfOk result (λ found. IfSome found (λ n. (t : Valued) → AreMade (table self.old) → setting_at self.old setting ≡ Some t → HasPlaces self.old.shapes.items t reference.now n)) }
+        ensures needs { OnOk result ((t : Valued) → AreMade (table self.old) → setting_at self.old setting ≡ Some t → AddsOnly (IsCounted self.old.shapes.items t reference.now) self.new.settings.items needs.old.items needs.new.items) }
+        ensures cause { IfErr result (λ stop. (t : Valued) → AreMade (table self.old) → setting_at self.old setting ≡ Some t → IsOfReference self.old.shapes.items t file reference.now stop) }
     {
         let meaning = self.meaning(setting, file, reference)?;
-        let count = self.need_thing(meaning.setting, meaning.thing, open)?;
-        let members = self.need_instance(setting, meaning.instance, open)?;
+        let count = self.need_thing(meaning.setting, meaning.thing, needs)?;
+        let members = self.need_instance(setting, meaning.instance, needs)?;
         Ok(times(count, members))
     }
 
@@ -213,11 +182,13 @@ impl<'a> Settings<'a> {
         setting: usize,
         file: usize,
         term: &Term,
-        open: &mut Vec<Wanted>,
+        needs: &mut Vec<Wanted>,
     ) -> Result<Option<u64>, Stop>
         ensures work { OnOk result (self.new.work.left ≤ self.old.work.left) }
         ensures goes { OnOk result (GoesOn (table self.old) (table self.new)) }
         ensures count { IfOk result (λ found. IfSome found (λ n. (t : Valued) → AreMade (table self.old) → setting_at self.old setting ≡ Some t → IsCount self.old.shapes.items t term.now.count n)) }
+        ensures needs { OnOk result ((t : Valued) → AreMade (table self.old) → setting_at self.old setting ≡ Some t → AddsOnly (IsCountedBy self.old.shapes.items t term.now.count) self.new.settings.items needs.old.items needs.new.items) }
+        ensures cause { IfErr result (λ stop. (t : Valued) → AreMade (table self.old) → setting_at self.old setting ≡ Some t → IsOfCount self.old.shapes.items t file term.now.at term.now.count stop) }
     {
         match &term.count {
             Count::Number(count) => Ok(Some(*count)),
@@ -225,27 +196,40 @@ impl<'a> Settings<'a> {
                 let count = self.parameter_width(setting, file, word.as_str(), term.at)?;
                 Ok(Some(count))
             }
-            Count::WidthOf(reference) => self.width_of(setting, file, reference, open),
+            Count::WidthOf(reference) => self.width_of(setting, file, reference, needs),
             Count::Code => Err(Stop::at(Why::WidthByCode, file, term.at)),
             Count::Open => Err(Stop::at(Why::OpenWidth, file, term.at)),
         }
     }
 
-    /// Notes a width whose terms are so many together, and takes it from the stack, if all of them are known.
-    fn close_width(&mut self, wanted: Wanted, all: Option<u64>, open: &mut Vec<Wanted>)
-        ensures work { self.new.work ≡ self.old.work }
-        ensures goes { GoesOnIf (IfSome all (λ width. (t : Valued) → setting_at self.old wanted.setting ≡ Some t → IsWidth self.old.shapes.items t wanted.member width)) (table self.old) (table self.new) }
-    {
-        if let Some(width) = all {
-            let _ = open.pop();
-            self.note_width(wanted, width);
-        }
-    }
-
-    /// Finds a width, if it isn't known and all that it hangs on is. Else that goes on the stack, above it.
-    fn find_width(&mut self, wanted: Wanted, open: &mut Vec<Wanted>) -> Result<(), Stop>
+    /// The terms of a width together, if all of them are known. What else they hang on is put behind a list.
+    fn sum(
+        &mut self,
+        setting: usize,
+        file: usize,
+        terms: &[Term],
+        needs: &mut Vec<Wanted>,
+    ) -> Result<Option<u64>, Stop>
         ensures work { OnOk result (self.new.work.left ≤ self.old.work.left) }
         ensures goes { OnOk result (GoesOn (table self.old) (table self.new)) }
+        ensures sum { IfOk result (λ all. IfSome all (λ n. (t : Valued) → AreMade (table self.old) → setting_at self.old setting ≡ Some t → IsSum self.old.shapes.items t terms.now n)) }
+        ensures needs { OnOk result ((t : Valued) → AreMade (table self.old) → setting_at self.old setting ≡ Some t → AddsOnly (IsCountedIn self.old.shapes.items t terms.now) self.new.settings.items needs.old.items needs.new.items) }
+        ensures cause { IfErr result (λ stop. (t : Valued) → AreMade (table self.old) → setting_at self.old setting ≡ Some t → IsOfTerms self.old.shapes.items t file terms.now stop) }
+    {
+        let mut all = Some(0);
+        for term in terms {
+            let count = self.term(setting, file, term, needs)?;
+            all = plus(all, count);
+        }
+        Ok(all)
+    }
+
+    /// Finds a width, if it isn't known and all that it hangs on is. Else that is wanted before it.
+    fn find_width(&mut self, wanted: Wanted, path: &mut Path) -> Result<(), Stop>
+        ensures work { OnOk result (self.new.work.left ≤ self.old.work.left) }
+        ensures goes { OnOk result (GoesOn (table self.old) (table self.new)) }
+        ensures path { OnOk result ((t : Valued) (m : ℕ) → AreMade (table self.old) → IsPath self.old.shapes.items self.old.settings.items t m path.old → IsNext self.old.shapes.items self.old.settings.items t m path.old wanted → IsPath self.old.shapes.items self.new.settings.items t m path.new) }
+        ensures cause { IfErr result (λ stop. (t : Valued) (m : ℕ) → AreMade (table self.old) → IsPath self.old.shapes.items self.old.settings.items t m path.old → IsNext self.old.shapes.items self.old.settings.items t m path.old wanted → IsOfWidth self.old.shapes.items t m stop) }
     {
         if self.known(wanted.setting, wanted.member).is_some() {
             return Ok(());
@@ -256,15 +240,17 @@ impl<'a> Settings<'a> {
         let Some(width) = inherited.width() else {
             return Ok(());
         };
-        self.open_width(wanted);
-        open.push(wanted)?;
-        let mut all = Some(0);
-        for term in &width.terms {
-            let count = self.term(wanted.setting, inherited.file, term, open)?;
-            all = plus(all, count);
+        let mut needs = Vec::new(self.alloc);
+        let all = self.sum(wanted.setting, inherited.file, &width.terms, &mut needs)?;
+        if let Some(width) = all {
+            self.note_width(wanted, width);
+            return Ok(());
         }
-        self.close_width(wanted, all, open);
-        Ok(())
+        if path.open(wanted, &needs)? {
+            Ok(())
+        } else {
+            Err(Stop::at(Why::WidthOfItself, inherited.file, inherited.at()))
+        }
     }
 
     /// The width of the member of this number in a setting; None for a plain one.
@@ -273,19 +259,20 @@ impl<'a> Settings<'a> {
         ensures found { IfOk result (λ width. IfSome width (λ count. found_width self.new setting member ≡ Some count)) }
         ensures goes { OnOk result (GoesOn (table self.old) (table self.new)) }
         ensures width { IfOk result (λ width. (t : Valued) → AreMade (table self.old) → setting_at self.old setting ≡ Some t → HasWidth self.old.shapes.items t member width) }
+        ensures cause { IfErr result (λ stop. (t : Valued) → AreMade (table self.old) → setting_at self.old setting ≡ Some t → IsOfWidth self.old.shapes.items t member stop) }
     {
         let first = Wanted { setting, member };
         if !self.is_wide(first) {
             return Ok(None);
         }
-        let mut open = Vec::new(self.alloc);
+        let mut path = Path::of(self.alloc);
         'widths: loop {
             if let Some(width) = self.known(setting, member) {
                 return Ok(Some(width));
             }
             self.work.spend(1)?;
-            let wanted = open.pop().unwrap_or(first);
-            self.find_width(wanted, &mut open)?;
+            let wanted = path.pop(first);
+            self.find_width(wanted, &mut path)?;
         }
     }
 }

@@ -5,7 +5,7 @@ use Rattle.lft_settings.proofs.settings.Settings.add_setting.Goals as goal
 
 pub returns-clause-adds : goal.returns-clause-adds
 returns-clause-adds c = record {
-  fresh = record { shape = c.args.shape; values = c.args.values; widths = c.in_ok-widths.widths; is_open = c.in_ok-is_open.is_open; inner = c.in_ok-inner.inner };
+  fresh = record { shape = c.args.shape; values = c.args.values; widths = c.in_ok-widths.widths; inner = c.in_ok-inner.inner };
   settings = ap (λ xs. record (table c.args.self.now) { settings = xs }) c.in_ok-push.ensures.items;
   shape_is = refl;
   values_are = refl;

@@ -1,41 +1,56 @@
-use Rattle.std.proofs.Common.{◌≡◌, ◌<◌, ◌+◌, ◌++◌, [], ◌∷◌, List, length, take, Some, sym, ap, subst, ◌∙◌, arith}
-use Rattle.std.proofs.lemmas.Grind.{common_steps}
-use Rattle.std.specs.Prelude.{IfSome}
-use Rattle.lft_shapes.specs.declared.work.Work.{Work}
-use Rattle.lft_lists.proofs.Picked.{take_one_more}
+use Rattle.std.proofs.Common.{◌≡◌, [], ℕ, List, Some, inl, sym, subst, ◌∙◌}
+use Rattle.std.proofs.lemmas.Result.{err_from_is_err_and}
+use Rattle.lft_lists.proofs.Options.{found}
+use Rattle.lft_shapes.specs.declared.shapes.Shape.{Shape}
 use Rattle.lft_whole.specs.declared.tree.Term.{Term}
-use Rattle.lft_settings.specs.Noted.{AreMade, table}
-use Rattle.lft_settings.specs.Places.{IsSum, plus}
+use Rattle.lft_settings.specs.declared.path.Wanted.{Wanted}
+use Rattle.lft_settings.specs.Finding.{AddsOnly, AreNeeded, is_open}
+use Rattle.lft_settings.specs.Noted.{AreMade, GoesOn, table}
+use Rattle.lft_settings.specs.Places.{IsSum}
+use Rattle.lft_settings.specs.Refused.{IsCountedIn, IsOfTerms}
 use Rattle.lft_settings.specs.Settings.{setting_at}
 use Rattle.lft_settings.specs.Values.{Valued}
-use Rattle.lft_settings.proofs.Counting.{no_terms}
-use Rattle.lft_settings.proofs.Keeping.{goes_further}
-use Rattle.lft_settings.proofs.Standing.{close_goes, terms_plus}
+use Rattle.lft_settings.proofs.Finding.{are_needed, next_stays, of_its_terms, of_itself, path_stays}
+use Rattle.lft_settings.proofs.Standing.{close_goes}
 use Rattle.lft_settings.proofs.settings.Settings.find_width.Goals as goal
 
-pub loop-term-init : goal.loop-term-init
-loop-term-init c = record {
-  work = omega (arith, ap (λ (w : Work). w.left) c.open_width.ensures.work);
-  goes = c.open_width.ensures.goes;
-  sum = λ t made at. no_terms c.args.self.now.shapes.items t;
-}
-
-pub loop-term-preserved : goal.loop-term-preserved
-loop-term-preserved c =
+pub returns-in_err-all-clause-cause : goal.returns-in_err-all-clause-cause
+returns-in_err-all-clause-cause c =
+    let r = err_from_is_err_and c.from_residual.result c.from_residual.ensures.1 in
     let s = c.args.self.now in
-    let terms = c.deref-term-items.result.now in
-    let i = c.loop-term.term-index in
-    let within : i < length terms = omega arith in
-    let more : take (i + 1) terms ≡ take i terms ++ c.term-item.result ∷ [] = take_one_more terms i c.term-item.result within (sym c.term-item.is) in
-    record {
-      work = (let now = c.in_ok-count.ensures.work in let was = c.loop-term.invariant.work in omega (arith, now, was));
-      goes = goes_further _ _ _ c.loop-term.invariant.goes c.in_ok-count.ensures.goes;
-      sum = subst (λ o. IfSome o (λ n. (t : Valued) → AreMade (table s) → setting_at s c.args.wanted.setting ≡ Some t → IsSum s.shapes.items t (take (i + 1) terms) n)) (sym c.plus-all.ensures) (subst (λ (l : List Term). IfSome (plus c.loop-term.all c.in_ok-count.count) (λ n. (t : Valued) → AreMade (table s) → setting_at s c.args.wanted.setting ≡ Some t → IsSum s.shapes.items t l n)) (sym more) (terms_plus (table s) (table c.loop-term.self) c.loop-term.invariant.goes c.args.wanted.setting (take i terms) c.term-item.result c.loop-term.all c.in_ok-count.count c.loop-term.invariant.sum c.in_ok-count.ensures.count));
-    }
+    let i = c.in-Some.inherited in
+    let w = c.in-Some-width.width.now in
+    rw (r.1, r.2) (λ t m made p next.
+    of_its_terms s c.args.wanted i w (sym c.in-Some.ensures) (sym c.in-Some-width.ensures) t m next.first c.in_err-all.field-0.0 (λ u at. subst (λ (terms : List Term). IsOfTerms s.shapes.items u i.file terms c.in_err-all.field-0.0) c.deref.ensures.value (c.in_err-all.ensures.cause u made at)))
 
-pub returns-clause-goes : goal.returns-clause-goes
-returns-clause-goes c =
+goes_noted : (c : goal.After-drop-needs-in-Some-all) → GoesOn (table c.args.self.now) (table c.note_width.new.self)
+goes_noted c =
     let s = c.args.self.now in
-    let whole : take c.loop-term.term-index c.deref-term-items.result.now ≡ c.deref-term-items.result.now = grind (arith, common_steps) in
-    let sum = subst (λ (l : List Term). IfSome c.loop-term.all (λ n. (t : Valued) → AreMade (table s) → setting_at s c.args.wanted.setting ≡ Some t → IsSum s.shapes.items t l n)) (whole ∙ c.deref-term-items.ensures.value) c.loop-term.invariant.sum in
-    close_goes s (table c.loop-term.self) _ c.loop-term.invariant.goes c.args.wanted.setting c.args.wanted.member c.in-Some.inherited c.in-Some-width.width.now c.loop-term.all (sym c.in-Some.ensures) (sym c.in-Some-width.ensures) sum c.close_width.ensures.goes
+    let w = c.in-Some-width.width.now in
+    let n = c.in-Some-all.width in
+    let sum = found (λ (k : ℕ). (t : Valued) → AreMade (table s) → setting_at s c.args.wanted.setting ≡ Some t → IsSum s.shapes.items t c.deref.result.now k) c.in_ok-all.all n c.in_ok-all.ensures.sum c.in-Some-all.is in
+    close_goes s (table c.sum.new.self) (table c.note_width.new.self) c.in_ok-all.ensures.goes c.args.wanted.setting c.args.wanted.member c.in-Some.inherited w (Some n) (sym c.in-Some.ensures) (sym c.in-Some-width.ensures) (λ t made at. subst (λ (terms : List Term). IsSum s.shapes.items t terms n) c.deref.ensures.value (sum t made at)) c.note_width.ensures.goes
+
+pub returns-in-Some-all-clause-goes : goal.returns-in-Some-all-clause-goes
+returns-in-Some-all-clause-goes c = goes_noted c
+
+pub returns-in-Some-all-clause-path : goal.returns-in-Some-all-clause-path
+returns-in-Some-all-clause-path c t m made p next =
+    let s = c.args.self.now in
+    path_stays s.shapes.items s.settings.items c.note_width.new.self.settings.items (goes_noted c).stays t m c.args.path.now.steps.items (is_open c.args.path.now) p
+
+pub returns-then-branch-clause-path : goal.returns-then-branch-clause-path
+returns-then-branch-clause-path c t m made p next =
+    let s = c.args.self.now in
+    let new = c.sum.new.self.settings.items in
+    let stays = c.in_ok-all.ensures.goes.stays in
+    let needed = are_needed s c.args.wanted c.in-Some.inherited c.in-Some-width.width.now (sym c.in-Some.ensures) (sym c.in-Some-width.ensures) new stays t m next.first c.new-needs.result.items c.sum.new.needs.items c.new-needs.ensures.items (λ u at. subst (λ (terms : List Term). AddsOnly (IsCountedIn s.shapes.items u terms) new c.new-needs.result.items c.sum.new.needs.items) c.deref.ensures.value (c.in_ok-all.ensures.needs u made at)) in
+    c.in_ok-open.ensures.new c.if-branch.true s.shapes.items new t m (subst (AreNeeded s.shapes.items new c.args.wanted) (sym c.deref-2.ensures.value) needed) (next_stays s.shapes.items s.settings.items new stays t m c.args.path.now.steps.items c.args.wanted next) (path_stays s.shapes.items s.settings.items new stays t m c.args.path.now.steps.items (is_open c.args.path.now) p)
+
+pub returns-clause-cause : goal.returns-clause-cause
+returns-clause-cause c t m made p next =
+    let s = c.args.self.now in
+    let new = c.sum.new.self.settings.items in
+    let stays = c.in_ok-all.ensures.goes.stays in
+    let round = c.in_ok-open.ensures.circle c.if-branch.false s.shapes.items new t m (next_stays s.shapes.items s.settings.items new stays t m c.args.path.now.steps.items c.args.wanted next) (path_stays s.shapes.items s.settings.items new stays t m c.args.path.now.steps.items (is_open c.args.path.now) p) in
+    of_itself s c.args.wanted c.in-Some.inherited c.in-Some-width.width.now (sym c.in-Some.ensures) (sym c.in-Some-width.ensures) new stays t m next.first round _ (cc)

@@ -1,8 +1,15 @@
-use Rattle.lft_settings.specs.Noted.{GoesOn, table}
+use Rattle.std.proofs.Common.{◌≡◌, Some}
+use Rattle.lft_settings.specs.Finding.{IsPath}
+use Rattle.lft_settings.specs.Noted.{AreMade, GoesOn, table}
+use Rattle.lft_settings.specs.Settings.{setting_at}
+use Rattle.lft_settings.specs.Values.{Valued}
 use Rattle.lft_settings.proofs.settings.Settings.width.Given as goal
 
 abbrev pub invariant-widths : goal.invariant-widths
-invariant-widths l = GoesOn (table l.fn.self) (table l.self)
+invariant-widths l = record {
+  goes : GoesOn (table l.fn.self) (table l.self);
+  path : (t : Valued) → AreMade (table l.fn.self) → setting_at l.fn.self l.fn.setting ≡ Some t → IsPath l.self.shapes.items l.self.settings.items t l.fn.member l.path;
+}
 
 abbrev pub decreases-widths : goal.decreases-widths
 decreases-widths l = l.self.work.left
