@@ -3,6 +3,7 @@ mod Apart
 mod Cuts
 mod Growing
 mod Joining
+mod Needing
 mod Placed
 mod Refusing
 mod Turns

@@ -1,10 +1,18 @@
 -- Why what is written isn't lowered.
-use Rattle.std.proofs.Common.{◌≡◌, ◌⊎◌, inl, inr, ⊎_elim, ℕ, List, Option, Some, slice_get}
+use Rattle.std.proofs.Common.{◌≡◌, ◌⊎◌, inl, inr, ⊎_elim, ℕ, IsPermutation, List, Option, Some, None, slice_get, refl, sym, subst}
 use Rattle.std.specs.Prelude.{IsSomeAnd}
+use Rattle.std.proofs.lemmas.List.Sorted.{Contains-permutation, IsPermutation-sym}
+use Rattle.lft_lists.proofs.Places.{at_contains, contains_at}
 use Rattle.lft_sources.specs.declared.stop.Refusal.{Refusal}
 use Rattle.lft_sources.specs.declared.stop.Stop.{Stop}
 use Rattle.lft_sources.specs.declared.stop.Stop.TheVariants as stop
-use Rattle.lft_lower.specs.Refused.{IfRefused, IsOfSome}
+use Rattle.lft_whole.specs.declared.tree.Member.{Member}
+use Rattle.lft_shapes.specs.declared.shapes.Inherited.{Inherited}
+use Rattle.lft_shapes.specs.declared.shapes.Shape.{Shape}
+use Rattle.lft_settings.specs.declared.settings.Settings.{Settings}
+use Rattle.lft_settings.specs.Settings.{shape_at}
+use Rattle.lft_lower.specs.Meanings.{Here}
+use Rattle.lft_lower.specs.Refused.{IfRefused, IsOfMember, IsOfMembers, IsOfReactor, IsOfSetting, IsOfSome}
 
 -- a refusal of the one kind is of the other
 pub refused_too : (P Q : Refusal → Type 0) (s : Stop) → ((r : Refusal) → P r → Q r) → IfRefused P s → IfRefused Q s
@@ -17,7 +25,7 @@ left_too P Q s h = refused_too P (λ r. P r ⊎ Q r) s (λ r p. inl p) h
 pub right_too : (P Q : Refusal → Type 0) (s : Stop) → IfRefused Q s → IfRefused (λ r. P r ⊎ Q r) s
 right_too P Q s h = refused_too Q (λ r. P r ⊎ Q r) s (λ r q. inr q) h
 
-some_and : {A : Type 0} (P : A → Type 0) (x : A) (o : Option A) → o ≡ Some x → P x → IsSomeAnd o P
+pub some_and : {A : Type 0} (P : A → Type 0) (x : A) (o : Option A) → o ≡ Some x → P x → IsSomeAnd o P
 some_and P x o e h = rw e h
 
 pub of_some : {A : Type 0} (Is : A → Refusal → Type 0) (xs : List A) (k : ℕ) (x : A) (s : Stop) → slice_get xs k ≡ Some x → IfRefused (Is x) s → IfRefused (IsOfSome Is xs) s
@@ -30,3 +38,34 @@ of_this Is P xs k x s e h = refused_too (λ r. P r ⊎ Is x r) (λ r. P r ⊎ Is
 -- and of a larger kind
 pub second_too : (P Q S : Refusal → Type 0) (s : Stop) → ((r : Refusal) → Q r → S r) → IfRefused (λ r. P r ⊎ Q r) s → IfRefused (λ r. P r ⊎ S r) s
 second_too P Q S s f h = refused_too (λ r. P r ⊎ Q r) (λ r. P r ⊎ S r) s (λ r. ⊎_elim (λ p. inl p) (λ q. inr (f r q))) h
+
+-- of a member of this kind
+pub of_kind : (h : Here) (file n : ℕ) (m this : Member) (P : Refusal → Type 0) (s : Stop) → m ≡ this → IfRefused (λ r. P r ⊎ IsOfMember h file n this r) s → IfRefused (λ r. P r ⊎ IsOfMember h file n m r) s
+of_kind h file n m this P s is refused = subst (λ x. IfRefused (λ r. P r ⊎ IsOfMember h file n x r) s) (sym is) refused
+
+-- of the member of this number
+pub of_member : (settings : Settings) (setting : ℕ) (shape : Shape) (P : Refusal → Type 0) (n : ℕ) (m : Inherited) (s : Stop) → slice_get shape.members.items n ≡ Some m → IfRefused (λ r. P r ⊎ IsOfMember (record { settings = settings; setting = setting; shape = shape }) m.file n m.member.now r) s → IfRefused (λ r. P r ⊎ IsOfMembers settings setting shape r) s
+of_member settings setting shape P n m s at refused =
+    let h : Here = record { settings = settings; setting = setting; shape = shape } in
+    second_too P (λ r. IsOfMember h m.file n m.member.now r) (IsOfMembers settings setting shape) s (λ r q. (n, some_and (λ x. IsOfMember h x.file n x.member.now r) m (slice_get shape.members.items n) at q)) refused
+
+-- of the reactor of one of the settings
+pub of_reactor : (settings : Settings) (P : Refusal → Type 0) (numbers : List ℕ) (k setting : ℕ) (shape : Shape) (s : Stop) → slice_get numbers k ≡ Some setting → shape_at settings setting ≡ Some shape → IfRefused (λ r. P r ⊎ IsOfReactor settings setting shape r) s → IfRefused (λ r. P r ⊎ IsOfSome (IsOfSetting settings) numbers r) s
+of_reactor settings P numbers k setting shape s at there refused =
+    of_this (IsOfSetting settings) P numbers k setting s at (second_too P (IsOfReactor settings setting shape) (IsOfSetting settings setting) s (λ r q. some_and (λ x. IsOfReactor settings setting x r) shape (shape_at settings setting) there q) refused)
+
+among : (xs ys : List ℕ) (k x : ℕ) → IsPermutation xs ys → slice_get ys k ≡ Some x → (i : ℕ) × (slice_get xs i ≡ Some x)
+among xs ys k x moved at = at_contains xs x (Contains-permutation ys xs x (IsPermutation-sym xs ys moved) (contains_at ys k x at))
+
+some_among : (Is : ℕ → Refusal → Type 0) (xs ys : List ℕ) (r : Refusal) (k : ℕ) (o : Option ℕ) → IsPermutation xs ys → slice_get ys k ≡ o → IsSomeAnd o (λ x. Is x r) → IsOfSome Is xs r
+some_among Is xs ys r k None moved at is = absurd is
+some_among Is xs ys r k (Some x) moved at is = let found = among xs ys k x moved at in (found.0, some_and (λ y. Is y r) x (slice_get xs found.0) found.1 is)
+
+-- of one of them in another order
+pub of_moved : (Is : ℕ → Refusal → Type 0) (P Q : Refusal → Type 0) (xs ys : List ℕ) (s : Stop) → IsPermutation xs ys → IfRefused (λ r. P r ⊎ IsOfSome Is ys r) s → IfRefused (λ r. P r ⊎ Q r ⊎ IsOfSome Is xs r) s
+of_moved Is P Q xs ys s moved refused =
+    second_too P (IsOfSome Is ys) (λ r. Q r ⊎ IsOfSome Is xs r) s (λ r q. inr (some_among Is xs ys r q.0 (slice_get ys q.0) moved refl q.1)) refused
+
+-- of the second kind of three
+pub middle_too : (P Q S : Refusal → Type 0) (s : Stop) → IfRefused Q s → IfRefused (λ r. P r ⊎ Q r ⊎ S r) s
+middle_too P Q S s refused = refused_too Q (λ r. P r ⊎ Q r ⊎ S r) s (λ r q. inr (inl q)) refused

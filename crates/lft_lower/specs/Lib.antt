@@ -1,6 +1,7 @@
 pub mod Lowered
 pub mod Meanings
 pub mod Names
+pub mod Needed
 pub mod Notes
 pub mod Places
 pub mod Programs

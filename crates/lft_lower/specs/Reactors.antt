@@ -56,12 +56,16 @@ pub data AreReactors (s : Settings) (names : List (Option (List ℕ))) : List �
 abbrev pub AreShapes : List SourceFile → List Shape → Type 0
 AreShapes files shapes = (scopes : _) × (nesting : Nesting) × IsNesting files scopes nesting × (nesting.shapes.items ≡ shapes)
 
--- The program of these files is lowered: its items are a core reactor for each setting that its instances have, and no others, with names that differ.
-pub record IsLowering (files : List SourceFile) (s : Settings) (items : List ItemTree) : Type 0 where
+-- The settings are those of the program of these files, and those of these numbers are all that its instances have.
+pub record IsProgram (files : List SourceFile) (s : Settings) (used : List ℕ) : Type 0 where
   pub shapes : AreShapes files s.shapes.items
   pub settings : AreSettings (table s)
-  pub used : List ℕ
   pub are_used : AreUsed (table s) used
+
+-- The program of these files is lowered: its items are a core reactor for each setting that its instances have, and no others, with names that differ.
+pub record IsLowering (files : List SourceFile) (s : Settings) (items : List ItemTree) : Type 0 where
+  pub used : List ℕ
+  pub program : IsProgram files s used
   pub order : List ℕ
   pub reordered : IsPermutation used order
   pub names : List (Option (List ℕ))

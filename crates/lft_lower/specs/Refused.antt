@@ -1,5 +1,5 @@
 -- Why what is written isn't lowered.
-use Rattle.std.specs.Prelude.{◌≡◌, ◌<◌, ◌⊎◌, ℕ, Bool, true, false, List, [], IsSomeAnd, Option, Some, None, option_map, slice_get, string_bytes}
+use Rattle.std.specs.Prelude.{◌≡◌, ◌<◌, ◌⊎◌, ◌==◌, ℕ, Bool, true, false, List, [], IsSomeAnd, Option, Some, None, option_map, slice_get, string_bytes}
 use Rattle.std.specs.Option.{option_and_then}
 use Rattle.lft_scope.specs.Causes.{longest}
 use Rattle.lft_tree.specs.Tree.{nanoseconds}
@@ -10,17 +10,20 @@ use Rattle.lft_sources.specs.declared.stop.Stop.{Stop}
 use Rattle.lft_sources.specs.declared.stop.Stop.TheVariants as stop
 use Rattle.lft_sources.specs.declared.why.Why.{Why}
 use Rattle.lft_sources.specs.declared.why.Why.TheVariants as why
+use Rattle.lft_shapes.specs.declared.shapes.Child.{Child}
 use Rattle.lft_shapes.specs.declared.shapes.Given.{Given}
 use Rattle.lft_shapes.specs.declared.shapes.InheritedParameter.{InheritedParameter}
 use Rattle.lft_shapes.specs.declared.shapes.Shape.{Shape}
 use Rattle.lft_shapes.specs.declared.shapes.Thing.{Thing}
 use Rattle.lft_shapes.specs.declared.shapes.Thing.TheVariants as things
-use Rattle.lft_shapes.specs.Shapes.{thing_named}
+use Rattle.lft_shapes.specs.Shapes.{child_at, thing_named}
 use Rattle.lft_whole.specs.declared.tree.Action.{Action}
 use Rattle.lft_whole.specs.declared.tree.Connection.{Connection}
 use Rattle.lft_whole.specs.declared.tree.Effect.{Effect}
 use Rattle.lft_whole.specs.declared.tree.Effect.TheVariants as effects
 use Rattle.lft_whole.specs.declared.tree.Expression.{Expression}
+use Rattle.lft_whole.specs.declared.tree.Member.{Member}
+use Rattle.lft_whole.specs.declared.tree.Member.TheVariants as member
 use Rattle.lft_whole.specs.declared.tree.Reaction.{Reaction}
 use Rattle.lft_whole.specs.declared.tree.Reference.{Reference}
 use Rattle.lft_whole.specs.declared.tree.Timer.{Timer}
@@ -28,8 +31,11 @@ use Rattle.lft_whole.specs.declared.tree.Trigger.{Trigger}
 use Rattle.lft_whole.specs.declared.tree.Trigger.TheVariants as triggers
 use Rattle.lft_whole.specs.declared.tree.Value.{Value}
 use Rattle.lft_whole.specs.declared.tree.Value.TheVariants as value
+use Rattle.lft_settings.specs.declared.settings.Settings.{Settings}
+use Rattle.lft_settings.specs.Settings.{shape_at}
 use Rattle.lft_lower.specs.Lowered.{is_forever, is_spaced, is_timed}
 use Rattle.lft_lower.specs.Meanings.{Here, port_in, shape_inside}
+use Rattle.lft_lower.specs.Needed.{LacksGiven}
 use Rattle.lft_lower.specs.Programs.{decentralized_in}
 use Rattle.lft_lower.specs.Times.{time_in}
 
@@ -175,8 +181,50 @@ IsOfSides h file c r = IsOfOne h file c.sources.items r ⊎ IsOfOne h file c.des
 abbrev pub IsOfConnection : Here → ℕ → Connection → Refusal → Type 0
 IsOfConnection h file c r = ((c.is_physical ≡ true) × IsAt file c.arrow r × (r.why ≡ why.PhysicalConnection)) ⊎ IsOfTime h.shape file c.delay r ⊎ IsOfSides h file c r
 
+-- ---- instances
+
+-- the shape in the instance of this number and what the instance gives are such
+abbrev pub IsInside : Here → ℕ → (Shape → Child → Type 0) → Type 0
+IsInside h n Are = (inner : Shape) × (child : Child) × (shape_inside h n ≡ Some inner) × (child_at h.shape.children.items n ≡ Some child) × Are inner child
+
+-- the refusal is of the instance at this token, which lacks a time; or of a time that it gives
+abbrev pub IsOfInstance : Here → ℕ → ℕ → ℕ → Refusal → Type 0
+IsOfInstance h file n at r = IsInside h n (λ inner child. (IsAt file at r × (r.why ≡ why.MissingTime) × LacksGiven inner child) ⊎ IsOfSome (IsOfGiven h.shape file inner) child.given.items r)
+
+-- ---- members and reactors
+
+-- the refusal is of the member of this number, by its kind
+abbrev pub IsOfMember : Here → ℕ → ℕ → Member → Refusal → Type 0
+IsOfMember h file n (member.Port port) r = ⊥
+IsOfMember h file n (member.Timer timer) r = IsOfTimer h.shape file timer r
+IsOfMember h file n (member.Action action) r = IsOfAction h.shape file action r
+IsOfMember h file n (member.Reaction reaction) r = IsOfReaction h file reaction r
+IsOfMember h file n (member.Instance instance) r = IsOfInstance h file n instance.name.at r
+IsOfMember h file n (member.Connection c) r = IsOfConnection h file c r
+IsOfMember h file n (member.Foreign what at) r = IsAt file at r × (r.why ≡ why.Mode)
+
+-- the refusal is of a member of the shape, in the setting
+abbrev pub IsOfMembers : Settings → ℕ → Shape → Refusal → Type 0
+IsOfMembers s setting shape r = (n : ℕ) × IsSomeAnd (slice_get shape.members.items n) (λ m. IsOfMember (record { settings = s; setting = setting; shape = shape }) m.file n m.member.now r)
+
+-- the refusal is of a parameter or a member of the shape, in the setting; that of number 0 is the main one
+abbrev pub IsOfReactor : Settings → ℕ → Shape → Refusal → Type 0
+IsOfReactor s setting shape r = ((n : ℕ) × IsOfParameter (setting == 0) shape n r) ⊎ IsOfMembers s setting shape r
+
+-- the refusal is of the reactor of the setting
+abbrev pub IsOfSetting : Settings → ℕ → Refusal → Type 0
+IsOfSetting s setting r = IsSomeAnd (shape_at s setting) (λ shape. IsOfReactor s setting shape r)
+
 -- ---- programs
 
 -- the refusal is of the word that the coordination is decentralized, in the first file
 abbrev pub IsDecentralized : List SourceFile → Refusal → Type 0
 IsDecentralized files r = IsSomeAnd (decentralized_in files) (λ token. IsAt 0 token r × (r.why ≡ why.Decentralized))
+
+-- the refusal is of that word, of a program whose main reactor is federated
+abbrev pub IsOfFederation : List SourceFile → Settings → Refusal → Type 0
+IsOfFederation files s r = IsSomeAnd (shape_at s 0) (λ main. (main.class.reactor.now.is_federated ≡ true) × IsDecentralized files r)
+
+-- the refusal is of the program of these files as a whole, or of the reactor of one of the settings that are used
+abbrev pub IsOfSettings : List SourceFile → Settings → List ℕ → Refusal → Type 0
+IsOfSettings files s used r = IsPassed s.work.main r ⊎ IsOfFederation files s r ⊎ IsOfSome (IsOfSetting s) used r

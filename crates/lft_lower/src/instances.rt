@@ -1,14 +1,14 @@
 //! What an instance becomes.
 
-ghost use Rattle.std.specs.Prelude.{◌≡◌, ◌++◌, [], None, Some, IfErr, IfOk, OnOk, map, option_map};
+ghost use Rattle.std.specs.Prelude.{◌≡◌, ◌<◌, ◌++◌, ◌⊎◌, [], Some, false, IfErr, IfOk, OnOk, map, option_map};
 ghost use Rattle.std.specs.List.{All, cons_option};
 ghost use Rattle.lft_tree.specs.ItemView.{assignment_view, member_views};
 ghost use Rattle.lft_lower.specs.Lowered.{Adds, AreGiven, AreInstances, IsGiven, given_times, instances, reactor_at, time_given};
 ghost use Rattle.lft_lower.specs.Meanings.{here};
 ghost use Rattle.lft_lower.specs.Names.{texts};
+ghost use Rattle.lft_lower.specs.Needed.{is_needed, needed_given, needed_in};
 ghost use Rattle.lft_lower.specs.Places.{several};
-ghost use Rattle.lft_lower.specs.Refused.{IfRefused, IsAt, IsOfGiven, IsOfSome, IsPassed};
-ghost use Rattle.lft_sources.specs.declared.why.Why.TheVariants.{UnknownInstance};
+ghost use Rattle.lft_lower.specs.Refused.{IfRefused, IsOfGiven, IsOfInstance, IsOfSome, IsPassed};
 
 use crate::copies::copied_given;
 use crate::maker::Maker;
@@ -22,34 +22,48 @@ use lft_whole::Instance as Written;
 use std::alloc::{AllocError, Global};
 
 /// Whether each instance of a shape has to give the parameter of this number: it is a time without a default.
-fn is_needed(shape: &Shape, parameter: usize) -> bool {
+fn is_needed(shape: &Shape, parameter: usize) -> bool
+    ensures { result ≡ is_needed shape.now parameter }
+{
     match shape.parameters.get(parameter) {
         Some(found) => found.parameter.default.is_none() && shape.is_timed(parameter),
         None => false,
     }
 }
 
-/// For each shape how many parameters each instance of it has to give.
-pub(crate) fn needed(alloc: Global, shapes: &[Shape]) -> Result<Vec<usize>, AllocError> {
-    let mut counts = Vec::new(alloc);
-    for shape in shapes {
-        let mut count: usize = 0;
-        for parameter in 0..shape.parameters.len() {
-            if is_needed(shape, parameter) {
-                count = count.saturating_add(1);
-            }
+/// How many parameters each instance of a shape has to give.
+fn count_needed(shape: &Shape) -> usize
+    ensures { result ≡ needed_in shape.now }
+{
+    let mut count: usize = 0;
+    for parameter in 0..shape.parameters.len() {
+        if is_needed(shape, parameter) {
+            count += 1;
         }
+    }
+    count
+}
+
+/// The same for each shape.
+pub(crate) fn needed(alloc: Global, shapes: &[Shape]) -> Result<Vec<usize>, AllocError>
+    ensures { IfOk result (λ counts. counts.items ≡ map needed_in shapes.now) }
+{
+    let mut counts = Vec::new(alloc);
+    for place in 0..shapes.len() {
+        let count = count_needed(&shapes[place]);
         counts.push(count)?;
     }
     Ok(counts)
 }
 
 /// Whether an instance gives so many parameters that it has to give.
-fn gives_needed(inner: &Shape, child: &Child, needed: usize) -> bool {
+fn gives_needed(inner: &Shape, child: &Child, needed: usize) -> bool
+    ensures { result ≡ false → needed_given inner.now child.now < needed }
+{
     let mut count: usize = 0;
-    for given in &child.given {
-        if is_needed(inner, given.parameter) {
-            count = count.saturating_add(1);
+    for place in 0..child.given.len() {
+        if is_needed(inner, child.given[place].parameter) {
+            count += 1;
         }
     }
     count >= needed
@@ -114,16 +128,16 @@ fn given_times(
 
 /// What an instance gives, where it gives all that it has to.
 fn checked(maker: Maker, within: Within, member: usize, at: usize) -> Result<Vec<Assignment>, Stop>
-    ensures { IfOk result (λ given. AreGiven (here within.entry) member (map assignment_view given.items)) }
+    ensures given { IfOk result (λ given. AreGiven (here within.entry) member (map assignment_view given.items)) }
+    ensures cause { maker.entry.settings.now ≡ within.entry.settings.now → IfErr result (IfRefused (λ r. IsPassed within.entry.settings.now.work.main r ⊎ IsOfInstance (here within.entry) within.entry.file member at r)) }
 {
-    let missing = Stop::at(Why::UnknownInstance, within.file, at);
     let Some(child) = within.shape.child(member) else {
-        return Err(missing);
+        return Err(within.settings.work.refused(Why::TooMuch));
     };
     let Some(inner) = within.inner_shape(member) else {
-        return Err(missing);
+        return Err(within.settings.work.refused(Why::TooMuch));
     };
-    let needed = maker.needed.get(child.shape).copied().unwrap_or(0);
+    let needed = maker.needed_of(child.shape);
     if !gives_needed(inner, child, needed) {
         return Err(Stop::at(Why::MissingTime, within.file, at));
     }
@@ -132,14 +146,9 @@ fn checked(maker: Maker, within: Within, member: usize, at: usize) -> Result<Vec
 }
 
 /// The name of the core reactor of the instance of this number.
-fn reactor_of<'n>(
-    maker: Maker<'n, '_>,
-    within: Within,
-    member: usize,
-    at: usize,
-) -> Result<&'n str, Stop>
+fn reactor_of<'n>(maker: Maker<'n, '_>, within: Within, member: usize) -> Result<&'n str, Stop>
     ensures name { IfOk result (λ name. reactor_at (texts maker.entry.names.now) (here within.entry) member ≡ Some name.now) }
-    ensures cause { IfErr result (IfRefused (λ r. IsAt within.entry.file at r × (r.why ≡ UnknownInstance) × (reactor_at (texts maker.entry.names.now) (here within.entry) member ≡ None))) }
+    ensures cause { IfErr result (IfRefused (IsPassed within.entry.settings.now.work.main)) }
 {
     let name = match within.settings.known_inside(within.setting, member) {
         Some(inner) => maker.name(inner),
@@ -147,7 +156,7 @@ fn reactor_of<'n>(
     };
     match name {
         Some(name) => Ok(name),
-        None => Err(Stop::at(Why::UnknownInstance, within.file, at)),
+        None => Err(within.settings.work.refused(Why::TooMuch)),
     }
 }
 
@@ -199,15 +208,15 @@ pub(crate) fn push_instances(
     instance: &Written,
     list: &mut Vec<Member>,
 ) -> Result<(), Stop>
-    ensures { OnOk result (Adds list.old.items list.new.items (AreInstances (texts maker.entry.names.now) (here within.entry) member)) }
+    ensures made { OnOk result (Adds list.old.items list.new.items (AreInstances (texts maker.entry.names.now) (here within.entry) member)) }
+    ensures cause { maker.entry.settings.now ≡ within.entry.settings.now → IfErr result (IfRefused (λ r. IsPassed within.entry.settings.now.work.main r ⊎ IsOfInstance (here within.entry) within.entry.file member instance.now.name.at r)) }
 {
     let members = within.member(member);
     if members.count() == 0 {
         return Ok(());
     }
-    let at = instance.name.at;
-    let reactor = reactor_of(maker, within, member, at)?;
-    let given = checked(maker, within, member, at)?;
+    let reactor = reactor_of(maker, within, member)?;
+    let given = checked(maker, within, member, instance.name.at)?;
     push_each(
         maker.alloc,
         room,

@@ -1,7 +1,8 @@
 //! What all reactors are made of.
 
-ghost use Rattle.std.specs.Prelude.{◌≡◌, None, option_map, slice_index_or};
+ghost use Rattle.std.specs.Prelude.{◌≡◌, None, map, option_map, slice_get, slice_index_or, unwrap_or};
 ghost use Rattle.lft_lower.specs.Names.{texts};
+ghost use Rattle.lft_lower.specs.Needed.{needed_in};
 
 use lft_settings::Settings;
 use std::alloc::Global;
@@ -15,6 +16,7 @@ pub(crate) struct Maker<'s, 'a> {
     pub(crate) names: &'s [Option<String>],
     /// For each shape how many parameters each instance of it has to give.
     pub(crate) needed: &'s [usize],
+    ghost counted: { needed.now ≡ map needed_in settings.now.shapes.items },
 }
 
 impl<'s> Maker<'s, '_> {
@@ -26,5 +28,12 @@ impl<'s> Maker<'s, '_> {
             Some(Some(name)) => Some(name.as_str()),
             _ => None,
         }
+    }
+
+    /// How many parameters each instance of a shape has to give.
+    pub(crate) fn needed_of(self, shape: usize) -> usize
+        ensures { result ≡ unwrap_or (slice_get self.entry.needed.now shape) 0 }
+    {
+        self.needed.get(shape).copied().unwrap_or(0)
     }
 }

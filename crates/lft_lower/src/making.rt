@@ -1,11 +1,11 @@
 //! The core tree of a whole program.
 
 ghost use Rattle.std.specs.Prelude.{◌≡◌, IfErr, IfOk, None, OnOk, map, true};
-ghost use Rattle.lft_sources.specs.declared.stop.Stop.TheVariants.{Refused};
+ghost use Rattle.lft_sources.specs.declared.stop.Stop.TheVariants.{NoMemory, Refused};
 ghost use Rattle.lft_tree.specs.ItemView.{item_view};
 ghost use Rattle.lft_lower.specs.Programs.{decentralized_in, target_in};
-ghost use Rattle.lft_lower.specs.Reactors.{IsLowering};
-ghost use Rattle.lft_lower.specs.Refused.{IfRefused, IsDecentralized};
+ghost use Rattle.lft_lower.specs.Reactors.{IsLowering, IsProgram};
+ghost use Rattle.lft_lower.specs.Refused.{IfRefused, IsDecentralized, IsOfFederation, IsOfSettings};
 
 use crate::instances::needed;
 use crate::maker::Maker;
@@ -86,7 +86,9 @@ fn target_of(files: &[SourceFile]) -> &str
 }
 
 /// What is said of the target.
-fn note_target(notes: &mut Notes, files: &[SourceFile]) -> Result<(), Stop> {
+fn note_target(notes: &mut Notes, files: &[SourceFile]) -> Result<(), Stop>
+    ensures { IfErr result (λ stop. stop ≡ NoMemory) }
+{
     if let Some(file) = files.first() {
         for timeout in &file.tree.timeouts {
             notes.timeout(timeout)?;
@@ -122,7 +124,9 @@ fn note_federated(notes: &mut Notes, files: &[SourceFile], main: &Shape) -> Resu
 }
 
 /// What is said of the enclaves in a reactor.
-fn note_enclaves(notes: &mut Notes, shape: &Shape) -> Result<(), Stop> {
+fn note_enclaves(notes: &mut Notes, shape: &Shape) -> Result<(), Stop>
+    ensures { IfErr result (λ stop. stop ≡ NoMemory) }
+{
     for inherited in &shape.members {
         if let Some(instance) = inherited.instance()
             && instance.is_enclave
@@ -138,7 +142,9 @@ fn note_enclaves(notes: &mut Notes, shape: &Shape) -> Result<(), Stop> {
 }
 
 /// What is said of the parameters of the main reactor.
-fn note_defaults(notes: &mut Notes, main: &Shape) -> Result<(), Stop> {
+fn note_defaults(notes: &mut Notes, main: &Shape) -> Result<(), Stop>
+    ensures { IfErr result (λ stop. stop ≡ NoMemory) }
+{
     for number in 0..main.parameters.len() {
         if main.is_sized(number) || main.is_timed(number) {
             let InheritedParameter { file, parameter } = main.parameters[number];
@@ -154,7 +160,9 @@ fn notes<'a>(
     files: &'a [SourceFile],
     settings: &Settings,
     used: &[usize],
-) -> Result<Notes<'a>, Stop> {
+) -> Result<Notes<'a>, Stop>
+    ensures { IfErr result (IfRefused (IsOfFederation files.now settings.now)) }
+{
     let mut notes = Notes::of(alloc, files);
     note_target(&mut notes, files)?;
     if let Some(main) = settings.shape_of(0) {
@@ -171,20 +179,20 @@ fn notes<'a>(
     Ok(notes)
 }
 
-/// The core tree of the program that these files are. `order` has their numbers, with those that a file
-/// imports before it.
-pub fn lower<'a>(
+/// The core tree of a program. Its settings are known, and so are those that are used.
+fn lowered<'a>(
     alloc: Global,
     files: &'a [SourceFile],
     order: &[usize],
+    settings: Settings<'a>,
+    used: &[usize],
 ) -> Result<Lowering<'a>, Stop>
     ensures files { IfOk result (λ lowering. lowering.files.now ≡ files.now) }
-    ensures made { IfOk result (λ lowering. IsLowering files.now lowering.settings (map item_view lowering.items.items)) }
+    ensures made { IfOk result (λ lowering. IsProgram files.now settings.entry used.now → IsLowering files.now lowering.settings (map item_view lowering.items.items)) }
+    ensures cause { IfErr result (IfRefused (IsOfSettings files.now settings.entry used.now)) }
 {
-    let mut settings = Settings::of(alloc, files)?;
-    let used = settings.counted()?;
-    let mut notes = notes(alloc, files, &settings, &used)?;
-    let sorted = sorted(alloc, order, &settings, &used)?;
+    let mut notes = notes(alloc, files, &settings, used)?;
+    let sorted = sorted(alloc, order, &settings, used)?;
     let mut room = Room::new();
     let names = names(alloc, &settings, &sorted, &mut room)?;
     let needed = needed(alloc, &settings.shapes)?;
@@ -201,4 +209,20 @@ pub fn lower<'a>(
         items,
         notes: notes.into_lines(),
     })
+}
+
+/// The core tree of the program that these files are. `order` has their numbers, with those that a file
+/// imports before it.
+pub fn lower<'a>(
+    alloc: Global,
+    files: &'a [SourceFile],
+    order: &[usize],
+) -> Result<Lowering<'a>, Stop>
+    ensures files { IfOk result (λ lowering. lowering.files.now ≡ files.now) }
+    ensures made { IfOk result (λ lowering. IsLowering files.now lowering.settings (map item_view lowering.items.items)) }
+{
+    let mut settings = Settings::of(alloc, files)?;
+    let used = settings.counted()?;
+    let lowering = lowered(alloc, files, order, settings, &used)?;
+    Ok(lowering)
 }

@@ -8,7 +8,7 @@ ghost use Rattle.lft_lower.specs.Lowered.{Adds, IsLowered, IsMeasured, IsRead, a
 ghost use Rattle.lft_lower.specs.Meanings.{here};
 ghost use Rattle.lft_lower.specs.Names.{texts};
 ghost use Rattle.lft_lower.specs.Places.{several};
-ghost use Rattle.lft_lower.specs.Refused.{IfRefused, IsOfAction, IsOfDefault, IsOfParameter, IsOfPeriod, IsOfTimer, IsPassed};
+ghost use Rattle.lft_lower.specs.Refused.{IfRefused, IsOfAction, IsOfDefault, IsOfMember, IsOfMembers, IsOfParameter, IsOfPeriod, IsOfReactor, IsOfSetting, IsOfSome, IsOfTimer, IsPassed};
 ghost use Rattle.lft_lower.specs.Reactors.{AreMembers, AreReactors, IsReactor, default_time, timed_parameter, timed_parameters};
 
 use crate::connections::push_connection;
@@ -248,7 +248,8 @@ fn push_member(
     never: &mut Option<String>,
     list: &mut Vec<Member>,
 ) -> Result<(), Stop>
-    ensures { OnOk result (Adds list.old.items list.new.items (λ more. IsLowered (texts maker.entry.names.now) (here within.entry) number (option_map string_bytes never.old) more (option_map string_bytes never.new) member.now)) }
+    ensures made { OnOk result (Adds list.old.items list.new.items (λ more. IsLowered (texts maker.entry.names.now) (here within.entry) number (option_map string_bytes never.old) more (option_map string_bytes never.new) member.now)) }
+    ensures cause { maker.entry.settings.now ≡ within.entry.settings.now → IfErr result (IfRefused (λ r. IsPassed within.entry.settings.now.work.main r ⊎ IsOfMember (here within.entry) within.entry.file number member.now r)) }
 {
     let alloc = maker.alloc;
     match member {
@@ -291,7 +292,8 @@ fn push_member(
 
 /// Refuses a member whose width is written and isn't known. There is none.
 fn check_width(within: Within, number: usize, inherited: Inherited) -> Result<(), Stop>
-    ensures { OnOk result (IsMeasured (here within.entry) number inherited.entry.member.now) }
+    ensures known { OnOk result (IsMeasured (here within.entry) number inherited.entry.member.now) }
+    ensures cause { IfErr result (IfRefused (IsPassed within.entry.settings.now.work.main)) }
 {
     if inherited.width().is_some() && within.settings.known(within.setting, number).is_none() {
         return Err(within.settings.work.refused(Why::TooMuch));
@@ -307,7 +309,8 @@ fn members<'s, 'a>(
     setting: usize,
     shape: &'s Shape<'a>,
 ) -> Result<Vec<Member>, Stop>
-    ensures { IfOk result (λ list. AreMembers maker.entry.settings.now (texts maker.entry.names.now) setting shape.now (member_views list.items)) }
+    ensures made { IfOk result (λ list. AreMembers maker.entry.settings.now (texts maker.entry.names.now) setting shape.now (member_views list.items)) }
+    ensures cause { IfErr result (IfRefused (λ r. IsPassed maker.entry.settings.now.work.main r ⊎ IsOfMembers maker.entry.settings.now setting shape.now r)) }
 {
     let mut list = Vec::new(maker.alloc);
     let mut never = None;
@@ -342,7 +345,8 @@ fn core_reactor<'s, 'a>(
     setting: usize,
     shape: &'s Shape<'a>,
 ) -> Result<Reactor, Stop>
-    ensures { IfOk result (λ made. IsReactor maker.entry.settings.now (texts maker.entry.names.now) setting shape.now (reactor_view made)) }
+    ensures made { IfOk result (λ made. IsReactor maker.entry.settings.now (texts maker.entry.names.now) setting shape.now (reactor_view made)) }
+    ensures cause { IfErr result (IfRefused (λ r. IsPassed maker.entry.settings.now.work.main r ⊎ IsOfReactor maker.entry.settings.now setting shape.now r)) }
 {
     let is_main = setting == 0;
     let name = match maker.name(setting) {
@@ -367,7 +371,8 @@ pub(crate) fn reactors(
     notes: &mut Notes,
     settings: &[usize],
 ) -> Result<Vec<Item>, Stop>
-    ensures { IfOk result (λ items. AreReactors maker.entry.settings.now (texts maker.entry.names.now) settings.now (map item_view items.items)) }
+    ensures made { IfOk result (λ items. AreReactors maker.entry.settings.now (texts maker.entry.names.now) settings.now (map item_view items.items)) }
+    ensures cause { IfErr result (IfRefused (λ r. IsPassed maker.entry.settings.now.work.main r ⊎ IsOfSome (IsOfSetting maker.entry.settings.now) settings.now r)) }
 {
     let mut items = Vec::new(maker.alloc);
     for place in 0..settings.len() {

@@ -1,11 +1,12 @@
-use Rattle.std.proofs.Common.{◌≡◌, ℕ, IsPermutation, List, Option, subst, sym, ap, ◌∙◌}
-use Rattle.std.specs.Prelude.{String}
-use Rattle.lft_tree.specs.Tree.{ItemTree}
+use Rattle.std.proofs.Common.{◌≡◌, ℕ, List, subst, sym, ap, ◌∙◌}
+use Rattle.lft_sources.specs.declared.source.SourceFile.{SourceFile}
+use Rattle.lft_shapes.specs.Nestings.{IsNesting}
+use Rattle.lft_shapes.specs.declared.work.Work.{Work}
 use Rattle.lft_settings.specs.declared.settings.Settings.{Settings}
-use Rattle.lft_settings.specs.Noted.{AreSettings, GoesOn, Table}
+use Rattle.lft_settings.specs.Noted.{AreSettings, GoesOn, Table, table}
+use Rattle.lft_settings.specs.Used.{AreUsed}
 use Rattle.lft_settings.specs.Values.{main_setting}
-use Rattle.lft_lower.specs.Names.{texts}
-use Rattle.lft_lower.specs.Reactors.{AreReactors}
+use Rattle.lft_lower.specs.Reactors.{IsProgram}
 use Rattle.lft_lower.proofs.making.lower.Goals as goal
 
 settings_stay : (old new : Table) → GoesOn old new → AreSettings old → AreSettings new
@@ -14,23 +15,14 @@ settings_stay old new goes all = record {
   made = goes.made all.made;
 }
 
-same_reactors : {Z : Type 0} (s : Settings) (names names_are : List (Option (String Z))) (order order_are : List ℕ) (items : List ItemTree) → names ≡ names_are → order ≡ order_are → AreReactors s (texts names) order items → AreReactors s (texts names_are) order_are items
-same_reactors s names names_are order order_are items n o made = subst (λ ks. AreReactors s (texts names_are) ks items) o (subst (λ ns. AreReactors s (texts ns) order items) n made)
+is_program : (files : List SourceFile) (first now : Settings) (used these : List ℕ) → ((scopes : _) × (work : Work) × IsNesting files scopes (record { work = work; shapes = first.shapes; order = first.order })) → AreSettings (table first) → GoesOn (table first) (table now) → AreUsed (table now) used → used ≡ these → IsProgram files now these
+is_program files first now used these found all goes are same = record {
+  shapes = (found.0, record { work = found.1; shapes = first.shapes; order = first.order }, found.2, sym goes.shapes);
+  settings = settings_stay (table first) (table now) goes all;
+  are_used = subst (AreUsed (table now)) same are;
+}
 
 pub returns-clause-made : goal.returns-clause-made
 returns-clause-made c =
-    let found = c.in_ok-settings.ensures.shapes in
-    let first = c.in_ok-settings.settings in
     let all = c.in_ok-settings.ensures.settings in
-    let goes = c.in_ok-used.ensures.goes in
-    record {
-      shapes = (found.0, record { work = found.1; shapes = first.shapes; order = first.order }, found.2, sym goes.shapes);
-      settings = settings_stay _ _ goes all;
-      used = c.in_ok-used.used.items;
-      are_used = c.in_ok-used.ensures.used all;
-      order = c.in_ok-sorted.sorted.items;
-      reordered = subst (λ xs. IsPermutation xs c.in_ok-sorted.sorted.items) c.deref-2.ensures.value c.in_ok-sorted.ensures.same;
-      names = texts c.in_ok-names.names.items;
-      apart = c.in_ok-names.ensures.apart;
-      reactors = same_reactors _ _ _ _ _ _ c.deref-5.ensures.value c.deref-7.ensures.value c.in_ok-items.ensures;
-    }
+    c.in_ok-lowering.ensures.made (is_program c.args.files.now c.in_ok-settings.settings c.counted.new.self _ _ c.in_ok-settings.ensures.shapes all c.in_ok-used.ensures.goes (c.in_ok-used.ensures.used all) (sym c.deref.ensures.value))

@@ -1,9 +1,12 @@
 use Rattle.std.proofs.Common.{◌≡◌, [], Some, None, length, slice_get, take, string_bytes, refl, subst, sym, arith}
 use Rattle.std.specs.Prelude.{option_map}
 use Rattle.std.proofs.lemmas.Option.{slice_get_read}
+use Rattle.std.proofs.lemmas.Result.{err_from_is_err_and}
 use Rattle.lft_tree.specs.View.{member_views}
 use Rattle.lft_lower.specs.Lowered.{AreLowered, no_members}
 use Rattle.lft_lower.specs.Names.{texts}
+use Rattle.lft_lower.specs.Refused.{IsPassed}
+use Rattle.lft_lower.proofs.Refusing.{of_member}
 use Rattle.lft_lower.proofs.Turns.{lowered_all, lowered_next}
 use Rattle.lft_lower.proofs.reactors.members.Goals as goal
 
@@ -17,7 +20,18 @@ loop-number-preserved c =
     let item = c.index-inherited.result.now in
     let test = c.loop-number-test.true in
     let there : slice_get items number ≡ Some item = slice_get_read items (length items) number item refl (omega (arith, c.len-number-end.ensures)) c.index-inherited.ensures in
-    lowered_next (texts c.args.maker.names.now) _ items number item _ c.in_ok-push_member.ensures.0 _ _ _ there c.loop-number.invariant c.in_ok-check_width.ensures c.in_ok-push_member.ensures.1 c.in_ok-push_member.ensures.2
+    lowered_next (texts c.args.maker.names.now) _ items number item _ c.in_ok-push_member.ensures.made.0 _ _ _ there c.loop-number.invariant c.in_ok-check_width.ensures.known c.in_ok-push_member.ensures.made.1 c.in_ok-push_member.ensures.made.2
 
-pub returns : goal.returns
-returns c = lowered_all c.args.maker.settings.now (texts c.args.maker.names.now) c.args.setting c.args.shape.now c.loop-number.number _ _ (omega (arith, c.len-number-end.ensures, c.loop-number-test.false)) c.loop-number.invariant
+pub returns-clause-made : goal.returns-clause-made
+returns-clause-made c = lowered_all c.args.maker.settings.now (texts c.args.maker.names.now) c.args.setting c.args.shape.now c.loop-number.number _ _ (omega (arith, c.len-number-end.ensures, c.loop-number-test.false)) c.loop-number.invariant
+
+pub returns-in_err-push_member-clause-cause : goal.returns-in_err-push_member-clause-cause
+returns-in_err-push_member-clause-cause c =
+    let p = err_from_is_err_and c.from_residual-in_err-push_member.result c.from_residual-in_err-push_member.ensures.1 in
+    let items = c.args.shape.now.members.items in
+    let number = c.loop-number.number in
+    let item = c.index-inherited.result.now in
+    let test = c.loop-number-test.true in
+    let there : slice_get items number ≡ Some item = slice_get_read items (length items) number item refl (omega (arith, c.len-number-end.ensures)) c.index-inherited.ensures in
+    let s = c.args.maker.settings.now in
+    rw (p.1, p.2) (of_member s c.args.setting c.args.shape.now (IsPassed s.work.main) number item c.in_err-push_member.field-0.0 there (c.in_err-push_member.ensures.cause refl))

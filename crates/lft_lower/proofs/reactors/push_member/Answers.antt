@@ -1,40 +1,68 @@
 use Rattle.std.proofs.Common.{string_bytes, refl, ap}
 use Rattle.std.specs.Prelude.{option_map}
+use Rattle.std.proofs.lemmas.Result.{err_from_is_err_and}
 use Rattle.lft_whole.specs.declared.tree.Member.TheVariants as member
 use Rattle.lft_lower.specs.Lowered.{ports}
 use Rattle.lft_lower.specs.Meanings.{here}
 use Rattle.lft_lower.specs.Names.{texts}
+use Rattle.lft_lower.specs.Refused.{IsPassed}
 use Rattle.lft_lower.proofs.Adding.{adds_as, lowered_as}
+use Rattle.lft_lower.proofs.Refusing.{of_kind}
 use Rattle.lft_lower.proofs.reactors.push_member.Goals as goal
 
-pub returns-in_ok-push_ports-in-Port : goal.returns-in_ok-push_ports-in-Port
-returns-in_ok-push_ports-in-Port c =
+pub returns-in_ok-push_ports-in-Port-clause-made : goal.returns-in_ok-push_ports-in-Port-clause-made
+returns-in_ok-push_ports-in-Port-clause-made c =
     let before = option_map string_bytes c.args.never.now in
     lowered_as (texts c.args.maker.names.now) (here c.args.within) c.args.number before before c.args.list.now.items _ c.args.member.now (member.Port c.in-Port.port) c.in-Port.is (_, (refl, ap (λ t. ports t c.in-Port.port.is_input) c.member-channels.ensures), c.in_ok-push_ports-in-Port.ensures.made)
 
-pub returns-in_ok-push_timer-in-Timer : goal.returns-in_ok-push_timer-in-Timer
-returns-in_ok-push_timer-in-Timer c =
+pub returns-in_ok-push_timer-in-Timer-clause-made : goal.returns-in_ok-push_timer-in-Timer-clause-made
+returns-in_ok-push_timer-in-Timer-clause-made c =
     let before = option_map string_bytes c.args.never.now in
     lowered_as (texts c.args.maker.names.now) (here c.args.within) c.args.number before before c.args.list.now.items _ c.args.member.now (member.Timer c.in-Timer.timer) c.in-Timer.is (_, (refl, c.in_ok-push_timer-in-Timer.ensures.read.0, c.in_ok-push_timer-in-Timer.ensures.read.1, refl), c.in_ok-push_timer-in-Timer.ensures.made)
 
-pub returns-in_ok-push_action-in-Action : goal.returns-in_ok-push_action-in-Action
-returns-in_ok-push_action-in-Action c =
+pub returns-in_ok-push_action-in-Action-clause-made : goal.returns-in_ok-push_action-in-Action-clause-made
+returns-in_ok-push_action-in-Action-clause-made c =
     let before = option_map string_bytes c.args.never.now in
     lowered_as (texts c.args.maker.names.now) (here c.args.within) c.args.number before before c.args.list.now.items _ c.args.member.now (member.Action c.in-Action.action) c.in-Action.is (_, (refl, c.in_ok-push_action-in-Action.ensures.read, c.in_ok-push_action-in-Action.ensures.spacing, refl), c.in_ok-push_action-in-Action.ensures.made)
 
-pub returns-in_ok-push_reaction-in-Reaction : goal.returns-in_ok-push_reaction-in-Reaction
-returns-in_ok-push_reaction-in-Reaction c =
+pub returns-in_ok-push_reaction-in-Reaction-clause-made : goal.returns-in_ok-push_reaction-in-Reaction-clause-made
+returns-in_ok-push_reaction-in-Reaction-clause-made c =
     let made = c.in_ok-push_reaction-in-Reaction.ensures in
     lowered_as (texts c.args.maker.names.now) (here c.args.within) c.args.number _ _ c.args.list.now.items _ c.args.member.now (member.Reaction c.in-Reaction.reaction) c.in-Reaction.is (made.lowered.0, (made.means, made.lowered.1), made.lowered.2)
 
-pub returns-in_ok-push_instances-in-Instance : goal.returns-in_ok-push_instances-in-Instance
-returns-in_ok-push_instances-in-Instance c =
+pub returns-in_ok-push_instances-in-Instance-clause-made : goal.returns-in_ok-push_instances-in-Instance-clause-made
+returns-in_ok-push_instances-in-Instance-clause-made c =
     let before = option_map string_bytes c.args.never.now in
-    let made = c.in_ok-push_instances-in-Instance.ensures in
+    let made = c.in_ok-push_instances-in-Instance.ensures.made in
     lowered_as (texts c.args.maker.names.now) (here c.args.within) c.args.number before before c.args.list.now.items _ c.args.member.now (member.Instance c.in-Instance.instance) c.in-Instance.is (made.0, (refl, made.1), made.2)
 
-pub returns-in_ok-push_connection-in-Connection : goal.returns-in_ok-push_connection-in-Connection
-returns-in_ok-push_connection-in-Connection c =
+pub returns-in_ok-push_connection-in-Connection-clause-made : goal.returns-in_ok-push_connection-in-Connection-clause-made
+returns-in_ok-push_connection-in-Connection-clause-made c =
     let before = option_map string_bytes c.args.never.now in
     let made = c.in_ok-push_connection-in-Connection.ensures in
     lowered_as (texts c.args.maker.names.now) (here c.args.within) c.args.number before before c.args.list.now.items _ c.args.member.now (member.Connection c.in-Connection.connection) c.in-Connection.is (made.joined.0, (refl, made.logical, made.mean, made.read, made.joined.1), made.joined.2)
+
+pub returns-in_err-push_timer-in-Timer-clause-cause : goal.returns-in_err-push_timer-in-Timer-clause-cause
+returns-in_err-push_timer-in-Timer-clause-cause c same =
+    let p = err_from_is_err_and c.from_residual-in_err-push_timer-in-Timer.result c.from_residual-in_err-push_timer-in-Timer.ensures.1 in
+    rw (p.1, p.2) (of_kind (here c.args.within) c.args.within.file c.args.number c.args.member.now (member.Timer c.in-Timer.timer) (IsPassed c.args.within.settings.now.work.main) c.in_err-push_timer-in-Timer.field-0.0 c.in-Timer.is c.in_err-push_timer-in-Timer.ensures.cause)
+
+pub returns-in_err-push_action-in-Action-clause-cause : goal.returns-in_err-push_action-in-Action-clause-cause
+returns-in_err-push_action-in-Action-clause-cause c same =
+    let p = err_from_is_err_and c.from_residual-in_err-push_action-in-Action.result c.from_residual-in_err-push_action-in-Action.ensures.1 in
+    rw (p.1, p.2) (of_kind (here c.args.within) c.args.within.file c.args.number c.args.member.now (member.Action c.in-Action.action) (IsPassed c.args.within.settings.now.work.main) c.in_err-push_action-in-Action.field-0.0 c.in-Action.is c.in_err-push_action-in-Action.ensures.cause)
+
+pub returns-in_err-push_reaction-in-Reaction-clause-cause : goal.returns-in_err-push_reaction-in-Reaction-clause-cause
+returns-in_err-push_reaction-in-Reaction-clause-cause c same =
+    let p = err_from_is_err_and c.from_residual-in_err-push_reaction-in-Reaction.result c.from_residual-in_err-push_reaction-in-Reaction.ensures.1 in
+    rw (p.1, p.2) (of_kind (here c.args.within) c.args.within.file c.args.number c.args.member.now (member.Reaction c.in-Reaction.reaction) (IsPassed c.args.within.settings.now.work.main) c.in_err-push_reaction-in-Reaction.field-0.0 c.in-Reaction.is c.in_err-push_reaction-in-Reaction.ensures.cause)
+
+pub returns-in_err-push_instances-in-Instance-clause-cause : goal.returns-in_err-push_instances-in-Instance-clause-cause
+returns-in_err-push_instances-in-Instance-clause-cause c same =
+    let p = err_from_is_err_and c.from_residual-in_err-push_instances-in-Instance.result c.from_residual-in_err-push_instances-in-Instance.ensures.1 in
+    rw (p.1, p.2) (of_kind (here c.args.within) c.args.within.file c.args.number c.args.member.now (member.Instance c.in-Instance.instance) (IsPassed c.args.within.settings.now.work.main) c.in_err-push_instances-in-Instance.field-0.0 c.in-Instance.is (c.in_err-push_instances-in-Instance.ensures.cause same))
+
+pub returns-in_err-push_connection-in-Connection-clause-cause : goal.returns-in_err-push_connection-in-Connection-clause-cause
+returns-in_err-push_connection-in-Connection-clause-cause c same =
+    let p = err_from_is_err_and c.from_residual-in_err-push_connection-in-Connection.result c.from_residual-in_err-push_connection-in-Connection.ensures.1 in
+    rw (p.1, p.2) (of_kind (here c.args.within) c.args.within.file c.args.number c.args.member.now (member.Connection c.in-Connection.connection) (IsPassed c.args.within.settings.now.work.main) c.in_err-push_connection-in-Connection.field-0.0 c.in-Connection.is c.in_err-push_connection-in-Connection.ensures.cause)

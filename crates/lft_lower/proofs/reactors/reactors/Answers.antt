@@ -1,7 +1,10 @@
 use Rattle.std.proofs.Common.{[], subst, sym, ap, ◌∙◌}
 use Rattle.std.proofs.lemmas.List.{map-append, take_all}
+use Rattle.std.proofs.lemmas.Result.{err_from_is_err_and}
 use Rattle.lft_tree.specs.ItemView.{item_view, item_views}
 use Rattle.lft_lower.specs.Names.{texts}
+use Rattle.lft_lower.specs.Refused.{IsPassed}
+use Rattle.lft_lower.proofs.Refusing.{of_reactor}
 use Rattle.lft_lower.specs.Reactors.{AreReactors, no_reactors}
 use Rattle.lft_lower.proofs.Turns.{reactors_next}
 use Rattle.lft_lower.proofs.reactors.reactors.Goals as goal
@@ -12,7 +15,13 @@ loop-place-init c = subst (λ xs. AreReactors c.args.maker.settings.now (texts c
 pub loop-place-preserved : goal.loop-place-preserved
 loop-place-preserved c =
     let items = c.loop-place.items.items in
-    reactors_next c.args.maker.settings.now (texts c.args.maker.names.now) c.args.settings.now c.loop-place.place c.item_at-setting.result c.in-Some.shape.now (item_views items) _ _ c.item_at-setting.ensures c.loop-place.invariant (sym c.in-Some.ensures) c.in_ok-core_reactor.ensures (ap item_views c.in_ok-push.ensures.items ∙ map-append item_view items _)
+    reactors_next c.args.maker.settings.now (texts c.args.maker.names.now) c.args.settings.now c.loop-place.place c.item_at-setting.result c.in-Some.shape.now (item_views items) _ _ c.item_at-setting.ensures c.loop-place.invariant (sym c.in-Some.ensures) c.in_ok-core_reactor.ensures.made (ap item_views c.in_ok-push.ensures.items ∙ map-append item_view items _)
 
-pub returns : goal.returns
-returns c = subst (λ ks. AreReactors c.args.maker.settings.now (texts c.args.maker.names.now) ks (item_views c.loop-place.items.items)) (take_all c.loop-place.place c.args.settings.now c.loop-place-test.false) c.loop-place.invariant
+pub returns-clause-made : goal.returns-clause-made
+returns-clause-made c = subst (λ ks. AreReactors c.args.maker.settings.now (texts c.args.maker.names.now) ks (item_views c.loop-place.items.items)) (take_all c.loop-place.place c.args.settings.now c.loop-place-test.false) c.loop-place.invariant
+
+pub returns-in_err-core_reactor-clause-cause : goal.returns-in_err-core_reactor-clause-cause
+returns-in_err-core_reactor-clause-cause c =
+    let p = err_from_is_err_and c.from_residual.result c.from_residual.ensures.1 in
+    let s = c.args.maker.settings.now in
+    rw (p.1, p.2) (of_reactor s (IsPassed s.work.main) c.args.settings.now c.loop-place.place c.item_at-setting.result c.in-Some.shape.now c.in_err-core_reactor.field-0.0 c.item_at-setting.ensures (sym c.in-Some.ensures) c.in_err-core_reactor.ensures.cause)

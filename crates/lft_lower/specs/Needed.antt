@@ -1,0 +1,30 @@
+-- The times that each instance of a reactor has to give.
+use Rattle.std.specs.Prelude.{◌≡◌, ◌&&◌, ℕ, Bool, true, false, not, is_some, None, count_by, length, option_map, slice_get, unwrap_or}
+use Rattle.lft_lowering.specs.Channels.{below}
+use Rattle.lft_settings.specs.Values.{given_to}
+use Rattle.lft_shapes.specs.declared.shapes.Child.{Child}
+use Rattle.lft_shapes.specs.declared.shapes.InheritedParameter.{InheritedParameter}
+use Rattle.lft_shapes.specs.declared.shapes.Shape.{Shape}
+use Rattle.lft_lower.specs.Lowered.{is_timed}
+
+-- the parameter has no default
+abbrev pub is_bare : InheritedParameter → Bool
+is_bare p = not (is_some p.parameter.now.default)
+
+-- a time is read from the parameter of this number, which has no default
+abbrev pub is_needed : Shape → ℕ → Bool
+is_needed shape p = unwrap_or (option_map is_bare (slice_get shape.parameters.items p)) false && is_timed shape p
+
+-- an instance gives nothing to such a parameter
+abbrev pub LacksGiven : Shape → Child → Type 0
+LacksGiven inner child = (p : ℕ) × (is_needed inner p ≡ true) × (given_to child.given.items p ≡ None)
+
+-- ---- for the crate's own contracts
+
+-- so many such parameters the shape has
+abbrev pub needed_in : Shape → ℕ
+needed_in shape = count_by (is_needed shape) (below (length shape.parameters.items))
+
+-- so many values an instance gives to such parameters
+abbrev pub needed_given : Shape → Child → ℕ
+needed_given inner child = count_by (λ g. is_needed inner g.parameter) child.given.items
