@@ -17,14 +17,14 @@ loop-preserved c = record {
 
 pub returns-clause-shapes : goal.returns-clause-shapes
 returns-clause-shapes c =
-    let e = c.in_ok-work.ensures in
+    let e = c.in_ok-work.ensures.nesting in
     let made = c.in_ok-work.field-0 in
     let rest = c.in_ok-add_main.ensures.rest in
     (e.0, made.work, subst (λ sh. IsNesting c.args.files.now e.0 (record { work = made.work; shapes = sh; order = c.add_main.new.self.order })) (sym rest.0) (subst (λ o. IsNesting c.args.files.now e.0 (record { work = made.work; shapes = made.shapes; order = o })) (sym rest.1) e.1))
 
 pub returns-clause-settings : goal.returns-clause-settings
 returns-clause-settings c =
-    let nest = c.in_ok-work.ensures.1 in
+    let nest = c.in_ok-work.ensures.nesting.1 in
     let shapes = c.in_ok-work.field-0.shapes in
     let same : shapes ≡ c.in_ok-work.shapes = cc in
     let equal : length shapes.items ≡ length c.in_ok-work.shapes.items = ap (λ (v : Vec Shape Global). length v.items) same in
