@@ -130,9 +130,9 @@ module _ (base old new : PlanParts) (bytes text behind : List ℕ) (before : Lis
         go (inl (end, same)) =
             let of = fronts.none f (sym same ∙ named) in
             record_fault base bytes (before ++ fronts.lines) fronts.others rest whole _ _ f
-                (let l = length-append (rows before) (rows fronts.lines) in let b = ap (λ (t : List Row). length t) (rows_both before fronts.lines) in omega (arith, l, b, counted))
-                (let l = length-append (inputs before) (inputs fronts.lines) in let b = ap (λ (t : List Entry). length t) (inputs_both before fronts.lines) in omega (arith, l, b, numbered))
-                of
+            (let l = length-append (rows before) (rows fronts.lines) in let b = ap (λ (t : List Row). length t) (rows_both before fronts.lines) in omega (arith, l, b, counted))
+            (let l = length-append (inputs before) (inputs fronts.lines) in let b = ap (λ (t : List Entry). length t) (inputs_both before fronts.lines) in omega (arith, l, b, numbered))
+            of
         go (inr (entry, more, next, (g, has, of))) =
             let same : g ≡ f = cc (has, named) in
             let stands = behind_cut base.program bytes grown cut.0 fronts.others rest is.others entry more cut.1 next cut.2 in

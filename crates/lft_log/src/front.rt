@@ -67,12 +67,7 @@ fn fault_of_odd(lines: &[u8], row: u64, input: u64) -> LogFault
 
 /// The fault of the record behind those that are read, or else of the first line that isn't plain. It has
 /// one of these numbers.
-fn fault_behind(
-    fault: Option<LineFault>,
-    behind: &[u8],
-    row: u64,
-    input: u64,
-) -> Option<LogFault>
+fn fault_behind(fault: Option<LineFault>, behind: &[u8], row: u64, input: u64) -> Option<LogFault>
     requires { AreLines behind.now }
     ensures all { result ≡ None → (fault ≡ None) × (length behind.now ≡ 0) }
     ensures none { IfSome result (λ f. (program : Parts) (records : List (List (List ℕ))) → StopsAt program records fault → IsRecordFault program records row input f) }

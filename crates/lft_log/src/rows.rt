@@ -38,12 +38,7 @@ fn lines_end(text: &[u8], begin: usize) -> Option<usize>
 
 impl LogRows {
     /// Goes on past whole lines. It is false where no more is to be read.
-    fn add_lines(
-        &mut self,
-        alloc: Global,
-        plan: &mut Plan,
-        lines: &[u8],
-    ) -> Result<bool, NoMemory>
+    fn add_lines(&mut self, alloc: Global, plan: &mut Plan, lines: &[u8]) -> Result<bool, NoMemory>
         requires lines { AreLines lines.now }
         requires stands { (base : PlanParts) × (bytes rest : List ℕ) × IsReadSoFar base plan.old bytes (lines.now ++ rest) self.old }
         ensures program { plan.new.program ≡ plan.old.program }
