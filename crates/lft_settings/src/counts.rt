@@ -110,11 +110,7 @@ fn lengthen(is_used: &mut Vec<bool>, count: usize) -> Result<(), AllocError>
 }
 
 /// Puts a number behind a list and marks it, if it isn't marked yet.
-fn mark(
-    used: &mut Vec<usize>,
-    is_used: &mut Vec<bool>,
-    number: usize,
-) -> Result<(), AllocError>
+fn mark(used: &mut Vec<usize>, is_used: &mut Vec<bool>, number: usize) -> Result<(), AllocError>
     ensures marked { OnOk result (AreMarked used.old.items is_used.old.items → AreMarked used.new.items is_used.new.items) }
     ensures stay { OnOk result (Stay used.old.items used.new.items) }
     ensures has { OnOk result (AreMarked used.old.items is_used.old.items → number < length is_used.old.items → Has used.new.items number) }

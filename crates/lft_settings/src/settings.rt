@@ -3,7 +3,7 @@
 ghost use Rattle.std.specs.Prelude.{◌≡◌, ◌≤◌, ◌<◌, ℕ, [], Some, IfErr, IfOk, IfSome, OnOk, length, map, option_map, slice_get, slice_set};
 ghost use Rattle.lft_shapes.specs.Nestings.{IsNesting};
 ghost use Rattle.lft_settings.specs.Noted.{Adds, AreMade, AreSettings, GoesOn, GoesOnIf, IsNumberOf, found_inside, noted_for, table};
-ghost use Rattle.lft_settings.specs.Passed.{IsOfMain};
+ghost use Rattle.lft_settings.specs.Passed.{HasNoSettings, IsOfMain};
 ghost use Rattle.lft_settings.specs.Refused.{HasCause, IsTooMuch};
 ghost use Rattle.lft_settings.specs.Settings.{setting_at, shape_at};
 ghost use Rattle.lft_settings.specs.Values.{IsUnsized, Valued, inside};
@@ -54,6 +54,7 @@ impl<'a> Settings<'a> {
     pub fn of(alloc: Global, files: &'a [SourceFile]) -> Result<Settings<'a>, Stop>
         ensures shapes { IfOk result (λ s. (scopes : _) × (work : Work) × IsNesting files.now scopes (record { work = work; shapes = s.shapes; order = s.order })) }
         ensures settings { IfOk result (λ s. AreSettings (table s)) }
+        ensures cause { IfErr result (HasNoSettings files.now) }
     {
         let Nesting {
             work,

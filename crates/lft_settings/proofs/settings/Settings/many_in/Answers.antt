@@ -17,9 +17,9 @@ pub returns-clause-cause : goal.returns-clause-cause
 returns-clause-cause c =
     let s = c.args.self.now in
     IfErr-weaker c.many.result _ _ (λ stop of t made at.
-      let x = of t made at in
-      let same : x.0 ≡ c.in-Some.member = number x.0 c.in-Some.member x.1 in
-      (c.in-Some.member, c.in-Some.is, subst (λ m. IsOfWidth s.shapes.items t m stop) same x.2)) c.many.ensures.cause
+    let x = of t made at in
+    let same : x.0 ≡ c.in-Some.member = number x.0 c.in-Some.member x.1 in
+    (c.in-Some.member, c.in-Some.is, subst (λ m. IsOfWidth s.shapes.items t m stop) same x.2)) c.many.ensures.cause
   where
     number : (k m : ℕ) → thing.Member m ≡ thing.Member k → k ≡ m
     number k m same = cc
