@@ -2,6 +2,7 @@ use Rattle.std.proofs.Common.{◌≡◌, ◌++◌, List, Option, slice_range, re
 use Rattle.lft_tag.specs.declared.Tag.{Tag}
 use Rattle.lft_flat.specs.Parts.{Parts}
 use Rattle.lft_steps.specs.declared.row.Row.{Row}
+use Rattle.lft_steps.specs.Fits.{RowsFit}
 use Rattle.lft_follow.specs.Follows.{IsFollowerOf}
 use Rattle.lft_log.specs.Logs.{IsFront, rows}
 use Rattle.lft_log.specs.Told.{IsAskedOf, IsSaid}
@@ -47,3 +48,13 @@ returns-in-Ok-Some-clause-told c = λ base until bytes is.
     let x = rw c.in-Ok-Some.field-0-is at (c.in-Ok-Some.ensures.told t (c.tell_all-taken.ensures.stands t is.0.follower) is.0.asked) in
     let e = ap (λ (r : List Row). slice_range r 0 taken.rows) c.as_slice.ensures.value in
     soon_on base c.args.plan.now plan until bytes lines log front taken is given c.tell_all-taken.ensures.taken c.in-Ok-Some.told x.0 x.1 (sym e ∙ x.2) (subst (λ (o : Option Tag). IsSaid plan o (t ++ x.0) c.in-Ok-Some.told) is.0.until_is x.3)
+
+pub add_asked-requires-clause-fit : goal.add_asked-requires-clause-fit
+add_asked-requires-clause-fit c =
+    let log = c.args.self.now in
+    let front = c.in-Ok.front in
+    let taken = c.tell_all-taken.result in
+    let old = c.args.plan.now.program in
+    let given = subst (λ (p : Parts). IsFront p c.args.lines.now log.rows log.inputs front) c.program.ensures.value c.in-Ok.ensures in
+    let first = subst (λ (x : List Row). RowsFit old (slice_range x 0 taken.rows)) (sym c.as_slice.ensures.value) (fit_first old front.rows.items taken.rows given.rows_fit) in
+    subst (λ (p : Parts). RowsFit p (slice_range c.as_slice.result.now 0 taken.rows)) (sym c.tell_all-taken.ensures.program) first

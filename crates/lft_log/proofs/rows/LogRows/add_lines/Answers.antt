@@ -1,6 +1,7 @@
 use Rattle.std.proofs.Common.{◌≡◌, ◌-◌, ◌≤◌, ◌++◌, ◌∙◌, ℕ, List, drop, length, slice_range, sym, ap, subst, arith}
 use Rattle.lft_flat.specs.Parts.{Parts}
 use Rattle.lft_steps.specs.declared.row.Row.{Row}
+use Rattle.lft_steps.specs.Fits.{RowsFit}
 use Rattle.lft_follow.specs.Follows.{IsFollowerOf}
 use Rattle.lft_log.specs.Logs.{IsFront}
 use Rattle.lft_log.proofs.Gathering.{all_read, fit_first, has_read, none_is, rows_fit, rows_read}
@@ -32,3 +33,26 @@ returns-in-GoesOn-clause-read c = λ base bytes behind is.
       fit = rows_fit base old new bytes c.args.lines.now behind c.args.self.now 0 0 front taken c.extend_from_slice.new.self.items is given c.tell_all-taken.ensures.program c.tell_all-taken.ensures.taken few whole;
       follower = subst (λ (u : List Row). IsFollowerOf new u c.add.new.self) (sym c.in_ok-extend_from_slice.ensures.items) (rw c.in-GoesOn.is at (c.in_ok-add.ensures t (c.tell_all-taken.ensures.stands t is.follower)));
     }
+
+pub add-requires-clause-fit : goal.add-requires-clause-fit
+add-requires-clause-fit c =
+    let front = c.in_ok-front.front in
+    let taken = c.tell_all-taken.result in
+    let old = c.args.plan.now.program in
+    let given = subst (λ (p : Parts). IsFront p c.args.lines.now 0 0 front) c.program.ensures.value c.in_ok-front.ensures in
+    let first = subst (λ (x : List Row). RowsFit old (slice_range x 0 taken.rows)) (sym c.as_slice.ensures.value) (fit_first old front.rows.items taken.rows given.rows_fit) in
+    subst (λ (p : Parts). RowsFit p (slice_range c.as_slice.result.now 0 taken.rows)) (sym c.tell_all-taken.ensures.program) first
+
+pub returns : goal.returns
+returns c = record {
+  program = c.tell_all-taken.ensures.program;
+  read = λ base bytes behind is.
+      let old = c.args.plan.now in
+      let new = c.tell_all-taken.new.plan in
+      let taken = c.tell_all-taken.result in
+      let front = c.in_ok-front.front in
+      let t = c.args.self.now.rows.items in
+      let given = subst (λ (p : Parts). IsFront p c.args.lines.now 0 0 front) c.program.ensures.value c.in_ok-front.ensures in
+      let few : length front.rows.items ≤ 4000000 - length t = (let n = c.if-len.false in let a = c.len.ensures in let b = c.len-2.ensures in omega (arith, n, a, b)) in
+      rows_read base old new bytes c.args.lines.now behind c.args.self.now 0 0 front taken c.extend_from_slice.new.self.items is given c.tell_all-taken.ensures.program c.tell_all-taken.ensures.taken few (c.in_ok-extend_from_slice.ensures.items ∙ ap (λ (u : List Row). t ++ slice_range u 0 taken.rows) c.as_slice.ensures.value);
+}
