@@ -1,5 +1,5 @@
 -- Paths by number: what a path more, and a file more, bring.
-use Rattle.std.proofs.Common.{◌≡◌, ℕ, zero, suc, ◌+◌, ◌<◌, ◌≤◌, ◌⊎◌, inl, inr, Bool, true, false, List, [], ◌∷◌, ◌++◌, length, Option, Some, None, refl, sym, subst, ap, ◌∙◌, arith, string_bytes}
+use Rattle.std.proofs.Common.{◌≡◌, ℕ, zero, suc, ◌+◌, ◌<◌, ◌≤◌, ◌⊎◌, inl, inr, true, false, List, [], ◌∷◌, ◌++◌, length, Option, Some, None, sym, subst, ap, ◌∙◌, arith, string_bytes}
 use Rattle.std.specs.Prelude.{◌↔◌, IsSomeAnd, slice_get}
 use Rattle.std.specs.Map.{update}
 use Rattle.std.specs.Str.{bytes_eq}
@@ -57,7 +57,8 @@ some_weaker : {X : Type 0} (P Q : X → Type 0) (o : Option X) → ((x : X) → 
 some_weaker P Q None f h = h
 some_weaker P Q (Some x) f h = f x h
 
-kept : {X : Type 0} (P : X → Type 0) (xs : List X) (y : X) (k : ℕ) → IsSomeAnd (slice_get xs k) P → IsSomeAnd (slice_get (xs ++ y ∷ []) k) P
+-- what is so of an element is so in a list that is longer
+pub kept : {X : Type 0} (P : X → Type 0) (xs : List X) (y : X) (k : ℕ) → IsSomeAnd (slice_get xs k) P → IsSomeAnd (slice_get (xs ++ y ∷ []) k) P
 kept P [] y k h = absurd h
 kept P (x ∷ xs) y zero h = h
 kept P (x ∷ xs) y (suc k) h = kept P xs y k h

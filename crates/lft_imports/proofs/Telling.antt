@@ -1,73 +1,47 @@
--- Where a refusal stands.
-use Rattle.std.proofs.Common.{◌≡◌, ℕ, zero, suc, ◌<◌, ◌≤◌, ◌⊎◌, inl, inr, List, [], ◌∷◌, ◌++◌, length, Some, sym, subst, ap, ◌∙◌, arith}
-use Rattle.std.specs.Prelude.{IfErr, IfSome, IsSomeAnd, Result, Ok, Err, slice_get}
-use Rattle.std.proofs.lemmas.Bool.{cases_lt}
-use Rattle.lft_lists.proofs.Places.{get_last, get_there}
+-- Why a text is refused.
+use Rattle.std.proofs.Common.{◌≡◌, ℕ, ◌⊎◌, inl, inr, List, [], ◌∷◌, ◌++◌, length, Some, None, sym, subst, ◌∙◌, string_bytes}
+use Rattle.std.specs.Prelude.{IfErr, Result, Ok, Err, slice_get}
+use Rattle.lft_lists.proofs.Places.{get_push_cases}
 use Rattle.lft_sources.specs.declared.source.Spot.{Spot}
 use Rattle.lft_sources.specs.declared.source.SourceFile.{SourceFile}
 use Rattle.lft_sources.specs.declared.stop.Stop.{Stop}
 use Rattle.lft_sources.specs.declared.stop.Stop.TheVariants as stop
 use Rattle.lft_sources.specs.declared.why.Why.{Why}
 use Rattle.lft_sources.specs.declared.why.Why.TheVariants.{NotRead}
-use Rattle.lft_whole.specs.declared.token.Token.{Token}
-use Rattle.lft_whole.specs.Tokens.{AreTokens, StandBetween}
-use Rattle.lft_imports.specs.declared.reading.Refused.{Refused}
 use Rattle.lft_imports.specs.declared.reading.Text.{Text}
-use Rattle.lft_imports.specs.Files.{HasCause, HasUnread, IsCauseOf, IsPlaced, IsRefusalOf, IsUnread}
-use Rattle.lft_imports.specs.Places.{AreSpots, IsSpot, IsSpotOf}
-use Rattle.lft_imports.specs.Reads.{HasPlaces, IsOfText, IsRead, SaysWhy}
+use Rattle.lft_imports.specs.declared.sources.Sources.{Sources}
+use Rattle.lft_imports.specs.Files.{AreOfTexts, HasUnread, IsRefusalOf, IsRefusedFor, IsUnread, RefusesNext, next_path}
+use Rattle.lft_imports.specs.Reads.{HasNoTree, HasTree, IsRead, IsReadAs}
 
--- a token begins in the text
-begins : (text : List ℕ) (ts : List Token) (i : ℕ) (t : Token) (from to : ℕ) → StandBetween text from ts to → slice_get ts i ≡ Some t → t.start ≤ length text
-begins text [] i t from to h e = absurd (cc)
-begins text (x ∷ xs) zero t from to h e = let same : x ≡ t = cc in subst (λ (z : Token). z.start ≤ length text) same (omega (arith, h.1.0, h.1.1))
-begins text (x ∷ xs) (suc i) t from to h e = begins text xs i t x.end to h.2 e
+-- what is read of a text that has no tree
+pub read_refused : (t : List ℕ) (spots : List Spot) (token : ℕ) (why : Why) (read : Text) → HasNoTree t spots token why → read.spots.items ≡ spots → read.refused ≡ Some (record { why = why; token = token }) → IsRead t read
+read_refused t spots token why read none same refused = subst (IsReadAs t read.spots.items read.tree) (sym refused) (subst (λ v. HasNoTree t v token why) (sym same) none)
 
-some_weaker : (t : List ℕ) (at : ℕ) (spots : List Spot) (k : ℕ) → at ≤ length t → IsSomeAnd (slice_get spots k) (IsSpot t at) → IsSomeAnd (slice_get spots k) (IsSpotOf t)
-some_weaker t at [] k l h = absurd h
-some_weaker t at (x ∷ xs) zero l h = (at, l, h)
-some_weaker t at (x ∷ xs) (suc k) l h = some_weaker t at xs k l h
+-- a file has the tree that is read of its text
+pub tree_of : (t : List ℕ) (f : SourceFile) (read : Text) → f.spots ≡ read.spots → f.tree ≡ read.tree → IsRead t read → read.refused ≡ None → HasTree t f.spots.items f.tree
+tree_of t f read spots tree is none =
+    let known : HasTree t read.spots.items read.tree = subst (IsReadAs t read.spots.items read.tree) none is in
+    subst (λ v. HasTree t v.items f.tree) (sym spots) (subst (HasTree t read.spots.items) (sym tree) known)
 
--- the spot of a token, or of the end
-pub token_spot : (t : List ℕ) (tokens : List Token) (spots : List Spot) (token : ℕ) → AreTokens t tokens → AreSpots t tokens spots → token ≤ length tokens → IsSomeAnd (slice_get spots token) (IsSpotOf t)
-token_spot t tokens spots token stand h l = of (cases_lt token (length tokens))
+pub trees_more : (t : List ℕ) (files : List SourceFile) (f : SourceFile) → AreOfTexts files → HasTree t f.spots.items f.tree → AreOfTexts (files ++ f ∷ [])
+trees_more t files f h tree k file at = of (get_push_cases files f k file at)
   where
-    of : (token < length tokens) ⊎ (length tokens ≤ token) → IsSomeAnd (slice_get spots token) (IsSpotOf t)
-    of (inl lt) =
-        let found = get_there tokens token lt in
-        some_weaker t found.0.start spots token (begins t tokens token found.0 0 (length t) stand found.1) (h.begin token found.0 found.1)
-    of (inr ge) =
-        let same : length tokens ≡ token = omega (arith, l, ge) in
-        subst (λ (n : ℕ). IsSomeAnd (slice_get spots n) (IsSpotOf t)) same (some_weaker t (length t) spots (length tokens) (omega arith) h.end)
+    of : (slice_get files k ≡ Some file) ⊎ ((k ≡ length files) × (f ≡ file)) → (u : List ℕ) × HasTree u file.spots.items file.tree
+    of (inl old) = h k file old
+    of (inr new) = subst (λ (x : SourceFile). (u : List ℕ) × HasTree u x.spots.items x.tree) new.1 (t, tree)
 
--- what is read of a text that is refused at a token
-pub read_refused : (t : List ℕ) (tokens : List Token) (spots : List Spot) (token : ℕ) (why : Why) (read : Text) → AreTokens t tokens → AreSpots t tokens spots → token ≤ length tokens → read.spots.items ≡ spots → read.refused ≡ Some (record { why = why; token = token }) → IsRead t read
-read_refused t tokens spots token why read stand h l s r = subst (HasPlaces t read.spots.items) (sym r) (subst (λ (v : List Spot). IsSomeAnd (slice_get v token) (IsSpotOf t)) (sym s) (token_spot t tokens spots token stand h l))
+-- a file is refused as what is read of its text
+pub refused_for : (t : List ℕ) (f : SourceFile) (read : Text) (token : ℕ) (why : Why) → f.spots ≡ read.spots → f.tree ≡ read.tree → IsRead t read → (read.refused ≡ Some (record { why = why; token = token })) ⊎ ((read.refused ≡ None) × (why ≡ NotRead) × HasUnread read.tree.imports.items token) → IsRefusedFor t f token why
+refused_for t f read token why spots tree is (inl w) = inl (subst (λ v. HasNoTree t v.items token why) (sym spots) (subst (IsReadAs t read.spots.items read.tree) w is))
+refused_for t f read token why spots tree is (inr w) = inr (w.1, tree_of t f read spots tree is w.0, subst (λ x. HasUnread x.imports.items token) (sym tree) w.2)
 
--- the refusal of the file that was read last
-pub placed : (t : List ℕ) (files : List SourceFile) (f : SourceFile) (number : ℕ) (read : Text) (s : Stop) → number ≡ length files → f.spots ≡ read.spots → IsRead t read → IsRefusalOf number read s → IsPlaced t (files ++ f ∷ []) s
-placed t files f number read stop.NoMemory e spots r h = tt
-placed t files f number read (stop.Refused refusal) e spots r h =
-    let last : slice_get (files ++ f ∷ []) refusal.place.file ≡ Some f = ap (slice_get (files ++ f ∷ [])) (h.0 ∙ e) ∙ get_last files f in
-    subst (λ o. IsSomeAnd o (λ (file : SourceFile). (refusal.why ≡ NotRead) ⊎ IsSomeAnd (slice_get file.spots.items refusal.place.token) (IsSpotOf t))) (sym last) (of h.1)
-  where
-    of : (refusal.why ≡ NotRead) ⊎ (read.refused ≡ Some (record { why = refusal.why; token = refusal.place.token })) → (refusal.why ≡ NotRead) ⊎ IsSomeAnd (slice_get f.spots.items refusal.place.token) (IsSpotOf t)
-    of (inl w) = inl w
-    of (inr w) = inr (subst (λ (v : List Spot). IsSomeAnd (slice_get v refusal.place.token) (IsSpotOf t)) (ap (λ v. v.items) (sym spots)) (subst (HasPlaces t read.spots.items) w r))
+-- the refusal of the file that was to be read next
+pub refuses_next : (t : List ℕ) (before : Sources) (files : List SourceFile) (f : SourceFile) (number : ℕ) (read : Text) (s : Stop) → next_path before ≡ Some (string_bytes f.path) → files ≡ before.files.items ++ f ∷ [] → number ≡ length before.files.items → f.spots ≡ read.spots → f.tree ≡ read.tree → IsRead t read → IsRefusalOf number read s → RefusesNext t before files s
+refuses_next t before files f number read stop.NoMemory next more many spots tree is h = tt
+refuses_next t before files f number read (stop.Refused refusal) next more many spots tree is h = (f, next, more, h.0 ∙ many, refused_for t f read refusal.place.token refusal.why spots tree is h.1)
 
--- the cause of the refusal of the file that was read last
-pub caused : (files : List SourceFile) (f : SourceFile) (number : ℕ) (read : Text) (s : Stop) → number ≡ length files → f.tree ≡ read.tree → SaysWhy read → IsCauseOf number read s → HasCause (files ++ f ∷ []) s
-caused files f number read stop.NoMemory e tree says h = tt
-caused files f number read (stop.Refused refusal) e tree says h = of h
-  where
-    of : (read.refused ≡ Some (record { why = refusal.why; token = refusal.place.token })) ⊎ IsUnread number read.tree.imports.items (stop.Refused refusal) → HasCause (files ++ f ∷ []) (stop.Refused refusal)
-    of (inl w) = inl (subst (λ o. IfSome o (λ (r : Refused). IsOfText r.why)) w says)
-    of (inr u) =
-        let last : slice_get (files ++ f ∷ []) refusal.place.file ≡ Some f = ap (slice_get (files ++ f ∷ [])) (u.1 ∙ e) ∙ get_last files f in
-        inr (u.0, subst (λ o. IsSomeAnd o (λ (file : SourceFile). HasUnread file.tree.imports.items refusal.place.token)) (sym last) (subst (λ t. HasUnread t.imports.items refusal.place.token) (sym tree) u.2))
-
--- that of a path is a cause
-pub unread_is_cause : {X : Type 0} (r : Result X Stop) (number : ℕ) (read : Text) → IfErr r (IsUnread number read.tree.imports.items) → IfErr r (IsCauseOf number read)
-unread_is_cause (Ok x) number read h = tt
-unread_is_cause (Err (stop.Refused refusal)) number read h = inr h
-unread_is_cause (Err stop.NoMemory) number read h = tt
+-- that of a path
+pub unread_is_refusal : {X : Type 0} (r : Result X Stop) (number : ℕ) (read : Text) → read.refused ≡ None → IfErr r (IsUnread number read.tree.imports.items) → IfErr r (IsRefusalOf number read)
+unread_is_refusal (Ok x) number read none h = tt
+unread_is_refusal (Err (stop.Refused refusal)) number read none h = (h.1, inr (none, h.0, h.2))
+unread_is_refusal (Err stop.NoMemory) number read none h = tt

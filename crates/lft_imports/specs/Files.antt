@@ -1,18 +1,18 @@
 -- The files of a program: which paths are asked for, and which file each import names.
-use Rattle.std.specs.Prelude.{◌≡◌, ◌<◌, ◌↔◌, ◌⊎◌, ℕ, List, [], ◌∷◌, ◌++◌, Option, Some, IsSomeAnd, length, map, slice_get, string_bytes}
+use Rattle.std.specs.Prelude.{◌≡◌, ◌<◌, ◌↔◌, ◌⊎◌, ℕ, List, [], ◌∷◌, ◌++◌, Option, Some, None, IsSomeAnd, length, map, slice_get, string_bytes}
 use Rattle.std.specs.BTreeMap.{get_by_text}
 use Rattle.std.specs.Str.{IsUtf8}
 use Rattle.lft_whole.specs.declared.tree.Import.{Import}
 use Rattle.lft_sources.specs.declared.source.SourceFile.{SourceFile}
 use Rattle.lft_sources.specs.declared.stop.Stop.{Stop}
 use Rattle.lft_sources.specs.declared.stop.Stop.TheVariants as stop
+use Rattle.lft_sources.specs.declared.why.Why.{Why}
 use Rattle.lft_sources.specs.declared.why.Why.TheVariants.{NotRead}
 use Rattle.lft_imports.specs.declared.asked.Asked.{Asked}
 use Rattle.lft_imports.specs.declared.reading.Text.{Text}
 use Rattle.lft_imports.specs.declared.sources.Sources.{Sources}
 use Rattle.lft_imports.specs.Paths.{meaning}
-use Rattle.lft_imports.specs.Places.{HasSpots, IsSpotOf}
-use Rattle.lft_imports.specs.Reads.{IsOfText}
+use Rattle.lft_imports.specs.Reads.{HasNoTree, HasTree}
 
 -- The paths that are asked for, by number.
 abbrev pub paths_of : Asked → List (List ℕ)
@@ -54,10 +54,15 @@ IsImported files path = (k : ℕ) × IsSomeAnd (slice_get files k) (λ file. Has
 abbrev pub AddsOnly : List (List ℕ) → (List ℕ → Type 0) → List (List ℕ) → Type 0
 AddsOnly before Such after = (k : ℕ) (path : List ℕ) → slice_get after k ≡ Some path → (slice_get before k ≡ Some path) ⊎ Such path
 
--- The files that are read are the first of the paths that are asked for, each import of them has its number, and each path but the first is asked for by one of these.
+-- Each of the files has the tree of a text, and the spots of its tokens.
+abbrev pub AreOfTexts : List SourceFile → Type 0
+AreOfTexts files = (k : ℕ) (file : SourceFile) → slice_get files k ≡ Some file → (t : List ℕ) × HasTree t file.spots.items file.tree
+
+-- The files that are read are the first of the paths that are asked for, and have the trees of texts; each import of them has its number, and each path but the first is asked for by one of these.
 pub record AreSources (sources : Sources) : Type 0 where
   pub known : IsKnown sources.asked
   pub read : (k : ℕ) (file : SourceFile) → slice_get sources.files.items k ≡ Some file → slice_get (paths_of sources.asked) k ≡ Some (string_bytes file.path)
+  pub trees : AreOfTexts sources.files.items
   pub numbered : (k : ℕ) (file : SourceFile) → slice_get sources.files.items k ≡ Some file → IsNumbered (paths_of sources.asked) file
   pub imported : (k : ℕ) (path : List ℕ) → 0 < k → slice_get (paths_of sources.asked) k ≡ Some path → IsImported sources.files.items path
 
@@ -65,10 +70,10 @@ pub record AreSources (sources : Sources) : Type 0 where
 abbrev pub next_path : Sources → Option (List ℕ)
 next_path sources = slice_get (paths_of sources.asked) (length sources.files.items)
 
--- The file of that path is read, from that text.
+-- The file of that path is read from that text: it has the tree of the text, and the spots of its tokens.
 pub record IsFileOf (path t : List ℕ) (file : SourceFile) : Type 0 where
   pub same : string_bytes file.path ≡ path
-  pub spots : HasSpots t file.spots.items
+  pub tree : HasTree t file.spots.items file.tree
 
 -- One file more is read: the one that was to be read next.
 abbrev pub HasOneMore : List ℕ → Sources → Sources → Type 0
@@ -78,31 +83,27 @@ HasOneMore t before after = (path : List ℕ) → next_path before ≡ Some path
 abbrev pub IsWhole : List SourceFile → Type 0
 IsWhole files = (k : ℕ) (file : SourceFile) → slice_get files k ≡ Some file → IsNumbered (paths_of_files files) file
 
--- A refusal is of a file that is there; but for a path that is no text, its token has the spot of a byte of the text.
-abbrev pub IsPlaced : List ℕ → List SourceFile → Stop → Type 0
-IsPlaced t files (stop.Refused refusal) = IsSomeAnd (slice_get files refusal.place.file) (λ file. (refusal.why ≡ NotRead) ⊎ IsSomeAnd (slice_get file.spots.items refusal.place.token) (IsSpotOf t))
-IsPlaced t files stop.NoMemory = Unit {0}
-
 -- An import at that token has a path that is no UTF-8.
 abbrev pub HasUnread : List Import → ℕ → Type 0
 HasUnread imports token = (i : ℕ) × IsSomeAnd (slice_get imports i) (λ import. (token ≡ import.at) × (IsUtf8 import.path.items → ⊥))
 
--- A refusal is that of a text, or of an import of the file that it is of, whose path is no UTF-8.
-abbrev pub HasCause : List SourceFile → Stop → Type 0
-HasCause files (stop.Refused refusal) = IsOfText refusal.why ⊎ ((refusal.why ≡ NotRead) × IsSomeAnd (slice_get files refusal.place.file) (λ file. HasUnread file.tree.imports.items refusal.place.token))
-HasCause files stop.NoMemory = Unit {0}
+-- The file is refused for that text, at that token: the text has no tree, or it has, and the path of an import there is no UTF-8.
+abbrev pub IsRefusedFor : List ℕ → SourceFile → ℕ → Why → Type 0
+IsRefusedFor t file token why = HasNoTree t file.spots.items token why ⊎ ((why ≡ NotRead) × HasTree t file.spots.items file.tree × HasUnread file.tree.imports.items token)
+
+-- A refusal is of the file that was to be read next. It stands behind those that were read before, and is refused for that text.
+abbrev pub RefusesNext : List ℕ → Sources → List SourceFile → Stop → Type 0
+RefusesNext t before files (stop.Refused refusal) = (file : SourceFile) × (next_path before ≡ Some (string_bytes file.path)) × (files ≡ before.files.items ++ file ∷ []) × (refusal.place.file ≡ length before.files.items) × IsRefusedFor t file refusal.place.token refusal.why
+RefusesNext t before files stop.NoMemory = Unit {0}
+
+-- ---- for the crate's own contracts
 
 -- The refusal is of a path that is no UTF-8, of an import of the file of that number.
 abbrev pub IsUnread : ℕ → List Import → Stop → Type 0
-IsUnread number imports (stop.Refused refusal) = (refusal.why ≡ NotRead) × (refusal.place.file ≡ number) × ((i : ℕ) × IsSomeAnd (slice_get imports i) (λ import. (refusal.place.token ≡ import.at) × (IsUtf8 import.path.items → ⊥)))
+IsUnread number imports (stop.Refused refusal) = (refusal.why ≡ NotRead) × (refusal.place.file ≡ number) × HasUnread imports refusal.place.token
 IsUnread number imports stop.NoMemory = Unit {0}
 
--- The refusal is that of the text of the file of that number, or of a path in it.
+-- The refusal is that of the text of the file of that number; or it has none, and the refusal is of a path in the file.
 abbrev pub IsRefusalOf : ℕ → Text → Stop → Type 0
-IsRefusalOf number read (stop.Refused refusal) = (refusal.place.file ≡ number) × ((refusal.why ≡ NotRead) ⊎ (read.refused ≡ Some (record { why = refusal.why; token = refusal.place.token })))
+IsRefusalOf number read (stop.Refused refusal) = (refusal.place.file ≡ number) × ((read.refused ≡ Some (record { why = refusal.why; token = refusal.place.token })) ⊎ ((read.refused ≡ None) × (refusal.why ≡ NotRead) × HasUnread read.tree.imports.items refusal.place.token))
 IsRefusalOf number read stop.NoMemory = Unit {0}
-
--- The refusal is that of the text, or of a path in the file of that number that is no UTF-8.
-abbrev pub IsCauseOf : ℕ → Text → Stop → Type 0
-IsCauseOf number read (stop.Refused refusal) = (read.refused ≡ Some (record { why = refusal.why; token = refusal.place.token })) ⊎ IsUnread number read.tree.imports.items (stop.Refused refusal)
-IsCauseOf number read stop.NoMemory = Unit {0}

@@ -1,5 +1,5 @@
 -- The order of the files of a program: imported ones first.
-use Rattle.std.specs.Prelude.{◌≡◌, ◌↔◌, ◌<◌, ◌≤◌, ◌⊎◌, ℕ, Bool, true, false, List, Option, Some, length, slice_get}
+use Rattle.std.specs.Prelude.{◌≡◌, ◌↔◌, ◌<◌, ◌≤◌, ◌⊎◌, ℕ, Bool, true, List, Option, Some, length, slice_get}
 use Rattle.std.specs.Option.{option_and_then}
 use Rattle.lft_imports.specs.declared.order.Visit.{Visit}
 use Rattle.lft_imports.specs.declared.order.Walk.{Walk}

@@ -1,12 +1,15 @@
 //! The tree of a text, and where its tokens stand.
 
-ghost use Rattle.std.specs.Prelude.{◌≡◌, ◌<◌, Some, IfOk, length};
-ghost use Rattle.lft_imports.specs.Reads.{IsRead, SaysWhy};
+ghost use Rattle.std.specs.Prelude.{◌≡◌, ◌<◌, Err, Some, IfOk, length};
+ghost use Rattle.lft_whole.specs.Pieces.{tokens_of};
+ghost use Rattle.lft_whole.specs.declared.fault.TextFault.TheVariants.{BadText};
+ghost use Rattle.lft_imports.specs.Reads.{IsRead};
 
 use crate::spots::{spot_of, spots};
 use lft_sources::{Spot, Why};
 use lft_tag::NoMemory;
-use lft_whole::{File, TextFault, TreeFault, lex, parse};
+use lft_whole::{File, TextFault, TreeFault, lex};
+use lft_whole_parser::parse;
 use std::alloc::Global;
 
 /// Why a text has no tree, and the token that shows it.
@@ -38,9 +41,9 @@ fn no_file(alloc: Global) -> File {
 
 /// What is read of a text without tokens. They end at a byte.
 fn without_tokens(alloc: Global, text: &[u8], at: usize) -> Result<Text, NoMemory>
-    requires { at < length text.now }
-    ensures read { IfOk result (IsRead text.now) }
-    ensures why { IfOk result SaysWhy }
+    requires inside { at < length text.now }
+    requires bad { tokens_of text.now ≡ Err (BadText at) }
+    ensures { IfOk result (IsRead text.now) }
 {
     let mut spots = Vec::new(alloc);
     spots.push(spot_of(text, at))?;
@@ -61,8 +64,7 @@ fn without_tree(alloc: Global, spots: Vec<Spot>, why: Why, token: usize) -> Text
 
 /// The tree of a text, or why it has none.
 pub(crate) fn read_text(alloc: Global, text: &[u8]) -> Result<Text, NoMemory>
-    ensures read { IfOk result (IsRead text.now) }
-    ensures why { IfOk result SaysWhy }
+    ensures { IfOk result (IsRead text.now) }
 {
     let tokens = match lex(alloc, text) {
         Ok(tokens) => tokens,

@@ -2,7 +2,7 @@
 
 ghost use Rattle.std.specs.Prelude.{◌≡◌, [], ◌∷◌, None, IfErr, IfOk, OnOk, option_and_then, option_map, length, slice_get};
 ghost use Rattle.lft_imports.specs.Paths.{normal as normal_path};
-ghost use Rattle.lft_imports.specs.Files.{AddsOnly, AreNumbered, AreSources, EachOnce, GoesOn, HasCause, HasImport, HasOneMore, IsCauseOf, IsKnown, IsPlaced, IsRefusalOf, IsWhole, next_path, paths_of, paths_of_files};
+ghost use Rattle.lft_imports.specs.Files.{AddsOnly, AreNumbered, AreSources, EachOnce, GoesOn, HasImport, HasOneMore, IsKnown, IsRefusalOf, IsWhole, RefusesNext, next_path, paths_of, paths_of_files};
 ghost use Rattle.lft_imports.specs.Orders.{IsOrder, import_of};
 
 use crate::asked::Asked;
@@ -28,7 +28,6 @@ fn numbers_of(
     ensures numbers { IfOk result (λ numbers. AreNumbered (paths_of asked.new) path.now read.now.tree.imports.items numbers.items) }
     ensures read { OnOk result (read.now.refused ≡ None) }
     ensures refused { IfErr result (IsRefusalOf number read.now) }
-    ensures cause { IfErr result (IsCauseOf number read.now) }
 {
     match read.refused {
         Some(refused) => Err(Stop::at(refused.why, number, refused.token)),
@@ -119,8 +118,7 @@ impl Sources {
         requires { AreSources self.old }
         ensures sources { OnOk result (AreSources self.new) }
         ensures read { OnOk result (HasOneMore text.now self.old self.new) }
-        ensures refused { IfErr result (IsPlaced text.now self.new.files.items) }
-        ensures cause { IfErr result (HasCause self.new.files.items) }
+        ensures refused { IfErr result (RefusesNext text.now self.old self.new.files.items) }
     {
         let number = self.files.len();
         let Some(wanted) = self.wanted() else {

@@ -151,7 +151,7 @@ impl Log {
         self.follower.reach(plan)
     }
 
-    /// Goes on past whole lines below the header, which are all that is of no part yet.
+    /// Goes on past whole lines below the header, which are all that wait to be read.
     fn add_body(
         &mut self,
         alloc: Global,
@@ -188,7 +188,7 @@ impl Log {
         }
     }
 
-    /// Goes on past whole lines, which are all that is of no part yet.
+    /// Goes on past whole lines, which are all that wait to be read.
     fn add_lines(
         &mut self,
         alloc: Global,

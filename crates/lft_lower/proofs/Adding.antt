@@ -1,5 +1,5 @@
 -- Members that stand behind those that there were.
-use Rattle.std.proofs.Common.{◌≡◌, ◌≢◌, ℕ, Bool, false, List, [], ◌∷◌, ◌++◌, Option, Some, None, map, refl, sym, subst, ◌∙◌, ap, append_assoc}
+use Rattle.std.proofs.Common.{◌≡◌, ◌≢◌, ℕ, List, [], ◌∷◌, ◌++◌, Option, Some, None, sym, subst, ◌∙◌, ap, append_assoc}
 use Rattle.std.proofs.lemmas.List.{append-nil, map-append}
 use Rattle.lft_tree.specs.Tree.{TriggerTree, OnRef, AssignmentTree, MemberTree, ReactionMember}
 use Rattle.lft_tree.specs.View.{member_view, member_views}
@@ -8,9 +8,9 @@ use Rattle.lft_whole.specs.declared.tree.Member.{Member}
 use Rattle.lft_whole.specs.declared.tree.Reaction.{Reaction}
 use Rattle.lft_shapes.specs.declared.shapes.Thing.TheVariants as things
 use Rattle.lft_lowering.specs.Lowered.{own}
+use Rattle.lft_meanings.specs.Meanings.{Here, thing_in}
+use Rattle.lft_meanings.specs.Places.{Several, count_of}
 use Rattle.lft_lower.specs.Lowered.{Adds, AreGiven, AreInstances, AreTriggers, IsAsleep, IsLowered, IsReaction, added, all_triggers, asleep, instances, known, no_instances, reaction_tree, reactor_at, runs, sleeps, some_instances}
-use Rattle.lft_lower.specs.Meanings.{Here, thing_in}
-use Rattle.lft_lower.specs.Places.{Several, count_of}
 use Rattle.lft_shapes.specs.Shapes.{thing_named}
 
 -- none

@@ -1,10 +1,10 @@
 -- Pairs of places that are joined.
 use Rattle.std.proofs.Common.{◌≡◌, ℕ, zero, suc, ◌+◌, ◌%◌, ◌<◌, ◌≤◌, inl, inr, min, Bool, true, false, List, [], ◌∷◌, ◌++◌, Option, Some, map, take, length, refl, sym, subst, ◌∙◌, ap, arith, append_assoc}
 use Rattle.std.specs.Prelude.{slice_get}
-use Rattle.std.proofs.Math.Nat.{eq-or-lt_of_le, mod-eq_of_lt, mod-lt}
+use Rattle.std.proofs.Math.Nat.{eq-or-lt_of_le, mod-eq_of_lt}
 use Rattle.std.proofs.lemmas.List.{length_push, length-take, map-append, take_all}
 use Rattle.lft_lower.specs.Lowered.{AreConnected, AreEach, each_pair, whole}
-use Rattle.lft_lower.proofs.Growing.{either}
+use Rattle.lft_meanings.proofs.Growing.{either}
 use Rattle.lft_lists.proofs.Places.{get_last, get_push}
 use Rattle.lft_tree.specs.Tree.{TimeTree, RefTree, ConnectionTree, ConnectionMember, MemberTree}
 use Rattle.lft_lowering.specs.Channels.{joined, source}

@@ -1,9 +1,6 @@
 mod Adding
-mod Apart
-mod Cuts
-mod Growing
 mod Joining
+mod Named
 mod Needing
-mod Placed
 mod Refusing
 mod Turns

@@ -1,9 +1,6 @@
+pub mod Causes
 pub mod Lowered
-pub mod Meanings
-pub mod Names
 pub mod Needed
-pub mod Notes
-pub mod Places
 pub mod Programs
 pub mod Reactors
 pub mod Refused

@@ -28,8 +28,8 @@ use Rattle.lft_shapes.specs.Shapes.{child_at, thing_named, width_of}
 use Rattle.lft_lowering.specs.Lowered.{AreJoined, own}
 use Rattle.lft_settings.specs.Noted.{found_inside}
 use Rattle.lft_settings.specs.Widths.{found_width}
-use Rattle.lft_lower.specs.Meanings.{Here, Means, all_places, places_in, shape_inside, thing_in}
-use Rattle.lft_lower.specs.Places.{Several, count_of, names_of}
+use Rattle.lft_meanings.specs.Meanings.{Here, Means, all_places, places_in, shape_inside, thing_in}
+use Rattle.lft_meanings.specs.Places.{Several, count_of, names_of}
 use Rattle.lft_lower.specs.declared.connections.Sides.{Sides}
 use Rattle.lft_lower.specs.Times.{time_in}
 

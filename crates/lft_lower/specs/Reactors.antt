@@ -15,8 +15,8 @@ use Rattle.lft_settings.specs.declared.settings.Settings.{Settings}
 use Rattle.lft_settings.specs.Noted.{AreSettings, table}
 use Rattle.lft_settings.specs.Settings.{shape_at}
 use Rattle.lft_settings.specs.Used.{AreUsed}
+use Rattle.lft_meanings.specs.Names.{AreApart}
 use Rattle.lft_lower.specs.Lowered.{AreLowered, is_timed}
-use Rattle.lft_lower.specs.Names.{AreApart}
 use Rattle.lft_lower.specs.Times.{time_in}
 
 -- the time of a default; where none is written, each instance gives one, and this one is never read

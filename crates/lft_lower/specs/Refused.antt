@@ -1,13 +1,10 @@
 -- Why what is written isn't lowered.
-use Rattle.std.specs.Prelude.{◌≡◌, ◌<◌, ◌⊎◌, ◌==◌, ℕ, Bool, true, false, List, [], IsSomeAnd, Option, Some, None, option_map, slice_get, string_bytes}
+use Rattle.std.specs.Prelude.{◌≡◌, ◌<◌, ◌⊎◌, ◌==◌, ℕ, Bool, true, false, List, [], IsSomeAnd, Option, Some, None, slice_get, string_bytes}
 use Rattle.std.specs.Option.{option_and_then}
 use Rattle.lft_scope.specs.Causes.{longest}
 use Rattle.lft_tree.specs.Tree.{nanoseconds}
 use Rattle.lft_sources.specs.declared.source.SourceFile.{SourceFile}
-use Rattle.lft_sources.specs.declared.stop.Place.{Place}
 use Rattle.lft_sources.specs.declared.stop.Refusal.{Refusal}
-use Rattle.lft_sources.specs.declared.stop.Stop.{Stop}
-use Rattle.lft_sources.specs.declared.stop.Stop.TheVariants as stop
 use Rattle.lft_sources.specs.declared.why.Why.{Why}
 use Rattle.lft_sources.specs.declared.why.Why.TheVariants as why
 use Rattle.lft_shapes.specs.declared.shapes.Child.{Child}
@@ -25,7 +22,6 @@ use Rattle.lft_whole.specs.declared.tree.Expression.{Expression}
 use Rattle.lft_whole.specs.declared.tree.Member.{Member}
 use Rattle.lft_whole.specs.declared.tree.Member.TheVariants as member
 use Rattle.lft_whole.specs.declared.tree.Reaction.{Reaction}
-use Rattle.lft_whole.specs.declared.tree.Reference.{Reference}
 use Rattle.lft_whole.specs.declared.tree.Timer.{Timer}
 use Rattle.lft_whole.specs.declared.tree.Trigger.{Trigger}
 use Rattle.lft_whole.specs.declared.tree.Trigger.TheVariants as triggers
@@ -33,32 +29,12 @@ use Rattle.lft_whole.specs.declared.tree.Value.{Value}
 use Rattle.lft_whole.specs.declared.tree.Value.TheVariants as value
 use Rattle.lft_settings.specs.declared.settings.Settings.{Settings}
 use Rattle.lft_settings.specs.Settings.{shape_at}
+use Rattle.lft_meanings.specs.Meanings.{Here, shape_inside}
+use Rattle.lft_meanings.specs.Refused.{IsAt, IsOfOne, IsOfReference, IsOfSome, IsPassed}
 use Rattle.lft_lower.specs.Lowered.{is_forever, is_spaced, is_timed}
-use Rattle.lft_lower.specs.Meanings.{Here, port_in, shape_inside}
 use Rattle.lft_lower.specs.Needed.{LacksGiven}
 use Rattle.lft_lower.specs.Programs.{decentralized_in}
 use Rattle.lft_lower.specs.Times.{time_in}
-
--- if memory didn't run out, the refusal is such a one
-abbrev pub IfRefused : (Refusal → Type 0) → Stop → Type 0
-IfRefused Is (stop.Refused refusal) = Is refusal
-IfRefused Is stop.NoMemory = Unit {0}
-
--- it is of this token of this file
-abbrev pub IsAt : ℕ → ℕ → Refusal → Type 0
-IsAt file token r = r.place ≡ record { file = file; token = token }
-
--- a limit of the program as a whole is passed
-abbrev pub IsLimit : Why → Type 0
-IsLimit w = (w ≡ why.TooMuch) ⊎ (w ≡ why.TooLong)
-
--- the refusal says so, of the main reactor
-abbrev pub IsPassed : Place → Refusal → Type 0
-IsPassed main r = (r.place ≡ main) × IsLimit r.why
-
--- the refusal is of one of these things
-abbrev pub IsOfSome : {A : Type 0} → (A → Refusal → Type 0) → List A → Refusal → Type 0
-IsOfSome Is xs r = (k : ℕ) × IsSomeAnd (slice_get xs k) (λ x. Is x r)
 
 -- ---- times
 
@@ -120,35 +96,6 @@ IsOfParameter main shape n r = (is_timed shape n ≡ true) × IsSomeAnd (slice_g
 -- the refusal is of a value for a parameter from which a time is read: it is no time around, or there is no such parameter
 abbrev pub IsOfGiven : Shape → ℕ → Shape → Given → Refusal → Type 0
 IsOfGiven outer file inner g r = (is_timed inner g.parameter ≡ true) × IsAt file g.value.now.at r × (IsNoTime outer g.value.now.value r.why ⊎ ((r.why ≡ why.MissingTime) × (slice_get inner.parameters.items g.parameter ≡ None)))
-
--- ---- references
-
--- the shape of the instance that a thing is
-abbrev pub shape_behind : Here → Thing → Option Shape
-shape_behind h (things.Member n) = shape_inside h n
-shape_behind h (things.Parameter n) = None
-
--- the shape of the instance of this name
-abbrev pub shape_named : Here → List ℕ → Option Shape
-shape_named h name = option_and_then (shape_behind h) (thing_named h.shape name)
-
--- there is no instance, or it has no port of the name
-abbrev pub IsNoPort : Option Shape → List ℕ → Why → Type 0
-IsNoPort None port w = w ≡ why.UnknownInstance
-IsNoPort (Some shape) port w = (w ≡ why.UnknownPort) × (port_in shape port ≡ None)
-
--- what stands there means nothing: there is no thing of the name, or no port of the instance of the name
-abbrev pub IsUnknown : Here → List ℕ → Option (List ℕ) → Why → Type 0
-IsUnknown h head None w = (w ≡ why.UnknownName) × (thing_named h.shape head ≡ None)
-IsUnknown h head (Some port) w = IsNoPort (shape_named h head) port w
-
--- the refusal is of a reference that means nothing
-abbrev pub IsOfReference : Here → ℕ → Reference → Refusal → Type 0
-IsOfReference h file r refusal = IsAt file r.head.at refusal × IsUnknown h (string_bytes r.head.text) (option_map (λ name. string_bytes name.text) r.port) refusal.why
-
--- the refusal is of one of these references
-abbrev pub IsOfOne : Here → ℕ → List Reference → Refusal → Type 0
-IsOfOne h file rs refusal = IsOfSome (IsOfReference h file) rs refusal
 
 -- ---- reactions
 

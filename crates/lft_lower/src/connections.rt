@@ -3,17 +3,18 @@
 ghost use Rattle.std.specs.Prelude.{◌≡◌, ◌⊎◌, IfErr, IfOk, IsTrue, OnOk, false, option_map, true};
 ghost use Rattle.lft_tree.specs.ItemView.{connection_view, ref_view, ref_views, time_view};
 ghost use Rattle.lft_lowering.specs.Lowered.{single};
-ghost use Rattle.lft_lower.specs.Lowered.{Adds, AreConnected, AreEach, AreSides, IsRead, MeanSides, time_at};
+ghost use Rattle.lft_meanings.specs.Meanings.{all_places, here};
 ghost use Rattle.lft_sources.specs.declared.stop.Stop.TheVariants.{NoMemory};
-ghost use Rattle.lft_lower.specs.Meanings.{all_places, here};
-ghost use Rattle.lft_lower.specs.Refused.{IfRefused, IsOfConnection, IsOfOne, IsOfSides, IsPassed};
+ghost use Rattle.lft_meanings.specs.Refused.{IfRefused, IsOfOne, IsPassed};
+ghost use Rattle.lft_lower.specs.Lowered.{Adds, AreConnected, AreEach, AreSides, IsRead, MeanSides, time_at};
+ghost use Rattle.lft_lower.specs.Refused.{IsOfConnection, IsOfSides};
 
 use crate::copies::{copied_reference, copied_time};
-use crate::notes::Notes;
-use crate::places::{Within, count, meaning, some_places};
-use crate::room::Room;
 use crate::times::{bytes_of, maybe_time};
 use lft_lowering::{joined, source};
+use lft_meanings::notes::Notes;
+use lft_meanings::places::{Within, count, meaning, some_places};
+use lft_meanings::room::Room;
 use lft_shapes::Work;
 use lft_sources::{Stop, Why};
 use lft_tree::{Connection, Member, Reference, TimeExpression};

@@ -3,18 +3,19 @@
 ghost use Rattle.std.specs.Prelude.{◌≡◌, ◌<◌, ◌++◌, ◌⊎◌, [], Some, false, IfErr, IfOk, OnOk, map, option_map};
 ghost use Rattle.std.specs.List.{All, cons_option};
 ghost use Rattle.lft_tree.specs.ItemView.{assignment_view, member_views};
+ghost use Rattle.lft_meanings.specs.Meanings.{here};
+ghost use Rattle.lft_meanings.specs.Names.{texts};
+ghost use Rattle.lft_meanings.specs.Places.{several};
+ghost use Rattle.lft_meanings.specs.Refused.{IfRefused, IsOfSome, IsPassed};
 ghost use Rattle.lft_lower.specs.Lowered.{Adds, AreGiven, AreInstances, IsGiven, given_times, instances, reactor_at, time_given};
-ghost use Rattle.lft_lower.specs.Meanings.{here};
-ghost use Rattle.lft_lower.specs.Names.{texts};
 ghost use Rattle.lft_lower.specs.Needed.{is_needed, needed_given, needed_in};
-ghost use Rattle.lft_lower.specs.Places.{several};
-ghost use Rattle.lft_lower.specs.Refused.{IfRefused, IsOfGiven, IsOfInstance, IsOfSome, IsPassed};
+ghost use Rattle.lft_lower.specs.Refused.{IsOfGiven, IsOfInstance};
 
 use crate::copies::copied_given;
 use crate::maker::Maker;
-use crate::places::{Wide, Within};
-use crate::room::Room;
 use crate::times::{bytes_of, read_time};
+use lft_meanings::places::{Wide, Within};
+use lft_meanings::room::Room;
 use lft_shapes::{Child, Given, Shape, Work};
 use lft_sources::{Stop, Why};
 use lft_tree::{Assignment, Instance, Member};

@@ -6,12 +6,8 @@ mod copies;
 mod instances;
 mod maker;
 mod making;
-mod naming;
-mod notes;
-mod places;
 mod reactions;
 mod reactors;
-mod room;
 mod times;
 
 pub use making::{Lowering, lower};

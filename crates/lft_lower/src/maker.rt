@@ -1,7 +1,7 @@
 //! What all reactors are made of.
 
 ghost use Rattle.std.specs.Prelude.{◌≡◌, None, map, option_map, slice_get, slice_index_or, unwrap_or};
-ghost use Rattle.lft_lower.specs.Names.{texts};
+ghost use Rattle.lft_meanings.specs.Names.{texts};
 ghost use Rattle.lft_lower.specs.Needed.{needed_in};
 
 use lft_settings::Settings;

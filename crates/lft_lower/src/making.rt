@@ -3,16 +3,18 @@
 ghost use Rattle.std.specs.Prelude.{◌≡◌, IfErr, IfOk, None, OnOk, map, true};
 ghost use Rattle.lft_sources.specs.declared.stop.Stop.TheVariants.{NoMemory, Refused};
 ghost use Rattle.lft_tree.specs.ItemView.{item_view};
+ghost use Rattle.lft_meanings.specs.Refused.{IfRefused};
+ghost use Rattle.lft_lower.specs.Causes.{HasCause};
 ghost use Rattle.lft_lower.specs.Programs.{decentralized_in, target_in};
 ghost use Rattle.lft_lower.specs.Reactors.{IsLowering, IsProgram};
-ghost use Rattle.lft_lower.specs.Refused.{IfRefused, IsDecentralized, IsOfFederation, IsOfSettings};
+ghost use Rattle.lft_lower.specs.Refused.{IsDecentralized, IsOfFederation, IsOfSettings};
 
 use crate::instances::needed;
 use crate::maker::Maker;
-use crate::naming::{names, sorted};
-use crate::notes::Notes;
 use crate::reactors::reactors;
-use crate::room::Room;
+use lft_meanings::naming::{names, sorted};
+use lft_meanings::notes::Notes;
+use lft_meanings::room::Room;
 use lft_settings::Settings;
 use lft_shapes::{InheritedParameter, Shape};
 use lft_sources::{SourceFile, Stop, Why};
@@ -220,6 +222,7 @@ pub fn lower<'a>(
 ) -> Result<Lowering<'a>, Stop>
     ensures files { IfOk result (λ lowering. lowering.files.now ≡ files.now) }
     ensures made { IfOk result (λ lowering. IsLowering files.now lowering.settings (map item_view lowering.items.items)) }
+    ensures cause { IfErr result (HasCause files.now) }
 {
     let mut settings = Settings::of(alloc, files)?;
     let used = settings.counted()?;

@@ -4,8 +4,9 @@ ghost use Rattle.std.specs.Prelude.{◌≡◌, ◌≤◌, Some, IfErr, IfOk, OnO
 ghost use Rattle.lft_tree.specs.Tree.{nanoseconds as nanoseconds_of};
 ghost use Rattle.lft_tree.specs.ItemView.{time_view};
 ghost use Rattle.lft_scope.specs.Causes.{longest};
+ghost use Rattle.lft_meanings.specs.Refused.{IfRefused, IsAt};
 ghost use Rattle.lft_lower.specs.Lowered.{IsRead, is_forever, is_some_time, time_at, time_for};
-ghost use Rattle.lft_lower.specs.Refused.{IfRefused, IsAt, IsNoTime, IsNoWritten, IsOfTime, named_by};
+ghost use Rattle.lft_lower.specs.Refused.{IsNoTime, IsNoWritten, IsOfTime, named_by};
 ghost use Rattle.lft_lower.specs.Times.{time_in};
 
 use lft_scope::times::nanoseconds;

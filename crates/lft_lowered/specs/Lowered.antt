@@ -9,8 +9,10 @@ use Rattle.lft_sources.specs.Spots.{spot_at}
 use Rattle.lft_sources.specs.declared.source.SourceFile.{SourceFile}
 use Rattle.lft_sources.specs.declared.stop.Place.{Place}
 use Rattle.lft_sources.specs.declared.stop.Refusal.{Refusal}
+use Rattle.lft_sources.specs.declared.stop.Stop.{Stop}
+use Rattle.lft_sources.specs.declared.stop.Stop.TheVariants as stop
 use Rattle.lft_sources.specs.declared.why.Why.{Why}
-use Rattle.lft_imports.specs.Files.{IsFileOf, IsWhole}
+use Rattle.lft_imports.specs.Files.{AreOfTexts, IsFileOf, IsWhole}
 use Rattle.lft_imports.specs.Paths.{normal}
 use Rattle.lft_tree.specs.Tree.{ItemTree}
 use Rattle.lft_printed.specs.Read.{IsRead}
@@ -45,18 +47,23 @@ said_words first why = codes "\n  " ++ first ++ sentence_of why ++ codes "\n"
 abbrev pub refusal_words : List SourceFile → Refusal → List ℕ → List ℕ
 refusal_words files refusal first = cause_words refusal.why ++ place_words files refusal.place ++ said_words first refusal.why
 
--- a refusal says its cause in these words
-abbrev pub IsSaid : Unlowered → Type 0
-IsSaid (Refused text) = (files : List SourceFile) × (refusal : Refusal) × (first : List ℕ) × (string_bytes text ≡ refusal_words files refusal first)
-IsSaid (Failed failure) = Unit {0}
+-- a refusal in words is such a one, of these files, with these words first
+abbrev pub Says : (List SourceFile → List ℕ → Refusal → Type 0) → Unlowered → Type 0
+Says Is (Refused text) = (files : List SourceFile) × (first : List ℕ) × (refusal : Refusal) × Is files first refusal × (string_bytes text ≡ refusal_words files refusal first)
+Says Is (Failed failure) = Unit {0}
 
 -- a core program was written
 abbrev pub IsWritten : Option (List ℕ) → Option (List ℕ) → Type 0
 IsWritten old new = (core : List ℕ) × IsCore core × Appends old new core
 
--- The first of the files has this path, and the spots of the tokens of this text; each import of the files names one of them.
+-- The first of the files has this path, and is read from this text.
+abbrev pub BeginWith : List ℕ → List ℕ → List SourceFile → Type 0
+BeginWith path text files = IsSomeAnd (slice_get files 0) (IsFileOf (normal path) text)
+
+-- The first of the files has this path, and is read from this text; each has the tree of a text, and each import of them names one of them.
 pub record AreFilesOf (path text : List ℕ) (files : List SourceFile) : Type 0 where
-  pub first : IsSomeAnd (slice_get files 0) (IsFileOf (normal path) text)
+  pub first : BeginWith path text files
+  pub trees : AreOfTexts files
   pub whole : IsWhole files
 
 -- The core text is read as items to which the program of these files is lowered.
@@ -81,3 +88,14 @@ IsCut old new (Failed failure) = Keeps old new ⊎ (failure.fault.part ≡ part.
 -- the first file stays
 abbrev pub BeginsAs : List SourceFile → List SourceFile → Type 0
 BeginsAs old new = (file : SourceFile) → slice_get old 0 ≡ Some file → slice_get new 0 ≡ Some file
+
+-- it is no refusal
+abbrev pub IsFailed : Unlowered → Type 0
+IsFailed (Refused text) = ⊥
+IsFailed (Failed failure) = Unit {0}
+
+-- of a refusal these words say the cause, with what is said first
+abbrev pub IsTold : List SourceFile → List ℕ → Stop → Unlowered → Type 0
+IsTold files first (stop.Refused refusal) (Refused text) = string_bytes text ≡ refusal_words files refusal first
+IsTold files first stop.NoMemory (Refused text) = ⊥
+IsTold files first s (Failed failure) = Unit {0}

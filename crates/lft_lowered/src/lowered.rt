@@ -5,7 +5,8 @@ ghost use Rattle.std.specs.Io.KnownBytes.{Appends};
 ghost use Rattle.lft_core_text.specs.CoreTexts.{IsCore};
 ghost use Rattle.lft_printed.specs.Read.{IsRead};
 ghost use Rattle.lft_tree.specs.ItemView.{item_view};
-ghost use Rattle.lft_lowered.specs.Lowered.{IsCut, IsSaid, IsWritten, WritesLowered, WritesLoweredOf};
+ghost use Rattle.lft_lowered.specs.Lowered.{IsCut, IsFailed, IsWritten, Says, WritesLowered, WritesLoweredOf};
+ghost use Rattle.lft_lowered.specs.Unlowered.{AreRefused, IsNoText, IsOfProgram};
 
 use crate::names::write_names;
 use crate::reading::read_sources;
@@ -14,17 +15,18 @@ use lft_core_text::{CoreFault, core_text, is_core};
 use lft_imports::Sources;
 use lft_load::{Fault, write_text};
 use lft_lower::{Lowering, lower};
-use lft_sources::{SourceFile, Why};
+use lft_sources::Why;
 use std::alloc::Global;
 use std::io::Write;
 use std::rt::Files;
 
 /// The text of the core program of a program that is lowered.
-fn text_of(alloc: Global, files: &[SourceFile], lowering: &Lowering) -> Result<String, Unlowered>
+fn text_of(alloc: Global, lowering: &Lowering) -> Result<String, Unlowered>
     ensures core { IfOk result (λ text. IsCore (string_bytes text)) }
     ensures read { IfOk result (λ text. IsRead (string_bytes text) (map item_view lowering.now.items.items)) }
-    ensures refused { IfErr result IsSaid }
+    ensures refused { IfErr result (Says (IsNoText lowering.now)) }
 {
+    let files = lowering.files();
     match core_text(alloc, lowering.target(), lowering.items()) {
         Ok(text) => Ok(text),
         Err(CoreFault::TooLong) => {
@@ -56,7 +58,7 @@ fn lower_sources<F: Files, W: Write, E: Write>(
     errors: &mut E,
 ) -> Result<(), Unlowered>
     ensures written { OnOk result (WritesLowered sources.now.files.items (W.contents out.old) (W.contents out.new)) }
-    ensures refused { IfErr result IsSaid }
+    ensures refused { IfErr result (Says (AreRefused sources.now.files.items)) }
     ensures cut { IfErr result (IsCut (W.contents out.old) (W.contents out.new)) }
 {
     let files = sources.files();
@@ -65,7 +67,7 @@ fn lower_sources<F: Files, W: Write, E: Write>(
         Ok(lowering) => lowering,
         Err(stop) => return Err(unlowered_by(alloc, files, stop, "")),
     };
-    let core = text_of(alloc, files, &lowering)?;
+    let core = text_of(alloc, &lowering)?;
     if let Some(path) = names {
         write_names(rt, alloc, path, Some(&lowering))?;
     }
@@ -84,7 +86,7 @@ fn write_own<F: Files, W: Write>(
 ) -> Result<(), Unlowered>
     requires { IsCore text.now }
     ensures own { OnOk result (Appends (W.contents out.old) (W.contents out.new) text.now) }
-    ensures refused { IfErr result IsSaid }
+    ensures refused { IfErr result IsFailed }
     ensures cut { IfErr result (IsCut (W.contents out.old) (W.contents out.new)) }
 {
     if let Some(path) = names {
@@ -105,7 +107,7 @@ pub fn lower_whole<F: Files, W: Write, E: Write>(
     errors: &mut E,
 ) -> Result<(), Unlowered>
     ensures written { OnOk result (WritesLoweredOf path.now text.now (W.contents out.old) (W.contents out.new)) }
-    ensures refused { IfErr result IsSaid }
+    ensures refused { IfErr result (Says (IsOfProgram path.now text.now)) }
     ensures cut { IfErr result (IsCut (W.contents out.old) (W.contents out.new)) }
 {
     let sources = read_sources(rt, alloc, path, text)?;
@@ -127,7 +129,7 @@ pub fn lower_answer<F: Files, W: Write, E: Write>(
     ensures own { IsCore text.now → OnOk result (Appends (W.contents out.old) (W.contents out.new) text.now) }
     ensures lowered { (IsCore text.now → ⊥) → OnOk result (WritesLoweredOf path.now text.now (W.contents out.old) (W.contents out.new)) }
     ensures written { OnOk result (IsWritten (W.contents out.old) (W.contents out.new)) }
-    ensures refused { IfErr result IsSaid }
+    ensures refused { IfErr result (Says (IsOfProgram path.now text.now)) }
     ensures cut { IfErr result (IsCut (W.contents out.old) (W.contents out.new)) }
 {
     if is_core(alloc, text)? {

@@ -1,8 +1,9 @@
 //! The files of a program, read.
 
-ghost use Rattle.std.specs.Prelude.{◌≡◌, IfErr, IfOk, None, OnOk};
+ghost use Rattle.std.specs.Prelude.{◌≡◌, ◌<◌, IfErr, IfOk, None, OnOk, length};
 ghost use Rattle.lft_imports.specs.Files.{AreSources, HasOneMore, next_path};
-ghost use Rattle.lft_lowered.specs.Lowered.{AreFilesOf, BeginsAs, IsSaid};
+ghost use Rattle.lft_lowered.specs.Lowered.{AreFilesOf, BeginsAs, Says};
+ghost use Rattle.lft_lowered.specs.Unlowered.{IsOfNext, IsOfReading, IsOfRest, IsOfUnread};
 
 use crate::told::{Unlowered, unlowered_by};
 use lft_files::{Failure, read_file};
@@ -29,7 +30,7 @@ fn unread(
     place: Place,
     failure: &Failure,
 ) -> Unlowered
-    ensures { IsSaid result }
+    ensures { Says (IsOfUnread sources.now.files.items) result }
 {
     match about(alloc, path, failure) {
         Ok(about) => {
@@ -47,7 +48,7 @@ fn read_wanted<F: Files>(
     sources: &Sources,
     path: &str,
 ) -> Result<Vec<u8>, Unlowered>
-    ensures { IfErr result IsSaid }
+    ensures { IfErr result (Says (IsOfUnread sources.now.files.items)) }
 {
     match read_file(rt, alloc, path) {
         Ok(text) => Ok(text),
@@ -63,7 +64,7 @@ fn give(alloc: Global, sources: &mut Sources, text: &[u8]) -> Result<(), Unlower
     requires { AreSources sources.old }
     ensures sources { OnOk result (AreSources sources.new) }
     ensures read { OnOk result (HasOneMore text.now sources.old sources.new) }
-    ensures refused { IfErr result IsSaid }
+    ensures refused { IfErr result (Says (IsOfNext text.now sources.old)) }
 {
     match sources.give(text) {
         Ok(()) => Ok(()),
@@ -73,11 +74,12 @@ fn give(alloc: Global, sources: &mut Sources, text: &[u8]) -> Result<(), Unlower
 
 /// Reads the files that are wanted, at any depth of imports.
 fn read_rest<F: Files>(rt: &F, alloc: Global, sources: &mut Sources) -> Result<(), Unlowered>
-    requires { AreSources sources.old }
+    requires sources { AreSources sources.old }
+    requires begun { 0 < length sources.old.files.items }
     ensures sources { OnOk result (AreSources sources.new) }
     ensures all { OnOk result (next_path sources.new ≡ None) }
     ensures first { OnOk result (BeginsAs sources.old.files.items sources.new.files.items) }
-    ensures refused { IfErr result IsSaid }
+    ensures refused { IfErr result (Says (IsOfRest sources.old.files.items)) }
 {
     for _ in 0..u64::MAX {
         let Some(path) = sources.wanted() else {
@@ -98,7 +100,7 @@ pub(crate) fn read_sources<F: Files>(
     text: &[u8],
 ) -> Result<Sources, Unlowered>
     ensures files { IfOk result (λ sources. AreFilesOf path.now text.now sources.files.items) }
-    ensures refused { IfErr result IsSaid }
+    ensures refused { IfErr result (Says (IsOfReading path.now text.now)) }
 {
     let mut sources = Sources::of(alloc, path)?;
     give(alloc, &mut sources, text)?;

@@ -2,7 +2,7 @@
 
 ghost use Rattle.std.specs.Prelude.{◌≡◌, ◌++◌, IfOk, OnOk, string_bytes};
 ghost use Rattle.lft_sources.specs.Causes.{number_of};
-ghost use Rattle.lft_lowered.specs.Lowered.{IsSaid, cause_words, name_of, place_words, refusal_words, said_words, spot_words};
+ghost use Rattle.lft_lowered.specs.Lowered.{IsTold, cause_words, name_of, place_words, refusal_words, said_words, spot_words};
 
 use lft_files::Failure;
 use lft_load::Fault;
@@ -43,9 +43,9 @@ impl From<Fault> for Unlowered {
 }
 
 impl From<AllocError> for Unlowered {
-    ghost use Rattle.lft_lowered.specs.Lowered.{IsSaid};
+    ghost use Rattle.lft_lowered.specs.Lowered.{IsFailed};
 
-    ghost from_gives = { λ _ e. IsSaid e };
+    ghost from_gives = { λ _ e. IsFailed e };
 
     fn from(_error: AllocError) -> Unlowered {
         Unlowered::from(Fault::no_memory())
@@ -53,9 +53,9 @@ impl From<AllocError> for Unlowered {
 }
 
 impl From<NoMemory> for Unlowered {
-    ghost use Rattle.lft_lowered.specs.Lowered.{IsSaid};
+    ghost use Rattle.lft_lowered.specs.Lowered.{IsFailed};
 
-    ghost from_gives = { λ _ e. IsSaid e };
+    ghost from_gives = { λ _ e. IsFailed e };
 
     fn from(_error: NoMemory) -> Unlowered {
         Unlowered::from(Fault::no_memory())
@@ -158,7 +158,7 @@ pub(crate) fn unlowered_by(
     stop: Stop,
     first: &str,
 ) -> Unlowered
-    ensures { IsSaid result }
+    ensures { IsTold files.now first.now stop result }
 {
     match stop {
         Stop::NoMemory => Unlowered::from(Fault::no_memory()),

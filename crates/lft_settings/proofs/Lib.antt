@@ -2,6 +2,7 @@ mod Counting
 mod Finding
 mod Keeping
 mod Marks
+mod Passing
 mod Refusing
 mod Standing
 mod Using

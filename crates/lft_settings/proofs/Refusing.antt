@@ -1,5 +1,5 @@
 -- Why there is no setting in an instance, and what isn't counted.
-use Rattle.std.proofs.Common.{◌≡◌, ℕ, zero, suc, ◌+◌, ◌<◌, ◌⊎◌, inl, inr, ℤ, List, [], ◌∷◌, map, Option, Some, None, slice_get, refl, ap, subst, ◌∙◌, arith}
+use Rattle.std.proofs.Common.{◌≡◌, ℕ, zero, suc, ◌+◌, ◌<◌, inl, inr, ℤ, List, map, Option, Some, slice_get, refl, ap, subst, ◌∙◌, arith}
 use Rattle.std.specs.Prelude.{IsSomeAnd}
 use Rattle.std.specs.List.{range_with_len}
 use Rattle.lft_lowering.specs.Channels.{below}
@@ -11,9 +11,10 @@ use Rattle.lft_whole.specs.declared.tree.Reference.{Reference}
 use Rattle.lft_settings.specs.declared.places.Meaning.{Meaning}
 use Rattle.lft_settings.specs.declared.settings.Setting.{Setting}
 use Rattle.lft_settings.specs.Noted.{AreMade, GoesOn, IsMeaning, Table}
-use Rattle.lft_settings.specs.Passed.{IsOfMember}
+use Rattle.lft_settings.specs.Passed.{IsOfMember, IsOfReached, IsOfSome}
 use Rattle.lft_settings.specs.Refused.{HasCause, IsLacking, IsOfInstance, IsOfOne, IsOfPlaces, IsOfThing, IsOfWidth, OneIsLacking}
 use Rattle.lft_settings.specs.Settings.{setting_in}
+use Rattle.lft_settings.specs.Used.{IsReached}
 use Rattle.lft_settings.specs.Values.{Valued, inside}
 
 number_at : (f : ℕ → Option ℤ) (a n p : ℕ) → p < n → slice_get (map f (range_with_len a n)) p ≡ Some (f (a + p))
@@ -60,6 +61,11 @@ module _ (t0 t1 : Table) (goes : GoesOn t0 t1) (t : Valued) where
 
   pub of_setting : (m : ℕ) (s : Stop) → HasCause t1.shapes t m s → IsOfMember t0.shapes t m s
   of_setting m s of = inr (inl (subst (λ shapes. HasCause shapes t m s) goes.shapes of))
+
+  -- some member of a setting that is reached
+  pub of_reached : IsReached t0.shapes t → (s : Stop) → IsOfSome t1.shapes t s → IsOfReached t0.shapes s
+  of_reached reached s (inl much) = inl much
+  of_reached reached s (inr (m, of)) = inr (t, reached, (m, of_member m s of))
 
 pub of_its_width : (shapes : List Shape) (t : Valued) (m : ℕ) (s : Stop) → IsOfThing shapes t (thing.Member m) s → IsOfMember shapes t m s
 of_its_width shapes t m s (k, same, of) = let e : k ≡ m = number k m same in inl (subst (λ n. IsOfWidth shapes t n s) e of)

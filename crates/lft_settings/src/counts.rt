@@ -1,16 +1,17 @@
 //! How many things a program has, counted before any of them is made.
 
-ghost use Rattle.std.specs.Prelude.{◌≡◌, ◌<◌, ◌≤◌, ◌⊎◌, ℕ, List, IfErr, IfOk, IfNone, IfSome, OnOk, Some, length, true};
+ghost use Rattle.std.specs.Prelude.{◌≡◌, ◌<◌, ◌≤◌, ◌⊎◌, ℕ, List, IfErr, IfOk, IfNone, IfSome, OnOk, Some, length, slice_get, true};
 ghost use Rattle.lft_shapes.specs.Walks.{Has};
 ghost use Rattle.lft_settings.specs.Limits.{limits, first_passed};
 ghost use Rattle.lft_settings.specs.Noted.{AreMade, AreSettings, GoesOn, table};
-ghost use Rattle.lft_settings.specs.Passed.{IsOfMember};
+ghost use Rattle.lft_settings.specs.Passed.{AreAtMost, AreReached, AreTotals, HasAtLeast, InnerHas, IsOfMember, IsOfProgram, IsOfReached, IsOfSome, MemberHas, both, each, members_of, nothing};
 ghost use Rattle.lft_settings.specs.Places.{HasPairs};
 ghost use Rattle.lft_settings.specs.Refused.{IsOfPairs};
 ghost use Rattle.lft_settings.specs.Settings.{setting_at};
 ghost use Rattle.lft_settings.specs.Used.{AreMarked, AreUsed, HasInner, HasNumber, IsIn, IsNumberIn, Stay, is_instance, is_instance_in};
 ghost use Rattle.lft_settings.specs.Values.{Valued};
 
+use crate::path::Wanted;
 use crate::settings::Settings;
 use lft_lowering::joined;
 use lft_shapes::Thing;
@@ -32,7 +33,9 @@ struct Counts {
 
 impl Counts {
     /// Nothing at all.
-    fn none() -> Counts {
+    fn none() -> Counts
+        ensures { result ≡ nothing }
+    {
         Counts {
             instances: 0,
             ports: 0,
@@ -44,7 +47,9 @@ impl Counts {
     }
 
     /// With so many times what the other counts.
-    fn with(self, other: Counts, times: u64) -> Counts {
+    fn with(self, other: Counts, times: u64) -> Counts
+        ensures { AreAtMost result (both self (each times other)) }
+    {
         let Counts {
             instances,
             ports,
@@ -164,7 +169,8 @@ impl<'a> Settings<'a> {
 
     /// How many members a setting has.
     fn members(&self, setting: usize) -> usize
-        ensures { (t : Valued) (m : ℕ) → setting_at self.now setting ≡ Some t → is_instance_in self.now.shapes.items t m ≡ true → m < result }
+        ensures all { (t : Valued) → setting_at self.now setting ≡ Some t → result ≡ members_of self.now.shapes.items t }
+        ensures instances { (t : Valued) (m : ℕ) → setting_at self.now setting ≡ Some t → is_instance_in self.now.shapes.items t m ≡ true → m < result }
     {
         let Some(shape) = self.shape_of(setting) else {
             return 0;
@@ -234,6 +240,7 @@ impl<'a> Settings<'a> {
         ensures stay { OnOk result (Stay used.old.items used.new.items) }
         ensures all { OnOk result ((t : Valued) → AreMade (table self.old) → setting_at self.old setting ≡ Some t → AreMarked used.old.items is_used.old.items → HasInner (table self.new) used.new.items t) }
         ensures only { OnOk result ((t : Valued) → AreMade (table self.old) → setting_at self.old setting ≡ Some t → (k : ℕ) → Has used.new.items k → Has used.old.items k ⊎ ((member : ℕ) × IsNumberIn self.old.shapes.items self.new.settings.items t member k)) }
+        ensures cause { IfErr result (λ stop. (t : Valued) → AreMade (table self.old) → setting_at self.old setting ≡ Some t → IsOfSome self.old.shapes.items t stop) }
     {
         for member in 0..self.members(setting) {
             self.push_inside(setting, member, used, is_used)?;
@@ -245,6 +252,7 @@ impl<'a> Settings<'a> {
     fn used(&mut self) -> Result<Vec<usize>, Stop>
         ensures goes { OnOk result (GoesOn (table self.old) (table self.new)) }
         ensures used { IfOk result (λ used. AreSettings (table self.old) → AreUsed (table self.new) used.items) }
+        ensures cause { IfErr result (λ stop. AreSettings (table self.old) → IsOfProgram self.old.shapes.items stop) }
     {
         let mut used = Vec::new(self.alloc);
         let mut is_used = Vec::new(self.alloc);
@@ -269,7 +277,9 @@ impl<'a> Settings<'a> {
         member: usize,
         totals: &[Counts],
     ) -> Result<Counts, Stop>
-        ensures { OnOk result (GoesOn (table self.old) (table self.new)) }
+        ensures goes { OnOk result (GoesOn (table self.old) (table self.new)) }
+        ensures counts { IfOk result (λ c. (t : Valued) → AreMade (table self.old) → setting_at self.old setting ≡ Some t → AreTotals (table self.old) totals.now → InnerHas self.old.shapes.items t member c) }
+        ensures cause { IfErr result (λ stop. (t : Valued) → AreMade (table self.old) → setting_at self.old setting ≡ Some t → IsOfMember self.old.shapes.items t member stop) }
     {
         let width = self.many(setting, Thing::Member(member))?;
         if width == 0 {
@@ -291,35 +301,58 @@ impl<'a> Settings<'a> {
         number: usize,
         totals: &[Counts],
     ) -> Result<Counts, Stop>
-        ensures { OnOk result (GoesOn (table self.old) (table self.new)) }
+        ensures goes { OnOk result (GoesOn (table self.old) (table self.new)) }
+        ensures counts { IfOk result (λ c. (t : Valued) → AreMade (table self.old) → setting_at self.old setting ≡ Some t → AreTotals (table self.old) totals.now → MemberHas self.old.shapes.items t number c) }
+        ensures cause { IfErr result (λ stop. (t : Valued) → AreMade (table self.old) → setting_at self.old setting ≡ Some t → IsOfMember self.old.shapes.items t number stop) }
     {
-        let mut counts = Counts::none();
-        let Some(shape) = self.shape_of(setting) else {
-            return Ok(counts);
-        };
-        let Some(inherited) = shape.member(number) else {
-            return Ok(counts);
+        let Some(inherited) = self.inherited(Wanted {
+            setting,
+            member: number,
+        }) else {
+            return Ok(Counts::none());
         };
         match inherited.member {
-            Member::Port(_) => counts.ports = self.many(setting, Thing::Member(number))?,
-            Member::Connection(connection) => {
-                counts.connections = self.pairs(setting, inherited.file, connection)?;
+            Member::Port(_) => {
+                let ports = self.many(setting, Thing::Member(number))?;
+                Ok(Counts {
+                    ports,
+                    ..Counts::none()
+                })
             }
-            Member::Timer(_) => counts.timers = 1,
-            Member::Action(_) => counts.actions = 1,
-            Member::Reaction(_) => counts.reactions = 1,
-            Member::Foreign { .. } => {}
-            Member::Instance(_) => counts = self.count_inner(setting, number, totals)?,
+            Member::Connection(connection) => {
+                let connections = self.pairs(setting, inherited.file, connection)?;
+                Ok(Counts {
+                    connections,
+                    ..Counts::none()
+                })
+            }
+            Member::Timer(_) => Ok(Counts {
+                timers: 1,
+                ..Counts::none()
+            }),
+            Member::Action(_) => Ok(Counts {
+                actions: 1,
+                ..Counts::none()
+            }),
+            Member::Reaction(_) => Ok(Counts {
+                reactions: 1,
+                ..Counts::none()
+            }),
+            Member::Foreign { .. } => Ok(Counts::none()),
+            Member::Instance(_) => self.count_inner(setting, number, totals),
         }
-        Ok(counts)
     }
 
     /// What one instance of a setting counts, with all in it. That of the settings in it is known.
     fn count(&mut self, setting: usize, totals: &[Counts]) -> Result<Counts, Stop>
-        ensures { OnOk result (GoesOn (table self.old) (table self.new)) }
+        ensures goes { OnOk result (GoesOn (table self.old) (table self.new)) }
+        ensures counts { IfOk result (λ c. (t : Valued) → AreMade (table self.old) → setting_at self.old setting ≡ Some t → AreTotals (table self.old) totals.now → HasAtLeast self.old.shapes.items t c) }
+        ensures cause { IfErr result (λ stop. (t : Valued) → AreMade (table self.old) → setting_at self.old setting ≡ Some t → IsOfSome self.old.shapes.items t stop) }
     {
-        let mut counts = Counts::none();
-        counts.instances = 1;
+        let mut counts = Counts {
+            instances: 1,
+            ..Counts::none()
+        };
         for number in 0..self.members(setting) {
             let other = self.count_member(setting, number, totals)?;
             counts = counts.with(other, 1);
@@ -328,7 +361,7 @@ impl<'a> Settings<'a> {
     }
 
     /// The place of each shape in their order.
-    fn depths(&self) -> Result<Vec<usize>, Stop> {
+    fn depths(&self) -> Result<Vec<usize>, AllocError> {
         let mut depths = vec![in self.alloc; 0; self.shapes.len()]?;
         for place in 0..self.order.len() {
             let shape = self.order[place];
@@ -340,10 +373,13 @@ impl<'a> Settings<'a> {
     }
 
     /// The settings in an order in which each stands behind those in it, with the places of their shapes.
-    fn inner_first(&self, used: &[usize]) -> Result<Vec<(usize, usize)>, Stop> {
+    fn inner_first(&self, used: &[usize]) -> Result<Vec<(usize, usize)>, AllocError>
+        ensures { IfOk result (λ places. (k : ℕ) (p : ℕ × ℕ) → slice_get places.items k ≡ Some p → Has used.now p.1) }
+    {
         let depths = self.depths()?;
         let mut places = Vec::new(self.alloc);
-        for setting in used.iter().copied() {
+        for place in 0..used.len() {
+            let setting = used[place];
             let depth = match self.settings.get(setting) {
                 Some(found) => depths.get(found.shape).copied().unwrap_or(0),
                 None => 0,
@@ -356,12 +392,14 @@ impl<'a> Settings<'a> {
 
     /// What one instance of each setting counts, with all in it.
     fn totals(&mut self, used: &[usize]) -> Result<Vec<Counts>, Stop>
-        ensures { OnOk result (GoesOn (table self.old) (table self.new)) }
+        ensures goes { OnOk result (GoesOn (table self.old) (table self.new)) }
+        ensures counts { IfOk result (λ totals. AreMade (table self.old) → AreTotals (table self.new) totals.items) }
+        ensures cause { IfErr result (λ stop. AreMade (table self.old) → AreReached (table self.old) used.now → IsOfReached self.old.shapes.items stop) }
     {
         let places = self.inner_first(used)?;
         let mut totals = vec![in self.alloc; Counts::none(); self.settings.len()]?;
         for place in 0..places.len() {
-            let (_, setting) = places[place];
+            let setting = places[place].1;
             let counts = self.count(setting, &totals)?;
             if setting < totals.len() {
                 totals[setting] = counts;
@@ -374,14 +412,14 @@ impl<'a> Settings<'a> {
     pub fn counted(&mut self) -> Result<Vec<usize>, Stop>
         ensures goes { OnOk result (GoesOn (table self.old) (table self.new)) }
         ensures used { IfOk result (λ used. AreSettings (table self.old) → AreUsed (table self.new) used.items) }
+        ensures cause { IfErr result (λ stop. AreSettings (table self.old) → IsOfProgram self.old.shapes.items stop) }
     {
         let used = self.used()?;
         let totals = self.totals(&used)?;
-        let passed = match totals.first() {
-            Some(counts) => counts.passed(),
-            None => None,
+        let Some(counts) = totals.first() else {
+            return Ok(used);
         };
-        match passed {
+        match counts.passed() {
             Some(why) => Err(self.work.refused(why)),
             None => Ok(used),
         }

@@ -33,7 +33,7 @@ fn times(one: Option<u64>, other: Option<u64>) -> Option<u64>
 
 impl<'a> Settings<'a> {
     /// The member of a setting, with its file.
-    fn inherited(&self, wanted: Wanted) -> Option<Inherited<'a>>
+    pub(crate) fn inherited(&self, wanted: Wanted) -> Option<Inherited<'a>>
         ensures { result ≡ member_at self.now wanted.setting wanted.member }
     {
         match self.shape_of(wanted.setting) {

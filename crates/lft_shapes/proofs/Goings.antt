@@ -1,18 +1,19 @@
 -- What stays where shapes are made.
-use Rattle.std.proofs.Common.{◌≡◌, ◌⊎◌, ◌<◌, ℕ, inl, inr, List, [], ◌∷◌, ◌++◌, Option, Some, length, map, option_map, slice_get, slice_set, refl, sym, ap, subst, ◌∙◌}
+use Rattle.std.proofs.Common.{◌≡◌, ◌⊎◌, ◌+◌, ◌<◌, ◌≤◌, ℕ, inl, inr, List, [], ◌∷◌, ◌++◌, Option, Some, None, length, map, option_map, slice_get, slice_set, refl, sym, ap, subst, ◌∙◌, arith}
 use Rattle.std.specs.Option.{option_and_then}
 use Rattle.std.proofs.lemmas.List.{length-map}
-use Rattle.std.proofs.lemmas.Option.{option_and_then_some}
+use Rattle.std.proofs.lemmas.Bool.{cases_lt}
+use Rattle.std.proofs.lemmas.Option.{option_and_then_some, slice_get_within}
 use Rattle.lft_lists.proofs.Mapped.{mapped, mapped_from, option_map_some}
-use Rattle.lft_lists.proofs.Places.{get_last, get_push, get_push_cases, get_write_cases}
+use Rattle.lft_lists.proofs.Places.{get_last, get_left, get_push, get_there, get_unwritten, get_written, get_push_cases, get_write_cases, same_some}
 use Rattle.lft_shapes.specs.declared.making.Making.{Making}
 use Rattle.lft_shapes.specs.declared.scopes.Class.{Class}
 use Rattle.lft_shapes.specs.declared.scopes.Scopes.{Scopes}
 use Rattle.lft_shapes.specs.declared.shapes.Child.{Child}
 use Rattle.lft_shapes.specs.declared.shapes.Shape.{Shape}
 use Rattle.lft_shapes.specs.Below.{IsBelow, itself}
-use Rattle.lft_shapes.specs.Built.{Core, IsBuilt, AreBuilt, AreInside, IsInside, core, cores, first_class}
-use Rattle.lft_shapes.specs.Makings.{AddsShape, AreMade, AreShapes, GoesOn, IsOfClass, SetsOne}
+use Rattle.lft_shapes.specs.Built.{Core, IsBuilt, AreBuilt, AreInside, AreNoted, IsInside, IsNoted, core, cores, first_class}
+use Rattle.lft_shapes.specs.Makings.{AddsShape, AreMade, AreShapes, GoesOn, HasChildren, IsOfClass, KeepsBut, KeepsNoted, SetsOne}
 use Rattle.lft_shapes.specs.Shapes.{child_at, inside, tables}
 
 -- the shapes of the one are among those of the other, at the same places
@@ -139,3 +140,74 @@ pub made_first : (before one all : Making) (class : Class) (number : ℕ) → co
 made_first before one all class number empty a g =
     let one_is : slice_get (cores one.shapes.items) 0 ≡ Some a.fresh = ap (λ l. slice_get l 0) (a.shapes ∙ ap (λ l. l ++ a.fresh ∷ []) empty) in
     ap (option_map (λ (c : Core). c.class)) (g.kept 0 a.fresh one_is) ∙ ap Some a.is_of
+
+-- what is noted stays where a shape is put behind others
+pub inside_left : (rows more : List (List (Option Child))) (s k t : ℕ) → inside rows s k ≡ Some t → inside (rows ++ more) s k ≡ Some t
+inside_left rows more s k t e =
+    let number_of : Child → ℕ = λ c. c.shape in
+    let child = option_map_some number_of (option_and_then (λ cs. child_at cs k) (slice_get rows s)) t e in
+    option_and_then_some (λ cs. child_at cs k) (slice_get rows s) child.0 child.1 (λ cs at there. ap (λ o. option_map number_of (option_and_then (λ l. child_at l k) o)) (get_left rows more s cs at) ∙ ap (option_map number_of) there ∙ ap Some child.2)
+
+pub added_keeps : (old new : Making) (class : Class) (number : ℕ) → AddsShape old new class number → KeepsNoted old.shapes.items new.shapes.items
+added_keeps old new class number a s k t e = ap (λ rows. inside rows s k) a.empty ∙ inside_left (tables old.shapes.items) ([] ∷ []) s k t e
+
+-- what is noted in the others stays
+pub sets_but : (old : List Shape) (number : ℕ) (y : Shape) → KeepsBut old (slice_set old number y) number
+sets_but old number y s k t apart e =
+    let rows : Shape → List (Option Child) = λ x. x.children.items in
+    let same : slice_get (slice_set old number y) s ≡ slice_get old s = get_unwritten old number s y apart in
+    let number_of : Child → ℕ = λ c. c.shape in
+    let child = option_map_some number_of (option_and_then (λ cs. child_at cs k) (slice_get (tables old) s)) t e in
+    option_and_then_some (λ cs. child_at cs k) (slice_get (tables old) s) child.0 child.1 (λ cs at there.
+    let from = mapped_from rows old s cs at in
+    ap (λ o. option_map number_of (option_and_then (λ l. child_at l k) o)) (mapped rows (slice_set old number y) s from.0 (same ∙ from.1) ∙ ap Some from.2) ∙ ap (option_map number_of) there ∙ ap Some child.2)
+
+-- and the one has what is noted
+pub sets_children : (old : List Shape) (number : ℕ) (y : Shape) (children : List (Option Child)) → number < length old → y.children.items ≡ children → HasChildren (slice_set old number y) number children
+sets_children old number y children within is k t e =
+    let rows : Shape → List (Option Child) = λ x. x.children.items in
+    let number_of : Child → ℕ = λ c. c.shape in
+    ap (λ o. option_map number_of (option_and_then (λ l. child_at l k) o)) (mapped rows (slice_set old number y) number y (get_written old number y within) ∙ ap Some is) ∙ e
+
+-- what is noted stays noted
+pub noted_kept : (scopes : Scopes) (old new : List (List (Option Child))) (s : ℕ) (c : Core) → ((k t : ℕ) → inside old s k ≡ Some t → inside new s k ≡ Some t) → IsNoted scopes old s c → IsNoted scopes new s c
+noted_kept scopes old new s c kept is k n m at means = let t = is k n m at means in (t.0, kept k t.0 t.1)
+
+-- a shape is noted in an instance, where none is for want of one alone
+pub noted_in : (children : List (Option Child)) (k : ℕ) (N : Type 0) → k < length children → (slice_get children k ≡ Some None → N → ⊥) → N → (child : Child) × (child_at children k ≡ Some child)
+noted_in children k N within none is = of there.0 there.1
+  where
+    there : (o : Option Child) × (slice_get children k ≡ Some o)
+    there = get_there children k within
+
+    of : (o : Option Child) → slice_get children k ≡ Some o → (child : Child) × (child_at children k ≡ Some child)
+    of (Some child) at = (child, ap (option_and_then (λ o. o)) at)
+    of None at = absurd (none at is)
+
+-- one shape more in which all is noted
+pub noted_more : (scopes : Scopes) (old new : List Shape) (number : ℕ) (here : Core) → slice_get (cores old) number ≡ Some here → Kept (cores old) (cores new) → KeepsBut old new number → ((s : ℕ) (c : Core) → s < number → slice_get (cores old) s ≡ Some c → IsNoted scopes (tables old) s c) → IsNoted scopes (tables new) number here → (s : ℕ) (c : Core) → s < number + 1 → slice_get (cores new) s ≡ Some c → IsNoted scopes (tables new) s c
+noted_more scopes old new number here at kept but before is s c lt there = elim (cases_lt s number) [
+  | inl l ↦ (
+      let within = slice_get_within (cores old) number here at in
+      let was = get_there (cores old) s (omega (arith, l, within)) in
+      let same : was.0 ≡ c = same_some (slice_get (cores new) s) was.0 c (kept s was.0 was.1) there in
+      subst (IsNoted scopes (tables new) s) same (noted_kept scopes (tables old) (tables new) s was.0 (λ k t e. but s k t (λ e2. omega (arith, l, e2)) e) (before s was.0 l was.1))
+      )
+  | inr g ↦ (
+      let e : number ≡ s = omega (arith, lt, g) in
+      let same : here ≡ c = same_some (slice_get (cores new) number) here c (kept number here at) (ap (slice_get (cores new)) e ∙ there) in
+      subst (λ n. IsNoted scopes (tables new) n c) e (subst (IsNoted scopes (tables new) number) same is)
+      )
+]
+
+-- behind the last one there is none
+pub noted_all : (scopes : Scopes) (shapes : List Shape) (number : ℕ) → slice_get shapes number ≡ None → ((s : ℕ) (c : Core) → s < number → slice_get (cores shapes) s ≡ Some c → IsNoted scopes (tables shapes) s c) → AreNoted scopes (cores shapes) (tables shapes)
+noted_all scopes shapes number none before s c at = before s c (below (cases_lt s number)) at
+  where
+    below : (s < number) ⊎ (number ≤ s) → s < number
+    below (inl l) = l
+    below (inr g) =
+        let within = slice_get_within (cores shapes) s c at in
+        let long = length-map shapes core in
+        let there = get_there shapes number (omega (arith, within, long, g)) in
+        absurd (let e = sym none ∙ there.1 in cc)

@@ -105,3 +105,11 @@ pub record IsInside (scopes : Scopes) (cs : List Core) (s k t : ℕ) : Type 0 wh
 -- so it is wherever a shape is noted
 abbrev pub AreInside : Scopes → List Core → List (List (Option Child)) → Type 0
 AreInside scopes cs rows = (s k t : ℕ) → inside rows s k ≡ Some t → IsInside scopes cs s k t
+
+-- in each instance of the reactor of that number a shape is noted
+abbrev pub IsNoted : Scopes → List (List (Option Child)) → ℕ → Core → Type 0
+IsNoted scopes rows s c = (k n : ℕ) (m : Inherited) → slice_get c.members k ≡ Some m → instance_of scopes (m.file, m.member.now) ≡ Some n → (t : ℕ) × (inside rows s k ≡ Some t)
+
+-- so it is of each reactor
+abbrev pub AreNoted : Scopes → List Core → List (List (Option Child)) → Type 0
+AreNoted scopes cs rows = (s : ℕ) (c : Core) → slice_get cs s ≡ Some c → IsNoted scopes rows s c

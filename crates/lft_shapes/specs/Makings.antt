@@ -1,5 +1,5 @@
 -- How shapes are made one after another. The contracts of the crate's own functions alone need this file.
-use Rattle.std.specs.Prelude.{◌≡◌, ◌⊎◌, ℕ, List, [], ◌∷◌, ◌++◌, Option, Some, length, option_map, slice_get}
+use Rattle.std.specs.Prelude.{◌≡◌, ◌≢◌, ◌⊎◌, ℕ, List, [], ◌∷◌, ◌++◌, Option, Some, length, option_map, slice_get}
 use Rattle.lft_whole.specs.declared.tree.Instance.{Instance}
 use Rattle.lft_shapes.specs.declared.making.Making.{Making}
 use Rattle.lft_shapes.specs.declared.scopes.Class.{Class}
@@ -60,3 +60,15 @@ pub record GoesOn (needs : ℕ → Type 0) (old new : Making) : Type 0 where
   pub scopes : new.scopes ≡ old.scopes
   pub made : (first : ℕ) → needs first → AreMade old.scopes first old → AreMade old.scopes first new
   pub kept : (i : ℕ) (c : Core) → slice_get (cores old.shapes.items) i ≡ Some c → slice_get (cores new.shapes.items) i ≡ Some c
+
+-- what is noted stays, but in the shape of that number
+abbrev pub KeepsBut : List Shape → List Shape → ℕ → Type 0
+KeepsBut old new number = (s k t : ℕ) → s ≢ number → inside (tables old) s k ≡ Some t → inside (tables new) s k ≡ Some t
+
+-- all that is noted stays
+abbrev pub KeepsNoted : List Shape → List Shape → Type 0
+KeepsNoted old new = (s k t : ℕ) → inside (tables old) s k ≡ Some t → inside (tables new) s k ≡ Some t
+
+-- the shape of this number has these children
+abbrev pub HasChildren : List Shape → ℕ → List (Option Child) → Type 0
+HasChildren shapes number children = (k t : ℕ) → option_map (λ child. child.shape) (child_at children k) ≡ Some t → inside (tables shapes) number k ≡ Some t

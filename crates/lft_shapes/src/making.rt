@@ -1,13 +1,14 @@
 //! The shapes of the main reactor and of all that it contains, each made when it is asked for first.
 
-ghost use Rattle.std.specs.Prelude.{◌≡◌, ℕ, Some, OnOk, IfErr, IfOk, IfSome, map, string_bytes};
+ghost use Rattle.std.specs.Prelude.{◌≡◌, ◌<◌, ℕ, Some, OnOk, IfErr, IfNone, IfOk, IfSome, length, map, slice_get, string_bytes};
 ghost use Rattle.lft_scope.specs.Tests.{texts};
+ghost use Rattle.lft_shapes.specs.declared.shapes.Inherited.{Inherited};
 ghost use Rattle.lft_shapes.specs.Below.{Declares, IsBelow};
-ghost use Rattle.lft_shapes.specs.Built.{IsInside, cores, first_class};
+ghost use Rattle.lft_shapes.specs.Built.{AreNoted, Core, IsInside, IsNoted, cores, first_class, instance_of};
 ghost use Rattle.lft_shapes.specs.Causes.{SaysBelow};
 ghost use Rattle.lft_shapes.specs.Chains.{extended};
 ghost use Rattle.lft_shapes.specs.Circles.{HasWrongGiven};
-ghost use Rattle.lft_shapes.specs.Makings.{AddsShape, AreMade, AreShapes, GoesOn, IsNeeded, IsOfClass, KnowsNone, KnowsOne, SetsOne};
+ghost use Rattle.lft_shapes.specs.Makings.{AddsShape, AreMade, AreShapes, GoesOn, HasChildren, IsNeeded, IsOfClass, KeepsBut, KeepsNoted, KnowsNone, KnowsOne, SetsOne};
 ghost use Rattle.lft_shapes.specs.Refused.{HasCauseIn};
 ghost use Rattle.lft_shapes.specs.Shapes.{tables};
 
@@ -95,6 +96,8 @@ fn note(known: &mut Vec<Option<usize>>, class: usize, shape: usize)
 /// Notes what is in the members of a shape.
 fn set_children<'a>(shapes: &mut Vec<Shape<'a>>, shape: usize, children: Vec<Option<Child<'a>>>)
     ensures cores { cores shapes.new.items ≡ cores shapes.old.items }
+    ensures others { KeepsBut shapes.old.items shapes.new.items shape }
+    ensures noted { shape < length shapes.old.items → HasChildren shapes.new.items shape children.entry.items }
     ensures tables { SetsOne shapes.old.items shapes.new.items shape children.entry.items }
 {
     if shape < shapes.len() {
@@ -119,6 +122,7 @@ impl<'a> Making<'a> {
     fn shape_of(&mut self, class: Class<'a>) -> Result<usize, Stop>
         ensures goes { OnOk result (GoesOn (λ first. IsBelow self.old.scopes first class.entry.number) self.old self.new) }
         ensures shape { IfOk result (λ shape. (first : ℕ) → IsBelow self.old.scopes first class.entry.number → AreMade self.old.scopes first self.old → IsOfClass (cores self.new.shapes.items) shape class.entry.number) }
+        ensures noted { OnOk result (KeepsNoted self.old.shapes.items self.new.shapes.items) }
         ensures cause { IfErr result (HasCauseIn self.old.scopes class.entry.number) }
     {
         if let Some(Some(known)) = self.known.get(class.number).copied() {
@@ -132,6 +136,7 @@ impl<'a> Making<'a> {
     fn child_of(&mut self, file: usize, instance: &'a Instance) -> Result<Child<'a>, Stop>
         ensures goes { OnOk result (GoesOn (IsNeeded self.old.scopes file instance.now) self.old self.new) }
         ensures child { IfOk result (λ child. (first : ℕ) → IsNeeded self.old.scopes file instance.now first → AreMade self.old.scopes first self.old → (r : ℕ) × (extended self.old.scopes file instance.now.reactor ≡ Some r) × IsOfClass (cores self.new.shapes.items) child.shape r) }
+        ensures noted { OnOk result (KeepsNoted self.old.shapes.items self.new.shapes.items) }
         ensures cause { IfErr result (λ stop. (first r which : ℕ) → AreMade self.old.scopes first self.old → IsBelow self.old.scopes first r → Declares self.old.scopes r which file instance.now → SaysBelow self.old.scopes first stop) }
     {
         let Some(class) = self.scopes.get(file, instance.reactor.text.as_str()) else {
@@ -149,6 +154,8 @@ impl<'a> Making<'a> {
     fn child_at(&mut self, shape: usize, number: usize) -> Result<Option<Child<'a>>, Stop>
         ensures goes { OnOk result (GoesOn (λ first. Unit {0}) self.old self.new) }
         ensures child { IfOk result (λ o. IfSome o (λ child. (first : ℕ) → AreMade self.old.scopes first self.old → IsInside self.old.scopes (cores self.new.shapes.items) shape number child.shape)) }
+        ensures noted { OnOk result (KeepsNoted self.old.shapes.items self.new.shapes.items) }
+        ensures none { IfOk result (λ o. IfNone o ((c : Core) (m : Inherited) (n : ℕ) → slice_get (cores self.old.shapes.items) shape ≡ Some c → slice_get c.members number ≡ Some m → instance_of self.old.scopes (m.file, m.member.now) ≡ Some n → ⊥)) }
         ensures cause { IfErr result (λ stop. (first : ℕ) → AreMade self.old.scopes first self.old → SaysBelow self.old.scopes first stop) }
     {
         let Some(found) = self.shapes.get(shape) else {
@@ -167,6 +174,8 @@ impl<'a> Making<'a> {
     /// Notes what is in each instance of a shape, which has so many members.
     fn fill(&mut self, shape: usize, count: usize) -> Result<(), Stop>
         ensures goes { OnOk result (GoesOn (λ first. Unit {0}) self.old self.new) }
+        ensures others { OnOk result (KeepsBut self.old.shapes.items self.new.shapes.items shape) }
+        ensures noted { OnOk result ((c : Core) → slice_get (cores self.old.shapes.items) shape ≡ Some c → length c.members ≡ count → IsNoted self.old.scopes (tables self.new.shapes.items) shape c) }
         ensures cause { IfErr result (λ stop. (first : ℕ) → AreMade self.old.scopes first self.old → SaysBelow self.old.scopes first stop) }
     {
         let mut children = Vec::new(self.alloc);
@@ -181,6 +190,7 @@ impl<'a> Making<'a> {
     /// Notes what is in each instance of each shape, also of those that are made meanwhile.
     fn fill_all(&mut self) -> Result<(), Stop>
         ensures goes { OnOk result (GoesOn (λ first. Unit {0}) self.old self.new) }
+        ensures noted { OnOk result (AreNoted self.old.scopes (cores self.new.shapes.items) (tables self.new.shapes.items)) }
         ensures cause { IfErr result (λ stop. (first : ℕ) → AreMade self.old.scopes first self.old → SaysBelow self.old.scopes first stop) }
     {
         for shape in 0..usize::MAX {
@@ -203,6 +213,7 @@ pub(crate) fn shapes_of<'a>(
 ) -> Result<(Work, Vec<Shape<'a>>), Stop>
     ensures shapes { IfOk result (λ made. AreShapes scopes.entry main.entry.number (cores made.1.items) (tables made.1.items)) }
     ensures first { IfOk result (λ made. first_class (cores made.1.items) ≡ Some main.entry) }
+    ensures noted { IfOk result (λ made. AreNoted scopes.entry (cores made.1.items) (tables made.1.items)) }
     ensures cause { IfErr result (SaysBelow scopes.entry main.entry.number) }
 {
     let known = nothing(alloc, scopes.len())?;

@@ -1,2 +1,8 @@
 pub mod Between
 pub mod Names
+pub mod Searches
+pub mod Escapes
+pub mod CodeEnds
+pub mod Digits
+pub mod Cuts
+mod Samples

@@ -1,5 +1,5 @@
 pub mod Forms
 pub mod Names
-pub mod Parsing
+pub mod Pieces
 pub mod Places
 pub mod Tokens

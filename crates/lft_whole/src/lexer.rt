@@ -1,6 +1,8 @@
 //! The tokens of a text.
 
-ghost use Rattle.std.specs.Prelude.{◌≡◌, ◌<◌, length, IfOk, IfErr};
+ghost use Rattle.std.specs.Prelude.{◌≡◌, ◌<◌, length, Some, None, IfOk, IfErr};
+ghost use Rattle.lft_whole.specs.Pieces.{piece_at, tokens_of, IsRefused};
+ghost use Rattle.lft_whole.specs.declared.fault.TextFault.TheVariants.{BadText};
 ghost use Rattle.lft_whole.specs.Tokens.{AreTokens, IsInText, IsPiece};
 
 use crate::fault::TextFault;
@@ -11,8 +13,8 @@ use std::alloc::Global;
 /// The kind of the piece that begins at a place, if it is a token, and where it ends.
 fn next_piece(text: &[u8], at: usize) -> Result<(Option<TokenKind>, usize), TextFault>
     requires { at < length text.now }
-    ensures ok { IfOk result (λ x. IsPiece text.now at x.0 x.1) }
-    ensures err { IfErr result (IsInText text.now) }
+    ensures ok { IfOk result (λ x. (piece_at text.now at ≡ Some x) × IsPiece text.now at x.0 x.1) }
+    ensures err { IfErr result (λ e. (piece_at text.now at ≡ None) × (e ≡ BadText at)) }
 {
     match piece(text, at) {
         Some(found) => Ok(found),
@@ -22,6 +24,8 @@ fn next_piece(text: &[u8], at: usize) -> Result<(Option<TokenKind>, usize), Text
 
 /// The tokens of a text. It is refused at the first byte that begins none.
 pub fn lex(alloc: Global, text: &[u8]) -> Result<Tokens, TextFault>
+    ensures read { IfOk result (λ tokens. tokens_of text.now ≡ Ok tokens) }
+    ensures refused { IfErr result (IsRefused text.now) }
     ensures tokens { IfOk result (λ tokens. AreTokens text.now tokens) }
     ensures fault { IfErr result (IsInText text.now) }
 {

@@ -3,10 +3,8 @@
 
 mod classes;
 mod fault;
-mod input;
 mod lexer;
 mod numbers;
-mod parser;
 mod piece;
 mod quotes;
 mod token;
@@ -15,7 +13,6 @@ mod tree;
 pub use fault::{TextFault, TreeFault};
 pub use lexer::lex;
 pub use lft_tree::{Time, TimeUnit};
-pub use parser::parse;
 pub use token::{Token, TokenKind, Tokens};
 pub use tree::{
     Action, Assignment, Connection, Count, Effect, Expression, File, Foreign, Import, ImportedName,

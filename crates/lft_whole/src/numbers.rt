@@ -1,38 +1,44 @@
 //! Numbers.
 
-ghost use Rattle.std.specs.Prelude.{◌≡◌, ◌<◌, ◌≤◌, length, true, slice_index, Some};
+ghost use Rattle.std.specs.Prelude.{◌≡◌, ◌<◌, ◌≤◌, ◌+◌, [], ◌∷◌, ◌&&◌, length, true, slice_range, Some};
 ghost use Rattle.lft_lists.specs.Bytes.{is_digit};
+ghost use Rattle.lft_whole.specs.Pieces.{sees, stands, past_exponent, past_decimal, digit_value, number_of, begins_hexadecimal, whole_number, number_at};
 ghost use Rattle.lft_whole.specs.Tokens.{IsPiece};
 
-use crate::classes::{digit_stands, hexadecimal_end, stands};
+use crate::classes::{
+    digit_stands, hexadecimal_stands, one_stands, pair_stands, past_digits, past_hexadecimal,
+    stands,
+};
 use crate::token::TokenKind;
-use lft_syntax::digits_end;
 
 /// Where an exponent ends whose `e` would stand at a place; that place where none does.
+#[tactic(auto, unfolding(crate::specs::Pieces::past_exponent))]
 fn exponent_end(text: &[u8], at: usize) -> usize
     requires { at ≤ length text.now }
-    ensures { (at ≤ result) × (result ≤ length text.now) }
+    ensures is { result ≡ past_exponent text.now at }
+    ensures within { (at ≤ result) × (result ≤ length text.now) }
 {
-    if !stands(text, at, b'e') && !stands(text, at, b'E') {
+    if !one_stands(text, at, b'e', b'E') {
         return at;
     }
     if digit_stands(text, at + 1) {
-        return digits_end(text, at + 1);
+        return past_digits(text, at + 1);
     }
-    let is_signed = stands(text, at + 1, b'+') || stands(text, at + 1, b'-');
-    if is_signed && digit_stands(text, at + 2) {
-        return digits_end(text, at + 2);
+    if one_stands(text, at + 1, b'+', b'-') && digit_stands(text, at + 2) {
+        return past_digits(text, at + 2);
     }
     at
 }
 
 /// Where a decimal number ends whose point stands at a place, with digits after it.
+#[tactic(auto, unfolding(crate::specs::Pieces::past_decimal))]
 fn decimal_end(text: &[u8], point: usize) -> usize
     requires { point < length text.now }
-    ensures { (point < result) × (result ≤ length text.now) }
+    ensures is { result ≡ past_decimal text.now point }
+    ensures within { (point < result) × (result ≤ length text.now) }
 {
-    let end = exponent_end(text, digits_end(text, point + 1));
-    if stands(text, end, b'f') || stands(text, end, b'F') {
+    let end = exponent_end(text, past_digits(text, point + 1));
+    if one_stands(text, end, b'f', b'F') {
         end + 1
     } else {
         end
@@ -41,7 +47,8 @@ fn decimal_end(text: &[u8], point: usize) -> usize
 
 /// The value of a hexadecimal digit.
 fn hexadecimal(byte: u8) -> u64
-    ensures { result < 16 }
+    ensures is { result ≡ digit_value byte }
+    ensures small { result < 16 }
 {
     if b'0' <= byte && byte <= b'9' {
         (byte - b'0') as u64
@@ -59,6 +66,7 @@ fn number(text: &[u8], from: usize, end: usize, base: u64) -> u64
     requires order { from ≤ end }
     requires within { end ≤ length text.now }
     requires base { (0 < base) × (base ≤ 16) }
+    ensures { result ≡ number_of base (slice_range text.now from end) }
 {
     let mut number: u64 = 0;
     for at in from..end {
@@ -71,26 +79,52 @@ fn number(text: &[u8], from: usize, end: usize, base: u64) -> u64
     number
 }
 
+/// Tells whether a hexadecimal number begins at a place.
+fn begins_hexadecimal(text: &[u8], at: usize) -> bool
+    ensures is { result ≡ begins_hexadecimal text.now at }
+    ensures inside { result ≡ true → at + 2 < length text.now }
+{
+    (pair_stands(text, at, b'0', b'x') || pair_stands(text, at, b'0', b'X'))
+        && hexadecimal_stands(text, at + 2)
+}
+
+/// The number without a point and an exponent that begins at a place, whose decimal digits end at another.
+#[tactic(auto, unfolding(crate::specs::Pieces::whole_number))]
+fn whole_number(text: &[u8], at: usize, end: usize) -> (TokenKind, usize)
+    requires { (at < end) × (end ≤ length text.now) }
+    ensures is { result ≡ whole_number text.now at end }
+    ensures piece { IsPiece text.now at (Some result.0) result.1 }
+{
+    if begins_hexadecimal(text, at) {
+        let last = past_hexadecimal(text, at + 2);
+        return (TokenKind::Number(number(text, at + 2, last, 16)), last);
+    }
+    (TokenKind::Number(number(text, at, end, 10)), end)
+}
+
+/// Tells whether a point with a digit behind it stands at a place.
+fn point_stands(text: &[u8], at: usize) -> bool
+    ensures is { result ≡ (stands (46 ∷ []) text.now at && sees is_digit text.now (at + 1)) }
+    ensures inside { result ≡ true → at + 1 < length text.now }
+{
+    stands(text, at, b'.') && digit_stands(text, at + 1)
+}
+
 /// The number that begins with the digit at a place, and where it ends.
+#[tactic(auto, unfolding(crate::specs::Pieces::number_at))]
 pub fn number_piece(text: &[u8], at: usize) -> (TokenKind, usize)
     requires inside { at < length text.now }
-    requires digit { is_digit (slice_index text.now at) ≡ true }
-    ensures { IsPiece text.now at (Some result.0) result.1 }
+    requires digit { sees is_digit text.now at ≡ true }
+    ensures is { result ≡ number_at text.now at }
+    ensures piece { IsPiece text.now at (Some result.0) result.1 }
 {
-    let end = digits_end(text, at);
-    if stands(text, end, b'.') && digit_stands(text, end + 1) {
+    let end = past_digits(text, at);
+    if point_stands(text, end) {
         return (TokenKind::Decimal, decimal_end(text, end));
     }
     let exponent = exponent_end(text, end);
     if exponent > end {
         return (TokenKind::Decimal, exponent);
     }
-    let is_marked = stands(text, at + 1, b'x') || stands(text, at + 1, b'X');
-    if text[at] == b'0' && is_marked {
-        let last = hexadecimal_end(text, at + 2);
-        if last > at + 2 {
-            return (TokenKind::Number(number(text, at + 2, last, 16)), last);
-        }
-    }
-    (TokenKind::Number(number(text, at, end, 10)), end)
+    whole_number(text, at, end)
 }

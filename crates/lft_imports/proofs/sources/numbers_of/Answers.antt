@@ -1,6 +1,6 @@
 use Rattle.std.proofs.Common.{IfErr, IfOk, OnOk, subst}
 use Rattle.lft_imports.specs.Files.{AddsOnly, AreNumbered, HasImport, IsUnread, paths_of}
-use Rattle.lft_imports.proofs.Telling.{unread_is_cause}
+use Rattle.lft_imports.proofs.Telling.{unread_is_refusal}
 use Rattle.lft_imports.proofs.sources.numbers_of.Goals as goal
 
 pub returns-in-None-clause-numbers : goal.returns-in-None-clause-numbers
@@ -9,5 +9,5 @@ returns-in-None-clause-numbers c = subst (λ xs. IfOk c.numbers.result (λ ns. A
 pub returns-in-None-clause-added : goal.returns-in-None-clause-added
 returns-in-None-clause-added c = subst (λ xs. OnOk c.numbers.result (AddsOnly (paths_of c.args.asked.now) (HasImport c.args.path.now xs) (paths_of c.numbers.new.self))) c.as_slice.ensures.value c.numbers.ensures.added
 
-pub returns-in-None-clause-cause : goal.returns-in-None-clause-cause
-returns-in-None-clause-cause c = unread_is_cause c.numbers.result c.args.number c.args.read.now (subst (λ xs. IfErr c.numbers.result (IsUnread c.args.number xs)) c.as_slice.ensures.value c.numbers.ensures.refused)
+pub returns-in-None-clause-refused : goal.returns-in-None-clause-refused
+returns-in-None-clause-refused c = unread_is_refusal c.numbers.result c.args.number c.args.read.now c.in-None.is (subst (λ xs. IfErr c.numbers.result (IsUnread c.args.number xs)) c.as_slice.ensures.value c.numbers.ensures.refused)

@@ -1,6 +1,6 @@
 use Rattle.std.proofs.Common.{subst}
+use Rattle.lft_meanings.specs.Meanings.{all_places, here}
 use Rattle.lft_lower.specs.Lowered.{Adds, AreConnected}
-use Rattle.lft_lower.specs.Meanings.{all_places, here}
 use Rattle.lft_lower.proofs.connections.push_connection.Goals as goal
 
 pub returns-clause-joined : goal.returns-clause-joined

@@ -1,8 +1,8 @@
-use Rattle.std.proofs.Common.{◌≡◌, Bool, true, take, ap, ◌∙◌}
+use Rattle.std.proofs.Common.{◌≡◌, true, take, ap, ◌∙◌}
 use Rattle.std.specs.Prelude.{option_map}
 use Rattle.std.proofs.lemmas.List.{map-append}
 use Rattle.lft_tree.specs.View.{member_view, member_views, ref_views, time_view}
-use Rattle.lft_lower.specs.Meanings.{all_places, here}
+use Rattle.lft_meanings.specs.Meanings.{all_places, here}
 use Rattle.lft_lower.proofs.Joining.{connected_pairs, connected_whole}
 use Rattle.lft_lower.proofs.connections.push_sides.Goals as goal
 

@@ -3,11 +3,12 @@ use Rattle.std.specs.Prelude.{option_map, unwrap_or}
 use Rattle.std.specs.Option.{option_and_then}
 use Rattle.std.proofs.lemmas.Option.{slice_get-map}
 use Rattle.std.proofs.lemmas.Result.{err_from_is_err_and}
-use Rattle.lft_lower.specs.Meanings.{here}
+use Rattle.lft_meanings.specs.Meanings.{here}
+use Rattle.lft_meanings.specs.Refused.{IsOfSome, IsPassed}
 use Rattle.lft_lower.specs.Needed.{needed_given, needed_in}
-use Rattle.lft_lower.specs.Refused.{IsOfGiven, IsOfInstance, IsOfSome, IsPassed}
+use Rattle.lft_lower.specs.Refused.{IsOfGiven, IsOfInstance}
+use Rattle.lft_meanings.proofs.Refusing.{refused_too}
 use Rattle.lft_lower.proofs.Needing.{lacking}
-use Rattle.lft_lower.proofs.Refusing.{refused_too}
 use Rattle.lft_lower.proofs.instances.checked.Goals as goal
 
 pub returns-clause-given : goal.returns-clause-given

@@ -1,4 +1,4 @@
-use Rattle.std.proofs.Common.{◌≡◌, ◌++◌, [], Some, filter_map, length, map, slice_get, refl, sym, ap, ◌∙◌, arith}
+use Rattle.std.proofs.Common.{◌≡◌, ◌++◌, [], Some, filter_map, length, slice_get, refl, sym, ap, ◌∙◌, arith}
 use Rattle.std.specs.List.{cons_option}
 use Rattle.std.specs.Prelude.{option_map}
 use Rattle.std.proofs.lemmas.List.{take_all}
@@ -7,9 +7,9 @@ use Rattle.std.proofs.lemmas.Result.{err_from_is_err_and}
 use Rattle.lft_lists.proofs.Picked.{kept_more}
 use Rattle.lft_tree.specs.View.{assignment_view}
 use Rattle.lft_lower.specs.Lowered.{IsGiven, time_given}
-use Rattle.lft_lower.proofs.Growing.{all_done, all_next}
+use Rattle.lft_meanings.proofs.Growing.{all_done, all_next}
 use Rattle.lft_lower.specs.Refused.{IsOfGiven}
-use Rattle.lft_lower.proofs.Refusing.{of_some}
+use Rattle.lft_meanings.proofs.Refusing.{of_some}
 use Rattle.lft_lower.proofs.instances.given_times.Goals as goal
 
 pub loop-place-preserved : goal.loop-place-preserved

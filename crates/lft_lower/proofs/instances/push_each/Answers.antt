@@ -1,9 +1,9 @@
-use Rattle.std.proofs.Common.{◌≡◌, ◌<◌, ◌≤◌, ◌++◌, List, ℕ, map, string_bytes, sym, ap, ◌∙◌, arith, rules}
+use Rattle.std.proofs.Common.{◌≡◌, ◌<◌, ◌≤◌, List, ℕ, map, string_bytes, sym, ap, ◌∙◌, arith, rules}
 use Rattle.std.proofs.lemmas.List.{append-nil}
 use Rattle.lft_tree.specs.Tree.{AssignmentTree, MemberTree, InstanceMember}
 use Rattle.lft_tree.specs.View.{assignment_view, member_view, member_views}
-use Rattle.lft_lower.specs.Places.{count_of, name_at, several}
-use Rattle.lft_lower.proofs.Growing.{named_all, named_grown}
+use Rattle.lft_meanings.specs.Places.{count_of, name_at, several}
+use Rattle.lft_lower.proofs.Named.{named_all, named_grown}
 use Rattle.lft_lower.proofs.instances.push_each.Goals as goal
 
 abbrev made : List ℕ → List ℕ → List AssignmentTree → MemberTree

@@ -1,7 +1,7 @@
 use Rattle.std.proofs.Common.{◌≡◌, ◌++◌, map, take}
 use Rattle.lft_tree.specs.Tree.{InstanceMember}
 use Rattle.lft_tree.specs.View.{assignment_view, member_views}
-use Rattle.lft_lower.specs.Places.{names_of, several}
+use Rattle.lft_meanings.specs.Places.{names_of, several}
 use Rattle.lft_lower.proofs.instances.push_each.Given as goal
 
 abbrev pub invariant-loop-number : goal.invariant-loop-number

@@ -1,9 +1,9 @@
 use Rattle.std.proofs.Common.{◌≡◌, ◌++◌, map, sym, ap, ◌∙◌, arith}
 use Rattle.lft_tree.specs.View.{assignment_view, member_views}
+use Rattle.lft_meanings.specs.Meanings.{here}
+use Rattle.lft_meanings.specs.Names.{texts}
+use Rattle.lft_meanings.specs.Places.{count_of, several}
 use Rattle.lft_lower.specs.Lowered.{instances}
-use Rattle.lft_lower.specs.Meanings.{here}
-use Rattle.lft_lower.specs.Names.{texts}
-use Rattle.lft_lower.specs.Places.{count_of, several}
 use Rattle.lft_lower.proofs.Adding.{instances_none, instances_some}
 use Rattle.lft_lower.proofs.instances.push_instances.Goals as goal
 

@@ -1,12 +1,14 @@
-use Rattle.std.proofs.Common.{◌≡◌, ◌⊎◌, ℕ, IsPermutation, List, Option, subst}
+use Rattle.std.proofs.Common.{◌≡◌, ◌⊎◌, ℕ, List, Option, subst}
 use Rattle.std.proofs.lemmas.Result.{err_from_is_err_and}
 use Rattle.std.specs.Prelude.{String}
 use Rattle.lft_tree.specs.Tree.{ItemTree}
 use Rattle.lft_settings.specs.declared.settings.Settings.{Settings}
-use Rattle.lft_lower.specs.Names.{texts}
+use Rattle.lft_meanings.specs.Names.{texts}
+use Rattle.lft_meanings.specs.Refused.{IfRefused, IsOfSome, IsPassed}
 use Rattle.lft_lower.specs.Reactors.{AreReactors}
-use Rattle.lft_lower.specs.Refused.{IfRefused, IsOfFederation, IsOfSetting, IsOfSome, IsPassed}
-use Rattle.lft_lower.proofs.Refusing.{left_too, middle_too, of_moved}
+use Rattle.lft_lower.specs.Refused.{IsOfFederation, IsOfSetting}
+use Rattle.lft_meanings.proofs.Refusing.{left_too, middle_too}
+use Rattle.lft_lower.proofs.Refusing.{of_moved}
 use Rattle.lft_lower.proofs.making.lowered.Goals as goal
 
 same_reactors : {Z : Type 0} (s : Settings) (names names_are : List (Option (String Z))) (order order_are : List ℕ) (items : List ItemTree) → names ≡ names_are → order ≡ order_are → AreReactors s (texts names) order items → AreReactors s (texts names_are) order_are items

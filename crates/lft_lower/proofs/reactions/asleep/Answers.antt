@@ -1,6 +1,6 @@
 use Rattle.std.proofs.Common.{◌≡◌, Some, None, string_bytes, rules}
 use Rattle.std.specs.Prelude.{option_map}
-use Rattle.lft_lower.specs.Meanings.{here}
+use Rattle.lft_meanings.specs.Meanings.{here}
 use Rattle.lft_lower.proofs.Adding.{asleep_added, asleep_known}
 use Rattle.lft_lower.proofs.reactions.asleep.Goals as goal
 

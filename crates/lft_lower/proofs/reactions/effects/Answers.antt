@@ -1,11 +1,12 @@
 use Rattle.std.proofs.Common.{◌≡◌, Some, length, slice_get, refl, arith}
 use Rattle.std.proofs.lemmas.Option.{slice_get_read}
 use Rattle.std.proofs.lemmas.Result.{err_from_is_err_and}
+use Rattle.lft_meanings.specs.Meanings.{here}
+use Rattle.lft_meanings.specs.Refused.{IsPassed}
+use Rattle.lft_meanings.proofs.Growing.{all_done, all_next, flat_all, flat_grown}
 use Rattle.lft_lower.specs.Lowered.{MeansEffect, effect_places}
-use Rattle.lft_lower.specs.Meanings.{here}
-use Rattle.lft_lower.proofs.Growing.{all_done, all_next, flat_all, flat_grown}
-use Rattle.lft_lower.specs.Refused.{IsOfEffect, IsPassed}
-use Rattle.lft_lower.proofs.Refusing.{of_this}
+use Rattle.lft_lower.specs.Refused.{IsOfEffect}
+use Rattle.lft_meanings.proofs.Refusing.{of_this}
 use Rattle.lft_lower.proofs.reactions.effects.Goals as goal
 
 pub loop-place-preserved : goal.loop-place-preserved

@@ -1,9 +1,9 @@
 use Rattle.std.proofs.Common.{◌≡◌, map, subst, ap, ◌∙◌}
 use Rattle.std.specs.List.{All, flat_map}
-use Rattle.lft_lower.specs.Lowered.{effect_places}
+use Rattle.lft_meanings.specs.Meanings.{Means, all_places, here}
 use Rattle.lft_tree.specs.Tree.{ReactionMember}
 use Rattle.lft_tree.specs.View.{ref_views, trigger_view}
-use Rattle.lft_lower.specs.Meanings.{Means, all_places, here}
+use Rattle.lft_lower.specs.Lowered.{effect_places}
 use Rattle.lft_lower.proofs.Adding.{reaction_stands}
 use Rattle.lft_lower.proofs.reactions.push_reaction.Goals as goal
 

@@ -5,7 +5,7 @@ use Rattle.lft_tree.specs.Tree.{TriggerTree, OnRef}
 use Rattle.lft_tree.specs.View.{trigger_view}
 use Rattle.lft_tree.specs.declared.tree.Trigger.{Trigger}
 use Rattle.lft_lowering.specs.Lowered.{own}
-use Rattle.lft_lower.specs.Meanings.{here}
+use Rattle.lft_meanings.specs.Meanings.{here}
 use Rattle.lft_lower.proofs.Adding.{triggers_run, triggers_sleep}
 use Rattle.lft_lower.proofs.reactions.some_triggers.Goals as goal
 

@@ -1,11 +1,12 @@
 use Rattle.std.proofs.Common.{◌≡◌, inr, Some, length, slice_get, refl, arith}
 use Rattle.std.proofs.lemmas.Option.{slice_get_read}
 use Rattle.std.proofs.lemmas.Result.{err_from_is_err_and}
+use Rattle.lft_meanings.specs.Meanings.{here}
+use Rattle.lft_meanings.specs.Refused.{IsOfSome, IsPassed}
+use Rattle.lft_meanings.proofs.Growing.{all_done, all_next, flat_all, flat_grown}
 use Rattle.lft_lower.specs.Lowered.{MeansTrigger, trigger_places}
-use Rattle.lft_lower.specs.Meanings.{here}
-use Rattle.lft_lower.proofs.Growing.{all_done, all_next, flat_all, flat_grown}
-use Rattle.lft_lower.specs.Refused.{AreOfTriggers, IsOfSome, IsOfTrigger, IsPassed}
-use Rattle.lft_lower.proofs.Refusing.{of_this, second_too}
+use Rattle.lft_lower.specs.Refused.{AreOfTriggers, IsOfTrigger}
+use Rattle.lft_meanings.proofs.Refusing.{of_this, second_too}
 use Rattle.lft_lower.proofs.reactions.triggers.Goals as goal
 
 pub loop-place-preserved : goal.loop-place-preserved

@@ -1,8 +1,8 @@
 use Rattle.std.proofs.Common.{◌≡◌, map, take}
 use Rattle.std.specs.List.{All, flat_map}
 use Rattle.lft_tree.specs.View.{trigger_view}
+use Rattle.lft_meanings.specs.Meanings.{here}
 use Rattle.lft_lower.specs.Lowered.{MeansTrigger, trigger_places}
-use Rattle.lft_lower.specs.Meanings.{here}
 use Rattle.lft_lower.proofs.reactions.triggers.Given as goal
 
 abbrev pub invariant-loop-place : goal.invariant-loop-place

@@ -1,8 +1,9 @@
 use Rattle.std.proofs.Common.{inl, inr, ℕ}
 use Rattle.std.specs.Prelude.{◌==◌}
 use Rattle.std.proofs.lemmas.Result.{err_from_is_err_and}
-use Rattle.lft_lower.specs.Refused.{IsOfMembers, IsOfParameter, IsOfReactor, IsPassed}
-use Rattle.lft_lower.proofs.Refusing.{second_too}
+use Rattle.lft_meanings.specs.Refused.{IsPassed}
+use Rattle.lft_lower.specs.Refused.{IsOfMembers, IsOfParameter, IsOfReactor}
+use Rattle.lft_meanings.proofs.Refusing.{second_too}
 use Rattle.lft_lower.proofs.reactors.core_reactor.Goals as goal
 
 pub returns-in_err-parameters-clause-cause : goal.returns-in_err-parameters-clause-cause

@@ -1,11 +1,10 @@
-use Rattle.std.proofs.Common.{◌≡◌, [], Some, None, length, slice_get, take, string_bytes, refl, subst, sym, arith}
-use Rattle.std.specs.Prelude.{option_map}
+use Rattle.std.proofs.Common.{◌≡◌, [], Some, None, length, slice_get, refl, subst, sym, arith}
 use Rattle.std.proofs.lemmas.Option.{slice_get_read}
 use Rattle.std.proofs.lemmas.Result.{err_from_is_err_and}
 use Rattle.lft_tree.specs.View.{member_views}
+use Rattle.lft_meanings.specs.Names.{texts}
+use Rattle.lft_meanings.specs.Refused.{IsPassed}
 use Rattle.lft_lower.specs.Lowered.{AreLowered, no_members}
-use Rattle.lft_lower.specs.Names.{texts}
-use Rattle.lft_lower.specs.Refused.{IsPassed}
 use Rattle.lft_lower.proofs.Refusing.{of_member}
 use Rattle.lft_lower.proofs.Turns.{lowered_all, lowered_next}
 use Rattle.lft_lower.proofs.reactors.members.Goals as goal

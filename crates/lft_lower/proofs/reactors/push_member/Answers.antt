@@ -2,11 +2,11 @@ use Rattle.std.proofs.Common.{string_bytes, refl, ap}
 use Rattle.std.specs.Prelude.{option_map}
 use Rattle.std.proofs.lemmas.Result.{err_from_is_err_and}
 use Rattle.lft_whole.specs.declared.tree.Member.TheVariants as member
+use Rattle.lft_meanings.specs.Meanings.{here}
+use Rattle.lft_meanings.specs.Names.{texts}
+use Rattle.lft_meanings.specs.Refused.{IsPassed}
 use Rattle.lft_lower.specs.Lowered.{ports}
-use Rattle.lft_lower.specs.Meanings.{here}
-use Rattle.lft_lower.specs.Names.{texts}
-use Rattle.lft_lower.specs.Refused.{IsPassed}
-use Rattle.lft_lower.proofs.Adding.{adds_as, lowered_as}
+use Rattle.lft_lower.proofs.Adding.{lowered_as}
 use Rattle.lft_lower.proofs.Refusing.{of_kind}
 use Rattle.lft_lower.proofs.reactors.push_member.Goals as goal
 

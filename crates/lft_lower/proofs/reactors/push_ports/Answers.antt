@@ -1,9 +1,9 @@
-use Rattle.std.proofs.Common.{◌≡◌, ◌<◌, ◌≤◌, ◌++◌, List, ℕ, map, sym, ap, ◌∙◌, arith}
+use Rattle.std.proofs.Common.{◌<◌, ◌≤◌, List, ℕ, sym, ap, ◌∙◌, arith}
 use Rattle.std.proofs.lemmas.List.{append-nil}
 use Rattle.lft_tree.specs.Tree.{MemberTree, PortMember}
 use Rattle.lft_tree.specs.View.{member_view, member_views}
-use Rattle.lft_lower.specs.Places.{count_of, name_at, several}
-use Rattle.lft_lower.proofs.Growing.{named_all, named_grown}
+use Rattle.lft_meanings.specs.Places.{count_of, name_at, several}
+use Rattle.lft_lower.proofs.Named.{named_all, named_grown}
 use Rattle.lft_lower.proofs.reactors.push_ports.Goals as goal
 
 pub loop-number-init : goal.loop-number-init

@@ -2,8 +2,8 @@ use Rattle.std.proofs.Common.{[], subst, sym, ap, ◌∙◌}
 use Rattle.std.proofs.lemmas.List.{map-append, take_all}
 use Rattle.std.proofs.lemmas.Result.{err_from_is_err_and}
 use Rattle.lft_tree.specs.ItemView.{item_view, item_views}
-use Rattle.lft_lower.specs.Names.{texts}
-use Rattle.lft_lower.specs.Refused.{IsPassed}
+use Rattle.lft_meanings.specs.Names.{texts}
+use Rattle.lft_meanings.specs.Refused.{IsPassed}
 use Rattle.lft_lower.proofs.Refusing.{of_reactor}
 use Rattle.lft_lower.specs.Reactors.{AreReactors, no_reactors}
 use Rattle.lft_lower.proofs.Turns.{reactors_next}

@@ -1,6 +1,6 @@
 use Rattle.std.proofs.Common.{◌<◌, length, refl, arith}
 use Rattle.lft_shapes.specs.Built.{core}
-use Rattle.lft_shapes.proofs.Goings.{sets_one}
+use Rattle.lft_shapes.proofs.Goings.{sets_but, sets_children, sets_one}
 use Rattle.lft_shapes.proofs.Rows.{map_set}
 use Rattle.lft_shapes.proofs.making.set_children.Goals as goal
 
@@ -13,3 +13,9 @@ pub returns-then-shape-len-clause-tables : goal.returns-then-shape-len-clause-ta
 returns-then-shape-len-clause-tables c =
     let within : c.args.shape < length c.args.shapes.now.items = omega arith in
     sets_one c.args.shapes.now.items c.args.shape _ c.args.children.items within refl
+
+pub returns-then-shape-len-clause-others : goal.returns-then-shape-len-clause-others
+returns-then-shape-len-clause-others c = sets_but c.args.shapes.now.items c.args.shape _
+
+pub returns-then-shape-len-clause-noted : goal.returns-then-shape-len-clause-noted
+returns-then-shape-len-clause-noted c within = sets_children c.args.shapes.now.items c.args.shape _ c.args.children.items within refl

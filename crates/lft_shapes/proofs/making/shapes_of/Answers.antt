@@ -1,7 +1,7 @@
 use Rattle.std.proofs.Common.{sym, ap, subst}
 use Rattle.std.proofs.lemmas.Result.{err_from_is_err_and}
 use Rattle.lft_shapes.specs.Below.{itself}
-use Rattle.lft_shapes.specs.Built.{cores}
+use Rattle.lft_shapes.specs.Built.{AreNoted, cores}
 use Rattle.lft_shapes.specs.Causes.{SaysBelow}
 use Rattle.lft_shapes.specs.Makings.{AreMade}
 use Rattle.lft_shapes.specs.Shapes.{tables}
@@ -29,3 +29,6 @@ returns-in_err-fill_all-clause-cause c =
     let adds = c.in_ok-add_shape.ensures.adds in
     let one = (goes_added _ _ c.args.main _ adds).made c.args.main.number itself given in
     rw (p.1, p.2) (subst (λ s. SaysBelow s c.args.main.number c.in_err-fill_all.field-0.0) adds.scopes (c.in_err-fill_all.ensures.cause c.args.main.number (subst (λ s. AreMade s c.args.main.number c.add_shape.new.self) (sym adds.scopes) one)))
+
+pub returns-clause-noted : goal.returns-clause-noted
+returns-clause-noted c = subst (λ s. AreNoted s (cores c.fill_all.new.self.shapes.items) (tables c.fill_all.new.self.shapes.items)) c.in_ok-add_shape.ensures.adds.scopes c.in_ok-fill_all.ensures.noted

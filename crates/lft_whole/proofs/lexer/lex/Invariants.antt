@@ -1,9 +1,10 @@
 use Rattle.std.proofs.Common.{◌-◌, ◌≤◌, length}
 use Rattle.lft_whole.specs.Tokens.{StandBetween}
+use Rattle.lft_whole.proofs.Cuts.{Front}
 use Rattle.lft_whole.proofs.lexer.lex.Given as goal
 
 abbrev pub invariant-pieces : goal.invariant-pieces
-invariant-pieces l = (l.at ≤ length l.text) × StandBetween l.text 0 l.tokens.items l.at
+invariant-pieces l = record { within : l.at ≤ length l.text; between : StandBetween l.text 0 l.tokens.items l.at; front : Front l.text l.tokens.items l.at }
 
 abbrev pub decreases-pieces : goal.decreases-pieces
 decreases-pieces l = length l.text - l.at

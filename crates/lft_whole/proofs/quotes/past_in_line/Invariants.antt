@@ -1,8 +1,8 @@
-use Rattle.std.proofs.Common.{◌-◌, ◌≤◌, length}
+use Rattle.std.proofs.Common.{◌≡◌, ◌-◌}
+use Rattle.lft_whole.specs.Pieces.{is_escaped}
+use Rattle.lft_whole.proofs.Searches.{NonePass}
+use Rattle.lft_whole.proofs.Escapes.{ends_line}
 use Rattle.lft_whole.proofs.quotes.past_in_line.Given as goal
 
-abbrev pub invariant-string : goal.invariant-string
-invariant-string l = (l.fn.from ≤ l.at) × (l.at ≤ length l.text)
-
-abbrev pub decreases-string : goal.decreases-string
-decreases-string l = length l.text - l.at
+abbrev pub invariant-loop-at : goal.invariant-loop-at
+invariant-loop-at l = record { escaped : l.is_escaped ≡ is_escaped l.text l.fn.from (l.at - l.fn.from); none : NonePass (ends_line l.quote l.text l.fn.from) l.fn.from l.at }

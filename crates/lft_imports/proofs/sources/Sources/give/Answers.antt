@@ -1,11 +1,9 @@
 use Rattle.std.proofs.Common.{◌≡◌, Some, length, sym, subst, ap, ◌∙◌, arith, string_bytes}
 use Rattle.std.specs.Prelude.{slice_get}
 use Rattle.lft_lists.proofs.Places.{Some_same}
-use Rattle.lft_imports.specs.Files.{AddsOnly, HasCause, HasImport, IsPlaced, paths_of}
-use Rattle.lft_imports.specs.Places.{HasSpots}
-use Rattle.lft_imports.specs.Reads.{HasPlaces}
+use Rattle.lft_imports.specs.Files.{AddsOnly, AreOfTexts, HasImport, paths_of}
 use Rattle.lft_imports.proofs.Known.{AllImported, AllNumbered, AreRead, imported_file, imported_more, of_old, numbered_file, numbered_more, read_more}
-use Rattle.lft_imports.proofs.Telling.{caused, placed}
+use Rattle.lft_imports.proofs.Telling.{refuses_next, tree_of, trees_more}
 use Rattle.lft_imports.proofs.sources.Sources.give.Goals as goal
 
 pub returns-in_ok-push-in-Ok-clause-sources : goal.returns-in_ok-push-in-Ok-clause-sources
@@ -22,6 +20,7 @@ returns-in_ok-push-in-Ok-clause-sources c =
     record {
       known = c.in-Ok.ensures.known;
       read = subst (AreRead after) (sym c.in_ok-push-in-Ok.ensures.items) (read_more before after old.files.items file c.in-Ok.ensures.kept c.requires.read at);
+      trees = subst AreOfTexts (sym c.in_ok-push-in-Ok.ensures.items) (trees_more c.args.text.now old.files.items file c.requires.trees (tree_of c.args.text.now file c.in_ok-read.read c.file_of.ensures.spots c.file_of.ensures.tree c.in_ok-read.ensures c.in-Ok.ensures.read));
       numbered = subst (AllNumbered after) (sym c.in_ok-push-in-Ok.ensures.items) (numbered_more before after old.files.items file c.in-Ok.ensures.kept c.requires.numbered numbers);
       imported = subst (AllImported after) (sym c.in_ok-push-in-Ok.ensures.items) (imported_more before after old.files.items file c.requires.imported adds);
     }
@@ -30,18 +29,14 @@ pub returns-in_ok-push-in-Ok-clause-read : goal.returns-in_ok-push-in-Ok-clause-
 returns-in_ok-push-in-Ok-clause-read c =
     let file = c.file_of.result in
     let path = ap string_bytes c.file_of.ensures.path in
-    let read = c.in_ok-read.read in
-    let spots = subst (HasPlaces c.args.text.now read.spots.items) c.in-Ok.ensures.read c.in_ok-read.ensures.read in
-    λ p next. (file, record { same = path ∙ c.in_ok-path.ensures.ok ∙ Some_same _ p (c.in-Some.ensures ∙ next); spots = subst (HasSpots c.args.text.now) (ap (λ v. v.items) (sym c.file_of.ensures.spots)) spots }, c.in_ok-push-in-Ok.ensures.items)
+    let tree = tree_of c.args.text.now file c.in_ok-read.read c.file_of.ensures.spots c.file_of.ensures.tree c.in_ok-read.ensures c.in-Ok.ensures.read in
+    λ p next. (file, record { same = path ∙ c.in_ok-path.ensures.ok ∙ Some_same _ p (c.in-Some.ensures ∙ next); tree = tree }, c.in_ok-push-in-Ok.ensures.items)
 
 pub returns-in_ok-push-in-Err-clause-refused : goal.returns-in_ok-push-in-Err-clause-refused
 returns-in_ok-push-in-Err-clause-refused c =
-    let files = c.args.self.now.files.items in
-    let many : c.len-number.result ≡ length files = omega (arith, c.len-number.ensures, c.args.self.now.files.ok.0) in
-    subst (λ fs. IsPlaced c.args.text.now fs c.in-Err.stop) (sym c.in_ok-push-in-Err.ensures.items) (placed c.args.text.now files c.file_of-in-Err.result c.len-number.result c.in_ok-read.read c.in-Err.stop many c.file_of-in-Err.ensures.spots c.in_ok-read.ensures.read c.in-Err.ensures.refused)
-
-pub returns-in_ok-push-in-Err-clause-cause : goal.returns-in_ok-push-in-Err-clause-cause
-returns-in_ok-push-in-Err-clause-cause c =
-    let files = c.args.self.now.files.items in
-    let many : c.len-number.result ≡ length files = omega (arith, c.len-number.ensures, c.args.self.now.files.ok.0) in
-    subst (λ fs. HasCause fs c.in-Err.stop) (sym c.in_ok-push-in-Err.ensures.items) (caused files c.file_of-in-Err.result c.len-number.result c.in_ok-read.read c.in-Err.stop many c.file_of-in-Err.ensures.tree c.in_ok-read.ensures.why c.in-Err.ensures.cause)
+    let old = c.args.self.now in
+    let file = c.file_of-in-Err.result in
+    let many : c.len-number.result ≡ length old.files.items = omega (arith, c.len-number.ensures, old.files.ok.0) in
+    let path = ap string_bytes c.file_of-in-Err.ensures.path in
+    let next : slice_get (paths_of old.asked) (length old.files.items) ≡ Some (string_bytes file.path) = sym c.in-Some.ensures ∙ ap Some (sym (path ∙ c.in_ok-path.ensures.ok)) in
+    refuses_next c.args.text.now old _ file c.len-number.result c.in_ok-read.read c.in-Err.stop next c.in_ok-push-in-Err.ensures.items many c.file_of-in-Err.ensures.spots c.file_of-in-Err.ensures.tree c.in_ok-read.ensures c.in-Err.ensures.refused

@@ -10,6 +10,7 @@ returns-clause-sources c =
     record {
       known = c.in_ok-ask.ensures.known;
       read = λ k file at. absurd (no_file files c.new.ensures.items k file at);
+      trees = λ k file at. absurd (no_file files c.new.ensures.items k file at);
       numbered = λ k file at. absurd (no_file files c.new.ensures.items k file at);
       imported = none_imported (paths_of c.ask.new.self) path files (c.in_ok-ask.ensures.paths ∙ ap (λ paths. paths ++ path ∷ []) c.new-asked.ensures.empty);
     }

@@ -1,8 +1,46 @@
+use Rattle.std.proofs.Common.{◌≡◌, ◌<◌, Some, length, replicate, refl, sym, ap, subst, ◌∙◌, arith, slice_get, slice_set}
+use Rattle.std.proofs.lemmas.Option.{slice_get_read}
+use Rattle.std.proofs.lemmas.Result.{err_from_is_err_and}
+use Rattle.lft_settings.specs.Noted.{AreMade, table}
+use Rattle.lft_settings.specs.Passed.{AreTotals}
 use Rattle.lft_settings.proofs.Keeping.{goes_further, goes_nowhere}
+use Rattle.lft_settings.proofs.Passing.{no_totals, total_written, totals_stay}
+use Rattle.lft_settings.proofs.Refusing.{of_reached}
 use Rattle.lft_settings.proofs.settings.Settings.totals.Goals as goal
+use Rattle.lft_settings.proofs.settings.Settings.totals.Goals.{then-setting-len, else-setting-len}
 
 pub loop-place-init : goal.loop-place-init
-loop-place-init c = goes_nowhere _
+loop-place-init c =
+    let s = c.args.self.now in
+    let items : c.in_ok-totals.totals.items ≡ replicate c.len.result c.none.result = c.in_ok-totals.ensures.items_if_clones_equal (λ y e. e) in
+    record {
+      goes = goes_nowhere _;
+      counts = λ made. subst (AreTotals (table s)) (sym (items ∙ ap (replicate c.len.result) c.none.ensures)) (no_totals (table s) c.len.result (let l = c.len.ensures in let ok = s.settings.ok.0 in omega arith));
+    }
 
 pub loop-place-preserved : goal.loop-place-preserved
-loop-place-preserved c = goes_further _ _ _ c.loop-place.invariant c.in_ok-counts.ensures
+loop-place-preserved c =
+    let was = c.loop-place.invariant in
+    let now = c.in_ok-counts.ensures in
+    let old = table c.loop-place.self in
+    let new = table c.count.new.self in
+    let before = c.loop-place.totals.items in
+    let setting = c.index.result.now.1 in
+    let after : AreMade (table c.args.self.now) → AreTotals new c.if-setting-len.totals.items = elim c.if-setting-len.branch [
+      | then-setting-len w ↦
+          let low : setting < length before = (let long = c.len-in-loop-place.ensures in let within = w.if-setting-len.true in omega (arith, long, within)) in
+          rw w.totals-is (λ made. totals_stay old new now.goes (slice_set before setting c.in_ok-counts.counts) (total_written old before setting c.in_ok-counts.counts (was.counts made) low (λ t at. now.counts t (was.goes.made made) at (subst (AreTotals old) (sym c.deref.ensures.value) (was.counts made)))))
+      | else-setting-len w ↦ rw w.totals-is (λ made. totals_stay old new now.goes before (was.counts made))
+    ] in
+    record { goes = goes_further _ _ _ was.goes now.goes; counts = after }
+
+pub returns-in_err-counts-clause-cause : goal.returns-in_err-counts-clause-cause
+returns-in_err-counts-clause-cause c =
+    let p = err_from_is_err_and c.from_residual-in_err-counts.result c.from_residual-in_err-counts.ensures.1 in
+    let was = c.loop-place.invariant in
+    let places = c.in_ok-places.places.items in
+    let pair = c.index.result.now in
+    let here : slice_get places c.loop-place.place ≡ Some pair = slice_get_read places (length places) c.loop-place.place pair refl (omega arith) c.index.ensures in
+    rw (p.1, p.2) (λ made are.
+    let r = are pair.1 (c.in_ok-places.ensures c.loop-place.place pair here) in
+    of_reached (table c.args.self.now) (table c.loop-place.self) was.goes r.0 r.2 c.in_err-counts.field-0.0 (c.in_err-counts.ensures.cause r.0 (was.goes.made made) (was.goes.stays pair.1 r.0 r.1)))

@@ -1,5 +1,9 @@
-use Rattle.lft_settings.specs.Noted.{GoesOn, table}
+use Rattle.lft_settings.specs.Noted.{AreMade, GoesOn, table}
+use Rattle.lft_settings.specs.Passed.{AreTotals}
 use Rattle.lft_settings.proofs.settings.Settings.totals.Given as goal
 
 abbrev pub invariant-loop-place : goal.invariant-loop-place
-invariant-loop-place l = GoesOn (table l.fn.self) (table l.self)
+invariant-loop-place l = record {
+  goes : GoesOn (table l.fn.self) (table l.self);
+  counts : AreMade (table l.fn.self) → AreTotals (table l.self) l.totals.items;
+}

@@ -1,12 +1,16 @@
-use Rattle.std.proofs.Common.{◌≡◌, ℕ, Some, option_copied, slice_get, refl, sym, ap, subst, ◌∙◌}
+use Rattle.std.proofs.Common.{◌≡◌, ◌≢◌, ℕ, Some, None, option_copied, slice_get, refl, sym, ap, subst, ◌∙◌}
 use Rattle.std.proofs.lemmas.Result.{err_from_is_err_and}
-use Rattle.lft_lists.proofs.Mapped.{mapped}
+use Rattle.lft_lists.proofs.Mapped.{mapped, mapped_from}
+use Rattle.lft_lists.proofs.Options.{lacking}
+use Rattle.lft_lists.proofs.Places.{same_some}
 use Rattle.lft_scope.proofs.Placing.{lent}
+use Rattle.lft_whole.specs.declared.tree.Instance.{Instance}
 use Rattle.lft_whole.specs.declared.tree.Member.TheVariants as member
-use Rattle.lft_shapes.specs.Built.{core, cores, instance_of}
+use Rattle.lft_shapes.specs.declared.shapes.Inherited.{Inherited}
+use Rattle.lft_shapes.specs.Built.{Core, core, cores, instance_of}
 use Rattle.lft_shapes.specs.Makings.{IsNeeded}
 use Rattle.lft_shapes.proofs.Goings.{goes_weaker}
-use Rattle.lft_shapes.proofs.Needing.{below_inside, below_reached, declared}
+use Rattle.lft_shapes.proofs.Needing.{below_inside, below_reached, declared, is_instance}
 use Rattle.lft_shapes.proofs.making.Making.child_at.Goals as goal
 
 pub returns-clause-goes : goal.returns-clause-goes
@@ -59,3 +63,31 @@ returns-in_err-child-clause-cause c =
     rw (p.1, p.2) (λ first all.
     let d = declared scopes (core shape) c.args.number m (all.shapes.built c.args.shape (core shape) at) is_member in
     c.in_err-child.ensures.cause first d.class d.which all (below_reached scopes first shape.class.number (all.shapes.below c.args.shape (core shape) at) d.class d.reached) (d.is_there ∙ ap (λ x. Some (m.file, x)) is))
+
+pub returns-in_default-clause-none : goal.returns-in_default-clause-none
+returns-in_default-clause-none c d m n at has means =
+    let shapes = c.args.self.now.shapes.items in
+    let none : slice_get shapes c.args.shape ≡ None = ap (λ l. slice_get l c.args.shape) (sym c.deref.ensures.value) ∙ sym (lent c.deref.result.now c.args.shape c.get.result c.get.ensures.lookup) ∙ ap option_copied c.in_default.is in
+    let from = mapped_from core shapes c.args.shape d at in
+    absurd (let e = sym none ∙ from.1 in cc)
+
+pub returns-in_default-member-clause-none : goal.returns-in_default-member-clause-none
+returns-in_default-member-clause-none c d m n at has means =
+    let shapes = c.args.self.now.shapes.items in
+    let shape = c.in-Some.found.now in
+    let there : slice_get shapes c.args.shape ≡ Some shape = ap (λ l. slice_get l c.args.shape) (sym c.deref.ensures.value) ∙ sym (lent c.deref.result.now c.args.shape c.get.result c.get.ensures.lookup) ∙ ap option_copied c.in-Some.is in
+    let same : d ≡ core shape = same_some (slice_get (cores shapes) c.args.shape) d (core shape) at (mapped core shapes c.args.shape shape there) in
+    let none : slice_get shape.members.items c.args.number ≡ None = sym c.member.ensures ∙ c.in_default-member.is in
+    absurd (let e = sym none ∙ ap (λ (o : Core). slice_get o.members c.args.number) (sym same) ∙ has in cc)
+
+pub returns-in_default-instance-clause-none : goal.returns-in_default-instance-clause-none
+returns-in_default-instance-clause-none c d m n at has means =
+    let shapes = c.args.self.now.shapes.items in
+    let shape = c.in-Some.found.now in
+    let x = c.in-Some-member.inherited in
+    let there : slice_get shapes c.args.shape ≡ Some shape = ap (λ l. slice_get l c.args.shape) (sym c.deref.ensures.value) ∙ sym (lent c.deref.result.now c.args.shape c.get.result c.get.ensures.lookup) ∙ ap option_copied c.in-Some.is in
+    let same : d ≡ core shape = same_some (slice_get (cores shapes) c.args.shape) d (core shape) at (mapped core shapes c.args.shape shape there) in
+    let is : slice_get shape.members.items c.args.number ≡ Some x = sym c.member.ensures ∙ c.in-Some-member.is in
+    let one : m ≡ x = same_some (slice_get d.members c.args.number) m x has (ap (λ (o : Core). slice_get o.members c.args.number) same ∙ is) in
+    let i = is_instance c.args.self.now.scopes m.file m.member.now n means in
+    absurd (lacking ((instance : Instance) → x.member.now ≢ member.Instance instance) c.instance.result c.instance.ensures.none c.in_default-instance.is i.0 (ap (λ (y : Inherited). y.member.now) (sym one) ∙ i.1))

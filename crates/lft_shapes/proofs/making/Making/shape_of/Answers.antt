@@ -1,6 +1,6 @@
 use Rattle.std.proofs.Common.{◌≡◌, Some, slice_get, sym, ap, ◌∙◌}
 use Rattle.lft_scope.proofs.Placing.{lent}
-use Rattle.lft_shapes.proofs.Goings.{added_class, goes_added, goes_nowhere}
+use Rattle.lft_shapes.proofs.Goings.{added_class, added_keeps, goes_added, goes_nowhere}
 use Rattle.lft_shapes.proofs.making.Making.shape_of.Goals as goal
 
 pub returns-clause-goes : goal.returns-clause-goes
@@ -15,3 +15,6 @@ returns-in-Some-Some-clause-shape c first below all =
     let number = c.args.class.number in
     let there : slice_get known number ≡ Some (Some c.in-Some-Some.known) = ap (λ l. slice_get l number) (sym c.deref.ensures.value) ∙ sym (lent c.deref.result.now number c.get.result c.get.ensures.lookup) ∙ sym c.copied.ensures ∙ c.in-Some-Some.is ∙ ap Some c.in-Some-Some.field-0-is in
     all.known number c.in-Some-Some.known there
+
+pub returns-clause-noted : goal.returns-clause-noted
+returns-clause-noted c = added_keeps _ _ c.args.class _ c.in_ok-number.ensures.adds

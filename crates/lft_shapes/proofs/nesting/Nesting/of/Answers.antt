@@ -1,6 +1,6 @@
 use Rattle.std.proofs.Common.{◌≡◌, Some, inl, inr, slice_get, sym, ap, subst, ◌∙◌}
 use Rattle.std.proofs.lemmas.Result.{err_from_is_err_and}
-use Rattle.lft_shapes.specs.Built.{AreBuilt, AreInside, cores, first_class}
+use Rattle.lft_shapes.specs.Built.{AreBuilt, AreInside, AreNoted, cores, first_class}
 use Rattle.lft_shapes.specs.Circles.{HasCircle}
 use Rattle.lft_shapes.specs.Makings.{AreShapes}
 use Rattle.lft_shapes.specs.Shapes.{inside, tables}
@@ -23,6 +23,7 @@ returns-clause-nesting c =
         is_first = ap first_class inv.same ∙ made.first;
         built = subst (AreBuilt scopes) (sym inv.same) made.shapes.built;
         inside_are = subst (λ cs. AreInside scopes cs (tables now)) (sym inv.same) (subst (AreInside scopes (cores shapes)) (sym inv.rows) made.shapes.inside);
+        all_noted = subst (λ cs. AreNoted scopes cs (tables now)) (sym inv.same) (subst (AreNoted scopes (cores shapes)) (sym inv.rows) made.noted);
         order = subst (λ rows. IsList (inside rows) 0 c.in_ok-order.order.items) (sym inv.rows) (subst (λ l. IsList (inside (tables l)) 0 c.in_ok-order.order.items) c.deref.ensures.value c.in_ok-order.ensures.order);
       },
     )

@@ -1,5 +1,0 @@
-use Rattle.lft_lower.specs.Names.{AreNames}
-use Rattle.lft_lower.proofs.naming.names.Given as goal
-
-abbrev pub invariant-loop-place : goal.invariant-loop-place
-invariant-loop-place l = AreNames l.names

@@ -1,8 +1,0 @@
-use Rattle.std.proofs.Common.{◌≡◌, take}
-use Rattle.std.specs.List.{All}
-use Rattle.lft_tree.specs.View.{ref_views}
-use Rattle.lft_lower.specs.Meanings.{Means, all_places, here}
-use Rattle.lft_lower.proofs.places.places.Given as goal
-
-abbrev pub invariant-loop-place : goal.invariant-loop-place
-invariant-loop-place l = (ref_views l.list.items ≡ all_places (here l.within) (take l.place l.references)) × All (Means (here l.within)) (take l.place l.references)

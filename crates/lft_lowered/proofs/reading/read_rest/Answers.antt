@@ -1,0 +1,23 @@
+use Rattle.std.proofs.Common.{inl, sym}
+use Rattle.std.proofs.lemmas.Result.{err_from_is_err_and}
+use Rattle.lft_lowered.specs.Unlowered.{IsOfNext, IsOfRest}
+use Rattle.lft_lowered.proofs.Gathered.{begins_too, begun, further, grown, later_refused}
+use Rattle.lft_lowered.proofs.Saying.{says_too}
+use Rattle.lft_lowered.proofs.reading.read_rest.Goals as goal
+
+pub returns-in_err-give-clause-refused : goal.returns-in_err-give-clause-refused
+returns-in_err-give-clause-refused g c =
+    let p = err_from_is_err_and c.from_residual-in_err-give.result c.from_residual-in_err-give.ensures.1 in
+    let these = c.args.sources.now.files.items in
+    let before = c.loop.sources in
+    let text = c.as_slice.result.now in
+    let some = begun these before.files.items c.requires.begun c.loop.invariant.1 in
+    rw (p.1, p.2) (says_too (IsOfNext text before) (IsOfRest these) c.in_err-give.field-0.0 (λ files first r is.
+    (further these before.files.items files c.loop.invariant.1 (begins_too text before files r is.1), inl (is.0, later_refused text before files r is.1 c.loop.invariant.0 some))) c.in_err-give.ensures.refused)
+
+pub loop-preserved : goal.loop-preserved
+loop-preserved g c =
+    let more = c.in_ok-give.ensures.read c.in-Some.path.now (sym c.in-Some.ensures) in
+    let before = c.loop.sources.files.items in
+    let after = c.give.new.sources.files.items in
+    (c.in_ok-give.ensures.sources, further c.args.sources.now.files.items before after c.loop.invariant.1 (grown before after more.0 more.2))

@@ -1,0 +1,74 @@
+-- Why a program isn't lowered: what is said of it holds of its files.
+use Rattle.std.specs.Prelude.{◌≡◌, ◌⊎◌, ◌<◌, ℕ, IsSomeAnd, List, [], map, slice_get, string_bytes}
+use Rattle.lft_sources.specs.declared.source.SourceFile.{SourceFile}
+use Rattle.lft_sources.specs.declared.stop.Refusal.{Refusal}
+use Rattle.lft_sources.specs.declared.stop.Stop.TheVariants as stop
+use Rattle.lft_sources.specs.declared.why.Why.{Why}
+use Rattle.lft_sources.specs.declared.why.Why.TheVariants as why
+use Rattle.lft_imports.specs.Files.{IsImported, IsRefusedFor, RefusesNext}
+use Rattle.lft_imports.specs.Paths.{normal}
+use Rattle.lft_imports.specs.declared.sources.Sources.{Sources}
+use Rattle.lft_tree.specs.ItemView.{item_view}
+use Rattle.lft_tree.specs.Tree.{ItemTree}
+use Rattle.lft_core_text.specs.CoreTexts.{IsRefused}
+use Rattle.lft_core_text.specs.declared.text.CoreFault.TheVariants as faults
+use Rattle.lft_settings.specs.declared.settings.Settings.{Settings}
+use Rattle.lft_lower.specs.Causes.{HasCause}
+use Rattle.lft_lower.specs.Programs.{target_in}
+use Rattle.lft_lower.specs.Reactors.{IsLowering}
+use Rattle.lft_lower.specs.declared.making.Lowering.{Lowering}
+use Rattle.lft_lowered.specs.Lowered.{AreFilesOf, BeginWith, BeginsAs}
+
+-- the refusal is of the first file, which has this path, and is refused for this text
+abbrev pub IsOfFirst : List ℕ → List ℕ → List SourceFile → Refusal → Type 0
+IsOfFirst path text files r = (r.place.file ≡ 0) × IsSomeAnd (slice_get files 0) (λ file. (string_bytes file.path ≡ normal path) × IsRefusedFor text file r.place.token r.why)
+
+-- the refusal is of a later file, whose path an import means; it is refused for some text, the one that was read there
+abbrev pub IsOfImported : List SourceFile → Refusal → Type 0
+IsOfImported files r = (0 < r.place.file) × IsSomeAnd (slice_get files r.place.file) (λ file. IsImported files (string_bytes file.path) × ((text : List ℕ) × IsRefusedFor text file r.place.token r.why))
+
+-- the refusal is of a file behind the first, of which nothing is said first; or of an import whose file can't be read
+abbrev pub IsOfLater : List SourceFile → List ℕ → Refusal → Type 0
+IsOfLater files first r = ((first ≡ []) × IsOfImported files r) ⊎ (r.why ≡ why.NotRead)
+
+-- the refusal is of the text of the program, of which nothing is said first; or it is read, and the refusal is of what it imports
+abbrev pub IsOfReading : List ℕ → List ℕ → List SourceFile → List ℕ → Refusal → Type 0
+IsOfReading path text files first r = ((first ≡ []) × IsOfFirst path text files r) ⊎ (BeginWith path text files × IsOfLater files first r)
+
+-- the core tree has no text, and the cause says why
+abbrev pub HasNoText : List ℕ → List ItemTree → Why → Type 0
+HasNoText target items w = ((w ≡ why.TooLong) × IsRefused target items faults.TooLong) ⊎ ((w ≡ why.Unexpected) × IsRefused target items faults.NotPrintable)
+
+-- the program of these files is lowered to a core tree that has no text; the refusal is of the main reactor
+abbrev pub IsOfCore : List SourceFile → Refusal → Type 0
+IsOfCore files r = (settings : Settings) × (items : List ItemTree) × IsLowering files settings items × (r.place ≡ settings.work.main) × HasNoText (target_in files) items r.why
+
+-- the refusal is of the program of these files, and its cause holds; nothing is said first
+abbrev pub IsOfFiles : List SourceFile → List ℕ → Refusal → Type 0
+IsOfFiles files first r = (first ≡ []) × (HasCause files (stop.Refused r) ⊎ IsOfCore files r)
+
+-- The refusal is of a file as the program of this path and this text is read; or of all its files, and its cause holds.
+abbrev pub IsOfProgram : List ℕ → List ℕ → List SourceFile → List ℕ → Refusal → Type 0
+IsOfProgram path text files first r = IsOfReading path text files first r ⊎ (AreFilesOf path text files × IsOfFiles files first r)
+
+-- ---- for the crate's own contracts
+
+-- the refusal is of one of these files: the file that it imports can't be read
+abbrev pub IsOfUnread : List SourceFile → List SourceFile → List ℕ → Refusal → Type 0
+IsOfUnread these files first r = (files ≡ these) × (r.why ≡ why.NotRead)
+
+-- the refusal is of the file that was to be read next, for this text; nothing is said first
+abbrev pub IsOfNext : List ℕ → Sources → List SourceFile → List ℕ → Refusal → Type 0
+IsOfNext text sources files first r = (first ≡ []) × RefusesNext text sources files (stop.Refused r)
+
+-- the refusal is of a file that is read behind these
+abbrev pub IsOfRest : List SourceFile → List SourceFile → List ℕ → Refusal → Type 0
+IsOfRest these files first r = BeginsAs these files × IsOfLater files first r
+
+-- these are the files, the refusal is of their program, and its cause holds
+abbrev pub AreRefused : List SourceFile → List SourceFile → List ℕ → Refusal → Type 0
+AreRefused these files first r = (files ≡ these) × IsOfFiles files first r
+
+-- the refusal is of the core tree of this lowering, of these files: it has no text; nothing is said first
+abbrev pub IsNoText : Lowering → List SourceFile → List ℕ → Refusal → Type 0
+IsNoText lowering files first r = (files ≡ lowering.files.now) × (first ≡ []) × (r.place ≡ lowering.settings.work.main) × HasNoText (target_in files) (map item_view lowering.items.items) r.why

@@ -1,0 +1,5 @@
+mod Apart
+pub mod Cuts
+pub mod Growing
+mod Placed
+pub mod Refusing

@@ -1,0 +1,32 @@
+use Rattle.std.proofs.Common.{◌≡◌, Some, slice_get, take, sym, ap, ◌∙◌, arith}
+use Rattle.std.proofs.lemmas.List.{take_all}
+use Rattle.std.proofs.lemmas.Option.{slice_get-get_or}
+use Rattle.std.proofs.lemmas.Result.{err_from_is_err_and}
+use Rattle.lft_meanings.specs.Meanings.{all_places, here}
+use Rattle.lft_meanings.proofs.Placed.{cut_next}
+use Rattle.lft_meanings.specs.Refused.{IsOfReference, IsPassed}
+use Rattle.lft_meanings.proofs.Refusing.{of_this}
+use Rattle.lft_meanings.proofs.places.some_places.Goals as goal
+
+pub loop-place-preserved : goal.loop-place-preserved
+loop-place-preserved c =
+    let items = c.args.references.now in
+    let place = c.loop-place.place in
+    let item = c.index-references-place.result in
+    let test = c.loop-place-test.true in
+    let there : slice_get items place ≡ Some item = slice_get-get_or items place item (omega arith) ∙ ap Some (sym c.index-references-place.is) in
+    cut_next (here c.args.within) items place item c.args.most _ _ there c.loop-place.invariant c.in_ok-push_some.ensures.places
+
+pub returns-clause-places : goal.returns-clause-places
+returns-clause-places c = c.loop-place.invariant ∙ ap (λ rs. take c.args.most (all_places (here c.args.within) rs)) (take_all c.loop-place.place c.args.references.now c.loop-place-test.false)
+
+pub returns-in_err-push_some-clause-cause : goal.returns-in_err-push_some-clause-cause
+returns-in_err-push_some-clause-cause c =
+    let p = err_from_is_err_and c.from_residual.result c.from_residual.ensures.1 in
+    let items = c.args.references.now in
+    let place = c.loop-place.place in
+    let item = c.index-references-place.result in
+    let test = c.loop-place-test.true in
+    let there : slice_get items place ≡ Some item = slice_get-get_or items place item (omega arith) ∙ ap Some (sym c.index-references-place.is) in
+    let w = c.args.within in
+    rw (p.1, p.2) (of_this (IsOfReference (here w) w.file) (IsPassed w.settings.now.work.main) items place item c.in_err-push_some.field-0.0 there c.in_err-push_some.ensures.cause)

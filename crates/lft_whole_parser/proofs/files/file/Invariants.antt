@@ -1,0 +1,17 @@
+use Rattle.std.proofs.Common.{◌-◌, Ok}
+use Rattle.lft_whole_parts.specs.Language.{on}
+use Rattle.lft_whole_parts.specs.Lexeme.{is_there}
+use Rattle.lft_whole_parser.specs.Files as Files
+use Rattle.lft_whole_parts.specs.View.{file_view}
+use Rattle.lft_whole_parts.specs.Parsing.{count, Within, source}
+use Rattle.lft_whole_parts.proofs.Loop.{Loop}
+use Rattle.lft_whole_parser.proofs.files.file.Given as goal
+
+abbrev pub invariant-items : goal.invariant-items
+invariant-items l = record {
+  within : Within l.input l.next;
+  read : Loop (λ _. on is_there) Files.next_top (source l.input) (λ a. Ok a.0) (file_view l.file) l.next (Files.whole_file (source l.input));
+}
+
+abbrev pub decreases-items : goal.decreases-items
+decreases-items l = count l.input - l.next

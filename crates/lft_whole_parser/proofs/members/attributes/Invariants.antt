@@ -1,0 +1,15 @@
+use Rattle.std.proofs.Common.{◌-◌, Ok}
+use Rattle.lft_whole_parts.specs.Language.{sign}
+use Rattle.lft_whole_parser.specs.Grammar as Grammar
+use Rattle.lft_whole_parts.specs.Parsing.{count, NotBefore, source}
+use Rattle.lft_whole_parts.proofs.Loop.{Loop}
+use Rattle.lft_whole_parser.proofs.members.attributes.Given as goal
+
+abbrev pub invariant-attributes : goal.invariant-attributes
+invariant-attributes l = record {
+  within : NotBefore l.input l.fn.at l.next;
+  read : Loop (λ _. sign 64) Grammar.next_attribute (source l.input) (λ a. Ok (a.0, a.1)) l.is_enclave l.next (Grammar.attributes (source l.input) l.fn.at);
+}
+
+abbrev pub decreases-attributes : goal.decreases-attributes
+decreases-attributes l = count l.input - l.next

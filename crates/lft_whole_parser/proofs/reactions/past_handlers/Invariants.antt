@@ -1,0 +1,15 @@
+use Rattle.std.proofs.Common.{◌-◌, Ok}
+use Rattle.lft_whole_parts.specs.Language.{ignored}
+use Rattle.lft_whole_parser.specs.Grammar as Grammar
+use Rattle.lft_whole_parts.specs.Parsing.{count, NotBefore, source}
+use Rattle.lft_whole_parts.proofs.Loop.{Loop}
+use Rattle.lft_whole_parser.proofs.reactions.past_handlers.Given as goal
+
+abbrev pub invariant-handlers : goal.invariant-handlers
+invariant-handlers l = record {
+  within : NotBefore l.input l.fn.at l.next;
+  read : Loop (λ _. Grammar.on_handler) (λ _. ignored Grammar.handler) (source l.input) (λ a. Ok (a.0, a.1)) tt l.next (Grammar.handlers (source l.input) l.fn.at);
+}
+
+abbrev pub decreases-handlers : goal.decreases-handlers
+decreases-handlers l = count l.input - l.next

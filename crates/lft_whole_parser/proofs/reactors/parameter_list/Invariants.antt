@@ -1,0 +1,16 @@
+use Rattle.std.proofs.Common.{◌-◌, Ok, map}
+use Rattle.lft_whole_parts.specs.Language.{sign, isnt, symbol, one_more, listed, ◌>>=◌}
+use Rattle.lft_whole_parser.specs.Grammar as Grammar
+use Rattle.lft_whole_parts.specs.Parsing.{count, NotBefore, source}
+use Rattle.lft_whole_parts.proofs.Loop.{Loop}
+use Rattle.lft_whole_parts.specs.View.{parameter_view}
+use Rattle.lft_whole_parser.proofs.reactors.parameter_list.Given as goal
+
+abbrev pub invariant-list : goal.invariant-list
+invariant-list l = record {
+  within : NotBefore l.input l.fn.at l.next;
+  read : Loop (λ _. isnt (sign 41)) (one_more (listed 41 Grammar.parameter)) (source l.input) (λ a. symbol 41 (source l.input) a.1 >>= λ b. Ok (a.0, b.1)) (map parameter_view l.parameters.items) l.next (Grammar.parameter_list (source l.input) l.fn.at);
+}
+
+abbrev pub decreases-list : goal.decreases-list
+decreases-list l = count l.input - l.next

@@ -1,0 +1,170 @@
+//! Ports, timers, actions, and what is declared and has no part in the tree.
+
+ghost use Rattle.std.specs.Prelude.{◌≡◌, ◌<◌, ◌≤◌, true, IfOk, IfErr};
+ghost use Rattle.lft_whole_parts.specs.Parsing.{count, Within, Further, NotBefore, Refuses, source};
+ghost use Rattle.lft_whole_parser.specs.Grammar as Grammar;
+ghost use Rattle.lft_whole_parts.specs.View.{Gives, at_next, port_view, timer_view, action_view};
+
+use lft_whole::{Action, Port, Timer, TreeFault};
+use lft_whole_parts::groups::group;
+use lft_whole_parts::input::Input;
+use lft_whole_parts::names::{name, skip_name};
+use lft_whole_parts::tokens::{code, is_key, key, past_key};
+use lft_whole_parts::types::typed;
+use lft_whole_parts::values::{initial, two_values};
+use lft_whole_parts::widths::width;
+
+/// `input` or `output`: whether it is `input`.
+#[tactic(auto, unfolding(crate::specs::Grammar::direction))]
+fn direction(input: &Input, at: usize) -> Result<(bool, usize), TreeFault>
+    requires { Within input.now at }
+    ensures gives { Gives (λ x. (x.0, x.1)) result (Grammar.direction (source input.now) at) }
+    ensures ok { IfOk result (λ x. Further input.now at x.1) }
+    ensures err { IfErr result (Refuses input.now) }
+{
+    if is_key(input, at, b"input") {
+        return Ok((true, at + 1));
+    }
+    let end = key(input, at, b"output")?;
+    Ok((false, end))
+}
+
+#[tactic(auto, unfolding(crate::specs::Grammar::port))]
+pub fn port(input: &Input, at: usize) -> Result<(Port, usize), TreeFault>
+    requires { Within input.now at }
+    ensures gives { Gives (λ x. (port_view x.0, x.1)) result (Grammar.port (source input.now) at) }
+    ensures ok { IfOk result (λ x. Further input.now at x.1) }
+    ensures err { IfErr result (Refuses input.now) }
+{
+    let first = past_key(input, at, b"mutable");
+    let (is_input, bracket) = direction(input, first)?;
+    let (width, word) = width(input, bracket)?;
+    let (name, colon) = name(input, word)?;
+    let (_, end) = typed(input, colon)?;
+    Ok((
+        Port {
+            name,
+            is_input,
+            width,
+        },
+        end,
+    ))
+}
+
+#[tactic(auto, unfolding(crate::specs::Grammar::timer))]
+pub fn timer(input: &Input, at: usize) -> Result<(Timer, usize), TreeFault>
+    requires { Within input.now at }
+    ensures gives { Gives (λ x. (timer_view x.0, x.1)) result (Grammar.timer (source input.now) at) }
+    ensures ok { IfOk result (λ x. Further input.now at x.1) }
+    ensures err { IfErr result (Refuses input.now) }
+{
+    let word = key(input, at, b"timer")?;
+    let (name, opening) = name(input, word)?;
+    let (offset, period, end) = two_values(input, opening)?;
+    Ok((
+        Timer {
+            name,
+            offset,
+            period,
+        },
+        end,
+    ))
+}
+
+/// `logical` or `physical`: whether it is `physical`.
+#[tactic(auto, unfolding(crate::specs::Grammar::origin))]
+fn origin(input: &Input, at: usize) -> Result<(bool, usize), TreeFault>
+    requires { Within input.now at }
+    ensures gives { Gives (λ x. (x.0, x.1)) result (Grammar.origin (source input.now) at) }
+    ensures ok { IfOk result (λ x. Further input.now at x.1) }
+    ensures err { IfErr result (Refuses input.now) }
+{
+    if is_key(input, at, b"physical") {
+        return Ok((true, at + 1));
+    }
+    let end = key(input, at, b"logical")?;
+    Ok((false, end))
+}
+
+#[tactic(auto, unfolding(crate::specs::Grammar::action))]
+pub fn action(input: &Input, at: usize) -> Result<(Action, usize), TreeFault>
+    requires { Within input.now at }
+    ensures gives { Gives (λ x. (action_view x.0, x.1)) result (Grammar.action (source input.now) at) }
+    ensures ok { IfOk result (λ x. Further input.now at x.1) }
+    ensures err { IfErr result (Refuses input.now) }
+{
+    let (is_physical, word) = origin(input, at)?;
+    let behind = key(input, word, b"action")?;
+    let (name, opening) = name(input, behind)?;
+    let (min_delay, spacing, colon) = two_values(input, opening)?;
+    let (_, end) = typed(input, colon)?;
+    Ok((
+        Action {
+            name,
+            is_physical,
+            min_delay,
+            spacing,
+        },
+        end,
+    ))
+}
+
+/// Whether the word here says how far a preamble is seen.
+fn is_scope(input: &Input, at: usize) -> bool
+    ensures is { result ≡ Grammar.on_scope (source input.now) at }
+    ensures inside { result ≡ true → at < count input.now }
+{
+    is_key(input, at, b"private") || is_key(input, at, b"public")
+}
+
+/// Whether a preamble begins here.
+pub fn is_preamble(input: &Input, at: usize) -> bool
+    ensures is { result ≡ Grammar.on_preamble (source input.now) at }
+    ensures inside { result ≡ true → at < count input.now }
+{
+    is_scope(input, at) || is_key(input, at, b"preamble")
+}
+
+#[tactic(auto, unfolding(crate::specs::Grammar::preamble))]
+pub fn preamble(input: &Input, at: usize) -> Result<usize, TreeFault>
+    requires { Within input.now at }
+    ensures gives { Gives at_next result (Grammar.preamble (source input.now) at) }
+    ensures ok { IfOk result (Further input.now at) }
+    ensures err { IfErr result (Refuses input.now) }
+{
+    let word = if is_scope(input, at) { at + 1 } else { at };
+    let body = key(input, word, b"preamble")?;
+    code(input, body)
+}
+
+/// A state variable, also one with `reset`.
+#[tactic(auto, unfolding(crate::specs::Grammar::state))]
+pub fn state(input: &Input, at: usize) -> Result<usize, TreeFault>
+    requires { Within input.now at }
+    ensures gives { Gives at_next result (Grammar.state (source input.now) at) }
+    ensures ok { IfOk result (Further input.now at) }
+    ensures err { IfErr result (Refuses input.now) }
+{
+    let word = past_key(input, at, b"reset");
+    let first = key(input, word, b"state")?;
+    let colon = skip_name(input, first)?;
+    let (_, behind) = typed(input, colon)?;
+    let (_, end) = initial(input, behind)?;
+    Ok(end)
+}
+
+/// A method, also one with `const`.
+#[tactic(auto, unfolding(crate::specs::Grammar::method))]
+pub fn method(input: &Input, at: usize) -> Result<usize, TreeFault>
+    requires { Within input.now at }
+    ensures gives { Gives at_next result (Grammar.method (source input.now) at) }
+    ensures ok { IfOk result (Further input.now at) }
+    ensures err { IfErr result (Refuses input.now) }
+{
+    let word = past_key(input, at, b"const");
+    let first = key(input, word, b"method")?;
+    let opening = skip_name(input, first)?;
+    let colon = group(input, opening, b'(', b')')?;
+    let (_, body) = typed(input, colon)?;
+    code(input, body)
+}

@@ -1,0 +1,35 @@
+#![tactic(auto)]
+//! The parser of whole Lingua Franca texts: a function for each part, from the place of its first token to the part
+//! and the place behind it.
+
+ghost use Rattle.std.specs.Prelude.{IfErr};
+ghost use Rattle.lft_whole.specs.Tokens.{AreTokens};
+ghost use Rattle.lft_whole.specs.Places.{IsAmong};
+ghost use Rattle.lft_whole_parser.specs.Files.{reads};
+ghost use Rattle.lft_whole_parts.specs.View.{Gives, file_view};
+
+mod connections;
+mod declarations;
+mod files;
+mod instances;
+mod members;
+mod reactions;
+mod reactors;
+
+use lft_whole::{File, Tokens, TreeFault};
+use lft_whole_parts::input::Input;
+use std::alloc::Global;
+
+/// The tree of a text, from the text and its tokens.
+pub fn parse(alloc: Global, text: &[u8], tokens: &Tokens) -> Result<File, TreeFault>
+    requires lexed { AreTokens text.now tokens.now }
+    ensures tree { Gives file_view result (reads text.now tokens.now) }
+    ensures fault { IfErr result (IsAmong tokens.now) }
+{
+    let input = Input {
+        alloc,
+        text,
+        tokens: tokens.as_slice(),
+    };
+    files::file(&input)
+}

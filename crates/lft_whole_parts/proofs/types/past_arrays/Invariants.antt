@@ -1,0 +1,15 @@
+use Rattle.std.proofs.Common.{◌-◌, Ok}
+use Rattle.lft_whole_parts.specs.Language.{ignored, sign, group}
+use Rattle.lft_whole_parts.specs.Parts as Parts
+use Rattle.lft_whole_parts.specs.Parsing.{count, NotBefore, source}
+use Rattle.lft_whole_parts.proofs.Loop.{Loop}
+use Rattle.lft_whole_parts.proofs.types.past_arrays.Given as goal
+
+abbrev pub invariant-arrays : goal.invariant-arrays
+invariant-arrays l = record {
+  within : NotBefore l.input l.fn.at l.next;
+  read : Loop (λ _. (sign 91)) (λ _. ignored (group 91 93)) (source l.input) (λ a. Ok (a.0, a.1)) tt l.next (Parts.arrays (source l.input) l.fn.at);
+}
+
+abbrev pub decreases-arrays : goal.decreases-arrays
+decreases-arrays l = count l.input - l.next

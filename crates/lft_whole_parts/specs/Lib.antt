@@ -1,0 +1,6 @@
+pub mod Language
+pub mod Lexeme
+pub mod Parsing
+pub mod Parts
+pub mod Tree
+pub mod View
