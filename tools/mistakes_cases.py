@@ -402,6 +402,7 @@ def lowerings():
     case("a full device, for what is lowered", ["lower", "blink.lf"], {"status": 2, "err": "fault write 1 Failed\n"}, where="full")
     case("no words after `lower`", ["lower"], refused("error: the following required arguments were not provided:\n  <PROGRAM>\n"))
     case("two programs to lower", ["lower", "blink.lf", "blink.lf"], refused("error: unexpected argument 'blink.lf' found\n"))
+    case("the names in the place of the program", ["lower", "blink.lf", "--names", "blink.lf"], refused("error: `--names` would write over PROGRAM\n"))
     case("no path for the names", ["lower", "blink.lf", "--names"], refused("error: a value is required for '--names <TABLE>' but none was supplied\n"))
 
 

@@ -1,30 +1,29 @@
 -- Lists of which all are so, item by item.
-use Rattle.std.proofs.Common.{◌≡◌, ℕ, zero, suc, ◌+◌, ◌<◌, ◌≤◌, Bool, true, List, [], ◌∷◌, length, take, take_all, add-one, Some, slice_get, get_or, sym, subst, refl, arith}
+use Rattle.std.proofs.Common.{◌≡◌, ℕ, zero, suc, ◌<◌, Bool, true, false, List, [], ◌∷◌, length, map, slice_index_or, get_or, refl, arith}
+use Rattle.std.specs.Bool.{Decides, MatchBool}
+use Rattle.std.specs.List.{AllWithin, HoldsAt}
+use Rattle.std.proofs.lemmas.Bool.{false≢true}
 use Rattle.lft_syntax.proofs.Pieces.{letter_in_word}
 use Rattle.lft_tree.specs.Tree.{RefTree}
 use Rattle.lft_printed.specs.Words.{AllAre, AreSide, IsRef}
 use Rattle.lft_printed.specs.Layout.{AllOf, IsWord}
 use Rattle.lft_lists.specs.Bytes.{is_letter, is_word}
 
-module _ {X : Type 0} (Good : X → Type 0) where
-  more : (xs : List X) (i : ℕ) (x : X) → slice_get xs i ≡ Some x → Good x → AllAre Good (take i xs) → AllAre Good (take (suc i) xs)
-  more [] i x e g h = absurd (cc)
-  more (y ∷ xs) zero x e g h = let same : x ≡ y = cc in (subst Good same g, tt)
-  more (y ∷ xs) (suc i) x e g h = (h.0, more xs i x e g h.1)
+-- what a test of each item says of their trees
+module _ {T X : Type 0} (view : T → X) (Good : X → Type 0) where
+  all_good : (xs : List T) → ((k : ℕ) (d : T) → k < length xs → Good (view (slice_index_or xs k d))) → AllAre Good (map view xs)
+  all_good [] h = tt
+  all_good (x ∷ xs) h = (h 0 x (omega arith), all_good xs (λ k d l. h (suc k) d (omega (arith, l))))
 
-  -- one turn of a loop
-  pub next : (xs : List X) (i : ℕ) (x : X) → slice_get xs i ≡ Some x → Good x → AllAre Good (take i xs) → AllAre Good (take (i + 1) xs)
-  next xs i x e g h = subst (λ n. AllAre Good (take n xs)) (sym (add-one i)) (more xs i x e g h)
+  good_at : (xs : List T) (k : ℕ) (d : T) → k < length xs → AllAre Good (map view xs) → Good (view (slice_index_or xs k d))
+  good_at [] k d l h = absurd (omega (arith, l))
+  good_at (x ∷ xs) zero d l h = h.0
+  good_at (x ∷ xs) (suc k) d l h = good_at xs k d (omega (arith, l)) h.1
 
-  -- and each of them
-  pub one : (xs : List X) (i : ℕ) (x : X) → slice_get xs i ≡ Some x → AllAre Good xs → Good x
-  one [] i x e h = absurd (cc)
-  one (y ∷ xs) zero x e h = let same : x ≡ y = cc in subst Good (sym same) h.0
-  one (y ∷ xs) (suc i) x e h = one xs i x e h.1
-
-  -- its end
-  pub all : (xs : List X) (i : ℕ) → length xs ≤ i → AllAre Good (take i xs) → AllAre Good xs
-  all xs i l h = subst (AllAre Good) (take_all i xs l) h
+  pub tested : (r : Bool) (xs : List T) → MatchBool r (AllWithin (λ x. Good (view x)) xs 0 (length xs)) ((k : ℕ) × (k < length xs) × HoldsAt (λ x. Good (view x) → ⊥) xs k) → Decides r (AllAre Good (map view xs))
+  tested true xs m = (λ _. all_good xs (λ k d l. m k d (omega arith) l), λ _. refl)
+  tested false [] m = absurd (omega (arith, m.1))
+  tested false (x ∷ xs) m = (λ t. absurd (false≢true t), λ w. absurd (m.2 x (good_at (x ∷ xs) m.0 x m.1 w)))
 
 -- bytes of which each is of a class
 pub all_of : (class : ℕ → Bool) (bs : List ℕ) → ((k : ℕ) → k < length bs → class (get_or bs k 0) ≡ true) → AllOf class bs

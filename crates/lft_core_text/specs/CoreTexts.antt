@@ -5,7 +5,7 @@ use Rattle.lft_syntax.specs.Lexes.{Lexes}
 use Rattle.lft_syntax.specs.View.{lexemes}
 use Rattle.lft_tree.specs.Tree.{FileTree, ItemTree}
 use Rattle.lft_syntax.specs.Grammar.{Spells}
-use Rattle.lft_printed.specs.Read.{IsRead}
+use Rattle.lft_printed.specs.Read.{tree_text}
 use Rattle.lft_printed.specs.Words.{AllAre, IsFree, IsItem}
 use Rattle.lft_core_text.specs.declared.text.CoreFault.{CoreFault}
 use Rattle.lft_core_text.specs.declared.text.CoreFault.TheVariants as faults
@@ -18,16 +18,16 @@ pub record IsCore (text : List ℕ) : Type 0 where
   pub lexed : Lexes text tokens
   pub spelled : Spells tree (lexemes text tokens)
 
--- a tree that is printed: its names are none of the reserved words, and nothing that the text needs is left out
+-- a tree that can be printed: its names are free, what the text needs is there, and nothing is a preamble or a state variable
 abbrev pub CanPrint : List ℕ → List ItemTree → Type 0
 CanPrint target items = IsFree target × AllAre IsItem items
 
--- a text of the tree is longer than a program's text may be
-abbrev pub IsTooLong : List ItemTree → Type 0
-IsTooLong items = (text : List ℕ) × IsRead text items × (1048576 < length text)
+-- the text of the tree is longer than a program's text may be
+abbrev pub IsTooLong : List ℕ → List ItemTree → Type 0
+IsTooLong target items = 1048576 < length (tree_text target items)
 
 -- why a tree has no text
 abbrev pub IsRefused : List ℕ → List ItemTree → CoreFault → Type 0
 IsRefused target items faults.NotPrintable = CanPrint target items → ⊥
-IsRefused target items faults.TooLong = IsTooLong items
+IsRefused target items faults.TooLong = IsTooLong target items
 IsRefused target items faults.NoMemory = Unit {0}

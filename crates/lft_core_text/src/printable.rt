@@ -1,10 +1,10 @@
 //! Whether a core tree can be printed.
 
-ghost use Rattle.std.specs.Prelude.{map, option_map, string_bytes};
+ghost use Rattle.std.specs.Prelude.{IfSome, map, option_map, string_bytes};
 ghost use Rattle.std.specs.Bool.{Decides};
 ghost use Rattle.lft_tree.specs.ItemView.{time_view, ref_view, timer_view, action_view, trigger_view, assignment_view, parameter_view, reaction_view, instance_view, connection_view, member_view, reactor_view, item_view};
 ghost use Rattle.lft_tree.specs.Tree.{TimerMember, ActionMember, ReactionMember, InstanceMember, ConnectionMember};
-ghost use Rattle.lft_printed.specs.Words.{IsFree, IsCount, IsTime, IsMaybe, AllAre, IsRef, IsParam, AreTimes, IsTrigger, IsAssignment, AreSide, IsPrinted, IsHead, IsReactor, IsItem};
+ghost use Rattle.lft_printed.specs.Words.{IsFree, IsCount, IsTime, AllAre, IsRef, IsParameter, IsFiring, IsTrigger, IsAssignment, AreSide, IsPrintable, IsHead, IsReactor, IsItem};
 ghost use Rattle.lft_core_text.specs.CoreTexts.{CanPrint};
 
 use crate::words::is_free;
@@ -33,7 +33,7 @@ fn is_time(time: &TimeExpression) -> bool
 }
 
 fn is_maybe_time(time: &Option<TimeExpression>) -> bool
-    ensures { Decides result (IsMaybe IsTime (option_map time_view time.now)) }
+    ensures { Decides result (IfSome (option_map time_view time.now) IsTime) }
 {
     match time {
         Some(time) => is_time(time),
@@ -42,7 +42,7 @@ fn is_maybe_time(time: &Option<TimeExpression>) -> bool
 }
 
 fn is_maybe_free(name: &Option<String>) -> bool
-    ensures { Decides result (IsMaybe IsFree (option_map string_bytes name.now)) }
+    ensures { Decides result (IfSome (option_map string_bytes name.now) IsFree) }
 {
     match name {
         Some(name) => is_free(name),
@@ -53,21 +53,13 @@ fn is_maybe_free(name: &Option<String>) -> bool
 fn is_reference(reference: &Reference) -> bool
     ensures { Decides result (IsRef (ref_view reference.now)) }
 {
-    if !is_free(&reference.head) {
-        return false;
-    }
-    is_maybe_free(&reference.port)
+    is_free(&reference.head) && is_maybe_free(&reference.port)
 }
 
 fn are_references(references: &[Reference]) -> bool
     ensures { Decides result (AllAre IsRef (map ref_view references.now)) }
 {
-    'each: for place in 0..references.len() {
-        if !is_reference(&references[place]) {
-            return false;
-        }
-    }
-    true
+    references.iter().all(|reference| is_reference(reference))
 }
 
 fn is_trigger(trigger: &Trigger) -> bool
@@ -83,65 +75,41 @@ fn is_trigger(trigger: &Trigger) -> bool
 fn are_triggers(triggers: &[Trigger]) -> bool
     ensures { Decides result (AllAre IsTrigger (map trigger_view triggers.now)) }
 {
-    'each: for place in 0..triggers.len() {
-        if !is_trigger(&triggers[place]) {
-            return false;
-        }
-    }
-    true
+    triggers.iter().all(|trigger| is_trigger(trigger))
 }
 
 fn is_assignment(assignment: &Assignment) -> bool
     ensures { Decides result (IsAssignment (assignment_view assignment.now)) }
 {
-    if !is_free(&assignment.name) {
-        return false;
-    }
-    is_time(&assignment.value)
+    is_free(&assignment.name) && is_time(&assignment.value)
 }
 
 fn are_assignments(assignments: &[Assignment]) -> bool
     ensures { Decides result (AllAre IsAssignment (map assignment_view assignments.now)) }
 {
-    'each: for place in 0..assignments.len() {
-        if !is_assignment(&assignments[place]) {
-            return false;
-        }
-    }
-    true
+    assignments
+        .iter()
+        .all(|assignment| is_assignment(assignment))
 }
 
 fn is_parameter(parameter: &Parameter) -> bool
-    ensures { Decides result (IsParam (parameter_view parameter.now)) }
+    ensures { Decides result (IsParameter (parameter_view parameter.now)) }
 {
-    if !is_free(&parameter.name) {
-        return false;
-    }
-    is_count(parameter.default)
+    is_free(&parameter.name) && is_count(parameter.default)
 }
 
 fn are_parameters(parameters: &[Parameter]) -> bool
-    ensures { Decides result (AllAre IsParam (map parameter_view parameters.now)) }
+    ensures { Decides result (AllAre IsParameter (map parameter_view parameters.now)) }
 {
-    'each: for place in 0..parameters.len() {
-        if !is_parameter(&parameters[place]) {
-            return false;
-        }
-    }
-    true
+    parameters.iter().all(|parameter| is_parameter(parameter))
 }
 
 /// Whether a period has an offset before it, and both are times.
 fn are_times(offset: &Option<TimeExpression>, period: &Option<TimeExpression>) -> bool
-    ensures { Decides result (AreTimes (option_map time_view offset.now) (option_map time_view period.now)) }
+    ensures { Decides result (IsFiring (option_map time_view offset.now) (option_map time_view period.now)) }
 {
     match offset {
-        Some(offset) => {
-            if !is_time(offset) {
-                return false;
-            }
-            is_maybe_time(period)
-        }
+        Some(offset) => { is_time(offset) && is_maybe_time(period) }
         None => match period {
             Some(_) => false,
             None => true,
@@ -150,45 +118,29 @@ fn are_times(offset: &Option<TimeExpression>, period: &Option<TimeExpression>) -
 }
 
 fn is_timer(timer: &Timer) -> bool
-    ensures { Decides result (IsPrinted (TimerMember (timer_view timer.now))) }
+    ensures { Decides result (IsPrintable (TimerMember (timer_view timer.now))) }
 {
-    if !is_free(&timer.name) {
-        return false;
-    }
-    are_times(&timer.offset, &timer.period)
+    is_free(&timer.name) && are_times(&timer.offset, &timer.period)
 }
 
 fn is_action(action: &Action) -> bool
-    ensures { Decides result (IsPrinted (ActionMember (action_view action.now))) }
+    ensures { Decides result (IsPrintable (ActionMember (action_view action.now))) }
 {
-    if !is_free(&action.name) {
-        return false;
-    }
-    is_maybe_time(&action.min_delay)
+    is_free(&action.name) && is_maybe_time(&action.min_delay)
 }
 
 fn is_reaction(reaction: &Reaction) -> bool
-    ensures { Decides result (IsPrinted (ReactionMember (reaction_view reaction.now))) }
+    ensures { Decides result (IsPrintable (ReactionMember (reaction_view reaction.now))) }
 {
-    if !are_triggers(&reaction.triggers) {
-        return false;
-    }
-    if !are_references(&reaction.uses) {
-        return false;
-    }
-    are_references(&reaction.effects)
+    are_triggers(&reaction.triggers)
+        && are_references(&reaction.uses)
+        && are_references(&reaction.effects)
 }
 
 fn is_instance(instance: &Instance) -> bool
-    ensures { Decides result (IsPrinted (InstanceMember (instance_view instance.now))) }
+    ensures { Decides result (IsPrintable (InstanceMember (instance_view instance.now))) }
 {
-    if !is_free(&instance.name) {
-        return false;
-    }
-    if !is_free(&instance.reactor) {
-        return false;
-    }
-    are_assignments(&instance.given)
+    is_free(&instance.name) && is_free(&instance.reactor) && are_assignments(&instance.given)
 }
 
 fn is_side(references: &[Reference]) -> bool
@@ -201,19 +153,15 @@ fn is_side(references: &[Reference]) -> bool
 }
 
 fn is_connection(connection: &Connection) -> bool
-    ensures { Decides result (IsPrinted (ConnectionMember (connection_view connection.now))) }
+    ensures { Decides result (IsPrintable (ConnectionMember (connection_view connection.now))) }
 {
-    if !is_side(&connection.sources) {
-        return false;
-    }
-    if !is_side(&connection.destinations) {
-        return false;
-    }
-    is_maybe_time(&connection.delay)
+    is_side(&connection.sources)
+        && is_side(&connection.destinations)
+        && is_maybe_time(&connection.delay)
 }
 
 fn is_member(member: &Member) -> bool
-    ensures { Decides result (IsPrinted (member_view member.now)) }
+    ensures { Decides result (IsPrintable (member_view member.now)) }
 {
     match member {
         Member::Port(port) => is_free(&port.name),
@@ -228,14 +176,9 @@ fn is_member(member: &Member) -> bool
 }
 
 fn are_members(members: &[Member]) -> bool
-    ensures { Decides result (AllAre IsPrinted (map member_view members.now)) }
+    ensures { Decides result (AllAre IsPrintable (map member_view members.now)) }
 {
-    'each: for place in 0..members.len() {
-        if !is_member(&members[place]) {
-            return false;
-        }
-    }
-    true
+    members.iter().all(|member| is_member(member))
 }
 
 /// Whether a reactor without a name is the main one.
@@ -251,13 +194,9 @@ fn is_head(is_main: bool, name: &Option<String>) -> bool
 fn is_reactor(reactor: &Reactor) -> bool
     ensures { Decides result (IsReactor (reactor_view reactor.now)) }
 {
-    if !is_head(reactor.is_main, &reactor.name) {
-        return false;
-    }
-    if !are_parameters(&reactor.parameters) {
-        return false;
-    }
-    are_members(&reactor.members)
+    is_head(reactor.is_main, &reactor.name)
+        && are_parameters(&reactor.parameters)
+        && are_members(&reactor.members)
 }
 
 fn is_item(item: &Item) -> bool
@@ -272,20 +211,12 @@ fn is_item(item: &Item) -> bool
 fn are_items(items: &[Item]) -> bool
     ensures { Decides result (AllAre IsItem (map item_view items.now)) }
 {
-    'each: for place in 0..items.len() {
-        if !is_item(&items[place]) {
-            return false;
-        }
-    }
-    true
+    items.iter().all(|item| is_item(item))
 }
 
 /// Whether a tree of this target and these items can be printed.
 pub(crate) fn are_printable(target: &str, items: &[Item]) -> bool
     ensures { Decides result (CanPrint target.now (map item_view items.now)) }
 {
-    if !is_free(target) {
-        return false;
-    }
-    are_items(items)
+    is_free(target) && are_items(items)
 }

@@ -1,8 +1,8 @@
 //! The text of a core tree.
 
-ghost use Rattle.std.specs.Prelude.{◌≤◌, map, length, IfErr, IfOk, string_bytes};
+ghost use Rattle.std.specs.Prelude.{◌≡◌, ◌≤◌, map, length, IfErr, IfOk, string_bytes};
 ghost use Rattle.lft_tree.specs.ItemView.{item_view};
-ghost use Rattle.lft_printed.specs.Read.{IsRead};
+ghost use Rattle.lft_printed.specs.Read.{IsRead, tree_text};
 ghost use Rattle.lft_core_text.specs.CoreTexts.{IsRefused};
 
 use crate::printable::are_printable;
@@ -14,7 +14,7 @@ use std::alloc::{AllocError, Global};
 /// Why a tree has no text.
 #[derive(Clone, Copy, Debug, PartialEq, Eq)]
 pub enum CoreFault {
-    /// A name in it is none of the core, or a part that it needs is left out.
+    /// A name in it is none of the core, a part that it needs is left out, or a preamble or a state variable is in it.
     NotPrintable,
     /// The text has more bytes than are read.
     TooLong,
@@ -35,6 +35,7 @@ impl From<AllocError> for CoreFault {
 
 /// The text of a core tree of this target and these items. It is read as this tree.
 pub fn core_text(alloc: Global, target: &str, items: &[Item]) -> Result<String, CoreFault>
+    ensures text { IfOk result (λ text. string_bytes text ≡ tree_text target.now (map item_view items.now)) }
     ensures read { IfOk result (λ text. IsRead (string_bytes text) (map item_view items.now)) }
     ensures refused { IfErr result (IsRefused target.now (map item_view items.now)) }
     ensures short { IfOk result (λ text. length (string_bytes text) ≤ 1048576) }

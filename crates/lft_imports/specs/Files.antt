@@ -1,14 +1,16 @@
 -- The files of a program: which paths are asked for, and which file each import names.
-use Rattle.std.specs.Prelude.{◌≡◌, ◌<◌, ◌↔◌, ◌⊎◌, ℕ, List, [], ◌∷◌, ◌++◌, Option, Some, None, IsSomeAnd, length, map, slice_get, string_bytes}
+use Rattle.std.specs.Prelude.{◌≡◌, ◌<◌, ◌↔◌, ◌⊎◌, ℕ, All, List, [], ◌∷◌, ◌++◌, Option, Some, None, IsSomeAnd, length, map, slice_get, string_bytes}
 use Rattle.std.specs.BTreeMap.{get_by_text}
 use Rattle.std.specs.Str.{IsUtf8}
 use Rattle.lft_whole.specs.declared.tree.Import.{Import}
 use Rattle.lft_sources.specs.declared.source.SourceFile.{SourceFile}
+use Rattle.lft_sources.specs.declared.stop.Place.{Place}
 use Rattle.lft_sources.specs.declared.stop.Stop.{Stop}
 use Rattle.lft_sources.specs.declared.stop.Stop.TheVariants as stop
 use Rattle.lft_sources.specs.declared.why.Why.{Why}
 use Rattle.lft_sources.specs.declared.why.Why.TheVariants.{NotRead}
 use Rattle.lft_imports.specs.declared.asked.Asked.{Asked}
+use Rattle.lft_imports.specs.declared.asked.Wanted.{Wanted}
 use Rattle.lft_imports.specs.declared.reading.Text.{Text}
 use Rattle.lft_imports.specs.declared.sources.Sources.{Sources}
 use Rattle.lft_imports.specs.Paths.{meaning}
@@ -30,13 +32,9 @@ EachOnce paths = (i j : ℕ) (path : List ℕ) → slice_get paths i ≡ Some pa
 abbrev pub IsKnown : Asked → Type 0
 IsKnown asked = (path : List ℕ) (number : ℕ) → (get_by_text asked.known path ≡ Some number) ↔ (slice_get (paths_of asked) number ≡ Some path)
 
--- All that stands in the one list stands at the same place in the other.
-abbrev pub GoesOn : List (List ℕ) → List (List ℕ) → Type 0
-GoesOn before after = (k : ℕ) (path : List ℕ) → slice_get before k ≡ Some path → slice_get after k ≡ Some path
-
--- Each import in a file of that path has the number of the path that it means.
+-- Each import in a file of that path has the number of the path that it means, and there are no other numbers.
 abbrev pub AreNumbered : List (List ℕ) → List ℕ → List Import → List ℕ → Type 0
-AreNumbered paths path imports numbers = (i : ℕ) (import : Import) → slice_get imports i ≡ Some import → IsSomeAnd (slice_get numbers i) (λ number. slice_get paths number ≡ Some (meaning path import.path.items))
+AreNumbered paths path imports numbers = (length numbers ≡ length imports) × ((i : ℕ) (import : Import) → slice_get imports i ≡ Some import → IsSomeAnd (slice_get numbers i) (λ number. slice_get paths number ≡ Some (meaning path import.path.items)))
 
 -- Each import of the file has the number of the path that it means.
 abbrev pub IsNumbered : List (List ℕ) → SourceFile → Type 0
@@ -46,25 +44,40 @@ IsNumbered paths file = AreNumbered paths (string_bytes file.path) file.tree.imp
 abbrev pub HasImport : List ℕ → List Import → List ℕ → Type 0
 HasImport importer imports path = (i : ℕ) × IsSomeAnd (slice_get imports i) (λ import. meaning importer import.path.items ≡ path)
 
--- An import of one of the files means the path.
-abbrev pub IsImported : List SourceFile → List ℕ → Type 0
-IsImported files path = (k : ℕ) × IsSomeAnd (slice_get files k) (λ file. HasImport (string_bytes file.path) file.tree.imports.items path)
+-- Imports of the files lead from the one path to the other, in none, one or more steps.
+pub data LeadsTo (files : List SourceFile) (from : List ℕ) : List ℕ → Type 0 where
+  itself : LeadsTo files from from
+  further : {path : List ℕ} (k : ℕ) (file : SourceFile) → LeadsTo files from (string_bytes file.path) → slice_get files k ≡ Some file → HasImport (string_bytes file.path) file.tree.imports.items path → LeadsTo files from path
 
--- Each path of the later list stands at its place in the earlier one, or is such.
-abbrev pub AddsOnly : List (List ℕ) → (List ℕ → Type 0) → List (List ℕ) → Type 0
-AddsOnly before Such after = (k : ℕ) (path : List ℕ) → slice_get after k ≡ Some path → (slice_get before k ≡ Some path) ⊎ Such path
+-- Imports of the files lead from the first of the paths to each.
+abbrev pub AreReached : List SourceFile → List (List ℕ) → Type 0
+AreReached files paths = (k : ℕ) (first path : List ℕ) → slice_get paths 0 ≡ Some first → slice_get paths k ≡ Some path → LeadsTo files first path
+
+-- The import at this place, in one of the files, means the path.
+abbrev pub IsImportOf : List SourceFile → List ℕ → Place → Type 0
+IsImportOf files path place = IsSomeAnd (slice_get files place.file) (λ file. (i : ℕ) × IsSomeAnd (slice_get file.tree.imports.items i) (λ import. (place.token ≡ import.at) × (meaning (string_bytes file.path) import.path.items ≡ path)))
+
+-- The program itself is named by no import. Any other file is named by one, which means its path.
+abbrev pub IsNamedBy : List SourceFile → ℕ → List ℕ → Option Place → Type 0
+IsNamedBy files number path None = number ≡ 0
+IsNamedBy files number path (Some place) = (0 < number) × IsImportOf files path place
+
+-- So are those that are wanted, each by the import that is kept with it.
+abbrev pub AreNamed : List SourceFile → List Wanted → Type 0
+AreNamed files wanted = (k : ℕ) (one : Wanted) → slice_get wanted k ≡ Some one → IsNamedBy files k (string_bytes one.path) one.import
 
 -- Each of the files has the tree of a text, and the spots of its tokens.
 abbrev pub AreOfTexts : List SourceFile → Type 0
 AreOfTexts files = (k : ℕ) (file : SourceFile) → slice_get files k ≡ Some file → (t : List ℕ) × HasTree t file.spots.items file.tree
 
--- The files that are read are the first of the paths that are asked for, and have the trees of texts; each import of them has its number, and each path but the first is asked for by one of these.
+-- The files that are read are the first of the paths that are asked for, and have the trees of texts; each import of them has its number, and imports of them lead to each path, and name it.
 pub record AreSources (sources : Sources) : Type 0 where
   pub known : IsKnown sources.asked
   pub read : (k : ℕ) (file : SourceFile) → slice_get sources.files.items k ≡ Some file → slice_get (paths_of sources.asked) k ≡ Some (string_bytes file.path)
   pub trees : AreOfTexts sources.files.items
   pub numbered : (k : ℕ) (file : SourceFile) → slice_get sources.files.items k ≡ Some file → IsNumbered (paths_of sources.asked) file
-  pub imported : (k : ℕ) (path : List ℕ) → 0 < k → slice_get (paths_of sources.asked) k ≡ Some path → IsImported sources.files.items path
+  pub reached : AreReached sources.files.items (paths_of sources.asked)
+  pub named : AreNamed sources.files.items sources.asked.paths.items
 
 -- The path that is to be read next, if not all are read.
 abbrev pub next_path : Sources → Option (List ℕ)
@@ -97,6 +110,14 @@ RefusesNext t before files (stop.Refused refusal) = (file : SourceFile) × (next
 RefusesNext t before files stop.NoMemory = Unit {0}
 
 -- ---- for the crate's own contracts
+
+-- The later list is the earlier one, and such behind it.
+abbrev pub Adds : {X : Type 0} → List X → (X → Type 0) → List X → Type 0
+Adds {X} before Such after = (more : List X) × All Such more × (after ≡ before ++ more)
+
+-- An import in the file of that number and path means the path that is wanted, and is kept with it.
+abbrev pub IsAskedBy : ℕ → List ℕ → List Import → Wanted → Type 0
+IsAskedBy number path imports wanted = (i : ℕ) × IsSomeAnd (slice_get imports i) (λ import. (wanted.import ≡ Some (record { file = number; token = import.at })) × (meaning path import.path.items ≡ string_bytes wanted.path))
 
 -- The refusal is of a path that is no UTF-8, of an import of the file of that number.
 abbrev pub IsUnread : ℕ → List Import → Stop → Type 0

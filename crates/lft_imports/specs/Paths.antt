@@ -1,4 +1,4 @@
--- The paths of files, without `.` and `..` as far as a path itself says.
+-- The paths of files, in their normal form.
 use Rattle.std.specs.Prelude.{ℕ, ◌-◌, Bool, true, false, not, ◌==◌, ◌||◌, if◌then◌else◌, List, [], ◌∷◌, ◌++◌, Option, Some, None, length, slice_get, take, flat_map, codes}
 use Rattle.std.specs.List.{fold, slice_split}
 use Rattle.std.specs.Str.{bytes_eq}
@@ -53,7 +53,7 @@ abbrev pub joined : Bool → List (List ℕ) → List ℕ
 joined from_root [] = if from_root then codes "/" else codes "."
 joined from_root (folder ∷ folders) = root from_root ++ folder ++ slashed folders
 
--- A path without `.` and `..`.
+-- The normal form of a path: `..` stands only at its front, and `.` only alone.
 abbrev pub normal : List ℕ → List ℕ
 normal path = joined (is_absolute path) (walked (is_absolute path) [] path)
 

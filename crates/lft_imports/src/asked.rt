@@ -2,7 +2,7 @@
 
 ghost use Rattle.std.specs.Prelude.{◌≡◌, ℕ, List, ◌∷◌, ◌++◌, None, Some, [], IfErr, IfOk, OnOk, slice_get, string_bytes};
 ghost use Rattle.std.specs.BTreeMap.{get_by_text};
-ghost use Rattle.lft_imports.specs.Files.{AddsOnly, AreNumbered, GoesOn, HasImport, IsKnown, IsUnread, paths_of};
+ghost use Rattle.lft_imports.specs.Files.{Adds, AreNumbered, IsAskedBy, IsKnown, IsUnread, paths_of};
 
 use crate::paths::imported;
 use lft_sources::{Place, Stop, Why};
@@ -31,7 +31,7 @@ impl Asked {
     pub(crate) fn new(alloc: Global) -> Asked
         ensures known { IsKnown result }
         ensures none { (path : List ℕ) → get_by_text result.known path ≡ None }
-        ensures empty { paths_of result ≡ [] }
+        ensures empty { result.paths.items ≡ [] }
     {
         Asked {
             paths: Vec::new(alloc),
@@ -44,7 +44,7 @@ impl Asked {
         requires known { IsKnown self.old }
         requires new { get_by_text self.old.known (string_bytes path) ≡ None }
         ensures known { OnOk result (IsKnown self.new) }
-        ensures paths { OnOk result (paths_of self.new ≡ paths_of self.old ++ string_bytes path ∷ []) }
+        ensures paths { OnOk result (self.new.paths.items ≡ self.old.paths.items ++ record { path = path; import = import } ∷ []) }
     {
         self.known.insert(path.clone()?, self.paths.len())?;
         self.paths.push(Wanted { path, import })?;
@@ -55,8 +55,7 @@ impl Asked {
     pub(crate) fn number(&mut self, path: String, import: Option<Place>) -> Result<usize, NoMemory>
         requires { IsKnown self.old }
         ensures known { OnOk result (IsKnown self.new) }
-        ensures kept { OnOk result (GoesOn (paths_of self.old) (paths_of self.new)) }
-        ensures added { OnOk result (AddsOnly (paths_of self.old) (λ other. other ≡ string_bytes path) (paths_of self.new)) }
+        ensures added { OnOk result (Adds self.old.paths.items (λ wanted. wanted ≡ record { path = path; import = import }) self.new.paths.items) }
         ensures number { IfOk result (λ n. slice_get (paths_of self.new) n ≡ Some (string_bytes path)) }
     {
         match self.known.get(path.as_str()).copied() {
@@ -79,8 +78,7 @@ impl Asked {
     ) -> Result<Vec<usize>, Stop>
         requires { IsKnown self.old }
         ensures known { OnOk result (IsKnown self.new) }
-        ensures kept { OnOk result (GoesOn (paths_of self.old) (paths_of self.new)) }
-        ensures added { OnOk result (AddsOnly (paths_of self.old) (HasImport path.now imports.now) (paths_of self.new)) }
+        ensures added { OnOk result (Adds self.old.paths.items (IsAskedBy file path.now imports.now) self.new.paths.items) }
         ensures numbers { IfOk result (λ numbers. AreNumbered (paths_of self.new) path.now imports.now numbers.items) }
         ensures refused { IfErr result (IsUnread file imports.now) }
     {

@@ -1,4 +1,4 @@
-//! Paths of files, without `.` and `..`.
+//! Paths of files, in their normal form.
 
 ghost use Rattle.std.specs.Prelude.{◌≡◌, ◌-◌, [], IfOk, OnOk, length, map, slice_get, string_bytes};
 ghost use Rattle.lft_imports.specs.Paths.{back, is_absolute as is_from_root, is_back as leads_back, is_folder, joined as path_of, meaning, normal as normal_path, root as root_of, stays as leads_nowhere, step, walked};
@@ -119,7 +119,7 @@ fn joined(alloc: Global, from_root: bool, folders: &[&str]) -> Result<String, Al
     Ok(path)
 }
 
-/// A path without `.` and `..`, as far as the path itself says.
+/// The normal form of a path: `..` stands only at its front, and `.` only alone.
 pub(crate) fn normal(alloc: Global, path: &str) -> Result<String, AllocError>
     ensures { IfOk result (λ text. string_bytes text ≡ normal_path path.now) }
 {
@@ -128,7 +128,7 @@ pub(crate) fn normal(alloc: Global, path: &str) -> Result<String, AllocError>
     joined(alloc, from_root, &folders)
 }
 
-/// The path that an import means in the file of another path, without `.` and `..`.
+/// The path that an import means in the file of another path, in its normal form.
 pub(crate) fn imported(alloc: Global, importer: &str, path: &str) -> Result<String, AllocError>
     ensures { IfOk result (λ text. string_bytes text ≡ meaning importer.now path.now) }
 {

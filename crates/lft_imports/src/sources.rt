@@ -1,8 +1,8 @@
 //! The files of a program: which is to be read next, and which file each import names.
 
-ghost use Rattle.std.specs.Prelude.{◌≡◌, [], ◌∷◌, None, IfErr, IfOk, OnOk, option_and_then, option_map, length, slice_get};
+ghost use Rattle.std.specs.Prelude.{◌≡◌, [], ◌∷◌, None, IfErr, IfOk, IfSome, OnOk, option_and_then, option_map, length, slice_get};
 ghost use Rattle.lft_imports.specs.Paths.{normal as normal_path};
-ghost use Rattle.lft_imports.specs.Files.{AddsOnly, AreNumbered, AreSources, EachOnce, GoesOn, HasImport, HasOneMore, IsKnown, IsRefusalOf, IsWhole, RefusesNext, next_path, paths_of, paths_of_files};
+ghost use Rattle.lft_imports.specs.Files.{Adds, AreNumbered, AreSources, EachOnce, HasOneMore, IsAskedBy, IsKnown, IsNamedBy, IsRefusalOf, IsWhole, RefusesNext, next_path, paths_of, paths_of_files};
 ghost use Rattle.lft_imports.specs.Orders.{IsOrder, import_of};
 
 use crate::asked::Asked;
@@ -23,8 +23,7 @@ fn numbers_of(
 ) -> Result<Vec<usize>, Stop>
     requires { IsKnown asked.old }
     ensures known { OnOk result (IsKnown asked.new) }
-    ensures kept { OnOk result (GoesOn (paths_of asked.old) (paths_of asked.new)) }
-    ensures added { OnOk result (AddsOnly (paths_of asked.old) (HasImport path.now read.now.tree.imports.items) (paths_of asked.new)) }
+    ensures added { OnOk result (Adds asked.old.paths.items (IsAskedBy number path.now read.now.tree.imports.items) asked.new.paths.items) }
     ensures numbers { IfOk result (λ numbers. AreNumbered (paths_of asked.new) path.now read.now.tree.imports.items numbers.items) }
     ensures read { OnOk result (read.now.refused ≡ None) }
     ensures refused { IfErr result (IsRefusalOf number read.now) }
@@ -50,7 +49,7 @@ fn file_of(path: String, read: Text, imports: Vec<usize>) -> SourceFile
     }
 }
 
-/// The files of a program, each once by its path without `.` and `..`. They are read in the order in which they
+/// The files of a program, each once by the normal form of its path. They are read in the order in which they
 /// are asked for: the program itself, what it imports, what these import.
 #[derive(Drop)]
 pub struct Sources {
@@ -87,7 +86,8 @@ impl Sources {
 
     /// The import that names the file that is to be read next. The program itself has none.
     pub fn import(&self) -> Option<Place>
-        ensures { result ≡ option_and_then (λ wanted. wanted.import) (slice_get self.now.asked.paths.items (length self.now.files.items)) }
+        ensures kept { result ≡ option_and_then (λ wanted. wanted.import) (slice_get self.now.asked.paths.items (length self.now.files.items)) }
+        ensures named { AreSources self.now → IfSome (next_path self.now) (λ path. IsNamedBy self.now.files.items (length self.now.files.items) path result) }
     {
         match self.asked.paths.get(self.files.len()) {
             Some(wanted) => wanted.import,
@@ -119,6 +119,7 @@ impl Sources {
         ensures sources { OnOk result (AreSources self.new) }
         ensures read { OnOk result (HasOneMore text.now self.old self.new) }
         ensures refused { IfErr result (RefusesNext text.now self.old self.new.files.items) }
+        ensures none { next_path self.old ≡ None → self.new ≡ self.old }
     {
         let number = self.files.len();
         let Some(wanted) = self.wanted() else {

@@ -43,8 +43,8 @@ pub triggers_run : (h : Here) (r : Reaction) (before : Option (List ℕ)) (old :
 triggers_run h r before old ts is some = adds_none old (λ more. AreTriggers h r before more before ts) (subst (AreTriggers h r before [] before) (sym is) (runs before (λ e. some (is ∙ e))))
 
 -- where they have none the trigger is the action without events
-pub triggers_sleep : (h : Here) (r : Reaction) (name : List ℕ) (before after : Option (List ℕ)) (old now : List Core) (ts : List TriggerTree) → all_triggers h r ≡ [] → Adds old now (IsAsleep h name before) → after ≡ Some name → ts ≡ OnRef (own name) ∷ [] → Adds old now (λ more. AreTriggers h r before more after ts)
-triggers_sleep h r name before after old now ts none adds is one = adds_as old now (IsAsleep h name before) (λ more. AreTriggers h r before more after ts) adds (λ more are. subst (λ a. AreTriggers h r before more a ts) (sym is) (subst (AreTriggers h r before more (Some name)) (sym one) (sleeps name before more none are)))
+pub triggers_sleep : (h : Here) (r : Reaction) (name : List ℕ) (before after : Option (List ℕ)) (old now : List Core) (ts : List TriggerTree) → r.triggers.items ≢ [] → all_triggers h r ≡ [] → Adds old now (IsAsleep h name before) → after ≡ Some name → ts ≡ OnRef (own name) ∷ [] → Adds old now (λ more. AreTriggers h r before more after ts)
+triggers_sleep h r name before after old now ts some none adds is one = adds_as old now (IsAsleep h name before) (λ more. AreTriggers h r before more after ts) adds (λ more are. subst (λ a. AreTriggers h r before more a ts) (sym is) (subst (AreTriggers h r before more (Some name)) (sym one) (sleeps name before more some none are)))
 
 -- a reaction stands behind what its triggers add
 pub reaction_stands : (h : Here) (r : Reaction) (before after : Option (List ℕ)) (old mid now : List Core) (x : Core) (ts : List TriggerTree) → Adds old mid (λ more. AreTriggers h r before more after ts) → now ≡ mid ++ x ∷ [] → member_view x ≡ ReactionMember (reaction_tree h r ts) → Adds old now (λ more. IsReaction h r before more after)

@@ -1,4 +1,5 @@
 mod Adding
+mod Defaults
 mod Joining
 mod Named
 mod Needing

@@ -2,7 +2,7 @@
 use Rattle.std.specs.Prelude.{◌≡◌, ◌≢◌, ◌&&◌, ℕ, zero, Bool, true, false, not, is_some, List, [], ◌∷◌, ◌++◌, Option, Some, None, codes, bytes_eq, filter_map, flat_map, if◌then◌else◌, length, map, option_map, slice_get, slice_index_or, string_bytes, unwrap_or}
 use Rattle.std.specs.List.{All}
 use Rattle.std.specs.Option.{option_and_then}
-use Rattle.lft_tree.specs.Tree.{TimeTree, Written, Named, RefTree, TimerTree, ActionTree, TriggerTree, AtStartup, AtShutdown, OnRef, ReactionTree, AssignmentTree, ConnectionTree, MemberTree, PortMember, TimerMember, ActionMember, ReactionMember, InstanceMember, ConnectionMember}
+use Rattle.lft_tree.specs.Tree.{TimeTree, RefTree, TimerTree, ActionTree, TriggerTree, AtStartup, AtShutdown, OnRef, ReactionTree, AssignmentTree, ConnectionTree, MemberTree, PortMember, TimerMember, ActionMember, ReactionMember, InstanceMember, ConnectionMember}
 use Rattle.lft_tree.specs.View.{member_views}
 use Rattle.lft_tree.specs.declared.tree.Member.{Member as Core}
 use Rattle.lft_whole.specs.declared.tree.Action.{Action}
@@ -31,24 +31,20 @@ use Rattle.lft_settings.specs.Widths.{found_width}
 use Rattle.lft_meanings.specs.Meanings.{Here, Means, all_places, places_in, shape_inside, thing_in}
 use Rattle.lft_meanings.specs.Places.{Several, count_of, names_of}
 use Rattle.lft_lower.specs.declared.connections.Sides.{Sides}
-use Rattle.lft_lower.specs.Times.{time_in}
+use Rattle.lft_lower.specs.Needed.{GivesNeeded, is_timed}
+use Rattle.lft_lower.specs.Times.{IsTime, time_for}
 
 -- ---- times, timers and actions
 
--- the time that a value stands for: that of the parameter whose name it is, or one that is written out
-abbrev pub time_for : Value → Option TimeTree
-time_for (value.Word name) = Some (Named (string_bytes name))
-time_for v = option_map Written (time_in v)
-
--- the same where there may be none
+-- what becomes of a time, where one is written
 abbrev pub time_at : Option Expression → Option TimeTree
 time_at None = None
 time_at (Some e) = time_for e.value
 
 -- the time can be read, where one is written
-abbrev pub IsRead : Option Expression → Type 0
-IsRead None = Unit {0}
-IsRead (Some e) = is_some (time_for e.value) ≡ true
+abbrev pub IsRead : Shape → Option Expression → Type 0
+IsRead shape None = Unit {0}
+IsRead shape (Some e) = IsTime shape e.value
 
 -- the word `forever`
 abbrev pub is_forever : Value → Bool
@@ -59,6 +55,11 @@ is_forever v = false
 abbrev pub period_at : Option Expression → Option TimeTree
 period_at None = None
 period_at (Some e) = if is_forever e.value then None else time_for e.value
+
+-- a period that isn't `forever` can be read, where one is written
+abbrev pub IsPeriod : Shape → Option Expression → Type 0
+IsPeriod shape None = Unit {0}
+IsPeriod shape (Some e) = is_forever e.value ≡ false → IsTime shape e.value
 
 -- a timer has its name, its offset and its period
 abbrev pub timer_tree : Timer → TimerTree
@@ -87,10 +88,6 @@ ports thing input = map (λ name. PortMember (record { name = name; is_input = i
 abbrev pub instances : Several → List ℕ → List AssignmentTree → List MemberTree
 instances thing reactor given = map (λ name. InstanceMember (record { name = name; reactor = reactor; given = given })) (names_of thing)
 
--- whether a time is read from the parameter of this number
-abbrev pub is_timed : Shape → ℕ → Bool
-is_timed shape n = unwrap_or (slice_get shape.timed.items n) false
-
 -- the time that is given to a parameter
 abbrev pub assigned : Shape → Given → Option AssignmentTree
 assigned shape g = option_and_then (λ p. option_map (λ time. record { name = string_bytes p.parameter.now.name.text; value = time }) (time_for g.value.now.value)) (slice_get shape.parameters.items g.parameter)
@@ -99,17 +96,17 @@ assigned shape g = option_and_then (λ p. option_map (λ time. record { name = s
 abbrev pub time_given : Shape → Given → Option AssignmentTree
 time_given shape g = if is_timed shape g.parameter then assigned shape g else None
 
--- a time from which one is read can be read itself
-abbrev pub IsGiven : Shape → Given → Type 0
-IsGiven shape g = is_timed shape g.parameter ≡ true → is_some (assigned shape g) ≡ true
+-- what is given to a parameter from which a time is read can be read as one in the reactor around
+abbrev pub IsGiven : Shape → Shape → Given → Type 0
+IsGiven outer inner g = is_timed inner g.parameter ≡ true → (is_some (assigned inner g) ≡ true) × IsTime outer g.value.now.value
 
 -- the times that an instance gives to the parameters from which times are read
 abbrev pub given_times : Shape → Child → List AssignmentTree
 given_times shape child = filter_map (time_given shape) child.given.items
 
--- the times that the instance of this number gives, which can all be read
+-- the times that the instance of this number gives, which can all be read; none is lacking
 abbrev pub AreGiven : Here → ℕ → List AssignmentTree → Type 0
-AreGiven h n given = (child : Child) × (shape : Shape) × (child_at h.shape.children.items n ≡ Some child) × (shape_inside h n ≡ Some shape) × All (IsGiven shape) child.given.items × (given ≡ given_times shape child)
+AreGiven h n given = (child : Child) × (shape : Shape) × (child_at h.shape.children.items n ≡ Some child) × (shape_inside h n ≡ Some shape) × GivesNeeded shape child × All (IsGiven h.shape shape) child.given.items × (given ≡ given_times shape child)
 
 -- the name of the core reactor of the setting that is in the instance of this number
 abbrev pub reactor_at : List (Option (List ℕ)) → Here → ℕ → Option (List ℕ)
@@ -187,10 +184,10 @@ pub data IsAsleep (h : Here) (name : List ℕ) : Option (List ℕ) → List Memb
   known : IsAsleep h name (Some name) []
   added : thing_named h.shape name ≡ None → IsAsleep h name None (asleep name ∷ [])
 
--- a reaction is triggered by the places of its triggers; where these have none, by the action without events
+-- a reaction is triggered by the places of its triggers; where there are some and these have none, by the action without events
 pub data AreTriggers (h : Here) (r : Reaction) : Option (List ℕ) → List MemberTree → Option (List ℕ) → List TriggerTree → Type 0 where
   runs : (known : Option (List ℕ)) → all_triggers h r ≢ [] → AreTriggers h r known [] known (all_triggers h r)
-  sleeps : (name : List ℕ) (before : Option (List ℕ)) (more : List MemberTree) → all_triggers h r ≡ [] → IsAsleep h name before more → AreTriggers h r before more (Some name) (OnRef (own name) ∷ [])
+  sleeps : (name : List ℕ) (before : Option (List ℕ)) (more : List MemberTree) → r.triggers.items ≢ [] → all_triggers h r ≡ [] → IsAsleep h name before more → AreTriggers h r before more (Some name) (OnRef (own name) ∷ [])
 
 -- a reaction stands behind what its triggers add
 abbrev pub IsReaction : Here → Reaction → Option (List ℕ) → List MemberTree → Option (List ℕ) → Type 0
@@ -201,11 +198,11 @@ IsReaction h r before new after = (triggers : List TriggerTree) × (more : List 
 -- what the member of this number becomes; the name of the action without events, if there is one, before and after; a mode, a mutation or a watchdog becomes nothing at all
 abbrev pub IsLowered : List (Option (List ℕ)) → Here → ℕ → Option (List ℕ) → List MemberTree → Option (List ℕ) → Member → Type 0
 IsLowered names h n before new after (member.Port port) = (after ≡ before) × (new ≡ ports (thing_in h (things.Member n)) port.is_input)
-IsLowered names h n before new after (member.Timer timer) = (after ≡ before) × IsRead timer.offset × IsRead timer.period × (new ≡ TimerMember (timer_tree timer) ∷ [])
-IsLowered names h n before new after (member.Action action) = (after ≡ before) × IsRead action.min_delay × (is_spaced action ≡ false) × (new ≡ ActionMember (action_tree action) ∷ [])
+IsLowered names h n before new after (member.Timer timer) = (after ≡ before) × IsRead h.shape timer.offset × IsPeriod h.shape timer.period × (new ≡ TimerMember (timer_tree timer) ∷ [])
+IsLowered names h n before new after (member.Action action) = (after ≡ before) × IsRead h.shape action.min_delay × (is_spaced action ≡ false) × (new ≡ ActionMember (action_tree action) ∷ [])
 IsLowered names h n before new after (member.Reaction reaction) = MeansAll h reaction × IsReaction h reaction before new after
 IsLowered names h n before new after (member.Instance instance) = (after ≡ before) × AreInstances names h n new
-IsLowered names h n before new after (member.Connection c) = (after ≡ before) × (c.is_physical ≡ false) × MeanSides h c × IsRead c.delay × AreConnected (all_places h c.sources.items) (all_places h c.destinations.items) c.is_broadcast (time_at c.delay) new
+IsLowered names h n before new after (member.Connection c) = (after ≡ before) × (c.is_physical ≡ false) × MeanSides h c × IsRead h.shape c.delay × AreConnected (all_places h c.sources.items) (all_places h c.destinations.items) c.is_broadcast (time_at c.delay) new
 IsLowered names h n before new after (member.Foreign what at) = ⊥
 
 -- the width of the member of this number is known where one is written

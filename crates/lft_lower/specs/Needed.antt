@@ -1,11 +1,15 @@
 -- The times that each instance of a reactor has to give.
-use Rattle.std.specs.Prelude.{◌≡◌, ◌&&◌, ℕ, Bool, true, false, not, is_some, None, count_by, length, option_map, slice_get, unwrap_or}
+use Rattle.std.specs.Prelude.{◌≡◌, ◌&&◌, ℕ, Bool, true, false, not, is_some, List, [], ◌∷◌, None, count_by, length, option_map, slice_get, unwrap_or}
 use Rattle.lft_lowering.specs.Channels.{below}
 use Rattle.lft_settings.specs.Values.{given_to}
 use Rattle.lft_shapes.specs.declared.shapes.Child.{Child}
+use Rattle.lft_shapes.specs.declared.shapes.Given.{Given}
 use Rattle.lft_shapes.specs.declared.shapes.InheritedParameter.{InheritedParameter}
 use Rattle.lft_shapes.specs.declared.shapes.Shape.{Shape}
-use Rattle.lft_lower.specs.Lowered.{is_timed}
+
+-- whether a time is read from the parameter of this number
+abbrev pub is_timed : Shape → ℕ → Bool
+is_timed shape n = unwrap_or (slice_get shape.timed.items n) false
 
 -- the parameter has no default
 abbrev pub is_bare : InheritedParameter → Bool
@@ -18,6 +22,15 @@ is_needed shape p = unwrap_or (option_map is_bare (slice_get shape.parameters.it
 -- an instance gives nothing to such a parameter
 abbrev pub LacksGiven : Shape → Child → Type 0
 LacksGiven inner child = (p : ℕ) × (is_needed inner p ≡ true) × (given_to child.given.items p ≡ None)
+
+-- no parameter is given a value twice
+abbrev pub GivesOnce : List Given → Type 0
+GivesOnce [] = Unit {0}
+GivesOnce (g ∷ gs) = (given_to gs g.parameter ≡ None) × GivesOnce gs
+
+-- an instance gives a value to each such parameter, if it gives none twice
+abbrev pub GivesNeeded : Shape → Child → Type 0
+GivesNeeded inner child = GivesOnce child.given.items → LacksGiven inner child → ⊥
 
 -- ---- for the crate's own contracts
 

@@ -1,5 +1,5 @@
 -- The core reactors of settings.
-use Rattle.std.specs.Prelude.{◌≡◌, ◌↔◌, ℕ, IsTrue, List, [], ◌∷◌, ◌++◌, Option, Some, None, filter_map, if◌then◌else◌, length, option_map, slice_get, slice_index_or, string_bytes}
+use Rattle.std.specs.Prelude.{◌≡◌, ◌↔◌, ℕ, Bool, true, false, IfSome, IsTrue, List, [], ◌∷◌, ◌++◌, Option, Some, None, filter_map, if◌then◌else◌, length, option_map, slice_get, slice_index_or, string_bytes}
 use Rattle.std.specs.List.Sorted.{IsPermutation}
 use Rattle.std.specs.Option.{option_and_then}
 use Rattle.lft_tree.specs.Tree.{ItemTree, MemberTree, ParameterTree, ReactorTree, ReactorItem}
@@ -16,8 +16,10 @@ use Rattle.lft_settings.specs.Noted.{AreSettings, table}
 use Rattle.lft_settings.specs.Settings.{shape_at}
 use Rattle.lft_settings.specs.Used.{AreUsed}
 use Rattle.lft_meanings.specs.Names.{AreApart}
-use Rattle.lft_lower.specs.Lowered.{AreLowered, is_timed}
-use Rattle.lft_lower.specs.Times.{time_in}
+use Rattle.lft_lower.specs.Lowered.{AreLowered}
+use Rattle.lft_lower.specs.Needed.{is_timed}
+use Rattle.lft_lower.specs.Programs.{IsCentralized}
+use Rattle.lft_lower.specs.Times.{IsWritten, time_in}
 
 -- the time of a default; where none is written, each instance gives one, and this one is never read
 abbrev pub default_time : Option Expression → Option Time
@@ -36,15 +38,25 @@ timed_parameter shape n = if is_timed shape n then option_and_then parameter_tre
 abbrev pub timed_parameters : Shape → List ParameterTree
 timed_parameters shape = filter_map (timed_parameter shape) (below (length shape.parameters.items))
 
+-- a default writes out a time; it may be left out where the reactor isn't the main one
+abbrev pub IsDefault : Bool → Option Expression → Type 0
+IsDefault main None = main ≡ false
+IsDefault main (Some e) = IsWritten e.value
+
+-- the parameter of this number is a time and has a default, if a time is read from it
+abbrev pub HasDefault : Bool → Shape → ℕ → Type 0
+HasDefault main shape n = is_timed shape n ≡ true → IfSome (slice_get shape.parameters.items n) (λ p. (p.parameter.now.is_time ≡ true) × IsDefault main p.parameter.now.default)
+
 -- these are what the members of a shape become in a setting of it
 abbrev pub AreMembers : Settings → List (Option (List ℕ)) → ℕ → Shape → List MemberTree → Type 0
 AreMembers s names setting shape members = (never : Option (List ℕ)) × AreLowered names (record { settings = s; setting = setting; shape = shape }) shape.members.items members never
 
--- the core reactor of a setting: the first is the main one; each has its name, the parameters from which times are read, and what its members become
+-- the core reactor of a setting: the first is the main one; each has its name, the parameters from which times are read, with defaults, and what its members become
 pub record IsReactor (s : Settings) (names : List (Option (List ℕ))) (setting : ℕ) (shape : Shape) (r : ReactorTree) : Type 0 where
   pub main : IsTrue r.is_main ↔ (setting ≡ 0)
   pub name : r.name ≡ slice_index_or names setting None
   pub parameters : r.parameters ≡ timed_parameters shape
+  pub defaults : (n : ℕ) → HasDefault r.is_main shape n
   pub members : AreMembers s names setting shape r.members
 
 -- a core reactor for each setting, in order
@@ -66,6 +78,7 @@ pub record IsProgram (files : List SourceFile) (s : Settings) (used : List ℕ) 
 pub record IsLowering (files : List SourceFile) (s : Settings) (items : List ItemTree) : Type 0 where
   pub used : List ℕ
   pub program : IsProgram files s used
+  pub centralized : IsCentralized files s
   pub order : List ℕ
   pub reordered : IsPermutation used order
   pub names : List (Option (List ℕ))

@@ -1,6 +1,5 @@
 -- Why what is written isn't lowered.
-use Rattle.std.specs.Prelude.{◌≡◌, ◌<◌, ◌⊎◌, ◌==◌, ℕ, Bool, true, false, List, [], IsSomeAnd, Option, Some, None, slice_get, string_bytes}
-use Rattle.std.specs.Option.{option_and_then}
+use Rattle.std.specs.Prelude.{◌≡◌, ◌<◌, ◌⊎◌, ◌==◌, ℕ, Bool, true, false, List, [], IsSomeAnd, Option, Some, None, slice_get}
 use Rattle.lft_scope.specs.Causes.{longest}
 use Rattle.lft_tree.specs.Tree.{nanoseconds}
 use Rattle.lft_sources.specs.declared.source.SourceFile.{SourceFile}
@@ -11,9 +10,8 @@ use Rattle.lft_shapes.specs.declared.shapes.Child.{Child}
 use Rattle.lft_shapes.specs.declared.shapes.Given.{Given}
 use Rattle.lft_shapes.specs.declared.shapes.InheritedParameter.{InheritedParameter}
 use Rattle.lft_shapes.specs.declared.shapes.Shape.{Shape}
-use Rattle.lft_shapes.specs.declared.shapes.Thing.{Thing}
-use Rattle.lft_shapes.specs.declared.shapes.Thing.TheVariants as things
-use Rattle.lft_shapes.specs.Shapes.{child_at, thing_named}
+use Rattle.lft_shapes.specs.Refused.{why_of}
+use Rattle.lft_shapes.specs.Shapes.{child_at}
 use Rattle.lft_whole.specs.declared.tree.Action.{Action}
 use Rattle.lft_whole.specs.declared.tree.Connection.{Connection}
 use Rattle.lft_whole.specs.declared.tree.Effect.{Effect}
@@ -31,22 +29,12 @@ use Rattle.lft_settings.specs.declared.settings.Settings.{Settings}
 use Rattle.lft_settings.specs.Settings.{shape_at}
 use Rattle.lft_meanings.specs.Meanings.{Here, shape_inside}
 use Rattle.lft_meanings.specs.Refused.{IsAt, IsOfOne, IsOfReference, IsOfSome, IsPassed}
-use Rattle.lft_lower.specs.Lowered.{is_forever, is_spaced, is_timed}
-use Rattle.lft_lower.specs.Needed.{LacksGiven}
+use Rattle.lft_lower.specs.Lowered.{is_forever, is_spaced}
+use Rattle.lft_lower.specs.Needed.{LacksGiven, is_timed}
 use Rattle.lft_lower.specs.Programs.{decentralized_in}
-use Rattle.lft_lower.specs.Times.{time_in}
+use Rattle.lft_lower.specs.Times.{named_by, time_in}
 
 -- ---- times
-
--- the parameter that a thing is
-abbrev pub parameter_of : Shape → Thing → Option InheritedParameter
-parameter_of shape (things.Parameter n) = slice_get shape.parameters.items n
-parameter_of shape (things.Member n) = None
-
--- the parameter whose name a value is
-abbrev pub named_by : Shape → Value → Option InheritedParameter
-named_by shape (value.Word word) = option_and_then (parameter_of shape) (thing_named shape (string_bytes word))
-named_by shape _ = None
 
 -- the value writes out no time, or one past the greatest
 abbrev pub IsNoWritten : Value → Why → Type 0
@@ -148,7 +136,7 @@ IsOfMember h file n (member.Action action) r = IsOfAction h.shape file action r
 IsOfMember h file n (member.Reaction reaction) r = IsOfReaction h file reaction r
 IsOfMember h file n (member.Instance instance) r = IsOfInstance h file n instance.name.at r
 IsOfMember h file n (member.Connection c) r = IsOfConnection h file c r
-IsOfMember h file n (member.Foreign what at) r = IsAt file at r × (r.why ≡ why.Mode)
+IsOfMember h file n (member.Foreign what at) r = IsAt file at r × (r.why ≡ why_of what)
 
 -- the refusal is of a member of the shape, in the setting
 abbrev pub IsOfMembers : Settings → ℕ → Shape → Refusal → Type 0

@@ -90,7 +90,7 @@ fn bytes_of_reference(reference: &Reference) -> usize {
     reference.head.len().saturating_add(port)
 }
 
-/// How many bytes a delay takes at most, when it is written.
+/// How many bytes a delay takes at least, when it is written.
 fn bytes_of_delay(delay: &Option<TimeExpression>) -> usize {
     match delay {
         Some(time) => bytes_of(time).saturating_add(6),
@@ -201,7 +201,7 @@ pub(crate) fn push_connection(
 ) -> Result<(), Stop>
     ensures logical { OnOk result (connection.now.is_physical ≡ false) }
     ensures mean { OnOk result (MeanSides (here within.entry) connection.now) }
-    ensures read { OnOk result (IsRead connection.now.delay) }
+    ensures read { OnOk result (IsRead within.entry.shape.now connection.now.delay) }
     ensures joined { OnOk result (Adds list.old.items list.new.items (AreConnected (all_places (here within.entry) connection.now.sources.items) (all_places (here within.entry) connection.now.destinations.items) connection.now.is_broadcast (time_at connection.now.delay))) }
     ensures cause { IfErr result (IfRefused (λ r. IsPassed within.entry.settings.now.work.main r ⊎ IsOfConnection (here within.entry) within.entry.file connection.now r)) }
 {

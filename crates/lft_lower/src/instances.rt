@@ -1,6 +1,6 @@
 //! What an instance becomes.
 
-ghost use Rattle.std.specs.Prelude.{◌≡◌, ◌<◌, ◌++◌, ◌⊎◌, [], Some, false, IfErr, IfOk, OnOk, map, option_map};
+ghost use Rattle.std.specs.Prelude.{◌≡◌, ◌<◌, ◌≤◌, ◌++◌, ◌⊎◌, [], Some, false, IfErr, IfOk, OnOk, map, option_map, true};
 ghost use Rattle.std.specs.List.{All, cons_option};
 ghost use Rattle.lft_tree.specs.ItemView.{assignment_view, member_views};
 ghost use Rattle.lft_meanings.specs.Meanings.{here};
@@ -59,7 +59,8 @@ pub(crate) fn needed(alloc: Global, shapes: &[Shape]) -> Result<Vec<usize>, Allo
 
 /// Whether an instance gives so many parameters that it has to give.
 fn gives_needed(inner: &Shape, child: &Child, needed: usize) -> bool
-    ensures { result ≡ false → needed_given inner.now child.now < needed }
+    ensures few { result ≡ false → needed_given inner.now child.now < needed }
+    ensures enough { result ≡ true → needed ≤ needed_given inner.now child.now }
 {
     let mut count: usize = 0;
     for place in 0..child.given.len() {
@@ -79,7 +80,7 @@ fn assigned(
     given: Given,
 ) -> Result<Option<Assignment>, Stop>
     ensures made { IfOk result (λ made. option_map assignment_view made ≡ time_given inner.now given.entry) }
-    ensures read { OnOk result (IsGiven inner.now given.entry) }
+    ensures read { OnOk result (IsGiven outer.now inner.now given.entry) }
     ensures cause { IfErr result (IfRefused (IsOfGiven outer.now file inner.now given.entry)) }
 {
     if !inner.is_timed(given.parameter) {
@@ -115,7 +116,7 @@ fn given_times(
     child: &Child,
 ) -> Result<Vec<Assignment>, Stop>
     ensures given { IfOk result (λ list. map assignment_view list.items ≡ given_times inner.now child.now) }
-    ensures read { OnOk result (All (IsGiven inner.now) child.now.given.items) }
+    ensures read { OnOk result (All (IsGiven outer.now inner.now) child.now.given.items) }
     ensures cause { IfErr result (IfRefused (IsOfSome (IsOfGiven outer.now file inner.now) child.now.given.items)) }
 {
     let mut list = Vec::new(alloc);
@@ -129,7 +130,7 @@ fn given_times(
 
 /// What an instance gives, where it gives all that it has to.
 fn checked(maker: Maker, within: Within, member: usize, at: usize) -> Result<Vec<Assignment>, Stop>
-    ensures given { IfOk result (λ given. AreGiven (here within.entry) member (map assignment_view given.items)) }
+    ensures given { maker.entry.settings.now ≡ within.entry.settings.now → IfOk result (λ given. AreGiven (here within.entry) member (map assignment_view given.items)) }
     ensures cause { maker.entry.settings.now ≡ within.entry.settings.now → IfErr result (IfRefused (λ r. IsPassed within.entry.settings.now.work.main r ⊎ IsOfInstance (here within.entry) within.entry.file member at r)) }
 {
     let Some(child) = within.shape.child(member) else {
@@ -209,7 +210,7 @@ pub(crate) fn push_instances(
     instance: &Written,
     list: &mut Vec<Member>,
 ) -> Result<(), Stop>
-    ensures made { OnOk result (Adds list.old.items list.new.items (AreInstances (texts maker.entry.names.now) (here within.entry) member)) }
+    ensures made { maker.entry.settings.now ≡ within.entry.settings.now → OnOk result (Adds list.old.items list.new.items (AreInstances (texts maker.entry.names.now) (here within.entry) member)) }
     ensures cause { maker.entry.settings.now ≡ within.entry.settings.now → IfErr result (IfRefused (λ r. IsPassed within.entry.settings.now.work.main r ⊎ IsOfInstance (here within.entry) within.entry.file member instance.now.name.at r)) }
 {
     let members = within.member(member);

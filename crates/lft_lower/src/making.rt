@@ -5,7 +5,7 @@ ghost use Rattle.lft_sources.specs.declared.stop.Stop.TheVariants.{NoMemory, Ref
 ghost use Rattle.lft_tree.specs.ItemView.{item_view};
 ghost use Rattle.lft_meanings.specs.Refused.{IfRefused};
 ghost use Rattle.lft_lower.specs.Causes.{HasCause};
-ghost use Rattle.lft_lower.specs.Programs.{decentralized_in, target_in};
+ghost use Rattle.lft_lower.specs.Programs.{IsCentralized, decentralized_in, target_in};
 ghost use Rattle.lft_lower.specs.Reactors.{IsLowering, IsProgram};
 ghost use Rattle.lft_lower.specs.Refused.{IsDecentralized, IsOfFederation, IsOfSettings};
 
@@ -163,7 +163,8 @@ fn notes<'a>(
     settings: &Settings,
     used: &[usize],
 ) -> Result<Notes<'a>, Stop>
-    ensures { IfErr result (IfRefused (IsOfFederation files.now settings.now)) }
+    ensures known { OnOk result (IsCentralized files.now settings.now) }
+    ensures cause { IfErr result (IfRefused (IsOfFederation files.now settings.now)) }
 {
     let mut notes = Notes::of(alloc, files);
     note_target(&mut notes, files)?;

@@ -1,6 +1,6 @@
 //! What a reaction becomes.
 
-ghost use Rattle.std.specs.Prelude.{◌≡◌, ◌++◌, ◌⊎◌, [], ◌∷◌, None, Some, IfErr, IfOk, OnOk, flat_map, map, option_map, string_bytes};
+ghost use Rattle.std.specs.Prelude.{◌≡◌, ◌≢◌, ◌++◌, ◌⊎◌, [], ◌∷◌, None, Some, IfErr, IfOk, OnOk, flat_map, map, option_map, string_bytes};
 ghost use Rattle.std.specs.List.{All};
 ghost use Rattle.lft_tree.specs.ItemView.{member_views, ref_views, trigger_view};
 ghost use Rattle.lft_tree.specs.Tree.{OnRef};
@@ -80,6 +80,7 @@ fn triggers(
     reaction: &Written,
 ) -> Result<Vec<Trigger>, Stop>
     ensures places { IfOk result (λ list. map trigger_view list.items ≡ all_triggers (here within.entry) reaction.now) }
+    ensures some { OnOk result (reaction.now.triggers.items ≢ []) }
     ensures means { OnOk result (All (MeansTrigger (here within.entry)) reaction.now.triggers.items) }
     ensures cause { IfErr result (IfRefused (λ r. IsPassed within.entry.settings.now.work.main r ⊎ AreOfTriggers (here within.entry) within.entry.file reaction.now r)) }
 {

@@ -1,6 +1,6 @@
 //! What a reactor becomes in a setting.
 
-ghost use Rattle.std.specs.Prelude.{◌≡◌, ◌++◌, ◌⊎◌, ℕ, [], ◌∷◌, Some, IfErr, IfOk, OnOk, false, map, option_map, string_bytes};
+ghost use Rattle.std.specs.Prelude.{◌≡◌, ◌++◌, ◌⊎◌, ℕ, [], ◌∷◌, Some, IfErr, IfOk, OnOk, false, map, option_map, string_bytes, true};
 ghost use Rattle.std.specs.List.{cons_option};
 ghost use Rattle.lft_tree.specs.ItemView.{action_view, item_view, member_views, parameter_view, reactor_view, time_view, timer_view};
 ghost use Rattle.lft_tree.specs.Tree.{ActionMember, TimerMember};
@@ -8,9 +8,9 @@ ghost use Rattle.lft_meanings.specs.Meanings.{here};
 ghost use Rattle.lft_meanings.specs.Names.{texts};
 ghost use Rattle.lft_meanings.specs.Places.{several};
 ghost use Rattle.lft_meanings.specs.Refused.{IfRefused, IsOfSome, IsPassed};
-ghost use Rattle.lft_lower.specs.Lowered.{Adds, IsLowered, IsMeasured, IsRead, action_tree, is_spaced, period_at, ports, timer_tree};
+ghost use Rattle.lft_lower.specs.Lowered.{Adds, IsLowered, IsMeasured, IsPeriod, IsRead, action_tree, is_spaced, period_at, ports, timer_tree};
 ghost use Rattle.lft_lower.specs.Refused.{IsOfAction, IsOfDefault, IsOfMember, IsOfMembers, IsOfParameter, IsOfPeriod, IsOfReactor, IsOfSetting, IsOfTimer};
-ghost use Rattle.lft_lower.specs.Reactors.{AreMembers, AreReactors, IsReactor, default_time, timed_parameter, timed_parameters};
+ghost use Rattle.lft_lower.specs.Reactors.{AreMembers, AreReactors, HasDefault, IsDefault, IsReactor, default_time, timed_parameter, timed_parameters};
 
 use crate::connections::push_connection;
 use crate::instances::push_instances;
@@ -21,7 +21,7 @@ use lft_lists::item_at;
 use lft_meanings::notes::Notes;
 use lft_meanings::places::{Wide, Within};
 use lft_meanings::room::Room;
-use lft_shapes::{Inherited, InheritedParameter, Shape, Work};
+use lft_shapes::{Inherited, InheritedParameter, Shape, Work, why_of};
 use lft_sources::{Stop, Why};
 use lft_tree::{Action, Item, Member, Parameter, Port, Reactor, Time, TimeExpression, Timer};
 use lft_whole::{
@@ -33,6 +33,7 @@ use std::alloc::{AllocError, Global};
 /// The default of a time that is needed. One that each instance has to give is 0, which is never read.
 fn default(inherited: InheritedParameter, is_main: bool) -> Result<Time, Stop>
     ensures time { IfOk result (λ time. default_time inherited.entry.parameter.now.default ≡ Some time) }
+    ensures known { OnOk result ((inherited.entry.parameter.now.is_time ≡ true) × IsDefault is_main inherited.entry.parameter.now.default) }
     ensures cause { IfErr result (IfRefused (IsOfDefault is_main inherited.entry)) }
 {
     let InheritedParameter { file, parameter } = inherited;
@@ -65,6 +66,7 @@ fn timed(
     number: usize,
 ) -> Result<Option<Parameter>, Stop>
     ensures made { IfOk result (λ made. option_map parameter_view made ≡ timed_parameter shape.now number) }
+    ensures known { OnOk result (HasDefault is_main shape.now number) }
     ensures cause { IfErr result (IfRefused (λ r. IsPassed work.now.main r ⊎ IsOfParameter is_main shape.now number r)) }
 {
     if !shape.is_timed(number) {
@@ -102,6 +104,7 @@ fn parameters(
     is_main: bool,
 ) -> Result<Vec<Parameter>, Stop>
     ensures made { IfOk result (λ list. map parameter_view list.items ≡ timed_parameters shape.now) }
+    ensures known { OnOk result ((number : ℕ) → HasDefault is_main shape.now number) }
     ensures cause { IfErr result (IfRefused (λ r. IsPassed work.now.main r ⊎ ((number : ℕ) × IsOfParameter is_main shape.now number r))) }
 {
     let mut list = Vec::new(alloc);
@@ -120,7 +123,7 @@ fn period(
     value: &Option<Expression>,
 ) -> Result<Option<TimeExpression>, Stop>
     ensures time { IfOk result (λ time. option_map time_view time ≡ period_at value.now) }
-    ensures read { OnOk result (IsRead value.now) }
+    ensures read { OnOk result (IsPeriod shape.now value.now) }
     ensures cause { IfErr result (IfRefused (IsOfPeriod shape.now file value.now)) }
 {
     match value {
@@ -142,7 +145,7 @@ fn lowered_timer(
     timer: &WrittenTimer,
 ) -> Result<Timer, Stop>
     ensures made { IfOk result (λ made. timer_view made ≡ timer_tree timer.now) }
-    ensures read { OnOk result (IsRead timer.now.offset × IsRead timer.now.period) }
+    ensures read { OnOk result (IsRead shape.now timer.now.offset × IsPeriod shape.now timer.now.period) }
     ensures cause { IfErr result (IfRefused (IsOfTimer shape.now file timer.now)) }
 {
     Ok(Timer {
@@ -161,7 +164,7 @@ fn lowered_action(
     action: &WrittenAction,
 ) -> Result<Action, Stop>
     ensures made { IfOk result (λ made. action_view made ≡ action_tree action.now) }
-    ensures read { OnOk result (IsRead action.now.min_delay) }
+    ensures read { OnOk result (IsRead shape.now action.now.min_delay) }
     ensures spacing { OnOk result (is_spaced action.now ≡ false) }
     ensures cause { IfErr result (IfRefused (IsOfAction shape.now file action.now)) }
 {
@@ -212,7 +215,7 @@ fn push_timer(
     list: &mut Vec<Member>,
 ) -> Result<(), Stop>
     ensures made { OnOk result (member_views list.new.items ≡ member_views list.old.items ++ TimerMember (timer_tree timer.now) ∷ []) }
-    ensures read { OnOk result (IsRead timer.now.offset × IsRead timer.now.period) }
+    ensures read { OnOk result (IsRead within.entry.shape.now timer.now.offset × IsPeriod within.entry.shape.now timer.now.period) }
     ensures cause { IfErr result (IfRefused (λ r. IsPassed within.entry.settings.now.work.main r ⊎ IsOfTimer within.entry.shape.now within.entry.file timer.now r)) }
 {
     room.spend(timer.name.text.len(), &within.settings.work)?;
@@ -229,7 +232,7 @@ fn push_action(
     list: &mut Vec<Member>,
 ) -> Result<(), Stop>
     ensures made { OnOk result (member_views list.new.items ≡ member_views list.old.items ++ ActionMember (action_tree action.now) ∷ []) }
-    ensures read { OnOk result (IsRead action.now.min_delay) }
+    ensures read { OnOk result (IsRead within.entry.shape.now action.now.min_delay) }
     ensures spacing { OnOk result (is_spaced action.now ≡ false) }
     ensures cause { IfErr result (IfRefused (λ r. IsPassed within.entry.settings.now.work.main r ⊎ IsOfAction within.entry.shape.now within.entry.file action.now r)) }
 {
@@ -249,7 +252,7 @@ fn push_member(
     never: &mut Option<String>,
     list: &mut Vec<Member>,
 ) -> Result<(), Stop>
-    ensures made { OnOk result (Adds list.old.items list.new.items (λ more. IsLowered (texts maker.entry.names.now) (here within.entry) number (option_map string_bytes never.old) more (option_map string_bytes never.new) member.now)) }
+    ensures made { maker.entry.settings.now ≡ within.entry.settings.now → OnOk result (Adds list.old.items list.new.items (λ more. IsLowered (texts maker.entry.names.now) (here within.entry) number (option_map string_bytes never.old) more (option_map string_bytes never.new) member.now)) }
     ensures cause { maker.entry.settings.now ≡ within.entry.settings.now → IfErr result (IfRefused (λ r. IsPassed within.entry.settings.now.work.main r ⊎ IsOfMember (here within.entry) within.entry.file number member.now r)) }
 {
     let alloc = maker.alloc;
@@ -287,7 +290,7 @@ fn push_member(
             Ok(())
         }
         // Such a member is refused before a setting is made.
-        Written::Foreign { at, .. } => Err(Stop::at(Why::Mode, within.file, *at)),
+        Written::Foreign { what, at } => Err(Stop::at(why_of(*what), within.file, *at)),
     }
 }
 

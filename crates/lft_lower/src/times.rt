@@ -1,13 +1,11 @@
 //! Times, and the parameters that stand for them.
 
-ghost use Rattle.std.specs.Prelude.{◌≡◌, ◌≤◌, Some, IfErr, IfOk, OnOk, not, option_map};
-ghost use Rattle.lft_tree.specs.Tree.{nanoseconds as nanoseconds_of};
+ghost use Rattle.std.specs.Prelude.{◌≡◌, Some, IfErr, IfOk, OnOk, not, option_map};
 ghost use Rattle.lft_tree.specs.ItemView.{time_view};
-ghost use Rattle.lft_scope.specs.Causes.{longest};
 ghost use Rattle.lft_meanings.specs.Refused.{IfRefused, IsAt};
-ghost use Rattle.lft_lower.specs.Lowered.{IsRead, is_forever, is_some_time, time_at, time_for};
-ghost use Rattle.lft_lower.specs.Refused.{IsNoTime, IsNoWritten, IsOfTime, named_by};
-ghost use Rattle.lft_lower.specs.Times.{time_in};
+ghost use Rattle.lft_lower.specs.Lowered.{IsRead, is_forever, is_some_time, time_at};
+ghost use Rattle.lft_lower.specs.Refused.{IsNoTime, IsNoWritten, IsOfTime};
+ghost use Rattle.lft_lower.specs.Times.{IsTime, IsWritten, named_by, time_for, time_in};
 
 use lft_scope::times::nanoseconds;
 use lft_shapes::{InheritedParameter, Shape, Thing};
@@ -44,7 +42,7 @@ fn time_in(value: &Value) -> Option<Time>
 /// A time that is written out: a whole number with a unit, or 0.
 pub(crate) fn written(file: usize, value: &Expression) -> Result<Time, Stop>
     ensures time { IfOk result (λ time. time_in value.now.value ≡ Some time) }
-    ensures short { IfOk result (λ time. nanoseconds_of time ≤ longest) }
+    ensures short { OnOk result (IsWritten value.now.value) }
     ensures cause { IfErr result (IfRefused (λ r. IsAt file value.now.at r × IsNoWritten value.now.value r.why)) }
 {
     let Some(time) = time_in(&value.value) else {
@@ -94,6 +92,7 @@ pub(crate) fn read_time(
     value: &Expression,
 ) -> Result<TimeExpression, Stop>
     ensures time { IfOk result (λ time. time_for value.now.value ≡ Some (time_view time)) }
+    ensures read { OnOk result (IsTime shape.now value.now.value) }
     ensures cause { IfErr result (IfRefused (λ r. IsAt file value.now.at r × IsNoTime shape.now value.now.value r.why)) }
 {
     let found = named_by(shape, &value.value);
@@ -119,7 +118,7 @@ pub(crate) fn maybe_time(
     value: &Option<Expression>,
 ) -> Result<Option<TimeExpression>, Stop>
     ensures time { IfOk result (λ time. option_map time_view time ≡ time_at value.now) }
-    ensures read { OnOk result (IsRead value.now) }
+    ensures read { OnOk result (IsRead shape.now value.now) }
     ensures cause { IfErr result (IfRefused (IsOfTime shape.now file value.now)) }
 {
     match value {

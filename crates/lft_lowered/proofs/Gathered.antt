@@ -1,17 +1,19 @@
 -- The files of a program, as they are read.
-use Rattle.std.proofs.Common.{◌≡◌, ◌<◌, ℕ, List, [], ◌∷◌, ◌++◌, Some, None, length, refl, subst, sym, ap, ◌∙◌, arith, string_bytes}
-use Rattle.std.specs.Prelude.{IsSomeAnd, slice_get}
+use Rattle.std.proofs.Common.{◌≡◌, ◌<◌, ℕ, inl, inr, List, [], ◌∷◌, ◌++◌, Some, None, length, refl, subst, sym, ap, ◌∙◌, arith, string_bytes}
+use Rattle.std.specs.Prelude.{IfSome, IsSomeAnd, slice_get}
+use Rattle.std.proofs.lemmas.List.{length-map}
 use Rattle.std.proofs.lemmas.Option.{slice_get_within}
-use Rattle.lft_lists.proofs.Places.{get_last, get_push, get_there, Some_same}
+use Rattle.lft_lists.proofs.Places.{get_push, get_push_cases, get_there, Some_same}
 use Rattle.lft_sources.specs.declared.source.SourceFile.{SourceFile}
+use Rattle.lft_sources.specs.declared.stop.Place.{Place}
 use Rattle.lft_sources.specs.declared.stop.Refusal.{Refusal}
 use Rattle.lft_sources.specs.declared.stop.Stop.TheVariants as stop
-use Rattle.lft_imports.specs.Files.{AreSources, HasImport, HasOneMore, IsFileOf, IsImported, IsRefusedFor, RefusesNext, next_path, paths_of}
+use Rattle.lft_imports.specs.Files.{AreSources, HasOneMore, IsFileOf, IsImportOf, IsNamedBy, IsRefusedFor, RefusesNext, next_path, paths_of, paths_of_files}
 use Rattle.lft_imports.specs.Paths.{normal}
 use Rattle.lft_imports.specs.declared.sources.Sources.{Sources}
-use Rattle.lft_imports.proofs.Known.{all_whole, kept}
-use Rattle.lft_lowered.specs.Lowered.{AreFilesOf, BeginWith, BeginsAs}
-use Rattle.lft_lowered.specs.Unlowered.{IsOfFirst, IsOfImported}
+use Rattle.lft_imports.proofs.Known.{all_whole, path_at, read_more}
+use Rattle.lft_lowered.specs.Lowered.{AreFilesOf, BeginWith, BeginsAs, LeadTo}
+use Rattle.lft_lowered.specs.Unlowered.{IsAt, IsOfFirst, IsOfImported, IsOfUnread}
 
 module _ (path text : List ℕ) (s0 : Sources) (none : s0.files.items ≡ []) (paths : paths_of s0.asked ≡ normal path ∷ []) where
   wanted : next_path s0 ≡ Some (normal path)
@@ -51,6 +53,24 @@ grown a b f more file at = subst (λ fs. slice_get fs 0 ≡ Some file) (sym more
 pub further : (a b c : List SourceFile) → BeginsAs a b → BeginsAs b c → BeginsAs a c
 further a b c h k file at = k file (h file at)
 
+-- imports lead to each path that is asked for
+lead_to : (s : Sources) → AreSources s → (paths : List (List ℕ)) → ((k : ℕ) (p : List ℕ) → slice_get paths k ≡ Some p → slice_get (paths_of s.asked) k ≡ Some p) → LeadTo s.files.items paths
+lead_to s sources paths among = record {
+  trees = sources.trees;
+  reached = λ k first path begin at. sources.reached k first path (among 0 first begin) (among k path at);
+  once = λ i j path a b. Some_same i j (sym ((sources.known path i).1 (among i path a)) ∙ (sources.known path j).1 (among j path b));
+}
+
+-- so to the next
+next_lead : (s : Sources) → AreSources s → (path : List ℕ) → next_path s ≡ Some path → LeadTo s.files.items (paths_of_files s.files.items ++ path ∷ [])
+next_lead s sources path next =
+    let files = s.files.items in
+    let paths = paths_of s.asked in
+    lead_to s sources (paths_of_files files ++ path ∷ []) (λ k p at. elim (get_push_cases (paths_of_files files) path k p at) [
+      | inl old ↦ path_at paths files sources.read k p old
+      | inr last ↦ ap (slice_get paths) (last.0 ∙ length-map files (λ (file : SourceFile). string_bytes file.path)) ∙ next ∙ ap Some last.1
+    ])
+
 module _ (text : List ℕ) (s : Sources) (files : List SourceFile) (r : Refusal) (h : RefusesNext text s files (stop.Refused r)) where
   -- a refusal leaves those that were read before
   pub begins_too : BeginsAs s.files.items files
@@ -59,18 +79,30 @@ module _ (text : List ℕ) (s : Sources) (files : List SourceFile) (r : Refusal)
   -- behind the first, it is of a file that is imported
   pub later_refused : AreSources s → 0 < length s.files.items → IsOfImported files r
   later_refused sources some =
-      let old = s.files.items in
-      let file = h.0 in
-      let last : slice_get (old ++ file ∷ []) r.place.file ≡ Some file = ap (slice_get (old ++ file ∷ [])) h.3 ∙ get_last old file in
-      let before : IsImported old (string_bytes file.path) = sources.imported (length old) (string_bytes file.path) some h.1 in
-      let imported : IsImported (old ++ file ∷ []) (string_bytes file.path) = (before.0, kept (λ (f : SourceFile). HasImport (string_bytes f.path) f.tree.imports.items (string_bytes file.path)) old file before.0 before.1) in
-      let here = subst (λ o. IsSomeAnd o (λ (f : SourceFile). IsImported (old ++ file ∷ []) (string_bytes f.path) × ((t : List ℕ) × IsRefusedFor t f r.place.token r.why))) (sym last) (imported, (text, h.4)) in
-      (subst (λ (n : ℕ). 0 < n) (sym h.3) some, subst (λ fs. IsSomeAnd (slice_get fs r.place.file) (λ (f : SourceFile). IsImported fs (string_bytes f.path) × ((t : List ℕ) × IsRefusedFor t f r.place.token r.why))) (sym h.2) here)
+      let paths = paths_of s.asked in
+      let read = read_more paths paths s.files.items h.0 (λ k p at. at) sources.read h.1 in
+      record {
+        before = s.files.items;
+        last = h.0;
+        text = text;
+        all = h.2;
+        some = some;
+        lead = lead_to s sources (paths_of_files files) (λ k p at. path_at paths (s.files.items ++ h.0 ∷ []) read k p (subst (λ fs. slice_get (paths_of_files fs) k ≡ Some p) h.2 at));
+        place = h.3;
+        refused = h.4;
+      }
+
+-- the import of a file that can't be read
+pub unread_at : (s : Sources) (path : List ℕ) (place : Place) → AreSources s → next_path s ≡ Some path → IfSome (next_path s) (λ p. IsNamedBy s.files.items (length s.files.items) p (Some place)) → (files : List SourceFile) (first : List ℕ) (r : Refusal) → IsAt s.files.items place files first r → IsOfUnread s.files.items files first r
+unread_at s path place sources next named files first r is =
+    let these = s.files.items in
+    let import : IsImportOf these path place = (subst (λ o. IfSome o (λ p. IsNamedBy these (length these) p (Some place))) next named).1 in
+    (is.0, (is.1, (path, subst (λ fs. LeadTo fs (paths_of_files fs ++ path ∷ [])) (sym is.0) (next_lead s sources path next), subst (λ fs. IsImportOf fs path r.place) (sym is.0) (subst (IsImportOf these path) (sym is.2) import))))
 
 -- all are read: the first is that of the path, and each import names one
 pub all_read : (path text : List ℕ) (s0 s1 s2 : Sources) → s0.files.items ≡ [] → paths_of s0.asked ≡ normal path ∷ [] → HasOneMore text s0 s1 → BeginsAs s1.files.items s2.files.items → AreSources s2 → next_path s2 ≡ None → AreFilesOf path text s2.files.items
 all_read path text s0 s1 s2 none paths more begins sources over = record {
   first = goes_on path text s1.files.items s2.files.items (first_read path text s0 none paths s1 more) begins;
-  trees = sources.trees;
+  lead = lead_to s2 sources (paths_of_files s2.files.items) (path_at (paths_of s2.asked) s2.files.items sources.read);
   whole = all_whole (paths_of s2.asked) s2.files.items sources.read sources.numbered over;
 }

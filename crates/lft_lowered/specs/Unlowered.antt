@@ -1,11 +1,12 @@
 -- Why a program isn't lowered: what is said of it holds of its files.
-use Rattle.std.specs.Prelude.{◌≡◌, ◌⊎◌, ◌<◌, ℕ, IsSomeAnd, List, [], map, slice_get, string_bytes}
+use Rattle.std.specs.Prelude.{◌≡◌, ◌⊎◌, ◌<◌, ℕ, IsSomeAnd, List, [], ◌∷◌, ◌++◌, length, map, slice_get, string_bytes}
 use Rattle.lft_sources.specs.declared.source.SourceFile.{SourceFile}
+use Rattle.lft_sources.specs.declared.stop.Place.{Place}
 use Rattle.lft_sources.specs.declared.stop.Refusal.{Refusal}
 use Rattle.lft_sources.specs.declared.stop.Stop.TheVariants as stop
 use Rattle.lft_sources.specs.declared.why.Why.{Why}
 use Rattle.lft_sources.specs.declared.why.Why.TheVariants as why
-use Rattle.lft_imports.specs.Files.{IsImported, IsRefusedFor, RefusesNext}
+use Rattle.lft_imports.specs.Files.{IsImportOf, IsRefusedFor, RefusesNext, paths_of_files}
 use Rattle.lft_imports.specs.Paths.{normal}
 use Rattle.lft_imports.specs.declared.sources.Sources.{Sources}
 use Rattle.lft_tree.specs.ItemView.{item_view}
@@ -17,19 +18,30 @@ use Rattle.lft_lower.specs.Causes.{HasCause}
 use Rattle.lft_lower.specs.Programs.{target_in}
 use Rattle.lft_lower.specs.Reactors.{IsLowering}
 use Rattle.lft_lower.specs.declared.making.Lowering.{Lowering}
-use Rattle.lft_lowered.specs.Lowered.{AreFilesOf, BeginWith, BeginsAs}
+use Rattle.lft_lowered.specs.Lowered.{AreFilesOf, BeginWith, BeginsAs, LeadTo}
 
 -- the refusal is of the first file, which has this path, and is refused for this text
 abbrev pub IsOfFirst : List ℕ → List ℕ → List SourceFile → Refusal → Type 0
 IsOfFirst path text files r = (r.place.file ≡ 0) × IsSomeAnd (slice_get files 0) (λ file. (string_bytes file.path ≡ normal path) × IsRefusedFor text file r.place.token r.why)
 
--- the refusal is of a later file, whose path an import means; it is refused for some text, the one that was read there
-abbrev pub IsOfImported : List SourceFile → Refusal → Type 0
-IsOfImported files r = (0 < r.place.file) × IsSomeAnd (slice_get files r.place.file) (λ file. IsImported files (string_bytes file.path) × ((text : List ℕ) × IsRefusedFor text file r.place.token r.why))
+-- the refusal is of the last of the files, for some text; those before it, one at least, lead to it by imports
+pub record IsOfImported (files : List SourceFile) (r : Refusal) : Type 0 where
+  pub before : List SourceFile
+  pub last : SourceFile
+  pub text : List ℕ
+  pub all : files ≡ before ++ last ∷ []
+  pub some : 0 < length before
+  pub lead : LeadTo before (paths_of_files files)
+  pub place : r.place.file ≡ length before
+  pub refused : IsRefusedFor text last r.place.token r.why
+
+-- the refusal is of an import of the files, which lead to a path that isn't one of theirs: the file there can't be read
+abbrev pub IsOfImport : List SourceFile → Refusal → Type 0
+IsOfImport files r = (r.why ≡ why.NotRead) × ((path : List ℕ) × LeadTo files (paths_of_files files ++ path ∷ []) × IsImportOf files path r.place)
 
 -- the refusal is of a file behind the first, of which nothing is said first; or of an import whose file can't be read
 abbrev pub IsOfLater : List SourceFile → List ℕ → Refusal → Type 0
-IsOfLater files first r = ((first ≡ []) × IsOfImported files r) ⊎ (r.why ≡ why.NotRead)
+IsOfLater files first r = ((first ≡ []) × IsOfImported files r) ⊎ IsOfImport files r
 
 -- the refusal is of the text of the program, of which nothing is said first; or it is read, and the refusal is of what it imports
 abbrev pub IsOfReading : List ℕ → List ℕ → List SourceFile → List ℕ → Refusal → Type 0
@@ -53,9 +65,13 @@ IsOfProgram path text files first r = IsOfReading path text files first r ⊎ (A
 
 -- ---- for the crate's own contracts
 
--- the refusal is of one of these files: the file that it imports can't be read
+-- the refusal is of the import at this place in these files: the file that it names can't be read
+abbrev pub IsAt : List SourceFile → Place → List SourceFile → List ℕ → Refusal → Type 0
+IsAt these place files first r = (files ≡ these) × (r.why ≡ why.NotRead) × (r.place ≡ place)
+
+-- so it is of an import of these files
 abbrev pub IsOfUnread : List SourceFile → List SourceFile → List ℕ → Refusal → Type 0
-IsOfUnread these files first r = (files ≡ these) × (r.why ≡ why.NotRead)
+IsOfUnread these files first r = (files ≡ these) × IsOfImport files r
 
 -- the refusal is of the file that was to be read next, for this text; nothing is said first
 abbrev pub IsOfNext : List ℕ → Sources → List SourceFile → List ℕ → Refusal → Type 0

@@ -3,9 +3,10 @@
 ghost use Rattle.std.specs.Prelude.{◌≡◌, IfErr, IfOk, OnOk, map, string_bytes};
 ghost use Rattle.std.specs.Io.KnownBytes.{Appends};
 ghost use Rattle.lft_core_text.specs.CoreTexts.{IsCore};
-ghost use Rattle.lft_printed.specs.Read.{IsRead};
+ghost use Rattle.lft_printed.specs.Read.{IsRead, tree_text};
 ghost use Rattle.lft_tree.specs.ItemView.{item_view};
-ghost use Rattle.lft_lowered.specs.Lowered.{IsCut, IsFailed, IsWritten, Says, WritesLowered, WritesLoweredOf};
+ghost use Rattle.lft_lower.specs.Programs.{target_in};
+ghost use Rattle.lft_lowered.specs.Lowered.{IsAnswer, IsCut, IsFailed, IsLoweredOf, IsLoweredTo, IsWritten, Says, WritesLowered, WritesLoweredOf};
 ghost use Rattle.lft_lowered.specs.Unlowered.{AreRefused, IsNoText, IsOfProgram};
 
 use crate::names::write_names;
@@ -13,7 +14,7 @@ use crate::reading::read_sources;
 use crate::told::{Unlowered, unlowered_by};
 use lft_core_text::{CoreFault, core_text, is_core};
 use lft_imports::Sources;
-use lft_load::{Fault, write_text};
+use lft_load::{Detail, Fault, Part, write_text};
 use lft_lower::{Lowering, lower};
 use lft_sources::Why;
 use std::alloc::Global;
@@ -23,6 +24,7 @@ use std::rt::Files;
 /// The text of the core program of a program that is lowered.
 fn text_of(alloc: Global, lowering: &Lowering) -> Result<String, Unlowered>
     ensures core { IfOk result (λ text. IsCore (string_bytes text)) }
+    ensures text { IfOk result (λ text. string_bytes text ≡ tree_text (target_in lowering.now.files.now) (map item_view lowering.now.items.items)) }
     ensures read { IfOk result (λ text. IsRead (string_bytes text) (map item_view lowering.now.items.items)) }
     ensures refused { IfErr result (Says (IsNoText lowering.now)) }
 {
@@ -36,6 +38,23 @@ fn text_of(alloc: Global, lowering: &Lowering) -> Result<String, Unlowered>
             Err(unlowered_by(alloc, files, lowering.refused(Why::Unexpected), ""))
         }
         Err(CoreFault::NoMemory) => Err(Unlowered::from(Fault::no_memory())),
+    }
+}
+
+/// Writes a core program.
+fn write_core<W: Write>(core: &[u8], out: &mut W) -> Result<(), Unlowered>
+    ensures whole { OnOk result (Appends (W.contents out.old) (W.contents out.new) core.now) }
+    ensures failed { IfErr result IsFailed }
+    ensures cut { IfErr result (IsCut (λ text. text ≡ core.now) (W.contents out.old) (W.contents out.new)) }
+{
+    match write_text(core, out) {
+        Ok(()) => Ok(()),
+        Err(_) => Err(Unlowered::from(Fault {
+            part: Part::Write,
+            number: 1,
+            name: "Failed",
+            detail: Detail::Nothing,
+        })),
     }
 }
 
@@ -59,7 +78,7 @@ fn lower_sources<F: Files, W: Write, E: Write>(
 ) -> Result<(), Unlowered>
     ensures written { OnOk result (WritesLowered sources.now.files.items (W.contents out.old) (W.contents out.new)) }
     ensures refused { IfErr result (Says (AreRefused sources.now.files.items)) }
-    ensures cut { IfErr result (IsCut (W.contents out.old) (W.contents out.new)) }
+    ensures cut { IfErr result (IsCut (λ core. IsCore core × IsLoweredTo sources.now.files.items core) (W.contents out.old) (W.contents out.new)) }
 {
     let files = sources.files();
     let order = sources.order()?;
@@ -71,7 +90,7 @@ fn lower_sources<F: Files, W: Write, E: Write>(
     if let Some(path) = names {
         write_names(rt, alloc, path, Some(&lowering))?;
     }
-    write_text(core.as_bytes(), out)?;
+    write_core(core.as_bytes(), out)?;
     write_notes(&lowering, errors);
     Ok(())
 }
@@ -87,13 +106,12 @@ fn write_own<F: Files, W: Write>(
     requires { IsCore text.now }
     ensures own { OnOk result (Appends (W.contents out.old) (W.contents out.new) text.now) }
     ensures refused { IfErr result IsFailed }
-    ensures cut { IfErr result (IsCut (W.contents out.old) (W.contents out.new)) }
+    ensures cut { IfErr result (IsCut (λ core. core ≡ text.now) (W.contents out.old) (W.contents out.new)) }
 {
     if let Some(path) = names {
         write_names(rt, alloc, path, None)?;
     }
-    write_text(text, out)?;
-    Ok(())
+    write_core(text, out)
 }
 
 /// What `lower_answer` does with a text that isn't core.
@@ -108,7 +126,7 @@ pub fn lower_whole<F: Files, W: Write, E: Write>(
 ) -> Result<(), Unlowered>
     ensures written { OnOk result (WritesLoweredOf path.now text.now (W.contents out.old) (W.contents out.new)) }
     ensures refused { IfErr result (Says (IsOfProgram path.now text.now)) }
-    ensures cut { IfErr result (IsCut (W.contents out.old) (W.contents out.new)) }
+    ensures cut { IfErr result (IsCut (IsLoweredOf path.now text.now) (W.contents out.old) (W.contents out.new)) }
 {
     let sources = read_sources(rt, alloc, path, text)?;
     lower_sources(rt, alloc, &sources, names, out, errors)
@@ -130,7 +148,7 @@ pub fn lower_answer<F: Files, W: Write, E: Write>(
     ensures lowered { (IsCore text.now → ⊥) → OnOk result (WritesLoweredOf path.now text.now (W.contents out.old) (W.contents out.new)) }
     ensures written { OnOk result (IsWritten (W.contents out.old) (W.contents out.new)) }
     ensures refused { IfErr result (Says (IsOfProgram path.now text.now)) }
-    ensures cut { IfErr result (IsCut (W.contents out.old) (W.contents out.new)) }
+    ensures cut { IfErr result (IsCut (IsAnswer path.now text.now) (W.contents out.old) (W.contents out.new)) }
 {
     if is_core(alloc, text)? {
         return write_own(rt, alloc, text, names, out);

@@ -1,9 +1,9 @@
 //! The files of a program, read.
 
-ghost use Rattle.std.specs.Prelude.{◌≡◌, ◌<◌, IfErr, IfOk, None, OnOk, length};
+ghost use Rattle.std.specs.Prelude.{◌≡◌, ◌<◌, IfErr, IfOk, None, OnOk, Some, length};
 ghost use Rattle.lft_imports.specs.Files.{AreSources, HasOneMore, next_path};
 ghost use Rattle.lft_lowered.specs.Lowered.{AreFilesOf, BeginsAs, Says};
-ghost use Rattle.lft_lowered.specs.Unlowered.{IsOfNext, IsOfReading, IsOfRest, IsOfUnread};
+ghost use Rattle.lft_lowered.specs.Unlowered.{IsAt, IsOfNext, IsOfReading, IsOfRest, IsOfUnread};
 
 use crate::told::{Unlowered, unlowered_by};
 use lft_files::{Failure, read_file};
@@ -30,7 +30,7 @@ fn unread(
     place: Place,
     failure: &Failure,
 ) -> Unlowered
-    ensures { Says (IsOfUnread sources.now.files.items) result }
+    ensures { Says (IsAt sources.now.files.items place) result }
 {
     match about(alloc, path, failure) {
         Ok(about) => {
@@ -48,6 +48,8 @@ fn read_wanted<F: Files>(
     sources: &Sources,
     path: &str,
 ) -> Result<Vec<u8>, Unlowered>
+    requires sources { AreSources sources.now }
+    requires wanted { next_path sources.now ≡ Some path.now }
     ensures { IfErr result (Says (IsOfUnread sources.now.files.items)) }
 {
     match read_file(rt, alloc, path) {

@@ -2,11 +2,11 @@
 
 ghost use Rattle.std.specs.Prelude.{◌≡◌, ◌++◌, IfOk, OnOk, string_bytes};
 ghost use Rattle.lft_sources.specs.Causes.{number_of};
-ghost use Rattle.lft_lowered.specs.Lowered.{IsTold, cause_words, name_of, place_words, refusal_words, said_words, spot_words};
+ghost use Rattle.lft_lowered.specs.Lowered.{IsTold, cause_words, name_of, refusal_words, said_words, spot_words, where_words};
 
 use lft_files::Failure;
 use lft_load::Fault;
-use lft_sources::{Place, Refusal, SourceFile, Stop, Why, shown_path};
+use lft_sources::{Place, Refusal, SourceFile, Stop, Why, push_place};
 use lft_tag::NoMemory;
 use lft_words::push_number;
 use std::alloc::{AllocError, Global};
@@ -89,7 +89,7 @@ fn push_cause(text: &mut String, why: Why) -> Result<(), AllocError>
     Ok(())
 }
 
-/// Puts where a token of a file stands at the end of a text.
+/// Puts a blank, and where a token of a file stands, at the end of a text.
 fn push_spot(
     text: &mut String,
     alloc: Global,
@@ -98,25 +98,19 @@ fn push_spot(
 ) -> Result<(), AllocError>
     ensures { OnOk result (string_bytes text.new ≡ string_bytes text.old ++ spot_words file.now token) }
 {
-    let spot = file.spot(token);
-    let path = shown_path(alloc, file.path.as_str())?;
     text.push_str(" ")?;
-    text.push_str(path.as_str())?;
-    text.push_str(":")?;
-    push_number(text, spot.line as u64)?;
-    text.push_str(":")?;
-    push_number(text, spot.column as u64)?;
+    push_place(alloc, text, file, token)?;
     Ok(())
 }
 
-/// Puts a place in one of the files at the end of a text.
-fn push_place(
+/// Puts a blank, and where a place in one of the files is, at the end of a text.
+fn push_where(
     text: &mut String,
     alloc: Global,
     files: &[SourceFile],
     place: Place,
 ) -> Result<(), AllocError>
-    ensures { OnOk result (string_bytes text.new ≡ string_bytes text.old ++ place_words files.now place) }
+    ensures { OnOk result (string_bytes text.new ≡ string_bytes text.old ++ where_words files.now place) }
 {
     match files.get(place.file) {
         Some(file) => push_spot(text, alloc, file, place.token),
@@ -146,7 +140,7 @@ fn refusal_text(
 {
     let mut text = String::new(alloc);
     push_cause(&mut text, refusal.why)?;
-    push_place(&mut text, alloc, files, refusal.place)?;
+    push_where(&mut text, alloc, files, refusal.place)?;
     push_said(&mut text, first, refusal.why)?;
     Ok(text)
 }

@@ -1,22 +1,18 @@
--- The words of notes on a program.
-use Rattle.std.specs.Prelude.{ℕ, List, [], ◌++◌, Option, Some, None, codes, decimal, slice_get, string_bytes}
-use Rattle.lft_sources.specs.declared.source.Spot.{Spot}
+-- The words of notes on a program, and what it is to say one.
+use Rattle.std.specs.Prelude.{◌≡◌, ◌⊎◌, ℕ, List, [], ◌∷◌, ◌++◌, Option, Some, None, bytes_eq, codes, cond, decimal, false, map, slice_get, string_bytes, true}
+use Rattle.std.specs.BTreeSet.{contains_text}
 use Rattle.lft_sources.specs.declared.source.SourceFile.{SourceFile}
-use Rattle.lft_sources.specs.Shown.{shown_path}
-use Rattle.lft_sources.specs.Spots.{spot_at}
-
--- a line and a column
-abbrev pub spot_words : Spot → List ℕ
-spot_words spot = (codes ":" ++ decimal spot.line) ++ (codes ":" ++ decimal spot.column)
+use Rattle.lft_sources.specs.Shown.{place_words}
+use Rattle.lft_meanings.specs.declared.notes.Notes.{Notes}
 
 -- where a token of a file stands, if there is the file
-abbrev pub place_words : Option SourceFile → ℕ → List ℕ
-place_words None token = []
-place_words (Some file) token = shown_path (string_bytes file.path) ++ spot_words (spot_at file.spots.items token)
+abbrev pub place_if : Option SourceFile → ℕ → List ℕ
+place_if None token = []
+place_if (Some file) token = place_words file token
 
 -- how a note on a token of a file begins
 abbrev pub note_begin : List SourceFile → ℕ → ℕ → List ℕ
-note_begin files file token = codes "note: " ++ place_words (slice_get files file) token ++ codes ": "
+note_begin files file token = codes "note: " ++ place_if (slice_get files file) token ++ codes ": "
 
 -- the sources of a broadcast don't divide its destinations
 abbrev pub divide_words : ℕ → ℕ → List ℕ
@@ -33,3 +29,17 @@ stop_words stop = (codes "timeout: write the row `stop," ++ decimal stop) ++ cod
 -- a parameter of the main reactor has its default
 abbrev pub default_words : List ℕ → List ℕ
 default_words name = codes "the parameter " ++ name ++ codes " of the main reactor has its default here."
+
+-- ---- what is said
+
+-- the lines, in the order in which they were said
+abbrev pub lines_of : Notes → List (List ℕ)
+lines_of notes = map (λ line. string_bytes line) notes.lines.items
+
+-- the line, which wasn't said, stands behind the others and counts as said
+abbrev pub IsNew : List ℕ → Notes → Notes → Type 0
+IsNew line old new = (contains_text old.said line ≡ false) × (new.files ≡ old.files) × (lines_of new ≡ lines_of old ++ line ∷ []) × ((other : List ℕ) → contains_text new.said other ≡ cond (bytes_eq line other) true (contains_text old.said other))
+
+-- The line is said; one that was said before isn't said again.
+abbrev pub IsSaid : List ℕ → Notes → Notes → Type 0
+IsSaid line old new = IsNew line old new ⊎ ((contains_text old.said line ≡ true) × (new ≡ old))

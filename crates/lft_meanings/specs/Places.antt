@@ -1,5 +1,5 @@
 -- Which references a thing of the source becomes.
-use Rattle.std.specs.Prelude.{ℕ, max, Bool, List, ◌++◌, Option, option_map, unwrap_or, length, map, take}
+use Rattle.std.specs.Prelude.{◌||◌, ℕ, max, Bool, is_some, List, ◌++◌, Option, option_map, unwrap_or, length, map, take}
 use Rattle.lft_tree.specs.Tree.{RefTree}
 use Rattle.lft_lowering.specs.Channels.{below, places}
 use Rattle.lft_lowering.specs.Lowered.{own, inner}
@@ -38,6 +38,11 @@ inner_places members channels interleaved = map (λ p. inner (name_at members p.
 pub data Sense : Type 0 where
   Own : Several → Sense
   Inner : Several → Several → Sense
+
+-- whether a width is written in it
+abbrev pub is_wide : Sense → Bool
+is_wide (Own thing) = is_some thing.width
+is_wide (Inner members ports) = is_some members.width || is_some ports.width
 
 -- the places of what is meant
 abbrev pub places_of : Bool → Sense → List RefTree

@@ -1,10 +1,13 @@
 //! What is said of a program that is lowered.
 
-ghost use Rattle.std.specs.Prelude.{◌≡◌, ◌++◌, IfOk, OnOk, decimal, option_map, string_bytes};
-ghost use Rattle.lft_meanings.specs.Notes.{default_words, differ_words, divide_words, note_begin, place_words, spot_words, stop_words};
+ghost use Rattle.std.specs.Prelude.{◌≡◌, ◌≤◌, ◌<◌, ◌++◌, ℕ, List, [], IfOk, OnOk, decimal, false, string_bytes};
+ghost use Rattle.std.specs.BTreeSet.{contains_text};
+ghost use Rattle.lft_tree.specs.Tree.{nanoseconds as nanoseconds_of};
+ghost use Rattle.lft_scope.specs.Causes.{longest};
+ghost use Rattle.lft_meanings.specs.Notes.{IsSaid, default_words, differ_words, divide_words, note_begin, stop_words};
 
 use lft_scope::times::nanoseconds;
-use lft_sources::{SourceFile, Spot, shown_path};
+use lft_sources::{SourceFile, push_place};
 use lft_whole::Timeout;
 use lft_words::push_number;
 use std::alloc::{AllocError, Global};
@@ -25,33 +28,6 @@ fn push_counted(text: &mut String, words: &str, number: u64) -> Result<(), Alloc
 {
     text.push_str(words)?;
     push_number(text, number)?;
-    Ok(())
-}
-
-/// Puts a line and a column at the end of a text.
-fn push_spot(text: &mut String, spot: Spot) -> Result<(), AllocError>
-    ensures { OnOk result (string_bytes text.new ≡ string_bytes text.old ++ spot_words spot) }
-{
-    push_counted(text, ":", spot.line as u64)?;
-    push_counted(text, ":", spot.column as u64)?;
-    Ok(())
-}
-
-/// Puts at the end of a text where a token of a file stands, if there is the file.
-fn push_place(
-    alloc: Global,
-    text: &mut String,
-    file: Option<&SourceFile>,
-    token: usize,
-) -> Result<(), AllocError>
-    ensures { OnOk result (string_bytes text.new ≡ string_bytes text.old ++ place_words (option_map (λ found. found.now) file.entry) token) }
-{
-    let Some(found) = file else {
-        return Ok(());
-    };
-    let path = shown_path(alloc, found.path.as_str())?;
-    text.push_str(path.as_str())?;
-    push_spot(text, found.spot(token))?;
     Ok(())
 }
 
@@ -95,7 +71,12 @@ fn push_default(line: &mut String, name: &str) -> Result<(), AllocError>
 }
 
 impl<'a> Notes<'a> {
-    pub fn of(alloc: Global, files: &'a [SourceFile]) -> Notes<'a> {
+    /// Nothing is said yet of the program of these files.
+    pub fn of(alloc: Global, files: &'a [SourceFile]) -> Notes<'a>
+        ensures files { result.files.now ≡ files.now }
+        ensures lines { result.lines.items ≡ [] }
+        ensures said { (line : List ℕ) → contains_text result.said line ≡ false }
+    {
         Notes {
             alloc,
             files,
@@ -105,7 +86,9 @@ impl<'a> Notes<'a> {
     }
 
     /// The lines, in the order in which they were said.
-    pub fn into_lines(self) -> Vec<String> {
+    pub fn into_lines(self) -> Vec<String>
+        ensures { result ≡ self.entry.lines }
+    {
         let Notes {
             alloc: _,
             files: _,
@@ -120,13 +103,17 @@ impl<'a> Notes<'a> {
         ensures { IfOk result (λ line. string_bytes line ≡ note_begin self.now.files.now file token) }
     {
         let mut line = String::from_str(self.alloc, "note: ")?;
-        push_place(self.alloc, &mut line, self.files.get(file), token)?;
+        if let Some(found) = self.files.get(file) {
+            push_place(self.alloc, &mut line, found, token)?;
+        }
         line.push_str(": ")?;
         Ok(line)
     }
 
     /// Says a line, if it wasn't said.
-    fn say(&mut self, line: String) -> Result<(), AllocError> {
+    fn say(&mut self, line: String) -> Result<(), AllocError>
+        ensures { OnOk result (IsSaid (string_bytes line) self.old self.new) }
+    {
         if !self.said.contains(line.as_str()) {
             self.said.insert(line.clone()?)?;
             self.lines.push(line)?;
@@ -135,7 +122,9 @@ impl<'a> Notes<'a> {
     }
 
     /// Says words about a token.
-    pub fn words(&mut self, file: usize, token: usize, words: &str) -> Result<(), AllocError> {
+    pub fn words(&mut self, file: usize, token: usize, words: &str) -> Result<(), AllocError>
+        ensures { OnOk result (IsSaid (note_begin self.old.files.now file token ++ words.now) self.old self.new) }
+    {
         let mut line = self.line(file, token)?;
         line.push_str(words)?;
         self.say(line)
@@ -148,7 +137,9 @@ impl<'a> Notes<'a> {
         token: usize,
         left: u64,
         right: u64,
-    ) -> Result<(), AllocError> {
+    ) -> Result<(), AllocError>
+        ensures { OnOk result (IsSaid (note_begin self.old.files.now file token ++ divide_words left right) self.old self.new) }
+    {
         let mut line = self.line(file, token)?;
         push_divide(&mut line, left, right)?;
         self.say(line)
@@ -161,14 +152,19 @@ impl<'a> Notes<'a> {
         token: usize,
         left: u64,
         right: u64,
-    ) -> Result<(), AllocError> {
+    ) -> Result<(), AllocError>
+        ensures { OnOk result (IsSaid (note_begin self.old.files.now file token ++ differ_words left right) self.old self.new) }
+    {
         let mut line = self.line(file, token)?;
         push_differ(&mut line, left, right)?;
         self.say(line)
     }
 
     /// A timeout of the target. Of one that no row can give nothing is said.
-    pub fn timeout(&mut self, timeout: &Timeout) -> Result<(), AllocError> {
+    pub fn timeout(&mut self, timeout: &Timeout) -> Result<(), AllocError>
+        ensures said { nanoseconds_of timeout.now.time ≤ longest → OnOk result (IsSaid (note_begin self.old.files.now 0 timeout.now.at ++ stop_words (nanoseconds_of timeout.now.time)) self.old self.new) }
+        ensures none { longest < nanoseconds_of timeout.now.time → self.new ≡ self.old }
+    {
         let Some(stop) = nanoseconds(timeout.time) else {
             return Ok(());
         };
@@ -178,7 +174,9 @@ impl<'a> Notes<'a> {
     }
 
     /// A parameter of the main reactor that is needed.
-    pub fn default(&mut self, file: usize, token: usize, name: &str) -> Result<(), AllocError> {
+    pub fn default(&mut self, file: usize, token: usize, name: &str) -> Result<(), AllocError>
+        ensures { OnOk result (IsSaid (note_begin self.old.files.now file token ++ default_words name.now) self.old self.new) }
+    {
         let mut line = self.line(file, token)?;
         push_default(&mut line, name)?;
         self.say(line)

@@ -1,12 +1,12 @@
 //! What references become: a reference for each place.
 
-ghost use Rattle.std.specs.Prelude.{◌≡◌, ◌+◌, ◌*◌, ◌++◌, ◌⊎◌, Bool, Some, IfErr, IfOk, OnOk, length, option_map, string_bytes, take};
+ghost use Rattle.std.specs.Prelude.{◌≡◌, ◌+◌, ◌*◌, ◌++◌, ◌⊎◌, Bool, Some, IfErr, IfOk, OnOk, is_some, length, option_map, string_bytes, take};
 ghost use Rattle.std.specs.List.{All};
 ghost use Rattle.lft_shapes.specs.declared.shapes.Thing.TheVariants as things;
 ghost use Rattle.lft_tree.specs.View.{ref_view, ref_views};
 ghost use Rattle.lft_settings.specs.Names.{core_name};
 ghost use Rattle.lft_meanings.specs.Meanings.{Means, all_places, here, inner_width, member_in, parameter_in, places_in, port_in, port_sense, sense_in, shape_inside, thing_in};
-ghost use Rattle.lft_meanings.specs.Places.{count_of, inner_places, name_at, own_places, places_of, sense, several, up_to};
+ghost use Rattle.lft_meanings.specs.Places.{count_of, inner_places, name_at, own_places, places_of, sense, several, up_to, is_wide};
 ghost use Rattle.lft_meanings.specs.Refused.{IfRefused, IsAt, IsNoPort, IsOfOne, IsOfReference, IsPassed};
 
 use crate::room::Room;
@@ -49,7 +49,9 @@ impl<'a> Wide<'a> {
     }
 
     /// Whether it has a width.
-    fn is_wide(self) -> bool {
+    fn is_wide(self) -> bool
+        ensures { result ≡ is_some self.entry.width }
+    {
         self.width.is_some()
     }
 }
@@ -195,7 +197,9 @@ impl Meant<'_> {
     }
 
     /// Whether there is a width in it.
-    pub fn is_wide(self) -> bool {
+    pub fn is_wide(self) -> bool
+        ensures { result ≡ is_wide (sense self.entry) }
+    {
         match self {
             Meant::Own(thing) => thing.is_wide(),
             Meant::Inner(members, ports) => members.is_wide() || ports.is_wide(),

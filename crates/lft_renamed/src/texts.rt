@@ -106,8 +106,8 @@ fn push_line(
     push_renamed(renaming, Kind::Answer, out, line)
 }
 
-/// A table of the source as one of the core: each field that is a name of the source is replaced, and no other
-/// byte.
+/// A table of the source as one of the core. Each name of the source that stands between commas, quotes and ends
+/// of lines is replaced, and no other byte.
 pub fn core_table(alloc: Global, names: &Names, text: &[u8]) -> Result<Vec<u8>, NoMemory>
     ensures { IfOk result (λ table. table.items ≡ renamed Kind.Table (pairs_of names.now) text.now) }
 {

@@ -1,5 +1,5 @@
 -- Why there is no setting in an instance, and what isn't counted.
-use Rattle.std.proofs.Common.{◌≡◌, ℕ, zero, suc, ◌+◌, ◌<◌, inl, inr, ℤ, List, map, Option, Some, slice_get, refl, ap, subst, ◌∙◌, arith}
+use Rattle.std.proofs.Common.{◌≡◌, ℕ, zero, suc, ◌+◌, ◌<◌, inl, inr, ℤ, List, map, Option, Some, slice_get, refl, sym, ap, subst, ◌∙◌, arith}
 use Rattle.std.specs.Prelude.{IsSomeAnd}
 use Rattle.std.specs.List.{range_with_len}
 use Rattle.lft_lowering.specs.Channels.{below}
@@ -8,14 +8,15 @@ use Rattle.lft_sources.specs.declared.stop.Stop.TheVariants as stop
 use Rattle.lft_shapes.specs.declared.shapes.Shape.{Shape}
 use Rattle.lft_shapes.specs.declared.shapes.Thing.TheVariants as thing
 use Rattle.lft_whole.specs.declared.tree.Reference.{Reference}
+use Rattle.lft_whole.specs.declared.tree.Value.{Value}
 use Rattle.lft_settings.specs.declared.places.Meaning.{Meaning}
 use Rattle.lft_settings.specs.declared.settings.Setting.{Setting}
 use Rattle.lft_settings.specs.Noted.{AreMade, GoesOn, IsMeaning, Table}
 use Rattle.lft_settings.specs.Passed.{IsOfMember, IsOfReached, IsOfSome}
-use Rattle.lft_settings.specs.Refused.{HasCause, IsLacking, IsOfInstance, IsOfOne, IsOfPlaces, IsOfThing, IsOfWidth, OneIsLacking}
+use Rattle.lft_settings.specs.Refused.{HasCause, IsLacking, IsNoNumber, IsOfInstance, IsOfOne, IsOfPlaces, IsOfThing, IsOfWidth, OneIsLacking}
 use Rattle.lft_settings.specs.Settings.{setting_in}
 use Rattle.lft_settings.specs.Used.{IsReached}
-use Rattle.lft_settings.specs.Values.{Valued, inside}
+use Rattle.lft_settings.specs.Values.{Valued, inside, written_inside}
 
 number_at : (f : ℕ → Option ℤ) (a n p : ℕ) → p < n → slice_get (map f (range_with_len a n)) p ≡ Some (f (a + p))
 number_at f a zero p l = absurd (omega arith)
@@ -23,14 +24,14 @@ number_at f a (suc n) zero l = let e : a ≡ a + 0 = omega arith in ap (λ k. So
 number_at f a (suc n) (suc p) l = let e : a + 1 + p ≡ a + suc p = omega arith in number_at f (a + 1) n p (omega arith) ∙ ap (λ k. Some (f k)) e
 
 -- one of numbers that are made by number
-pub one_lacks : (f : ℕ → Option ℤ) (n p : ℕ) (s : Stop) → p < n → IsLacking (f p) s → OneIsLacking (map f (below n)) s
-one_lacks f n p (stop.Refused refusal) l h = let e : 0 + p ≡ p = omega arith in (h.0, (p, number_at f 0 n p l ∙ ap (λ k. Some (f k)) e ∙ ap Some h.1))
-one_lacks f n p stop.NoMemory l h = tt
+pub one_lacks : (f : ℕ → Option ℤ) (values : ℕ → Option Value) (n p : ℕ) (s : Stop) → p < n → IsLacking (f p) (values p) s → OneIsLacking (map f (below n)) values s
+one_lacks f values n p (stop.Refused refusal) l h = let e : 0 + p ≡ p = omega arith in (p, number_at f 0 n p l ∙ ap (λ k. Some (f k)) e ∙ ap Some h.1, h.0)
+one_lacks f values n p stop.NoMemory l h = tt
 
 -- of the setting in an instance
-pub is_caused : (shapes : List Shape) (t u : Valued) (m : ℕ) (s : Stop) → inside shapes t m ≡ Some u → OneIsLacking u.values s → HasCause shapes t m s
-is_caused shapes t u m (stop.Refused refusal) e h = inr (h.0, (u, e, h.1))
-is_caused shapes t u m stop.NoMemory e h = tt
+pub is_caused : (shapes : List Shape) (t u : Valued) (m : ℕ) (values : ℕ → Option Value) (s : Stop) → inside shapes t m ≡ Some u → ((p : ℕ) → written_inside shapes t m p ≡ values p) → OneIsLacking u.values values s → HasCause shapes t m s
+is_caused shapes t u m values (stop.Refused refusal) e same h = inr (u, e, (h.0, h.1, subst (λ v. IsNoNumber v refusal.why) (sym (same h.0)) h.2))
+is_caused shapes t u m values stop.NoMemory e same h = tt
 
 -- ---- of what settings are made later
 

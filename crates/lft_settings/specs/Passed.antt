@@ -8,6 +8,7 @@ use Rattle.lft_sources.specs.declared.why.Why.{Why}
 use Rattle.lft_sources.specs.declared.why.Why.TheVariants as why
 use Rattle.lft_shapes.specs.Causes.{HasCause as IsOfShapes}
 use Rattle.lft_shapes.specs.Nestings.{IsNesting}
+use Rattle.lft_shapes.specs.Refused.{IsTooMuch}
 use Rattle.lft_shapes.specs.declared.nesting.Nesting.{Nesting}
 use Rattle.lft_shapes.specs.declared.shapes.Inherited.{Inherited}
 use Rattle.lft_shapes.specs.declared.shapes.Shape.{Shape}
@@ -19,10 +20,10 @@ use Rattle.lft_shapes.specs.Walks.{Has}
 use Rattle.lft_settings.specs.Limits.{Limit, limits}
 use Rattle.lft_settings.specs.Noted.{Table}
 use Rattle.lft_settings.specs.Places.{all_places, how_many, member_in, width_in}
-use Rattle.lft_settings.specs.Refused.{HasCause, IsOfPairs, IsOfWidth, IsTooMuch, OneIsLacking}
+use Rattle.lft_settings.specs.Refused.{HasCause, IsOfPairs, IsOfWidth, OneIsLacking}
 use Rattle.lft_settings.specs.Settings.{setting_in}
 use Rattle.lft_settings.specs.Used.{IsReached}
-use Rattle.lft_settings.specs.Values.{Valued, inside, main_setting, main_values}
+use Rattle.lft_settings.specs.Values.{Valued, default_written, inside, main_setting, main_values}
 
 -- ---- how many things there are
 
@@ -125,7 +126,7 @@ IsOfProgram shapes s = SaysPassed shapes s ⊎ IsOfReached shapes s
 
 -- A refusal says that more would be listed than may be; or a parameter of the main reactor that decides a width has no number.
 abbrev pub IsOfMain : List Shape → Stop → Type 0
-IsOfMain shapes s = IsTooMuch s ⊎ ((main : Shape) × (slice_get shapes 0 ≡ Some main) × OneIsLacking (main_values main) s)
+IsOfMain shapes s = IsTooMuch s ⊎ ((main : Shape) × (slice_get shapes 0 ≡ Some main) × OneIsLacking (main_values main) (default_written main) s)
 
 -- A refusal is of the shapes of the files, or of the main one's values.
 abbrev pub HasNoSettings : List SourceFile → Stop → Type 0

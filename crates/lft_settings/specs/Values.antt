@@ -1,12 +1,11 @@
 -- Reactors with the numbers of their parameters, from the texts alone.
 use Rattle.std.specs.Prelude.{◌≡◌, ℕ, ◌^◌, ℤ, pos, neg_ℤ, min, Bool, true, false, ◌==◌, List, [], ◌∷◌, map, length, Option, Some, None, option_map, slice_get, string_bytes, unwrap_or, if◌then◌else◌}
-use Rattle.std.specs.Option.{option_and_then}
+use Rattle.std.specs.Option.{option_and_then, option_or}
 use Rattle.lft_lowering.specs.Channels.{below}
 use Rattle.lft_whole.specs.declared.tree.Value.{Value}
 use Rattle.lft_whole.specs.declared.tree.Value.TheVariants as value
 use Rattle.lft_shapes.specs.declared.shapes.Child.{Child}
 use Rattle.lft_shapes.specs.declared.shapes.Given.{Given}
-use Rattle.lft_shapes.specs.declared.shapes.InheritedParameter.{InheritedParameter}
 use Rattle.lft_shapes.specs.declared.shapes.Shape.{Shape}
 use Rattle.lft_shapes.specs.declared.shapes.Thing.{Thing}
 use Rattle.lft_shapes.specs.declared.shapes.Thing.TheVariants as thing
@@ -51,13 +50,13 @@ number_in shape values (value.Number negative count unit) = literal (value.Numbe
 number_in shape values value.Code = None
 number_in shape values value.Other = None
 
--- the number that is the default of a parameter
-abbrev pub default_of : InheritedParameter → Option ℤ
-default_of p = option_and_then (λ e. literal e.value) p.parameter.now.default
+-- the default that is written at the parameter of this number
+abbrev pub default_written : Shape → ℕ → Option Value
+default_written shape p = option_and_then (λ found. option_map (λ e. e.value) found.parameter.now.default) (slice_get shape.parameters.items p)
 
--- and that of the parameter of this number
+-- the number that this is
 abbrev pub default_at : Shape → ℕ → Option ℤ
-default_at shape p = option_and_then default_of (slice_get shape.parameters.items p)
+default_at shape p = option_and_then literal (default_written shape p)
 
 -- what `new` gives to the parameter of this number
 abbrev pub given_to : List Given → ℕ → Option Value
@@ -76,6 +75,10 @@ value_inside outer values gs inner p = if is_sized inner p then chosen outer val
 -- of each parameter
 abbrev pub values_inside : Shape → List (Option ℤ) → List Given → Shape → List (Option ℤ)
 values_inside outer values gs inner = map (value_inside outer values gs inner) (below (length inner.parameters.items))
+
+-- what is written for the parameter of this number: what `new` gives to it, or else its default
+abbrev pub value_written : List Given → Shape → ℕ → Option Value
+value_written gs inner p = option_or (given_to gs p) (default_written inner p)
 
 -- the number of a parameter of the main reactor: its default; of one that decides no width 0
 abbrev pub main_value : Shape → ℕ → Option ℤ
@@ -96,3 +99,7 @@ setting_of shapes outer values child = option_map (λ inner. record { shape = ch
 -- the setting of the instance that is the member of this number
 abbrev pub inside : List Shape → Valued → ℕ → Option Valued
 inside shapes t m = option_and_then (λ outer. option_and_then (setting_of shapes outer t.values) (child_at outer.children.items m)) (slice_get shapes t.shape)
+
+-- what is written for the parameter of this number in it
+abbrev pub written_inside : List Shape → Valued → ℕ → ℕ → Option Value
+written_inside shapes t m p = option_and_then (λ outer. option_and_then (λ child. option_and_then (λ inner. value_written child.given.items inner p) (slice_get shapes child.shape)) (child_at outer.children.items m)) (slice_get shapes t.shape)

@@ -2,9 +2,10 @@
 
 ghost use Rattle.std.specs.Prelude.{◌≡◌, ◌≤◌, ◌<◌, ℕ, [], Some, IfErr, IfOk, IfSome, OnOk, length, map, option_map, slice_get, slice_set};
 ghost use Rattle.lft_shapes.specs.Nestings.{IsNesting};
+ghost use Rattle.lft_shapes.specs.Refused.{IsTooMuch};
 ghost use Rattle.lft_settings.specs.Noted.{Adds, AreMade, AreSettings, GoesOn, GoesOnIf, IsNumberOf, found_inside, noted_for, table};
 ghost use Rattle.lft_settings.specs.Passed.{HasNoSettings, IsOfMain};
-ghost use Rattle.lft_settings.specs.Refused.{HasCause, IsTooMuch};
+ghost use Rattle.lft_settings.specs.Refused.{HasCause};
 ghost use Rattle.lft_settings.specs.Settings.{setting_at, shape_at};
 ghost use Rattle.lft_settings.specs.Values.{IsUnsized, Valued, inside};
 

@@ -1,8 +1,8 @@
 //! The whole numbers that parameters are.
 
-ghost use Rattle.std.specs.Prelude.{◌≡◌, ◌<◌, ℕ, IfErr, IfOk, map, None, option_map, replicate, slice_get, vec_len};
+ghost use Rattle.std.specs.Prelude.{◌≡◌, ◌<◌, ℕ, IfErr, IfOk, map, None, Some, option_map, replicate, slice_get, vec_len};
 ghost use Rattle.lft_settings.specs.Refused.{IsLacking, OneIsLacking, SaysNoNumber};
-ghost use Rattle.lft_settings.specs.Values.{chosen, default_at, given_to, literal, main_value, main_values, number_in, number_named, signed, value_inside, values_inside};
+ghost use Rattle.lft_settings.specs.Values.{chosen, default_at, default_written, given_to, literal, main_value, main_values, number_in, number_named, signed, value_inside, value_written, values_inside};
 
 use lft_shapes::{Child, Shape};
 use lft_sources::{Stop, Why};
@@ -61,7 +61,7 @@ pub(crate) fn number_named(shape: &Shape, values: &[i64], name: &str) -> Option<
 /// count.
 fn number(shape: &Shape, values: &[i64], file: usize, value: &Expression) -> Result<i64, Stop>
     ensures found { IfOk result (λ found. number_in shape.now (map (λ v. Some v) values.now) value.now.value ≡ Some found) }
-    ensures lacking { IfErr result (IsLacking (number_in shape.now (map (λ v. Some v) values.now) value.now.value)) }
+    ensures lacking { IfErr result (IsLacking (number_in shape.now (map (λ v. Some v) values.now) value.now.value) (Some value.now.value)) }
 {
     let found = match &value.value {
         Value::Word(word) => number_named(shape, values, word.as_str()),
@@ -76,7 +76,7 @@ fn number(shape: &Shape, values: &[i64], file: usize, value: &Expression) -> Res
 /// The default of a parameter. `missing` is what is said where there is none.
 fn default(inner: &Shape, parameter: usize, missing: Stop) -> Result<i64, Stop>
     ensures found { IfOk result (λ found. default_at inner.now parameter ≡ Some found) }
-    ensures lacking { IfErr result (λ stop. SaysNoNumber missing → IsLacking (default_at inner.now parameter) stop) }
+    ensures lacking { IfErr result (λ stop. SaysNoNumber None missing → IsLacking (default_at inner.now parameter) (default_written inner.now parameter) stop) }
 {
     let Some(inherited) = inner.parameters.get(parameter) else {
         return Err(missing);
@@ -93,7 +93,7 @@ fn default(inner: &Shape, parameter: usize, missing: Stop) -> Result<i64, Stop>
 /// The value of a parameter of the main reactor: its default. Of one that decides no width it is 0.
 fn main_value(main: &Shape, parameter: usize) -> Result<i64, Stop>
     ensures found { IfOk result (λ found. main_value main.now parameter ≡ Some found) }
-    ensures lacking { IfErr result (IsLacking (main_value main.now parameter)) }
+    ensures lacking { IfErr result (IsLacking (main_value main.now parameter) (default_written main.now parameter)) }
 {
     if !main.is_sized(parameter) {
         return Ok(0);
@@ -108,7 +108,7 @@ fn main_value(main: &Shape, parameter: usize) -> Result<i64, Stop>
 /// The values of the parameters of the main reactor.
 pub(crate) fn main_values(alloc: Global, main: &Shape) -> Result<Vec<i64>, Stop>
     ensures found { IfOk result (λ values. map (λ v. Some v) values.items ≡ main_values main.now) }
-    ensures lacking { IfErr result (OneIsLacking (main_values main.now)) }
+    ensures lacking { IfErr result (OneIsLacking (main_values main.now) (default_written main.now)) }
 {
     let mut values = Vec::new(alloc);
     for parameter in 0..main.parameters.len() {
@@ -155,7 +155,7 @@ fn inner_value(
     missing: Stop,
 ) -> Result<i64, Stop>
     ensures found { IfOk result (λ found. (option_map (λ value. value.now.value) value.entry ≡ given_to given.entry.child.now.given.items parameter) → value_inside given.entry.outer.now (map (λ v. Some v) given.entry.values.now) given.entry.child.now.given.items inner.now parameter ≡ Some found) }
-    ensures lacking { IfErr result (λ stop. SaysNoNumber missing → (option_map (λ value. value.now.value) value.entry ≡ given_to given.entry.child.now.given.items parameter) → IsLacking (value_inside given.entry.outer.now (map (λ v. Some v) given.entry.values.now) given.entry.child.now.given.items inner.now parameter) stop) }
+    ensures lacking { IfErr result (λ stop. SaysNoNumber None missing → (option_map (λ value. value.now.value) value.entry ≡ given_to given.entry.child.now.given.items parameter) → IsLacking (value_inside given.entry.outer.now (map (λ v. Some v) given.entry.values.now) given.entry.child.now.given.items inner.now parameter) (value_written given.entry.child.now.given.items inner.now parameter) stop) }
 {
     if !inner.is_sized(parameter) {
         return Ok(0);
@@ -174,7 +174,7 @@ pub(crate) fn inner_values(
     missing: Stop,
 ) -> Result<Vec<i64>, Stop>
     ensures found { IfOk result (λ values. map (λ v. Some v) values.items ≡ values_inside given.entry.outer.now (map (λ v. Some v) given.entry.values.now) given.entry.child.now.given.items inner.now) }
-    ensures lacking { IfErr result (λ stop. SaysNoNumber missing → OneIsLacking (values_inside given.entry.outer.now (map (λ v. Some v) given.entry.values.now) given.entry.child.now.given.items inner.now) stop) }
+    ensures lacking { IfErr result (λ stop. SaysNoNumber None missing → OneIsLacking (values_inside given.entry.outer.now (map (λ v. Some v) given.entry.values.now) given.entry.child.now.given.items inner.now) (value_written given.entry.child.now.given.items inner.now) stop) }
 {
     let count = inner.parameters.len();
     let table = given_values(alloc, given.child, count)?;

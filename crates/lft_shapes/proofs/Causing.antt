@@ -17,7 +17,6 @@ use Rattle.lft_shapes.specs.declared.scopes.Scopes.{Scopes}
 use Rattle.lft_shapes.specs.declared.shapes.Child.{Child}
 use Rattle.lft_shapes.specs.declared.shapes.Inherited.{Inherited}
 use Rattle.lft_shapes.specs.declared.shapes.Shape.{Shape}
-use Rattle.lft_shapes.specs.declared.shapes.Thing.TheVariants as thing
 use Rattle.lft_shapes.specs.Below.{Declares, IsBelow, bank_index, instance_at, itself as self}
 use Rattle.lft_shapes.specs.Built.{Core, IsBuilt, core, cores, first_class, instance_of, members_at}
 use Rattle.lft_shapes.specs.Causes.{HasCause, IsCauseInside, SaysBelow, last_token}
@@ -26,8 +25,10 @@ use Rattle.lft_shapes.specs.Circles.{HasCircle, HasNoParameter, HasWrongGiven}
 use Rattle.lft_shapes.specs.Makings.{AreShapes}
 use Rattle.lft_shapes.specs.Refused.{HasCauseIn, HasNoOneMain, IsCauseIn}
 use Rattle.lft_shapes.specs.Scopes.{AreScopes, IsMain}
-use Rattle.lft_shapes.specs.Shapes.{inside, is_at, tables, thing_named, width_of}
+use Rattle.lft_shapes.specs.Shapes.{inside, is_at, tables, width_of}
+use Rattle.lft_shapes.specs.Sized.{IsMarkedByIndex, IsReadyAt}
 use Rattle.lft_shapes.specs.Walks.{Reaches, further, itself}
+use Rattle.lft_shapes.proofs.Sizing.{inner_means, needs_name}
 use Rattle.lft_shapes.proofs.Needing.{below_inside, below_reached, declared, instance_is, is_instance, parameter_has, parameter_of}
 
 -- a cause of a reactor with all that it extends
@@ -140,16 +141,16 @@ pub first_core : (cs : List Core) (main : Class) → first_class cs ≡ Some mai
 first_core [] main e = absurd (cc)
 first_core (c ∷ cs) main e = (c, refl)
 
--- a bank of what has a parameter `bank_index`
-pub index_is_below : (scopes : Scopes) (first : ℕ) (shapes : List Shape) (s k : ℕ) (shape : Shape) (m : Inherited) (instance : Instance) (width : Width) (t n : ℕ) (inner : Shape) → AreShapes scopes first (cores shapes) (tables shapes) → slice_get shapes s ≡ Some shape → slice_get shape.members.items k ≡ Some m → m.member.now ≡ member.Instance instance → instance.width ≡ Some width → inside (tables shapes) s k ≡ Some t → slice_get shapes t ≡ Some inner → thing_named inner bank_index ≡ Some (thing.Parameter n) → SaysBelow scopes first (stop.Refused (record { why = why.WidthByIndex; place = record { file = m.file; token = instance.name.at } }))
-index_is_below scopes first shapes s k shape m instance width t n inner all is_shape is_member is wide is_inside is_inner named =
+-- a bank of what has a width by its number
+pub index_is_below : (scopes : Scopes) (first : ℕ) (shapes : List Shape) (s k : ℕ) (shape : Shape) (m : Inherited) (instance : Instance) (t : ℕ) (inner : Shape) → IsReadyAt scopes first shapes s shape k m → m.member.now ≡ member.Instance instance → inside (tables shapes) s k ≡ Some t → slice_get shapes t ≡ Some inner → IsMarkedByIndex inner instance → SaysBelow scopes first (stop.Refused (record { why = why.WidthByIndex; place = record { file = m.file; token = instance.name.at } }))
+index_is_below scopes first shapes s k shape m instance t inner given is is_inside is_inner h =
+    let ready = given.ready in
+    let is_shape = given.is_shape in
+    let is_member = given.is_member in
+    let all = ready.are_shapes in
     let outer = mapped core shapes s shape is_shape in
     let within = mapped core shapes t inner is_inner in
-    let in_it = all.inside s k t is_inside in
-    let same : in_it.outer ≡ core shape = same_some (slice_get (cores shapes) s) in_it.outer (core shape) in_it.is_outer outer in
-    let member : in_it.member ≡ m = same_some (slice_get shape.members.items k) in_it.member m (subst (λ (o : Core). slice_get o.members k ≡ Some in_it.member) same in_it.is_member) is_member in
-    let inside : in_it.inner ≡ core inner = same_some (slice_get (cores shapes) t) in_it.inner (core inner) in_it.is_inner within in
-    let means : instance_of scopes (m.file, m.member.now) ≡ Some inner.class.number = ap (λ (x : Inherited). instance_of scopes (x.file, x.member.now)) (sym member) ∙ in_it.means ∙ ap (λ (o : Core). Some o.class.number) inside in
+    let means = inner_means scopes first shapes s k shape m t inner all is_shape is_member is_inside is_inner in
     let d = declared scopes (core shape) k m (all.built s (core shape) outer) is_member in
     record {
       class = d.class;
@@ -159,11 +160,12 @@ index_is_below scopes first shapes s k shape m instance width t n inner all is_s
         instance = instance;
         is_there = d.is_there ∙ ap (λ x. Some (m.file, x)) is;
         stands = refl;
-        width = width;
-        is_bank = wide;
+        width = h.width;
+        is_bank = h.is_bank;
         inner = inner.class.number;
         is_inside = instance_is scopes d.class d.which (m.file, m.member.now) d.is_there ∙ means;
-        has_index = parameter_has scopes (core inner) bank_index n (all.built t (core inner) within) named;
+        has_index = parameter_has scopes (core inner) bank_index h.index (all.built t (core inner) within) h.is_index;
+        is_needed = needs_name scopes shapes t inner bank_index h.index (all.built t (core inner) within) (ready.inner k t is_inside) is_inner h.is_index h.is_marked;
       });
     }
 

@@ -32,6 +32,7 @@ inside_kept scopes cs ds s k t kept is = record {
   inner = is.inner;
   is_inner = kept t is.inner is.is_inner;
   means = is.means;
+  once = is.once;
 }
 
 -- in one more in which nothing is noted there is nothing
@@ -44,10 +45,10 @@ inside_push rows s k t e =
     ])
 
 pub goes_nowhere : (needs : ℕ → Type 0) (m : Making) → GoesOn needs m m
-goes_nowhere needs m = record { scopes = refl; made = λ first n all. all; kept = λ i c e. e }
+goes_nowhere needs m = record { scopes = refl; main = refl; made = λ first n all. all; kept = λ i c e. e }
 
 pub goes_weaker : (needs more : ℕ → Type 0) (old new : Making) → ((first : ℕ) → more first → AreMade old.scopes first old → needs first) → GoesOn needs old new → GoesOn more old new
-goes_weaker needs more old new f g = record { scopes = g.scopes; made = λ first m all. g.made first (f first m all) all; kept = g.kept }
+goes_weaker needs more old new f g = record { scopes = g.scopes; main = g.main; made = λ first m all. g.made first (f first m all) all; kept = g.kept }
 
 module _ (old new : Making) (class : Class) (number : ℕ) (a : AddsShape old new class number) where
   added_kept : Kept (cores old.shapes.items) (cores new.shapes.items)
@@ -75,12 +76,13 @@ module _ (old new : Making) (class : Class) (number : ℕ) (a : AddsShape old ne
   }
 
   pub goes_added : GoesOn (λ first. IsBelow old.scopes first class.number) old new
-  goes_added = record { scopes = a.scopes; made = added_made; kept = added_kept }
+  goes_added = record { scopes = a.scopes; main = a.main; made = added_made; kept = added_kept }
 
 -- one step after the other
 pub goes_further : (needs : ℕ → Type 0) (one two three : Making) → GoesOn needs one two → GoesOn needs two three → GoesOn needs one three
 goes_further needs one two three a b = record {
   scopes = b.scopes ∙ a.scopes;
+  main = b.main ∙ a.main;
   made = λ first n all. subst (λ s. AreMade s first three) a.scopes (b.made first n (subst (λ s. AreMade s first two) (sym a.scopes) (a.made first n all)));
   kept = λ i c e. b.kept i c (a.kept i c e);
 }

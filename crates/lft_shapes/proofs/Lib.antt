@@ -9,4 +9,5 @@ mod Numbering
 mod Refusing
 mod Rows
 mod Sets
+mod Sizing
 mod Walking

@@ -127,9 +127,9 @@ all_noted ps ms ns one two q (thing.Parameter j) is = subst (λ r. HasNamed ns r
 all_noted ps ms ns one two q (thing.Member j) is = two j is.0 is.1 q is.2
 
 -- a name that stands once has its place
-pub once : (ns : List Named) (o : Option ℕ) (k : ℕ) (n : Named) → slice_get ns k ≡ Some n → o ≡ place n.name.now (map (λ (m : Named). m.name.now) ns) → unwrap_or o k ≡ k → o ≡ Some k
-once ns o k n at is e =
-    let least = place_least (λ (m : Named). m.name.now) n.name.now ns k n at refl in
+pub once : {X : Type 0} (name : X → List ℕ) (xs : List X) (o : Option ℕ) (k : ℕ) (x : X) → slice_get xs k ≡ Some x → o ≡ place (name x) (map name xs) → unwrap_or o k ≡ k → o ≡ Some k
+once name xs o k x at is e =
+    let least = place_least name (name x) xs k x at refl in
     let same : o ≡ Some least.0 = is ∙ least.1 in
     let there : least.0 ≡ k = sym (ap (λ p. unwrap_or p k) same) ∙ e in
     same ∙ ap Some there

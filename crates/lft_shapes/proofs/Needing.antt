@@ -4,7 +4,7 @@ use Rattle.std.specs.Prelude.{flat_map}
 use Rattle.std.specs.Option.{option_and_then}
 use Rattle.lft_lists.proofs.Mapped.{mapped, mapped_from}
 use Rattle.lft_lists.proofs.Members.{get_mem, mem_flat, mem_get}
-use Rattle.lft_lists.proofs.Places.{get_push, get_push_cases}
+use Rattle.lft_lists.proofs.Places.{get_push, get_push_cases, same_some}
 use Rattle.lft_whole.specs.declared.tree.Instance.{Instance}
 use Rattle.lft_whole.specs.declared.tree.Member.{Member}
 use Rattle.lft_whole.specs.declared.tree.Member.TheVariants as member
@@ -16,6 +16,7 @@ use Rattle.lft_shapes.specs.declared.shapes.Thing.TheVariants as thing
 use Rattle.lft_shapes.specs.Below.{Declares, HasParameter, IsBelow, base, inner, instance_at, itself as self}
 use Rattle.lft_shapes.specs.Built.{Core, IsBuilt, instance_of, members_at, parameters_at}
 use Rattle.lft_shapes.specs.Chains.{base_of, extended}
+use Rattle.lft_shapes.specs.Sized.{HasMember}
 use Rattle.lft_shapes.specs.Walks.{Has, IsBehind, IsList, Reaches, Ways, further, itself, nothing, one}
 use Rattle.lft_shapes.proofs.Refusing.{listed_of}
 
@@ -38,13 +39,7 @@ below_reached scopes first a is _ itself = is
 below_reached scopes first a is _ (further {r = c} k way at) = base k (below_reached scopes first a is c way) at
 
 -- where a member of a reactor with all that it inherits is declared
-pub record IsDeclared (scopes : Scopes) (r : ℕ) (m : ℕ × Member) : Type 0 where
-  pub class : ℕ
-  pub reached : Reaches (base_of scopes) r class
-  pub which : ℕ
-  pub is_there : slice_get (members_at scopes class) which ≡ Some m
-
-pub declared : (scopes : Scopes) (c : Core) (k : ℕ) (m : Inherited) → IsBuilt scopes c → slice_get c.members k ≡ Some m → IsDeclared scopes c.class.number (m.file, m.member.now)
+pub declared : (scopes : Scopes) (c : Core) (k : ℕ) (m : Inherited) → IsBuilt scopes c → slice_get c.members k ≡ Some m → HasMember scopes c.class.number (m.file, m.member.now)
 declared scopes c k m is at =
     let locate : Inherited → ℕ × Member = λ x. (x.file, x.member.now) in
     let from = listed_of (members_at scopes) is.chain k (locate m) (ap (λ l. slice_get l k) (sym is.has_members) ∙ mapped locate c.members k m at) in
@@ -67,6 +62,13 @@ parameter_has scopes c q n is e =
     let p = (is.has_names q (thing.Parameter n)).0 e in
     let from = listed_of (parameters_at scopes) is.chain n (locate p.0) (ap (λ l. slice_get l n) (sym is.has_parameters) ∙ mapped locate c.parameters n p.0 p.1) in
     record { class = from.1.0; reached = is.extends.reached from.1.0 (from.0, from.1.1); which = from.1.2.0; parameter = locate p.0; is_declared = from.1.2.1; has_name = p.2 }
+
+-- a parameter has one name
+pub one_name : (scopes : Scopes) (c : Core) (p q : List ℕ) (n : ℕ) → IsBuilt scopes c → c.things p ≡ Some (thing.Parameter n) → c.things q ≡ Some (thing.Parameter n) → p ≡ q
+one_name scopes c p q n is first other =
+    let a = (is.has_names p (thing.Parameter n)).0 first in
+    let b = (is.has_names q (thing.Parameter n)).0 other in
+    sym a.2 ∙ ap (λ (x : InheritedParameter). string_bytes x.parameter.now.name.text) (same_some (slice_get c.parameters n) a.0 b.0 a.1 b.1) ∙ b.2
 
 -- the reactor of a member that is an instance
 pub instance_is : (scopes : Scopes) (r which : ℕ) (m : ℕ × Member) → slice_get (members_at scopes r) which ≡ Some m → instance_at scopes r which ≡ instance_of scopes m

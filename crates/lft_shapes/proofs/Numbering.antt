@@ -1,15 +1,15 @@
 -- The numbers of reactors among those of all files.
-use Rattle.std.proofs.Common.{◌≡◌, ℕ, zero, suc, ◌+◌, ◌<◌, ◌≤◌, List, [], ◌∷◌, ◌++◌, length, get_or, map, take, append-nil, Some, slice_get, refl, sym, ap, subst, ◌∙◌, arith}
+use Rattle.std.proofs.Common.{◌≡◌, ℕ, zero, suc, ◌+◌, ◌<◌, ◌≤◌, inl, inr, List, [], ◌∷◌, ◌++◌, length, get_or, map, take, append-nil, Some, slice_get, refl, sym, ap, subst, ◌∙◌, arith}
 use Rattle.std.specs.Prelude.{flat_map}
 use Rattle.std.specs.List.{enumerate_from}
 use Rattle.std.proofs.lemmas.Grind.{common_steps, flat_map-append}
 use Rattle.std.proofs.lemmas.List.{length-append, length-map}
 use Rattle.std.proofs.lemmas.List.FromFn.{length-enumerate_from}
 use Rattle.std.proofs.lemmas.Option.{get_or_from_slice_get, slice_get_within}
-use Rattle.lft_lists.proofs.Mapped.{enumerate_at, mapped}
+use Rattle.lft_lists.proofs.Mapped.{enumerate_at, mapped, mapped_from}
 use Rattle.lft_lists.proofs.Members.{get_mem, mem_from_flat, mem_from_map, mem_get}
 use Rattle.lft_lists.proofs.Picked.{take_one_more}
-use Rattle.lft_lists.proofs.Places.{get_left, get_right, same_at, Some_same}
+use Rattle.lft_lists.proofs.Places.{get_append_cases, get_left, get_right, same_at, Some_same}
 use Rattle.lft_sources.specs.declared.source.SourceFile.{SourceFile}
 use Rattle.lft_whole.specs.declared.tree.Reactor.{Reactor}
 use Rattle.lft_shapes.specs.declared.scopes.Class.{Class}
@@ -52,19 +52,28 @@ at_file files n file j r at is =
     let pair : Reactor → ℕ × Reactor = λ s. (n, s) in
     flat_at reactors_of (enumerate_from 0 files) n (n, file) j (n, r) (enumerate_at 0 files n file at ∙ ap (λ k. Some (k, file)) (omega arith)) (mapped pair file.tree.reactors.items j r is)
 
--- the number of the one that comes next
-pub next_stands : (files : List SourceFile) (n : ℕ) (file : SourceFile) (old classes : List Class) (j number : ℕ) (r : Reactor) → slice_get files n ≡ Some file → placed old ≡ reactors_before files n → placed classes ≡ placed old ++ map (λ s. (n, s)) (take j file.tree.reactors.items) → j < length file.tree.reactors.items → slice_get file.tree.reactors.items j ≡ Some r → number ≡ length classes → slice_get (reactors_in files) number ≡ Some (n, r)
-next_stands files n file old classes j number r at before now within is e =
+-- how many reactors there are with the first ones of a file
+pub counted : (n : ℕ) (items : List Reactor) (old classes : List Class) (j : ℕ) → placed classes ≡ placed old ++ map (λ s. (n, s)) (take j items) → j < length items → length classes ≡ length old + j
+counted n items old classes j now within =
     let pair : Reactor → ℕ × Reactor = λ s. (n, s) in
-    let part = take j file.tree.reactors.items in
+    let part = take j items in
     let locate : Class → ℕ × Reactor = λ c. (c.file, c.reactor.now) in
     let one = length-map classes locate in
     let two = ap length now in
     let three = length-append (placed old) (map pair part) in
     let four = length-map part pair in
-    let five = ap length before in
+    let five = length-map old locate in
     let six : length part ≡ j = grind (arith, common_steps) in
-    let there : number ≡ length (reactors_before files n) + j = omega (arith, e, one, two, three, four, five, six) in
+    omega (arith, one, two, three, four, five, six)
+
+-- the number of the one that comes next
+pub next_stands : (files : List SourceFile) (n : ℕ) (file : SourceFile) (old classes : List Class) (j number : ℕ) (r : Reactor) → slice_get files n ≡ Some file → placed old ≡ reactors_before files n → placed classes ≡ placed old ++ map (λ s. (n, s)) (take j file.tree.reactors.items) → j < length file.tree.reactors.items → slice_get file.tree.reactors.items j ≡ Some r → number ≡ length classes → slice_get (reactors_in files) number ≡ Some (n, r)
+next_stands files n file old classes j number r at before now within is e =
+    let locate : Class → ℕ × Reactor = λ c. (c.file, c.reactor.now) in
+    let one = counted n file.tree.reactors.items old classes j now within in
+    let two = length-map old locate in
+    let three = ap length before in
+    let there : number ≡ length (reactors_before files n) + j = omega (arith, e, one, two, three) in
     ap (slice_get (reactors_in files)) there ∙ at_file files n file j r at is
 
 -- one file more
@@ -75,12 +84,34 @@ before_more files n file at =
     let more : take (n + 1) all ≡ take n all ++ (n, file) ∷ [] = take_one_more all n (n, file) (slice_get_within all n (n, file) there) (get_or_from_slice_get all n (n, file) (n, file) there) in
     ap (flat_map reactors_of) more ∙ flat_map-append reactors_of (take n all) ((n, file) ∷ []) ∙ ap (λ l. reactors_before files n ++ l) (append-nil (reactors_of (n, file)))
 
--- a reactor of this file is one of those that stand there
-pub own_item : (files : List SourceFile) (n : ℕ) (file : SourceFile) (c : Class) → slice_get files n ≡ Some file → IsOf files c → c.file ≡ n → (j : ℕ) × (slice_get file.tree.reactors.items j ≡ Some c.reactor.now)
+-- what stands in all parts stands in one of them, behind those before it
+flat_from : {X Y : Type 0} (f : X → List Y) (xs : List X) (k : ℕ) (y : Y) → slice_get (flat_map f xs) k ≡ Some y → (i : ℕ) × ((x : X) × (slice_get xs i ≡ Some x) × ((j : ℕ) × (slice_get (f x) j ≡ Some y) × (k ≡ length (flat_map f (take i xs)) + j)))
+flat_from f [] k y at = absurd (cc)
+flat_from f (x ∷ xs) k y at = elim (get_append_cases (f x) (flat_map f xs) k y at) [
+  | inl here ↦ (0, (x, refl, (k, here, omega arith)))
+  | inr on ↦ (
+      let rest = flat_from f xs on.0 y on.2 in
+      let long = length-append (f x) (flat_map f (take rest.0 xs)) in
+      let one = on.1 in
+      let two = rest.1.2.2 in
+      let e : k ≡ length (f x ++ flat_map f (take rest.0 xs)) + rest.1.2.0 = omega (arith, long, one, two) in
+      (suc rest.0, (rest.1.0, rest.1.1, (rest.1.2.0, rest.1.2.1, e)))
+      )
+]
+
+-- a reactor of this file is one of those that stand there, and has its number behind those of the files before
+pub own_item : (files : List SourceFile) (n : ℕ) (file : SourceFile) (c : Class) → slice_get files n ≡ Some file → IsOf files c → c.file ≡ n → (j : ℕ) × (slice_get file.tree.reactors.items j ≡ Some c.reactor.now) × (c.number ≡ length (reactors_before files n) + j)
 own_item files n file c at is e =
-    let there = file_of files c.number c.file c.reactor.now is in
-    let same : there.0 ≡ file = same_at files c.file n there.0 file there.1 at e in
-    subst (λ f. (j : ℕ) × (slice_get f.tree.reactors.items j ≡ Some c.reactor.now)) same there.2
+    let all = enumerate_from 0 files in
+    let from = flat_from reactors_of all c.number (c.file, c.reactor.now) is in
+    let x = from.1.0 in
+    let numbered = enumerated 0 files from.0 x from.1.1 in
+    let pair : Reactor → ℕ × Reactor = λ s. (x.0, s) in
+    let one = mapped_from pair x.1.tree.reactors.items from.1.2.0 (c.file, c.reactor.now) from.1.2.1 in
+    let there : from.0 ≡ n = (let i = numbered.0 in let d : x.0 ≡ c.file = ap (λ (q : ℕ × Reactor). q.0) one.2 in omega (arith, i, d, e)) in
+    let same : x.1 ≡ file = same_at files from.0 n x.1 file numbered.1 at there in
+    let item : slice_get x.1.tree.reactors.items from.1.2.0 ≡ Some c.reactor.now = one.1 ∙ ap (λ (q : ℕ × Reactor). Some q.1) one.2 in
+    (from.1.2.0, subst (λ f. slice_get f.tree.reactors.items from.1.2.0 ≡ Some c.reactor.now) same item, subst (λ i. c.number ≡ length (flat_map reactors_of (take i all)) + from.1.2.0) there from.1.2.2)
 
 -- before the end stand all
 pub before_all : (files : List SourceFile) (n : ℕ) → length files ≤ n → reactors_before files n ≡ reactors_in files

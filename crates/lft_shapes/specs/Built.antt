@@ -1,5 +1,7 @@
 -- What reactors inherit.
-use Rattle.std.specs.Prelude.{◌≡◌, ◌↔◌, ℕ, List, [], Option, Some, None, map, flat_map, option_map, slice_get, string_bytes}
+use Rattle.std.specs.Prelude.{◌≡◌, ◌≢◌, ◌↔◌, ℕ, List, [], Option, Some, None, map, flat_map, option_map, slice_get, string_bytes}
+use Rattle.lft_whole.specs.declared.tree.Foreign.{Foreign}
+use Rattle.lft_whole.specs.declared.tree.Instance.{Instance}
 use Rattle.lft_whole.specs.declared.tree.Member.{Member}
 use Rattle.lft_whole.specs.declared.tree.Member.TheVariants as member
 use Rattle.lft_whole.specs.declared.tree.Name.{Name}
@@ -13,6 +15,7 @@ use Rattle.lft_shapes.specs.declared.shapes.Shape.{Shape}
 use Rattle.lft_shapes.specs.declared.shapes.Thing.{Thing}
 use Rattle.lft_shapes.specs.declared.shapes.Thing.TheVariants as thing
 use Rattle.lft_shapes.specs.Chains.{base_of, extended}
+use Rattle.lft_shapes.specs.Circles.{GivesOnce}
 use Rattle.lft_shapes.specs.Scopes.{class_at}
 use Rattle.lft_shapes.specs.Shapes.{inside, name_of, thing_named}
 use Rattle.lft_shapes.specs.Walks.{IsList}
@@ -71,12 +74,17 @@ abbrev pub HasName : List InheritedParameter → List Inherited → List ℕ →
 HasName ps ms q (thing.Parameter n) = (p : InheritedParameter) × (slice_get ps n ≡ Some p) × (string_bytes p.parameter.now.name.text ≡ q)
 HasName ps ms q (thing.Member n) = (m : Inherited) × (slice_get ms n ≡ Some m) × (option_map (λ (name : Name). string_bytes name.text) (name_of m.member.now) ≡ Some q)
 
--- The members and parameters are those of all that the reactor extends and of itself, one reactor after another. A name is the parameter or member that has it.
+-- no member is a mode, a mutation or a watchdog
+abbrev pub HasNoForeign : List Inherited → Type 0
+HasNoForeign ms = (k : ℕ) (m : Inherited) → slice_get ms k ≡ Some m → (what : Foreign) (at : ℕ) → m.member.now ≢ member.Foreign what at
+
+-- The members and parameters are those of all that the reactor extends and of itself, one reactor after another. A name is the parameter or member that has it. No member is a mode, a mutation or a watchdog.
 pub record IsBuilt (scopes : Scopes) (c : Core) : Type 0 where
   pub chain : List ℕ
   pub extends : IsList (base_of scopes) c.class.number chain
   pub has_members : located c.members ≡ flat_map (members_at scopes) chain
   pub has_parameters : located_parameters c.parameters ≡ flat_map (parameters_at scopes) chain
+  pub has_no_foreign : HasNoForeign c.members
   pub has_names : (q : List ℕ) (t : Thing) → (c.things q ≡ Some t) ↔ HasName c.parameters c.members q t
 
 -- so it is of each one
@@ -92,7 +100,11 @@ abbrev pub instance_of : Scopes → ℕ × Member → Option ℕ
 instance_of scopes (file, member.Instance instance) = extended scopes file instance.reactor
 instance_of scopes _ = None
 
--- the member of the one number of the one reactor is an instance of the other reactor
+-- an instance gives each parameter one value at most
+abbrev pub IsGivenOnce : Member → Type 0
+IsGivenOnce m = (instance : Instance) → m ≡ member.Instance instance → GivesOnce instance.given.items
+
+-- the member of the one number of the one reactor is an instance of the other reactor, and gives each of its parameters one value at most
 pub record IsInside (scopes : Scopes) (cs : List Core) (s k t : ℕ) : Type 0 where
   pub outer : Core
   pub is_outer : slice_get cs s ≡ Some outer
@@ -101,6 +113,7 @@ pub record IsInside (scopes : Scopes) (cs : List Core) (s k t : ℕ) : Type 0 wh
   pub inner : Core
   pub is_inner : slice_get cs t ≡ Some inner
   pub means : instance_of scopes (member.file, member.member.now) ≡ Some inner.class.number
+  pub once : IsGivenOnce member.member.now
 
 -- so it is wherever a shape is noted
 abbrev pub AreInside : Scopes → List Core → List (List (Option Child)) → Type 0

@@ -19,6 +19,7 @@ use Rattle.lft_shapes.specs.Circles.{GivesTwice, NamesAt}
 use Rattle.lft_shapes.specs.Refused.{HasNoOneMain, IsCauseIn}
 use Rattle.lft_shapes.specs.Scopes.{AreScopes, IsMain, meaning_in}
 use Rattle.lft_shapes.specs.Shapes.{width_of}
+use Rattle.lft_shapes.specs.Sized.{Sizes}
 use Rattle.lft_shapes.specs.Unnamed.{HasTwoReactors, ImportsNone}
 use Rattle.lft_shapes.specs.Walks.{Reaches}
 
@@ -78,7 +79,7 @@ pub record HasUnknownWidth (scopes : Scopes) (r : ℕ) (place : Place) : Type 0 
   pub names : NamesAt width name place.token
   pub has_none : HasParameter scopes r name → ⊥
 
--- the reactor declares a bank at the place, and the reactor of its members has a parameter `bank_index`
+-- the reactor declares a bank at the place, and the reactor of its members has a parameter `bank_index`, which a width of it needs
 pub record IsByIndex (scopes : Scopes) (r : ℕ) (place : Place) : Type 0 where
   pub which : ℕ
   pub instance : Instance
@@ -89,6 +90,7 @@ pub record IsByIndex (scopes : Scopes) (r : ℕ) (place : Place) : Type 0 where
   pub inner : ℕ
   pub is_inside : instance_at scopes r which ≡ Some inner
   pub has_index : HasParameter scopes inner bank_index
+  pub is_needed : Sizes scopes inner bank_index
 
 -- what holds of an instance that the reactor declares, or of a width that it has, for each cause
 abbrev pub IsCauseInside : Scopes → ℕ → Why → Place → Type 0
@@ -106,7 +108,7 @@ pub record HasCauseBelow (scopes : Scopes) (first : ℕ) (w : Why) (place : Plac
   pub is_below : IsBelow scopes first class
   pub is_cause : IsCauseIn scopes class w place ⊎ IsCauseInside scopes class w place
 
--- a refusal says so of a main reactor
+-- a refusal says so of the main reactor
 abbrev pub HasCauseInMain : Scopes → Why → Place → Type 0
 HasCauseInMain scopes w place = (main : Class) × IsMain scopes main × HasCauseBelow scopes main.number w place
 

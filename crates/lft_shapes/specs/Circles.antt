@@ -77,6 +77,10 @@ pub record GivesTwice (given : List Assignment) (token : ℕ) : Type 0 where
   pub same : string_bytes first.name.text ≡ string_bytes second.name.text
   pub stands : token ≡ second.name.at
 
+-- each name is given one value
+abbrev pub GivesOnce : List Assignment → Type 0
+GivesOnce given = (token : ℕ) → GivesTwice given token → ⊥
+
 -- A refusal says one of these of what an instance in this file gives.
 abbrev pub HasWrongGiven : Shape → ℕ → List Assignment → Stop → Type 0
 HasWrongGiven inner file given (stop.Refused refusal) = (refusal.place.file ≡ file) × (((refusal.why ≡ why.GivesNoParameter) × GivesNoParameter inner given refusal.place.token) ⊎ ((refusal.why ≡ why.GivenTwice) × GivesTwice given refusal.place.token))

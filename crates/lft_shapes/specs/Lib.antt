@@ -9,5 +9,6 @@ pub mod Nestings
 pub mod Refused
 pub mod Scopes
 pub mod Shapes
+pub mod Sized
 pub mod Unnamed
 pub mod Walks

@@ -47,6 +47,7 @@ KnowsOne old new class shape = (r s : ℕ) → slice_get new r ≡ Some (Some s)
 -- one shape more, of this reactor, in which nothing is noted
 pub record AddsShape (old new : Making) (class : Class) (number : ℕ) : Type 0 where
   pub scopes : new.scopes ≡ old.scopes
+  pub main : new.work.main ≡ old.work.main
   pub number_is : number ≡ length old.shapes.items
   pub fresh : Core
   pub shapes : cores new.shapes.items ≡ cores old.shapes.items ++ fresh ∷ []
@@ -58,6 +59,7 @@ pub record AddsShape (old new : Making) (class : Class) (number : ℕ) : Type 0 
 -- from shapes that are made others are made, and those that were are still the same
 pub record GoesOn (needs : ℕ → Type 0) (old new : Making) : Type 0 where
   pub scopes : new.scopes ≡ old.scopes
+  pub main : new.work.main ≡ old.work.main
   pub made : (first : ℕ) → needs first → AreMade old.scopes first old → AreMade old.scopes first new
   pub kept : (i : ℕ) (c : Core) → slice_get (cores old.shapes.items) i ≡ Some c → slice_get (cores new.shapes.items) i ≡ Some c
 

@@ -5,15 +5,16 @@ use Rattle.lft_shapes.specs.declared.nesting.Nesting.{Nesting}
 use Rattle.lft_shapes.specs.declared.scopes.Class.{Class}
 use Rattle.lft_shapes.specs.declared.scopes.Scopes.{Scopes}
 use Rattle.lft_shapes.specs.Built.{AreBuilt, AreInside, AreNoted, cores, first_class}
-use Rattle.lft_shapes.specs.Scopes.{IsMain, AreScopes}
+use Rattle.lft_shapes.specs.Scopes.{IsMain, AreScopes, begins_at}
 use Rattle.lft_shapes.specs.Shapes.{inside, tables}
 use Rattle.lft_shapes.specs.Walks.{IsList}
 
--- Names of reactors mean what they may. The first shape is of a main reactor of the first file. Each shape has what its reactor and all that this extends declare. In an instance, and there alone, the shape of its reactor is noted. The order has the first shape and those that are noted in it at any depth, each once, behind those that are noted in it: so none contains itself.
+-- Names of reactors mean what they may. The first shape is of the main reactor of the first file, which has no other one. A program that is refused as a whole is refused where this one begins. Each shape has what its reactor and all that this extends declare. In an instance, and there alone, the shape of its reactor is noted. The order has the first shape and those that are noted in it at any depth, each once, behind those that are noted in it: so none contains itself.
 pub record IsNesting (files : List SourceFile) (scopes : Scopes) (n : Nesting) : Type 0 where
   pub scopes_are : AreScopes files scopes
   pub main : Class
   pub main_is : IsMain scopes main
+  pub is_refused : n.work.main ≡ begins_at main
   pub is_first : first_class (cores n.shapes.items) ≡ Some main
   pub built : AreBuilt scopes (cores n.shapes.items)
   pub inside_are : AreInside scopes (cores n.shapes.items) (tables n.shapes.items)

@@ -1,5 +1,5 @@
 -- Why there are no reactors below the main one.
-use Rattle.std.specs.Prelude.{◌≡◌, ◌<◌, ℕ, ◌⊎◌, true, List, [], ◌∷◌, ◌++◌, Option, Some, None, filter_map, flat_map, map, option_map, slice_get, string_bytes}
+use Rattle.std.specs.Prelude.{◌≡◌, ◌<◌, ℕ, ◌⊎◌, List, [], ◌∷◌, ◌++◌, Option, Some, None, filter_map, flat_map, map, option_map, slice_get, string_bytes}
 use Rattle.lft_whole.specs.declared.tree.Foreign.{Foreign}
 use Rattle.lft_whole.specs.declared.tree.Foreign.TheVariants as foreign
 use Rattle.lft_whole.specs.declared.tree.Member.{Member}
@@ -16,15 +16,9 @@ use Rattle.lft_shapes.specs.declared.scopes.Scopes.{Scopes}
 use Rattle.lft_shapes.specs.declared.shapes.Named.{Named}
 use Rattle.lft_shapes.specs.Built.{members_at, parameters_at}
 use Rattle.lft_shapes.specs.Chains.{base_of}
-use Rattle.lft_shapes.specs.Scopes.{class_at, meaning_in}
+use Rattle.lft_shapes.specs.Scopes.{IsMainAt, class_at, meaning_in}
 use Rattle.lft_shapes.specs.Shapes.{name_of}
 use Rattle.lft_shapes.specs.Walks.{IsList, Reaches}
-
--- the reactor of this number is a main one of the first file
-pub record IsMainAt (scopes : Scopes) (number : ℕ) (c : Class) : Type 0 where
-  pub is_known : class_at scopes number ≡ Some c
-  pub in_first_file : c.file ≡ 0
-  pub is_main : c.reactor.now.is_main ≡ true
 
 -- no reactor of the first file is a main one
 abbrev pub HasNoMain : Scopes → Type 0
@@ -72,6 +66,12 @@ pub record ExtendsItself (scopes : Scopes) (first : ℕ) (place : Place) : Type 
   pub base : ℕ
   pub means : base_of scopes class which ≡ Some base
   pub back : Reaches (base_of scopes) base class
+
+-- what is said of a member that no core program has
+abbrev pub why_of : Foreign → Why
+why_of foreign.Mode = why.Mode
+why_of foreign.Mutation = why.Mutation
+why_of foreign.Watchdog = why.Watchdog
 
 -- at the place a mode, a mutation or a watchdog is declared
 pub record HasForeign (scopes : Scopes) (first : ℕ) (what : Foreign) (place : Place) : Type 0 where
@@ -141,12 +141,6 @@ noted_if file (Some n) = (string_bytes n.text, (file, n.at)) ∷ []
 -- names with their files and tokens, as they are written
 abbrev pub written : List (ℕ × Name) → List (List ℕ × (ℕ × ℕ))
 written ns = map (λ n. (string_bytes n.1.text, (n.0, n.1.at))) ns
-
--- what is said of such a member
-abbrev pub why_of : Foreign → Why
-why_of foreign.Mode = why.Mode
-why_of foreign.Mutation = why.Mutation
-why_of foreign.Watchdog = why.Watchdog
 
 -- one of these members, with the numbers of their files, is no member of a core reactor, and the refusal says it
 abbrev pub SaysForeign : List (ℕ × Member) → Stop → Type 0

@@ -7,6 +7,7 @@ use Rattle.lft_whole.specs.declared.tree.Import.{Import}
 use Rattle.lft_whole.specs.declared.tree.ImportedName.{ImportedName}
 use Rattle.lft_whole.specs.declared.tree.Reactor.{Reactor}
 use Rattle.lft_sources.specs.declared.source.SourceFile.{SourceFile}
+use Rattle.lft_sources.specs.declared.stop.Place.{Place}
 use Rattle.lft_shapes.specs.declared.scopes.Class.{Class}
 use Rattle.lft_shapes.specs.declared.scopes.Meaning.{Meaning}
 use Rattle.lft_shapes.specs.declared.scopes.Scope.{Scope}
@@ -86,19 +87,37 @@ IsMeant files file q c = IsOwn files file q c ⊎ IsImported files file q c
 abbrev pub MeansAt : List SourceFile → ℕ → List ℕ → Class → ℕ → Type 0
 MeansAt files file q c at = (IsOwn files file q c × (at ≡ c.reactor.now.at)) ⊎ ((is : IsImported files file q c) × (at ≡ is.name.alias.at))
 
--- The reactors are those of the files, in order. What a name means in a file is what it may mean there, and a name that may mean a reactor means one.
+-- the number of the reactor that the name means in the file
+abbrev pub number_in : Scopes → ℕ → List ℕ → Option ℕ
+number_in scopes file q = option_map (λ c. c.number) (meaning_in scopes file q)
+
+-- imports can have the reactor from the file under this name
+abbrev pub IsExported : List SourceFile → ℕ → List ℕ → Class → Type 0
+IsExported files file q c = IsOwn files file q c × (c.reactor.now.is_main ≡ false)
+
+-- The reactors are those of the files, in order. What a name means in a file is what it may mean there, and it may mean no other reactor. For each name that is imported the other file has a reactor.
 pub record AreScopes (files : List SourceFile) (scopes : Scopes) : Type 0 where
   pub reactors : placed scopes.classes.items ≡ reactors_in files
   pub numbers : AreNumbered scopes.classes.items
   pub meanings : (file : ℕ) (q : List ℕ) (c : Class) → meaning_in scopes file q ≡ Some c → IsMeant files file q c
-  pub all : (file : ℕ) (q : List ℕ) (c : Class) → IsMeant files file q c → (d : Class) × (meaning_in scopes file q ≡ Some d)
+  pub once : (file : ℕ) (q : List ℕ) (c : Class) → IsMeant files file q c → number_in scopes file q ≡ Some c.number
+  pub imports : (file other : ℕ) (what : Import) (which : ℕ) (name : ImportedName) → IsImport files file other what → slice_get what.names.items which ≡ Some name → (c : Class) × IsExported files other (string_bytes name.name.text) c
 
--- a main reactor of the first file
-pub record IsMain (scopes : Scopes) (c : Class) : Type 0 where
-  pub number : ℕ
+-- where a reactor begins
+abbrev pub begins_at : Class → Place
+begins_at c = record { file = c.file; token = c.reactor.now.at }
+
+-- the reactor of this number is a main one of the first file
+pub record IsMainAt (scopes : Scopes) (number : ℕ) (c : Class) : Type 0 where
   pub is_known : class_at scopes number ≡ Some c
   pub in_first_file : c.file ≡ 0
   pub is_main : c.reactor.now.is_main ≡ true
+
+-- the main reactor of the first file, which has no other one
+pub record IsMain (scopes : Scopes) (c : Class) : Type 0 where
+  pub number : ℕ
+  pub is_there : IsMainAt scopes number c
+  pub alone : (other : ℕ) (d : Class) → IsMainAt scopes other d → other ≡ number
 
 -- ---- for the crate's own contracts
 
@@ -110,30 +129,57 @@ IsOwnAt files file q c at = IsOwn files file q c × (at ≡ c.reactor.now.at)
 abbrev pub EachMeans : (List ℕ → Class → ℕ → Type 0) → List Meaning → Type 0
 EachMeans P ms = (i : ℕ) (m : Meaning) → slice_get ms i ≡ Some m → P m.name.now m.class m.at
 
--- the name has a meaning
-abbrev pub HasMeaning : List Meaning → List ℕ → Type 0
-HasMeaning ms q = (i : ℕ) × ((m : Meaning) × (slice_get ms i ≡ Some m) × (m.name.now ≡ q))
+-- the reactor of this number is a meaning of the name
+abbrev pub HasMeaning : List Meaning → List ℕ → ℕ → Type 0
+HasMeaning ms q n = (i : ℕ) × ((m : Meaning) × (slice_get ms i ≡ Some m) × (m.name.now ≡ q) × (m.class.number ≡ n))
+
+-- each reactor of the file is a meaning of its name
+abbrev pub HasOwn : List SourceFile → ℕ → List Meaning → Type 0
+HasOwn files file ms = (q : List ℕ) (c : Class) → IsOwn files file q c → HasMeaning ms q c.number
+
+-- a reactor that can be imported from the other file is a meaning of the name that the import gives
+abbrev pub IsGiven : List SourceFile → ℕ → ImportedName → List Meaning → Type 0
+IsGiven files other name ms = (c : Class) × IsExported files other (string_bytes name.name.text) c × HasMeaning ms (string_bytes name.alias.text) c.number
+
+-- so it is of each name that the file imports
+abbrev pub HasImports : List SourceFile → ℕ → List Meaning → Type 0
+HasImports files file ms = (other : ℕ) (what : Import) (which : ℕ) (name : ImportedName) → IsImport files file other what → slice_get what.names.items which ≡ Some name → IsGiven files other name ms
 
 -- the scope has these meanings, by name
 pub record IsScopeOf (ms : List Meaning) (scope : Scope) : Type 0 where
   pub names : IsIndexOf scope.names (map (λ m. m.name.now) ms)
   pub meanings : scope.meanings.items ≡ ms
 
--- the scope has such meanings alone, by name, and each name that may have one has one
+-- the scope has such meanings alone, by name
 pub record IsScope (P : List ℕ → Class → ℕ → Type 0) (scope : Scope) : Type 0 where
   pub names : IsIndexOf scope.names (map (λ m. m.name.now) scope.meanings.items)
   pub each : EachMeans P scope.meanings.items
-  pub all : (q : List ℕ) (c : Class) (at : ℕ) → P q c at → HasMeaning scope.meanings.items q
+
+-- each meaning of a name is the one that the scope gives
+abbrev pub IsOnce : Scope → Type 0
+IsOnce scope = (k : ℕ) (m : Meaning) → slice_get scope.meanings.items k ≡ Some m → (c : Class) → in_scope scope m.name.now ≡ Some c → c.number ≡ m.class.number
+
+-- the scope has the reactors of the file alone, and all
+pub record IsOwnScope (files : List SourceFile) (file : ℕ) (scope : Scope) : Type 0 where
+  pub is : IsScope (IsOwnAt files file) scope
+  pub own : HasOwn files file scope.meanings.items
+
+-- the scope has what names may mean in the file, and each of them means one reactor
+pub record IsMeantScope (files : List SourceFile) (file : ℕ) (scope : Scope) : Type 0 where
+  pub is : IsScope (MeansAt files file) scope
+  pub own : HasOwn files file scope.meanings.items
+  pub imports : HasImports files file scope.meanings.items
+  pub once : IsOnce scope
 
 -- each file has such a scope
-pub record EachHasScope (P : ℕ → List ℕ → Class → ℕ → Type 0) (files : List SourceFile) (scopes : List Scope) : Type 0 where
+pub record EachHasScope (P : ℕ → Scope → Type 0) (files : List SourceFile) (scopes : List Scope) : Type 0 where
   pub count : length scopes ≡ length files
-  pub each : (t : ℕ) (s : Scope) → slice_get scopes t ≡ Some s → IsScope (P t) s
+  pub each : (t : ℕ) (s : Scope) → slice_get scopes t ≡ Some s → P t s
 
 -- the scopes have the reactors of their files
 abbrev pub AreOwnScopes : List SourceFile → List Scope → Type 0
-AreOwnScopes files own = EachHasScope (IsOwnAt files) files own
+AreOwnScopes files own = EachHasScope (IsOwnScope files) files own
 
 -- the scopes have the meanings that names may have in their files
 abbrev pub AreMeantScopes : List SourceFile → List Scope → Type 0
-AreMeantScopes files scopes = EachHasScope (MeansAt files) files scopes
+AreMeantScopes files scopes = EachHasScope (IsMeantScope files) files scopes

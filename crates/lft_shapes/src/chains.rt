@@ -29,6 +29,7 @@ fn base_at(
 ) -> Result<Option<Base>, Stop>
     ensures base { IfOk result (λ o. MatchOption o ((k : ℕ) → number ≤ k → base_of scopes.now class k ≡ None) (λ base. base_of scopes.now class number ≡ Some base.class)) }
     ensures place { IfOk result (λ o. IfSome o (λ base. (name : Name) × NamesBase scopes.now class number name (record { file = base.file; token = base.at }))) }
+    ensures main { OnOk result (work.new.main ≡ work.old.main) }
     ensures cause { IfErr result (λ stop. (first : ℕ) → Reaches (base_of scopes.now) first class → HasCauseIn scopes.now first stop) }
     ensures work { work.new.left ≤ work.old.left }
 {
@@ -53,6 +54,7 @@ fn base_at(
 fn step(scopes: &Scopes, work: &mut Work, walk: &mut Walk) -> Result<bool, Stop>
     ensures walk { OnOk result ((first : ℕ) → IsWalk (base_of scopes.now) first walk.old → IsWalk (base_of scopes.now) first walk.new) }
     ensures over { IfOk result (λ more. more ≡ false → IsOver walk.new) }
+    ensures main { OnOk result (work.new.main ≡ work.old.main) }
     ensures cause { IfErr result (λ stop. (first : ℕ) → IsWalk (base_of scopes.now) first walk.old → HasCauseIn scopes.now first stop) }
     ensures work { IfOk result (λ more. IsTrue more → work.new.left < work.old.left) }
 {
@@ -82,6 +84,7 @@ pub(crate) fn chain(
     class: usize,
 ) -> Result<Vec<usize>, Stop>
     ensures list { IfOk result (λ v. IsList (base_of scopes.now) class v.items) }
+    ensures main { OnOk result (work.new.main ≡ work.old.main) }
     ensures cause { IfErr result (HasCauseIn scopes.now class) }
 {
     let mut walk = Walk::of(alloc, class)?;

@@ -1,17 +1,17 @@
 //! Which parameters decide widths, and which are times.
 
-ghost use Rattle.std.specs.Prelude.{◌≡◌, ℕ, Some, IfErr, OnOk, slice_get};
+ghost use Rattle.std.specs.Prelude.{◌≡◌, ◌≢◌, ℕ, Some, IfErr, IfOk, IfSome, OnOk, slice_get, true};
 ghost use Rattle.lft_shapes.specs.declared.scopes.Scopes.{Scopes};
 ghost use Rattle.lft_shapes.specs.Built.{cores};
 ghost use Rattle.lft_shapes.specs.Causes.{SaysBelow};
 ghost use Rattle.lft_shapes.specs.Circles.{HasNoParameter};
-ghost use Rattle.lft_shapes.specs.Makings.{AreShapes};
 ghost use Rattle.lft_shapes.specs.Shapes.{tables};
+ghost use Rattle.lft_shapes.specs.Sized.{IsMarkedByIndex, IsParameterIn, IsPassed, IsPassedIn, IsReady, IsReadyAt, IsSized, IsSizing, MarksSuch, NamesParameter};
 
-use crate::shapes::{Given, Inherited, Shape};
+use crate::shapes::{Inherited, Shape};
 use lft_sources::{Stop, Why};
 use lft_tag::NoMemory;
-use lft_whole::{Connection, Count, Expression, Member, Value, Width};
+use lft_whole::{Assignment, Connection, Count, Expression, Instance, Member, Value, Width};
 use std::alloc::Global;
 
 /// For each parameter of a shape whether it decides a width, and whether it is a time.
@@ -22,7 +22,9 @@ struct Needs {
 }
 
 /// The parameter that is named where a value stands.
-fn named(shape: &Shape, value: &Expression) -> Option<usize> {
+fn named(shape: &Shape, value: &Expression) -> Option<usize>
+    ensures { IfSome result (IsParameterIn shape.now value.now) }
+{
     match &value.value {
         Value::Word(word) => shape.parameter(word.as_str()),
         _ => None,
@@ -30,15 +32,41 @@ fn named(shape: &Shape, value: &Expression) -> Option<usize> {
 }
 
 /// Notes the parameter of this number.
-fn mark(list: &mut [bool], parameter: usize) {
+fn mark(list: &mut Vec<bool>, parameter: usize)
+    ensures { MarksSuch (λ n. n ≡ parameter) list.old.items list.new.items }
+{
     if parameter < list.len() {
         list[parameter] = true;
     }
 }
 
+/// Notes the parameter of this number, if it is needed.
+fn mark_if(list: &mut Vec<bool>, parameter: usize, is_needed: bool)
+    ensures { MarksSuch (λ n. (is_needed ≡ true) × (n ≡ parameter)) list.old.items list.new.items }
+{
+    if is_needed {
+        mark(list, parameter);
+    }
+}
+
+/// Refuses a bank of a reactor with a width that needs the number in the bank.
+fn refuse_by_index(inner: &Shape, file: usize, instance: &Instance) -> Result<(), Stop>
+    ensures { IfErr result (λ stop. (stop ≡ Stop.Refused (record { why = Why.WidthByIndex; place = record { file = file; token = instance.now.name.at } })) × IsMarkedByIndex inner.now instance.now) }
+{
+    if instance.width.is_some()
+        && let Some(index) = inner.parameter("bank_index")
+        && inner.is_sized(index)
+    {
+        return Err(Stop::at(Why::WidthByIndex, file, instance.name.at));
+    }
+    Ok(())
+}
+
 impl Needs {
     /// Notes what stands where a time does.
-    fn note_time(&mut self, shape: &Shape, value: &Option<Expression>) {
+    fn note_time(&mut self, shape: &Shape, value: &Option<Expression>)
+        ensures { self.new.sized ≡ self.old.sized }
+    {
         if let Some(value) = value
             && let Some(parameter) = named(shape, value)
         {
@@ -48,7 +76,8 @@ impl Needs {
 
     /// Notes the parameters that a width names.
     fn note_width(&mut self, shape: &Shape, file: usize, width: &Option<Width>) -> Result<(), Stop>
-        ensures { IfErr result (HasNoParameter shape.now file width.now) }
+        ensures marks { OnOk result (MarksSuch (NamesParameter shape.now width.now) self.old.sized.items self.new.sized.items) }
+        ensures cause { IfErr result (HasNoParameter shape.now file width.now) }
     {
         if let Some(width) = width {
             for term in &width.terms {
@@ -63,23 +92,58 @@ impl Needs {
         Ok(())
     }
 
+    /// Notes the parameter that is given to one that an instance needs.
+    fn note_assignment(&mut self, shape: &Shape, inner: &Shape, assignment: &Assignment)
+        ensures { MarksSuch (IsPassed shape.now inner.now assignment.now) self.old.sized.items self.new.sized.items }
+    {
+        let Some(needed) = inner.parameter(assignment.name.text.as_str()) else {
+            return;
+        };
+        let Some(parameter) = named(shape, &assignment.value) else {
+            return;
+        };
+        mark_if(&mut self.sized, parameter, inner.is_sized(needed));
+        mark_if(&mut self.timed, parameter, inner.is_timed(needed));
+    }
+
     /// Notes the parameters that are given to those that an instance needs.
-    fn note_given(&mut self, shape: &Shape, inner: &Shape, given: &[Given]) {
-        for given in given {
-            if let Some(parameter) = named(shape, given.value) {
-                if inner.is_sized(given.parameter) {
-                    mark(&mut self.sized, parameter);
-                }
-                if inner.is_timed(given.parameter) {
-                    mark(&mut self.timed, parameter);
-                }
-            }
+    fn note_given(&mut self, shape: &Shape, inner: &Shape, given: &[Assignment])
+        ensures { MarksSuch (IsPassedIn shape.now inner.now given.now) self.old.sized.items self.new.sized.items }
+    {
+        for assignment in given {
+            self.note_assignment(shape, inner, assignment);
         }
     }
 
     /// Notes what a connection needs.
-    fn note_connection(&mut self, shape: &Shape, connection: &Connection) {
+    fn note_connection(&mut self, shape: &Shape, connection: &Connection)
+        ensures { self.new.sized ≡ self.old.sized }
+    {
         self.note_time(shape, &connection.delay);
+    }
+
+    /// Notes what an instance needs, which is the member of this number.
+    fn note_instance(
+        &mut self,
+        shapes: &[Shape],
+        shape: &Shape,
+        number: usize,
+        inherited: Inherited,
+        instance: &Instance,
+    ) -> Result<(), Stop>
+        ensures marks { OnOk result ((scopes : Scopes) (first s : ℕ) → IsReadyAt scopes first shapes.now s shape.now number inherited.entry → inherited.entry.member.now ≡ Member.Instance instance.now → MarksSuch (IsSizing scopes shape.now) self.old.sized.items self.new.sized.items) }
+        ensures cause { IfErr result (λ stop. (scopes : Scopes) (first s : ℕ) → IsReadyAt scopes first shapes.now s shape.now number inherited.entry → inherited.entry.member.now ≡ Member.Instance instance.now → SaysBelow scopes first stop) }
+    {
+        self.note_width(shape, inherited.file, &instance.width)?;
+        let Some(child) = shape.child(number) else {
+            return Ok(());
+        };
+        let Some(inner) = shapes.get(child.shape) else {
+            return Ok(());
+        };
+        self.note_given(shape, inner, &instance.given);
+        refuse_by_index(inner, inherited.file, instance)?;
+        Ok(())
     }
 
     /// Notes what the member of this number needs.
@@ -90,7 +154,8 @@ impl Needs {
         number: usize,
         inherited: Inherited,
     ) -> Result<(), Stop>
-        ensures { IfErr result (λ stop. (scopes : Scopes) (first s : ℕ) → AreShapes scopes first (cores shapes.now) (tables shapes.now) → slice_get shapes.now s ≡ Some shape.now → slice_get shape.now.members.items number ≡ Some inherited.entry → SaysBelow scopes first stop) }
+        ensures marks { OnOk result ((scopes : Scopes) (first s : ℕ) → IsReadyAt scopes first shapes.now s shape.now number inherited.entry → MarksSuch (IsSizing scopes shape.now) self.old.sized.items self.new.sized.items) }
+        ensures cause { IfErr result (λ stop. (scopes : Scopes) (first s : ℕ) → IsReadyAt scopes first shapes.now s shape.now number inherited.entry → SaysBelow scopes first stop) }
     {
         match inherited.member {
             Member::Port(port) => self.note_width(shape, inherited.file, &port.width)?,
@@ -101,18 +166,7 @@ impl Needs {
             Member::Action(action) => self.note_time(shape, &action.min_delay),
             Member::Connection(connection) => self.note_connection(shape, connection),
             Member::Instance(instance) => {
-                self.note_width(shape, inherited.file, &instance.width)?;
-                if let Some(child) = shape.child(number)
-                    && let Some(inner) = shapes.get(child.shape)
-                {
-                    self.note_given(shape, inner, &child.given);
-                    if instance.width.is_some()
-                        && let Some(index) = inner.parameter("bank_index")
-                        && inner.is_sized(index)
-                    {
-                        return Err(Stop::at(Why::WidthByIndex, inherited.file, instance.name.at));
-                    }
-                }
+                self.note_instance(shapes, shape, number, inherited, instance)?;
             }
             Member::Reaction(_) | Member::Foreign { .. } => {}
         }
@@ -121,7 +175,9 @@ impl Needs {
 }
 
 /// As many times `false`.
-fn none(alloc: Global, count: usize) -> Result<Vec<bool>, NoMemory> {
+fn none(alloc: Global, count: usize) -> Result<Vec<bool>, NoMemory>
+    ensures { IfOk result (λ list. (n : ℕ) → slice_get list.items n ≡ Some true → ⊥) }
+{
     let mut list = Vec::new(alloc);
     for _ in 0..count {
         list.push(false)?;
@@ -131,7 +187,8 @@ fn none(alloc: Global, count: usize) -> Result<Vec<bool>, NoMemory> {
 
 /// What a shape needs of its parameters, where that is known of the shapes in it.
 fn needs_of(alloc: Global, shapes: &[Shape], shape: &Shape) -> Result<Needs, Stop>
-    ensures { IfErr result (λ stop. (scopes : Scopes) (first s : ℕ) → AreShapes scopes first (cores shapes.now) (tables shapes.now) → slice_get shapes.now s ≡ Some shape.now → SaysBelow scopes first stop) }
+    ensures marks { IfOk result (λ needs. (scopes : Scopes) (first s : ℕ) → IsReady scopes first shapes.now s → slice_get shapes.now s ≡ Some shape.now → (n : ℕ) → slice_get needs.sized.items n ≡ Some true → IsSizing scopes shape.now n) }
+    ensures cause { IfErr result (λ stop. (scopes : Scopes) (first s : ℕ) → IsReady scopes first shapes.now s → slice_get shapes.now s ≡ Some shape.now → SaysBelow scopes first stop) }
 {
     let count = shape.parameters.len();
     let mut needs = Needs {
@@ -148,13 +205,16 @@ fn needs_of(alloc: Global, shapes: &[Shape], shape: &Shape) -> Result<Needs, Sto
 pub(crate) fn decide(alloc: Global, shapes: &mut Vec<Shape>, number: usize) -> Result<(), Stop>
     ensures tables { OnOk result (tables shapes.new.items ≡ tables shapes.old.items) }
     ensures cores { OnOk result (cores shapes.new.items ≡ cores shapes.old.items) }
-    ensures cause { IfErr result (λ stop. (scopes : Scopes) (first : ℕ) → AreShapes scopes first (cores shapes.old.items) (tables shapes.old.items) → SaysBelow scopes first stop) }
+    ensures sized { OnOk result ((scopes : Scopes) (first : ℕ) → IsReady scopes first shapes.old.items number → IsSized scopes shapes.new.items number) }
+    ensures kept { OnOk result ((scopes : Scopes) (s : ℕ) → s ≢ number → IsSized scopes shapes.old.items s → IsSized scopes shapes.new.items s) }
+    ensures cause { IfErr result (λ stop. (scopes : Scopes) (first : ℕ) → IsReady scopes first shapes.old.items number → SaysBelow scopes first stop) }
 {
     if number >= shapes.len() {
         return Ok(());
     }
     let Needs { sized, timed } = needs_of(alloc, shapes, &shapes[number])?;
-    shapes[number].sized = sized;
-    shapes[number].timed = timed;
+    let shape = &mut shapes[number];
+    shape.sized = sized;
+    shape.timed = timed;
     Ok(())
 }

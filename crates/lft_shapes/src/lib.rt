@@ -15,5 +15,5 @@ mod work;
 
 pub use nesting::Nesting;
 pub use scopes::Class;
-pub use shapes::{Child, Given, Inherited, InheritedParameter, Shape, Thing};
+pub use shapes::{Child, Given, Inherited, InheritedParameter, Shape, Thing, foreign, why_of};
 pub use work::Work;

@@ -3,11 +3,12 @@
 ghost use Rattle.std.specs.Prelude.{◌≡◌, ◌<◌, ℕ, Some, OnOk, IfErr, IfNone, IfOk, IfSome, length, map, slice_get, string_bytes};
 ghost use Rattle.lft_scope.specs.Tests.{texts};
 ghost use Rattle.lft_shapes.specs.declared.shapes.Inherited.{Inherited};
+ghost use Rattle.lft_shapes.specs.declared.shapes.Shape.{Shape};
 ghost use Rattle.lft_shapes.specs.Below.{Declares, IsBelow};
 ghost use Rattle.lft_shapes.specs.Built.{AreNoted, Core, IsInside, IsNoted, cores, first_class, instance_of};
 ghost use Rattle.lft_shapes.specs.Causes.{SaysBelow};
 ghost use Rattle.lft_shapes.specs.Chains.{extended};
-ghost use Rattle.lft_shapes.specs.Circles.{HasWrongGiven};
+ghost use Rattle.lft_shapes.specs.Circles.{GivesOnce, HasWrongGiven};
 ghost use Rattle.lft_shapes.specs.Makings.{AddsShape, AreMade, AreShapes, GoesOn, HasChildren, IsNeeded, IsOfClass, KeepsBut, KeepsNoted, KnowsNone, KnowsOne, SetsOne};
 ghost use Rattle.lft_shapes.specs.Refused.{HasCauseIn};
 ghost use Rattle.lft_shapes.specs.Shapes.{tables};
@@ -50,7 +51,8 @@ fn given_of<'a>(
     file: usize,
     instance: &'a Instance,
 ) -> Result<Vec<Given<'a>>, Stop>
-    ensures { IfErr result (HasWrongGiven inner.now file instance.now.given.items) }
+    ensures once { OnOk result (GivesOnce instance.now.given.items) }
+    ensures cause { IfErr result (HasWrongGiven inner.now file instance.now.given.items) }
 {
     let names = given_names(alloc, &instance.given)?;
     let index = Index::of(alloc, &names)?;
@@ -70,6 +72,24 @@ fn given_of<'a>(
         })?;
     }
     given.sort_by_key(|given| given.parameter)?;
+    Ok(given)
+}
+
+/// The same for the parameters of the shape of this number.
+fn given_inside<'a>(
+    alloc: Global,
+    shapes: &[Shape<'a>],
+    shape: usize,
+    file: usize,
+    instance: &'a Instance,
+) -> Result<Vec<Given<'a>>, Stop>
+    ensures once { OnOk result ((inner : Shape) → slice_get shapes.now shape ≡ Some inner → GivesOnce instance.now.given.items) }
+    ensures cause { IfErr result (λ stop. (inner : Shape) × (slice_get shapes.now shape ≡ Some inner) × HasWrongGiven inner file instance.now.given.items stop) }
+{
+    let Some(inner) = shapes.get(shape) else {
+        return Ok(Vec::new(alloc));
+    };
+    let given = given_of(alloc, inner, file, instance)?;
     Ok(given)
 }
 
@@ -136,6 +156,7 @@ impl<'a> Making<'a> {
     fn child_of(&mut self, file: usize, instance: &'a Instance) -> Result<Child<'a>, Stop>
         ensures goes { OnOk result (GoesOn (IsNeeded self.old.scopes file instance.now) self.old self.new) }
         ensures child { IfOk result (λ child. (first : ℕ) → IsNeeded self.old.scopes file instance.now first → AreMade self.old.scopes first self.old → (r : ℕ) × (extended self.old.scopes file instance.now.reactor ≡ Some r) × IsOfClass (cores self.new.shapes.items) child.shape r) }
+        ensures once { OnOk result ((first : ℕ) → IsNeeded self.old.scopes file instance.now first → AreMade self.old.scopes first self.old → GivesOnce instance.now.given.items) }
         ensures noted { OnOk result (KeepsNoted self.old.shapes.items self.new.shapes.items) }
         ensures cause { IfErr result (λ stop. (first r which : ℕ) → AreMade self.old.scopes first self.old → IsBelow self.old.scopes first r → Declares self.old.scopes r which file instance.now → SaysBelow self.old.scopes first stop) }
     {
@@ -143,10 +164,7 @@ impl<'a> Making<'a> {
             return Err(Stop::at(Why::NoReactor, file, instance.reactor.at));
         };
         let shape = self.shape_of(class)?;
-        let given = match self.shapes.get(shape) {
-            Some(inner) => given_of(self.alloc, inner, file, instance)?,
-            None => Vec::new(self.alloc),
-        };
+        let given = given_inside(self.alloc, &self.shapes, shape, file, instance)?;
         Ok(Child { shape, given })
     }
 
@@ -214,6 +232,7 @@ pub(crate) fn shapes_of<'a>(
     ensures shapes { IfOk result (λ made. AreShapes scopes.entry main.entry.number (cores made.1.items) (tables made.1.items)) }
     ensures first { IfOk result (λ made. first_class (cores made.1.items) ≡ Some main.entry) }
     ensures noted { IfOk result (λ made. AreNoted scopes.entry (cores made.1.items) (tables made.1.items)) }
+    ensures main { IfOk result (λ made. made.0.main ≡ work.main) }
     ensures cause { IfErr result (SaysBelow scopes.entry main.entry.number) }
 {
     let known = nothing(alloc, scopes.len())?;

@@ -60,6 +60,7 @@ fn contains_itself(shapes: &[Shape], shape: usize, member: usize) -> Stop
 fn step(shapes: &[Shape], work: &mut Work, walk: &mut Walk) -> Result<bool, Stop>
     ensures walk { OnOk result ((first : ℕ) → IsWalk (inside (tables shapes.now)) first walk.old → IsWalk (inside (tables shapes.now)) first walk.new) }
     ensures over { IfOk result (λ more. more ≡ false → IsOver walk.new) }
+    ensures main { OnOk result (work.new.main ≡ work.old.main) }
     ensures cause { IfErr result (λ stop. (first : ℕ) → IsWalk (inside (tables shapes.now)) first walk.old → HasCircle shapes.now first stop) }
     ensures work { IfOk result (λ more. IsTrue more → work.new.left < work.old.left) }
 {
@@ -84,6 +85,7 @@ fn step(shapes: &[Shape], work: &mut Work, walk: &mut Walk) -> Result<bool, Stop
 /// The shapes, each behind those that it contains. None may contain itself.
 fn order_of(alloc: Global, shapes: &[Shape], work: &mut Work) -> Result<Vec<usize>, Stop>
     ensures order { IfOk result (λ order. IsList (inside (tables shapes.now)) 0 order.items) }
+    ensures main { OnOk result (work.new.main ≡ work.old.main) }
     ensures cause { IfErr result (HasCircle shapes.now 0) }
 {
     let mut walk = Walk::of(alloc, 0)?;

@@ -1,14 +1,14 @@
 //! What the names of reactors mean in each file.
 
-ghost use Rattle.std.specs.Prelude.{◌≡◌, ◌≤◌, ◌<◌, ◌++◌, ℕ, List, [], Some, false, IfErr, IfNone, IfOk, IfSome, OnOk, map, slice_get, string_bytes};
+ghost use Rattle.std.specs.Prelude.{◌≡◌, ◌≤◌, ◌<◌, ◌++◌, ℕ, List, [], Some, false, IfErr, IfNone, IfOk, IfSome, OnOk, map, slice_get};
 ghost use Rattle.lft_scope.specs.Tests.{texts};
 ghost use Rattle.lft_sources.specs.declared.source.SourceFile.{SourceFile};
 ghost use Rattle.lft_whole.specs.declared.tree.Import.{Import};
 ghost use Rattle.lft_whole.specs.declared.tree.ImportedName.{ImportedName};
 ghost use Rattle.lft_shapes.specs.Causes.{HasCause};
-ghost use Rattle.lft_shapes.specs.Refused.{HasNoOneMain, IsMainAt};
+ghost use Rattle.lft_shapes.specs.Refused.{HasNoOneMain};
 ghost use Rattle.lft_shapes.specs.Unnamed.{ExportsNone};
-ghost use Rattle.lft_shapes.specs.Scopes.{in_scope, meaning_in, class_at, name_in, EachMeans, HasMeaning, IsScopeOf, IsScope, IsOf, AreNumbered, IsOwn, IsOwnAt, AreOwnScopes, IsImport, MeansAt, AreMeantScopes, IsMain, AreScopes, placed, reactors_before, reactors_in, reactors_of};
+ghost use Rattle.lft_shapes.specs.Scopes.{in_scope, meaning_in, class_at, name_in, EachMeans, HasImports, HasMeaning, HasOwn, IsGiven, IsMeantScope, IsOnce, IsOwnScope, IsScopeOf, IsScope, IsOf, AreNumbered, IsOwn, IsOwnAt, AreOwnScopes, IsImport, MeansAt, AreMeantScopes, IsMain, IsMainAt, AreScopes, placed, reactors_before, reactors_in, reactors_of};
 
 use lft_lists::item_at;
 use lft_scope::index::Index;
@@ -85,8 +85,8 @@ impl<'a> Scope<'a> {
 /// Puts the name of a reactor behind others, if it has one.
 fn push_named<'a>(meanings: &mut Vec<Meaning<'a>>, class: Class<'a>) -> Result<(), NoMemory>
     ensures own { OnOk result ((files : List SourceFile) → IsOf files class.entry → EachMeans (IsOwnAt files class.entry.file) meanings.old.items → EachMeans (IsOwnAt files class.entry.file) meanings.new.items) }
-    ensures kept { OnOk result ((q : List ℕ) → HasMeaning meanings.old.items q → HasMeaning meanings.new.items q) }
-    ensures has { OnOk result ((q : List ℕ) → name_in class.entry ≡ Some q → HasMeaning meanings.new.items q) }
+    ensures kept { OnOk result ((q : List ℕ) (n : ℕ) → HasMeaning meanings.old.items q n → HasMeaning meanings.new.items q n) }
+    ensures has { OnOk result ((q : List ℕ) → name_in class.entry ≡ Some q → HasMeaning meanings.new.items q class.entry.number) }
 {
     let Some(name) = &class.reactor.name else {
         return Ok(());
@@ -106,7 +106,7 @@ fn own_scope<'a>(
     file: &'a SourceFile,
     classes: &mut Vec<Class<'a>>,
 ) -> Result<Scope<'a>, NoMemory>
-    ensures own { IfOk result (λ scope. (files : List SourceFile) → slice_get files number ≡ Some file.now → placed classes.old.items ≡ reactors_before files number → IsScope (IsOwnAt files number) scope) }
+    ensures own { IfOk result (λ scope. (files : List SourceFile) → slice_get files number ≡ Some file.now → placed classes.old.items ≡ reactors_before files number → IsOwnScope files number scope) }
     ensures classes { OnOk result (placed classes.new.items ≡ placed classes.old.items ++ reactors_of (number, file.now)) }
     ensures numbers { OnOk result (AreNumbered classes.old.items → AreNumbered classes.new.items) }
 {
@@ -147,8 +147,8 @@ fn push_names<'a>(
     import: &'a Import,
 ) -> Result<(), Stop>
     ensures meant { OnOk result ((files : List SourceFile) → IsImport files number target import.now → AreOwnScopes files own.now → EachMeans (MeansAt files number) meanings.old.items → EachMeans (MeansAt files number) meanings.new.items) }
-    ensures kept { OnOk result ((q : List ℕ) → HasMeaning meanings.old.items q → HasMeaning meanings.new.items q) }
-    ensures all { OnOk result ((which : ℕ) (name : ImportedName) → slice_get import.now.names.items which ≡ Some name → HasMeaning meanings.new.items (string_bytes name.alias.text)) }
+    ensures kept { OnOk result ((q : List ℕ) (n : ℕ) → HasMeaning meanings.old.items q n → HasMeaning meanings.new.items q n) }
+    ensures all { OnOk result ((files : List SourceFile) → AreOwnScopes files own.now → (which : ℕ) (name : ImportedName) → slice_get import.now.names.items which ≡ Some name → IsGiven files target name meanings.new.items) }
     ensures cause { IfErr result (λ stop. (files : List SourceFile) → IsImport files number target import.now → AreOwnScopes files own.now → HasCause files stop) }
 {
     for place in 0..import.names.len() {
@@ -173,8 +173,8 @@ fn push_imports<'a>(
     file: &'a SourceFile,
 ) -> Result<(), Stop>
     ensures meant { OnOk result ((files : List SourceFile) → slice_get files number ≡ Some file.now → AreOwnScopes files own.now → EachMeans (MeansAt files number) meanings.old.items → EachMeans (MeansAt files number) meanings.new.items) }
-    ensures kept { OnOk result ((q : List ℕ) → HasMeaning meanings.old.items q → HasMeaning meanings.new.items q) }
-    ensures all { OnOk result ((place other : ℕ) (what : Import) (which : ℕ) (name : ImportedName) → slice_get file.now.tree.imports.items place ≡ Some what → slice_get file.now.imports.items place ≡ Some other → slice_get what.names.items which ≡ Some name → HasMeaning meanings.new.items (string_bytes name.alias.text)) }
+    ensures kept { OnOk result ((q : List ℕ) (n : ℕ) → HasMeaning meanings.old.items q n → HasMeaning meanings.new.items q n) }
+    ensures all { OnOk result ((files : List SourceFile) → slice_get files number ≡ Some file.now → AreOwnScopes files own.now → HasImports files number meanings.new.items) }
     ensures cause { IfErr result (λ stop. (files : List SourceFile) → slice_get files number ≡ Some file.now → AreOwnScopes files own.now → HasCause files stop) }
 {
     let count = file.tree.imports.len().min(file.imports.len());
@@ -192,7 +192,7 @@ fn own_meanings<'a>(
     number: usize,
 ) -> Result<Vec<Meaning<'a>>, NoMemory>
     ensures meant { IfOk result (λ v. (files : List SourceFile) → AreOwnScopes files own.now → EachMeans (MeansAt files number) v.items) }
-    ensures all { IfOk result (λ v. (files : List SourceFile) → AreOwnScopes files own.now → (q : List ℕ) (c : Class) → IsOwn files number q c → HasMeaning v.items q) }
+    ensures all { IfOk result (λ v. (files : List SourceFile) → AreOwnScopes files own.now → HasOwn files number v.items) }
 {
     let Some(scope) = own.get(number) else {
         return Ok(Vec::new(alloc));
@@ -203,7 +203,8 @@ fn own_meanings<'a>(
 
 /// Refuses a name that means two reactors. One reactor may be imported twice.
 fn refuse_twice(scope: &Scope, number: usize) -> Result<(), Stop>
-    ensures { IfErr result (λ stop. (files : List SourceFile) → IsScope (MeansAt files number) scope.now → HasCause files stop) }
+    ensures once { OnOk result (IsOnce scope.now) }
+    ensures cause { IfErr result (λ stop. (files : List SourceFile) → IsScope (MeansAt files number) scope.now → HasCause files stop) }
 {
     for place in 0..scope.meanings.len() {
         let meaning = item_at(&scope.meanings, place);
@@ -223,7 +224,7 @@ fn scope_of<'a>(
     number: usize,
     file: &'a SourceFile,
 ) -> Result<Scope<'a>, Stop>
-    ensures meant { IfOk result (λ scope. (files : List SourceFile) → slice_get files number ≡ Some file.now → AreOwnScopes files own.now → IsScope (MeansAt files number) scope) }
+    ensures meant { IfOk result (λ scope. (files : List SourceFile) → slice_get files number ≡ Some file.now → AreOwnScopes files own.now → IsMeantScope files number scope) }
     ensures cause { IfErr result (λ stop. (files : List SourceFile) → slice_get files number ≡ Some file.now → AreOwnScopes files own.now → HasCause files stop) }
 {
     let mut meanings = own_meanings(alloc, own, number)?;
@@ -305,6 +306,7 @@ impl<'a> Scopes<'a> {
     /// The next main reactor of the first file, from this number on.
     fn next_main(&self, from: usize) -> Option<(usize, Class<'a>)>
         ensures some { IfSome result (λ found. IsMainAt self.now found.0 found.1 × (from ≤ found.0) × (found.0 < usize.MAX)) }
+        ensures first { IfSome result (λ found. (number : ℕ) (c : Class) → from ≤ number → number < found.0 → IsMainAt self.now number c → ⊥) }
         ensures none { IfNone result ((number : ℕ) (c : Class) → from ≤ number → IsMainAt self.now number c → ⊥) }
     {
         for place in from..self.classes.len() {

@@ -8,7 +8,7 @@ ghost use Rattle.lft_whole.specs.declared.tree.Instance.{Instance};
 ghost use Rattle.lft_whole.specs.declared.tree.Name.{Name};
 ghost use Rattle.lft_whole.specs.declared.tree.Port.{Port};
 ghost use Rattle.lft_shapes.specs.Shapes.{thing_named, child_at, name_of, width_of, is_at};
-ghost use Rattle.lft_shapes.specs.Built.{HasName, IsBuilt, core, located, located_parameters, members_of, members_at, parameters_of, parameters_at};
+ghost use Rattle.lft_shapes.specs.Built.{HasName, HasNoForeign, IsBuilt, core, located, located_parameters, members_of, members_at, parameters_of, parameters_at};
 ghost use Rattle.lft_shapes.specs.Naming.{EachNamed, HasNamed};
 ghost use Rattle.lft_shapes.specs.Refused.{HasCauseIn, IsTooMuch, SaysForeign, SaysTwice, names_in, noted, noted_if, why_of, written};
 
@@ -110,19 +110,24 @@ fn wide_name(member: &Member) -> Option<&str> {
     }
 }
 
-/// Why a member can't be in a core program at all.
-fn foreign(member: &Member) -> Option<(Why, usize)>
-    ensures { IfSome result (λ found. (what : Foreign) × (member.now ≡ Member.Foreign what found.1) × (found.0 ≡ why_of what)) }
+/// Why a mode, a mutation or a watchdog is refused.
+pub fn why_of(what: Foreign) -> Why
+    ensures { result ≡ why_of what }
+{
+    match what {
+        Foreign::Mode => Why::Mode,
+        Foreign::Mutation => Why::Mutation,
+        Foreign::Watchdog => Why::Watchdog,
+    }
+}
+
+/// Why a member can't be in a core program at all, and its token.
+pub fn foreign(member: &Member) -> Option<(Why, usize)>
+    ensures some { IfSome result (λ found. (what : Foreign) × (member.now ≡ Member.Foreign what found.1) × (found.0 ≡ why_of what)) }
+    ensures none { IfNone result ((what : Foreign) (at : ℕ) → member.now ≢ Member.Foreign what at) }
 {
     match member {
-        Member::Foreign { what, at } => {
-            let why = match *what {
-                Foreign::Mode => Why::Mode,
-                Foreign::Mutation => Why::Mutation,
-                Foreign::Watchdog => Why::Watchdog,
-            };
-            Some((why, *at))
-        }
+        Member::Foreign { what, at } => Some((why_of(*what), *at)),
         _ => None,
     }
 }
@@ -190,6 +195,7 @@ fn push_members<'a>(
     class: Class<'a>,
 ) -> Result<u64, Stop>
     ensures members { OnOk result (located members.new.items ≡ located members.old.items ++ members_of class.entry) }
+    ensures main { OnOk result (work.new.main ≡ work.old.main) }
     ensures cause { IfErr result IsTooMuch }
 {
     let mut all: u64 = 0;
@@ -212,6 +218,7 @@ fn push_parameters<'a>(
     class: Class<'a>,
 ) -> Result<u64, Stop>
     ensures parameters { OnOk result (located_parameters parameters.new.items ≡ located_parameters parameters.old.items ++ parameters_of class.entry) }
+    ensures main { OnOk result (work.new.main ≡ work.old.main) }
     ensures cause { IfErr result IsTooMuch }
 {
     let mut all: u64 = 0;
@@ -236,6 +243,7 @@ fn push_class<'a>(
 ) -> Result<(), Stop>
     ensures members { OnOk result (located parts.new.members.items ≡ located parts.old.members.items ++ members_at scopes.now number) }
     ensures parameters { OnOk result (located_parameters parts.new.parameters.items ≡ located_parameters parts.old.parameters.items ++ parameters_at scopes.now number) }
+    ensures main { OnOk result (work.new.main ≡ work.old.main) }
     ensures cause { IfErr result IsTooMuch }
 {
     let Some(class) = scopes.class(number) else {
@@ -259,6 +267,7 @@ fn parts_of<'a>(
 ) -> Result<Parts<'a>, Stop>
     ensures members { IfOk result (λ parts. located parts.members.items ≡ flat_map (members_at scopes.now) chain.now) }
     ensures parameters { IfOk result (λ parts. located_parameters parts.parameters.items ≡ flat_map (parameters_at scopes.now) chain.now) }
+    ensures main { OnOk result (work.new.main ≡ work.old.main) }
     ensures cause { IfErr result IsTooMuch }
 {
     let mut parts = Parts {
@@ -346,6 +355,7 @@ impl<'a> Shape<'a> {
         ensures class { IfOk result (λ shape. shape.class ≡ class.entry) }
         ensures built { IfOk result (λ shape. IsBuilt scopes.now (core shape)) }
         ensures empty { IfOk result (λ shape. shape.children.items ≡ []) }
+        ensures main { OnOk result (work.new.main ≡ work.old.main) }
         ensures cause { IfErr result (HasCauseIn scopes.now class.entry.number) }
     {
         let chain = chain(alloc, scopes, work, class.number)?;
@@ -448,7 +458,8 @@ fn refuse_twice(index: &Index, named: &[Named]) -> Result<(), Stop>
 
 /// Refuses what no core program has in its place.
 fn refuse_foreign(members: &[Inherited]) -> Result<(), Stop>
-    ensures { IfErr result (SaysForeign (located members.now)) }
+    ensures none { OnOk result (HasNoForeign members.now) }
+    ensures cause { IfErr result (SaysForeign (located members.now)) }
 {
     for inherited in members {
         if let Some((why, at)) = foreign(inherited.member) {

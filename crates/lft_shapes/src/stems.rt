@@ -1,6 +1,6 @@
 //! What stands before the number of a channel, or of a member of a bank.
 
-ghost use Rattle.std.specs.Prelude.{◌≡◌, ◌<◌, IfErr, IfOk, length, vec_len};
+ghost use Rattle.std.specs.Prelude.{◌≡◌, ◌<◌, IfErr, IfOk, OnOk, length, vec_len};
 ghost use Rattle.lft_shapes.specs.Refused.{IsTooMuch};
 
 use crate::work::Work;
@@ -40,6 +40,7 @@ fn stem(
     name: &[u8],
 ) -> Result<usize, Stop>
     ensures count { IfOk result (λ count. 0 < count) }
+    ensures main { OnOk result (work.new.main ≡ work.old.main) }
     ensures cause { IfErr result IsTooMuch }
 {
     let mut stem = Vec::from_slice(alloc, name)?;
@@ -63,6 +64,7 @@ pub(crate) fn stems(
     wide: &[Option<&str>],
 ) -> Result<Vec<usize>, Stop>
     ensures each { IfOk result (λ v. vec_len v ≡ length wide.now) }
+    ensures main { OnOk result (work.new.main ≡ work.old.main) }
     ensures cause { IfErr result IsTooMuch }
 {
     let mut taken = before_digits(alloc, names)?;

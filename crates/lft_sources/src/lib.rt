@@ -6,7 +6,7 @@ mod source;
 mod stop;
 mod why;
 
-pub use shown::shown_path;
+pub use shown::{push_place, shown_path};
 pub use source::{SourceFile, Spot};
 pub use stop::{Place, Refusal, Stop};
 pub use why::Why;

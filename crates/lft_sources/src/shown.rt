@@ -1,8 +1,10 @@
-//! Paths in texts.
+//! Paths and places in texts.
 
-ghost use Rattle.std.specs.Prelude.{◌≡◌, IfOk, string_bytes};
-ghost use Rattle.lft_sources.specs.Shown.{shown, shown_path as path_shown};
+ghost use Rattle.std.specs.Prelude.{◌≡◌, ◌++◌, IfOk, OnOk, string_bytes};
+ghost use Rattle.lft_sources.specs.Shown.{place_words, shown, shown_path as path_shown};
 
+use crate::source::SourceFile;
+use lft_words::push_number;
 use std::alloc::{AllocError, Global};
 
 /// A letter as it is written into texts.
@@ -25,4 +27,23 @@ pub fn shown_path(alloc: Global, path: &str) -> Result<String, AllocError>
         text.push(shown_letter(letter))?;
     }
     Ok(text)
+}
+
+/// Puts where a token of a file stands at the end of a text, as `path:line:column`.
+pub fn push_place(
+    alloc: Global,
+    text: &mut String,
+    file: &SourceFile,
+    token: usize,
+) -> Result<(), AllocError>
+    ensures { OnOk result (string_bytes text.new ≡ string_bytes text.old ++ place_words file.now token) }
+{
+    let spot = file.spot(token);
+    let path = shown_path(alloc, file.path.as_str())?;
+    text.push_str(path.as_str())?;
+    text.push_str(":")?;
+    push_number(text, spot.line as u64)?;
+    text.push_str(":")?;
+    push_number(text, spot.column as u64)?;
+    Ok(())
 }

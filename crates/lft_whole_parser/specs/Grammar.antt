@@ -93,7 +93,7 @@ on_coded = on_preamble or word (codes "method") or word (codes "const") or word 
 abbrev pub on_handler : Test
 on_handler = word (codes "deadline") or word (codes "STP") or word (codes "STAA") or word (codes "tardy") or word (codes "maxwait")
 
--- a word that begins no member and no handler
+-- a word that no declaration, no code and no handler begins with, and that no `=` follows
 abbrev pub on_use : Test
 on_use = on is_word and isnt (on_declaring or on_coded or on_handler) and isnt (next (sign 61))
 

@@ -117,7 +117,7 @@ fn is_handler(input: &Input, at: usize) -> bool
         || is_key(input, at, b"maxwait")
 }
 
-/// Whether the word here is a use of the reaction before it, and no next member or handler.
+/// Whether the word here is a use of the reaction before it, and begins no declaration, code or handler.
 fn is_use(input: &Input, at: usize) -> bool
     ensures is { result ≡ Grammar.on_use (source input.now) at }
     ensures inside { result ≡ true → at < count input.now }

@@ -97,7 +97,7 @@ abbrev pub is_text : Option Lexeme → Bool
 is_text (Some Text) = true
 is_text _ = false
 
--- it is a number with a point
+-- it is a number with a point or an exponent
 abbrev pub is_decimal : Option Lexeme → Bool
 is_decimal (Some Decimal) = true
 is_decimal _ = false

@@ -1,4 +1,4 @@
--- For the parser's own contracts. No public contract names these.
+-- What the parser has of the grammar: the text with its tokens, and what it answers.
 use Rattle.std.specs.Prelude.{ℕ, ◌<◌, ◌≤◌, length, Option, Some, None}
 use Rattle.lft_tree.specs.Identifiers.{IsIdentifier}
 use Rattle.lft_whole_parts.specs.declared.input.Input.{Input}

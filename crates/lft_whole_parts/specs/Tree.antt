@@ -40,7 +40,7 @@ pub record TermTree : Type 0 where
   pub count : CountTree
   pub at : ℕ
 
--- a parameter: whether its type is `time`, and the value it has by default
+-- a parameter: whether it is a time, by its type or, without one, by its default; and the value it has by default
 pub record ParameterTree : Type 0 where
   pub name : NameTree
   pub is_time : Bool

@@ -10,14 +10,16 @@ const VERSION: &str = "0.1.0";
 
 const HELP: &str = "\
 Status: 0 accepted, same, recorded, shown or lowered, 1 broken or differ, 2 a fault (on standard error);
-of follow also 3 unbroken and 4 odd, where rows are missing or judge has to tell.
+of follow and --until also 3 unbroken and 4 odd: rows are missing, or judge has to tell.
 A bundle is the lines `--- program`, `--- externals` and `--- trace`, each with its text after it.";
 
 const JUDGE_HELP: &str = "\
 EXTERNALS has the header  kind,time,microstep,name,value
 TRACE has the header      event,worker,time,microstep,reaction,name,value,delay
 Times are in nanoseconds. Words are paths of files; /dev/stdin is standard input.
-Printed: accepted runs=R tags=G (status 0), or broken rule=N .. (status 1).";
+Printed: accepted runs=R tags=G (status 0), or broken rule=N .. (status 1).
+With --until, which doesn't go with --names, the lines of follow, unbroken .. (status 0
+or 3) and odd .. (status 4) among them.";
 
 const COVER_HELP: &str = "\
 EXTERNALS has the header  kind,time,microstep,name,value
@@ -64,7 +66,7 @@ an earlier stop. Without EXTERNALS it has all of them: lftrace follow PROGRAM < 
 Its lines are plain: without quotation marks. Nothing is read behind what is told.
 Printed: accepted runs=R tags=G (status 0); broken rule=N .. (status 1), as soon as
 it is sure; odd line=L runs=R tags=G .. (status 4), where the rows up to line L
-can't be judged further, as too many events wait; unbroken runs=R
+can't be judged further, since too much waits or memory is refused; unbroken runs=R
 tags=G time=T microstep=M at the end (status 3), where rows are missing or those at
 the last tag may break a rule: --whole tells; the same with --until (status 0).
 With --explain an empty line and the facts that show it stand behind broken .., of the
@@ -80,7 +82,8 @@ const LOWER_HELP: &str = "\
 PROGRAM is the path of a file; the files that it imports are read too.
 TABLE gets the header  kind,source,core,place  and a row for each name that differs.
 Printed: the core program (status 0); one that is core already as it is. Of what has no
-equal in the core  fault lower N Name FILE:LINE:COLUMN  and what to write in its place.";
+equal in the core  fault lower N Name FILE:LINE:COLUMN  and what helps, on standard error.
+There notes stand too: what a runtime has to do, or isn't connected.";
 
 /// The words of `judge`, `cover` and `explain`: three paths, and how many workers, 1 to 64.
 #[derive(Clone, Copy)]
@@ -527,12 +530,16 @@ fn explain_job<'a>(alloc: Global, matches: &ArgMatches<'a>) -> Result<Job<'a>, E
     }
 }
 
-/// The words of `lower`.
-fn lower_words<'a>(matches: &ArgMatches<'a>) -> LowerWords<'a> {
-    LowerWords {
-        program: text(matches, "PROGRAM"),
-        names: given(matches, "names"),
+/// The words of `lower`. The table of names isn't written over the program.
+fn lower_words<'a>(alloc: Global, matches: &ArgMatches<'a>) -> Result<LowerWords<'a>, Error> {
+    let program = text(matches, "PROGRAM");
+    let names = given(matches, "names");
+    if names == Some(program) {
+        let mut command = lower_command(alloc)?.bin_name("lftrace lower")?;
+        let words = "`--names` would write over PROGRAM";
+        return Err(command.error(ErrorKind::ArgumentConflict, words)?);
     }
+    Ok(LowerWords { program, names })
 }
 
 /// The words of `follow`.
@@ -583,7 +590,7 @@ pub(crate) fn read_words<'a>(alloc: Global, words: &'a [String]) -> Result<Job<'
             max_runs: number(record, "max-runs", 1_000_000),
         })),
         Some(("show", show)) => Ok(Job::Show(text(show, "PROGRAM"))),
-        Some(("lower", lower)) => Ok(Job::Lower(lower_words(lower))),
+        Some(("lower", lower)) => Ok(Job::Lower(lower_words(alloc, lower)?)),
         _ => Ok(Job::Bundle),
     }
 }

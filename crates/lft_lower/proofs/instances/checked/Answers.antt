@@ -1,32 +1,46 @@
-use Rattle.std.proofs.Common.{◌≡◌, ◌⊎◌, ◌<◌, inl, inr, Some, map, refl, slice_get, subst, sym, ap, ◌∙◌}
+use Rattle.std.proofs.Common.{◌≡◌, ◌⊎◌, ◌<◌, ◌≤◌, ℕ, List, inl, inr, Some, map, refl, slice_get, subst, sym, ap, ◌∙◌}
 use Rattle.std.specs.Prelude.{option_map, unwrap_or}
 use Rattle.std.specs.Option.{option_and_then}
 use Rattle.std.proofs.lemmas.Option.{slice_get-map}
 use Rattle.std.proofs.lemmas.Result.{err_from_is_err_and}
+use Rattle.lft_shapes.specs.declared.shapes.Shape.{Shape}
+use Rattle.lft_settings.specs.declared.settings.Settings.{Settings}
 use Rattle.lft_meanings.specs.Meanings.{here}
 use Rattle.lft_meanings.specs.Refused.{IsOfSome, IsPassed}
 use Rattle.lft_lower.specs.Needed.{needed_given, needed_in}
 use Rattle.lft_lower.specs.Refused.{IsOfGiven, IsOfInstance}
 use Rattle.lft_meanings.proofs.Refusing.{refused_too}
-use Rattle.lft_lower.proofs.Needing.{lacking}
+use Rattle.lft_lower.proofs.Needing.{lacking, none_lacks}
 use Rattle.lft_lower.proofs.instances.checked.Goals as goal
 
+-- so many parameters of the shape in an instance have to be given
+is_count : (made now : Settings) (counts : List ℕ) (number count : ℕ) (inner : Shape) → counts ≡ map needed_in made.shapes.items → made ≡ now → slice_get now.shapes.items number ≡ Some inner → count ≡ unwrap_or (slice_get counts number) 0 → count ≡ needed_in inner
+is_count made now counts number count inner counted same there is =
+    let at : slice_get counts number ≡ Some (needed_in inner) =
+    ap (λ ns. slice_get ns number) counted
+    ∙ ap (λ s. slice_get (map needed_in s.shapes.items) number) same
+    ∙ slice_get-map needed_in now.shapes.items number
+    ∙ ap (option_map needed_in) there in
+    is ∙ ap (λ o. unwrap_or o 0) at
+
 pub returns-clause-given : goal.returns-clause-given
-returns-clause-given c = (c.in-Some.child.now, c.in-Some-inner_shape.inner.now, sym c.in-Some.ensures, sym c.in-Some-inner_shape.ensures, c.in_ok-given.ensures.read, c.in_ok-given.ensures.given)
+returns-clause-given c same =
+    let child = c.in-Some.child.now in
+    let inner = c.in-Some-inner_shape.inner.now in
+    let now = c.args.within.settings.now in
+    let there : slice_get now.shapes.items child.shape ≡ Some inner = ap (option_and_then (λ ch. slice_get now.shapes.items ch.shape)) c.in-Some.ensures ∙ sym c.in-Some-inner_shape.ensures in
+    let is = is_count c.args.maker.settings.now now c.args.maker.needed.now child.shape c.needed_of-needed.result inner c.args.maker.counted same there c.needed_of-needed.ensures in
+    let enough = subst (λ n. n ≤ needed_given inner child) is (c.gives_needed.ensures.enough c.if-not-gives_needed.false) in
+    (child, inner, sym c.in-Some.ensures, sym c.in-Some-inner_shape.ensures, none_lacks inner child enough, c.in_ok-given.ensures.read, c.in_ok-given.ensures.given)
 
 pub returns-then-not-gives_needed-clause-cause : goal.returns-then-not-gives_needed-clause-cause
 returns-then-not-gives_needed-clause-cause c same =
     let child = c.in-Some.child.now in
     let inner = c.in-Some-inner_shape.inner.now in
-    let shapes = c.args.within.settings.now.shapes.items in
-    let there : slice_get shapes child.shape ≡ Some inner = ap (option_and_then (λ ch. slice_get shapes ch.shape)) c.in-Some.ensures ∙ sym c.in-Some-inner_shape.ensures in
-    let counted : slice_get c.args.maker.needed.now child.shape ≡ Some (needed_in inner) =
-    ap (λ ns. slice_get ns child.shape) c.args.maker.counted
-    ∙ ap (λ s. slice_get (map needed_in s.shapes.items) child.shape) same
-    ∙ slice_get-map needed_in shapes child.shape
-    ∙ ap (option_map needed_in) there in
-    let is : c.needed_of-needed.result ≡ needed_in inner = c.needed_of-needed.ensures ∙ ap (λ o. unwrap_or o 0) counted in
-    let few = subst (λ n. needed_given inner child < n) is (c.gives_needed.ensures c.if-not-gives_needed.true) in
+    let now = c.args.within.settings.now in
+    let there : slice_get now.shapes.items child.shape ≡ Some inner = ap (option_and_then (λ ch. slice_get now.shapes.items ch.shape)) c.in-Some.ensures ∙ sym c.in-Some-inner_shape.ensures in
+    let is = is_count c.args.maker.settings.now now c.args.maker.needed.now child.shape c.needed_of-needed.result inner c.args.maker.counted same there c.needed_of-needed.ensures in
+    let few = subst (λ n. needed_given inner child < n) is (c.gives_needed.ensures.few c.if-not-gives_needed.true) in
     rw c.at.ensures (inr (inner, child, sym c.in-Some-inner_shape.ensures, sym c.in-Some.ensures, inl (refl, refl, lacking inner child few)))
 
 pub returns-in_err-given-clause-cause : goal.returns-in_err-given-clause-cause

@@ -18,6 +18,7 @@ pub returns-clause-made : goal.returns-clause-made
 returns-clause-made c program = record {
   used = c.args.used.now;
   program = program;
+  centralized = c.in_ok-notes.ensures.known;
   order = c.in_ok-sorted.sorted.items;
   reordered = c.in_ok-sorted.ensures.same;
   names = texts c.in_ok-names.names.items;
@@ -29,7 +30,7 @@ pub returns-in_err-notes-clause-cause : goal.returns-in_err-notes-clause-cause
 returns-in_err-notes-clause-cause c =
     let p = err_from_is_err_and c.from_residual.result c.from_residual.ensures.1 in
     let s = c.args.settings in
-    rw (p.1, p.2) (middle_too (IsPassed s.work.main) (IsOfFederation c.args.files.now s) (IsOfSome (IsOfSetting s) c.args.used.now) c.in_err-notes.field-0.0 c.in_err-notes.ensures)
+    rw (p.1, p.2) (middle_too (IsPassed s.work.main) (IsOfFederation c.args.files.now s) (IsOfSome (IsOfSetting s) c.args.used.now) c.in_err-notes.field-0.0 c.in_err-notes.ensures.cause)
 
 pub returns-in_err-names-clause-cause : goal.returns-in_err-names-clause-cause
 returns-in_err-names-clause-cause c =

@@ -23,4 +23,4 @@ returns-clause-triggers c =
     let items = c.in_ok-triggers.triggers.items in
     let zero : length items ≡ 0 = omega arith in
     let empty : map trigger_view items ≡ [] = none_of items (map trigger_view items) refl zero in
-    triggers_sleep (here c.args.within) c.args.reaction.now (string_bytes c.in_ok-head.head) (option_map string_bytes c.args.never.now) _ c.args.list.now.items _ _ (none_of items _ c.in_ok-triggers.ensures.places zero) c.in_ok-head.ensures.added c.in_ok-head.ensures.name (ap (map trigger_view) c.in_ok-push.ensures.items ∙ map-append trigger_view items _ ∙ ap (λ ts. ts ++ OnRef (own (string_bytes c.in_ok-head.head)) ∷ []) empty)
+    triggers_sleep (here c.args.within) c.args.reaction.now (string_bytes c.in_ok-head.head) (option_map string_bytes c.args.never.now) _ c.args.list.now.items _ _ c.in_ok-triggers.ensures.some (none_of items _ c.in_ok-triggers.ensures.places zero) c.in_ok-head.ensures.added c.in_ok-head.ensures.name (ap (map trigger_view) c.in_ok-push.ensures.items ∙ map-append trigger_view items _ ∙ ap (λ ts. ts ++ OnRef (own (string_bytes c.in_ok-head.head)) ∷ []) empty)

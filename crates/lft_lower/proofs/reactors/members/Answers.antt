@@ -19,7 +19,7 @@ loop-number-preserved c =
     let item = c.index-inherited.result.now in
     let test = c.loop-number-test.true in
     let there : slice_get items number ≡ Some item = slice_get_read items (length items) number item refl (omega (arith, c.len-number-end.ensures)) c.index-inherited.ensures in
-    lowered_next (texts c.args.maker.names.now) _ items number item _ c.in_ok-push_member.ensures.made.0 _ _ _ there c.loop-number.invariant c.in_ok-check_width.ensures.known c.in_ok-push_member.ensures.made.1 c.in_ok-push_member.ensures.made.2
+    lowered_next (texts c.args.maker.names.now) _ items number item _ (c.in_ok-push_member.ensures.made refl).0 _ _ _ there c.loop-number.invariant c.in_ok-check_width.ensures.known (c.in_ok-push_member.ensures.made refl).1 (c.in_ok-push_member.ensures.made refl).2
 
 pub returns-clause-made : goal.returns-clause-made
 returns-clause-made c = lowered_all c.args.maker.settings.now (texts c.args.maker.names.now) c.args.setting c.args.shape.now c.loop-number.number _ _ (omega (arith, c.len-number-end.ensures, c.loop-number-test.false)) c.loop-number.invariant

@@ -11,33 +11,33 @@ use Rattle.lft_lower.proofs.Refusing.{of_kind}
 use Rattle.lft_lower.proofs.reactors.push_member.Goals as goal
 
 pub returns-in_ok-push_ports-in-Port-clause-made : goal.returns-in_ok-push_ports-in-Port-clause-made
-returns-in_ok-push_ports-in-Port-clause-made c =
+returns-in_ok-push_ports-in-Port-clause-made c same =
     let before = option_map string_bytes c.args.never.now in
     lowered_as (texts c.args.maker.names.now) (here c.args.within) c.args.number before before c.args.list.now.items _ c.args.member.now (member.Port c.in-Port.port) c.in-Port.is (_, (refl, ap (λ t. ports t c.in-Port.port.is_input) c.member-channels.ensures), c.in_ok-push_ports-in-Port.ensures.made)
 
 pub returns-in_ok-push_timer-in-Timer-clause-made : goal.returns-in_ok-push_timer-in-Timer-clause-made
-returns-in_ok-push_timer-in-Timer-clause-made c =
+returns-in_ok-push_timer-in-Timer-clause-made c same =
     let before = option_map string_bytes c.args.never.now in
     lowered_as (texts c.args.maker.names.now) (here c.args.within) c.args.number before before c.args.list.now.items _ c.args.member.now (member.Timer c.in-Timer.timer) c.in-Timer.is (_, (refl, c.in_ok-push_timer-in-Timer.ensures.read.0, c.in_ok-push_timer-in-Timer.ensures.read.1, refl), c.in_ok-push_timer-in-Timer.ensures.made)
 
 pub returns-in_ok-push_action-in-Action-clause-made : goal.returns-in_ok-push_action-in-Action-clause-made
-returns-in_ok-push_action-in-Action-clause-made c =
+returns-in_ok-push_action-in-Action-clause-made c same =
     let before = option_map string_bytes c.args.never.now in
     lowered_as (texts c.args.maker.names.now) (here c.args.within) c.args.number before before c.args.list.now.items _ c.args.member.now (member.Action c.in-Action.action) c.in-Action.is (_, (refl, c.in_ok-push_action-in-Action.ensures.read, c.in_ok-push_action-in-Action.ensures.spacing, refl), c.in_ok-push_action-in-Action.ensures.made)
 
 pub returns-in_ok-push_reaction-in-Reaction-clause-made : goal.returns-in_ok-push_reaction-in-Reaction-clause-made
-returns-in_ok-push_reaction-in-Reaction-clause-made c =
+returns-in_ok-push_reaction-in-Reaction-clause-made c same =
     let made = c.in_ok-push_reaction-in-Reaction.ensures in
     lowered_as (texts c.args.maker.names.now) (here c.args.within) c.args.number _ _ c.args.list.now.items _ c.args.member.now (member.Reaction c.in-Reaction.reaction) c.in-Reaction.is (made.lowered.0, (made.means, made.lowered.1), made.lowered.2)
 
 pub returns-in_ok-push_instances-in-Instance-clause-made : goal.returns-in_ok-push_instances-in-Instance-clause-made
-returns-in_ok-push_instances-in-Instance-clause-made c =
+returns-in_ok-push_instances-in-Instance-clause-made c same =
     let before = option_map string_bytes c.args.never.now in
-    let made = c.in_ok-push_instances-in-Instance.ensures.made in
+    let made = c.in_ok-push_instances-in-Instance.ensures.made same in
     lowered_as (texts c.args.maker.names.now) (here c.args.within) c.args.number before before c.args.list.now.items _ c.args.member.now (member.Instance c.in-Instance.instance) c.in-Instance.is (made.0, (refl, made.1), made.2)
 
 pub returns-in_ok-push_connection-in-Connection-clause-made : goal.returns-in_ok-push_connection-in-Connection-clause-made
-returns-in_ok-push_connection-in-Connection-clause-made c =
+returns-in_ok-push_connection-in-Connection-clause-made c same =
     let before = option_map string_bytes c.args.never.now in
     let made = c.in_ok-push_connection-in-Connection.ensures in
     lowered_as (texts c.args.maker.names.now) (here c.args.within) c.args.number before before c.args.list.now.items _ c.args.member.now (member.Connection c.in-Connection.connection) c.in-Connection.is (made.joined.0, (refl, made.logical, made.mean, made.read, made.joined.1), made.joined.2)

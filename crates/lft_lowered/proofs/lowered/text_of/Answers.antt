@@ -4,9 +4,16 @@ use Rattle.lft_core_text.specs.declared.text.CoreFault.TheVariants as faults
 use Rattle.lft_sources.specs.declared.why.Why.TheVariants as why
 use Rattle.lft_tree.specs.ItemView.{item_view}
 use Rattle.lft_lower.specs.Programs.{target_in}
+use Rattle.lft_printed.specs.Read.{tree_text}
 use Rattle.lft_lowered.specs.Unlowered.{IsNoText}
 use Rattle.lft_lowered.proofs.Saying.{told_this}
 use Rattle.lft_lowered.proofs.lowered.text_of.Goals as goal
+
+pub returns-in-Ok-clause-text : goal.returns-in-Ok-clause-text
+returns-in-Ok-clause-text c =
+    let lowering = c.args.lowering.now in
+    let items : map item_view c.items.result.now ≡ map item_view lowering.items.items = ap (map item_view) c.items.ensures in
+    c.in-Ok.ensures.text ∙ ap (λ t. tree_text t (map item_view c.items.result.now)) c.target.ensures ∙ ap (tree_text (target_in lowering.files.now)) items
 
 pub returns-in-Err-TooLong-clause-refused : goal.returns-in-Err-TooLong-clause-refused
 returns-in-Err-TooLong-clause-refused c =

@@ -1,6 +1,7 @@
-use Rattle.std.proofs.Common.{inl, sym}
+use Rattle.std.proofs.Common.{inl, inr, subst, sym}
 use Rattle.std.proofs.lemmas.Result.{err_from_is_err_and}
-use Rattle.lft_lowered.specs.Unlowered.{IsOfNext, IsOfRest}
+use Rattle.lft_lowered.specs.Lowered.{BeginsAs}
+use Rattle.lft_lowered.specs.Unlowered.{IsOfNext, IsOfRest, IsOfUnread}
 use Rattle.lft_lowered.proofs.Gathered.{begins_too, begun, further, grown, later_refused}
 use Rattle.lft_lowered.proofs.Saying.{says_too}
 use Rattle.lft_lowered.proofs.reading.read_rest.Goals as goal
@@ -14,6 +15,13 @@ returns-in_err-give-clause-refused g c =
     let some = begun these before.files.items c.requires.begun c.loop.invariant.1 in
     rw (p.1, p.2) (says_too (IsOfNext text before) (IsOfRest these) c.in_err-give.field-0.0 (λ files first r is.
     (further these before.files.items files c.loop.invariant.1 (begins_too text before files r is.1), inl (is.0, later_refused text before files r is.1 c.loop.invariant.0 some))) c.in_err-give.ensures.refused)
+
+pub returns-in_err-text-clause-refused : goal.returns-in_err-text-clause-refused
+returns-in_err-text-clause-refused g c =
+    let p = err_from_is_err_and c.from_residual.result c.from_residual.ensures.1 in
+    let these = c.args.sources.now.files.items in
+    let before = c.loop.sources.files.items in
+    rw (p.1, p.2) (says_too (IsOfUnread before) (IsOfRest these) c.in_err-text.field-0.0 (λ files first r is. (subst (BeginsAs these) (sym is.0) c.loop.invariant.1, inr is.1)) c.in_err-text.ensures)
 
 pub loop-preserved : goal.loop-preserved
 loop-preserved g c =

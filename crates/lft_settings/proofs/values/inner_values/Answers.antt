@@ -1,7 +1,7 @@
 use Rattle.std.proofs.Common.{◌<◌, Some, length, map, arith, rules, w64}
 use Rattle.std.proofs.lemmas.Result.{err_from_is_err_and}
 use Rattle.std.specs.Prelude.{FitsSigned}
-use Rattle.lft_settings.specs.Values.{value_inside}
+use Rattle.lft_settings.specs.Values.{value_inside, value_written}
 use Rattle.lft_settings.proofs.Valuing.{given_read, number_pushed}
 use Rattle.lft_settings.proofs.Refusing.{one_lacks}
 use Rattle.lft_settings.proofs.values.inner_values.Goals as goal
@@ -32,4 +32,4 @@ returns-in_err-value-clause-lacking c =
     let low : c.loop-parameter.parameter < c.len-count.result = c.loop-parameter-test.true in
     let many = c.len-count.ensures in
     let is = given_read c.in_ok-table.table.items gs c.loop-parameter.parameter c.index.result.now (omega (arith, long, ok, low)) c.index.ensures (c.in_ok-table.ensures.given c.loop-parameter.parameter low) in
-    rw (p.1, p.2) (λ says. one_lacks (value_inside given.outer.now (map (λ v. Some v) given.values.now) gs c.args.inner.now) (length c.args.inner.now.parameters.items) c.loop-parameter.parameter c.in_err-value.field-0.0 (omega (arith, low, many, c.args.inner.now.parameters.ok.0)) (c.in_err-value.ensures.lacking says is))
+    rw (p.1, p.2) (λ says. one_lacks (value_inside given.outer.now (map (λ v. Some v) given.values.now) gs c.args.inner.now) (value_written gs c.args.inner.now) (length c.args.inner.now.parameters.items) c.loop-parameter.parameter c.in_err-value.field-0.0 (omega (arith, low, many, c.args.inner.now.parameters.ok.0)) (c.in_err-value.ensures.lacking says is))

@@ -1,14 +1,21 @@
+use Rattle.std.proofs.Common.{refl, ◌∙◌}
 use Rattle.std.proofs.lemmas.Result.{err_from_is_err_and}
 use Rattle.lft_shapes.specs.Chains.{base_of}
 use Rattle.lft_shapes.proofs.chains.chain.Goals as goal
 
 pub visits-preserved : goal.visits-preserved
-visits-preserved c = c.in_ok-step.ensures.walk c.args.class c.visits.invariant
+visits-preserved c = record { walk = c.in_ok-step.ensures.walk c.args.class c.visits.invariant.walk; main = c.in_ok-step.ensures.main ∙ c.visits.invariant.main }
+
+pub visits-init : goal.visits-init
+visits-init c = record { walk = c.in_ok-walk.ensures (base_of c.args.scopes.now); main = refl }
 
 pub returns-clause-list : goal.returns-clause-list
-returns-clause-list c = c.into_listed.ensures (base_of c.args.scopes.now) c.args.class (c.in_ok-step.ensures.over c.if-not-branch.true) (c.in_ok-step.ensures.walk c.args.class c.visits.invariant)
+returns-clause-list c = c.into_listed.ensures (base_of c.args.scopes.now) c.args.class (c.in_ok-step.ensures.over c.if-not-branch.true) (c.in_ok-step.ensures.walk c.args.class c.visits.invariant.walk)
 
 pub returns-in_err-step-clause-cause : goal.returns-in_err-step-clause-cause
 returns-in_err-step-clause-cause c =
     let p = err_from_is_err_and c.from_residual-in_err-step.result c.from_residual-in_err-step.ensures.1 in
-    rw (p.1, p.2) (c.in_err-step.ensures.cause c.args.class c.visits.invariant)
+    rw (p.1, p.2) (c.in_err-step.ensures.cause c.args.class c.visits.invariant.walk)
+
+pub returns-clause-main : goal.returns-clause-main
+returns-clause-main c = c.in_ok-step.ensures.main ∙ c.visits.invariant.main

@@ -1,22 +1,40 @@
 use Rattle.std.proofs.Common.{◌≡◌, ◌<◌, Some, length, slice_get, refl, sym, subst, arith}
 use Rattle.std.proofs.lemmas.Option.{slice_get_read}
 use Rattle.std.proofs.lemmas.Result.{err_from_is_err_and}
+use Rattle.lft_lists.proofs.Places.{same_some}
 use Rattle.lft_shapes.specs.declared.shapes.Shape.{Shape}
-use Rattle.lft_shapes.specs.Built.{core, cores}
-use Rattle.lft_shapes.specs.Makings.{AreShapes}
-use Rattle.lft_shapes.specs.Shapes.{tables}
-use Rattle.lft_shapes.proofs.Rows.{map_set_twice}
+use Rattle.lft_shapes.specs.Built.{core}
+use Rattle.lft_shapes.specs.Sized.{IsReady, IsSizing}
+use Rattle.lft_shapes.proofs.Rows.{map_set}
+use Rattle.lft_shapes.proofs.Sizing.{sized_but, sized_none, sized_one}
 use Rattle.lft_shapes.proofs.deciding.decide.Goals as goal
 
 pub returns-clause-tables : goal.returns-clause-tables
 returns-clause-tables c =
     let within : c.args.number < length c.args.shapes.now.items = omega arith in
-    map_set_twice (λ (s : Shape). s.children.items) c.args.shapes.now.items c.args.number c.index_mut.result.now c.index_mut-2.result.now _ _ within c.index_mut.ensures.value refl c.index_mut-2.ensures.value refl
+    map_set (λ (s : Shape). s.children.items) c.args.shapes.now.items c.args.number c.index_mut-shape.result.now _ within c.index_mut-shape.ensures.value refl
 
 pub returns-clause-cores : goal.returns-clause-cores
 returns-clause-cores c =
     let within : c.args.number < length c.args.shapes.now.items = omega arith in
-    map_set_twice core c.args.shapes.now.items c.args.number c.index_mut.result.now c.index_mut-2.result.now _ _ within c.index_mut.ensures.value refl c.index_mut-2.ensures.value refl
+    map_set core c.args.shapes.now.items c.args.number c.index_mut-shape.result.now _ within c.index_mut-shape.ensures.value refl
+
+pub returns-clause-sized : goal.returns-clause-sized
+returns-clause-sized c scopes first ready =
+    let shapes = c.args.shapes.now.items in
+    let number = c.args.number in
+    let within : number < length shapes = omega arith in
+    let same = sym c.deref.ensures.value in
+    let before = slice_get_read shapes (length shapes) number c.index.result.now refl within c.index.ensures in
+    let after = slice_get_read shapes (length shapes) number c.index_mut-shape.result.now refl within c.index_mut-shape.ensures.value in
+    let one = same_some (slice_get shapes number) c.index.result.now c.index_mut-shape.result.now before after in
+    sized_one scopes shapes number _ within (λ n marked. subst (λ x. IsSizing scopes x n) one (c.in_ok-sized.ensures.marks scopes first number (subst (λ l. IsReady scopes first l number) same ready) (subst (λ l. slice_get l number ≡ Some c.index.result.now) same before) n marked))
+
+pub returns-clause-kept : goal.returns-clause-kept
+returns-clause-kept c scopes s apart = sized_but scopes c.args.shapes.now.items c.args.number _ s apart
+
+pub returns-then-number-len-clause-sized : goal.returns-then-number-len-clause-sized
+returns-then-number-len-clause-sized c scopes first ready = sized_none scopes c.args.shapes.now.items c.args.number (λ within. omega arith)
 
 pub returns-in_err-sized-clause-cause : goal.returns-in_err-sized-clause-cause
 returns-in_err-sized-clause-cause c =
@@ -24,4 +42,4 @@ returns-in_err-sized-clause-cause c =
     let shapes = c.args.shapes.now.items in
     let within : c.args.number < length shapes = omega arith in
     let same = sym c.deref.ensures.value in
-    rw (p.1, p.2) (λ scopes first all. c.in_err-sized.ensures scopes first c.args.number (subst (λ l. AreShapes scopes first (cores l) (tables l)) same all) (subst (λ l. slice_get l c.args.number ≡ Some c.index.result.now) same (slice_get_read shapes (length shapes) c.args.number c.index.result.now refl within c.index.ensures)))
+    rw (p.1, p.2) (λ scopes first ready. c.in_err-sized.ensures.cause scopes first c.args.number (subst (λ l. IsReady scopes first l c.args.number) same ready) (subst (λ l. slice_get l c.args.number ≡ Some c.index.result.now) same (slice_get_read shapes (length shapes) c.args.number c.index.result.now refl within c.index.ensures)))

@@ -1,17 +1,20 @@
 use Rattle.std.proofs.Common.{◌≡◌, ◌≢◌, ◌<◌, ℕ, List, Some, inl, inr, length, map, slice_get, string_bytes, refl, sym, ap, subst, ◌∙◌, arith}
-use Rattle.std.proofs.lemmas.Option.{slice_get_read}
+use Rattle.std.specs.Prelude.{unwrap_or}
+use Rattle.std.proofs.lemmas.Option.{slice_get_read, slice_get_within}
 use Rattle.lft_lists.proofs.Options.{lacking}
+use Rattle.lft_lists.proofs.Places.{Some_same}
 use Rattle.lft_scope.specs.Places.{place, place_in}
 use Rattle.lft_scope.specs.Tests.{texts}
 use Rattle.lft_whole.specs.declared.tree.Assignment.{Assignment}
 use Rattle.lft_shapes.specs.declared.shapes.Thing.TheVariants as thing
 use Rattle.lft_shapes.specs.Circles.{HasWrongGiven}
 use Rattle.lft_shapes.specs.Shapes.{thing_named}
-use Rattle.lft_shapes.proofs.Naming.{first_one}
+use Rattle.lft_shapes.proofs.Building.{below_one}
+use Rattle.lft_shapes.proofs.Naming.{first_one, once}
 use Rattle.lft_shapes.proofs.making.given_of.Goals as goal
 
-pub returns-in_default : goal.returns-in_default
-returns-in_default c =
+pub returns-in_default-clause-cause : goal.returns-in_default-clause-cause
+returns-in_default-clause-cause c =
     let xs = c.args.instance.now.given.items in
     let k = c.loop-place.place in
     let a = c.index-assignment.result.now in
@@ -32,8 +35,8 @@ returns-in_default c =
       ),
     )
 
-pub returns-then-unwrap_or-place : goal.returns-then-unwrap_or-place
-returns-then-unwrap_or-place c =
+pub returns-then-unwrap_or-place-clause-cause : goal.returns-then-unwrap_or-place-clause-cause
+returns-then-unwrap_or-place-clause-cause c =
     let xs = c.args.instance.now.given.items in
     let k = c.loop-place.place in
     let a = c.index-assignment.result.now in
@@ -62,3 +65,28 @@ returns-then-unwrap_or-place c =
         },
       ),
     )
+
+pub loop-place-preserved : goal.loop-place-preserved
+loop-place-preserved c =
+    let xs = c.args.instance.now.given.items in
+    let index = c.in_ok-index.index in
+    let k = c.loop-place.place in
+    let a = c.index-assignment.result.now in
+    let within : k < length xs = omega arith in
+    let there : slice_get xs k ≡ Some a = slice_get_read xs (length xs) k a refl within c.index-assignment.ensures in
+    let is : c.get.result ≡ place_in index (string_bytes a.name.text) = c.get.ensures ∙ ap (place_in index) c.as_str-name.ensures.value in
+    let first = c.unwrap_or.ensures in
+    let same = c.if-unwrap_or-place.false in
+    let e : unwrap_or c.get.result k ≡ k = omega (arith, first, same) in
+    below_one (λ j (x : Assignment). unwrap_or (place_in index (string_bytes x.name.text)) j ≡ j) xs k a there c.loop-place.invariant (ap (λ o. unwrap_or o k) (sym is) ∙ e)
+
+pub returns-clause-once : goal.returns-clause-once
+returns-clause-once c token twice =
+    let xs = c.args.instance.now.given.items in
+    let index = c.in_ok-index.index in
+    let name : Assignment → List ℕ = λ x. string_bytes x.name.text in
+    let names : texts c.deref-2.result.now ≡ map name xs = ap texts c.deref-2.ensures.value ∙ c.in_ok-names.ensures ∙ ap (map name) c.deref.ensures.value in
+    let at : (k : ℕ) (a : Assignment) → slice_get xs k ≡ Some a → place_in index (name a) ≡ Some k = λ k a there. (let within = slice_get_within xs k a there in once name xs (place_in index (name a)) k a there (c.in_ok-index.ensures (name a) ∙ ap (place (name a)) names) (c.loop-place.invariant k a (omega (arith, within)) there)) in
+    let same = Some_same twice.one twice.other (sym (at twice.one twice.first twice.is_first) ∙ ap (place_in index) twice.same ∙ at twice.other twice.second twice.is_second) in
+    let later = twice.later in
+    omega (arith, same, later)

@@ -1,4 +1,4 @@
-use Rattle.std.proofs.Common.{sym, ap, subst}
+use Rattle.std.proofs.Common.{sym, ap, subst, ◌∙◌}
 use Rattle.std.proofs.lemmas.Result.{err_from_is_err_and}
 use Rattle.lft_shapes.specs.Below.{itself}
 use Rattle.lft_shapes.specs.Built.{AreNoted, cores}
@@ -32,3 +32,6 @@ returns-in_err-fill_all-clause-cause c =
 
 pub returns-clause-noted : goal.returns-clause-noted
 returns-clause-noted c = subst (λ s. AreNoted s (cores c.fill_all.new.self.shapes.items) (tables c.fill_all.new.self.shapes.items)) c.in_ok-add_shape.ensures.adds.scopes c.in_ok-fill_all.ensures.noted
+
+pub returns-clause-main : goal.returns-clause-main
+returns-clause-main c = c.in_ok-fill_all.ensures.goes.main ∙ c.in_ok-add_shape.ensures.adds.main

@@ -11,7 +11,7 @@ returns-clause-meant c files are =
     let own = c.args.own.now in
     let scope = c.in-Some.scope.now in
     let at : slice_get own c.args.number ≡ Some scope = sym (lent own c.args.number c.get.result c.get.ensures.lookup) ∙ ap option_copied c.in-Some.is in
-    subst (EachMeans (MeansAt files c.args.number)) (sym (c.in_ok-meanings.ensures.items ∙ c.deref.ensures.value)) (λ i m there. inl ((are.each c.args.number scope at).each i m there))
+    subst (EachMeans (MeansAt files c.args.number)) (sym (c.in_ok-meanings.ensures.items ∙ c.deref.ensures.value)) (λ i m there. inl ((are.each c.args.number scope at).is.each i m there))
 
 pub returns-clause-all : goal.returns-clause-all
 returns-clause-all c files are q d is =
@@ -20,7 +20,7 @@ returns-clause-all c files are q d is =
     let at : slice_get own c.args.number ≡ Some scope = sym (lent own c.args.number c.get.result c.get.ensures.lookup) ∙ ap option_copied c.in-Some.is in
     let has = own_means files own c.args.number q d are is in
     let same : has.0 ≡ scope = same_some (slice_get own c.args.number) has.0 scope has.1 at in
-    subst (λ ms. HasMeaning ms q) (sym (c.in_ok-meanings.ensures.items ∙ c.deref.ensures.value)) (subst (λ (s : Scope). HasMeaning s.meanings.items q) same has.2)
+    subst (λ ms. HasMeaning ms q d.number) (sym (c.in_ok-meanings.ensures.items ∙ c.deref.ensures.value)) (subst (λ (s : Scope). HasMeaning s.meanings.items q d.number) same has.2)
 
 pub returns-in_default-clause-all : goal.returns-in_default-clause-all
 returns-in_default-clause-all c files are q d is =

@@ -4,8 +4,9 @@ use Rattle.lft_lists.proofs.Options.{lacking}
 use Rattle.lft_whole.specs.declared.tree.ImportedName.{ImportedName}
 use Rattle.lft_shapes.specs.Causes.{HasCause}
 use Rattle.lft_shapes.specs.Unnamed.{ExportsNone, GivesNone}
-use Rattle.lft_shapes.specs.Scopes.{EachMeans, HasMeaning, IsOwn, MeansAt}
-use Rattle.lft_shapes.proofs.Meanings.{exports_none, has_below, has_last, has_push, means_push}
+use Rattle.lft_shapes.specs.Scopes.{EachMeans, HasMeaning, IsGiven, IsOwn, MeansAt}
+use Rattle.lft_shapes.proofs.Building.{below_one}
+use Rattle.lft_shapes.proofs.Meanings.{exports_none, given_kept, has_last, has_push, means_push}
 use Rattle.lft_shapes.proofs.scopes.push_names.Goals as goal
 
 pub loop-place-preserved : goal.loop-place-preserved
@@ -15,8 +16,9 @@ loop-place-preserved c =
     let before = c.loop-place.meanings.items in
     let within : c.loop-place.place < length items = omega arith in
     let among : slice_get items c.loop-place.place ≡ Some imported = slice_get_read items (length items) c.loop-place.place imported refl within c.index-imported.ensures in
-    let kept : (q : List ℕ) → HasMeaning before q → HasMeaning c.push.new.self.items q = λ q has. subst (λ ms. HasMeaning ms q) (sym c.in_ok-push.ensures.items) (has_push before _ q has) in
-    let named : (q : List ℕ) → string_bytes imported.alias.text ≡ q → HasMeaning c.push.new.self.items q = λ q is. subst (HasMeaning c.push.new.self.items) (c.as_str-in-loop-place.ensures.value ∙ is) (subst (λ ms. HasMeaning ms c.as_str-in-loop-place.result.now) (sym c.in_ok-push.ensures.items) (has_last before _)) in
+    let kept : (q : List ℕ) (n : ℕ) → HasMeaning before q n → HasMeaning c.push.new.self.items q n = λ q n has. subst (λ ms. HasMeaning ms q n) (sym c.in_ok-push.ensures.items) (has_push before _ q n has) in
+    let number = c.in-Some.class.number in
+    let named : HasMeaning c.push.new.self.items (string_bytes imported.alias.text) number = subst (λ q. HasMeaning c.push.new.self.items q number) c.as_str-in-loop-place.ensures.value (subst (λ ms. HasMeaning ms c.as_str-in-loop-place.result.now number) (sym c.in_ok-push.ensures.items) (has_last before _)) in
     record {
       meant = λ files is own all. subst (EachMeans (MeansAt files c.args.number)) (sym c.in_ok-push.ensures.items) (means_push (MeansAt files c.args.number) before _ (c.loop-place.invariant.meant files is own all) (inr (
         record {
@@ -32,14 +34,14 @@ loop-place-preserved c =
         },
         refl,
       )));
-      kept = λ q has. kept q (c.loop-place.invariant.kept q has);
-      all = has_below (λ (n : ImportedName) q. string_bytes n.alias.text ≡ q) items c.loop-place.place imported before c.push.new.self.items among c.loop-place.invariant.all kept named;
+      kept = λ q n has. kept q n (c.loop-place.invariant.kept q n has);
+      all = λ files own. below_one (λ i n. IsGiven files c.args.target n c.push.new.self.items) items c.loop-place.place imported among (λ i n lt at. given_kept files c.args.target n before c.push.new.self.items kept (c.loop-place.invariant.all files own i n lt at)) (c.in-Some.class, (subst (λ q. IsOwn files c.args.target q c.in-Some.class) c.as_str.ensures.value (c.in-Some.ensures.some.1 files own), c.in-Some.ensures.some.0), named);
     }
 
 pub returns-clause-all : goal.returns-clause-all
-returns-clause-all c which name at =
+returns-clause-all c files own which name at =
     let within = slice_get_within c.args.import.now.names.items which name at in
-    c.loop-place.invariant.all which name (string_bytes name.alias.text) (omega (arith, within)) at refl
+    c.loop-place.invariant.all files own which name (omega (arith, within)) at
 
 pub returns-in_default-clause-cause : goal.returns-in_default-clause-cause
 returns-in_default-clause-cause c files is own =

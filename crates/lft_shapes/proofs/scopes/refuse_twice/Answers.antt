@@ -4,8 +4,8 @@ use Rattle.lft_shapes.specs.Scopes.{MeansAt}
 use Rattle.lft_shapes.proofs.Meanings.{found_in, meant_of}
 use Rattle.lft_shapes.proofs.scopes.refuse_twice.Goals as goal
 
-pub returns-in-loop-place : goal.returns-in-loop-place
-returns-in-loop-place c files is =
+pub returns-in-loop-place-clause-cause : goal.returns-in-loop-place-clause-cause
+returns-in-loop-place-clause-cause c files is =
     let ms = c.args.scope.now.meanings.items in
     let k = c.loop-place.place in
     let m = c.item_at-meaning.result in

@@ -13,4 +13,5 @@ loop-place-preserved c =
     record {
       members = c.in_ok-push_class.ensures.members ∙ ap (λ l. l ++ members_at c.args.scopes.now r) c.loop-place.invariant.members ∙ sym (flat_more (members_at c.args.scopes.now) chain i r c.loop-place-test.true here);
       parameters = c.in_ok-push_class.ensures.parameters ∙ ap (λ l. l ++ parameters_at c.args.scopes.now r) c.loop-place.invariant.parameters ∙ sym (flat_more (parameters_at c.args.scopes.now) chain i r c.loop-place-test.true here);
+      main = c.in_ok-push_class.ensures.main ∙ c.loop-place.invariant.main;
     }

@@ -7,4 +7,5 @@ abbrev pub invariant-loop-place : goal.invariant-loop-place
 invariant-loop-place l = record {
   members : located l.parts.members.items ≡ flat_map (members_at l.scopes) (take l.place l.chain);
   parameters : located_parameters l.parts.parameters.items ≡ flat_map (parameters_at l.scopes) (take l.place l.chain);
+  main : l.work.main ≡ l.initial.work.main;
 }

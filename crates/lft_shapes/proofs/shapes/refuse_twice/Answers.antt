@@ -29,4 +29,4 @@ loop-place-preserved c =
 pub returns-clause-once : goal.returns-clause-once
 returns-clause-once c is k n at =
     let within = slice_get_within c.args.named.now k n at in
-    once c.args.named.now (place_in c.args.index.now n.name.now) k n at (is n.name.now) (c.loop-place.invariant k n (omega (arith, within)) at)
+    once (λ (m : Named). m.name.now) c.args.named.now (place_in c.args.index.now n.name.now) k n at (is n.name.now) (c.loop-place.invariant k n (omega (arith, within)) at)

@@ -9,9 +9,6 @@ use Rattle.lft_imports.specs.Files.{paths_of}
 use Rattle.lft_imports.proofs.Known.{ByNumber, known_more}
 use Rattle.lft_imports.proofs.asked.Asked.ask.Goals as goal
 
-pub returns-clause-paths : goal.returns-clause-paths
-returns-clause-paths c = ap (map (λ (w : Wanted). string_bytes w.path)) c.in_ok-push.ensures.items ∙ map-append (λ (w : Wanted). string_bytes w.path) c.args.self.now.paths.items (record { path = c.args.path; import = c.args.import } ∷ [])
-
 pub returns-clause-known : goal.returns-clause-known
 returns-clause-known c =
     let old = c.args.self.now in

@@ -1,8 +1,8 @@
 use Rattle.std.proofs.Common.{◌≡◌, Some, length, sym, subst, ap, ◌∙◌, arith, string_bytes}
 use Rattle.std.specs.Prelude.{slice_get}
 use Rattle.lft_lists.proofs.Places.{Some_same}
-use Rattle.lft_imports.specs.Files.{AddsOnly, AreOfTexts, HasImport, paths_of}
-use Rattle.lft_imports.proofs.Known.{AllImported, AllNumbered, AreRead, imported_file, imported_more, of_old, numbered_file, numbered_more, read_more}
+use Rattle.lft_imports.specs.Files.{IsAskedBy, AreNamed, AreOfTexts, AreReached, paths_of}
+use Rattle.lft_imports.proofs.Known.{AllNumbered, AreRead, adds_file, goes_on, named_more, numbered_file, numbered_more, reached_more, read_more}
 use Rattle.lft_imports.proofs.Telling.{refuses_next, tree_of, trees_more}
 use Rattle.lft_imports.proofs.sources.Sources.give.Goals as goal
 
@@ -16,13 +16,18 @@ returns-in_ok-push-in-Ok-clause-sources c =
     let at : slice_get before (length old.files.items) ≡ Some (string_bytes file.path) = sym c.in-Some.ensures ∙ ap Some (sym (path ∙ c.in_ok-path.ensures.ok)) in
     let numbers = numbered_file after c.as_str.result.now c.in_ok-read.read.tree.imports.items c.in-Ok.imports.items file (path ∙ sym c.as_str.ensures.value) (ap (λ t. t.imports.items) c.file_of.ensures.tree) (ap (λ v. v.items) c.file_of.ensures.imports) c.in-Ok.ensures.numbers in
     let tree = ap (λ t. t.imports.items) c.file_of.ensures.tree in
-    let adds : AddsOnly before (HasImport (string_bytes file.path) file.tree.imports.items) after = λ k p there. of_old (slice_get before k ≡ Some p) _ _ (imported_file c.as_str.result.now c.in_ok-read.read.tree.imports.items file p (path ∙ sym c.as_str.ensures.value) tree) (c.in-Ok.ensures.added k p there) in
+    let wanted = old.asked.paths.items in
+    let more = c.numbers_of.new.asked.paths.items in
+    let many : c.len-number.result ≡ length old.files.items = omega (arith, c.len-number.ensures, old.files.ok.0) in
+    let adds = adds_file wanted more old.files.items file c.len-number.result c.as_str.result.now c.in_ok-read.read.tree.imports.items many (path ∙ sym c.as_str.ensures.value) tree c.in-Ok.ensures.added in
+    let kept = goes_on wanted more (IsAskedBy c.len-number.result c.as_str.result.now c.in_ok-read.read.tree.imports.items) c.in-Ok.ensures.added in
     record {
       known = c.in-Ok.ensures.known;
-      read = subst (AreRead after) (sym c.in_ok-push-in-Ok.ensures.items) (read_more before after old.files.items file c.in-Ok.ensures.kept c.requires.read at);
+      read = subst (AreRead after) (sym c.in_ok-push-in-Ok.ensures.items) (read_more before after old.files.items file kept c.requires.read at);
       trees = subst AreOfTexts (sym c.in_ok-push-in-Ok.ensures.items) (trees_more c.args.text.now old.files.items file c.requires.trees (tree_of c.args.text.now file c.in_ok-read.read c.file_of.ensures.spots c.file_of.ensures.tree c.in_ok-read.ensures c.in-Ok.ensures.read));
-      numbered = subst (AllNumbered after) (sym c.in_ok-push-in-Ok.ensures.items) (numbered_more before after old.files.items file c.in-Ok.ensures.kept c.requires.numbered numbers);
-      imported = subst (AllImported after) (sym c.in_ok-push-in-Ok.ensures.items) (imported_more before after old.files.items file c.requires.imported adds);
+      numbered = subst (AllNumbered after) (sym c.in_ok-push-in-Ok.ensures.items) (numbered_more before after old.files.items file kept c.requires.numbered numbers);
+      reached = subst (λ fs. AreReached fs after) (sym c.in_ok-push-in-Ok.ensures.items) (reached_more wanted more old.files.items file at adds c.requires.reached);
+      named = subst (λ fs. AreNamed fs more) (sym c.in_ok-push-in-Ok.ensures.items) (named_more wanted more old.files.items file at adds c.requires.named);
     }
 
 pub returns-in_ok-push-in-Ok-clause-read : goal.returns-in_ok-push-in-Ok-clause-read

@@ -1,16 +1,22 @@
-use Rattle.std.proofs.Common.{[], ◌∷◌, ◌++◌, ap, ◌∙◌, string_bytes}
+use Rattle.std.proofs.Common.{◌≡◌, None, [], ◌∷◌, ◌++◌, map, refl, ap, ◌∙◌, string_bytes}
+use Rattle.lft_imports.specs.declared.asked.Wanted.{Wanted}
 use Rattle.lft_imports.specs.Files.{paths_of}
-use Rattle.lft_imports.proofs.Known.{no_file, none_imported}
+use Rattle.lft_imports.proofs.Known.{no_file, one_named, one_reached}
 use Rattle.lft_imports.proofs.sources.Sources.of.Goals as goal
 
 pub returns-clause-sources : goal.returns-clause-sources
 returns-clause-sources c =
     let files = c.new.result.items in
-    let path = string_bytes c.in_ok-normal.field-0 in
+    let program : Wanted = record { path = c.in_ok-normal.field-0; import = None } in
+    let wanted : c.ask.new.self.paths.items ≡ program ∷ [] = c.in_ok-ask.ensures.paths ∙ ap (λ paths. paths ++ program ∷ []) c.new-asked.ensures.empty in
     record {
       known = c.in_ok-ask.ensures.known;
       read = λ k file at. absurd (no_file files c.new.ensures.items k file at);
       trees = λ k file at. absurd (no_file files c.new.ensures.items k file at);
       numbered = λ k file at. absurd (no_file files c.new.ensures.items k file at);
-      imported = none_imported (paths_of c.ask.new.self) path files (c.in_ok-ask.ensures.paths ∙ ap (λ paths. paths ++ path ∷ []) c.new-asked.ensures.empty);
+      reached = one_reached (paths_of c.ask.new.self) (string_bytes program.path) files (ap (map (λ (w : Wanted). string_bytes w.path)) wanted);
+      named = one_named files c.ask.new.self.paths.items program wanted refl;
     }
+
+pub returns-clause-paths : goal.returns-clause-paths
+returns-clause-paths c = ap (map (λ (w : Wanted). string_bytes w.path)) (c.in_ok-ask.ensures.paths ∙ ap (λ paths. paths ++ record { path = c.in_ok-normal.field-0; import = None } ∷ []) c.new-asked.ensures.empty) ∙ ap (λ p. p ∷ []) c.in_ok-normal.ensures

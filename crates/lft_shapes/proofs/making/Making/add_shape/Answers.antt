@@ -10,6 +10,7 @@ returns-clause-adds c =
     let shape = c.in_ok-shape.shape in
     record {
       scopes = refl;
+      main = c.in_ok-shape.ensures.main;
       number_is = c.len-number.ensures ∙ c.args.self.now.shapes.ok.0;
       fresh = core shape;
       shapes = ap cores c.in_ok-push.ensures.items ∙ map-append core old (shape ∷ []);

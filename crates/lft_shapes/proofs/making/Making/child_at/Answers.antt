@@ -8,6 +8,7 @@ use Rattle.lft_whole.specs.declared.tree.Instance.{Instance}
 use Rattle.lft_whole.specs.declared.tree.Member.TheVariants as member
 use Rattle.lft_shapes.specs.declared.shapes.Inherited.{Inherited}
 use Rattle.lft_shapes.specs.Built.{Core, core, cores, instance_of}
+use Rattle.lft_shapes.specs.Circles.{GivesOnce}
 use Rattle.lft_shapes.specs.Makings.{IsNeeded}
 use Rattle.lft_shapes.proofs.Goings.{goes_weaker}
 use Rattle.lft_shapes.proofs.Needing.{below_inside, below_reached, declared, is_instance}
@@ -47,6 +48,10 @@ returns-clause-child c first all =
       inner = child.2.core;
       is_inner = child.2.is_core;
       means = ap (λ x. instance_of scopes (m.file, x)) is ∙ child.1 ∙ ap Some (sym child.2.is_of);
+      once = λ instance same.
+          let e : member.Instance c.in-Some-instance.instance.now ≡ member.Instance instance = sym is ∙ same in
+          let i : c.in-Some-instance.instance.now ≡ instance = cc in
+          subst (λ (x : Instance). GivesOnce x.given.items) i (c.in_ok-child.ensures.once first needed all);
     }
 
 pub returns-in_err-child-clause-cause : goal.returns-in_err-child-clause-cause

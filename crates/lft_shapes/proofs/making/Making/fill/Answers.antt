@@ -50,6 +50,7 @@ returns-clause-goes c =
     let scopes = c.args.self.now.scopes in
     record {
       scopes = before.goes.scopes;
+      main = before.goes.main;
       made = λ first n all. set_made scopes first c.loop-number.self _ c.args.shape c.loop-number.children.items refl c.set_children.ensures.cores c.set_children.ensures.tables (before.goes.made first n all) (before.children first all);
       kept = λ i d at. ap (λ l. slice_get l i) c.set_children.ensures.cores ∙ before.goes.kept i d at;
     }

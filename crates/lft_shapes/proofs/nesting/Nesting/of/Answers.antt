@@ -1,11 +1,13 @@
-use Rattle.std.proofs.Common.{◌≡◌, Some, inl, inr, slice_get, sym, ap, subst, ◌∙◌}
+use Rattle.std.proofs.Common.{◌≡◌, ◌<◌, Some, length, slice_get, refl, sym, ap, subst, ◌∙◌, arith}
+use Rattle.std.proofs.lemmas.Option.{slice_get_read}
 use Rattle.std.proofs.lemmas.Result.{err_from_is_err_and}
+use Rattle.lft_shapes.specs.declared.work.Work.{Work}
 use Rattle.lft_shapes.specs.Built.{AreBuilt, AreInside, AreNoted, cores, first_class}
 use Rattle.lft_shapes.specs.Circles.{HasCircle}
-use Rattle.lft_shapes.specs.Makings.{AreShapes}
 use Rattle.lft_shapes.specs.Shapes.{inside, tables}
-use Rattle.lft_shapes.specs.Walks.{IsList}
+use Rattle.lft_shapes.specs.Walks.{IsBehind, IsList}
 use Rattle.lft_shapes.proofs.Causing.{circle_is_below, first_core, main_is_cause, main_has_cause}
+use Rattle.lft_shapes.proofs.Sizing.{ready_next, sized_next}
 use Rattle.lft_shapes.proofs.nesting.Nesting.of.Goals as goal
 
 pub returns-clause-nesting : goal.returns-clause-nesting
@@ -20,6 +22,7 @@ returns-clause-nesting c =
         scopes_are = c.in_ok-scopes.ensures.scopes;
         main = c.in_ok-main.main;
         main_is = c.in_ok-main.ensures.main;
+        is_refused = c.in_ok-order.ensures.main ∙ made.main ∙ ap (λ (w : Work). w.main) c.of-first.ensures;
         is_first = ap first_class inv.same ∙ made.first;
         built = subst (AreBuilt scopes) (sym inv.same) made.shapes.built;
         inside_are = subst (λ cs. AreInside scopes cs (tables now)) (sym inv.same) (subst (AreInside scopes (cores shapes)) (sym inv.rows) made.shapes.inside);
@@ -44,12 +47,44 @@ returns-in_err-order-clause-cause c =
     let first = first_core (cores c.in_ok-made.made.1.items) c.in_ok-main.main c.in_ok-made.ensures.first in
     rw (p.1, p.2) (main_has_cause c.args.files.now c.in_ok-scopes.scopes c.in_ok-main.main _ c.in_ok-scopes.ensures.scopes c.in_ok-main.ensures.main (circle_is_below c.in_ok-scopes.scopes c.in_ok-main.main.number c.in_ok-made.made.1.items first.0 _ c.in_ok-made.ensures.shapes (subst (λ l. HasCircle l 0 c.in_err-order.field-0.0) c.deref.ensures.value c.in_err-order.ensures.cause) first.1))
 
+pub loop-place-init : goal.loop-place-init
+loop-place-init c = record { rows = refl; same = refl; sized = λ scopes first all behind j t lt at. absurd (omega (arith, lt)) }
+
+pub loop-place-preserved : goal.loop-place-preserved
+loop-place-preserved c =
+    let inv = c.loop-place.invariant in
+    let order = c.in_ok-order.order.items in
+    let place = c.loop-place.place in
+    let node = c.index.result.now in
+    let within : place < length order = omega arith in
+    let at : slice_get order place ≡ Some node = slice_get_read order (length order) place node refl within c.index.ensures in
+    let made = c.in_ok-made.made.1.items in
+    let now = c.loop-place.shapes.items in
+    let done = c.in_ok-decide.ensures in
+    record {
+      rows = done.tables ∙ inv.rows;
+      same = done.cores ∙ inv.same;
+      sized = λ scopes first all behind. (
+          let before = inv.sized scopes first all behind in
+          let ready = ready_next scopes first made now order place node all behind inv.rows inv.same at before in
+          sized_next scopes now c.decide.new.shapes.items order place node at before (done.sized scopes first ready) (done.kept scopes)
+          );
+    }
+
 pub returns-in_err-decide-clause-cause : goal.returns-in_err-decide-clause-cause
 returns-in_err-decide-clause-cause c =
     let p = err_from_is_err_and c.from_residual-in_err-decide.result c.from_residual-in_err-decide.ensures.1 in
     let scopes = c.in_ok-scopes.scopes in
     let main = c.in_ok-main.main in
     let inv = c.loop-place.invariant in
+    let made = c.in_ok-made.made.1.items in
     let now = c.loop-place.shapes.items in
-    let shapes : AreShapes scopes main.number (cores now) (tables now) = subst (λ cs. AreShapes scopes main.number cs (tables now)) (sym inv.same) (subst (AreShapes scopes main.number (cores c.in_ok-made.made.1.items)) (sym inv.rows) c.in_ok-made.ensures.shapes) in
-    rw (p.1, p.2) (main_has_cause c.args.files.now scopes main _ c.in_ok-scopes.ensures.scopes c.in_ok-main.ensures.main (c.in_err-decide.ensures.cause scopes main.number shapes))
+    let order = c.in_ok-order.order.items in
+    let place = c.loop-place.place in
+    let node = c.index.result.now in
+    let within : place < length order = omega arith in
+    let at : slice_get order place ≡ Some node = slice_get_read order (length order) place node refl within c.index.ensures in
+    let all = c.in_ok-made.ensures.shapes in
+    let behind : IsBehind (inside (tables made)) order = subst (λ l. IsBehind (inside (tables l)) order) c.deref.ensures.value c.in_ok-order.ensures.order.behind in
+    let ready = ready_next scopes main.number made now order place node all behind inv.rows inv.same at (inv.sized scopes main.number all behind) in
+    rw (p.1, p.2) (main_has_cause c.args.files.now scopes main _ c.in_ok-scopes.ensures.scopes c.in_ok-main.ensures.main (c.in_err-decide.ensures.cause scopes main.number ready))

@@ -2,9 +2,6 @@ use Rattle.std.proofs.Common.{◌<◌, inr, refl, sym, subst, arith}
 use Rattle.lft_shapes.specs.Refused.{HasNoOneMain}
 use Rattle.lft_shapes.proofs.scopes.Scopes.main.Goals as goal
 
-pub returns-clause-main : goal.returns-clause-main
-returns-clause-main c = record { number = c.in-Some.place; is_known = c.in-Some.ensures.some.0.is_known; in_first_file = c.in-Some.ensures.some.0.in_first_file; is_main = c.in-Some.ensures.some.0.is_main }
-
 pub returns-in-Some-next_main-clause-cause : goal.returns-in-Some-next_main-clause-cause
 returns-in-Some-next_main-clause-cause c =
     let later : c.in-Some.place < c.in-Some-next_main.field-0-0 = omega (arith, c.in-Some-next_main.ensures.some.1, c.saturating_add.ensures, c.in-Some.ensures.some.2) in

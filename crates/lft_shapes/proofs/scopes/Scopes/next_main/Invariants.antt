@@ -1,6 +1,6 @@
 use Rattle.std.proofs.Common.{ℕ, ◌<◌, ◌≤◌}
 use Rattle.lft_shapes.specs.declared.scopes.Class.{Class}
-use Rattle.lft_shapes.specs.Refused.{IsMainAt}
+use Rattle.lft_shapes.specs.Scopes.{IsMainAt}
 use Rattle.lft_shapes.proofs.scopes.Scopes.next_main.Given as goal
 
 abbrev pub invariant-loop-place : goal.invariant-loop-place

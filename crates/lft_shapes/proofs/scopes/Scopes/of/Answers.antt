@@ -1,7 +1,7 @@
 use Rattle.std.proofs.Common.{sym, ap, subst}
 use Rattle.std.proofs.lemmas.Result.{err_from_is_err_and}
 use Rattle.lft_shapes.specs.Scopes.{AreNumbered, AreOwnScopes, placed}
-use Rattle.lft_shapes.proofs.Meanings.{all_mean, all_meant}
+use Rattle.lft_shapes.proofs.Meanings.{all_imports, all_meant, all_once}
 use Rattle.lft_shapes.proofs.scopes.Scopes.of.Goals as goal
 
 pub returns-clause-scopes : goal.returns-clause-scopes
@@ -13,7 +13,8 @@ returns-clause-scopes c =
       reactors = c.in_ok-own.ensures.classes none;
       numbers = c.in_ok-own.ensures.numbers (subst AreNumbered (sym c.new-classes.ensures.items) (λ i d at. absurd (cc)));
       meanings = all_meant files (record { classes = c.own_scopes.new.classes; scopes = c.in_ok-scopes.scopes }) meant;
-      all = all_mean files (record { classes = c.own_scopes.new.classes; scopes = c.in_ok-scopes.scopes }) meant;
+      once = all_once files (record { classes = c.own_scopes.new.classes; scopes = c.in_ok-scopes.scopes }) meant;
+      imports = all_imports files (record { classes = c.own_scopes.new.classes; scopes = c.in_ok-scopes.scopes }) meant;
     }
 
 pub returns-in_err-scopes-clause-cause : goal.returns-in_err-scopes-clause-cause

@@ -6,7 +6,7 @@ use Rattle.lft_scope.specs.Tests.{texts}
 use Rattle.lft_shapes.specs.declared.shapes.Named.{Named}
 use Rattle.lft_shapes.specs.declared.shapes.Thing.{Thing}
 use Rattle.lft_shapes.specs.Naming.{EachNamed, HasNamed}
-use Rattle.lft_shapes.specs.Built.{HasName, located, located_parameters, members_at, parameters_at}
+use Rattle.lft_shapes.specs.Built.{HasName, HasNoForeign, located, located_parameters, members_at, parameters_at}
 use Rattle.lft_shapes.specs.Refused.{SaysForeign, names_along, names_in, noted, written}
 use Rattle.lft_shapes.proofs.Naming.{is_thing, thing_of}
 use Rattle.lft_shapes.proofs.Refusing.{foreign_is_cause, much_is_cause, twice_is_cause}
@@ -39,7 +39,7 @@ returns-in_err-refuse_foreign-clause-cause c =
     let scopes = c.args.scopes.now in
     let chain = c.in_ok-chain.chain.items in
     let members : located c.deref-7.result.now ≡ flat_map (members_at scopes) chain = ap located c.deref-7.ensures.value ∙ c.in_ok-parts.ensures.members ∙ ap (flat_map (members_at scopes)) c.deref.ensures.value in
-    rw (p.1, p.2) (foreign_is_cause scopes c.args.class.number chain _ c.in_ok-chain.ensures.list (subst (λ ms. SaysForeign ms c.in_err-refuse_foreign.field-0.0) members c.in_err-refuse_foreign.ensures))
+    rw (p.1, p.2) (foreign_is_cause scopes c.args.class.number chain _ c.in_ok-chain.ensures.list (subst (λ ms. SaysForeign ms c.in_err-refuse_foreign.field-0.0) members c.in_err-refuse_foreign.ensures.cause))
 
 pub returns-clause-built : goal.returns-clause-built
 returns-clause-built c =
@@ -58,5 +58,9 @@ returns-clause-built c =
       extends = c.in_ok-chain.ensures.list;
       has_members = c.in_ok-parts.ensures.members ∙ ap (flat_map (members_at scopes)) c.deref.ensures.value;
       has_parameters = c.in_ok-parts.ensures.parameters ∙ ap (flat_map (parameters_at scopes)) c.deref.ensures.value;
+      has_no_foreign = subst HasNoForeign c.deref-7.ensures.value c.in_ok-refuse_foreign.ensures.none;
       has_names = λ q t. (thing_of ps ms ns index is each q t, λ has. is_thing ns index once q t (all q t has));
     }
+
+pub returns-clause-main : goal.returns-clause-main
+returns-clause-main c = c.in_ok-stems.ensures.main ∙ c.in_ok-parts.ensures.main ∙ c.in_ok-chain.ensures.main
