@@ -44,7 +44,7 @@ impl Judged {
         ensures { IfOk result (IsJudgedOf plan.now []) }
     {
         Ok(Judged {
-            acceptor: Acceptor::new(alloc, plan)?,
+            acceptor: Acceptor::alone(alloc, plan)?,
             past: Past::new(alloc, plan)?,
             count: 0,
             reach: Reach {

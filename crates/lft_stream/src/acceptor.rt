@@ -7,6 +7,7 @@ ghost use Rattle.lft_rows.specs.Accepted.{IsAccepted};
 ghost use Rattle.lft_stream.specs.Dues.{NoneDueBefore};
 ghost use Rattle.lft_stream.specs.Kept.{IsAcceptorOf, stopped_stream};
 
+use crate::effort::Effort;
 use crate::order::Order;
 use crate::stream::{Counts, Stream};
 use lft_model::Plan;
@@ -27,17 +28,33 @@ pub struct Acceptor {
 }
 
 impl Acceptor {
-    /// Before the first row.
-    pub fn new(alloc: Global, plan: &Plan) -> Result<Acceptor, NoMemory>
+    /// Before the first row, where so much may be looked at.
+    fn with_effort(alloc: Global, plan: &Plan, effort: Effort) -> Result<Acceptor, NoMemory>
         ensures { IfOk result (IsAcceptorOf plan.now []) }
     {
         let program = plan.program();
         Ok(Acceptor {
-            stream: Stream::new(alloc, plan)?,
+            stream: Stream::new(alloc, plan, effort)?,
             pass: Pass::new(alloc, program)?,
             marks: Marks::new(alloc, program)?,
             order: Order::new(alloc),
         })
+    }
+
+    /// Before the first row. Where much is to be looked at, rows are given up soon: another judge stands
+    /// behind, which is faster then.
+    pub fn new(alloc: Global, plan: &Plan) -> Result<Acceptor, NoMemory>
+        ensures { IfOk result (IsAcceptorOf plan.now []) }
+    {
+        Acceptor::with_effort(alloc, plan, Effort::shared())
+    }
+
+    /// Before the first row, where no other judge stands behind. So a thousand times as much is looked at
+    /// before rows are given up.
+    pub fn alone(alloc: Global, plan: &Plan) -> Result<Acceptor, NoMemory>
+        ensures { IfOk result (IsAcceptorOf plan.now []) }
+    {
+        Acceptor::with_effort(alloc, plan, Effort::alone())
     }
 
     /// Goes on past more rows, of whole tags. It is false where they may break a rule, or too much is

@@ -14,10 +14,18 @@ const PER_ROW: u64 = 16;
 /// So many more may be looked at, so that a reaction with many inputs may run once or twice.
 const FIRST: u64 = 1024;
 
-/// How many of all these may still be looked at.
+/// So many may be looked at for each row where there is no such index. Then a run, of two rows at least, may
+/// always have 32,768 triggers and uses. A row of any program costs some 60 microseconds at most.
+const PER_ROW_ALONE: u64 = 16_384;
+
+/// So many more: a reaction with a million inputs may run some sixteen times.
+const FIRST_ALONE: u64 = 1 << 24;
+
+/// How many of all these may still be looked at, and how many more for each row.
 #[derive(Clone, Copy, PartialEq, Eq, Drop)]
 pub(crate) struct Effort {
     left: u64,
+    per_row: u64,
 }
 
 /// How many of them are looked at for a row.
@@ -41,9 +49,20 @@ fn cost_of(program: &Program, listeners: &Listeners, channels: &NumberLists, row
 }
 
 impl Effort {
-    /// What may be looked at before the first row.
-    pub(crate) fn new() -> Effort {
-        Effort { left: FIRST }
+    /// What may be looked at before the first row, where another judge stands behind.
+    pub(crate) fn shared() -> Effort {
+        Effort {
+            left: FIRST,
+            per_row: PER_ROW,
+        }
+    }
+
+    /// What may be looked at before the first row, where rows that are given up are judged by nobody.
+    pub(crate) fn alone() -> Effort {
+        Effort {
+            left: FIRST_ALONE,
+            per_row: PER_ROW_ALONE,
+        }
     }
 
     /// So much less may be looked at. It is false where less than that was left.
@@ -72,7 +91,7 @@ impl Effort {
     {
         for place in 0..rows.len() {
             let cost = cost_of(program, listeners, channels, row_at(rows, place));
-            self.left = self.left.saturating_add(PER_ROW);
+            self.left = self.left.saturating_add(self.per_row);
             if !self.spend(cost as u64) {
                 return false;
             }

@@ -163,8 +163,8 @@ fn are_triggered(
 }
 
 impl Stream {
-    /// What is kept before the first row.
-    pub(crate) fn new(alloc: Global, plan: &Plan) -> Result<Stream, NoMemory>
+    /// What is kept before the first row, where so much may be looked at.
+    pub(crate) fn new(alloc: Global, plan: &Plan, effort: Effort) -> Result<Stream, NoMemory>
         ensures { IfOk result (IsStreamOf plan.now []) }
     {
         let program = plan.program();
@@ -180,7 +180,7 @@ impl Stream {
             channels: read_channels_of(alloc, program)?,
             coming: Coming::new(alloc),
             unread: Unread::new(alloc, program)?,
-            effort: Effort::new(),
+            effort,
         })
     }
 
