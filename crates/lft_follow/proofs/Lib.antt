@@ -24,3 +24,4 @@ pub mod Furthest
 pub mod Behind
 pub mod First
 pub mod Ended
+pub mod Front

@@ -76,6 +76,14 @@ module _ (d u : List Row) where
   breaks_back plan last i y k at (inr (inr (inr (inl x)))) = inr (inr (inr (inl (x.0, undeclared_back plan i y y.step at x.1))))
   breaks_back plan last i y k at (inr (inr (inr (inr x)))) = inr (inr (inr (inr (x.0, (x.1.0, λ j l e. x.1.1 j l (get_left d u j (end_row y.worker y.tag y.reaction) e))))))
 
+  -- and what breaks one of the rules 1 to 4 in the first part breaks it in the whole, with the same stop
+  pub breaks_added : (plan : PlanParts) (last : Tag) (i : ℕ) (y : Row) (k : ℕ) → slice_get d i ≡ Some y → k < 5 → BreaksRowUntil last plan d i y k → BreaksRowUntil last plan (d ++ u) i y k
+  breaks_added plan last i y k at few (inl x) = let l = x.1 in inl (x.0, (l.0, l.1, l.2, get_left d u l.0 l.1 l.3, l.4))
+  breaks_added plan last i y k at few (inr (inl x)) = inr (inl x)
+  breaks_added plan last i y k at few (inr (inr (inl x))) = inr (inr (inl (x.0, order_added i y y.step at x.1)))
+  breaks_added plan last i y k at few (inr (inr (inr (inl x)))) = inr (inr (inr (inl (x.0, undeclared_added plan i y y.step x.1))))
+  breaks_added plan last i y k at few (inr (inr (inr (inr x)))) = let a : k ≡ 5 = x.0 in absurd (omega arith)
+
 pub row_law : (plan : PlanParts) → RowLaw plan
 row_law plan d u b few x = record { place = x.place; row = x.row; is_row = get_left d u x.place x.row x.is_row; breaks = go x.breaks; tag_is = x.tag_is; reaction_is = x.reaction_is; row_is = x.row_is }
   where

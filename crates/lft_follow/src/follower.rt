@@ -7,6 +7,7 @@ ghost use Rattle.lft_steps.specs.declared.row.Row.{Row as TheRow};
 ghost use Rattle.lft_steps.specs.Fits.{EventFits, RowsFit};
 ghost use Rattle.lft_rows.specs.Slices.{Rises};
 ghost use Rattle.lft_coming.specs.AtTag.{AreAt};
+ghost use Rattle.lft_stream.specs.Kept.{KeepRules};
 ghost use Rattle.lft_follow.specs.Follows.{IsAtHand, IsHeld, IsFollowerOf, IsPassed, HasManyLater, IsReceipt, stopped_at, IsProgress, IsEnding, IsJudged, IsJudgedOf, IsSureOf, BeginsLast};
 ghost use Rattle.lft_follow.specs.declared.follower.Follower.{Follower as TheFollower};
 
@@ -83,21 +84,23 @@ fn last_begins(rows: &[Row], end: usize) -> usize
 }
 
 /// Judges the rows before the place, at which the first row of a later tag stands. It is what is told,
-/// where they may break a rule.
+/// where they may break a rule. With `is_kept` they are known to break none of the rules 1 to 5.
 fn judge_before(
     alloc: Global,
     plan: &Plan,
     judged: &mut Judged,
     rows: &[Row],
     begin: usize,
+    is_kept: bool,
 ) -> Result<Option<Progress>, NoMemory>
     requires few { judged.old.count ≤ 2 ^ 62 }
     requires fit { RowsFit plan.now.program rows.now }
     requires begin { begin < length rows.now }
+    requires kept { IsTrue is_kept → KeepRules plan.now (slice_range rows.now 0 begin) }
     requires stands { (done : List TheRow) × IsJudgedOf plan.now done judged.old }
     ensures { IfOk result (λ o. (done : List TheRow) → IsJudgedOf plan.now done judged.old → MatchOption o (IsJudgedOf plan.now (done ++ slice_range rows.now 0 begin) judged.new) (λ told. (end : ℕ) (follower : TheFollower) → BeginsLast rows.now end begin → end ≤ length rows.now → IsProgress plan.now (done ++ rows.now) follower told)) }
 {
-    let is_clean = judged.judge(alloc, plan, &rows[0..begin])?;
+    let is_clean = judged.judge(alloc, plan, &rows[0..begin], is_kept)?;
     if is_clean {
         return Ok(None);
     }
@@ -167,7 +170,9 @@ impl Follower {
         if begin == 0 {
             return Ok(Progress::GoesOn);
         }
-        if let Some(told) = judge_before(alloc, plan, &mut self.judged, rows, begin)? {
+        // A run without an end was told where the tag rose, so the rules 1 to 5 aren't asked for again.
+        let is_kept = self.going.has_ends(plan, rows, begin);
+        if let Some(told) = judge_before(alloc, plan, &mut self.judged, rows, begin, is_kept)? {
             return Ok(told);
         }
         let rows = self.rows.as_slice();
@@ -196,7 +201,7 @@ impl Follower {
         let rows = self.rows.as_slice();
         let found = found_at(rows, place, self.judged.count, rule);
         let begin = last_begins(rows, end);
-        match judge_before(alloc, plan, &mut self.judged, rows, begin)? {
+        match judge_before(alloc, plan, &mut self.judged, rows, begin, false)? {
             Some(told) => Ok(told),
             None => Ok(Progress::Broken(found)),
         }

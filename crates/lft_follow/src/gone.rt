@@ -1,6 +1,6 @@
 //! The rows at hand, gone over for the rules 1 to 5 as they come.
 
-ghost use Rattle.std.specs.Prelude.{◌≡◌, ◌+◌, ◌<◌, List, ◌++◌, ◌∷◌, [], length, IfOk, IfSome, IsTrue, OnOk, MatchOption};
+ghost use Rattle.std.specs.Prelude.{◌≡◌, ◌+◌, ◌<◌, ◌≤◌, List, ◌++◌, ◌∷◌, [], length, IfOk, IfSome, IsTrue, None, OnOk, MatchOption};
 ghost use Rattle.lft_tag.specs.Tags.{IsRecorded, earlier};
 ghost use Rattle.lft_flat.specs.Parts.{Parts};
 ghost use Rattle.lft_steps.specs.declared.row.Row.{Row as TheRow};
@@ -200,5 +200,19 @@ impl Going {
     {
         let _ = plan;
         self.pass.first_open(rows, rows.len())
+    }
+
+    /// Whether each run that starts before the place has its end, where all rows at hand are gone over.
+    // The plan is passed for what the contract says of it.
+    pub(crate) fn has_ends(&self, plan: &Plan, rows: &[Row], place: usize) -> bool
+        requires place { place ≤ length rows.now }
+        requires gone { (d : List TheRow) × HasGone plan.now d rows.now self.now AtEnd }
+        ensures { IsTrue result → FirstUnended rows.now place None }
+    {
+        let _ = plan;
+        match self.pass.first_open(rows, place) {
+            Some(_) => false,
+            None => true,
+        }
     }
 }

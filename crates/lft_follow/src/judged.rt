@@ -3,12 +3,13 @@
 ghost use Rattle.std.specs.Prelude.{◌≡◌, ◌<◌, ◌≤◌, ◌^◌, List, [], ◌++◌, length, false, IfOk, IsTrue};
 ghost use Rattle.lft_steps.specs.declared.row.Row.{Row as TheRow};
 ghost use Rattle.lft_steps.specs.Fits.{RowsFit};
+ghost use Rattle.lft_stream.specs.Kept.{KeepRules};
 ghost use Rattle.lft_follow.specs.Kept.{IsPast};
 ghost use Rattle.lft_follow.specs.Follows.{IsEnding, IsJudged, IsJudgedOf, stopped_judged, KeepsRows};
 ghost use Rattle.lft_follow.specs.declared.judged.Ending.TheVariants.{Unbroken};
 
 use crate::found::Found;
-use crate::monitor::go_on;
+use crate::monitor::go_on_as;
 use crate::past::Past;
 use crate::reach::{Reach, reach_behind};
 use lft_model::Plan;
@@ -56,14 +57,16 @@ impl Judged {
     }
 
     /// Judges more rows, of whole tags. It is false where they may break a rule, or too much is to be
-    /// looked at, or memory is refused.
+    /// looked at, or memory is refused. With `is_kept` they are known to break none of the rules 1 to 5.
     pub(crate) fn judge(
         &mut self,
         alloc: Global,
         plan: &Plan,
         rows: &[Row],
+        is_kept: bool,
     ) -> Result<bool, NoMemory>
         requires fit { RowsFit plan.now.program rows.now }
+        requires kept { IsTrue is_kept → KeepRules plan.now rows.now }
         requires few { self.old.count ≤ 2 ^ 62 }
         requires stands { (done : List TheRow) × IsJudgedOf plan.now done self.old }
         ensures stands { IfOk result (λ yes. IsTrue yes → (done : List TheRow) → IsJudgedOf plan.now done self.old → IsJudgedOf plan.now (done ++ rows.now) self.new) }
@@ -75,7 +78,7 @@ impl Judged {
         if rows.is_empty() {
             return Ok(true);
         }
-        if !go_on(&mut self.acceptor, alloc, plan, rows) {
+        if !go_on_as(&mut self.acceptor, alloc, plan, rows, is_kept) {
             return Ok(false);
         }
         let Some(reach) = reach_behind(self.reach, rows) else {
@@ -120,7 +123,7 @@ impl Judged {
         ensures { (t : List TheRow) → IsJudgedOf plan.now t self.old → (IsTrue whole → KeepsRows plan.now (t ++ rows.now)) → IsJudged plan.now (t ++ rows.now) self.old.reach → IsEnding plan.now whole (t ++ rows.now) result }
     {
         let reach = self.reach;
-        match self.judge(alloc, plan, rows) {
+        match self.judge(alloc, plan, rows, false) {
             Ok(true) => match self.acceptor.finish(plan) {
                 Some(counts) => Ending::Accepted(counts),
                 None => self.end(alloc, plan, &rows[0..0], whole),

@@ -4,7 +4,7 @@ ghost use Rattle.std.specs.Prelude.{◌≡◌, ◌<◌, ◌-◌, ℕ, List, ◌+
 ghost use Rattle.lft_tag.specs.Tags.{UpTo, after};
 ghost use Rattle.lft_steps.specs.declared.row.Row.{Row as TheRow};
 ghost use Rattle.lft_steps.specs.Fits.{RowsFit};
-ghost use Rattle.lft_stream.specs.Kept.{IsAcceptorOf, low_of};
+ghost use Rattle.lft_stream.specs.Kept.{IsAcceptorOf, KeepRules, low_of};
 ghost use Rattle.lft_follow.specs.Sure.{IsUnbroken};
 
 use lft_model::Plan;
@@ -38,4 +38,43 @@ pub fn go_on(acceptor: &mut Acceptor, alloc: Global, plan: &Plan, rows: &[Row]) 
         return false;
     }
     acceptor.is_timely(low)
+}
+
+/// The same of rows that are known to break none of the rules 1 to 5.
+pub(crate) fn go_on_kept(acceptor: &mut Acceptor, plan: &Plan, rows: &[Row]) -> bool
+    requires fit { RowsFit plan.now.program rows.now }
+    requires some { 0 < length rows.now }
+    requires kept { KeepRules plan.now rows.now }
+    requires stands { (done : List TheRow) × IsAcceptorOf plan.now done acceptor.old }
+    ensures stands { IsTrue result → (done : List TheRow) → IsAcceptorOf plan.now done acceptor.old → IsAcceptorOf plan.now (done ++ rows.now) acceptor.new }
+    ensures unbroken { IsTrue result → (done : List TheRow) → IsAcceptorOf plan.now done acceptor.old → (x : TheRow) → slice_get rows.now (length rows.now - 1) ≡ Some x → IsUnbroken plan.now (done ++ rows.now) (after x.tag 0) }
+{
+    let last = row_at(rows, rows.len() - 1);
+    let low = last.tag.after(0, 0);
+    if !acceptor.add_kept(plan, rows) {
+        return false;
+    }
+    acceptor.is_timely(low)
+}
+
+/// The same. With `is_kept` the rows are known to break none of the rules 1 to 5, and aren't asked for these.
+pub(crate) fn go_on_as(
+    acceptor: &mut Acceptor,
+    alloc: Global,
+    plan: &Plan,
+    rows: &[Row],
+    is_kept: bool,
+) -> bool
+    requires fit { RowsFit plan.now.program rows.now }
+    requires some { 0 < length rows.now }
+    requires kept { IsTrue is_kept → KeepRules plan.now rows.now }
+    requires stands { (done : List TheRow) × IsAcceptorOf plan.now done acceptor.old }
+    ensures stands { IsTrue result → (done : List TheRow) → IsAcceptorOf plan.now done acceptor.old → IsAcceptorOf plan.now (done ++ rows.now) acceptor.new }
+    ensures unbroken { IsTrue result → (done : List TheRow) → IsAcceptorOf plan.now done acceptor.old → (x : TheRow) → slice_get rows.now (length rows.now - 1) ≡ Some x → IsUnbroken plan.now (done ++ rows.now) (after x.tag 0) }
+{
+    if is_kept {
+        go_on_kept(acceptor, plan, rows)
+    } else {
+        go_on(acceptor, alloc, plan, rows)
+    }
 }

@@ -5,7 +5,7 @@ ghost use Rattle.lft_steps.specs.declared.row.Row.{Row as TheRow};
 ghost use Rattle.lft_steps.specs.Fits.{RowsFit};
 ghost use Rattle.lft_rows.specs.Accepted.{IsAccepted};
 ghost use Rattle.lft_stream.specs.Dues.{NoneDueBefore};
-ghost use Rattle.lft_stream.specs.Kept.{IsAcceptorOf, stopped_stream};
+ghost use Rattle.lft_stream.specs.Kept.{IsAcceptorOf, KeepRules, stopped_stream};
 
 use crate::effort::Effort;
 use crate::order::Order;
@@ -73,6 +73,18 @@ impl Acceptor {
             Ok(Some(_)) => false,
             Err(_) => false,
         }
+    }
+
+    /// The same of rows that are known to break none of the rules 1 to 5.
+    pub fn add_kept(&mut self, plan: &Plan, rows: &[Row]) -> bool
+        requires fit { RowsFit plan.now.program rows.now }
+        requires kept { KeepRules plan.now rows.now }
+        requires stands { (done : List TheRow) × IsAcceptorOf plan.now done self.old }
+        ensures { IsTrue result → (done : List TheRow) → IsAcceptorOf plan.now done self.old → IsAcceptorOf plan.now (done ++ rows.now) self.new }
+    {
+        Marks::clear(&mut self.marks);
+        self.stream
+            .add_kept(plan, &mut self.order, &mut self.marks, rows)
     }
 
     /// Whether nothing is due before the tag. A timer or the startup may be due at a tag that is finished:

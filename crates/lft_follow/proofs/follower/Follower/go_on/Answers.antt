@@ -1,11 +1,14 @@
-use Rattle.std.proofs.Common.{◌≤◌, ◌++◌, ◌∙◌, ℕ, List, length, slice_range, refl, sym, ap, subst, arith}
+use Rattle.std.proofs.Common.{◌<◌, ◌≤◌, ◌++◌, ◌∙◌, ℕ, List, length, slice_range, refl, sym, ap, subst, arith}
 use Rattle.lft_tag.specs.declared.Tag.{Tag}
 use Rattle.lft_steps.specs.declared.row.Row.{Row}
 use Rattle.lft_steps.specs.Fits.{RowsFit}
 use Rattle.lft_rows.specs.Slices.{Rises}
 use Rattle.lft_coming.specs.AtTag.{AreAt}
 use Rattle.lft_follow.specs.declared.follower.Follower.{Follower}
+use Rattle.lft_follow.specs.declared.gone.Halt.TheVariants.{AtEnd}
+use Rattle.lft_follow.specs.Going.{IsGoing, HasGone}
 use Rattle.lft_follow.specs.Follows.{done_of, IsJudgedOf, IsProgress, BeginsLast}
+use Rattle.lft_follow.proofs.Front.{keeps_first}
 use Rattle.lft_follow.proofs.Following.{at_one_tag, begins_of, judged_on, rises_at_hand}
 use Rattle.lft_follow.proofs.follower.Follower.go_on.Goals as goal
 
@@ -23,13 +26,27 @@ returns-then-begin-eq0 c = λ t hand.
     let rows = c.args.self.now.rows.items in
     at_one_tag c.args.plan.now t c.args.self.now hand (subst (λ (n : ℕ). BeginsLast rows (length rows) n) c.if-begin-eq0.true (begins_of rows c.as_slice-rows.result.now (length c.as_slice-rows.result.now) c.last_begins-begin.result c.as_slice-rows.ensures.value (ap (λ (x : List Row). length x) c.as_slice-rows.ensures.value) c.last_begins-begin.ensures))
 
+pub has_ends-is_kept-requires : goal.has_ends-is_kept-requires
+has_ends-is_kept-requires c =
+    let hand = c.requires.hand.1 in
+    let done = done_of c.requires.hand.0 c.args.self.now in
+    let up : c.last_begins-begin.result ≤ length c.as_slice-rows.result.now = c.last_begins-begin.ensures.last.up in
+    record { place = omega (arith, up); gone = (done, subst (λ (x : List Row). HasGone c.args.plan.now done x c.args.self.now.going AtEnd) (sym c.as_slice-rows.ensures.value) (hand.going, c.requires.gone)) }
+
 pub judge_before-requires : goal.judge_before-requires
 judge_before-requires c =
-    let held = c.requires.hand.1.held in
+    let hand = c.requires.hand.1 in
+    let held = hand.held in
+    let done = done_of c.requires.hand.0 c.args.self.now in
     let s = c.as_slice-rows.result.now in
-    let up : c.last_begins-begin.result ≤ length s = c.last_begins-begin.ensures.last.up in
+    let begin = c.last_begins-begin.result in
+    let up : begin ≤ length s = c.last_begins-begin.ensures.last.up in
     let more = c.if-begin-eq0.false in
-    record { few = c.requires.few; fit = subst (λ (x : List Row). RowsFit c.args.plan.now.program x) (sym c.as_slice-rows.ensures.value) held.fit; begin = c.last_begins-begin.ensures.some (omega arith); stands = (done_of c.requires.hand.0 c.args.self.now, held.judged) }
+    let some : 0 < begin = omega (arith, more) in
+    let inside : begin < length s = c.last_begins-begin.ensures.some (omega (arith, more, up)) in
+    let going = subst (λ (x : List Row). IsGoing c.args.plan.now done x c.args.self.now.going) (sym c.as_slice-rows.ensures.value) hand.going in
+    let all = c.requires.gone ∙ ap (λ (x : List Row). length x) (sym c.as_slice-rows.ensures.value) in
+    record { few = c.requires.few; fit = subst (λ (x : List Row). RowsFit c.args.plan.now.program x) (sym c.as_slice-rows.ensures.value) held.fit; begin = inside; kept = λ yes. keeps_first c.args.plan.now done s c.args.self.now.going going all begin some c.last_begins-begin.ensures inside (c.has_ends-is_kept.ensures yes); stands = (done, held.judged) }
 
 pub returns-in-Some : goal.returns-in-Some
 returns-in-Some c = λ t hand.

@@ -14,6 +14,7 @@ judge_before-requires c =
       few = c.requires.few;
       fit = subst (λ (x : List Row). RowsFit c.args.plan.now.program x) (sym c.as_slice-rows.ensures.value) held.fit;
       begin = begins_within c.as_slice-rows.result.now c.args.end c.last_begins-begin.result c.last_begins-begin.ensures (let e = c.requires.place.1 in omega arith) (let p = c.requires.place.0 in omega arith);
+      kept = λ no. absurd (cc);
       stands = (done_of c.requires.held.0 c.args.self.now, held.judged);
     }
 

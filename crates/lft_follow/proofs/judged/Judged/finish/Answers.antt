@@ -4,6 +4,9 @@ use Rattle.lft_steps.specs.declared.row.Row.{Row}
 use Rattle.lft_follow.specs.Follows.{IsClean, IsEnding, KeepsRows}
 use Rattle.lft_follow.proofs.judged.Judged.finish.Goals as goal
 
+pub judge-requires-clause-kept : goal.judge-requires-clause-kept
+judge-requires-clause-kept c = λ no. absurd (cc)
+
 pub returns-in-None : goal.returns-in-None
 returns-in-None c = λ t is keeps judged.
     let plan = c.args.plan.now in
