@@ -26,7 +26,7 @@ EARLY = ROWS.replace("end,0,5000000,0,main#1,,,\nstart,1,5000000,0,main#2,,,\n",
 ACCEPTED = "accepted runs=6 tags=3\n"
 EXPLAINED = """broken rule=9 too-early time=5000000 microstep=0 reaction=main#2
 
-main#2 starts at (5 ms, 0) in line 7, before main#1 ends in line 8.
+A race: main#2 starts at (5 ms, 0) in line 7, before main#1 ends in line 8.
 
   7 | start,1,5000000,0,main#2,,,  <- here
   8 | end,0,5000000,0,main#1,,,    has to end first

@@ -15,6 +15,10 @@ early_words program g a r start end =
     reaction_words program r ++ codes " starts at " ++ tag_words g ++ codes " in " ++ line_words start
     ++ codes ", before " ++ reaction_words program a ++ codes " ends in " ++ line_words end ++ codes ".\n"
 
+-- `A race: X starts at G in line L, before Y ends in line M.`
+abbrev pub early_race_words : Parts → Tag → ℕ → ℕ → ℕ → ℕ → List ℕ
+early_race_words program g a r start end = codes "A race: " ++ early_words program g a r start end
+
 -- `A race (rule 9): X starts at G in line L, before Y ends in line M.`
 abbrev pub race_words : Parts → Tag → ℕ → ℕ → ℕ → ℕ → List ℕ
 race_words program g a r start end = codes "  A race (rule 9): " ++ early_words program g a r start end

@@ -10,7 +10,7 @@ use Rattle.lft_facts.specs.declared.facts.ThingKind.TheVariants as kind
 use Rattle.lft_facts.specs.declared.facts.Reason.{Reason}
 use Rattle.lft_facts.specs.declared.facts.Reason.TheVariants as reason
 use Rattle.lft_words.specs.Words.{tag_words, port_words, reaction_words, name_words}
-use Rattle.lft_words.specs.Lines.{line_words, tag_at, worker_at}
+use Rattle.lft_words.specs.Lines.{line_words, capital_line_words, tag_at, worker_at}
 use Rattle.lft_explain.specs.Rows.{run_words}
 use Rattle.lft_explain.specs.Neighbours.{never_words, run_before_words, run_after_words, last_row_words}
 use Rattle.lft_explain.specs.Orders.{passed_by_words}
@@ -70,6 +70,10 @@ ends_other_words program t k = codes "  Worker " ++ worker_at t k ++ codes " end
 abbrev pub last_of_worker_words : List Row → ℕ → ℕ → List ℕ
 last_of_worker_words t i k = codes "  The last row of worker " ++ worker_at t i ++ codes " is " ++ line_words k ++ codes ".\n"
 
+-- `Line L is the first at a later tag, H.`
+abbrev pub later_words : List Row → ℕ → List ℕ
+later_words t k = codes "  " ++ capital_line_words k ++ codes " is the first at a later tag, " ++ tag_at t k ++ codes ".\n"
+
 -- the text of a reason
 abbrev pub reason_words : Parts → List Row → Reason → List ℕ
 reason_words program t (reason.Nearest g x h) = nearest_words program x g h
@@ -90,3 +94,5 @@ reason_words program t (reason.KindOf n k) = named_kind_words program n k
 reason_words program t (reason.FedBy p o) = fed_words program p o
 reason_words program t (reason.EndsOther i k) = ends_other_words program t k
 reason_words program t (reason.LastOfWorker i k) = last_of_worker_words t i k
+reason_words program t (reason.OpenAcross i j k) = has_open_words program t j ++ later_words t k
+reason_words program t (reason.LaterTag i k) = later_words t k

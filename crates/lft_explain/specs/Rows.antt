@@ -1,5 +1,5 @@
 -- What is wrong with a row, in a sentence.
-use Rattle.std.specs.Prelude.{ℕ, List, [], ◌++◌, slice_get, option_map, unwrap_or, codes}
+use Rattle.std.specs.Prelude.{ℕ, ◌+◌, List, [], ◌++◌, length, slice_get, option_map, unwrap_or, codes, decimal}
 use Rattle.lft_flat.specs.Parts.{Parts}
 use Rattle.lft_steps.specs.declared.row.Row.{Row}
 use Rattle.lft_steps.specs.declared.row.Step.{Step}
@@ -61,9 +61,9 @@ does_words program t i = reaction_at program t i ++ verb_at t i ++ name_at progr
 abbrev pub done_words : Parts → List Row → ℕ → List ℕ → List ℕ
 done_words program t i rest = does_words program t i ++ rest
 
--- `Worker W starts X at G in line L, and never ends it.`
+-- `Worker W starts X at G in line L, and no row up to line M ends it.`, where M is the last line
 abbrev pub unended_words : Parts → List Row → ℕ → List ℕ
-unended_words program t i = starts_words program t i ++ codes ", and never ends it.\n"
+unended_words program t i = starts_words program t i ++ codes ", and no row up to line " ++ decimal (length t + 1) ++ codes " ends it.\n"
 
 -- what is wrong with a row
 abbrev pub row_words : Parts → List Row → RowFact → List ℕ

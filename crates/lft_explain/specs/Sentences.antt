@@ -10,7 +10,7 @@ use Rattle.lft_facts.specs.declared.facts.Fact.TheVariants as fact
 use Rattle.lft_words.specs.Words.{tag_words, port_words, action_words}
 use Rattle.lft_explain.specs.Rows.{row_words}
 use Rattle.lft_explain.specs.Runs.{no_run_words, runs_words}
-use Rattle.lft_explain.specs.Orders.{early_words}
+use Rattle.lft_explain.specs.Orders.{early_race_words}
 
 -- ` has more than one event at G, which is outside the profile.`
 abbrev pub more_words : Tag → List ℕ
@@ -38,7 +38,7 @@ head_words program t (fact.Row f) = row_words program t f
 head_words program t (fact.Clash g c d) = clash_words program c
 head_words program t (fact.NoRun g r) = no_run_words program g r
 head_words program t (fact.Runs g r start) = runs_words program g r start
-head_words program t (fact.StartsEarly g a r start end) = early_words program g a r start end
+head_words program t (fact.StartsEarly g a r start end) = early_race_words program g a r start end
 head_words program t _ = []
 
 -- what the facts say of what is wrong

@@ -1,7 +1,7 @@
 //! The text of which reaction precedes which.
 
 ghost use Rattle.std.specs.Prelude.{◌≡◌, ◌++◌, OnOk, string_bytes};
-ghost use Rattle.lft_explain.specs.Orders.{origin_of, early_words, race_words, precedes_words, declared_words, feeds_words, passed_by_words};
+ghost use Rattle.lft_explain.specs.Orders.{origin_of, early_words, early_race_words, race_words, precedes_words, declared_words, feeds_words, passed_by_words};
 
 use lft_flat::Program;
 use lft_tag::Tag;
@@ -20,7 +20,7 @@ pub(crate) fn origin(program: &Program, port: u32) -> u32
 }
 
 /// Puts that a reaction starts before another one has ended at the end of the text.
-pub(crate) fn push_early(
+fn push_early(
     text: &mut String,
     program: &Program,
     tag: Tag,
@@ -41,6 +41,24 @@ pub(crate) fn push_early(
     text.push_str(" ends in ")?;
     push_line(text, end)?;
     text.push_str(".\n")?;
+    Ok(())
+}
+
+/// Puts that a reaction starts before another one has ended, which is the race that is wrong, at the end of
+/// the text.
+pub(crate) fn push_early_race(
+    text: &mut String,
+    program: &Program,
+    tag: Tag,
+    earlier: u32,
+    later: u32,
+    start: u32,
+    end: u32,
+) -> Result<(), AllocError>
+    ensures { OnOk result (string_bytes text.new ≡ string_bytes text.old ++ early_race_words program.now tag earlier later start end) }
+{
+    text.push_str("A race: ")?;
+    push_early(text, program, tag, earlier, later, start, end)?;
     Ok(())
 }
 

@@ -2,7 +2,7 @@
 
 ghost use Rattle.std.specs.Prelude.{◌≡◌, ◌++◌, OnOk, flat_map, string_bytes};
 ghost use Rattle.lft_model.specs.Runs.{inputs_of, effects_of};
-ghost use Rattle.lft_explain.specs.Reasons.{given_stop_words, asked_stop_words, in_line_words, has_open_words, spaced, listed, inputs_words, effects_words, kind_words as the_kind_words, named_kind_words, fed_words, ends_other_words, last_of_worker_words, reason_words};
+ghost use Rattle.lft_explain.specs.Reasons.{given_stop_words, asked_stop_words, in_line_words, has_open_words, spaced, listed, inputs_words, effects_words, kind_words as the_kind_words, named_kind_words, fed_words, ends_other_words, last_of_worker_words, later_words, reason_words};
 
 use crate::neighbours::{push_last_row, push_never, push_run_after, push_run_before};
 use crate::orders::push_passed_by;
@@ -14,7 +14,8 @@ use lft_lists::item_at;
 use lft_steps::Row;
 use lft_tag::{NoMemory, Tag};
 use lft_words::{
-    push_line, push_name, push_port, push_reaction, push_tag, push_tag_at, push_worker_at,
+    push_capital_line, push_line, push_name, push_port, push_reaction, push_tag, push_tag_at,
+    push_worker_at,
 };
 use std::alloc::{AllocError, Global};
 
@@ -236,6 +237,18 @@ fn push_last_of_worker(
     Ok(())
 }
 
+/// Puts that a row is the first at a later tag at the end of the text.
+fn push_later(text: &mut String, rows: &[Row], later: u32) -> Result<(), AllocError>
+    ensures { OnOk result (string_bytes text.new ≡ string_bytes text.old ++ later_words rows.now later) }
+{
+    text.push_str("  ")?;
+    push_capital_line(text, later)?;
+    text.push_str(" is the first at a later tag, ")?;
+    push_tag_at(text, rows, later)?;
+    text.push_str(".\n")?;
+    Ok(())
+}
+
 /// Puts the reason at the end of the text.
 pub(crate) fn push_reason(
     alloc: Global,
@@ -275,6 +288,11 @@ pub(crate) fn push_reason(
         Reason::FedBy { port, origin } => push_fed(text, program, port, origin)?,
         Reason::EndsOther { end, .. } => push_ends_other(text, program, rows, end)?,
         Reason::LastOfWorker { row, last } => push_last_of_worker(text, rows, row, last)?,
+        Reason::OpenAcross { start, later, .. } => {
+            push_has_open(text, program, rows, start)?;
+            push_later(text, rows, later)?;
+        }
+        Reason::LaterTag { later, .. } => push_later(text, rows, later)?,
     }
     Ok(())
 }

@@ -1,13 +1,14 @@
 //! What is wrong with a row, in a sentence.
 
-ghost use Rattle.std.specs.Prelude.{◌≡◌, ◌++◌, OnOk, string_bytes};
+ghost use Rattle.std.specs.Prelude.{◌≡◌, ◌≤◌, ◌++◌, OnOk, length, string_bytes};
 ghost use Rattle.lft_explain.specs.Rows.{line_is_words, late_words, after_stop_words, again_words, run_words, starts_words, busy_words, not_open_words, verb as the_verb, verb_at, does_words, done_words, unended_words, row_words};
 
 use lft_facts::RowFact;
 use lft_flat::Program;
 use lft_steps::{Row, Step, row_at};
 use lft_words::{
-    push_capital_line, push_line, push_name_at, push_reaction_at, push_tag_at, push_worker_at,
+    push_capital_line, push_line, push_name_at, push_number, push_reaction_at, push_tag_at,
+    push_worker_at,
 };
 use std::alloc::AllocError;
 
@@ -179,17 +180,20 @@ fn push_done(
     Ok(())
 }
 
-/// Puts that a run is never ended at the end of the text.
+/// Puts that a run has no end row up to the last row at the end of the text.
 fn push_unended(
     text: &mut String,
     program: &Program,
     rows: &[Row],
     row: u32,
 ) -> Result<(), AllocError>
+    requires { length rows.now ≤ 4000000 }
     ensures { OnOk result (string_bytes text.new ≡ string_bytes text.old ++ unended_words program.now rows.now row) }
 {
     push_starts(text, program, rows, row)?;
-    text.push_str(", and never ends it.\n")?;
+    text.push_str(", and no row up to line ")?;
+    push_number(text, rows.len() as u64 + 1)?;
+    text.push_str(" ends it.\n")?;
     Ok(())
 }
 
@@ -200,6 +204,7 @@ pub(crate) fn push_row_fact(
     rows: &[Row],
     fact: RowFact,
 ) -> Result<(), AllocError>
+    requires { length rows.now ≤ 4000000 }
     ensures { OnOk result (string_bytes text.new ≡ string_bytes text.old ++ row_words program.now rows.now fact) }
 {
     match fact {

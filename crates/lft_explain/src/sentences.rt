@@ -1,9 +1,9 @@
 //! What is wrong, in a sentence.
 
-ghost use Rattle.std.specs.Prelude.{◌≡◌, ◌++◌, IfOk, OnOk, string_bytes};
+ghost use Rattle.std.specs.Prelude.{◌≡◌, ◌≤◌, ◌++◌, IfOk, OnOk, length, string_bytes};
 ghost use Rattle.lft_explain.specs.Sentences.{more_words, port_more_words, action_more_words, clash_words, head_words, sentence as the_sentence};
 
-use crate::orders::push_early;
+use crate::orders::push_early_race;
 use crate::rows::push_row_fact;
 use crate::runs::{push_no_run, push_runs};
 use lft_facts::{Cause, Fact};
@@ -71,6 +71,7 @@ fn push_head(
     rows: &[Row],
     fact: Fact,
 ) -> Result<(), AllocError>
+    requires { length rows.now ≤ 4000000 }
     ensures { OnOk result (string_bytes text.new ≡ string_bytes text.old ++ head_words program.now rows.now fact) }
 {
     match fact {
@@ -88,7 +89,7 @@ fn push_head(
             later,
             start,
             end,
-        } => push_early(text, program, tag, earlier, later, start, end),
+        } => push_early_race(text, program, tag, earlier, later, start, end),
         _ => Ok(()),
     }
 }
@@ -100,6 +101,7 @@ pub(crate) fn sentence(
     rows: &[Row],
     facts: &[Fact],
 ) -> Result<String, AllocError>
+    requires { length rows.now ≤ 4000000 }
     ensures { IfOk result (λ text. string_bytes text ≡ the_sentence program.now rows.now facts.now) }
 {
     let mut text = String::new(alloc);

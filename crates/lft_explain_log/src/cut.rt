@@ -1,17 +1,25 @@
 //! The rows behind which a breach is sure.
 
-ghost use Rattle.std.specs.Prelude.{ℕ, IfOk, IfSome, MatchOption};
+ghost use Rattle.std.specs.Prelude.{◌<◌, ℕ, IfOk, IfSome, MatchOption};
 ghost use Rattle.lft_flat.specs.Parts.{Parts};
 ghost use Rattle.lft_steps.specs.Fits.{RowsFit};
-ghost use Rattle.lft_explain_log.specs.Cuts.{IsCutBehind, IsCutOf};
+ghost use Rattle.lft_explain_log.specs.Cuts.{IsCutBehind, IsCutOf, IsEndBehind};
 
 use lft_model::Breach;
 use lft_steps::{Row, Rows, row_at};
 use lft_tag::NoMemory;
 use std::alloc::Global;
 
+/// How many rows there are up to the one at a later tag: with it where a run has no end, else without it.
+fn end_behind(breach: Breach, place: usize) -> usize
+    requires { place < 18446744073709551615 }
+    ensures { IsEndBehind breach place result }
+{
+    if breach.rule == 5 { place + 1 } else { place }
+}
+
 /// How many rows there are up to the one behind which the breach is sure, if they are there: its own is the
-/// last, where it breaks one of the rules 1 to 4, else the last before a later tag.
+/// last, where it breaks one of the rules 1 to 4; of rule 5 the first at a later tag, else the last before it.
 fn end_of_cut(rows: &[Row], breach: Breach) -> Option<usize>
     ensures { MatchOption result ((n : ℕ) → ¬ IsCutBehind rows.now breach n) (IsCutBehind rows.now breach) }
 {
@@ -25,7 +33,7 @@ fn end_of_cut(rows: &[Row], breach: Breach) -> Option<usize>
     }
     for place in line.saturating_sub(1)..rows.len() {
         if breach.tag.is_before(row_at(rows, place).tag) {
-            return Some(place);
+            return Some(end_behind(breach, place));
         }
     }
     None

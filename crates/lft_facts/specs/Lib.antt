@@ -4,3 +4,4 @@ pub mod Enough
 pub mod Ways
 pub mod Causes
 pub mod Neighbours
+pub mod Across

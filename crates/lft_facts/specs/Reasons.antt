@@ -142,6 +142,29 @@ pub record IsLastOfWorker (t : List Row) (i k : ℕ) : Type 0 where
   pub of_worker : last.worker ≡ row.worker
   pub none_later : (j : ℕ) (later : Row) → k < j → slice_get t j ≡ Some later → later.worker ≢ row.worker
 
+-- the row at place i is of an open run, which starts in the one at place j; the one at place k between the two is at a later tag than the run, and the first such row of all
+pub record IsOpenAcross (t : List Row) (i j k : ℕ) : Type 0 where
+  pub row : Row
+  pub later : Row
+  pub is_row : slice_get t i ≡ Some row
+  pub is_later : slice_get t k ≡ Some later
+  pub starts : StartsAt t row.tag row.reaction j
+  pub open_since : IsOpenSince t i row.worker j
+  pub behind : j < k
+  pub before : k < i
+  pub after : Before row.tag later.tag
+  pub first : (m : ℕ) (x : Row) → m < k → slice_get t m ≡ Some x → ¬ Before row.tag x.tag
+
+-- the row at place k behind the one at place i is at a later tag, and none between them is
+pub record IsFirstLater (t : List Row) (i k : ℕ) : Type 0 where
+  pub row : Row
+  pub later : Row
+  pub is_row : slice_get t i ≡ Some row
+  pub is_later : slice_get t k ≡ Some later
+  pub behind : i < k
+  pub after : Before row.tag later.tag
+  pub first : (m : ℕ) (x : Row) → i < m → m < k → slice_get t m ≡ Some x → ¬ Before row.tag x.tag
+
 -- the reason holds of the plan and the rows
 abbrev pub IsReason : PlanParts → List Row → Reason → Type 0
 IsReason plan t (reason.Nearest g x h) = IsNearest plan t g x h
@@ -162,3 +185,5 @@ IsReason plan t (reason.KindOf n k) = IsOfKind plan.program n k
 IsReason plan t (reason.FedBy p o) = IsFedBy plan.program p o
 IsReason plan t (reason.EndsOther i k) = EndsOther t i k
 IsReason plan t (reason.LastOfWorker i k) = IsLastOfWorker t i k
+IsReason plan t (reason.OpenAcross i j k) = IsOpenAcross t i j k
+IsReason plan t (reason.LaterTag i k) = IsFirstLater t i k

@@ -151,6 +151,18 @@ pub enum Reason {
         row: u32,
         last: u32,
     },
+    /// The run of the row is open: it starts in another row, and between the two is the first row of all at
+    /// a later tag.
+    OpenAcross {
+        row: u32,
+        start: u32,
+        later: u32,
+    },
+    /// The first row behind the row that is at a later tag.
+    LaterTag {
+        row: u32,
+        later: u32,
+    },
 }
 
 /// A statement about a plan and the rows of a trace. Rows and events are named by their places,

@@ -1,6 +1,7 @@
 #![tactic(auto)]
 //! Facts behind the first breach of a trace: each of them is true, and together they give the breach.
 
+mod across;
 mod adding;
 mod cause;
 mod chain;
@@ -23,5 +24,6 @@ mod stopping;
 mod triggers;
 mod ways;
 
+pub use across::is_open_across;
 pub use facts::{Cause, Fact, Facts, Reason, RowFact, ThingKind};
 pub use finding::find;

@@ -7,6 +7,7 @@ ghost use Rattle.lft_steps.specs.declared.row.Row.{Row as TheRow};
 ghost use Rattle.lft_model.specs.Breaches.{IsLate, IsOpen, WasStarted, WasRead};
 ghost use Rattle.lft_model.specs.Runs.{end_row};
 ghost use Rattle.lft_races.specs.Runs.{StartsAt, IsOpenSince};
+ghost use Rattle.lft_facts.specs.Across.{OpensRun};
 ghost use Rattle.lft_facts.specs.Facts.{ReadsAt};
 
 use lft_flat::Name;
@@ -14,20 +15,33 @@ use lft_races::is_start_at;
 use lft_steps::{Row, Step, is_end, is_start, row_at};
 use lft_tag::Tag;
 
-/// The place of the last row before this one that is at a greater tag.
+/// The place of the first row before this place that is at a greater tag.
+pub(crate) fn first_greater(rows: &[Row], place: u32, tag: Tag) -> Option<u32>
+    requires place { place < length rows.now }
+    ensures before { IfSome result (λ k. k < place) }
+    ensures greater { IfSome result (λ k. (later : TheRow) × (slice_get rows.now k ≡ Some later) × Before tag later.tag) }
+    ensures first { IfSome result (λ k. (m : ℕ) (x : TheRow) → m < k → slice_get rows.now m ≡ Some x → ¬ Before tag x.tag) }
+    ensures none { IfNone result ((m : ℕ) (x : TheRow) → m < place → slice_get rows.now m ≡ Some x → ¬ Before tag x.tag) }
+{
+    for other in 0..place {
+        if tag.is_before(row_at(rows, other as usize).tag) {
+            return Some(other);
+        }
+    }
+    None
+}
+
+/// The place of the first row before this one that is at a greater tag.
 pub(crate) fn greater_row(rows: &[Row], place: u32, row: Row) -> u32
     requires place { place < length rows.now }
     requires late { IsLate rows.now place row }
     ensures before { result < place }
     ensures greater { (earlier : TheRow) × (slice_get rows.now result ≡ Some earlier) × Before row.tag earlier.tag }
 {
-    for back in 0..place {
-        let other = place - 1 - back;
-        if row.tag.is_before(row_at(rows, other as usize).tag) {
-            return other;
-        }
+    match first_greater(rows, place, row.tag) {
+        Some(greater) => greater,
+        None => unreachable!(),
     }
-    unreachable!()
 }
 
 /// The place of the first row before this one that starts the reaction's run at the tag.
@@ -92,6 +106,32 @@ pub(crate) fn open_start(rows: &[Row], place: u32, worker: u32) -> u32
         }
     }
     unreachable!()
+}
+
+/// Whether the row at the first place starts the run of the one at the other, and it is open there.
+fn is_own_start(rows: &[Row], start: u32, place: u32) -> bool
+    requires start { start < place }
+    requires place { place < length rows.now }
+    ensures { IsTrue result ↔ OpensRun rows.now place start }
+{
+    let own = row_at(rows, place as usize);
+    is_start_at(rows, own.tag, own.reaction, start as usize)
+        && is_open_since(rows, start, place, own.worker)
+}
+
+/// The place of the first row before this one that starts its run, if that is open.
+pub(crate) fn own_start(rows: &[Row], place: u32) -> Option<u32>
+    requires place { place < length rows.now }
+    ensures some { IfSome result (OpensRun rows.now place) }
+    ensures first { IfSome result (λ j. (m : ℕ) → m < j → ¬ OpensRun rows.now place m) }
+    ensures none { IfNone result ((m : ℕ) → m < place → ¬ OpensRun rows.now place m) }
+{
+    for start in 0..place {
+        if is_own_start(rows, start, place) {
+            return Some(start);
+        }
+    }
+    None
 }
 
 /// Whether the row at the place reads the name in the reaction's run at the tag.

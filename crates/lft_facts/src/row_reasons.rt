@@ -10,6 +10,7 @@ ghost use Rattle.lft_facts.specs.Facts.{IsRowFact};
 ghost use Rattle.lft_facts.specs.Reasons.{IsReason, IsOfKind};
 ghost use Rattle.lft_facts.specs.Enough.{Adds, IsOwnReason, row_of};
 
+use crate::across::{across, later_tag};
 use crate::adding::add;
 use crate::facts::{Fact, Reason, RowFact, ThingKind};
 use crate::ordering::{first_start, is_end_at, is_open_since};
@@ -238,7 +239,8 @@ fn add_of_effects(
     Ok(())
 }
 
-/// Puts where else a run of the reaction is ended, and the last row of the worker, behind the facts.
+/// Puts where else a run of the reaction is ended, the last row of the worker, and the first row at a later
+/// tag behind the facts.
 fn add_of_end(rows: &[Row], row: u32, facts: &mut Vec<Fact>) -> Result<(), NoMemory>
     requires few { length rows.now ≤ 4000000 }
     requires row { row < length rows.now }
@@ -246,6 +248,7 @@ fn add_of_end(rows: &[Row], row: u32, facts: &mut Vec<Fact>) -> Result<(), NoMem
 {
     add(facts, other_end(rows, row))?;
     add(facts, last_row(rows, row))?;
+    add(facts, later_tag(rows, row))?;
     Ok(())
 }
 
@@ -266,8 +269,8 @@ pub(crate) fn add_row_reasons(
         RowFact::NotInput { row } => add_of_inputs(plan, rows, row, facts),
         RowFact::NotEffect { row } => add_of_effects(plan, rows, row, facts),
         RowFact::Unended { row } => add_of_end(rows, row, facts),
-        RowFact::Late { .. }
-        | RowFact::StartsAgain { .. }
+        RowFact::Late { row, .. } => add(facts, across(rows, row)),
+        RowFact::StartsAgain { .. }
         | RowFact::Busy { .. }
         | RowFact::ReadAgain { .. } => Ok(()),
     }

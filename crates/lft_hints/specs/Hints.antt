@@ -10,11 +10,13 @@ use Rattle.lft_flat.specs.declared.parts.Trigger.{Trigger}
 use Rattle.lft_flat.specs.declared.parts.Trigger.TheVariants.{Shutdown, On}
 use Rattle.lft_flat.specs.declared.parts.Value.{Value}
 use Rattle.lft_steps.specs.declared.row.Row.{Row}
-use Rattle.lft_steps.specs.declared.row.Step.TheVariants.{End, Read, Write, Schedule}
+use Rattle.lft_steps.specs.declared.row.Step.TheVariants.{Start, End, Read, Write, Schedule}
 use Rattle.lft_model.specs.declared.breach.Breach.{Breach}
 use Rattle.lft_model.specs.Plans.{PlanParts}
 use Rattle.lft_model.specs.Presence.{stop, Triggered}
 use Rattle.lft_races.specs.Races.{IsRaceBefore}
+use Rattle.lft_facts.specs.Facts.{StartsTwice}
+use Rattle.lft_facts.specs.Across.{IsAcross}
 use Rattle.lft_hints.specs.declared.hint.Hint.{Hint}
 use Rattle.lft_hints.specs.declared.hint.Hint.TheVariants as hint
 
@@ -81,14 +83,17 @@ IsUntriggeredHint plan t g r (hint.WholeDelay i) = HasWholeDelay plan.program t 
 IsUntriggeredHint plan t g r hint.RunsAtStop = HasTrigger plan.program r Shutdown
 IsUntriggeredHint plan t g r hint.NoWrites = NoneWrites t × HasPort plan.program r
 IsUntriggeredHint plan t g r hint.Scheduler = ⊥
+IsUntriggeredHint plan t g r hint.NextTag = ⊥
 IsUntriggeredHint plan t g r hint.FirstOfWorker = ⊥
 IsUntriggeredHint plan t g r hint.LateRow = ⊥
 IsUntriggeredHint plan t g r hint.FirstRow = ⊥
+IsUntriggeredHint plan t g r hint.StartedTwice = ⊥
 IsUntriggeredHint plan t g r hint.OneNumber = ⊥
 IsUntriggeredHint plan t g r hint.TraceEnds = ⊥
 IsUntriggeredHint plan t g r hint.NoReads = ⊥
 IsUntriggeredHint plan t g r hint.NoRows = ⊥
 IsUntriggeredHint plan t g r hint.NoEnds = ⊥
+IsUntriggeredHint plan t g r hint.LateEnd = ⊥
 IsUntriggeredHint plan t g r hint.SmallStop = ⊥
 
 -- what a hint says of the run that rule 8 names
@@ -103,17 +108,48 @@ HasRace plan t b = (i : ℕ) × IsRaceBefore plan t b (Some i)
 abbrev pub IsOfFirst : List Row → Breach → Type 0
 IsOfFirst t b = (i : ℕ) × (b.row ≡ i + 2) × IsFirstOfWorker t i
 
+-- the breach is of a row that starts a run
+abbrev pub IsOfStart : List Row → Breach → Type 0
+IsOfStart t b = (i : ℕ) × (row : Row) × (b.row ≡ i + 2) × (slice_get t i ≡ Some row) × (row.step ≡ Start)
+
+-- the breach is of a row of a run that was open when the first row at a later tag came
+abbrev pub IsOfOpen : List Row → Breach → Type 0
+IsOfOpen t b = (i : ℕ) × (b.row ≡ i + 2) × IsAcross t i
+
+-- the row at place i starts a run that one before it starts
+abbrev pub IsSecond : List Row → ℕ → Type 0
+IsSecond t i = (j : ℕ) × StartsTwice t i j
+
+-- the breach is of such a row
+abbrev pub IsOfSecond : List Row → Breach → Type 0
+IsOfSecond t b = (i : ℕ) × (b.row ≡ i + 2) × IsSecond t i
+
+-- the row starts a run, or its run wasn't open so and no run starts too early before the breach
+abbrev pub IsLateByRecorder : PlanParts → List Row → Breach → Type 0
+IsLateByRecorder plan t b = IsOfStart t b ⊎ ((¬ IsOfOpen t b) × (¬ HasRace plan t b))
+
+-- so it is with the breach of rule 1 or 3, where that may be the scheduler's
+abbrev pub IsOfOrder : List Row → Breach → Type 0
+IsOfOrder t b = ((b.rule ≡ 1) × (¬ IsOfStart t b) × (¬ IsOfOpen t b)) ⊎ (b.rule ≡ 3)
+
+-- a row is at a tag after g
+abbrev pub IsPassed : List Row → Tag → Type 0
+IsPassed t g = (i : ℕ) × (row : Row) × (slice_get t i ≡ Some row) × Before g row.tag
+
 -- what a hint says of a breach
 abbrev pub IsHint : PlanParts → List Row → Breach → Hint → Type 0
-IsHint plan t b hint.Scheduler = ((b.rule ≡ 1) ⊎ (b.rule ≡ 3)) × HasRace plan t b
-IsHint plan t b hint.FirstOfWorker = (b.rule ≡ 1) × (¬ HasRace plan t b) × IsOfFirst t b
-IsHint plan t b hint.LateRow = (b.rule ≡ 1) × (¬ HasRace plan t b) × (¬ IsOfFirst t b)
+IsHint plan t b hint.Scheduler = IsOfOrder t b × HasRace plan t b
+IsHint plan t b hint.NextTag = (b.rule ≡ 1) × (¬ IsOfStart t b) × IsOfOpen t b
+IsHint plan t b hint.FirstOfWorker = (b.rule ≡ 1) × IsLateByRecorder plan t b × IsOfFirst t b
+IsHint plan t b hint.LateRow = (b.rule ≡ 1) × IsLateByRecorder plan t b × (¬ IsOfFirst t b)
 IsHint plan t b hint.FirstRow = (b.rule ≡ 3) × (¬ HasRace plan t b) × (b.row ≡ 2)
-IsHint plan t b hint.OneNumber = (b.rule ≡ 3) × (¬ HasRace plan t b) × (b.row ≢ 2)
+IsHint plan t b hint.StartedTwice = (b.rule ≡ 3) × (¬ HasRace plan t b) × (b.row ≢ 2) × IsOfSecond t b
+IsHint plan t b hint.OneNumber = (b.rule ≡ 3) × (¬ HasRace plan t b) × (b.row ≢ 2) × (¬ IsOfSecond t b)
 IsHint plan t b hint.TraceEnds = (b.rule ≡ 7) × (0 < length t) × AllBefore t b.tag × (stop plan t ≡ plan.externals.stop)
 IsHint plan t b hint.NoReads = (b.rule ≡ 10) × NoneReads t
 IsHint plan t b hint.NoRows = (b.rule ≡ 7) × (length t ≡ 0)
 IsHint plan t b hint.NoEnds = (b.rule ≡ 5) × NoneEnds t
+IsHint plan t b hint.LateEnd = (b.rule ≡ 5) × (¬ NoneEnds t) × IsPassed t b.tag
 IsHint plan t b hint.SmallStop = (b.rule ≡ 2) × IsSmallStop plan t b.tag
 IsHint plan t b hint.Thousandfold = OfRule8 plan t b hint.Thousandfold
 IsHint plan t b (hint.WholeDelay i) = OfRule8 plan t b (hint.WholeDelay i)

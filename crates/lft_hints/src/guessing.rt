@@ -8,16 +8,19 @@ ghost use Rattle.lft_model.specs.Presence.{stop, Triggered};
 ghost use Rattle.lft_races.specs.Races.{FirstSoFar};
 ghost use Rattle.lft_hints.specs.declared.hint.Hint.{Hint as TheHint};
 ghost use Rattle.lft_hints.specs.Actions.{AreActions};
-ghost use Rattle.lft_hints.specs.Hints.{HasPort, HasRace, HasTrigger, HasWholeDelay, IsHint, IsSmallStop, IsThousandfold, IsUntriggeredHint, SchedulesWhole};
+ghost use Rattle.lft_hints.specs.Hints.{HasPort, HasRace, HasTrigger, HasWholeDelay, IsHint, IsLateByRecorder, IsOfOpen, IsOfStart, IsSmallStop, IsThousandfold, IsUntriggeredHint, SchedulesWhole};
 
 use crate::hint::Hint;
-use crate::rows::{all_before, is_first_of_worker, none_ends, none_reads, none_writes};
+use crate::rows::{
+    all_before, is_first_of_worker, is_passed, is_second, none_ends, none_reads, none_writes,
+};
+use lft_facts::is_open_across;
 use lft_flat::{Name, Trigger};
 use lft_lists::item_at;
 use lft_model::{Breach, Plan, trace_stop};
 use lft_presence::presence_of;
 use lft_races::race_before;
-use lft_steps::{Row, Rows, Step, row_at};
+use lft_steps::{Row, Rows, Step, is_start, row_at};
 use lft_tag::{MAX_TIME, NoMemory, Tag};
 use std::alloc::Global;
 use std::collections::BTreeMap;
@@ -195,20 +198,12 @@ fn of_untriggered(
     Ok(None)
 }
 
-/// What the recorder may have done, where no run starts too early before a breach of the rules 1 and 3.
-/// It takes no memory.
+/// What the recorder may have done with a row that is late. It takes no memory.
 fn of_recorder(rows: &[Row], breach: Breach) -> Hint
-    requires rule { (breach.rule ≡ 1) ⊎ (breach.rule ≡ 3) }
+    requires rule { breach.rule ≡ 1 }
     requires row { (i : ℕ) × (breach.row ≡ i + 2) × (i < length rows.now) }
-    ensures { (plan : PlanParts) → (¬ HasRace plan rows.now breach) → IsHint plan rows.now breach result }
+    ensures { (plan : PlanParts) → IsLateByRecorder plan rows.now breach → IsHint plan rows.now breach result }
 {
-    if breach.rule == 3 {
-        return if breach.row == 2 {
-            Hint::FirstRow
-        } else {
-            Hint::OneNumber
-        };
-    }
     if is_first_of_worker(rows, breach.row as usize - 2) {
         Hint::FirstOfWorker
     } else {
@@ -216,8 +211,69 @@ fn of_recorder(rows: &[Row], breach: Breach) -> Hint
     }
 }
 
-/// What may be behind a breach of the rules 1 and 3: the scheduler, where a run starts too early before
-/// it, else the recorder.
+/// What may be behind a breach of rule 3 before which no run starts too early. It takes no memory.
+fn of_disorder(rows: &[Row], breach: Breach) -> Hint
+    requires rule { breach.rule ≡ 3 }
+    requires row { (i : ℕ) × (breach.row ≡ i + 2) × (i < length rows.now) }
+    ensures { (plan : PlanParts) → (¬ HasRace plan rows.now breach) → IsHint plan rows.now breach result }
+{
+    if breach.row == 2 {
+        return Hint::FirstRow;
+    }
+    if is_second(rows, breach.row as usize - 2) {
+        Hint::StartedTwice
+    } else {
+        Hint::OneNumber
+    }
+}
+
+/// Whether the breach is of a row that starts a run.
+fn is_of_start(rows: &[Row], breach: Breach) -> bool
+    requires { (i : ℕ) × (breach.row ≡ i + 2) × (i < length rows.now) }
+    ensures { IsTrue result ↔ IsOfStart rows.now breach }
+{
+    let row = row_at(rows, breach.row as usize - 2);
+    is_start(&row.step)
+}
+
+/// Whether the breach is of a row of a run that was open when the first row at a later tag came.
+fn is_of_open(rows: &[Row], breach: Breach) -> bool
+    requires { (i : ℕ) × (breach.row ≡ i + 2) × (i < length rows.now) }
+    ensures { IsTrue result ↔ IsOfOpen rows.now breach }
+{
+    is_open_across(rows, breach.row - 2)
+}
+
+/// What may be behind a breach of rule 1: the recorder, where the row starts a run; the next tag or the
+/// recorder, where its run was open when a row at a later tag came; else the scheduler, where a run starts
+/// too early before it, or the recorder.
+fn of_late(
+    alloc: Global,
+    plan: &Plan,
+    rows: &[Row],
+    breach: Breach,
+) -> Result<Option<Hint>, NoMemory>
+    requires fit { RowsFit plan.now.program rows.now }
+    requires first { FirstSoFar plan.now rows.now breach }
+    requires rule { breach.rule ≡ 1 }
+    ensures some { IfOk result (λ hint. IfSome hint (IsHint plan.now rows.now breach)) }
+    ensures none { IfOk result (λ hint. IfNone hint ((other : TheHint) → IsHint plan.now rows.now breach other → ⊥)) }
+{
+    if is_of_start(rows, breach) {
+        return Ok(Some(of_recorder(rows, breach)));
+    }
+    if is_of_open(rows, breach) {
+        return Ok(Some(Hint::NextTag));
+    }
+    let race = race_before(alloc, plan, rows, breach)?;
+    if let Some(_) = race {
+        return Ok(Some(Hint::Scheduler));
+    }
+    Ok(Some(of_recorder(rows, breach)))
+}
+
+/// What may be behind a breach of rule 3: the scheduler, where a run starts too early before it, or this one
+/// a second time, else the recorder.
 fn of_order(
     alloc: Global,
     plan: &Plan,
@@ -226,15 +282,15 @@ fn of_order(
 ) -> Result<Option<Hint>, NoMemory>
     requires fit { RowsFit plan.now.program rows.now }
     requires first { FirstSoFar plan.now rows.now breach }
-    requires rule { (breach.rule ≡ 1) ⊎ (breach.rule ≡ 3) }
+    requires rule { breach.rule ≡ 3 }
     ensures some { IfOk result (λ hint. IfSome hint (IsHint plan.now rows.now breach)) }
     ensures none { IfOk result (λ hint. IfNone hint ((other : TheHint) → IsHint plan.now rows.now breach other → ⊥)) }
 {
     let race = race_before(alloc, plan, rows, breach)?;
-    if let Some(_) = race {
-        return Ok(Some(Hint::Scheduler));
+    match race {
+        Some(_) => Ok(Some(Hint::Scheduler)),
+        None => Ok(Some(of_disorder(rows, breach))),
     }
-    Ok(Some(of_recorder(rows, breach)))
 }
 
 /// What may be behind a breach of rule 8.
@@ -282,6 +338,21 @@ fn of_missing(plan: &Plan, rows: &[Row], breach: Breach) -> Option<Hint>
     None
 }
 
+/// The hint on a run without an end row, if there is one.
+fn of_unended(rows: &[Row], breach: Breach) -> Option<Hint>
+    requires { breach.rule ≡ 5 }
+    ensures some { (plan : PlanParts) → IfSome result (IsHint plan rows.now breach) }
+    ensures none { (plan : PlanParts) → IfNone result ((hint : TheHint) → IsHint plan rows.now breach hint → ⊥) }
+{
+    if none_ends(rows) {
+        return Some(Hint::NoEnds);
+    }
+    if is_passed(rows, breach.tag) {
+        return Some(Hint::LateEnd);
+    }
+    None
+}
+
 /// The hint on the rules 2, 5, 7 and 10 that holds of the breach, if one does. It takes no memory.
 fn of_other_rules(plan: &Plan, rows: &[Row], breach: Breach) -> Option<Hint>
     requires fit { RowsFit plan.now.program rows.now }
@@ -295,11 +366,7 @@ fn of_other_rules(plan: &Plan, rows: &[Row], breach: Breach) -> Option<Hint>
         } else {
             None
         },
-        5 => if none_ends(rows) {
-            Some(Hint::NoEnds)
-        } else {
-            None
-        },
+        5 => of_unended(rows, breach),
         7 => of_missing(plan, rows, breach),
         10 => if none_reads(rows) {
             Some(Hint::NoReads)
@@ -324,7 +391,7 @@ pub fn hint_of(
 {
     let rows = rows.as_slice();
     match breach.rule {
-        1 => of_order(alloc, plan, rows, breach),
+        1 => of_late(alloc, plan, rows, breach),
         3 => of_order(alloc, plan, rows, breach),
         8 => of_run(alloc, plan, rows, breach),
         _ => Ok(of_other_rules(plan, rows, breach)),

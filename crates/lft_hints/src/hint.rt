@@ -10,15 +10,20 @@ use std::alloc::{AllocError, Global};
 /// A condition under which a breach has a usual cause. Rows are named by their places, counted from 0.
 #[derive(Clone, Copy, PartialEq, Eq, Debug)]
 pub enum Hint {
-    /// Before the breach of rule 1 or 3 a run starts too early for rule 9.
+    /// Before the breach of rule 1 or 3 a run starts too early for rule 9. The row of rule 1 starts no run, and
+    /// its run wasn't open when the first row at a later tag came.
     Scheduler,
-    /// No run starts so, and the breach of rule 1 is at the first row of its worker.
+    /// The row of rule 1 starts no run, and its run was open when the first row at a later tag came.
+    NextTag,
+    /// The row of rule 1 starts a run, or neither of the two holds; it is the first row of its worker.
     FirstOfWorker,
-    /// No run starts so, and the breach of rule 1 is at another row.
+    /// The same, and it is another row.
     LateRow,
-    /// No run starts so, and the breach of rule 3 is at the first row of all.
+    /// No run starts too early before the breach of rule 3, and it is at the first row of all.
     FirstRow,
-    /// No run starts so, and the breach of rule 3 is at another row.
+    /// No run starts so, and the row of rule 3 starts a run a second time.
+    StartedTwice,
+    /// No run starts so, and it is another row.
     OneNumber,
     /// All rows are before the tag of a breach of rule 7, and the stop is that of the external inputs.
     TraceEnds,
@@ -36,6 +41,8 @@ pub enum Hint {
     NoRows,
     /// No row ends a run, and the breach is of rule 5.
     NoEnds,
+    /// A row ends a run, the breach is of rule 5, and a row is at a later tag.
+    LateEnd,
     /// The tag of a breach of rule 2 is over a hundred times as late as the stop of the external inputs.
     SmallStop,
 }
@@ -61,6 +68,9 @@ pub fn tell_hint(alloc: Global, hint: Hint) -> Result<String, AllocError>
         Hint::Scheduler => {
             "\n  A guess: look at the scheduler first. By the rows it starts a run before all that precede it have ended.\n"
         }
+        Hint::NextTag => {
+            "\n  A guess: the next tag began before all runs had ended, which is a race, or this row is written late.\n"
+        }
         Hint::FirstOfWorker => {
             "\n  A guess: that is the first row of its worker. Were the rows of workers put one after another? They stand in the order in which they happened.\n"
         }
@@ -69,6 +79,9 @@ pub fn tell_hint(alloc: Global, hint: Hint) -> Result<String, AllocError>
         }
         Hint::FirstRow => {
             "\n  A guess: that is the first row. Were the rows sorted? They stand in the order in which they happened.\n"
+        }
+        Hint::StartedTwice => {
+            "\n  A guess: look at the scheduler first. Was it taken twice, or triggered again by a value that came late?\n"
         }
         Hint::OneNumber => {
             "\n  A guess: look at the recorder first. Have two threads one worker number, or were the rows sorted?\n"
@@ -87,6 +100,9 @@ pub fn tell_hint(alloc: Global, hint: Hint) -> Result<String, AllocError>
         Hint::NoReads => "\n  A guess: no row of the trace reads. Are reads recorded?\n",
         Hint::NoRows => "\n  A guess: the trace has no row. Is the recorder on?\n",
         Hint::NoEnds => "\n  A guess: no row of the trace ends a run. Are ends recorded?\n",
+        Hint::LateEnd => {
+            "\n  A guess: the next tag began before all runs had ended, which is a race, or the end row is written late or not at all.\n"
+        }
         Hint::SmallStop => {
             "\n  A guess: that is over a hundred times as late as the stop. Is the stop in milliseconds or microseconds? It is wanted in nanoseconds.\n"
         }

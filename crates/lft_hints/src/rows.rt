@@ -1,9 +1,10 @@
 //! Conditions on rows.
 
 ghost use Rattle.std.specs.Prelude.{◌↔◌, ◌<◌, length, IsTrue};
-ghost use Rattle.lft_hints.specs.Hints.{AllBefore, IsFirstOfWorker, NoneEnds, NoneReads, NoneWrites};
+ghost use Rattle.lft_hints.specs.Hints.{AllBefore, IsFirstOfWorker, IsPassed, IsSecond, NoneEnds, NoneReads, NoneWrites};
 
-use lft_steps::{Row, Step, row_at};
+use lft_races::is_start_at;
+use lft_steps::{Row, Step, is_start, row_at};
 use lft_tag::Tag;
 
 /// Whether no row before the place is of the worker of the row there.
@@ -54,6 +55,35 @@ pub(crate) fn none_writes(rows: &[Row]) -> bool
         }
     }
     true
+}
+
+/// Whether a row is at a tag after this one.
+pub(crate) fn is_passed(rows: &[Row], tag: Tag) -> bool
+    ensures { IsTrue result ↔ IsPassed rows.now tag }
+{
+    for place in 0..rows.len() {
+        if tag.is_before(row_at(rows, place).tag) {
+            return true;
+        }
+    }
+    false
+}
+
+/// Whether the row at the place starts a run that one before it starts.
+pub(crate) fn is_second(rows: &[Row], place: usize) -> bool
+    requires { place < length rows.now }
+    ensures { IsTrue result ↔ IsSecond rows.now place }
+{
+    let row = row_at(rows, place);
+    if !is_start(&row.step) {
+        return false;
+    }
+    for earlier in 0..place {
+        if is_start_at(rows, row.tag, row.reaction, earlier) {
+            return true;
+        }
+    }
+    false
 }
 
 /// Whether no row ends a run.

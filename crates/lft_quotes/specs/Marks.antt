@@ -57,6 +57,8 @@ reason_names (reason.KindOf n k) = []
 reason_names (reason.FedBy p o) = []
 reason_names (reason.EndsOther i k) = marked k mark.OtherEnd
 reason_names (reason.LastOfWorker i k) = marked k mark.LastRow
+reason_names (reason.OpenAcross i j k) = (record { row = j; mark = mark.OpenStart }) ∷ marked k mark.Greater
+reason_names (reason.LaterTag i k) = marked k mark.Greater
 
 -- the rows that a fact names
 abbrev pub names : Fact → List Quote

@@ -11,7 +11,7 @@ use std::alloc::AllocError;
 pub enum RowMark {
     /// It breaks the rule.
     Here,
-    /// It is before, and at a greater tag.
+    /// It is at a greater tag.
     Greater,
     /// It starts that run before.
     FirstStart,
@@ -124,6 +124,11 @@ fn push_reason(quotes: &mut Vec<Quote>, reason: Reason) -> Result<(), AllocError
         Reason::StartsIn { start, .. } => push(quotes, start, RowMark::LaterStart),
         Reason::EndsOther { end, .. } => push(quotes, end, RowMark::OtherEnd),
         Reason::LastOfWorker { last, .. } => push(quotes, last, RowMark::LastRow),
+        Reason::OpenAcross { start, later, .. } => {
+            push(quotes, start, RowMark::OpenStart)?;
+            push(quotes, later, RowMark::Greater)
+        }
+        Reason::LaterTag { later, .. } => push(quotes, later, RowMark::Greater),
         Reason::Nearest { .. }
         | Reason::PassedBy { .. }
         | Reason::NeverRuns { .. }

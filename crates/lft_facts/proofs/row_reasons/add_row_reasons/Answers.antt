@@ -1,6 +1,7 @@
 use Rattle.std.proofs.Common.{◌+◌, ap, ◌∙◌}
 use Rattle.lft_facts.specs.Enough.{row_of}
 use Rattle.std.proofs.lemmas.Result.{on_ok_weaker}
+use Rattle.lft_facts.proofs.Asking.{of_rows, own_of_row}
 use Rattle.lft_facts.proofs.row_reasons.add_row_reasons.Goals as goal
 
 pub returns-in-AfterStop : goal.returns-in-AfterStop
@@ -17,3 +18,6 @@ returns-in-NotInput c = on_ok_weaker c.add_of_inputs.result (λ told b p. told b
 
 pub returns-in-NotEffect : goal.returns-in-NotEffect
 returns-in-NotEffect c = on_ok_weaker c.add_of_effects.result (λ told b p. told b) c.add_of_effects.ensures
+
+pub returns-in-Late : goal.returns-in-Late
+returns-in-Late c = on_ok_weaker c.add-in-Late.result (λ told b p. told b c.args.plan.now c.args.rows.now (of_rows c.across.result c.args.plan.now c.args.rows.now c.across.ensures.holds) (own_of_row c.across.result b c.in-Late.row (p ∙ ap (λ f. row_of f + 2) c.in-Late.is) c.across.ensures.own)) c.add-in-Late.ensures.adds

@@ -5,23 +5,23 @@ use Rattle.lft_hints.specs.declared.hint.Hint.{Hint as TheHint}
 use Rattle.lft_hints.specs.Hints.{IsHint}
 use Rattle.lft_hints.proofs.guessing.hint_of.Goals as goal
 
+pub of_late-requires-clause-first : goal.of_late-requires-clause-first
+of_late-requires-clause-first c = subst (λ (t : List Row). FirstSoFar c.args.plan.now t c.args.breach) (sym c.as_slice-rows.ensures) c.requires.first
+
 pub of_order-requires-clause-first : goal.of_order-requires-clause-first
 of_order-requires-clause-first c = subst (λ (t : List Row). FirstSoFar c.args.plan.now t c.args.breach) (sym c.as_slice-rows.ensures) c.requires.first
 
-pub of_order-requires-in-3-clause-first : goal.of_order-requires-in-3-clause-first
-of_order-requires-in-3-clause-first c = subst (λ (t : List Row). FirstSoFar c.args.plan.now t c.args.breach) (sym c.as_slice-rows.ensures) c.requires.first
-
 pub returns-in-1-clause-some : goal.returns-in-1-clause-some
-returns-in-1-clause-some c = subst (λ (t : List Row). IfOk c.of_order.result (λ hint. IfSome hint (IsHint c.args.plan.now t c.args.breach))) c.as_slice-rows.ensures c.of_order.ensures.some
+returns-in-1-clause-some c = subst (λ (t : List Row). IfOk c.of_late.result (λ hint. IfSome hint (IsHint c.args.plan.now t c.args.breach))) c.as_slice-rows.ensures c.of_late.ensures.some
 
 pub returns-in-1-clause-none : goal.returns-in-1-clause-none
-returns-in-1-clause-none c = subst (λ (t : List Row). IfOk c.of_order.result (λ hint. IfNone hint ((other : TheHint) → IsHint c.args.plan.now t c.args.breach other → ⊥))) c.as_slice-rows.ensures c.of_order.ensures.none
+returns-in-1-clause-none c = subst (λ (t : List Row). IfOk c.of_late.result (λ hint. IfNone hint ((other : TheHint) → IsHint c.args.plan.now t c.args.breach other → ⊥))) c.as_slice-rows.ensures c.of_late.ensures.none
 
 pub returns-in-3-clause-some : goal.returns-in-3-clause-some
-returns-in-3-clause-some c = subst (λ (t : List Row). IfOk c.of_order-in-3.result (λ hint. IfSome hint (IsHint c.args.plan.now t c.args.breach))) c.as_slice-rows.ensures c.of_order-in-3.ensures.some
+returns-in-3-clause-some c = subst (λ (t : List Row). IfOk c.of_order.result (λ hint. IfSome hint (IsHint c.args.plan.now t c.args.breach))) c.as_slice-rows.ensures c.of_order.ensures.some
 
 pub returns-in-3-clause-none : goal.returns-in-3-clause-none
-returns-in-3-clause-none c = subst (λ (t : List Row). IfOk c.of_order-in-3.result (λ hint. IfNone hint ((other : TheHint) → IsHint c.args.plan.now t c.args.breach other → ⊥))) c.as_slice-rows.ensures c.of_order-in-3.ensures.none
+returns-in-3-clause-none c = subst (λ (t : List Row). IfOk c.of_order.result (λ hint. IfNone hint ((other : TheHint) → IsHint c.args.plan.now t c.args.breach other → ⊥))) c.as_slice-rows.ensures c.of_order.ensures.none
 
 pub returns-in-8-clause-some : goal.returns-in-8-clause-some
 returns-in-8-clause-some c = subst (λ (t : List Row). IfOk c.of_run.result (λ hint. IfSome hint (IsHint c.args.plan.now t c.args.breach))) c.as_slice-rows.ensures c.of_run.ensures.some

@@ -23,16 +23,19 @@ module _ (plan : PlanParts) (t : List Row) (b : Breach) (r : ℕ) (rule : b.rule
   of_run h none (eight, (s, is, holds)) = none (subst (λ n. IsUntriggeredHint plan t b.tag n h) (let same : s ≡ r = cc in same) holds)
 
   no_hint : ((h : TheHint) → IsUntriggeredHint plan t b.tag r h → ⊥) → (h : TheHint) → IsHint plan t b h → ⊥
-  no_hint none hint.Scheduler (inl one, race) = absurd (cc)
+  no_hint none hint.Scheduler (inl late, race) = (let one = late.0 in absurd (cc))
   no_hint none hint.Scheduler (inr three, race) = absurd (cc)
+  no_hint none hint.NextTag is = (let one = is.0 in absurd (cc))
   no_hint none hint.FirstOfWorker is = (let one = is.0 in absurd (cc))
   no_hint none hint.LateRow is = (let one = is.0 in absurd (cc))
   no_hint none hint.FirstRow is = (let three = is.0 in absurd (cc))
+  no_hint none hint.StartedTwice is = (let three = is.0 in absurd (cc))
   no_hint none hint.OneNumber is = (let three = is.0 in absurd (cc))
   no_hint none hint.TraceEnds is = (let seven = is.0 in absurd (cc))
   no_hint none hint.NoReads is = (let ten = is.0 in absurd (cc))
   no_hint none hint.NoRows is = (let seven = is.0 in absurd (cc))
   no_hint none hint.NoEnds is = (let five = is.0 in absurd (cc))
+  no_hint none hint.LateEnd is = (let five = is.0 in absurd (cc))
   no_hint none hint.SmallStop is = (let two = is.0 in absurd (cc))
   no_hint none hint.Thousandfold is = of_run hint.Thousandfold (none hint.Thousandfold) is
   no_hint none (hint.WholeDelay i) is = of_run (hint.WholeDelay i) (none (hint.WholeDelay i)) is
@@ -46,14 +49,17 @@ is_reaction plan t b r (hint.WholeDelay i) is = slice_get_within plan.program.re
 is_reaction plan t b r hint.RunsAtStop is = slice_get_within plan.program.reactions r is.reaction is.is_reaction
 is_reaction plan t b r hint.NoWrites is = slice_get_within plan.program.reactions r is.1.1.reaction is.1.1.is_reaction
 is_reaction plan t b r hint.Scheduler is = absurd is
+is_reaction plan t b r hint.NextTag is = absurd is
 is_reaction plan t b r hint.FirstOfWorker is = absurd is
 is_reaction plan t b r hint.LateRow is = absurd is
 is_reaction plan t b r hint.FirstRow is = absurd is
+is_reaction plan t b r hint.StartedTwice is = absurd is
 is_reaction plan t b r hint.OneNumber is = absurd is
 is_reaction plan t b r hint.TraceEnds is = absurd is
 is_reaction plan t b r hint.NoReads is = absurd is
 is_reaction plan t b r hint.NoRows is = absurd is
 is_reaction plan t b r hint.NoEnds is = absurd is
+is_reaction plan t b r hint.LateEnd is = absurd is
 is_reaction plan t b r hint.SmallStop is = absurd is
 
 pub returns-in-Some-clause-none : goal.returns-in-Some-clause-none

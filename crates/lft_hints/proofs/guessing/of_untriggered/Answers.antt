@@ -20,12 +20,15 @@ returns-clause-none c = none
       | else-none_writes-via-else-none_writes w ↦ (let yes = c.none_writes.ensures.1 is.0 in let no = w.if-none_writes.false in absurd (cc))
     ]
     none hint.Scheduler is = is
+    none hint.NextTag is = is
     none hint.FirstOfWorker is = is
     none hint.LateRow is = is
     none hint.FirstRow is = is
+    none hint.StartedTwice is = is
     none hint.OneNumber is = is
     none hint.TraceEnds is = is
     none hint.NoReads is = is
     none hint.NoRows is = is
     none hint.NoEnds is = is
+    none hint.LateEnd is = is
     none hint.SmallStop is = is
