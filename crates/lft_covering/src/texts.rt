@@ -138,6 +138,7 @@ pub fn cover_answer<W: Write, R: Threads + Sync>(
 ) -> Result<bool, Fault>
     ensures accepted { IfOk result (IsAcceptedCover list program.now externals.now trace.now (W.contents out.old) (W.contents out.new)) }
     ensures refused { IfErr result (CoverRefusal list program.now externals.now trace.now workers (W.contents out.old) (W.contents out.new)) }
+    ensures kept { IfErr result (λ f. f.part ≢ part.Write → Keeps (W.contents out.old) (W.contents out.new)) }
 {
     let verdict = cover_texts(rt, alloc, program, externals, trace, workers, list, out)?;
     Ok(matches!(verdict, Verdict::Accepted { .. }))

@@ -1,6 +1,8 @@
 //! What a command answers: true where it found nothing wrong, and the exit status is 0.
 
-ghost use Rattle.std.specs.Prelude.{◌≡◌, ◌↔◌, true, IsTrue, IfOk, IfErr};
+ghost use Rattle.std.specs.Prelude.{◌≡◌, ◌≢◌, ◌↔◌, true, IsTrue, IfOk, IfErr};
+ghost use Rattle.std.specs.Io.KnownBytes.{Keeps};
+ghost use Rattle.lft_load.specs.declared.fault.Part.TheVariants as part;
 ghost use Rattle.lft_front.specs.Explained.{ExplainBundleRefusal, ExplainRefusal, IsExplainedAnswer, IsExplainedBundle};
 ghost use Rattle.lft_front.specs.Judged.{IsAccepted, IsBundleAccepted};
 ghost use Rattle.lft_front.specs.PairExplained.{IsPairExplainedAnswer, PairExplainRefusal};
@@ -43,6 +45,7 @@ pub fn judge_answer<W: Write, R: Threads + Sync>(
 ) -> Result<bool, Fault>
     ensures accepted { IfOk result (IsAccepted program.now externals.now trace.now (W.contents out.old) (W.contents out.new)) }
     ensures refused { IfErr result (JudgeRefusal program.now externals.now trace.now workers (W.contents out.old) (W.contents out.new)) }
+    ensures kept { IfErr result (λ f. f.part ≢ part.Write → Keeps (W.contents out.old) (W.contents out.new)) }
 {
     let verdict = judge_texts(rt, alloc, program, externals, trace, workers, out)?;
     Ok(is_accepted(verdict))
@@ -69,6 +72,7 @@ pub fn pair_answer<W: Write, R: Threads + Sync>(
 ) -> Result<bool, Fault>
     ensures same { IfOk result (IsSameAnswer program.now externals.now first.now second.now (W.contents out.old) (W.contents out.new)) }
     ensures refused { IfErr result (PairRefusal program.now externals.now first.now second.now workers (W.contents out.old) (W.contents out.new)) }
+    ensures kept { IfErr result (λ f. f.part ≢ part.Write → Keeps (W.contents out.old) (W.contents out.new)) }
 {
     let paired = pair_texts(rt, alloc, program, externals, first, second, workers, out)?;
     Ok(is_same(paired))
@@ -79,6 +83,7 @@ pub fn pair_answer<W: Write, R: Threads + Sync>(
 pub fn bundle_answer<W: Write>(alloc: Global, text: &[u8], out: &mut W) -> Result<bool, Fault>
     ensures accepted { IfOk result (IsBundleAccepted text.now (W.contents out.old) (W.contents out.new)) }
     ensures refused { IfErr result (BundleRefusal text.now (W.contents out.old) (W.contents out.new)) }
+    ensures kept { IfErr result (λ f. f.part ≢ part.Write → Keeps (W.contents out.old) (W.contents out.new)) }
 {
     let Some(bundle) = split_bundle(text) else {
         return Err(Fault::plain(Part::Bundle, 1, "BadBundle"));
@@ -103,6 +108,7 @@ pub fn explain_answer<W: Write, R: Threads + Sync>(
 ) -> Result<bool, Fault>
     ensures accepted { IfOk result (IsExplainedAnswer all program.now externals.now trace.now (W.contents out.old) (W.contents out.new)) }
     ensures refused { IfErr result (ExplainRefusal all program.now externals.now trace.now workers (W.contents out.old) (W.contents out.new)) }
+    ensures kept { IfErr result (λ f. f.part ≢ part.Write → f.part ≢ part.Memory → Keeps (W.contents out.old) (W.contents out.new)) }
 {
     let verdict = explain_texts(rt, alloc, program, externals, trace, workers, all, out)?;
     Ok(is_accepted(verdict))
@@ -123,6 +129,7 @@ pub fn explain_pair_answer<W: Write, R: Threads + Sync>(
 ) -> Result<bool, Fault>
     ensures same { IfOk result (IsPairExplainedAnswer all program.now externals.now first.now second.now (W.contents out.old) (W.contents out.new)) }
     ensures refused { IfErr result (PairExplainRefusal all program.now externals.now first.now second.now workers (W.contents out.old) (W.contents out.new)) }
+    ensures kept { IfErr result (λ f. f.part ≢ part.Write → f.part ≢ part.Memory → Keeps (W.contents out.old) (W.contents out.new)) }
 {
     let paired = explain_pair_texts(
         rt, alloc, program, externals, first, second, workers, all, out,
@@ -141,6 +148,7 @@ pub fn explain_bundle_answer<W: Write, R: Threads + Sync>(
 ) -> Result<bool, Fault>
     ensures accepted { IfOk result (IsExplainedBundle all text.now (W.contents out.old) (W.contents out.new)) }
     ensures refused { IfErr result (ExplainBundleRefusal all text.now (W.contents out.old) (W.contents out.new)) }
+    ensures kept { IfErr result (λ f. f.part ≢ part.Write → f.part ≢ part.Memory → Keeps (W.contents out.old) (W.contents out.new)) }
 {
     let Some(bundle) = split_bundle(text) else {
         return Err(Fault::plain(Part::Bundle, 1, "BadBundle"));
@@ -165,6 +173,7 @@ pub fn show_answer<W: Write>(alloc: Global, program: &[u8], out: &mut W) -> Resu
     ensures yes { IfOk result (λ shown. shown ≡ true) }
     ensures shown { IfOk result (λ shown. IsShown program.now (W.contents out.old) (W.contents out.new)) }
     ensures refused { IfErr result (ShowRefusal program.now (W.contents out.old) (W.contents out.new)) }
+    ensures kept { IfErr result (λ f. f.part ≢ part.Write → Keeps (W.contents out.old) (W.contents out.new)) }
 {
     show_text(alloc, program, out)?;
     Ok(true)
