@@ -1,6 +1,6 @@
 -- The names of a program's things, and what a text names.
 use Rattle.std.specs.Prelude.{◌≡◌, ℕ, ◌==◌, ◌||◌, true, List, Some, slice_get, All}
-use Rattle.lft_lists.specs.Bytes.{is_word}
+use Rattle.lft_lists.specs.Bytes.{is_part}
 use Rattle.lft_flat.specs.declared.found.Found.{Found}
 use Rattle.lft_flat.specs.declared.found.Found.TheVariants as found
 
@@ -28,9 +28,9 @@ HasNoTwice texts = (i j : ℕ) (text : List ℕ) → slice_get texts i ≡ Some 
 abbrev pub AreDistinct : ThingNames → Type 0
 AreDistinct names = (f g : Found) (text : List ℕ) → IsNamed names f text → IsNamed names g text → f ≡ g
 
--- a letter, a digit, `_`, a dot (byte 46) or `#` (byte 35)
+-- a letter, a digit, `_`, a bracket, a dot (byte 46) or `#` (byte 35)
 abbrev pub IsNameByte : ℕ → Type 0
-IsNameByte b = (is_word b || (b == 46) || (b == 35)) ≡ true
+IsNameByte b = (is_part b || (b == 46) || (b == 35)) ≡ true
 
 -- each byte of each name is one of these
 abbrev pub AreWords : ThingNames → Type 0

@@ -9,7 +9,7 @@ use Rattle.std.proofs.lemmas.Option.{slice_get_within, get_or_from_slice_get}
 use Rattle.lft_lists.proofs.Mapped.{mapped_from}
 use Rattle.lft_flat.specs.Names.{HasNoTwice}
 use Rattle.lft_program.specs.Extended.{Ending, dotted, hashed, endings, extended, AreAfter}
-use Rattle.lft_tree.specs.Identifiers.{IsIdentifier}
+use Rattle.lft_tree.specs.Identifiers.{IsName}
 use Rattle.lft_program.specs.FullNames.{members, AreOfProgram, AreFew}
 use Rattle.lft_program.specs.declared.naming.OwnName.{OwnName}
 use Rattle.lft_program.specs.declared.naming.Placed.{Placed}
@@ -17,7 +17,7 @@ use Rattle.lft_program.proofs.Distinct.{main, ArePaths, HasNoTwice-extended}
 use Rattle.lft_scope.proofs.Twice.{slice_get-front}
 use Rattle.lft_program.proofs.Extending.{extended-append, length-extended, extended-keeps}
 use Rattle.lft_flat.proofs.Ranges.{slice_get-drop}
-use Rattle.lft_program.proofs.Separators.{IsEnding, HasNoSeparator-identifier, HasNoSeparator-decimal}
+use Rattle.lft_program.proofs.Separators.{IsEnding, HasNoSeparator-name, HasNoSeparator-decimal}
 
 module _ {X : Type 0} where
   -- an element of two lists in a row
@@ -131,7 +131,7 @@ module _ (instances ports actions timers : List OwnName) (reactions : List Place
     rest = d.name.now;
     whole = refl;
     separates = inl refl;
-    last = HasNoSeparator-identifier d.name.now (all_at (λ x. IsIdentifier x.name.now) (members instances ports actions timers) things.identifiers k d at);
+    last = HasNoSeparator-name d.name.now (all_at (λ x. IsName x.name.now) (members instances ports actions timers) things.identifiers k d at);
   }
 
   hashed_ends : (k : ℕ) (r : Placed) → slice_get reactions k ≡ Some r → IsEnding (hashed r).1

@@ -1,7 +1,7 @@
 -- The names that a reactor declares, kind by kind.
 use Rattle.std.proofs.Common.{◌≡◌, ℕ, ◌+◌, List, ◌++◌, map, length, slice_get, Some, All, inr, inl, ◌∙◌, arith}
 use Rattle.std.proofs.lemmas.Option.{slice_get_within}
-use Rattle.lft_tree.specs.Identifiers.{IsIdentifier, HasIdentifiers, declared_names}
+use Rattle.lft_tree.specs.Identifiers.{IsName, HasIdentifiers, declared_names}
 use Rattle.lft_tree.specs.Tree.{FileTree, ReactorTree, reactors_of, ports_of, timers_of, actions_of, instances_of}
 use Rattle.lft_scope.specs.Causes.{IsTwice, DeclaresTwice, DuplicateName}
 use Rattle.lft_scope.specs.Kinds.{names_in}
@@ -114,17 +114,17 @@ never_twice tree law n r at two = law.first.1.1.0 (inr (Any-at DeclaresTwice (re
 -- ---- identifiers
 
 module _ (tree : FileTree) (identifiers : HasIdentifiers tree) (n : ℕ) (r : ReactorTree) (at : slice_get (reactors_of tree) n ≡ Some r) where
-  all_named : (k : ℕ) (x : List ℕ) → slice_get (declared_names r) k ≡ Some x → IsIdentifier x
-  all_named = all_at IsIdentifier (declared_names r) (all_at (λ x. All IsIdentifier (declared_names x)) (reactors_of tree) identifiers n r at)
+  all_named : (k : ℕ) (x : List ℕ) → slice_get (declared_names r) k ≡ Some x → IsName x
+  all_named = all_at IsName (declared_names r) (all_at (λ x. All IsName (declared_names x)) (reactors_of tree) identifiers n r at)
 
-  pub instances_named : (k : ℕ) (x : List ℕ) → slice_get (instance_names r) k ≡ Some x → IsIdentifier x
+  pub instances_named : (k : ℕ) (x : List ℕ) → slice_get (instance_names r) k ≡ Some x → IsName x
   instances_named k x here = all_named _ x (right_at (port_names r ++ timer_names r ++ action_names r) (instance_names r) k x here)
 
-  pub actions_named : (k : ℕ) (x : List ℕ) → slice_get (action_names r) k ≡ Some x → IsIdentifier x
+  pub actions_named : (k : ℕ) (x : List ℕ) → slice_get (action_names r) k ≡ Some x → IsName x
   actions_named k x here = all_named _ x (slice_get-front (port_names r ++ timer_names r ++ action_names r) (instance_names r) _ x (right_at (port_names r ++ timer_names r) (action_names r) k x here))
 
-  pub timers_named : (k : ℕ) (x : List ℕ) → slice_get (timer_names r) k ≡ Some x → IsIdentifier x
+  pub timers_named : (k : ℕ) (x : List ℕ) → slice_get (timer_names r) k ≡ Some x → IsName x
   timers_named k x here = all_named _ x (slice_get-front (port_names r ++ timer_names r ++ action_names r) (instance_names r) _ x (slice_get-front (port_names r ++ timer_names r) (action_names r) _ x (right_at (port_names r) (timer_names r) k x here)))
 
-  pub ports_named : (k : ℕ) (x : List ℕ) → slice_get (port_names r) k ≡ Some x → IsIdentifier x
+  pub ports_named : (k : ℕ) (x : List ℕ) → slice_get (port_names r) k ≡ Some x → IsName x
   ports_named k x here = all_named _ x (slice_get-front (port_names r ++ timer_names r ++ action_names r) (instance_names r) _ x (slice_get-front (port_names r ++ timer_names r) (action_names r) _ x (slice_get-front (port_names r) (timer_names r) k x here)))

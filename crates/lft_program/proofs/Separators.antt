@@ -2,8 +2,8 @@
 use Rattle.std.proofs.Common.{◌≡◌, ℕ, ◌+◌, ◌%◌, ◌<◌, ◌^◌, suc, true, List, [], ◌∷◌, ◌++◌, All, codes, refl, sym, ap, subst, ◌∙◌, true≢false, arith, ◌⊎◌, inl, inr}
 use Rattle.std.specs.Fmt.{decimal}
 use Rattle.std.proofs.lemmas.Fmt.{decimal_by_steps}
-use Rattle.lft_lists.specs.Bytes.{is_letter, is_word}
-use Rattle.lft_tree.specs.Identifiers.{IsIdentifier}
+use Rattle.lft_lists.specs.Bytes.{is_letter, is_part}
+use Rattle.lft_tree.specs.Identifiers.{IsName}
 
 -- a dot or `#`
 abbrev pub IsSeparator : ℕ → Type 0
@@ -47,21 +47,21 @@ same_ending c d s t x y same =
     let parts = last_separator c d x.rest y.rest x.separator y.separator x.separates y.separates x.last y.last both in
     (parts.0, x.whole ∙ parts.1 ∙ sym y.whole)
 
-word_separates : (b : ℕ) → is_word b ≡ true → IsSeparator b → ⊥
-word_separates b word (inl dot) = let no : is_word 46 ≡ true = subst (λ x. is_word x ≡ true) dot word in true≢false (sym no)
-word_separates b word (inr hash) = let no : is_word 35 ≡ true = subst (λ x. is_word x ≡ true) hash word in true≢false (sym no)
+part_separates : (b : ℕ) → is_part b ≡ true → IsSeparator b → ⊥
+part_separates b word (inl dot) = let no : is_part 46 ≡ true = subst (λ x. is_part x ≡ true) dot word in true≢false (sym no)
+part_separates b word (inr hash) = let no : is_part 35 ≡ true = subst (λ x. is_part x ≡ true) hash word in true≢false (sym no)
 
 letter_separates : (b : ℕ) → is_letter b ≡ true → IsSeparator b → ⊥
 letter_separates b letter (inl dot) = let no : is_letter 46 ≡ true = subst (λ x. is_letter x ≡ true) dot letter in true≢false (sym no)
 letter_separates b letter (inr hash) = let no : is_letter 35 ≡ true = subst (λ x. is_letter x ≡ true) hash letter in true≢false (sym no)
 
-words_separate : (bs : List ℕ) → All (λ d. is_word d ≡ true) bs → HasNoSeparator bs
-words_separate [] all = tt
-words_separate (b ∷ bs) all = (word_separates b (all 0 b (omega arith)), words_separate bs (λ k d low. all (suc k) d (omega arith)))
+parts_separate : (bs : List ℕ) → All (λ d. is_part d ≡ true) bs → HasNoSeparator bs
+parts_separate [] all = tt
+parts_separate (b ∷ bs) all = (part_separates b (all 0 b (omega arith)), parts_separate bs (λ k d low. all (suc k) d (omega arith)))
 
-pub HasNoSeparator-identifier : (name : List ℕ) → IsIdentifier name → HasNoSeparator name
-HasNoSeparator-identifier [] is = absurd is
-HasNoSeparator-identifier (c ∷ cs) is = (letter_separates c is.0, words_separate cs is.1)
+pub HasNoSeparator-name : (name : List ℕ) → IsName name → HasNoSeparator name
+HasNoSeparator-name [] is = absurd is
+HasNoSeparator-name (c ∷ cs) is = (letter_separates c is.0, parts_separate cs is.1)
 
 HasNoSeparator-push : (bs : List ℕ) (b : ℕ) → HasNoSeparator bs → (IsSeparator b → ⊥) → HasNoSeparator (bs ++ b ∷ [])
 HasNoSeparator-push [] b none is = (is, tt)
@@ -78,4 +78,4 @@ HasNoSeparator-decimal =
     (λ n ds big none. HasNoSeparator-push ds (48 + n % 10) none (digit_separates (n % 10) (omega arith)))
 
 pub HasNoSeparator-main : HasNoSeparator (codes "main")
-HasNoSeparator-main = (word_separates 109 refl, (word_separates 97 refl, (word_separates 105 refl, (word_separates 110 refl, tt))))
+HasNoSeparator-main = (part_separates 109 refl, (part_separates 97 refl, (part_separates 105 refl, (part_separates 110 refl, tt))))

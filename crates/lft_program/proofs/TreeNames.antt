@@ -6,7 +6,7 @@ use Rattle.std.proofs.lemmas.List.{length-map}
 use Rattle.std.proofs.lemmas.Option.{slice_get_within}
 use Rattle.lft_lists.proofs.Places.{Some_same}
 use Rattle.lft_lists.proofs.Mapped.{mapped, mapped_from}
-use Rattle.lft_tree.specs.Identifiers.{IsIdentifier, HasIdentifiers}
+use Rattle.lft_tree.specs.Identifiers.{IsName, HasIdentifiers}
 use Rattle.lft_tree.specs.Tree.{FileTree, ReactorTree, reactors_of, ports_of, actions_of, timers_of, reactions_of}
 use Rattle.lft_scope.specs.Kinds.{names_in}
 use Rattle.lft_scope.specs.Causes.{IsTwice}
@@ -95,17 +95,17 @@ module _ (tree : FileTree) (tables : Tables) (nest : Nest) (is : IsNest tree tab
         turned : (us vs : List (List ℕ)) → AreApart us vs → AreApart vs us
         turned us vs apart i j name first second = apart j i name second first
 
-    each_identifier : (k : ℕ) (d : OwnName) → slice_get (members inner ports actions timers) k ≡ Some d → IsIdentifier d.name.now
+    each_identifier : (k : ℕ) (d : OwnName) → slice_get (members inner ports actions timers) k ≡ Some d → IsName d.name.now
     each_identifier =
-        let P : OwnName → Type 0 = λ d. IsIdentifier d.name.now in
+        let P : OwnName → Type 0 = λ d. IsName d.name.now in
         let r = λ (n : ℕ) (l : Located) (at : slice_get is.located n ≡ Some l). reactor_at (reactors_of tree) is.located nest.instances.items is.instances n l at in
         each_append P (drop 1 inner) (ports ++ actions ++ timers)
-        (names_of_sites is.located IsIdentifier instance_names (drop 1 inner) of_inner (λ n l at. instances_named tree identifiers (r n l at).0.reactor l.inside.reactor (r n l at).2))
+        (names_of_sites is.located IsName instance_names (drop 1 inner) of_inner (λ n l at. instances_named tree identifiers (r n l at).0.reactor l.inside.reactor (r n l at).2))
         (each_append P (ports ++ actions) timers
         (each_append P ports actions
-        (names_of_sites is.located IsIdentifier port_names ports of_ports (λ n l at. ports_named tree identifiers (r n l at).0.reactor l.inside.reactor (r n l at).2))
-        (names_of_sites is.located IsIdentifier action_names actions of_actions (λ n l at. actions_named tree identifiers (r n l at).0.reactor l.inside.reactor (r n l at).2)))
-        (names_of_sites is.located IsIdentifier timer_names timers of_timers (λ n l at. timers_named tree identifiers (r n l at).0.reactor l.inside.reactor (r n l at).2)))
+        (names_of_sites is.located IsName port_names ports of_ports (λ n l at. ports_named tree identifiers (r n l at).0.reactor l.inside.reactor (r n l at).2))
+        (names_of_sites is.located IsName action_names actions of_actions (λ n l at. actions_named tree identifiers (r n l at).0.reactor l.inside.reactor (r n l at).2)))
+        (names_of_sites is.located IsName timer_names timers of_timers (λ n l at. timers_named tree identifiers (r n l at).0.reactor l.inside.reactor (r n l at).2)))
 
     pub of_program : AreOfProgram inner ports actions timers reactions
     of_program =
@@ -115,7 +115,7 @@ module _ (tree : FileTree) (tables : Tables) (nest : Nest) (is : IsNest tree tab
           nested = nested;
           declared = all_of P (ports ++ actions ++ timers) (each_append P (ports ++ actions) timers (each_append P ports actions (within port_names ports of_ports) (within action_names actions of_actions)) (within timer_names timers of_timers));
           placed = all_of (λ r. (r.instance < length inner) × (r.place < length reactions)) reactions (λ k x at. let w = placed_within (reactors_of tree) is.located nest.instances.items is.instances reactions_of reactions are.reactions k x at in (small x.instance w.0 same_long, w.1));
-          identifiers = all_of (λ d. IsIdentifier d.name.now) (members inner ports actions timers) each_identifier;
+          identifiers = all_of (λ d. IsName d.name.now) (members inner ports actions timers) each_identifier;
           names_once = pairs_of (λ a b. a.instance ≡ b.instance → a.name.now ≢ b.name.now) (members inner ports actions timers) once_members;
           places_once = pairs_of (λ a b. a.instance ≡ b.instance → a.place ≢ b.place) reactions (placed_once (reactors_of tree) is.located nest.instances.items is.instances reactions_of reactions are.reactions);
         }

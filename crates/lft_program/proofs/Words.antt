@@ -1,9 +1,9 @@
--- The names of a program's things are of letters, digits, `_`, dots and `#` alone.
+-- The names of a program's things are of letters, digits, `_`, brackets, dots and `#` alone.
 use Rattle.std.proofs.Common.{◌≡◌, ℕ, ◌+◌, ◌<◌, zero, suc, true, List, [], ◌∷◌, ◌++◌, map, length, slice_index_or, All, codes, refl, sym, subst, arith}
 use Rattle.std.specs.Fmt.{decimal}
 use Rattle.std.proofs.lemmas.List.Elements.{All-nil, All-cons, All-head, All-tail, All-append, All-push, All-map, All-weaker, All-from_recursion}
-use Rattle.lft_lists.specs.Bytes.{is_word}
-use Rattle.lft_tree.specs.Identifiers.{IsIdentifier}
+use Rattle.lft_lists.specs.Bytes.{is_part}
+use Rattle.lft_tree.specs.Identifiers.{IsName}
 use Rattle.lft_program.specs.Extended.{Ending, dotted, hashed, endings, name_after, extended}
 use Rattle.lft_program.specs.FullNames.{members, AreOfProgram, AreFew}
 use Rattle.lft_flat.specs.Names.{IsNameByte, AreWords}
@@ -16,14 +16,14 @@ use Rattle.lft_program.proofs.FullNames.{all_at}
 use Rattle.lft_flat.proofs.Ranges.{each_named}
 use Rattle.lft_flat.proofs.Decimals.{All-decimal}
 
--- a letter, a digit and `_` may stand in a name
-word_fits : (b : ℕ) → is_word b ≡ true → IsNameByte b
-word_fits b e = rw e refl
+-- what names are of may stand in a full name
+part_fits : (b : ℕ) → is_part b ≡ true → IsNameByte b
+part_fits b e = rw e refl
 
--- an identifier is of such bytes
-All-identifier : (name : List ℕ) → IsIdentifier name → All IsNameByte name
-All-identifier [] is = absurd is
-All-identifier (c ∷ cs) is = All-cons IsNameByte c cs (rw is.0 refl) (All-weaker (λ b. is_word b ≡ true) IsNameByte word_fits cs is.1)
+-- a name is of such bytes
+All-name : (name : List ℕ) → IsName name → All IsNameByte name
+All-name [] is = absurd is
+All-name (c ∷ cs) is = All-cons IsNameByte c cs (rw is.0 refl) (All-weaker (λ b. is_part b ≡ true) IsNameByte part_fits cs is.1)
 
 -- the text of the list at a place, or an empty one
 fits_or_empty : (texts : List (List ℕ)) (i : ℕ) → All (All IsNameByte) texts → All IsNameByte (slice_index_or texts i [])
@@ -43,11 +43,11 @@ main_fits : All (All IsNameByte) main
 main_fits = All-cons (All IsNameByte) (codes "main") [] (All-from_recursion IsNameByte (codes "main") (refl, (refl, (refl, (refl, tt))))) (All-nil (All IsNameByte))
 
 module _ (instances ports actions timers : List OwnName) (reactions : List Placed) (things : AreOfProgram instances ports actions timers reactions) (few : AreFew instances ports actions timers reactions) where
-  -- a dot and an identifier
+  -- a dot and a name
   dotted_fits : All (λ d. All IsNameByte (dotted d).1) (members instances ports actions timers)
   dotted_fits =
-      All-weaker (λ d. IsIdentifier d.name.now) (λ d. All IsNameByte (dotted d).1)
-      (λ d is. All-cons IsNameByte 46 d.name.now refl (All-identifier d.name.now is))
+      All-weaker (λ d. IsName d.name.now) (λ d. All IsNameByte (dotted d).1)
+      (λ d is. All-cons IsNameByte 46 d.name.now refl (All-name d.name.now is))
       (members instances ports actions timers) things.identifiers
 
   -- `#` and a number

@@ -2,7 +2,7 @@
 use Rattle.std.specs.Prelude.{◌≡◌, ◌≢◌, ℕ, ◌+◌, ◌<◌, ◌≤◌, List, ◌++◌, drop, length, slice_get, Some, codes, All, AllPairs}
 use Rattle.std.specs.Fmt.{decimal}
 use Rattle.std.specs.List.{AllZip}
-use Rattle.lft_tree.specs.Identifiers.{IsIdentifier}
+use Rattle.lft_tree.specs.Identifiers.{IsName}
 use Rattle.lft_flat.specs.Names.{ThingNames}
 use Rattle.lft_program.specs.declared.naming.OwnName.{OwnName}
 use Rattle.lft_program.specs.declared.naming.Placed.{Placed}
@@ -38,7 +38,7 @@ pub record AreOfProgram (instances ports actions timers : List OwnName) (reactio
   pub nested : AreNested instances
   pub declared : All (λ d. d.instance < length instances) (ports ++ actions ++ timers)
   pub placed : All (λ r. (r.instance < length instances) × (r.place < length reactions)) reactions
-  pub identifiers : All (λ d. IsIdentifier d.name.now) (members instances ports actions timers)
+  pub identifiers : All (λ d. IsName d.name.now) (members instances ports actions timers)
   pub names_once : AllPairs (λ a b. a.instance ≡ b.instance → a.name.now ≢ b.name.now) (members instances ports actions timers)
   pub places_once : AllPairs (λ a b. a.instance ≡ b.instance → a.place ≢ b.place) reactions
 

@@ -1,11 +1,12 @@
--- What tokens spell has its names from them: where these are identifiers, so are the declared names.
+-- What tokens spell has its names from them, and these are identifiers.
 use Rattle.std.proofs.Common.{◌≡◌, ℕ, Bool, true, false, List, [], ◌∷◌, length, Option, Some, None, refl, subst, inl, inr, cond}
 use Rattle.std.specs.Prelude.{slice_get, map, codes, IfSome}
 use Rattle.std.specs.List.{All, cons_option, filter_map}
 use Rattle.std.proofs.lemmas.List.Elements.{All-nil, All-cons, All-head, All-tail, All-append, All-map, All-get_or}
 use Rattle.std.proofs.lemmas.Option.{slice_get_within, get_or_from_slice_get}
 use Rattle.lft_syntax.specs.declared.token.Token.{Token}
-use Rattle.lft_tree.specs.Identifiers.{IsIdentifier, declared_names, HasIdentifiers}
+use Rattle.lft_tree.specs.Identifiers.{IsName, declared_names, HasIdentifiers}
+use Rattle.lft_tree.proofs.Names.{IsName-identifier}
 use Rattle.lft_syntax.specs.Language.{Spelling, look, ◌&◌, ◌>>◌, ◌<<◌, ◌or◌, optional, many, made, ignored}
 use Rattle.lft_syntax.specs.Lexeme.{Lexeme, Code, Text, Letters, Number, Arrow, Symbol, is_reserved, name_in}
 use Rattle.lft_syntax.specs.Lexes.{Lexes}
@@ -52,19 +53,19 @@ any S = record { at = λ i j x h. tt }
 
 -- ---- names
 
-name_is : (x y : List ℕ) (b : Bool) → cond b None (Some x) ≡ Some y → IsIdentifier x → IsIdentifier y
+name_is : (x y : List ℕ) (b : Bool) → cond b None (Some x) ≡ Some y → IsName x → IsName y
 name_is x y true e h = absurd cc
-name_is x y false e h = let same : x ≡ y = cc in subst IsIdentifier same h
+name_is x y false e h = let same : x ≡ y = cc in subst IsName same h
 
-name_seen : (w : Lexeme) (x : List ℕ) → name_in w ≡ Some x → IsWord w → IsIdentifier x
+name_seen : (w : Lexeme) (x : List ℕ) → name_in w ≡ Some x → IsWord w → IsName x
 name_seen Code x e h = absurd cc
 name_seen Text x e h = absurd cc
-name_seen (Letters y) x e h = name_is y x (is_reserved y) e h
+name_seen (Letters y) x e h = name_is y x (is_reserved y) e (IsName-identifier y h)
 name_seen (Number n) x e h = absurd cc
 name_seen Arrow x e h = absurd cc
 name_seen (Symbol b) x e h = absurd cc
 
-name_looked : (o : Option Lexeme) (x : List ℕ) → look name_in o ≡ Some x → ((w : Lexeme) → o ≡ Some w → IsWord w) → IsIdentifier x
+name_looked : (o : Option Lexeme) (x : List ℕ) → look name_in o ≡ Some x → ((w : Lexeme) → o ≡ Some w → IsWord w) → IsName x
 name_looked None x e words = absurd cc
 name_looked (Some w) x e words = name_seen w x e (words w refl)
 
@@ -73,40 +74,40 @@ word_at ws words i w there = subst IsWord (get_or_from_slice_get ws i w w there)
 
 -- ---- the productions that declare names
 
--- the name that a member declares is an identifier
+-- the name that a member declares is a name
 abbrev Named : MemberTree → Type 0
-Named (PortMember x) = IsIdentifier x.name
-Named (TimerMember x) = IsIdentifier x.name
-Named (ActionMember x) = IsIdentifier x.name
-Named (InstanceMember x) = IsIdentifier x.name
+Named (PortMember x) = IsName x.name
+Named (TimerMember x) = IsName x.name
+Named (ActionMember x) = IsName x.name
+Named (InstanceMember x) = IsName x.name
 Named _ = Unit {0}
 
--- the names that an item's members declare are identifiers
+-- the names that an item's members declare are names
 abbrev AllNamed : ItemTree → Type 0
 AllNamed (PreambleItem x) = Unit {0}
 AllNamed (ReactorItem x) = All Named x.members
 
-timer_named : (x : List ℕ × Option (Option (TimeTree × Option TimeTree))) → IsIdentifier x.0 → IsIdentifier (timer_of x).name
+timer_named : (x : List ℕ × Option (Option (TimeTree × Option TimeTree))) → IsName x.0 → IsName (timer_of x).name
 timer_named (n, None) h = h
 timer_named (n, Some None) h = h
 timer_named (n, Some (Some (o, p))) h = h
 
 module _ (ws : List Lexeme) (words : All IsWord ws) where
-  keeps_name : Keeps ws name IsIdentifier
+  keeps_name : Keeps ws name IsName
   keeps_name = record { at = λ i j x h. name_looked (slice_get ws i) x h.0 (word_at ws words i) }
 
-  keeps_port : Keeps ws port (λ x. IsIdentifier x.name)
+  keeps_port : Keeps ws port (λ x. IsName x.name)
   keeps_port =
       either (making input_of (λ x h. h) (before typed (after (ignored (optional (key (codes "mutable"))) >> key (codes "input")) keeps_name)))
       (making output_of (λ x h. h) (before typed (after (key (codes "output")) keeps_name)))
 
-  keeps_timer : Keeps ws timer (λ x. IsIdentifier x.name)
+  keeps_timer : Keeps ws timer (λ x. IsName x.name)
   keeps_timer = making timer_of timer_named (in_first _ (after (key (codes "timer")) keeps_name))
 
-  keeps_action : Keeps ws action (λ x. IsIdentifier x.name)
+  keeps_action : Keeps ws action (λ x. IsName x.name)
   keeps_action = making action_of (λ x h. h) (before typed (in_first _ (in_second _ keeps_name)))
 
-  keeps_instance : Keeps ws instance (λ x. IsIdentifier x.name)
+  keeps_instance : Keeps ws instance (λ x. IsName x.name)
   keeps_instance = making instance_of (λ x h. h) (in_first _ (in_first _ (before (key (codes "new")) (before (symbol 61) keeps_name))))
 
   keeps_member : Keeps ws member Named
@@ -137,40 +138,40 @@ all_seen : {A B : Type 0} (see : A → Option B) (P : A → Type 0) (Q : B → T
 all_seen see P Q so [] h = All-nil Q
 all_seen see P Q so (x ∷ xs) h = seen_in_front Q (see x) (filter_map see xs) (so x (All-head P x xs h)) (all_seen see P Q so xs (All-tail P x xs h))
 
-port_named : (m : MemberTree) → Named m → IfSome (port_in m) (λ x. IsIdentifier x.name)
+port_named : (m : MemberTree) → Named m → IfSome (port_in m) (λ x. IsName x.name)
 port_named (PortMember x) h = h
 port_named _ h = tt
 
-timer_in_named : (m : MemberTree) → Named m → IfSome (timer_in m) (λ x. IsIdentifier x.name)
+timer_in_named : (m : MemberTree) → Named m → IfSome (timer_in m) (λ x. IsName x.name)
 timer_in_named (TimerMember x) h = h
 timer_in_named _ h = tt
 
-action_named : (m : MemberTree) → Named m → IfSome (action_in m) (λ x. IsIdentifier x.name)
+action_named : (m : MemberTree) → Named m → IfSome (action_in m) (λ x. IsName x.name)
 action_named (ActionMember x) h = h
 action_named _ h = tt
 
-instance_named : (m : MemberTree) → Named m → IfSome (instance_in m) (λ x. IsIdentifier x.name)
+instance_named : (m : MemberTree) → Named m → IfSome (instance_in m) (λ x. IsName x.name)
 instance_named (InstanceMember x) h = h
 instance_named _ h = tt
 
 -- one kind of member, and the names of those
-names_of : {B : Type 0} (see : MemberTree → Option B) (name_of : B → List ℕ) → ((m : MemberTree) → Named m → IfSome (see m) (λ x. IsIdentifier (name_of x))) → (members : List MemberTree) → All Named members → All IsIdentifier (map name_of (filter_map see members))
-names_of see name_of so members h = All-map IsIdentifier name_of (filter_map see members) (all_seen see Named (λ x. IsIdentifier (name_of x)) so members h)
+names_of : {B : Type 0} (see : MemberTree → Option B) (name_of : B → List ℕ) → ((m : MemberTree) → Named m → IfSome (see m) (λ x. IsName (name_of x))) → (members : List MemberTree) → All Named members → All IsName (map name_of (filter_map see members))
+names_of see name_of so members h = All-map IsName name_of (filter_map see members) (all_seen see Named (λ x. IsName (name_of x)) so members h)
 
-reactor_named : (r : ReactorTree) → All Named r.members → All IsIdentifier (declared_names r)
+reactor_named : (r : ReactorTree) → All Named r.members → All IsName (declared_names r)
 reactor_named r h =
-    All-append IsIdentifier _ _ (All-append IsIdentifier _ _ (All-append IsIdentifier _ _
+    All-append IsName _ _ (All-append IsName _ _ (All-append IsName _ _
     (names_of port_in (λ x. x.name) port_named r.members h)
     (names_of timer_in (λ x. x.name) timer_in_named r.members h))
     (names_of action_in (λ x. x.name) action_named r.members h))
     (names_of instance_in (λ x. x.name) instance_named r.members h)
 
-item_named : (item : ItemTree) → AllNamed item → IfSome (reactor_in item) (λ r. All IsIdentifier (declared_names r))
+item_named : (item : ItemTree) → AllNamed item → IfSome (reactor_in item) (λ r. All IsName (declared_names r))
 item_named (PreambleItem x) h = tt
 item_named (ReactorItem r) h = reactor_named r h
 
--- the names that a tree declares are identifiers, if a text's tokens spell it
+-- the names that a tree declares are such, if a text's tokens spell it
 pub has_identifiers : (text : List ℕ) (tokens : List Token) (tree : FileTree) → Lexes text tokens → Spells tree (lexemes text tokens) → HasIdentifiers tree
 has_identifiers text tokens tree whole spelled =
-    all_seen reactor_in AllNamed (λ r. All IsIdentifier (declared_names r)) item_named tree.items
+    all_seen reactor_in AllNamed (λ r. All IsName (declared_names r)) item_named tree.items
     ((keeps_file (lexemes text tokens) (words_of_text text tokens whole)).at 0 (length (lexemes text tokens)) tree spelled)
