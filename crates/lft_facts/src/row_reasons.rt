@@ -270,8 +270,6 @@ pub(crate) fn add_row_reasons(
         RowFact::NotEffect { row } => add_of_effects(plan, rows, row, facts),
         RowFact::Unended { row } => add_of_end(rows, row, facts),
         RowFact::Late { row, .. } => add(facts, across(rows, row)),
-        RowFact::StartsAgain { .. }
-        | RowFact::Busy { .. }
-        | RowFact::ReadAgain { .. } => Ok(()),
+        RowFact::StartsAgain { .. } | RowFact::Busy { .. } | RowFact::ReadAgain { .. } => Ok(()),
     }
 }
