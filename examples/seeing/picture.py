@@ -1,9 +1,10 @@
 #!/usr/bin/env python3
-"""picture.py TRACE SHOWN LINE: draws the rows of a trace around the run that LINE names, as SVG.
+"""picture.py TRACE SHOWN SAID: draws the rows of a trace around the run that SAID names, as SVG.
 
-SHOWN is the output of `lftrace show`, and LINE is what lftrace said of the trace. For a right trace,
-`time=T microstep=M reaction=X` names a run. Workers are lanes, runs are boxes, a colour is a tag, and
-a column is a row of the table. An arrow leads to the run from a run that precedes it at its tag.
+SHOWN is the output of `lftrace show`, and SAID is what `lftrace explain` said of the trace, or the line of
+`lftrace judge`. For a right trace, `time=T microstep=M reaction=X` names a run. Workers are lanes, runs are
+boxes, a colour is a tag, and a column is a row of the table. An arrow leads to the run from one that it was to
+wait for.
 """
 from xml.sax.saxutils import escape
 
@@ -30,10 +31,10 @@ class Window:
     Where no run is marked, `place` is behind the last row up to the tag.
     """
 
-    def __init__(self, trace, shown, line):
-        self.breach = runs.read_breach(line)
+    def __init__(self, trace, shown, said):
+        self.breach = runs.read_race(said)
         if self.breach is None:
-            raise ValueError(f"no run is named: {line}")
+            raise ValueError(f"no run is named: {said.strip().partition(chr(10))[0]}")
         self.is_right = self.breach.text.startswith("time=")
         at_tag, last = self.read_tag(trace)
         self.marked = next(filter(self.breach.names, at_tag), None)
@@ -46,20 +47,22 @@ class Window:
         self.tags = sorted({run.tag for run in self.runs})
 
     def read_tag(self, trace):
-        """The runs at the tag, in order of their first rows, and the last row of the table."""
+        """The runs at the tag and the other one, in order of their first rows, and the last row of the table."""
         at_tag, last, self.place = [], 2, 2
         for run in runs.read_runs(trace):
             last = max(last, run.last)
             if run.tag <= self.breach.tag:
                 self.place = max(self.place, run.last)
-            if run.tag == self.breach.tag:
+            if run.tag == self.breach.tag or run.has(self.breach.other):
                 at_tag.append(run)
         return sorted(at_tag, key=lambda run: run.first), last
 
     def find_predecessors(self, at_tag, names):
-        """For rule 9 the runs that hadn't ended; in a right trace the one that ended last."""
+        """The run that facts tell; for rule 9 those that hadn't ended; in a right trace the one that ended last."""
         if not self.marked:
             return []
+        if self.breach.other:
+            return [run for run in at_tag if run.has(self.breach.other)]
         before = sorted((run for run in at_tag if run.reaction in names), key=lambda run: run.last)
         if self.is_right:
             return before[-1:]
@@ -72,6 +75,8 @@ class Window:
             return [f"{breach.reaction} has no run at this tag."] if breach.reaction else []
         if self.is_right:
             return [f"{run.reaction} starts in row {run.first}. {it.reaction}, which precedes it, ended in row {it.last}." for it in self.predecessors]
+        if breach.other:
+            return [self.meets(run, other) for other in self.predecessors]
         if breach.rule == 9:
             return [f"{run.reaction} starts in row {run.first}. {it.reaction}, which precedes it, ends only in row {it.last}." for it in self.predecessors]
         if breach.line:
@@ -79,6 +84,13 @@ class Window:
         else:
             rows = [row for row in run.rows if row.event in (("read",) if breach.rule else ("write", "schedule", "stop"))]
         return [f"Row {row.line}: {row.text()}" for row in rows]
+
+    def meets(self, run, other):
+        """That a run starts while another one is open at an earlier tag, or that it has started before."""
+        if run.tag == other.tag:
+            return f"{run.reaction} starts in row {other.first}, and a second time in row {run.first}."
+        ends = f"ends only in row {other.last}" if other.is_whole else "has no end row"
+        return f"{run.reaction} starts at a later tag in row {run.first}. {other.reaction} {ends}."
 
 
 class Picture:
@@ -140,7 +152,7 @@ class Picture:
         if not window.marked:
             x = self.x(window.place + 1)
             yield f'<line x1="{x:.1f}" y1="{self.top - 6}" x2="{x:.1f}" y2="{self.bottom}" stroke="{RED}" stroke-width="3" stroke-dasharray="7 4"/>'
-        elif window.predecessors and not window.is_right:
+        elif window.predecessors and not window.is_right and window.predecessors[-1].last > window.marked.first:
             begin, end = self.x(window.marked.first), self.x(window.predecessors[-1].last + 1)
             yield f'<rect x="{begin:.1f}" y="{self.top - 6}" width="{end - begin:.1f}" height="{self.bottom - self.top + 6}" fill="{RED}" fill-opacity="0.13"/>'
             yield f'<text x="{(begin + end) / 2:.1f}" y="{self.top - 12}" text-anchor="middle" style="fill: {RED}">{escape(window.marked.reaction)} may not start here</text>'
@@ -196,8 +208,8 @@ class Picture:
             yield f'<text x="{LEFT + 36}" y="{y + 12}">{runs.tag_text(tag)}</text>'
 
 
-def main(trace, shown, line):
-    print("\n".join(Picture(Window(trace, runs.read_shown(shown), line)).draw()))
+def main(trace, shown, said):
+    print("\n".join(Picture(Window(trace, runs.read_shown(shown), said)).draw()))
 
 
 if __name__ == "__main__":

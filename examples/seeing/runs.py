@@ -1,4 +1,4 @@
-"""What the scripts of this folder read: a trace table, a line of lftrace, the output of `lftrace show`."""
+"""What the scripts of this folder read: a trace table, what lftrace says of it, the output of `lftrace show`."""
 import csv
 import dataclasses
 import re
@@ -9,6 +9,10 @@ LINE = re.compile(
     r"(?:rule=(?P<rule>\d+) (?P<name>\S+) )?(?:line=(?P<line>\d+) )?"
     r"time=(?P<time>\d+) microstep=(?P<microstep>\d+)(?: reaction=(?P<reaction>\S+))?"
 )
+# Facts of `lftrace explain`: a run that starts too early; the first row at a later tag; the start before a second one.
+RACE = re.compile(r"A race \(rule 9\): \S+ starts at \(.*?\) in line (\d+), before ")
+LATER = re.compile(r"Line (\d+) is the first at a later tag, ")
+FIRST = re.compile(r"^ *(\d+) \| .*  its first start$", re.M)
 
 
 @dataclasses.dataclass(slots=True)
@@ -44,6 +48,9 @@ class Run:
     def last(self):
         return self.rows[-1].line
 
+    def has(self, line):
+        return any(row.line == line for row in self.rows)
+
     @property
     def is_whole(self):
         return self.rows[0].event == "start" and self.rows[-1].event == "end"
@@ -51,28 +58,60 @@ class Run:
 
 @dataclasses.dataclass(slots=True)
 class Breach:
-    """What a line names: a row of the table, or a reaction at a tag; `differ` has no rule."""
+    """What a line names: a row of the table, or a reaction at a tag; `differ` has no rule.
+
+    `other` is a row of the run that the named one was to wait for, where facts tell it.
+    """
 
     text: str
     rule: int | None
     line: int | None
     tag: tuple[int, int]
     reaction: str | None
+    other: int | None = None
 
     def names(self, run):
         if self.line is not None:
-            return any(row.line == self.line for row in run.rows)
+            return run.has(self.line)
         return (run.tag, run.reaction) == (self.tag, self.reaction)
 
 
 def read_breach(text):
-    """The breach that a line of lftrace names, or None: an accepted trace has none."""
+    """The breach that the first line of what lftrace says names, or None: an accepted trace has none."""
+    text = text.strip().partition("\n")[0]
     found = LINE.search(text)
     if not found:
         return None
     number = {word: int(found[word]) if found[word] else None for word in ("rule", "line", "time", "microstep")}
     tag = number["time"], number["microstep"]
-    return Breach(text.strip(), number["rule"], number["line"], tag, found["reaction"])
+    return Breach(text, number["rule"], number["line"], tag, found["reaction"])
+
+
+def read_race(text):
+    """The run that starts too early and what it was to wait for, where `lftrace explain` tells them; else the breach.
+
+    Of the rules 1 and 5 that is the first run at a later tag, which meets the open one. Of any rule of rows it is the
+    race of rule 9 that stands before it, and of rule 3 the second start of a run.
+    """
+    breach = read_breach(text)
+    race, later, first = RACE.search(text), LATER.search(text), FIRST.search(text)
+    if breach and breach.rule in (1, 5) and later:
+        line, other = int(later[1]), breach.line
+    elif race:
+        return at_row(breach, text, int(race[1]), rule=9)
+    elif first:
+        line, other = breach.line, int(first[1])
+    else:
+        return breach
+    return at_row(breach, text, line, other=other)
+
+
+def at_row(breach, text, line, **changed):
+    """The breach at a row that `explain` quotes."""
+    row = re.search(rf"^ *{line} \| \w+,\d+,(\d+),(\d+),([^,]*),", text, re.M)
+    if not row:
+        return breach
+    return dataclasses.replace(breach, line=line, tag=(int(row[1]), int(row[2])), reaction=row[3], **changed)
 
 
 def tag_text(tag):

@@ -1,7 +1,7 @@
 #!/usr/bin/env python3
-"""timeline.py TRACE [LINE]: writes a trace table as trace events (JSON), for Perfetto and Chrome.
+"""timeline.py TRACE [SAID]: writes a trace table as trace events (JSON), for Perfetto and Chrome.
 
-Each worker is a track and each run a slice; row n of the table stands at n microseconds. LINE is what
+Each worker is a track and each run a slice; row n of the table stands at n microseconds. SAID is what
 lftrace said of the trace: the run that it names is marked, and a track of its own shows where.
 """
 import json
@@ -49,9 +49,9 @@ def events(trace, breach):
             yield {"ph": "X", "name": breach.text, "pid": VERDICT, "tid": 1, "ts": begin, "dur": length}
 
 
-def main(trace, line=""):
+def main(trace, said=""):
     separator = "["
-    for event in events(trace, runs.read_breach(line)):
+    for event in events(trace, runs.read_breach(said)):
         print(separator, json.dumps(event))
         separator = ","
     print("]")
