@@ -459,8 +459,9 @@ def help_and_version():
     for given in (["lower", "-h"], ["lower", "--help"], ["help", "lower"]):
         case(f"help by {' '.join(given)}", given, helps("<PROGRAM>", "--names <TABLE>", "kind,source,core,place", "fault lower N Name FILE:LINE:COLUMN"))
     case("help by help show", ["help", "show"], helps("<PROGRAM>", "port P origin=O", "/dev/stdin"))
-    case("version by -V", ["-V"], prints("lftrace 0.1.0\n"))
-    case("version by --version", ["--version"], prints("lftrace 0.1.0\n"))
+    # Behind it stands `unproved (COMMIT)`, where tools/unproved made the program.
+    case("version by -V", ["-V"], helps("lftrace 0.1.0"))
+    case("version by --version", ["--version"], helps("lftrace 0.1.0"))
     case("help to a full device", ["--help"], {"status": 2, "err": ""}, where="full")
 
 
