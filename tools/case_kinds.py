@@ -54,16 +54,24 @@ HEADERS = {
 GIVEN = {"program": "program", "externals": "externals", "externals-text": "externals", "trace": "trace", "names": "names"}
 # Stands where lines of what `explain` tells are left out.
 LEFT_OUT = b"  More lines, which `--all` prints: "
+# KiB of stack, and what fills it before the program begins: by docs/FORMATS.md the one is enough with the other.
+STACK = 192
+ENVIRONMENT = {**os.environ, "FILLS": "x" * 32768}
 # A trace of fewer bytes is judged by one worker.
 SHORT = 1 << 20
 FAULT = re.compile(rb"fault [a-z]+ \d+ .*\n")
 
 
-class Runs:
-    """Runs of the built program, with texts as files of a folder."""
+def with_stack(program, kib=STACK):
+    """The words that run a program with so much stack; its arguments stand behind them."""
+    return ["sh", "-c", f'ulimit -s {kib} && exec "$0" "$@"', program]
 
-    def __init__(self, program, folder):
-        self.program, self.folder = program, pathlib.Path(folder)
+
+class Runs:
+    """Runs of a command, which is that of the built program, with texts as files of a folder."""
+
+    def __init__(self, command, folder):
+        self.command, self.folder = command, pathlib.Path(folder)
 
     def ask(self, command, texts, *more):
         """The standard output, the standard error and the status of a command on texts."""
@@ -74,7 +82,7 @@ class Runs:
 
     def read(self, text, *words):
         """The same of any words, with a text as standard input."""
-        done = subprocess.run([self.program, *words], check=False, cwd=self.folder, input=text, capture_output=True, timeout=300)
+        done = subprocess.run([*self.command, *words], check=False, cwd=self.folder, env=ENVIRONMENT, input=text, capture_output=True, timeout=300)
         return done.stdout, done.stderr, done.returncode
 
 
@@ -177,7 +185,8 @@ def followed(runs, case, log, is_alone=False):
     for path, text in zip(paths, texts):
         path.write_bytes(text)
     told = whole(runs.read(log, "follow", *paths, *words) if is_alone else runs.ask("follow", [*texts, log], *words))
-    with subprocess.Popen([runs.program, "follow", *paths, *words], stdin=subprocess.PIPE, stdout=subprocess.PIPE, stderr=subprocess.PIPE) as child:
+    words = [*runs.command, "follow", *paths, *words]
+    with subprocess.Popen(words, env=ENVIRONMENT, stdin=subprocess.PIPE, stdout=subprocess.PIPE, stderr=subprocess.PIPE) as child:
         try:
             for place in range(len(log)):
                 os.write(child.stdin.fileno(), log[place:place + 1])
@@ -235,7 +244,7 @@ def each(runs, ask, values):
 
     def one(value):
         with tempfile.TemporaryDirectory(dir=runs.folder) as folder:
-            return ask(Runs(runs.program, folder), value)
+            return ask(Runs(runs.command, folder), value)
 
     with concurrent.futures.ThreadPoolExecutor(os.cpu_count()) as pool:
         return list(pool.map(one, values))
