@@ -449,7 +449,7 @@ def named():
 
 def help_and_version():
     for given in (["-h"], ["--help"], ["help"]):
-        case(f"help by {given[0]}", given, helps("Usage:", "judge", "pair", "record", "show", "lower", "Status: 0 accepted, same, recorded, shown or lowered, 1 broken or differ, 2 a fault", "--- program", "--version"))
+        case(f"help by {given[0]}", given, helps("Usage:", "judge", "pair", "record", "show", "lower", "Status: 0 accepted, same, recorded, shown or lowered, 1 broken or differ,\n2 a fault", "--- program", "--version"))
     for given in (["judge", "-h"], ["judge", "--help"], ["help", "judge"]):
         case(f"help by {' '.join(given)}", given, helps("<PROGRAM> <EXTERNALS> <TRACE>", "--workers <N>", "kind,time,microstep,name,value", "event,worker,time,microstep,reaction,name,value,delay", "/dev/stdin"))
     for given in (["record", "-h"], ["record", "--help"], ["help", "record"]):

@@ -9,14 +9,15 @@ use std::alloc::Global;
 const VERSION: &str = "0.1.0";
 
 const HELP: &str = "\
-Status: 0 accepted, same, recorded, shown or lowered, 1 broken or differ, 2 a fault (on standard error);
-of follow and --until also 3 unbroken and 4 odd: rows are missing, or judge has to tell.
+Status: 0 accepted, same, recorded, shown or lowered, 1 broken or differ,
+2 a fault (on standard error); of follow and --until also 3 unbroken, where rows
+are missing, and 4 odd, where it can't judge further.
 A bundle is the lines `--- program`, `--- externals` and `--- trace`, each with its text after it.";
 
 const JUDGE_HELP: &str = "\
 EXTERNALS has the header  kind,time,microstep,name,value
 TRACE has the header      event,worker,time,microstep,reaction,name,value,delay
-Times are in nanoseconds. Words are paths of files; /dev/stdin is standard input.
+Times are in nanoseconds. Arguments are paths; /dev/stdin is standard input.
 Printed: accepted runs=R tags=G (status 0), or broken rule=N .. (status 1).
 With --until, which doesn't go with --names, the lines of follow, unbroken .. (status 0
 or 3) and odd .. (status 4) among them.";
@@ -24,14 +25,14 @@ or 3) and odd .. (status 4) among them.";
 const COVER_HELP: &str = "\
 EXTERNALS has the header  kind,time,microstep,name,value
 TRACE has the header      event,worker,time,microstep,reaction,name,value,delay
-Times are in nanoseconds. Words are paths of files; /dev/stdin is standard input.
+Times are in nanoseconds. Arguments are paths; /dev/stdin is standard input.
 Printed: the line of judge, with its status; behind accepted .. what the trace
 exercised of the program and of the scheduler. With --list one fact a line.";
 
 const EXPLAIN_HELP: &str = "\
 EXTERNALS has the header  kind,time,microstep,name,value
 TRACE has the header      event,worker,time,microstep,reaction,name,value,delay
-Times are in nanoseconds. Words are paths of files; /dev/stdin is standard input.
+Times are in nanoseconds. Arguments are paths; /dev/stdin is standard input.
 Without words it explains a bundle from standard input. With PROGRAM alone it tells
 why that is refused (status 2), or else prints what show prints.
 Printed: the line of judge, with its status; behind broken rule=N .. an empty line
@@ -44,7 +45,7 @@ the trace up to the line that they name.";
 const PAIR_HELP: &str = "\
 EXTERNALS has the header          kind,time,microstep,name,value
 FIRST and SECOND have the header  event,worker,time,microstep,reaction,name,value,delay
-Times are in nanoseconds. Words are paths of files; /dev/stdin is standard input.
+Times are in nanoseconds. Arguments are paths; /dev/stdin is standard input.
 Printed: same runs=R tags=G (status 0); differ time=T microstep=M reaction=X,
 where that reaction met the same history and inputs in both and answered
 otherwise; or first broken rule=N .. or second broken rule=N .. (status 1).";
@@ -53,14 +54,14 @@ const RECORD_HELP: &str = "\
 EXTERNALS has the header  kind,time,microstep,name,value
 CARDS has the header      kind,reaction,name,delay,value
 A card is how many bodies a reaction has (bodies), a step of each (write, schedule,
-stop), or the state word that each leaves (state). Words are paths of files.
+stop), or the state word that each leaves (state). Arguments are paths.
 Printed: the trace table (status 0); where the recording stops, the rows so far,
 and a fault of part pool (status 2).";
 
 const FOLLOW_HELP: &str = "\
 EXTERNALS has the header  kind,time,microstep,name,value
 LOG has the header        event,worker,time,microstep,reaction,name,value,delay
-Times are in nanoseconds. Words are paths of files; without LOG it is standard input.
+Times are in nanoseconds. Arguments are paths; without LOG it is standard input.
 LOG may have lines of EXTERNALS among its rows: an event before rows at later tags, and
 an earlier stop. Without EXTERNALS it has all of them: lftrace follow PROGRAM < LOG.
 Its lines are plain: without quotation marks. Nothing is read behind what is told.
