@@ -2,8 +2,9 @@
 """junit.py PROGRAM FOLDER..: judges trace.csv of each folder, with the externals.csv beside it.
 junit.py PROGRAM EXTERNALS TRACE..: judges traces that have one table of external inputs.
 
-Writes JUnit XML to standard output. A trace is a test case. A breach is a failure, and its facts stand inside.
-A fault is an error. Status: that of the worst trace: 0 accepted, 1 broken, 2 a fault.
+Writes JUnit XML to standard output. A trace is a test case. A breach is a failure with its rule as the type, and
+its facts stand inside. A fault is an error with its name as the type.
+Status: that of the worst trace: 0 accepted, 1 broken, 2 a fault.
 LFTRACE names the program lftrace, if it isn't on the PATH.
 """
 import os
@@ -40,9 +41,15 @@ def judge(program, externals, trace):
     return status, line, facts.strip("\n"), time.monotonic() - begun
 
 
+def name_of(line):
+    """The rule or the fault that a line names, as in `broken rule=10 wrong-read ..` and `fault trace 5 UnknownName ..`."""
+    found = re.match(r"broken \S+ (\S+)|fault \S+ \d+ (\S+)", line)
+    return found[1] or found[2] if found else "fault"
+
+
 def test_case(trace, status, line, facts, seconds):
-    message, inside = quoteattr(line), escape(facts)
-    answer = [f"<system-out>{escape(line)}</system-out>", f"<failure message={message}>{inside}</failure>", f"<error message={message}>{inside}</error>"][status]
+    said = f"message={quoteattr(line)} type={quoteattr(name_of(line))}>{escape(facts)}"
+    answer = [f"<system-out>{escape(line)}</system-out>", f"<failure {said}</failure>", f"<error {said}</error>"][status]
     return f'  <testcase classname="lftrace" name={quoteattr(text(os.fsencode(trace)))} time="{seconds:.3f}">{answer}</testcase>'
 
 
