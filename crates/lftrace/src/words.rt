@@ -12,15 +12,16 @@ const HELP: &str = "\
 Status: 0 accepted, same, recorded, shown or lowered, 1 broken or differ,
 2 a fault (on standard error); of follow and --until also 3 unbroken, where rows
 are missing, and 4 odd, where it can't judge further.
-A bundle is the lines `--- program`, `--- externals` and `--- trace`, each with its text after it.";
+A bundle is the lines `--- program`, `--- externals` and `--- trace`,
+each with its text after it.";
 
 const JUDGE_HELP: &str = "\
 EXTERNALS has the header  kind,time,microstep,name,value
 TRACE has the header      event,worker,time,microstep,reaction,name,value,delay
 Times are in nanoseconds. Arguments are paths; /dev/stdin is standard input.
 Printed: accepted runs=R tags=G (status 0), or broken rule=N .. (status 1).
-With --until, which doesn't go with --names, the lines of follow, unbroken .. (status 0
-or 3) and odd .. (status 4) among them.";
+With --until, which doesn't go with --names, the lines of follow, unbroken ..
+(status 0 or 3) and odd .. (status 4) among them.";
 
 const COVER_HELP: &str = "\
 EXTERNALS has the header  kind,time,microstep,name,value
@@ -33,18 +34,20 @@ const EXPLAIN_HELP: &str = "\
 EXTERNALS has the header  kind,time,microstep,name,value
 TRACE has the header      event,worker,time,microstep,reaction,name,value,delay
 Times are in nanoseconds. Arguments are paths; /dev/stdin is standard input.
-Without words it explains a bundle from standard input. With PROGRAM alone it tells
-why that is refused (status 2), or else prints what show prints.
-Printed: the line of judge, with its status; behind broken rule=N .. an empty line
-and the facts that show it. With two traces the line of pair, with its status;
-behind differ .. an empty line and both answers. Of each part the first 60 lines
-are printed, and how many others there are; with --all all lines.
-With --until the line and the status are those of judge --until, and the facts are of
-the trace up to the line that they name.";
+Without arguments it explains a bundle from standard input. With PROGRAM alone
+it tells why that is refused (status 2), or else prints what show prints.
+Printed: the line of judge, with its status; behind broken rule=N .. an empty
+line and the facts that show it. With two traces the line of pair, with its
+status; behind differ .. an empty line and both answers. Of each part the first
+60 lines are printed, and how many others there are; with --all all lines.
+With --until the line and the status are those of judge --until, and the facts
+are of the trace up to the line that they name.";
 
 const PAIR_HELP: &str = "\
-EXTERNALS has the header          kind,time,microstep,name,value
-FIRST and SECOND have the header  event,worker,time,microstep,reaction,name,value,delay
+EXTERNALS has the header
+  kind,time,microstep,name,value
+FIRST and SECOND have the header
+  event,worker,time,microstep,reaction,name,value,delay
 Times are in nanoseconds. Arguments are paths; /dev/stdin is standard input.
 Printed: same runs=R tags=G (status 0); differ time=T microstep=M reaction=X,
 where that reaction met the same history and inputs in both and answered
@@ -53,8 +56,9 @@ otherwise; or first broken rule=N .. or second broken rule=N .. (status 1).";
 const RECORD_HELP: &str = "\
 EXTERNALS has the header  kind,time,microstep,name,value
 CARDS has the header      kind,reaction,name,delay,value
-A card is how many bodies a reaction has (bodies), a step of each (write, schedule,
-stop), or the state word that each leaves (state). Arguments are paths.
+A card is how many bodies a reaction has (bodies), a step of each (write,
+schedule, stop), or the state word that each leaves (state).
+Arguments are paths.
 Printed: the trace table (status 0); where the recording stops, the rows so far,
 and a fault of part pool (status 2).";
 
@@ -62,17 +66,20 @@ const FOLLOW_HELP: &str = "\
 EXTERNALS has the header  kind,time,microstep,name,value
 LOG has the header        event,worker,time,microstep,reaction,name,value,delay
 Times are in nanoseconds. Arguments are paths; without LOG it is standard input.
-LOG may have lines of EXTERNALS among its rows: an event before rows at later tags, and
-an earlier stop. Without EXTERNALS it has all of them: lftrace follow PROGRAM < LOG.
-Its lines are plain: without quotation marks. Nothing is read behind what is told.
-Printed: accepted runs=R tags=G (status 0); broken rule=N .. (status 1), as soon as
-it is sure; odd line=L runs=R tags=G .. (status 4), where the rows up to line L
-can't be judged further, since too much waits or memory is refused; unbroken runs=R
-tags=G time=T microstep=M at the end (status 3), where rows are missing or those at
-the last tag may break a rule: --whole tells; the same with --until (status 0).
-With --explain an empty line and the facts that show it stand behind broken .., of the
-trace up to the line that they name. For them what is read is kept, as much as a table
-may have.";
+LOG may have lines of EXTERNALS among its rows: an event before rows at later
+tags, and an earlier stop. Without EXTERNALS it has all of them:
+  lftrace follow PROGRAM < LOG
+Its lines are plain: without quotation marks. Nothing is read behind what is
+told.
+Printed: accepted runs=R tags=G (status 0); broken rule=N .. (status 1), as soon
+as it is sure; odd line=L runs=R tags=G .. (status 4), where the rows up to
+line L can't be judged further, since too much waits or memory is refused;
+unbroken runs=R tags=G time=T microstep=M at the end (status 3), where rows are
+missing or those at the last tag may break a rule: --whole tells; the same with
+--until (status 0).
+With --explain an empty line and the facts that show it stand behind broken ..,
+of the trace up to the line that they name. For them what is read is kept, as
+much as a table may have.";
 
 const SHOW_HELP: &str = "\
 PROGRAM is the path of a file; /dev/stdin is standard input.
@@ -81,9 +88,11 @@ reaction X level=K before=Y Z for each reaction (status 0).";
 
 const LOWER_HELP: &str = "\
 PROGRAM is the path of a file; the files that it imports are read too.
-TABLE gets the header  kind,source,core,place  and a row for each name that differs.
-Printed: the core program (status 0); one that is core already as it is. Of what has no
-equal in the core  fault lower N Name FILE:LINE:COLUMN  and what helps, on standard error.
+TABLE gets the header  kind,source,core,place
+and a row for each name that differs.
+Printed: the core program (status 0); one that is core already as it is. Of what
+has no equal in the core, on standard error, with what helps:
+  fault lower N Name FILE:LINE:COLUMN
 There notes stand too: what a runtime has to do, or isn't connected.";
 
 /// The words of `judge`, `cover` and `explain`: three paths, and how many workers, 1 to 64.
@@ -199,7 +208,9 @@ fn path<'a>(alloc: Global, id: &'a str, help: &'a str) -> Arg<'a> {
 }
 
 /// The help of `--workers` of what judges.
-const JUDGES: &str = "how many workers read and judge at most, 1 to 64; the answer is the same";
+const JUDGES: &str = "\
+how many workers read and judge at most,
+1 to 64; the answer is the same";
 
 fn workers<'a>(alloc: Global, help: &'a str) -> Arg<'a> {
     Arg::new(alloc, "workers")
@@ -219,11 +230,13 @@ fn names<'a>(alloc: Global, help: &'a str) -> Arg<'a> {
 }
 
 /// The help of `--names` of what judges.
-const NAMED: &str =
-    "the table of names that `lower` wrote: the tables and the answer have those of the source";
+const NAMED: &str = "\
+the table of names that `lower` wrote: the
+tables and the answer have those of the source";
 
-const UNTIL: &str =
-    "judges the rows up to the first tag at or past this one that has rows, as `follow` does";
+const UNTIL: &str = "\
+judges the rows up to the first tag at or past
+this one that has rows, as `follow` does";
 
 fn judge_command<'a>(alloc: Global) -> Result<Command<'a>, Error> {
     let command = Command::new(alloc, "judge")
@@ -259,7 +272,7 @@ fn all_arg<'a>(alloc: Global) -> Arg<'a> {
     Arg::new(alloc, "all")
         .long("all")
         .action(ArgAction::SetTrue)
-        .help("print all lines of each part, and not the first 60")
+        .help("print all lines of each part,\nand not the first 60")
 }
 
 fn explain_command<'a>(alloc: Global) -> Result<Command<'a>, Error> {
@@ -268,7 +281,7 @@ fn explain_command<'a>(alloc: Global) -> Result<Command<'a>, Error> {
         .requires_arg("TRACE")?;
     let command = Command::new(alloc, "explain")
         .about(
-            "Judges a recorded trace, and tells the facts behind the first rule that it breaks; compares two, and tells where they differ; tells why a program is refused",
+            "Judges a recorded trace, and tells the facts behind the first rule\nthat it breaks; compares two, and tells where they differ;\ntells why a program is refused",
         )
         .arg(path(alloc, "PROGRAM", "the program's text").required(false))?
         .arg(externals)?
@@ -285,7 +298,7 @@ fn explain_command<'a>(alloc: Global) -> Result<Command<'a>, Error> {
 fn pair_command<'a>(alloc: Global) -> Result<Command<'a>, Error> {
     let command = Command::new(alloc, "pair")
         .about(
-            "Judges two recorded traces of one program, and tells whether they have the same runs",
+            "Judges two recorded traces of one program,\nand tells whether they have the same runs",
         )
         .arg(path(alloc, "PROGRAM", "the program's text"))?
         .arg(path(alloc, "EXTERNALS", "the table of external inputs of both"))?
@@ -330,30 +343,30 @@ const LOG_HELP: &str = "the trace table, among whose rows external inputs may st
 fn follow_command<'a>(alloc: Global) -> Result<Command<'a>, Error> {
     let until = until_arg(
         alloc,
-        "ends behind the first tag at or past this one that has rows",
+        "ends behind the first tag at or past this one\nthat has rows",
     );
     let every = Arg::new(alloc, "every")
         .long("every")
         .value_name("N")
-        .help("after N rows tells on standard error how far they are judged; 0 is never")
+        .help("after N rows tells on standard error how far\nthey are judged; 0 is never")
         .default_value("0")
         .value_parser(clap::value_parser!(u64).range(0..1_000_000_000_000));
     let whole = Arg::new(alloc, "whole")
         .long("whole")
         .action(ArgAction::SetTrue)
         .help(
-            "no row is missing at the end: then the first rule that is broken is told, as by `judge`",
+            "no row is missing at the end: then the first\nrule that is broken is told, as by `judge`",
         );
     let drain = Arg::new(alloc, "drain")
         .long("drain")
         .action(ArgAction::SetTrue)
-        .help("reads on behind what is told, so that the writer isn't stopped, and drops it");
+        .help("reads on behind what is told, so that the\nwriter isn't stopped, and drops it");
     let explain = Arg::new(alloc, "explain")
         .long("explain")
         .action(ArgAction::SetTrue)
-        .help("tells behind a broken rule the facts that show it, as `explain` does");
+        .help("tells behind a broken rule the facts that\nshow it, as `explain` does");
     let command = Command::new(alloc, "follow")
-        .about("Judges a trace while it is written, and forgets the rows of finished tags")
+        .about("Judges a trace while it is written,\nand forgets the rows of finished tags")
         .arg(path(alloc, "PROGRAM", "the program's text"))?
         .arg(path(alloc, "EXTERNALS", EXTERNALS_HELP).required(false))?
         .arg(path(alloc, "LOG", LOG_HELP).required(false))?
@@ -377,7 +390,7 @@ fn show_command<'a>(alloc: Global) -> Result<Command<'a>, Error> {
 
 fn lower_command<'a>(alloc: Global) -> Result<Command<'a>, Error> {
     let command = Command::new(alloc, "lower")
-        .about("Prints a core program with the same coordination as a whole Lingua Franca program")
+        .about("Prints a core program with the same coordination\nas a whole Lingua Franca program")
         .arg(path(alloc, "PROGRAM", "the program's text"))?
         .arg(names(alloc, "writes a table of the names that differ"))?
         .after_help(LOWER_HELP);
@@ -388,7 +401,7 @@ fn root_command<'a>(alloc: Global) -> Result<Command<'a>, Error> {
     let command = Command::new(alloc, "lftrace")
         .version(VERSION)
         .about(
-            "Checks recorded executions of reactor programs, and records them. Without a command it judges a bundle from standard input.",
+            "Checks recorded executions of reactor programs, and records them.\nWithout a command it judges a bundle from standard input.",
         )
         .subcommand(judge_command(alloc)?)?
         .subcommand(cover_command(alloc)?)?
