@@ -10,18 +10,18 @@ from xml.sax.saxutils import escape
 
 import runs
 
-AROUND = 6  # rows that are drawn before and behind what counts
+AROUND = 3  # rows that are drawn before and behind what counts
 LEFT, LANE, BOX = 84, 78, 46
-NARROW, WIDE, WIDTH = 5, 52, 1500
+NARROW, WIDE, WIDTH = 5, 52, 790
 COLOURS = "#cfe2f7 #d9efcf #fbe6c2 #e6d9f2 #d3eeee #f6d6e2".split()
 RED, GREEN = "#c00000", "#1a7a2e"
 STYLE = """
 text { font-family: 'DejaVu Sans', Verdana, sans-serif; font-size: 13px; fill: #222222 }
-.line, .name { font-family: 'DejaVu Sans Mono', Menlo, Consolas, monospace; font-size: 12px }
+.line, .name { font-family: 'DejaVu Sans Mono', Menlo, Consolas, monospace; font-size: 13px }
 .line { font-size: 15px; font-weight: bold }
 .name { text-anchor: middle; pointer-events: none; paint-order: stroke; stroke-width: 5px; stroke-linejoin: round }
-.step { font-size: 9.5px; fill: #444444; text-anchor: middle; pointer-events: none }
-.row { font-size: 10px; fill: #666666; text-anchor: middle }
+.step { font-size: 11.5px; fill: #444444; text-anchor: middle; pointer-events: none }
+.row { font-size: 12px; fill: #666666; text-anchor: middle }
 """
 
 
@@ -174,11 +174,11 @@ class Picture:
     def draw_name(self, run):
         """The reaction's name in the box, as much of its end as fits, and the steps."""
         left, right, top = max(self.x(run.first), LEFT), min(self.x(run.last + 1), self.right), self.y(run)
-        name, letters = run.reaction, int((right - left - 8) / 7.3)
+        name, letters = run.reaction, int((right - left - 8) / 7.9)
         if len(name) > letters:
             name = "\u2026" + name[len(name) - letters + 1 :] if letters > 2 else ""
         yield f'<text class="name" x="{(left + right) / 2:.1f}" y="{top + 19:.1f}" style="stroke: {self.fill(run.tag)}">{escape(name)}</text>'
-        for row in run.rows if self.cell >= 44 else []:
+        for row in run.rows if self.cell >= 40 else []:
             yield f'<text class="step" x="{self.x(row.line) + self.cell / 2:.1f}" y="{top + 36:.1f}">{escape(row.event)}</text>'
 
     def draw_arrow(self, predecessor):
