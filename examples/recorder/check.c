@@ -160,7 +160,7 @@ static void order_of_rows(void) {
 enum { RIGHT, UNENDED, NO_SLOT, NO_NAME, STILL_OPEN, OUTSIDE, LOST, TOO_MANY, NO_FILE, MISTAKES };
 static const char *const whys[MISTAKES] = {
     "",
-    "slot 0: a run was never ended: main#1",
+    "slot 0: a run was never ended, or two threads use one slot: main#1",
     "a call with the number of no slot",
     "a row has a name that wasn't registered",
     "slot 1: a run is still open: main#1",

@@ -265,7 +265,7 @@ static inline void lft_step(lft_log *log, unsigned number, uint32_t kind, lft_na
 static inline void lft_start(lft_log *log, unsigned number, uint64_t time, uint32_t microstep, lft_name reaction) {
   lft_slot *slot = lft_at(log, number);
   if (!slot) return;
-  if (slot->open) lft_blame(slot, "a run was never ended:", slot->open);
+  if (slot->open) lft_blame(slot, "a run was never ended, or two threads use one slot:", slot->open);
   slot->open = reaction;
   lft_put(log, slot, LFT_START, reaction, lft_bare(), time, microstep);
 }
