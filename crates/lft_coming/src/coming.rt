@@ -17,14 +17,12 @@ use lft_steps::Externals;
 use lft_tag::Tag;
 use std::alloc::Global;
 
-/// So many events may be in the queue at once, which is some 25 MB. A program whose delays keep more
-/// on their way is judged with less memory by an index of what the rows cause.
-const MOST: usize = 262_144;
-
 /// The events that are still to be met: those in the queue, and the external ones from a place on.
 #[derive(Drop)]
 pub struct Coming {
     queue: Queue,
+    /// So many events may be in the queue at once.
+    most: usize,
     /// The place of the first external event that isn't in the queue.
     next: usize,
     /// The least tag at which two events of a name are known to meet, if there is one. The queue has what
@@ -45,12 +43,13 @@ pub(crate) fn earlier_of(one: Option<Tag>, other: Option<Tag>) -> Option<Tag>
 }
 
 impl Coming {
-    /// All external events are to come, and nothing else.
-    pub fn new(alloc: Global) -> Coming
-        ensures { result ≡ record { queue = []; next = 0; clash = None } }
+    /// All external events are to come, and nothing else. So many events may be in the queue at once.
+    pub fn new(alloc: Global, most: usize) -> Coming
+        ensures { result ≡ record { queue = []; most = most; next = 0; clash = None } }
     {
         Coming {
             queue: Queue::new(alloc),
+            most,
             next: 0,
             clash: None,
         }
@@ -65,7 +64,7 @@ impl Coming {
         ensures err { IfErr result (λ e. self.new ≡ self.old) }
         ensures collision { IfErr result (λ e. e ≡ QueueFault.Collision → IsSome (value_of tag name self.old.queue)) }
     {
-        if self.queue.len() >= MOST {
+        if self.queue.len() >= self.most {
             return Err(QueueFault::NoMemory);
         }
         self.queue.put(tag, name, value)

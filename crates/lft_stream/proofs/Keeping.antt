@@ -82,9 +82,9 @@ listener_of : (plan : PlanParts) (listeners : Listeners) → AreListeners plan l
 listener_of plan listeners are n has r list l e = are.each n r list l (ap (λ (m : Name). list_of listeners m) (heard_there plan.program n has) ∙ e)
 
 -- the first events are those that are to come first
-first_to_come : (plan : PlanParts) (n : Name) (h : Tag) → held (first_events plan n) h ≡ to_come plan.externals.events (record { queue = []; next = 0; clash = None }) h n
-first_to_come plan (Port p) h = refl
-first_to_come plan (Action a) h = held_first plan a h ∙ sym (append-nil (filter_map (given h a) plan.externals.events))
+first_to_come : (plan : PlanParts) (most : ℕ) (n : Name) (h : Tag) → held (first_events plan n) h ≡ to_come plan.externals.events (record { queue = []; most = most; next = 0; clash = None }) h n
+first_to_come plan most (Port p) h = refl
+first_to_come plan most (Action a) h = held_first plan a h ∙ sym (append-nil (filter_map (given h a) plan.externals.events))
 
 -- an event of a name that triggers nothing is met
 unheard_met : (plan : PlanParts) (t : List Row) (h : Tag) (n : Name) (lane : List (Tag × Value)) (listeners : Listeners) → AreListeners plan listeners → ((p : ℕ) → n ≡ Port p → is_undelayed plan.program p ≡ true → held lane h ≡ []) → length (held lane h) < 2 → ((v : Value) → Contains (held lane h) v → IsUnheard listeners n) → IsMetAt plan t n h lane
@@ -118,11 +118,11 @@ next_up : (g h : Tag) → Before g h → UpTo (after g 0) h
 next_up g h (inl l) = inl l
 next_up g h (inr p) = let l : g.micro < h.micro = p.1 in inr (p.0, omega arith)
 
-pub begins_kept : (plan : PlanParts) (s : Stream) → s.stop ≡ plan.externals.stop → s.tag ≡ None → s.runs ≡ 0 → s.tags ≡ 0 → AreDues plan [] s.dues → AreStartTags plan.program [] s.starts → ((g : Tag) → AreEarlier plan.program g s.writes) → AreListeners plan s.listeners → AreReadChannels plan.program s.channels → s.coming ≡ record { queue = []; next = 0; clash = None } → AreUnread plan.program [] s.unread → IsStreamOf plan [] s
-begins_kept plan s stops none runs tags dues starts writes listeners channels begins unread = record {
+pub begins_kept : (plan : PlanParts) (s : Stream) (most : ℕ) → s.stop ≡ plan.externals.stop → s.tag ≡ None → s.runs ≡ 0 → s.tags ≡ 0 → AreDues plan [] s.dues → AreStartTags plan.program [] s.starts → ((g : Tag) → AreEarlier plan.program g s.writes) → AreListeners plan s.listeners → AreReadChannels plan.program s.channels → s.coming ≡ record { queue = []; most = most; next = 0; clash = None } → AreUnread plan.program [] s.unread → IsStreamOf plan [] s
+begins_kept plan s most stops none runs tags dues starts writes listeners channels begins unread = record {
   lanes = first_events plan;
   none = λ p h e up. refl;
-  coming = λ n h waited up far clear. first_to_come plan n h ∙ ap (λ (c : Coming). to_come plan.externals.events c h n) (sym begins);
+  coming = λ n h waited up far clear. first_to_come plan most n h ∙ ap (λ (c : Coming). to_come plan.externals.events c h n) (sym begins);
   come = rw none (ap (λ (c : Coming). c.next) begins);
   alone = λ p h un up far clear. omega arith;
   state = rw (none, runs, tags) ((stream_law plan).begins s.dues dues);

@@ -49,8 +49,8 @@ impl Acceptor {
         Acceptor::with_effort(alloc, plan, Effort::shared())
     }
 
-    /// Before the first row, where no other judge stands behind. So a thousand times as much is looked at
-    /// before rows are given up.
+    /// Before the first row, where no other judge stands behind. However much is to be looked at, no rows are
+    /// given up for it.
     pub fn alone(alloc: Global, plan: &Plan) -> Result<Acceptor, NoMemory>
         ensures { IfOk result (IsAcceptorOf plan.now []) }
     {

@@ -1,6 +1,6 @@
 //! How much is looked at before rows are given up.
 
-ghost use Rattle.std.specs.Prelude.{◌≡◌, ◌≤◌, ◌↔◌, length, IsTrue};
+ghost use Rattle.std.specs.Prelude.{◌≡◌, length};
 ghost use Rattle.lft_steps.specs.Fits.{RowFits, RowsFit};
 
 use lft_coming::{Listeners, NumberLists, written_port};
@@ -14,18 +14,15 @@ const PER_ROW: u64 = 16;
 /// So many more may be looked at, so that a reaction with many inputs may run once or twice.
 const FIRST: u64 = 1024;
 
-/// So many may be looked at for each row where there is no such index. Then a run, of two rows at least, may
-/// always have 32,768 triggers and uses. A row of any program costs some 60 microseconds at most.
-const PER_ROW_ALONE: u64 = 16_384;
+/// So many events may wait at once, which is some 25 MB. A program whose delays keep more on their way is
+/// judged with less memory by that index.
+const MOST_EVENTS: usize = 262_144;
 
-/// So many more: a reaction with a million inputs may run some sixteen times.
-const FIRST_ALONE: u64 = 1 << 24;
-
-/// How many of all these may still be looked at, and how many more for each row.
+/// How many of all these may still be looked at. None where rows that are given up are judged by nobody:
+/// then all are looked at, and memory alone bounds the events that wait.
 #[derive(Clone, Copy, PartialEq, Eq, Drop)]
 pub(crate) struct Effort {
-    left: u64,
-    per_row: u64,
+    left: Option<u64>,
 }
 
 /// How many of them are looked at for a row.
@@ -51,29 +48,20 @@ fn cost_of(program: &Program, listeners: &Listeners, channels: &NumberLists, row
 impl Effort {
     /// What may be looked at before the first row, where another judge stands behind.
     pub(crate) fn shared() -> Effort {
-        Effort {
-            left: FIRST,
-            per_row: PER_ROW,
-        }
+        Effort { left: Some(FIRST) }
     }
 
-    /// What may be looked at before the first row, where rows that are given up are judged by nobody.
+    /// The same, where rows that are given up are judged by nobody.
     pub(crate) fn alone() -> Effort {
-        Effort {
-            left: FIRST_ALONE,
-            per_row: PER_ROW_ALONE,
-        }
+        Effort { left: None }
     }
 
-    /// So much less may be looked at. It is false where less than that was left.
-    fn spend(&mut self, cost: u64) -> bool
-        ensures { IsTrue result ↔ cost ≤ self.old.left }
-    {
-        if cost > self.left {
-            return false;
+    /// So many events may wait at once.
+    pub(crate) fn most_events(&self) -> usize {
+        match self.left {
+            Some(_) => MOST_EVENTS,
+            None => usize::MAX,
         }
-        self.left -= cost;
-        true
     }
 
     /// Whether all may be looked at that these rows need. No verdict hangs on the answer: it is
@@ -89,13 +77,18 @@ impl Effort {
         requires ports { length listeners.now.ports ≡ length program.now.ports }
         requires channels { length channels.now ≡ length program.now.ports }
     {
+        let Some(most) = self.left else {
+            return true;
+        };
+        let mut left = most;
         for place in 0..rows.len() {
             let cost = cost_of(program, listeners, channels, row_at(rows, place));
-            self.left = self.left.saturating_add(self.per_row);
-            if !self.spend(cost as u64) {
-                return false;
+            match left.saturating_add(PER_ROW).checked_sub(cost as u64) {
+                Some(rest) => left = rest,
+                None => return false,
             }
         }
+        self.left = Some(left);
         true
     }
 }

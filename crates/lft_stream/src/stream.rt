@@ -178,7 +178,7 @@ impl Stream {
             writes: Writes::new(alloc, program)?,
             listeners: Listeners::new(alloc, plan)?,
             channels: read_channels_of(alloc, program)?,
-            coming: Coming::new(alloc),
+            coming: Coming::new(alloc, effort.most_events()),
             unread: Unread::new(alloc, program)?,
             effort,
         })
