@@ -68,6 +68,7 @@ module _ (t s : List Row) (i : ℕ) (alike : AreAlike t s i) where
     ports = so.ports;
     writes = λ x n e. count_same (λ j. writes_too t s i alike x j) (λ j. writes_too s t i (back t s i alike) x j) (so.writes x n e);
     workers = λ w. count_same (λ j. by_too t s i alike w j) (λ j. by_too s t i (back t s i alike) w j) (so.workers w);
+    listed = so.listed;
   }
 
   orders_too : (n : ℕ) (o : Orders) → Stands t n i o → Stands s n i o

@@ -1,4 +1,5 @@
-mod Numbers
+mod Entries
+pub mod Numbers
 mod Meeting
 mod Going
 mod Held

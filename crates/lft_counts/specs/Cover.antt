@@ -8,7 +8,7 @@ use Rattle.lft_counts.specs.declared.cover.Cover.{Cover}
 use Rattle.lft_counts.specs.Counts.{AreCounts, StartsAt, WritesAt}
 use Rattle.lft_counts.specs.Orders.{Stands, orders_from, cleared}
 use Rattle.lft_counts.specs.Overlaps.{Overlap}
-use Rattle.lft_counts.specs.Workers.{AreByWorker}
+use Rattle.lft_counts.specs.Workers.{AllRun, AreByWorker}
 
 -- the counts of reactions, ports and workers are those of the rows before place i
 pub record IsCounting (program : Parts) (t : List Row) (i : ℕ) (counting : Counting) : Type 0 where
@@ -17,6 +17,7 @@ pub record IsCounting (program : Parts) (t : List Row) (i : ℕ) (counting : Cou
   pub ports : length counting.writes ≡ length program.ports
   pub writes : AreCounts (WritesAt t) i counting.writes
   pub workers : AreByWorker t i counting.workers
+  pub listed : AllRun counting.workers
 
 -- all counts are those of the rows that are gone through
 pub record IsCover (program : Parts) (t : List Row) (cover : Cover) : Type 0 where

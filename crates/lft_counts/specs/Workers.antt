@@ -1,5 +1,6 @@
 -- How many runs each worker starts.
-use Rattle.std.specs.Prelude.{ℕ, List, unwrap_or}
+use Rattle.std.specs.Prelude.{ℕ, ◌<◌, List, unwrap_or}
+use Rattle.std.specs.List.{AllByRecursion}
 use Rattle.std.specs.BTreeMap as map
 use Rattle.std.specs.Ordering.{nat_cmp}
 use Rattle.lft_steps.specs.declared.row.Row.{Row}
@@ -13,6 +14,10 @@ runs_by workers w = unwrap_or (map.get nat_cmp workers.counts w) 0
 -- the workers that start runs, each with how many, in the order of their numbers
 abbrev pub by_number : Workers → List (ℕ × ℕ)
 by_number workers = workers.counts.entries
+
+-- no worker is listed without a run
+abbrev pub AllRun : Workers → Type 0
+AllRun workers = AllByRecursion (λ d. 0 < d.1) (by_number workers)
 
 -- of each worker the starts of its runs before place i
 abbrev pub AreByWorker : List Row → ℕ → Workers → Type 0

@@ -2,7 +2,7 @@
 
 ghost use Rattle.std.specs.Prelude.{◌≡◌, ◌+◌, ◌<◌, ◌==◌, ℕ, cond, IfOk, OnOk, Some, slice_get};
 ghost use Rattle.lft_steps.specs.declared.row.Row.{Row as TheRow};
-ghost use Rattle.lft_counts.specs.Workers.{by_number, runs_by};
+ghost use Rattle.lft_counts.specs.Workers.{AllRun, by_number, runs_by};
 
 use lft_tag::NoMemory;
 use std::alloc::Global;
@@ -18,7 +18,8 @@ pub struct Workers {
 impl Workers {
     /// No worker starts a run.
     pub fn new(alloc: Global) -> Workers
-        ensures { (w : ℕ) → runs_by result w ≡ 0 }
+        ensures none { (w : ℕ) → runs_by result w ≡ 0 }
+        ensures listed { AllRun result }
     {
         Workers {
             counts: BTreeMap::new(alloc),
@@ -38,7 +39,8 @@ impl Workers {
     /// The worker starts a run more.
     pub fn begin(&mut self, worker: u32) -> Result<(), NoMemory>
         requires { runs_by self.old worker < 4000000 }
-        ensures { OnOk result ((w : ℕ) → runs_by self.new w ≡ cond (worker == w) (runs_by self.old worker + 1) (runs_by self.old w)) }
+        ensures listed { OnOk result (AllRun self.old → AllRun self.new) }
+        ensures more { OnOk result ((w : ℕ) → runs_by self.new w ≡ cond (worker == w) (runs_by self.old worker + 1) (runs_by self.old w)) }
     {
         let count = self.of(worker) + 1;
         match self.counts.insert(worker, count) {

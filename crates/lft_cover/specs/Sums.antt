@@ -1,5 +1,5 @@
 -- The line of sums that people read first.
-use Rattle.std.specs.Prelude.{◌≡◌, ℕ, List, ◌++◌, length, codes, decimal}
+use Rattle.std.specs.Prelude.{◌≡◌, ◌≢◌, ℕ, List, ◌++◌, length, slice_get, unwrap_or, option_map, codes, decimal}
 use Rattle.lft_flat.specs.Parts.{Parts}
 use Rattle.lft_steps.specs.declared.row.Row.{Row}
 use Rattle.lft_counts.specs.declared.cover.Cover.{Cover}
@@ -16,7 +16,19 @@ sum_line ran reactions fed ports apart orders together pairs =
     share_words (codes "reactions=") ran (codes "/") reactions ++ share_words (codes " ports=") fed (codes "/") ports
     ++ share_words (codes " orders=") apart (codes "/") orders ++ share_words (codes " pairs=") together (codes "/") pairs ++ codes "\n"
 
--- a text begins with the line of sums: R is how many reactions have a run, and A how many of the orders were met on two workers
+-- the origin of port p
+abbrev pub origin_of : Parts → ℕ → ℕ
+origin_of program p = unwrap_or (option_map (λ x. x.origin) (slice_get program.ports p)) p
+
+-- a connection feeds port p: its origin is another port
+abbrev pub IsFed : Parts → ℕ → Type 0
+IsFed program p = origin_of program p ≢ p
+
+-- a connection feeds port p, and its origin was written
+abbrev pub IsReached : Parts → List ℕ → ℕ → Type 0
+IsReached program writes p = IsFed program p × IsOver writes (origin_of program p)
+
+-- a text begins with the line of sums: R is how many reactions have a run, F how many of the fed ports have an origin that was written, and A how many of the orders were met on two workers
 pub record TellsSums (program : Parts) (cover : Cover) (told : List ℕ) : Type 0 where
   pub ran : ℕ
   pub fed : ℕ
@@ -26,5 +38,7 @@ pub record TellsSums (program : Parts) (cover : Cover) (told : List ℕ) : Type 
   pub pairs : ℕ
   pub more : List ℕ
   pub ran_is : Count (IsOver cover.counting.runs) (length cover.counting.runs) ran
+  pub fed_is : Count (IsReached program cover.counting.writes) (length program.ports) fed
+  pub ports_are : Count (IsFed program) (length program.ports) ports
   pub apart_is : (t : List Row) (n i : ℕ) → Stands t n i cover.orders → Count (IsApart t i cover.orders.all.items) (length cover.orders.all.items) apart
   pub text : told ≡ sum_line ran (length program.reactions) fed ports apart (length cover.orders.all.items) together pairs ++ more

@@ -1,11 +1,12 @@
 //! The sums of what was exercised.
 
-ghost use Rattle.std.specs.Prelude.{◌≡◌, ℕ, List, IfOk, length};
+ghost use Rattle.std.specs.Prelude.{◌≡◌, ◌<◌, ◌↔◌, ℕ, List, IfOk, IsTrue, length};
 ghost use Rattle.lft_steps.specs.declared.row.Row.{Row as TheRow};
 ghost use Rattle.lft_graph.specs.Graph.{IsGraphOf};
 ghost use Rattle.lft_counts.specs.Counts.{Count, IsOver};
 ghost use Rattle.lft_counts.specs.Orders.{IsApart, Stands};
 ghost use Rattle.lft_cover.specs.Facts.{HasSets};
+ghost use Rattle.lft_cover.specs.Sums.{IsFed, IsReached, origin_of};
 
 use crate::closure::ordered_pairs;
 use crate::pairs::met_pairs;
@@ -41,25 +42,70 @@ pub(crate) struct Sums {
 }
 
 /// Whether a count of a list isn't 0.
-fn has_some(counts: &[u64], number: usize) -> bool {
+fn has_some(counts: &[u64], number: usize) -> bool
+    ensures { IsTrue result ↔ IsOver counts.now number }
+{
     number < counts.len() && item_at(counts, number) != 0
 }
 
-/// The ports that a connection feeds, and of these those whose origin was written. The origins are marked.
-fn fed_ports(program: &Program, writes: &[u64], is_writer: &mut Vec<bool>) -> Share {
-    let mut fed = Share { count: 0, of: 0 };
+/// The origin of a port.
+fn origin_of(program: &Program, port: u32) -> u32
+    requires { port < length program.now.ports }
+    ensures { result ≡ origin_of program.now port }
+{
+    program.port(port).origin
+}
+
+/// Whether a connection feeds the port.
+fn is_fed(program: &Program, port: u32) -> bool
+    requires { port < length program.now.ports }
+    ensures { IsTrue result ↔ IsFed program.now port }
+{
+    origin_of(program, port) != port
+}
+
+/// Whether a connection feeds the port, and its origin was written.
+fn is_reached(program: &Program, writes: &[u64], port: u32) -> bool
+    requires { port < length program.now.ports }
+    ensures { IsTrue result ↔ IsReached program.now writes.now port }
+{
+    is_fed(program, port) && has_some(writes, origin_of(program, port) as usize)
+}
+
+/// The ports that a connection feeds.
+fn fed_ports(program: &Program) -> usize
+    ensures { Count (IsFed program.now) (length program.now.ports) result }
+{
+    let mut many = 0;
     for number in 0..program.ports() {
-        let origin = program.port(number as u32).origin as usize;
-        if origin == number || origin >= is_writer.len() {
-            continue;
-        }
-        is_writer[origin] = true;
-        fed.of = fed.of.saturating_add(1);
-        if has_some(writes, origin) {
-            fed.count = fed.count.saturating_add(1);
+        if is_fed(program, number as u32) {
+            many += 1;
         }
     }
-    fed
+    many
+}
+
+/// The ports that a connection feeds, and whose origin was written.
+fn reached_ports(program: &Program, writes: &[u64]) -> usize
+    ensures { Count (IsReached program.now writes.now) (length program.now.ports) result }
+{
+    let mut many = 0;
+    for number in 0..program.ports() {
+        if is_reached(program, writes, number as u32) {
+            many += 1;
+        }
+    }
+    many
+}
+
+/// Marks the origins of the ports that a connection feeds.
+fn mark_writers(program: &Program, is_writer: &mut Vec<bool>) {
+    for number in 0..program.ports() {
+        let origin = origin_of(program, number as u32) as usize;
+        if origin != number && origin < is_writer.len() {
+            is_writer[origin] = true;
+        }
+    }
 }
 
 /// Of the ports that are marked those that were written.
@@ -93,6 +139,8 @@ impl Sums {
         requires graph { IsGraphOf program.now graph.now }
         ensures reactions { IfOk result (λ sums. sums.ran.of ≡ length program.now.reactions) }
         ensures ran { IfOk result (λ sums. Count (IsOver cover.now.counting.runs) (length cover.now.counting.runs) sums.ran.count) }
+        ensures fed { IfOk result (λ sums. Count (IsReached program.now cover.now.counting.writes) (length program.now.ports) sums.fed.count) }
+        ensures ports { IfOk result (λ sums. Count (IsFed program.now) (length program.now.ports) sums.fed.of) }
         ensures orders { IfOk result (λ sums. sums.apart.of ≡ length cover.now.orders.all.items) }
         ensures apart { IfOk result (λ sums. (t : List TheRow) (n i : ℕ) → Stands t n i cover.now.orders → Count (IsApart t i cover.now.orders.all.items) (length cover.now.orders.all.items) sums.apart.count) }
     {
@@ -102,13 +150,16 @@ impl Sums {
         let reactions = program.reactions() as u64;
         let ordered = ordered_pairs(alloc, program, graph)?;
         let mut is_writer = vec![in alloc; false; program.ports()]?;
-        let fed = fed_ports(program, writes, &mut is_writer);
+        mark_writers(program, &mut is_writer);
         Ok(Sums {
             ran: Share {
                 count: how_many(runs) as u64,
                 of: reactions,
             },
-            fed,
+            fed: Share {
+                count: reached_ports(program, writes) as u64,
+                of: fed_ports(program) as u64,
+            },
             writers: written_ports(writes, &is_writer),
             met: Share {
                 count: cover.orders.held() as u64,

@@ -16,7 +16,7 @@ returns-then-is_start g c =
     let row = c.args.row in
     let old = c.args.self.now in
     let n = get_there old.runs row.reaction (let a = so.reactions in let b = c.requires.1.1.0.reaction in omega (arith, a, b)) in
-    counted_start g.here.trace g.here.place row c.requires.0 g.here.program old so n.0 _ (c.if-is_start.ensures.0 refl) n.1 (c.add.ensures n.0 n.1) refl c.in_ok-begin.ensures
+    counted_start g.here.trace g.here.place row c.requires.0 g.here.program old so n.0 _ (c.if-is_start.ensures.0 refl) n.1 (c.add.ensures n.0 n.1) refl c.in_ok-begin.ensures.more c.in_ok-begin.ensures.listed
 
 pub add-requires-in-Some-clause-few : goal.add-requires-in-Some-clause-few
 add-requires-in-Some-clause-few g c n e = omega (arith, count_within (c.requires.1.1.1.writes c.in-Some.port n e), c.requires.1.0)
