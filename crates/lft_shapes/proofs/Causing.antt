@@ -28,6 +28,7 @@ use Rattle.lft_shapes.specs.Scopes.{AreScopes, IsMain}
 use Rattle.lft_shapes.specs.Shapes.{inside, is_at, tables, width_of}
 use Rattle.lft_shapes.specs.Sized.{IsMarkedByIndex, IsReadyAt}
 use Rattle.lft_shapes.specs.Walks.{Reaches, further, itself}
+use Rattle.lft_shapes.proofs.Goings.{noted_child}
 use Rattle.lft_shapes.proofs.Sizing.{inner_means, needs_name}
 use Rattle.lft_shapes.proofs.Needing.{below_inside, below_reached, declared, instance_is, is_instance, parameter_has, parameter_of}
 
@@ -89,10 +90,11 @@ pub shapes_below : (scopes : Scopes) (first : ℕ) (cs : List Core) (rows : List
 shapes_below scopes first cs rows a c all at _ itself = (c, at, self)
 shapes_below scopes first cs rows a c all at _ (further {r = r} {s = s} k way is) =
     let rest = shapes_below scopes first cs rows a c all at r way in
-    let in_it = all.inside r k s is in
+    let child = noted_child rows r k s is in
+    let in_it = all.inside r k child.0 child.1 in
     let same : in_it.outer ≡ rest.0 = same_some (slice_get cs r) in_it.outer rest.0 in_it.is_outer rest.1 in
     let member = subst (λ (o : Core). slice_get o.members k ≡ Some in_it.member) same in_it.is_member in
-    (in_it.inner, in_it.is_inner, below_inside scopes c.class.number rest.0 k in_it.member in_it.inner.class.number (all.built r rest.0 rest.1) rest.2 member in_it.means)
+    (in_it.inner, ap (slice_get cs) (sym child.2) ∙ in_it.is_inner, below_inside scopes c.class.number rest.0 k in_it.member in_it.inner.class.number (all.built r rest.0 rest.1) rest.2 member in_it.means)
 
 -- an instance of what contains it
 pub circle_is_below : (scopes : Scopes) (first : ℕ) (shapes : List Shape) (main : Core) (s : Stop) → AreShapes scopes first (cores shapes) (tables shapes) → HasCircle shapes 0 s → slice_get (cores shapes) 0 ≡ Some main → SaysBelow scopes first s
@@ -101,7 +103,8 @@ circle_is_below scopes first shapes main (stop.Refused refusal) all (inl much) a
 circle_is_below scopes first shapes main (stop.Refused refusal) all (inr h) at =
     let c = h.1 in
     let there = c.is_there in
-    let in_it = all.inside c.shape c.which c.inner c.is_inside in
+    let child = noted_child (tables shapes) c.shape c.which c.inner c.is_inside in
+    let in_it = all.inside c.shape c.which child.0 child.1 in
     let outer : slice_get (cores shapes) c.shape ≡ Some (core there.shape) = mapped core shapes c.shape there.shape there.is_shape in
     let same : in_it.outer ≡ core there.shape = same_some (slice_get (cores shapes) c.shape) in_it.outer (core there.shape) in_it.is_outer outer in
     let member : in_it.member ≡ there.member = same_some (slice_get there.shape.members.items c.which) in_it.member there.member (subst (λ (o : Core). slice_get o.members c.which ≡ Some in_it.member) same in_it.is_member) there.is_member in
@@ -109,7 +112,7 @@ circle_is_below scopes first shapes main (stop.Refused refusal) all (inr h) at =
     let built = all.built c.shape (core there.shape) outer in
     let d = declared scopes (core there.shape) c.which there.member built there.is_member in
     let i = is_instance scopes there.member.file there.member.member.now in_it.inner.class.number means in
-    let back = shapes_below scopes first (cores shapes) (tables shapes) c.inner in_it.inner all in_it.is_inner c.shape c.back in
+    let back = shapes_below scopes first (cores shapes) (tables shapes) c.inner in_it.inner all (ap (slice_get (cores shapes)) (sym child.2) ∙ in_it.is_inner) c.shape c.back in
     let again : back.0 ≡ core there.shape = same_some (slice_get (cores shapes) c.shape) back.0 (core there.shape) back.1 outer in
     let placed : Declares scopes d.class d.which there.member.file i.0 = d.is_there ∙ ap (λ m. Some (there.member.file, m)) i.1 in
     record {

@@ -14,7 +14,7 @@ use Rattle.lft_shapes.specs.declared.shapes.Shape.{Shape}
 use Rattle.lft_shapes.specs.Below.{IsBelow, itself}
 use Rattle.lft_shapes.specs.Built.{Core, IsBuilt, AreBuilt, AreInside, AreNoted, IsInside, IsNoted, core, cores, first_class}
 use Rattle.lft_shapes.specs.Makings.{AddsShape, AreMade, AreShapes, GoesOn, HasChildren, IsOfClass, KeepsBut, KeepsNoted, SetsOne}
-use Rattle.lft_shapes.specs.Shapes.{child_at, inside, tables}
+use Rattle.lft_shapes.specs.Shapes.{child_at, child_in, inside, tables}
 
 -- the shapes of the one are among those of the other, at the same places
 abbrev pub Kept : List Core → List Core → Type 0
@@ -23,26 +23,28 @@ Kept cs ds = (i : ℕ) (c : Core) → slice_get cs i ≡ Some c → slice_get ds
 pub class_kept : (cs ds : List Core) (s r : ℕ) → Kept cs ds → IsOfClass cs s r → IsOfClass ds s r
 class_kept cs ds s r kept is = record { core = is.core; is_core = kept s is.core is.is_core; is_of = is.is_of }
 
-pub inside_kept : (scopes : Scopes) (cs ds : List Core) (s k t : ℕ) → Kept cs ds → IsInside scopes cs s k t → IsInside scopes ds s k t
-inside_kept scopes cs ds s k t kept is = record {
+pub inside_kept : (scopes : Scopes) (cs ds : List Core) (s k : ℕ) (child : Child) → Kept cs ds → IsInside scopes cs s k child → IsInside scopes ds s k child
+inside_kept scopes cs ds s k child kept is = record {
   outer = is.outer;
   is_outer = kept s is.outer is.is_outer;
   member = is.member;
   is_member = is.is_member;
   inner = is.inner;
-  is_inner = kept t is.inner is.is_inner;
+  is_inner = kept child.shape is.inner is.is_inner;
   means = is.means;
-  once = is.once;
+  gives = is.gives;
 }
 
 -- in one more in which nothing is noted there is nothing
-pub inside_push : (rows : List (List (Option Child))) (s k t : ℕ) → inside (rows ++ [] ∷ []) s k ≡ Some t → inside rows s k ≡ Some t
-inside_push rows s k t e =
-    let one = option_map_some (λ (c : Child). c.shape) (option_and_then (λ (children : List (Option Child)). child_at children k) (slice_get (rows ++ [] ∷ []) s)) t e in
-    option_and_then_some (λ (children : List (Option Child)). child_at children k) (slice_get (rows ++ [] ∷ []) s) one.0 one.1 (λ (children : List (Option Child)) at is. elim (get_push_cases rows [] s children at) [
-      | inl old ↦ ap (λ o. option_map (λ (c : Child). c.shape) (option_and_then (λ (cs : List (Option Child)). child_at cs k) o)) old ∙ ap (option_map (λ (c : Child). c.shape)) is ∙ ap Some one.2
-      | inr last ↦ absurd (let none = ap (λ (cs : List (Option Child)). child_at cs k) last.1 ∙ is in cc)
-    ])
+pub inside_push : (rows : List (List (Option Child))) (s k : ℕ) (child : Child) → child_in (rows ++ [] ∷ []) s k ≡ Some child → child_in rows s k ≡ Some child
+inside_push rows s k child e = option_and_then_some (λ (children : List (Option Child)). child_at children k) (slice_get (rows ++ [] ∷ []) s) child e (λ (children : List (Option Child)) at is. elim (get_push_cases rows [] s children at) [
+  | inl old ↦ ap (option_and_then (λ (cs : List (Option Child)). child_at cs k)) old ∙ is
+  | inr last ↦ absurd (let none = ap (λ (cs : List (Option Child)). child_at cs k) last.1 ∙ is in cc)
+])
+
+-- the child of which the number of the shape is noted
+pub noted_child : (rows : List (List (Option Child))) (s k t : ℕ) → inside rows s k ≡ Some t → (child : Child) × (child_in rows s k ≡ Some child) × (child.shape ≡ t)
+noted_child rows s k t e = option_map_some (λ (c : Child). c.shape) (child_in rows s k) t e
 
 pub goes_nowhere : (needs : ℕ → Type 0) (m : Making) → GoesOn needs m m
 goes_nowhere needs m = record { scopes = refl; main = refl; made = λ first n all. all; kept = λ i c e. e }
@@ -67,7 +69,7 @@ module _ (old new : Making) (class : Class) (number : ℕ) (a : AddsShape old ne
     shapes = record {
       built = λ i c at. elim (split i c at) [ inl was ↦ all.shapes.built i c was | inr last ↦ subst (IsBuilt old.scopes) last.1 a.built ];
       below = λ i c at. elim (split i c at) [ inl was ↦ all.shapes.below i c was | inr last ↦ subst (IsBelow old.scopes first) (sym (ap (λ (d : Class). d.number) a.is_of) ∙ ap (λ (d : Core). d.class.number) last.1) below ];
-      inside = λ s k t e. inside_kept old.scopes (cores old.shapes.items) (cores new.shapes.items) s k t added_kept (all.shapes.inside s k t (inside_push (tables old.shapes.items) s k t (ap (λ rows. inside rows s k) (sym a.empty) ∙ e)));
+      inside = λ s k child e. inside_kept old.scopes (cores old.shapes.items) (cores new.shapes.items) s k child added_kept (all.shapes.inside s k child (inside_push (tables old.shapes.items) s k child (ap (λ rows. child_in rows s k) (sym a.empty) ∙ e)));
     };
     known = λ r s e. elim (a.knows r s e) [
       | inl was ↦ class_kept (cores old.shapes.items) (cores new.shapes.items) s r added_kept (all.known r s was)
@@ -89,25 +91,23 @@ goes_further needs one two three a b = record {
 
 -- what is noted in one shape
 pub sets_one : (old : List Shape) (number : ℕ) (y : Shape) (children : List (Option Child)) → number < length old → y.children.items ≡ children → SetsOne old (slice_set old number y) number children
-sets_one old number y children within is s k t e =
+sets_one old number y children within is s k child e =
     let rows : Shape → List (Option Child) = λ x. x.children.items in
-    let number_of : Child → ℕ = λ c. c.shape in
-    let child = option_map_some number_of (option_and_then (λ (cs : List (Option Child)). child_at cs k) (slice_get (tables (slice_set old number y)) s)) t e in
-    option_and_then_some (λ (cs : List (Option Child)). child_at cs k) (slice_get (tables (slice_set old number y)) s) child.0 child.1 (λ (cs : List (Option Child)) at there.
+    option_and_then_some (λ (cs : List (Option Child)). child_at cs k) (slice_get (tables (slice_set old number y)) s) child e (λ (cs : List (Option Child)) at there.
     let from = mapped_from rows (slice_set old number y) s cs at in
     elim (get_write_cases old number s y from.0 within from.1) [
-      | inl this ↦ inr (this.0, ap (option_map number_of) (ap (λ (l : List (Option Child)). child_at l k) (sym is ∙ ap rows this.1 ∙ from.2) ∙ there) ∙ ap Some child.2)
-      | inr other ↦ inl (ap (λ o. option_map number_of (option_and_then (λ (l : List (Option Child)). child_at l k) o)) (mapped rows old s from.0 other.1 ∙ ap Some from.2) ∙ ap (option_map number_of) there ∙ ap Some child.2)
+      | inl this ↦ inr (this.0, ap (λ (l : List (Option Child)). child_at l k) (sym is ∙ ap rows this.1 ∙ from.2) ∙ there)
+      | inr other ↦ inl (ap (option_and_then (λ (l : List (Option Child)). child_at l k)) (mapped rows old s from.0 other.1 ∙ ap Some from.2) ∙ there)
     ])
 
-pub set_made : (scopes : Scopes) (first : ℕ) (old new : Making) (number : ℕ) (children : List (Option Child)) → new.known ≡ old.known → cores new.shapes.items ≡ cores old.shapes.items → SetsOne old.shapes.items new.shapes.items number children → AreMade scopes first old → ((k : ℕ) (child : Child) → child_at children k ≡ Some child → IsInside scopes (cores old.shapes.items) number k child.shape) → AreMade scopes first new
+pub set_made : (scopes : Scopes) (first : ℕ) (old new : Making) (number : ℕ) (children : List (Option Child)) → new.known ≡ old.known → cores new.shapes.items ≡ cores old.shapes.items → SetsOne old.shapes.items new.shapes.items number children → AreMade scopes first old → ((k : ℕ) (child : Child) → child_at children k ≡ Some child → IsInside scopes (cores old.shapes.items) number k child) → AreMade scopes first new
 set_made scopes first old new number children known same sets all is = record {
   shapes = record {
     built = subst (AreBuilt scopes) (sym same) all.shapes.built;
     below = λ i c at. all.shapes.below i c (ap (λ l. slice_get l i) (sym same) ∙ at);
-    inside = λ s k t e. subst (λ cs. IsInside scopes cs s k t) (sym same) (elim (sets s k t e) [
-      | inl was ↦ all.shapes.inside s k t was
-      | inr this ↦ (let child = option_map_some (λ (c : Child). c.shape) (child_at children k) t this.1 in subst (λ m. IsInside scopes (cores old.shapes.items) s k m) child.2 (subst (λ m. IsInside scopes (cores old.shapes.items) m k child.0.shape) (sym this.0) (is k child.0 child.1)))
+    inside = λ s k child e. subst (λ cs. IsInside scopes cs s k child) (sym same) (elim (sets s k child e) [
+      | inl was ↦ all.shapes.inside s k child was
+      | inr this ↦ subst (λ m. IsInside scopes (cores old.shapes.items) m k child) (sym this.0) (is k child this.1)
     ]);
   };
   known = λ r s e. subst (λ cs. IsOfClass cs s r) (sym same) (all.known r s (ap (λ v. slice_get v.items r) (sym known) ∙ e));
@@ -126,7 +126,7 @@ none_made m first empty bare none = record {
   shapes = record {
     built = subst (AreBuilt m.scopes) (sym empty) (λ i c at. absurd (cc));
     below = subst (λ cs. (i : ℕ) (c : Core) → slice_get cs i ≡ Some c → IsBelow m.scopes first c.class.number) (sym empty) (λ i c at. absurd (cc));
-    inside = subst (AreInside m.scopes (cores m.shapes.items)) (sym bare) (λ s k t e. absurd (cc));
+    inside = subst (AreInside m.scopes (cores m.shapes.items)) (sym bare) (λ s k child e. absurd (cc));
   };
   known = λ r s e. absurd (none r s e);
 }

@@ -1,7 +1,9 @@
 mod Building
 mod Causing
 mod Circles
+mod Giving
 mod Goings
+mod Listing
 mod Meanings
 mod Naming
 mod Needing

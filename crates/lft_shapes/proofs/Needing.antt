@@ -43,13 +43,13 @@ pub declared : (scopes : Scopes) (c : Core) (k : ℕ) (m : Inherited) → IsBuil
 declared scopes c k m is at =
     let locate : Inherited → ℕ × Member = λ x. (x.file, x.member.now) in
     let from = listed_of (members_at scopes) is.chain k (locate m) (ap (λ l. slice_get l k) (sym is.has_members) ∙ mapped locate c.members k m at) in
-    record { class = from.1.0; reached = is.extends.reached from.1.0 (from.0, from.1.1); which = from.1.2.0; is_there = from.1.2.1 }
+    record { class = from.1.0; reached = is.extends.all.reached from.1.0 (from.0, from.1.1); which = from.1.2.0; is_there = from.1.2.1 }
 
 -- a parameter that the reactor has is one of its shape
 pub parameter_of : (scopes : Scopes) (c : Core) (q : List ℕ) → IsBuilt scopes c → HasParameter scopes c.class.number q → (n : ℕ) × (c.things q ≡ Some (thing.Parameter n))
 parameter_of scopes c q is h =
     let locate : InheritedParameter → ℕ × Parameter = λ x. (x.file, x.parameter.now) in
-    let has = listed_all (base_of scopes) c.class.number is.chain is.extends h.class h.reached in
+    let has = listed_all (base_of scopes) c.class.number is.chain is.extends.all h.class h.reached in
     let mem = mem_flat (parameters_at scopes) h.class h.parameter is.chain (mem_get is.chain has.0 h.class has.1) (mem_get (parameters_at scopes h.class) h.which h.parameter h.is_declared) in
     let there = get_mem h.parameter (flat_map (parameters_at scopes) is.chain) mem in
     let p = mapped_from locate c.parameters there.0 h.parameter (ap (λ l. slice_get l there.0) is.has_parameters ∙ there.1) in
@@ -61,7 +61,7 @@ parameter_has scopes c q n is e =
     let locate : InheritedParameter → ℕ × Parameter = λ x. (x.file, x.parameter.now) in
     let p = (is.has_names q (thing.Parameter n)).0 e in
     let from = listed_of (parameters_at scopes) is.chain n (locate p.0) (ap (λ l. slice_get l n) (sym is.has_parameters) ∙ mapped locate c.parameters n p.0 p.1) in
-    record { class = from.1.0; reached = is.extends.reached from.1.0 (from.0, from.1.1); which = from.1.2.0; parameter = locate p.0; is_declared = from.1.2.1; has_name = p.2 }
+    record { class = from.1.0; reached = is.extends.all.reached from.1.0 (from.0, from.1.1); which = from.1.2.0; parameter = locate p.0; is_declared = from.1.2.1; has_name = p.2 }
 
 -- a parameter has one name
 pub one_name : (scopes : Scopes) (c : Core) (p q : List ℕ) (n : ℕ) → IsBuilt scopes c → c.things p ≡ Some (thing.Parameter n) → c.things q ≡ Some (thing.Parameter n) → p ≡ q

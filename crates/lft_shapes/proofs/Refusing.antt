@@ -10,9 +10,8 @@ use Rattle.lft_sources.specs.declared.stop.Stop.{Stop}
 use Rattle.lft_sources.specs.declared.stop.Stop.TheVariants as stop
 use Rattle.lft_shapes.specs.declared.scopes.Scopes.{Scopes}
 use Rattle.lft_shapes.specs.Built.{members_at}
-use Rattle.lft_shapes.specs.Chains.{base_of}
+use Rattle.lft_shapes.specs.Chains.{IsChain}
 use Rattle.lft_shapes.specs.Refused.{HasCauseIn, HasForeign, HasTwoNames, IsCauseIn, IsTooMuch, SaysForeign, SaysTwice, names_along, why_of}
-use Rattle.lft_shapes.specs.Walks.{IsList}
 
 -- more than may be listed
 pub much_is_cause : (scopes : Scopes) (first : ℕ) (s : Stop) → IsTooMuch s → HasCauseIn scopes first s
@@ -33,15 +32,15 @@ foreign_cause scopes first foreign.Mutation place h = h
 foreign_cause scopes first foreign.Watchdog place h = h
 
 -- what no core reactor has
-pub foreign_is_cause : (scopes : Scopes) (first : ℕ) (chain : List ℕ) (s : Stop) → IsList (base_of scopes) first chain → SaysForeign (flat_map (members_at scopes) chain) s → HasCauseIn scopes first s
+pub foreign_is_cause : (scopes : Scopes) (first : ℕ) (chain : List ℕ) (s : Stop) → IsChain scopes first chain → SaysForeign (flat_map (members_at scopes) chain) s → HasCauseIn scopes first s
 foreign_is_cause scopes first chain stop.NoMemory is h = tt
 foreign_is_cause scopes first chain (stop.Refused refusal) is h =
     let m = listed_of (members_at scopes) chain h.2.0 (refusal.place.file, member.Foreign h.0 refusal.place.token) h.2.1 in
-    let cause : HasForeign scopes first h.0 refusal.place = record { class = m.1.0; reached = is.reached m.1.0 (m.0, m.1.1); which = m.1.2.0; is_there = m.1.2.1 } in
+    let cause : HasForeign scopes first h.0 refusal.place = record { class = m.1.0; reached = is.all.reached m.1.0 (m.0, m.1.1); which = m.1.2.0; is_there = m.1.2.1 } in
     subst (λ w. IsCauseIn scopes first w refusal.place) (sym h.1) (foreign_cause scopes first h.0 refusal.place cause)
 
 -- two things of one name
-pub twice_is_cause : (scopes : Scopes) (first : ℕ) (chain : List ℕ) (s : Stop) → IsList (base_of scopes) first chain → SaysTwice (names_along scopes chain) s → HasCauseIn scopes first s
+pub twice_is_cause : (scopes : Scopes) (first : ℕ) (chain : List ℕ) (s : Stop) → IsChain scopes first chain → SaysTwice (names_along scopes chain) s → HasCauseIn scopes first s
 twice_is_cause scopes first chain stop.NoMemory is h = tt
 twice_is_cause scopes first chain (stop.Refused refusal) is h =
     let cause : HasTwoNames scopes first refusal.place = record { chain = chain; extends = is; is_twice = h.1 } in

@@ -18,6 +18,7 @@ use Rattle.lft_shapes.specs.Shapes.{child_at, inside, tables, width_of}
 use Rattle.lft_shapes.specs.Sized.{HasMember, IsMarked, IsParameter, IsPassedIn, IsReady, IsReadyAt, IsSized, IsSizing, MarksSuch, NamesParameter, Sizes, by_instance, by_width}
 use Rattle.lft_shapes.specs.Walks.{IsBehind, Ways, nothing, one}
 use Rattle.lft_shapes.proofs.Building.{below_one}
+use Rattle.lft_shapes.proofs.Goings.{noted_child}
 use Rattle.lft_shapes.proofs.Needing.{declared, one_name}
 
 -- what is marked in two steps
@@ -37,10 +38,11 @@ pub inner_means : (scopes : Scopes) (first : ℕ) (shapes : List Shape) (s k : �
 inner_means scopes first shapes s k shape m t inner all is_shape is_member is_inside is_inner =
     let outer = mapped core shapes s shape is_shape in
     let within = mapped core shapes t inner is_inner in
-    let in_it = all.inside s k t is_inside in
+    let child = noted_child (tables shapes) s k t is_inside in
+    let in_it = all.inside s k child.0 child.1 in
     let same : in_it.outer ≡ core shape = same_some (slice_get (cores shapes) s) in_it.outer (core shape) in_it.is_outer outer in
     let member : in_it.member ≡ m = same_some (slice_get shape.members.items k) in_it.member m (subst (λ (o : Core). slice_get o.members k ≡ Some in_it.member) same in_it.is_member) is_member in
-    let inside : in_it.inner ≡ core inner = same_some (slice_get (cores shapes) t) in_it.inner (core inner) in_it.is_inner within in
+    let inside : in_it.inner ≡ core inner = same_some (slice_get (cores shapes) t) in_it.inner (core inner) (ap (slice_get (cores shapes)) (sym child.2) ∙ in_it.is_inner) within in
     ap (λ (x : Inherited). instance_of scopes (x.file, x.member.now)) (sym member) ∙ in_it.means ∙ ap (λ (o : Core). Some o.class.number) inside
 
 -- the shape that a child of a shape has is noted in it

@@ -1,5 +1,7 @@
 -- What reactors inherit.
-use Rattle.std.specs.Prelude.{◌≡◌, ◌≢◌, ◌↔◌, ℕ, List, [], Option, Some, None, map, flat_map, option_map, slice_get, string_bytes}
+use Rattle.std.specs.Prelude.{◌≡◌, ◌≢◌, ◌↔◌, ℕ, List, [], Option, Some, None, Contains, length, map, flat_map, option_map, slice_get, string_bytes}
+use Rattle.std.specs.List.Sorted.{IsNonDecreasingBy}
+use Rattle.lft_whole.specs.declared.tree.Assignment.{Assignment}
 use Rattle.lft_whole.specs.declared.tree.Foreign.{Foreign}
 use Rattle.lft_whole.specs.declared.tree.Instance.{Instance}
 use Rattle.lft_whole.specs.declared.tree.Member.{Member}
@@ -9,16 +11,16 @@ use Rattle.lft_whole.specs.declared.tree.Parameter.{Parameter}
 use Rattle.lft_shapes.specs.declared.scopes.Class.{Class}
 use Rattle.lft_shapes.specs.declared.scopes.Scopes.{Scopes}
 use Rattle.lft_shapes.specs.declared.shapes.Child.{Child}
+use Rattle.lft_shapes.specs.declared.shapes.Given.{Given}
 use Rattle.lft_shapes.specs.declared.shapes.Inherited.{Inherited}
 use Rattle.lft_shapes.specs.declared.shapes.InheritedParameter.{InheritedParameter}
 use Rattle.lft_shapes.specs.declared.shapes.Shape.{Shape}
 use Rattle.lft_shapes.specs.declared.shapes.Thing.{Thing}
 use Rattle.lft_shapes.specs.declared.shapes.Thing.TheVariants as thing
-use Rattle.lft_shapes.specs.Chains.{base_of, extended}
+use Rattle.lft_shapes.specs.Chains.{IsChain, extended}
 use Rattle.lft_shapes.specs.Circles.{GivesOnce}
 use Rattle.lft_shapes.specs.Scopes.{class_at}
-use Rattle.lft_shapes.specs.Shapes.{inside, name_of, thing_named}
-use Rattle.lft_shapes.specs.Walks.{IsList}
+use Rattle.lft_shapes.specs.Shapes.{child_in, inside, name_of, thing_named}
 
 -- members with the numbers of their files
 abbrev pub located : List Inherited → List (ℕ × Member)
@@ -78,10 +80,10 @@ HasName ps ms q (thing.Member n) = (m : Inherited) × (slice_get ms n ≡ Some m
 abbrev pub HasNoForeign : List Inherited → Type 0
 HasNoForeign ms = (k : ℕ) (m : Inherited) → slice_get ms k ≡ Some m → (what : Foreign) (at : ℕ) → m.member.now ≢ member.Foreign what at
 
--- The members and parameters are those of all that the reactor extends and of itself, one reactor after another. A name is the parameter or member that has it. No member is a mode, a mutation or a watchdog.
+-- The members and parameters are those of all that the reactor extends and of itself, one reactor after another, a first base before a second. A name is the parameter or member that has it. No member is a mode, a mutation or a watchdog.
 pub record IsBuilt (scopes : Scopes) (c : Core) : Type 0 where
   pub chain : List ℕ
-  pub extends : IsList (base_of scopes) c.class.number chain
+  pub extends : IsChain scopes c.class.number chain
   pub has_members : located c.members ≡ flat_map (members_at scopes) chain
   pub has_parameters : located_parameters c.parameters ≡ flat_map (parameters_at scopes) chain
   pub has_no_foreign : HasNoForeign c.members
@@ -100,24 +102,35 @@ abbrev pub instance_of : Scopes → ℕ × Member → Option ℕ
 instance_of scopes (file, member.Instance instance) = extended scopes file instance.reactor
 instance_of scopes _ = None
 
--- an instance gives each parameter one value at most
-abbrev pub IsGivenOnce : Member → Type 0
-IsGivenOnce m = (instance : Instance) → m ≡ member.Instance instance → GivesOnce instance.given.items
+-- what is written is given to the parameter that has the name
+abbrev pub IsOf : (List ℕ → Option Thing) → Assignment → Given → Type 0
+IsOf things a g = (things (string_bytes a.name.text) ≡ Some (thing.Parameter g.parameter)) × (g.value.now ≡ a.value)
 
--- the member of the one number of the one reactor is an instance of the other reactor, and gives each of its parameters one value at most
-pub record IsInside (scopes : Scopes) (cs : List Core) (s k t : ℕ) : Type 0 where
+-- what is given is what is written, all of it once, in the order of the parameters
+pub record AreGiven (things : List ℕ → Option Thing) (written : List Assignment) (given : List Given) : Type 0 where
+  pub count : length given ≡ length written
+  pub in_order : IsNonDecreasingBy (λ g. g.parameter) given
+  pub each : (g : Given) → Contains given g → (a : Assignment) × Contains written a × IsOf things a g
+  pub all : (a : Assignment) → Contains written a → (g : Given) × Contains given g × IsOf things a g
+
+-- an instance gives each parameter one value at most, and these are noted
+abbrev pub NotesGiven : (List ℕ → Option Thing) → Member → List Given → Type 0
+NotesGiven things m given = (instance : Instance) → m ≡ member.Instance instance → GivesOnce instance.given.items × AreGiven things instance.given.items given
+
+-- the member of that number of that reactor is an instance of the reactor of the child's shape, and gives its parameters what the child has
+pub record IsInside (scopes : Scopes) (cs : List Core) (s k : ℕ) (child : Child) : Type 0 where
   pub outer : Core
   pub is_outer : slice_get cs s ≡ Some outer
   pub member : Inherited
   pub is_member : slice_get outer.members k ≡ Some member
   pub inner : Core
-  pub is_inner : slice_get cs t ≡ Some inner
+  pub is_inner : slice_get cs child.shape ≡ Some inner
   pub means : instance_of scopes (member.file, member.member.now) ≡ Some inner.class.number
-  pub once : IsGivenOnce member.member.now
+  pub gives : NotesGiven inner.things member.member.now child.given.items
 
 -- so it is wherever a shape is noted
 abbrev pub AreInside : Scopes → List Core → List (List (Option Child)) → Type 0
-AreInside scopes cs rows = (s k t : ℕ) → inside rows s k ≡ Some t → IsInside scopes cs s k t
+AreInside scopes cs rows = (s k : ℕ) (child : Child) → child_in rows s k ≡ Some child → IsInside scopes cs s k child
 
 -- in each instance of the reactor of that number a shape is noted
 abbrev pub IsNoted : Scopes → List (List (Option Child)) → ℕ → Core → Type 0

@@ -9,7 +9,7 @@ use Rattle.lft_shapes.specs.declared.shapes.Shape.{Shape}
 use Rattle.lft_shapes.specs.Below.{IsBelow}
 use Rattle.lft_shapes.specs.Built.{Core, IsBuilt, AreBuilt, AreInside, cores}
 use Rattle.lft_shapes.specs.Chains.{extended}
-use Rattle.lft_shapes.specs.Shapes.{child_at, inside, tables}
+use Rattle.lft_shapes.specs.Shapes.{child_at, child_in, inside, tables}
 
 -- the one of this number is of the reactor of that number
 pub record IsOfClass (cs : List Core) (s r : ℕ) : Type 0 where
@@ -34,7 +34,7 @@ IsNeeded scopes file instance first = (r : ℕ) → extended scopes file instanc
 
 -- what is noted in the shape of this number alone differs
 abbrev pub SetsOne : List Shape → List Shape → ℕ → List (Option Child) → Type 0
-SetsOne old new number children = (s k t : ℕ) → inside (tables new) s k ≡ Some t → (inside (tables old) s k ≡ Some t) ⊎ ((s ≡ number) × (option_map (λ child. child.shape) (child_at children k) ≡ Some t))
+SetsOne old new number children = (s k : ℕ) (child : Child) → child_in (tables new) s k ≡ Some child → (child_in (tables old) s k ≡ Some child) ⊎ ((s ≡ number) × (child_at children k ≡ Some child))
 
 -- nothing is known of any reactor
 abbrev pub KnowsNone : List (Option ℕ) → Type 0

@@ -15,10 +15,10 @@ use Rattle.lft_shapes.specs.declared.scopes.Class.{Class}
 use Rattle.lft_shapes.specs.declared.scopes.Scopes.{Scopes}
 use Rattle.lft_shapes.specs.declared.shapes.Named.{Named}
 use Rattle.lft_shapes.specs.Built.{members_at, parameters_at}
-use Rattle.lft_shapes.specs.Chains.{base_of}
+use Rattle.lft_shapes.specs.Chains.{IsChain, base_of}
 use Rattle.lft_shapes.specs.Scopes.{IsMainAt, class_at, meaning_in}
 use Rattle.lft_shapes.specs.Shapes.{name_of}
-use Rattle.lft_shapes.specs.Walks.{IsList, Reaches}
+use Rattle.lft_shapes.specs.Walks.{Reaches}
 
 -- no reactor of the first file is a main one
 abbrev pub HasNoMain : Scopes → Type 0
@@ -103,7 +103,7 @@ pub record IsTwice (names : List (ℕ × Name)) (place : Place) : Type 0 where
 -- the reactor has the name at the place twice, with all that it inherits
 pub record HasTwoNames (scopes : Scopes) (first : ℕ) (place : Place) : Type 0 where
   pub chain : List ℕ
-  pub extends : IsList (base_of scopes) first chain
+  pub extends : IsChain scopes first chain
   pub is_twice : IsTwice (names_along scopes chain) place
 
 -- what holds at the place, for each cause that a reactor can have

@@ -44,6 +44,10 @@ child_at children k = option_and_then (λ child. child) (slice_get children k)
 abbrev pub tables : List Shape → List (List (Option Child))
 tables shapes = map (λ shape. shape.children.items) shapes
 
--- the number of the shape in the member of this number of a shape
+-- what is in the member of this number of a shape
+abbrev pub child_in : List (List (Option Child)) → ℕ → ℕ → Option Child
+child_in rows s k = option_and_then (λ children. child_at children k) (slice_get rows s)
+
+-- the number of the shape there
 abbrev pub inside : List (List (Option Child)) → ℕ → ℕ → Option ℕ
-inside rows s k = option_map (λ child. child.shape) (option_and_then (λ children. child_at children k) (slice_get rows s))
+inside rows s k = option_map (λ child. child.shape) (child_in rows s k)

@@ -1,5 +1,5 @@
 -- Lists of all that is reached from a first one, and walks that make them.
-use Rattle.std.specs.Prelude.{◌≡◌, ℕ, ◌<◌, ◌≤◌, ◌⊎◌, Bool, true, List, [], ◌∷◌, ◌++◌, Option, Some, None, slice_get}
+use Rattle.std.specs.Prelude.{◌≡◌, ℕ, ◌<◌, ◌≤◌, ◌⊎◌, Bool, true, List, [], ◌∷◌, ◌++◌, Option, Some, None, reverse, slice_get}
 use Rattle.std.specs.BTreeSet.{contains}
 use Rattle.std.specs.Ordering.{nat_cmp}
 use Rattle.lft_shapes.specs.declared.walk.Visit.{Visit}
@@ -28,6 +28,12 @@ pub record IsList (next : Ways) (first : ℕ) (list : List ℕ) : Type 0 where
   pub behind : IsBehind next list
   pub has_first : Has list first
   pub reached : (r : ℕ) → Has list r → Reaches next first r
+
+-- what is listed of some, one after another, where others stand already: one that stands already isn't listed again, another one comes behind what is listed of those that it leads to
+pub data Lists (ways : ℕ → List ℕ) : List ℕ → List ℕ → List ℕ → Type 0 where
+  no_more : (before : List ℕ) → Lists ways before [] before
+  again : (before after : List ℕ) (x : ℕ) (xs : List ℕ) → Has before x → Lists ways before xs after → Lists ways before (x ∷ xs) after
+  new : (before inner after : List ℕ) (x : ℕ) (xs : List ℕ) → (Has before x → ⊥) → Lists ways before (ways x) inner → Lists ways (inner ++ x ∷ []) xs after → Lists ways before (x ∷ xs) after
 
 -- ---- for the walk's own contracts
 
@@ -81,6 +87,27 @@ PassesTo next walk number = (v : Visit) × IsTop walk v × ((k r : ℕ) → v.ne
 -- the one that is gone over leads to that node
 abbrev pub LeadsTo : Ways → Walk → ℕ → Type 0
 LeadsTo next walk node = (v : Visit) × IsTop walk v × ((k : ℕ) × (next v.node k ≡ Some node))
+
+-- the list in which a walk ends: of those that are gone over, the last one first, each is listed behind what is listed of those that it still leads to
+abbrev pub EndsIn : (ℕ → ℕ → List ℕ) → List ℕ → List Visit → List ℕ → Type 0
+EndsIn from listed [] list = listed ≡ list
+EndsIn from listed (v ∷ vs) list = (mid : List ℕ) × Lists (λ r. from r 0) listed (from v.node v.next) mid × EndsIn from (mid ++ v.node ∷ []) vs list
+
+-- the walk ends in what is to be listed of the first one, where each leads to these from a place on
+abbrev pub IsOrdered : (ℕ → ℕ → List ℕ) → ℕ → Walk → Type 0
+IsOrdered from first walk = (list : List ℕ) → EndsIn from walk.listed.items (reverse walk.path.items) list → Lists (λ r. from r 0) [] (first ∷ []) list
+
+-- the one that is gone over leads to no more
+abbrev pub LeadsNoFurther : (ℕ → ℕ → List ℕ) → Walk → Type 0
+LeadsNoFurther from walk = (v : Visit) × IsTop walk v × (from v.node v.next ≡ [])
+
+-- what the one that is gone over leads to before this number is done
+abbrev pub PassesDone : (ℕ → ℕ → List ℕ) → Walk → ℕ → Type 0
+PassesDone from walk number = (v : Visit) × IsTop walk v × ((passed : List ℕ) × (from v.node v.next ≡ passed ++ from v.node number) × ((r : ℕ) → Has passed r → is_done walk r ≡ true))
+
+-- the one that is gone over leads to that node first
+abbrev pub LeadsFirst : (ℕ → ℕ → List ℕ) → Walk → ℕ → Type 0
+LeadsFirst from walk node = (v : Visit) × IsTop walk v × ((more : List ℕ) × (from v.node v.next ≡ node ∷ more))
 
 -- from that node there is a way to the one that is gone over
 abbrev pub ClosesCircle : Ways → Walk → ℕ → Type 0

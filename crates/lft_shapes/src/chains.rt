@@ -2,9 +2,9 @@
 
 ghost use Rattle.std.specs.Prelude.{◌≡◌, ◌≤◌, ◌<◌, ℕ, Some, None, IfErr, IfOk, IfSome, OnOk, MatchOption, IsTrue, true, false};
 ghost use Rattle.lft_whole.specs.declared.tree.Name.{Name};
-ghost use Rattle.lft_shapes.specs.Chains.{base_of};
+ghost use Rattle.lft_shapes.specs.Chains.{IsChain, base_of, bases_from};
 ghost use Rattle.lft_shapes.specs.Refused.{HasCauseIn, NamesBase};
-ghost use Rattle.lft_shapes.specs.Walks.{IsWalk, IsList, IsOver, Reaches};
+ghost use Rattle.lft_shapes.specs.Walks.{IsOrdered, IsOver, IsWalk, Reaches};
 
 use crate::scopes::Scopes;
 use crate::walk::Walk;
@@ -53,6 +53,7 @@ fn base_at(
 /// Goes on with the bases of the reactor that is gone over; whether there was one.
 fn step(scopes: &Scopes, work: &mut Work, walk: &mut Walk) -> Result<bool, Stop>
     ensures walk { OnOk result ((first : ℕ) → IsWalk (base_of scopes.now) first walk.old → IsWalk (base_of scopes.now) first walk.new) }
+    ensures order { OnOk result ((first : ℕ) → IsWalk (base_of scopes.now) first walk.old → IsOrdered (bases_from scopes.now) first walk.old → IsOrdered (bases_from scopes.now) first walk.new) }
     ensures over { IfOk result (λ more. more ≡ false → IsOver walk.new) }
     ensures main { OnOk result (work.new.main ≡ work.old.main) }
     ensures cause { IfErr result (λ stop. (first : ℕ) → IsWalk (base_of scopes.now) first walk.old → HasCauseIn scopes.now first stop) }
@@ -76,14 +77,15 @@ fn step(scopes: &Scopes, work: &mut Work, walk: &mut Walk) -> Result<bool, Stop>
     Err(Stop::at(Why::ExtendsItself, base.file, base.at))
 }
 
-/// The reactor behind all that it extends at any depth, each once, a base of a base before it.
+/// The reactor behind all that it extends at any depth, each once, a base of a base before it, and a first base
+/// before a second.
 pub(crate) fn chain(
     alloc: Global,
     scopes: &Scopes,
     work: &mut Work,
     class: usize,
 ) -> Result<Vec<usize>, Stop>
-    ensures list { IfOk result (λ v. IsList (base_of scopes.now) class v.items) }
+    ensures list { IfOk result (λ v. IsChain scopes.now class v.items) }
     ensures main { OnOk result (work.new.main ≡ work.old.main) }
     ensures cause { IfErr result (HasCauseIn scopes.now class) }
 {

@@ -5,13 +5,13 @@ ghost use Rattle.lft_scope.specs.Tests.{texts};
 ghost use Rattle.lft_shapes.specs.declared.shapes.Inherited.{Inherited};
 ghost use Rattle.lft_shapes.specs.declared.shapes.Shape.{Shape};
 ghost use Rattle.lft_shapes.specs.Below.{Declares, IsBelow};
-ghost use Rattle.lft_shapes.specs.Built.{AreNoted, Core, IsInside, IsNoted, cores, first_class, instance_of};
+ghost use Rattle.lft_shapes.specs.Built.{AreGiven, AreNoted, Core, IsInside, IsNoted, cores, first_class, instance_of};
 ghost use Rattle.lft_shapes.specs.Causes.{SaysBelow};
 ghost use Rattle.lft_shapes.specs.Chains.{extended};
 ghost use Rattle.lft_shapes.specs.Circles.{GivesOnce, HasWrongGiven};
 ghost use Rattle.lft_shapes.specs.Makings.{AddsShape, AreMade, AreShapes, GoesOn, HasChildren, IsNeeded, IsOfClass, KeepsBut, KeepsNoted, KnowsNone, KnowsOne, SetsOne};
 ghost use Rattle.lft_shapes.specs.Refused.{HasCauseIn};
-ghost use Rattle.lft_shapes.specs.Shapes.{tables};
+ghost use Rattle.lft_shapes.specs.Shapes.{tables, thing_named};
 
 use crate::scopes::{Class, Scopes};
 use crate::shapes::{Child, Given, Shape};
@@ -52,6 +52,7 @@ fn given_of<'a>(
     instance: &'a Instance,
 ) -> Result<Vec<Given<'a>>, Stop>
     ensures once { OnOk result (GivesOnce instance.now.given.items) }
+    ensures given { IfOk result (λ given. AreGiven (thing_named inner.now) instance.now.given.items given.items) }
     ensures cause { IfErr result (HasWrongGiven inner.now file instance.now.given.items) }
 {
     let names = given_names(alloc, &instance.given)?;
@@ -84,6 +85,7 @@ fn given_inside<'a>(
     instance: &'a Instance,
 ) -> Result<Vec<Given<'a>>, Stop>
     ensures once { OnOk result ((inner : Shape) → slice_get shapes.now shape ≡ Some inner → GivesOnce instance.now.given.items) }
+    ensures given { IfOk result (λ given. (inner : Shape) → slice_get shapes.now shape ≡ Some inner → AreGiven (thing_named inner) instance.now.given.items given.items) }
     ensures cause { IfErr result (λ stop. (inner : Shape) × (slice_get shapes.now shape ≡ Some inner) × HasWrongGiven inner file instance.now.given.items stop) }
 {
     let Some(inner) = shapes.get(shape) else {
@@ -157,6 +159,7 @@ impl<'a> Making<'a> {
         ensures goes { OnOk result (GoesOn (IsNeeded self.old.scopes file instance.now) self.old self.new) }
         ensures child { IfOk result (λ child. (first : ℕ) → IsNeeded self.old.scopes file instance.now first → AreMade self.old.scopes first self.old → (r : ℕ) × (extended self.old.scopes file instance.now.reactor ≡ Some r) × IsOfClass (cores self.new.shapes.items) child.shape r) }
         ensures once { OnOk result ((first : ℕ) → IsNeeded self.old.scopes file instance.now first → AreMade self.old.scopes first self.old → GivesOnce instance.now.given.items) }
+        ensures given { IfOk result (λ child. (inner : Shape) → slice_get self.new.shapes.items child.shape ≡ Some inner → AreGiven (thing_named inner) instance.now.given.items child.given.items) }
         ensures noted { OnOk result (KeepsNoted self.old.shapes.items self.new.shapes.items) }
         ensures cause { IfErr result (λ stop. (first r which : ℕ) → AreMade self.old.scopes first self.old → IsBelow self.old.scopes first r → Declares self.old.scopes r which file instance.now → SaysBelow self.old.scopes first stop) }
     {
@@ -171,7 +174,7 @@ impl<'a> Making<'a> {
     /// What is in the member of this number of a shape, if it is an instance.
     fn child_at(&mut self, shape: usize, number: usize) -> Result<Option<Child<'a>>, Stop>
         ensures goes { OnOk result (GoesOn (λ first. Unit {0}) self.old self.new) }
-        ensures child { IfOk result (λ o. IfSome o (λ child. (first : ℕ) → AreMade self.old.scopes first self.old → IsInside self.old.scopes (cores self.new.shapes.items) shape number child.shape)) }
+        ensures child { IfOk result (λ o. IfSome o (λ child. (first : ℕ) → AreMade self.old.scopes first self.old → IsInside self.old.scopes (cores self.new.shapes.items) shape number child)) }
         ensures noted { OnOk result (KeepsNoted self.old.shapes.items self.new.shapes.items) }
         ensures none { IfOk result (λ o. IfNone o ((c : Core) (m : Inherited) (n : ℕ) → slice_get (cores self.old.shapes.items) shape ≡ Some c → slice_get c.members number ≡ Some m → instance_of self.old.scopes (m.file, m.member.now) ≡ Some n → ⊥)) }
         ensures cause { IfErr result (λ stop. (first : ℕ) → AreMade self.old.scopes first self.old → SaysBelow self.old.scopes first stop) }

@@ -1,7 +1,7 @@
 //! A walk that lists all that is reached from a first one, each behind all that it leads to.
 
-ghost use Rattle.std.specs.Prelude.{◌≡◌, ℕ, Option, true, false, IfOk, IfSome, IfNone, OnOk};
-ghost use Rattle.lft_shapes.specs.Walks.{IsWalk, IsList, IsTop, IsOver, EndsAt, PassesTo, LeadsTo, ClosesCircle, is_done};
+ghost use Rattle.std.specs.Prelude.{◌≡◌, ℕ, List, [], ◌∷◌, Option, true, false, IfOk, IfSome, IfNone, OnOk};
+ghost use Rattle.lft_shapes.specs.Walks.{IsWalk, IsList, IsOrdered, IsTop, IsOver, EndsAt, LeadsFirst, LeadsNoFurther, LeadsTo, Lists, PassesDone, PassesTo, ClosesCircle, is_done};
 
 use std::alloc::{AllocError, Global};
 use std::collections::BTreeSet;
@@ -26,7 +26,8 @@ pub(crate) struct Walk {
 impl Walk {
     /// Nothing is listed yet.
     pub(crate) fn of(alloc: Global, first: usize) -> Result<Walk, AllocError>
-        ensures { IfOk result (λ walk. (next : ℕ → ℕ → Option ℕ) → IsWalk next first walk) }
+        ensures walk { IfOk result (λ walk. (next : ℕ → ℕ → Option ℕ) → IsWalk next first walk) }
+        ensures order { IfOk result (λ walk. (from : ℕ → ℕ → List ℕ) → IsOrdered from first walk) }
     {
         let listed = Vec::new(alloc);
         let done = BTreeSet::new(alloc);
@@ -62,7 +63,8 @@ impl Walk {
 
     /// The one that is gone over now leads to no more: it is listed.
     pub(crate) fn end(&mut self) -> Result<(), AllocError>
-        ensures { OnOk result ((next : ℕ → ℕ → Option ℕ) (first : ℕ) → EndsAt next self.old → IsWalk next first self.old → IsWalk next first self.new) }
+        ensures walk { OnOk result ((next : ℕ → ℕ → Option ℕ) (first : ℕ) → EndsAt next self.old → IsWalk next first self.old → IsWalk next first self.new) }
+        ensures order { OnOk result ((from : ℕ → ℕ → List ℕ) (first : ℕ) → LeadsNoFurther from self.old → IsOrdered from first self.old → IsOrdered from first self.new) }
     {
         let Some(top) = self.path.pop() else {
             return Ok(());
@@ -74,7 +76,8 @@ impl Walk {
 
     /// What the one that is gone over now leads to before this number is listed.
     pub(crate) fn pass(&mut self, number: usize) -> Result<(), AllocError>
-        ensures { OnOk result ((next : ℕ → ℕ → Option ℕ) (first : ℕ) → PassesTo next self.old number → IsWalk next first self.old → IsWalk next first self.new) }
+        ensures walk { OnOk result ((next : ℕ → ℕ → Option ℕ) (first : ℕ) → PassesTo next self.old number → IsWalk next first self.old → IsWalk next first self.new) }
+        ensures order { OnOk result ((next : ℕ → ℕ → Option ℕ) (from : ℕ → ℕ → List ℕ) (first : ℕ) → PassesDone from self.old number → IsWalk next first self.old → IsOrdered from first self.old → IsOrdered from first self.new) }
     {
         let Some(top) = self.path.pop() else {
             return Ok(());
@@ -89,6 +92,7 @@ impl Walk {
     /// Goes on with one that the one leads to which is gone over now. False if it was met before.
     pub(crate) fn enter(&mut self, node: usize) -> Result<bool, AllocError>
         ensures new { IfOk result (λ is_new. is_new ≡ true → (next : ℕ → ℕ → Option ℕ) (first : ℕ) → LeadsTo next self.old node → IsWalk next first self.old → IsWalk next first self.new) }
+        ensures order { IfOk result (λ is_new. is_new ≡ true → (next : ℕ → ℕ → Option ℕ) (from : ℕ → ℕ → List ℕ) (first : ℕ) → LeadsFirst from self.old node → IsWalk next first self.old → IsOrdered from first self.old → IsOrdered from first self.new) }
         ensures circle { IfOk result (λ is_new. is_new ≡ false → is_done self.old node ≡ false → (next : ℕ → ℕ → Option ℕ) (first : ℕ) → IsWalk next first self.old → ClosesCircle next self.old node) }
     {
         let is_new = self.met.insert(node)?;
@@ -101,7 +105,8 @@ impl Walk {
 
     /// All that was listed.
     pub(crate) fn into_listed(self) -> Vec<usize>
-        ensures { (next : ℕ → ℕ → Option ℕ) (first : ℕ) → IsOver self → IsWalk next first self → IsList next first result.items }
+        ensures list { (next : ℕ → ℕ → Option ℕ) (first : ℕ) → IsOver self → IsWalk next first self → IsList next first result.items }
+        ensures order { (from : ℕ → ℕ → List ℕ) (first : ℕ) → IsOver self → IsOrdered from first self → Lists (λ r. from r 0) [] (first ∷ []) result.items }
     {
         let Walk {
             listed,

@@ -1,16 +1,20 @@
-use Rattle.std.proofs.Common.{◌≡◌, ◌≢◌, ◌<◌, ℕ, List, Some, inl, inr, length, map, slice_get, string_bytes, refl, sym, ap, subst, ◌∙◌, arith}
+use Rattle.std.proofs.Common.{◌≡◌, ◌≢◌, ◌+◌, ◌<◌, ℕ, List, Some, inl, inr, length, map, slice_get, string_bytes, refl, rules, sym, ap, subst, ◌∙◌, arith}
 use Rattle.std.specs.Prelude.{unwrap_or}
+use Rattle.std.proofs.lemmas.List.Sorted.{IsNonDecreasingBy-from_sort_by_key}
 use Rattle.std.proofs.lemmas.Option.{slice_get_read, slice_get_within}
 use Rattle.lft_lists.proofs.Options.{lacking}
 use Rattle.lft_lists.proofs.Places.{Some_same}
 use Rattle.lft_scope.specs.Places.{place, place_in}
 use Rattle.lft_scope.specs.Tests.{texts}
 use Rattle.lft_whole.specs.declared.tree.Assignment.{Assignment}
+use Rattle.lft_shapes.specs.declared.shapes.Given.{Given}
 use Rattle.lft_shapes.specs.declared.shapes.Thing.TheVariants as thing
 use Rattle.lft_shapes.specs.Circles.{HasWrongGiven}
 use Rattle.lft_shapes.specs.Shapes.{thing_named}
 use Rattle.lft_shapes.proofs.Building.{below_one}
+use Rattle.lft_shapes.proofs.Giving.{given_moved, noted_more}
 use Rattle.lft_shapes.proofs.Naming.{first_one, once}
+use Rattle.lft_shapes.proofs.Walking.{push_length}
 use Rattle.lft_shapes.proofs.making.given_of.Goals as goal
 
 pub returns-in_default-clause-cause : goal.returns-in_default-clause-cause
@@ -78,7 +82,25 @@ loop-place-preserved c =
     let first = c.unwrap_or.ensures in
     let same = c.if-unwrap_or-place.false in
     let e : unwrap_or c.get.result k ≡ k = omega (arith, first, same) in
-    below_one (λ j (x : Assignment). unwrap_or (place_in index (string_bytes x.name.text)) j ≡ j) xs k a there c.loop-place.invariant (ap (λ o. unwrap_or o k) (sym is) ∙ e)
+    let before = c.loop-place.invariant in
+    let given = c.loop-place.given.items in
+    record {
+      once = below_one (λ j (x : Assignment). unwrap_or (place_in index (string_bytes x.name.text)) j ≡ j) xs k a there before.once (ap (λ o. unwrap_or o k) (sym is) ∙ e);
+      long = ap length c.in_ok-push.ensures.items ∙ push_length given _ ∙ ap (λ n. n + 1) before.long;
+      given = noted_more (thing_named c.args.inner.now) xs given _ _ c.in_ok-push.ensures.items a (ap (slice_get xs) before.long ∙ there) (ap (thing_named c.args.inner.now) (sym c.as_str-name.ensures.value) ∙ c.in-Some.ensures.some, refl) before.given;
+    }
+
+pub loop-place-init : goal.loop-place-init
+loop-place-init c = record {
+  once = λ k a lt at. absurd (omega (arith, lt));
+  long = ap length c.new-given.ensures.items;
+  given = λ k a g at is. absurd (let e = ap (λ l. slice_get l k) (sym c.new-given.ensures.items) ∙ is in cc);
+}
+
+pub returns-clause-given : goal.returns-clause-given
+returns-clause-given c =
+    let long = c.loop-place.invariant.long in
+    given_moved (thing_named c.args.inner.now) c.args.instance.now.given.items c.loop-place.given.items _ (omega (arith, long)) c.loop-place.invariant.given c.in_ok-sort_by_key.ensures.permutation (IsNonDecreasingBy-from_sort_by_key (λ (g : Given). g.parameter) _ c.in_ok-sort_by_key.ensures.sorted (λ a r q k. search rules))
 
 pub returns-clause-once : goal.returns-clause-once
 returns-clause-once c token twice =
@@ -86,7 +108,7 @@ returns-clause-once c token twice =
     let index = c.in_ok-index.index in
     let name : Assignment → List ℕ = λ x. string_bytes x.name.text in
     let names : texts c.deref-2.result.now ≡ map name xs = ap texts c.deref-2.ensures.value ∙ c.in_ok-names.ensures ∙ ap (map name) c.deref.ensures.value in
-    let at : (k : ℕ) (a : Assignment) → slice_get xs k ≡ Some a → place_in index (name a) ≡ Some k = λ k a there. (let within = slice_get_within xs k a there in once name xs (place_in index (name a)) k a there (c.in_ok-index.ensures (name a) ∙ ap (place (name a)) names) (c.loop-place.invariant k a (omega (arith, within)) there)) in
+    let at : (k : ℕ) (a : Assignment) → slice_get xs k ≡ Some a → place_in index (name a) ≡ Some k = λ k a there. (let within = slice_get_within xs k a there in once name xs (place_in index (name a)) k a there (c.in_ok-index.ensures (name a) ∙ ap (place (name a)) names) (c.loop-place.invariant.once k a (omega (arith, within)) there)) in
     let same = Some_same twice.one twice.other (sym (at twice.one twice.first twice.is_first) ∙ ap (place_in index) twice.same ∙ at twice.other twice.second twice.is_second) in
     let later = twice.later in
     omega (arith, same, later)

@@ -7,7 +7,7 @@ use Rattle.lft_scope.proofs.Placing.{lent}
 use Rattle.lft_whole.specs.declared.tree.Instance.{Instance}
 use Rattle.lft_whole.specs.declared.tree.Member.TheVariants as member
 use Rattle.lft_shapes.specs.declared.shapes.Inherited.{Inherited}
-use Rattle.lft_shapes.specs.Built.{Core, core, cores, instance_of}
+use Rattle.lft_shapes.specs.Built.{AreGiven, Core, core, cores, instance_of}
 use Rattle.lft_shapes.specs.Circles.{GivesOnce}
 use Rattle.lft_shapes.specs.Makings.{IsNeeded}
 use Rattle.lft_shapes.proofs.Goings.{goes_weaker}
@@ -48,10 +48,12 @@ returns-clause-child c first all =
       inner = child.2.core;
       is_inner = child.2.is_core;
       means = ap (λ x. instance_of scopes (m.file, x)) is ∙ child.1 ∙ ap Some (sym child.2.is_of);
-      once = λ instance same.
+      gives = λ instance same.
           let e : member.Instance c.in-Some-instance.instance.now ≡ member.Instance instance = sym is ∙ same in
           let i : c.in-Some-instance.instance.now ≡ instance = cc in
-          subst (λ (x : Instance). GivesOnce x.given.items) i (c.in_ok-child.ensures.once first needed all);
+          let inner = mapped_from core c.child_of.new.self.shapes.items c.in_ok-child.child.shape child.2.core child.2.is_core in
+          let given = c.in_ok-child.ensures.given inner.0 inner.1 in
+          subst (λ (x : Instance). GivesOnce x.given.items × AreGiven child.2.core.things x.given.items c.in_ok-child.child.given.items) i (c.in_ok-child.ensures.once first needed all, subst (λ (o : Core). AreGiven o.things c.in-Some-instance.instance.now.given.items c.in_ok-child.child.given.items) inner.2 given);
     }
 
 pub returns-in_err-child-clause-cause : goal.returns-in_err-child-clause-cause

@@ -38,6 +38,9 @@ returns-clause-once c first needed all =
     let from = mapped_from core c.shape_of.new.self.shapes.items c.in_ok-shape.shape of.core of.is_core in
     c.in_ok-given.ensures.once from.0 (ap (λ l. slice_get l c.in_ok-shape.shape) c.deref.ensures.value ∙ from.1)
 
+pub returns-clause-given : goal.returns-clause-given
+returns-clause-given c found at = c.in_ok-given.ensures.given found (ap (λ l. slice_get l c.in_ok-shape.shape) c.deref.ensures.value ∙ at)
+
 pub returns-in_default-clause-cause : goal.returns-in_default-clause-cause
 returns-in_default-clause-cause c first r which all below declares =
     let scopes = c.args.self.now.scopes in

@@ -30,7 +30,7 @@ loop-number-preserved c =
     let scopes = c.args.self.now.scopes in
     let children = c.loop-number.children.items in
     let cs = cores c.child_at.new.self.shapes.items in
-    let Q : ℕ → Child → Type 0 = λ k child. IsInside scopes cs c.args.shape k child.shape in
+    let Q : ℕ → Child → Type 0 = λ k child. IsInside scopes cs c.args.shape k child in
     record {
       goes = goes_further _ _ _ _ before.goes c.in_ok-child.ensures.goes;
       noted = λ s k t e. c.in_ok-child.ensures.noted s k t (before.noted s k t e);
@@ -39,9 +39,9 @@ loop-number-preserved c =
         | inr last ↦ lacking ((d : Core) (m : Inherited) (n : ℕ) → slice_get (cores old.shapes.items) c.args.shape ≡ Some d → slice_get d.members c.loop-number.number ≡ Some m → instance_of old.scopes (m.file, m.member.now) ≡ Some n → ⊥) c.in_ok-child.child c.in_ok-child.ensures.none last.1 d m n (before.goes.kept c.args.shape d is) (ap (slice_get d.members) (sym (last.0 ∙ before.count)) ∙ member) (ap (λ s. instance_of s (m.file, m.member.now)) before.goes.scopes ∙ means)
       ];
       count = ap length c.in_ok-push.ensures.items ∙ push_length children c.in_ok-child.child ∙ ap (λ n. n + 1) before.count;
-      children = λ first all. subst (λ l. (k : ℕ) (child : Child) → child_at l k ≡ Some child → Q k child) (sym c.in_ok-push.ensures.items) (child_push Q children c.in_ok-child.child c.loop-number.number before.count (λ k child at. inside_kept scopes (cores old.shapes.items) cs c.args.shape k child.shape c.in_ok-child.ensures.goes.kept (before.children first all k child at)) (λ child is.
-          let P : Child → Type 0 = λ x. (n : ℕ) → AreMade old.scopes n old → IsInside old.scopes cs c.args.shape c.loop-number.number x.shape in
-          subst (λ s. IsInside s cs c.args.shape c.loop-number.number child.shape) before.goes.scopes (found P c.in_ok-child.child child c.in_ok-child.ensures.child is first (subst (λ s. AreMade s first old) (sym before.goes.scopes) (before.goes.made first tt all)))));
+      children = λ first all. subst (λ l. (k : ℕ) (child : Child) → child_at l k ≡ Some child → Q k child) (sym c.in_ok-push.ensures.items) (child_push Q children c.in_ok-child.child c.loop-number.number before.count (λ k child at. inside_kept scopes (cores old.shapes.items) cs c.args.shape k child c.in_ok-child.ensures.goes.kept (before.children first all k child at)) (λ child is.
+          let P : Child → Type 0 = λ x. (n : ℕ) → AreMade old.scopes n old → IsInside old.scopes cs c.args.shape c.loop-number.number x in
+          subst (λ s. IsInside s cs c.args.shape c.loop-number.number child) before.goes.scopes (found P c.in_ok-child.child child c.in_ok-child.ensures.child is first (subst (λ s. AreMade s first old) (sym before.goes.scopes) (before.goes.made first tt all)))));
     }
 
 pub returns-clause-goes : goal.returns-clause-goes

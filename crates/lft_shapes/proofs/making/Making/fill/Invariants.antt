@@ -12,5 +12,5 @@ invariant-loop-number l = record {
   noted : KeepsNoted l.initial.self.shapes.items l.self.shapes.items;
   none : (k : ℕ) (c : Core) (m : Inherited) (n : ℕ) → slice_get l.children.items k ≡ Some None → slice_get (cores l.initial.self.shapes.items) l.fn.shape ≡ Some c → slice_get c.members k ≡ Some m → instance_of l.initial.self.scopes (m.file, m.member.now) ≡ Some n → ⊥;
   count : length l.children.items ≡ l.number;
-  children : (first : ℕ) → AreMade l.initial.self.scopes first l.initial.self → (k : ℕ) (child : Child) → child_at l.children.items k ≡ Some child → IsInside l.initial.self.scopes (cores l.self.shapes.items) l.fn.shape k child.shape;
+  children : (first : ℕ) → AreMade l.initial.self.scopes first l.initial.self → (k : ℕ) (child : Child) → child_at l.children.items k ≡ Some child → IsInside l.initial.self.scopes (cores l.self.shapes.items) l.fn.shape k child;
 }

@@ -1,14 +1,25 @@
 use Rattle.std.proofs.Common.{length, ap, arith}
+use Rattle.lft_shapes.proofs.Listing.{ended_as_ordered}
 use Rattle.lft_shapes.proofs.Sets.{kept, only}
 use Rattle.std.proofs.lemmas.Option.{MatchOption-at_none}
 use Rattle.lft_shapes.proofs.Walking.{ended_as, push_length}
 use Rattle.lft_shapes.proofs.walk.Walk.end.Goals as goal
 
-pub returns : goal.returns
-returns c next first ends s = ended_as next first _ _ _ _ _ _ c.in-Some.top _ ends s c.in-Some.ensures.items c.in_ok-push.ensures.items (only c.args.self.now.done c.insert.new.self c.in-Some.top.node c.in_ok-insert.ensures.updates) (kept c.args.self.now.done c.insert.new.self c.in-Some.top.node c.in_ok-insert.ensures.updates) c.in_ok-insert.ensures.updates.1
+pub returns-clause-walk : goal.returns-clause-walk
+returns-clause-walk c next first ends s = ended_as next first _ _ _ _ _ _ c.in-Some.top _ ends s c.in-Some.ensures.items c.in_ok-push.ensures.items (only c.args.self.now.done c.insert.new.self c.in-Some.top.node c.in_ok-insert.ensures.updates) (kept c.args.self.now.done c.insert.new.self c.in-Some.top.node c.in_ok-insert.ensures.updates) c.in_ok-insert.ensures.updates.1
 
-pub returns-in_default : goal.returns-in_default
-returns-in_default c next first ends s =
+pub returns-in_default-clause-walk : goal.returns-in_default-clause-walk
+returns-in_default-clause-walk c next first ends s =
+    let long = push_length ends.1.0 ends.0 in
+    let same = ap length ends.1.1 in
+    let none = MatchOption-at_none _ _ c.in_default.is c.pop.ensures.cases in
+    absurd (omega (arith, long, same, none.0))
+
+pub returns-clause-order : goal.returns-clause-order
+returns-clause-order c from first ends is list now = is list (ended_as_ordered from _ _ c.in-Some.top _ _ list c.in-Some.ensures.items c.in_ok-push.ensures.items ends now)
+
+pub returns-in_default-clause-order : goal.returns-in_default-clause-order
+returns-in_default-clause-order c from first ends is =
     let long = push_length ends.1.0 ends.0 in
     let same = ap length ends.1.1 in
     let none = MatchOption-at_none _ _ c.in_default.is c.pop.ensures.cases in

@@ -1,13 +1,25 @@
 use Rattle.std.proofs.Common.{length, ap, refl, arith}
 use Rattle.std.proofs.lemmas.Option.{MatchOption-at_none}
+use Rattle.lft_shapes.specs.Walks.{is_done}
+use Rattle.lft_shapes.proofs.Listing.{moved_as_ordered}
 use Rattle.lft_shapes.proofs.Walking.{moved_as, push_length}
 use Rattle.lft_shapes.proofs.walk.Walk.pass.Goals as goal
 
-pub returns : goal.returns
-returns c next first passes s = moved_as next first _ _ _ _ _ _ c.in-Some.top _ c.args.number passes s c.in-Some.ensures.items refl c.in_ok-push.ensures.items
+pub returns-clause-walk : goal.returns-clause-walk
+returns-clause-walk c next first passes s = moved_as next first _ _ _ _ _ _ c.in-Some.top _ c.args.number passes s c.in-Some.ensures.items refl c.in_ok-push.ensures.items
 
-pub returns-in_default : goal.returns-in_default
-returns-in_default c next first passes s =
+pub returns-in_default-clause-walk : goal.returns-in_default-clause-walk
+returns-in_default-clause-walk c next first passes s =
+    let long = push_length passes.1.0 passes.0 in
+    let same = ap length passes.1.1 in
+    let none = MatchOption-at_none _ _ c.in_default.is c.pop.ensures.cases in
+    absurd (omega (arith, long, same, none.0))
+
+pub returns-clause-order : goal.returns-clause-order
+returns-clause-order c next from first passes s is list now = is list (moved_as_ordered from _ _ _ c.in-Some.top _ c.args.number _ list (is_done c.args.self.now) c.in-Some.ensures.items refl c.in_ok-push.ensures.items s.in_list passes now)
+
+pub returns-in_default-clause-order : goal.returns-in_default-clause-order
+returns-in_default-clause-order c next from first passes s is =
     let long = push_length passes.1.0 passes.0 in
     let same = ap length passes.1.1 in
     let none = MatchOption-at_none _ _ c.in_default.is c.pop.ensures.cases in
