@@ -175,9 +175,9 @@ reaction_tree h r triggers = record { triggers = triggers; uses = all_places h r
 abbrev pub all_triggers : Here → Reaction → List TriggerTree
 all_triggers h r = flat_map (trigger_places h) r.triggers.items
 
--- a physical action without events
+-- a logical action that nothing schedules
 abbrev pub asleep : List ℕ → MemberTree
-asleep name = ActionMember (record { name = name; is_physical = true; min_delay = None })
+asleep name = ActionMember (record { name = name; is_physical = false; min_delay = None })
 
 -- the action without events stands already; or it is added, with a name that nothing else has
 pub data IsAsleep (h : Here) (name : List ℕ) : Option (List ℕ) → List MemberTree → Type 0 where

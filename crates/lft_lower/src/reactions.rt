@@ -130,7 +130,7 @@ fn effects(
     Ok(list)
 }
 
-/// Puts an action without events at the end of the members. Its name is that.
+/// Puts a logical action, which nothing schedules, at the end of the members. Its name is that.
 fn add_asleep(
     alloc: Global,
     room: &mut Room,
@@ -145,7 +145,7 @@ fn add_asleep(
     room.spend(free.len(), &within.settings.work)?;
     list.push(Member::Action(Action {
         name: free.clone()?,
-        is_physical: true,
+        is_physical: false,
         min_delay: None,
         at: 0,
     }))?;
