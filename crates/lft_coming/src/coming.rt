@@ -169,6 +169,13 @@ impl Coming {
         true
     }
 
+    /// Whether no two events are known to meet.
+    pub fn is_apart(&self) -> bool
+        ensures { IsTrue result → self.now.clash ≡ None }
+    {
+        self.clash.is_none()
+    }
+
     /// Whether the tag is before the one at which two events are known to meet.
     fn is_clear(&self, tag: Tag) -> bool
         ensures { IsTrue result ↔ IsClear self.now.clash tag }

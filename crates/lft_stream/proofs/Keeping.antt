@@ -1,5 +1,5 @@
 -- What is kept stays right over the rows of a tag, and accepts in the end.
-use Rattle.std.proofs.Common.{◌≡◌, ℕ, ◌+◌, ◌<◌, ◌⊎◌, inl, inr, Bool, true, false, List, [], ◌∷◌, ◌++◌, ◌-◌, append_assoc, take, map, length, refl, sym, ap, ◌∙◌, subst, arith, Option, Some, None, IsSome, slice_get, filter_map, option_map, option_to_list, Contains}
+use Rattle.std.proofs.Common.{◌≡◌, ℕ, ◌+◌, ◌<◌, ◌≤◌, ◌⊎◌, inl, inr, Bool, true, false, List, [], ◌∷◌, ◌++◌, ◌-◌, append_assoc, take, map, length, refl, sym, ap, ◌∙◌, subst, arith, Option, Some, None, IsSome, slice_get, filter_map, option_map, option_to_list, Contains}
 use Rattle.std.specs.List.{last_or}
 use Rattle.std.proofs.lemmas.List.{append-nil}
 use native.Mathlib.Decide.{dec_lt}
@@ -34,6 +34,7 @@ use Rattle.lft_coming.specs.Unread.{AreUnread, AreFree}
 use Rattle.lft_coming.specs.Listeners.{list_of, AreListeners, AreStarted, IsUnheard}
 use Rattle.lft_coming.specs.AtTag.{AreBefore, AreAt}
 use Rattle.lft_stream.specs.Settled.{IsRightBehind}
+use Rattle.lft_stream.specs.Owed.{MeetNowhere}
 use Rattle.lft_stream.specs.StartTags.{AreStartTags}
 use Rattle.lft_coming.specs.Listens.{Listens}
 use Rattle.lft_stream.specs.Dues.{AreDues, NoneOwed}
@@ -135,6 +136,20 @@ begins_kept plan s most stops none runs tags dues starts writes listeners channe
   channels = channels;
   unread = unread;
 }
+
+-- where no two events are known to meet, no two writes meet at a port that no reaction reads
+pub meet_nowhere : (plan : PlanParts) (t : List Row) (s : Stream) (low : Tag) → IsStreamOf plan t s → s.coming.clash ≡ None → AreBefore t low → MeetNowhere (stop plan t) plan t low
+meet_nowhere plan t s low is none before p o ds g way un from up clash =
+    let two : 2 ≤ length (held (is.lanes (Port p)) g) = ((is.state.ports p o ds way).ahead g ahead).clash clash in
+    let one : length (held (is.lanes (Port p)) g) < 2 = is.alone p g un ahead (subst (λ (k : Tag). UpTo g k) (sym is.stop_is) up) (rw none tt) in
+    absurd (omega (arith, one, two))
+  where
+    lowest : (last : Option Tag) → IsOfRow t last → UpTo (low_of last) low
+    lowest None o = from_first low
+    lowest (Some k) o = next_up k low (subst (λ (h : Tag). Before h low) o.3 (before o.0 o.1 o.2))
+
+    ahead : UpTo (low_of s.tag) g
+    ahead = UpTo-trans (low_of s.tag) low g (lowest s.tag is.of_row) from
 
 -- the events that come up to a later tag are taken behind those that have come
 come_on : (events : List Event) (last : Option Tag) (g : Tag) (from to : ℕ) → IsLater last g → HaveCome events last from → AreTaken events from to g → AreTaken events 0 to g

@@ -5,6 +5,11 @@ ghost use Rattle.lft_steps.specs.declared.row.Row.{Row as TheRow};
 ghost use Rattle.lft_steps.specs.Fits.{RowsFit};
 ghost use Rattle.lft_rows.specs.Accepted.{IsAccepted};
 ghost use Rattle.lft_stream.specs.Dues.{NoneDueBefore};
+ghost use Rattle.lft_tag.specs.declared.Tag.{Tag as TheTag};
+ghost use Rattle.lft_model.specs.Plans.{PlanParts};
+ghost use Rattle.lft_model.specs.Presence.{stop};
+ghost use Rattle.lft_coming.specs.AtTag.{AreBefore};
+ghost use Rattle.lft_stream.specs.Owed.{MeetNowhere};
 ghost use Rattle.lft_stream.specs.Kept.{IsAcceptorOf, KeepRules, stopped_stream};
 
 use crate::effort::Effort;
@@ -93,6 +98,13 @@ impl Acceptor {
         ensures { IsTrue result → NoneDueBefore self.now.stream.stop low self.now.stream.dues }
     {
         self.stream.is_timely(low)
+    }
+
+    /// Whether no two events are known to meet. Then no two writes meet at a port that no reaction reads.
+    pub fn is_apart(&self) -> bool
+        ensures { IsTrue result → (plan : PlanParts) (t : List TheRow) (low : TheTag) → IsAcceptorOf plan t self.now → AreBefore t low → MeetNowhere (stop plan t) plan t low }
+    {
+        self.stream.is_apart()
     }
 
     /// Makes the tag the stop, where it is earlier. All else stays.

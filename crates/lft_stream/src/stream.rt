@@ -360,6 +360,13 @@ impl Stream {
         self.dues.none_before(low, self.stop)
     }
 
+    /// Whether no two events are known to meet.
+    pub(crate) fn is_apart(&self) -> bool
+        ensures { IsTrue result → self.now.coming.clash ≡ None }
+    {
+        self.coming.is_apart()
+    }
+
     /// The counts, where nothing is owed up to the stop.
     pub(crate) fn finish(&mut self, plan: &Plan) -> Option<Counts>
         ensures { IfSome result (λ c. (t : List TheRow) → IsStreamOf plan.now t self.old → IsAccepted plan.now t c.runs c.tags) }
