@@ -3,7 +3,7 @@
 What is told of a case is mostly what the program writes on standard output, then what it writes on standard
 error, and `status N`.
 
-- `show`: of the text of a program.
+- `show`: of the text of a program; the words behind it are handed on.
 - `lower`: of the files of a program, each behind a line `--- PATH`, the program's first. Behind what is printed
   stands the table of names behind `--- names`, if there is a name in it. What `lower` says of the core program, and
   what it says without a table, is told where it is something else; so is a fault of `show`.
@@ -283,7 +283,7 @@ def fronts(runs, case):
 
 
 KINDS = {
-    "show": lambda runs, case: whole(runs.ask("show", [case.text])),
+    "show": lambda runs, case: whole(runs.ask("show", [case.text], *case.words.split())),
     "lower": lowered,
     "judge": lambda runs, case: judged(runs, case, HEADERS["trace"] + case.text),
     "judge-text": lambda runs, case: judged(runs, case, case.text),

@@ -24,7 +24,7 @@ _lftrace() {
             explain) choice="--workers --names --until --all -h --help" ;;
             follow) choice="--until --whole --every --drain --explain --all -h --help" ;;
             record) choice="--workers --max-runs -h --help" ;;
-            show) choice="-h --help" ;;
+            show) choice="--all -h --help" ;;
             lower) choice="--names -h --help" ;;
         esac
     else

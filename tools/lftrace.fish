@@ -19,6 +19,7 @@ complete -c lftrace -n '__fish_seen_subcommand_from record' -l max-runs -x -a '1
 complete -c lftrace -n '__fish_seen_subcommand_from judge cover explain pair lower' -l names -r -d 'the table of names'
 complete -c lftrace -n '__fish_seen_subcommand_from judge explain follow' -l until -x -a '0,0' -d 'the last tag'
 complete -c lftrace -n '__fish_seen_subcommand_from explain follow' -l all -d 'all lines of each part'
+complete -c lftrace -n '__fish_seen_subcommand_from show' -l all -d 'all things, one a line'
 complete -c lftrace -n '__fish_seen_subcommand_from cover' -l list -d 'one fact a line'
 complete -c lftrace -n '__fish_seen_subcommand_from follow' -l whole -d 'no row is missing at the end'
 complete -c lftrace -n '__fish_seen_subcommand_from follow' -l every -x -a '1000000' -d 'tell how far it is'

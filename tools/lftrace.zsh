@@ -20,7 +20,7 @@ elif [[ ${words[2]} == help || $word == -* ]]; then
         explain) choice=(--workers --names --until --all -h --help) ;;
         follow) choice=(--until --whole --every --drain --explain --all -h --help) ;;
         record) choice=(--workers --max-runs -h --help) ;;
-        show) choice=(-h --help) ;;
+        show) choice=(--all -h --help) ;;
         lower) choice=(--names -h --help) ;;
         help) choice=(judge cover explain pair follow record show lower) ;;
     esac

@@ -1,5 +1,5 @@
 -- Why texts get no plan and no verdict: the fault of the first layer that refuses.
-use Rattle.std.specs.Prelude.{◌≡◌, ℕ, ◌⊎◌, List, Option, true}
+use Rattle.std.specs.Prelude.{◌≡◌, ℕ, ◌⊎◌, Bool, List, Option, true, false}
 use Rattle.lft_flat.specs.Parts.{Parts}
 use Rattle.lft_trace.specs.declared.fault.TraceFault.{TraceFault}
 use Rattle.lft_steps.specs.declared.row.Row.{Row}
@@ -13,10 +13,10 @@ use Rattle.lft_model.specs.Workers.{IsWorkers}
 use Rattle.lft_check.specs.Verdicts.{IsVerdict}
 use Rattle.lft_front.specs.Bundles.{IsBundle}
 use Rattle.lft_front.specs.Lines.{line_of}
-use Rattle.lft_load.specs.Meaning.{IsProgramOf, IsPlanOf}
+use Rattle.lft_load.specs.Meaning.{IsOnly, IsProgramOf, IsPlanOf}
 use Rattle.lft_front.specs.Meaning.{IsMeaning}
 use Rattle.lft_graph.specs.Graph.{GraphParts, IsGraphOf}
-use Rattle.lft_front.specs.Shown.{show_words}
+use Rattle.lft_front.specs.Shown.{lines_of}
 use Rattle.lft_load.specs.Written.{AppendsFront}
 use Rattle.lft_load.specs.declared.fault.Fault.{Fault}
 use Rattle.lft_load.specs.declared.fault.Part.TheVariants as part
@@ -46,12 +46,16 @@ pub data JudgeRefusal (program externals trace : List ℕ) (workers : ℕ) (old 
   by_texts : TextsRefusal program externals trace f → JudgeRefusal program externals trace workers old new f
   by_judging : (plan : PlanParts) (rows : List Row) → IsMeaning program externals trace plan rows → JudgingRefusal plan rows workers old new f → JudgeRefusal program externals trace workers old new f
 
--- nothing is shown: the text has no flat program, the program no graph, a growth was refused, or the writer failed on the lines
+-- a program isn't shown: it has no graph, a growth was refused, or the writer failed on the lines
+pub data ShowProgramRefusal (all : Bool) (program : Parts) (old new : Option (List ℕ)) (f : Fault) : Type 0 where
+  by_graph : GraphRefusal program f → ShowProgramRefusal all program old new f
+  by_growth : f.part ≡ part.Memory → f.number ≡ 1 → ShowProgramRefusal all program old new f
+  by_writer : (g : GraphParts) → f.part ≡ part.Write → f.number ≡ 1 → IsGraphOf program g → AppendsFront old new (lines_of all program g) → ShowProgramRefusal all program old new f
+
+-- nothing is shown of a text: it has no flat program, or the program isn't shown
 pub data ShowRefusal (text : List ℕ) (old new : Option (List ℕ)) (f : Fault) : Type 0 where
   by_program : ProgramRefusal text f → ShowRefusal text old new f
-  by_graph : (parts : Parts) → IsProgramOf text parts → GraphRefusal parts f → ShowRefusal text old new f
-  by_growth : f.part ≡ part.Memory → f.number ≡ 1 → ShowRefusal text old new f
-  by_writer : (parts : Parts) (g : GraphParts) → f.part ≡ part.Write → f.number ≡ 1 → IsProgramOf text parts → IsGraphOf parts g → AppendsFront old new (show_words parts g) → ShowRefusal text old new f
+  by_showing : (program : Parts) → IsOnly (IsProgramOf text) program → ShowProgramRefusal false program old new f → ShowRefusal text old new f
 
 -- a bundle gets no verdict: the text is no bundle, or its three texts get none by one worker
 pub data BundleRefusal (text : List ℕ) (old new : Option (List ℕ)) (f : Fault) : Type 0 where

@@ -1,6 +1,6 @@
 //! What a command answers: true where it found nothing wrong, and the exit status is 0.
 
-ghost use Rattle.std.specs.Prelude.{◌≡◌, ◌≢◌, ◌↔◌, true, IsTrue, IfOk, IfErr};
+ghost use Rattle.std.specs.Prelude.{◌≢◌, ◌↔◌, IsTrue, IfOk, IfErr};
 ghost use Rattle.std.specs.Io.KnownBytes.{Keeps};
 ghost use Rattle.lft_load.specs.declared.fault.Part.TheVariants as part;
 ghost use Rattle.lft_front.specs.Explained.{ExplainBundleRefusal, ExplainRefusal, IsExplainedAnswer, IsExplainedBundle};
@@ -8,8 +8,7 @@ ghost use Rattle.lft_front.specs.Judged.{IsAccepted, IsBundleAccepted};
 ghost use Rattle.lft_front.specs.PairExplained.{IsPairExplainedAnswer, PairExplainRefusal};
 ghost use Rattle.lft_front.specs.PairRefusals.{PairRefusal};
 ghost use Rattle.lft_front.specs.Pairs.{IsSameAnswer, SaysSame};
-ghost use Rattle.lft_front.specs.Refusals.{JudgeRefusal, BundleRefusal, ShowRefusal};
-ghost use Rattle.lft_front.specs.Shown.{IsShown};
+ghost use Rattle.lft_front.specs.Refusals.{JudgeRefusal, BundleRefusal};
 ghost use Rattle.lft_front.specs.Judged.{Accepts};
 
 use crate::alone::judge_texts_alone;
@@ -19,7 +18,6 @@ use crate::explain_pair::explain_pair_texts;
 use crate::judge::judge_texts;
 use crate::pair::pair_texts;
 use crate::paired::Paired;
-use crate::show::show_text;
 use lft_check::Verdict;
 use lft_load::{Fault, Part};
 use std::alloc::Global;
@@ -166,15 +164,4 @@ pub fn explain_bundle_answer<W: Write, R: Threads + Sync>(
         Ok(answer) => Ok(answer),
         Err(fault) => Err(fault),
     }
-}
-
-/// True, once the lines of the program are written.
-pub fn show_answer<W: Write>(alloc: Global, program: &[u8], out: &mut W) -> Result<bool, Fault>
-    ensures yes { IfOk result (λ shown. shown ≡ true) }
-    ensures shown { IfOk result (λ shown. IsShown program.now (W.contents out.old) (W.contents out.new)) }
-    ensures refused { IfErr result (ShowRefusal program.now (W.contents out.old) (W.contents out.new)) }
-    ensures kept { IfErr result (λ f. f.part ≢ part.Write → Keeps (W.contents out.old) (W.contents out.new)) }
-{
-    show_text(alloc, program, out)?;
-    Ok(true)
 }

@@ -10,6 +10,7 @@ mod explain;
 mod explain_pair;
 mod judge;
 mod line;
+mod listing;
 mod pair;
 mod paired;
 mod refused;
@@ -18,7 +19,7 @@ mod show;
 pub use alone::judge_texts_alone;
 pub use answer::{
     bundle_answer, explain_answer, explain_bundle_answer, explain_pair_answer, judge_answer,
-    pair_answer, show_answer,
+    pair_answer,
 };
 pub use bundle::{Bundle, split_bundle};
 pub use explain::explain_texts;
@@ -29,4 +30,4 @@ pub use line::{accepted_line, broken_line, verdict_line};
 pub use pair::pair_texts;
 pub use paired::Paired;
 pub use refused::{refusal_of_bundle, refusal_of_pair_texts, refusal_of_program, refusal_of_texts};
-pub use show::show_text;
+pub use show::{show_program, show_text};

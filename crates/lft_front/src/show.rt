@@ -1,6 +1,7 @@
-//! Ports and precedence of a program.
+//! What is shown of a program: its ports and precedence, or all of it.
 
-ghost use Rattle.std.specs.Prelude.{◌≡◌, ◌≢◌, ◌++◌, ◌<◌, ◌⊎◌, ℕ, Some, IfOk, IfErr, OnOk, length, slice_get, string_bytes, true};
+ghost use Rattle.std.specs.Prelude.{◌≡◌, ◌≢◌, ◌++◌, ◌<◌, ℕ, Some, IfOk, IfErr, OnOk, flat_map, length, slice_get, string_bytes, true};
+ghost use Rattle.std.specs.List.{enumerate_from};
 ghost use Rattle.std.specs.Io.KnownBytes.{Keeps};
 ghost use Rattle.lft_flat.specs.Parts.{Parts};
 ghost use Rattle.lft_flat.specs.declared.parts.Port.{Port as PortOf};
@@ -9,10 +10,11 @@ ghost use Rattle.lft_graph.specs.Graph.{IsGraphOf};
 ghost use Rattle.lft_graph.specs.Precedence.{HasNoLoop};
 ghost use Rattle.lft_load.specs.Meaning.{IsProgramOf};
 ghost use Rattle.lft_load.specs.Refusals.{is_of_text};
-ghost use Rattle.lft_front.specs.Refusals.{ShowRefusal};
-ghost use Rattle.lft_front.specs.Shown.{IsShown, before_words, port_words, reaction_line, reaction_words, show_words};
+ghost use Rattle.lft_front.specs.Refusals.{ShowProgramRefusal, ShowRefusal};
+ghost use Rattle.lft_front.specs.Shown.{IsShown, IsShownProgram, before_words, lines_of, port_lines, port_words, reaction_line, reaction_words, show_words};
 ghost use Rattle.lft_load.specs.declared.fault.Part.TheVariants as part;
 
+use crate::listing::all_lines;
 use lft_flat::Program;
 use lft_graph::Graph;
 use lft_load::{Fault, graph_of, push_field, push_name, push_names, read_program, write_text};
@@ -71,7 +73,7 @@ fn push_reaction(
 
 /// Puts the line of a reaction at the end of a text, by the graph: level and list are asked for here,
 /// so that what is written above speaks of them alone.
-fn push_line(
+pub(crate) fn push_line(
     text: &mut String,
     program: &Program,
     graph: &Graph,
@@ -90,19 +92,71 @@ fn push_line(
     )
 }
 
+/// Puts the lines of all ports at the end of a text.
+pub(crate) fn push_ports(text: &mut String, program: &Program) -> Result<(), AllocError>
+    ensures { OnOk result (string_bytes text.new ≡ string_bytes text.old ++ port_lines program.now) }
+{
+    for number in 0..program.ports() {
+        push_port(text, program, number as u32)?;
+    }
+    Ok(())
+}
+
+/// Puts the lines of all reactions at the end of a text.
+fn push_reactions(text: &mut String, program: &Program, graph: &Graph) -> Result<(), AllocError>
+    requires { IsGraphOf program.now graph.now }
+    ensures { OnOk result (string_bytes text.new ≡ string_bytes text.old ++ flat_map (reaction_line program.now graph.now) (enumerate_from 0 program.now.reactions)) }
+{
+    for number in 0..program.reactions() {
+        push_line(text, program, graph, number as u32)?;
+    }
+    Ok(())
+}
+
 /// The lines of all ports and then of all reactions.
 fn show_lines(alloc: Global, program: &Program, graph: &Graph) -> Result<String, AllocError>
     requires { IsGraphOf program.now graph.now }
     ensures { IfOk result (λ text. string_bytes text ≡ show_words program.now graph.now) }
 {
     let mut text = String::new(alloc);
-    'ports: for number in 0..program.ports() {
-        push_port(&mut text, program, number as u32)?;
-    }
-    'reactions: for number in 0..program.reactions() {
-        push_line(&mut text, program, graph, number as u32)?;
-    }
+    push_ports(&mut text, program)?;
+    push_reactions(&mut text, program, graph)?;
     Ok(text)
+}
+
+/// The lines of a program: all of them, or those of ports and reactions.
+fn lines(alloc: Global, program: &Program, graph: &Graph, all: bool) -> Result<String, AllocError>
+    requires { IsGraphOf program.now graph.now }
+    ensures { IfOk result (λ text. string_bytes text ≡ lines_of all program.now graph.now) }
+{
+    if all {
+        all_lines(alloc, program, graph)
+    } else {
+        show_lines(alloc, program, graph)
+    }
+}
+
+/// Writes the lines of a program, as `show_text` does. With `all` those of its instances, actions and
+/// timers stand among them, and below the line of a reaction those of its triggers, uses and effects.
+pub fn show_program<W: Write>(
+    alloc: Global,
+    program: &Program,
+    all: bool,
+    out: &mut W,
+) -> Result<(), Fault>
+    ensures shown { OnOk result (IsShownProgram all program.now (W.contents out.old) (W.contents out.new)) }
+    ensures refused { IfErr result (ShowProgramRefusal all program.now (W.contents out.old) (W.contents out.new)) }
+    ensures none { IfErr result (λ f. is_of_text f.part f.number ≡ true → HasNoLoop program.now → ⊥) }
+    ensures kept { IfErr result (λ f. f.part ≢ part.Write → Keeps (W.contents out.old) (W.contents out.new)) }
+{
+    let graph = match graph_of(alloc, program) {
+        Ok(graph) => graph,
+        Err(fault) => return Err(fault),
+    };
+    match lines(alloc, program, &graph, all) {
+        Ok(text) => write_text(text.as_bytes(), out),
+        Err(_) => Err(Fault::no_memory()),
+    }
 }
 
 /// Writes a line for each port of a program, with its origin and its delays, and then a line for
@@ -114,16 +168,8 @@ pub fn show_text<W: Write>(alloc: Global, program: &[u8], out: &mut W) -> Result
     ensures none { IfErr result (λ f. is_of_text f.part f.number ≡ true → (parts : Parts) → IsProgramOf program.now parts → HasNoLoop parts → ⊥) }
     ensures kept { IfErr result (λ f. f.part ≢ part.Write → Keeps (W.contents out.old) (W.contents out.new)) }
 {
-    let flat = match read_program(alloc, program) {
-        Ok(flat) => flat,
-        Err(fault) => return Err(fault),
-    };
-    let graph = match graph_of(alloc, &flat) {
-        Ok(graph) => graph,
-        Err(fault) => return Err(fault),
-    };
-    match show_lines(alloc, &flat, &graph) {
-        Ok(text) => write_text(text.as_bytes(), out),
-        Err(_) => Err(Fault::no_memory()),
+    match read_program(alloc, program) {
+        Ok(flat) => show_program(alloc, &flat, false, out),
+        Err(fault) => Err(fault),
     }
 }

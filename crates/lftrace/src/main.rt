@@ -15,8 +15,9 @@ use lft_files::{Failure, read_file};
 use lft_front::{
     Fault, Part, bundle_answer, explain_answer, explain_bundle_answer, explain_pair_answer, finish,
     judge_answer, pair_answer, read_input, refusal_of_bundle, refusal_of_pair_texts,
-    refusal_of_program, refusal_of_texts, show_answer,
+    refusal_of_program, refusal_of_texts, show_program, show_text,
 };
+use lft_load::read_program;
 use lft_record::record_answer;
 use lft_renamed::Names;
 use lft_tag::NoMemory;
@@ -206,16 +207,18 @@ fn record_files<R: Files + Threads + Wait + Sync, W: Write>(
     Ok(answer)
 }
 
-/// Shows the program of a file.
+/// Shows the program of a file, or all of it.
 fn show_file<F: Files, W: Write>(
     rt: &F,
     alloc: Global,
     path: &str,
+    all: bool,
     out: &mut W,
 ) -> Result<bool, Failure> {
-    let program = read_file(rt, alloc, path)?;
-    let answer = show_answer(alloc, program.as_slice(), out)?;
-    Ok(answer)
+    let text = read_file(rt, alloc, path)?;
+    let program = read_program(alloc, text.as_slice())?;
+    show_program(alloc, &program, all, out)?;
+    Ok(true)
 }
 
 /// Shows the program of a file, or explains why it is refused.
@@ -227,8 +230,8 @@ fn explain_program<F: Files, W: Write>(
 ) -> Result<bool, Failure> {
     let program = read_file(rt, alloc, path)?;
     let text = program.as_slice();
-    match show_answer(alloc, text, out) {
-        Ok(answer) => Ok(answer),
+    match show_text(alloc, text, out) {
+        Ok(()) => Ok(true),
         Err(fault) => {
             write_told(refusal_of_program(alloc, text), out);
             write_lowers(rt, alloc, path, text, &fault, out);
@@ -320,7 +323,7 @@ fn words_for(job: Job<'_>, answer: &Result<bool, Failure>) -> Option<&'static st
         Job::Bundle | Job::Ask { .. } if has_more(answer) => {
             Some("`lftrace explain` with the same texts tells why")
         }
-        Job::Record(_) | Job::Show(_) if has_more_of_program(answer) => {
+        Job::Record(_) | Job::Show { .. } if has_more_of_program(answer) => {
             Some("`lftrace explain PROGRAM` tells why")
         }
         _ => None,
@@ -422,7 +425,7 @@ fn main(rt: HostRuntime) -> ExitCode {
         Job::Record(words) => record_files(&rt, alloc, words, &mut out),
         Job::Follow(words) => return end_followed(&rt, alloc, words, &mut out),
         Job::Lower(words) => return end_lowered(&rt, alloc, words, &mut out),
-        Job::Show(path) => show_file(&rt, alloc, path, &mut out),
+        Job::Show { path, all } => show_file(&rt, alloc, path, all, &mut out),
     };
     if job.is_explained() {
         write_cause(&answer, &mut out);

@@ -84,7 +84,10 @@ much as a table may have.";
 const SHOW_HELP: &str = "\
 PROGRAM is the path of a file; /dev/stdin is standard input.
 Printed: port P origin=O after=TIME+STEPS for each port, then
-reaction X level=K before=Y Z for each reaction (status 0).";
+reaction X level=K before=Y Z for each reaction (status 0).
+With --all also instance I, action A kind=logical least=TIME,
+timer T offset=TIME period=TIME, and below the line of a reaction, one a line,
+trigger X N, use X N, write X P, schedule X A.";
 
 const LOWER_HELP: &str = "\
 PROGRAM is the path of a file; the files that it imports are read too.
@@ -181,7 +184,10 @@ pub enum Job<'a> {
     /// To judge a trace while it is written.
     Follow(FollowWords<'a>),
     /// To show the ports and the precedence of the program at a path.
-    Show(&'a str),
+    Show {
+        path: &'a str,
+        all: bool,
+    },
     /// To print the core program of a whole one.
     Lower(LowerWords<'a>),
 }
@@ -384,6 +390,12 @@ fn show_command<'a>(alloc: Global) -> Result<Command<'a>, Error> {
     let command = Command::new(alloc, "show")
         .about("Shows the ports of a program and which of its reactions precede which")
         .arg(path(alloc, "PROGRAM", "the program's text"))?
+        .arg(
+            Arg::new(alloc, "all")
+                .long("all")
+                .action(ArgAction::SetTrue)
+                .help("instances, actions, timers, triggers, uses and effects too"),
+        )?
         .after_help(SHOW_HELP);
     Ok(command)
 }
@@ -603,7 +615,10 @@ pub(crate) fn read_words<'a>(alloc: Global, words: &'a [String]) -> Result<Job<'
             workers: number(record, "workers", 1),
             max_runs: number(record, "max-runs", 1_000_000),
         })),
-        Some(("show", show)) => Ok(Job::Show(text(show, "PROGRAM"))),
+        Some(("show", show)) => Ok(Job::Show {
+            path: text(show, "PROGRAM"),
+            all: show.get_flag("all"),
+        }),
         Some(("lower", lower)) => Ok(Job::Lower(lower_words(alloc, lower)?)),
         _ => Ok(Job::Bundle),
     }
