@@ -13,9 +13,10 @@ use Rattle.lft_model.proofs.Places.{slice_get_within}
 use Rattle.lft_rows.specs.Slices.{Rises}
 use Rattle.lft_coming.specs.AtTag.{AreBefore}
 use Rattle.lft_follow.specs.Sure.{IsUnbroken}
-use Rattle.lft_follow.specs.Kept.{AreFurthest, IsKept, IsPast}
+use Rattle.lft_follow.specs.Kept.{AreWays, IsKept, IsPast}
+use Rattle.lft_follow.specs.declared.kept.Ways.{Ways}
 use Rattle.lft_follow.specs.declared.past.Past.{Past}
-use Rattle.lft_follow.proofs.Keeping.{kept_both, kept_fit, kept_later, kept_self, kept_through}
+use Rattle.lft_follow.proofs.Keeping.{AreLate, time_up, kept_both, kept_fit, kept_later, kept_more, kept_self, kept_through}
 
 -- the tag behind another is the first one behind it
 pub after_least : (h g : Tag) → Before h g → UpTo (after h 0) g
@@ -27,7 +28,7 @@ module _ (plan : PlanParts) (t rows : List Row) (x : Row) (some : 0 < length row
   final : slice_get (t ++ rows) (length t + (length rows - 1)) ≡ Some x
   final = get_right t rows (length rows - 1) ∙ last
 
-  before : AreBefore (t ++ rows) (after x.tag 0)
+  pub before : AreBefore (t ++ rows) (after x.tag 0)
   before i y e = UpTo-Before y.tag x.tag (after x.tag 0) (go (dec_lt i (length t + (length rows - 1)))) (after_past x.tag 0)
     where
       go : Dec (i < length t + (length rows - 1)) → UpTo y.tag x.tag
@@ -37,49 +38,53 @@ module _ (plan : PlanParts) (t rows : List Row) (x : Row) (some : 0 < length row
           let b : length (t ++ rows) ≡ length t + length rows = length-append t rows in
           subst (λ (r : Row). UpTo y.tag r.tag) (same_at (t ++ rows) i (length t + (length rows - 1)) y x e final (omega arith)) (UpTo-refl y.tag)
 
-  pub past_more : (old new : Past) → IsPast plan t old → RowsFit plan.program rows → IsUnbroken plan (t ++ rows) (after x.tag 0) → new.low ≡ after x.tag 0 → new.stop ≡ stop plan (t ++ rows) → new.furthest ≡ old.furthest → (more : List Row) → IsKept plan rows more new.low → new.kept.items ≡ old.kept.items ++ more → IsPast plan (t ++ rows) new
-  past_more old new is fit clean low stops furthest more keeps kept = record {
+  pub past_more : (old new : Past) → IsPast plan t old → RowsFit plan.program rows → IsUnbroken plan (t ++ rows) (after x.tag 0) → new.low ≡ after x.tag 0 → new.stop ≡ stop plan (t ++ rows) → new.ways ≡ old.ways → (more : List Row) → IsKept (stop plan (t ++ rows)) plan (t ++ rows) rows more new.low → new.kept.items ≡ old.kept.items ++ more → IsPast plan (t ++ rows) new
+  past_more old new is fit clean low stops ways more keeps kept = record {
     stop_is = stops;
     near = subst (λ (g : Tag). g.time ≤ 1000000000000000000) (sym low) (fit.each (length rows - 1) x last).recorded.0;
     before = under;
     least = λ g b. subst (λ (h : Tag). UpTo h g) (sym low) (after_least x.tag g (b (length t + (length rows - 1)) x final));
     fit = λ i y e. each i y (get_append_cases t rows i y e);
     unbroken = subst (λ (g : Tag). IsUnbroken plan (t ++ rows) g) (sym low) clean;
-    furthest = subst (λ v. AreFurthest plan.program v.items) (sym furthest) is.furthest;
-    kept = subst (λ (k : List Row). IsKept plan (t ++ rows) k new.low) (sym kept) (kept_both plan t old.kept.items rows more new.low (kept_later plan t old.kept.items old.low new.low (is.least new.low (λ i y e. under i y (get_left t rows i y e))) is.kept) keeps);
+    ways = subst (λ (w : Ways). AreWays plan.program w) (sym ways) is.ways;
+    kept = subst (λ (k : List Row). IsKept (stop plan (t ++ rows)) plan (t ++ rows) (t ++ rows) k new.low) (sym kept) (kept_both (stop plan (t ++ rows)) plan (t ++ rows) t old.kept.items rows more new.low (kept_later (stop plan (t ++ rows)) plan (t ++ rows) t old.kept.items old.low new.low (is.least new.low (λ i y e. under i y (get_left t rows i y e))) (kept_more plan t rows t old.kept.items old.low late is.kept)) keeps);
   }
     where
       under : AreBefore (t ++ rows) new.low
       under = subst (λ (g : Tag). AreBefore (t ++ rows) g) (sym low) before
+
+      -- the tag behind a row at hand is behind all rows before
+      late : AreLate rows old.low
+      late i y e = time_up old.low (after y.tag 0) (is.least (after y.tag 0) (λ j z at. UpTo-Before z.tag y.tag (after y.tag 0) (rises j (length t + i) z y (let l : j < length t = slice_get_within t j z at in omega (arith, l)) (get_left t rows j z at) (get_right t rows i ∙ e)) (after_past y.tag 0)))
 
       each : (i : ℕ) (y : Row) → (slice_get t i ≡ Some y) ⊎ ((j : ℕ) × (i ≡ length t + j) × (slice_get rows j ≡ Some y)) → RowFits plan.program y
       each i y (inl e) = is.fit i y e
       each i y (inr e) = fit.each e.0 y e.2
 
 -- rows are kept that are enough of those that were kept
-pub past_less : (plan : PlanParts) (t : List Row) (old new : Past) → IsPast plan t old → IsKept plan old.kept.items new.kept.items old.low → new.low ≡ old.low → new.stop ≡ old.stop → new.furthest ≡ old.furthest → IsPast plan t new
-past_less plan t old new is keeps low stops furthest = record {
+pub past_less : (plan : PlanParts) (t : List Row) (old new : Past) → IsPast plan t old → IsKept (stop plan t) plan t old.kept.items new.kept.items old.low → new.low ≡ old.low → new.stop ≡ old.stop → new.ways ≡ old.ways → IsPast plan t new
+past_less plan t old new is keeps low stops ways = record {
   stop_is = stops ∙ is.stop_is;
   near = subst (λ (g : Tag). g.time ≤ 1000000000000000000) (sym low) is.near;
   before = subst (λ (g : Tag). AreBefore t g) (sym low) is.before;
   least = λ g b. subst (λ (h : Tag). UpTo h g) (sym low) (is.least g b);
   fit = is.fit;
   unbroken = subst (λ (g : Tag). IsUnbroken plan t g) (sym low) is.unbroken;
-  furthest = subst (λ v. AreFurthest plan.program v.items) (sym furthest) is.furthest;
-  kept = subst (λ (g : Tag). IsKept plan t new.kept.items g) (sym low) (kept_through plan t old.kept.items new.kept.items old.low is.kept keeps);
+  ways = subst (λ (w : Ways). AreWays plan.program w) (sym ways) is.ways;
+  kept = subst (λ (g : Tag). IsKept (stop plan t) plan t t new.kept.items g) (sym low) (kept_through (stop plan t) plan t t old.kept.items new.kept.items old.low is.kept keeps);
 }
 
 -- before the first row
-pub past_begins : (plan : PlanParts) (p : Past) → p.stop ≡ stop plan [] → p.low ≡ record { time = 0; micro = 0 } → p.kept.items ≡ [] → AreFurthest plan.program p.furthest.items → IsPast plan [] p
-past_begins plan p stops low none furthest = record {
+pub past_begins : (plan : PlanParts) (p : Past) → p.stop ≡ stop plan [] → p.low ≡ record { time = 0; micro = 0 } → p.kept.items ≡ [] → AreWays plan.program p.ways → IsPast plan [] p
+past_begins plan p stops low none ways = record {
   stop_is = stops;
   near = let e : p.low.time ≡ 0 = ap (λ (g : Tag). g.time) low in omega arith;
   before = λ i x e. absurd (cc);
   least = λ g b. subst (λ (h : Tag). UpTo h g) (sym low) (from_first g);
   fit = λ i x e. absurd (cc);
   unbroken = subst (λ (g : Tag). IsUnbroken plan [] g) (sym low) clean;
-  furthest = furthest;
-  kept = subst (λ (k : List Row). IsKept plan [] k p.low) (sym none) (kept_self plan [] p.low);
+  ways = ways;
+  kept = subst (λ (k : List Row). IsKept (stop plan []) plan [] [] k p.low) (sym none) (kept_self (stop plan []) plan [] [] p.low);
 }
   where
     clean : IsUnbroken plan [] (record { time = 0; micro = 0 })
@@ -106,5 +111,5 @@ pub all_fit : (plan : PlanParts) (t rows all : List Row) (p : Past) → IsPast p
 all_fit plan t rows all p is fit parts few = record { few = few; each = λ i x e. go i x (get_append_cases p.kept.items rows i x (subst (λ (u : List Row). slice_get u i ≡ Some x) parts e)) }
   where
     go : (i : ℕ) (x : Row) → (slice_get p.kept.items i ≡ Some x) ⊎ ((j : ℕ) × (i ≡ length p.kept.items + j) × (slice_get rows j ≡ Some x)) → RowFits plan.program x
-    go i x (inl e) = kept_fit plan t p.kept.items p.low is.kept is.fit i x e
+    go i x (inl e) = kept_fit (stop plan t) plan t p.kept.items p.low is.kept is.fit i x e
     go i x (inr e) = fit.each e.0 x e.2

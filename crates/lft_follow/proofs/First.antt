@@ -12,26 +12,27 @@ use Rattle.lft_model.specs.declared.breach.Breach.{Breach}
 use Rattle.lft_model.specs.Plans.{PlanParts}
 use Rattle.lft_model.specs.Presence.{stop}
 use Rattle.lft_model.specs.Breaches.{TagBreach, TagBreachUntil, TagOrder}
+use Rattle.lft_model.proofs.Stops.{stop_append}
 use Rattle.lft_check.specs.Verdicts.{LeastOf, BreachFrom}
 use Rattle.lft_stream.proofs.Parting.{up_to_second}
 use Rattle.lft_follow.specs.Sure.{AreFrom, IsFirstBefore}
 use Rattle.lft_follow.specs.Kept.{IsPast}
 use Rattle.lft_follow.specs.declared.past.Past.{Past}
 use Rattle.lft_follow.specs.Follows.{BeginsLast, IsFirstBehind}
-use Rattle.lft_follow.proofs.Dropped.{dropped_law}
+use Rattle.lft_follow.proofs.Dropped.{dropped_alike}
 use Rattle.lft_follow.proofs.Finished.{finished_law}
-use Rattle.lft_follow.proofs.Keeping.{kept_before, kept_stop}
+use Rattle.lft_follow.proofs.Keeping.{alike_nearer, from_late, kept_before, kept_stop}
 
 module _ (plan : PlanParts) (d u v : List Row) (p : Past) (is : IsPast plan d p) (high : Tag) (from : AreFrom u p.low) (later : AreFrom v high) where
   abbrev kept : List Row
   kept = p.kept.items
 
   same : stop plan (kept ++ u) ≡ stop plan (d ++ u)
-  same = kept_stop plan d kept p.low is.kept u
+  same = kept_stop (stop plan d) plan d kept p.low is.kept u
 
   -- what is broken from low on in all rows is broken where rows are dropped, and the other way round
   dropped : (c : Breach) → UpTo p.low c.tag → TagBreach plan (d ++ u) c ↔ TagBreachUntil (stop plan (d ++ u)) plan (kept ++ u) c
-  dropped c up = dropped_law plan (stop plan (d ++ u)) d kept u p.low c is.before (kept_before plan d kept p.low is.kept is.before) is.kept.same up
+  dropped c up = dropped_alike (stop plan (d ++ u)) plan d kept u p.low c is.before (kept_before (stop plan d) plan d kept p.low is.kept is.before) is.kept.own (from_late u p.low from) (alike_nearer (stop plan d) (stop plan (d ++ u)) plan d d kept p.low (stop_append plan d u) is.kept.same) up
 
   pub first_before : (b : Breach) → LeastOf (BreachFrom plan (kept ++ u) p.low) (Some b) → Before b.tag high → IsFirstBefore plan ((d ++ u) ++ v) high b
   first_before b found before = record {

@@ -257,8 +257,8 @@ module _ (plan : PlanParts) (event : Event) (place : ℕ) (within : place ≤ le
     least = is.least;
     fit = is.fit;
     unbroken = unbroken_more t p.low (is.least event.tag before) is.unbroken;
-    furthest = is.furthest;
-    kept = kept_other plan inputs t p.kept.items p.low is.kept;
+    ways = is.ways;
+    kept = kept_other plan inputs t p.kept.items p.low (UpTo-refl (stop plan t)) is.kept;
   }
 
   judged_more : (t : List Row) (j : Judged) → AreBefore t event.tag → IsJudgedOf plan t j → IsJudgedOf more t j

@@ -1,14 +1,16 @@
 -- What stays right of rows with other external inputs.
-use Rattle.std.proofs.Common.{◌≡◌, ℕ, inl, inr, List, Some, slice_get}
+use Rattle.std.proofs.Common.{◌≡◌, ℕ, ◌⊎◌, inl, inr, List, Some, slice_get, filter_map}
 use Rattle.lft_tag.specs.declared.Tag.{Tag}
-use Rattle.lft_tag.specs.Tags.{Before}
+use Rattle.lft_tag.specs.Tags.{Before, UpTo, after_all}
+use Rattle.lft_tag.proofs.Order.{UpTo-trans}
+use Rattle.lft_flat.specs.declared.parts.Value.{Value}
 use Rattle.lft_flat.specs.declared.parts.Trigger.{Trigger}
 use Rattle.lft_flat.specs.declared.parts.Trigger.TheVariants.{Startup, Shutdown, Timer, On}
 use Rattle.lft_steps.specs.Inputs.{ExternalInputs}
 use Rattle.lft_steps.specs.declared.row.Row.{Row}
 use Rattle.lft_model.specs.declared.breach.Breach.{Breach}
 use Rattle.lft_model.specs.Plans.{PlanParts}
-use Rattle.lft_model.specs.Presence.{stop}
+use Rattle.lft_model.specs.Presence.{stop, written, IsWrittenFrom, PortClash}
 use Rattle.lft_model.specs.Runs.{Ran}
 use Rattle.lft_model.specs.Breaches.{BreaksRowUntil, RowBreachUntil}
 use Rattle.lft_coming.specs.Listens.{Listens}
@@ -19,7 +21,7 @@ use Rattle.lft_stream.specs.declared.due.Due.TheVariants.{AtTag, AtStop, Never}
 use Rattle.lft_stream.specs.Dues.{IsDue, AreDues}
 use Rattle.lft_stream.specs.Settled.{IsRightRun}
 use Rattle.lft_follow.specs.Sure.{with_inputs}
-use Rattle.lft_follow.specs.Kept.{IsKept}
+use Rattle.lft_follow.specs.Kept.{GoesUnheard, IsKept}
 use Rattle.lft_follow.proofs.Same.{SameAt}
 
 module _ (plan : PlanParts) (inputs : ExternalInputs) where
@@ -65,5 +67,16 @@ module _ (plan : PlanParts) (inputs : ExternalInputs) where
   pub right_other : (t : List Row) (g : Tag) (r : ℕ) → SameAt other plan (stop other t) (stop plan t) t t g → IsRightRun plan t g r → IsRightRun other t g r
   right_other t g r same old = record { triggered = same.triggered_back r old.triggered; in_order = λ e. old.in_order (same.early r e); reads = same.reads_back r old.reads }
 
-  pub kept_other : (t kept : List Row) (low : Tag) → IsKept plan t kept low → IsKept other t kept low
-  kept_other t kept low is = record { same = record { scheduled_same = is.same.scheduled_same; written_same = is.same.written_same }; asks = is.asks; own = is.own }
+  -- what is kept is so still, with a nearer stop
+  pub kept_other : (t kept : List Row) (low : Tag) → UpTo (stop other t) (stop plan t) → IsKept (stop plan t) plan t t kept low → IsKept (stop other t) other t t kept low
+  kept_other t kept low near is = record { same = record { scheduled_same = is.same.scheduled_same; written_alike = λ h p o delays way up. go h p (after_all h delays) o (is.same.written_alike h p o delays way up) }; asks = is.asks; own = is.own }
+    where
+      from : (g : Tag) (p : ℕ) (h : Tag) (v : Value) → IsWrittenFrom other t g p h v → IsWrittenFrom plan t g p h v
+      from g p h v x = record { origin = x.origin; delays = x.delays; is_origin = x.is_origin; arrives = x.arrives; is_last = x.is_last }
+
+      clash : (g : Tag) (p : ℕ) → PortClash other t g p → PortClash plan t g p
+      clash g p c = record { first = c.first; second = c.second; first_value = c.first_value; second_value = c.second_value; is_first = from g p c.first c.first_value c.is_first; is_second = from g p c.second c.second_value c.is_second; differ = c.differ }
+
+      go : (h : Tag) (p : ℕ) (g : Tag) (o : ℕ) → (filter_map (written h o) t ≡ filter_map (written h o) kept) ⊎ GoesUnheard (stop plan t) plan t low h p g → (filter_map (written h o) t ≡ filter_map (written h o) kept) ⊎ GoesUnheard (stop other t) other t low h p g
+      go h p g o (inl q) = inl q
+      go h p g o (inr m) = inr (record { unread = m.unread; over = m.over; apart = λ l c. m.apart (UpTo-trans g (stop other t) (stop plan t) l near) (clash g p c) })

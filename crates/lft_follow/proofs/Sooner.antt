@@ -169,8 +169,8 @@ module _ (plan : PlanParts) (g : Tag) where
       least = is.least;
       fit = is.fit;
       unbroken = unbroken_sooner p.low (is.least g before) is.unbroken;
-      furthest = is.furthest;
-      kept = kept_other plan inputs t p.kept.items p.low is.kept;
+      ways = is.ways;
+      kept = kept_other plan inputs t p.kept.items p.low (subst (λ (k : Tag). UpTo k (stop plan t)) (sym (stop_sooner t)) (up_second g (stop plan t))) is.kept;
     }
 
     judged_sooner : (j : Judged) → IsJudgedOf plan t j → IsJudgedOf sooner t (stopped_judged j g)

@@ -84,7 +84,7 @@ impl Judged {
         let Some(reach) = reach_behind(self.reach, rows) else {
             return Ok(false);
         };
-        self.past.add(alloc, plan, rows)?;
+        self.past.add(alloc, plan, rows, self.acceptor.is_apart())?;
         self.reach = reach;
         self.count += rows.len() as u64;
         Ok(true)

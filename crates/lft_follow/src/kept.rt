@@ -1,16 +1,23 @@
 //! Rows that are kept once their tags are finished: those of runs that cause something later.
 
-ghost use Rattle.std.specs.Prelude.{◌≡◌, ◌<◌, ℕ, List, length, IfOk, false};
+ghost use Rattle.std.specs.Prelude.{◌≡◌, ◌<◌, ◌⊎◌, ℕ, List, length, Some, cond, slice_get, IfOk, IsTrue, true, false};
+ghost use Rattle.lft_tag.specs.declared.Tag.{Tag as TheTag};
+ghost use Rattle.lft_tag.specs.declared.Shift.{Shift as TheShift};
+ghost use Rattle.lft_tag.specs.Shifts.{shifted};
 ghost use Rattle.lft_tag.specs.Tags.{IsRecorded, Before, after_all};
 ghost use Rattle.lft_flat.specs.Origins.{Origin};
+ghost use Rattle.lft_steps.specs.declared.row.Row.{Row as TheRow};
 ghost use Rattle.lft_steps.specs.Fits.{RowFits};
 ghost use Rattle.lft_model.specs.Fitting.{EachFits};
 ghost use Rattle.lft_coming.specs.Unread.{GoesAsFar};
-ghost use Rattle.lft_follow.specs.Kept.{AreFurthest, IsIdle, AreMarked, IsKept};
+ghost use Rattle.lft_queue.specs.Reading.{is_read};
+ghost use Rattle.lft_stream.specs.Owed.{MeetNowhere};
+ghost use Rattle.lft_follow.specs.Kept.{AreFurthest, AreWays, IsIdle, AreMarked, IsKept};
 
 use lft_flat::{Name, Program};
 use lft_lists::item_at;
 use lft_model::Plan;
+use lft_queue::read_ports;
 use lft_steps::{Row, Step, is_end, is_start, row_at};
 use lft_tag::{NoMemory, Shift, Tag};
 use std::alloc::Global;
@@ -27,37 +34,93 @@ fn further(one: Shift, other: Shift) -> Shift
     }
 }
 
-/// For each port the furthest that its writes are carried.
-pub(crate) fn furthest_of(alloc: Global, program: &Program) -> Result<Vec<Shift>, NoMemory>
-    ensures { IfOk result (λ furthest. AreFurthest program.now furthest.items) }
+/// For each port the furthest that its writes are carried, of the marked ports.
+fn furthest_of(alloc: Global, program: &Program, marked: &[bool]) -> Result<Vec<Shift>, NoMemory>
+    requires { length marked.now ≡ length program.now.ports }
+    ensures { IfOk result (λ furthest. AreFurthest program.now (λ p. slice_get marked.now p ≡ Some true) furthest.items) }
 {
     let mut furthest = vec![in alloc; Shift::none(); program.ports()]?;
     for number in 0..program.ports() {
         let port = program.port(number as u32);
         let origin = port.origin as usize;
-        furthest[origin] = further(furthest[origin], port.shift);
+        let way = further(furthest[origin], port.shift);
+        if item_at(marked, number) {
+            furthest[origin] = way;
+        }
     }
     Ok(furthest)
 }
 
-/// Whether writes of the port at the tag may be carried to the low tag or behind it.
-fn leads_on(program: &Program, furthest: &[Shift], origin: u32, tag: Tag, low: Tag) -> bool
+/// How far writes are carried.
+#[derive(Drop)]
+pub(crate) struct Ways {
+    /// For each port the furthest, to any port.
+    furthest: Vec<Shift>,
+    /// For each port the furthest, to ports that some reaction reads.
+    heard: Vec<Shift>,
+}
+
+/// Whether the furthest way of the port leads from the tag to the low tag or behind it.
+fn leads_on(furthest: &[Shift], origin: u32, tag: Tag, low: Tag) -> bool
     requires recorded { IsRecorded tag }
-    requires port { origin < length program.now.ports }
-    requires furthest { AreFurthest program.now furthest.now }
-    ensures { result ≡ false → (p : ℕ) (delays : List ℕ) → Origin program.now p origin delays → Before (after_all tag delays) low }
+    requires port { origin < length furthest.now }
+    ensures { result ≡ false → (f : TheShift) × (slice_get furthest.now origin ≡ Some f) × Before (shifted tag (f.time, f.steps)) low }
 {
-    // Asked for what a program keeps: its ports have their origins and their ways.
-    let _ = program.ports();
     let furthest = item_at(furthest, origin as usize);
     !tag.plus(furthest).is_before(low)
 }
 
-/// Whether the row causes something from the low tag on, or asks for the stop.
-fn causes_from(plan: &Plan, furthest: &[Shift], row: Row, low: Tag) -> bool
+/// Whether no more rows come at the tag's time, and no two writes meet.
+fn is_over(tag: Tag, low: Tag, is_apart: bool) -> bool
+    ensures { IsTrue result → IsTrue is_apart × (tag.time < low.time) }
+{
+    is_apart && tag.time < low.time
+}
+
+impl Ways {
+    /// The ways of a program.
+    pub(crate) fn new(alloc: Global, program: &Program) -> Result<Ways, NoMemory>
+        ensures { IfOk result (AreWays program.now) }
+    {
+        let all = vec![in alloc; true; program.ports()]?;
+        let read = read_ports(alloc, program)?;
+        let furthest = furthest_of(alloc, program, all.as_slice())?;
+        let heard = furthest_of(alloc, program, read.as_slice())?;
+        Ok(Ways { furthest, heard })
+    }
+
+    /// For each port the furthest way that matters, where its time is over or not.
+    fn of(&self, is_over: bool) -> &[Shift]
+        ensures { result.now ≡ cond is_over self.now.heard.items self.now.furthest.items }
+    {
+        if is_over {
+            self.heard.as_slice()
+        } else {
+            self.furthest.as_slice()
+        }
+    }
+
+    /// Whether a write of the port at the tag is heard of at the low tag or behind it. Where no reaction reads
+    /// what it is carried to, it is only if it meets another write. It meets none where that is known and no more
+    /// rows come at its time.
+    fn lead_on(&self, program: &Program, origin: u32, tag: Tag, low: Tag, is_apart: bool) -> bool
+        requires recorded { IsRecorded tag }
+        requires port { origin < length program.now.ports }
+        requires ways { AreWays program.now self.now }
+        ensures { result ≡ false → (p : ℕ) (delays : List ℕ) → Origin program.now p origin delays → Before (after_all tag delays) low ⊎ (is_read program.now p ≡ false) × IsTrue is_apart × (tag.time < low.time) }
+    {
+        // Asked for what a program keeps: its ports have their origins and their ways.
+        let _ = program.ports();
+        leads_on(self.of(is_over(tag, low, is_apart)), origin, tag, low)
+    }
+}
+
+/// Whether the row causes something from the low tag on, or asks for the stop. With `is_apart` no two writes of
+/// all rows meet from there on where no reaction reads.
+fn causes_from(plan: &Plan, ways: &Ways, row: Row, low: Tag, is_apart: bool) -> bool
     requires fit { RowFits plan.now.program row }
-    requires furthest { AreFurthest plan.now.program furthest.now }
-    ensures { result ≡ false → IsIdle plan.now low row }
+    requires ways { AreWays plan.now.program ways.now }
+    ensures { result ≡ false → (last : TheTag) (t : List TheRow) → (IsTrue is_apart → MeetNowhere last plan.now t low) → IsIdle last plan.now t low row }
 {
     match row.step {
         Step::Schedule(Name::Action(number), _, delay) => {
@@ -65,7 +128,7 @@ fn causes_from(plan: &Plan, furthest: &[Shift], row: Row, low: Tag) -> bool
             !row.tag.after(min_delay, delay).is_before(low)
         }
         Step::Write(Name::Port(number), _) => {
-            leads_on(plan.program(), furthest, number, row.tag, low)
+            ways.lead_on(plan.program(), number, row.tag, low, is_apart)
         }
         Step::Schedule(Name::Port(_), _, _) => false,
         Step::Write(Name::Action(_), _) => false,
@@ -81,13 +144,15 @@ fn causes_from(plan: &Plan, furthest: &[Shift], row: Row, low: Tag) -> bool
 fn marks_of(
     alloc: Global,
     plan: &Plan,
-    furthest: &[Shift],
+    ways: &Ways,
     rows: &[Row],
     low: Tag,
+    is_apart: bool,
 ) -> Result<Vec<bool>, NoMemory>
     requires fit { EachFits plan.now.program rows.now }
-    requires furthest { AreFurthest plan.now.program furthest.now }
-    ensures { IfOk result (λ marks. AreMarked plan.now rows.now low marks.items) }
+    requires ways { AreWays plan.now.program ways.now }
+    ensures long { IfOk result (λ marks. length marks.items ≡ length rows.now) }
+    ensures idle { IfOk result (λ marks. (last : TheTag) (t : List TheRow) → (IsTrue is_apart → MeetNowhere last plan.now t low) → AreMarked last plan.now t rows.now low marks.items) }
 {
     let mut marks = vec![in alloc; false; rows.len()]?;
     // Where the last run of each reaction started. A run is over before its reaction has another one.
@@ -95,7 +160,7 @@ fn marks_of(
     for place in 0..rows.len() {
         let row = row_at(rows, place);
         let reaction = row.reaction as usize;
-        if causes_from(plan, furthest, row, low) {
+        if causes_from(plan, ways, row, low, is_apart) {
             marks[place] = true;
             marks[starts[reaction]] = true;
         } else if is_start(&row.step) {
@@ -112,15 +177,16 @@ fn marks_of(
 pub(crate) fn keep_rows(
     alloc: Global,
     plan: &Plan,
-    furthest: &[Shift],
+    ways: &Ways,
     rows: &[Row],
     low: Tag,
+    is_apart: bool,
 ) -> Result<Vec<Row>, NoMemory>
     requires fit { EachFits plan.now.program rows.now }
-    requires furthest { AreFurthest plan.now.program furthest.now }
-    ensures { IfOk result (λ kept. IsKept plan.now rows.now kept.items low) }
+    requires ways { AreWays plan.now.program ways.now }
+    ensures { IfOk result (λ kept. (last : TheTag) (t : List TheRow) → (IsTrue is_apart → MeetNowhere last plan.now t low) → IsKept last plan.now t rows.now kept.items low) }
 {
-    let marks = marks_of(alloc, plan, furthest, rows, low)?;
+    let marks = marks_of(alloc, plan, ways, rows, low, is_apart)?;
     let mut kept = Vec::new(alloc);
     for place in 0..rows.len() {
         if marks[place] {

@@ -4,7 +4,9 @@ ghost use Rattle.std.specs.Prelude.{◌≡◌, ◌-◌, ◌<◌, ◌≤◌, List
 ghost use Rattle.lft_tag.specs.Tags.{after};
 ghost use Rattle.lft_steps.specs.declared.row.Row.{Row as TheRow};
 ghost use Rattle.lft_steps.specs.Fits.{RowsFit};
+ghost use Rattle.lft_model.specs.Presence.{stop};
 ghost use Rattle.lft_model.specs.Breaches.{First};
+ghost use Rattle.lft_stream.specs.Owed.{MeetNowhere};
 ghost use Rattle.lft_rows.specs.Slices.{Rises};
 ghost use Rattle.lft_follow.specs.Sure.{AreFrom, IsUnbroken, IsFirstBefore};
 ghost use Rattle.lft_follow.specs.Kept.{IsPast};
@@ -12,11 +14,11 @@ ghost use Rattle.lft_follow.specs.Follows.{KeepsRows, breach_of};
 
 use crate::found::{Found, found_of};
 use crate::gone::stop_over;
-use crate::kept::{furthest_of, keep_rows};
+use crate::kept::{Ways, keep_rows};
 use lft_check::first_from;
 use lft_model::{Breach, Plan};
 use lft_steps::{Row, Rows, row_at};
-use lft_tag::{MAX_ROWS, NoMemory, Shift, Tag};
+use lft_tag::{MAX_ROWS, NoMemory, Tag};
 use std::alloc::Global;
 
 /// Kept rows are gone over anew once they are twice as many as were left the last time, and so many more.
@@ -39,8 +41,8 @@ pub(crate) struct Past {
     kept: Vec<Row>,
     /// How many of these were left when they were last gone over.
     left: usize,
-    /// The furthest that writes of each port are carried.
-    furthest: Vec<Shift>,
+    /// How far writes are carried.
+    ways: Ways,
 }
 
 /// Whether no row is before the tag.
@@ -65,40 +67,48 @@ impl Past {
             low: Tag { time: 0, micro: 0 },
             kept: Vec::new(alloc),
             left: 0,
-            furthest: furthest_of(alloc, plan.program())?,
+            ways: Ways::new(alloc, plan.program())?,
         })
     }
 
-    /// Drops kept rows of runs that cause nothing from the low tag on, where many rows are kept.
-    fn drop_some(&mut self, alloc: Global, plan: &Plan) -> Result<(), NoMemory>
+    /// Drops kept rows of runs that cause nothing from the low tag on, where many rows are kept. With
+    /// `is_apart` no two writes of all rows meet from there on where no reaction reads.
+    fn drop_some(&mut self, alloc: Global, plan: &Plan, is_apart: bool) -> Result<(), NoMemory>
         requires { (t : List TheRow) × IsPast plan.now t self.old }
-        ensures { OnOk result ((t : List TheRow) → IsPast plan.now t self.old → IsPast plan.now t self.new) }
+        ensures { OnOk result ((t : List TheRow) → IsPast plan.now t self.old → (IsTrue is_apart → MeetNowhere (stop plan.now t) plan.now t self.old.low) → IsPast plan.now t self.new) }
     {
         let rows = self.kept.as_slice();
         if rows.len() / 2 <= self.left.saturating_add(SLACK) {
             return Ok(());
         }
-        let kept = keep_rows(alloc, plan, self.furthest.as_slice(), rows, self.low)?;
+        let kept = keep_rows(alloc, plan, &self.ways, rows, self.low, is_apart)?;
         self.left = kept.as_slice().len();
         self.kept = kept;
         Ok(())
     }
 
-    /// Goes on past more rows, which break no rule.
-    pub(crate) fn add(&mut self, alloc: Global, plan: &Plan, rows: &[Row]) -> Result<(), NoMemory>
+    /// Goes on past more rows, which break no rule. With `is_apart` no two writes of all rows meet behind them
+    /// where no reaction reads.
+    pub(crate) fn add(
+        &mut self,
+        alloc: Global,
+        plan: &Plan,
+        rows: &[Row],
+        is_apart: bool,
+    ) -> Result<(), NoMemory>
         requires fit { RowsFit plan.now.program rows.now }
         requires some { 0 < length rows.now }
-        requires stands { (t : List TheRow) × IsPast plan.now t self.old × Rises (t ++ rows.now) × ((x : TheRow) → slice_get rows.now (length rows.now - 1) ≡ Some x → IsUnbroken plan.now (t ++ rows.now) (after x.tag 0)) }
-        ensures { OnOk result ((t : List TheRow) → IsPast plan.now t self.old → Rises (t ++ rows.now) → ((x : TheRow) → slice_get rows.now (length rows.now - 1) ≡ Some x → IsUnbroken plan.now (t ++ rows.now) (after x.tag 0)) → IsPast plan.now (t ++ rows.now) self.new) }
+        requires stands { (t : List TheRow) × IsPast plan.now t self.old × Rises (t ++ rows.now) × ((x : TheRow) → slice_get rows.now (length rows.now - 1) ≡ Some x → IsUnbroken plan.now (t ++ rows.now) (after x.tag 0)) × ((x : TheRow) → slice_get rows.now (length rows.now - 1) ≡ Some x → IsTrue is_apart → MeetNowhere (stop plan.now (t ++ rows.now)) plan.now (t ++ rows.now) (after x.tag 0)) }
+        ensures { OnOk result ((t : List TheRow) → IsPast plan.now t self.old → Rises (t ++ rows.now) → ((x : TheRow) → slice_get rows.now (length rows.now - 1) ≡ Some x → IsUnbroken plan.now (t ++ rows.now) (after x.tag 0)) → ((x : TheRow) → slice_get rows.now (length rows.now - 1) ≡ Some x → IsTrue is_apart → MeetNowhere (stop plan.now (t ++ rows.now)) plan.now (t ++ rows.now) (after x.tag 0)) → IsPast plan.now (t ++ rows.now) self.new) }
     {
         let low = row_at(rows, rows.len() - 1).tag.after(0, 0);
-        let more = keep_rows(alloc, plan, self.furthest.as_slice(), rows, low)?;
+        let more = keep_rows(alloc, plan, &self.ways, rows, low, is_apart)?;
         let Ok(()) = self.kept.extend_from_slice(more.as_slice()) else {
             return Err(NoMemory);
         };
         self.low = low;
         self.stop = stop_over(self.stop, rows);
-        self.drop_some(alloc, plan)?;
+        self.drop_some(alloc, plan, is_apart)?;
         Ok(())
     }
 
