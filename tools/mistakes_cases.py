@@ -70,6 +70,10 @@ CRATE = pathlib.Path(__file__).resolve().parent.parent / "crates" / "lftrace"
 CASES = []
 
 
+# In the place of a file's text: a named pipe.
+PIPE = object()
+
+
 def case(name, words, wants, stdin=b"", files=(), where=None):
     """A case: its words, what is to come, and the files that aren't the usual ones."""
     CASES.append({"name": name, "words": list(words), "wants": wants, "stdin": stdin, "files": dict(files), "where": where})
@@ -379,7 +383,16 @@ def lowerings():
     case("a core program from standard input, lowered", ["lower", "/dev/stdin", "--names=names.csv"], prints(BLINK), stdin=BLINK)
     lowered("an import", prints(core), importing % "log.lf", files={"log.lf": log})
     lowered("an import by another way", prints(core), importing % "././/log.lf", ["--names", "names.csv"], {"log.lf": log})
-    lowered("an import of standard input", prints(core), importing % "/dev/stdin", stdin=log)
+    odd = f"that is no ordinary file. {unread}"
+    large = f"with it the imported files have more than 64 MiB. {unread}"
+    lowered("an import of standard input", unlowered(at_import, f"/dev/stdin: {odd}"), importing % "/dev/stdin", stdin=log)
+    lowered("an import of a device without an end", unlowered(at_import, f"/dev/zero: {odd}"), importing % "/dev/zero")
+    lowered("an import of a pipe that nobody writes to", unlowered(at_import, f"log.lf: {odd}"), importing % "log.lf", files={"log.lf": PIPE})
+    lowered("an import of more than 64 MiB", unlowered(at_import, f"log.lf: {large}"), importing % "log.lf", files={"log.lf": lambda: log + "/*" + " " * (1 << 26) + "*/"})
+    case("a program that imports a pipe that nobody writes to, explained", ["explain", "whole.lf"], {"status": 2, "has": ["Program, line 1, column 1"]}, files={"whole.lf": importing % "log.lf", "log.lf": PIPE})
+    lowered("imports of 33 MiB", prints(core), importing % "log.lf", files={"log.lf": lambda: log + "/*" + " " * (33 << 20) + "*/"})
+    lowered("two imports of 33 MiB", unlowered("1 Read whole.lf:2:17", f"log.lf: {large}"), 'import B from "b.lf"\n' + importing % "log.lf",
+            files={"log.lf": lambda: log + "/*" + " " * (33 << 20) + "*/", "b.lf": lambda: "reactor B { }/*" + " " * (33 << 20) + "*/"})
     lowered("a file that imports itself", prints(core), 'import Log from "whole.lf"\n' + log + "main reactor { l = new[2] Log() }\n")
     lowered("files that import each other", prints(core), importing % "log.lf" + "reactor B { }\n", files={"log.lf": 'import B from "whole.lf"\n' + log})
     lowered("reactors of two files that contain each other", unlowered("9 Recursive whole.lf:3:13", "By this instance the reactor contains itself. Write a bank in its place."),
@@ -395,7 +408,10 @@ def lowerings():
     case("a folder to lower", ["lower", "/"], fault("read 1 Failed /"))
     case("a folder to lower, at a terminal", ["lower", "/"], {"status": 2, "out": "", "err": "fault read 1 Failed /\nlftrace: that is a folder\n"}, where="seen")
     case("a table as the program to lower", ["lower", "trace.csv"], unlowered("3 Unexpected trace.csv:1:1", "This can't stand here."))
-    case("an empty program, lowered", ["lower", "/dev/null"], prints(""))
+    no_main = "The file has no main reactor. Lower the file that has it."
+    case("an empty program, lowered", ["lower", "/dev/null"], unlowered("4 NoMain /dev/null:1:1", no_main))
+    lowered("a remark alone", unlowered("4 NoMain whole.lf:2:1", no_main), "// nothing\n")
+    lowered("core reactors without a main one", unlowered("4 NoMain whole.lf:2:1", no_main), "reactor B { timer t }\n")
     for path in ("/dev/full", "no/names.csv", "/"):
         lowered(f"the names to {path}", fault(f"write 1 Failed {path}"), importing % "log.lf", ["--names", path], {"log.lf": log})
         case(f"the names of a core program to {path}", ["lower", "blink.lf", "--names", path], fault(f"write 1 Failed {path}"))

@@ -1,7 +1,8 @@
 -- Lists of which all are so, item by item.
-use Rattle.std.proofs.Common.{◌≡◌, ℕ, zero, suc, ◌<◌, Bool, true, false, List, [], ◌∷◌, length, map, slice_index_or, get_or, refl, arith}
+use Rattle.std.proofs.Common.{◌≡◌, ℕ, zero, suc, ◌<◌, Bool, true, false, List, [], ◌∷◌, length, map, slice_index_or, get_or, refl, sym, ap, ◌∙◌, arith}
+use Rattle.std.specs.Prelude.{◌||◌}
 use Rattle.std.specs.Bool.{Decides, MatchBool}
-use Rattle.std.specs.List.{AllWithin, HoldsAt}
+use Rattle.std.specs.List.{AllWithin, HoldsAt, list_any}
 use Rattle.std.proofs.lemmas.Bool.{false≢true}
 use Rattle.lft_syntax.proofs.Pieces.{letter_in_word}
 use Rattle.lft_tree.specs.Tree.{RefTree}
@@ -24,6 +25,25 @@ module _ {T X : Type 0} (view : T → X) (Good : X → Type 0) where
   tested true xs m = (λ _. all_good xs (λ k d l. m k d (omega arith) l), λ _. refl)
   tested false [] m = absurd (omega (arith, m.1))
   tested false (x ∷ xs) m = (λ t. absurd (false≢true t), λ w. absurd (m.2 x (good_at (x ∷ xs) m.0 x m.1 w)))
+
+-- what a test finds among their trees
+module _ {T X : Type 0} (view : T → X) (test : X → Bool) where
+  or_true : (b : Bool) → b || true ≡ true
+  or_true true = refl
+  or_true false = refl
+
+  some_passes : (xs : List T) (k : ℕ) → k < length xs → ((d : T) → test (view (slice_index_or xs k d)) ≡ true) → list_any test (map view xs) ≡ true
+  some_passes [] k l h = absurd (omega (arith, l))
+  some_passes (x ∷ xs) zero l h = ap (λ b. b || list_any test (map view xs)) (h x)
+  some_passes (x ∷ xs) (suc k) l h = ap (λ b. test (view x) || b) (some_passes xs k (omega (arith, l)) h) ∙ or_true (test (view x))
+
+  none_passes : (xs : List T) → ((k : ℕ) (d : T) → k < length xs → test (view (slice_index_or xs k d)) ≡ false) → list_any test (map view xs) ≡ false
+  none_passes [] h = refl
+  none_passes (x ∷ xs) h = ap (λ b. b || list_any test (map view xs)) (h 0 x (omega arith)) ∙ none_passes xs (λ k d l. h (suc k) d (omega (arith, l)))
+
+  pub any_of : (r : Bool) (xs : List T) → MatchBool r ((k : ℕ) × (k < length xs) × HoldsAt (λ x. test (view x) ≡ true) xs k) (AllWithin (λ x. test (view x) ≡ false) xs 0 (length xs)) → r ≡ list_any test (map view xs)
+  any_of true xs m = sym (some_passes xs m.0 m.1 m.2)
+  any_of false xs m = sym (none_passes xs (λ k d l. m k d (omega arith) l))
 
 -- bytes of which each is of a class
 pub all_of : (class : ℕ → Bool) (bs : List ℕ) → ((k : ℕ) → k < length bs → class (get_or bs k 0) ≡ true) → AllOf class bs

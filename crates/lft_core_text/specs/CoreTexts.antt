@@ -1,9 +1,11 @@
 -- Which texts are core programs already.
-use Rattle.std.specs.Prelude.{ℕ, ◌<◌, ◌≤◌, List, length}
+use Rattle.std.specs.Prelude.{◌≡◌, ℕ, ◌<◌, ◌≤◌, Bool, true, false, List, length}
+use Rattle.std.specs.List.{list_any}
+use Rattle.std.specs.Option.{option_map_or}
 use Rattle.lft_syntax.specs.declared.token.Token.{Token}
 use Rattle.lft_syntax.specs.Lexes.{Lexes}
 use Rattle.lft_syntax.specs.View.{lexemes}
-use Rattle.lft_tree.specs.Tree.{FileTree, ItemTree}
+use Rattle.lft_tree.specs.Tree.{FileTree, ItemTree, reactor_in}
 use Rattle.lft_syntax.specs.Grammar.{Spells}
 use Rattle.lft_printed.specs.Read.{tree_text}
 use Rattle.lft_printed.specs.Words.{AllAre, IsFree, IsItem}
@@ -17,6 +19,15 @@ pub record IsCore (text : List ℕ) : Type 0 where
   pub tree : FileTree
   pub lexed : Lexes text tokens
   pub spelled : Spells tree (lexemes text tokens)
+
+-- an item is a main reactor
+abbrev pub is_main : ItemTree → Bool
+is_main item = option_map_or (λ r. r.is_main) (reactor_in item) false
+
+-- a text of the core, of which an item is a main reactor
+pub record IsCoreProgram (text : List ℕ) : Type 0 where
+  pub core : IsCore text
+  pub main : list_any is_main core.tree.items ≡ true
 
 -- a tree that can be printed: its names are free, what the text needs is there, and nothing is a preamble or a state variable
 abbrev pub CanPrint : List ℕ → List ItemTree → Type 0

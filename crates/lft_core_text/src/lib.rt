@@ -6,5 +6,5 @@ mod printable;
 mod text;
 mod words;
 
-pub use own::is_core;
+pub use own::is_core_program;
 pub use text::{CoreFault, core_text};

@@ -16,7 +16,7 @@ use Rattle.lft_imports.specs.Files.{AreOfTexts, AreReached, EachOnce, IsFileOf, 
 use Rattle.lft_imports.specs.Paths.{normal}
 use Rattle.lft_tree.specs.Tree.{ItemTree}
 use Rattle.lft_printed.specs.Read.{IsRead, tree_text}
-use Rattle.lft_core_text.specs.CoreTexts.{IsCore}
+use Rattle.lft_core_text.specs.CoreTexts.{IsCore, IsCoreProgram}
 use Rattle.lft_settings.specs.declared.settings.Settings.{Settings}
 use Rattle.lft_lower.specs.Programs.{target_in}
 use Rattle.lft_lower.specs.Reactors.{IsLowering}
@@ -54,7 +54,7 @@ Says Is (Failed failure) = Unit {0}
 
 -- a core program was written
 abbrev pub IsWritten : Option (List ℕ) → Option (List ℕ) → Type 0
-IsWritten old new = (core : List ℕ) × IsCore core × Appends old new core
+IsWritten old new = (core : List ℕ) × IsCoreProgram core × Appends old new core
 
 -- The first of the files has this path, and is read from this text.
 abbrev pub BeginWith : List ℕ → List ℕ → List SourceFile → Type 0
@@ -88,9 +88,9 @@ WritesLoweredOf path text old new = (files : List SourceFile) × AreFilesOf path
 abbrev pub IsLoweredOf : List ℕ → List ℕ → List ℕ → Type 0
 IsLoweredOf path text core = (files : List SourceFile) × AreFilesOf path text files × IsCore core × IsLoweredTo files core
 
--- The core program of a text: the text itself, if it is core, else one to which it is lowered.
+-- The core program of a text: the text itself, if it is one, else one to which it is lowered.
 abbrev pub IsAnswer : List ℕ → List ℕ → List ℕ → Type 0
-IsAnswer path text core = IsCore text × (core ≡ text) ⊎ (IsCore text → ⊥) × IsLoweredOf path text core
+IsAnswer path text core = IsCoreProgram text × (core ≡ text) ⊎ (IsCoreProgram text → ⊥) × IsLoweredOf path text core
 
 -- Nothing was written; or the writer failed, and a front of such a core program was. Its fault tells no path, as that of a file does.
 abbrev pub IsCut : (List ℕ → Type 0) → Option (List ℕ) → Option (List ℕ) → Unlowered → Type 0

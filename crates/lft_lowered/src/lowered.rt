@@ -2,7 +2,7 @@
 
 ghost use Rattle.std.specs.Prelude.{◌≡◌, IfErr, IfOk, OnOk, map, string_bytes};
 ghost use Rattle.std.specs.Io.KnownBytes.{Appends};
-ghost use Rattle.lft_core_text.specs.CoreTexts.{IsCore};
+ghost use Rattle.lft_core_text.specs.CoreTexts.{IsCore, IsCoreProgram};
 ghost use Rattle.lft_printed.specs.Read.{IsRead, tree_text};
 ghost use Rattle.lft_tree.specs.ItemView.{item_view};
 ghost use Rattle.lft_lower.specs.Programs.{target_in};
@@ -12,7 +12,7 @@ ghost use Rattle.lft_lowered.specs.Unlowered.{AreRefused, IsNoText, IsOfProgram}
 use crate::names::write_names;
 use crate::reading::read_sources;
 use crate::told::{Unlowered, unlowered_by};
-use lft_core_text::{CoreFault, core_text, is_core};
+use lft_core_text::{CoreFault, core_text, is_core_program};
 use lft_imports::Sources;
 use lft_load::{Detail, Fault, Part, write_text};
 use lft_lower::{Lowering, lower};
@@ -95,7 +95,7 @@ fn lower_sources<F: Files, W: Write, E: Write>(
     Ok(())
 }
 
-/// Writes a program that is core already as it is.
+/// Writes a core program as it is.
 fn write_own<F: Files, W: Write>(
     rt: &F,
     alloc: Global,
@@ -103,7 +103,7 @@ fn write_own<F: Files, W: Write>(
     names: Option<&str>,
     out: &mut W,
 ) -> Result<(), Unlowered>
-    requires { IsCore text.now }
+    requires { IsCoreProgram text.now }
     ensures own { OnOk result (Appends (W.contents out.old) (W.contents out.new) text.now) }
     ensures refused { IfErr result IsFailed }
     ensures cut { IfErr result (IsCut (λ core. core ≡ text.now) (W.contents out.old) (W.contents out.new)) }
@@ -114,7 +114,7 @@ fn write_own<F: Files, W: Write>(
     write_core(text, out)
 }
 
-/// What `lower_answer` does with a text that isn't core.
+/// What `lower_answer` does with a text that is no core program.
 pub fn lower_whole<F: Files, W: Write, E: Write>(
     rt: &F,
     alloc: Global,
@@ -144,13 +144,13 @@ pub fn lower_answer<F: Files, W: Write, E: Write>(
     out: &mut W,
     errors: &mut E,
 ) -> Result<(), Unlowered>
-    ensures own { IsCore text.now → OnOk result (Appends (W.contents out.old) (W.contents out.new) text.now) }
-    ensures lowered { (IsCore text.now → ⊥) → OnOk result (WritesLoweredOf path.now text.now (W.contents out.old) (W.contents out.new)) }
+    ensures own { IsCoreProgram text.now → OnOk result (Appends (W.contents out.old) (W.contents out.new) text.now) }
+    ensures lowered { (IsCoreProgram text.now → ⊥) → OnOk result (WritesLoweredOf path.now text.now (W.contents out.old) (W.contents out.new)) }
     ensures written { OnOk result (IsWritten (W.contents out.old) (W.contents out.new)) }
     ensures refused { IfErr result (Says (IsOfProgram path.now text.now)) }
     ensures cut { IfErr result (IsCut (IsAnswer path.now text.now) (W.contents out.old) (W.contents out.new)) }
 {
-    if is_core(alloc, text)? {
+    if is_core_program(alloc, text)? {
         return write_own(rt, alloc, text, names, out);
     }
     lower_whole(rt, alloc, path, text, names, out, errors)

@@ -6,18 +6,29 @@ ghost use Rattle.lft_lowered.specs.Lowered.{AreFilesOf, BeginsAs, Says};
 ghost use Rattle.lft_lowered.specs.Unlowered.{IsAt, IsOfNext, IsOfReading, IsOfRest, IsOfUnread};
 
 use crate::told::{Unlowered, unlowered_by};
-use lft_files::{Failure, read_file};
+use lft_files::{Failure, read_ordinary};
 use lft_imports::Sources;
 use lft_load::Fault;
 use lft_sources::{Place, Stop, Why, shown_path};
 use std::alloc::{AllocError, Global};
 use std::rt::Files;
 
+/// How many bytes all imported files may have together.
+const MOST_IMPORTED: u64 = 1 << 26;
+
+/// Why an imported file isn't read.
+fn cause_of(failure: &Failure) -> &'static str {
+    if failure.fault.name == "TooLarge" {
+        return "with it the imported files have more than 64 MiB";
+    }
+    failure.cause.unwrap_or("it can't be read")
+}
+
 /// Which file can't be read, and why, if that is known.
 fn about(alloc: Global, path: &str, failure: &Failure) -> Result<String, AllocError> {
     let mut text = shown_path(alloc, path)?;
     text.push_str(": ")?;
-    text.push_str(failure.cause.unwrap_or("it can't be read"))?;
+    text.push_str(cause_of(failure))?;
     text.push_str(". ")?;
     Ok(text)
 }
@@ -41,18 +52,19 @@ fn unread(
     }
 }
 
-/// The bytes of the file that is wanted.
+/// The bytes of the file that is wanted, of which there may be so many.
 fn read_wanted<F: Files>(
     rt: &F,
     alloc: Global,
     sources: &Sources,
     path: &str,
+    most: u64,
 ) -> Result<Vec<u8>, Unlowered>
     requires sources { AreSources sources.now }
     requires wanted { next_path sources.now ≡ Some path.now }
     ensures { IfErr result (Says (IsOfUnread sources.now.files.items)) }
 {
-    match read_file(rt, alloc, path) {
+    match read_ordinary(rt, alloc, path, most) {
         Ok(text) => Ok(text),
         Err(failure) => match sources.import() {
             Some(place) => Err(unread(alloc, sources, path, place, &failure)),
@@ -83,11 +95,13 @@ fn read_rest<F: Files>(rt: &F, alloc: Global, sources: &mut Sources) -> Result<(
     ensures first { OnOk result (BeginsAs sources.old.files.items sources.new.files.items) }
     ensures refused { IfErr result (Says (IsOfRest sources.old.files.items)) }
 {
+    let mut left = MOST_IMPORTED;
     for _ in 0..u64::MAX {
         let Some(path) = sources.wanted() else {
             return Ok(());
         };
-        let text = read_wanted(rt, alloc, sources, path)?;
+        let text = read_wanted(rt, alloc, sources, path, left)?;
+        left = left.saturating_sub(text.len() as u64);
         give(alloc, sources, text.as_slice())?;
     }
     // so many files fit in no memory

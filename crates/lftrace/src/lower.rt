@@ -62,8 +62,7 @@ pub(crate) fn write_lowers<F: Files, W: Write>(
     fault: &Fault,
     out: &mut W,
 ) {
-    // Want of memory says nothing of the text. A text that has a tree is printed by `lower` as it is: one that
-    // has none is not asked again.
+    // Want of memory says nothing of the text. A text that has a tree is core: `lower` adds nothing to it.
     if fault.name == "NoMemory" || !matches!(fault.part, Part::Lex | Part::Syntax) {
         return;
     }
