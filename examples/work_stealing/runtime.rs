@@ -18,7 +18,7 @@ use std::time::{Duration, Instant};
 const FAR: Tag = (u64::MAX, 0);
 
 /// A program without a row of a run for so long hangs.
-const PATIENCE: Duration = Duration::from_secs(1);
+const PATIENCE: Duration = Duration::from_secs(3);
 
 /// Where the events of physical actions come from.
 pub enum World {
@@ -112,7 +112,7 @@ impl<'p> Runtime<'p> {
         }
     }
 
-    /// Runs the program to its stop. `hangs` is called if no run has a row for a second, and doesn't return.
+    /// Runs the program to its stop. `hangs` is called if no run has a row for three seconds, and doesn't return.
     pub fn run(&self, world: World, hangs: impl FnOnce() + Send) {
         if let World::Script(events) = &world {
             self.agenda.lock().unwrap().promised = events.first().map_or(FAR, |event| event.0);
