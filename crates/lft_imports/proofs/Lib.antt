@@ -1,5 +1,5 @@
 pub mod Columns
+pub mod Counting
 pub mod Known
-pub mod Listing
 pub mod Telling
 pub mod Walks

@@ -1,6 +1,9 @@
 -- Why a text is refused.
-use Rattle.std.proofs.Common.{◌≡◌, ℕ, ◌⊎◌, inl, inr, List, [], ◌∷◌, ◌++◌, length, Some, None, sym, subst, ◌∙◌, string_bytes}
+use Rattle.std.proofs.Common.{◌≡◌, ℕ, ◌+◌, ◌⊎◌, inl, inr, List, [], ◌∷◌, ◌++◌, length, take, Some, None, sym, subst, ap, ◌∙◌, zero-add, arith, string_bytes}
 use Rattle.std.specs.Prelude.{IfErr, Result, Ok, Err, slice_get}
+use Rattle.std.proofs.lemmas.List.{take-append-le, take_all}
+use Rattle.std.proofs.lemmas.List.Sums.{sum_by-append}
+use Rattle.std.proofs.lemmas.Option.{slice_get_within}
 use Rattle.lft_lists.proofs.Places.{get_push_cases}
 use Rattle.lft_sources.specs.declared.source.Spot.{Spot}
 use Rattle.lft_sources.specs.declared.source.SourceFile.{SourceFile}
@@ -10,7 +13,7 @@ use Rattle.lft_sources.specs.declared.why.Why.{Why}
 use Rattle.lft_sources.specs.declared.why.Why.TheVariants.{NotRead}
 use Rattle.lft_imports.specs.declared.reading.Text.{Text}
 use Rattle.lft_imports.specs.declared.sources.Sources.{Sources}
-use Rattle.lft_imports.specs.Files.{AreOfTexts, HasUnread, IsRefusalOf, IsRefusedFor, IsUnread, RefusesNext, next_path}
+use Rattle.lft_imports.specs.Files.{AreCounted, AreOfTexts, HasUnread, IsRefusalOf, IsRefusedFor, IsUnread, RefusesNext, next_path, tokens_of}
 use Rattle.lft_imports.specs.Reads.{HasNoTree, HasTree, IsRead, IsReadAs}
 
 -- what is read of a text that has no tree
@@ -23,12 +26,24 @@ tree_of t f read spots tree is none =
     let known : HasTree t read.spots.items read.tree = subst (IsReadAs t read.spots.items read.tree) none is in
     subst (λ v. HasTree t v.items f.tree) (sym spots) (subst (HasTree t read.spots.items) (sym tree) known)
 
-pub trees_more : (t : List ℕ) (files : List SourceFile) (f : SourceFile) → AreOfTexts files → HasTree t f.spots.items f.tree → AreOfTexts (files ++ f ∷ [])
-trees_more t files f h tree k file at = of (get_push_cases files f k file at)
+pub trees_more : (files : List SourceFile) (f : SourceFile) → AreOfTexts files → HasTree f.text.items f.spots.items f.tree → AreOfTexts (files ++ f ∷ [])
+trees_more files f h tree k file at = of (get_push_cases files f k file at)
   where
-    of : (slice_get files k ≡ Some file) ⊎ ((k ≡ length files) × (f ≡ file)) → (u : List ℕ) × HasTree u file.spots.items file.tree
+    of : (slice_get files k ≡ Some file) ⊎ ((k ≡ length files) × (f ≡ file)) → HasTree file.text.items file.spots.items file.tree
     of (inl old) = h k file old
-    of (inr new) = subst (λ (x : SourceFile). (u : List ℕ) × HasTree u x.spots.items x.tree) new.1 (t, tree)
+    of (inr new) = subst (λ (x : SourceFile). HasTree x.text.items x.spots.items x.tree) new.1 tree
+
+-- a file more has so many tokens more
+pub tokens_more : (files : List SourceFile) (f : SourceFile) → tokens_of (files ++ f ∷ []) ≡ tokens_of files + length f.spots.items
+tokens_more files f = sum_by-append (λ (x : SourceFile). length x.spots.items) files (f ∷ []) ∙ ap (λ n. tokens_of files + n) (zero-add (length f.spots.items))
+
+-- and its first token has the number of those before
+pub counted_more : (files : List SourceFile) (f : SourceFile) → AreCounted files → f.first ≡ tokens_of files → AreCounted (files ++ f ∷ [])
+counted_more files f h first k file at = of (get_push_cases files f k file at)
+  where
+    of : (slice_get files k ≡ Some file) ⊎ ((k ≡ length files) × (f ≡ file)) → file.first ≡ tokens_of (take k (files ++ f ∷ []))
+    of (inl old) = h k file old ∙ ap tokens_of (sym (take-append-le k files (f ∷ []) (omega (arith, slice_get_within files k file old))))
+    of (inr new) = ap (λ (x : SourceFile). x.first) (sym new.1) ∙ first ∙ ap tokens_of (sym (take-append-le k files (f ∷ []) (omega (arith, new.0)) ∙ take_all k files (omega (arith, new.0))))
 
 -- a file is refused as what is read of its text
 pub refused_for : (t : List ℕ) (f : SourceFile) (read : Text) (token : ℕ) (why : Why) → f.spots ≡ read.spots → f.tree ≡ read.tree → IsRead t read → (read.refused ≡ Some (record { why = why; token = token })) ⊎ ((read.refused ≡ None) × (why ≡ NotRead) × HasUnread read.tree.imports.items token) → IsRefusedFor t f token why

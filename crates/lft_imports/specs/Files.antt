@@ -1,9 +1,11 @@
 -- The files of a program: which paths are asked for, and which file each import names.
-use Rattle.std.specs.Prelude.{◌≡◌, ◌<◌, ◌↔◌, ◌⊎◌, ℕ, All, List, [], ◌∷◌, ◌++◌, Option, Some, None, IsSomeAnd, length, map, slice_get, string_bytes}
+use Rattle.std.specs.Prelude.{◌≡◌, ◌<◌, ◌↔◌, ◌⊎◌, ℕ, All, List, [], ◌∷◌, ◌++◌, Option, Some, None, IsSomeAnd, length, map, slice_get, string_bytes, take}
 use Rattle.std.specs.BTreeMap.{get_by_text}
+use Rattle.std.specs.List.{sum_by}
 use Rattle.std.specs.Str.{IsUtf8}
 use Rattle.lft_whole.specs.declared.tree.Import.{Import}
 use Rattle.lft_sources.specs.declared.source.SourceFile.{SourceFile}
+use Rattle.lft_sources.specs.Tokens.{StandsAt}
 use Rattle.lft_sources.specs.declared.stop.Place.{Place}
 use Rattle.lft_sources.specs.declared.stop.Stop.{Stop}
 use Rattle.lft_sources.specs.declared.stop.Stop.TheVariants as stop
@@ -66,15 +68,29 @@ IsNamedBy files number path (Some place) = (0 < number) × IsImportOf files path
 abbrev pub AreNamed : List SourceFile → List Wanted → Type 0
 AreNamed files wanted = (k : ℕ) (one : Wanted) → slice_get wanted k ≡ Some one → IsNamedBy files k (string_bytes one.path) one.import
 
--- Each of the files has the tree of a text, and the spots of its tokens.
+-- Each of the files has the tree of its text, and the spots of its tokens.
 abbrev pub AreOfTexts : List SourceFile → Type 0
-AreOfTexts files = (k : ℕ) (file : SourceFile) → slice_get files k ≡ Some file → (t : List ℕ) × HasTree t file.spots.items file.tree
+AreOfTexts files = (k : ℕ) (file : SourceFile) → slice_get files k ≡ Some file → HasTree file.text.items file.spots.items file.tree
 
--- The files that are read are the first of the paths that are asked for, and have the trees of texts; each import of them has its number, and imports of them lead to each path, and name it.
+-- So many tokens the files have, with the end of each.
+abbrev pub tokens_of : List SourceFile → ℕ
+tokens_of files = sum_by (λ file. length file.spots.items) files
+
+-- The number of the first token of each is that of the tokens of the files before it.
+abbrev pub AreCounted : List SourceFile → Type 0
+AreCounted files = (k : ℕ) (file : SourceFile) → slice_get files k ≡ Some file → file.first ≡ tokens_of (take k files)
+
+-- Of all files no two tokens have one number.
+abbrev pub AreApart : List SourceFile → Type 0
+AreApart files = (number : ℕ) (one other : Place) → StandsAt files number one → StandsAt files number other → one ≡ other
+
+-- The files that are read are the first of the paths that are asked for, and have the trees of texts; their tokens are counted; each import of them has its number, and imports of them lead to each path, and name it.
 pub record AreSources (sources : Sources) : Type 0 where
   pub known : IsKnown sources.asked
   pub read : (k : ℕ) (file : SourceFile) → slice_get sources.files.items k ≡ Some file → slice_get (paths_of sources.asked) k ≡ Some (string_bytes file.path)
   pub trees : AreOfTexts sources.files.items
+  pub tokens : sources.tokens ≡ tokens_of sources.files.items
+  pub counted : AreCounted sources.files.items
   pub numbered : (k : ℕ) (file : SourceFile) → slice_get sources.files.items k ≡ Some file → IsNumbered (paths_of sources.asked) file
   pub reached : AreReached sources.files.items (paths_of sources.asked)
   pub named : AreNamed sources.files.items sources.asked.paths.items
@@ -86,6 +102,7 @@ next_path sources = slice_get (paths_of sources.asked) (length sources.files.ite
 -- The file of that path is read from that text: it has the tree of the text, and the spots of its tokens.
 pub record IsFileOf (path t : List ℕ) (file : SourceFile) : Type 0 where
   pub same : string_bytes file.path ≡ path
+  pub text : file.text.items ≡ t
   pub tree : HasTree t file.spots.items file.tree
 
 -- One file more is read: the one that was to be read next.

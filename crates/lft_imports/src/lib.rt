@@ -2,7 +2,6 @@
 //! The files of a program, each read once.
 
 mod asked;
-mod order;
 mod paths;
 mod reading;
 mod sources;

@@ -1,12 +1,10 @@
 //! The files of a program: which is to be read next, and which file each import names.
 
-ghost use Rattle.std.specs.Prelude.{◌≡◌, [], ◌∷◌, None, IfErr, IfOk, IfSome, OnOk, option_and_then, option_map, length, slice_get};
+ghost use Rattle.std.specs.Prelude.{◌≡◌, ◌+◌, [], ◌∷◌, None, IfErr, IfOk, IfSome, OnOk, option_and_then, option_map, length, slice_get};
 ghost use Rattle.lft_imports.specs.Paths.{normal as normal_path};
-ghost use Rattle.lft_imports.specs.Files.{Adds, AreNumbered, AreSources, EachOnce, HasOneMore, IsAskedBy, IsKnown, IsNamedBy, IsRefusalOf, IsWhole, RefusesNext, next_path, paths_of, paths_of_files};
-ghost use Rattle.lft_imports.specs.Orders.{IsOrder, import_of};
+ghost use Rattle.lft_imports.specs.Files.{Adds, AreApart, AreCounted, AreNumbered, AreSources, EachOnce, HasOneMore, IsAskedBy, IsKnown, IsNamedBy, IsRefusalOf, IsWhole, RefusesNext, next_path, paths_of, paths_of_files};
 
 use crate::asked::Asked;
-use crate::order::order_of;
 use crate::paths::normal;
 use crate::reading::{Text, read_text};
 use lft_sources::{Place, SourceFile, Stop};
@@ -34,19 +32,25 @@ fn numbers_of(
     }
 }
 
-/// A file of what is read of it.
-fn file_of(path: String, read: Text, imports: Vec<usize>) -> SourceFile
-    ensures path { result.path ≡ path }
-    ensures tree { result.tree ≡ read.tree }
-    ensures imports { result.imports ≡ imports }
-    ensures spots { result.spots ≡ read.spots }
+/// A file of what is read of its text, with the number of its first token among those of all files.
+fn file_of(path: String, text: Vec<u8>, first: usize, read: Text, imports: Vec<usize>) -> SourceFile
+    ensures { result ≡ record { path = path; tree = read.tree; imports = imports; spots = read.spots; text = text; first = first } }
 {
     SourceFile {
         path,
         tree: read.tree,
         imports,
         spots: read.spots,
+        text,
+        first,
     }
+}
+
+/// So many tokens with those behind them, if these can be counted.
+fn tokens_behind(tokens: usize, count: usize) -> Option<usize>
+    ensures { IfSome result (λ sum. sum ≡ tokens + count) }
+{
+    tokens.checked_add(count)
 }
 
 /// The files of a program, each once by the normal form of its path. They are read in the order in which they
@@ -55,6 +59,8 @@ fn file_of(path: String, read: Text, imports: Vec<usize>) -> SourceFile
 pub struct Sources {
     alloc: Global,
     files: Vec<SourceFile>,
+    /// How many tokens the files have, with the end of each.
+    tokens: usize,
     asked: Asked,
 }
 
@@ -70,6 +76,7 @@ impl Sources {
         Ok(Sources {
             alloc,
             files: Vec::new(alloc),
+            tokens: 0,
             asked,
         })
     }
@@ -99,26 +106,20 @@ impl Sources {
     pub fn files(&self) -> &[SourceFile]
         ensures files { result.now ≡ self.now.files.items }
         ensures once { AreSources self.now → EachOnce (paths_of_files result.now) }
+        ensures counted { AreSources self.now → AreCounted result.now }
+        ensures apart { AreSources self.now → AreApart result.now }
         ensures whole { AreSources self.now → next_path self.now ≡ None → IsWhole result.now }
     {
         self.files.as_slice()
     }
 
-    /// The numbers of the files that are read, in the order in which their reactors are printed: each behind the
-    /// files that it imports, but for those that import it too, at some depth.
-    pub fn order(&self) -> Result<Vec<usize>, NoMemory>
-        ensures { IfOk result (λ order. IsOrder (import_of self.now.files.items) (length self.now.files.items) order.items) }
-    {
-        order_of(self.alloc, &self.files)
-    }
-
     /// Takes the text of the file that is wanted. Where it is refused, the file is among those read, so that its
     /// place can be told, and no other is to be given. Where none is wanted, nothing happens.
-    pub fn give(&mut self, text: &[u8]) -> Result<(), Stop>
+    pub fn give(&mut self, text: Vec<u8>) -> Result<(), Stop>
         requires { AreSources self.old }
         ensures sources { OnOk result (AreSources self.new) }
-        ensures read { OnOk result (HasOneMore text.now self.old self.new) }
-        ensures refused { IfErr result (RefusesNext text.now self.old self.new.files.items) }
+        ensures read { OnOk result (HasOneMore text.items self.old self.new) }
+        ensures refused { IfErr result (RefusesNext text.items self.old self.new.files.items) }
         ensures none { next_path self.old ≡ None → self.new ≡ self.old }
     {
         let number = self.files.len();
@@ -126,15 +127,21 @@ impl Sources {
             return Ok(());
         };
         let path = String::from_str(self.alloc, wanted)?;
-        let read = read_text(self.alloc, text)?;
+        let read = read_text(self.alloc, text.as_slice())?;
+        let first = self.tokens;
+        let count = read.spots.len();
+        let Some(tokens) = tokens_behind(first, count) else {
+            return Err(Stop::NoMemory);
+        };
+        self.tokens = tokens;
         match numbers_of(self.alloc, &mut self.asked, number, path.as_str(), &read) {
             Ok(imports) => {
-                self.files.push(file_of(path, read, imports))?;
+                self.files.push(file_of(path, text, first, read, imports))?;
                 Ok(())
             }
             Err(stop) => {
                 let imports = Vec::new(self.alloc);
-                self.files.push(file_of(path, read, imports))?;
+                self.files.push(file_of(path, text, first, read, imports))?;
                 Err(stop)
             }
         }

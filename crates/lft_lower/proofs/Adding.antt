@@ -1,14 +1,14 @@
 -- Members that stand behind those that there were.
 use Rattle.std.proofs.Common.{◌≡◌, ◌≢◌, ℕ, List, [], ◌∷◌, ◌++◌, Option, Some, None, sym, subst, ◌∙◌, ap, append_assoc}
 use Rattle.std.proofs.lemmas.List.{append-nil, map-append}
+use Rattle.lft_tree.specs.Identifiers.{IsName}
 use Rattle.lft_tree.specs.Tree.{TriggerTree, OnRef, AssignmentTree, MemberTree, ReactionMember}
 use Rattle.lft_tree.specs.View.{member_view, member_views}
 use Rattle.lft_tree.specs.declared.tree.Member.{Member as Core}
 use Rattle.lft_whole.specs.declared.tree.Member.{Member}
 use Rattle.lft_whole.specs.declared.tree.Reaction.{Reaction}
-use Rattle.lft_shapes.specs.declared.shapes.Thing.TheVariants as things
 use Rattle.lft_lowering.specs.Lowered.{own}
-use Rattle.lft_meanings.specs.Meanings.{Here, thing_in}
+use Rattle.lft_meanings.specs.Meanings.{Here, named_in}
 use Rattle.lft_meanings.specs.Places.{Several, count_of}
 use Rattle.lft_lower.specs.Lowered.{Adds, AreGiven, AreInstances, AreTriggers, IsAsleep, IsLowered, IsReaction, added, all_triggers, asleep, instances, known, no_instances, reaction_tree, reactor_at, runs, sleeps, some_instances}
 use Rattle.lft_shapes.specs.Shapes.{thing_named}
@@ -35,8 +35,8 @@ pub asleep_known : (h : Here) (name : List ℕ) (before : Option (List ℕ)) (ol
 asleep_known h name before old is = adds_none old (IsAsleep h name before) (subst (λ b. IsAsleep h name b []) (sym is) known)
 
 -- or it is added
-pub asleep_added : (h : Here) (name : List ℕ) (before : Option (List ℕ)) (old now : List Core) → before ≡ None → thing_named h.shape name ≡ None → member_views now ≡ member_views old ++ asleep name ∷ [] → Adds old now (IsAsleep h name before)
-asleep_added h name before old now none free made = (asleep name ∷ [], subst (λ b. IsAsleep h name b (asleep name ∷ [])) (sym none) (added free), made)
+pub asleep_added : (h : Here) (name : List ℕ) (before : Option (List ℕ)) (old now : List Core) → before ≡ None → thing_named h.shape name ≡ None → IsName name → member_views now ≡ member_views old ++ asleep name ∷ [] → Adds old now (IsAsleep h name before)
+asleep_added h name before old now none free is made = (asleep name ∷ [], subst (λ b. IsAsleep h name b (asleep name ∷ [])) (sym none) (added free is), made)
 
 -- triggers that have places stay
 pub triggers_run : (h : Here) (r : Reaction) (before : Option (List ℕ)) (old : List Core) (ts : List TriggerTree) → ts ≡ all_triggers h r → ts ≢ [] → Adds old old (λ more. AreTriggers h r before more before ts)
@@ -53,12 +53,12 @@ reaction_stands h r before after old mid now x ts adds one is = adds_then old mi
 -- ---- instances
 
 -- a bank without members
-pub instances_none : (names : List (Option (List ℕ))) (h : Here) (n : ℕ) (old : List Core) → count_of (thing_in h (things.Member n)) ≡ 0 → Adds old old (AreInstances names h n)
-instances_none names h n old none = adds_none old (AreInstances names h n) (no_instances none)
+pub instances_none : (names : List (Option (List ℕ))) (h : Here) (n : ℕ) (name : List ℕ) (old : List Core) → count_of (named_in h name n) ≡ 0 → Adds old old (AreInstances names h n name)
+instances_none names h n name old none = adds_none old (AreInstances names h n name) (no_instances none)
 
 -- an instance, or those of a bank
-pub instances_some : (names : List (Option (List ℕ))) (h : Here) (n : ℕ) (old now : List Core) (thing : Several) (reactor : List ℕ) (given : List AssignmentTree) → thing ≡ thing_in h (things.Member n) → reactor_at names h n ≡ Some reactor → AreGiven h n given → member_views now ≡ member_views old ++ instances thing reactor given → Adds old now (AreInstances names h n)
-instances_some names h n old now thing reactor given is named gives made = (instances (thing_in h (things.Member n)) reactor given, some_instances reactor given named gives, made ∙ ap (λ t. member_views old ++ instances t reactor given) is)
+pub instances_some : (names : List (Option (List ℕ))) (h : Here) (n : ℕ) (name : List ℕ) (old now : List Core) (thing : Several) (reactor : List ℕ) (given : List AssignmentTree) → thing ≡ named_in h name n → reactor_at names h n ≡ Some reactor → AreGiven h n given → member_views now ≡ member_views old ++ instances thing reactor given → Adds old now (AreInstances names h n name)
+instances_some names h n name old now thing reactor given is named gives made = (instances (named_in h name n) reactor given, some_instances reactor given named gives, made ∙ ap (λ t. member_views old ++ instances t reactor given) is)
 
 -- ---- members
 

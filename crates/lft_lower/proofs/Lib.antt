@@ -2,6 +2,8 @@ mod Adding
 mod Defaults
 mod Joining
 mod Named
+mod Names
 mod Needing
 mod Refusing
+mod Standing
 mod Turns

@@ -1,8 +1,5 @@
 -- Why what is written isn't lowered.
-use Rattle.std.proofs.Common.{◌≡◌, ◌⊎◌, inr, ℕ, IsPermutation, List, Option, Some, None, slice_get, refl, sym, subst}
-use Rattle.std.specs.Prelude.{IsSomeAnd}
-use Rattle.std.proofs.lemmas.List.Sorted.{Contains-permutation, IsPermutation-sym}
-use Rattle.lft_lists.proofs.Places.{at_contains, contains_at}
+use Rattle.std.proofs.Common.{◌≡◌, ◌⊎◌, ℕ, List, Some, slice_get, subst, sym}
 use Rattle.lft_sources.specs.declared.stop.Refusal.{Refusal}
 use Rattle.lft_sources.specs.declared.stop.Stop.{Stop}
 use Rattle.lft_whole.specs.declared.tree.Member.{Member}
@@ -29,15 +26,3 @@ of_member settings setting shape P n m s at refused =
 pub of_reactor : (settings : Settings) (P : Refusal → Type 0) (numbers : List ℕ) (k setting : ℕ) (shape : Shape) (s : Stop) → slice_get numbers k ≡ Some setting → shape_at settings setting ≡ Some shape → IfRefused (λ r. P r ⊎ IsOfReactor settings setting shape r) s → IfRefused (λ r. P r ⊎ IsOfSome (IsOfSetting settings) numbers r) s
 of_reactor settings P numbers k setting shape s at there refused =
     of_this (IsOfSetting settings) P numbers k setting s at (second_too P (IsOfReactor settings setting shape) (IsOfSetting settings setting) s (λ r q. some_and (λ x. IsOfReactor settings setting x r) shape (shape_at settings setting) there q) refused)
-
-among : (xs ys : List ℕ) (k x : ℕ) → IsPermutation xs ys → slice_get ys k ≡ Some x → (i : ℕ) × (slice_get xs i ≡ Some x)
-among xs ys k x moved at = at_contains xs x (Contains-permutation ys xs x (IsPermutation-sym xs ys moved) (contains_at ys k x at))
-
-some_among : (Is : ℕ → Refusal → Type 0) (xs ys : List ℕ) (r : Refusal) (k : ℕ) (o : Option ℕ) → IsPermutation xs ys → slice_get ys k ≡ o → IsSomeAnd o (λ x. Is x r) → IsOfSome Is xs r
-some_among Is xs ys r k None moved at is = absurd is
-some_among Is xs ys r k (Some x) moved at is = let found = among xs ys k x moved at in (found.0, some_and (λ y. Is y r) x (slice_get xs found.0) found.1 is)
-
--- of one of them in another order
-pub of_moved : (Is : ℕ → Refusal → Type 0) (P Q : Refusal → Type 0) (xs ys : List ℕ) (s : Stop) → IsPermutation xs ys → IfRefused (λ r. P r ⊎ IsOfSome Is ys r) s → IfRefused (λ r. P r ⊎ Q r ⊎ IsOfSome Is xs r) s
-of_moved Is P Q xs ys s moved refused =
-    second_too P (IsOfSome Is ys) (λ r. Q r ⊎ IsOfSome Is xs r) s (λ r q. inr (some_among Is xs ys r q.0 (slice_get ys q.0) moved refl q.1)) refused

@@ -4,4 +4,5 @@ pub mod Needed
 pub mod Programs
 pub mod Reactors
 pub mod Refused
+pub mod Standing
 pub mod Times

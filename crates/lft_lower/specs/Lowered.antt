@@ -2,6 +2,7 @@
 use Rattle.std.specs.Prelude.{◌≡◌, ◌≢◌, ◌&&◌, ℕ, zero, Bool, true, false, not, is_some, List, [], ◌∷◌, ◌++◌, Option, Some, None, codes, bytes_eq, filter_map, flat_map, if◌then◌else◌, length, map, option_map, slice_get, slice_index_or, string_bytes, unwrap_or}
 use Rattle.std.specs.List.{All}
 use Rattle.std.specs.Option.{option_and_then}
+use Rattle.lft_tree.specs.Identifiers.{IsName}
 use Rattle.lft_tree.specs.Tree.{TimeTree, RefTree, TimerTree, ActionTree, TriggerTree, AtStartup, AtShutdown, OnRef, ReactionTree, AssignmentTree, ConnectionTree, MemberTree, PortMember, TimerMember, ActionMember, ReactionMember, InstanceMember, ConnectionMember}
 use Rattle.lft_tree.specs.View.{member_views}
 use Rattle.lft_tree.specs.declared.tree.Member.{Member as Core}
@@ -23,12 +24,11 @@ use Rattle.lft_shapes.specs.declared.shapes.Child.{Child}
 use Rattle.lft_shapes.specs.declared.shapes.Given.{Given}
 use Rattle.lft_shapes.specs.declared.shapes.Inherited.{Inherited}
 use Rattle.lft_shapes.specs.declared.shapes.Shape.{Shape}
-use Rattle.lft_shapes.specs.declared.shapes.Thing.TheVariants as things
 use Rattle.lft_shapes.specs.Shapes.{child_at, thing_named, width_of}
 use Rattle.lft_lowering.specs.Lowered.{AreJoined, own}
 use Rattle.lft_settings.specs.Noted.{found_inside}
 use Rattle.lft_settings.specs.Widths.{found_width}
-use Rattle.lft_meanings.specs.Meanings.{Here, Means, all_places, places_in, shape_inside, thing_in}
+use Rattle.lft_meanings.specs.Meanings.{Here, Means, all_places, named_in, places_in, shape_inside}
 use Rattle.lft_meanings.specs.Places.{Several, count_of, names_of}
 use Rattle.lft_lower.specs.declared.connections.Sides.{Sides}
 use Rattle.lft_lower.specs.Needed.{GivesNeeded, is_timed}
@@ -112,10 +112,10 @@ AreGiven h n given = (child : Child) × (shape : Shape) × (child_at h.shape.chi
 abbrev pub reactor_at : List (Option (List ℕ)) → Here → ℕ → Option (List ℕ)
 reactor_at names h n = option_and_then (λ inner. slice_index_or names inner None) (found_inside h.settings h.setting n)
 
--- an instance becomes one for each of its names, of the reactor of its setting, with the times that it gives
-pub data AreInstances (names : List (Option (List ℕ))) (h : Here) (n : ℕ) : List MemberTree → Type 0 where
-  no_instances : count_of (thing_in h (things.Member n)) ≡ 0 → AreInstances names h n []
-  some_instances : (reactor : List ℕ) (given : List AssignmentTree) → reactor_at names h n ≡ Some reactor → AreGiven h n given → AreInstances names h n (instances (thing_in h (things.Member n)) reactor given)
+-- an instance of this name becomes one for each of its names, of the reactor of its setting, with the times that it gives
+pub data AreInstances (names : List (Option (List ℕ))) (h : Here) (n : ℕ) (name : List ℕ) : List MemberTree → Type 0 where
+  no_instances : count_of (named_in h name n) ≡ 0 → AreInstances names h n name []
+  some_instances : (reactor : List ℕ) (given : List AssignmentTree) → reactor_at names h n ≡ Some reactor → AreGiven h n given → AreInstances names h n name (instances (named_in h name n) reactor given)
 
 -- ---- connections
 
@@ -182,7 +182,7 @@ asleep name = ActionMember (record { name = name; is_physical = false; min_delay
 -- the action without events stands already; or it is added, with a name that nothing else has
 pub data IsAsleep (h : Here) (name : List ℕ) : Option (List ℕ) → List MemberTree → Type 0 where
   known : IsAsleep h name (Some name) []
-  added : thing_named h.shape name ≡ None → IsAsleep h name None (asleep name ∷ [])
+  added : thing_named h.shape name ≡ None → IsName name → IsAsleep h name None (asleep name ∷ [])
 
 -- a reaction is triggered by the places of its triggers; where there are some and these have none, by the action without events
 pub data AreTriggers (h : Here) (r : Reaction) : Option (List ℕ) → List MemberTree → Option (List ℕ) → List TriggerTree → Type 0 where
@@ -197,11 +197,11 @@ IsReaction h r before new after = (triggers : List TriggerTree) × (more : List 
 
 -- what the member of this number becomes; the name of the action without events, if there is one, before and after; a mode, a mutation or a watchdog becomes nothing at all
 abbrev pub IsLowered : List (Option (List ℕ)) → Here → ℕ → Option (List ℕ) → List MemberTree → Option (List ℕ) → Member → Type 0
-IsLowered names h n before new after (member.Port port) = (after ≡ before) × (new ≡ ports (thing_in h (things.Member n)) port.is_input)
+IsLowered names h n before new after (member.Port port) = (after ≡ before) × (new ≡ ports (named_in h (string_bytes port.name.text) n) port.is_input)
 IsLowered names h n before new after (member.Timer timer) = (after ≡ before) × IsRead h.shape timer.offset × IsPeriod h.shape timer.period × (new ≡ TimerMember (timer_tree timer) ∷ [])
 IsLowered names h n before new after (member.Action action) = (after ≡ before) × IsRead h.shape action.min_delay × (is_spaced action ≡ false) × (new ≡ ActionMember (action_tree action) ∷ [])
 IsLowered names h n before new after (member.Reaction reaction) = MeansAll h reaction × IsReaction h reaction before new after
-IsLowered names h n before new after (member.Instance instance) = (after ≡ before) × AreInstances names h n new
+IsLowered names h n before new after (member.Instance instance) = (after ≡ before) × AreInstances names h n (string_bytes instance.name.text) new
 IsLowered names h n before new after (member.Connection c) = (after ≡ before) × (c.is_physical ≡ false) × MeanSides h c × IsRead h.shape c.delay × AreConnected (all_places h c.sources.items) (all_places h c.destinations.items) c.is_broadcast (time_at c.delay) new
 IsLowered names h n before new after (member.Foreign what at) = ⊥
 

@@ -1,8 +1,9 @@
 -- The core reactors of settings.
 use Rattle.std.specs.Prelude.{◌≡◌, ◌↔◌, ℕ, Bool, true, false, IfSome, IsTrue, List, [], ◌∷◌, ◌++◌, Option, Some, None, filter_map, if◌then◌else◌, length, option_map, slice_get, slice_index_or, string_bytes}
-use Rattle.std.specs.List.Sorted.{IsPermutation}
 use Rattle.std.specs.Option.{option_and_then}
 use Rattle.lft_tree.specs.Tree.{ItemTree, MemberTree, ParameterTree, ReactorTree, ReactorItem}
+use Rattle.lft_tree.specs.ItemView.{item_views}
+use Rattle.lft_tree.specs.declared.ast.Ast.{Ast}
 use Rattle.lft_tree.specs.declared.tree.Time.{Time}
 use Rattle.lft_whole.specs.declared.tree.Expression.{Expression}
 use Rattle.lft_sources.specs.declared.source.SourceFile.{SourceFile}
@@ -19,6 +20,7 @@ use Rattle.lft_meanings.specs.Names.{AreApart}
 use Rattle.lft_lower.specs.Lowered.{AreLowered}
 use Rattle.lft_lower.specs.Needed.{is_timed}
 use Rattle.lft_lower.specs.Programs.{IsCentralized}
+use Rattle.lft_lower.specs.Standing.{ArePlaced}
 use Rattle.lft_lower.specs.Times.{IsWritten, time_in}
 
 -- the time of a default; where none is written, each instance gives one, and this one is never read
@@ -74,13 +76,13 @@ pub record IsProgram (files : List SourceFile) (s : Settings) (used : List ℕ) 
   pub settings : AreSettings (table s)
   pub are_used : AreUsed (table s) used
 
--- The program of these files is lowered: its items are a core reactor for each setting that its instances have, and no others, with names that differ.
-pub record IsLowering (files : List SourceFile) (s : Settings) (items : List ItemTree) : Type 0 where
+-- The program of these files is lowered to the tree: it has a core reactor for each setting that the instances of the program have, and no others, with names that differ. What a member becomes stands at its token.
+pub record IsLowering (files : List SourceFile) (tree : Ast) : Type 0 where
+  pub settings : Settings
   pub used : List ℕ
-  pub program : IsProgram files s used
-  pub centralized : IsCentralized files s
-  pub order : List ℕ
-  pub reordered : IsPermutation used order
+  pub program : IsProgram files settings used
+  pub centralized : IsCentralized files settings
   pub names : List (Option (List ℕ))
   pub apart : AreApart names
-  pub reactors : AreReactors s names order items
+  pub reactors : AreReactors settings names used (item_views tree.items.items)
+  pub placed : ArePlaced files settings used tree.items.items

@@ -3,11 +3,12 @@
 ghost use Rattle.std.specs.Prelude.{◌≡◌, ◌⊎◌, IfErr, IfOk, IsTrue, OnOk, false, option_map, true};
 ghost use Rattle.lft_tree.specs.ItemView.{connection_view, ref_view, ref_views, time_view};
 ghost use Rattle.lft_lowering.specs.Lowered.{single};
-ghost use Rattle.lft_meanings.specs.Meanings.{all_places, here};
+ghost use Rattle.lft_meanings.specs.Meanings.{all_places, here, token_in};
 ghost use Rattle.lft_sources.specs.declared.stop.Stop.TheVariants.{NoMemory};
 ghost use Rattle.lft_meanings.specs.Refused.{IfRefused, IsOfOne, IsPassed};
 ghost use Rattle.lft_lower.specs.Lowered.{Adds, AreConnected, AreEach, AreSides, IsRead, MeanSides, time_at};
 ghost use Rattle.lft_lower.specs.Refused.{IsOfConnection, IsOfSides};
+ghost use Rattle.lft_lower.specs.Standing.{AddsAt};
 
 use crate::copies::{copied_reference, copied_time};
 use crate::times::{bytes_of, maybe_time};
@@ -104,8 +105,10 @@ fn connected(
     from: &Reference,
     to: &Reference,
     delay: &Option<TimeExpression>,
+    arrow: usize,
 ) -> Result<Connection, Stop>
     ensures made { IfOk result (λ made. connection_view made ≡ single (option_map time_view delay.now) (ref_view from.now) (ref_view to.now)) }
+    ensures arrow { IfOk result (λ made. made.arrow ≡ arrow) }
     ensures cause { IfErr result (λ stop. stop ≡ NoMemory) }
 {
     let mut sources = Vec::new(alloc);
@@ -116,7 +119,7 @@ fn connected(
         sources,
         destinations,
         delay: copied_time(delay)?,
-        arrow: 0,
+        arrow,
     })
 }
 
@@ -129,9 +132,11 @@ fn push_pairs(
     sources: &[Reference],
     destinations: &[Reference],
     delay: &Option<TimeExpression>,
+    arrow: usize,
     list: &mut Vec<Member>,
 ) -> Result<(), Stop>
     ensures made { OnOk result (Adds list.old.items list.new.items (AreEach (ref_views sources.now) (ref_views destinations.now) true (option_map time_view delay.now))) }
+    ensures at { OnOk result (AddsAt list.old.items list.new.items arrow) }
     ensures cause { IfErr result (IfRefused (IsPassed work.now.main)) }
 {
     let right = destinations.len();
@@ -144,7 +149,7 @@ fn push_pairs(
             room.spend(bytes_of_reference(from), work)?;
         }
         room.spend(bytes_of_delay(delay), work)?;
-        let connection = connected(alloc, from, to, delay)?;
+        let connection = connected(alloc, from, to, delay, arrow)?;
         list.push(Member::Connection(connection))?;
     }
     Ok(())
@@ -162,8 +167,10 @@ fn push_sides(
 ) -> Result<(), Stop>
     requires { AreSides (here within) connection.now sides }
     ensures made { OnOk result (Adds list.old.items list.new.items (AreConnected (all_places (here within.entry) connection.now.sources.items) (all_places (here within.entry) connection.now.destinations.items) connection.now.is_broadcast (option_map time_view delay))) }
+    ensures at { OnOk result (AddsAt list.old.items list.new.items (token_in within.entry connection.now.arrow)) }
     ensures cause { IfErr result (IfRefused (λ r. IsPassed within.entry.settings.now.work.main r ⊎ IsOfSides (here within.entry) within.entry.file connection.now r)) }
 {
+    let arrow = within.token(connection.arrow);
     let pairs = joined(sides.left, sides.right, connection.is_broadcast);
     let most = pairs.min(sides.left);
     let sources = some_places(alloc, room, within, &connection.sources, most)?;
@@ -174,7 +181,7 @@ fn push_sides(
             sources,
             destinations,
             delay,
-            arrow: 0,
+            arrow,
         }))?;
         return Ok(());
     }
@@ -185,6 +192,7 @@ fn push_sides(
         &sources,
         &destinations,
         &delay,
+        arrow,
         list,
     )?;
     Ok(())
@@ -203,12 +211,13 @@ pub(crate) fn push_connection(
     ensures mean { OnOk result (MeanSides (here within.entry) connection.now) }
     ensures read { OnOk result (IsRead within.entry.shape.now connection.now.delay) }
     ensures joined { OnOk result (Adds list.old.items list.new.items (AreConnected (all_places (here within.entry) connection.now.sources.items) (all_places (here within.entry) connection.now.destinations.items) connection.now.is_broadcast (time_at connection.now.delay))) }
+    ensures at { OnOk result (AddsAt list.old.items list.new.items (token_in within.entry connection.now.arrow)) }
     ensures cause { IfErr result (IfRefused (λ r. IsPassed within.entry.settings.now.work.main r ⊎ IsOfConnection (here within.entry) within.entry.file connection.now r)) }
 {
     if connection.is_physical {
         return Err(Stop::at(Why::PhysicalConnection, within.file, connection.arrow));
     }
-    let delay = maybe_time(alloc, within.shape, within.file, &connection.delay)?;
+    let delay = maybe_time(alloc, within, &connection.delay)?;
     let sides = Sides::of(within, connection)?;
     sides.note(notes, within, connection)?;
     push_sides(alloc, room, within, connection, sides, delay, list)?;

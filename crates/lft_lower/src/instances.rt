@@ -1,20 +1,21 @@
 //! What an instance becomes.
 
-ghost use Rattle.std.specs.Prelude.{◌≡◌, ◌<◌, ◌≤◌, ◌++◌, ◌⊎◌, [], Some, false, IfErr, IfOk, OnOk, map, option_map, true};
+ghost use Rattle.std.specs.Prelude.{◌≡◌, ◌<◌, ◌≤◌, ◌++◌, ◌⊎◌, [], Some, false, IfErr, IfOk, OnOk, map, option_map, string_bytes, true};
 ghost use Rattle.std.specs.List.{All, cons_option};
 ghost use Rattle.lft_tree.specs.ItemView.{assignment_view, member_views};
-ghost use Rattle.lft_meanings.specs.Meanings.{here};
+ghost use Rattle.lft_meanings.specs.Meanings.{here, token_in};
 ghost use Rattle.lft_meanings.specs.Names.{texts};
 ghost use Rattle.lft_meanings.specs.Places.{several};
 ghost use Rattle.lft_meanings.specs.Refused.{IfRefused, IsOfSome, IsPassed};
 ghost use Rattle.lft_lower.specs.Lowered.{Adds, AreGiven, AreInstances, IsGiven, given_times, instances, reactor_at, time_given};
 ghost use Rattle.lft_lower.specs.Needed.{is_needed, needed_given, needed_in};
 ghost use Rattle.lft_lower.specs.Refused.{IsOfGiven, IsOfInstance};
+ghost use Rattle.lft_lower.specs.Standing.{AddsAt};
 
 use crate::copies::copied_given;
 use crate::maker::Maker;
 use crate::times::{bytes_of, read_time};
-use lft_meanings::places::{Wide, Within};
+use lft_meanings::places::{Wide, Within, counted};
 use lft_meanings::room::Room;
 use lft_shapes::{Child, Given, Shape, Work};
 use lft_sources::{Stop, Why};
@@ -74,26 +75,25 @@ fn gives_needed(inner: &Shape, child: &Child, needed: usize) -> bool
 /// The time that an instance gives to a parameter, if times are read from that one.
 fn assigned(
     alloc: Global,
-    outer: &Shape,
-    file: usize,
+    within: Within,
     inner: &Shape,
     given: Given,
 ) -> Result<Option<Assignment>, Stop>
     ensures made { IfOk result (λ made. option_map assignment_view made ≡ time_given inner.now given.entry) }
-    ensures read { OnOk result (IsGiven outer.now inner.now given.entry) }
-    ensures cause { IfErr result (IfRefused (IsOfGiven outer.now file inner.now given.entry)) }
+    ensures read { OnOk result (IsGiven within.entry.shape.now inner.now given.entry) }
+    ensures cause { IfErr result (IfRefused (IsOfGiven within.entry.shape.now within.entry.file inner.now given.entry)) }
 {
     if !inner.is_timed(given.parameter) {
         return Ok(None);
     }
     let Some(found) = inner.parameters.get(given.parameter) else {
-        return Err(Stop::at(Why::MissingTime, file, given.value.at));
+        return Err(Stop::at(Why::MissingTime, within.file, given.value.at));
     };
-    let value = read_time(alloc, outer, file, given.value)?;
+    let value = read_time(alloc, within, given.value)?;
     Ok(Some(Assignment {
         name: found.parameter.name.text.clone()?,
         value,
-        at: 0,
+        at: within.token(given.value.at),
     }))
 }
 
@@ -110,19 +110,18 @@ fn push_given(list: &mut Vec<Assignment>, made: Option<Assignment>) -> Result<()
 /// The times that an instance gives to the parameters of its reactor that need them.
 fn given_times(
     alloc: Global,
-    outer: &Shape,
-    file: usize,
+    within: Within,
     inner: &Shape,
     child: &Child,
 ) -> Result<Vec<Assignment>, Stop>
     ensures given { IfOk result (λ list. map assignment_view list.items ≡ given_times inner.now child.now) }
-    ensures read { OnOk result (All (IsGiven outer.now inner.now) child.now.given.items) }
-    ensures cause { IfErr result (IfRefused (IsOfSome (IsOfGiven outer.now file inner.now) child.now.given.items)) }
+    ensures read { OnOk result (All (IsGiven within.entry.shape.now inner.now) child.now.given.items) }
+    ensures cause { IfErr result (IfRefused (IsOfSome (IsOfGiven within.entry.shape.now within.entry.file inner.now) child.now.given.items)) }
 {
     let mut list = Vec::new(alloc);
     for place in 0..child.given.len() {
         let given = child.given[place];
-        let made = assigned(alloc, outer, file, inner, given)?;
+        let made = assigned(alloc, within, inner, given)?;
         push_given(&mut list, made)?;
     }
     Ok(list)
@@ -143,7 +142,7 @@ fn checked(maker: Maker, within: Within, member: usize, at: usize) -> Result<Vec
     if !gives_needed(inner, child, needed) {
         return Err(Stop::at(Why::MissingTime, within.file, at));
     }
-    let given = given_times(maker.alloc, within.shape, within.file, inner, child)?;
+    let given = given_times(maker.alloc, within, inner, child)?;
     Ok(given)
 }
 
@@ -181,21 +180,23 @@ fn push_each(
     members: Wide,
     reactor: &str,
     given: &[Assignment],
+    at: usize,
+    reactor_at: usize,
     list: &mut Vec<Member>,
 ) -> Result<(), Stop>
     ensures cause { IfErr result (IfRefused (IsPassed work.now.main)) }
     ensures made { OnOk result (member_views list.new.items ≡ member_views list.old.items ++ instances (several members.entry) reactor.now (map assignment_view given.now)) }
+    ensures at { OnOk result (AddsAt list.old.items list.new.items at) }
 {
     let bytes = reactor.len().saturating_add(bytes_of_given(given));
     for number in 0..members.count() {
-        let name = members.at(number);
-        room.spend(name.bytes().saturating_add(bytes), work)?;
+        room.spend(bytes, work)?;
         list.push(Member::Instance(Instance {
-            name: name.core(alloc)?,
+            name: counted(alloc, room, work, members.at(number))?,
             reactor: String::from_str(alloc, reactor)?,
             given: copied_given(alloc, given)?,
-            at: 0,
-            reactor_at: 0,
+            at,
+            reactor_at,
         }))?;
     }
     Ok(())
@@ -210,15 +211,18 @@ pub(crate) fn push_instances(
     instance: &Written,
     list: &mut Vec<Member>,
 ) -> Result<(), Stop>
-    ensures made { maker.entry.settings.now ≡ within.entry.settings.now → OnOk result (Adds list.old.items list.new.items (AreInstances (texts maker.entry.names.now) (here within.entry) member)) }
+    ensures made { maker.entry.settings.now ≡ within.entry.settings.now → OnOk result (Adds list.old.items list.new.items (AreInstances (texts maker.entry.names.now) (here within.entry) member (string_bytes instance.now.name.text))) }
+    ensures at { OnOk result (AddsAt list.old.items list.new.items (token_in within.entry instance.now.name.at)) }
     ensures cause { maker.entry.settings.now ≡ within.entry.settings.now → IfErr result (IfRefused (λ r. IsPassed within.entry.settings.now.work.main r ⊎ IsOfInstance (here within.entry) within.entry.file member instance.now.name.at r)) }
 {
-    let members = within.member(member);
+    let members = within.named(&instance.name, member);
     if members.count() == 0 {
         return Ok(());
     }
     let reactor = reactor_of(maker, within, member)?;
     let given = checked(maker, within, member, instance.name.at)?;
+    let at = within.token(instance.name.at);
+    let reactor_at = within.token(instance.reactor.at);
     push_each(
         maker.alloc,
         room,
@@ -226,6 +230,8 @@ pub(crate) fn push_instances(
         members,
         reactor,
         &given,
+        at,
+        reactor_at,
         list,
     )?;
     Ok(())

@@ -2,15 +2,18 @@
 
 ghost use Rattle.std.specs.Prelude.{◌≡◌, None, map, option_map, slice_get, slice_index_or, unwrap_or};
 ghost use Rattle.lft_meanings.specs.Names.{texts};
+ghost use Rattle.lft_sources.specs.Tokens.{number_at};
 ghost use Rattle.lft_lower.specs.Needed.{needed_in};
 
 use lft_settings::Settings;
+use lft_sources::{Place, SourceFile, number_of};
 use std::alloc::Global;
 
 /// What all reactors are made of: the settings, which are all known.
 #[derive(Clone, Copy)]
 pub(crate) struct Maker<'s, 'a> {
     pub(crate) alloc: Global,
+    pub(crate) files: &'s [SourceFile],
     pub(crate) settings: &'s Settings<'a>,
     /// The names of the settings in the core.
     pub(crate) names: &'s [Option<String>],
@@ -28,6 +31,13 @@ impl<'s> Maker<'s, '_> {
             Some(Some(name)) => Some(name.as_str()),
             _ => None,
         }
+    }
+
+    /// The number of a token of a file among those of all files.
+    pub(crate) fn token(self, file: usize, token: usize) -> usize
+        ensures { result ≡ number_at self.entry.files.now (record { file = file; token = token }) }
+    {
+        number_of(self.files, Place { file, token })
     }
 
     /// How many parameters each instance of a shape has to give.

@@ -1,90 +1,30 @@
 //! The core tree of a whole program.
 
-ghost use Rattle.std.specs.Prelude.{◌≡◌, IfErr, IfOk, None, OnOk, map, true};
-ghost use Rattle.lft_sources.specs.declared.stop.Stop.TheVariants.{NoMemory, Refused};
-ghost use Rattle.lft_tree.specs.ItemView.{item_view};
+ghost use Rattle.std.specs.Prelude.{◌≡◌, IfErr, IfOk, None, OnOk, true};
+ghost use Rattle.lft_sources.specs.declared.stop.Stop.TheVariants.{NoMemory};
 ghost use Rattle.lft_meanings.specs.Refused.{IfRefused};
 ghost use Rattle.lft_lower.specs.Causes.{HasCause};
-ghost use Rattle.lft_lower.specs.Programs.{IsCentralized, decentralized_in, target_in};
+ghost use Rattle.lft_lower.specs.Programs.{IsCentralized, decentralized_in};
 ghost use Rattle.lft_lower.specs.Reactors.{IsLowering, IsProgram};
 ghost use Rattle.lft_lower.specs.Refused.{IsDecentralized, IsOfFederation, IsOfSettings};
 
 use crate::instances::needed;
 use crate::maker::Maker;
 use crate::reactors::reactors;
-use lft_meanings::naming::{names, sorted};
+use lft_meanings::naming::names;
 use lft_meanings::notes::Notes;
 use lft_meanings::room::Room;
 use lft_settings::Settings;
 use lft_shapes::{InheritedParameter, Shape};
 use lft_sources::{SourceFile, Stop, Why};
-use lft_tree::Item;
+use lft_tree::Ast;
 use std::alloc::Global;
 
-/// A program that is lowered: its core tree, and what is said of it.
+/// A program that is lowered: its core tree, under the names of the source, and what is said of it.
 #[derive(Drop)]
-pub struct Lowering<'a> {
-    files: &'a [SourceFile],
-    settings: Settings<'a>,
-    items: Vec<Item>,
-    notes: Vec<String>,
-}
-
-impl<'a> Lowering<'a> {
-    /// The reactors of the core program.
-    pub fn items(&self) -> &[Item]
-        ensures { result.now ≡ self.now.items.items }
-    {
-        self.items.as_slice()
-    }
-
-    /// The target of the core program.
-    pub fn target(&self) -> &str
-        ensures { result.now ≡ target_in self.now.files.now }
-    {
-        target_of(self.files)
-    }
-
-    /// A refusal of the program as a whole.
-    pub fn refused(&self, why: Why) -> Stop
-        ensures { result ≡ Refused (record { why = why; place = self.now.settings.work.main }) }
-    {
-        self.settings.work.refused(why)
-    }
-
-    /// Lines about the program, for its author.
-    pub fn notes(&self) -> &[String]
-        ensures { result.now ≡ self.now.notes.items }
-    {
-        self.notes.as_slice()
-    }
-
-    /// The files of the program.
-    pub fn files(&self) -> &'a [SourceFile]
-        ensures { result.now ≡ self.now.files.now }
-    {
-        self.files
-    }
-
-    /// The settings of the program, which are all known.
-    pub fn settings(&self) -> &Settings<'a>
-        ensures { result.now ≡ self.now.settings }
-    {
-        &self.settings
-    }
-}
-
-/// The target of a program.
-fn target_of(files: &[SourceFile]) -> &str
-    ensures { result.now ≡ target_in files.now }
-{
-    match files.first() {
-        Some(file) => match &file.tree.target {
-            Some(name) => name.text.as_str(),
-            None => "C",
-        },
-        None => "C",
-    }
+pub struct Lowering {
+    pub tree: Ast,
+    pub notes: Vec<String>,
 }
 
 /// What is said of the target.
@@ -183,50 +123,44 @@ fn notes<'a>(
 }
 
 /// The core tree of a program. Its settings are known, and so are those that are used.
-fn lowered<'a>(
+fn lowered(
     alloc: Global,
-    files: &'a [SourceFile],
-    order: &[usize],
-    settings: Settings<'a>,
+    files: &[SourceFile],
+    settings: &Settings,
     used: &[usize],
-) -> Result<Lowering<'a>, Stop>
-    ensures files { IfOk result (λ lowering. lowering.files.now ≡ files.now) }
-    ensures made { IfOk result (λ lowering. IsProgram files.now settings.entry used.now → IsLowering files.now lowering.settings (map item_view lowering.items.items)) }
-    ensures cause { IfErr result (IfRefused (IsOfSettings files.now settings.entry used.now)) }
+) -> Result<Lowering, Stop>
+    ensures made { IfOk result (λ lowering. IsProgram files.now settings.now used.now → IsLowering files.now lowering.tree) }
+    ensures cause { IfErr result (IfRefused (IsOfSettings files.now settings.now used.now)) }
 {
-    let mut notes = notes(alloc, files, &settings, used)?;
-    let sorted = sorted(alloc, order, &settings, used)?;
+    let mut notes = notes(alloc, files, settings, used)?;
     let mut room = Room::new();
-    let names = names(alloc, &settings, &sorted, &mut room)?;
+    let names = names(alloc, settings, used, &mut room)?;
     let needed = needed(alloc, &settings.shapes)?;
     let maker = Maker {
         alloc,
-        settings: &settings,
+        files,
+        settings,
         names: &names,
         needed: &needed,
     };
-    let items = reactors(maker, &mut room, &mut notes, &sorted)?;
-    Ok(Lowering {
-        files,
-        settings,
+    let items = reactors(maker, &mut room, &mut notes, used)?;
+    let tree = Ast {
+        target: None,
         items,
+    };
+    Ok(Lowering {
+        tree,
         notes: notes.into_lines(),
     })
 }
 
-/// The core tree of the program that these files are. `order` has their numbers, with those that a file
-/// imports before it.
-pub fn lower<'a>(
-    alloc: Global,
-    files: &'a [SourceFile],
-    order: &[usize],
-) -> Result<Lowering<'a>, Stop>
-    ensures files { IfOk result (λ lowering. lowering.files.now ≡ files.now) }
-    ensures made { IfOk result (λ lowering. IsLowering files.now lowering.settings (map item_view lowering.items.items)) }
+/// The core tree of the program that these files are.
+pub fn lower(alloc: Global, files: &[SourceFile]) -> Result<Lowering, Stop>
+    ensures made { IfOk result (λ lowering. IsLowering files.now lowering.tree) }
     ensures cause { IfErr result (HasCause files.now) }
 {
     let mut settings = Settings::of(alloc, files)?;
     let used = settings.counted()?;
-    let lowering = lowered(alloc, files, order, settings, &used)?;
+    let lowering = lowered(alloc, files, &settings, &used)?;
     Ok(lowering)
 }

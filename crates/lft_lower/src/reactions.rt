@@ -2,14 +2,16 @@
 
 ghost use Rattle.std.specs.Prelude.{◌≡◌, ◌≢◌, ◌++◌, ◌⊎◌, [], ◌∷◌, None, Some, IfErr, IfOk, OnOk, flat_map, map, option_map, string_bytes};
 ghost use Rattle.std.specs.List.{All};
+ghost use Rattle.lft_tree.specs.Identifiers.{IsName};
 ghost use Rattle.lft_tree.specs.ItemView.{member_views, ref_views, trigger_view};
 ghost use Rattle.lft_tree.specs.Tree.{OnRef};
 ghost use Rattle.lft_shapes.specs.Shapes.{thing_named};
-ghost use Rattle.lft_meanings.specs.Meanings.{here};
+ghost use Rattle.lft_meanings.specs.Meanings.{here, token_in};
 ghost use Rattle.lft_sources.specs.declared.stop.Stop.TheVariants.{NoMemory};
 ghost use Rattle.lft_meanings.specs.Refused.{IfRefused, IsOfSome, IsPassed};
 ghost use Rattle.lft_lower.specs.Lowered.{Adds, AreTriggers, IsAsleep, IsReaction, MeansAll, MeansEffect, MeansTrigger, all_triggers, asleep, effect_places, trigger_places};
 ghost use Rattle.lft_lower.specs.Refused.{AreOfTriggers, IsOfEffect, IsOfReaction, IsOfTrigger};
+ghost use Rattle.lft_lower.specs.Standing.{AddsAt};
 
 use lft_meanings::places::{Within, places, push_places};
 use lft_meanings::room::Room;
@@ -22,6 +24,7 @@ use std::alloc::Global;
 /// The name of an action that has no events: no thing of the reactor has it.
 fn never(alloc: Global, within: Within) -> Result<String, Stop>
     ensures free { IfOk result (λ name. thing_named within.entry.shape.now (string_bytes name) ≡ None) }
+    ensures name { IfOk result (λ name. IsName (string_bytes name)) }
     ensures cause { IfErr result (IfRefused (IsPassed within.entry.settings.now.work.main)) }
 {
     let shape = within.shape;
@@ -135,10 +138,13 @@ fn add_asleep(
     alloc: Global,
     room: &mut Room,
     within: Within,
+    at: usize,
     list: &mut Vec<Member>,
 ) -> Result<String, Stop>
     ensures free { IfOk result (λ name. thing_named within.entry.shape.now (string_bytes name) ≡ None) }
+    ensures name { IfOk result (λ name. IsName (string_bytes name)) }
     ensures added { IfOk result (λ name. member_views list.new.items ≡ member_views list.old.items ++ asleep (string_bytes name) ∷ []) }
+    ensures at { OnOk result (AddsAt list.old.items list.new.items at) }
     ensures cause { IfErr result (IfRefused (IsPassed within.entry.settings.now.work.main)) }
 {
     let free = never(alloc, within)?;
@@ -147,7 +153,7 @@ fn add_asleep(
         name: free.clone()?,
         is_physical: false,
         min_delay: None,
-        at: 0,
+        at,
     }))?;
     Ok(free)
 }
@@ -157,18 +163,20 @@ fn asleep(
     alloc: Global,
     room: &mut Room,
     within: Within,
+    at: usize,
     name: &mut Option<String>,
     list: &mut Vec<Member>,
 ) -> Result<String, Stop>
     ensures name { IfOk result (λ found. option_map string_bytes name.new ≡ Some (string_bytes found)) }
     ensures added { IfOk result (λ found. Adds list.old.items list.new.items (IsAsleep (here within.entry) (string_bytes found) (option_map string_bytes name.old))) }
+    ensures at { OnOk result (AddsAt list.old.items list.new.items at) }
     ensures cause { IfErr result (IfRefused (IsPassed within.entry.settings.now.work.main)) }
 {
     if let Some(known) = name {
         let known = known.clone()?;
         return Ok(known);
     }
-    let free = add_asleep(alloc, room, within, list)?;
+    let free = add_asleep(alloc, room, within, at, list)?;
     *name = Some(free.clone()?);
     Ok(free)
 }
@@ -185,6 +193,7 @@ fn some_triggers(
 ) -> Result<Vec<Trigger>, Stop>
     ensures means { OnOk result (All (MeansTrigger (here within.entry)) reaction.now.triggers.items) }
     ensures triggers { IfOk result (λ found. Adds list.old.items list.new.items (λ more. AreTriggers (here within.entry) reaction.now (option_map string_bytes never.old) more (option_map string_bytes never.new) (map trigger_view found.items))) }
+    ensures at { OnOk result (AddsAt list.old.items list.new.items (token_in within.entry reaction.now.at)) }
     ensures cause { IfErr result (IfRefused (λ r. IsPassed within.entry.settings.now.work.main r ⊎ AreOfTriggers (here within.entry) within.entry.file reaction.now r)) }
 {
     let mut triggers = triggers(alloc, room, within, reaction)?;
@@ -192,12 +201,13 @@ fn some_triggers(
     if count != 0 {
         return Ok(triggers);
     }
-    let head = asleep(alloc, room, within, never, list)?;
+    let at = within.token(reaction.at);
+    let head = asleep(alloc, room, within, at, never, list)?;
     room.spend(head.len(), &within.settings.work)?;
     triggers.push(Trigger::Reference(Reference {
         head,
         port: None,
-        at: 0,
+        at,
     }))?;
     Ok(triggers)
 }
@@ -213,17 +223,19 @@ pub(crate) fn push_reaction(
 ) -> Result<(), Stop>
     ensures means { OnOk result (MeansAll (here within.entry) reaction.now) }
     ensures lowered { OnOk result (Adds list.old.items list.new.items (λ more. IsReaction (here within.entry) reaction.now (option_map string_bytes never.old) more (option_map string_bytes never.new))) }
+    ensures at { OnOk result (AddsAt list.old.items list.new.items (token_in within.entry reaction.now.at)) }
     ensures cause { IfErr result (IfRefused (λ r. IsPassed within.entry.settings.now.work.main r ⊎ IsOfReaction (here within.entry) within.entry.file reaction.now r)) }
 {
     let triggers = some_triggers(alloc, room, within, reaction, never, list)?;
     let uses = places(alloc, room, within, &reaction.uses)?;
     let effects = effects(alloc, room, within, reaction)?;
     room.spend(16, &within.settings.work)?;
+    let at = within.token(reaction.at);
     list.push(Member::Reaction(Reaction {
         triggers,
         uses,
         effects,
-        at: 0,
+        at,
     }))?;
     Ok(())
 }

@@ -4,13 +4,14 @@ ghost use Rattle.std.specs.Prelude.{◌≡◌, ◌++◌, ◌⊎◌, ℕ, [], ◌
 ghost use Rattle.std.specs.List.{cons_option};
 ghost use Rattle.lft_tree.specs.ItemView.{action_view, item_view, member_views, parameter_view, reactor_view, time_view, timer_view};
 ghost use Rattle.lft_tree.specs.Tree.{ActionMember, TimerMember};
-ghost use Rattle.lft_meanings.specs.Meanings.{here};
+ghost use Rattle.lft_meanings.specs.Meanings.{here, token_in};
 ghost use Rattle.lft_meanings.specs.Names.{texts};
 ghost use Rattle.lft_meanings.specs.Places.{several};
 ghost use Rattle.lft_meanings.specs.Refused.{IfRefused, IsOfSome, IsPassed};
 ghost use Rattle.lft_lower.specs.Lowered.{Adds, IsLowered, IsMeasured, IsPeriod, IsRead, action_tree, is_spaced, period_at, ports, timer_tree};
 ghost use Rattle.lft_lower.specs.Refused.{IsOfAction, IsOfDefault, IsOfMember, IsOfMembers, IsOfParameter, IsOfPeriod, IsOfReactor, IsOfSetting, IsOfTimer};
 ghost use Rattle.lft_lower.specs.Reactors.{AreMembers, AreReactors, HasDefault, IsDefault, IsReactor, default_time, timed_parameter, timed_parameters};
+ghost use Rattle.lft_lower.specs.Standing.{AddsAt, AreAt, ArePlaced, declared_at};
 
 use crate::connections::push_connection;
 use crate::instances::push_instances;
@@ -19,13 +20,13 @@ use crate::reactions::push_reaction;
 use crate::times::{is_forever, is_zero, maybe_time, read_time, written};
 use lft_lists::item_at;
 use lft_meanings::notes::Notes;
-use lft_meanings::places::{Wide, Within};
+use lft_meanings::places::{Wide, Within, counted};
 use lft_meanings::room::Room;
 use lft_shapes::{Inherited, InheritedParameter, Shape, Work, why_of};
 use lft_sources::{Stop, Why};
 use lft_tree::{Action, Item, Member, Parameter, Port, Reactor, Time, TimeExpression, Timer};
 use lft_whole::{
-    Action as WrittenAction, Expression, Member as Written, Port as WrittenPort,
+    Action as WrittenAction, Expression, Member as Written, Name, Reactor as WrittenReactor,
     Timer as WrittenTimer, Value,
 };
 use std::alloc::{AllocError, Global};
@@ -59,15 +60,15 @@ fn default(inherited: InheritedParameter, is_main: bool) -> Result<Time, Stop>
 
 /// The parameter of this number, if a time is read from it.
 fn timed(
+    maker: Maker,
     room: &mut Room,
-    work: &Work,
     shape: &Shape,
     is_main: bool,
     number: usize,
 ) -> Result<Option<Parameter>, Stop>
     ensures made { IfOk result (λ made. option_map parameter_view made ≡ timed_parameter shape.now number) }
     ensures known { OnOk result (HasDefault is_main shape.now number) }
-    ensures cause { IfErr result (IfRefused (λ r. IsPassed work.now.main r ⊎ IsOfParameter is_main shape.now number r)) }
+    ensures cause { IfErr result (IfRefused (λ r. IsPassed maker.entry.settings.now.work.main r ⊎ IsOfParameter is_main shape.now number r)) }
 {
     if !shape.is_timed(number) {
         return Ok(None);
@@ -76,12 +77,12 @@ fn timed(
         return Ok(None);
     };
     let default = default(*inherited, is_main)?;
-    let name = &inherited.parameter.name.text;
-    room.spend(name.len(), work)?;
+    let Name { text, at, .. } = &inherited.parameter.name;
+    room.spend(text.len(), &maker.settings.work)?;
     Ok(Some(Parameter {
-        name: name.clone()?,
+        name: text.clone()?,
         default,
-        at: 0,
+        at: maker.token(inherited.file, *at),
     }))
 }
 
@@ -97,19 +98,18 @@ fn push_parameter(list: &mut Vec<Parameter>, made: Option<Parameter>) -> Result<
 
 /// The parameters that are needed as times.
 fn parameters(
-    alloc: Global,
+    maker: Maker,
     room: &mut Room,
-    work: &Work,
     shape: &Shape,
     is_main: bool,
 ) -> Result<Vec<Parameter>, Stop>
     ensures made { IfOk result (λ list. map parameter_view list.items ≡ timed_parameters shape.now) }
     ensures known { OnOk result ((number : ℕ) → HasDefault is_main shape.now number) }
-    ensures cause { IfErr result (IfRefused (λ r. IsPassed work.now.main r ⊎ ((number : ℕ) × IsOfParameter is_main shape.now number r))) }
+    ensures cause { IfErr result (IfRefused (λ r. IsPassed maker.entry.settings.now.work.main r ⊎ ((number : ℕ) × IsOfParameter is_main shape.now number r))) }
 {
-    let mut list = Vec::new(alloc);
+    let mut list = Vec::new(maker.alloc);
     for number in 0..shape.parameters.len() {
-        let made = timed(room, work, shape, is_main, number)?;
+        let made = timed(maker, room, shape, is_main, number)?;
         push_parameter(&mut list, made)?;
     }
     Ok(list)
@@ -118,67 +118,58 @@ fn parameters(
 /// The period of a timer, which has none where it is `forever`.
 fn period(
     alloc: Global,
-    shape: &Shape,
-    file: usize,
+    within: Within,
     value: &Option<Expression>,
 ) -> Result<Option<TimeExpression>, Stop>
     ensures time { IfOk result (λ time. option_map time_view time ≡ period_at value.now) }
-    ensures read { OnOk result (IsPeriod shape.now value.now) }
-    ensures cause { IfErr result (IfRefused (IsOfPeriod shape.now file value.now)) }
+    ensures read { OnOk result (IsPeriod within.entry.shape.now value.now) }
+    ensures cause { IfErr result (IfRefused (IsOfPeriod within.entry.shape.now within.entry.file value.now)) }
 {
     match value {
         Some(period) => {
             if is_forever(period) {
                 return Ok(None);
             }
-            Ok(Some(read_time(alloc, shape, file, period)?))
+            Ok(Some(read_time(alloc, within, period)?))
         }
         None => Ok(None),
     }
 }
 
 /// What a timer becomes.
-fn lowered_timer(
-    alloc: Global,
-    shape: &Shape,
-    file: usize,
-    timer: &WrittenTimer,
-) -> Result<Timer, Stop>
+fn lowered_timer(alloc: Global, within: Within, timer: &WrittenTimer) -> Result<Timer, Stop>
     ensures made { IfOk result (λ made. timer_view made ≡ timer_tree timer.now) }
-    ensures read { OnOk result (IsRead shape.now timer.now.offset × IsPeriod shape.now timer.now.period) }
-    ensures cause { IfErr result (IfRefused (IsOfTimer shape.now file timer.now)) }
+    ensures at { IfOk result (λ made. made.at ≡ token_in within.entry timer.now.name.at) }
+    ensures read { OnOk result (IsRead within.entry.shape.now timer.now.offset × IsPeriod within.entry.shape.now timer.now.period) }
+    ensures cause { IfErr result (IfRefused (IsOfTimer within.entry.shape.now within.entry.file timer.now)) }
 {
     Ok(Timer {
         name: timer.name.text.clone()?,
-        offset: maybe_time(alloc, shape, file, &timer.offset)?,
-        period: period(alloc, shape, file, &timer.period)?,
-        at: 0,
+        offset: maybe_time(alloc, within, &timer.offset)?,
+        period: period(alloc, within, &timer.period)?,
+        at: within.token(timer.name.at),
     })
 }
 
 /// What an action becomes. A least spacing of a logical one is refused, unless it is 0.
-fn lowered_action(
-    alloc: Global,
-    shape: &Shape,
-    file: usize,
-    action: &WrittenAction,
-) -> Result<Action, Stop>
+fn lowered_action(alloc: Global, within: Within, action: &WrittenAction) -> Result<Action, Stop>
     ensures made { IfOk result (λ made. action_view made ≡ action_tree action.now) }
-    ensures read { OnOk result (IsRead shape.now action.now.min_delay) }
+    ensures at { IfOk result (λ made. made.at ≡ token_in within.entry action.now.name.at) }
+    ensures read { OnOk result (IsRead within.entry.shape.now action.now.min_delay) }
     ensures spacing { OnOk result (is_spaced action.now ≡ false) }
-    ensures cause { IfErr result (IfRefused (IsOfAction shape.now file action.now)) }
+    ensures cause { IfErr result (IfRefused (IsOfAction within.entry.shape.now within.entry.file action.now)) }
 {
     if let Some(spacing) = &action.spacing
         && !action.is_physical
         && !is_zero(spacing)
     {
-        return Err(Stop::at(Why::Spacing, file, spacing.at));
+        return Err(Stop::at(Why::Spacing, within.file, spacing.at));
     }
     Ok(Action {
         name: action.name.text.clone()?,
         is_physical: action.is_physical,
-        min_delay: maybe_time(alloc, shape, file, &action.min_delay)?,
-        at: 0,
+        min_delay: maybe_time(alloc, within, &action.min_delay)?,
+        at: within.token(action.name.at),
     })
 }
 
@@ -189,18 +180,18 @@ fn push_ports(
     work: &Work,
     channels: Wide,
     is_input: bool,
+    at: usize,
     list: &mut Vec<Member>,
 ) -> Result<(), Stop>
     ensures made { OnOk result (member_views list.new.items ≡ member_views list.old.items ++ ports (several channels.entry) is_input) }
+    ensures at { OnOk result (AddsAt list.old.items list.new.items at) }
     ensures cause { IfErr result (IfRefused (IsPassed work.now.main)) }
 {
     for number in 0..channels.count() {
-        let name = channels.at(number);
-        room.spend(name.bytes(), work)?;
         list.push(Member::Port(Port {
-            name: name.core(alloc)?,
+            name: counted(alloc, room, work, channels.at(number))?,
             is_input,
-            at: 0,
+            at,
         }))?;
     }
     Ok(())
@@ -215,11 +206,12 @@ fn push_timer(
     list: &mut Vec<Member>,
 ) -> Result<(), Stop>
     ensures made { OnOk result (member_views list.new.items ≡ member_views list.old.items ++ TimerMember (timer_tree timer.now) ∷ []) }
+    ensures at { OnOk result (AddsAt list.old.items list.new.items (token_in within.entry timer.now.name.at)) }
     ensures read { OnOk result (IsRead within.entry.shape.now timer.now.offset × IsPeriod within.entry.shape.now timer.now.period) }
     ensures cause { IfErr result (IfRefused (λ r. IsPassed within.entry.settings.now.work.main r ⊎ IsOfTimer within.entry.shape.now within.entry.file timer.now r)) }
 {
     room.spend(timer.name.text.len(), &within.settings.work)?;
-    list.push(Member::Timer(lowered_timer(alloc, within.shape, within.file, timer)?))?;
+    list.push(Member::Timer(lowered_timer(alloc, within, timer)?))?;
     Ok(())
 }
 
@@ -232,12 +224,13 @@ fn push_action(
     list: &mut Vec<Member>,
 ) -> Result<(), Stop>
     ensures made { OnOk result (member_views list.new.items ≡ member_views list.old.items ++ ActionMember (action_tree action.now) ∷ []) }
+    ensures at { OnOk result (AddsAt list.old.items list.new.items (token_in within.entry action.now.name.at)) }
     ensures read { OnOk result (IsRead within.entry.shape.now action.now.min_delay) }
     ensures spacing { OnOk result (is_spaced action.now ≡ false) }
     ensures cause { IfErr result (IfRefused (λ r. IsPassed within.entry.settings.now.work.main r ⊎ IsOfAction within.entry.shape.now within.entry.file action.now r)) }
 {
     room.spend(action.name.text.len(), &within.settings.work)?;
-    list.push(Member::Action(lowered_action(alloc, within.shape, within.file, action)?))?;
+    list.push(Member::Action(lowered_action(alloc, within, action)?))?;
     Ok(())
 }
 
@@ -253,18 +246,21 @@ fn push_member(
     list: &mut Vec<Member>,
 ) -> Result<(), Stop>
     ensures made { maker.entry.settings.now ≡ within.entry.settings.now → OnOk result (Adds list.old.items list.new.items (λ more. IsLowered (texts maker.entry.names.now) (here within.entry) number (option_map string_bytes never.old) more (option_map string_bytes never.new) member.now)) }
+    ensures at { OnOk result (AddsAt list.old.items list.new.items (token_in within.entry (declared_at member.now))) }
     ensures cause { maker.entry.settings.now ≡ within.entry.settings.now → IfErr result (IfRefused (λ r. IsPassed within.entry.settings.now.work.main r ⊎ IsOfMember (here within.entry) within.entry.file number member.now r)) }
 {
     let alloc = maker.alloc;
     match member {
         Written::Port(port) => {
-            let channels = within.member(number);
+            let channels = within.named(&port.name, number);
+            let at = within.token(port.name.at);
             push_ports(
                 alloc,
                 room,
                 &within.settings.work,
                 channels,
                 port.is_input,
+                at,
                 list,
             )?;
             Ok(())
@@ -314,6 +310,7 @@ fn members<'s, 'a>(
     shape: &'s Shape<'a>,
 ) -> Result<Vec<Member>, Stop>
     ensures made { IfOk result (λ list. AreMembers maker.entry.settings.now (texts maker.entry.names.now) setting shape.now (member_views list.items)) }
+    ensures at { IfOk result (λ list. AreAt maker.entry.files.now shape.now.members.items list.items) }
     ensures cause { IfErr result (IfRefused (λ r. IsPassed maker.entry.settings.now.work.main r ⊎ IsOfMembers maker.entry.settings.now setting shape.now r)) }
 {
     let mut list = Vec::new(maker.alloc);
@@ -321,6 +318,7 @@ fn members<'s, 'a>(
     for number in 0..shape.members.len() {
         let inherited = shape.members[number];
         let within = Within {
+            files: maker.files,
             settings: maker.settings,
             setting,
             shape,
@@ -341,6 +339,14 @@ fn members<'s, 'a>(
     Ok(list)
 }
 
+/// The token of a reactor's name, or of the word at which one without a name begins.
+fn head_of(reactor: &WrittenReactor) -> usize {
+    match &reactor.name {
+        Some(name) => name.at,
+        None => reactor.at,
+    }
+}
+
 /// The reactor of a setting. That of number 0 is the main one.
 fn core_reactor<'s, 'a>(
     maker: Maker<'s, 'a>,
@@ -350,6 +356,7 @@ fn core_reactor<'s, 'a>(
     shape: &'s Shape<'a>,
 ) -> Result<Reactor, Stop>
     ensures made { IfOk result (λ made. IsReactor maker.entry.settings.now (texts maker.entry.names.now) setting shape.now (reactor_view made)) }
+    ensures at { IfOk result (λ made. AreAt maker.entry.files.now shape.now.members.items made.members.items) }
     ensures cause { IfErr result (IfRefused (λ r. IsPassed maker.entry.settings.now.work.main r ⊎ IsOfReactor maker.entry.settings.now setting shape.now r)) }
 {
     let is_main = setting == 0;
@@ -357,14 +364,14 @@ fn core_reactor<'s, 'a>(
         Some(name) => Some(String::from_str(maker.alloc, name)?),
         None => None,
     };
-    let parameters = parameters(maker.alloc, room, &maker.settings.work, shape, is_main)?;
+    let parameters = parameters(maker, room, shape, is_main)?;
     let members = members(maker, room, notes, setting, shape)?;
     Ok(Reactor {
         is_main,
         name,
         parameters,
         members,
-        at: 0,
+        at: maker.token(shape.class.file, head_of(shape.class.reactor)),
     })
 }
 
@@ -376,6 +383,7 @@ pub(crate) fn reactors(
     settings: &[usize],
 ) -> Result<Vec<Item>, Stop>
     ensures made { IfOk result (λ items. AreReactors maker.entry.settings.now (texts maker.entry.names.now) settings.now (map item_view items.items)) }
+    ensures at { IfOk result (λ items. ArePlaced maker.entry.files.now maker.entry.settings.now settings.now items.items) }
     ensures cause { IfErr result (IfRefused (λ r. IsPassed maker.entry.settings.now.work.main r ⊎ IsOfSome (IsOfSetting maker.entry.settings.now) settings.now r)) }
 {
     let mut items = Vec::new(maker.alloc);

@@ -7,6 +7,7 @@ ghost use Rattle.lft_lower.specs.Lowered.{IsRead, is_forever, is_some_time, time
 ghost use Rattle.lft_lower.specs.Refused.{IsNoTime, IsNoWritten, IsOfTime};
 ghost use Rattle.lft_lower.specs.Times.{IsTime, IsWritten, named_by, time_for, time_in};
 
+use lft_meanings::places::Within;
 use lft_scope::times::nanoseconds;
 use lft_shapes::{InheritedParameter, Shape, Thing};
 use lft_sources::{Stop, Why};
@@ -87,18 +88,19 @@ fn named_by<'a>(shape: &Shape<'a>, value: &Value) -> Option<InheritedParameter<'
 /// A time, or the parameter of the reactor that stands for one.
 pub(crate) fn read_time(
     alloc: Global,
-    shape: &Shape,
-    file: usize,
+    within: Within,
     value: &Expression,
 ) -> Result<TimeExpression, Stop>
     ensures time { IfOk result (λ time. time_for value.now.value ≡ Some (time_view time)) }
-    ensures read { OnOk result (IsTime shape.now value.now.value) }
-    ensures cause { IfErr result (IfRefused (λ r. IsAt file value.now.at r × IsNoTime shape.now value.now.value r.why)) }
+    ensures read { OnOk result (IsTime within.entry.shape.now value.now.value) }
+    ensures cause { IfErr result (IfRefused (λ r. IsAt within.entry.file value.now.at r × IsNoTime within.entry.shape.now value.now.value r.why)) }
 {
-    let found = named_by(shape, &value.value);
+    let file = within.file;
+    let at = within.token(value.at);
+    let found = named_by(within.shape, &value.value);
     let Value::Word(word) = &value.value else {
         let time = written(file, value)?;
-        return Ok(TimeExpression::Written { time, at: 0 });
+        return Ok(TimeExpression::Written { time, at });
     };
     let Some(found) = found else {
         return Err(Stop::at(Why::NoTime, file, value.at));
@@ -107,23 +109,22 @@ pub(crate) fn read_time(
         return Err(Stop::at(Why::NotOfTypeTime, file, value.at));
     }
     let name = String::from_str(alloc, word.as_str())?;
-    Ok(TimeExpression::Parameter { name, at: 0 })
+    Ok(TimeExpression::Parameter { name, at })
 }
 
 /// The same where a time may be left out.
 pub(crate) fn maybe_time(
     alloc: Global,
-    shape: &Shape,
-    file: usize,
+    within: Within,
     value: &Option<Expression>,
 ) -> Result<Option<TimeExpression>, Stop>
     ensures time { IfOk result (λ time. option_map time_view time ≡ time_at value.now) }
-    ensures read { OnOk result (IsRead shape.now value.now) }
-    ensures cause { IfErr result (IfRefused (IsOfTime shape.now file value.now)) }
+    ensures read { OnOk result (IsRead within.entry.shape.now value.now) }
+    ensures cause { IfErr result (IfRefused (IsOfTime within.entry.shape.now within.entry.file value.now)) }
 {
     match value {
         None => Ok(None),
-        Some(value) => Ok(Some(read_time(alloc, shape, file, value)?)),
+        Some(value) => Ok(Some(read_time(alloc, within, value)?)),
     }
 }
 

@@ -5,6 +5,7 @@ use Rattle.lft_tree.specs.Tree.{RefTree}
 use Rattle.lft_whole.specs.declared.tree.Member.{Member}
 use Rattle.lft_whole.specs.declared.tree.Member.TheVariants as member
 use Rattle.lft_whole.specs.declared.tree.Reference.{Reference}
+use Rattle.lft_sources.specs.Tokens.{number_at}
 use Rattle.lft_shapes.specs.declared.shapes.Shape.{Shape}
 use Rattle.lft_shapes.specs.declared.shapes.Thing.{Thing}
 use Rattle.lft_shapes.specs.declared.shapes.Thing.TheVariants as things
@@ -24,16 +25,20 @@ pub record Here : Type 0 where
 
 -- the member of this number of a shape, with its width
 abbrev pub member_in : Shape → ℕ → Option ℕ → Several
-member_in shape n width = record { name = unwrap_or (option_map (λ m. name_in m.member.now) (slice_get shape.members.items n)) []; stem = unwrap_or (slice_get shape.stems.items n) 0; width = width }
+member_in shape n width = record { name = unwrap_or (option_map (λ m. name_in m.member.now) (slice_get shape.members.items n)) []; width = width }
 
 -- the parameter of this number of a shape
 abbrev pub parameter_in : Shape → ℕ → Several
-parameter_in shape n = record { name = unwrap_or (option_map (λ p. string_bytes p.parameter.now.name.text) (slice_get shape.parameters.items n)) []; stem = 0; width = None }
+parameter_in shape n = record { name = unwrap_or (option_map (λ p. string_bytes p.parameter.now.name.text) (slice_get shape.parameters.items n)) []; width = None }
 
 -- a thing of the reactor of a setting, with its width there
 abbrev pub thing_in : Here → Thing → Several
 thing_in h (things.Parameter n) = parameter_in h.shape n
 thing_in h (things.Member n) = member_in h.shape n (found_width h.settings h.setting n)
+
+-- the member of this number by its name, with its width there
+abbrev pub named_in : Here → List ℕ → ℕ → Several
+named_in h name n = record { name = name; width = found_width h.settings h.setting n }
 
 -- the width of a port of an instance, in the setting of that one
 abbrev pub inner_width : Here → ℕ → ℕ → Option ℕ
@@ -96,3 +101,7 @@ all_places h rs = flat_map (places_in h) rs
 -- such a setting, of where references are looked up
 abbrev pub here : Within → Here
 here w = record { settings = w.settings.now; setting = w.setting; shape = w.shape.now }
+
+-- the number of a token of the file there among those of all files
+abbrev pub token_in : Within → ℕ → ℕ
+token_in w token = number_at w.files.now (record { file = w.file; token = token })

@@ -3,26 +3,25 @@ use Rattle.std.specs.Prelude.{◌||◌, ℕ, max, Bool, is_some, List, ◌++◌,
 use Rattle.lft_tree.specs.Tree.{RefTree}
 use Rattle.lft_lowering.specs.Channels.{below, places}
 use Rattle.lft_lowering.specs.Lowered.{own, inner}
-use Rattle.lft_settings.specs.Names.{core_tail}
+use Rattle.lft_settings.specs.Names.{tail}
 use Rattle.lft_meanings.specs.declared.places.Wide.{Wide}
 use Rattle.lft_meanings.specs.declared.places.Meant.{Meant}
 use Rattle.lft_meanings.specs.declared.places.Meant.TheVariants as meant
 
--- a name that may stand for several: how many `_` stand behind it before the number, and the width, if it has one
+-- a name that may stand for several, and the width, if it has one
 pub record Several : Type 0 where
   pub name : List ℕ
-  pub stem : ℕ
   pub width : Option ℕ
 
 -- how many things the name stands for
 abbrev pub count_of : Several → ℕ
 count_of thing = unwrap_or thing.width 1
 
--- the name in the core of the one of this number
+-- the name of the one of this number
 abbrev pub name_at : Several → ℕ → List ℕ
-name_at thing k = thing.name ++ core_tail thing.stem (option_map (λ _. k) thing.width)
+name_at thing k = thing.name ++ tail (option_map (λ _. k) thing.width)
 
--- the names in the core of all of it, in order
+-- the names of all of it, in order
 abbrev pub names_of : Several → List (List ℕ)
 names_of thing = map (λ k. name_at thing k) (below (count_of thing))
 
@@ -57,7 +56,7 @@ up_to most old more = take (max most (length old)) (old ++ more)
 
 -- the name of a thing of a setting, which may stand for several
 abbrev pub several : Wide → Several
-several w = record { name = w.name.now; stem = w.stem; width = w.width }
+several w = record { name = w.name.now; width = w.width }
 
 -- what a reference means, of such names
 abbrev pub sense : Meant → Sense

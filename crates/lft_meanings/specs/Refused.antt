@@ -1,5 +1,5 @@
 -- Why what is written means nothing, and why nothing more is made.
-use Rattle.std.specs.Prelude.{◌≡◌, ◌⊎◌, ℕ, List, IsSomeAnd, Option, Some, None, option_map, slice_get, string_bytes}
+use Rattle.std.specs.Prelude.{◌≡◌, ℕ, List, IsSomeAnd, Option, Some, None, option_map, slice_get, string_bytes}
 use Rattle.std.specs.Option.{option_and_then}
 use Rattle.lft_sources.specs.declared.stop.Place.{Place}
 use Rattle.lft_sources.specs.declared.stop.Refusal.{Refusal}
@@ -23,13 +23,9 @@ IfRefused Is stop.NoMemory = Unit {0}
 abbrev pub IsAt : ℕ → ℕ → Refusal → Type 0
 IsAt file token r = r.place ≡ record { file = file; token = token }
 
--- a limit of the program as a whole is passed
-abbrev pub IsLimit : Why → Type 0
-IsLimit w = (w ≡ why.TooMuch) ⊎ (w ≡ why.TooLong)
-
--- the refusal says that a limit is passed, of the main reactor
+-- the refusal says of the main reactor that there is more than is listed
 abbrev pub IsPassed : Place → Refusal → Type 0
-IsPassed main r = (r.place ≡ main) × IsLimit r.why
+IsPassed main r = (r.place ≡ main) × (r.why ≡ why.TooMuch)
 
 -- the refusal is of one of these things
 abbrev pub IsOfSome : {A : Type 0} → (A → Refusal → Type 0) → List A → Refusal → Type 0

@@ -4,16 +4,16 @@ ghost use Rattle.std.specs.Prelude.{◌≡◌, ◌+◌, ◌*◌, ◌++◌, ◌�
 ghost use Rattle.std.specs.List.{All};
 ghost use Rattle.lft_shapes.specs.declared.shapes.Thing.TheVariants as things;
 ghost use Rattle.lft_tree.specs.View.{ref_view, ref_views};
-ghost use Rattle.lft_settings.specs.Names.{core_name};
-ghost use Rattle.lft_meanings.specs.Meanings.{Means, all_places, here, inner_width, member_in, parameter_in, places_in, port_in, port_sense, sense_in, shape_inside, thing_in};
+ghost use Rattle.lft_settings.specs.Names.{spelled};
+ghost use Rattle.lft_meanings.specs.Meanings.{Means, all_places, here, inner_width, member_in, named_in, parameter_in, places_in, port_in, port_sense, sense_in, shape_inside, thing_in, token_in};
 ghost use Rattle.lft_meanings.specs.Places.{count_of, inner_places, name_at, own_places, places_of, sense, several, up_to, is_wide};
 ghost use Rattle.lft_meanings.specs.Refused.{IfRefused, IsAt, IsNoPort, IsOfOne, IsOfReference, IsPassed};
 
 use crate::room::Room;
 use lft_lowering::place_at;
-use lft_settings::{Numbered, Settings, name_of, stem_of};
+use lft_settings::{Numbered, Settings, name_of};
 use lft_shapes::{Shape, Thing, Work};
-use lft_sources::{Stop, Why};
+use lft_sources::{Place, SourceFile, Stop, Why, number_of};
 use lft_tree::Reference;
 use lft_whole::{Member, Name, Reference as Written};
 use std::alloc::Global;
@@ -22,7 +22,6 @@ use std::alloc::Global;
 #[derive(Clone, Copy)]
 pub struct Wide<'a> {
     name: &'a str,
-    stem: usize,
     width: Option<u64>,
 }
 
@@ -36,11 +35,10 @@ impl<'a> Wide<'a> {
 
     /// The one of this number.
     pub fn at(self, number: usize) -> Numbered<'a>
-        ensures { core_name result ≡ name_at (several self.entry) number }
+        ensures { spelled result ≡ name_at (several self.entry) number }
     {
         Numbered {
             name: self.name,
-            stem: self.stem,
             number: match self.width {
                 Some(_) => Some(number as u64),
                 None => None,
@@ -60,6 +58,7 @@ impl<'a> Wide<'a> {
 /// widths of all that is used are known.
 #[derive(Clone, Copy)]
 pub struct Within<'s, 'a> {
+    pub files: &'s [SourceFile],
     pub settings: &'s Settings<'a>,
     pub setting: usize,
     pub shape: &'s Shape<'a>,
@@ -74,11 +73,7 @@ fn wide_member<'a>(shape: &Shape<'a>, number: usize, width: Option<u64>) -> Wide
         Some(inherited) => name_of(inherited.member),
         None => "",
     };
-    Wide {
-        name,
-        stem: stem_of(Some(shape), number),
-        width,
-    }
+    Wide { name, width }
 }
 
 /// The parameter of this number of a shape.
@@ -89,11 +84,7 @@ fn parameter<'a>(shape: &Shape<'a>, number: usize) -> Wide<'a>
         Some(found) => found.parameter.name.text.as_str(),
         None => "",
     };
-    Wide {
-        name,
-        stem: 0,
-        width: None,
-    }
+    Wide { name, width: None }
 }
 
 /// The port of this name in a shape, by its number.
@@ -113,8 +104,26 @@ fn port(shape: &Shape, name: &str) -> Option<usize>
 }
 
 impl<'s, 'a> Within<'s, 'a> {
+    /// The number of a token of the file among those of all files.
+    pub fn token(self, token: usize) -> usize
+        ensures { result ≡ token_in self.entry token }
+    {
+        let file = self.file;
+        number_of(self.files, Place { file, token })
+    }
+
+    /// The member of this number, which has this name.
+    pub fn named<'n>(self, name: &'n Name, number: usize) -> Wide<'n>
+        ensures { several result ≡ named_in (here self.entry) (string_bytes name.now.text) number }
+    {
+        Wide {
+            name: name.text.as_str(),
+            width: self.settings.known(self.setting, number),
+        }
+    }
+
     /// The member of this number.
-    pub fn member(self, number: usize) -> Wide<'a>
+    fn member(self, number: usize) -> Wide<'a>
         ensures { several result ≡ thing_in (here self.entry) (things.Member number) }
     {
         let width = self.settings.known(self.setting, number);
@@ -247,30 +256,48 @@ pub fn meaning<'a>(within: Within<'_, 'a>, reference: &Written) -> Result<Meant<
     }
 }
 
-/// A core reference to a thing, or to a port of an instance.
+/// The text of a name, which is counted.
+pub fn counted(alloc: Global, room: &mut Room, work: &Work, name: Numbered) -> Result<String, Stop>
+    ensures text { IfOk result (λ text. string_bytes text ≡ spelled name.entry) }
+    ensures cause { IfErr result (IfRefused (IsPassed work.now.main)) }
+{
+    let text = name.spelled(alloc)?;
+    room.spend(text.len(), work)?;
+    Ok(text)
+}
+
+/// The same of a name, if there is one.
+fn counted_if(
+    alloc: Global,
+    room: &mut Room,
+    work: &Work,
+    name: Option<Numbered>,
+) -> Result<Option<String>, Stop>
+    ensures text { IfOk result (λ text. option_map (λ t. string_bytes t) text ≡ option_map spelled name.entry) }
+    ensures cause { IfErr result (IfRefused (IsPassed work.now.main)) }
+{
+    match name {
+        Some(name) => Ok(Some(counted(alloc, room, work, name)?)),
+        None => Ok(None),
+    }
+}
+
+/// A core reference to a thing, or to a port of an instance. It stands at a token of all files.
 fn made(
     alloc: Global,
     room: &mut Room,
     work: &Work,
+    at: usize,
     head: Numbered,
     port: Option<Numbered>,
 ) -> Result<Reference, Stop>
-    ensures made { IfOk result (λ made. ref_view made ≡ record { head = core_name head.entry; port = option_map core_name port.entry }) }
+    ensures made { IfOk result (λ made. ref_view made ≡ record { head = spelled head.entry; port = option_map spelled port.entry }) }
+    ensures at { IfOk result (λ made. made.at ≡ at) }
     ensures cause { IfErr result (IfRefused (IsPassed work.now.main)) }
 {
-    let mut bytes = head.bytes();
-    if let Some(port) = port {
-        bytes = bytes.saturating_add(port.bytes()).saturating_add(1);
-    }
-    room.spend(bytes, work)?;
-    Ok(Reference {
-        head: head.core(alloc)?,
-        port: match port {
-            Some(port) => Some(port.core(alloc)?),
-            None => None,
-        },
-        at: 0,
-    })
+    let head = counted(alloc, room, work, head)?;
+    let port = counted_if(alloc, room, work, port)?;
+    Ok(Reference { head, port, at })
 }
 
 /// Puts the places of a thing of the reactor itself at the end of a list, until that has `most`.
@@ -278,6 +305,7 @@ fn push_own(
     alloc: Global,
     room: &mut Room,
     work: &Work,
+    at: usize,
     thing: Wide,
     most: usize,
     list: &mut Vec<Reference>,
@@ -290,7 +318,7 @@ fn push_own(
         if list.len() >= most {
             return Ok(());
         }
-        let reference = made(alloc, room, work, thing.at(place), None)?;
+        let reference = made(alloc, room, work, at, thing.at(place), None)?;
         list.push(reference)?;
     }
     Ok(())
@@ -301,6 +329,7 @@ fn push_inner(
     alloc: Global,
     room: &mut Room,
     work: &Work,
+    at: usize,
     members: Wide,
     channels: Wide,
     is_interleaved: bool,
@@ -320,7 +349,7 @@ fn push_inner(
         let spot = place_at(rows, width, is_interleaved, place);
         let head = members.at(spot.0);
         let port = channels.at(spot.1);
-        let reference = made(alloc, room, work, head, Some(port))?;
+        let reference = made(alloc, room, work, at, head, Some(port))?;
         list.push(reference)?;
     }
     Ok(())
@@ -347,6 +376,7 @@ fn push_meant(
     alloc: Global,
     room: &mut Room,
     work: &Work,
+    at: usize,
     meant: Meant,
     is_interleaved: bool,
     most: usize,
@@ -356,12 +386,13 @@ fn push_meant(
     ensures cause { IfErr result (IfRefused (IsPassed work.now.main)) }
 {
     match meant {
-        Meant::Own(thing) => push_own(alloc, room, work, thing, most, list),
+        Meant::Own(thing) => push_own(alloc, room, work, at, thing, most, list),
         Meant::Inner(members, ports) => {
             push_inner(
                 alloc,
                 room,
                 work,
+                at,
                 members,
                 ports,
                 is_interleaved,
@@ -390,6 +421,7 @@ fn push_some(
         alloc,
         room,
         &within.settings.work,
+        within.token(reference.head.at),
         meant,
         is_interleaved,
         most,
@@ -433,7 +465,8 @@ pub fn push_places(
     let is_interleaved = reference.is_interleaved;
     let count = meant.count(work)?;
     let most = sum(work, list.len(), count)?;
-    push_meant(alloc, room, work, meant, is_interleaved, most, list)?;
+    let at = within.token(reference.head.at);
+    push_meant(alloc, room, work, at, meant, is_interleaved, most, list)?;
     Ok(())
 }
 

@@ -1,15 +1,16 @@
-//! How much text may be made still.
+//! How much may be made still.
 
 ghost use Rattle.std.specs.Prelude.{◌≡◌, ◌+◌, ◌≤◌, IfErr, OnErr, OnOk};
 ghost use Rattle.lft_sources.specs.declared.stop.Stop.TheVariants.{Refused};
-ghost use Rattle.lft_sources.specs.declared.why.Why.TheVariants.{TooLong};
+ghost use Rattle.lft_sources.specs.declared.why.Why.TheVariants.{TooMuch};
 
 use lft_shapes::Work;
 use lft_sources::{Stop, Why};
-use lft_syntax::MAX_LENGTH;
 
-/// How many bytes of the core program's text are left. Each word is counted before it is made, with the blank
-/// behind it.
+/// How many bytes the names of a core tree have at most, with one more for each.
+const MOST: usize = 1 << 26;
+
+/// How many of these are left.
 #[derive(Clone, Copy)]
 pub struct Room {
     left: usize,
@@ -18,19 +19,19 @@ pub struct Room {
 impl Room {
     /// Nothing is made yet.
     pub fn new() -> Room
-        ensures { result ≡ record { left = MAX_LENGTH } }
+        ensures { result ≡ record { left = MOST } }
     {
-        Room { left: MAX_LENGTH }
+        Room { left: MOST }
     }
 
-    /// Counts a word of so many bytes.
+    /// Counts a name of so many bytes.
     pub fn spend(&mut self, bytes: usize, work: &Work) -> Result<(), Stop>
         ensures ok { OnOk result (self.old.left ≡ self.new.left + (bytes + 1)) }
         ensures few { OnErr result (self.old.left ≤ bytes) }
-        ensures why { IfErr result (λ stop. stop ≡ Refused (record { why = TooLong; place = work.now.main })) }
+        ensures why { IfErr result (λ stop. stop ≡ Refused (record { why = TooMuch; place = work.now.main })) }
     {
         if self.left <= bytes {
-            return Err(work.refused(Why::TooLong));
+            return Err(work.refused(Why::TooMuch));
         }
         self.left -= bytes + 1;
         Ok(())

@@ -4,6 +4,7 @@ mod Keeping
 mod Marks
 mod Passing
 mod Refusing
+pub mod Spelling
 mod Standing
 mod Using
 mod Valuing

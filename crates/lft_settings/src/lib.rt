@@ -10,6 +10,6 @@ mod settings;
 mod values;
 mod widths;
 
-pub use names::{Numbered, name_of, stem_of};
+pub use names::{Numbered, name_of};
 pub use places::Meaning;
 pub use settings::{Setting, Settings};

@@ -8,7 +8,6 @@ mod making;
 mod nesting;
 mod scopes;
 mod shapes;
-mod stems;
 mod walk;
 mod weights;
 mod work;

@@ -14,7 +14,6 @@ ghost use Rattle.lft_shapes.specs.Refused.{HasCauseIn, IsTooMuch, SaysForeign, S
 
 use crate::chains::chain;
 use crate::scopes::{Class, Scopes};
-use crate::stems::stems;
 use crate::weights::{of_member, of_parameter};
 use crate::work::Work;
 use lft_lists::item_at;
@@ -77,8 +76,6 @@ pub struct Shape<'a> {
     pub parameters: Vec<InheritedParameter<'a>>,
     names: Index<'a>,
     named: Vec<Named<'a>>,
-    /// For each member how many `_` stand between its name and the number of a channel or a member of its bank.
-    pub stems: Vec<usize>,
     /// For each member what is in it, if it is an instance.
     pub children: Vec<Option<Child<'a>>>,
     /// For each parameter whether a width needs it.
@@ -98,15 +95,6 @@ fn name_of(member: &Member) -> Option<&Name>
         Member::Action(action) => Some(&action.name),
         Member::Instance(instance) => Some(&instance.name),
         Member::Reaction(_) | Member::Connection(_) | Member::Foreign { .. } => None,
-    }
-}
-
-/// The name of a member with a width.
-fn wide_name(member: &Member) -> Option<&str> {
-    match member {
-        Member::Port(port) if port.width.is_some() => Some(port.name.text.as_str()),
-        Member::Instance(instance) if instance.width.is_some() => Some(instance.name.text.as_str()),
-        _ => None,
     }
 }
 
@@ -370,15 +358,12 @@ impl<'a> Shape<'a> {
         let index = Index::of(alloc, &names)?;
         refuse_twice(&index, &named)?;
         refuse_foreign(&members)?;
-        let wide = wide_names(alloc, &members)?;
-        let stems = stems(alloc, work, &names, &wide)?;
         Ok(Shape {
             class,
             members,
             parameters,
             names: index,
             named,
-            stems,
             children: Vec::new(alloc),
             sized: Vec::new(alloc),
             timed: Vec::new(alloc),
@@ -467,16 +452,4 @@ fn refuse_foreign(members: &[Inherited]) -> Result<(), Stop>
         }
     }
     Ok(())
-}
-
-/// For each member its name, if it has a width.
-fn wide_names<'a>(
-    alloc: Global,
-    members: &[Inherited<'a>],
-) -> Result<Vec<Option<&'a str>>, NoMemory> {
-    let mut wide = Vec::new(alloc);
-    for inherited in members {
-        wide.push(wide_name(inherited.member))?;
-    }
-    Ok(wide)
 }

@@ -5,7 +5,7 @@ use Rattle.lft_sources.specs.declared.why.Why.TheVariants as why
 
 -- The names of the numbers, from 1 on.
 abbrev pub names : List (List ℕ)
-names = codes "Read" ∷ codes "BadText" ∷ codes "Unexpected" ∷ codes "NoMain" ∷ codes "TwoMains" ∷ codes "NoReactor" ∷ codes "UnknownName" ∷ codes "DuplicateName" ∷ codes "Recursive" ∷ codes "Width" ∷ codes "Time" ∷ codes "Mode" ∷ codes "PhysicalConnection" ∷ codes "Spacing" ∷ codes "Mutation" ∷ codes "Watchdog" ∷ codes "Decentralized" ∷ codes "Package" ∷ codes "Missing" ∷ codes "NoTrigger" ∷ codes "TooMany" ∷ codes "TooLong" ∷ []
+names = codes "Read" ∷ codes "BadText" ∷ codes "Unexpected" ∷ codes "NoMain" ∷ codes "TwoMains" ∷ codes "NoReactor" ∷ codes "UnknownName" ∷ codes "DuplicateName" ∷ codes "Recursive" ∷ codes "Width" ∷ codes "Time" ∷ codes "Mode" ∷ codes "PhysicalConnection" ∷ codes "Spacing" ∷ codes "Mutation" ∷ codes "Watchdog" ∷ codes "Decentralized" ∷ codes "Package" ∷ codes "Missing" ∷ codes "NoTrigger" ∷ codes "TooMany" ∷ []
 
 -- The number of each cause.
 abbrev pub number_of : Why → ℕ
@@ -55,7 +55,6 @@ number_of why.TooManyActions = 21
 number_of why.TooManyTimers = 21
 number_of why.TooManyReactions = 21
 number_of why.TooMuch = 21
-number_of why.TooLong = 22
 
 -- What is said of each, and what to write in its place.
 abbrev pub sentence_of : Why → List ℕ
@@ -105,4 +104,3 @@ sentence_of why.TooManyActions = codes "The program has more than 100000 actions
 sentence_of why.TooManyTimers = codes "The program has more than 100000 timers. Write smaller widths."
 sentence_of why.TooManyReactions = codes "The program has more than 10000 reactions. Write smaller widths."
 sentence_of why.TooMuch = codes "The reactors with all that they inherit, in all their settings, are more than is listed."
-sentence_of why.TooLong = codes "The core program is longer than 1048576 bytes, which is more than is read. Write smaller widths."

@@ -1,3 +1,4 @@
 pub mod Causes
 pub mod Shown
 pub mod Spots
+pub mod Tokens

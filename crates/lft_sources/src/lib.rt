@@ -7,6 +7,6 @@ mod stop;
 mod why;
 
 pub use shown::{push_place, shown_path};
-pub use source::{SourceFile, Spot};
+pub use source::{SourceFile, Spot, number_of, place_of};
 pub use stop::{Place, Refusal, Stop};
 pub use why::Why;

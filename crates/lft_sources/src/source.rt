@@ -1,5 +1,9 @@
-//! A file of a program.
+//! A file of a program, and the tokens of all files by number.
 
+ghost use Rattle.std.specs.Prelude.{◌≡◌, IfNone, IfSome};
+ghost use Rattle.lft_sources.specs.Tokens.{StandsAt, number_at};
+
+use crate::stop::Place;
 use lft_whole::File;
 
 /// Where a token begins, for people: line and column count from 1. A letter of several bytes counts once.
@@ -19,11 +23,16 @@ pub struct SourceFile {
     pub imports: Vec<usize>,
     /// Where each token begins, and last where the text ends.
     pub spots: Vec<Spot>,
+    /// Its bytes.
+    pub text: Vec<u8>,
+    /// The number of its first token among those of all files.
+    pub first: usize,
 }
 
 impl SourceFile {
-    ghost use Rattle.std.specs.Prelude.{◌≡◌};
+    ghost use Rattle.std.specs.Prelude.{◌≡◌, ℕ, IfNone, IfSome};
     ghost use Rattle.lft_sources.specs.Spots.{spot_at};
+    ghost use Rattle.lft_sources.specs.Tokens.{HasToken};
 
     /// Where the token of this number begins.
     pub fn spot(&self, token: usize) -> Spot
@@ -34,4 +43,40 @@ impl SourceFile {
             None => Spot { line: 1, column: 1 },
         }
     }
+
+    /// Which token of the file has this number among those of all files.
+    fn own(&self, number: usize) -> Option<usize>
+        ensures some { IfSome result (HasToken self.now number) }
+        ensures none { IfNone result ((token : ℕ) → HasToken self.now number token → ⊥) }
+    {
+        let token = number.checked_sub(self.first)?;
+        if token < self.spots.len() {
+            Some(token)
+        } else {
+            None
+        }
+    }
+}
+
+/// The number of a token among those of all files.
+pub fn number_of(files: &[SourceFile], place: Place) -> usize
+    ensures { result ≡ number_at files.now place }
+{
+    match files.get(place.file) {
+        Some(file) => file.first.saturating_add(place.token),
+        None => place.token,
+    }
+}
+
+/// Where the token of this number among those of all files stands. The end of a file counts as one.
+pub fn place_of(files: &[SourceFile], number: usize) -> Option<Place>
+    ensures some { IfSome result (StandsAt files.now number) }
+    ensures none { IfNone result ((place : Place) → StandsAt files.now number place → ⊥) }
+{
+    for file in 0..files.len() {
+        if let Some(token) = files[file].own(number) {
+            return Some(Place { file, token });
+        }
+    }
+    None
 }

@@ -49,7 +49,6 @@ pub enum Why {
     TooManyTimers,
     TooManyReactions,
     TooMuch,
-    TooLong,
 }
 
 impl Why {
@@ -88,7 +87,6 @@ impl Why {
             Why::TooManyInstances | Why::TooManyPorts | Why::TooManyConnections => (21, "TooMany"),
             Why::TooManyActions | Why::TooManyTimers | Why::TooManyReactions => (21, "TooMany"),
             Why::TooMuch => (21, "TooMany"),
-            Why::TooLong => (22, "TooLong"),
         }
     }
 
@@ -162,8 +160,6 @@ impl Why {
                 "The program has more than 10000 reactions. Write smaller widths.",
             Why::TooMuch =>
                 "The reactors with all that they inherit, in all their settings, are more than is listed.",
-            Why::TooLong =>
-                "The core program is longer than 1048576 bytes, which is more than is read. Write smaller widths.",
         }
     }
 }

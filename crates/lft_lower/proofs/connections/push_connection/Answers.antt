@@ -8,3 +8,6 @@ returns-clause-joined c =
     let h = here c.args.within in
     let w = c.args.connection.now in
     subst (λ delay. Adds c.args.list.now.items c.push_sides.new.list.items (AreConnected (all_places h w.sources.items) (all_places h w.destinations.items) w.is_broadcast delay)) c.in_ok-delay.ensures.time c.in_ok-push_sides.ensures.made
+
+pub returns-clause-at : goal.returns-clause-at
+returns-clause-at c = c.in_ok-push_sides.ensures.at

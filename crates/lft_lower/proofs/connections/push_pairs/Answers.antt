@@ -8,10 +8,11 @@ use Rattle.lft_lowering.specs.Lowered.{single}
 use Rattle.lft_tree.specs.Tree.{ConnectionMember}
 use Rattle.lft_tree.specs.View.{member_view, member_views, ref_view, ref_views, time_view}
 use Rattle.lft_lower.proofs.Joining.{added_next, joined_low, pairs_all, pairs_more, pairs_none}
+use Rattle.lft_lower.proofs.Standing.{at_more, at_none}
 use Rattle.lft_lower.proofs.connections.push_pairs.Goals as goal
 
 pub loop-pair-init : goal.loop-pair-init
-loop-pair-init c = ([], pairs_none (ref_views c.args.sources.now) (ref_views c.args.destinations.now) true (option_map time_view c.args.delay.now), omega arith, sym (append-nil (member_views c.args.list.now.items)))
+loop-pair-init c = ([], pairs_none (ref_views c.args.sources.now) (ref_views c.args.destinations.now) true (option_map time_view c.args.delay.now), omega arith, sym (append-nil (member_views c.args.list.now.items)), at_none c.args.list.now.items c.args.arrow)
 
 pub loop-pair-preserved : goal.loop-pair-preserved
 loop-pair-preserved c =
@@ -35,6 +36,7 @@ loop-pair-preserved c =
       pairs_more (ref_views lefts) (ref_views rights) true delay pair cs (ref_view from) (ref_view to) c.loop-pair.invariant.1 at_left at_right,
       omega (arith, under),
       added_next member_view c.loop-pair.list.items _ _ (member_views c.args.list.now.items) cs one c.in_ok-push.ensures.items (ap ConnectionMember c.in_ok-connection.ensures.made) c.loop-pair.invariant.3,
+      at_more c.args.list.now.items c.loop-pair.list.items _ _ c.args.arrow c.loop-pair.invariant.4 c.in_ok-push.ensures.items c.in_ok-connection.ensures.arrow,
     )
 
 pub returns-clause-made : goal.returns-clause-made
@@ -46,3 +48,6 @@ returns-clause-made c =
     let end : c.loop-pair.pair ≡ joined (length lefts) (length rights) true = omega (arith, few, c.joined-pairs.ensures) in
     let all : c.loop-pair.pair ≡ joined (length (ref_views lefts)) (length (ref_views rights)) true = end ∙ ap (λ n. joined n (length rights) true) (sym (length-map lefts ref_view)) ∙ ap (λ n. joined (length (ref_views lefts)) n true) (sym (length-map rights ref_view)) in
     (map ConnectionMember c.loop-pair.invariant.0, (c.loop-pair.invariant.0, pairs_all (ref_views lefts) (ref_views rights) true (option_map time_view c.args.delay.now) c.loop-pair.pair c.loop-pair.invariant.0 all c.loop-pair.invariant.1, refl), c.loop-pair.invariant.3)
+
+pub returns-clause-at : goal.returns-clause-at
+returns-clause-at c = c.loop-pair.invariant.4

@@ -22,7 +22,7 @@ loop-place-preserved c =
     let made = option_map assignment_view c.in_ok-made.made in
     let inner = c.args.inner.now in (
       c.in_ok-push_given.ensures ∙ ap (λ ys. ys ++ cons_option made []) c.loop-place.invariant.0 ∙ sym (kept_more (time_given inner) items place item made there c.in_ok-made.ensures.made),
-      all_next (IsGiven c.args.outer.now inner) items place item there c.loop-place.invariant.1 c.in_ok-made.ensures.read,
+      all_next (IsGiven c.args.within.shape.now inner) items place item there c.loop-place.invariant.1 c.in_ok-made.ensures.read,
     )
 
 pub returns-clause-given : goal.returns-clause-given
@@ -31,7 +31,7 @@ returns-clause-given c =
     c.loop-place.invariant.0 ∙ ap (filter_map (time_given c.args.inner.now)) (take_all c.loop-place.place items (omega (arith, c.len-place-end.ensures, c.loop-place-test.false)))
 
 pub returns-clause-read : goal.returns-clause-read
-returns-clause-read c = all_done (IsGiven c.args.outer.now c.args.inner.now) c.args.child.now.given.items c.loop-place.place (omega (arith, c.len-place-end.ensures, c.loop-place-test.false)) c.loop-place.invariant.1
+returns-clause-read c = all_done (IsGiven c.args.within.shape.now c.args.inner.now) c.args.child.now.given.items c.loop-place.place (omega (arith, c.len-place-end.ensures, c.loop-place-test.false)) c.loop-place.invariant.1
 
 pub returns-in_err-made-clause-cause : goal.returns-in_err-made-clause-cause
 returns-in_err-made-clause-cause c =
@@ -41,4 +41,4 @@ returns-in_err-made-clause-cause c =
     let item = c.index-given.result.now in
     let test = c.loop-place-test.true in
     let there : slice_get items place ≡ Some item = slice_get_read items (length items) place item refl (omega (arith, c.len-place-end.ensures)) c.index-given.ensures in
-    rw (p.1, p.2) (of_some (IsOfGiven c.args.outer.now c.args.file c.args.inner.now) items place item c.in_err-made.field-0.0 there c.in_err-made.ensures.cause)
+    rw (p.1, p.2) (of_some (IsOfGiven c.args.within.shape.now c.args.within.file c.args.inner.now) items place item c.in_err-made.field-0.0 there c.in_err-made.ensures.cause)

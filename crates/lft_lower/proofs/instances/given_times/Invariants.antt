@@ -5,4 +5,4 @@ use Rattle.lft_lower.specs.Lowered.{IsGiven, time_given}
 use Rattle.lft_lower.proofs.instances.given_times.Given as goal
 
 abbrev pub invariant-loop-place : goal.invariant-loop-place
-invariant-loop-place l = (map assignment_view l.list.items ≡ filter_map (time_given l.inner) (take l.place l.child.given.items)) × All (IsGiven l.outer l.inner) (take l.place l.child.given.items)
+invariant-loop-place l = (map assignment_view l.list.items ≡ filter_map (time_given l.inner) (take l.place l.child.given.items)) × All (IsGiven l.within.shape.now l.inner) (take l.place l.child.given.items)

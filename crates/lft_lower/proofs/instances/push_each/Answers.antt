@@ -1,9 +1,10 @@
-use Rattle.std.proofs.Common.{◌≡◌, ◌<◌, ◌≤◌, List, ℕ, map, string_bytes, sym, ap, ◌∙◌, arith, rules}
+use Rattle.std.proofs.Common.{◌≡◌, ◌<◌, ◌≤◌, List, ℕ, map, string_bytes, sym, ap, ◌∙◌, arith, refl, rules}
 use Rattle.std.proofs.lemmas.List.{append-nil}
 use Rattle.lft_tree.specs.Tree.{AssignmentTree, MemberTree, InstanceMember}
 use Rattle.lft_tree.specs.View.{assignment_view, member_view, member_views}
 use Rattle.lft_meanings.specs.Places.{count_of, name_at, several}
 use Rattle.lft_lower.proofs.Named.{named_all, named_grown}
+use Rattle.lft_lower.proofs.Standing.{at_more, at_none}
 use Rattle.lft_lower.proofs.instances.push_each.Goals as goal
 
 abbrev made : List ℕ → List ℕ → List AssignmentTree → MemberTree
@@ -13,7 +14,7 @@ is_made : (name reactor name_is reactor_is : List ℕ) (given given_are : List A
 is_made name reactor name_is reactor_is given given_are n r g = ap (λ q. made q reactor given) n ∙ ap (λ q. made name_is q given) r ∙ ap (made name_is reactor_is) g
 
 pub loop-number-init : goal.loop-number-init
-loop-number-init c = sym (append-nil (member_views c.args.list.now.items))
+loop-number-init c = (sym (append-nil (member_views c.args.list.now.items)), at_none c.args.list.now.items c.args.at)
 
 pub loop-number-preserved : goal.loop-number-preserved
 loop-number-preserved c =
@@ -22,12 +23,17 @@ loop-number-preserved c =
     let number = c.loop-number.number in
     let test = c.loop-number-test.true in
     let less : number < count_of x = omega (arith, c.count-number-end.ensures) in
-    let named : string_bytes c.in_ok-from_str.field-0 ≡ c.args.reactor.now = search rules in
-    named_grown member_view f (name_at x) (count_of x) number c.loop-number.list.items _ _ (member_views c.args.list.now.items) less c.in_ok-push.ensures.items (is_made (string_bytes c.in_ok-core.field-0) (string_bytes c.in_ok-from_str.field-0) (name_at x number) c.args.reactor.now (map assignment_view c.in_ok-copied_given.field-0.items) (map assignment_view c.args.given.now) (c.in_ok-core.ensures ∙ c.at-name.ensures) named c.in_ok-copied_given.ensures) c.loop-number.invariant
+    let named : string_bytes c.in_ok-from_str.field-0 ≡ c.args.reactor.now = search rules in (
+      named_grown member_view f (name_at x) (count_of x) number c.loop-number.list.items _ _ (member_views c.args.list.now.items) less c.in_ok-push.ensures.items (is_made (string_bytes c.in_ok-counted.field-0) (string_bytes c.in_ok-from_str.field-0) (name_at x number) c.args.reactor.now (map assignment_view c.in_ok-copied_given.field-0.items) (map assignment_view c.args.given.now) (c.in_ok-counted.ensures.text ∙ c.at.ensures) named c.in_ok-copied_given.ensures) c.loop-number.invariant.0,
+      at_more c.args.list.now.items c.loop-number.list.items _ _ c.args.at c.loop-number.invariant.1 c.in_ok-push.ensures.items refl,
+    )
 
 pub returns-clause-made : goal.returns-clause-made
 returns-clause-made c =
     let x = several c.args.members in
     let test = c.loop-number-test.false in
     let all : count_of x ≤ c.loop-number.number = omega (arith, c.count-number-end.ensures) in
-    named_all (λ name. InstanceMember (record { name = name; reactor = c.args.reactor.now; given = map assignment_view c.args.given.now })) (name_at x) (count_of x) c.loop-number.number _ (member_views c.args.list.now.items) all c.loop-number.invariant
+    named_all (λ name. InstanceMember (record { name = name; reactor = c.args.reactor.now; given = map assignment_view c.args.given.now })) (name_at x) (count_of x) c.loop-number.number _ (member_views c.args.list.now.items) all c.loop-number.invariant.0
+
+pub returns-clause-at : goal.returns-clause-at
+returns-clause-at c = c.loop-number.invariant.1

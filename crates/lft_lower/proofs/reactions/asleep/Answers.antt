@@ -2,6 +2,7 @@ use Rattle.std.proofs.Common.{◌≡◌, Some, None, string_bytes, rules}
 use Rattle.std.specs.Prelude.{option_map}
 use Rattle.lft_meanings.specs.Meanings.{here}
 use Rattle.lft_lower.proofs.Adding.{asleep_added, asleep_known}
+use Rattle.lft_lower.proofs.Standing.{at_none}
 use Rattle.lft_lower.proofs.reactions.asleep.Goals as goal
 
 pub returns-in-Some-clause-added : goal.returns-in-Some-clause-added
@@ -12,4 +13,10 @@ returns-in-Some-clause-added c =
 pub returns-clause-added : goal.returns-clause-added
 returns-clause-added c =
     let none : option_map (λ x. string_bytes x) c.args.name.now ≡ None = search rules in
-    asleep_added (here c.args.within) (string_bytes c.in_ok-free.free) _ c.args.list.now.items _ none c.in_ok-free.ensures.free c.in_ok-free.ensures.added
+    asleep_added (here c.args.within) (string_bytes c.in_ok-free.free) _ c.args.list.now.items _ none c.in_ok-free.ensures.free c.in_ok-free.ensures.name c.in_ok-free.ensures.added
+
+pub returns-in-Some-clause-at : goal.returns-in-Some-clause-at
+returns-in-Some-clause-at c = at_none c.args.list.now.items c.args.at
+
+pub returns-clause-at : goal.returns-clause-at
+returns-clause-at c = c.in_ok-free.ensures.at

@@ -1,19 +1,27 @@
-use Rattle.std.proofs.Common.{string_bytes, refl, ap}
+use Rattle.std.proofs.Common.{◌≡◌, List, string_bytes, refl, subst, sym, ap}
 use Rattle.std.specs.Prelude.{option_map}
 use Rattle.std.proofs.lemmas.Result.{err_from_is_err_and}
 use Rattle.lft_whole.specs.declared.tree.Member.TheVariants as member
-use Rattle.lft_meanings.specs.Meanings.{here}
+use Rattle.lft_tree.specs.declared.tree.Member.{Member as Core}
+use Rattle.lft_whole.specs.declared.tree.Member.{Member}
+use Rattle.lft_meanings.specs.Meanings.{here, token_in}
+use Rattle.lft_meanings.specs.declared.places.Within.{Within}
 use Rattle.lft_meanings.specs.Names.{texts}
 use Rattle.lft_meanings.specs.Refused.{IsPassed}
 use Rattle.lft_lower.specs.Lowered.{ports}
 use Rattle.lft_lower.proofs.Adding.{lowered_as}
 use Rattle.lft_lower.proofs.Refusing.{of_kind}
+use Rattle.lft_lower.specs.Standing.{AddsAt, declared_at}
 use Rattle.lft_lower.proofs.reactors.push_member.Goals as goal
+
+-- what stands at the token of this member, if it is the one
+stands_as : (w : Within) (old now : List Core) (m this : Member) → m ≡ this → AddsAt old now (token_in w (declared_at this)) → AddsAt old now (token_in w (declared_at m))
+stands_as w old now m this is adds = subst (λ x. AddsAt old now (token_in w (declared_at x))) (sym is) adds
 
 pub returns-in_ok-push_ports-in-Port-clause-made : goal.returns-in_ok-push_ports-in-Port-clause-made
 returns-in_ok-push_ports-in-Port-clause-made c same =
     let before = option_map string_bytes c.args.never.now in
-    lowered_as (texts c.args.maker.names.now) (here c.args.within) c.args.number before before c.args.list.now.items _ c.args.member.now (member.Port c.in-Port.port) c.in-Port.is (_, (refl, ap (λ t. ports t c.in-Port.port.is_input) c.member-channels.ensures), c.in_ok-push_ports-in-Port.ensures.made)
+    lowered_as (texts c.args.maker.names.now) (here c.args.within) c.args.number before before c.args.list.now.items _ c.args.member.now (member.Port c.in-Port.port) c.in-Port.is (_, (refl, ap (λ t. ports t c.in-Port.port.is_input) c.named-channels.ensures), c.in_ok-push_ports-in-Port.ensures.made)
 
 pub returns-in_ok-push_timer-in-Timer-clause-made : goal.returns-in_ok-push_timer-in-Timer-clause-made
 returns-in_ok-push_timer-in-Timer-clause-made c same =
@@ -66,3 +74,21 @@ pub returns-in_err-push_connection-in-Connection-clause-cause : goal.returns-in_
 returns-in_err-push_connection-in-Connection-clause-cause c same =
     let p = err_from_is_err_and c.from_residual-in_err-push_connection-in-Connection.result c.from_residual-in_err-push_connection-in-Connection.ensures.1 in
     rw (p.1, p.2) (of_kind (here c.args.within) c.args.within.file c.args.number c.args.member.now (member.Connection c.in-Connection.connection) (IsPassed c.args.within.settings.now.work.main) c.in_err-push_connection-in-Connection.field-0.0 c.in-Connection.is c.in_err-push_connection-in-Connection.ensures.cause)
+
+pub returns-in_ok-push_ports-in-Port-clause-at : goal.returns-in_ok-push_ports-in-Port-clause-at
+returns-in_ok-push_ports-in-Port-clause-at c = stands_as c.args.within c.args.list.now.items _ c.args.member.now (member.Port c.in-Port.port) c.in-Port.is (subst (AddsAt c.args.list.now.items _) c.token-at.ensures c.in_ok-push_ports-in-Port.ensures.at)
+
+pub returns-in_ok-push_timer-in-Timer-clause-at : goal.returns-in_ok-push_timer-in-Timer-clause-at
+returns-in_ok-push_timer-in-Timer-clause-at c = stands_as c.args.within c.args.list.now.items _ c.args.member.now (member.Timer c.in-Timer.timer) c.in-Timer.is c.in_ok-push_timer-in-Timer.ensures.at
+
+pub returns-in_ok-push_action-in-Action-clause-at : goal.returns-in_ok-push_action-in-Action-clause-at
+returns-in_ok-push_action-in-Action-clause-at c = stands_as c.args.within c.args.list.now.items _ c.args.member.now (member.Action c.in-Action.action) c.in-Action.is c.in_ok-push_action-in-Action.ensures.at
+
+pub returns-in_ok-push_reaction-in-Reaction-clause-at : goal.returns-in_ok-push_reaction-in-Reaction-clause-at
+returns-in_ok-push_reaction-in-Reaction-clause-at c = stands_as c.args.within c.args.list.now.items _ c.args.member.now (member.Reaction c.in-Reaction.reaction) c.in-Reaction.is c.in_ok-push_reaction-in-Reaction.ensures.at
+
+pub returns-in_ok-push_instances-in-Instance-clause-at : goal.returns-in_ok-push_instances-in-Instance-clause-at
+returns-in_ok-push_instances-in-Instance-clause-at c = stands_as c.args.within c.args.list.now.items _ c.args.member.now (member.Instance c.in-Instance.instance) c.in-Instance.is c.in_ok-push_instances-in-Instance.ensures.at
+
+pub returns-in_ok-push_connection-in-Connection-clause-at : goal.returns-in_ok-push_connection-in-Connection-clause-at
+returns-in_ok-push_connection-in-Connection-clause-at c = stands_as c.args.within c.args.list.now.items _ c.args.member.now (member.Connection c.in-Connection.connection) c.in-Connection.is c.in_ok-push_connection-in-Connection.ensures.at

@@ -3,7 +3,7 @@ use Rattle.std.specs.Prelude.{option_map}
 use Rattle.std.proofs.lemmas.List.{append-nil, length-map, length_push, map-append}
 use Rattle.std.proofs.lemmas.Option.{slice_get-map}
 use Rattle.lft_tree.specs.View.{ref_view, ref_views}
-use Rattle.lft_settings.specs.Names.{core_name}
+use Rattle.lft_settings.specs.Names.{spelled}
 use Rattle.lft_lowering.specs.Channels.{Place, places}
 use Rattle.lft_lowering.specs.Lowered.{inner}
 use Rattle.lft_meanings.specs.Places.{count_of, inner_places, name_at, several}
@@ -31,7 +31,7 @@ loop-place-preserved c =
     let made = c.in_ok-reference.reference in
     let longer = ap length c.in_ok-push.ensures.items ∙ length_push items made in
     let stands : slice_get (places (count_of members) (count_of channels) b) place ≡ Some spot = ap (λ r. slice_get (places r (count_of channels) b) place) (sym c.count-rows.ensures) ∙ ap (λ w. slice_get (places c.count-rows.result w b) place) (sym c.count-width.ensures) ∙ c.place_at-spot.ensures in
-    let viewed : ref_view made ≡ inner (name_at members spot.0) (name_at channels spot.1) = c.in_ok-reference.ensures.made ∙ ap (λ h. inner h (core_name c.at-port.result)) c.at-head.ensures ∙ ap (λ p. inner (name_at members spot.0) p) c.at-port.ensures in
+    let viewed : ref_view made ≡ inner (name_at members spot.0) (name_at channels spot.1) = c.in_ok-reference.ensures.made ∙ ap (λ h. inner h (spelled c.at-port.result)) c.at-head.ensures ∙ ap (λ p. inner (name_at members spot.0) p) c.at-port.ensures in
     let there : slice_get (inner_places members channels b) place ≡ Some (ref_view made) = slice_get-map (λ (p : Place). inner (name_at members p.0) (name_at channels p.1)) (places (count_of members) (count_of channels) b) place ∙ ap (option_map (λ (p : Place). inner (name_at members p.0) (name_at channels p.1))) stands ∙ ap Some (sym viewed) in
     record {
       many = omega (arith, longer, c.loop-place.invariant.many);

@@ -1,6 +1,7 @@
 use Rattle.std.proofs.Common.{sym, subst}
 use Rattle.std.specs.BTreeMap.{get_by_text}
-use Rattle.lft_imports.specs.Files.{EachOnce, IsWhole, paths_of, paths_of_files}
+use Rattle.lft_imports.specs.Files.{AreApart, AreCounted, EachOnce, IsWhole, paths_of, paths_of_files}
+use Rattle.lft_imports.proofs.Counting.{are_apart}
 use Rattle.lft_imports.proofs.Known.{all_whole, each_once}
 use Rattle.lft_imports.proofs.sources.Sources.files.Goals as goal
 
@@ -9,3 +10,9 @@ returns-clause-once c = λ h. subst (λ fs. EachOnce (paths_of_files fs)) (sym c
 
 pub returns-clause-whole : goal.returns-clause-whole
 returns-clause-whole c = λ h none. subst IsWhole (sym c.as_slice.ensures.value) (all_whole (paths_of c.args.self.now.asked) c.args.self.now.files.items h.read h.numbered none)
+
+pub returns-clause-counted : goal.returns-clause-counted
+returns-clause-counted c = λ h. subst AreCounted (sym c.as_slice.ensures.value) h.counted
+
+pub returns-clause-apart : goal.returns-clause-apart
+returns-clause-apart c = λ h. subst AreApart (sym c.as_slice.ensures.value) (are_apart c.args.self.now.files.items h.counted)

@@ -1,6 +1,6 @@
-use Rattle.std.proofs.Common.{◌≡◌, None, [], ◌∷◌, ◌++◌, map, refl, ap, ◌∙◌, string_bytes}
+use Rattle.std.proofs.Common.{◌≡◌, None, [], ◌∷◌, ◌++◌, map, refl, sym, ap, ◌∙◌, string_bytes}
 use Rattle.lft_imports.specs.declared.asked.Wanted.{Wanted}
-use Rattle.lft_imports.specs.Files.{paths_of}
+use Rattle.lft_imports.specs.Files.{paths_of, tokens_of}
 use Rattle.lft_imports.proofs.Known.{no_file, one_named, one_reached}
 use Rattle.lft_imports.proofs.sources.Sources.of.Goals as goal
 
@@ -13,6 +13,8 @@ returns-clause-sources c =
       known = c.in_ok-ask.ensures.known;
       read = λ k file at. absurd (no_file files c.new.ensures.items k file at);
       trees = λ k file at. absurd (no_file files c.new.ensures.items k file at);
+      tokens = sym (ap tokens_of c.new.ensures.items);
+      counted = λ k file at. absurd (no_file files c.new.ensures.items k file at);
       numbered = λ k file at. absurd (no_file files c.new.ensures.items k file at);
       reached = one_reached (paths_of c.ask.new.self) (string_bytes program.path) files (ap (map (λ (w : Wanted). string_bytes w.path)) wanted);
       named = one_named files c.ask.new.self.paths.items program wanted refl;

@@ -17,11 +17,6 @@ returns-in_err-parts-clause-cause c =
     let p = err_from_is_err_and c.from_residual-in_err-parts.result c.from_residual-in_err-parts.ensures.1 in
     rw (p.1, p.2) (much_is_cause c.args.scopes.now c.args.class.number _ c.in_err-parts.ensures.cause)
 
-pub returns-in_err-stems-clause-cause : goal.returns-in_err-stems-clause-cause
-returns-in_err-stems-clause-cause c =
-    let p = err_from_is_err_and c.from_residual-in_err-stems.result c.from_residual-in_err-stems.ensures.1 in
-    rw (p.1, p.2) (much_is_cause c.args.scopes.now c.args.class.number _ c.in_err-stems.ensures.cause)
-
 pub returns-in_err-refuse_twice-clause-cause : goal.returns-in_err-refuse_twice-clause-cause
 returns-in_err-refuse_twice-clause-cause c =
     let p = err_from_is_err_and c.from_residual-in_err-refuse_twice.result c.from_residual-in_err-refuse_twice.ensures.1 in
@@ -63,4 +58,4 @@ returns-clause-built c =
     }
 
 pub returns-clause-main : goal.returns-clause-main
-returns-clause-main c = c.in_ok-stems.ensures.main ∙ c.in_ok-parts.ensures.main ∙ c.in_ok-chain.ensures.main
+returns-clause-main c = c.in_ok-parts.ensures.main ∙ c.in_ok-chain.ensures.main

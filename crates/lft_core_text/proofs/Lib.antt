@@ -1,3 +1,0 @@
-pub mod Deciding
-pub mod Lists
-pub mod Refused

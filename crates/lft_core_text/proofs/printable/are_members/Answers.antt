@@ -1,9 +1,0 @@
-use Rattle.std.proofs.Common.{rules, tests}
-use Rattle.std.proofs.lemmas.Iterator.{cases_from_all, YieldsList-from_slice}
-use Rattle.lft_tree.specs.ItemView.{member_view}
-use Rattle.lft_printed.specs.Words.{IsPrintable}
-use Rattle.lft_core_text.proofs.Lists.{tested}
-use Rattle.lft_core_text.proofs.printable.are_members.Goals as goal
-
-pub returns : goal.returns
-returns c = tested member_view IsPrintable _ _ (cases_from_all _ _ _ (λ x. IsPrintable (member_view x)) (λ x. IsPrintable (member_view x) → ⊥) c.all.ensures.ran (YieldsList-from_slice c.args.members.now cc) (λ x q k. search (rules, tests)) (λ x q k. search (rules, tests)))
