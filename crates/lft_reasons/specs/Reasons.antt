@@ -1,5 +1,5 @@
 -- What is told of a program that has a tree and is refused.
-use Rattle.std.specs.Prelude.{◌≡◌, ℕ, ◌≤◌, ◌⊎◌, List, ◌++◌, Option, Some, None, codes, length, map}
+use Rattle.std.specs.Prelude.{◌≡◌, ℕ, ◌⊎◌, List, [], ◌++◌, Option, Some, None, codes, map}
 use Rattle.lft_tree.specs.View.{file_view, reactor_view}
 use Rattle.lft_tree.specs.declared.tree.Item.{Item}
 use Rattle.lft_tree.specs.declared.tree.Reactor.{Reactor}
@@ -10,9 +10,8 @@ use Rattle.lft_syntax.specs.Placed.{FileStands}
 use Rattle.lft_syntax.specs.Grammar.{Spells}
 use Rattle.lft_syntax.specs.View.{lexemes}
 use Rattle.lft_scope.specs.Causes.{IsFirst, causes}
-use Rattle.lft_refusals.specs.Places.{IsPlace}
-use Rattle.lft_refusals.specs.Quotes.{place_words}
-use Rattle.lft_refusals.specs.declared.place.Place.{Place}
+use Rattle.lft_refusals.specs.Pages.{SaysSpot}
+use Rattle.lft_refusals.specs.declared.pages.Page.{Page}
 use Rattle.lft_refusals.specs.declared.spots.Spot.{Spot}
 use Rattle.lft_causes.specs.Witnesses.{Shows, cause_shown}
 use Rattle.lft_causes.specs.declared.witness.Witness.{Witness}
@@ -22,17 +21,12 @@ use Rattle.lft_reasons.specs.Sentences.{cause_told, said, words_in}
 use Rattle.lft_reasons.specs.declared.sentence.Sentence.{Sentence}
 use Rattle.lft_reasons.specs.Spots.{reactors_among, witness_spot}
 
--- the words are the line and the column at which the bytes begin, if the text has them; without bytes they are of the program as a whole
-abbrev pub SaySpot : List ℕ → Option Spot → List ℕ → Type 0
-SaySpot t None words = words ≡ codes "Program: "
-SaySpot t (Some spot) words = spot.start ≤ length t → (place : Place) × IsPlace t spot.start place × (words ≡ place_words place)
-
--- the words begin so, and then with this sentence
-pub record BeginsAt (t : List ℕ) (spot : Option Spot) (sentence words : List ℕ) : Type 0 where
+-- the words begin with where the bytes stand, and then with this sentence
+pub record BeginsAt (t : List ℕ) (files : List Page) (spot : Option Spot) (sentence words : List ℕ) : Type 0 where
   pub start : List ℕ
   pub rest : List ℕ
   pub whole : words ≡ start ++ sentence ++ codes ".\n" ++ rest
-  pub place : SaySpot t spot start
+  pub place : SaysSpot t files spot start
 
 -- a witness of these reactors shows the cause, and stands at these bytes
 pub record HasWitnessAt (tokens : List Token) (reactors : List Reactor) (cause : ℕ) (spot : Option Spot) : Type 0 where
@@ -58,7 +52,16 @@ IsOfWhole cause = (cause ≡ 5) ⊎ (cause ≡ 10) ⊎ (cause ≡ 14) ⊎ (cause
 abbrev pub IsShownAt : List Token → List Reactor → ℕ → Option Spot → Type 0
 IsShownAt tokens reactors cause spot = HasWitnessAt tokens reactors cause spot ⊎ IsOfWhole cause
 
--- the tokens of the text spell a tree, of which each part stands where it says; of the causes of refusal the one with that number is the first that holds of it; and the words begin with where it is shown and a sentence that tells it
+-- the words begin with where the cause is shown in these parts, and a sentence that tells it
+pub record IsToldIn (t : List ℕ) (tokens : List Token) (files : List Page) (parts : List Item) (cause : ℕ) (words : List ℕ) : Type 0 where
+  pub spot : Option Spot
+  pub shown : IsShownAt tokens (reactors_among parts) cause spot
+  pub sentence : Sentence
+  pub tells : cause_told sentence ≡ cause
+  pub names : List (List ℕ)
+  pub begins : BeginsAt t files spot (said (words_in sentence) names) words
+
+-- the tokens of the text spell a tree, of which each part stands where it says; of the causes of refusal the one with that number is the first that holds of it; and the words tell it
 pub record IsToldOf (t : List ℕ) (cause : ℕ) (words : List ℕ) : Type 0 where
   pub tokens : List Token
   pub lexed : Lexes t tokens
@@ -67,9 +70,4 @@ pub record IsToldOf (t : List ℕ) (cause : ℕ) (words : List ℕ) : Type 0 whe
   pub spelled : Spells (file_view target parts) (lexemes t tokens)
   pub stand : FileStands (lexemes t tokens) target parts
   pub first : IsFirst (causes (file_view target parts)) cause
-  pub spot : Option Spot
-  pub shown : IsShownAt tokens (reactors_among parts) cause spot
-  pub sentence : Sentence
-  pub tells : cause_told sentence ≡ cause
-  pub names : List (List ℕ)
-  pub begins : BeginsAt t spot (said (words_in sentence) names) words
+  pub told : IsToldIn t tokens [] parts cause words

@@ -35,15 +35,14 @@ impl<'a> Refused<'a> {
         Ok(nearest(&names, wanted))
     }
 
-    /// The port or the instance that was probably meant.
-    pub(crate) fn near_member(
+    /// The port that was probably meant.
+    pub(crate) fn near_port(
         &self,
         reactor: &'a Reactor,
-        kind: Declared,
         wanted: &str,
     ) -> Result<Option<&'a str>, NoMemory> {
         let mut names = Vec::new(self.alloc);
-        push_names(&mut names, &reactor.members, kind)?;
+        push_names(&mut names, &reactor.members, Declared::Port)?;
         Ok(nearest(&names, wanted))
     }
 
@@ -61,21 +60,39 @@ impl<'a> Refused<'a> {
         Ok(found)
     }
 
+    /// The instances in the reactor that have a port of that name.
+    fn instances_with(&self, reactor: &'a Reactor, port: &str) -> Result<Vec<&'a str>, NoMemory> {
+        let found = self.with_port(port)?;
+        let mut names = Vec::new(self.alloc);
+        for member in &reactor.members {
+            if let Member::Instance(instance) = member {
+                if found.contains(instance.reactor.as_str()) {
+                    names.push(instance.name.as_str())?;
+                }
+            }
+        }
+        Ok(names)
+    }
+
     /// The first instance in the reactor that has a port of that name.
     pub(crate) fn with_that_port(
         &self,
         reactor: &'a Reactor,
         wanted: &str,
     ) -> Result<Option<&'a str>, NoMemory> {
-        let found = self.with_port(wanted)?;
-        for member in &reactor.members {
-            if let Member::Instance(instance) = member {
-                if found.contains(instance.reactor.as_str()) {
-                    return Ok(Some(instance.name.as_str()));
-                }
-            }
-        }
-        Ok(None)
+        let names = self.instances_with(reactor, wanted)?;
+        Ok(names.first().copied())
+    }
+
+    /// The instance that was probably meant, of those that have the port.
+    pub(crate) fn near_instance(
+        &self,
+        reactor: &'a Reactor,
+        wanted: &str,
+        port: &str,
+    ) -> Result<Option<&'a str>, NoMemory> {
+        let names = self.instances_with(reactor, port)?;
+        Ok(nearest(&names, wanted))
     }
 }
 

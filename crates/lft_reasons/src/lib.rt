@@ -20,4 +20,4 @@ mod whole;
 mod words;
 
 pub use loops::tell_loop;
-pub use tell::tell_refusal;
+pub use tell::{tell_refusal, tell_refusal_in};

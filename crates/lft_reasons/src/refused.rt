@@ -1,7 +1,7 @@
 //! A program that has a tree and is refused.
 
 use lft_causes::declared_name;
-use lft_syntax::Tokens;
+use lft_syntax::Token;
 use lft_tree::{Member, Reactor};
 use std::alloc::Global;
 
@@ -10,7 +10,7 @@ use std::alloc::Global;
 pub(crate) struct Refused<'a> {
     pub alloc: Global,
     pub text: &'a [u8],
-    pub tokens: &'a Tokens,
+    pub tokens: &'a [Token],
     pub reactors: &'a [&'a Reactor],
 }
 

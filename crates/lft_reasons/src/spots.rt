@@ -6,7 +6,7 @@ ghost use Rattle.lft_reasons.specs.Spots.{behind, declared_at as the_declared_at
 use lft_causes::{Finding, Witness};
 use lft_refusals::{Spot, name_spot, reactor_spot, time_spot, token_spot};
 use lft_scope::kinds::Role;
-use lft_syntax::Tokens;
+use lft_syntax::Token;
 use lft_tag::NoMemory;
 use lft_tree::{Item, Member, Reaction, Reactor, Reference, TimeExpression, Timer, Trigger};
 use std::alloc::Global;
@@ -194,21 +194,21 @@ fn member_at(member: &Member) -> Option<usize>
 }
 
 /// Where the name with that role and place in the member stands.
-fn named_spot(tokens: &Tokens, member: &Member, role: Role, place: usize) -> Option<Spot>
+fn named_spot(tokens: &[Token], member: &Member, role: Role, place: usize) -> Option<Spot>
     ensures { result ≡ the_named_spot tokens.now member.now role place }
 {
     name_spot(tokens, name_at(member, role, place)?)
 }
 
 /// Where the time with that place in the member stands.
-fn timed_spot(tokens: &Tokens, member: &Member, place: usize) -> Option<Spot>
+fn timed_spot(tokens: &[Token], member: &Member, place: usize) -> Option<Spot>
     ensures { result ≡ the_timed_spot tokens.now member.now place }
 {
     time_spot(tokens, time_at(member, place)?)
 }
 
 /// Where the parameter's name in the value with that place stands.
-fn given_spot(tokens: &Tokens, member: &Member, place: usize) -> Option<Spot>
+fn given_spot(tokens: &[Token], member: &Member, place: usize) -> Option<Spot>
     ensures { result ≡ the_given_spot tokens.now member.now place }
 {
     match member {
@@ -218,7 +218,7 @@ fn given_spot(tokens: &Tokens, member: &Member, place: usize) -> Option<Spot>
 }
 
 /// Where what is found in the member stands.
-fn finding_spot(tokens: &Tokens, member: &Member, finding: Finding) -> Option<Spot>
+fn finding_spot(tokens: &[Token], member: &Member, finding: Finding) -> Option<Spot>
     ensures { result ≡ the_finding_spot tokens.now member.now finding }
 {
     match finding {
@@ -270,7 +270,7 @@ fn declaration_at(reactors: &[&Reactor], reactor: usize, number: usize) -> Optio
 }
 
 /// Where what the witness shows stands: of two that are one the second.
-pub(crate) fn spot_of(tokens: &Tokens, reactors: &[&Reactor], witness: Witness) -> Option<Spot>
+pub(crate) fn spot_of(tokens: &[Token], reactors: &[&Reactor], witness: Witness) -> Option<Spot>
     ensures { result ≡ witness_spot tokens.now (behind reactors.now) witness }
 {
     match witness {

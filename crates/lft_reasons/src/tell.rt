@@ -1,6 +1,6 @@
 //! Why a program with a tree is refused, for people.
 
-ghost use Rattle.std.specs.Prelude.{◌≡◌, ◌≢◌, IfOk, IfSome, IfNone, string_bytes};
+ghost use Rattle.std.specs.Prelude.{◌≡◌, ◌≢◌, IfOk, IfSome, IfNone, IsErr, string_bytes};
 ghost use Rattle.lft_tree.specs.View.{tree_view};
 ghost use Rattle.lft_syntax.specs.Grammar.{Spells};
 ghost use Rattle.lft_syntax.specs.Lexes.{Lexes};
@@ -11,7 +11,8 @@ ghost use Rattle.lft_causes.specs.Witnesses.{cause_shown};
 ghost use Rattle.lft_program.specs.Faults.{number_of};
 ghost use Rattle.lft_program.specs.Refusals.{Tells, cause_of};
 ghost use Rattle.lft_program.specs.declared.refusal.Refusal.TheVariants as refusals;
-ghost use Rattle.lft_reasons.specs.Reasons.{BeginsAt, IsShownAt, IsToldOf, SaySpot, witness_in};
+ghost use Rattle.lft_refusals.specs.Pages.{ArePages};
+ghost use Rattle.lft_reasons.specs.Reasons.{BeginsAt, IsShownAt, IsToldIn, IsToldOf, witness_in};
 ghost use Rattle.lft_reasons.specs.Sentences.{IsOf, cause_told, sentence_of};
 ghost use Rattle.lft_reasons.specs.Spots.{behind, reactors_among as the_reactors_among, witness_spot};
 
@@ -21,8 +22,8 @@ use crate::sentence::{Sentence, push_said};
 use crate::spots::{reactors_among, spot_of};
 use lft_causes::{Finding, Witness};
 use lft_program::{ProgramFault, Refusal};
-use lft_refusals::{Spot, place_of, push_line, push_place};
-use lft_syntax::Tokens;
+use lft_refusals::{Page, Spot, place_words, push_marked};
+use lft_syntax::{Token, Tokens};
 use lft_tag::NoMemory;
 use lft_tree::{Ast, Reactor};
 use std::alloc::Global;
@@ -79,7 +80,7 @@ fn first_found(finding: Finding) -> Option<Finding> {
 }
 
 /// Where the first of the two things that a witness names stands, if it names two.
-fn spot_before(tokens: &Tokens, reactors: &[&Reactor], witness: Witness) -> Option<Spot> {
+fn spot_before(tokens: &[Token], reactors: &[&Reactor], witness: Witness) -> Option<Spot> {
     spot_of(tokens, reactors, first_of(witness)?)
 }
 
@@ -140,7 +141,7 @@ fn without_witness(
 fn reason_of(
     alloc: Global,
     text: &[u8],
-    tokens: &Tokens,
+    tokens: &[Token],
     ast: &Ast,
     refusal: &Refusal,
     sentence: Sentence,
@@ -164,61 +165,35 @@ fn reason_of(
     }
 }
 
-/// Puts the line with a mark behind the text, where there is a place.
-fn push_spot(
-    alloc: Global,
-    out: &mut String,
-    text: &[u8],
-    spot: Option<Spot>,
-) -> Result<(), NoMemory> {
-    match spot {
-        Some(spot) if spot.start <= spot.end && spot.end <= text.len() => {
-            let place = place_of(text, spot.start);
-            push_line(alloc, out, text, place, spot.start, spot.end)
-        }
-        _ => Ok(()),
-    }
-}
-
-/// Where it is.
-fn start_of(alloc: Global, text: &[u8], spot: Option<Spot>) -> Result<String, NoMemory>
-    ensures { IfOk result (λ words. SaySpot text.now spot (string_bytes words)) }
-{
-    let mut out = String::new(alloc);
-    match spot {
-        Some(spot) if spot.start <= text.len() => {
-            push_place(&mut out, place_of(text, spot.start))?;
-        }
-        _ => out.push_str("Program: ")?,
-    }
-    Ok(out)
-}
-
 /// Where it is, and the sentence.
-fn head_of(alloc: Global, text: &[u8], reason: &Reason) -> Result<String, NoMemory>
-    ensures { IfOk result (λ words. BeginsAt text.now reason.now.at (sentence_of reason.now) (string_bytes words)) }
+fn head_of(alloc: Global, text: &[u8], files: &[Page], reason: &Reason) -> Result<String, NoMemory>
+    requires { ArePages text.now files.now }
+    ensures { IfOk result (λ words. BeginsAt text.now files.now reason.now.at (sentence_of reason.now) (string_bytes words)) }
 {
-    let mut out = start_of(alloc, text, reason.at)?;
+    let mut out = place_words(alloc, text, files, reason.at)?;
     push_said(&mut out, reason.sentence.words(), &reason.names)?;
     out.push_str(".\n")?;
     Ok(out)
 }
 
 /// What is behind the sentence: both lines, and what to write.
-fn rest_of(alloc: Global, text: &[u8], reason: &Reason) -> Result<String, NoMemory> {
+fn rest_of(alloc: Global, text: &[u8], files: &[Page], reason: &Reason) -> Result<String, NoMemory>
+    requires { ArePages text.now files.now }
+{
     let mut out = String::new(alloc);
-    push_spot(alloc, &mut out, text, reason.before)?;
-    push_spot(alloc, &mut out, text, reason.at)?;
+    push_marked(alloc, &mut out, text, files, reason.before)?;
+    push_marked(alloc, &mut out, text, files, reason.at)?;
     out.push_str(reason.ways.as_str())?;
     Ok(out)
 }
 
 /// The reason in lines.
-fn lines(alloc: Global, text: &[u8], reason: &Reason) -> Result<String, NoMemory>
-    ensures { IfOk result (λ words. BeginsAt text.now reason.now.at (sentence_of reason.now) (string_bytes words)) }
+fn lines(alloc: Global, text: &[u8], files: &[Page], reason: &Reason) -> Result<String, NoMemory>
+    requires { ArePages text.now files.now }
+    ensures { IfOk result (λ words. BeginsAt text.now files.now reason.now.at (sentence_of reason.now) (string_bytes words)) }
 {
-    let rest = rest_of(alloc, text, reason)?;
-    let mut out = head_of(alloc, text, reason)?;
+    let rest = rest_of(alloc, text, files, reason)?;
+    let mut out = head_of(alloc, text, files, reason)?;
     out.push_str(rest.as_str())?;
     Ok(out)
 }
@@ -250,7 +225,28 @@ fn sentence_for(fault: ProgramFault) -> Option<Sentence>
 
 /// Why a program that has this tree is refused, in lines that end with a line feed: the place, what is wrong
 /// there, the line with a mark, and what to write. Where something stands twice, both lines. Of several places
-/// the first in the text. `NoMemory` where the refusal is.
+/// the first in the text. `NoMemory` where the refusal is. The text may be that of several files, one behind another.
+pub fn tell_refusal_in(
+    alloc: Global,
+    text: &[u8],
+    tokens: &[Token],
+    files: &[Page],
+    ast: &Ast,
+    refusal: &Refusal,
+) -> Result<String, NoMemory>
+    requires files { ArePages text.now files.now }
+    requires tells { Tells (tree_view ast.now) refusal.now }
+    ensures told { IfOk result (λ words. IsToldIn text.now tokens.now files.now ast.now.items.items (cause_of refusal.now) (string_bytes words)) }
+    ensures memory { refusal.now ≡ refusals.NoMemory → IsErr result }
+{
+    let Some(sentence) = sentence_for(refusal.fault()) else {
+        return Err(NoMemory);
+    };
+    let reason = reason_of(alloc, text, tokens, ast, refusal, sentence)?;
+    lines(alloc, text, files, &reason)
+}
+
+/// The same of a program whose text stands alone.
 pub fn tell_refusal(
     alloc: Global,
     text: &[u8],
@@ -265,9 +261,5 @@ pub fn tell_refusal(
     requires tells { Tells (tree_view ast.now) refusal.now }
     ensures { IfOk result (λ words. IsToldOf text.now (cause_of refusal.now) (string_bytes words)) }
 {
-    let Some(sentence) = sentence_for(refusal.fault()) else {
-        return Err(NoMemory);
-    };
-    let reason = reason_of(alloc, text, tokens, ast, refusal, sentence)?;
-    lines(alloc, text, &reason)
+    tell_refusal_in(alloc, text, tokens.as_slice(), &[], ast, refusal)
 }

@@ -10,7 +10,6 @@ use crate::spots::{name_at, time_at};
 use crate::words::reactor_words;
 use lft_refusals::has_code_with;
 use lft_scope::kinds::Role;
-use lft_scope::names::Declared;
 use lft_tag::NoMemory;
 use lft_tree::{Instance, Member, TimeExpression};
 
@@ -45,7 +44,7 @@ impl<'a> Refused<'a> {
         let names = [owner.as_str(), wanted];
         let reason = Reason::of(self.alloc, Sentence::UnknownReactor, &names)?;
         let reason = meant(reason, self.near_reactor(wanted)?)?;
-        if has_code_with(self.text, self.tokens.as_slice(), b"reaction") {
+        if has_code_with(self.text, self.tokens, b"reaction") {
             let way = "Some code has the word `reaction`: is the `=}` before that missing?";
             return Ok(Some(reason.way(way)?));
         }
@@ -73,7 +72,7 @@ impl<'a> Refused<'a> {
         let owner = reactor_words(self.alloc, site.reactor)?;
         let names = [owner.as_str(), head];
         let reason = Reason::of(self.alloc, Sentence::UnknownInstance, &names)?;
-        match self.near_member(site.reactor, Declared::Instance, head)? {
+        match self.near_instance(site.reactor, head, port)? {
             Some(near) => Ok(reason.ask(near, ".", port)?),
             None => Ok(reason),
         }
@@ -95,7 +94,7 @@ impl<'a> Refused<'a> {
         let Some(reactor) = self.named(inner) else {
             return Ok(reason);
         };
-        match self.near_member(reactor, Declared::Port, port)? {
+        match self.near_port(reactor, port)? {
             Some(near) => Ok(reason.ask(head, ".", near)?),
             None => Ok(reason),
         }

@@ -1,5 +1,6 @@
 pub mod Candidates
 pub mod Codes
+pub mod Pages
 pub mod Places
 pub mod Quotes
 pub mod Refusals

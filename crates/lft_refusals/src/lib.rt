@@ -9,6 +9,7 @@ mod candidates;
 mod code;
 pub mod headers;
 mod left_out;
+mod pages;
 mod place;
 mod program_text;
 mod quoting;
@@ -19,7 +20,8 @@ mod ways;
 pub mod words;
 
 pub use code::has_code_with;
+pub use pages::{Page, place_words, push_marked};
 pub use place::{Place, place_of};
-pub use program_text::{tell_no_tokens, tell_no_tree};
+pub use program_text::{tell_no_tokens, tell_no_tree, way_at};
 pub use quoting::{push_line, push_place};
 pub use spots::{Spot, name_spot, reactor_spot, time_spot, token_spot};

@@ -2,7 +2,7 @@
 
 ghost use Rattle.std.specs.Prelude.{◌≡◌, ◌≢◌, ℕ, ◌+◌, ◌<◌, ◌≤◌, ◌++◌, List, flat_map, length, string_bytes, IfOk, OnOk};
 ghost use Rattle.lft_syntax.specs.declared.fault.LexFault.TheVariants.{NoMemory as LexNoMemory};
-ghost use Rattle.lft_syntax.specs.Lexes.{LexFails};
+ghost use Rattle.lft_syntax.specs.Lexes.{LexFails, Lexes};
 ghost use Rattle.lft_refusals.specs.Candidates.{IsHelp, IsWholeHelp, could_words, few, other_words};
 ghost use Rattle.lft_refusals.specs.Refusals.{HasNoTree};
 ghost use Rattle.lft_refusals.specs.Trying.{AreTokens, CanStandBehind};
@@ -18,7 +18,9 @@ use crate::refusal::{Refusal, Why, at_byte, at_token};
 use crate::thing::Thing;
 use crate::ways::{of_candidates, of_fault, of_token};
 use crate::words::{push_bytes, push_way};
-use lft_syntax::{LexFault, MAX_LENGTH, TokenKind, Tokens};
+use lft_syntax::{
+    LexFault, MAX_LENGTH, SyntaxFault, Token, TokenKind, Tokens, lex, parse, refused_at,
+};
 use lft_tag::NoMemory;
 use lft_words::push_number;
 use std::alloc::Global;
@@ -256,4 +258,64 @@ pub fn tell_no_tree(
     let mut help = String::new(alloc);
     push_help(&mut help, &before)?;
     words_at(alloc, text, at_token(text, tokens, number), help.as_str())
+}
+
+/// What helps in place of a token that stands behind others: by the tokens before it, or by what could stand there.
+fn way_behind(before: &Before<'_>, token: Token) -> Result<Option<&'static str>, NoMemory>
+    requires lexed { AreTokens before.now }
+{
+    let better = before.way(token.kind, before.spelling(0))?;
+    let found = candidates(before)?;
+    Ok(better.or(of_candidates(token.kind, before, &found)))
+}
+
+/// What helps where the tokens of a text spell no tree, if a token that begins between two bytes shows that.
+fn way_among(
+    alloc: Global,
+    text: &[u8],
+    tokens: &Tokens,
+    from: usize,
+    to: usize,
+) -> Result<Option<&'static str>, NoMemory>
+    requires lexed { Lexes text.now tokens.now }
+{
+    let number = match parse(alloc, text, tokens) {
+        Ok(_) => return Ok(None),
+        Err(SyntaxFault::NoMemory) => return Err(NoMemory),
+        Err(SyntaxFault::Unexpected(number)) => number,
+    };
+    let count = number - 1;
+    let before = Before {
+        alloc,
+        text,
+        tokens,
+        count,
+    };
+    match before.token(0) {
+        Some(token) if from <= token.start && token.start <= to => way_behind(&before, token),
+        _ => Ok(None),
+    }
+}
+
+/// What helps where a text is refused at a byte, if as a core text it is refused there too, or at a token from another
+/// byte on. What a core text leaves out isn't told: a whole program may have it.
+pub fn way_at(
+    alloc: Global,
+    text: &[u8],
+    from: usize,
+    at: usize,
+) -> Result<Option<&'static str>, NoMemory> {
+    let way = headers::of_program(text);
+    if way.is_some() {
+        return Ok(way);
+    }
+    let way = match lex(alloc, text) {
+        Ok(tokens) => way_among(alloc, text, &tokens, from, at)?,
+        Err(LexFault::NoMemory) => return Err(NoMemory),
+        Err(fault) => match text.get(at..) {
+            Some(rest) if refused_at(text) == Some(at) => of_fault(fault, rest),
+            _ => None,
+        },
+    };
+    Ok(way.filter(|way| !way.contains("left out")))
 }

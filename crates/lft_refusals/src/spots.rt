@@ -4,7 +4,7 @@ ghost use Rattle.std.specs.Prelude.{◌≡◌, ◌+◌};
 ghost use Rattle.lft_syntax.specs.Placed.{token_of};
 ghost use Rattle.lft_refusals.specs.Spots.{last_of_head, last_of_name, last_of_time, span};
 
-use lft_syntax::Tokens;
+use lft_syntax::Token;
 use lft_tree::{Reactor, Reference, TimeExpression};
 
 /// Bytes of a text, from the start up to the end.
@@ -15,10 +15,9 @@ pub struct Spot {
 }
 
 /// The bytes from the token with that number up to the end of the one so many behind it.
-fn spot_up_to(tokens: &Tokens, at: usize, behind: usize) -> Option<Spot>
+fn spot_up_to(tokens: &[Token], at: usize, behind: usize) -> Option<Spot>
     ensures { result ≡ span tokens.now at (at + behind) }
 {
-    let tokens = tokens.as_slice();
     let first = tokens.get(at)?;
     let end = at.checked_add(behind)?;
     let last = tokens.get(end)?;
@@ -29,14 +28,14 @@ fn spot_up_to(tokens: &Tokens, at: usize, behind: usize) -> Option<Spot>
 }
 
 /// The bytes of a token. None where the text has fewer.
-pub fn token_spot(tokens: &Tokens, at: usize) -> Option<Spot>
+pub fn token_spot(tokens: &[Token], at: usize) -> Option<Spot>
     ensures { result ≡ span tokens.now at at }
 {
     spot_up_to(tokens, at, 0)
 }
 
 /// The bytes of a name, with those of its port.
-pub fn name_spot(tokens: &Tokens, name: &Reference) -> Option<Spot>
+pub fn name_spot(tokens: &[Token], name: &Reference) -> Option<Spot>
     ensures { result ≡ span tokens.now name.now.at (last_of_name name.now) }
 {
     match &name.port {
@@ -46,7 +45,7 @@ pub fn name_spot(tokens: &Tokens, name: &Reference) -> Option<Spot>
 }
 
 /// The bytes of a time, with those of its unit.
-pub fn time_spot(tokens: &Tokens, time: &TimeExpression) -> Option<Spot>
+pub fn time_spot(tokens: &[Token], time: &TimeExpression) -> Option<Spot>
     ensures { result ≡ span tokens.now (token_of time.now) (last_of_time time.now) }
 {
     match time {
@@ -59,7 +58,7 @@ pub fn time_spot(tokens: &Tokens, time: &TimeExpression) -> Option<Spot>
 }
 
 /// The bytes of a reactor's name, or of `main reactor` where it has none.
-pub fn reactor_spot(tokens: &Tokens, reactor: &Reactor) -> Option<Spot>
+pub fn reactor_spot(tokens: &[Token], reactor: &Reactor) -> Option<Spot>
     ensures { result ≡ span tokens.now reactor.now.at (last_of_head reactor.now) }
 {
     match &reactor.name {
