@@ -62,13 +62,15 @@ limited() {
 judge() { verdict judge "$@"; }
 pair() { verdict pair "$@"; }
 verdict() {
-  limited "$lftrace" "$@" 2>&1
+  command=$1
+  shift
+  limited "$lftrace" "$command" --lower "$@" 2>&1
   [ $status -le 1 ]
 }
 
 # follow PROGRAM: prints what is told of a log of standard input while it comes.
 follow() {
-  told=$(limited "$lftrace" follow "$1" 2>&1)
+  told=$(limited "$lftrace" follow --lower "$1" 2>&1)
   case $?,$told in
     '0,accepted '* | '1,broken '* | '3,unbroken '* | '4,odd '*) echo "$told" ;;
     *) echo "follow: $told" ;;

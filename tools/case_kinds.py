@@ -4,9 +4,13 @@ What is told of a case is mostly what the program writes on standard output, the
 error, and `status N`.
 
 - `show`: of the text of a program; the words behind it are handed on.
-- `lower`: of the files of a program, each behind a line `--- PATH`, the program's first. Behind what is printed
-  stands the table of names behind `--- names`, if there is a name in it. What `lower` says of the core program, and
-  what it says without a table, is told where it is something else; so is a fault of `show`.
+- `lower`: of the files of a program, each behind a line `--- PATH`, the program's first: what `show --lower --all`
+  tells, or why `explain --lower` says that it is refused. What is told of the first file without `--lower` is told
+  where that shows it, and shows something else.
+- `lower COMMAND`: what a command with the words beside it tells with `--lower` of the given program, of one file.
+  `judge`, `cover`, `explain`, `follow` and `pair` are asked of the given tables; where there are rows, of these as a
+  second trace too. `record` is asked of a table of cards, and `show` of the program alone. `lower-files COMMAND` is
+  asked of files as those of `lower`.
 - `judge`: of the rows of a trace table under its header, by the given program and external inputs. A number
   beside the word is that of the workers. Where none stands there, the three texts are judged as a bundle too,
   and by 2, 3 and 64 workers; what these say is told only where it is something else.
@@ -18,8 +22,6 @@ error, and `status N`.
 - `explain-pair`: of the rows of a second trace beside the given one, in the same way.
 - `explain-program`: of the text of a program alone.
 - `bundle`, `explain-bundle`: of a text on standard input.
-- `named COMMAND`: what `judge`, `explain`, `cover` or `pair`, with the words beside it, tells of what is given by the
-  given table of names; where there are rows, of these as a second trace too. `named-text` has a whole table of names.
 - `refused`: why `explain` says that the text of a program is refused: its standard output alone. Status 2 and
   the line of a fault have to come too.
 - `refused-externals`, `refused-trace`: the same of a whole table of what is given. `refused-bundle`: of a bundle.
@@ -48,10 +50,9 @@ HEADERS = {
     "externals": b"kind,time,microstep,name,value\n",
     "trace": b"event,worker,time,microstep,reaction,name,value,delay\n",
     "cards": b"kind,reaction,name,delay,value\n",
-    "names": b"kind,source,core,place\n",
 }
 # Which of the texts a part gives.
-GIVEN = {"program": "program", "externals": "externals", "externals-text": "externals", "trace": "trace", "names": "names"}
+GIVEN = {"program": "program", "externals": "externals", "externals-text": "externals", "trace": "trace"}
 # Stands where lines of what `explain` tells are left out.
 LEFT_OUT = b"  More lines, which `--all` prints: "
 # KiB of stack, and what fills it before the program begins: by docs/FORMATS.md the one is enough with the other.
@@ -197,32 +198,44 @@ def followed(runs, case, log, is_alone=False):
     return told + (b"through a pipe:\n" + piped if piped != told else b"")
 
 
-def lowered(runs, case):
-    """What is told of a program of several files, and of the core program that it is lowered to."""
+def files_of(runs, case):
+    """The paths of the files that a case has, which are written, the program's first."""
     parts = re.split(rb"^--- (.*)\n", case.text, flags=re.MULTILINE)
     paths = [runs.folder / part.decode() for part in parts[1::2]]
     for path, text in zip(paths, parts[2::2]):
         path.parent.mkdir(parents=True, exist_ok=True)
         path.write_bytes(text)
-    words, table = ["lower", paths[0].name], runs.folder / "names.csv"
-    core, err, status = runs.read(b"", *words, "--names", table.name)
-    names = table.read_bytes() if table.exists() else b""
-    alone = runs.read(b"", *words)
-    others = b"without a table:\n" + whole(alone) if alone != (core, err, status) else b""
-    if not status:
-        again, shown = runs.ask("lower", [core]), runs.ask("show", [core])
-        others += b"of the core program:\n" + whole(again) if again != (core, b"", 0) else b""
-        others += b"shown:\n" + whole(shown) if shown[2] else b""
-    return core + (b"" if names == HEADERS["names"] or not names else b"--- names\n" + names) + whole((b"", err, status)) + others
+    return paths
 
 
-def named(runs, case, names, rows):
-    """What is told of tables that have the names of a table of names, and of a second trace, if there are its rows."""
-    texts = [*texts_of(case), case.given["trace"]] + ([HEADERS["trace"] + rows] if rows else [])
-    path = runs.folder / "names.csv"
-    path.write_bytes(names)
+def lowered(runs, case):
+    """What is told of a program of several files, or why it is refused."""
+    path = files_of(runs, case)[0].name
+    shown = runs.read(b"", "show", "--lower", "--all", path)
+    alone = runs.read(b"", "show", "--all", path)
+    others = b"without --lower:\n" + whole(alone) if not alone[2] and alone != shown else b""
+    if not shown[2]:
+        return whole(shown) + others
+    told = runs.read(b"", "explain", "--lower", path)
+    return whole(told) + (b"shown:\n" + whole(shown) if shown != (b"", *told[1:]) else b"")
+
+
+def by_lower(runs, case):
+    """What a command tells of the given whole program, and of a second trace or cards, if there are rows."""
     command, *words = case.words.split()
-    return whole(runs.ask(command, texts, *words, "--names", path))
+    if command == "show":
+        texts = [case.given["program"]]
+    elif command == "record":
+        texts = [*texts_of(case), HEADERS["cards"] + case.text]
+    else:
+        texts = [*texts_of(case), case.given["trace"]] + ([HEADERS["trace"] + case.text] if case.text else [])
+    return whole(runs.ask(command, texts, "--lower", *words))
+
+
+def files_by_lower(runs, case):
+    """The same of the files of a program, and of nothing else."""
+    command, *words = case.words.split()
+    return whole(runs.read(b"", command, "--lower", files_of(runs, case)[0].name, *words))
 
 
 def refused(answer):
@@ -284,7 +297,8 @@ def fronts(runs, case):
 
 KINDS = {
     "show": lambda runs, case: whole(runs.ask("show", [case.text], *case.words.split())),
-    "lower": lowered,
+    "lower": lambda runs, case: by_lower(runs, case) if case.words else lowered(runs, case),
+    "lower-files": files_by_lower,
     "judge": lambda runs, case: judged(runs, case, HEADERS["trace"] + case.text),
     "judge-text": lambda runs, case: judged(runs, case, case.text),
     "pair": lambda runs, case: paired(runs, case, HEADERS["trace"] + case.text),
@@ -295,8 +309,6 @@ KINDS = {
     "explain-program": lambda runs, case: whole(runs.ask("explain", [case.text])),
     "bundle": lambda runs, case: whole(runs.read(case.text)),
     "explain-bundle": lambda runs, case: whole(runs.read(case.text, "explain")),
-    "named": lambda runs, case: named(runs, case, case.given["names"], case.text),
-    "named-text": lambda runs, case: named(runs, case, case.text, b""),
     "refused": lambda runs, case: refused(runs.ask("explain", [case.text, b"", b""])),
     "refused-externals": lambda runs, case: refused(runs.ask("explain", [case.given["program"], case.text, b""])),
     "refused-trace": lambda runs, case: refused(runs.ask("explain", [*texts_of(case), case.text])),

@@ -5,9 +5,9 @@ _lftrace() {
     [[ $word == = ]] && word=
     [[ $before == = ]] && before=${COMP_WORDS[COMP_CWORD - 2]}
     if [[ $COMP_CWORD -eq 1 ]]; then
-        choice="judge cover explain pair follow record show lower help -h --help -V --version"
+        choice="judge cover explain pair follow record show help -h --help -V --version"
     elif [[ $before == help ]]; then
-        choice="judge cover explain pair follow record show lower"
+        choice="judge cover explain pair follow record show"
     elif [[ $before == --workers ]]; then
         choice="1 2 4 8 16 32 64"
     elif [[ $before == --max-runs ]]; then
@@ -18,14 +18,13 @@ _lftrace() {
         choice="1000000"
     elif [[ $word == -* ]]; then
         case ${COMP_WORDS[1]} in
-            judge) choice="--workers --names --until -h --help" ;;
-            pair) choice="--workers --names -h --help" ;;
-            cover) choice="--workers --names --list -h --help" ;;
-            explain) choice="--workers --names --until --all -h --help" ;;
-            follow) choice="--until --whole --every --drain --explain --all -h --help" ;;
-            record) choice="--workers --max-runs -h --help" ;;
-            show) choice="--all -h --help" ;;
-            lower) choice="--names -h --help" ;;
+            judge) choice="--workers --lower --until -h --help" ;;
+            pair) choice="--workers --lower -h --help" ;;
+            cover) choice="--workers --lower --list -h --help" ;;
+            explain) choice="--workers --lower --until --all -h --help" ;;
+            follow) choice="--lower --until --whole --every --drain --explain --all -h --help" ;;
+            record) choice="--workers --max-runs --lower -h --help" ;;
+            show) choice="--lower --all -h --help" ;;
         esac
     else
         COMPREPLY=() # the names of files

@@ -3,7 +3,7 @@
 local before=${words[CURRENT - 1]} word=${words[CURRENT]}
 local -a choice=()
 if (( CURRENT == 2 )); then
-    choice=(judge cover explain pair follow record show lower help -h --help -V --version)
+    choice=(judge cover explain pair follow record show help -h --help -V --version)
 elif [[ $before == --workers ]]; then
     choice=(1 2 4 8 16 32 64)
 elif [[ $before == --max-runs ]]; then
@@ -14,15 +14,14 @@ elif [[ $before == --every ]]; then
     choice=(1000000)
 elif [[ ${words[2]} == help || $word == -* ]]; then
     case ${words[2]} in
-        judge) choice=(--workers --names --until -h --help) ;;
-        pair) choice=(--workers --names -h --help) ;;
-        cover) choice=(--workers --names --list -h --help) ;;
-        explain) choice=(--workers --names --until --all -h --help) ;;
-        follow) choice=(--until --whole --every --drain --explain --all -h --help) ;;
-        record) choice=(--workers --max-runs -h --help) ;;
-        show) choice=(--all -h --help) ;;
-        lower) choice=(--names -h --help) ;;
-        help) choice=(judge cover explain pair follow record show lower) ;;
+        judge) choice=(--workers --lower --until -h --help) ;;
+        pair) choice=(--workers --lower -h --help) ;;
+        cover) choice=(--workers --lower --list -h --help) ;;
+        explain) choice=(--workers --lower --until --all -h --help) ;;
+        follow) choice=(--lower --until --whole --every --drain --explain --all -h --help) ;;
+        record) choice=(--workers --max-runs --lower -h --help) ;;
+        show) choice=(--lower --all -h --help) ;;
+        help) choice=(judge cover explain pair follow record show) ;;
     esac
 fi
 if (( $#choice )); then

@@ -178,10 +178,8 @@ def follows():
     case("a run that starts too early, judged up to the tag before", ["judge", *USUAL, "--until", "0,0"], prints("unbroken runs=2 tags=1 time=0 microstep=0\n"), files={"trace.csv": EARLY})
     case("a trace without its last row, judged up to the tag before", ["judge", *USUAL, "--until", "5000000,0"], prints("unbroken runs=4 tags=2 time=5000000 microstep=0\n"), files={"trace.csv": ROWS[: ROWS.rindex("end,")]})
     case("judged up to a tag without a microstep", ["judge", *USUAL, "--until", "5000000"], refused("error: `--until` wants TIME,MICROSTEP, as 5000000,0\n"))
-    case("judged up to a tag, with names of the source", ["judge", *USUAL, "--until", "5000000,0", "--names", "names.csv"], refused("error: `--until` and `--names` don't go together\n"))
     case("explained up to a tag", ["explain", *USUAL, "--until", "5000000,0"], prints("unbroken runs=4 tags=2 time=5000000 microstep=0\n"))
     case("explained up to a tag without a microstep", ["explain", *USUAL, "--until", "5000000"], refused("error: `--until` wants TIME,MICROSTEP, as 5000000,0\n"))
-    case("explained up to a tag, with names of the source", ["explain", *USUAL, "--until", "5000000,0", "--names", "names.csv"], refused("error: `--until` and `--names` don't go together\n"))
     case("two traces explained up to a tag", ["explain", *USUAL, "trace.csv", "--until", "5000000,0"], refused("error: `--until` is of one trace\n"))
     case("followed, with all facts and none", [*usual, "--all"], refused("error: the following required arguments were not provided:\n  --explain\n"))
     case("followed whole, and explained", [*usual, "--explain", "--whole"], refused("error: `--explain` and `--whole` don't go together: `lftrace explain` tells of a whole trace\n"))
@@ -365,24 +363,22 @@ def recordings():
 
 
 def unlowered(line, words):
-    """What `lower` says of a program without an equal in the core: a line, and words below it."""
-    return {"status": 2, "out": "", "err": f"fault lower {line}\n  {words}\n"}
+    """What is told of a whole program that is refused: the line of the fault, and why, at its place."""
+    return {"status": 2, "err": f"fault lower {line}\n", "has": [f"{line.split()[-1]}: {words}\n"]}
 
 
 def lowerings():
     at_import = "1 Read whole.lf:1:17"
     importing = 'import Log from "%s"\nmain reactor { l = new[2] Log() }\n'
-    log = "reactor Log { timer t }\n"
-    core = "target C reactor Log {\ntimer t }\nmain reactor {\nl_0 = new Log ( ) l_1 = new Log ( ) }\n"
+    log = "reactor Log { timer t  reaction(t) {= =} }\n"
+    shown = prints("reaction main.l[0]#1 level=0 before=-\nreaction main.l[1]#1 level=0 before=-\n")
     unread = "The file can't be read. Correct the path."
 
-    def lowered(name, wants, text, words=(), files=(), **more):
-        case(f"{name}, lowered", ["lower", "whole.lf", *words], wants, files={"whole.lf": text, **dict(files)}, **more)
+    def lowered(name, wants, text, files=(), **more):
+        case(f"{name}, lowered", ["explain", "--lower", "whole.lf"], wants, files={"whole.lf": text, **dict(files)}, **more)
 
-    case("a core program, lowered", ["lower", "blink.lf"], prints(BLINK))
-    case("a core program from standard input, lowered", ["lower", "/dev/stdin", "--names=names.csv"], prints(BLINK), stdin=BLINK)
-    lowered("an import", prints(core), importing % "log.lf", files={"log.lf": log})
-    lowered("an import by another way", prints(core), importing % "././/log.lf", ["--names", "names.csv"], {"log.lf": log})
+    lowered("an import", shown, importing % "log.lf", files={"log.lf": log})
+    lowered("an import by another way", shown, importing % "././/log.lf", {"log.lf": log})
     odd = f"that is no ordinary file. {unread}"
     large = f"with it the imported files have more than 64 MiB. {unread}"
     lowered("an import of standard input", unlowered(at_import, f"/dev/stdin: {odd}"), importing % "/dev/stdin", stdin=log)
@@ -390,36 +386,28 @@ def lowerings():
     lowered("an import of a pipe that nobody writes to", unlowered(at_import, f"log.lf: {odd}"), importing % "log.lf", files={"log.lf": PIPE})
     lowered("an import of more than 64 MiB", unlowered(at_import, f"log.lf: {large}"), importing % "log.lf", files={"log.lf": lambda: log + "/*" + " " * (1 << 26) + "*/"})
     case("a program that imports a pipe that nobody writes to, explained", ["explain", "whole.lf"], {"status": 2, "has": ["Program, line 1, column 1"]}, files={"whole.lf": importing % "log.lf", "log.lf": PIPE})
-    lowered("imports of 33 MiB", prints(core), importing % "log.lf", files={"log.lf": lambda: log + "/*" + " " * (33 << 20) + "*/"})
+    lowered("imports of 33 MiB", shown, importing % "log.lf", files={"log.lf": lambda: log + "/*" + " " * (33 << 20) + "*/"})
     lowered("two imports of 33 MiB", unlowered("1 Read whole.lf:2:17", f"log.lf: {large}"), 'import B from "b.lf"\n' + importing % "log.lf",
             files={"log.lf": lambda: log + "/*" + " " * (33 << 20) + "*/", "b.lf": lambda: "reactor B { }/*" + " " * (33 << 20) + "*/"})
-    lowered("a file that imports itself", prints(core), 'import Log from "whole.lf"\n' + log + "main reactor { l = new[2] Log() }\n")
-    lowered("files that import each other", prints(core), importing % "log.lf" + "reactor B { }\n", files={"log.lf": 'import B from "whole.lf"\n' + log})
+    lowered("a file that imports itself", shown, 'import Log from "whole.lf"\n' + log + "main reactor { l = new[2] Log() }\n")
+    lowered("files that import each other", shown, importing % "log.lf" + "reactor B { }\n", files={"log.lf": 'import B from "whole.lf"\n' + log})
     lowered("reactors of two files that contain each other", unlowered("9 Recursive whole.lf:3:13", "By this instance the reactor contains itself. Write a bank in its place."),
             importing % "log.lf" + "reactor B { l = new Log() }\n", files={"log.lf": 'import B from "whole.lf"\nreactor Log { b = new B() }\n'})
     lowered("an import that isn't there", unlowered(at_import, f"no/log.lf: there is no such file. {unread}"), importing % "no/log.lf")
     lowered("an import of a folder", unlowered(at_import, f"/: that is a folder. {unread}"), importing % "/")
     lowered("an import under a file", unlowered(at_import, f"whole.lf/log.lf: a part of the path is a file, and no folder. {unread}"), importing % "whole.lf/log.lf")
     lowered("an import with control characters in its path", unlowered(at_import, f"a?[31m: there is no such file. {unread}"), importing % "a\x1b[31m")
-    lowered("an import of a table", unlowered("3 Unexpected log.lf:1:1", "This can't stand here."), importing % "log.lf", files={"log.lf": ROWS})
+    lowered("an import of a table", unlowered("3 Unexpected log.lf:1:1", "`event` can't stand here."), importing % "log.lf", files={"log.lf": ROWS})
     lowered("a reactor that the import has not", unlowered("6 NoReactor whole.lf:1:8", "The imported file has no reactor of this name."), importing % "log.lf", files={"log.lf": "reactor Lag { }\n"})
     lowered("a package", unlowered("18 Package whole.lf:1:17", "A package isn't looked up. Import its file by its path."), importing.replace('"%s"', "<log/Log.lf>"))
-    case("a program to lower that isn't there", ["lower", "no.lf"], fault("read 1 Failed no.lf"))
-    case("a folder to lower", ["lower", "/"], fault("read 1 Failed /"))
-    case("a folder to lower, at a terminal", ["lower", "/"], {"status": 2, "out": "", "err": "fault read 1 Failed /\nlftrace: that is a folder\n"}, where="seen")
-    case("a table as the program to lower", ["lower", "trace.csv"], unlowered("3 Unexpected trace.csv:1:1", "This can't stand here."))
-    no_main = "The file has no main reactor. Lower the file that has it."
-    case("an empty program, lowered", ["lower", "/dev/null"], unlowered("4 NoMain /dev/null:1:1", no_main))
-    lowered("a remark alone", unlowered("4 NoMain whole.lf:2:1", no_main), "// nothing\n")
-    lowered("core reactors without a main one", unlowered("4 NoMain whole.lf:2:1", no_main), "reactor B { timer t }\n")
-    for path in ("/dev/full", "no/names.csv", "/"):
-        lowered(f"the names to {path}", fault(f"write 1 Failed {path}"), importing % "log.lf", ["--names", path], {"log.lf": log})
-        case(f"the names of a core program to {path}", ["lower", "blink.lf", "--names", path], fault(f"write 1 Failed {path}"))
-    case("a full device, for what is lowered", ["lower", "blink.lf"], {"status": 2, "err": "fault write 1 Failed\n"}, where="full")
-    case("no words after `lower`", ["lower"], refused("error: the following required arguments were not provided:\n  <PROGRAM>\n"))
-    case("two programs to lower", ["lower", "blink.lf", "blink.lf"], refused("error: unexpected argument 'blink.lf' found\n"))
-    case("the names in the place of the program", ["lower", "blink.lf", "--names", "blink.lf"], refused("error: `--names` would write over PROGRAM\n"))
-    case("no path for the names", ["lower", "blink.lf", "--names"], refused("error: a value is required for '--names <TABLE>' but none was supplied\n"))
+    case("a program to lower that isn't there", ["show", "--lower", "no.lf"], fault("read 1 Failed no.lf"))
+    case("a folder to lower", ["show", "--lower", "/"], fault("read 1 Failed /"))
+    case("a folder to lower, at a terminal", ["show", "--lower", "/"], {"status": 2, "out": "", "err": "fault read 1 Failed /\nlftrace: that is a folder\n"}, where="seen")
+    case("a table as the program to lower", ["explain", "--lower", "trace.csv"], unlowered("3 Unexpected trace.csv:1:1", "`event` can't stand here."))
+    case("an empty program, lowered", ["show", "--lower", "/dev/null"], fault("program 1 NoMain"))
+    case("a full device, for what is lowered", ["show", "--lower", "blink.lf"], {"status": 2, "err": "fault write 1 Failed\n"}, where="full")
+    case("the command `lower`, which isn't there any more", ["lower", "blink.lf"], refused("error: unrecognized subcommand 'lower'\n"))
+    case("`--names`, which isn't there any more", ["judge", *USUAL, "--names", "names.csv"], refused("error: unexpected argument '--names' found\n"))
 
 
 def wide(count, body):
@@ -431,7 +419,7 @@ def great_lowerings():
     """Programs that are counted before anything is made of them, and long ones."""
 
     def lowered(name, wants, text):
-        case(f"{name}, lowered", ["lower", "whole.lf"], wants, files={"whole.lf": text})
+        case(f"{name}, lowered", ["explain", "--lower", "whole.lf"], wants, files={"whole.lf": text})
 
     def too_many(line, what):
         return unlowered(f"21 TooMany whole.lf:{line}:1", f"The program has more than {what}. Write smaller widths.")
@@ -440,40 +428,45 @@ def great_lowerings():
     lowered("a multiport of 10^20", too_many(2, "100000 ports"), f"reactor B {{ input[{10 ** 20}] x }}\nmain reactor {{ b = new B() }}\n")
     lowered("banks in banks", too_many(21, "10000 instances"), "reactor B0 { }\n" + "".join(f"reactor B{at} {{ b = new[10] B{at - 1}() }}\n" for at in range(1, 20)) + "main reactor { b = new B19() }\n")
     lowered("ten thousand settings", too_many(2, "100000 ports"), "reactor B(n: int = 0) { input[n] x }\n" + wide(9_990, "b{at} = new B(n = {at})"))
-    lowered("all to all of 200", unlowered("22 TooLong whole.lf:2:1", "The core program is longer than 1048576 bytes, which is more than is read. Write smaller widths."),
-            "reactor B { input[200] sink  output source }\nmain reactor { b = new[200] B()  (b.source)+ -> b.sink }\n")
+    lowered("all to all of 100", {"status": 0, "has": ["port main.b[99].sink[99] origin=main.b[99].source after=0+0\n"]},
+            "reactor B { input[100] sink  output source }\nmain reactor { b = new[100] B()  (b.source)+ -> b.sink }\n")
     bases = "reactor B0 { timer t0 }\n" + "".join(f"reactor B{at} extends B{at - 1} {{ timer t{at} }}\n" for at in range(1, 3_000))
     lowered("a chain of 3,000 bases, all of them used", unlowered("21 TooMany whole.lf:3001:1", "The reactors with all that they inherit, in all their settings, are more than is listed."), bases + wide(2_999, "b{at} = new B{at}()"))
-    chain = "reactor B0 { timer t }\n" + "".join(f"reactor B{at} {{ b = new B{at - 1}() }}\n" for at in range(1, 9_000))
-    core = "target C reactor B0 {\ntimer t }\n" + "".join(f"reactor B{at} {{\nb = new B{at - 1} ( ) }}\n" for at in range(1, 9_000)) + "main reactor {\nb_0 = new B8999 ( ) }\n"
-    lowered("9,000 nested reactors", prints(core), chain + "main reactor { b = new[1] B8999() }\n")
-    lowered("1 MiB of states", prints("target C main reactor {\n}\n"), wide(40_000, "state long_name_{at}: int[] = 3"))
+    chain = "reactor B0 { timer t  reaction(t) {= =} }\n" + "".join(f"reactor B{at} {{ b = new B{at - 1}() }}\n" for at in range(1, 9_000))
+    lowered("9,000 nested reactors", prints("reaction main.b[0]" + ".b" * 8_999 + "#1 level=0 before=-\n"), chain + "main reactor { b = new[1] B8999() }\n")
+    lowered("1 MiB of states", prints("reaction main#1 level=0 before=-\n"), wide(40_000, "state long_name_{at}: int[] = 3").replace("{\n", "{\n  reaction(startup) {= =}\n", 1))
 
 
-def named():
-    """Names of another program, which a table of names has."""
-    judge = ["judge", *USUAL, "--names", "names.csv"]
-    table = {"names.csv": "kind,source,core,place\nreaction,blink#1,main#1,\n"}
-    case("names of the source", judge, prints(ACCEPTED), files={"trace.csv": ROWS.replace("main#1", "blink#1"), **table})
-    case("a table of names that isn't there", judge, fault("read 1 Failed names.csv"))
-    case("a table of names that isn't there, for a program that isn't there", ["judge", "no.lf", *USUAL[1:], "--names", "names.csv"], fault("read 1 Failed names.csv"))
-    case("a trace for the table of names", ["judge", *USUAL, "--names=trace.csv"], fault("names 1 BadHeader"))
-    case("names for a program alone", ["explain", "blink.lf", "--names", "names.csv"], refused("error: the following required arguments were not provided:\n"))
-    case("no path for the table of names", ["judge", *USUAL, "--names"], refused("error: a value is required for '--names <TABLE>' but none was supplied\n"))
-    case("an answer in names to a full device", judge, fault("write 1 Failed"), files=table, where="full")
+def whole():
+    """A whole program, of which `--lower` makes the program."""
+    files = {"whole.lf": 'import Log from "log.lf"\nmain reactor { l = new[2] Log() }\n', "log.lf": "reactor Log { timer t(0, 5 ms)  reaction(t) {= =} }\n"}
+    rows = "event,worker,time,microstep,reaction,name,value,delay\n" + "".join(f"start,0,0,0,main.l[{at}]#1,,,\nend,0,0,0,main.l[{at}]#1,,,\n" for at in range(2))
+    events = "kind,time,microstep,name,value\nstop,0,0,,\n"
+    tables = {**files, "events.csv": events, "rows.csv": rows}
+    accepted = prints("accepted runs=2 tags=1\n")
+    for command in (["judge"], ["explain"], ["cover"], ["follow"]):
+        wants = accepted if command != ["cover"] else {"status": 0, "has": ["accepted runs=2 tags=1\n"]}
+        case(f"a whole program, by {command[0]}", [*command, "--lower", "whole.lf", "events.csv", "rows.csv"], wants, files=tables)
+    case("a whole program, judged up to a tag", ["judge", "--lower", "whole.lf", "events.csv", "rows.csv", "--until", "0,0"], accepted, files=tables)
+    case("a whole program, by pair", ["pair", "--lower", "whole.lf", "events.csv", "rows.csv", "rows.csv"], prints("same runs=2 tags=1\n"), files=tables)
+    case("a whole program, shown", ["show", "--lower", "whole.lf"], prints("reaction main.l[0]#1 level=0 before=-\nreaction main.l[1]#1 level=0 before=-\n"), files=tables)
+    case("a whole program without the flag", ["judge", "whole.lf", "events.csv", "rows.csv"], fault("syntax 1 Unexpected token=1"), files=tables)
+    case("a core program with the flag", ["judge", "--lower", *USUAL], prints(ACCEPTED))
+    case("a core program of wrong names with the flag", ["show", "--lower", "core.lf"], fault("program 1 NoMain"), files={"core.lf": "reactor A { }\n"})
+    case("a whole program whose import isn't there", ["judge", "--lower", "whole.lf", "events.csv", "rows.csv"], fault("lower 1 Read whole.lf:1:17"), files={**tables, "whole.lf": 'import Log from "no.lf"\nmain reactor { l = new[2] Log() }\n'})
+    case("a bundle with the flag", ["explain", "--lower"], refused("error: the following required arguments were not provided:\n"))
+    case("a whole program to a full device", ["judge", "--lower", "whole.lf", "events.csv", "rows.csv"], fault("write 1 Failed"), files=tables, where="full")
 
 
 def help_and_version():
     for given in (["-h"], ["--help"], ["help"]):
-        case(f"help by {given[0]}", given, helps("Usage:", "judge", "pair", "record", "show", "lower", "Status: 0 accepted, same, recorded, shown or lowered, 1 broken or differ,\n2 a fault", "--- program", "--version"))
+        case(f"help by {given[0]}", given, helps("Usage:", "judge", "pair", "record", "show", "Status: 0 accepted, same, recorded or shown, 1 broken or differ,\n2 a fault", "--- program", "--version"))
     for given in (["judge", "-h"], ["judge", "--help"], ["help", "judge"]):
         case(f"help by {' '.join(given)}", given, helps("<PROGRAM> <EXTERNALS> <TRACE>", "--workers <N>", "kind,time,microstep,name,value", "event,worker,time,microstep,reaction,name,value,delay", "/dev/stdin"))
     for given in (["record", "-h"], ["record", "--help"], ["help", "record"]):
         case(f"help by {' '.join(given)}", given, helps("<PROGRAM> <EXTERNALS> <CARDS>", "--workers <N>", "--max-runs <N>", "kind,reaction,name,delay,value"))
     for given in (["pair", "-h"], ["pair", "--help"], ["help", "pair"]):
         case(f"help by {' '.join(given)}", given, helps("<PROGRAM> <EXTERNALS> <FIRST> <SECOND>", "--workers <N>", "same runs=R tags=G (status 0)", "differ time=T microstep=M reaction=X", "/dev/stdin"))
-    for given in (["lower", "-h"], ["lower", "--help"], ["help", "lower"]):
-        case(f"help by {' '.join(given)}", given, helps("<PROGRAM>", "--names <TABLE>", "kind,source,core,place", "fault lower N Name FILE:LINE:COLUMN"))
     case("help by help show", ["help", "show"], helps("<PROGRAM>", "port P origin=O", "/dev/stdin"))
     # Behind it stands `unproved (COMMIT)`, where tools/unproved made the program.
     case("version by -V", ["-V"], helps("lftrace 0.1.0"))
@@ -578,6 +571,6 @@ def program_texts():
 
 def cases():
     """All cases, in order."""
-    for group in (right_things, follows, long_tables, headers, rows, words, pairs, recordings, lowerings, great_lowerings, named, help_and_version, files, causes, seen, bundles, program_texts):
+    for group in (right_things, follows, long_tables, headers, rows, words, pairs, recordings, lowerings, great_lowerings, whole, help_and_version, files, causes, seen, bundles, program_texts):
         group()
     return CASES

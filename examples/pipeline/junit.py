@@ -27,7 +27,7 @@ def text(raw):
 def judge(program, externals, trace):
     """The status, the line of lftrace, its facts, and how long it took."""
     begun = time.monotonic()
-    words = [os.environ.get("LFTRACE") or "lftrace", "explain", "--", program, externals, trace]
+    words = [os.environ.get("LFTRACE") or "lftrace", "explain", "--lower", "--", program, externals, trace]
     try:
         done = subprocess.run(words, check=False, stdin=subprocess.DEVNULL, capture_output=True)
         # A fault stands on standard error, and why on standard output.

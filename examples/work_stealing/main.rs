@@ -1,7 +1,7 @@
 //! Runs plant.lf or correction.lf on several workers and records it.
 //!
 //!     rustc --edition 2021 -O main.rs -o work_stealing
-//!     lftrace show plant.lf > shown.txt
+//!     lftrace show --lower plant.lf > shown.txt
 //!     ./work_stealing plant shown.txt trace.csv externals.csv [--workers N] [--replay EXTERNALS] [--fault NAME]
 //!
 //! Without `--replay` another thread makes the events of the physical action. With it the events are those of a

@@ -24,20 +24,19 @@ FAULTS = {
     "write": {1: "Failed"},
     "read": {1: "Failed PATH", 2: "TooLarge PATH"},
     "bundle": {1: "BadBundle"},
-    "names": {1: "BadHeader", 2: "BadFieldCount" + LINED, 3: "BadName" + LINED, 4: "TooManyRows", 5: "TwoNames" + LINED, 6: "NotCsv", 7: "NoMemory"},
+    "lower": dict.fromkeys(range(1, 22), "NAME PATH"),
     "memory": {1: "NoMemory"},
 }
-JUDGING = ("lex", "syntax", "program", "externals", "graph", "trace", "check", "write", "read", "memory")
+JUDGING = ("lex", "syntax", "lower", "program", "externals", "graph", "trace", "check", "write", "read", "memory")
 PARTS = {
-    "judge": (*JUDGING, "names"),
-    "cover": (*JUDGING, "names"),
-    "explain": (*JUDGING, "names"),
+    "judge": JUDGING,
+    "cover": JUDGING,
+    "explain": JUDGING,
     "follow": JUDGING,
-    "pair": (*JUDGING, "names"),
+    "pair": JUDGING,
     "bundle": (*JUDGING, "bundle"),
-    "show": ("lex", "syntax", "program", "graph", "write", "read", "memory"),
-    "lower": ("write", "read", "memory"),
-    "record": ("lex", "syntax", "program", "externals", "graph", "cards", "pool", "write", "read", "memory"),
+    "show": ("lex", "syntax", "lower", "program", "graph", "write", "read", "memory"),
+    "record": ("lex", "syntax", "lower", "program", "externals", "graph", "cards", "pool", "write", "read", "memory"),
 }
 
 
@@ -61,14 +60,13 @@ LINES = {
     "follow": {0: r"accepted runs=\d+ tags=\d+\n", 1: f"({BROKEN})\n", 3: UNBROKEN, 4: UNKNOWN},
     "pair": {0: r"same runs=\d+ tags=\d+\n", 1: f"((first|second) ({BROKEN})|{pattern('differ TAG reaction=NAME')})\n"},
     "show": {0: f"({pattern('port NAME origin=NAME after=NUMBER+NUMBER')}\n)*({pattern('reaction NAME level=NUMBER before=NAMES')}\n)*"},
-    "lower": {0: r"target [^\n]*\n([^\n]*\n)*"},
     "record": {0: r"event,worker,time,microstep,reaction,name,value,delay\n([a-z]+,\d+,\d+,\d+,[^\n,]+,[^\n,]*,(-?\d+)?,\d*\n)*"},
 }
 LINES["bundle"] = LINES["judge"]
 # The first line of `explain` where more stands behind it. It stands alone where memory is refused to the facts.
 FIRST_LINE = re.compile(f"((first |second )?({BROKEN})|{pattern('differ TAG reaction=NAME')})\n")
-# Why a text is refused, as `explain` tells it: the text, and what is wrong there; then quoted lines and help.
-REASON = re.compile("(Program|External inputs|Trace)(, line [0-9]+| has|: )([^\n]+\n|\n)*")
+# Why a text is refused, as `explain` tells it: the text or the place, and what is wrong there; then quoted lines and help.
+REASON = re.compile("((Program|External inputs|Trace)(, line [0-9]+| has|: )|[^\n]+:[0-9]+:[0-9]+: )([^\n]+\n|\n)*")
 LINES = {command: {status: re.compile(form) for status, form in lines.items()} for command, lines in LINES.items()}
 
 

@@ -113,12 +113,11 @@ main.b#1 runs at (0, 0), from line 5 on.
     line 3 is the last write of main.a.out at (0, 0)
     main.a.out (0, 0) --> main.b.x (0, 0)"""
 
-# The columns are those of the core's names.
-WHY_WRONG_NAMED = f"""broken rule=10 wrong-read {AT_ZERO} reaction=main.b[1]#1
+WHY_WRONG_WHOLE = f"""broken rule=10 wrong-read {AT_ZERO} reaction=main.b[1]#1
 
 main.b[1]#1 runs at (0, 0), from line 9 on.
 
-  input       read  present
+  input        read  present
   main.b[1].x  3     2
 
   4 | write,0,0,0,main.a#1,main.a.out[1],2,  a cause
@@ -160,26 +159,15 @@ main reactor { a = new A()  b = new[2] B()  a.out -> b.x }
 IMPORTED = """target C
 reactor B { input x: int  reaction(x) {= =} }
 """
-LOWERED = """target C reactor B {
-input x reaction ( x ) {= =}
-}
-reactor A {
-output out_0 output out_1 reaction ( startup ) -> out_0 , out_1 {= =}
-}
-main reactor {
-a = new A ( ) b_0 = new B ( ) b_1 = new B ( ) a . out_0 -> b_0 . x a . out_1 -> b_1 . x }
+WHOLE_SHOWN = """port main.a.out[0] origin=main.a.out[0] after=0+0
+port main.a.out[1] origin=main.a.out[1] after=0+0
+port main.b[0].x origin=main.a.out[0] after=0+0
+port main.b[1].x origin=main.a.out[1] after=0+0
+reaction main.a#1 level=0 before=-
+reaction main.b[0]#1 level=1 before=main.a#1
+reaction main.b[1]#1 level=1 before=main.a#1
 """
-NAMES = """kind,source,core,place
-port,main.a.out[0],main.a.out_0,program.lf:3
-port,main.a.out[1],main.a.out_1,program.lf:3
-instance,main.b[0],main.b_0,program.lf:4
-port,main.b[0].x,main.b_0.x,B.lf:2
-reaction,main.b[0]#1,main.b_0#1,B.lf:2
-instance,main.b[1],main.b_1,program.lf:4
-port,main.b[1].x,main.b_1.x,B.lf:2
-reaction,main.b[1]#1,main.b_1#1,B.lf:2
-"""
-NAMED_ROWS = """start,0,0,0,main.a#1,,,
+WHOLE_ROWS = """start,0,0,0,main.a#1,,,
 write,0,0,0,main.a#1,main.a.out[0],1,
 write,0,0,0,main.a#1,main.a.out[1],2,
 end,0,0,0,main.a#1,,,
@@ -190,8 +178,11 @@ start,0,0,0,main.b[1]#1,,,
 read,0,0,0,main.b[1]#1,main.b[1].x,2,
 end,0,0,0,main.b[1]#1,,,
 """
-UNREAD = """fault lower 1 Read program.lf:2:15
-  B.lf: it can't be read. The file can't be read. Correct the path.
+UNREAD = "fault lower 1 Read program.lf:2:15\n"
+UNREAD_TOLD = """program.lf:2:15: B.lf: it can't be read. The file can't be read. Correct the path.
+
+  2 | import B from "B.lf"
+                    ^^^^^^
 """
 
 
@@ -199,7 +190,7 @@ UNREAD = """fault lower 1 Read program.lf:2:15
 class Example:
     """A command with its files by path, standard input, and its own answer; `recording` has the plan, the
     cards and the greatest number of runs of what is recorded. `unopened` has, by path and in order, what is said of
-    each file that can't be opened, where it isn't that it can't be read."""
+    each file that can't be opened, where it isn't that it can't be read, and `told` what is printed then."""
     name: str
     command: str
     words: list
@@ -208,6 +199,7 @@ class Example:
     own: Answer
     recording: tuple = ()
     unopened: dict = dataclasses.field(default_factory=dict)
+    told: dict = dataclasses.field(default_factory=dict)
 
 
 EXAMPLES, LARGE = [], []
@@ -312,29 +304,22 @@ def all_recorded():
     recorded("record two", runs, program=TWO, cards=TWO_CARDS)
 
 
-def lowered(name, files, core, more=(), unopened=()):
-    example(name, "lower", files, core)
-    EXAMPLES[-1].words = ["lower", next(iter(files)), *more]
-    EXAMPLES[-1].unopened = dict(unopened)
+def whole(name, command, tables, own, status=0):
+    """An example with `--lower`. What it imports is read behind the other files."""
+    files = {"program.lf": BANK, **tables}
+    example(name, command, {**files, "B.lf": IMPORTED}, own, status)
+    EXAMPLES[-1].words = [command, "--lower", *files]
+    EXAMPLES[-1].unopened = {"B.lf": UNREAD}
+    EXAMPLES[-1].told = {"B.lf": UNREAD_TOLD} if command == "explain" else {}
 
 
-def all_lowered():
-    files, unread = {"program.lf": BANK, "B.lf": IMPORTED}, [("B.lf", UNREAD)]
-    lowered("lower core", {"program.lf": DEEP}, DEEP)
-    lowered("lower bank", files, LOWERED, unopened=unread)
-    lowered("lower bank, names", files, LOWERED, ["--names", "names.csv"], [*unread, ("names.csv", "fault write 1 Failed names.csv\n")])
+def all_whole():
+    def tables(rows):
+        return {"externals.csv": stop(0, 0), "trace.csv": table("trace", rows)}
 
-
-def named(name, command, rows, line, status=0):
-    """An example with names of the source. Their table is read before the other files."""
-    files = {"names.csv": NAMES, "program.lf": LOWERED, "externals.csv": stop(0, 0), "trace.csv": table("trace", rows)}
-    example(name, command, files, line + "\n", status)
-    EXAMPLES[-1].words = [command, *list(files)[1:], "--names", "names.csv"]
-
-
-def all_named():
-    named("names accepted", "judge", NAMED_ROWS, "accepted runs=3 tags=1")
-    named("names wrong read, explained", "explain", NAMED_ROWS.replace("x,2", "x,3"), WHY_WRONG_NAMED, 1)
+    whole("whole shown", "show", {}, WHOLE_SHOWN)
+    whole("whole accepted", "judge", tables(WHOLE_ROWS), "accepted runs=3 tags=1\n")
+    whole("whole wrong read, explained", "explain", tables(WHOLE_ROWS.replace("x,2", "x,3")), WHY_WRONG_WHOLE + "\n", 1)
 
 
 def all_large():
@@ -357,7 +342,6 @@ all_covered()
 all_followed()
 all_paired()
 all_recorded()
-all_lowered()
-all_named()
+all_whole()
 example("show deep", "show", {"program.lf": DEEP}, DEEP_SHOWN)
 all_large()

@@ -43,6 +43,7 @@ is_of_text part.Write n = false
 is_of_text part.Read n = false
 is_of_text part.Bundle n = false
 is_of_text part.Memory n = false
+is_of_text part.Lower n = false
 
 -- no text whose tokens begin with the first k of these has a tree
 abbrev pub SyntaxFails : List ℕ → List Token → SyntaxFault → Type 0

@@ -37,6 +37,7 @@ pub enum Part {
     Read,
     Bundle,
     Memory,
+    Lower,
 }
 
 impl Part {
@@ -55,6 +56,7 @@ impl Part {
             Part::Read => "read",
             Part::Bundle => "bundle",
             Part::Memory => "memory",
+            Part::Lower => "lower",
         }
     }
 }

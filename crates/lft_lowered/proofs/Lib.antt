@@ -1,3 +1,3 @@
 mod Gathered
-mod Programs
+mod Joining
 mod Saying

@@ -1,2 +1,5 @@
 pub mod Lowered
 pub mod Unlowered
+pub mod Pages
+pub mod Told
+pub mod Could

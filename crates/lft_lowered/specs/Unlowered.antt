@@ -1,5 +1,5 @@
 -- Why a program isn't lowered: what is said of it holds of its files.
-use Rattle.std.specs.Prelude.{◌≡◌, ◌⊎◌, ◌<◌, ℕ, IsSomeAnd, List, [], ◌∷◌, ◌++◌, length, map, slice_get, string_bytes}
+use Rattle.std.specs.Prelude.{◌≡◌, ◌⊎◌, ◌<◌, ℕ, IsSomeAnd, List, [], ◌∷◌, ◌++◌, None, length, slice_get, string_bytes}
 use Rattle.lft_sources.specs.declared.source.SourceFile.{SourceFile}
 use Rattle.lft_sources.specs.declared.stop.Place.{Place}
 use Rattle.lft_sources.specs.declared.stop.Refusal.{Refusal}
@@ -9,16 +9,14 @@ use Rattle.lft_sources.specs.declared.why.Why.TheVariants as why
 use Rattle.lft_imports.specs.Files.{IsImportOf, IsRefusedFor, RefusesNext, paths_of_files}
 use Rattle.lft_imports.specs.Paths.{normal}
 use Rattle.lft_imports.specs.declared.sources.Sources.{Sources}
-use Rattle.lft_tree.specs.ItemView.{item_view}
-use Rattle.lft_tree.specs.Tree.{ItemTree}
-use Rattle.lft_core_text.specs.CoreTexts.{IsRefused}
-use Rattle.lft_core_text.specs.declared.text.CoreFault.TheVariants as faults
-use Rattle.lft_settings.specs.declared.settings.Settings.{Settings}
 use Rattle.lft_lower.specs.Causes.{HasCause}
-use Rattle.lft_lower.specs.Programs.{target_in}
 use Rattle.lft_lower.specs.Reactors.{IsLowering}
-use Rattle.lft_lower.specs.declared.making.Lowering.{Lowering}
+use Rattle.lft_scope.specs.Causes.{IsFirst, causes}
+use Rattle.lft_tree.specs.View.{tree_view}
+use Rattle.lft_tree.specs.declared.tree.Ast.{Ast}
 use Rattle.lft_lowered.specs.Lowered.{AreFilesOf, BeginWith, BeginsAs, LeadTo}
+use Rattle.lft_lowered.specs.Told.{TellsRefusal, TellsTree}
+use Rattle.lft_lowered.specs.declared.told.Unlowered.{Unlowered}
 
 -- the refusal is of the first file, which has this path, and is refused for this text
 abbrev pub IsOfFirst : List ℕ → List ℕ → List SourceFile → Refusal → Type 0
@@ -47,21 +45,33 @@ IsOfLater files first r = ((first ≡ []) × IsOfImported files r) ⊎ IsOfImpor
 abbrev pub IsOfReading : List ℕ → List ℕ → List SourceFile → List ℕ → Refusal → Type 0
 IsOfReading path text files first r = ((first ≡ []) × IsOfFirst path text files r) ⊎ (BeginWith path text files × IsOfLater files first r)
 
--- the core tree has no text, and the cause says why
-abbrev pub HasNoText : List ℕ → List ItemTree → Why → Type 0
-HasNoText target items w = ((w ≡ why.TooLong) × IsRefused target items faults.TooLong) ⊎ ((w ≡ why.Unexpected) × IsRefused target items faults.NotPrintable)
-
--- the program of these files is lowered to a core tree that has no text; the refusal is of the main reactor
-abbrev pub IsOfCore : List SourceFile → Refusal → Type 0
-IsOfCore files r = (settings : Settings) × (items : List ItemTree) × IsLowering files settings items × (r.place ≡ settings.work.main) × HasNoText (target_in files) items r.why
-
--- the refusal is of the program of these files, and its cause holds; nothing is said first
-abbrev pub IsOfFiles : List SourceFile → List ℕ → Refusal → Type 0
-IsOfFiles files first r = (first ≡ []) × (HasCause files (stop.Refused r) ⊎ IsOfCore files r)
+-- The refusal is of the program of these files, and its cause holds; nothing is said first.
+abbrev pub AreRefused : List SourceFile → List SourceFile → List ℕ → Refusal → Type 0
+AreRefused these files first r = (files ≡ these) × (first ≡ []) × HasCause files (stop.Refused r)
 
 -- The refusal is of a file as the program of this path and this text is read; or of all its files, and its cause holds.
 abbrev pub IsOfProgram : List ℕ → List ℕ → List SourceFile → List ℕ → Refusal → Type 0
-IsOfProgram path text files first r = IsOfReading path text files first r ⊎ (AreFilesOf path text files × IsOfFiles files first r)
+IsOfProgram path text files first r = IsOfReading path text files first r ⊎ (AreFilesOf path text files × AreRefused files files first r)
+
+-- Such a refusal is told, of such files; or nothing is told, where a file can't be read or memory is refused.
+abbrev pub Says : (List SourceFile → List ℕ → Refusal → Type 0) → Unlowered → Type 0
+Says Is u = (u.told ≡ None) ⊎ ((files : List SourceFile) × (first : List ℕ) × (refusal : Refusal) × Is files first refusal × TellsRefusal files first refusal u)
+
+-- The files are lowered to a tree, and the first cause of refusal that holds of it is told.
+pub record IsRefusedTree (files : List SourceFile) (u : Unlowered) : Type 0 where
+  pub tree : Ast
+  pub lowering : IsLowering files tree
+  pub cause : ℕ
+  pub first : IsFirst (causes (tree_view tree)) cause
+  pub tells : TellsTree files tree.items.items cause u
+
+-- Why these files have no program: a refusal of them is told, or of the tree to which they are lowered.
+abbrev pub IsUnloweredFrom : List SourceFile → Unlowered → Type 0
+IsUnloweredFrom files u = Says (AreRefused files) u ⊎ IsRefusedTree files u
+
+-- Why this path and this text have no program: a refusal is told as they are read, or of their files, or of the tree to which these are lowered.
+abbrev pub IsUnloweredOf : List ℕ → List ℕ → Unlowered → Type 0
+IsUnloweredOf path text u = Says (IsOfProgram path text) u ⊎ ((files : List SourceFile) × AreFilesOf path text files × IsRefusedTree files u)
 
 -- ---- for the crate's own contracts
 
@@ -80,11 +90,3 @@ IsOfNext text sources files first r = (first ≡ []) × RefusesNext text sources
 -- the refusal is of a file that is read behind these
 abbrev pub IsOfRest : List SourceFile → List SourceFile → List ℕ → Refusal → Type 0
 IsOfRest these files first r = BeginsAs these files × IsOfLater files first r
-
--- these are the files, the refusal is of their program, and its cause holds
-abbrev pub AreRefused : List SourceFile → List SourceFile → List ℕ → Refusal → Type 0
-AreRefused these files first r = (files ≡ these) × IsOfFiles files first r
-
--- the refusal is of the core tree of this lowering, of these files: it has no text; nothing is said first
-abbrev pub IsNoText : Lowering → List SourceFile → List ℕ → Refusal → Type 0
-IsNoText lowering files first r = (files ≡ lowering.files.now) × (first ≡ []) × (r.place ≡ lowering.settings.work.main) × HasNoText (target_in files) (map item_view lowering.items.items) r.why

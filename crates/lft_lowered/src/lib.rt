@@ -1,10 +1,11 @@
 #![tactic(auto)]
-//! From the files of a program to its core program, written.
+//! From the files of a whole program to its flat program.
 
-mod lowered;
-mod names;
+mod could;
+mod pages;
+mod program;
 mod reading;
 mod told;
 
-pub use lowered::{lower_answer, lower_whole};
+pub use program::{Whole, whole_program};
 pub use told::Unlowered;

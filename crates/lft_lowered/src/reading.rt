@@ -2,13 +2,13 @@
 
 ghost use Rattle.std.specs.Prelude.{◌≡◌, ◌<◌, IfErr, IfOk, None, OnOk, Some, length};
 ghost use Rattle.lft_imports.specs.Files.{AreSources, HasOneMore, next_path};
-ghost use Rattle.lft_lowered.specs.Lowered.{AreFilesOf, BeginsAs, Says};
-ghost use Rattle.lft_lowered.specs.Unlowered.{IsAt, IsOfNext, IsOfReading, IsOfRest, IsOfUnread};
+ghost use Rattle.lft_lowered.specs.Lowered.{AreFilesOf, BeginsAs};
+ghost use Rattle.lft_lowered.specs.Unlowered.{IsAt, IsOfNext, IsOfReading, IsOfRest, IsOfUnread, Says};
 
 use crate::told::{Unlowered, unlowered_by};
 use lft_files::{Failure, read_ordinary};
 use lft_imports::Sources;
-use lft_load::Fault;
+use lft_load::{Fault, Part};
 use lft_sources::{Place, Stop, Why, shown_path};
 use std::alloc::{AllocError, Global};
 use std::rt::Files;
@@ -52,6 +52,11 @@ fn unread(
     }
 }
 
+/// Whether want of memory is why a file isn't read. It says nothing of the file.
+fn is_of_memory(failure: &Failure) -> bool {
+    matches!(failure.fault.part, Part::Memory)
+}
+
 /// The bytes of the file that is wanted, of which there may be so many.
 fn read_wanted<F: Files>(
     rt: &F,
@@ -66,6 +71,7 @@ fn read_wanted<F: Files>(
 {
     match read_ordinary(rt, alloc, path, most) {
         Ok(text) => Ok(text),
+        Err(failure) if is_of_memory(&failure) => Err(Unlowered::from(failure)),
         Err(failure) => match sources.import() {
             Some(place) => Err(unread(alloc, sources, path, place, &failure)),
             None => Err(Unlowered::from(failure)),
@@ -74,11 +80,11 @@ fn read_wanted<F: Files>(
 }
 
 /// Takes the text of the file that is wanted.
-fn give(alloc: Global, sources: &mut Sources, text: &[u8]) -> Result<(), Unlowered>
+fn give(alloc: Global, sources: &mut Sources, text: Vec<u8>) -> Result<(), Unlowered>
     requires { AreSources sources.old }
     ensures sources { OnOk result (AreSources sources.new) }
-    ensures read { OnOk result (HasOneMore text.now sources.old sources.new) }
-    ensures refused { IfErr result (Says (IsOfNext text.now sources.old)) }
+    ensures read { OnOk result (HasOneMore text.items sources.old sources.new) }
+    ensures refused { IfErr result (Says (IsOfNext text.items sources.old)) }
 {
     match sources.give(text) {
         Ok(()) => Ok(()),
@@ -102,7 +108,7 @@ fn read_rest<F: Files>(rt: &F, alloc: Global, sources: &mut Sources) -> Result<(
         };
         let text = read_wanted(rt, alloc, sources, path, left)?;
         left = left.saturating_sub(text.len() as u64);
-        give(alloc, sources, text.as_slice())?;
+        give(alloc, sources, text)?;
     }
     // so many files fit in no memory
     Err(Unlowered::from(Fault::no_memory()))
@@ -119,7 +125,7 @@ pub(crate) fn read_sources<F: Files>(
     ensures refused { IfErr result (Says (IsOfReading path.now text.now)) }
 {
     let mut sources = Sources::of(alloc, path)?;
-    give(alloc, &mut sources, text)?;
+    give(alloc, &mut sources, Vec::from_slice(alloc, text)?)?;
     read_rest(rt, alloc, &mut sources)?;
     Ok(sources)
 }

@@ -1,51 +1,66 @@
 //! Why a program isn't lowered, in words.
 
-ghost use Rattle.std.specs.Prelude.{◌≡◌, ◌++◌, IfOk, OnOk, string_bytes};
-ghost use Rattle.lft_sources.specs.Causes.{number_of};
-ghost use Rattle.lft_lowered.specs.Lowered.{IsTold, cause_words, name_of, refusal_words, said_words, spot_words, where_words};
+ghost use Rattle.std.specs.Prelude.{◌≡◌, ◌-◌, IfOk, Some, slice_get, string_bytes};
+ghost use Rattle.lft_imports.specs.Files.{AreOfTexts};
+ghost use Rattle.lft_load.specs.declared.fault.Detail.TheVariants as detail;
+ghost use Rattle.lft_load.specs.declared.fault.Part.TheVariants as part;
+ghost use Rattle.lft_program.specs.Refusals.{Tells, cause_of};
+ghost use Rattle.lft_sources.specs.Causes.{names, number_of};
+ghost use Rattle.lft_tree.specs.View.{tree_view};
+ghost use Rattle.lft_lowered.specs.Told.{IsSentence, IsTold, IsToldTree, IsUnexpected, TellsAt, TellsRefusal, TellsTree, where_words as words_where};
 
+use crate::could::push_could;
+use crate::pages::joined;
 use lft_files::Failure;
-use lft_load::Fault;
+use lft_load::{Detail, Fault, Part};
+use lft_program::Refusal as ProgramRefusal;
+use lft_reasons::tell_refusal_in;
+use lft_refusals::words::{push_bytes, push_way};
+use lft_refusals::{Spot, push_marked, way_at};
 use lft_sources::{Place, Refusal, SourceFile, Stop, Why, push_place};
 use lft_tag::NoMemory;
-use lft_words::push_number;
+use lft_tree::Ast;
+use lft_whole::{TextFault, lex};
 use std::alloc::{AllocError, Global};
 
-/// Why a program isn't lowered.
+/// A token of more bytes isn't quoted.
+const LONGEST_TOKEN: usize = 40;
+
+/// Why a program isn't lowered: its fault, and what is told of it for people. Where a file can't be read, or memory
+/// is refused, nothing is told.
 #[derive(Drop)]
-pub enum Unlowered {
-    /// It is refused: the line of the refusal, and below it what to write in its place.
-    Refused(String),
-    /// A file can't be read or written, or memory is refused.
-    Failed(Failure),
+pub struct Unlowered {
+    pub failure: Failure,
+    pub told: Option<String>,
 }
 
 impl From<Failure> for Unlowered {
-    ghost use Rattle.std.specs.Prelude.{◌≡◌};
-    ghost use Rattle.lft_lowered.specs.declared.told.Unlowered.TheVariants.{Failed};
+    ghost use Rattle.std.specs.Prelude.{◌≡◌, None};
 
-    ghost from_gives = { λ failure e. e ≡ Failed failure };
+    ghost from_gives = { λ failure e. e ≡ record { failure = failure; told = None } };
 
     fn from(failure: Failure) -> Unlowered {
-        Unlowered::Failed(failure)
+        Unlowered {
+            failure,
+            told: None,
+        }
     }
 }
 
 impl From<Fault> for Unlowered {
     ghost use Rattle.std.specs.Prelude.{◌≡◌, None};
-    ghost use Rattle.lft_lowered.specs.declared.told.Unlowered.TheVariants.{Failed};
 
-    ghost from_gives = { λ fault e. e ≡ Failed (record { fault = fault; cause = None }) };
+    ghost from_gives = { λ fault e. e ≡ record { failure = record { fault = fault; cause = None }; told = None } };
 
     fn from(fault: Fault) -> Unlowered {
-        Unlowered::Failed(Failure::from(fault))
+        Unlowered::from(Failure::from(fault))
     }
 }
 
 impl From<AllocError> for Unlowered {
-    ghost use Rattle.lft_lowered.specs.Lowered.{IsFailed};
+    ghost use Rattle.std.specs.Prelude.{◌≡◌, None};
 
-    ghost from_gives = { λ _ e. IsFailed e };
+    ghost from_gives = { λ _ e. e.told ≡ None };
 
     fn from(_error: AllocError) -> Unlowered {
         Unlowered::from(Fault::no_memory())
@@ -53,96 +68,172 @@ impl From<AllocError> for Unlowered {
 }
 
 impl From<NoMemory> for Unlowered {
-    ghost use Rattle.lft_lowered.specs.Lowered.{IsFailed};
+    ghost use Rattle.std.specs.Prelude.{◌≡◌, None};
 
-    ghost from_gives = { λ _ e. IsFailed e };
+    ghost from_gives = { λ _ e. e.told ≡ None };
 
     fn from(_error: NoMemory) -> Unlowered {
         Unlowered::from(Fault::no_memory())
     }
 }
 
-/// The number of a cause.
-fn cause_number(why: Why) -> u64
-    ensures { result ≡ number_of why }
+/// Where a token of one of the files is, as `FILE:LINE:COLUMN`.
+fn where_words(alloc: Global, files: &[SourceFile], place: Place) -> Result<String, NoMemory>
+    ensures { IfOk result (λ words. string_bytes words ≡ words_where files.now place) }
 {
-    let (number, _) = why.cause();
-    u64::from(number)
+    let mut text = String::new(alloc);
+    if let Some(file) = files.get(place.file) {
+        push_place(alloc, &mut text, file, place.token)?;
+    }
+    Ok(text)
 }
 
-/// The name of a cause.
-fn cause_name(why: Why) -> &'static str
-    ensures { result.now ≡ name_of why }
+/// The fault of a refusal at a place in words.
+fn fault_of(refusal: Refusal, words: String) -> Fault
+    ensures part { result.part ≡ part.Lower }
+    ensures number { result.number ≡ number_of refusal.why }
+    ensures name { slice_get names (number_of refusal.why - 1) ≡ Some result.name.now }
+    ensures detail { result.detail ≡ detail.Words words }
 {
-    let (_, name) = why.cause();
-    name
-}
-
-/// Puts the number and the name of a cause at the end of a text.
-fn push_cause(text: &mut String, why: Why) -> Result<(), AllocError>
-    ensures { OnOk result (string_bytes text.new ≡ string_bytes text.old ++ cause_words why) }
-{
-    text.push_str("fault lower ")?;
-    push_number(text, cause_number(why))?;
-    text.push_str(" ")?;
-    text.push_str(cause_name(why))?;
-    Ok(())
-}
-
-/// Puts a blank, and where a token of a file stands, at the end of a text.
-fn push_spot(
-    text: &mut String,
-    alloc: Global,
-    file: &SourceFile,
-    token: usize,
-) -> Result<(), AllocError>
-    ensures { OnOk result (string_bytes text.new ≡ string_bytes text.old ++ spot_words file.now token) }
-{
-    text.push_str(" ")?;
-    push_place(alloc, text, file, token)?;
-    Ok(())
-}
-
-/// Puts a blank, and where a place in one of the files is, at the end of a text.
-fn push_where(
-    text: &mut String,
-    alloc: Global,
-    files: &[SourceFile],
-    place: Place,
-) -> Result<(), AllocError>
-    ensures { OnOk result (string_bytes text.new ≡ string_bytes text.old ++ where_words files.now place) }
-{
-    match files.get(place.file) {
-        Some(file) => push_spot(text, alloc, file, place.token),
-        None => Ok(()),
+    let (number, name) = refusal.why.cause();
+    Fault {
+        part: Part::Lower,
+        number,
+        name,
+        detail: Detail::Words(words),
     }
 }
 
-/// Puts what is said of a cause on a line of its own at the end of a text.
-fn push_said(text: &mut String, first: &str, why: Why) -> Result<(), AllocError>
-    ensures { OnOk result (string_bytes text.new ≡ string_bytes text.old ++ said_words first.now why) }
-{
-    text.push_str("\n  ")?;
-    text.push_str(first)?;
-    text.push_str(why.words())?;
-    text.push_str("\n")?;
+/// The bytes of a token of a file, or its end. Of a text without tokens the byte that shows it.
+fn spot_in(alloc: Global, file: &SourceFile, token: usize) -> Result<Spot, NoMemory> {
+    let end = file.text.len();
+    match lex(alloc, &file.text) {
+        Ok(tokens) => match tokens.as_slice().get(token) {
+            Some(token) => Ok(Spot {
+                start: token.start,
+                end: token.end,
+            }),
+            None => Ok(Spot { start: end, end }),
+        },
+        Err(TextFault::BadText(at)) => Ok(Spot {
+            start: at,
+            end: end.min(at.saturating_add(1)),
+        }),
+        Err(TextFault::NoMemory) => Err(NoMemory),
+    }
+}
+
+/// What a token is called: code and strings are told as such, and so are those of more bytes than are quoted.
+fn push_token(alloc: Global, out: &mut String, bytes: &[u8]) -> Result<(), NoMemory> {
+    if bytes.starts_with(b"{=") {
+        out.push_str("this code")?;
+    } else if bytes.starts_with(b"\"") || bytes.starts_with(b"'") {
+        out.push_str("this string")?;
+    } else if bytes.len() > LONGEST_TOKEN {
+        out.push_str("this")?;
+    } else {
+        out.push_str("`")?;
+        push_bytes(alloc, out, bytes)?;
+        out.push_str("`")?;
+    }
     Ok(())
 }
 
-/// The line of a refusal, and below it what is said first, then what to write.
-fn refusal_text(
+/// What is said of a token that can't stand where it is, or of a text that ends there.
+fn unexpected_words(alloc: Global, file: &SourceFile, token: usize) -> Result<String, NoMemory>
+    ensures { IfOk result (λ words. IsUnexpected (string_bytes words)) }
+{
+    let spot = spot_in(alloc, file, token)?;
+    let bytes = file.text.get(spot.start..spot.end).unwrap_or(b"");
+    let mut out = String::new(alloc);
+    if bytes.is_empty() {
+        out.push_str("the text ends too soon.")?;
+        return Ok(out);
+    }
+    push_token(alloc, &mut out, bytes)?;
+    out.push_str(" can't stand here.")?;
+    Ok(out)
+}
+
+/// What is said of a refusal: of a token that can't stand where it is its bytes, else the sentence of the cause.
+/// Something may be said first.
+fn sentence(
     alloc: Global,
     files: &[SourceFile],
     refusal: Refusal,
     first: &str,
-) -> Result<String, AllocError>
-    ensures { IfOk result (λ text. string_bytes text ≡ refusal_words files.now refusal first.now) }
+) -> Result<String, NoMemory>
+    ensures { IfOk result (λ words. IsSentence first.now refusal.why (string_bytes words)) }
 {
-    let mut text = String::new(alloc);
-    push_cause(&mut text, refusal.why)?;
-    push_where(&mut text, alloc, files, refusal.place)?;
-    push_said(&mut text, first, refusal.why)?;
-    Ok(text)
+    if refusal.why == Why::Unexpected
+        && let Some(file) = files.get(refusal.place.file)
+    {
+        return unexpected_words(alloc, file, refusal.place.token);
+    }
+    let mut out = String::new(alloc);
+    out.push_str(first)?;
+    out.push_str(refusal.why.words())?;
+    Ok(out)
+}
+
+/// The line of a refusal with a mark, and what helps.
+fn rest_of(alloc: Global, files: &[SourceFile], refusal: Refusal) -> Result<String, NoMemory> {
+    let mut out = String::new(alloc);
+    let Some(file) = files.get(refusal.place.file) else {
+        return Ok(out);
+    };
+    let token = refusal.place.token;
+    let spot = spot_in(alloc, file, token)?;
+    push_marked(alloc, &mut out, &file.text, &[], Some(spot))?;
+    if refusal.why == Why::Unexpected {
+        push_could(alloc, &mut out, &file.text, spot.start, token)?;
+    }
+    if matches!(refusal.why, Why::Unexpected | Why::NotText) {
+        let before = spot_in(alloc, file, token.saturating_sub(1))?;
+        push_way(
+            &mut out,
+            way_at(alloc, &file.text, before.start, spot.start)?,
+        )?;
+    }
+    Ok(out)
+}
+
+/// What is told of a refusal at a place in words, in lines that end with a line feed.
+fn told_of(
+    alloc: Global,
+    files: &[SourceFile],
+    refusal: Refusal,
+    first: &str,
+    place: &str,
+) -> Result<String, NoMemory>
+    ensures { IfOk result (λ words. TellsAt place.now first.now refusal.why (string_bytes words)) }
+{
+    let sentence = sentence(alloc, files, refusal, first)?;
+    let rest = rest_of(alloc, files, refusal)?;
+    let mut out = String::new(alloc);
+    out.push_str(place)?;
+    out.push_str(": ")?;
+    out.push_str(sentence.as_str())?;
+    out.push_str("\n")?;
+    out.push_str(rest.as_str())?;
+    Ok(out)
+}
+
+/// A refusal with its fault, and what is told of it.
+fn refused(
+    alloc: Global,
+    files: &[SourceFile],
+    refusal: Refusal,
+    first: &str,
+) -> Result<Unlowered, NoMemory>
+    ensures { IfOk result (TellsRefusal files.now first.now refusal) }
+{
+    let place = where_words(alloc, files, refusal.place)?;
+    let told = told_of(alloc, files, refusal, first, place.as_str())?;
+    Ok(Unlowered {
+        failure: Failure::from(fault_of(refusal, place)),
+        told: Some(told),
+    })
 }
 
 /// Why a program of these files isn't lowered. Of a refusal something may be said first.
@@ -156,9 +247,52 @@ pub(crate) fn unlowered_by(
 {
     match stop {
         Stop::NoMemory => Unlowered::from(Fault::no_memory()),
-        Stop::Refused(refusal) => match refusal_text(alloc, files, refusal, first) {
-            Ok(text) => Unlowered::Refused(text),
-            Err(_) => Unlowered::from(Fault::no_memory()),
+        Stop::Refused(refusal) => match refused(alloc, files, refusal, first) {
+            Ok(unlowered) => unlowered,
+            Err(error) => Unlowered::from(error),
         },
+    }
+}
+
+/// What is told of a tree of these files that has no flat program.
+fn told_of_tree(
+    alloc: Global,
+    files: &[SourceFile],
+    ast: &Ast,
+    refusal: &ProgramRefusal,
+) -> Result<String, NoMemory>
+    requires files { AreOfTexts files.now }
+    requires tells { Tells (tree_view ast.now) refusal.now }
+    ensures { IfOk result (λ words. IsToldTree files.now ast.now.items.items (cause_of refusal.now) (string_bytes words)) }
+{
+    let joined = joined(alloc, files)?;
+    tell_refusal_in(
+        alloc,
+        &joined.text,
+        &joined.tokens,
+        &joined.pages,
+        ast,
+        refusal,
+    )
+}
+
+/// Why a tree of these files has no flat program.
+pub(crate) fn unlowered_tree(
+    alloc: Global,
+    files: &[SourceFile],
+    ast: &Ast,
+    refusal: &ProgramRefusal,
+) -> Unlowered
+    requires files { AreOfTexts files.now }
+    requires tells { Tells (tree_view ast.now) refusal.now }
+    ensures { TellsTree files.now ast.now.items.items (cause_of refusal.now) result }
+{
+    let failure = Failure::from(Fault::program(refusal.fault()));
+    match told_of_tree(alloc, files, ast, refusal) {
+        Ok(told) => Unlowered {
+            failure,
+            told: Some(told),
+        },
+        Err(error) => Unlowered::from(error),
     }
 }

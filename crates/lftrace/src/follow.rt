@@ -1,11 +1,13 @@
 //! `follow`: a trace that is judged while it is written.
 
+use crate::session::Session;
 use crate::words::FollowWords;
 use crate::{await_text, end, say};
-use lft_explain_log::explain_log;
+use lft_explain_log::explain_log_plan;
 use lft_files::{Failure, open_file, read_file};
 use lft_front::{Fault, Part};
-use lft_monitor::{Final, drain, follow_log, status_of_log};
+use lft_model::Plan;
+use lft_monitor::{Final, drain, follow_plan, status_of_log};
 use std::alloc::Global;
 use std::io::{Read, Write};
 use std::process::ExitCode;
@@ -36,24 +38,23 @@ fn end_failed(rt: &HostRuntime, alloc: Global, failure: Failure) -> u8 {
     status
 }
 
-/// What is told of the trace of a reader, and behind the line of a broken rule the facts, where they are asked for.
-fn tell_reader<R: Read, W: Write>(
+/// What is told of the trace of a reader under a plan, and behind the line of a broken rule the facts, where they are
+/// asked for.
+fn tell_plan<R: Read, W: Write>(
     rt: &HostRuntime,
     alloc: Global,
-    texts: (&[u8], &[u8]),
+    plan: Plan,
     words: FollowWords<'_>,
     reader: &mut R,
     out: &mut W,
 ) -> Result<Final, Fault> {
-    let (program, externals) = texts;
     let path = words.log.unwrap_or("-");
     let following = words.following;
     let mut errors = rt.stderr();
     if !words.explain {
-        return follow_log(
+        return follow_plan(
             alloc,
-            program,
-            externals,
+            plan,
             path,
             reader,
             following,
@@ -62,10 +63,9 @@ fn tell_reader<R: Read, W: Write>(
             &mut errors,
         );
     }
-    let explained = explain_log(
+    let explained = explain_log_plan(
         alloc,
-        program,
-        externals,
+        plan,
         path,
         reader,
         following,
@@ -81,6 +81,21 @@ fn tell_reader<R: Read, W: Write>(
     Ok(explained.told)
 }
 
+/// What is told of the trace of a reader. Why a text is refused is not told.
+fn tell_reader<R: Read, W: Write>(
+    rt: &HostRuntime,
+    alloc: Global,
+    texts: (&[u8], &[u8]),
+    words: FollowWords<'_>,
+    reader: &mut R,
+    out: &mut W,
+) -> Result<Final, Failure> {
+    let (program, externals) = texts;
+    let plan = Session::of(rt, alloc, out, false).plan(words.program, program, externals)?;
+    let told = tell_plan(rt, alloc, plan, words, reader, out)?;
+    Ok(told)
+}
+
 /// Follows the trace of a reader, and gives the status. What is told is written before the rest is dropped.
 fn follow_reader<R: Read, W: Write>(
     rt: &HostRuntime,
@@ -92,7 +107,7 @@ fn follow_reader<R: Read, W: Write>(
 ) -> u8 {
     let status = match tell_reader(rt, alloc, texts, words, reader, out) {
         Ok(told) => status_of_log(told),
-        Err(fault) => end_failed(rt, alloc, Failure::from(fault)),
+        Err(failure) => end_failed(rt, alloc, failure),
     };
     if words.drain {
         let _ = drain(alloc, reader);
@@ -107,7 +122,7 @@ fn follow_files<W: Write>(
     words: FollowWords<'_>,
     out: &mut W,
 ) -> Result<u8, Failure> {
-    let program = read_file(rt, alloc, words.program)?;
+    let program = read_file(rt, alloc, words.program.path)?;
     let table = match words.externals {
         Some(path) => Some(read_file(rt, alloc, path)?),
         None => None,

@@ -2,25 +2,20 @@
 #![tactic(auto)]
 
 mod follow;
-mod lower;
-mod names;
+mod help;
+mod session;
 mod words;
 
 use crate::follow::end_followed;
-use crate::lower::{end_lowered, write_lowers};
-use crate::names::{answer_by_names, end_refused, read_table};
-use crate::words::{Job, JudgeWords, PairWords, Question, RecordWords, read_words};
-use lft_covering::cover_answer;
+use crate::session::Session;
+use crate::words::{
+    Behind, Job, JudgeWords, PairWords, Question, RecordWords, ShowWords, read_words,
+};
 use lft_files::{Failure, read_file};
 use lft_front::{
-    Fault, Part, bundle_answer, explain_answer, explain_bundle_answer, explain_pair_answer, finish,
-    judge_answer, pair_answer, read_input, refusal_of_bundle, refusal_of_pair_texts,
-    refusal_of_program, refusal_of_texts, show_program, show_text,
+    Fault, Part, bundle_answer, explain_bundle_answer, finish, read_input, refusal_of_bundle,
 };
-use lft_load::read_program;
-use lft_record::record_answer;
-use lft_renamed::Names;
-use lft_tag::NoMemory;
+use lft_record::record_plan;
 use std::alloc::Global;
 use std::io::{BufWriter, IsTerminal, Read, Write};
 use std::process::ExitCode;
@@ -29,103 +24,20 @@ use std::sync::Wait;
 use std::thread::Threads;
 use std::{env, io};
 
-/// A trace of fewer bytes is judged by one worker: of it a thread costs more than it brings.
-const SHORT: usize = 1 << 20;
-
-/// How many of so many workers judge traces of so many bytes.
-fn workers_for(workers: u32, bytes: usize) -> u32 {
-    if bytes < SHORT { 1 } else { workers }
-}
-
 /// Judges the trace of three files, all of which are read first.
 fn judge_files<F: Files + Threads + Sync, W: Write>(
     rt: &F,
     alloc: Global,
     words: JudgeWords<'_>,
-    names: Option<&Names>,
+    behind: Behind,
     out: &mut W,
 ) -> Result<bool, Failure> {
-    let program = read_file(rt, alloc, words.program)?;
-    let externals = read_table(rt, alloc, words.externals, names)?;
-    let trace = read_table(rt, alloc, words.trace, names)?;
-    let answer = judge_answer(
-        rt,
-        alloc,
-        program.as_slice(),
-        externals.as_slice(),
-        trace.as_slice(),
-        workers_for(words.workers, trace.len()),
-        out,
-    )?;
-    Ok(answer)
-}
-
-/// Judges the trace of three files, all of which are read first, and counts what it exercised.
-fn cover_files<F: Files + Threads + Sync, W: Write>(
-    rt: &F,
-    alloc: Global,
-    words: JudgeWords<'_>,
-    names: Option<&Names>,
-    list: bool,
-    out: &mut W,
-) -> Result<bool, Failure> {
-    let program = read_file(rt, alloc, words.program)?;
-    let externals = read_table(rt, alloc, words.externals, names)?;
-    let trace = read_table(rt, alloc, words.trace, names)?;
-    let answer = cover_answer(
-        rt,
-        alloc,
-        program.as_slice(),
-        externals.as_slice(),
-        trace.as_slice(),
-        workers_for(words.workers, trace.len()),
-        list,
-        out,
-    )?;
-    Ok(answer)
-}
-
-/// Writes why a text is refused, where it can be told. This is help alone: where it can't be written, the
-/// line of the fault comes all the same.
-fn write_told<W: Write>(told: Result<Option<String>, NoMemory>, out: &mut W) {
-    if let Ok(Some(told)) = told {
-        let _ = out.write_all(told.as_bytes());
-    }
-}
-
-/// Judges the trace of three files, all of which are read first, and explains the verdict, or why a text
-/// is refused.
-fn explain_files<F: Files + Threads + Sync, W: Write>(
-    rt: &F,
-    alloc: Global,
-    words: JudgeWords<'_>,
-    names: Option<&Names>,
-    all: bool,
-    out: &mut W,
-) -> Result<bool, Failure> {
-    let program = read_file(rt, alloc, words.program)?;
-    let externals = read_table(rt, alloc, words.externals, names)?;
-    let trace = read_table(rt, alloc, words.trace, names)?;
-    let answer = explain_answer(
-        rt,
-        alloc,
-        program.as_slice(),
-        externals.as_slice(),
-        trace.as_slice(),
-        workers_for(words.workers, trace.len()),
-        all,
-        out,
-    );
-    match answer {
-        Ok(answer) => Ok(answer),
-        Err(fault) => {
-            let (text, externals) = (program.as_slice(), externals.as_slice());
-            let told = refusal_of_texts(alloc, text, externals, trace.as_slice());
-            write_told(told, out);
-            write_lowers(rt, alloc, words.program, text, &fault, out);
-            Err(Failure::from(fault))
-        }
-    }
+    let program = read_file(rt, alloc, words.program.path)?;
+    let externals = read_file(rt, alloc, words.externals)?;
+    let trace = read_file(rt, alloc, words.trace)?;
+    let mut session = Session::of(rt, alloc, out, behind.is_told());
+    let plan = session.plan(words.program, &program, &externals)?;
+    session.judge(&plan, &trace, words.workers, behind)
 }
 
 /// Compares the two traces of four files, all of which are read first.
@@ -133,55 +45,16 @@ fn pair_files<F: Files + Threads + Sync, W: Write>(
     rt: &F,
     alloc: Global,
     words: PairWords<'_>,
-    names: Option<&Names>,
+    behind: Behind,
     out: &mut W,
 ) -> Result<bool, Failure> {
-    let program = read_file(rt, alloc, words.program)?;
-    let externals = read_table(rt, alloc, words.externals, names)?;
-    let first = read_table(rt, alloc, words.first, names)?;
-    let second = read_table(rt, alloc, words.second, names)?;
-    let answer = pair_answer(
-        rt,
-        alloc,
-        program.as_slice(),
-        externals.as_slice(),
-        first.as_slice(),
-        second.as_slice(),
-        workers_for(words.workers, first.len().max(second.len())),
-        out,
-    )?;
-    Ok(answer)
-}
-
-/// Compares the two traces of four files, all of which are read first, and explains what they show, or
-/// why a text is refused.
-fn explain_pair_files<F: Files + Threads + Sync, W: Write>(
-    rt: &F,
-    alloc: Global,
-    words: PairWords<'_>,
-    names: Option<&Names>,
-    all: bool,
-    out: &mut W,
-) -> Result<bool, Failure> {
-    let program = read_file(rt, alloc, words.program)?;
-    let externals = read_table(rt, alloc, words.externals, names)?;
-    let first = read_table(rt, alloc, words.first, names)?;
-    let second = read_table(rt, alloc, words.second, names)?;
-    let (program, externals) = (program.as_slice(), externals.as_slice());
-    let (first, second) = (first.as_slice(), second.as_slice());
-    let workers = workers_for(words.workers, first.len().max(second.len()));
-    let answer = explain_pair_answer(
-        rt, alloc, program, externals, first, second, workers, all, out,
-    );
-    match answer {
-        Ok(answer) => Ok(answer),
-        Err(fault) => {
-            let told = refusal_of_pair_texts(alloc, program, externals, first, second);
-            write_told(told, out);
-            write_lowers(rt, alloc, words.program, program, &fault, out);
-            Err(Failure::from(fault))
-        }
-    }
+    let program = read_file(rt, alloc, words.program.path)?;
+    let externals = read_file(rt, alloc, words.externals)?;
+    let first = read_file(rt, alloc, words.first)?;
+    let second = read_file(rt, alloc, words.second)?;
+    let mut session = Session::of(rt, alloc, out, behind.is_told());
+    let plan = session.plan(words.program, &program, &externals)?;
+    session.compare(&plan, &first, &second, words.workers, behind)
 }
 
 /// Records the program of three files, all of which are read first.
@@ -191,53 +64,40 @@ fn record_files<R: Files + Threads + Wait + Sync, W: Write>(
     words: RecordWords<'_>,
     out: &mut W,
 ) -> Result<bool, Failure> {
-    let program = read_file(rt, alloc, words.program)?;
+    let program = read_file(rt, alloc, words.program.path)?;
     let externals = read_file(rt, alloc, words.externals)?;
     let cards = read_file(rt, alloc, words.cards)?;
-    let answer = record_answer(
-        rt,
-        alloc,
-        program.as_slice(),
-        externals.as_slice(),
-        cards.as_slice(),
-        words.workers,
-        words.max_runs,
-        out,
-    )?;
-    Ok(answer)
+    let plan = Session::of(rt, alloc, out, false).plan(words.program, &program, &externals)?;
+    let recorded = record_plan(rt, alloc, plan, &cards, words.workers, words.max_runs, out)?;
+    Ok(recorded)
 }
 
-/// Shows the program of a file, or all of it.
-fn show_file<F: Files, W: Write>(
-    rt: &F,
-    alloc: Global,
-    path: &str,
-    all: bool,
-    out: &mut W,
-) -> Result<bool, Failure> {
-    let text = read_file(rt, alloc, path)?;
-    let program = read_program(alloc, text.as_slice())?;
-    show_program(alloc, &program, all, out)?;
-    Ok(true)
-}
-
-/// Shows the program of a file, or explains why it is refused.
-fn explain_program<F: Files, W: Write>(
-    rt: &F,
-    alloc: Global,
-    path: &str,
-    out: &mut W,
-) -> Result<bool, Failure> {
-    let program = read_file(rt, alloc, path)?;
-    let text = program.as_slice();
-    match show_text(alloc, text, out) {
-        Ok(()) => Ok(true),
-        Err(fault) => {
-            write_told(refusal_of_program(alloc, text), out);
-            write_lowers(rt, alloc, path, text, &fault, out);
-            Err(Failure::from(fault))
-        }
+/// Writes what is said of a program, a line each. This is help alone: where it can't be written, the program is
+/// shown all the same.
+fn write_notes<E: Write>(notes: &[String], errors: &mut E) {
+    for note in notes {
+        let _ = errors.write_all(note.as_bytes());
+        let _ = errors.write_all(b"\n");
     }
+}
+
+/// Shows the program of a file, with what is said of it. Where it is refused, why is told where that is asked for.
+fn show_file<F: Files, W: Write, E: Write>(
+    rt: &F,
+    alloc: Global,
+    words: ShowWords<'_>,
+    tells: bool,
+    out: &mut W,
+    errors: &mut E,
+) -> Result<bool, Failure> {
+    let text = read_file(rt, alloc, words.program.path)?;
+    let mut session = Session::of(rt, alloc, out, tells);
+    let whole = session.program(words.program, &text)?;
+    let shown = session.show(&whole.program, words.all)?;
+    if !tells {
+        write_notes(&whole.notes, errors);
+    }
+    Ok(shown)
 }
 
 /// Judges the bundle that a reader gives.
@@ -261,8 +121,10 @@ fn explain_bundle<T: Threads + Sync, R: Read, W: Write>(
 ) -> Result<bool, Failure> {
     let text = read_input(alloc, "-", reader)?;
     let answer = explain_bundle_answer(rt, alloc, text.as_slice(), all, out);
-    if answer.is_err() {
-        write_told(refusal_of_bundle(alloc, text.as_slice()), out);
+    if answer.is_err()
+        && let Ok(Some(told)) = refusal_of_bundle(alloc, text.as_slice())
+    {
+        let _ = out.write_all(told.as_bytes());
     }
     let answer = answer?;
     Ok(answer)
@@ -281,7 +143,7 @@ pub(crate) fn await_text(rt: &HostRuntime, what: &str) {
 fn is_of_program(fault: &Fault) -> bool {
     matches!(
         fault.part,
-        Part::Lex | Part::Syntax | Part::Program | Part::Graph
+        Part::Lex | Part::Syntax | Part::Program | Part::Graph | Part::Lower
     )
 }
 
@@ -320,10 +182,10 @@ fn words_for(job: Job<'_>, answer: &Result<bool, Failure>) -> Option<&'static st
         return failure.cause;
     }
     match job {
-        Job::Bundle | Job::Ask { .. } if has_more(answer) => {
+        Job::Bundle | Job::Ask(_) if has_more(answer) => {
             Some("`lftrace explain` with the same texts tells why")
         }
-        Job::Record(_) | Job::Show { .. } if has_more_of_program(answer) => {
+        Job::Record(_) | Job::Show(_) if has_more_of_program(answer) => {
             Some("`lftrace explain PROGRAM` tells why")
         }
         _ => None,
@@ -362,23 +224,16 @@ pub(crate) fn end(rt: &HostRuntime, alloc: Global, answer: Result<bool, Failure>
     }
 }
 
-/// The answer to what is asked of tables, which is written. Where names are given, the tables have names of the
-/// source.
-pub(crate) fn answer_of<R: Files + Threads + Sync, W: Write>(
+/// The answer to what is asked of tables, which is written.
+fn answer_of<R: Files + Threads + Sync, W: Write>(
     rt: &R,
     alloc: Global,
     question: Question<'_>,
-    names: Option<&Names>,
     out: &mut W,
 ) -> Result<bool, Failure> {
     match question {
-        Question::Judge(words) => judge_files(rt, alloc, words, names, out),
-        Question::Cover { words, list } => cover_files(rt, alloc, words, names, list, out),
-        Question::Explain { words, all } => explain_files(rt, alloc, words, names, all, out),
-        Question::Pair(words) => pair_files(rt, alloc, words, names, out),
-        Question::ExplainPair { words, all } => {
-            explain_pair_files(rt, alloc, words, names, all, out)
-        }
+        Question::One { words, behind } => judge_files(rt, alloc, words, behind, out),
+        Question::Two { words, behind } => pair_files(rt, alloc, words, behind, out),
     }
 }
 
@@ -415,17 +270,13 @@ fn main(rt: HostRuntime) -> ExitCode {
             await_text(&rt, "a bundle");
             explain_bundle(&rt, alloc, &mut rt.stdin(), all, &mut out)
         }
-        Job::Ask { question, names } => {
-            match answer_by_names(&rt, alloc, question, names, &mut out) {
-                Ok(answer) => answer,
-                Err(fault) => return end_refused(&rt, alloc, fault),
-            }
+        Job::Ask(question) => answer_of(&rt, alloc, question, &mut out),
+        Job::ExplainProgram(words) => {
+            show_file(&rt, alloc, words, true, &mut out, &mut rt.stderr())
         }
-        Job::ExplainProgram(path) => explain_program(&rt, alloc, path, &mut out),
         Job::Record(words) => record_files(&rt, alloc, words, &mut out),
         Job::Follow(words) => return end_followed(&rt, alloc, words, &mut out),
-        Job::Lower(words) => return end_lowered(&rt, alloc, words, &mut out),
-        Job::Show { path, all } => show_file(&rt, alloc, path, all, &mut out),
+        Job::Show(words) => show_file(&rt, alloc, words, false, &mut out, &mut rt.stderr()),
     };
     if job.is_explained() {
         write_cause(&answer, &mut out);

@@ -1,5 +1,8 @@
 //! The command line.
 
+use crate::help::{
+    COVER_HELP, EXPLAIN_HELP, FOLLOW_HELP, HELP, JUDGE_HELP, PAIR_HELP, RECORD_HELP, SHOW_HELP,
+};
 use clap::error::ErrorKind;
 use clap::{Arg, ArgAction, ArgMatches, Command, Error};
 use lft_monitor::{Following, read_until};
@@ -8,100 +11,24 @@ use std::alloc::Global;
 
 const VERSION: &str = "0.1.0";
 
-const HELP: &str = "\
-Status: 0 accepted, same, recorded, shown or lowered, 1 broken or differ,
-2 a fault (on standard error); of follow and --until also 3 unbroken, where rows
-are missing, and 4 odd, where it can't judge further.
-A bundle is the lines `--- program`, `--- externals` and `--- trace`,
-each with its text after it.";
+/// The path of a program, and whether it is lowered where it isn't core.
+#[derive(Clone, Copy)]
+pub struct ProgramWords<'a> {
+    pub path: &'a str,
+    pub lower: bool,
+}
 
-const JUDGE_HELP: &str = "\
-EXTERNALS has the header  kind,time,microstep,name,value
-TRACE has the header      event,worker,time,microstep,reaction,name,value,delay
-Times are in nanoseconds. Arguments are paths; /dev/stdin is standard input.
-Printed: accepted runs=R tags=G (status 0), or broken rule=N .. (status 1).
-With --until, which doesn't go with --names, the lines of follow, unbroken ..
-(status 0 or 3) and odd .. (status 4) among them.";
-
-const COVER_HELP: &str = "\
-EXTERNALS has the header  kind,time,microstep,name,value
-TRACE has the header      event,worker,time,microstep,reaction,name,value,delay
-Times are in nanoseconds. Arguments are paths; /dev/stdin is standard input.
-Printed: the line of judge, with its status; behind accepted .. what the trace
-exercised of the program and of the scheduler. With --list one fact a line.";
-
-const EXPLAIN_HELP: &str = "\
-EXTERNALS has the header  kind,time,microstep,name,value
-TRACE has the header      event,worker,time,microstep,reaction,name,value,delay
-Times are in nanoseconds. Arguments are paths; /dev/stdin is standard input.
-Without arguments it explains a bundle from standard input. With PROGRAM alone
-it tells why that is refused (status 2), or else prints what show prints.
-Printed: the line of judge, with its status; behind broken rule=N .. an empty
-line and the facts that show it. With two traces the line of pair, with its
-status; behind differ .. an empty line and both answers. Of each part the first
-60 lines are printed, and how many others there are; with --all all lines.
-With --until the line and the status are those of judge --until, and the facts
-are of the trace up to the line that they name.";
-
-const PAIR_HELP: &str = "\
-EXTERNALS has the header
-  kind,time,microstep,name,value
-FIRST and SECOND have the header
-  event,worker,time,microstep,reaction,name,value,delay
-Times are in nanoseconds. Arguments are paths; /dev/stdin is standard input.
-Printed: same runs=R tags=G (status 0); differ time=T microstep=M reaction=X,
-where that reaction met the same history and inputs in both and answered
-otherwise; or first broken rule=N .. or second broken rule=N .. (status 1).";
-
-const RECORD_HELP: &str = "\
-EXTERNALS has the header  kind,time,microstep,name,value
-CARDS has the header      kind,reaction,name,delay,value
-A card is how many bodies a reaction has (bodies), a step of each (write,
-schedule, stop), or the state word that each leaves (state).
-Arguments are paths.
-Printed: the trace table (status 0); where the recording stops, the rows so far,
-and a fault of part pool (status 2).";
-
-const FOLLOW_HELP: &str = "\
-EXTERNALS has the header  kind,time,microstep,name,value
-LOG has the header        event,worker,time,microstep,reaction,name,value,delay
-Times are in nanoseconds. Arguments are paths; without LOG it is standard input.
-LOG may have lines of EXTERNALS among its rows: an event before rows at later
-tags, and an earlier stop. Without EXTERNALS it has all of them:
-  lftrace follow PROGRAM < LOG
-Its lines are plain: without quotation marks. Nothing is read behind what is
-told.
-Printed: accepted runs=R tags=G (status 0); broken rule=N .. (status 1), as soon
-as it is sure; odd line=L runs=R tags=G .. (status 4), where the rows up to
-line L can't be judged further, since too much waits or memory is refused;
-unbroken runs=R tags=G time=T microstep=M at the end (status 3), where rows are
-missing or those at the last tag may break a rule: --whole tells; the same with
---until (status 0).
-With --explain an empty line and the facts that show it stand behind broken ..,
-of the trace up to the line that they name. For them what is read is kept, as
-much as a table may have.";
-
-const SHOW_HELP: &str = "\
-PROGRAM is the path of a file; /dev/stdin is standard input.
-Printed: port P origin=O after=TIME+STEPS for each port, then
-reaction X level=K before=Y Z for each reaction (status 0).
-With --all also instance I, action A kind=logical least=TIME,
-timer T offset=TIME period=TIME, and below the line of a reaction, one a line,
-trigger X N, use X N, write X P, schedule X A.";
-
-const LOWER_HELP: &str = "\
-PROGRAM is the path of a file; the files that it imports are read too.
-TABLE gets the header  kind,source,core,place
-and a row for each name that differs.
-Printed: the core program (status 0); one that is core already as it is. Of what
-has no equal in the core, on standard error, with what helps:
-  fault lower N Name FILE:LINE:COLUMN
-There notes stand too: what a runtime has to do, or isn't connected.";
+/// The words of `show`, and of `explain` with the program alone: whether all of it is shown.
+#[derive(Clone, Copy)]
+pub struct ShowWords<'a> {
+    pub program: ProgramWords<'a>,
+    pub all: bool,
+}
 
 /// The words of `judge`, `cover` and `explain`: three paths, and how many workers, 1 to 64.
 #[derive(Clone, Copy)]
 pub struct JudgeWords<'a> {
-    pub program: &'a str,
+    pub program: ProgramWords<'a>,
     pub externals: &'a str,
     pub trace: &'a str,
     pub workers: u32,
@@ -110,7 +37,7 @@ pub struct JudgeWords<'a> {
 /// The words of `pair`, and of `explain` with two traces: four paths, and how many workers, 1 to 64.
 #[derive(Clone, Copy)]
 pub struct PairWords<'a> {
-    pub program: &'a str,
+    pub program: ProgramWords<'a>,
     pub externals: &'a str,
     pub first: &'a str,
     pub second: &'a str,
@@ -120,7 +47,7 @@ pub struct PairWords<'a> {
 /// The words of `record`: three paths, how many workers, 1 to 64, and how many runs at most.
 #[derive(Clone, Copy)]
 pub struct RecordWords<'a> {
-    pub program: &'a str,
+    pub program: ProgramWords<'a>,
     pub externals: &'a str,
     pub cards: &'a str,
     pub workers: u32,
@@ -130,7 +57,7 @@ pub struct RecordWords<'a> {
 /// The words of `follow`: up to three paths, and how the log is followed.
 #[derive(Clone, Copy)]
 pub struct FollowWords<'a> {
-    pub program: &'a str,
+    pub program: ProgramWords<'a>,
     /// Where there is none, the log has all external inputs.
     pub externals: Option<&'a str>,
     /// None is standard input.
@@ -144,24 +71,34 @@ pub struct FollowWords<'a> {
     pub all: bool,
 }
 
-/// The words of `lower`: the path of the program, and that of the table of names, if it is wanted.
+/// What stands behind the line of an answer.
 #[derive(Clone, Copy)]
-pub struct LowerWords<'a> {
-    pub program: &'a str,
-    pub names: Option<&'a str>,
+pub enum Behind {
+    Nothing,
+    /// What an accepted trace exercised: for people, or one fact a line.
+    Counts { list: bool },
+    /// The facts behind a broken rule or a difference: all, or the first of them. Why a text is refused is told too.
+    Facts { all: bool },
 }
 
-/// What is asked of tables.
+impl Behind {
+    /// Whether why a text is refused is told.
+    pub(crate) fn is_told(self) -> bool {
+        matches!(self, Behind::Facts { .. })
+    }
+}
+
+/// What is asked of tables: to judge one trace, or to compare two.
 #[derive(Clone, Copy)]
 pub enum Question<'a> {
-    Judge(JudgeWords<'a>),
-    /// To judge, and to tell what an accepted trace exercised: for people, or one fact a line.
-    Cover { words: JudgeWords<'a>, list: bool },
-    /// To judge, and to tell the facts behind a broken rule: all, or the first of them.
-    Explain { words: JudgeWords<'a>, all: bool },
-    Pair(PairWords<'a>),
-    /// To compare two traces, and to tell where they differ or why one of them breaks a rule.
-    ExplainPair { words: PairWords<'a>, all: bool },
+    One {
+        words: JudgeWords<'a>,
+        behind: Behind,
+    },
+    Two {
+        words: PairWords<'a>,
+        behind: Behind,
+    },
 }
 
 /// What the command line asks for.
@@ -170,26 +107,16 @@ pub enum Job<'a> {
     /// To judge a bundle from standard input.
     Bundle,
     /// The same, and to tell the facts behind a broken rule.
-    ExplainBundle {
-        all: bool,
-    },
-    /// To answer a question. At `names` is the table of the names that its tables have.
-    Ask {
-        question: Question<'a>,
-        names: Option<&'a str>,
-    },
-    /// To show the program at a path, or to tell why it is refused.
-    ExplainProgram(&'a str),
+    ExplainBundle { all: bool },
+    /// To answer a question.
+    Ask(Question<'a>),
+    /// To show a program, or to tell why it is refused.
+    ExplainProgram(ShowWords<'a>),
     Record(RecordWords<'a>),
     /// To judge a trace while it is written.
     Follow(FollowWords<'a>),
-    /// To show the ports and the precedence of the program at a path.
-    Show {
-        path: &'a str,
-        all: bool,
-    },
-    /// To print the core program of a whole one.
-    Lower(LowerWords<'a>),
+    /// To show the ports and the precedence of a program, or all of it.
+    Show(ShowWords<'a>),
 }
 
 impl Job<'_> {
@@ -197,10 +124,9 @@ impl Job<'_> {
     pub(crate) fn is_explained(self) -> bool {
         match self {
             Job::ExplainBundle { .. } | Job::ExplainProgram(_) => true,
-            Job::Ask { question, .. } => matches!(
-                question,
-                Question::Explain { .. } | Question::ExplainPair { .. }
-            ),
+            Job::Ask(Question::One { behind, .. } | Question::Two { behind, .. }) => {
+                behind.is_told()
+            }
             _ => false,
         }
     }
@@ -227,18 +153,13 @@ fn workers<'a>(alloc: Global, help: &'a str) -> Arg<'a> {
         .value_parser(clap::value_parser!(u32).range(1..65))
 }
 
-fn names<'a>(alloc: Global, help: &'a str) -> Arg<'a> {
-    Arg::new(alloc, "names")
-        .long("names")
-        .value_name("TABLE")
-        .action(ArgAction::Set)
-        .help(help)
+/// The flag with which a whole program is taken.
+fn lower_arg<'a>(alloc: Global) -> Arg<'a> {
+    Arg::new(alloc, "lower")
+        .long("lower")
+        .action(ArgAction::SetTrue)
+        .help("PROGRAM may be a whole Lingua Franca program;\nnames are those of its source")
 }
-
-/// The help of `--names` of what judges.
-const NAMED: &str = "\
-the table of names that `lower` wrote: the
-tables and the answer have those of the source";
 
 const UNTIL: &str = "\
 judges the rows up to the first tag at or past
@@ -251,7 +172,7 @@ fn judge_command<'a>(alloc: Global) -> Result<Command<'a>, Error> {
         .arg(path(alloc, "EXTERNALS", "the table of external inputs"))?
         .arg(path(alloc, "TRACE", "the trace table"))?
         .arg(workers(alloc, JUDGES))?
-        .arg(names(alloc, NAMED))?
+        .arg(lower_arg(alloc))?
         .arg(until_arg(alloc, UNTIL))?
         .after_help(JUDGE_HELP);
     Ok(command)
@@ -268,7 +189,7 @@ fn cover_command<'a>(alloc: Global) -> Result<Command<'a>, Error> {
         .arg(path(alloc, "EXTERNALS", "the table of external inputs"))?
         .arg(path(alloc, "TRACE", "the trace table"))?
         .arg(workers(alloc, JUDGES))?
-        .arg(names(alloc, NAMED))?
+        .arg(lower_arg(alloc))?
         .arg(list)?
         .after_help(COVER_HELP);
     Ok(command)
@@ -294,7 +215,7 @@ fn explain_command<'a>(alloc: Global) -> Result<Command<'a>, Error> {
         .arg(path(alloc, "TRACE", "the trace table").required(false))?
         .arg(path(alloc, "SECOND", "another trace table").required(false))?
         .arg(workers(alloc, JUDGES))?
-        .arg(names(alloc, NAMED).requires_arg("TRACE")?)?
+        .arg(lower_arg(alloc).requires_arg("PROGRAM")?)?
         .arg(until_arg(alloc, UNTIL).requires_arg("TRACE")?)?
         .arg(all_arg(alloc))?
         .after_help(EXPLAIN_HELP);
@@ -311,7 +232,7 @@ fn pair_command<'a>(alloc: Global) -> Result<Command<'a>, Error> {
         .arg(path(alloc, "FIRST", "a trace table"))?
         .arg(path(alloc, "SECOND", "another trace table"))?
         .arg(workers(alloc, JUDGES))?
-        .arg(names(alloc, NAMED))?
+        .arg(lower_arg(alloc))?
         .after_help(PAIR_HELP);
     Ok(command)
 }
@@ -330,6 +251,7 @@ fn record_command<'a>(alloc: Global) -> Result<Command<'a>, Error> {
         .arg(path(alloc, "CARDS", "the table of cards"))?
         .arg(workers(alloc, "how many workers, 1 to 64"))?
         .arg(max_runs)?
+        .arg(lower_arg(alloc))?
         .after_help(RECORD_HELP);
     Ok(command)
 }
@@ -370,12 +292,15 @@ fn follow_command<'a>(alloc: Global) -> Result<Command<'a>, Error> {
     let explain = Arg::new(alloc, "explain")
         .long("explain")
         .action(ArgAction::SetTrue)
-        .help("tells behind a broken rule the facts that\nshow it, as `explain` does");
+        .help(
+            "tells behind a broken rule the facts that\nshow it, as `explain` does, and at the end\nwhich runs are open",
+        );
     let command = Command::new(alloc, "follow")
         .about("Judges a trace while it is written,\nand forgets the rows of finished tags")
         .arg(path(alloc, "PROGRAM", "the program's text"))?
         .arg(path(alloc, "EXTERNALS", EXTERNALS_HELP).required(false))?
         .arg(path(alloc, "LOG", LOG_HELP).required(false))?
+        .arg(lower_arg(alloc))?
         .arg(until)?
         .arg(whole)?
         .arg(every)?
@@ -390,6 +315,7 @@ fn show_command<'a>(alloc: Global) -> Result<Command<'a>, Error> {
     let command = Command::new(alloc, "show")
         .about("Shows the ports of a program and which of its reactions precede which")
         .arg(path(alloc, "PROGRAM", "the program's text"))?
+        .arg(lower_arg(alloc))?
         .arg(
             Arg::new(alloc, "all")
                 .long("all")
@@ -397,15 +323,6 @@ fn show_command<'a>(alloc: Global) -> Result<Command<'a>, Error> {
                 .help("instances, actions, timers, triggers, uses and effects too"),
         )?
         .after_help(SHOW_HELP);
-    Ok(command)
-}
-
-fn lower_command<'a>(alloc: Global) -> Result<Command<'a>, Error> {
-    let command = Command::new(alloc, "lower")
-        .about("Prints a core program with the same coordination\nas a whole Lingua Franca program")
-        .arg(path(alloc, "PROGRAM", "the program's text"))?
-        .arg(names(alloc, "writes a table of the names that differ"))?
-        .after_help(LOWER_HELP);
     Ok(command)
 }
 
@@ -422,7 +339,6 @@ fn root_command<'a>(alloc: Global) -> Result<Command<'a>, Error> {
         .subcommand(follow_command(alloc)?)?
         .subcommand(record_command(alloc)?)?
         .subcommand(show_command(alloc)?)?
-        .subcommand(lower_command(alloc)?)?
         .after_help(HELP);
     Ok(command)
 }
@@ -445,10 +361,26 @@ fn given<'a>(matches: &ArgMatches<'a>, id: &str) -> Option<&'a str> {
     }
 }
 
+/// The words of a program.
+fn program<'a>(matches: &ArgMatches<'a>) -> ProgramWords<'a> {
+    ProgramWords {
+        path: text(matches, "PROGRAM"),
+        lower: matches.get_flag("lower"),
+    }
+}
+
+/// The words of a command that shows a program.
+fn show_words<'a>(matches: &ArgMatches<'a>, all: bool) -> ShowWords<'a> {
+    ShowWords {
+        program: program(matches),
+        all,
+    }
+}
+
 /// The words of a command that judges one trace.
 fn judge_words<'a>(matches: &ArgMatches<'a>) -> JudgeWords<'a> {
     JudgeWords {
-        program: text(matches, "PROGRAM"),
+        program: program(matches),
         externals: text(matches, "EXTERNALS"),
         trace: text(matches, "TRACE"),
         workers: number(matches, "workers", 1),
@@ -458,19 +390,11 @@ fn judge_words<'a>(matches: &ArgMatches<'a>) -> JudgeWords<'a> {
 /// The words of a command that compares two traces, the first of which has the name.
 fn pair_words<'a>(matches: &ArgMatches<'a>, first: &str) -> PairWords<'a> {
     PairWords {
-        program: text(matches, "PROGRAM"),
+        program: program(matches),
         externals: text(matches, "EXTERNALS"),
         first: text(matches, first),
         second: text(matches, "SECOND"),
         workers: number(matches, "workers", 1),
-    }
-}
-
-/// A question, with the words of its command.
-fn ask<'a>(matches: &ArgMatches<'a>, question: Question<'a>) -> Job<'a> {
-    Job::Ask {
-        question,
-        names: given(matches, "names"),
     }
 }
 
@@ -486,18 +410,6 @@ fn until<'a>(mut command: Command<'a>, matches: &ArgMatches<'a>) -> Result<Optio
             Err(command.error(ErrorKind::ValueValidation, words)?)
         }
     }
-}
-
-/// The tag that `--until` names, where the tables have no names of the source.
-fn until_alone<'a>(
-    mut command: Command<'a>,
-    matches: &ArgMatches<'a>,
-) -> Result<Option<Tag>, Error> {
-    if matches.contains_id("until") && matches.contains_id("names") {
-        let words = "`--until` and `--names` don't go together";
-        return Err(command.error(ErrorKind::ArgumentConflict, words)?);
-    }
-    until(command, matches)
 }
 
 /// A trace of three files is followed up to a tag: its rows behind that tag aren't judged.
@@ -521,22 +433,26 @@ fn follow_until(words: JudgeWords<'_>, until: Tag, explain: bool, all: bool) -> 
 fn judge_job<'a>(alloc: Global, matches: &ArgMatches<'a>) -> Result<Job<'a>, Error> {
     let words = judge_words(matches);
     let command = judge_command(alloc)?.bin_name("lftrace judge")?;
-    match until_alone(command, matches)? {
+    match until(command, matches)? {
         Some(until) => Ok(follow_until(words, until, false, false)),
-        None => Ok(ask(matches, Question::Judge(words))),
+        None => Ok(Job::Ask(Question::One {
+            words,
+            behind: Behind::Nothing,
+        })),
     }
 }
 
 /// What the words of `explain` ask for without `--until`: by how many paths there are.
 fn explain_all<'a>(matches: &ArgMatches<'a>, all: bool) -> Job<'a> {
+    let behind = Behind::Facts { all };
     if matches.contains_id("SECOND") {
         let words = pair_words(matches, "TRACE");
-        ask(matches, Question::ExplainPair { words, all })
+        Job::Ask(Question::Two { words, behind })
     } else if matches.contains_id("TRACE") {
         let words = judge_words(matches);
-        ask(matches, Question::Explain { words, all })
+        Job::Ask(Question::One { words, behind })
     } else if matches.contains_id("PROGRAM") {
-        Job::ExplainProgram(text(matches, "PROGRAM"))
+        Job::ExplainProgram(show_words(matches, false))
     } else {
         Job::ExplainBundle { all }
     }
@@ -550,22 +466,10 @@ fn explain_job<'a>(alloc: Global, matches: &ArgMatches<'a>) -> Result<Job<'a>, E
         let words = "`--until` is of one trace";
         return Err(command.error(ErrorKind::ArgumentConflict, words)?);
     }
-    match until_alone(command, matches)? {
+    match until(command, matches)? {
         Some(until) => Ok(follow_until(judge_words(matches), until, true, all)),
         None => Ok(explain_all(matches, all)),
     }
-}
-
-/// The words of `lower`. The table of names isn't written over the program.
-fn lower_words<'a>(alloc: Global, matches: &ArgMatches<'a>) -> Result<LowerWords<'a>, Error> {
-    let program = text(matches, "PROGRAM");
-    let names = given(matches, "names");
-    if names == Some(program) {
-        let mut command = lower_command(alloc)?.bin_name("lftrace lower")?;
-        let words = "`--names` would write over PROGRAM";
-        return Err(command.error(ErrorKind::ArgumentConflict, words)?);
-    }
-    Ok(LowerWords { program, names })
 }
 
 /// The words of `follow`.
@@ -579,7 +483,7 @@ fn follow_words<'a>(alloc: Global, matches: &ArgMatches<'a>) -> Result<FollowWor
     let until = until(command, matches)?;
     let every = matches.get_one::<u64>("every").unwrap_or(0);
     Ok(FollowWords {
-        program: text(matches, "PROGRAM"),
+        program: program(matches),
         externals: given(matches, "EXTERNALS"),
         log: given(matches, "LOG"),
         following: Following {
@@ -603,23 +507,23 @@ pub(crate) fn read_words<'a>(alloc: Global, words: &'a [String]) -> Result<Job<'
         Some(("cover", cover)) => {
             let words = judge_words(cover);
             let list = cover.get_flag("list");
-            Ok(ask(cover, Question::Cover { words, list }))
+            let behind = Behind::Counts { list };
+            Ok(Job::Ask(Question::One { words, behind }))
         }
         Some(("explain", explain)) => explain_job(alloc, explain),
-        Some(("pair", pair)) => Ok(ask(pair, Question::Pair(pair_words(pair, "FIRST")))),
+        Some(("pair", pair)) => Ok(Job::Ask(Question::Two {
+            words: pair_words(pair, "FIRST"),
+            behind: Behind::Nothing,
+        })),
         Some(("follow", follow)) => Ok(Job::Follow(follow_words(alloc, follow)?)),
         Some(("record", record)) => Ok(Job::Record(RecordWords {
-            program: text(record, "PROGRAM"),
+            program: program(record),
             externals: text(record, "EXTERNALS"),
             cards: text(record, "CARDS"),
             workers: number(record, "workers", 1),
             max_runs: number(record, "max-runs", 1_000_000),
         })),
-        Some(("show", show)) => Ok(Job::Show {
-            path: text(show, "PROGRAM"),
-            all: show.get_flag("all"),
-        }),
-        Some(("lower", lower)) => Ok(Job::Lower(lower_words(alloc, lower)?)),
+        Some(("show", show)) => Ok(Job::Show(show_words(show, show.get_flag("all")))),
         _ => Ok(Job::Bundle),
     }
 }

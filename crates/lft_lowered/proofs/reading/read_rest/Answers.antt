@@ -11,7 +11,7 @@ returns-in_err-give-clause-refused g c =
     let p = err_from_is_err_and c.from_residual-in_err-give.result c.from_residual-in_err-give.ensures.1 in
     let these = c.args.sources.now.files.items in
     let before = c.loop.sources in
-    let text = c.as_slice.result.now in
+    let text = c.in_ok-text.text.items in
     let some = begun these before.files.items c.requires.begun c.loop.invariant.1 in
     rw (p.1, p.2) (says_too (IsOfNext text before) (IsOfRest these) c.in_err-give.field-0.0 (λ files first r is.
     (further these before.files.items files c.loop.invariant.1 (begins_too text before files r is.1), inl (is.0, later_refused text before files r is.1 c.loop.invariant.0 some))) c.in_err-give.ensures.refused)

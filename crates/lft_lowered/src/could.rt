@@ -1,0 +1,223 @@
+//! What could stand in place of a token, found by trying.
+
+ghost use Rattle.std.specs.Prelude.{◌≡◌, IfOk, OnOk, true};
+ghost use Rattle.std.specs.List.{All};
+ghost use Rattle.lft_lowered.specs.Could.{CanStand, IsReadPast};
+
+use lft_tag::NoMemory;
+use lft_whole::{TextFault, TreeFault, lex};
+use lft_whole_parser::parse;
+use std::alloc::Global;
+
+/// Where more could stand, it isn't said what.
+const MOST: usize = 10;
+
+/// What is tried: how it is written, and what it is called.
+#[derive(Clone, Copy)]
+pub(crate) struct Thing {
+    pub(crate) spelling: &'static str,
+    pub(crate) words: &'static str,
+}
+
+const NAME: Thing = Thing {
+    spelling: "x",
+    words: "a name",
+};
+
+/// What is also a name elsewhere, and so isn't told where a name can stand.
+const WORDS: [Thing; 4] = [
+    Thing {
+        spelling: "ms",
+        words: "a unit of time (ns us ms s min h d week)",
+    },
+    Thing {
+        spelling: "time",
+        words: "the type `time`",
+    },
+    Thing {
+        spelling: "import",
+        words: "`import`",
+    },
+    Thing {
+        spelling: "from",
+        words: "`from`",
+    },
+];
+
+const OTHERS: [Thing; 20] = [
+    Thing {
+        spelling: "1",
+        words: "a number",
+    },
+    Thing {
+        spelling: "{= =}",
+        words: "code, {= .. =}",
+    },
+    Thing {
+        spelling: "\"\"",
+        words: "a string",
+    },
+    Thing {
+        spelling: "(",
+        words: "`(`",
+    },
+    Thing {
+        spelling: ")",
+        words: "`)`",
+    },
+    Thing {
+        spelling: "[",
+        words: "`[`",
+    },
+    Thing {
+        spelling: "]",
+        words: "`]`",
+    },
+    Thing {
+        spelling: "{",
+        words: "`{`",
+    },
+    Thing {
+        spelling: "}",
+        words: "`}`",
+    },
+    Thing {
+        spelling: ",",
+        words: "`,`",
+    },
+    Thing {
+        spelling: ":",
+        words: "`:`",
+    },
+    Thing {
+        spelling: "=",
+        words: "`=`",
+    },
+    Thing {
+        spelling: ".",
+        words: "`.`",
+    },
+    Thing {
+        spelling: "->",
+        words: "`->`",
+    },
+    Thing {
+        spelling: "timer",
+        words: "a member of the reactor, as `timer` or `reaction`",
+    },
+    Thing {
+        spelling: "reactor",
+        words: "`reactor`",
+    },
+    Thing {
+        spelling: "action",
+        words: "`action`",
+    },
+    Thing {
+        spelling: "startup",
+        words: "`startup`",
+    },
+    Thing {
+        spelling: "new",
+        words: "`new`",
+    },
+    Thing {
+        spelling: "after",
+        words: "`after`",
+    },
+];
+
+/// Whether a text is read further than the token of this number.
+fn is_read_past(alloc: Global, text: &[u8], token: usize) -> Result<bool, NoMemory>
+    ensures { IfOk result (λ yes. yes ≡ true → IsReadPast text.now token) }
+{
+    let tokens = match lex(alloc, text) {
+        Ok(tokens) => tokens,
+        Err(TextFault::BadText(_)) => return Ok(false),
+        Err(TextFault::NoMemory) => return Err(NoMemory),
+    };
+    match parse(alloc, text, &tokens) {
+        Ok(_) => Ok(true),
+        Err(TreeFault::Unexpected(at)) | Err(TreeFault::Package(at)) => Ok(token < at),
+        Err(TreeFault::NoMemory) => Err(NoMemory),
+    }
+}
+
+/// What stands before a token of a text, which is tried with others in place of that token.
+#[derive(Clone, Copy)]
+pub(crate) struct Front<'a> {
+    pub(crate) alloc: Global,
+    pub(crate) text: &'a [u8],
+    pub(crate) token: usize,
+}
+
+impl Front<'_> {
+    /// Whether the thing can stand behind it.
+    fn can_stand(self, thing: Thing) -> Result<bool, NoMemory>
+        ensures { IfOk result (λ yes. yes ≡ true → CanStand self.text.now self.token thing) }
+    {
+        let mut text = Vec::from_slice(self.alloc, self.text)?;
+        text.push(b' ')?;
+        text.extend_from_slice(thing.spelling.as_bytes())?;
+        is_read_past(self.alloc, &text, self.token)
+    }
+
+    /// Puts those of the things that can stand behind it at the end of a list.
+    fn find(self, found: &mut Vec<Thing>, things: &[Thing]) -> Result<(), NoMemory>
+        requires { All (CanStand self.text.now self.token) found.old.items }
+        ensures { OnOk result (All (CanStand self.text.now self.token) found.new.items) }
+    {
+        for place in 0..things.len() {
+            if self.can_stand(things[place])? {
+                found.push(things[place])?;
+            }
+        }
+        Ok(())
+    }
+
+    /// What can stand behind it: a name, or the words that can, and other things.
+    fn candidates(self) -> Result<Vec<Thing>, NoMemory>
+        ensures { IfOk result (λ found. All (CanStand self.text.now self.token) found.items) }
+    {
+        let mut found = Vec::new(self.alloc);
+        self.find(&mut found, &[NAME])?;
+        if found.is_empty() {
+            self.find(&mut found, &WORDS)?;
+        }
+        self.find(&mut found, &OTHERS)?;
+        Ok(found)
+    }
+}
+
+/// Puts the line that lists things behind the text, where there are some, and few.
+fn push_things(out: &mut String, things: &[Thing]) -> Result<(), NoMemory> {
+    if things.is_empty() || MOST < things.len() {
+        return Ok(());
+    }
+    out.push_str("  There could stand: ")?;
+    for place in 0..things.len() {
+        if 0 < place {
+            out.push_str(", ")?;
+        }
+        out.push_str(things[place].words)?;
+    }
+    out.push_str(".\n")?;
+    Ok(())
+}
+
+/// Puts what could stand in place of a token behind a text: the bytes before it are the front of its file.
+pub(crate) fn push_could(
+    alloc: Global,
+    out: &mut String,
+    text: &[u8],
+    start: usize,
+    token: usize,
+) -> Result<(), NoMemory> {
+    let front = Front {
+        alloc,
+        text: text.get(..start).unwrap_or(b""),
+        token,
+    };
+    let found = front.candidates()?;
+    push_things(out, &found)
+}

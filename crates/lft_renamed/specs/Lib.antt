@@ -1,4 +1,0 @@
-pub mod Bytes
-pub mod Names
-pub mod Renaming
-pub mod Texts

@@ -1,0 +1,216 @@
+//! From files to a program, to a plan, and to what is answered under it. Where it is asked for, why a text is refused
+//! is told at the place where it is.
+
+use crate::words::{Behind, ProgramWords};
+use lft_covering::cover_plan;
+use lft_files::Failure;
+use lft_flat::Program;
+use lft_front::{
+    explain_pair_plan, explain_plan, is_accepted, is_same, judge_plan, pair_plan, refusal_of_graph,
+    refusal_of_plan, refusal_of_program, refusal_of_trace, refusal_of_traces, show_program,
+};
+use lft_load::{Fault, Part, plan_of, read_program};
+use lft_lowered::{Whole, whole_program};
+use lft_model::Plan;
+use lft_tag::NoMemory;
+use std::alloc::Global;
+use std::io::Write;
+use std::rt::Files;
+use std::thread::Threads;
+
+/// A trace of fewer bytes is judged by one worker: of it a thread costs more than it brings.
+const SHORT: usize = 1 << 20;
+
+/// How many of so many workers judge traces of so many bytes.
+fn workers_for(workers: u32, bytes: usize) -> u32 {
+    if bytes < SHORT { 1 } else { workers }
+}
+
+/// Whether a text of this fault isn't core. Want of memory says nothing of it.
+fn is_no_core(fault: &Fault) -> bool {
+    matches!(fault.part, Part::Lex | Part::Syntax) && fault.name != "NoMemory"
+}
+
+/// What a session writes to, and whether it tells there why a text is refused.
+#[derive(Drop)]
+pub(crate) struct Session<'w, F, W> {
+    rt: &'w F,
+    alloc: Global,
+    out: &'w mut W,
+    tells: bool,
+}
+
+impl<'w, F: Files, W: Write> Session<'w, F, W> {
+    pub(crate) fn of(rt: &'w F, alloc: Global, out: &'w mut W, tells: bool) -> Session<'w, F, W> {
+        Session {
+            rt,
+            alloc,
+            out,
+            tells,
+        }
+    }
+
+    /// Tells why a text is refused, where that is asked for and can be told. This is help alone: where it can't be
+    /// written, the line of the fault comes all the same.
+    fn tell(&mut self, told: Result<Option<String>, NoMemory>) {
+        if let Ok(Some(told)) = told {
+            let _ = self.out.write_all(told.as_bytes());
+        }
+    }
+
+    /// Tells why a core text has no program, and whether it is a whole one.
+    fn tell_refused(&mut self, path: &str, text: &[u8], fault: &Fault) {
+        if !self.tells || fault.name == "NoMemory" {
+            return;
+        }
+        self.tell(refusal_of_program(self.alloc, text));
+        if is_no_core(fault) && whole_program(self.rt, self.alloc, path, text).is_ok() {
+            let _ = self
+                .out
+                .write_all(b"  With `--lower` this program is taken.\n");
+        }
+    }
+
+    /// The program of a whole text and the files that it imports.
+    fn whole(&mut self, path: &str, text: &[u8]) -> Result<Whole, Failure> {
+        match whole_program(self.rt, self.alloc, path, text) {
+            Ok(whole) => Ok(whole),
+            Err(unlowered) => {
+                if self.tells {
+                    self.tell(Ok(unlowered.told));
+                }
+                Err(unlowered.failure)
+            }
+        }
+    }
+
+    /// The program that these words and this text tell, and what is said of it.
+    pub(crate) fn program(
+        &mut self,
+        words: ProgramWords<'_>,
+        text: &[u8],
+    ) -> Result<Whole, Failure> {
+        match read_program(self.alloc, text) {
+            Ok(program) => Ok(Whole {
+                program,
+                notes: Vec::new(self.alloc),
+            }),
+            Err(fault) if words.lower && is_no_core(&fault) => self.whole(words.path, text),
+            Err(fault) => {
+                self.tell_refused(words.path, text, &fault);
+                Err(Failure::from(fault))
+            }
+        }
+    }
+
+    /// Its plan under these external inputs.
+    pub(crate) fn plan(
+        &mut self,
+        words: ProgramWords<'_>,
+        text: &[u8],
+        externals: &[u8],
+    ) -> Result<Plan, Failure> {
+        let whole = self.program(words, text)?;
+        match plan_of(self.alloc, whole.program, externals) {
+            Ok(plan) => Ok(plan),
+            Err(unplanned) => {
+                if self.tells {
+                    self.tell(refusal_of_plan(self.alloc, &unplanned.program, externals));
+                }
+                Err(Failure::from(unplanned.fault))
+            }
+        }
+    }
+
+    /// Shows a program, or all of it.
+    pub(crate) fn show(&mut self, program: &Program, all: bool) -> Result<bool, Failure> {
+        match show_program(self.alloc, program, all, self.out) {
+            Ok(()) => Ok(true),
+            Err(fault) => {
+                if self.tells {
+                    self.tell(refusal_of_graph(self.alloc, program));
+                }
+                Err(Failure::from(fault))
+            }
+        }
+    }
+}
+
+impl<'w, F: Files + Threads + Sync, W: Write> Session<'w, F, W> {
+    /// The verdict on a trace, whose line is written with what stands behind it.
+    fn verdict(
+        &mut self,
+        plan: &Plan,
+        trace: &[u8],
+        workers: u32,
+        behind: Behind,
+    ) -> Result<bool, Fault> {
+        let (rt, alloc) = (self.rt, self.alloc);
+        let verdict = match behind {
+            Behind::Nothing => judge_plan(rt, alloc, plan, trace, workers, self.out)?,
+            Behind::Counts { list } => cover_plan(rt, alloc, plan, trace, workers, list, self.out)?,
+            Behind::Facts { all } => explain_plan(rt, alloc, plan, trace, workers, all, self.out)?,
+        };
+        Ok(is_accepted(verdict))
+    }
+
+    /// Judges a trace under a plan.
+    pub(crate) fn judge(
+        &mut self,
+        plan: &Plan,
+        trace: &[u8],
+        workers: u32,
+        behind: Behind,
+    ) -> Result<bool, Failure> {
+        let workers = workers_for(workers, trace.len());
+        match self.verdict(plan, trace, workers, behind) {
+            Ok(answer) => Ok(answer),
+            Err(fault) => {
+                if self.tells {
+                    self.tell(refusal_of_trace(self.alloc, plan.program(), trace, "Trace"));
+                }
+                Err(Failure::from(fault))
+            }
+        }
+    }
+
+    /// What two traces show, whose line is written with the facts, where these are asked for.
+    fn comparison(
+        &mut self,
+        plan: &Plan,
+        first: &[u8],
+        second: &[u8],
+        workers: u32,
+        behind: Behind,
+    ) -> Result<bool, Fault> {
+        let (rt, alloc) = (self.rt, self.alloc);
+        let paired = match behind {
+            Behind::Facts { all } => {
+                explain_pair_plan(rt, alloc, plan, first, second, workers, all, self.out)?
+            }
+            _ => pair_plan(rt, alloc, plan, first, second, workers, self.out)?,
+        };
+        Ok(is_same(paired))
+    }
+
+    /// Compares two traces under a plan.
+    pub(crate) fn compare(
+        &mut self,
+        plan: &Plan,
+        first: &[u8],
+        second: &[u8],
+        workers: u32,
+        behind: Behind,
+    ) -> Result<bool, Failure> {
+        let workers = workers_for(workers, first.len().max(second.len()));
+        match self.comparison(plan, first, second, workers, behind) {
+            Ok(answer) => Ok(answer),
+            Err(fault) => {
+                if self.tells {
+                    self.tell(refusal_of_traces(self.alloc, plan.program(), first, second));
+                }
+                Err(Failure::from(fault))
+            }
+        }
+    }
+}
