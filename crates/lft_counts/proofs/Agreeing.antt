@@ -10,8 +10,8 @@ use Rattle.lft_counts.specs.declared.orders.Orders.{Orders}
 use Rattle.lft_counts.specs.declared.overlaps.Overlaps.{Overlaps}
 use Rattle.lft_counts.specs.declared.cover.Counting.{Counting}
 use Rattle.lft_counts.specs.declared.cover.Cover.{Cover}
-use Rattle.lft_counts.specs.Counts.{Count, AreCounts, StartsAt, StartsBy, WritesAt, Runs, MeetsRun, Widens}
-use Rattle.lft_counts.specs.Orders.{MeetsAt, ApartAt, IsLast, NoStart, Stands, IsCounted}
+use Rattle.lft_counts.specs.Counts.{StartsAt, StartsBy, WritesAt, Runs, MeetsRun, Widens}
+use Rattle.lft_counts.specs.Orders.{MeetsAt, ApartAt, IsLast, NoStart, Stands}
 use Rattle.lft_counts.specs.Overlaps.{Overlap}
 use Rattle.lft_counts.specs.Cover.{CoversRows, IsCounting, IsCover}
 use Rattle.lft_counts.proofs.Numbers.{count_same}

@@ -1,7 +1,6 @@
 //! How many runs each worker starts.
 
-ghost use Rattle.std.specs.Prelude.{◌≡◌, ◌+◌, ◌<◌, ◌==◌, ℕ, cond, IfOk, OnOk, Some, slice_get};
-ghost use Rattle.lft_steps.specs.declared.row.Row.{Row as TheRow};
+ghost use Rattle.std.specs.Prelude.{◌≡◌, ◌+◌, ◌<◌, ◌==◌, ℕ, cond, IfOk, OnOk, Some};
 ghost use Rattle.lft_counts.specs.Workers.{AllRun, by_number, runs_by};
 
 use lft_tag::NoMemory;

@@ -18,7 +18,7 @@ use Rattle.lft_stream.proofs.Parting.{up_to_second}
 use Rattle.lft_follow.specs.Sure.{AreFrom, IsFirstBefore}
 use Rattle.lft_follow.specs.Kept.{IsPast}
 use Rattle.lft_follow.specs.declared.past.Past.{Past}
-use Rattle.lft_follow.specs.Follows.{BeginsLast, IsFirstBehind}
+use Rattle.lft_follow.specs.Follows.{BeginsLast, IsFirstBehind, KeepsButLast}
 use Rattle.lft_follow.proofs.Dropped.{dropped_alike}
 use Rattle.lft_follow.proofs.Finished.{finished_law}
 use Rattle.lft_follow.proofs.Keeping.{alike_nearer, from_late, kept_before, kept_stop}
@@ -46,13 +46,14 @@ module _ (plan : PlanParts) (d u v : List Row) (p : Past) (is : IsPast plan d p)
       least c x (inr up) = found.1 c (subst (λ (g : Tag). TagBreachUntil g plan (kept ++ u) c) (sym same) ((dropped c up).0 x), up)
 
 -- where the rows of the last tag begin at a place, what is first before that tag is sure
-pub first_behind : (plan : PlanParts) (d rows : List Row) (begin end : ℕ) (x : Row) (b : Breach) → BeginsLast rows end begin → 0 < begin → end ≤ length rows → slice_get rows begin ≡ Some x → ((v : List Row) → AreFrom v x.tag → IsFirstBefore plan ((d ++ slice_range rows 0 begin) ++ v) x.tag b) → IsFirstBehind plan (d ++ rows) b (length d + end)
-first_behind plan d rows begin end x b begins more within here first = record {
+pub first_behind : (plan : PlanParts) (d rows : List Row) (begin end : ℕ) (x : Row) (b : Breach) → BeginsLast rows end begin → 0 < begin → end ≤ length rows → slice_get rows begin ≡ Some x → ((v : List Row) → AreFrom v x.tag → IsFirstBefore plan ((d ++ slice_range rows 0 begin) ++ v) x.tag b) → KeepsButLast plan (d ++ take end rows) → IsFirstBehind plan (d ++ rows) b (length d + end)
+first_behind plan d rows begin end x b begins more within here first keeps = record {
   within = let l : length (d ++ rows) ≡ length d + length rows = length-append d rows in omega arith;
   some = omega arith;
   row = z.0;
   last = ap (λ (n : ℕ). slice_get (d ++ rows) n) (let e : length d + end - 1 ≡ length d + (end - 1) = omega arith in e) ∙ get_right d rows (end - 1) ∙ z.1;
   first = subst (λ (t : List Row). IsFirstBefore plan t z.0.tag b) parts (subst (λ (g : Tag). IsFirstBefore plan ((d ++ slice_range rows 0 begin) ++ slice_range rows begin end) g b) (at_tag begin x (omega arith) some here) (first (slice_range rows begin end) from));
+  kept = subst (λ (t : List Row). KeepsButLast plan t) (sym (take-append-add d rows end)) keeps;
 }
   where
     up : begin ≤ end

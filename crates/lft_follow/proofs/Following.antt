@@ -2,7 +2,7 @@
 use Rattle.std.proofs.Common.{◌≡◌, ℕ, ◌+◌, ◌-◌, ◌∷◌, ◌<◌, ◌≤◌, ◌⊎◌, inl, inr, List, [], ◌++◌, length, take, length-append, refl, sym, ap, ◌∙◌, subst, arith, Some, None, slice_get, slice_range}
 use Rattle.std.proofs.Math.Seq.{take-append_seam, take-length}
 use native.Mathlib.Decide.{dec_lt}
-use Rattle.std.proofs.lemmas.List.{append_assoc, take-append-le}
+use Rattle.std.proofs.lemmas.List.{append_assoc, append-nil, take-append-le}
 use Rattle.lft_tag.specs.declared.Tag.{Tag}
 use Rattle.lft_tag.specs.Tags.{Before, UpTo}
 use Rattle.lft_tag.proofs.Order.{UpTo-Before, UpTo-refl, UpTo_antisym, order_cases, split_up}
@@ -13,7 +13,7 @@ use Rattle.lft_steps.specs.Fits.{RowFits, RowsFit}
 use Rattle.lft_model.specs.declared.breach.Breach.{Breach}
 use Rattle.lft_model.specs.Plans.{PlanParts}
 use Rattle.lft_model.specs.Presence.{stop}
-use Rattle.lft_model.proofs.Places.{slice_get_within}
+use Rattle.lft_model.proofs.Places.{slice_get_within, slice_get_take}
 use Rattle.lft_rows.specs.Firsts.{FirstRow}
 use Rattle.lft_rows.specs.Slices.{Rises}
 use Rattle.lft_rows.specs.Passes.{HasPassed, KeepsEarly}
@@ -22,11 +22,14 @@ use Rattle.lft_stream.proofs.Parting.{range_fits}
 use Rattle.lft_follow.specs.declared.gone.Going.{Going}
 use Rattle.lft_follow.specs.declared.follower.Follower.{Follower}
 use Rattle.lft_follow.specs.declared.gone.Halt.TheVariants.{AtEnd, AtRow, AtLater}
-use Rattle.lft_follow.specs.Going.{IsGoing, IsFirstBad, IsLost, HasGone}
+use Rattle.lft_follow.specs.Going.{AreEnded, AreOpen, IsGoing, IsGoneTo, IsFirstBad, IsLost, HasGone}
 use Rattle.lft_follow.specs.declared.judged.Judged.{Judged}
-use Rattle.lft_follow.specs.Follows.{done_of, IsAtHand, IsClean, IsCleanTo, IsFollowerOf, IsHeld, IsJudged, IsJudgedOf, IsSureBehind, IsSureOf, BeginsLast}
+use Rattle.lft_follow.specs.declared.judged.Unjudged.{Unjudged}
+use Rattle.lft_follow.specs.declared.reach.Reach.{Reach}
+use Rattle.lft_follow.specs.Follows.{done_of, AreDone, IsAtHand, IsClean, IsCleanTo, IsFollowerOf, IsHalt, IsHeld, IsJudged, IsJudgedOf, IsOdd, IsOddSoFar, IsQuiet, IsSureBehind, IsSureSoFar, IsTurn, IsUnjudged, BeginsLast}
 use Rattle.lft_follow.proofs.Judging.{accepted_rise, all_at, parted, rest_at}
-use Rattle.lft_follow.proofs.Telling.{bad_is_sure, lost_is_sure}
+use Rattle.lft_follow.proofs.Over.{apart, keeps_but_last, quiet}
+use Rattle.lft_follow.proofs.Telling.{IsOf, bad_is_sure, lost_is_sure}
 
 -- what is gone over is gone over still when more rows come behind
 pub going_more : (plan : PlanParts) (done rows more : List Row) (g : Going) → IsGoing plan done rows g → IsGoing plan done (rows ++ more) g
@@ -34,10 +37,21 @@ going_more plan done rows more g is = record {
   within = let a : length (rows ++ more) ≡ length rows + length more = length-append rows more in let b : g.passed ≤ length rows = is.within in omega arith;
   stop_is = is.stop_is ∙ ap (λ (t : List Row). stop plan (done ++ t)) (sym same);
   passes = subst (λ (t : List Row). HasPassed g.stop plan t g.passed g.pass) (sym same) is.passes;
+  ended = λ z e. subst (λ (t : List Row). AreEnded t z.tag) (sym same) (ended z e (dec_lt 0 g.passed));
+  few = is.few;
+  runs = subst (λ (t : List Row). AreOpen t g.runs) (sym same) is.runs;
 }
   where
     same : take g.passed (rows ++ more) ≡ take g.passed rows
     same = take-append-le g.passed rows more is.within
+
+    own : (n : ℕ) (z : Row) → n < length rows → (slice_get rows n ≡ Some z) ⊎ ((j : ℕ) × (n ≡ length rows + j) × (slice_get more j ≡ Some z)) → slice_get rows n ≡ Some z
+    own n z l (inl e) = e
+    own n z l (inr (j, q, e)) = absurd (let a : n ≡ length rows + j = q in omega arith)
+
+    ended : (z : Row) → slice_get (rows ++ more) (g.passed - 1) ≡ Some z → Dec (0 < g.passed) → AreEnded (take g.passed rows) z.tag
+    ended z e (yes l) = is.ended z (own (g.passed - 1) z (let b : g.passed ≤ length rows = is.within in omega arith) (get_append_cases rows more (g.passed - 1) z e))
+    ended z e (no n) = λ i x at. absurd (let l : i < g.passed = (slice_get_take g.passed rows i x at).0 in omega arith)
 
 -- rows that are all gone over rise
 pub rises_at_hand : (plan : PlanParts) (done rows : List Row) (g : Going) → IsGoing plan done rows g → g.passed ≡ length rows → Rises rows
@@ -116,6 +130,18 @@ held_more plan t more old new is fit judged going rows few = record {
     each i x (inl e) = h.fit.each i x e
     each i x (inr e) = fit.each e.0 x e.2
 
+-- the rows before the end of what is gone over
+pub gone_at : (plan : PlanParts) (done rows : List Row) (place end rule : ℕ) → IsHalt plan done rows place end rule → IsGoneTo plan done rows end
+gone_at plan done rows place end rule (inl (q, bad)) = subst (λ (n : ℕ). IsGoneTo plan done rows n) (sym q) bad.gone
+gone_at plan done rows place end rule (inr (q, lost)) = lost.gone
+
+pub gone_all : (plan : PlanParts) (done rows : List Row) (g : Going) → IsGoing plan done rows g → g.passed ≡ length rows → IsGoneTo plan done rows (length rows)
+gone_all plan done rows g is all = subst (λ (n : ℕ). IsGoneTo plan done rows n) all (record { within = is.within; kept = subst (λ (k : Tag). KeepsEarly k plan (take g.passed rows) g.passed) is.stop_is is.passes.kept; ended = is.ended })
+
+-- rows that are all at one tag begin with it
+pub begins_at : (rows : List Row) (g : Tag) → AreAt rows g → BeginsLast rows (length rows) 0
+begins_at rows g at = record { last = record { up = omega arith; at_one = λ i x z a b e f. at i x e ∙ sym (at (length rows - 1) z f) }; some = λ l. l; other = λ x z l. absurd (omega arith) }
+
 module _ (plan : PlanParts) (t : List Row) (f : Follower) (h : IsHeld plan t f) where
   abbrev done : List Row
   done = done_of t f
@@ -126,11 +152,33 @@ module _ (plan : PlanParts) (t : List Row) (f : Follower) (h : IsHeld plan t f) 
   counted : (b : Breach) (place : ℕ) → b.row ≡ f.judged.count + place + 2 → b.row ≡ length done + place + 2
   counted b place row = let a : f.judged.count ≡ length done = h.judged.counted in omega (arith, row, a)
 
-  pub bad_told : (i k : ℕ) → IsFirstBad plan done f.rows.items i k → IsSureOf plan t f i k
-  bad_told i k o b rule row is = subst (λ (x : List Row). (n : ℕ) × IsSureBehind plan x b n) (sym h.parts) (bad_is_sure plan done f.rows.items (stop plan done) settled i k o b rule (counted b i row) is)
+  abbrev items : List Row
+  items = f.rows.items
 
-  pub lost_told : (s i : ℕ) → IsLost f.rows.items s i → IsSureOf plan t f s 5
-  lost_told s i o b rule row is = subst (λ (x : List Row). (n : ℕ) × IsSureBehind plan x b n) (sym h.parts) (lost_is_sure plan done f.rows.items (stop plan done) settled s i o b rule (counted b s row) is)
+  first : (x : Row) → slice_get items 0 ≡ Some x → AreBefore done x.tag
+  first = h.earlier
+
+  -- where rows at hand are gone over, and those before the last of them are judged, nothing is to be told of them
+  pub quiet_to : (i begin : ℕ) → IsGoneTo plan done items i → BeginsLast items i begin → (j : Judged) → IsJudgedOf plan (done ++ slice_range items 0 begin) j → IsQuiet plan (done ++ take i items)
+  quiet_to i begin gone begins j judged = quiet plan done items i gone settled first begin begins j.past judged.past
+
+  -- and what is found behind them is the first to be told
+  pub told_sure : (place end rule : ℕ) → IsHalt plan done items place end rule → (begin : ℕ) → BeginsLast items end begin → (j : Judged) → IsJudgedOf plan (done ++ slice_range items 0 begin) j → (b : Breach) → b.rule ≡ rule → b.row ≡ f.judged.count + place + 2 → ((x : Row) → slice_get items place ≡ Some x → IsOf b x) → IsSureSoFar plan t b
+  told_sure place end rule halt begin begins j judged b rule_is row is = (told.0, inl (subst (λ (x : List Row). IsSureBehind plan x b told.0) (sym h.parts) told.1))
+    where
+      still : IsQuiet plan (done ++ take end items)
+      still = quiet_to end begin (gone_at plan done items place end rule halt) begins j judged
+
+      go : IsHalt plan done items place end rule → (n : ℕ) × IsSureBehind plan (done ++ items) b n
+      go (inl (q, bad)) = bad_is_sure plan done items settled first place rule bad (subst (λ (n : ℕ). IsQuiet plan (done ++ take n items)) q still) b rule_is (counted b place row) is
+      go (inr (q, lost)) = lost_is_sure plan done items settled first place end lost still b (rule_is ∙ q) (counted b place row) is
+
+      told : (n : ℕ) × IsSureBehind plan (done ++ items) b n
+      told = go halt
+
+  -- what rows at hand are that are gone over up to an end, of which the last tag begins at a place
+  pub turn_to : (before more : List Row) → t ≡ before ++ more → AreDone plan before done f.judged.reach → (end begin : ℕ) → IsGoneTo plan done items end → BeginsLast items end begin → IsTurn plan before more done items f.judged.reach begin end
+  turn_to before more whole is end begin gone begins = record { parts = sym whole ∙ h.parts; judged = is; gone = gone; begins = begins; kept = keeps_but_last plan done items end gone settled first }
 
   -- the rows but those at the last tag are judged
   pub judged_on : IsGoing plan done f.rows.items f.going → f.going.passed ≡ length f.rows.items → (new : Follower) (begin : ℕ) → 0 < begin → BeginsLast f.rows.items (length f.rows.items) begin → IsJudgedOf plan (done ++ slice_range f.rows.items 0 begin) new.judged → ((rows : List Row) → IsGoing plan (done ++ slice_range f.rows.items 0 begin) rows new.going) → new.rows.items ≡ slice_range f.rows.items begin (length f.rows.items) → IsFollowerOf plan t new
@@ -156,9 +204,6 @@ module _ (plan : PlanParts) (t : List Row) (f : Follower) (h : IsHeld plan t f) 
 
       same : done_of t new ≡ now
       same = done_is t now new.rows.items new.judged.count judged.counted parts
-
-      items : List Row
-      items = f.rows.items
 
       inside : begin < length items
       inside = begins.some (let a : begin ≤ length items = begins.last.up in let b : 0 < begin = some in omega arith)
@@ -199,13 +244,52 @@ module _ (plan : PlanParts) (t : List Row) (f : Follower) (h : IsHeld plan t f) 
       earlier : (x : Row) → slice_get (slice_range items begin (length items)) 0 ≡ Some x → AreBefore now x.tag
       earlier x e i y f = UpTo-Before y.tag last.0.tag x.tag (up_to_last i y f) (last_before x (ap (λ (n : ℕ). slice_get items n) (let z : begin ≡ begin + 0 = omega arith in z) ∙ sym (range-get items begin (length items) 0 (let l : begin < length items = inside in omega arith)) ∙ e))
 
+-- what is told of rows that can't be judged further
+pub odd_of : (plan : PlanParts) (t more done rows : List Row) (r : Reach) (begin end : ℕ) → IsTurn plan t more done rows r begin end → 0 < begin → begin < length rows → IsOdd plan t more r (length done + begin + 1)
+odd_of plan t more done rows r begin end turn some inside = record {
+  judged = turn.judged.0;
+  place = length done + (begin - 1);
+  row = last.0;
+  next = next.0;
+  is_row = subst (λ (x : List Row). slice_get x (length done + (begin - 1)) ≡ Some last.0) (sym turn.parts) (get_right done rows (begin - 1) ∙ last.1);
+  is_next = subst (λ (x : List Row). slice_get x (length done + (begin - 1) + 1) ≡ Some next.0) (sym turn.parts) (ap (λ (n : ℕ). slice_get (done ++ rows) n) (let e : length done + (begin - 1) + 1 ≡ length done + begin = omega arith in e) ∙ get_right done rows begin ∙ next.1);
+  before = apart plan done rows end turn.gone begin turn.begins (begin - 1) begin last.0 next.0 (omega arith) (omega arith) (turn.begins.some (let l : begin ≤ end = turn.begins.last.up in omega arith)) last.1 next.1;
+  behind = let e : length turn.judged.0.done ≡ length done = ap (λ (x : List Row). length x) turn.judged.1 in omega arith;
+  line_is = omega arith;
+}
+  where
+    last : (x : Row) × (slice_get rows (begin - 1) ≡ Some x)
+    last = get_there rows (begin - 1) (omega arith)
+
+    next : (x : Row) × (slice_get rows begin ≡ Some x)
+    next = get_there rows begin inside
+
+-- some rows of all are clean
+clean_to : (plan : PlanParts) (t d u : List Row) (r : Reach) → t ≡ d ++ u → IsClean plan d r → IsCleanTo plan t r (length d)
+clean_to plan t d u r parts clean = record { within = let a : length t ≡ length d + length u = ap (λ (x : List Row). length x) parts ∙ length-append d u in omega arith; clean = subst (λ (x : List Row). IsClean plan x r) (sym (done_is t d u (length d) refl parts)) clean }
+
+pub odd_so_far : (plan : PlanParts) (t more : List Row) (r : Reach) (line : ℕ) → IsOdd plan t more r line → IsOddSoFar plan (t ++ more) r line
+odd_so_far plan t more r line o = (length o.judged.done, clean_to plan (t ++ more) o.judged.done (o.judged.left ++ more) r (ap (λ (x : List Row). x ++ more) o.judged.parts ∙ append_assoc o.judged.done o.judged.left more) o.judged.clean, (let a : length o.judged.done ≤ o.place = o.behind in let b : line ≡ o.place + 2 = o.line_is in omega arith), let a : o.place + 1 < length (t ++ more) = slice_get_within (t ++ more) (o.place + 1) o.next o.is_next in let b : line ≡ o.place + 2 = o.line_is in omega arith)
+
+pub unjudged_so_far : (plan : PlanParts) (t : List Row) (u : Unjudged) → IsUnjudged plan t u → IsOddSoFar plan t u.reach u.line
+unjudged_so_far plan t u (inl judged, line) = (length judged.done, clean_to plan t judged.done judged.left u.reach judged.parts judged.clean, (let a : length t ≡ length judged.done + length judged.left = ap (λ (x : List Row). length x) judged.parts ∙ length-append judged.done judged.left in let b : u.line ≡ length t + 1 = line in omega arith), let b : u.line ≡ length t + 1 = line in omega arith)
+unjudged_so_far plan t u (inr clean, line) = (length t, clean_to plan t t [] u.reach (sym (append-nil t)) clean, (let b : u.line ≡ length t + 1 = line in omega arith), let b : u.line ≡ length t + 1 = line in omega arith)
+
+-- all rows that are held are gone over, and those before the last of them are judged: nothing is to be told
+module _ (plan : PlanParts) (t : List Row) (f : Follower) (hand : IsAtHand plan t f) (all : f.going.passed ≡ length f.rows.items) where
+  pub quiet_all : (begin : ℕ) → BeginsLast f.rows.items (length f.rows.items) begin → (j : Judged) → IsJudgedOf plan (done_of t f ++ slice_range f.rows.items 0 begin) j → IsQuiet plan t
+  quiet_all begin begins j judged = subst (λ (x : List Row). IsQuiet plan x) (ap (λ (x : List Row). done_of t f ++ x) (take-length f.rows.items) ∙ sym hand.held.parts) (quiet_to plan t f hand.held (length f.rows.items) begin (gone_all plan (done_of t f) f.rows.items f.going hand.going all) begins j judged)
+
+  pub quiet_at_one : (g : Tag) → AreAt f.rows.items g → IsQuiet plan t
+  quiet_at_one g at = quiet_all 0 (begins_at f.rows.items g at) f.judged (subst (λ (x : List Row). IsJudgedOf plan x f.judged) (sym (append-nil (done_of t f))) hand.held.judged)
+
 -- all rows are at one tag
 pub at_one_tag : (plan : PlanParts) (t : List Row) (f : Follower) → IsAtHand plan t f → BeginsLast f.rows.items (length f.rows.items) 0 → IsFollowerOf plan t f
 at_one_tag plan t f hand begins = record { hand = hand; at_one = all_at f.rows.items begins.last }
 
--- how far the rows are judged
-pub judged_so_far : (plan : PlanParts) (t : List Row) (f : Follower) → IsFollowerOf plan t f → IsJudged plan t f.judged.reach
-judged_so_far plan t f is = record { done = d; left = f.rows.items; parts = h.parts; at_one = at_one f.rows.items h.some h.earlier is.at_one; some = h.some; clean = h.judged.clean }
+-- how far the rows are judged, and which
+pub done_so_far : (plan : PlanParts) (t : List Row) (f : Follower) → IsFollowerOf plan t f → AreDone plan t (done_of t f) f.judged.reach
+done_so_far plan t f is = (record { done = done_of t f; left = f.rows.items; parts = h.parts; at_one = at_one f.rows.items h.some h.earlier is.at_one; some = h.some; clean = h.judged.clean }, refl)
   where
     h : IsHeld plan t f
     h = is.hand.held
@@ -217,9 +301,8 @@ judged_so_far plan t f is = record { done = d; left = f.rows.items; parts = h.pa
     at_one [] some earlier g = (g.0, g.1, subst (λ (x : List Row). AreBefore x g.0) (sym (some refl)) (λ i x e. absurd (cc)))
     at_one (y ∷ u) some earlier g = (g.0, g.1, subst (λ (k : Tag). AreBefore d k) (g.1 0 y refl) (earlier y refl))
 
--- the rows that are judged are clean, whatever rows come behind
-pub clean_before : (plan : PlanParts) (d rows : List Row) (j : Judged) → IsJudgedOf plan d j → (n : ℕ) × IsCleanTo plan (d ++ rows) j.reach n
-clean_before plan d rows j is = (j.count, record { within = let a : length (d ++ rows) ≡ length d + length rows = length-append d rows in let b : j.count ≡ length d = is.counted in omega (arith, a, b); clean = subst (λ (t : List Row). IsClean plan t j.reach) (sym (done_is (d ++ rows) d rows j.count is.counted refl)) is.clean })
+pub judged_so_far : (plan : PlanParts) (t : List Row) (f : Follower) → IsFollowerOf plan t f → IsJudged plan t f.judged.reach
+judged_so_far plan t f is = (done_so_far plan t f is).0
 
 -- before the first row
 pub new_follower : (plan : PlanParts) (f : Follower) → IsJudgedOf plan [] f.judged → ((rows : List Row) → IsGoing plan [] rows f.going) → f.rows.items ≡ [] → IsFollowerOf plan [] f
@@ -273,8 +356,18 @@ module _ (plan : PlanParts) (t more : List Row) (old now : Follower) (is : IsFol
       pub over_end : HasGone plan (done_of (t ++ more) now) s g AtEnd → IsAtHand plan (t ++ more) then × (g.passed ≡ length now.rows.items)
       over_end gone = (record { held = held_over; going = subst (λ (x : List Row). IsGoing plan (done_of (t ++ more) now) x g) rows gone.0 }, gone.1 ∙ ap (λ (x : List Row). length x) rows)
 
-      pub over_row : (i k : ℕ) → HasGone plan (done_of (t ++ more) now) s g (AtRow i k) → (i < length now.rows.items) × IsSureOf plan (t ++ more) then i k
-      over_row i k gone = let o = subst (λ (x : List Row). IsFirstBad plan (done_of (t ++ more) now) x i k) rows gone in (slice_get_within now.rows.items i o.row o.is_row, bad_told plan (t ++ more) then held_over i k o)
+      pub over_row : (i k : ℕ) → HasGone plan (done_of (t ++ more) now) s g (AtRow i k) → (i < length now.rows.items) × IsHalt plan (done_of (t ++ more) now) now.rows.items i i k
+      over_row i k gone = let o = subst (λ (x : List Row). IsFirstBad plan (done_of (t ++ more) now) x i k) rows gone in (slice_get_within now.rows.items i o.row o.is_row, inl (refl, o))
 
-      pub over_later : (b i : ℕ) → HasGone plan (done_of (t ++ more) now) s g (AtLater b i) → (b < length now.rows.items) × (i < length now.rows.items) × IsSureOf plan (t ++ more) then b 5
-      over_later b i gone = let o = subst (λ (x : List Row). IsLost x b i) rows gone in (slice_get_within now.rows.items b o.row o.is_row, slice_get_within now.rows.items i o.later o.is_later, lost_told plan (t ++ more) then held_over b i o)
+      pub over_later : (b i : ℕ) → HasGone plan (done_of (t ++ more) now) s g (AtLater b i) → (b < length now.rows.items) × (i < length now.rows.items) × IsHalt plan (done_of (t ++ more) now) now.rows.items b i 5
+      over_later b i gone = let o = subst (λ (x : List Row). IsLost plan (done_of (t ++ more) now) x b i) rows gone in (slice_get_within now.rows.items b o.row o.is_row, slice_get_within now.rows.items i o.later o.is_later, inr (refl, o))
+
+  -- what was judged before is what is done
+  pub still_done : now.judged ≡ old.judged → AreDone plan t (done_of (t ++ more) now) now.judged.reach
+  still_done same = subst (λ (j : Judged). AreDone plan t (take j.count (t ++ more)) j.reach) (sym same) (before.0, before.1 ∙ sym (take-append-le old.judged.count t more few))
+    where
+      before : AreDone plan t (done_of t old) old.judged.reach
+      before = done_so_far plan t old is
+
+      few : old.judged.count ≤ length t
+      few = let a : old.judged.count ≡ length (done_of t old) = is.hand.held.judged.counted in let b : length t ≡ length (done_of t old) + length old.rows.items = ap (λ (x : List Row). length x) is.hand.held.parts ∙ length-append (done_of t old) old.rows.items in omega (arith, a, b)

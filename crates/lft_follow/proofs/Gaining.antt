@@ -266,6 +266,7 @@ module _ (plan : PlanParts) (event : Event) (place : ℕ) (within : place ≤ le
     acceptor = acceptor_more t j.acceptor (later_up s.tag event.tag later) (next_up s.tag s.coming.next later is.acceptor.stands.come) is.acceptor;
     past = past_more t j.past before is.past;
     counted = is.counted;
+    few = is.few;
     clean = record { reach = is.clean.reach; unbroken = unbroken_more t (low_of j.reach.tag) (reach_up t j.reach event.tag is.clean.reach before) is.clean.unbroken };
   }
     where
@@ -280,7 +281,7 @@ module _ (plan : PlanParts) (event : Event) (place : ℕ) (within : place ≤ le
           is_later (Some g) o = subst (λ (k : Tag). Before k event.tag) o.3 (before o.0 o.1 o.2)
 
   going_more : (done rows : List Row) (g : Going) → IsGoing plan done rows g → IsGoing more done rows g
-  going_more done rows g is = record { within = is.within; stop_is = is.stop_is; passes = record { effects = is.passes.effects; known = is.passes.known; kept = is.passes.kept } }
+  going_more done rows g is = record { within = is.within; stop_is = is.stop_is; passes = record { effects = is.passes.effects; known = is.passes.known; kept = is.passes.kept }; ended = is.ended; few = is.few; runs = is.runs }
 
   -- an event that isn't before the rows at hand
   pub follower_more : (t : List Row) (f : Follower) → AreBefore (done_of t f) event.tag → IsFollowerOf plan t f → IsFollowerOf more t f

@@ -16,7 +16,7 @@ use Rattle.lft_rows.specs.Parts.{AreEarlier}
 
 module _ (plan : PlanParts) (d v : List Row) (last : Tag) (settled : FirstRow last plan d None) (i : ℕ) where
   -- a start of the rows that are done has its end among them
-  ended : (j : ℕ) (x : Row) → slice_get d j ≡ Some x → ¬ IsUnended d j x
+  pub ended : (j : ℕ) (x : Row) → slice_get d j ≡ Some x → ¬ IsUnended d j x
   ended j x e o = settled (record { rule = 5; tag = x.tag; reaction = Some x.reaction; row = j + 2 }) (record { place = j; row = x; is_row = e; breaks = inr (inr (inr (inr (refl, o)))); tag_is = refl; reaction_is = refl; row_is = refl })
 
   open_own : (w : ℕ) (g : Tag) (r : ℕ) → IsOpen (d ++ v) (length d + i) w g r → IsOpen v i w g r

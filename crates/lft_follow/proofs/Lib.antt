@@ -9,6 +9,7 @@ pub mod Coming
 pub mod Going
 pub mod Staying
 pub mod Hand
+pub mod Over
 pub mod Telling
 pub mod Reaching
 pub mod Passing
@@ -25,3 +26,4 @@ pub mod Behind
 pub mod First
 pub mod Ended
 pub mod Front
+pub mod Opening

@@ -178,6 +178,7 @@ module _ (plan : PlanParts) (g : Tag) where
       acceptor = record { stands = stream_sooner j.acceptor.stream is.acceptor.stands; pass = is.acceptor.pass; laid = is.acceptor.laid; order = is.acceptor.order };
       past = past_sooner j.past is.past;
       counted = is.counted;
+      few = is.few;
       clean = record { reach = is.clean.reach; unbroken = unbroken_sooner (low_of j.reach.tag) (reach_up t j.reach g is.clean.reach before) is.clean.unbroken };
     }
 
@@ -185,6 +186,9 @@ module _ (plan : PlanParts) (g : Tag) where
   going_sooner : (done rows : List Row) (k : Going) → ((i : ℕ) (x : Row) → slice_get rows i ≡ Some x → UpTo x.tag g) → IsGoing plan done rows k → IsGoing sooner done rows (record k { stop = earlier g k.stop })
   going_sooner done rows k up is = record {
     within = is.within;
+    ended = is.ended;
+    few = is.few;
+    runs = is.runs;
     stop_is = ap (λ (h : Tag). earlier g h) is.stop_is ∙ sym (stop_sooner (done ++ take k.passed rows));
     passes = record { effects = passes.effects; known = passes.known; kept = λ i x n below at few broken. passes.kept i x n below at few (go n i x broken) };
   }

@@ -1,26 +1,29 @@
 -- What is kept of rows that are judged while they come, and what is told of them.
-use Rattle.std.specs.Prelude.{◌≡◌, ℕ, Bool, true, ◌+◌, ◌-◌, ◌^◌, ◌≤◌, ◌<◌, ◌⊎◌, List, [], ◌++◌, length, take, Some, slice_get}
+use Rattle.std.specs.Prelude.{◌≡◌, ℕ, Bool, true, false, ◌+◌, ◌-◌, ◌^◌, ◌≤◌, ◌<◌, ◌⊎◌, List, [], ◌++◌, length, take, None, Some, slice_get}
 use Rattle.std.specs.List.{insert}
 use Rattle.lft_tag.specs.declared.Tag.{Tag}
-use Rattle.lft_tag.specs.Tags.{Before, earlier}
+use Rattle.lft_tag.specs.Tags.{Before, UpTo, earlier}
 use Rattle.lft_steps.specs.declared.externals.Event.{Event}
 use Rattle.lft_steps.specs.declared.row.Row.{Row}
 use Rattle.lft_steps.specs.Fits.{RowsFit}
 use Rattle.lft_steps.specs.Inputs.{IsTold}
 use Rattle.lft_model.specs.declared.breach.Breach.{Breach}
 use Rattle.lft_model.specs.Plans.{PlanParts}
-use Rattle.lft_model.specs.Breaches.{RowBreach, First}
+use Rattle.lft_model.specs.Presence.{stop}
+use Rattle.lft_model.specs.Breaches.{RowBreach, RowOrder, TagBreach, First}
 use Rattle.lft_rows.specs.Accepted.{IsAccepted}
+use Rattle.lft_rows.specs.Firsts.{FirstRow}
 use Rattle.lft_coming.specs.AtTag.{AreAt, AreBefore}
 use Rattle.lft_stream.specs.Kept.{IsAcceptorOf, low_of, stopped_stream}
 use Rattle.lft_follow.specs.Sure.{IsUnbroken, IsFirstBefore, with_inputs}
 use Rattle.lft_follow.specs.Kept.{IsPast}
-use Rattle.lft_follow.specs.Going.{IsGoing}
+use Rattle.lft_follow.specs.Going.{IsFirstBad, IsGoing, IsGoneTo, IsLost}
 use Rattle.lft_follow.specs.Reach.{IsReach}
 use Rattle.lft_follow.specs.declared.reach.Reach.{Reach}
 use Rattle.lft_follow.specs.declared.judged.Judged.{Judged}
 use Rattle.lft_follow.specs.declared.judged.Ending.{Ending}
 use Rattle.lft_follow.specs.declared.judged.Ending.TheVariants as ending
+use Rattle.lft_follow.specs.declared.judged.Unjudged.{Unjudged}
 use Rattle.lft_follow.specs.declared.follower.Follower.{Follower}
 use Rattle.lft_follow.specs.declared.found.Found.{Found}
 use Rattle.lft_follow.specs.declared.follower.Progress.{Progress}
@@ -52,7 +55,15 @@ pub record IsJudgedOf (plan : PlanParts) (t : List Row) (j : Judged) : Type 0 wh
   pub acceptor : IsAcceptorOf plan t j.acceptor
   pub past : IsPast plan t j.past
   pub counted : j.count ≡ length t
+  pub few : j.count ≤ 2 ^ 62 + 4000000
   pub clean : IsClean plan t j.reach
+
+-- of rows that are judged what is kept is right but for their acceptor, which may have gone on
+pub record AreJudged (plan : PlanParts) (t : List Row) (j : Judged) : Type 0 where
+  pub past : IsPast plan t j.past
+  pub counted : j.count ≡ length t
+  pub few : j.count ≤ 2 ^ 62 + 4000000
+  pub rows : FirstRow (stop plan t) plan t None
 
 -- what is kept of rows that are judged, with the tag for its stop, where that is earlier
 abbrev pub stopped_judged : Judged → Tag → Judged
@@ -123,41 +134,118 @@ pub record BeginsLast (rows : List Row) (end first : ℕ) : Type 0 where
 abbrev pub breach_of : Found → Breach
 breach_of f = record { rule = f.rule; tag = f.tag; reaction = f.reaction; row = f.line }
 
--- the breach is sure behind the first n rows: the last of them breaks one of the rules 1 to 4, or a run of theirs has no end and the next row is at a later tag
+-- the tag is finished: a row is at it or behind it, and another at a later tag still
+pub record IsFinished (t : List Row) (g : Tag) : Type 0 where
+  pub place : ℕ
+  pub other : ℕ
+  pub row : Row
+  pub later : Row
+  pub is_row : slice_get t place ≡ Some row
+  pub is_later : slice_get t other ≡ Some later
+  pub up : UpTo g row.tag
+  pub before : Before row.tag later.tag
+
+-- the breach is to be told of the rows: a row breaks one of the rules 1 to 4, or at a finished tag a run has no end or one of the rules 6 to 10 is broken
+abbrev pub IsToTell : PlanParts → List Row → Breach → Type 0
+IsToTell plan t b = RowBreach plan t b × ((b.rule ≤ 4) ⊎ IsFinished t b.tag) ⊎ TagBreach plan t b × IsFinished t b.tag
+
+-- nothing is to be told of the rows
+abbrev pub IsQuiet : PlanParts → List Row → Type 0
+IsQuiet plan t = (b : Breach) → ¬ IsToTell plan t b
+
+-- of the rows none breaks a rule but 5, and that only by runs at the last tag
+abbrev pub KeepsButLast : PlanParts → List Row → Type 0
+KeepsButLast plan t = (b : Breach) → RowBreach plan t b → (b.rule ≡ 5) × ((i : ℕ) (x : Row) → slice_get t i ≡ Some x → ¬ Before b.tag x.tag)
+
+-- the last of the first n rows is the first that breaks one of the rules 1 to 4, and the breach is of the least of these: nothing was to be told before it came, and each run at an earlier tag has its end
+pub record IsBadRow (plan : PlanParts) (t : List Row) (b : Breach) (n : ℕ) : Type 0 where
+  pub rule : b.rule ≤ 4
+  pub last : b.row ≡ n + 1
+  pub quiet : IsQuiet plan (take (n - 1) t)
+  pub least : (c : Breach) → RowBreach plan (take n t) c → c.row ≡ b.row → b.rule ≤ c.rule
+  pub ended : (c : Breach) → RowBreach plan (take n t) c → c.rule ≡ 5 → ¬ Before c.tag b.tag
+
+-- the breach is of the first run of the first n rows without an end, and the next row is at a later tag: nothing was to be told before it came
+pub record IsLostRun (plan : PlanParts) (t : List Row) (b : Breach) (n : ℕ) : Type 0 where
+  pub rule : b.rule ≡ 5
+  pub next : Row
+  pub is_next : slice_get t n ≡ Some next
+  pub before : Before b.tag next.tag
+  pub quiet : IsQuiet plan (take n t)
+  pub first : (c : Breach) → RowBreach plan (take n t) c → RowOrder b c
+
+-- the breach is sure behind the first n rows, and is the first that is to be told: the last of them breaks one of the rules 1 to 4, or a run of theirs has no end and the next row is at a later tag
 pub record IsSureBehind (plan : PlanParts) (t : List Row) (b : Breach) (n : ℕ) : Type 0 where
   pub within : n ≤ length t
   pub breaks : RowBreach plan (take n t) b
-  pub sure : (b.rule ≤ 4) × (b.row ≡ n + 1) ⊎ (b.rule ≡ 5) × ((x : Row) × (slice_get t n ≡ Some x) × Before b.tag x.tag)
+  pub sure : IsBadRow plan t b n ⊎ IsLostRun plan t b n
 
--- the breach of one of the rules 6 to 10 is sure behind the first n rows: it is the first of them before the tag of the last row
+-- the breach of one of the rules 6 to 10 is sure behind the first n rows: it is the first of them before the tag of the last row, and none of these rows breaks a rule but by runs at that tag
 pub record IsFirstBehind (plan : PlanParts) (t : List Row) (b : Breach) (n : ℕ) : Type 0 where
   pub within : n ≤ length t
   pub some : 0 < n
   pub row : Row
   pub last : slice_get t (n - 1) ≡ Some row
   pub first : IsFirstBefore plan (take n t) row.tag b
+  pub kept : KeepsButLast plan (take n t)
 
--- the breach is sure behind some of the rows
+-- the breach is sure behind some of the rows, and is the first that is to be told of them
 abbrev pub IsSureSoFar : PlanParts → List Row → Breach → Type 0
 IsSureSoFar plan t b = (n : ℕ) × (IsSureBehind plan t b n ⊎ IsFirstBehind plan t b n)
 
--- the rule that is broken by the row of this place at hand is sure
-abbrev pub IsSureOf : PlanParts → List Row → Follower → ℕ → ℕ → Type 0
-IsSureOf plan t f place k = (b : Breach) → b.rule ≡ k → b.row ≡ f.judged.count + place + 2 → ((x : Row) → slice_get f.rows.items place ≡ Some x → (b.tag ≡ x.tag) × (b.reaction ≡ Some x.reaction)) → (n : ℕ) × IsSureBehind plan t b n
+-- of rows that came before more, those but the ones at the last tag are clean, and reach so far; the line is that of a row behind these, and the next row is at a later tag
+pub record IsOdd (plan : PlanParts) (t more : List Row) (r : Reach) (line : ℕ) : Type 0 where
+  pub judged : IsJudged plan t r
+  pub place : ℕ
+  pub row : Row
+  pub next : Row
+  pub is_row : slice_get (t ++ more) place ≡ Some row
+  pub is_next : slice_get (t ++ more) (place + 1) ≡ Some next
+  pub before : Before row.tag next.tag
+  pub behind : length judged.done ≤ place
+  pub line_is : line ≡ place + 2
 
--- what is told of the rows so far: they are followed on, a breach is sure behind some of them, so many of them are clean, or the follower holds or has judged too many
-abbrev pub IsProgress : PlanParts → List Row → Follower → Progress → Type 0
-IsProgress plan t f GoesOn = IsFollowerOf plan t f
-IsProgress plan t f (Broken b) = IsSureSoFar plan t (breach_of b)
-IsProgress plan t f (Odd r line) = (n : ℕ) × IsCleanTo plan t r n
-IsProgress plan t f TooMany = (4000000 < length f.rows.items) ⊎ (2 ^ 62 < f.judged.count)
+-- so many of the first rows are clean, and reach so far; the line is that of a later row, or of the last of these
+abbrev pub IsOddSoFar : PlanParts → List Row → Reach → ℕ → Type 0
+IsOddSoFar plan t r line = (n : ℕ) × IsCleanTo plan t r n × (n < line) × (line ≤ length t + 1)
+
+-- what is told of rows and more behind them: nothing is to be told, and all are followed on; a breach is sure behind some of them; they are odd; or the follower holds or has judged too many
+abbrev pub IsProgress : PlanParts → List Row → List Row → Follower → Progress → Type 0
+IsProgress plan t more f GoesOn = IsFollowerOf plan (t ++ more) f × IsQuiet plan (t ++ more)
+IsProgress plan t more f (Broken b) = IsSureSoFar plan (t ++ more) (breach_of b)
+IsProgress plan t more f (Odd r line) = IsOdd plan t more r line
+IsProgress plan t more f TooMany = (4000000 < length f.rows.items) ⊎ (2 ^ 62 < f.judged.count)
 
 -- no row breaks one of the rules 1 to 5
 abbrev pub KeepsRows : PlanParts → List Row → Type 0
 KeepsRows plan t = (b : Breach) → ¬ RowBreach plan t b
 
--- what is told of the rows where no more come: they are accepted, or they are clean, all or but those at the last tag; or this is their first breach, where none is missing
+-- the rows are clean, all or but those at the last tag, and reach so far
+abbrev pub IsReached : PlanParts → List Row → Reach → Type 0
+IsReached plan t r = IsJudged plan t r ⊎ IsClean plan t r
+
+-- what is told of the rows where no more come: they are accepted; or, where some may be missing, they are clean, all or but those at the last tag; or this is their first breach, where none is missing
 abbrev pub IsEnding : PlanParts → Bool → List Row → Ending → Type 0
 IsEnding plan whole t (ending.Accepted c) = IsAccepted plan t c.runs c.tags
-IsEnding plan whole t (ending.Unbroken r) = IsJudged plan t r ⊎ IsClean plan t r
+IsEnding plan whole t (ending.Unbroken r) = (whole ≡ false) × IsReached plan t r
 IsEnding plan whole t (ending.Broken b) = (whole ≡ true) × First plan t (breach_of b)
+
+-- the rows can't be judged up to their last line, and reach so far
+abbrev pub IsUnjudged : PlanParts → List Row → Unjudged → Type 0
+IsUnjudged plan t u = IsReached plan t u.reach × (u.line ≡ length t + 1)
+
+-- going over the rows at hand ended before the end: the row there breaks the rule and is the one at the place, or is at a later tag than the run without an end that starts at the place
+abbrev pub IsHalt : PlanParts → List Row → List Row → ℕ → ℕ → ℕ → Type 0
+IsHalt plan done rows place end rule = (end ≡ place) × IsFirstBad plan done rows place rule ⊎ (rule ≡ 5) × IsLost plan done rows place end
+
+-- the rows but those at the last tag are clean, reach so far, and are these
+abbrev pub AreDone : PlanParts → List Row → List Row → Reach → Type 0
+AreDone plan t done r = (judged : IsJudged plan t r) × (judged.done ≡ done)
+
+-- rows and more behind them are those that are done and those at hand; of these some are gone over up to an end, and their last tag begins at a place
+pub record IsTurn (plan : PlanParts) (t more done rows : List Row) (r : Reach) (begin end : ℕ) : Type 0 where
+  pub parts : t ++ more ≡ done ++ rows
+  pub judged : AreDone plan t done r
+  pub gone : IsGoneTo plan done rows end
+  pub begins : BeginsLast rows end begin
+  pub kept : KeepsButLast plan (done ++ take end rows)

@@ -1,6 +1,6 @@
 //! Rows that are judged while they come.
 
-ghost use Rattle.std.specs.Prelude.{◌≡◌, ◌↔◌, ◌<◌, ◌≤◌, ◌^◌, ℕ, List, [], ◌++◌, length, Some, true, false, IfOk, OnErr, IsTrue, MatchOption, slice_get, slice_range};
+ghost use Rattle.std.specs.Prelude.{◌≡◌, ◌↔◌, ◌<◌, ◌≤◌, ◌^◌, ℕ, List, [], ◌++◌, length, Some, true, false, IfErr, IfOk, OnErr, IsTrue, MatchOption, slice_get, slice_range};
 ghost use Rattle.lft_tag.specs.declared.Tag.{Tag as TheTag};
 ghost use Rattle.lft_tag.specs.Tags.{Before, IsRecorded};
 ghost use Rattle.lft_steps.specs.declared.row.Row.{Row as TheRow};
@@ -8,12 +8,12 @@ ghost use Rattle.lft_steps.specs.Fits.{EventFits, RowsFit};
 ghost use Rattle.lft_rows.specs.Slices.{Rises};
 ghost use Rattle.lft_coming.specs.AtTag.{AreAt};
 ghost use Rattle.lft_stream.specs.Kept.{KeepRules};
-ghost use Rattle.lft_follow.specs.Follows.{IsAtHand, IsHeld, IsFollowerOf, IsPassed, HasManyLater, IsReceipt, stopped_at, IsProgress, IsEnding, IsJudged, IsJudgedOf, IsSureOf, BeginsLast};
+ghost use Rattle.lft_follow.specs.Follows.{AreDone, IsAtHand, IsHeld, IsFollowerOf, IsHalt, IsPassed, HasManyLater, IsReceipt, stopped_at, IsProgress, IsEnding, IsJudged, IsJudgedOf, IsTurn, IsUnjudged, BeginsLast, done_of};
 ghost use Rattle.lft_follow.specs.declared.follower.Follower.{Follower as TheFollower};
 
 use crate::found::{Found, found_at, found_of};
 use crate::gone::{Going, Halt};
-use crate::judged::{Ending, Judged};
+use crate::judged::{Ending, Judged, Unjudged};
 use crate::reach::Reach;
 use lft_model::Plan;
 use lft_steps::{Event, Row, row_at};
@@ -84,23 +84,22 @@ fn last_begins(rows: &[Row], end: usize) -> usize
 }
 
 /// Judges the rows before the place, at which the first row of a later tag stands. It is what is told,
-/// where they may break a rule. With `is_kept` they are known to break none of the rules 1 to 5.
+/// where they may break a rule. They are known to break none of the rules 1 to 5.
 fn judge_before(
     alloc: Global,
     plan: &Plan,
     judged: &mut Judged,
     rows: &[Row],
     begin: usize,
-    is_kept: bool,
 ) -> Result<Option<Progress>, NoMemory>
     requires few { judged.old.count ≤ 2 ^ 62 }
     requires fit { RowsFit plan.now.program rows.now }
     requires begin { begin < length rows.now }
-    requires kept { IsTrue is_kept → KeepRules plan.now (slice_range rows.now 0 begin) }
+    requires kept { KeepRules plan.now (slice_range rows.now 0 begin) }
     requires stands { (done : List TheRow) × IsJudgedOf plan.now done judged.old }
-    ensures { IfOk result (λ o. (done : List TheRow) → IsJudgedOf plan.now done judged.old → MatchOption o (IsJudgedOf plan.now (done ++ slice_range rows.now 0 begin) judged.new) (λ told. (end : ℕ) (follower : TheFollower) → BeginsLast rows.now end begin → end ≤ length rows.now → IsProgress plan.now (done ++ rows.now) follower told)) }
+    ensures { IfOk result (λ o. (done : List TheRow) → IsJudgedOf plan.now done judged.old → MatchOption o (IsJudgedOf plan.now (done ++ slice_range rows.now 0 begin) judged.new) (λ told. (t more : List TheRow) (end : ℕ) (follower : TheFollower) → IsTurn plan.now t more done rows.now judged.old.reach begin end → IsProgress plan.now t more follower told)) }
 {
-    let is_clean = judged.judge(alloc, plan, &rows[0..begin], is_kept)?;
+    let is_clean = judged.judge(alloc, plan, &rows[0..begin], true)?;
     if is_clean {
         return Ok(None);
     }
@@ -159,7 +158,7 @@ impl Follower {
         requires few { self.old.judged.count ≤ 2 ^ 62 }
         requires hand { (t : List TheRow) × IsAtHand plan.now t self.old }
         requires gone { self.old.going.passed ≡ length self.old.rows.items }
-        ensures { IfOk result (λ p. (t : List TheRow) → IsAtHand plan.now t self.old → IsProgress plan.now t self.new p) }
+        ensures { IfOk result (λ p. (t more : List TheRow) → IsAtHand plan.now (t ++ more) self.old → AreDone plan.now t (done_of (t ++ more) self.old) self.old.judged.reach → IsProgress plan.now t more self.new p) }
     {
         let rows = self.rows.as_slice();
         // Asked first: rows of one tag that come one by one are not all gone over each time.
@@ -170,9 +169,7 @@ impl Follower {
         if begin == 0 {
             return Ok(Progress::GoesOn);
         }
-        // A run without an end was told where the tag rose, so the rules 1 to 5 aren't asked for again.
-        let is_kept = self.going.has_ends(plan, rows, begin);
-        if let Some(told) = judge_before(alloc, plan, &mut self.judged, rows, begin, is_kept)? {
+        if let Some(told) = judge_before(alloc, plan, &mut self.judged, rows, begin)? {
             return Ok(told);
         }
         let rows = self.rows.as_slice();
@@ -194,14 +191,14 @@ impl Follower {
         rule: u8,
     ) -> Result<Progress, NoMemory>
         requires few { self.old.judged.count ≤ 2 ^ 62 }
-        requires held { (t : List TheRow) × IsHeld plan.now t self.old }
-        requires place { (place < length self.old.rows.items) × (end ≤ length self.old.rows.items) }
-        ensures { IfOk result (λ p. (t : List TheRow) → IsHeld plan.now t self.old → IsSureOf plan.now t self.old place rule → IsProgress plan.now t self.new p) }
+        requires place { (place < length self.old.rows.items) × (end < length self.old.rows.items) }
+        requires halt { (t : List TheRow) × IsHeld plan.now t self.old × IsHalt plan.now (done_of t self.old) self.old.rows.items place end rule }
+        ensures { IfOk result (λ p. (t more : List TheRow) → IsHeld plan.now (t ++ more) self.old → AreDone plan.now t (done_of (t ++ more) self.old) self.old.judged.reach → IsHalt plan.now (done_of (t ++ more) self.old) self.old.rows.items place end rule → IsProgress plan.now t more self.new p) }
     {
         let rows = self.rows.as_slice();
         let found = found_at(rows, place, self.judged.count, rule);
         let begin = last_begins(rows, end);
-        match judge_before(alloc, plan, &mut self.judged, rows, begin, false)? {
+        match judge_before(alloc, plan, &mut self.judged, rows, begin)? {
             Some(told) => Ok(told),
             None => Ok(Progress::Broken(found)),
         }
@@ -211,7 +208,7 @@ impl Follower {
     pub fn add(&mut self, alloc: Global, plan: &Plan, more: &[Row]) -> Result<Progress, NoMemory>
         requires fit { RowsFit plan.now.program more.now }
         requires stands { (t : List TheRow) × IsFollowerOf plan.now t self.old }
-        ensures { IfOk result (λ p. (t : List TheRow) → IsFollowerOf plan.now t self.old → IsProgress plan.now (t ++ more.now) self.new p) }
+        ensures { IfOk result (λ p. (t : List TheRow) → IsFollowerOf plan.now t self.old → IsProgress plan.now t more.now self.new p) }
     {
         let Ok(()) = self.rows.extend_from_slice(more) else {
             return Err(NoMemory);
@@ -282,35 +279,20 @@ impl Follower {
         true
     }
 
-    /// What the rows show where no more come and none is missing.
-    fn finish_whole(&mut self, alloc: Global, plan: &Plan) -> Ending
-        requires few { self.old.judged.count ≤ 2 ^ 62 }
-        requires stands { (t : List TheRow) × IsFollowerOf plan.now t self.old }
-        ensures { (t : List TheRow) → IsFollowerOf plan.now t self.old → IsEnding plan.now true t result }
-    {
-        let rows = self.rows.as_slice();
-        if !self.going.is_over(plan, rows) {
-            return self.judged.finish(alloc, plan, rows, false);
-        }
-        match self.going.first_open(plan, rows) {
-            Some(start) => Ending::Broken(found_at(rows, start, self.judged.count, 5)),
-            None => self.judged.finish(alloc, plan, rows, true),
-        }
-    }
-
     /// What the rows show where no more come. The last tag is judged too, where all of its runs are there.
     /// With `whole` no row is missing.
-    pub fn finish(&mut self, alloc: Global, plan: &Plan, whole: bool) -> Ending
+    pub fn finish(&mut self, alloc: Global, plan: &Plan, whole: bool) -> Result<Ending, Unjudged>
         requires { (t : List TheRow) × IsFollowerOf plan.now t self.old }
-        ensures { (t : List TheRow) → IsFollowerOf plan.now t self.old → IsEnding plan.now whole t result }
+        ensures ended { IfOk result (λ ending. (t : List TheRow) → IsFollowerOf plan.now t self.old → IsEnding plan.now whole t ending) }
+        ensures unjudged { IfErr result (λ left. (t : List TheRow) → IsFollowerOf plan.now t self.old → IsUnjudged plan.now t left) }
     {
+        let rows = self.rows.as_slice();
         if self.judged.count > MOST {
-            return Ending::Unbroken(self.judged.reach);
+            return Err(Unjudged {
+                reach: self.judged.reach,
+                line: self.judged.count + rows.len() as u64 + 1,
+            });
         }
-        if whole {
-            self.finish_whole(alloc, plan)
-        } else {
-            self.judged.finish(alloc, plan, self.rows.as_slice(), false)
-        }
+        self.judged.finish(alloc, plan, rows, whole)
     }
 }

@@ -50,3 +50,14 @@ pub(crate) fn found_of(breach: Breach) -> Found
         line: breach.row as u64,
     }
 }
+
+/// The same of rows behind so many others.
+pub(crate) fn found_behind(breach: Breach, before: u64) -> Found
+    requires few { before ≤ 2 ^ 62 + 4000000 }
+    ensures { breach_of result ≡ record breach { row = before + breach.row } }
+{
+    Found {
+        line: before + breach.row as u64,
+        ..found_of(breach)
+    }
+}

@@ -1,15 +1,13 @@
 //! The rows at hand, gone over for the rules 1 to 5 as they come.
 
-ghost use Rattle.std.specs.Prelude.{◌≡◌, ◌+◌, ◌<◌, ◌≤◌, List, ◌++◌, ◌∷◌, [], length, IfOk, IfSome, IsTrue, None, OnOk, MatchOption};
-ghost use Rattle.lft_tag.specs.Tags.{IsRecorded, earlier};
+ghost use Rattle.std.specs.Prelude.{◌≡◌, ◌+◌, ◌-◌, ◌<◌, ◌≤◌, ◌↔◌, List, ◌++◌, ◌∷◌, [], length, IfOk, IsTrue, Some, OnOk, MatchOption, slice_get};
+ghost use Rattle.lft_tag.specs.Tags.{Before, IsRecorded, earlier};
 ghost use Rattle.lft_flat.specs.Parts.{Parts};
 ghost use Rattle.lft_steps.specs.declared.row.Row.{Row as TheRow};
 ghost use Rattle.lft_steps.specs.Fits.{RowsFit};
 ghost use Rattle.lft_model.specs.Plans.{PlanParts};
 ghost use Rattle.lft_model.specs.Presence.{stop as stop_of};
-ghost use Rattle.lft_rows.specs.Passes.{FirstUnended};
-ghost use Rattle.lft_follow.specs.Going.{IsGoing, IsFirstBad, IsLost, HasGone};
-ghost use Rattle.lft_follow.specs.declared.gone.Halt.TheVariants.{AtEnd};
+ghost use Rattle.lft_follow.specs.Going.{IsGoing, IsFirstBad, IsLost, HasEnded, HasGone, opened};
 
 use lft_model::Plan;
 use lft_rows::Pass;
@@ -36,7 +34,7 @@ pub(crate) struct Going {
     /// What the rows so far ask for, with those that stand before the rows at hand.
     stop: Tag,
     /// How many runs are open, so that a look for one without an end is seldom made.
-    open: usize,
+    runs: usize,
     passed: usize,
 }
 
@@ -67,6 +65,7 @@ pub(crate) fn stop_over(last: Tag, rows: &[Row]) -> Tag
 /// Whether the row at the place is at a later tag than the one before it.
 fn rises_at(rows: &[Row], place: usize) -> bool
     requires { (0 < place) × (place < length rows.now) }
+    ensures { (x y : TheRow) → slice_get rows.now (place - 1) ≡ Some x → slice_get rows.now place ≡ Some y → IsTrue result ↔ Before x.tag y.tag }
 {
     row_at(rows, place - 1)
         .tag
@@ -83,7 +82,7 @@ impl Going {
         Ok(Going {
             pass,
             stop: plan.externals().stop(),
-            open: 0,
+            runs: 0,
             passed: 0,
         })
     }
@@ -102,7 +101,7 @@ impl Going {
     {
         self.pass.begin(alloc, plan)?;
         self.stop = last;
-        self.open = 0;
+        self.runs = 0;
         self.passed = 0;
         Ok(())
     }
@@ -112,32 +111,32 @@ impl Going {
         requires place { place < length rows.now }
         requires passed { place ≡ self.now.passed }
         requires stands { (plan : PlanParts) × (done : List TheRow) × IsGoing plan done rows.now self.now }
-        ensures { IfSome result (λ start. IsLost rows.now start place) }
+        ensures { (plan : PlanParts) (done : List TheRow) → IsGoing plan done rows.now self.now → MatchOption result (HasEnded rows.now place) (λ start. IsLost plan done rows.now start place) }
     {
-        // All rows are looked at, so this is asked only where the tag rises.
-        if self.open == 0 || place == 0 || !rises_at(rows, place) {
+        if self.runs == 0 || place == 0 {
             return None;
         }
-        let start = self.pass.first_open(&rows[0..place], place)?;
-        if row_at(rows, start).tag.is_before(row_at(rows, place).tag) {
-            Some(start)
-        } else {
-            None
+        // All rows are looked at, so this is asked only where the tag rises.
+        if !rises_at(rows, place) {
+            return None;
         }
+        self.pass.first_open(&rows[0..place], place)
     }
 
     /// Goes on past the row at the place, which breaks none of the rules 1 to 4.
     fn note(&mut self, row: Row, place: usize)
         requires recorded { IsRecorded row.tag }
         requires place { place < 4000000 }
+        requires few { self.old.runs ≤ place }
         ensures pass { self.new.pass ≡ self.old.pass }
         ensures passed { self.new.passed ≡ place + 1 }
+        ensures runs { self.new.runs ≡ opened self.old.runs row.step }
         ensures stop { (plan : PlanParts) (t : List TheRow) → self.old.stop ≡ stop_of plan t → self.new.stop ≡ stop_of plan (t ++ row ∷ []) }
     {
         if is_start(&row.step) {
-            self.open = self.open.saturating_add(1);
+            self.runs += 1;
         } else if is_end(&row.step) {
-            self.open = self.open.saturating_sub(1);
+            self.runs = self.runs.saturating_sub(1);
         }
         self.stop = stop_behind(self.stop, row);
         self.passed = place + 1;
@@ -148,6 +147,7 @@ impl Going {
         requires fit { RowsFit plan.now.program rows.now }
         requires place { place < length rows.now }
         requires passed { place ≡ self.old.passed }
+        requires ended { HasEnded rows.now place }
         requires stands { (d : List TheRow) × IsGoing plan.now d rows.now self.old }
         ensures { IfOk result (λ o. (done : List TheRow) → IsGoing plan.now done rows.now self.old → MatchOption o (IsGoing plan.now done rows.now self.new × (self.new.passed ≡ place + 1)) (IsFirstBad plan.now done rows.now place)) }
     {
@@ -177,42 +177,5 @@ impl Going {
             }
         }
         Ok(Halt::AtEnd)
-    }
-
-    /// Whether none of the rows at hand breaks one of the rules 1 to 4. It is false too where memory is
-    /// refused.
-    pub(crate) fn is_over(&mut self, plan: &Plan, rows: &[Row]) -> bool
-        requires fit { RowsFit plan.now.program rows.now }
-        requires stands { (d : List TheRow) × IsGoing plan.now d rows.now self.old }
-        ensures { IsTrue result → (done : List TheRow) → IsGoing plan.now done rows.now self.old → HasGone plan.now done rows.now self.new AtEnd }
-    {
-        match self.go_over(plan, rows) {
-            Ok(Halt::AtEnd) => true,
-            _ => false,
-        }
-    }
-
-    /// The first run without an end, where all rows at hand are gone over.
-    // The plan is passed for what the contract says of it.
-    pub(crate) fn first_open(&self, plan: &Plan, rows: &[Row]) -> Option<usize>
-        requires { (d : List TheRow) × HasGone plan.now d rows.now self.now AtEnd }
-        ensures { FirstUnended rows.now (length rows.now) result }
-    {
-        let _ = plan;
-        self.pass.first_open(rows, rows.len())
-    }
-
-    /// Whether each run that starts before the place has its end, where all rows at hand are gone over.
-    // The plan is passed for what the contract says of it.
-    pub(crate) fn has_ends(&self, plan: &Plan, rows: &[Row], place: usize) -> bool
-        requires place { place ≤ length rows.now }
-        requires gone { (d : List TheRow) × HasGone plan.now d rows.now self.now AtEnd }
-        ensures { IsTrue result → FirstUnended rows.now place None }
-    {
-        let _ = plan;
-        match self.pass.first_open(rows, place) {
-            Some(_) => false,
-            None => true,
-        }
     }
 }

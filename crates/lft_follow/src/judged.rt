@@ -1,18 +1,20 @@
 //! Rows whose tags are finished, and how far they are judged.
 
-ghost use Rattle.std.specs.Prelude.{◌≡◌, ◌<◌, ◌≤◌, ◌^◌, List, [], ◌++◌, length, false, IfOk, IsTrue};
+ghost use Rattle.std.specs.Prelude.{◌≡◌, ◌<◌, ◌≤◌, ◌^◌, List, [], ◌++◌, length, false, IfErr, IfOk, IfSome, IsTrue};
 ghost use Rattle.lft_steps.specs.declared.row.Row.{Row as TheRow};
 ghost use Rattle.lft_steps.specs.Fits.{RowsFit};
+ghost use Rattle.lft_model.specs.Breaches.{First};
+ghost use Rattle.lft_rows.specs.Parts.{AreEarlier};
 ghost use Rattle.lft_stream.specs.Kept.{KeepRules};
-ghost use Rattle.lft_follow.specs.Kept.{IsPast};
-ghost use Rattle.lft_follow.specs.Follows.{IsEnding, IsJudged, IsJudgedOf, stopped_judged, KeepsRows};
-ghost use Rattle.lft_follow.specs.declared.judged.Ending.TheVariants.{Unbroken};
+ghost use Rattle.lft_follow.specs.Follows.{AreJudged, IsEnding, IsJudged, IsJudgedOf, IsReached, IsUnjudged, breach_of, stopped_judged};
 
-use crate::found::Found;
+use crate::found::{Found, found_behind};
+use crate::gone::stop_over;
 use crate::monitor::go_on_as;
 use crate::past::Past;
 use crate::reach::{Reach, reach_behind};
 use lft_model::Plan;
+use lft_rows::first_breach;
 use lft_steps::Row;
 use lft_stream::{Acceptor, Counts, earlier_of};
 use lft_tag::{NoMemory, Tag};
@@ -27,6 +29,14 @@ pub enum Ending {
     Unbroken(Reach),
     /// The first rule that is broken, where no row is missing.
     Broken(Found),
+}
+
+/// Rows that can't be judged up to their last line: too much is kept, or memory is refused. No rule is
+/// broken up to the tag.
+#[derive(Clone, Copy, PartialEq, Eq, Debug, Drop)]
+pub struct Unjudged {
+    pub reach: Reach,
+    pub line: u64,
 }
 
 /// What is kept of rows that are judged.
@@ -98,38 +108,79 @@ impl Judged {
         self.past.stop = earlier_of(stop, self.past.stop);
     }
 
-    /// What rows show that aren't accepted, where these come behind those that are judged. With `whole`
-    /// none of them breaks one of the rules 1 to 5.
-    fn end(&self, alloc: Global, plan: &Plan, rows: &[Row], whole: bool) -> Ending
+    /// The first breach of all rows, where these come behind those that are judged and no more come. None
+    /// where none is found: there is none, or there are too many rows, or memory is refused.
+    fn first_of(&self, alloc: Global, plan: &Plan, rows: &[Row]) -> Option<Found>
         requires fit { RowsFit plan.now.program rows.now }
-        requires past { (t : List TheRow) × IsPast plan.now t self.now.past }
-        ensures { (t : List TheRow) → IsPast plan.now t self.now.past → (IsTrue whole → KeepsRows plan.now (t ++ rows.now)) → IsEnding plan.now whole (t ++ rows.now) (Unbroken self.now.reach) → IsEnding plan.now whole (t ++ rows.now) result }
+        requires stands { (t : List TheRow) × AreJudged plan.now t self.now }
+        ensures { IfSome result (λ found. (t : List TheRow) → AreJudged plan.now t self.now → AreEarlier t rows.now → First plan.now (t ++ rows.now) (breach_of found)) }
     {
-        if !whole {
-            return Ending::Unbroken(self.reach);
-        }
-        match self.past.first_of_all(alloc, plan, rows) {
-            Some(found) => Ending::Broken(found),
-            None => Ending::Unbroken(self.reach),
+        let stop = stop_over(self.past.stop, rows);
+        match first_breach(alloc, plan, stop, rows) {
+            Ok(Some(breach)) => Some(found_behind(breach, self.count)),
+            Ok(None) => self.past.first_of_all(alloc, plan, rows),
+            Err(_) => None,
         }
     }
 
-    /// What the rows show, where these come behind those that are judged, and no more come. With
-    /// `whole` none of them breaks one of the rules 1 to 5.
-    pub(crate) fn finish(&mut self, alloc: Global, plan: &Plan, rows: &[Row], whole: bool) -> Ending
+    /// What rows show that aren't accepted, where these come behind those that are judged. The line is that
+    /// of the last row.
+    fn end(
+        &self,
+        alloc: Global,
+        plan: &Plan,
+        rows: &[Row],
+        whole: bool,
+        line: u64,
+    ) -> Result<Ending, Unjudged>
+        requires fit { RowsFit plan.now.program rows.now }
+        requires stands { (t : List TheRow) × AreJudged plan.now t self.now }
+        ensures ended { IfOk result (λ ending. (t : List TheRow) → AreJudged plan.now t self.now → AreEarlier t rows.now → IsReached plan.now (t ++ rows.now) self.now.reach → IsEnding plan.now whole (t ++ rows.now) ending) }
+        ensures unjudged { IfErr result (λ left. left ≡ record { reach = self.now.reach; line = line }) }
+    {
+        let Some(found) = self.first_of(alloc, plan, rows) else {
+            return Err(Unjudged {
+                reach: self.reach,
+                line,
+            });
+        };
+        if whole {
+            Ok(Ending::Broken(found))
+        } else {
+            Ok(Ending::Unbroken(self.reach))
+        }
+    }
+
+    /// What the rows show, where these come behind those that are judged, and no more come. With `whole`
+    /// none is missing.
+    pub(crate) fn finish(
+        &mut self,
+        alloc: Global,
+        plan: &Plan,
+        rows: &[Row],
+        whole: bool,
+    ) -> Result<Ending, Unjudged>
         requires fit { RowsFit plan.now.program rows.now }
         requires few { self.old.count ≤ 2 ^ 62 }
         requires stands { (t : List TheRow) × IsJudgedOf plan.now t self.old }
-        ensures { (t : List TheRow) → IsJudgedOf plan.now t self.old → (IsTrue whole → KeepsRows plan.now (t ++ rows.now)) → IsJudged plan.now (t ++ rows.now) self.old.reach → IsEnding plan.now whole (t ++ rows.now) result }
+        ensures ended { IfOk result (λ ending. (t : List TheRow) → IsJudgedOf plan.now t self.old → AreEarlier t rows.now → IsJudged plan.now (t ++ rows.now) self.old.reach → IsEnding plan.now whole (t ++ rows.now) ending) }
+        ensures unjudged { IfErr result (λ left. (t : List TheRow) → IsJudgedOf plan.now t self.old → IsJudged plan.now (t ++ rows.now) self.old.reach → IsUnjudged plan.now (t ++ rows.now) left) }
     {
         let reach = self.reach;
+        let line = self.count + rows.len() as u64 + 1;
         match self.judge(alloc, plan, rows, false) {
             Ok(true) => match self.acceptor.finish(plan) {
-                Some(counts) => Ending::Accepted(counts),
-                None => self.end(alloc, plan, &rows[0..0], whole),
+                Some(counts) => Ok(Ending::Accepted(counts)),
+                None => {
+                    if whole {
+                        self.end(alloc, plan, &rows[0..0], whole, line)
+                    } else {
+                        Ok(Ending::Unbroken(self.reach))
+                    }
+                }
             },
-            Ok(false) => self.end(alloc, plan, rows, whole),
-            Err(_) => Ending::Unbroken(reach),
+            Ok(false) => self.end(alloc, plan, rows, whole, line),
+            Err(_) => Err(Unjudged { reach, line }),
         }
     }
 }

@@ -1,6 +1,6 @@
 //! Rows that come one after another, of which nothing is broken so far.
 
-ghost use Rattle.std.specs.Prelude.{◌≡◌, ◌<◌, ◌-◌, ℕ, List, ◌++◌, length, Some, IsTrue, slice_get};
+ghost use Rattle.std.specs.Prelude.{◌≡◌, ◌<◌, ◌-◌, List, ◌++◌, length, Some, IsTrue, slice_get};
 ghost use Rattle.lft_tag.specs.Tags.{UpTo, after};
 ghost use Rattle.lft_steps.specs.declared.row.Row.{Row as TheRow};
 ghost use Rattle.lft_steps.specs.Fits.{RowsFit};

@@ -12,7 +12,7 @@ use Rattle.lft_model.specs.Plans.{PlanParts}
 use Rattle.lft_model.specs.Breaches.{First}
 use Rattle.lft_rows.specs.Accepted.{IsAccepted}
 use Rattle.lft_follow.specs.declared.judged.Ending.TheVariants as ending
-use Rattle.lft_follow.specs.Follows.{HasManyLater, IsFollowerOf, IsSureSoFar, IsCleanTo, IsClean, IsJudged, IsPassed, breach_of}
+use Rattle.lft_follow.specs.Follows.{HasManyLater, IsFollowerOf, IsSureSoFar, IsOddSoFar, IsClean, IsJudged, IsPassed, breach_of}
 use Rattle.lft_trace.specs.ExternalTables.{IsEntry, event_of, stop_of}
 use Rattle.lft_trace.specs.LogTables.{IsNoLine}
 use Rattle.lft_trace.specs.declared.external_table.Entry.{Entry}
@@ -61,10 +61,10 @@ GoPast (Some g) t = (h : Tag) × HasFrom g h t × ((j : ℕ) × (z : Row) × (sl
 abbrev pub IsAskedOf : List Row → Asked → Type 0
 IsAskedOf t a = (g h : Tag) → a.until ≡ Some g → a.last ≡ Some h → HasFrom g h t
 
--- what is told before the end is so of these rows: a breach is sure behind some of them, so many of them are clean, or those but the ones at the last tag are, and go past what is asked for
+-- what is told before the end is so of these rows: a breach is sure behind some of them, so many of them are clean and a later line is told, or those but the ones at the last tag are, and go past what is asked for
 abbrev pub IsSaid : PlanParts → Option Tag → List Row → Told → Type 0
 IsSaid plan until t (Broken b) = IsSureSoFar plan t (breach_of b)
-IsSaid plan until t (Odd r line) = (n : ℕ) × IsCleanTo plan t r n
+IsSaid plan until t (Odd r line) = IsOddSoFar plan t r line
 IsSaid plan until t (Reached r) = IsJudged plan t r × GoPast until t
 
 -- what is told before the end is so of the first rows of the bytes, for the plan that they tell

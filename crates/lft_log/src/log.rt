@@ -7,7 +7,6 @@ ghost use Rattle.lft_steps.specs.declared.row.Row.{Row as TheRow};
 ghost use Rattle.lft_steps.specs.Fits.{RowsFit};
 ghost use Rattle.lft_model.specs.Plans.{PlanParts};
 ghost use Rattle.lft_follow.specs.Follows.{IsFollowerOf, IsJudged};
-ghost use Rattle.lft_log.specs.declared.told.Final.TheVariants.{AtEnd};
 ghost use Rattle.lft_log.specs.Logs.{AreLines, HasNoEnd, IsHead};
 ghost use Rattle.lft_log.specs.Told.{GoPast, IsAskedOf, IsBegun, IsEnded, IsFaultOf, IsFinal, IsLog, IsLogOf, IsSaid, IsSoon};
 
@@ -282,18 +281,22 @@ impl Log {
     }
 
     /// What the rows show where no more come. With `whole` no row is missing.
-    fn end(&mut self, alloc: Global, plan: &Plan, whole: bool) -> Ending
+    fn end(&mut self, alloc: Global, plan: &Plan, whole: bool) -> Final
         requires { (base : PlanParts) × (until : Option TheTag) × (bytes : List ℕ) × IsLog base plan.now until bytes self.old }
-        ensures { (base : PlanParts) (until : Option TheTag) (bytes : List ℕ) → IsLog base plan.now until bytes self.old → self.old.is_begun ≡ true → IsFinal base until whole bytes (AtEnd result) }
+        ensures { (base : PlanParts) (until : Option TheTag) (bytes : List ℕ) → IsLog base plan.now until bytes self.old → self.old.is_begun ≡ true → IsFinal base until whole bytes result }
     {
         let reach = self.follower.reach(plan);
         if self.rest.is_empty() {
-            return self.follower.finish(alloc, plan, whole);
+            return match self.follower.finish(alloc, plan, whole) {
+                Ok(ending) => Final::AtEnd(ending),
+                Err(left) => Final::Soon(Told::Odd(left.reach, left.line)),
+            };
         }
         // Of a line that isn't whole nobody knows what it would have said.
         match self.follower.finish(alloc, plan, false) {
-            Ending::Unbroken(reach) => Ending::Unbroken(reach),
-            _ => Ending::Unbroken(reach),
+            Ok(Ending::Unbroken(reach)) => Final::AtEnd(Ending::Unbroken(reach)),
+            Ok(_) => Final::AtEnd(Ending::Unbroken(reach)),
+            Err(left) => Final::Soon(Told::Odd(left.reach, left.line)),
         }
     }
 
@@ -306,7 +309,7 @@ impl Log {
         if !self.is_begun {
             return Err(LogFault::NoHeader);
         }
-        Ok(Final::AtEnd(self.end(alloc, plan, whole)))
+        Ok(self.end(alloc, plan, whole))
     }
 
     /// What the table shows where no more comes. A last line without its end counts only if nothing can

@@ -1,8 +1,8 @@
 //! Rows that are followed as they come, in parts of different lengths.
 
-ghost use Rattle.std.specs.Prelude.{◌<◌, ◌≤◌, length, take, IfSome};
+ghost use Rattle.std.specs.Prelude.{◌≡◌, ◌<◌, ◌≤◌, length, take, IfSome};
 ghost use Rattle.lft_steps.specs.Fits.{RowsFit};
-ghost use Rattle.lft_follow.specs.Follows.{IsFollowerOf, IsProgress};
+ghost use Rattle.lft_follow.specs.Follows.{IsFollowerOf};
 
 use crate::texts::{plan, rows};
 use lft_follow::{Ending, Follower, Found, Progress};
@@ -77,7 +77,7 @@ fn add_part(
     requires fit { RowsFit plan.now.program rows.now }
     requires range { (first ≤ end) × (end ≤ length rows.now) }
     requires stands { IsFollowerOf plan.now (take first rows.now) follower.old }
-    ensures { IfSome result (IsProgress plan.now (take end rows.now) follower.new) }
+    ensures { IfSome result (λ progress. progress ≡ Progress.GoesOn → IsFollowerOf plan.now (take end rows.now) follower.new) }
 {
     match follower.add(alloc, plan, &rows[first..end]) {
         Ok(progress) => Some(progress),
@@ -102,7 +102,8 @@ fn followed(alloc: Global, plan: &Plan, rows: &[Row], size: usize, whole: bool) 
         }
         first = until;
     }
-    Some(Shown::AtEnd(follower.finish(alloc, plan, whole)))
+    let ending = follower.finish(alloc, plan, whole).ok()?;
+    Some(Shown::AtEnd(ending))
 }
 
 /// Whether a table shows this, however its rows come. None of them is missing if that is said.

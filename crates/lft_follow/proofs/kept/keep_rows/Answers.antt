@@ -4,7 +4,7 @@ use Rattle.std.proofs.lemmas.List.{take_all}
 use Rattle.lft_lists.proofs.Places.{get_there}
 use Rattle.lft_steps.specs.declared.row.Row.{Row}
 use Rattle.lft_follow.specs.Kept.{IsKept}
-use Rattle.lft_follow.proofs.Keeping.{kept_self, kept_one, kept_less}
+use Rattle.lft_follow.proofs.Keeping.{kept_one, kept_less}
 use Rattle.lft_follow.proofs.kept.keep_rows.Goals as goal
 use Rattle.lft_follow.proofs.kept.keep_rows.Goals.{then-index+in_ok-push, else-index}
 

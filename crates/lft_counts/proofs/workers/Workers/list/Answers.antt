@@ -1,4 +1,4 @@
-use Rattle.std.proofs.Common.{◌≡◌, ◌++◌, [], ◌∷◌, List, ℕ, sym, ap, ◌∙◌, append_assoc, append-nil}
+use Rattle.std.proofs.Common.{◌++◌, [], ◌∷◌, List, ℕ, sym, ap, ◌∙◌, append_assoc}
 use Rattle.lft_counts.proofs.workers.Workers.list.Goals as goal
 
 pub loop-worker-preserved : goal.loop-worker-preserved

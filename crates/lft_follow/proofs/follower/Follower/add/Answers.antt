@@ -1,9 +1,9 @@
-use Rattle.std.proofs.Common.{◌++◌, ◌<◌, ◌≤◌, List, length, refl, subst, arith}
+use Rattle.std.proofs.Common.{◌++◌, ◌<◌, ◌≤◌, List, length, refl, subst}
 use Rattle.std.proofs.lemmas.Result.{IfOk-weaker}
 use Rattle.lft_steps.specs.declared.row.Row.{Row}
 use Rattle.lft_follow.specs.declared.follower.Follower.{Follower}
 use Rattle.lft_follow.specs.Follows.{done_of}
-use Rattle.lft_follow.proofs.Following.{held_more, fit_over, going_over, held_over, over_end, over_row, over_later}
+use Rattle.lft_follow.proofs.Following.{held_more, fit_over, going_over, held_over, over_end, over_row, over_later, still_done}
 use Rattle.lft_follow.proofs.follower.Follower.add.Goals as goal
 
 pub go_over-requires-clause-fit : goal.go_over-requires-clause-fit
@@ -66,7 +66,7 @@ tell-requires c =
     let e = over_row plan t more old now is hand s rows c.go_over.new.self c.in-AtRow.place c.in-AtRow.rule (rw c.in-AtRow.is at gone) in
     let held = held_over plan t more old now is hand s rows c.go_over.new.self in
     let inside : c.in-AtRow.place < length c.extend_from_slice.new.self.items = e.0 in
-    record { few = c.if-self-gt-MOST.false; held = (t ++ more, held); place = (inside, omega arith) }
+    record { few = c.if-self-gt-MOST.false; place = (inside, inside); halt = (t ++ more, held, e.1) }
 
 pub tell-requires-in-AtLater : goal.tell-requires-in-AtLater
 tell-requires-in-AtLater c =
@@ -83,8 +83,7 @@ tell-requires-in-AtLater c =
     let gone = c.in_ok-go_over.ensures (done_of (t ++ more) now) (going_over plan t more old now is hand s rows) in
     let e = over_later plan t more old now is hand s rows c.go_over.new.self c.in-AtLater.start c.in-AtLater.place (rw c.in-AtLater.is at gone) in
     let held = held_over plan t more old now is hand s rows c.go_over.new.self in
-    let inside : c.in-AtLater.place < length c.extend_from_slice.new.self.items = e.1 in
-    record { few = c.if-self-gt-MOST.false; held = (t ++ more, held); place = (e.0, omega arith) }
+    record { few = c.if-self-gt-MOST.false; place = (e.0, e.1); halt = (t ++ more, held, e.2) }
 
 pub returns-in-AtEnd : goal.returns-in-AtEnd
 returns-in-AtEnd c = IfOk-weaker c.go_on.result _ _ (λ p told t is.
@@ -98,7 +97,7 @@ returns-in-AtEnd c = IfOk-weaker c.go_on.result _ _ (λ p told t is.
     let hand = held_more plan t more old now is c.requires.fit refl refl c.in-Ok.ensures.items few in
     let gone = c.in_ok-go_over.ensures (done_of (t ++ more) now) (going_over plan t more old now is hand s rows) in
     let e = over_end plan t more old now is hand s rows c.go_over.new.self (rw c.in-AtEnd.is at gone) in
-    told (t ++ more) e.0) c.go_on.ensures
+    told t more e.0 (still_done plan t more old now is hand refl)) c.go_on.ensures
 
 pub returns-in-AtRow : goal.returns-in-AtRow
 returns-in-AtRow c = IfOk-weaker c.tell.result _ _ (λ p told t is.
@@ -113,7 +112,7 @@ returns-in-AtRow c = IfOk-weaker c.tell.result _ _ (λ p told t is.
     let gone = c.in_ok-go_over.ensures (done_of (t ++ more) now) (going_over plan t more old now is hand s rows) in
     let e = over_row plan t more old now is hand s rows c.go_over.new.self c.in-AtRow.place c.in-AtRow.rule (rw c.in-AtRow.is at gone) in
     let held = held_over plan t more old now is hand s rows c.go_over.new.self in
-    told (t ++ more) held e.1) c.tell.ensures
+    told t more held (still_done plan t more old now is hand refl) e.1) c.tell.ensures
 
 pub returns-in-AtLater : goal.returns-in-AtLater
 returns-in-AtLater c = IfOk-weaker c.tell-in-AtLater.result _ _ (λ p told t is.
@@ -128,4 +127,4 @@ returns-in-AtLater c = IfOk-weaker c.tell-in-AtLater.result _ _ (λ p told t is.
     let gone = c.in_ok-go_over.ensures (done_of (t ++ more) now) (going_over plan t more old now is hand s rows) in
     let e = over_later plan t more old now is hand s rows c.go_over.new.self c.in-AtLater.start c.in-AtLater.place (rw c.in-AtLater.is at gone) in
     let held = held_over plan t more old now is hand s rows c.go_over.new.self in
-    told (t ++ more) held e.2) c.tell-in-AtLater.ensures
+    told t more held (still_done plan t more old now is hand refl) e.2) c.tell-in-AtLater.ensures

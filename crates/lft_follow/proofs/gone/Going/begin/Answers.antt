@@ -6,4 +6,4 @@ pub begin-requires : goal.begin-requires
 begin-requires c = is_pass c.args.plan.now c.requires.0 c.requires.1 c.args.self.now c.requires.2
 
 pub returns : goal.returns
-returns c = λ done rows is. begun c.args.plan.now done rows _ is refl c.in_ok-begin.ensures
+returns c = λ done rows is. begun c.args.plan.now done rows _ is refl refl c.in_ok-begin.ensures

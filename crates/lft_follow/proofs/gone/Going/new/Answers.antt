@@ -4,4 +4,4 @@ use Rattle.lft_follow.proofs.Passing.{begun}
 use Rattle.lft_follow.proofs.gone.Going.new.Goals as goal
 
 pub returns : goal.returns
-returns c = λ rows. begun c.args.plan.now [] rows _ (c.stop.ensures ∙ ap (λ (e : ExternalInputs). e.stop) c.externals.ensures.value) refl c.in_ok-begin.ensures
+returns c = λ rows. begun c.args.plan.now [] rows _ (c.stop.ensures ∙ ap (λ (e : ExternalInputs). e.stop) c.externals.ensures.value) refl refl c.in_ok-begin.ensures

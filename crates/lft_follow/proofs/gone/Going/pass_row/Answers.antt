@@ -13,7 +13,7 @@ pub go_on-requires-clause-passed : goal.go_on-requires-clause-passed
 go_on-requires-clause-passed c = let x = get_there c.args.rows.now c.args.place c.requires.place in grown_own c.args.rows.now c.args.place x.0 x.1 c.args.plan.now c.requires.stands.0 c.args.self.now c.requires.passed c.requires.stands.1
 
 pub returns-in-Some : goal.returns-in-Some
-returns-in-Some c = λ done is. let x = get_there c.args.rows.now c.args.place c.requires.place in bad_here c.args.rows.now c.args.place x.0 x.1 c.args.plan.now done c.args.self.now c.requires.passed is _ _ _ (rw c.in-Some.is at c.in_ok-found.ensures)
+returns-in-Some c = λ done is. let x = get_there c.args.rows.now c.args.place c.requires.place in bad_here c.args.rows.now c.args.place x.0 x.1 c.args.plan.now done c.args.self.now c.requires.passed is c.requires.ended _ _ _ (rw c.in-Some.is at c.in_ok-found.ensures)
 
 pub note-requires-clause-recorded : goal.note-requires-clause-recorded
 note-requires-clause-recorded c = (c.requires.fit.each c.args.place c.row_at.result c.row_at.ensures).recorded
@@ -21,4 +21,4 @@ note-requires-clause-recorded c = (c.requires.fit.each c.args.place c.row_at.res
 pub returns : goal.returns
 returns c = λ done is.
     let gone = subst (λ (p : Pass). HasGoneOn c.args.self.now.stop c.args.plan.now (slice_range c.args.rows.now 0 (c.args.place + 1)) p None) (sym c.note.ensures.pass) (rw c.in_default.is at c.in_ok-found.ensures) in
-    (gone_on c.args.rows.now c.args.place c.row_at.result c.row_at.ensures c.args.plan.now done c.args.self.now c.requires.passed is c.note.new.self gone c.note.ensures.passed c.note.ensures.stop, c.note.ensures.passed)
+    (gone_on c.args.rows.now c.args.place c.row_at.result c.row_at.ensures c.args.plan.now done c.args.self.now c.requires.passed is c.requires.ended c.note.new.self gone c.note.ensures.passed c.note.ensures.runs c.note.ensures.stop, c.note.ensures.passed)

@@ -1,4 +1,4 @@
-use Rattle.std.proofs.Common.{◌≡◌, ◌<◌, ◌∙◌, ℕ, Bool, List, true, Some, length, replicate, slice_get, sym, ap, subst, arith, rules}
+use Rattle.std.proofs.Common.{◌≡◌, ◌<◌, ◌∙◌, Bool, List, true, Some, length, replicate, slice_get, ap, subst, arith, rules}
 use Rattle.lft_lists.proofs.Places.{get_same, get_there}
 use Rattle.lft_model.proofs.Places.{slice_get_within}
 use Rattle.lft_follow.proofs.kept.Ways.new.Goals as goal

@@ -31,7 +31,7 @@ returns-in-GoesOn-clause-read c = λ base bytes behind is.
     record {
       tells = all_read base old new bytes c.args.lines.now behind c.args.self.now 0 0 front taken c.extend_from_slice.new.self.items is given c.tell_all-taken.ensures.program c.tell_all-taken.ensures.taken few whole (none_is taken.fault (sym c.is_some.ensures ∙ c.if-is_some.false));
       fit = rows_fit base old new bytes c.args.lines.now behind c.args.self.now 0 0 front taken c.extend_from_slice.new.self.items is given c.tell_all-taken.ensures.program c.tell_all-taken.ensures.taken few whole;
-      follower = subst (λ (u : List Row). IsFollowerOf new u c.add.new.self) (sym c.in_ok-extend_from_slice.ensures.items) (rw c.in-GoesOn.is at (c.in_ok-add.ensures t (c.tell_all-taken.ensures.stands t is.follower)));
+      follower = subst (λ (u : List Row). IsFollowerOf new u c.add.new.self) (sym c.in_ok-extend_from_slice.ensures.items) (rw c.in-GoesOn.is at (c.in_ok-add.ensures t (c.tell_all-taken.ensures.stands t is.follower))).0;
     }
 
 pub add-requires-clause-fit : goal.add-requires-clause-fit
