@@ -1,4 +1,4 @@
-use Rattle.std.proofs.Common.{◌≡◌, ℕ, true, List, [], ◌∷◌, ◌++◌, All, codes, string_bytes, refl, subst, sym, rules}
+use Rattle.std.proofs.Common.{◌≡◌, ℕ, true, List, [], ◌∷◌, ◌++◌, codes, string_bytes, refl, subst, sym, rules}
 use Rattle.std.proofs.lemmas.List.Elements.{All-cons, All-nil, All-push}
 use Rattle.lft_lists.specs.Bytes.{is_part}
 use Rattle.lft_tree.specs.Identifiers.{IsName}
