@@ -154,7 +154,7 @@ pub(crate) struct Front<'a> {
 impl Front<'_> {
     /// Whether the thing can stand behind it.
     fn can_stand(self, thing: Thing) -> Result<bool, NoMemory>
-        ensures { IfOk result (λ yes. yes ≡ true → CanStand self.text.now self.token thing) }
+        ensures { IfOk result (λ yes. yes ≡ true → CanStand self.entry.text.now self.entry.token thing) }
     {
         let mut text = Vec::from_slice(self.alloc, self.text)?;
         text.push(b' ')?;
@@ -165,7 +165,7 @@ impl Front<'_> {
     /// Puts those of the things that can stand behind it at the end of a list.
     fn find(self, found: &mut Vec<Thing>, things: &[Thing]) -> Result<(), NoMemory>
         requires { All (CanStand self.text.now self.token) found.old.items }
-        ensures { OnOk result (All (CanStand self.text.now self.token) found.new.items) }
+        ensures { OnOk result (All (CanStand self.entry.text.now self.entry.token) found.new.items) }
     {
         for place in 0..things.len() {
             if self.can_stand(things[place])? {
@@ -177,7 +177,7 @@ impl Front<'_> {
 
     /// What can stand behind it: a name, or the words that can, and other things.
     fn candidates(self) -> Result<Vec<Thing>, NoMemory>
-        ensures { IfOk result (λ found. All (CanStand self.text.now self.token) found.items) }
+        ensures { IfOk result (λ found. All (CanStand self.entry.text.now self.entry.token) found.items) }
     {
         let mut found = Vec::new(self.alloc);
         self.find(&mut found, &[NAME])?;

@@ -87,7 +87,7 @@ impl Joined {
 }
 
 /// The text of files, one behind another.
-pub(crate) fn joined(alloc: Global, files: &[SourceFile]) -> Result<Joined, NoMemory>
+pub(crate) fn join_files(alloc: Global, files: &[SourceFile]) -> Result<Joined, NoMemory>
     requires { AreOfTexts files.now }
     ensures { IfOk result (AreJoined files.now) }
 {

@@ -10,7 +10,7 @@ ghost use Rattle.lft_tree.specs.View.{tree_view};
 ghost use Rattle.lft_lowered.specs.Told.{IsSentence, IsTold, IsToldTree, IsUnexpected, TellsAt, TellsRefusal, TellsTree, where_words as words_where};
 
 use crate::could::push_could;
-use crate::pages::joined;
+use crate::pages::join_files;
 use lft_files::Failure;
 use lft_load::{Detail, Fault, Part};
 use lft_program::Refusal as ProgramRefusal;
@@ -265,7 +265,7 @@ fn told_of_tree(
     requires tells { Tells (tree_view ast.now) refusal.now }
     ensures { IfOk result (λ words. IsToldTree files.now ast.now.items.items (cause_of refusal.now) (string_bytes words)) }
 {
-    let joined = joined(alloc, files)?;
+    let joined = join_files(alloc, files)?;
     tell_refusal_in(
         alloc,
         &joined.text,
