@@ -14,10 +14,8 @@ use Rattle.lft_load.specs.declared.fault.Part.TheVariants as part
 use Rattle.lft_front.specs.Refusals.{IsRefusedGrowth}
 use Rattle.lft_front.specs.Refusals.CheckRefusal.{by_growth}
 use Rattle.lft_front.specs.Lines.{line_of}
-use Rattle.lft_front.specs.Explained.{StandsBehind, IsExplanation, Writes, WriteRefusal, ExplainingRefusal, ExplainRefusal}
+use Rattle.lft_front.specs.Explained.{StandsBehind, IsExplanation, Writes, WriteRefusal, ExplainingRefusal}
 use Rattle.lft_front.specs.Explained.ExplainingRefusal.{by_check, by_line, by_writer}
-use Rattle.lft_front.specs.Explained.ExplainRefusal.{by_explaining}
-use Rattle.lft_front.specs.Meaning.{IsMeaning, Mean}
 use Rattle.lft_front.proofs.Judging.{refusal_untold, write_untold}
 use Rattle.lft_front.proofs.Behind.{appends_kept, writes_both, front_both, growth_kept}
 
@@ -47,7 +45,7 @@ module _ (all : Bool) (plan : PlanParts) (rows : List Row) (workers : ℕ) (prog
 
 module _ (all : Bool) (plan : PlanParts) (rows : List Row) (workers : ℕ) (old new : Option (List ℕ)) where
   -- where rows get no explanation, the fault tells nothing of the texts
-  explaining_untold : (f : Fault) → ExplainingRefusal all plan rows workers old new f → is_of_text f.part f.number ≡ true → ⊥
+  pub explaining_untold : (f : Fault) → ExplainingRefusal all plan rows workers old new f → is_of_text f.part f.number ≡ true → ⊥
   explaining_untold f (by_check x k) t = refusal_untold workers f x t
   explaining_untold f (by_line v p n x y) t = write_untold f.part f.number p t
   explaining_untold f (by_writer v text p n x y z) t = write_untold f.part f.number p t
@@ -62,13 +60,3 @@ module _ (all : Bool) (plan : PlanParts) (rows : List Row) (workers : ℕ) (old 
   pub explaining_kept : (r : Result Verdict Fault) → IfErr r (ExplainingRefusal all plan rows workers old new) → IfErr r (λ f. f.part ≢ part.Write → f.part ≢ part.Memory → Keeps old new)
   explaining_kept (Ok v) h = h
   explaining_kept (Err f) h = explaining_keeps f h
-
--- what is refused of the meaning is refused of the texts
-pub explaining_refused : (all : Bool) (program externals trace : List ℕ) (workers : ℕ) (old new : Option (List ℕ)) (plan : PlanParts) (rows : List Row) → IsMeaning program externals trace plan rows → (r : Result Verdict Fault) → IfErr r (ExplainingRefusal all plan rows workers old new) → IfErr r (ExplainRefusal all program externals trace workers old new)
-explaining_refused all program externals trace workers old new plan rows m (Ok v) h = h
-explaining_refused all program externals trace workers old new plan rows m (Err f) h = by_explaining plan rows m h
-
--- where the texts have a meaning, no fault tells anything of them
-pub explaining_none : (all : Bool) (program externals trace : List ℕ) (workers : ℕ) (old new : Option (List ℕ)) (plan : PlanParts) (rows : List Row) → IsMeaning program externals trace plan rows → (r : Result Verdict Fault) → IfErr r (ExplainingRefusal all plan rows workers old new) → IfErr r (λ f. is_of_text f.part f.number ≡ true → (other : PlanParts) (others : List Row) → Mean program externals trace other others → ⊥)
-explaining_none all program externals trace workers old new plan rows m (Ok v) h = h
-explaining_none all program externals trace workers old new plan rows m (Err f) h = λ t other others x. explaining_untold all plan rows workers old new f h t

@@ -1,5 +1,5 @@
 -- The verdict's reaction, and faults that tell nothing of the texts.
-use Rattle.std.proofs.Common.{◌≡◌, ℕ, ◌<◌, inl, inr, IfErr, Result, Ok, Err, List, length, Option, Some, None, true, sym, subst}
+use Rattle.std.proofs.Common.{◌≡◌, ℕ, ◌<◌, inl, inr, List, length, Option, Some, None, true, sym, subst}
 use Rattle.lft_steps.specs.declared.row.Row.{Row}
 use Rattle.lft_steps.specs.Fits.{RowsFit}
 use Rattle.lft_trace.specs.Records.{records_of}
@@ -21,17 +21,16 @@ use Rattle.lft_front.specs.Lines.{HasReaction}
 use Rattle.lft_flat.specs.Parts.{Parts}
 use Rattle.lft_load.specs.Faults.{table_number}
 use Rattle.lft_load.specs.Meaning.{IsPlanOf, IsOnly}
-use Rattle.lft_load.proofs.Loading.{trace_told, told_at, memory_untold}
+use Rattle.lft_load.proofs.Loading.{memory_untold}
 use Rattle.lft_front.specs.Meaning.{IsMeaning, Mean}
 use Rattle.lft_load.specs.Refusals.{is_of_text}
-use Rattle.lft_front.specs.Refusals.{CheckRefusal, JudgingRefusal, JudgeRefusal, TextsRefusal}
+use Rattle.lft_front.specs.Refusals.{CheckRefusal, IsRefusedGrowth, TextsRefusal}
 use Rattle.lft_front.specs.Refusals.CheckRefusal.{by_workers, by_growth}
-use Rattle.lft_front.specs.Refusals.JudgingRefusal.{by_check, by_writer}
 use Rattle.lft_front.specs.Refusals.TextsRefusal.{by_trace}
-use Rattle.lft_front.specs.Refusals.JudgeRefusal.{by_judging}
 use Rattle.lft_load.specs.declared.fault.Fault.{Fault}
 use Rattle.lft_load.specs.declared.fault.Part.{Part}
 use Rattle.lft_load.specs.declared.fault.Part.TheVariants as part
+use Rattle.lft_front.proofs.Tables.{has_table, no_trace, unread}
 
 -- the reaction of a breach is one of the program
 module _ (plan : PlanParts) (rows : List Row) (fit : RowsFit plan.program rows) where
@@ -73,15 +72,13 @@ pub write_untold : (p : Part) (n : ℕ) → p ≡ part.Write → is_of_text p n 
 write_untold p n e t = let f : is_of_text part.Write n ≡ true = subst (λ k. is_of_text k n ≡ true) e t in cc f
 
 -- where rows get no verdict, the fault tells nothing of the texts
+pub growth_untold : (f : Fault) → IsRefusedGrowth f → is_of_text f.part f.number ≡ true → ⊥
+growth_untold f (inl x) t = check_untold f.part f.number x.0 t
+growth_untold f (inr x) t = memory_untold f.part f.number x.0 t
+
 pub refusal_untold : (workers : ℕ) (f : Fault) → CheckRefusal workers f → is_of_text f.part f.number ≡ true → ⊥
 refusal_untold workers f (by_workers p n x) t = check_untold f.part f.number p t
-refusal_untold workers f (by_growth (inl x) w) t = check_untold f.part f.number x.0 t
-refusal_untold workers f (by_growth (inr x) w) t = memory_untold f.part f.number x.0 t
-
--- the same where the writer failed on the verdict's line
-pub judging_untold : (plan : PlanParts) (rows : List Row) (workers : ℕ) (old new : Option (List ℕ)) (f : Fault) → JudgingRefusal plan rows workers old new f → is_of_text f.part f.number ≡ true → ⊥
-judging_untold plan rows workers old new f (by_check x) t = refusal_untold workers f x t
-judging_untold plan rows workers old new f (by_writer v p n x z) t = write_untold f.part f.number p t
+refusal_untold workers f (by_growth x w) t = growth_untold f x t
 
 -- the rows of three texts are those of its one plan
 pub rows_of_plan : (program externals trace : List ℕ) (plan : PlanParts) → IsOnly (IsPlanOf program externals) plan → (other : PlanParts) (rows : List Row) → Mean program externals trace other rows → Table plan.program (records_of trace) rows
@@ -90,25 +87,11 @@ rows_of_plan program externals trace plan only other rows x = subst (λ p. Table
 -- what a reader of trace tables says of the third text, its program being that of the plan of the first two
 module _ (program externals trace : List ℕ) (plan : PlanParts) (is_plan : IsOnly (IsPlanOf program externals) plan) (p : Parts) (same : p ≡ plan.program) where
   pub meaning_of : (rows : List Row) → Table p (records_of trace) rows → ((other : List Row) → Table p (records_of trace) other → other ≡ rows) → IsMeaning program externals trace plan rows
-  meaning_of rows table one = record {
-    means = record { is_plan = is_plan.is; is_trace = subst (λ q. Table q (records_of trace) rows) same table };
-    one_plan = is_plan.only;
-    one_trace = λ other x. one other (subst (λ q. Table q (records_of trace) other) (sym same) x);
-  }
+  meaning_of rows table one = record { is_plan = is_plan; has_table = has_table trace p plan.program same rows table one }
 
   module _ (e : TraceFault) (f : Fault) (in_part : f.part ≡ part.Trace) (numbered : f.number ≡ table_number e) (fails : is_told e ≡ true → TraceFails p (records_of trace) e × ((rows : List Row) → ¬ Table p (records_of trace) rows)) where
     pub refused_of : TextsRefusal program externals trace f
-    refused_of = by_trace e plan in_part numbered is_plan.is (λ t. subst (λ q. TraceFails q (records_of trace) e) same (fails t).0)
+    refused_of = by_trace plan is_plan.is (unread trace p plan.program same e f in_part numbered fails)
 
     pub none_of : is_of_text f.part f.number ≡ true → (other : PlanParts) (rows : List Row) → ¬ Mean program externals trace other rows
-    none_of t other rows x = (fails (trace_told e (told_at f.part part.Trace f.number (table_number e) in_part numbered t))).1 rows (subst (λ q. Table q (records_of trace) rows) (sym same) (rows_of_plan program externals trace plan is_plan other rows x))
-
--- what is refused of the meaning is refused of the texts
-pub judging_refused : (program externals trace : List ℕ) (workers : ℕ) (old new : Option (List ℕ)) (plan : PlanParts) (rows : List Row) → IsMeaning program externals trace plan rows → (r : Result Verdict Fault) → IfErr r (JudgingRefusal plan rows workers old new) → IfErr r (JudgeRefusal program externals trace workers old new)
-judging_refused program externals trace workers old new plan rows m (Ok v) h = h
-judging_refused program externals trace workers old new plan rows m (Err f) h = by_judging plan rows m h
-
--- where the texts have a meaning, no fault tells anything of them
-pub judging_none : (program externals trace : List ℕ) (workers : ℕ) (old new : Option (List ℕ)) (plan : PlanParts) (rows : List Row) → IsMeaning program externals trace plan rows → (r : Result Verdict Fault) → IfErr r (JudgingRefusal plan rows workers old new) → IfErr r (λ f. is_of_text f.part f.number ≡ true → (other : PlanParts) (others : List Row) → Mean program externals trace other others → ⊥)
-judging_none program externals trace workers old new plan rows m (Ok v) h = h
-judging_none program externals trace workers old new plan rows m (Err f) h = λ t other others x. judging_untold plan rows workers old new f h t
+    none_of t other rows x = no_trace trace p plan.program same e f in_part numbered fails t rows (rows_of_plan program externals trace plan is_plan other rows x)

@@ -1,4 +1,5 @@
 pub mod Texts
+pub mod Tables
 pub mod Judging
 pub mod Listed
 pub mod Pairing
@@ -8,4 +9,3 @@ pub mod PairExplaining
 pub mod Telling
 pub mod Reading
 pub mod Missing
-pub mod Answering

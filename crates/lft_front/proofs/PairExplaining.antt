@@ -1,5 +1,5 @@
 -- Faults of explaining two traces, which tell nothing of the texts.
-use Rattle.std.proofs.Common.{◌≡◌, ◌≢◌, ◌⊎◌, ◌++◌, inl, inr, ℕ, Bool, IfErr, IfOk, Result, Ok, Err, List, Option, true, refl, subst}
+use Rattle.std.proofs.Common.{◌≡◌, ◌≢◌, ◌⊎◌, ◌++◌, inl, inr, ℕ, Bool, IfErr, Result, Ok, Err, List, Option, true, refl, subst}
 use Rattle.std.specs.Io.KnownBytes.{Appends, Keeps}
 use Rattle.lft_flat.specs.Parts.{Parts}
 use Rattle.lft_steps.specs.declared.row.Row.{Row}
@@ -14,10 +14,9 @@ use Rattle.lft_front.specs.Refusals.{IsRefusedGrowth}
 use Rattle.lft_front.specs.Refusals.CheckRefusal.{by_growth}
 use Rattle.lft_front.specs.declared.paired.Paired.{Paired}
 use Rattle.lft_front.specs.Explained.{Writes, WriteRefusal}
-use Rattle.lft_front.specs.PairExplained.{StandsBehind, IsPairExplanation, IsPairExplained, PairExplainingRefusal, PairExplainRefusal}
+use Rattle.lft_front.specs.PairExplained.{StandsBehind, IsPairExplanation, PairExplainingRefusal}
 use Rattle.lft_front.specs.PairExplained.PairExplainingRefusal.{by_check, by_line, by_writer}
-use Rattle.lft_front.specs.PairExplained.PairExplainRefusal.{by_explaining}
-use Rattle.lft_front.specs.Pairs.{AreMeaning, IsPairing, MeanBoth}
+use Rattle.lft_front.specs.Pairs.{IsPairing}
 use Rattle.lft_front.proofs.Judging.{refusal_untold, write_untold}
 use Rattle.lft_front.proofs.Behind.{appends_kept, writes_both, front_both, growth_kept}
 
@@ -47,7 +46,7 @@ module _ (all : Bool) (plan : PlanParts) (rows others : List Row) (workers : ℕ
 
 module _ (all : Bool) (plan : PlanParts) (rows others : List Row) (workers : ℕ) (old new : Option (List ℕ)) where
   -- where a plan and two traces get no explanation, the fault tells nothing of the texts
-  explaining_untold : (f : Fault) → PairExplainingRefusal all plan rows others workers old new f → is_of_text f.part f.number ≡ true → ⊥
+  pub explaining_untold : (f : Fault) → PairExplainingRefusal all plan rows others workers old new f → is_of_text f.part f.number ≡ true → ⊥
   explaining_untold f (by_check x k) t = refusal_untold workers f x t
   explaining_untold f (by_line v p n x y) t = write_untold f.part f.number p t
   explaining_untold f (by_writer v text p n x y z) t = write_untold f.part f.number p t
@@ -62,18 +61,3 @@ module _ (all : Bool) (plan : PlanParts) (rows others : List Row) (workers : ℕ
   pub pair_kept : (r : Result Paired Fault) → IfErr r (PairExplainingRefusal all plan rows others workers old new) → IfErr r (λ f. f.part ≢ part.Write → f.part ≢ part.Memory → Keeps old new)
   pair_kept (Ok said) h = h
   pair_kept (Err f) h = explaining_keeps f h
-
--- what is refused of the meaning is refused of the texts
-pub pair_refused : (all : Bool) (program externals first second : List ℕ) (workers : ℕ) (old new : Option (List ℕ)) (plan : PlanParts) (rows others : List Row) → AreMeaning program externals first second plan rows others → (r : Result Paired Fault) → IfErr r (PairExplainingRefusal all plan rows others workers old new) → IfErr r (PairExplainRefusal all program externals first second workers old new)
-pair_refused all program externals first second workers old new plan rows others m (Ok said) h = h
-pair_refused all program externals first second workers old new plan rows others m (Err f) h = by_explaining plan rows others m h
-
--- where the texts have a meaning, no fault tells anything of them
-pub pair_none : (all : Bool) (program externals first second : List ℕ) (workers : ℕ) (old new : Option (List ℕ)) (plan : PlanParts) (rows others : List Row) → (r : Result Paired Fault) → IfErr r (PairExplainingRefusal all plan rows others workers old new) → IfErr r (λ f. is_of_text f.part f.number ≡ true → (other : PlanParts) (one two : List Row) → MeanBoth program externals first second other one two → ⊥)
-pair_none all program externals first second workers old new plan rows others (Ok said) h = h
-pair_none all program externals first second workers old new plan rows others (Err f) h = λ t other one two x. explaining_untold all plan rows others workers old new f h t
-
--- what is right of the meaning, and was explained, is explained of the texts
-pub pair_explained : (all : Bool) (program externals first second : List ℕ) (old new : Option (List ℕ)) (plan : PlanParts) (rows others : List Row) → AreMeaning program externals first second plan rows others → (r : Result Paired Fault) → IfOk r (IsPairing plan rows others) → IfOk r (λ said. Writes (IsPairExplanation all plan rows others said) old new) → IfOk r (IsPairExplained all program externals first second old new)
-pair_explained all program externals first second old new plan rows others m (Ok said) h w = record { plan = plan; rows = rows; others = others; meaning = m; right = h; written = w }
-pair_explained all program externals first second old new plan rows others m (Err f) h w = h

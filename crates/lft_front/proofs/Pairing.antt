@@ -1,12 +1,13 @@
 -- What two traces show names a reaction of the program, and faults that tell nothing of the texts.
-use Rattle.std.proofs.Common.{◌≡◌, ℕ, List, Option, true, refl, subst}
+use Rattle.std.proofs.Common.{◌≡◌, ◌⊎◌, inl, inr, ℕ, List, Option, true, refl, subst}
 use Rattle.lft_steps.specs.declared.row.Row.{Row}
 use Rattle.lft_steps.specs.Fits.{RowsFit}
 use Rattle.lft_trace.specs.Records.{records_of}
 use Rattle.lft_trace.specs.Traces.{Table}
 use Rattle.lft_model.specs.Plans.{PlanParts}
 use Rattle.lft_check.specs.declared.verdict.Verdict.TheVariants.{Broken}
-use Rattle.lft_front.specs.Meaning.{IsMeaning}
+use Rattle.lft_load.specs.Meaning.{IsOnly, IsPlanOf}
+use Rattle.lft_front.specs.Meaning.{IsNoTrace}
 use Rattle.lft_front.specs.Pairs.{IsPairing, MeanBoth, NamesReaction}
 use Rattle.lft_front.specs.PairRefusals.{PairingRefusal}
 use Rattle.lft_front.specs.PairRefusals.PairingRefusal.{by_check, by_writer}
@@ -14,7 +15,7 @@ use Rattle.lft_load.specs.Refusals.{is_of_text}
 use Rattle.lft_load.specs.declared.fault.Fault.{Fault}
 use Rattle.lft_front.specs.declared.paired.Paired.{Paired}
 use Rattle.lft_front.specs.declared.paired.Paired.TheVariants.{First, Second, Same, Differ}
-use Rattle.lft_front.proofs.Judging.{has_reaction, refusal_untold, write_untold}
+use Rattle.lft_front.proofs.Judging.{has_reaction, refusal_untold, rows_of_plan, write_untold}
 
 -- the reaction that is named is one of the program
 pub names_reaction : (plan : PlanParts) (rows others : List Row) → RowsFit plan.program rows → RowsFit plan.program others → (said : Paired) → IsPairing plan rows others said → NamesReaction plan.program said
@@ -28,6 +29,7 @@ pub pairing_untold : (plan : PlanParts) (rows others : List Row) (workers : ℕ)
 pairing_untold plan rows others workers old new f (by_check x) t = refusal_untold workers f x t
 pairing_untold plan rows others workers old new f (by_writer s p n x z) t = write_untold f.part f.number p t
 
--- the second rows of four texts are those of the one plan of the first three
-pub second_of_plan : (program externals first second : List ℕ) (plan : PlanParts) (rows : List Row) → IsMeaning program externals first plan rows → (other : PlanParts) (one two : List Row) → MeanBoth program externals first second other one two → Table plan.program (records_of second) two
-second_of_plan program externals first second plan rows m other one two x = subst (λ (p : PlanParts). Table p.program (records_of second) two) (m.one_plan other x.is_first.is_plan) x.is_second
+-- where one of two texts is no trace table under the one plan of two others, the four have no meaning
+pub none_of_both : (program externals first second : List ℕ) (plan : PlanParts) → IsOnly (IsPlanOf program externals) plan → IsNoTrace plan.program first ⊎ IsNoTrace plan.program second → (other : PlanParts) (one two : List Row) → ¬ MeanBoth program externals first second other one two
+none_of_both program externals first second plan only (inl h) other one two x = h one (rows_of_plan program externals first plan only other one x.is_first)
+none_of_both program externals first second plan only (inr h) other one two x = h two (subst (λ (p : PlanParts). Table p.program (records_of second) two) (only.only other x.is_first.is_plan) x.is_second)

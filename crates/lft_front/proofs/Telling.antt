@@ -1,5 +1,5 @@
 -- What is told of texts is told of such as have no meaning.
-use Rattle.std.proofs.Common.{◌≡◌, ◌≢◌, ℕ, ◌⊎◌, List, [], ◌∷◌, ◌++◌, inl, inr, sym, ◌∙◌, subst, Option, Some, None, IfNone, IfSome, Result, Ok, Err, IfOk}
+use Rattle.std.proofs.Common.{◌≡◌, ◌≢◌, ℕ, ◌⊎◌, List, [], ◌∷◌, ◌++◌, inl, inr, refl, sym, ◌∙◌, subst, Option, Some, None, IfNone, IfSome, Result, Ok, Err, IfOk}
 use Rattle.lft_flat.specs.Parts.{Parts}
 use Rattle.lft_trace.specs.Records.{records_of}
 use Rattle.lft_trace.specs.Traces.{Table}
@@ -7,12 +7,12 @@ use Rattle.lft_graph.specs.Precedence.{HasNoLoop}
 use Rattle.lft_graph.specs.Loops.{IsLoop}
 use Rattle.lft_graph.proofs.Cycles.{is_cycle}
 use Rattle.lft_load.specs.Meaning.{IsProgramOf, IsOnly}
-use Rattle.lft_load.proofs.Loading.{table_of, no_loop_of}
+use Rattle.lft_load.proofs.Loading.{under}
 use Rattle.lft_trace.specs.declared.fault.TraceFault.{TraceFault}
 use Rattle.lft_trace.specs.declared.fault.TraceFault.TheVariants as fault
 use Rattle.lft_table_faults.specs.Tables.{Begins, field_line, heading, line_words}
-use Rattle.lft_front.specs.Meaning.{Mean}
-use Rattle.lft_front.specs.Told.{HasNoOrder, HaveMeaning, HaveMeaningBoth, HaveNoMeaning, HaveNoMeaningBoth, HaveNoPlan, IsNoTable, IsNoTrace, IsPlanned, IsTrace, TellsLoop}
+use Rattle.lft_front.specs.Meaning.{IsNoTrace, IsTrace, Mean}
+use Rattle.lft_front.specs.Told.{HasNoOrder, HaveMeaning, HaveMeaningBoth, HaveNoMeaning, HaveNoMeaningBoth, HaveNoPlan, IsNoTable, IsPlanned, IsUnplanned, TellsLoop}
 
 -- what holds where something is told holds of what is told
 pub some_so : {X : Type 0} (o : Option X) (x : X) (P : Type 0) → o ≡ Some x → IfSome o (λ _. P) → P
@@ -37,6 +37,13 @@ no_order_by_program program h parts is none = h parts is
 pub no_order_by_loop : (program : List ℕ) (parts : Parts) → IsOnly (IsProgramOf program) parts → (HasNoLoop parts → ⊥) → HasNoOrder program
 no_order_by_loop program parts only h other is none = h (subst HasNoLoop (only.only other is) none)
 
+-- a program whose external inputs are no table has no plan, nor has one with a loop
+pub unplanned_by_table : (parts : Parts) (externals : List ℕ) → IsNoTable parts externals → IsUnplanned parts externals
+unplanned_by_table parts externals h plan x = h plan.externals x.is_externals
+
+pub unplanned_by_loop : (parts : Parts) (externals : List ℕ) → (HasNoLoop parts → ⊥) → IsUnplanned parts externals
+unplanned_by_loop parts externals h plan x = h x.no_loop
+
 -- a text without a program has no plan, and where there is no plan, texts have no meaning
 pub none_by_program : (program externals : List ℕ) → ((parts : Parts) → IsProgramOf program parts → ⊥) → HaveNoPlan program externals
 none_by_program program externals h plan x = h plan.program x.is_program
@@ -48,11 +55,8 @@ pub none_of_both : (program externals first second : List ℕ) → HaveNoPlan pr
 none_of_both program externals first second h plan rows others m = h plan m.is_first.is_plan
 
 module _ (program externals : List ℕ) (parts : Parts) (only : IsOnly (IsProgramOf program) parts) where
-  pub none_by_table : IsNoTable parts externals → HaveNoPlan program externals
-  none_by_table h plan x = h plan.externals (table_of program externals parts only plan x)
-
-  pub none_by_loop : (HasNoLoop parts → ⊥) → HaveNoPlan program externals
-  none_by_loop h plan x = h (no_loop_of program externals parts only plan x)
+  pub none_by_unplanned : IsUnplanned parts externals → HaveNoPlan program externals
+  none_by_unplanned h plan x = h plan (under program externals parts only plan x)
 
   pub none_by_trace : (trace : List ℕ) → IsNoTrace parts trace → HaveNoMeaning program externals trace
   none_by_trace trace h plan rows m = h rows (subst (λ p. Table p (records_of trace) rows) (only.only plan.program m.is_plan.is_program) m.is_trace)
@@ -64,7 +68,7 @@ module _ (program externals : List ℕ) (parts : Parts) (only : IsOnly (IsProgra
 -- texts that are read have a meaning
 module _ (program externals : List ℕ) (parts : Parts) (only : IsOnly (IsProgramOf program) parts) (planned : IsPlanned parts externals) where
   meaning : (trace : List ℕ) (is : IsTrace parts trace) → Mean program externals trace (record { program = parts; externals = planned.0.0 }) is.0
-  meaning trace is = record { is_plan = record { is_program = only.is; no_loop = planned.1; is_externals = planned.0.1 }; is_trace = is.1 }
+  meaning trace is = record { is_plan = record { is_program = only.is; is_plan = record { of_program = refl; no_loop = planned.1; is_externals = planned.0.1 } }; is_trace = is.1 }
 
   pub meant : (trace : List ℕ) → IsTrace parts trace → HaveMeaning program externals trace
   meant trace is = (record { program = parts; externals = planned.0.0 }, is.0, meaning trace is)

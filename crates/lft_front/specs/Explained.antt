@@ -11,14 +11,16 @@ use Rattle.lft_explain.specs.Explained.{Explains}
 use Rattle.lft_hints.specs.declared.hint.Hint.{Hint}
 use Rattle.lft_hints.specs.Hints.{IsHint}
 use Rattle.lft_hints.specs.Words.{hint_words}
+use Rattle.lft_load.specs.Meaning.{IsPlanOf, OfOnly}
+use Rattle.lft_load.specs.Refusals.{LoadRefusal}
 use Rattle.lft_load.specs.Written.{AppendsFront}
 use Rattle.lft_load.specs.declared.fault.Fault.{Fault}
 use Rattle.lft_load.specs.declared.fault.Part.TheVariants as part
 use Rattle.lft_front.specs.Bundles.{IsBundle}
 use Rattle.lft_front.specs.Judged.{Accepts, AcceptedRuns}
 use Rattle.lft_front.specs.Lines.{line_of}
-use Rattle.lft_front.specs.Meaning.{IsMeaning}
-use Rattle.lft_front.specs.Refusals.{CheckRefusal, TextsRefusal}
+use Rattle.lft_front.specs.Meaning.{HasTable}
+use Rattle.lft_front.specs.Refusals.{CheckRefusal, TraceRefusal}
 
 -- the line of a hint that holds of the breach
 abbrev pub IsGuess : PlanParts → List Row → Breach → List ℕ → Type 0
@@ -61,14 +63,17 @@ WriteRefusal P old new f = ((f.part ≡ part.Memory) × (f.number ≡ 1) × Keep
 abbrev pub WritesLineAtMost : PlanParts → List Row → Option (List ℕ) → Option (List ℕ) → Fault → Type 0
 WritesLineAtMost plan rows old new f = Keeps old new ⊎ (f.part ≡ part.Memory) × ((verdict : Verdict) × IsVerdict plan rows verdict × Appends old new (line_of plan.program verdict))
 
--- the verdict on the meaning of the three texts; its line and what explains it were written
-pub record IsExplained (all : Bool) (program externals trace : List ℕ) (old new : Option (List ℕ)) (verdict : Verdict) : Type 0 where
-  pub plan : PlanParts
+-- the verdict on the rows of the trace table; its line and what explains it were written
+pub record IsExplainedUnder (all : Bool) (plan : PlanParts) (trace : List ℕ) (old new : Option (List ℕ)) (verdict : Verdict) : Type 0 where
   pub rows : List Row
-  pub meaning : IsMeaning program externals trace plan rows
+  pub has_table : HasTable plan.program trace rows
   pub right : IsVerdict plan rows verdict
   pub one_worker : AcceptedRuns plan rows verdict
   pub written : Writes (IsExplanation all plan rows verdict) old new
+
+-- the verdict under the one plan of the first two texts
+abbrev pub IsExplained : Bool → List ℕ → List ℕ → List ℕ → Option (List ℕ) → Option (List ℕ) → Verdict → Type 0
+IsExplained all program externals trace old new verdict = OfOnly (IsPlanOf program externals) (λ plan. IsExplainedUnder all plan trace old new verdict)
 
 -- true is the answer where the verdict on the three texts, which was explained, accepts, and false where it doesn't
 abbrev pub IsExplainedAnswer : Bool → List ℕ → List ℕ → List ℕ → Option (List ℕ) → Option (List ℕ) → Bool → Type 0
@@ -84,10 +89,14 @@ pub data ExplainingRefusal (all : Bool) (plan : PlanParts) (rows : List Row) (wo
   by_line : (verdict : Verdict) → f.part ≡ part.Write → f.number ≡ 1 → IsVerdict plan rows verdict → AppendsFront old new (line_of plan.program verdict) → ExplainingRefusal all plan rows workers old new f
   by_writer : (verdict : Verdict) (text : List ℕ) → f.part ≡ part.Write → f.number ≡ 1 → IsVerdict plan rows verdict → IsExplanation all plan rows verdict text → AppendsFront old new text → ExplainingRefusal all plan rows workers old new f
 
--- the three texts get no explanation: they have no meaning, and nothing was written, or their meaning gets none
-pub data ExplainRefusal (all : Bool) (program externals trace : List ℕ) (workers : ℕ) (old new : Option (List ℕ)) (f : Fault) : Type 0 where
-  by_texts : TextsRefusal program externals trace f → Keeps old new → ExplainRefusal all program externals trace workers old new f
-  by_explaining : (plan : PlanParts) (rows : List Row) → IsMeaning program externals trace plan rows → ExplainingRefusal all plan rows workers old new f → ExplainRefusal all program externals trace workers old new f
+-- a text gets no explanation under a plan: it is no trace table, and nothing was written, or its rows get none
+pub data ExplainRefusalUnder (all : Bool) (plan : PlanParts) (trace : List ℕ) (workers : ℕ) (old new : Option (List ℕ)) (f : Fault) : Type 0 where
+  by_trace : TraceRefusal plan.program trace f → Keeps old new → ExplainRefusalUnder all plan trace workers old new f
+  by_explaining : (rows : List Row) → HasTable plan.program trace rows → ExplainingRefusal all plan rows workers old new f → ExplainRefusalUnder all plan trace workers old new f
+
+-- the three texts get no explanation: the first two have no plan, and nothing was written, or the third gets none under it
+abbrev pub ExplainRefusal : Bool → List ℕ → List ℕ → List ℕ → ℕ → Option (List ℕ) → Option (List ℕ) → Fault → Type 0
+ExplainRefusal all program externals trace workers old new f = (LoadRefusal program externals f × Keeps old new) ⊎ OfOnly (IsPlanOf program externals) (λ plan. ExplainRefusalUnder all plan trace workers old new f)
 
 -- a bundle gets no explanation: the text is no bundle, or its three texts get none by one worker
 pub data ExplainBundleRefusal (all : Bool) (text : List ℕ) (old new : Option (List ℕ)) (f : Fault) : Type 0 where

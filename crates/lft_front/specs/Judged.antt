@@ -8,9 +8,10 @@ use Rattle.lft_model.specs.OneWorker.{OneWorker, InOrderOfPrecedence}
 use Rattle.lft_check.specs.declared.verdict.Verdict.{Verdict}
 use Rattle.lft_check.specs.declared.verdict.Verdict.TheVariants.{Accepted, Broken}
 use Rattle.lft_check.specs.Verdicts.{IsVerdict}
+use Rattle.lft_load.specs.Meaning.{IsPlanOf, OfOnly}
 use Rattle.lft_front.specs.Bundles.{IsBundle}
 use Rattle.lft_front.specs.Lines.{line_of}
-use Rattle.lft_front.specs.Meaning.{IsMeaning}
+use Rattle.lft_front.specs.Meaning.{HasTable}
 
 -- the trace breaks no rule
 abbrev pub Accepts : Verdict → Type 0
@@ -22,14 +23,17 @@ abbrev pub AcceptedRuns : PlanParts → List Row → Verdict → Type 0
 AcceptedRuns plan rows (Accepted runs tags) = OneWorker plan (by_ends plan rows) × InOrderOfPrecedence plan rows
 AcceptedRuns plan rows (Broken b) = Unit {0}
 
--- the verdict on the meaning of the three texts; its line was written
-pub record IsJudged (program externals trace : List ℕ) (old new : Option (List ℕ)) (verdict : Verdict) : Type 0 where
-  pub plan : PlanParts
+-- the verdict on the rows of the trace table; its line was written
+pub record IsJudgedUnder (plan : PlanParts) (trace : List ℕ) (old new : Option (List ℕ)) (verdict : Verdict) : Type 0 where
   pub rows : List Row
-  pub meaning : IsMeaning program externals trace plan rows
+  pub has_table : HasTable plan.program trace rows
   pub right : IsVerdict plan rows verdict
   pub one_worker : AcceptedRuns plan rows verdict
   pub written : Appends old new (line_of plan.program verdict)
+
+-- the verdict under the one plan of the first two texts
+abbrev pub IsJudged : List ℕ → List ℕ → List ℕ → Option (List ℕ) → Option (List ℕ) → Verdict → Type 0
+IsJudged program externals trace old new verdict = OfOnly (IsPlanOf program externals) (λ plan. IsJudgedUnder plan trace old new verdict)
 
 -- true is the answer where the verdict on the three texts, whose line was written, accepts, and false where it doesn't
 abbrev pub IsAccepted : List ℕ → List ℕ → List ℕ → Option (List ℕ) → Option (List ℕ) → Bool → Type 0

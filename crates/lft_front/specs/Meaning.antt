@@ -1,10 +1,23 @@
 -- What the texts of a program, its external inputs and a trace mean.
-use Rattle.std.specs.Prelude.{◌≡◌, ℕ, List}
+use Rattle.std.specs.Prelude.{ℕ, List}
+use Rattle.lft_flat.specs.Parts.{Parts}
 use Rattle.lft_steps.specs.declared.row.Row.{Row}
 use Rattle.lft_trace.specs.Records.{records_of}
 use Rattle.lft_trace.specs.Traces.{Table}
 use Rattle.lft_model.specs.Plans.{PlanParts}
-use Rattle.lft_load.specs.Meaning.{IsPlanOf}
+use Rattle.lft_load.specs.Meaning.{IsOnly, IsPlanOf}
+
+-- the rows are the one list of rows of the trace table
+abbrev pub HasTable : Parts → List ℕ → List Row → Type 0
+HasTable program trace rows = IsOnly (Table program (records_of trace)) rows
+
+-- the text is a trace table of the program
+abbrev pub IsTrace : Parts → List ℕ → Type 0
+IsTrace program trace = (rows : List Row) × Table program (records_of trace) rows
+
+-- the text is no trace table of the program
+abbrev pub IsNoTrace : Parts → List ℕ → Type 0
+IsNoTrace program trace = (rows : List Row) → Table program (records_of trace) rows → ⊥
 
 -- the plan and the rows of the three texts
 pub record Mean (program externals trace : List ℕ) (plan : PlanParts) (rows : List Row) : Type 0 where
@@ -13,6 +26,5 @@ pub record Mean (program externals trace : List ℕ) (plan : PlanParts) (rows : 
 
 -- the plan and the rows are the one meaning of the three texts
 pub record IsMeaning (program externals trace : List ℕ) (plan : PlanParts) (rows : List Row) : Type 0 where
-  pub means : Mean program externals trace plan rows
-  pub one_plan : (other : PlanParts) → IsPlanOf program externals other → other ≡ plan
-  pub one_trace : (other : List Row) → Table plan.program (records_of trace) other → other ≡ rows
+  pub is_plan : IsOnly (IsPlanOf program externals) plan
+  pub has_table : HasTable plan.program trace rows

@@ -7,14 +7,16 @@ use Rattle.lft_model.specs.Plans.{PlanParts}
 use Rattle.lft_front.specs.Explained.{AreReasons, Writes}
 use Rattle.lft_explain.specs.Shortened.{shown}
 use Rattle.lft_pair.specs.Shown.{ShowsDifference}
+use Rattle.lft_load.specs.Meaning.{IsPlanOf, OfOnly}
+use Rattle.lft_load.specs.Refusals.{LoadRefusal}
 use Rattle.lft_load.specs.Written.{AppendsFront}
 use Rattle.lft_load.specs.declared.fault.Fault.{Fault}
 use Rattle.lft_load.specs.declared.fault.Part.TheVariants as part
 use Rattle.lft_front.specs.declared.paired.Paired.{Paired}
 use Rattle.lft_front.specs.declared.paired.Paired.TheVariants as paired
 use Rattle.lft_front.specs.Lines.{line_of_pair}
-use Rattle.lft_front.specs.PairRefusals.{TextPairRefusal}
-use Rattle.lft_front.specs.Pairs.{AreMeaning, IsPairing, SaysSame}
+use Rattle.lft_front.specs.PairRefusals.{TracesRefusal}
+use Rattle.lft_front.specs.Pairs.{HaveTables, IsPairing, SaysSame}
 use Rattle.lft_front.specs.Refusals.{CheckRefusal}
 
 -- an empty line and what shows a difference: all of it, or the first 60 lines and how many others there are
@@ -36,14 +38,17 @@ IsPairExplanation all plan rows others said text = (rest : List ℕ) × StandsBe
 abbrev pub WritesPairLineAtMost : PlanParts → List Row → List Row → Option (List ℕ) → Option (List ℕ) → Fault → Type 0
 WritesPairLineAtMost plan rows others old new f = Keeps old new ⊎ (f.part ≡ part.Memory) × ((said : Paired) × IsPairing plan rows others said × Appends old new (line_of_pair plan.program said))
 
--- what is said of the meaning of the four texts; its line and what explains it were written
-pub record IsPairExplained (all : Bool) (program externals first second : List ℕ) (old new : Option (List ℕ)) (said : Paired) : Type 0 where
-  pub plan : PlanParts
+-- what is said of the rows of two trace tables; its line and what explains it were written
+pub record IsPairExplainedUnder (all : Bool) (plan : PlanParts) (first second : List ℕ) (old new : Option (List ℕ)) (said : Paired) : Type 0 where
   pub rows : List Row
   pub others : List Row
-  pub meaning : AreMeaning program externals first second plan rows others
+  pub have_tables : HaveTables plan.program first second rows others
   pub right : IsPairing plan rows others said
   pub written : Writes (IsPairExplanation all plan rows others said) old new
+
+-- what is said under the one plan of the first two texts
+abbrev pub IsPairExplained : Bool → List ℕ → List ℕ → List ℕ → List ℕ → Option (List ℕ) → Option (List ℕ) → Paired → Type 0
+IsPairExplained all program externals first second old new said = OfOnly (IsPlanOf program externals) (λ plan. IsPairExplainedUnder all plan first second old new said)
 
 -- true is the answer where the traces of the four texts, which were explained, are accepted and have the same runs, and false where not
 abbrev pub IsPairExplainedAnswer : Bool → List ℕ → List ℕ → List ℕ → List ℕ → Option (List ℕ) → Option (List ℕ) → Bool → Type 0
@@ -55,7 +60,11 @@ pub data PairExplainingRefusal (all : Bool) (plan : PlanParts) (rows others : Li
   by_line : (said : Paired) → f.part ≡ part.Write → f.number ≡ 1 → IsPairing plan rows others said → AppendsFront old new (line_of_pair plan.program said) → PairExplainingRefusal all plan rows others workers old new f
   by_writer : (said : Paired) (text : List ℕ) → f.part ≡ part.Write → f.number ≡ 1 → IsPairing plan rows others said → IsPairExplanation all plan rows others said text → AppendsFront old new text → PairExplainingRefusal all plan rows others workers old new f
 
--- the four texts get no explanation: they have no meaning, and nothing was written, or their meaning gets none
-pub data PairExplainRefusal (all : Bool) (program externals first second : List ℕ) (workers : ℕ) (old new : Option (List ℕ)) (f : Fault) : Type 0 where
-  by_reading : TextPairRefusal program externals first second f → Keeps old new → PairExplainRefusal all program externals first second workers old new f
-  by_explaining : (plan : PlanParts) (rows others : List Row) → AreMeaning program externals first second plan rows others → PairExplainingRefusal all plan rows others workers old new f → PairExplainRefusal all program externals first second workers old new f
+-- two texts get no explanation under a plan: one is no trace table, and nothing was written, or their rows get none
+pub data PairExplainRefusalUnder (all : Bool) (plan : PlanParts) (first second : List ℕ) (workers : ℕ) (old new : Option (List ℕ)) (f : Fault) : Type 0 where
+  by_traces : TracesRefusal plan.program first second f → Keeps old new → PairExplainRefusalUnder all plan first second workers old new f
+  by_explaining : (rows others : List Row) → HaveTables plan.program first second rows others → PairExplainingRefusal all plan rows others workers old new f → PairExplainRefusalUnder all plan first second workers old new f
+
+-- the four texts get no explanation: the first two have no plan, and nothing was written, or the others get none under it
+abbrev pub PairExplainRefusal : Bool → List ℕ → List ℕ → List ℕ → List ℕ → ℕ → Option (List ℕ) → Option (List ℕ) → Fault → Type 0
+PairExplainRefusal all program externals first second workers old new f = (LoadRefusal program externals f × Keeps old new) ⊎ OfOnly (IsPlanOf program externals) (λ plan. PairExplainRefusalUnder all plan first second workers old new f)

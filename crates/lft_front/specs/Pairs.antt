@@ -12,10 +12,11 @@ use Rattle.lft_model.specs.OneWorker.{OneWorker, InOrderOfPrecedence}
 use Rattle.lft_rows.specs.Accepted.{IsAccepted}
 use Rattle.lft_pair.specs.declared.comparison.Pair.TheVariants as pair
 use Rattle.lft_pair.specs.Pairs.{IsComparison}
+use Rattle.lft_load.specs.Meaning.{IsPlanOf, OfOnly}
 use Rattle.lft_front.specs.declared.paired.Paired.{Paired}
 use Rattle.lft_front.specs.declared.paired.Paired.TheVariants as paired
 use Rattle.lft_front.specs.Lines.{HasReaction, line_of_pair}
-use Rattle.lft_front.specs.Meaning.{IsMeaning, Mean}
+use Rattle.lft_front.specs.Meaning.{HasTable, Mean}
 
 -- the runs, in order of their ends, are an execution by one worker, and no run started before every run that precedes it at its tag had ended
 abbrev pub IsExecution : PlanParts → List Row → Type 0
@@ -40,19 +41,21 @@ pub record MeanBoth (program externals first second : List ℕ) (plan : PlanPart
   pub is_first : Mean program externals first plan rows
   pub is_second : Table plan.program (records_of second) others
 
--- the plan and the rows are the one meaning of the four texts
-pub record AreMeaning (program externals first second : List ℕ) (plan : PlanParts) (rows others : List Row) : Type 0 where
-  pub of_first : IsMeaning program externals first plan rows
-  pub of_second : IsMeaning program externals second plan others
+-- these are the rows of the two trace tables, and no others
+abbrev pub HaveTables : Parts → List ℕ → List ℕ → List Row → List Row → Type 0
+HaveTables program first second rows others = HasTable program first rows × HasTable program second others
 
--- what is said of the meaning of the four texts; its line was written
-pub record IsPaired (program externals first second : List ℕ) (old new : Option (List ℕ)) (said : Paired) : Type 0 where
-  pub plan : PlanParts
+-- what is said of the rows of two trace tables; its line was written
+pub record IsPairedUnder (plan : PlanParts) (first second : List ℕ) (old new : Option (List ℕ)) (said : Paired) : Type 0 where
   pub rows : List Row
   pub others : List Row
-  pub meaning : AreMeaning program externals first second plan rows others
+  pub have_tables : HaveTables plan.program first second rows others
   pub right : IsPairing plan rows others said
   pub written : Appends old new (line_of_pair plan.program said)
+
+-- what is said under the one plan of the first two texts
+abbrev pub IsPaired : List ℕ → List ℕ → List ℕ → List ℕ → Option (List ℕ) → Option (List ℕ) → Paired → Type 0
+IsPaired program externals first second old new said = OfOnly (IsPlanOf program externals) (λ plan. IsPairedUnder plan first second old new said)
 
 -- the reaction that the line names, if it names one, is of the program
 abbrev pub NamesReaction : Parts → Paired → Type 0

@@ -13,8 +13,8 @@ use Rattle.lft_model.specs.Workers.{IsWorkers}
 use Rattle.lft_check.specs.Verdicts.{IsVerdict}
 use Rattle.lft_front.specs.Bundles.{IsBundle}
 use Rattle.lft_front.specs.Lines.{line_of}
-use Rattle.lft_load.specs.Meaning.{IsOnly, IsProgramOf, IsPlanOf}
-use Rattle.lft_front.specs.Meaning.{IsMeaning}
+use Rattle.lft_load.specs.Meaning.{IsProgramOf, IsPlanOf, OfOnly}
+use Rattle.lft_front.specs.Meaning.{HasTable}
 use Rattle.lft_graph.specs.Graph.{GraphParts, IsGraphOf}
 use Rattle.lft_front.specs.Shown.{lines_of}
 use Rattle.lft_load.specs.Written.{AppendsFront}
@@ -31,20 +31,28 @@ pub data CheckRefusal (workers : ℕ) (f : Fault) : Type 0 where
   by_workers : f.part ≡ part.Check → f.number ≡ 1 → (IsWorkers workers → ⊥) → CheckRefusal workers f
   by_growth : IsRefusedGrowth f → IsWorkers workers → CheckRefusal workers f
 
+-- the text is no trace table of the program
+abbrev pub TraceRefusal : Parts → List ℕ → Fault → Type 0
+TraceRefusal program trace f = (e : TraceFault) × (f.part ≡ part.Trace) × (f.number ≡ table_number e) × (is_told e ≡ true → TraceFails program (records_of trace) e)
+
 -- the three texts have no meaning: the first two have no plan, or the third is no trace table
 pub data TextsRefusal (program externals trace : List ℕ) (f : Fault) : Type 0 where
   by_load : LoadRefusal program externals f → TextsRefusal program externals trace f
-  by_trace : (e : TraceFault) (plan : PlanParts) → f.part ≡ part.Trace → f.number ≡ table_number e → IsPlanOf program externals plan → (is_told e ≡ true → TraceFails plan.program (records_of trace) e) → TextsRefusal program externals trace f
+  by_trace : (plan : PlanParts) → IsPlanOf program externals plan → TraceRefusal plan.program trace f → TextsRefusal program externals trace f
 
 -- a plan and rows get no written verdict: they get none, or the writer failed on its line
 pub data JudgingRefusal (plan : PlanParts) (rows : List Row) (workers : ℕ) (old new : Option (List ℕ)) (f : Fault) : Type 0 where
   by_check : CheckRefusal workers f → JudgingRefusal plan rows workers old new f
   by_writer : (verdict : Verdict) → f.part ≡ part.Write → f.number ≡ 1 → IsVerdict plan rows verdict → AppendsFront old new (line_of plan.program verdict) → JudgingRefusal plan rows workers old new f
 
--- the three texts get no verdict: they have no meaning, or their meaning gets none
-pub data JudgeRefusal (program externals trace : List ℕ) (workers : ℕ) (old new : Option (List ℕ)) (f : Fault) : Type 0 where
-  by_texts : TextsRefusal program externals trace f → JudgeRefusal program externals trace workers old new f
-  by_judging : (plan : PlanParts) (rows : List Row) → IsMeaning program externals trace plan rows → JudgingRefusal plan rows workers old new f → JudgeRefusal program externals trace workers old new f
+-- a text gets no written verdict under a plan: it is no trace table, or its rows get none
+pub data JudgeRefusalUnder (plan : PlanParts) (trace : List ℕ) (workers : ℕ) (old new : Option (List ℕ)) (f : Fault) : Type 0 where
+  by_trace : TraceRefusal plan.program trace f → JudgeRefusalUnder plan trace workers old new f
+  by_judging : (rows : List Row) → HasTable plan.program trace rows → JudgingRefusal plan rows workers old new f → JudgeRefusalUnder plan trace workers old new f
+
+-- the three texts get no verdict: the first two have no plan, or the third gets none under it
+abbrev pub JudgeRefusal : List ℕ → List ℕ → List ℕ → ℕ → Option (List ℕ) → Option (List ℕ) → Fault → Type 0
+JudgeRefusal program externals trace workers old new f = LoadRefusal program externals f ⊎ OfOnly (IsPlanOf program externals) (λ plan. JudgeRefusalUnder plan trace workers old new f)
 
 -- a program isn't shown: it has no graph, a growth was refused, or the writer failed on the lines
 pub data ShowProgramRefusal (all : Bool) (program : Parts) (old new : Option (List ℕ)) (f : Fault) : Type 0 where
@@ -53,9 +61,8 @@ pub data ShowProgramRefusal (all : Bool) (program : Parts) (old new : Option (Li
   by_writer : (g : GraphParts) → f.part ≡ part.Write → f.number ≡ 1 → IsGraphOf program g → AppendsFront old new (lines_of all program g) → ShowProgramRefusal all program old new f
 
 -- nothing is shown of a text: it has no flat program, or the program isn't shown
-pub data ShowRefusal (text : List ℕ) (old new : Option (List ℕ)) (f : Fault) : Type 0 where
-  by_program : ProgramRefusal text f → ShowRefusal text old new f
-  by_showing : (program : Parts) → IsOnly (IsProgramOf text) program → ShowProgramRefusal false program old new f → ShowRefusal text old new f
+abbrev pub ShowRefusal : List ℕ → Option (List ℕ) → Option (List ℕ) → Fault → Type 0
+ShowRefusal text old new f = ProgramRefusal text f ⊎ OfOnly (IsProgramOf text) (λ program. ShowProgramRefusal false program old new f)
 
 -- a bundle gets no verdict: the text is no bundle, or its three texts get none by one worker
 pub data BundleRefusal (text : List ℕ) (old new : Option (List ℕ)) (f : Fault) : Type 0 where

@@ -14,7 +14,7 @@ use Rattle.lft_flat.specs.declared.parts.Trigger.TheVariants.{Startup, Shutdown,
 use Rattle.lft_graph.specs.Graph.{GraphParts, IsGraphOf}
 use Rattle.lft_words.specs.Words.{action_words, name_words, timer_words}
 use Rattle.lft_load.specs.Words.{field, names_words, reaction_name}
-use Rattle.lft_load.specs.Meaning.{IsOnly, IsProgramOf}
+use Rattle.lft_load.specs.Meaning.{IsProgramOf, OfOnly}
 
 -- the name of a port
 abbrev pub port_name : Parts → ℕ → List ℕ
@@ -123,7 +123,5 @@ pub record IsShownProgram (all : Bool) (program : Parts) (old new : Option (List
   pub written : Appends old new (lines_of all program graph)
 
 -- the one program of the text was shown, its ports and its reactions
-pub record IsShown (text : List ℕ) (old new : Option (List ℕ)) : Type 0 where
-  pub program : Parts
-  pub is_program : IsOnly (IsProgramOf text) program
-  pub shown : IsShownProgram false program old new
+abbrev pub IsShown : List ℕ → Option (List ℕ) → Option (List ℕ) → Type 0
+IsShown text old new = OfOnly (IsProgramOf text) (λ program. IsShownProgram false program old new)

@@ -7,17 +7,17 @@ use Rattle.lft_graph.specs.Precedence.{HasNoLoop}
 use Rattle.lft_steps.specs.Inputs.{ExternalInputs}
 use Rattle.lft_trace.specs.ExternalTables.{ExternalTable, ExternalFails}
 use Rattle.lft_trace.specs.Records.{records_of}
-use Rattle.lft_trace.specs.Traces.{Table, TraceFails}
+use Rattle.lft_trace.specs.Traces.{TraceFails}
 use Rattle.lft_trace.specs.declared.fault.TraceFault.{TraceFault}
 use Rattle.lft_model.specs.Plans.{PlanParts}
-use Rattle.lft_load.specs.Meaning.{IsOnly, IsPlanOf, IsProgramOf}
+use Rattle.lft_load.specs.Meaning.{IsOnly, IsPlanOf, IsPlanUnder, IsProgramOf, OfOnly}
 use Rattle.lft_refusals.specs.Told.{TellsProgram}
 use Rattle.lft_reasons.specs.Reasons.{IsToldOf}
 use Rattle.lft_table_faults.specs.Tables.{Begins, IsWrong, IsWrongThere, NamesField, field_line, heading}
 use Rattle.lft_reasons.specs.Loops.{loop_words}
 use Rattle.lft_front.specs.Bundles.{IsBundle}
 use Rattle.lft_front.specs.Markers.{IsMissing}
-use Rattle.lft_front.specs.Meaning.{Mean}
+use Rattle.lft_front.specs.Meaning.{IsTrace, Mean}
 use Rattle.lft_front.specs.Pairs.{MeanBoth}
 use Rattle.lft_front.specs.declared.bundle.Marker.{Marker}
 use Rattle.lft_front.specs.declared.bundle.Marker.TheVariants as markers
@@ -28,17 +28,9 @@ use Rattle.lft_front.specs.declared.refused.Start.TheVariants as start
 abbrev pub IsTable : Parts → List ℕ → Type 0
 IsTable program text = (inputs : ExternalInputs) × ExternalTable program (records_of text) inputs
 
--- the text is a trace table of the program
-abbrev pub IsTrace : Parts → List ℕ → Type 0
-IsTrace program text = (rows : List Row) × Table program (records_of text) rows
-
 -- the text is no table of external inputs of the program
 abbrev pub IsNoTable : Parts → List ℕ → Type 0
 IsNoTable program text = (inputs : ExternalInputs) → ExternalTable program (records_of text) inputs → ⊥
-
--- the text is no trace table of the program
-abbrev pub IsNoTrace : Parts → List ℕ → Type 0
-IsNoTrace program text = (rows : List Row) → Table program (records_of text) rows → ⊥
 
 -- the text has no program
 abbrev pub HasNoProgram : List ℕ → Type 0
@@ -51,6 +43,10 @@ HasNoOrder program = (parts : Parts) → IsProgramOf program parts → HasNoLoop
 -- the text has a program, and its reactions have an order
 abbrev pub HasOrder : List ℕ → Type 0
 HasOrder program = (parts : Parts) × IsProgramOf program parts × HasNoLoop parts
+
+-- the program has no plan under these external inputs
+abbrev pub IsUnplanned : Parts → List ℕ → Type 0
+IsUnplanned program externals = (plan : PlanParts) → IsPlanUnder program externals plan → ⊥
 
 -- a program's text and that of its external inputs have no plan
 abbrev pub HaveNoPlan : List ℕ → List ℕ → Type 0
@@ -96,15 +92,9 @@ pub record TellsTrace (program : Parts) (text word words : List ℕ) : Type 0 wh
   pub heads : Begins (heading word fault) words
   pub field : (n : ℕ) → field_line fault ≡ Some n → NamesField (records_of text) word n (IsWrong program fault) words
 
--- the text has this program and no other, and the words tell so much of it
-pub record TellsOf (text : List ℕ) (Tells : Parts → Type 0) : Type 0 where
-  pub program : Parts
-  pub only : IsOnly (IsProgramOf text) program
-  pub tells : Tells program
-
 -- the words tell why a program's text is refused, or of a loop of its reactions
 abbrev pub TellsNoOrder : List ℕ → List ℕ → Type 0
-TellsNoOrder text words = TellsText text words ⊎ TellsOf text (λ program. TellsLoop program words)
+TellsNoOrder text words = TellsText text words ⊎ OfOnly (IsProgramOf text) (λ program. TellsLoop program words)
 
 -- the words tell why the external inputs of a program are refused, or, where they aren't, of a loop of its reactions
 abbrev pub TellsInputsOrLoop : Parts → List ℕ → List ℕ → Type 0
@@ -112,7 +102,7 @@ TellsInputsOrLoop program externals words = TellsExternals program externals wor
 
 -- the words tell why a program's text is refused, or, where it isn't, that of its external inputs, or of a loop of its reactions
 abbrev pub TellsNoPlan : List ℕ → List ℕ → List ℕ → Type 0
-TellsNoPlan text externals words = TellsText text words ⊎ TellsOf text (λ program. TellsInputsOrLoop program externals words)
+TellsNoPlan text externals words = TellsText text words ⊎ OfOnly (IsProgramOf text) (λ program. TellsInputsOrLoop program externals words)
 
 -- the external inputs are those of the program, and its reactions have an order
 abbrev pub IsPlanned : Parts → List ℕ → Type 0
@@ -120,7 +110,7 @@ IsPlanned program externals = IsTable program externals × HasNoLoop program
 
 -- the words tell of the first of three texts that is refused; of a loop of the reactions before the trace
 abbrev pub TellsRefusal : List ℕ → List ℕ → List ℕ → List ℕ → Type 0
-TellsRefusal text externals trace words = TellsNoPlan text externals words ⊎ TellsOf text (λ program. IsPlanned program externals × TellsTrace program trace (codes "Trace") words)
+TellsRefusal text externals trace words = TellsNoPlan text externals words ⊎ OfOnly (IsProgramOf text) (λ program. IsPlanned program externals × TellsTrace program trace (codes "Trace") words)
 
 -- the words tell why the first of two traces that is refused is
 abbrev pub TellsOneTrace : Parts → List ℕ → List ℕ → List ℕ → Type 0
@@ -128,7 +118,7 @@ TellsOneTrace program first second words = TellsTrace program first (codes "Firs
 
 -- the words tell of the first of four texts that is refused; of a loop of the reactions before the two traces
 abbrev pub TellsRefusalOfBoth : List ℕ → List ℕ → List ℕ → List ℕ → List ℕ → Type 0
-TellsRefusalOfBoth text externals first second words = TellsNoPlan text externals words ⊎ TellsOf text (λ program. IsPlanned program externals × TellsOneTrace program first second words)
+TellsRefusalOfBoth text externals first second words = TellsNoPlan text externals words ⊎ OfOnly (IsProgramOf text) (λ program. IsPlanned program externals × TellsOneTrace program first second words)
 
 -- what a program's text gives: its one program; where it has none, the words tell why
 abbrev pub Reads : List ℕ → Start → Type 0

@@ -25,7 +25,7 @@ use std::io::Write;
 use std::thread::Threads;
 
 /// Whether a verdict is that the trace is accepted.
-fn is_accepted(verdict: Verdict) -> bool
+pub fn is_accepted(verdict: Verdict) -> bool
     ensures { IsTrue result ↔ Accepts verdict }
 {
     matches!(verdict, Verdict::Accepted { .. })
@@ -50,7 +50,7 @@ pub fn judge_answer<W: Write, R: Threads + Sync>(
 }
 
 /// Whether two traces are said to be accepted and to have the same runs.
-fn is_same(paired: Paired) -> bool
+pub fn is_same(paired: Paired) -> bool
     ensures { IsTrue result ↔ SaysSame paired }
 {
     matches!(paired, Paired::Same { .. })

@@ -8,17 +8,17 @@ ghost use Rattle.lft_model.specs.Plans.{PlanParts};
 ghost use Rattle.lft_model.specs.Workers.{IsWorkers};
 ghost use Rattle.lft_races.specs.Races.{FirstSoFar};
 ghost use Rattle.lft_check.specs.Verdicts.{IsVerdict};
-ghost use Rattle.lft_front.specs.Meaning.{Mean};
+ghost use Rattle.lft_front.specs.Meaning.{IsNoTrace, Mean};
 ghost use Rattle.lft_front.specs.Judged.{AcceptedRuns};
-ghost use Rattle.lft_front.specs.Explained.{Guesses, AreReasons, StandsBehind, IsExplanation, Writes, WriteRefusal, IsExplained, ExplainingRefusal, ExplainRefusal};
+ghost use Rattle.lft_front.specs.Explained.{Guesses, AreReasons, StandsBehind, IsExplanation, Writes, WriteRefusal, IsExplained, IsExplainedUnder, ExplainingRefusal, ExplainRefusal, ExplainRefusalUnder};
 ghost use Rattle.lft_load.specs.Refusals.{is_of_text};
 ghost use Rattle.lft_load.specs.declared.fault.Part.TheVariants as part;
 
-use crate::judge::{read_texts, report, verdict_of};
+use crate::judge::{read_table, report, verdict_of};
 use lft_check::Verdict;
 use lft_explain::explain;
 use lft_hints::{hint_of, tell_hint};
-use lft_load::{Fault, write_text};
+use lft_load::{Fault, load, write_text};
 use lft_model::{Breach, Plan};
 use lft_steps::Rows;
 use lft_tag::NoMemory;
@@ -133,6 +133,29 @@ fn explain_rows<W: Write, R: Threads + Sync>(
     }
 }
 
+/// Judges a trace table of a plan by so many workers, and writes the verdict's line and what explains it,
+/// as `explain_texts` does.
+pub fn explain_plan<W: Write, R: Threads + Sync>(
+    rt: &R,
+    alloc: Global,
+    plan: &Plan,
+    trace: &[u8],
+    workers: u32,
+    all: bool,
+    out: &mut W,
+) -> Result<Verdict, Fault>
+    ensures explained { IfOk result (IsExplainedUnder all plan.now trace.now (W.contents out.old) (W.contents out.new)) }
+    ensures workers { OnOk result (IsWorkers workers) }
+    ensures refused { IfErr result (ExplainRefusalUnder all plan.now trace.now workers (W.contents out.old) (W.contents out.new)) }
+    ensures none { IfErr result (λ f. is_of_text f.part f.number ≡ true → IsNoTrace plan.now.program trace.now) }
+    ensures kept { IfErr result (λ f. f.part ≢ part.Write → f.part ≢ part.Memory → Keeps (W.contents out.old) (W.contents out.new)) }
+{
+    match read_table(rt, alloc, plan, trace, workers) {
+        Ok(rows) => explain_rows(rt, alloc, plan, &rows, workers, all, out),
+        Err(fault) => Err(fault),
+    }
+}
+
 /// Judges as `judge_texts` does, and writes behind the line of a broken rule an empty line and the
 /// facts that explain it: all, or the first lines of each part. The line is written before the facts
 /// are looked for. Where memory is refused then, the fault is `memory` 1 `NoMemory`, and the line alone
@@ -153,8 +176,8 @@ pub fn explain_texts<W: Write, R: Threads + Sync>(
     ensures none { IfErr result (λ f. is_of_text f.part f.number ≡ true → (plan : PlanParts) (rows : List Row) → Mean program.now externals.now trace.now plan rows → ⊥) }
     ensures kept { IfErr result (λ f. f.part ≢ part.Write → f.part ≢ part.Memory → Keeps (W.contents out.old) (W.contents out.new)) }
 {
-    match read_texts(rt, alloc, program, externals, trace, workers) {
-        Ok(given) => explain_rows(rt, alloc, &given.plan, &given.rows, workers, all, out),
+    match load(alloc, program, externals) {
+        Ok(plan) => explain_plan(rt, alloc, &plan, trace, workers, all, out),
         Err(fault) => Err(fault),
     }
 }

@@ -1,15 +1,16 @@
 //! What is said of two traces, from texts, and what explains it.
 
-ghost use Rattle.std.specs.Prelude.{◌≡◌, ◌≢◌, true, OnOk, IfOk, IfErr, List};
+ghost use Rattle.std.specs.Prelude.{◌≡◌, ◌≢◌, ◌⊎◌, true, OnOk, IfOk, IfErr, List};
 ghost use Rattle.std.specs.Io.KnownBytes.{Keeps};
 ghost use Rattle.lft_steps.specs.Fits.{RowsFit};
 ghost use Rattle.lft_steps.specs.declared.row.Row.{Row};
 ghost use Rattle.lft_model.specs.Plans.{PlanParts};
 ghost use Rattle.lft_model.specs.Workers.{IsWorkers};
+ghost use Rattle.lft_front.specs.Meaning.{IsNoTrace};
 ghost use Rattle.lft_front.specs.Pairs.{IsPairing, MeanBoth};
 ghost use Rattle.lft_front.specs.declared.paired.Paired.TheVariants.{Differ as TheyDiffer};
 ghost use Rattle.lft_front.specs.Explained.{Writes, WriteRefusal};
-ghost use Rattle.lft_front.specs.PairExplained.{AreAnswers, StandsBehind, IsPairExplanation, IsPairExplained, PairExplainingRefusal, PairExplainRefusal};
+ghost use Rattle.lft_front.specs.PairExplained.{AreAnswers, StandsBehind, IsPairExplanation, IsPairExplained, IsPairExplainedUnder, PairExplainingRefusal, PairExplainRefusal, PairExplainRefusalUnder};
 ghost use Rattle.lft_load.specs.Refusals.{is_of_text};
 ghost use Rattle.lft_load.specs.declared.fault.Part.TheVariants as part;
 
@@ -17,7 +18,7 @@ use crate::explain::write_reasons;
 use crate::pair::{judge_both, read_both, report};
 use crate::paired::Paired;
 use lft_explain::push_shown;
-use lft_load::{Fault, write_text};
+use lft_load::{Fault, load, write_text};
 use lft_model::Plan;
 use lft_pair::contrast;
 use lft_steps::Rows;
@@ -128,6 +129,39 @@ fn explain_rows<W: Write, R: Threads + Sync>(
     }
 }
 
+/// Judges two trace tables of a plan by so many workers, compares them, and writes the line of what is
+/// said and what explains it, as `explain_pair_texts` does.
+pub fn explain_pair_plan<W: Write, R: Threads + Sync>(
+    rt: &R,
+    alloc: Global,
+    plan: &Plan,
+    first: &[u8],
+    second: &[u8],
+    workers: u32,
+    all: bool,
+    out: &mut W,
+) -> Result<Paired, Fault>
+    ensures explained { IfOk result (IsPairExplainedUnder all plan.now first.now second.now (W.contents out.old) (W.contents out.new)) }
+    ensures workers { OnOk result (IsWorkers workers) }
+    ensures refused { IfErr result (PairExplainRefusalUnder all plan.now first.now second.now workers (W.contents out.old) (W.contents out.new)) }
+    ensures none { IfErr result (λ f. is_of_text f.part f.number ≡ true → IsNoTrace plan.now.program first.now ⊎ IsNoTrace plan.now.program second.now) }
+    ensures kept { IfErr result (λ f. f.part ≢ part.Write → f.part ≢ part.Memory → Keeps (W.contents out.old) (W.contents out.new)) }
+{
+    match read_both(rt, alloc, plan, first, second, workers) {
+        Ok(both) => explain_rows(
+            rt,
+            alloc,
+            plan,
+            &both.first,
+            &both.second,
+            workers,
+            all,
+            out,
+        ),
+        Err(fault) => Err(fault),
+    }
+}
+
 /// Judges and compares as `pair_texts` does, and writes behind the line of a broken rule an empty line
 /// and the facts that explain it, and behind that of a difference an empty line and both answers: all, or
 /// the first lines. The line is written before these are looked for. Where memory is refused then, the
@@ -149,17 +183,8 @@ pub fn explain_pair_texts<W: Write, R: Threads + Sync>(
     ensures none { IfErr result (λ f. is_of_text f.part f.number ≡ true → (plan : PlanParts) (rows others : List Row) → MeanBoth program.now externals.now first.now second.now plan rows others → ⊥) }
     ensures kept { IfErr result (λ f. f.part ≢ part.Write → f.part ≢ part.Memory → Keeps (W.contents out.old) (W.contents out.new)) }
 {
-    match read_both(rt, alloc, program, externals, first, second, workers) {
-        Ok(both) => explain_rows(
-            rt,
-            alloc,
-            &both.given.plan,
-            &both.given.rows,
-            &both.second,
-            workers,
-            all,
-            out,
-        ),
+    match load(alloc, program, externals) {
+        Ok(plan) => explain_pair_plan(rt, alloc, &plan, first, second, workers, all, out),
         Err(fault) => Err(fault),
     }
 }

@@ -6,20 +6,19 @@ ghost use Rattle.lft_steps.specs.Fits.{RowsFit};
 ghost use Rattle.lft_steps.specs.declared.row.Row.{Row};
 ghost use Rattle.lft_model.specs.Plans.{PlanParts};
 ghost use Rattle.lft_model.specs.declared.breach.Breach.{Breach};
-ghost use Rattle.lft_check.specs.declared.verdict.Verdict.TheVariants.{Broken};
+ghost use Rattle.lft_check.specs.declared.verdict.Verdict.TheVariants.{Accepted, Broken};
 ghost use Rattle.lft_model.specs.Workers.{IsWorkers};
 ghost use Rattle.lft_check.specs.Verdicts.{IsVerdict};
 ghost use Rattle.lft_front.specs.Lines.{line_of, HasReaction};
-ghost use Rattle.lft_front.specs.Accepting.{IsAcceptedTable, IsAnswer};
-ghost use Rattle.lft_front.specs.Meaning.{IsMeaning, Mean};
-ghost use Rattle.lft_load.specs.Meaning.{IsOnly, IsPlanOf};
-ghost use Rattle.lft_front.specs.Judged.{AcceptedRuns, IsJudged};
+ghost use Rattle.lft_front.specs.Accepting.{IsRight, IsUnjudged};
+ghost use Rattle.lft_front.specs.Meaning.{HasTable, IsNoTrace, Mean};
+ghost use Rattle.lft_front.specs.Judged.{AcceptedRuns, IsJudged, IsJudgedUnder};
 ghost use Rattle.lft_load.specs.Refusals.{is_of_text};
-ghost use Rattle.lft_front.specs.Refusals.{JudgeRefusal, JudgingRefusal, CheckRefusal, TextsRefusal, IsRefusedGrowth};
+ghost use Rattle.lft_front.specs.Refusals.{CheckRefusal, IsRefusedGrowth, JudgeRefusal, JudgeRefusalUnder, TraceRefusal};
 ghost use Rattle.lft_load.specs.Written.{AppendsFront};
 ghost use Rattle.lft_load.specs.declared.fault.Part.TheVariants as part;
 
-use crate::accepting::{accepted, is_odd, tell_accepted};
+use crate::accepting::{accepted, accepted_by, is_odd};
 use crate::line::verdict_line;
 use lft_batches::{accepts_text, accepts_text_shared};
 use lft_check::{CheckFault, NoWatch, Verdict, judge};
@@ -37,34 +36,21 @@ use std::thread::Threads;
 /// Texts of fewer bytes are gone through by one worker: of them a thread costs more than it brings.
 const SHORT: usize = 1 << 20;
 
-/// The plan and the rows of three texts.
-#[derive(Drop)]
-pub(crate) struct Execution {
-    pub plan: Plan,
-    pub rows: Rows,
-}
-
-/// The plan and the rows of three texts, read by so many workers, else the fault of the first layer
-/// that refuses.
-pub(crate) fn read_texts<R: Threads + Sync>(
+/// The rows of a trace table of a plan, read by so many workers.
+pub(crate) fn read_table<R: Threads + Sync>(
     rt: &R,
     alloc: Global,
-    program: &[u8],
-    externals: &[u8],
+    plan: &Plan,
     trace: &[u8],
     workers: u32,
-) -> Result<Execution, Fault>
-    ensures meaning { IfOk result (λ given. IsMeaning program.now externals.now trace.now given.plan given.rows) }
-    ensures fit { IfOk result (λ given. RowsFit given.plan.program given.rows) }
-    ensures refused { IfErr result (TextsRefusal program.now externals.now trace.now) }
-    ensures none { IfErr result (λ f. is_of_text f.part f.number ≡ true → (plan : PlanParts) (rows : List Row) → Mean program.now externals.now trace.now plan rows → ⊥) }
+) -> Result<Rows, Fault>
+    ensures table { IfOk result (HasTable plan.now.program trace.now) }
+    ensures fit { IfOk result (RowsFit plan.now.program) }
+    ensures refused { IfErr result (TraceRefusal plan.now.program trace.now) }
+    ensures none { IfErr result (λ f. is_of_text f.part f.number ≡ true → IsNoTrace plan.now.program trace.now) }
 {
-    let plan = match load(alloc, program, externals) {
-        Ok(plan) => plan,
-        Err(fault) => return Err(fault),
-    };
     match read_trace_shared(rt, alloc, plan.program(), trace, workers) {
-        Ok(rows) => Ok(Execution { plan, rows }),
+        Ok(rows) => Ok(rows),
         Err(fault) => Err(Fault::trace(fault)),
     }
 }
@@ -127,7 +113,6 @@ fn verdict_behind<R: Threads + Sync>(
 ) -> Result<Verdict, Fault>
     requires fit { RowsFit plan.now.program rows.now }
     ensures verdict { IfOk result (IsVerdict plan.now rows.now) }
-    ensures one_worker { IfOk result (AcceptedRuns plan.now rows.now) }
     ensures workers { OnOk result (IsWorkers workers) }
     ensures fault { IfErr result (CheckRefusal workers) }
 {
@@ -155,28 +140,21 @@ pub(crate) fn report<W: Write>(
     }
 }
 
-/// Judges rows by so many workers and writes the verdict's line.
-fn judge_rows<W: Write, R: Threads + Sync>(
-    rt: &R,
+/// Writes the line of a verdict on a trace table, and gives the verdict.
+pub(crate) fn tell<W: Write>(
     alloc: Global,
     plan: &Plan,
-    rows: &Rows,
-    first_look: bool,
-    workers: u32,
+    verdict: Verdict,
     out: &mut W,
 ) -> Result<Verdict, Fault>
-    requires fit { RowsFit plan.now.program rows.now }
-    ensures verdict { IfOk result (IsVerdict plan.now rows.now) }
-    ensures one_worker { IfOk result (AcceptedRuns plan.now rows.now) }
-    ensures workers { OnOk result (IsWorkers workers) }
-    ensures written { IfOk result (λ v. Appends (W.contents out.old) (W.contents out.new) (line_of plan.now.program v)) }
-    ensures refused { IfErr result (JudgingRefusal plan.now rows.now workers (W.contents out.old) (W.contents out.new)) }
+    requires { (trace : List ℕ) × IsRight plan.now trace verdict }
+    ensures judged { (trace : List ℕ) → IsRight plan.now trace verdict → IfOk result (IsJudgedUnder plan.now trace (W.contents out.old) (W.contents out.new)) }
+    ensures refused { (trace : List ℕ) (workers : ℕ) → IsRight plan.now trace verdict → IsWorkers workers → IfErr result (JudgeRefusalUnder plan.now trace workers (W.contents out.old) (W.contents out.new)) }
+    ensures none { IfErr result (λ f. is_of_text f.part f.number ≡ true → ⊥) }
     ensures kept { IfErr result (λ f. f.part ≢ part.Write → Keeps (W.contents out.old) (W.contents out.new)) }
 {
-    let verdict = match verdict_behind(rt, alloc, plan, rows, first_look, workers) {
-        Ok(verdict) => verdict,
-        Err(fault) => return Err(fault),
-    };
+    // Called for its clause: of an accepted trace it says that the runs are an execution.
+    law_one_worker(plan);
     match report(alloc, plan.program(), verdict, out) {
         Ok(()) => Ok(verdict),
         Err(fault) => Err(fault),
@@ -191,7 +169,7 @@ fn accepts<R: Threads + Sync>(
     trace: &[u8],
     workers: u32,
 ) -> Option<Counts>
-    ensures table { IfSome result (IsAcceptedTable plan.now trace.now) }
+    ensures right { IfSome result (λ counts. IsRight plan.now trace.now (Accepted counts.runs counts.tags)) }
     ensures workers { IfSome result (λ counts. IsWorkers workers) }
 {
     if !is_workers(workers) {
@@ -203,9 +181,32 @@ fn accepts<R: Threads + Sync>(
     accepts_text_shared(rt, alloc, plan, trace, workers)
 }
 
-/// Judges a trace table of a plan by so many workers and writes the verdict's line. Of a table that is
-/// accepted from its text no list of rows is made.
-fn judge_trace<W: Write, R: Threads + Sync>(
+/// The verdict on a trace table of a plan by so many workers. Of a table that is accepted from its text
+/// no list of rows is made.
+fn verdict_on<R: Threads + Sync>(
+    rt: &R,
+    alloc: Global,
+    plan: &Plan,
+    trace: &[u8],
+    workers: u32,
+) -> Result<Verdict, Fault>
+    ensures right { IfOk result (IsRight plan.now trace.now) }
+    ensures workers { OnOk result (IsWorkers workers) }
+    ensures refused { IfErr result (IsUnjudged plan.now trace.now workers) }
+    ensures none { IfErr result (λ f. is_of_text f.part f.number ≡ true → IsNoTrace plan.now.program trace.now) }
+{
+    if let Some(counts) = accepts(rt, alloc, plan, trace, workers) {
+        return Ok(accepted_by(counts));
+    }
+    match read_table(rt, alloc, plan, trace, workers) {
+        Ok(rows) => verdict_behind(rt, alloc, plan, &rows, is_odd(trace), workers),
+        Err(fault) => Err(fault),
+    }
+}
+
+/// Judges a trace table of a plan by so many workers, and writes the verdict's line, as `judge_texts`
+/// does.
+pub fn judge_plan<W: Write, R: Threads + Sync>(
     rt: &R,
     alloc: Global,
     plan: &Plan,
@@ -213,16 +214,15 @@ fn judge_trace<W: Write, R: Threads + Sync>(
     workers: u32,
     out: &mut W,
 ) -> Result<Verdict, Fault>
-    ensures answer { (program externals : List ℕ) → IsOnly (IsPlanOf program externals) plan.now → IsAnswer program externals trace.now workers (W.contents out.old) (W.contents out.new) result }
+    ensures judged { IfOk result (IsJudgedUnder plan.now trace.now (W.contents out.old) (W.contents out.new)) }
     ensures workers { OnOk result (IsWorkers workers) }
+    ensures refused { IfErr result (JudgeRefusalUnder plan.now trace.now workers (W.contents out.old) (W.contents out.new)) }
+    ensures none { IfErr result (λ f. is_of_text f.part f.number ≡ true → IsNoTrace plan.now.program trace.now) }
     ensures kept { IfErr result (λ f. f.part ≢ part.Write → Keeps (W.contents out.old) (W.contents out.new)) }
 {
-    if let Some(counts) = accepts(rt, alloc, plan, trace, workers) {
-        return tell_accepted(alloc, plan, counts, out);
-    }
-    match read_trace_shared(rt, alloc, plan.program(), trace, workers) {
-        Ok(rows) => judge_rows(rt, alloc, plan, &rows, is_odd(trace), workers, out),
-        Err(fault) => Err(Fault::trace(fault)),
+    match verdict_on(rt, alloc, plan, trace, workers) {
+        Ok(verdict) => tell(alloc, plan, verdict, out),
+        Err(fault) => Err(fault),
     }
 }
 
@@ -246,7 +246,7 @@ pub fn judge_texts<W: Write, R: Threads + Sync>(
     ensures kept { IfErr result (λ f. f.part ≢ part.Write → Keeps (W.contents out.old) (W.contents out.new)) }
 {
     match load(alloc, program, externals) {
-        Ok(plan) => judge_trace(rt, alloc, &plan, trace, workers, out),
+        Ok(plan) => judge_plan(rt, alloc, &plan, trace, workers, out),
         Err(fault) => Err(fault),
     }
 }

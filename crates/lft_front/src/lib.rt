@@ -1,5 +1,5 @@
 #![tactic(auto)]
-//! From texts to a verdict, to the comparison of two traces, or to the lines of a program. It hands
+//! From plans and texts to a verdict, to the comparison of two traces, or to the lines of a program. It hands
 //! on what a command begins and ends with: faults, `load`, `read_input` and `finish` of `lft_load`.
 
 mod accepting;
@@ -16,18 +16,21 @@ mod paired;
 mod refused;
 mod show;
 
-pub use alone::judge_texts_alone;
+pub use alone::{judge_plan_alone, judge_texts_alone};
 pub use answer::{
-    bundle_answer, explain_answer, explain_bundle_answer, explain_pair_answer, judge_answer,
-    pair_answer,
+    bundle_answer, explain_answer, explain_bundle_answer, explain_pair_answer, is_accepted,
+    is_same, judge_answer, pair_answer,
 };
 pub use bundle::{Bundle, split_bundle};
-pub use explain::explain_texts;
-pub use explain_pair::explain_pair_texts;
-pub use judge::{judge_texts, verdict_of};
+pub use explain::{explain_plan, explain_texts};
+pub use explain_pair::{explain_pair_plan, explain_pair_texts};
+pub use judge::{judge_plan, judge_texts, verdict_of};
 pub use lft_load::{Fault, Part, finish, load, read_input};
 pub use line::{accepted_line, broken_line, verdict_line};
-pub use pair::pair_texts;
+pub use pair::{pair_plan, pair_texts};
 pub use paired::Paired;
-pub use refused::{refusal_of_bundle, refusal_of_pair_texts, refusal_of_program, refusal_of_texts};
+pub use refused::{
+    refusal_of_bundle, refusal_of_externals, refusal_of_graph, refusal_of_pair_texts,
+    refusal_of_plan, refusal_of_program, refusal_of_texts, refusal_of_trace, refusal_of_traces,
+};
 pub use show::{show_program, show_text};

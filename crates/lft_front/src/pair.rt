@@ -8,61 +8,59 @@ ghost use Rattle.lft_model.specs.Plans.{PlanParts};
 ghost use Rattle.lft_model.specs.Workers.{IsWorkers};
 ghost use Rattle.lft_rows.specs.Accepted.{IsAccepted};
 ghost use Rattle.lft_front.specs.Lines.{line_of_pair};
-ghost use Rattle.lft_front.specs.Pairs.{AreAccepted, AreMeaning, IsExecution, IsPaired, IsPairing, MeanBoth, NamesReaction};
-ghost use Rattle.lft_front.specs.PairRefusals.{PairRefusal, PairingRefusal, TextPairRefusal};
+ghost use Rattle.lft_front.specs.Meaning.{IsNoTrace};
+ghost use Rattle.lft_front.specs.Pairs.{AreAccepted, HaveTables, IsExecution, IsPaired, IsPairedUnder, IsPairing, MeanBoth, NamesReaction};
+ghost use Rattle.lft_front.specs.PairRefusals.{PairRefusal, PairRefusalUnder, PairingRefusal, TracesRefusal};
 ghost use Rattle.lft_load.specs.Refusals.{is_of_text};
 ghost use Rattle.lft_front.specs.Refusals.{CheckRefusal, IsRefusedGrowth};
 ghost use Rattle.lft_load.specs.Written.{AppendsFront};
 ghost use Rattle.lft_load.specs.declared.fault.Part.TheVariants as part;
 
-use crate::judge::{Execution, read_texts, verdict_of};
+use crate::judge::{read_table, verdict_of};
 use crate::line::paired_line;
 use crate::paired::Paired;
 use lft_check::Verdict;
 use lft_flat::Program;
-use lft_load::{Fault, write_text};
+use lft_load::{Fault, load, write_text};
 use lft_model::Plan;
 use lft_pair::{Pair, pair as compare_rows};
 use lft_steps::Rows;
-use lft_trace::read_trace_shared;
 use std::alloc::Global;
 use std::io::Write;
 use std::thread::Threads;
 
-/// What three texts gave, and the rows of a second trace.
+/// The rows of two trace tables.
 #[derive(Drop)]
 pub(crate) struct Both {
-    pub given: Execution,
+    pub first: Rows,
     pub second: Rows,
 }
 
-/// The plan and the rows of four texts, else the fault of the first layer that refuses. Both tables
-/// are read before either is judged.
+/// The rows of two trace tables of a plan. Both are read before either is judged.
 pub(crate) fn read_both<R: Threads + Sync>(
     rt: &R,
     alloc: Global,
-    program: &[u8],
-    externals: &[u8],
+    plan: &Plan,
     first: &[u8],
     second: &[u8],
     workers: u32,
 ) -> Result<Both, Fault>
-    ensures meaning { IfOk result (λ both. AreMeaning program.now externals.now first.now second.now both.given.plan both.given.rows both.second) }
-    ensures first_fits { IfOk result (λ both. RowsFit both.given.plan.program both.given.rows) }
-    ensures second_fits { IfOk result (λ both. RowsFit both.given.plan.program both.second) }
-    ensures refused { IfErr result (TextPairRefusal program.now externals.now first.now second.now) }
-    ensures none { IfErr result (λ f. is_of_text f.part f.number ≡ true → (plan : PlanParts) (rows others : List Row) → MeanBoth program.now externals.now first.now second.now plan rows others → ⊥) }
+    ensures have_tables { IfOk result (λ both. HaveTables plan.now.program first.now second.now both.first both.second) }
+    ensures first_fits { IfOk result (λ both. RowsFit plan.now.program both.first) }
+    ensures second_fits { IfOk result (λ both. RowsFit plan.now.program both.second) }
+    ensures refused { IfErr result (TracesRefusal plan.now.program first.now second.now) }
+    ensures none { IfErr result (λ f. is_of_text f.part f.number ≡ true → IsNoTrace plan.now.program first.now ⊎ IsNoTrace plan.now.program second.now) }
 {
-    let given = match read_texts(rt, alloc, program, externals, first, workers) {
-        Ok(given) => given,
+    let rows = match read_table(rt, alloc, plan, first, workers) {
+        Ok(rows) => rows,
         Err(fault) => return Err(fault),
     };
-    match read_trace_shared(rt, alloc, given.plan.program(), second, workers) {
+    match read_table(rt, alloc, plan, second, workers) {
         Ok(others) => Ok(Both {
-            given,
+            first: rows,
             second: others,
         }),
-        Err(fault) => Err(Fault::trace(fault)),
+        Err(fault) => Err(fault),
     }
 }
 
@@ -194,6 +192,29 @@ fn pair_rows<W: Write, R: Threads + Sync>(
     }
 }
 
+/// Judges two trace tables of a plan by so many workers, compares them, and writes the line of what is
+/// said, as `pair_texts` does.
+pub fn pair_plan<W: Write, R: Threads + Sync>(
+    rt: &R,
+    alloc: Global,
+    plan: &Plan,
+    first: &[u8],
+    second: &[u8],
+    workers: u32,
+    out: &mut W,
+) -> Result<Paired, Fault>
+    ensures paired { IfOk result (IsPairedUnder plan.now first.now second.now (W.contents out.old) (W.contents out.new)) }
+    ensures workers { OnOk result (IsWorkers workers) }
+    ensures refused { IfErr result (PairRefusalUnder plan.now first.now second.now workers (W.contents out.old) (W.contents out.new)) }
+    ensures none { IfErr result (λ f. is_of_text f.part f.number ≡ true → IsNoTrace plan.now.program first.now ⊎ IsNoTrace plan.now.program second.now) }
+    ensures kept { IfErr result (λ f. f.part ≢ part.Write → Keeps (W.contents out.old) (W.contents out.new)) }
+{
+    match read_both(rt, alloc, plan, first, second, workers) {
+        Ok(both) => pair_rows(rt, alloc, plan, &both.first, &both.second, workers, out),
+        Err(fault) => Err(fault),
+    }
+}
+
 /// Judges two traces of a program under the same external inputs, from their texts, compares them
 /// where both are accepted, and writes the line of what is said. Each table is read and each trace
 /// judged by so many workers; the comparison has one. Both tables are read before either is judged;
@@ -216,16 +237,8 @@ pub fn pair_texts<W: Write, R: Threads + Sync>(
     ensures none { IfErr result (λ f. is_of_text f.part f.number ≡ true → (plan : PlanParts) (rows others : List Row) → MeanBoth program.now externals.now first.now second.now plan rows others → ⊥) }
     ensures kept { IfErr result (λ f. f.part ≢ part.Write → Keeps (W.contents out.old) (W.contents out.new)) }
 {
-    match read_both(rt, alloc, program, externals, first, second, workers) {
-        Ok(both) => pair_rows(
-            rt,
-            alloc,
-            &both.given.plan,
-            &both.given.rows,
-            &both.second,
-            workers,
-            out,
-        ),
+    match load(alloc, program, externals) {
+        Ok(plan) => pair_plan(rt, alloc, &plan, first, second, workers, out),
         Err(fault) => Err(fault),
     }
 }

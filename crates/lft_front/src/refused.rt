@@ -2,9 +2,9 @@
 
 ghost use Rattle.std.specs.Prelude.{◌≡◌, ◌++◌, ◌⊎◌, ℕ, List, IfOk, IfNone, IfSome, string_bytes};
 ghost use Rattle.lft_graph.specs.Precedence.{HasNoLoop};
-ghost use Rattle.lft_load.specs.Meaning.{IsOnly, IsProgramOf};
 ghost use Rattle.lft_trace.specs.Faults.{is_told};
-ghost use Rattle.lft_front.specs.Told.{Gives, HasNoOrder, HasOrder, HaveMeaning, HaveMeaningBoth, HaveNoMeaning, HaveNoMeaningBoth, IsBundleRefusal, IsNoTable, IsNoTrace, IsReadBundle, IsTable, IsTrace, Reads, TellsExternals, TellsLoop, TellsNoOrder, TellsOneTrace, TellsRefusal, TellsRefusalOfBoth, TellsTrace, missing_words};
+ghost use Rattle.lft_front.specs.Meaning.{IsNoTrace, IsTrace};
+ghost use Rattle.lft_front.specs.Told.{Gives, HasNoOrder, HasOrder, HaveMeaning, HaveMeaningBoth, HaveNoMeaning, HaveNoMeaningBoth, IsBundleRefusal, IsNoTable, IsPlanned, IsReadBundle, IsTable, IsUnplanned, Reads, TellsExternals, TellsInputsOrLoop, TellsLoop, TellsNoOrder, TellsOneTrace, TellsRefusal, TellsRefusalOfBoth, TellsTrace, missing_words};
 
 use crate::bundle::{Marker, has_returned_marker, read_bundle};
 use lft_flat::Program;
@@ -63,7 +63,7 @@ fn is_told(fault: TraceFault) -> bool
 
 /// Why a text is no table of external inputs, if it isn't.
 // A reader of records that failed tells as little of the text as want of memory, and is told as such.
-fn of_externals(
+pub fn refusal_of_externals(
     alloc: Global,
     program: &Program,
     externals: &[u8],
@@ -83,7 +83,7 @@ fn of_externals(
 }
 
 /// Why a text is no trace table, if it isn't. The table is called by the word.
-fn of_trace(
+pub fn refusal_of_trace(
     alloc: Global,
     program: &Program,
     trace: &[u8],
@@ -104,7 +104,7 @@ fn of_trace(
 }
 
 /// Why the reactions of a program have no order, if they have none.
-fn of_graph(alloc: Global, program: &Program) -> Result<Option<String>, NoMemory>
+pub fn refusal_of_graph(alloc: Global, program: &Program) -> Result<Option<String>, NoMemory>
     ensures tells { IfOk result (λ told. IfSome told (λ words. TellsLoop program.now (string_bytes words))) }
     ensures none { IfOk result (λ told. IfNone told (HasNoLoop program.now)) }
 {
@@ -126,22 +126,24 @@ pub fn refusal_of_program(alloc: Global, program: &[u8]) -> Result<Option<String
     ensures none { IfOk result (λ told. IfNone told (HasOrder program.now)) }
 {
     match read(alloc, program)? {
-        Start::Program(flat) => of_graph(alloc, &flat),
+        Start::Program(flat) => refusal_of_graph(alloc, &flat),
         Start::Refused(words) => Ok(Some(words)),
     }
 }
 
 /// Why a program has no plan under some external inputs, if it has none.
-fn of_plan(alloc: Global, program: Program, externals: &[u8]) -> Result<Start, NoMemory>
-    ensures { (text : List ℕ) → IsOnly (IsProgramOf text) program → IfOk result (Gives text externals.now) }
+pub fn refusal_of_plan(
+    alloc: Global,
+    program: &Program,
+    externals: &[u8],
+) -> Result<Option<String>, NoMemory>
+    ensures no_plan { IfOk result (λ told. IfSome told (λ _. IsUnplanned program.now externals.now)) }
+    ensures tells { IfOk result (λ told. IfSome told (λ words. TellsInputsOrLoop program.now externals.now (string_bytes words))) }
+    ensures none { IfOk result (λ told. IfNone told (IsPlanned program.now externals.now)) }
 {
-    match of_externals(alloc, &program, externals)? {
-        Some(words) => return Ok(Start::Refused(words)),
-        None => {}
-    }
-    match of_graph(alloc, &program)? {
-        Some(words) => Ok(Start::Refused(words)),
-        None => Ok(Start::Program(program)),
+    match refusal_of_externals(alloc, program, externals)? {
+        Some(words) => Ok(Some(words)),
+        None => refusal_of_graph(alloc, program),
     }
 }
 
@@ -149,9 +151,13 @@ fn of_plan(alloc: Global, program: Program, externals: &[u8]) -> Result<Start, N
 fn start_of(alloc: Global, program: &[u8], externals: &[u8]) -> Result<Start, NoMemory>
     ensures { IfOk result (Gives program.now externals.now) }
 {
-    match read(alloc, program)? {
-        Start::Program(flat) => of_plan(alloc, flat, externals),
-        Start::Refused(words) => Ok(Start::Refused(words)),
+    let flat = match read(alloc, program)? {
+        Start::Program(flat) => flat,
+        Start::Refused(words) => return Ok(Start::Refused(words)),
+    };
+    match refusal_of_plan(alloc, &flat, externals)? {
+        Some(words) => Ok(Start::Refused(words)),
+        None => Ok(Start::Program(flat)),
     }
 }
 
@@ -170,13 +176,13 @@ pub fn refusal_of_texts(
     ensures none { IfOk result (λ told. IfNone told (HaveMeaning program.now externals.now trace.now)) }
 {
     match start_of(alloc, program, externals)? {
-        Start::Program(flat) => of_trace(alloc, &flat, trace, "Trace"),
+        Start::Program(flat) => refusal_of_trace(alloc, &flat, trace, "Trace"),
         Start::Refused(words) => Ok(Some(words)),
     }
 }
 
 /// Why the first of two trace tables that isn't one is none.
-fn of_traces(
+pub fn refusal_of_traces(
     alloc: Global,
     program: &Program,
     first: &[u8],
@@ -186,9 +192,9 @@ fn of_traces(
     ensures tells { IfOk result (λ told. IfSome told (λ words. TellsOneTrace program.now first.now second.now (string_bytes words))) }
     ensures none { IfOk result (λ told. IfNone told (IsTrace program.now first.now × IsTrace program.now second.now)) }
 {
-    match of_trace(alloc, program, first, "First trace")? {
+    match refusal_of_trace(alloc, program, first, "First trace")? {
         Some(words) => Ok(Some(words)),
-        None => of_trace(alloc, program, second, "Second trace"),
+        None => refusal_of_trace(alloc, program, second, "Second trace"),
     }
 }
 
@@ -205,7 +211,7 @@ pub fn refusal_of_pair_texts(
     ensures none { IfOk result (λ told. IfNone told (HaveMeaningBoth program.now externals.now first.now second.now)) }
 {
     match start_of(alloc, program, externals)? {
-        Start::Program(flat) => of_traces(alloc, &flat, first, second),
+        Start::Program(flat) => refusal_of_traces(alloc, &flat, first, second),
         Start::Refused(words) => Ok(Some(words)),
     }
 }

@@ -1,5 +1,5 @@
 -- What a refusal of one layer says of the texts.
-use Rattle.std.proofs.Common.{◌≡◌, ℕ, ◌≤◌, List, Result, Err, true, refl, sym, ◌∙◌, subst, inl, inr}
+use Rattle.std.proofs.Common.{◌≡◌, ℕ, List, Result, Err, true, refl, sym, ◌∙◌, subst, inl, inr}
 use Rattle.lft_syntax.specs.declared.token.Token.{Token}
 use Rattle.lft_syntax.specs.declared.fault.SyntaxFault.{SyntaxFault}
 use Rattle.lft_syntax.specs.declared.fault.SyntaxFault.TheVariants as syntax
@@ -26,7 +26,7 @@ use Rattle.lft_graph.specs.Precedence.{HasNoLoop}
 use Rattle.lft_graph.specs.declared.fault.GraphFault.{GraphFault}
 use Rattle.lft_graph.specs.declared.fault.GraphFault.TheVariants as graph
 use Rattle.lft_graph.proofs.Cycles.{is_cycle}
-use Rattle.lft_load.specs.Meaning.{IsTreeOf, IsProgramOf, IsPlanOf, IsOnly}
+use Rattle.lft_load.specs.Meaning.{IsTreeOf, IsProgramOf, IsPlanOf, IsPlanUnder, IsOnly}
 use Rattle.lft_load.specs.Refusals.{SyntaxFails, ProgramFails, GraphFails, GraphRefusal, is_of_text}
 use Rattle.lft_load.specs.declared.fault.Fault.{Fault}
 use Rattle.lft_load.specs.declared.fault.Part.{Part}
@@ -74,8 +74,9 @@ trace_told table.NoMemory t = absurd (cc t)
 pub externals_told : (e : TraceFault) → is_of_text part.Externals (table_number e) ≡ true → is_told e ≡ true
 externals_told e t = trace_told e t
 
-plan_of : (p q : Parts) (x y : ExternalInputs) → p ≡ q → x ≡ y → (let a : PlanParts = record { program = p; externals = x } in let b : PlanParts = record { program = q; externals = y } in a ≡ b)
-plan_of p q x y e f = cc
+-- equal parts make equal plans
+same_plan : (p q : Parts) (x y : ExternalInputs) → p ≡ q → x ≡ y → (let a : PlanParts = record { program = p; externals = x } in let b : PlanParts = record { program = q; externals = y } in a ≡ b)
+same_plan p q x y e f = cc
 
 -- the flat program of a text is one
 module _ (text : List ℕ) (tree : FileTree) (only_tree : IsOnly (IsTreeOf text) tree) where
@@ -88,23 +89,25 @@ module _ (text : List ℕ) (tree : FileTree) (only_tree : IsOnly (IsTreeOf text)
     only = λ other x. one other (flat_of other x);
   }
 
--- the plan of two texts is one
-module _ (text externals : List ℕ) (parts : Parts) (only : IsOnly (IsProgramOf text) parts) where
-  pub table_of : (plan : PlanParts) → (x : IsPlanOf text externals plan) → ExternalTable parts (records_of externals) plan.externals
-  table_of plan x = subst (λ p. ExternalTable p (records_of externals) plan.externals) (only.only plan.program x.is_program) x.is_externals
+-- the plan of a program and a table is one
+pub only_under : (program : Parts) (externals : List ℕ) (given : ExternalInputs) (plan : PlanParts) → HasNoLoop program → ExternalTable program (records_of externals) given → ((other : ExternalInputs) → ExternalTable program (records_of externals) other → other ≡ given) → plan.program ≡ program → plan.externals ≡ given → IsOnly (IsPlanUnder program externals) plan
+only_under program externals given plan no_loop table one p e = record {
+  is = record { of_program = p; no_loop = no_loop; is_externals = subst (λ k. ExternalTable program (records_of externals) k) (sym e) table };
+  only = λ other x. same_plan other.program plan.program other.externals plan.externals (x.of_program ∙ sym p) (one other.externals x.is_externals ∙ sym e);
+}
 
-  pub no_loop_of : (plan : PlanParts) → (x : IsPlanOf text externals plan) → HasNoLoop parts
-  no_loop_of plan x = subst HasNoLoop (only.only plan.program x.is_program) x.no_loop
+-- and so is that of two texts
+module _ (text externals : List ℕ) (program : Parts) (only : IsOnly (IsProgramOf text) program) where
+  pub under : (plan : PlanParts) → IsPlanOf text externals plan → IsPlanUnder program externals plan
+  under plan x = subst (λ p. IsPlanUnder p externals plan) (only.only plan.program x.is_program) x.is_plan
 
-  pub only_plan : (given : ExternalInputs) (plan : PlanParts) → HasNoLoop parts → ExternalTable parts (records_of externals) given → ((other : ExternalInputs) → ExternalTable parts (records_of externals) other → other ≡ given) → plan.program ≡ parts → plan.externals ≡ given → IsOnly (IsPlanOf text externals) plan
-  only_plan given plan no_loop table one_table p e = record {
-    is = record {
-      is_program = subst (λ k. IsProgramOf text k) (sym p) only.is;
-      no_loop = subst HasNoLoop (sym p) no_loop;
-      is_externals = subst (λ k. ExternalTable k (records_of externals) plan.externals) (sym p) (subst (λ k. ExternalTable parts (records_of externals) k) (sym e) table);
-    };
-    only = λ other x. plan_of other.program plan.program other.externals plan.externals (only.only other.program x.is_program ∙ sym p) (one_table other.externals (table_of other x) ∙ sym e);
-  }
+  pub only_plan : (plan : PlanParts) → IsOnly (IsPlanUnder program externals) plan → IsOnly (IsPlanOf text externals) plan
+  only_plan plan one =
+      let same : program ≡ plan.program = sym one.is.of_program in
+      record {
+        is = record { is_program = subst (λ p. IsProgramOf text p) same only.is; is_plan = subst (λ p. IsPlanUnder p externals plan) same one.is };
+        only = λ other x. one.only other (under other x);
+      }
 
 graph_untold : (p : Part) (n : ℕ) → p ≡ part.Graph → n ≡ 2 → is_of_text p n ≡ true → ⊥
 graph_untold p n e f t = let q : is_of_text part.Graph 2 ≡ true = told_at p part.Graph n 2 e f t in cc q

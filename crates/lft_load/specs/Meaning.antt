@@ -17,6 +17,12 @@ pub record IsOnly {X : Type 0} (P : X → Type 0) (x : X) : Type 0 where
   pub is : P x
   pub only : (y : X) → P y → y ≡ x
 
+-- there is one thing of this kind, and so much is said of it
+pub record OfOnly {X : Type 0} (P Said : X → Type 0) : Type 0 where
+  pub it : X
+  pub is_only : IsOnly P it
+  pub said : Said it
+
 -- the text is within its limit, and its tokens are those of the tree
 pub record IsTreeOf (text : List ℕ) (tree : FileTree) : Type 0 where
   pub short : length text ≤ 1048576
@@ -30,8 +36,13 @@ pub record IsProgramOf (text : List ℕ) (program : Parts) : Type 0 where
   pub is_tree : IsTreeOf text tree
   pub is_flat : IsFlatOf tree program
 
--- the plan of a program's text and a table of external inputs: no reaction precedes itself
-pub record IsPlanOf (program externals : List ℕ) (plan : PlanParts) : Type 0 where
-  pub is_program : IsProgramOf program plan.program
-  pub no_loop : HasNoLoop plan.program
-  pub is_externals : ExternalTable plan.program (records_of externals) plan.externals
+-- the plan of a program and a table of external inputs: no reaction precedes itself
+pub record IsPlanUnder (program : Parts) (externals : List ℕ) (plan : PlanParts) : Type 0 where
+  pub of_program : plan.program ≡ program
+  pub no_loop : HasNoLoop program
+  pub is_externals : ExternalTable program (records_of externals) plan.externals
+
+-- the plan of a program's text and a table of external inputs
+pub record IsPlanOf (text externals : List ℕ) (plan : PlanParts) : Type 0 where
+  pub is_program : IsProgramOf text plan.program
+  pub is_plan : IsPlanUnder plan.program externals plan

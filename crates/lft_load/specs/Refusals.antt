@@ -73,8 +73,12 @@ pub data ProgramRefusal (text : List ℕ) (f : Fault) : Type 0 where
 abbrev pub GraphRefusal : Parts → Fault → Type 0
 GraphRefusal program f = (e : GraphFault) × IsFault f part.Graph (graph_number e) × GraphFails program e
 
--- the two texts have no plan: the program's text has no flat program, the external inputs are no table, or the program has no graph
-pub data LoadRefusal (program externals : List ℕ) (f : Fault) : Type 0 where
-  by_program : ProgramRefusal program f → LoadRefusal program externals f
-  by_externals : (e : TraceFault) (parts : Parts) → f.part ≡ part.Externals → f.number ≡ table_number e → IsProgramOf program parts → (is_told e ≡ true → ExternalFails parts (records_of externals) e) → LoadRefusal program externals f
-  by_graph : (parts : Parts) (given : ExternalInputs) → IsProgramOf program parts → ExternalTable parts (records_of externals) given → GraphRefusal parts f → LoadRefusal program externals f
+-- a program has no plan under external inputs: they are no table, or it has no graph
+pub data PlanRefusal (program : Parts) (externals : List ℕ) (f : Fault) : Type 0 where
+  by_externals : (e : TraceFault) → f.part ≡ part.Externals → f.number ≡ table_number e → (is_told e ≡ true → ExternalFails program (records_of externals) e) → PlanRefusal program externals f
+  by_graph : (given : ExternalInputs) → ExternalTable program (records_of externals) given → GraphRefusal program f → PlanRefusal program externals f
+
+-- the two texts have no plan: the program's text has no flat program, or that has no plan
+pub data LoadRefusal (text externals : List ℕ) (f : Fault) : Type 0 where
+  by_program : ProgramRefusal text f → LoadRefusal text externals f
+  by_plan : (program : Parts) → IsProgramOf text program → PlanRefusal program externals f → LoadRefusal text externals f

@@ -8,8 +8,8 @@ ghost use Rattle.lft_flat.specs.Parts.{Parts};
 ghost use Rattle.lft_graph.specs.Graph.{IsGraphOf};
 ghost use Rattle.lft_graph.specs.Precedence.{HasNoLoop, IsLevelled};
 ghost use Rattle.lft_model.specs.Plans.{PlanParts};
-ghost use Rattle.lft_load.specs.Meaning.{IsTreeOf, IsProgramOf, IsPlanOf, IsOnly};
-ghost use Rattle.lft_load.specs.Refusals.{TreeRefusal, ProgramRefusal, GraphRefusal, LoadRefusal, is_of_text};
+ghost use Rattle.lft_load.specs.Meaning.{IsTreeOf, IsProgramOf, IsPlanOf, IsPlanUnder, IsOnly};
+ghost use Rattle.lft_load.specs.Refusals.{TreeRefusal, ProgramRefusal, GraphRefusal, PlanRefusal, LoadRefusal, is_of_text};
 
 use crate::fault::Fault;
 use lft_flat::Program;
@@ -67,6 +67,34 @@ pub fn graph_of(alloc: Global, program: &Program) -> Result<Graph, Fault>
     }
 }
 
+/// A program that has no plan under some external inputs, and why. More can be told of it than the fault does.
+#[derive(Drop)]
+pub struct Unplanned {
+    pub fault: Fault,
+    pub program: Program,
+}
+
+/// The plan of a program and a table of external inputs, else the fault of the first layer that
+/// refuses, in the order externals, graph.
+pub fn plan_of(alloc: Global, program: Program, externals: &[u8]) -> Result<Plan, Unplanned>
+    ensures plan { IfOk result (IsOnly (IsPlanUnder program externals.now)) }
+    ensures program { IfErr result (λ u. u.program ≡ program) }
+    ensures refused { IfErr result (λ u. PlanRefusal program externals.now u.fault) }
+    ensures none { IfErr result (λ u. is_of_text u.fault.part u.fault.number ≡ true → (plan : PlanParts) → IsPlanUnder program externals.now plan → ⊥) }
+{
+    let given = match read_externals(alloc, &program, externals) {
+        Ok(given) => given,
+        Err(fault) => {
+            let fault = Fault::externals(fault);
+            return Err(Unplanned { fault, program });
+        }
+    };
+    match graph_of(alloc, &program) {
+        Ok(graph) => Ok(Plan::with_graph(program, given, graph)),
+        Err(fault) => Err(Unplanned { fault, program }),
+    }
+}
+
 /// The plan of a program's text and a table of external inputs, else the fault of the first layer
 /// that refuses, in the order lex, syntax, program, externals, graph.
 pub fn load(alloc: Global, program: &[u8], externals: &[u8]) -> Result<Plan, Fault>
@@ -78,12 +106,8 @@ pub fn load(alloc: Global, program: &[u8], externals: &[u8]) -> Result<Plan, Fau
         Ok(flat) => flat,
         Err(fault) => return Err(fault),
     };
-    let given = match read_externals(alloc, &flat, externals) {
-        Ok(given) => given,
-        Err(fault) => return Err(Fault::externals(fault)),
-    };
-    match graph_of(alloc, &flat) {
-        Ok(graph) => Ok(Plan::with_graph(flat, given, graph)),
-        Err(fault) => Err(fault),
+    match plan_of(alloc, flat, externals) {
+        Ok(plan) => Ok(plan),
+        Err(unplanned) => Err(unplanned.fault),
     }
 }

@@ -10,7 +10,7 @@ mod words;
 
 pub use fault::{Detail, Fault, Part};
 pub use input::read_input;
-pub use layers::{graph_of, load, read_program};
+pub use layers::{Unplanned, graph_of, load, plan_of, read_program};
 pub use output::write_text;
 pub use status::finish;
 pub use words::{push_field, push_name, push_names};

@@ -1,7 +1,7 @@
 use Rattle.std.proofs.Common.{◌≡◌, ℕ, List, ap, subst, Err, Some, slice_get, string_bytes}
 use Rattle.lft_graph.proofs.Cycles.{member_within}
 use Rattle.lft_reasons.specs.Loops.{loop_words}
-use Rattle.lft_front.proofs.refused.of_graph.Goals as goal
+use Rattle.lft_front.proofs.refused.refusal_of_graph.Goals as goal
 
 pub tell_loop-requires : goal.tell_loop-requires
 tell_loop-requires c i r e = member_within c.args.program.now c.in-Err-CausalityLoop.reactions (c.in-Err-CausalityLoop.ensures.cycle c.in-Err-CausalityLoop.reactions (ap Err c.in-Err-CausalityLoop.field-0-is)) i r (subst (λ (l : List ℕ). slice_get l i ≡ Some r) c.as_slice.ensures e)

@@ -3,7 +3,7 @@ use Rattle.lft_trace.specs.Faults.{is_told}
 use Rattle.lft_trace.specs.Records.{records_of}
 use Rattle.lft_trace.specs.Traces.{TraceFails}
 use Rattle.lft_front.proofs.Telling.{named}
-use Rattle.lft_front.proofs.refused.of_trace.Goals as goal
+use Rattle.lft_front.proofs.refused.refusal_of_trace.Goals as goal
 
 pub returns-clause-no_trace : goal.returns-clause-no_trace
 returns-clause-no_trace c =

@@ -3,7 +3,7 @@ use Rattle.lft_trace.specs.Faults.{is_told}
 use Rattle.lft_trace.specs.Records.{records_of}
 use Rattle.lft_trace.specs.ExternalTables.{ExternalFails}
 use Rattle.lft_front.proofs.Telling.{named}
-use Rattle.lft_front.proofs.refused.of_externals.Goals as goal
+use Rattle.lft_front.proofs.refused.refusal_of_externals.Goals as goal
 
 pub returns-clause-no_table : goal.returns-clause-no_table
 returns-clause-no_table c =
