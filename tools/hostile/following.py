@@ -16,10 +16,15 @@ EXTERNALS = tables.HEADERS["externals"].encode()
 Log = collections.namedtuple("Log", "rows plans fault has_rest")
 
 
+def is_header(line):
+    """Whether a line without its line feed is the header."""
+    return line.removeprefix(tables.MARK).removesuffix(b"\r") == HEADER
+
+
 def is_whole(line):
-    """Whether nothing can be missing of a last line without its end."""
+    """Whether nothing can be missing of a last line but its end."""
     is_stop = line.startswith(b"stop,") and line.count(b",") == 4 and line.endswith(b",,")
-    return is_stop or line.count(b",") == 7 and line.endswith(b",") and not line.startswith(b"schedule,")
+    return is_header(line) or is_stop or line.count(b",") == 7 and line.endswith(b",") and not line.startswith(b"schedule,")
 
 
 def is_external(line):
@@ -51,6 +56,8 @@ def told_external(plan, line, rows, number):
 def read_line(plan, line, rows, told):
     """The row of a line, or the plan behind it. So many lines of external inputs stand before it."""
     part, number = ("externals", told + 2) if is_external(line) else ("trace", len(rows) + 2)
+    if HEADER in line:
+        raise tables.Refused(f"trace 15 SecondHeader line={number}")
     if b"\"" in line or b"\r" in line:
         raise tables.Refused(f"{part} 14 NotPlain line={number}")
     if part == "externals":
@@ -66,7 +73,7 @@ def read_log(plan, text):
     *lines, rest = text.split(b"\n")
     if is_whole(rest):
         lines, rest = [*lines, rest], b""
-    if not lines or lines[0].removesuffix(b"\r") != HEADER:
+    if not lines or not is_header(lines[0]):
         return Log([], [plan], "trace 1 BadHeader", False)
     rows, plans, told = [], [plan], 0
     for line in (one.removesuffix(b"\r") for one in lines[1:]):

@@ -7,7 +7,7 @@ use Rattle.lft_trace.specs.Traces.{header}
 use Rattle.lft_trace.specs.Parts.{BeginsPlain, HasNoQuote}
 use Rattle.lft_trace.proofs.Cutting.{lines_lead, records_cut}
 use Rattle.lft_trace.proofs.Joining.{LeadsToStart, records_joined}
-use Rattle.lft_log.specs.Logs.{AreLines, IsHead, csv_header_line, header_line, records_below}
+use Rattle.lft_log.specs.Logs.{AreLines, IsHead, header_words, records_below}
 
 pub no_bytes : records_below [] ≡ []
 unfolding records_from next_record
@@ -37,5 +37,7 @@ below_plain b plain = sym (records_cut (10 ∷ []) b no_quote_there ([], refl) p
 -- below the header
 pub below_head : (head b : List ℕ) → IsHead head → records_of (head ++ b) ≡ header ∷ records_below b
 unfolding LeadsToStart records_from next_record strip_bom
-below_head head b (inl e) = ap (λ (x : List ℕ). records_of (x ++ b)) e ∙ records_joined header_line b refl
-below_head head b (inr e) = ap (λ (x : List ℕ). records_of (x ++ b)) e ∙ records_joined csv_header_line b refl
+below_head head b (inl (inl e)) = ap (λ (x : List ℕ). records_of (x ++ b)) e ∙ records_joined (header_words ++ 10 ∷ []) b refl
+below_head head b (inl (inr e)) = ap (λ (x : List ℕ). records_of (x ++ b)) e ∙ records_joined (header_words ++ 10 ∷ []) b refl
+below_head head b (inr (inl e)) = ap (λ (x : List ℕ). records_of (x ++ b)) e ∙ records_joined (header_words ++ 13 ∷ 10 ∷ []) b refl
+below_head head b (inr (inr e)) = ap (λ (x : List ℕ). records_of (x ++ b)) e ∙ records_joined (header_words ++ 13 ∷ 10 ∷ []) b refl

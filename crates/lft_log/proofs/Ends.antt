@@ -1,5 +1,5 @@
 -- Where lines end.
-use Rattle.std.proofs.Common.{◌≡◌, ◌≢◌, ◌+◌, ◌<◌, ◌≤◌, inl, inr, ℕ, zero, suc, Bool, true, false, List, [], ◌∷◌, ◌++◌, Some, None, length, take, drop, slice_get, slice_index, refl, sym, ap, subst, ◌∙◌, arith, add-one}
+use Rattle.std.proofs.Common.{◌≡◌, ◌≢◌, ◌+◌, ◌-◌, ◌<◌, ◌≤◌, inl, inr, ℕ, zero, suc, Bool, true, false, List, [], ◌∷◌, ◌++◌, Some, None, length, take, drop, slice_get, slice_index, slice_range, refl, sym, ap, subst, ◌∙◌, arith, add-one}
 use Rattle.std.proofs.lemmas.Bool.{eq-eqb, eqb-true}
 use Rattle.std.proofs.lemmas.Option.{get_or_from_slice_get, slice_get-get_or, slice_get_within}
 use Rattle.std.proofs.Math.Seq.{drop-append_seam}
@@ -10,12 +10,16 @@ use Rattle.lft_lists.proofs.Picked.{take_next}
 use Rattle.lft_trace.specs.Parts.{EndsLine}
 use Rattle.lft_log.specs.Logs.{AreLines, HasNoEnd, IsHead}
 
+-- the first of a list
+pub range_take : {X : Type 0} (xs : List X) (n : ℕ) → slice_range xs 0 n ≡ take n xs
+range_take xs n = let e : n - 0 ≡ n = omega arith in ap (λ (k : ℕ). take k xs) e
+
 -- the byte that a search finds
 byte_there : (text : List ℕ) (b k : ℕ) → k < length text → Passes (is_byte b) text k → slice_get text k ≡ Some b
 byte_there text b k within is = slice_get-get_or text k 0 within ∙ ap (λ (x : ℕ). Some x) (eqb-true (slice_index text k) b is)
 
 -- a byte that a search finds nowhere in a range
-no_byte : (text : List ℕ) (b i j : ℕ) → Nowhere (Passes (is_byte b) text) i j → (k : ℕ) → i ≤ k → k < j → slice_get text k ≢ Some b
+pub no_byte : (text : List ℕ) (b i j : ℕ) → Nowhere (Passes (is_byte b) text) i j → (k : ℕ) → i ≤ k → k < j → slice_get text k ≢ Some b
 no_byte text b i j none k up down e = none k up down (eq-eqb (slice_index text k) b (get_or_from_slice_get text k b 0 e))
 
 -- what ends with a line feed is a line

@@ -1,5 +1,6 @@
 -- What is told at the end, where no half line is left.
-use Rattle.std.proofs.Common.{ℕ, Bool, List, [], Option, append-nil, refl, subst, sym}
+use Rattle.std.proofs.Common.{◌∙◌, ◌∷◌, ◌++◌, inl, inr, ℕ, Bool, true, false, List, [], Option, append-nil, refl, subst, sym}
+use Rattle.std.proofs.lemmas.List.{append_assoc}
 use Rattle.lft_tag.specs.declared.Tag.{Tag}
 use Rattle.lft_steps.specs.declared.row.Row.{Row}
 use Rattle.lft_model.specs.Plans.{PlanParts}
@@ -8,11 +9,39 @@ use Rattle.lft_follow.specs.declared.judged.Ending.TheVariants.{Accepted, Unbrok
 use Rattle.lft_follow.specs.declared.judged.Unjudged.{Unjudged}
 use Rattle.lft_follow.specs.Follows.{IsEnding, IsUnjudged}
 use Rattle.lft_follow.proofs.Following.{unjudged_so_far}
-use Rattle.lft_log.specs.Logs.{HoldSoFar, rows}
-use Rattle.lft_log.specs.Told.{IsFinal, IsLogOf, IsSoon, TellsPlan}
+use Rattle.lft_log.specs.Logs.{AreLines, HasLast, HoldSoFar, IsHead, LastCounts, LastIsLeft, header_words, mark, rows}
+use Rattle.lft_log.specs.Told.{IsEnded, IsFinal, IsLog, IsLogOf, IsSoon, TellsPlan}
 use Rattle.lft_log.specs.declared.log.Log.{Log}
-use Rattle.lft_log.specs.declared.told.Final.TheVariants.{AtEnd}
+use Rattle.lft_log.specs.declared.told.Final.{Final}
+use Rattle.lft_log.specs.declared.told.Final.TheVariants.{AtEnd, Soon}
 use Rattle.lft_log.specs.declared.told.Told.TheVariants.{Odd}
+use Rattle.lft_log.proofs.Ends.{lines_both}
+
+-- a header is a line
+head_lines : (head : List ℕ) → IsHead head → AreLines head
+head_lines head (inl (inl e)) = inr (header_words, e)
+head_lines head (inl (inr e)) = inr (mark ++ header_words, e)
+head_lines head (inr (inl e)) = inr (header_words ++ 13 ∷ [], e)
+head_lines head (inr (inr e)) = inr (mark ++ (header_words ++ 13 ∷ []), e)
+
+-- what is kept of the last line is all that came of it
+pub has_last : (base plan : PlanParts) (until : Option Tag) (bytes : List ℕ) (log : Log) → IsLog base plan until bytes log → HasLast bytes log.rest.items
+has_last base plan until bytes log is = go log.is_begun refl
+  where
+    go : (b : Bool) → log.is_begun ≡ b → HasLast bytes log.rest.items
+    go true e =
+        let h = is.kept.begun e in
+        record { lines = h.head ++ h.body; parts = h.whole ∙ sym (append_assoc h.head h.body log.rest.items); are = lines_both h.head h.body (head_lines h.head h.is_head) h.are; open_line = is.open_line }
+    go false e = record { lines = []; parts = (is.kept.fresh e).0; are = inl refl; open_line = is.open_line }
+
+-- what is told at the end, where the last line counts and where it doesn't
+pub ended_whole : (base : PlanParts) (until : Option Tag) (whole : Bool) (bytes : List ℕ) (told : Final) → LastCounts bytes → IsFinal base until whole (bytes ++ 10 ∷ []) told → IsEnded base until whole bytes told
+ended_whole base until whole bytes (Soon told) last is = inr (last, is)
+ended_whole base until whole bytes (AtEnd ending) last is = inl (last, is)
+
+pub ended_left : (base : PlanParts) (until : Option Tag) (whole : Bool) (bytes : List ℕ) (told : Final) → LastIsLeft bytes → IsFinal base until whole bytes told → IsEnded base until whole bytes told
+ended_left base until whole bytes (Soon told) last is = inl is
+ended_left base until whole bytes (AtEnd ending) last is = inr (last, is)
 
 -- what is kept of a log whose header came
 pub tells_plan : (base plan : PlanParts) (until : Option Tag) (bytes rest left : List ℕ) (log : Log) (is : IsLogOf base plan until bytes rest log) → HoldSoFar base.program bytes is.lines [] left → TellsPlan base bytes plan (rows is.lines) [] left

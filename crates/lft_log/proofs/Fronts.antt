@@ -3,21 +3,18 @@ use Rattle.std.proofs.Common.{◌≡◌, ◌+◌, ◌-◌, ◌<◌, ◌≤◌, �
 use Rattle.std.proofs.lemmas.List.{length-drop, length-take, take-take, take_all}
 use Rattle.lft_flat.specs.Parts.{Parts}
 use Rattle.lft_trace.specs.LogTables.{InputsFit, ReadsLines, StopsAt}
-use Rattle.lft_trace.specs.Parts.{EndsLine, HasNoQuote}
+use Rattle.lft_trace.specs.Parts.{EndsLine}
 use Rattle.lft_trace.specs.declared.log_table.LineFault.{LineFault}
 use Rattle.lft_trace.specs.declared.log_table.LogLines.{LogLines}
 use Rattle.lft_steps.specs.Fits.{RowsFit}
-use Rattle.lft_log.specs.Logs.{AreLines, IsFront, IsRecordFault, inputs, records_below, rows}
+use Rattle.lft_log.specs.Logs.{AreLines, ArePlain, IsFront, IsRecordFault, inputs, records_below, rows}
 use Rattle.lft_log.specs.declared.fault.LogFault.{LogFault}
 use Rattle.lft_log.specs.declared.front.Front.{Front}
-use Rattle.lft_log.proofs.Ends.{lines_left}
+use Rattle.lft_log.proofs.Ends.{lines_left, range_take}
 use Rattle.lft_log.proofs.Behind.{length_inputs}
 
 pub rest_from : (text : List ℕ) (n : ℕ) → slice_range text n (length text) ≡ drop n text
 rest_from text n = let l : length (drop n text) ≤ length text - n = omega (arith, length-drop n text) in take_all (length text - n) (drop n text) l
-
-pub range_take : {X : Type 0} (xs : List X) (n : ℕ) → slice_range xs 0 n ≡ take n xs
-range_take xs n = let e : n - 0 ≡ n = omega arith in ap (λ (k : ℕ). take k xs) e
 
 pub all_dropped : {X : Type 0} (xs : List X) (n : ℕ) → n ≡ length xs → drop n xs ≡ []
 all_dropped {X} [] n e = none_left n
@@ -54,7 +51,7 @@ abbrev pub IsNextFault : Option LineFault → ℕ → ℕ → LogFault → Type 
 IsNextFault fault row input f = (program : Parts) (records : List (List (List ℕ))) → StopsAt program records fault → IsRecordFault program records row input f
 
 pub front_is : (program : Parts) (text : List ℕ) (rows_before inputs_before plain : ℕ) (read : LogLines) (front : Front) (row input : ℕ)
-    → plain ≤ length text → AreLines (take plain text) → HasNoQuote (take plain text)
+    → plain ≤ length text → AreLines (take plain text) → ArePlain (take plain text)
     → ReadsLines program (records_below (slice_range text 0 plain)) read → RowsFit program read.rows.items → InputsFit program read.inputs.items
     → front.rows ≡ read.rows → front.inputs ≡ read.inputs
     → (front.fault ≡ None → (read.fault ≡ None) × (length (slice_range text plain (length text)) ≡ 0))

@@ -10,7 +10,8 @@ use Rattle.lft_trace.proofs.Together.{zipped}
 use Rattle.lft_log.specs.Logs.{HoldSoFar, IsFront, IsHead, LogLaw, records_below, row_records}
 use Rattle.lft_log.specs.declared.front.Front.{Front}
 use Rattle.lft_log.proofs.Below.{below_head, lines_joined, no_bytes}
-use Rattle.lft_log.proofs.Ends.{lines_both, never_both}
+use Rattle.lft_log.proofs.Ends.{lines_both}
+use Rattle.lft_log.proofs.Plain.{no_lines, plain_both}
 use Rattle.lft_log.proofs.Behind.{rows_each, zip_cut}
 
 -- the header came
@@ -21,7 +22,7 @@ header_there program bytes lines head body e f is = record {
   whole = e ∙ f;
   is_head = is;
   are = inl refl;
-  plain = λ i at. absurd (cc at);
+  plain = no_lines;
   first = [];
   under = no_bytes;
   each = tt;
@@ -35,9 +36,9 @@ hold_front program bytes text behind lines rows_before inputs_before front h f =
   whole = h.whole ∙ ap (λ (x : List ℕ). h.head ++ x) (ap (λ (x : List ℕ). h.body ++ x) parted ∙ sym (append_assoc h.body more (drop f.plain text ++ behind)));
   is_head = h.is_head;
   are = lines_both h.body more h.are f.are;
-  plain = never_both 34 h.body more h.plain f.quiet;
+  plain = plain_both h.body more h.are h.plain f.quiet;
   first = h.first ++ f.first;
-  under = lines_joined h.body more h.are h.plain ∙ ap (λ r. r ++ records_below more) (h.under ∙ append-nil h.first) ∙ ap (λ r. h.first ++ r) f.whole ∙ sym (append_assoc h.first f.first f.others);
+  under = lines_joined h.body more h.are h.plain.unquoted ∙ ap (λ r. r ++ records_below more) (h.under ∙ append-nil h.first) ∙ ap (λ r. h.first ++ r) f.whole ∙ sym (append_assoc h.first f.first f.others);
   each = zipped (IsLine program) h.first f.first lines f.lines h.each f.each;
 }
   where

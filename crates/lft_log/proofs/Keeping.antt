@@ -17,7 +17,7 @@ use Rattle.lft_follow.specs.Follows.{IsFollowerOf}
 use Rattle.lft_log.specs.declared.asked.Asked.{Asked}
 use Rattle.lft_log.specs.declared.fault.LogFault.{LogFault}
 use Rattle.lft_log.specs.declared.front.Front.{Front}
-use Rattle.lft_log.specs.declared.fault.LogFault.TheVariants.{NoHeader, NoRow, NotPlain, LongLine, TooManyRows, NoInput, NotPlainInput, LateInput, InputAgain, ManyLater, TooManyInputs, NoMemory}
+use Rattle.lft_log.specs.declared.fault.LogFault.TheVariants.{NoHeader, NoRow, NotPlain, SecondHeader, LongLine, TooManyRows, NoInput, NotPlainInput, LateInput, InputAgain, ManyLater, TooManyInputs, NoMemory}
 use Rattle.lft_log.specs.declared.log.Log.{Log}
 use Rattle.lft_log.specs.declared.telling.Taken.{Taken}
 use Rattle.lft_log.specs.declared.told.Told.{Told}
@@ -145,6 +145,7 @@ fault_longer base bytes more (InputAgain line) x = (x.0, x.1, behind_longer base
 fault_longer base bytes more (ManyLater line) x = (x.0, x.1, behind_longer base.program bytes more x.0 (λ f. IsEntry base.program f (Happens x.1)) x.2, x.3, x.4)
 fault_longer base bytes more NoHeader x = tt
 fault_longer base bytes more (NotPlain line) x = tt
+fault_longer base bytes more (SecondHeader line) x = tt
 fault_longer base bytes more (LongLine line) x = tt
 fault_longer base bytes more TooManyRows x = tt
 fault_longer base bytes more (NotPlainInput line) x = tt

@@ -1,4 +1,6 @@
 pub mod Ends
+pub mod Heads
+pub mod Plain
 pub mod Below
 pub mod Behind
 pub mod Holding

@@ -7,7 +7,8 @@ use Rattle.lft_log.specs.declared.log.Log.{Log}
 use Rattle.lft_log.specs.declared.told.Told.{Told}
 use Rattle.lft_log.specs.Logs.{HasNoEnd}
 use Rattle.lft_log.specs.Told.{IsLog, IsLogOf}
-use Rattle.lft_log.proofs.Fronts.{range_take, rest_from}
+use Rattle.lft_log.proofs.Ends.{range_take}
+use Rattle.lft_log.proofs.Fronts.{rest_from}
 use Rattle.lft_log.proofs.Keeping.{none_told, piece_parts}
 
 pub whole_piece : (bytes piece : List ℕ) (n : ℕ) → (bytes ++ slice_range piece 0 n) ++ slice_range piece n (length piece) ≡ bytes ++ piece

@@ -12,12 +12,13 @@ use Rattle.lft_trace.specs.declared.log_table.Line.TheVariants.{Input}
 use Rattle.lft_steps.specs.declared.row.Row.{Row}
 use Rattle.lft_model.specs.Plans.{PlanParts}
 use Rattle.lft_log.specs.declared.fault.LogFault.{LogFault}
-use Rattle.lft_log.specs.declared.fault.LogFault.TheVariants.{NoHeader, NoRow, NotPlain, LongLine, TooManyRows, NoInput, NotPlainInput, LateInput, InputAgain, ManyLater, TooManyInputs, NoMemory}
+use Rattle.lft_log.specs.declared.fault.LogFault.TheVariants.{NoHeader, NoRow, NotPlain, SecondHeader, LongLine, TooManyRows, NoInput, NotPlainInput, LateInput, InputAgain, ManyLater, TooManyInputs, NoMemory}
 use Rattle.lft_log.specs.declared.front.Front.{Front}
 use Rattle.lft_log.specs.declared.telling.Taken.{Taken}
 use Rattle.lft_log.specs.Logs.{AreTimely, HoldSoFar, IsFront, IsRecordFault, inputs, rows}
 use Rattle.lft_log.specs.Told.{HasTold, IsFaultOf, IsRefused, IsTaken, StandsBehind, TellsPlan}
-use Rattle.lft_log.proofs.Fronts.{all_dropped, range_take}
+use Rattle.lft_log.proofs.Ends.{range_take}
+use Rattle.lft_log.proofs.Fronts.{all_dropped}
 use Rattle.lft_log.proofs.Holding.{hold_cut, hold_front}
 use Rattle.lft_log.proofs.Behind.{inputs_both, rows_both, timely_both}
 
@@ -36,6 +37,7 @@ record_fault base bytes lines others rest h row input (InputAgain line) counted 
 record_fault base bytes lines others rest h row input (ManyLater line) counted numbered x = absurd x
 record_fault base bytes lines others rest h row input NoHeader counted numbered x = tt
 record_fault base bytes lines others rest h row input (NotPlain line) counted numbered x = tt
+record_fault base bytes lines others rest h row input (SecondHeader line) counted numbered x = tt
 record_fault base bytes lines others rest h row input (LongLine line) counted numbered x = tt
 record_fault base bytes lines others rest h row input TooManyRows counted numbered x = tt
 record_fault base bytes lines others rest h row input (NotPlainInput line) counted numbered x = tt

@@ -2,6 +2,7 @@
 use Rattle.std.specs.Prelude.{◌≡◌, ◌≢◌, ◌⊎◌, ◌≤◌, ◌+◌, ℕ, List, [], ◌++◌, ◌∷◌, length, take, codes, filter_map, Option, None, Some, slice_get}
 use Rattle.std.specs.List.{AllZip}
 use Rattle.csv.specs.Reading.{default_config, records}
+use Rattle.memchr.specs.Find.{OccursAt, is_byte, places}
 use Rattle.lft_tag.specs.declared.Tag.{Tag}
 use Rattle.lft_flat.specs.Parts.{Parts}
 use Rattle.lft_steps.specs.Fits.{RowsFit}
@@ -24,17 +25,17 @@ use Rattle.lft_log.specs.declared.front.Front.{Front}
 abbrev pub header_words : List ℕ
 header_words = codes "event,worker,time,microstep,reaction,name,value,delay"
 
--- the header's line
-abbrev pub header_line : List ℕ
-header_line = header_words ++ 10 ∷ []
+-- a byte order mark
+abbrev pub mark : List ℕ
+mark = 239 ∷ 187 ∷ 191 ∷ []
 
--- the same with a carriage return before its end
-abbrev pub csv_header_line : List ℕ
-csv_header_line = (header_words ++ 13 ∷ []) ++ 10 ∷ []
+-- the text is the header's words and a rest behind them, with a byte order mark before them or without
+abbrev pub IsHeaderThen : List ℕ → List ℕ → Type 0
+IsHeaderThen rest text = (text ≡ header_words ++ rest) ⊎ (text ≡ mark ++ (header_words ++ rest))
 
--- the line is the header
+-- the line is the header; a carriage return may stand before its end
 abbrev pub IsHead : List ℕ → Type 0
-IsHead head = (head ≡ header_line) ⊎ (head ≡ csv_header_line)
+IsHead line = IsHeaderThen (10 ∷ []) line ⊎ IsHeaderThen (13 ∷ 10 ∷ []) line
 
 -- the text is whole lines, or nothing
 abbrev pub AreLines : List ℕ → Type 0
@@ -43,6 +44,55 @@ AreLines text = (text ≡ []) ⊎ EndsLine text
 -- no line ends in the text
 abbrev pub HasNoEnd : List ℕ → Type 0
 HasNoEnd text = (i : ℕ) → slice_get text i ≢ Some 10
+
+-- each carriage return stands before a line feed
+abbrev pub ReturnsEnd : List ℕ → Type 0
+ReturnsEnd text = (i : ℕ) → slice_get text i ≡ Some 13 → slice_get text (i + 1) ≡ Some 10
+
+-- the text is plain: it has no quotation mark, no carriage return that doesn't end a line, and no line with the header's words
+pub record ArePlain (text : List ℕ) : Type 0 where
+  pub unquoted : HasNoQuote text
+  pub returns : ReturnsEnd text
+  pub headless : (i : ℕ) → ¬ OccursAt text header_words i
+
+-- how many fields the line has: they stand between commas
+abbrev pub fields : List ℕ → ℕ
+fields line = length (places (is_byte 44) line) + 1
+
+-- the line begins with the word
+abbrev pub BeginsWith : List ℕ → List ℕ → Type 0
+BeginsWith word line = (rest : List ℕ) × (line ≡ word ++ rest)
+
+-- the line ends with the word
+abbrev pub EndsWith : List ℕ → List ℕ → Type 0
+EndsWith word line = (front : List ℕ) × (line ≡ front ++ word)
+
+-- the line has the fields of a row, of which the last is empty, and isn't that of a `schedule`, whose last field may be longer
+abbrev pub IsWholeRow : List ℕ → Type 0
+IsWholeRow line = (fields line ≡ 8) × EndsWith (codes ",") line × ¬ BeginsWith (codes "schedule,") line
+
+-- the line has the fields of a stop, of which the last two are empty
+abbrev pub IsWholeStop : List ℕ → Type 0
+IsWholeStop line = (fields line ≡ 5) × EndsWith (codes ",,") line × BeginsWith (codes "stop,") line
+
+-- nothing can be missing of the line but its line feed: it is the header, or a row or a stop whose last fields are empty
+abbrev pub IsWholeLine : List ℕ → Type 0
+IsWholeLine line = IsHead (line ++ 10 ∷ []) ⊎ IsWholeRow line ⊎ IsWholeStop line
+
+-- the bytes are whole lines and a last one without its end, which may be nothing
+pub record HasLast (bytes last : List ℕ) : Type 0 where
+  pub lines : List ℕ
+  pub parts : bytes ≡ lines ++ last
+  pub are : AreLines lines
+  pub open_line : HasNoEnd last
+
+-- the last line counts, as if it had its end: nothing else can be missing of it
+abbrev pub LastCounts : List ℕ → Type 0
+LastCounts bytes = (last : List ℕ) × HasLast bytes last × IsWholeLine last
+
+-- the last line counts for nothing, or there is none
+abbrev pub LastIsLeft : List ℕ → Type 0
+LastIsLeft bytes = (last : List ℕ) × HasLast bytes last × ¬ IsWholeLine last
 
 -- the rows among lines, in their order
 abbrev pub rows : List Line → List TheRow
@@ -72,14 +122,14 @@ AreTimely t (Input entry ∷ lines) = ¬ IsPassed t (tag_of entry) × AreTimely 
 abbrev pub records_below : List ℕ → List (List (List ℕ))
 records_below text = records default_config text
 
--- the bytes are the header's line, whole lines without a quotation mark, and a rest; the records of the whole lines are those of the log's lines, one by one, and others
+-- the bytes are the header's line, whole lines that are plain, and a rest; the records of the whole lines are those of the log's lines, one by one, and others
 pub record HoldSoFar (program : Parts) (bytes : List ℕ) (lines : List Line) (others : List (List (List ℕ))) (rest : List ℕ) : Type 0 where
   pub head : List ℕ
   pub body : List ℕ
   pub whole : bytes ≡ head ++ (body ++ rest)
   pub is_head : IsHead head
   pub are : AreLines body
-  pub plain : HasNoQuote body
+  pub plain : ArePlain body
   pub first : List (List (List ℕ))
   pub under : records_below body ≡ first ++ others
   pub each : AllZip (IsLine program) first lines
@@ -113,7 +163,7 @@ pub record IsFront (program : Parts) (text : List ℕ) (rows_before inputs_befor
   pub plain : ℕ
   pub within : plain ≤ length text
   pub are : AreLines (take plain text)
-  pub quiet : HasNoQuote (take plain text)
+  pub quiet : ArePlain (take plain text)
   pub lines : List Line
   pub first : List (List (List ℕ))
   pub others : List (List (List ℕ))

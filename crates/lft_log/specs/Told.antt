@@ -20,7 +20,7 @@ use Rattle.lft_trace.specs.declared.external_table.Entry.TheVariants.{Happens}
 use Rattle.lft_trace.specs.declared.log_table.Line.{Line}
 use Rattle.lft_trace.specs.declared.log_table.LineFault.TheVariants as none
 use Rattle.lft_trace.specs.declared.log_table.Line.TheVariants.{Input}
-use Rattle.lft_log.specs.Logs.{AreTimely, BeginsWithRecord, HasNoEnd, HoldSoFar, inputs, rows, tag_of}
+use Rattle.lft_log.specs.Logs.{AreTimely, BeginsWithRecord, HasNoEnd, HoldSoFar, LastCounts, LastIsLeft, inputs, rows, tag_of}
 use Rattle.lft_log.specs.declared.asked.Asked.{Asked}
 use Rattle.lft_log.specs.declared.fault.LogFault.{LogFault}
 use Rattle.lft_log.specs.declared.fault.LogFault.TheVariants.{NoRow, NoInput, LateInput, InputAgain, ManyLater}
@@ -78,9 +78,10 @@ IsFinal base until whole bytes (AtEnd (ending.Accepted c)) = (plan : PlanParts) 
 IsFinal base until whole bytes (AtEnd (ending.Unbroken r)) = (plan : PlanParts) × (t : List Row) × (rest : List ℕ) × TellsPlan base bytes plan t [] rest × HasNoEnd rest × (IsJudged plan t r ⊎ IsClean plan t r)
 IsFinal base until whole bytes (AtEnd (ending.Broken b)) = (whole ≡ true) × ((plan : PlanParts) × (t : List Row) × TellsPlan base bytes plan t [] [] × First plan t (breach_of b))
 
--- what is told at the end is so of the bytes, or of these with a line feed behind: a last line counts too that wants its end alone
+-- what is told of bytes behind which no more come, or before the end: at the end it is so of all that counts
 abbrev pub IsEnded : PlanParts → Option Tag → Bool → List ℕ → Final → Type 0
-IsEnded base until whole bytes told = IsFinal base until whole bytes told ⊎ IsFinal base until whole (bytes ++ 10 ∷ []) told
+IsEnded base until whole bytes (Soon told) = IsSoon base until bytes told ⊎ LastCounts bytes × IsSoon base until (bytes ++ 10 ∷ []) told
+IsEnded base until whole bytes (AtEnd ending) = LastCounts bytes × IsFinal base until whole (bytes ++ 10 ∷ []) (AtEnd ending) ⊎ LastIsLeft bytes × IsFinal base until whole bytes (AtEnd ending)
 
 -- behind the lines of a log stands a record of which this is so
 abbrev pub StandsBehind : Parts → List ℕ → List Line → (List (List ℕ) → Type 0) → Type 0

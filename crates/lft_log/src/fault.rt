@@ -12,6 +12,8 @@ pub enum LogFault {
     NoRow(TraceFault, u64),
     /// The line has a quotation mark, or a carriage return that doesn't end it.
     NotPlain(u64),
+    /// The header's words stand in the line, as where a second log begins.
+    SecondHeader(u64),
     /// The line has more bytes than 1,048,576.
     LongLine(u64),
     /// More rows stand at one tag than a table may have, or more came than are counted.

@@ -8,7 +8,7 @@ ghost use Rattle.lft_trace.specs.Parts.{BeginsPlain, EndsLine};
 ghost use Rattle.lft_log.specs.Logs.{AreLines, IsFront, IsRecordFault, records_below};
 
 use crate::fault::LogFault;
-use crate::lines::{first_line, is_input, plain_lines};
+use crate::lines::{first_line, has_words, is_input, plain_lines};
 use lft_flat::Program;
 use lft_steps::Row;
 use lft_tag::NoMemory;
@@ -58,7 +58,10 @@ fn fault_of_odd(lines: &[u8], row: u64, input: u64) -> LogFault
     requires { EndsLine lines.now }
     ensures { (program : Parts) (records : List (List (List ℕ))) → IsRecordFault program records row input result }
 {
-    if is_input(&lines[0..first_line(lines)]) {
+    let line = &lines[0..first_line(lines)];
+    if has_words(line) {
+        LogFault::SecondHeader(row)
+    } else if is_input(line) {
         LogFault::NotPlainInput(input)
     } else {
         LogFault::NotPlain(row)

@@ -1,25 +1,37 @@
 //! Lines of a table that comes in pieces.
 
-ghost use Rattle.std.specs.Prelude.{◌≡◌, ◌≤◌, ◌++◌, ℕ, List, length, take, drop, IfSome};
-ghost use Rattle.lft_trace.specs.Parts.{EndsLine, HasNoQuote};
-ghost use Rattle.lft_log.specs.Logs.{AreLines, HasNoEnd, IsHead};
+ghost use Rattle.std.specs.Prelude.{◌≡◌, ◌≢◌, ◌↔◌, ◌⊎◌, ◌<◌, ◌≤◌, ◌+◌, ◌++◌, ◌∷◌, ℕ, List, [], Some, length, take, drop, slice_get, IfSome, IsTrue, false, MatchOption};
+ghost use Rattle.memchr.specs.Find.{OccursAt};
+ghost use Rattle.lft_trace.specs.Parts.{EndsLine};
+ghost use Rattle.lft_log.specs.Logs.{AreLines, ArePlain, BeginsWith, EndsWith, HasNoEnd, IsHead, IsHeaderThen, IsWholeLine, IsWholeRow, IsWholeStop, fields, header_words};
 
-use memchr::{memchr, memchr_iter, memrchr};
+use memchr::{memchr, memchr_iter, memmem, memrchr};
 
-/// The header's line.
-const HEADER: &[u8] = b"event,worker,time,microstep,reaction,name,value,delay\n";
+/// A byte order mark. As with a table, one may stand before the header.
+const MARK: &[u8] = b"\xEF\xBB\xBF";
 
-/// The same as writers of tables in CSV mostly end their lines.
-const HEADER_OF_CSV: &[u8] = b"event,worker,time,microstep,reaction,name,value,delay\r\n";
+/// The words of the header.
+const WORDS: &[u8] = b"event,worker,time,microstep,reaction,name,value,delay";
+
+/// What stands behind the header's words, if a text begins with them.
+fn behind_words(text: &[u8]) -> Option<&[u8]>
+    ensures { MatchOption result ((rest : List ℕ) → ¬ IsHeaderThen rest text.now) (λ rest. IsHeaderThen rest.now text.now) }
+{
+    match text.strip_prefix(MARK) {
+        Some(text) => text.strip_prefix(WORDS),
+        None => text.strip_prefix(WORDS),
+    }
+}
 
 /// What stands below the header.
 pub(crate) fn below_header(lines: &[u8]) -> Option<&[u8]>
     ensures { IfSome result (λ rest. (head : List ℕ) × (lines.now ≡ head ++ rest.now) × IsHead head) }
 {
-    if let Some(rest) = lines.strip_prefix(HEADER) {
-        return Some(rest);
+    let rest = behind_words(lines)?;
+    if let Some(below) = rest.strip_prefix(b"\n") {
+        return Some(below);
     }
-    lines.strip_prefix(HEADER_OF_CSV)
+    rest.strip_prefix(b"\r\n")
 }
 
 /// How many bytes there are up to the last end of a line.
@@ -46,49 +58,134 @@ pub(crate) fn first_line(lines: &[u8]) -> usize
     }
 }
 
+/// How many commas the line has.
+fn commas(line: &[u8]) -> usize
+    ensures { result + 1 ≡ fields line.now }
+{
+    memchr_iter(b',', line).count()
+}
+
 /// Whether the line is of an external input: it begins with the word of one, and has five parts. A row
 /// has eight.
 pub(crate) fn is_input(line: &[u8]) -> bool {
-    (line.starts_with(b"event,") || line.starts_with(b"stop,"))
-        && memchr_iter(b',', line).count() == 4
+    (begins_with(line, b"event,") || begins_with(line, b"stop,")) && commas(line) == 4
 }
 
-/// Whether a line feed stands at the place.
-fn ends_at(lines: &[u8], place: usize) -> bool {
-    place < lines.len() && lines[place] == b'\n'
+/// Whether the header's words stand in the line.
+pub(crate) fn has_words(line: &[u8]) -> bool {
+    memmem::find(line, WORDS).is_some()
+}
+
+/// Whether a carriage return stands at the place, and no line feed behind it.
+fn is_lone(lines: &[u8], place: usize) -> bool
+    requires { place < length lines.now }
+    ensures { result ≡ false → slice_get lines.now place ≡ Some 13 → slice_get lines.now (place + 1) ≡ Some 10 }
+{
+    if lines[place] != b'\r' {
+        return false;
+    }
+    place + 1 == lines.len() || lines[place + 1] != b'\n'
 }
 
 /// The first carriage return without a line feed behind it, or where the lines end.
 fn lone_return(lines: &[u8]) -> usize
-    ensures { result ≤ length lines.now }
+    ensures within { result ≤ length lines.now }
+    ensures returns { (i : ℕ) → i < result → slice_get lines.now i ≡ Some 13 → slice_get lines.now (i + 1) ≡ Some 10 }
 {
     let Some(first) = memchr(b'\r', lines) else {
         return lines.len();
     };
     for place in first..lines.len() {
-        if lines[place] == b'\r' && !ends_at(lines, place + 1) {
+        if is_lone(lines, place) {
             return place;
         }
     }
     lines.len()
 }
 
-/// How many bytes stand before the first line that isn't plain: with a quotation mark, or a carriage
-/// return that doesn't end it. Of whole lines it is all where each is plain.
+/// The first quotation mark, or where the lines end.
+fn first_quote(lines: &[u8]) -> usize
+    ensures within { result ≤ length lines.now }
+    ensures none { (i : ℕ) → i < result → slice_get lines.now i ≢ Some 34 }
+{
+    match memchr(b'"', lines) {
+        Some(place) => place,
+        None => lines.len(),
+    }
+}
+
+/// The first place where the header's words stand, or where the lines end.
+fn first_words(lines: &[u8]) -> usize
+    ensures within { result ≤ length lines.now }
+    ensures none { (i : ℕ) → i < result → ¬ OccursAt lines.now header_words i }
+{
+    match memmem::find(lines, WORDS) {
+        Some(place) => place.min(lines.len()),
+        None => lines.len(),
+    }
+}
+
+/// How many bytes stand before the first line that isn't plain: with a quotation mark, a carriage return that
+/// doesn't end it, or the words of the header. Of whole lines it is all where each is plain.
 pub(crate) fn plain_lines(lines: &[u8]) -> usize
     ensures within { result ≤ length lines.now }
     ensures lines { AreLines (take result lines.now) }
-    ensures plain { HasNoQuote (take result lines.now) }
+    ensures plain { ArePlain (take result lines.now) }
 {
-    let quote = memchr(b'"', lines).unwrap_or(lines.len());
-    whole_lines(&lines[0..quote.min(lone_return(lines))])
+    let odd = first_quote(lines)
+        .min(lone_return(lines))
+        .min(first_words(lines));
+    whole_lines(&lines[0..odd])
 }
 
-/// Whether nothing can be missing of a last line without an end: a row whose last part is empty, of an
-/// event that has none there; or a stop, whose last two parts are empty.
-pub(crate) fn is_whole(line: &[u8]) -> bool {
-    let commas = memchr_iter(b',', line).count();
-    let is_row = commas == 7 && line.ends_with(b",") && !line.starts_with(b"schedule,");
-    let is_stop = commas == 4 && line.ends_with(b",,") && line.starts_with(b"stop,");
-    is_row || is_stop
+/// Whether nothing is there, or a carriage return alone.
+fn is_end(rest: &[u8]) -> bool
+    ensures { IsTrue result ↔ (rest.now ≡ []) ⊎ (rest.now ≡ 13 ∷ []) }
+{
+    rest.is_empty() || rest == b"\r".as_slice()
+}
+
+/// Whether the line, with a line feed behind it, is the header.
+fn is_header(line: &[u8]) -> bool
+    ensures { IsTrue result ↔ IsHead (line.now ++ 10 ∷ []) }
+{
+    match behind_words(line) {
+        Some(rest) => is_end(rest),
+        None => false,
+    }
+}
+
+/// Whether the line begins with the word.
+fn begins_with(line: &[u8], word: &[u8]) -> bool
+    ensures { IsTrue result ↔ BeginsWith word.now line.now }
+{
+    line.starts_with(word)
+}
+
+/// Whether the line ends with the word.
+fn ends_with(line: &[u8], word: &[u8]) -> bool
+    ensures { IsTrue result ↔ EndsWith word.now line.now }
+{
+    line.ends_with(word)
+}
+
+/// Whether the line is a row whose last part is empty, of an event that has none there.
+fn is_whole_row(line: &[u8]) -> bool
+    ensures { IsTrue result ↔ IsWholeRow line.now }
+{
+    commas(line) == 7 && ends_with(line, b",") && !begins_with(line, b"schedule,")
+}
+
+/// Whether the line is a stop, whose last two parts are empty.
+fn is_whole_stop(line: &[u8]) -> bool
+    ensures { IsTrue result ↔ IsWholeStop line.now }
+{
+    commas(line) == 4 && ends_with(line, b",,") && begins_with(line, b"stop,")
+}
+
+/// Whether nothing can be missing of a last line but its end.
+pub(crate) fn is_whole(line: &[u8]) -> bool
+    ensures { IsTrue result ↔ IsWholeLine line.now }
+{
+    is_header(line) || is_whole_row(line) || is_whole_stop(line)
 }

@@ -77,5 +77,7 @@ of_final base until whole bytes (AtEnd (ending.Broken b)) sound s = of_first bas
 
 -- a breach that is told is of a reaction of the program
 pub has_found : (base : PlanParts) (until : Option Tag) (whole : Bool) (bytes : List ℕ) (told : Final) → IsSound base.program → IsEnded base until whole bytes told → HasFound base.program told
-has_found base until whole bytes told sound (inl s) = of_final base until whole bytes told sound s
-has_found base until whole bytes told sound (inr s) = of_final base until whole (bytes ++ 10 ∷ []) told sound s
+has_found base until whole bytes (Soon told) sound (inl s) = of_final base until whole bytes (Soon told) sound s
+has_found base until whole bytes (Soon told) sound (inr s) = of_final base until whole (bytes ++ 10 ∷ []) (Soon told) sound s.1
+has_found base until whole bytes (AtEnd ending) sound (inl s) = of_final base until whole (bytes ++ 10 ∷ []) (AtEnd ending) sound s.1
+has_found base until whole bytes (AtEnd ending) sound (inr s) = of_final base until whole bytes (AtEnd ending) sound s.1

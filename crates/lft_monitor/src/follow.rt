@@ -111,6 +111,7 @@ fn fault_of(alloc: Global, fault: LogFault) -> Fault
         }
         LogFault::LongLine(line) => fault_of_row(alloc, 13, "LongLine", line),
         LogFault::NotPlain(line) => fault_of_row(alloc, 14, "NotPlain", line),
+        LogFault::SecondHeader(line) => fault_of_row(alloc, 15, "SecondHeader", line),
         LogFault::TooManyRows => Fault::plain(Part::Trace, 10, "TooManyRows"),
         LogFault::NoInput(fault, line) => {
             let plain = Fault::externals(fault);

@@ -3,7 +3,7 @@ use Rattle.std.proofs.lemmas.List.{take-append-drop}
 use Rattle.std.proofs.lemmas.Result.{IfOk-weaker}
 use Rattle.lft_steps.specs.declared.row.Row.{Row}
 use Rattle.lft_log.specs.Told.{GoPast, IsSaid}
-use Rattle.lft_log.proofs.Fronts.{range_take}
+use Rattle.lft_log.proofs.Ends.{range_take}
 use Rattle.lft_log.proofs.Keeping.{rows_told}
 use Rattle.lft_log.proofs.log.add_asked.Goals as goal
 

@@ -1,10 +1,15 @@
-use Rattle.std.proofs.Common.{◌++◌, ◌∷◌, [], inl, inr}
+use Rattle.std.proofs.Common.{◌++◌, ◌∷◌, ℕ, List, [], refl, subst}
+use Rattle.std.proofs.lemmas.Bool.{false≢true}
 use Rattle.std.proofs.lemmas.Result.{IfOk-weaker, IfErr-weaker}
+use Rattle.lft_log.specs.Logs.{IsWholeLine}
+use Rattle.lft_log.proofs.Finishing.{ended_left, ended_whole, has_last}
 use Rattle.lft_log.proofs.Pieces.{log_again}
 use Rattle.lft_log.proofs.log.Log.finish.Goals as goal
 
 pub returns-then-not-is_whole-clause-ended : goal.returns-then-not-is_whole-clause-ended
-returns-then-not-is_whole-clause-ended c = IfOk-weaker c.told_at_end.result _ _ (λ told final base until bytes is. inl (final base until bytes is)) c.told_at_end.ensures.ended
+returns-then-not-is_whole-clause-ended c = IfOk-weaker c.told_at_end.result _ _ (λ told final base until bytes is.
+    let left = subst (λ (x : List ℕ). ¬ IsWholeLine x) c.as_slice.ensures.value (λ whole. false≢true (c.if-not-is_whole.ensures.1 whole)) in
+    ended_left base until c.args.whole bytes told (c.args.self.now.rest.items, has_last base c.args.plan.now until bytes c.args.self.now is, left) (final base until bytes is)) c.told_at_end.ensures.ended
 
 pub returns-then-not-is_whole-clause-fault : goal.returns-then-not-is_whole-clause-fault
 returns-then-not-is_whole-clause-fault c = IfErr-weaker c.told_at_end.result _ _ (λ f any base until bytes is. any base (bytes ++ 10 ∷ [])) c.told_at_end.ensures.fault
@@ -16,11 +21,14 @@ told_at_end-requires-in-Ok-None c =
 
 pub returns-in-Ok-None-clause-ended : goal.returns-in-Ok-None-clause-ended
 returns-in-Ok-None-clause-ended c = IfOk-weaker c.told_at_end-in-Ok-None.result _ _ (λ told final base until bytes is.
+    let last = subst (λ (x : List ℕ). IsWholeLine x) c.as_slice.ensures.value (c.if-not-is_whole.ensures.0 refl) in
     let whole = rw c.in-Ok-None.field-0-is at (c.in-Ok-None.ensures.told base until bytes is) in
-    inr (final base until (bytes ++ 10 ∷ []) (log_again base c.add_whole.new.plan until (bytes ++ 10 ∷ []) c.add_whole.new.self whole))) c.told_at_end-in-Ok-None.ensures.ended
+    ended_whole base until c.args.whole bytes told (c.args.self.now.rest.items, has_last base c.args.plan.now until bytes c.args.self.now is, last) (final base until (bytes ++ 10 ∷ []) (log_again base c.add_whole.new.plan until (bytes ++ 10 ∷ []) c.add_whole.new.self whole))) c.told_at_end-in-Ok-None.ensures.ended
 
 pub returns-in-Ok-None-clause-fault : goal.returns-in-Ok-None-clause-fault
 returns-in-Ok-None-clause-fault c = IfErr-weaker c.told_at_end-in-Ok-None.result _ _ (λ f any base until bytes is. any base (bytes ++ 10 ∷ [])) c.told_at_end-in-Ok-None.ensures.fault
 
 pub returns-in-Ok-Some-clause-ended : goal.returns-in-Ok-Some-clause-ended
-returns-in-Ok-Some-clause-ended c = λ base until bytes is. inr (rw c.in-Ok-Some.field-0-is at (c.in-Ok-Some.ensures.told base until bytes is))
+returns-in-Ok-Some-clause-ended c = λ base until bytes is.
+    let last = subst (λ (x : List ℕ). IsWholeLine x) c.as_slice.ensures.value (c.if-not-is_whole.ensures.0 refl) in
+    ended_whole base until c.args.whole bytes _ (c.args.self.now.rest.items, has_last base c.args.plan.now until bytes c.args.self.now is, last) (rw c.in-Ok-Some.field-0-is at (c.in-Ok-Some.ensures.told base until bytes is))
