@@ -22,7 +22,8 @@ use Rattle.lft_log.specs.declared.log.Log.{Log}
 use Rattle.lft_log.specs.declared.telling.Taken.{Taken}
 use Rattle.lft_log.specs.declared.told.Told.{Told}
 use Rattle.lft_log.specs.Logs.{HoldSoFar, IsFront, IsHead, rows}
-use Rattle.lft_log.specs.Told.{IsAskedOf, IsBegun, IsFaultOf, IsLogOf, IsSaid, IsSoon, IsTaken, StandsBehind}
+use Rattle.lft_log.specs.Told.{IsAskedOf, IsBegun, IsFaultOf, IsLogOf, IsSaid, IsSoon, IsTaken, KeepTo, StandsBehind}
+use Rattle.lft_log.proofs.Asking.{asked_within}
 use Rattle.lft_log.proofs.Holding.{header_there, hold_longer}
 use Rattle.lft_log.proofs.Taking.{all_held, fault_held, grown, grown_numbered, grown_rows, grown_tells, grown_timely, grown_told, taken_rows}
 
@@ -87,14 +88,15 @@ module _ (base old new : PlanParts) (until : Option Tag) (bytes text : List ℕ)
   pub fault_on : (f : LogFault) → taken.fault ≡ Some f → IsFaultOf base bytes f
   fault_on f named = fault_held base old new bytes text [] so_far log.rows log.inputs front taken held fronts takes is.0.timely is.0.told f named is.0.counted is.0.numbered
 
-  pub soon_on : (told : Told) (first more : List Row) → u ≡ first ++ more → IsSaid new until (rows so_far ++ first) told → IsSoon base until bytes told
-  soon_on told first more parted said = (
+  pub soon_on : (told : Told) (first more : List Row) → u ≡ first ++ more → KeepTo until (rows so_far ++ first) → IsSaid new until (rows so_far ++ first) told → IsSoon base until bytes told
+  soon_on told first more parted within said = (
     new,
     rows so_far ++ first,
     more,
     _,
     _,
     grown_tells base old new bytes text [] so_far log.rows log.inputs front taken held fronts takes is.0.timely is.0.told ((rows so_far ++ first) ++ more) (append_assoc (rows so_far) first more ∙ ap (λ (t : List Row). rows so_far ++ t) (sym parted)),
+    within,
     said,
   )
 
@@ -157,9 +159,9 @@ pub piece_parts : (bytes piece : List ℕ) (n : ℕ) → (bytes ++ take n piece)
 piece_parts bytes piece n = append_assoc bytes (take n piece) (drop n piece) ∙ ap (λ (x : List ℕ). bytes ++ x) (take-append-drop n piece)
 
 -- what is told of rows is told of those up to the last that is asked for, where it isn't among them
-pub rows_told : (plan : PlanParts) (until : Option Tag) (t rows : List Row) (follower : Follower) (asked : Asked) (o : Option Told) → MatchOption o (IsFollowerOf plan (t ++ rows) follower) (λ (told : Told). (until : Option Tag) → IsSaid plan until (t ++ rows) told) → IsAskedOf (t ++ rows) asked → MatchOption o (IsFollowerOf plan (t ++ rows) follower × IsAskedOf (t ++ rows) asked) (λ (told : Told). (u : List Row) × (more : List Row) × (rows ≡ u ++ more) × IsSaid plan until (t ++ u) told)
-rows_told plan until t rows follower asked None follows is = (follows, is)
-rows_told plan until t rows follower asked (Some told) said is = (rows, [], sym (append-nil rows), said until)
+pub rows_told : (plan : PlanParts) (until : Option Tag) (t rows : List Row) (follower : Follower) (asked : Asked) (o : Option Told) → MatchOption o (IsFollowerOf plan (t ++ rows) follower) (λ (told : Told). (until : Option Tag) → IsSaid plan until (t ++ rows) told) → IsAskedOf (t ++ rows) asked → asked.until ≡ until → MatchOption o (IsFollowerOf plan (t ++ rows) follower × IsAskedOf (t ++ rows) asked) (λ (told : Told). (u : List Row) × (more : List Row) × (rows ≡ u ++ more) × KeepTo until (t ++ u) × IsSaid plan until (t ++ u) told)
+rows_told plan until t rows follower asked None follows is same = (follows, is)
+rows_told plan until t rows follower asked (Some told) said is same = (rows, [], sym (append-nil rows), subst (λ (o : Option Tag). KeepTo o (t ++ rows)) same (asked_within (t ++ rows) asked is), said until)
 
 pub with_fact : (A E : Type 0) (Q : Told → Type 0) (o : Option Told) → MatchOption o A Q → E → MatchOption o (A × E) Q
 with_fact A E Q None a e = (a, e)

@@ -1,5 +1,5 @@
 -- What is told of a log.
-use Rattle.std.specs.Prelude.{◌≡◌, ◌↔◌, ◌⊎◌, ◌+◌, true, false, ℕ, Bool, List, [], ◌++◌, ◌∷◌, length, filter_map, Option, None, Some, slice_get}
+use Rattle.std.specs.Prelude.{◌≡◌, ◌↔◌, ◌⊎◌, ◌+◌, ◌<◌, true, false, ℕ, Bool, List, [], ◌++◌, ◌∷◌, length, filter_map, Option, None, Some, MatchOption, slice_get}
 use Rattle.std.specs.List.Sorted.{IsPermutation}
 use Rattle.lft_flat.specs.Parts.{Parts}
 use Rattle.lft_tag.specs.declared.Tag.{Tag}
@@ -48,18 +48,37 @@ pub record TellsPlan (base : PlanParts) (bytes : List ℕ) (plan : PlanParts) (t
   pub timely : AreTimely [] lines
   pub told : HasTold base (inputs lines) plan
 
--- a row is at or past the tag
-abbrev pub HasFrom : Tag → Tag → List Row → Type 0
-HasFrom g h t = (i : ℕ) × (x : Row) × (slice_get t i ≡ Some x) × (x.tag ≡ h) × UpTo g h
+-- the row at the place is the first that is at the tag or past it
+pub record IsFirstFrom (asked : Tag) (t : List Row) (place : ℕ) (row : Row) : Type 0 where
+  pub there : slice_get t place ≡ Some row
+  pub from : UpTo asked row.tag
+  pub first : (i : ℕ) (x : Row) → i < place → slice_get t i ≡ Some x → Before x.tag asked
 
--- rows go past what is asked for: some tag with rows is at or past it, and a row is behind that tag
+-- the tag isn't past the end of what is asked for, which is the tag of the first row at or past it
+abbrev pub IsWithin : Option Tag → List Row → Tag → Type 0
+IsWithin None t g = Unit {0}
+IsWithin (Some asked) t g = (place : ℕ) (row : Row) → IsFirstFrom asked t place row → UpTo g row.tag
+
+-- no row but perhaps the last is past the end of what is asked for
+abbrev pub KeepTo : Option Tag → List Row → Type 0
+KeepTo until t = (i : ℕ) (x : Row) → i + 1 < length t → slice_get t i ≡ Some x → IsWithin until t x.tag
+
+-- some row is past the end of what is asked for
 abbrev pub GoPast : Option Tag → List Row → Type 0
 GoPast None t = ⊥
-GoPast (Some g) t = (h : Tag) × HasFrom g h t × ((j : ℕ) × (z : Row) × (slice_get t j ≡ Some z) × Before h z.tag)
+GoPast (Some asked) t = (place : ℕ) × (row : Row) × IsFirstFrom asked t place row × ((i : ℕ) × (x : Row) × (slice_get t i ≡ Some x) × Before row.tag x.tag)
 
--- the first tag with rows at or past what is asked for is kept, where there is one
+-- the first row at or past the asked tag is at the last tag of the rows
+pub record ComeTo (asked : Tag) (t : List Row) (last : Tag) : Type 0 where
+  pub place : ℕ
+  pub row : Row
+  pub first : IsFirstFrom asked t place row
+  pub same : row.tag ≡ last
+  pub up : (i : ℕ) (x : Row) → slice_get t i ≡ Some x → UpTo x.tag last
+
+-- where a tag is asked for, the tag of the first row at or past it is kept, if there is one, and no row is past that
 abbrev pub IsAskedOf : List Row → Asked → Type 0
-IsAskedOf t a = (g h : Tag) → a.until ≡ Some g → a.last ≡ Some h → HasFrom g h t
+IsAskedOf t a = MatchOption a.until (Unit {0}) (λ asked. MatchOption a.last ((i : ℕ) (x : Row) → slice_get t i ≡ Some x → Before x.tag asked) (ComeTo asked t))
 
 -- what is told before the end is so of these rows: a breach is sure behind some of them, so many of them are clean and a later line is told, or those but the ones at the last tag are, and go past what is asked for
 abbrev pub IsSaid : PlanParts → Option Tag → List Row → Told → Type 0
@@ -67,9 +86,9 @@ IsSaid plan until t (Broken b) = IsSureSoFar plan t (breach_of b)
 IsSaid plan until t (Odd r line) = IsOddSoFar plan t r line
 IsSaid plan until t (Reached r) = IsJudged plan t r × GoPast until t
 
--- what is told before the end is so of the first rows of the bytes, for the plan that they tell
+-- what is told before the end is so of the first rows of the bytes, none of which but perhaps the last is past the end of what is asked for, for the plan that they tell
 abbrev pub IsSoon : PlanParts → Option Tag → List ℕ → Told → Type 0
-IsSoon base until bytes told = (plan : PlanParts) × (t : List Row) × (more : List Row) × (others : List (List (List ℕ))) × (rest : List ℕ) × TellsPlan base bytes plan (t ++ more) others rest × IsSaid plan until t told
+IsSoon base until bytes told = (plan : PlanParts) × (t : List Row) × (more : List Row) × (others : List (List (List ℕ))) × (rest : List ℕ) × TellsPlan base bytes plan (t ++ more) others rest × KeepTo until t × IsSaid plan until t told
 
 -- what is told at the end: the bytes are a log whose rows are accepted, for the plan that it tells; or a log and a line without its end, and the rows are clean, all or but those at the last tag; or the bytes are a log, no row is missing, and this is their first breach
 abbrev pub IsFinal : PlanParts → Option Tag → Bool → List ℕ → Final → Type 0

@@ -3,16 +3,16 @@
 ghost use Rattle.std.specs.Prelude.{◌≡◌, ◌≤◌, ◌++◌, ◌∷◌, List, [], length, take, false, IfSome, IfNone, IsTrue, Some};
 ghost use Rattle.lft_tag.specs.Tags.{Before};
 ghost use Rattle.lft_steps.specs.declared.row.Row.{Row as TheRow};
-ghost use Rattle.lft_log.specs.Told.{GoPast, IsAskedOf};
+ghost use Rattle.lft_log.specs.Told.{GoPast, IsAskedOf, KeepTo};
 
 use lft_steps::{Row, row_at};
 use lft_tag::Tag;
 
-/// Rows are asked for up to the first tag with rows at or past some tag, or up to the end.
+/// Rows are asked for up to the tag of the first row at or past some tag, or up to the end.
 #[derive(Clone, Copy, Drop)]
 pub(crate) struct Asked {
     until: Option<Tag>,
-    /// The first tag with rows at or past it, once it is there.
+    /// The tag of the first row at or past it, once it is there.
     last: Option<Tag>,
 }
 
@@ -28,8 +28,8 @@ impl Asked {
     /// Whether the row behind others goes past what is asked for.
     fn is_past(&mut self, row: Row) -> bool
         ensures until { self.new.until ≡ self.old.until }
-        ensures past { IsTrue result → (t : List TheRow) → IsAskedOf t self.old → GoPast self.old.until (t ++ row ∷ []) }
-        ensures asked { (t : List TheRow) → IsAskedOf t self.old → IsAskedOf (t ++ row ∷ []) self.new }
+        ensures past { IsTrue result → (t : List TheRow) → IsAskedOf t self.old → GoPast self.old.until (t ++ row ∷ []) × KeepTo self.old.until (t ++ row ∷ []) }
+        ensures asked { result ≡ false → (t : List TheRow) → IsAskedOf t self.old → IsAskedOf (t ++ row ∷ []) self.new }
     {
         let Some(until) = self.until else {
             return false;
@@ -50,7 +50,7 @@ impl Asked {
     pub(crate) fn past_end(&mut self, rows: &[Row]) -> Option<usize>
         ensures until { self.new.until ≡ self.old.until }
         ensures within { IfSome result (λ n. n ≤ length rows.now) }
-        ensures past { IfSome result (λ n. (t : List TheRow) → IsAskedOf t self.old → GoPast self.old.until (t ++ take n rows.now)) }
+        ensures past { IfSome result (λ n. (t : List TheRow) → IsAskedOf t self.old → GoPast self.old.until (t ++ take n rows.now) × KeepTo self.old.until (t ++ take n rows.now)) }
         ensures asked { IfNone result ((t : List TheRow) → IsAskedOf t self.old → IsAskedOf (t ++ rows.now) self.new) }
     {
         for place in 0..rows.len() {

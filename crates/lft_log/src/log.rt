@@ -8,7 +8,7 @@ ghost use Rattle.lft_steps.specs.Fits.{RowsFit};
 ghost use Rattle.lft_model.specs.Plans.{PlanParts};
 ghost use Rattle.lft_follow.specs.Follows.{IsFollowerOf, IsJudged};
 ghost use Rattle.lft_log.specs.Logs.{AreLines, HasNoEnd, IsHead};
-ghost use Rattle.lft_log.specs.Told.{GoPast, IsAskedOf, IsBegun, IsEnded, IsFaultOf, IsFinal, IsLog, IsLogOf, IsSaid, IsSoon};
+ghost use Rattle.lft_log.specs.Told.{GoPast, IsAskedOf, IsBegun, IsEnded, IsFaultOf, IsFinal, IsLog, IsLogOf, IsSaid, IsSoon, KeepTo};
 
 use crate::asked::Asked;
 use crate::fault::LogFault;
@@ -95,7 +95,7 @@ fn add_asked(
     requires fit { RowsFit plan.now.program rows.now }
     requires stands { (t : List TheRow) × IsFollowerOf plan.now t follower.old }
     ensures until { asked.new.until ≡ asked.old.until }
-    ensures told { IfOk result (λ o. (t : List TheRow) → IsFollowerOf plan.now t follower.old → IsAskedOf t asked.old → MatchOption o (IsFollowerOf plan.now (t ++ rows.now) follower.new × IsAskedOf (t ++ rows.now) asked.new) (λ told. (u more : List TheRow) × (rows.now ≡ u ++ more) × IsSaid plan.now asked.old.until (t ++ u) told)) }
+    ensures told { IfOk result (λ o. (t : List TheRow) → IsFollowerOf plan.now t follower.old → IsAskedOf t asked.old → MatchOption o (IsFollowerOf plan.now (t ++ rows.now) follower.new × IsAskedOf (t ++ rows.now) asked.new) (λ told. (u more : List TheRow) × (rows.now ≡ u ++ more) × KeepTo asked.old.until (t ++ u) × IsSaid plan.now asked.old.until (t ++ u) told)) }
     ensures fault { IfErr result (λ f. (base : PlanParts) (bytes : List ℕ) → IsFaultOf base bytes f) }
 {
     match asked.past_end(rows) {

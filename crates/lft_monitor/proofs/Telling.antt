@@ -51,7 +51,7 @@ of_base : (base plan : PlanParts) (bytes : List ℕ) (others : List (List (List 
 of_base base plan bytes others rest t o is x = subst (λ (p : Parts). HasReaction p o) is.told.program x
 
 of_found : (base : PlanParts) (until : Option Tag) (bytes : List ℕ) (b : Found) → IsSound base.program → IsSoon base until bytes (Broken b) → HasReaction base.program b.reaction
-of_found base until bytes b sound (plan, t, more, others, rest, is, (n, sure)) = of_base base plan bytes others rest (t ++ more) b.reaction is (go sure)
+of_found base until bytes b sound (plan, t, more, others, rest, is, within, (n, sure)) = of_base base plan bytes others rest (t ++ more) b.reaction is (go sure)
   where
     own : (i : ℕ) (x : Row) → slice_get (take n t) i ≡ Some x → x.reaction < length plan.program.reactions
     own i x e = of_log base plan bytes others rest (t ++ more) sound is i x (get_left t more i x (slice_get_take n t i x e).1)

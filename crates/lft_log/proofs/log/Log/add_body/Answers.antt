@@ -5,7 +5,7 @@ use Rattle.lft_steps.specs.declared.row.Row.{Row}
 use Rattle.lft_steps.specs.Fits.{RowsFit}
 use Rattle.lft_follow.specs.Follows.{IsFollowerOf}
 use Rattle.lft_log.specs.Logs.{IsFront, rows}
-use Rattle.lft_log.specs.Told.{IsAskedOf, IsSaid}
+use Rattle.lft_log.specs.Told.{IsAskedOf, IsSaid, KeepTo}
 use Rattle.lft_log.proofs.Gathering.{fit_first}
 use Rattle.lft_log.proofs.Keeping.{fault_on, lines_on, soon_on}
 use Rattle.lft_log.proofs.log.Log.add_body.Goals as goal
@@ -47,7 +47,7 @@ returns-in-Ok-Some-clause-told c = λ base until bytes is.
     let given = subst (λ (p : Parts). IsFront p lines log.rows log.inputs front) c.program.ensures.value c.in-Ok.ensures in
     let x = rw c.in-Ok-Some.field-0-is at (c.in-Ok-Some.ensures.told t (c.tell_all-taken.ensures.stands t is.0.follower) is.0.asked) in
     let e = ap (λ (r : List Row). slice_range r 0 taken.rows) c.as_slice.ensures.value in
-    soon_on base c.args.plan.now plan until bytes lines log front taken is given c.tell_all-taken.ensures.taken c.in-Ok-Some.told x.0 x.1 (sym e ∙ x.2) (subst (λ (o : Option Tag). IsSaid plan o (t ++ x.0) c.in-Ok-Some.told) is.0.until_is x.3)
+    soon_on base c.args.plan.now plan until bytes lines log front taken is given c.tell_all-taken.ensures.taken c.in-Ok-Some.told x.0 x.1 (sym e ∙ x.2) (subst (λ (o : Option Tag). KeepTo o (t ++ x.0)) is.0.until_is x.3) (subst (λ (o : Option Tag). IsSaid plan o (t ++ x.0) c.in-Ok-Some.told) is.0.until_is x.4)
 
 pub add_asked-requires-clause-fit : goal.add_asked-requires-clause-fit
 add_asked-requires-clause-fit c =
