@@ -8,7 +8,7 @@ use Rattle.lft_lower.specs.Reactors.{IsLowering}
 use Rattle.lft_program.specs.Flattening.{IsFlatOf}
 use Rattle.lft_sources.specs.declared.source.SourceFile.{SourceFile}
 use Rattle.lft_tree.specs.View.{tree_view}
-use Rattle.lft_tree.specs.declared.tree.Ast.{Ast}
+use Rattle.lft_tree.specs.declared.ast.Ast.{Ast}
 
 -- The first of the files has this path, and is read from this text.
 abbrev pub BeginWith : List ℕ → List ℕ → List SourceFile → Type 0

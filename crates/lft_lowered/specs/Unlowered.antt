@@ -13,7 +13,7 @@ use Rattle.lft_lower.specs.Causes.{HasCause}
 use Rattle.lft_lower.specs.Reactors.{IsLowering}
 use Rattle.lft_scope.specs.Causes.{IsFirst, causes}
 use Rattle.lft_tree.specs.View.{tree_view}
-use Rattle.lft_tree.specs.declared.tree.Ast.{Ast}
+use Rattle.lft_tree.specs.declared.ast.Ast.{Ast}
 use Rattle.lft_lowered.specs.Lowered.{AreFilesOf, BeginWith, BeginsAs, LeadTo}
 use Rattle.lft_lowered.specs.Told.{TellsRefusal, TellsTree}
 use Rattle.lft_lowered.specs.declared.told.Unlowered.{Unlowered}

@@ -55,8 +55,9 @@ fn push_tokens(
     requires end { start + length text.now < 2 ^ 64 }
     ensures { OnOk result (JoinsTokens start tokens.now list.old.items list.new.items) }
 {
-    for token in tokens.as_slice() {
-        list.push(moved(start, *token))?;
+    let tokens = tokens.as_slice();
+    for at in 0..tokens.len() {
+        list.push(moved(start, tokens[at]))?;
     }
     Ok(())
 }

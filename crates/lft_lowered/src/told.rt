@@ -124,7 +124,8 @@ fn spot_in(alloc: Global, file: &SourceFile, token: usize) -> Result<Spot, NoMem
 }
 
 /// What a token is called: code and strings are told as such, and so are those of more bytes than are quoted.
-fn push_token(alloc: Global, out: &mut String, bytes: &[u8]) -> Result<(), NoMemory> {
+fn token_words(alloc: Global, bytes: &[u8]) -> Result<String, NoMemory> {
+    let mut out = String::new(alloc);
     if bytes.starts_with(b"{=") {
         out.push_str("this code")?;
     } else if bytes.starts_with(b"\"") || bytes.starts_with(b"'") {
@@ -133,10 +134,28 @@ fn push_token(alloc: Global, out: &mut String, bytes: &[u8]) -> Result<(), NoMem
         out.push_str("this")?;
     } else {
         out.push_str("`")?;
-        push_bytes(alloc, out, bytes)?;
+        push_bytes(alloc, &mut out, bytes)?;
         out.push_str("`")?;
     }
-    Ok(())
+    Ok(out)
+}
+
+/// What is said of a token that can't stand where it is.
+fn standing_words(alloc: Global, bytes: &[u8]) -> Result<String, NoMemory>
+    ensures { IfOk result (λ words. IsUnexpected (string_bytes words)) }
+{
+    let mut out = token_words(alloc, bytes)?;
+    out.push_str(" can't stand here.")?;
+    Ok(out)
+}
+
+/// What is said of a text that ends before its tree does.
+fn ending_words(alloc: Global) -> Result<String, NoMemory>
+    ensures { IfOk result (λ words. IsUnexpected (string_bytes words)) }
+{
+    let mut out = String::new(alloc);
+    out.push_str("the text ends too soon.")?;
+    Ok(out)
 }
 
 /// What is said of a token that can't stand where it is, or of a text that ends there.
@@ -145,14 +164,11 @@ fn unexpected_words(alloc: Global, file: &SourceFile, token: usize) -> Result<St
 {
     let spot = spot_in(alloc, file, token)?;
     let bytes = file.text.get(spot.start..spot.end).unwrap_or(b"");
-    let mut out = String::new(alloc);
     if bytes.is_empty() {
-        out.push_str("the text ends too soon.")?;
-        return Ok(out);
+        ending_words(alloc)
+    } else {
+        standing_words(alloc, bytes)
     }
-    push_token(alloc, &mut out, bytes)?;
-    out.push_str(" can't stand here.")?;
-    Ok(out)
 }
 
 /// What is said of a refusal: of a token that can't stand where it is its bytes, else the sentence of the cause.
