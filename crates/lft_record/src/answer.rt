@@ -1,7 +1,7 @@
 //! From texts to a recording.
 
 ghost use Rattle.std.specs.Prelude.{◌≡◌, IfOk, IfErr, OnOk, true};
-ghost use Rattle.lft_record.specs.Answers.{AnswerRefusal, IsAnswer};
+ghost use Rattle.lft_record.specs.Answers.{AnswerRefusal, AnswerRefusalUnder, IsAnswer, IsAnswerUnder};
 ghost use Rattle.lft_record.specs.Recordings.{IsRecorded, RecordRefusal};
 ghost use Rattle.lft_record.specs.Scripts.{card_law};
 
@@ -16,6 +16,31 @@ use std::io::Write;
 use std::marker::Brand;
 use std::sync::Wait;
 use std::thread::Threads;
+
+/// True, once a plan is recorded with the bodies of the cards, and the trace table is written, as
+/// `record_answer` does.
+pub fn record_plan<R: Threads + Wait + Sync, W: Write>(
+    rt: &R,
+    alloc: Global,
+    plan: Plan,
+    cards: &[u8],
+    workers: u32,
+    max_runs: u32,
+    out: &mut W,
+) -> Result<bool, Fault>
+    ensures yes { IfOk result (λ recorded. recorded ≡ true) }
+    ensures recorded { OnOk result (IsAnswerUnder plan cards.now workers max_runs (W.contents out.old) (W.contents out.new)) }
+    ensures refused { IfErr result (AnswerRefusalUnder plan cards.now workers max_runs (W.contents out.old) (W.contents out.new)) }
+{
+    let cards = match read_cards(alloc, plan.program(), cards) {
+        Ok(cards) => cards,
+        Err(fault) => return Err(cards_fault(fault)),
+    };
+    match record_cards::<Brand, R, W>(rt, alloc, plan, &cards, workers, max_runs, out) {
+        Ok(()) => Ok(true),
+        Err(fault) => Err(fault),
+    }
+}
 
 /// True, once the program under its external inputs is recorded with the bodies of the cards, and the
 /// trace table is written. The fault is that of the first layer that refuses, in the order lex,
@@ -35,16 +60,8 @@ pub fn record_answer<R: Threads + Wait + Sync, W: Write>(
     ensures recorded { IfOk result (λ recorded. IsAnswer program.now externals.now cards.now workers max_runs (W.contents out.old) (W.contents out.new)) }
     ensures refused { IfErr result (AnswerRefusal program.now externals.now cards.now workers max_runs (W.contents out.old) (W.contents out.new)) }
 {
-    let plan = match load(alloc, program, externals) {
-        Ok(plan) => plan,
-        Err(fault) => return Err(fault),
-    };
-    let cards = match read_cards(alloc, plan.program(), cards) {
-        Ok(cards) => cards,
-        Err(fault) => return Err(cards_fault(fault)),
-    };
-    match record_cards::<Brand, R, W>(rt, alloc, plan, &cards, workers, max_runs, out) {
-        Ok(()) => Ok(true),
+    match load(alloc, program, externals) {
+        Ok(plan) => record_plan(rt, alloc, plan, cards, workers, max_runs, out),
         Err(fault) => Err(fault),
     }
 }

@@ -7,7 +7,7 @@ mod cards;
 mod fault;
 mod recording;
 
-pub use answer::record_answer;
+pub use answer::{record_answer, record_plan};
 pub use bodies::{CardCode, FollowsCards, Scripted, card_bodies};
 pub use cards::{
     CardFault, CardStep, CardSteps, CardValue, Cards, Expression, Script, Term, card_answer,

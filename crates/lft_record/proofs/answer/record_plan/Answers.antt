@@ -1,0 +1,18 @@
+use Rattle.std.proofs.Common.{◌≡◌, true, subst}
+use Rattle.lft_flat.specs.Parts.{Parts}
+use Rattle.lft_trace.specs.Records.{records_of}
+use Rattle.lft_record.specs.CardTables.{CardTable, CardsFail}
+use Rattle.lft_record.specs.CardFaults.{is_told}
+use Rattle.lft_record.specs.Answers.AnswerRefusalUnder.{by_cards, by_recording}
+use Rattle.lft_record.proofs.Kept.{unchanged}
+use Rattle.lft_record.proofs.answer.record_plan.Goals as goal
+
+pub returns-in-Err-clause-refused : goal.returns-in-Err-clause-refused
+returns-in-Err-clause-refused g c =
+    let fails = λ (told : is_told c.in-Err.fault ≡ true). subst (λ (p : Parts). CardsFail p (records_of c.args.cards.now) c.in-Err.fault) c.program.ensures.value (c.in-Err.ensures.fault told).0 in
+    by_cards c.in-Err.fault c.cards_fault.ensures.part c.cards_fault.ensures.number fails (unchanged (g.W.Write.contents c.args.out.now))
+
+pub returns-clause-refused : goal.returns-clause-refused
+returns-clause-refused g c =
+    let table = subst (λ (p : Parts). CardTable p (records_of c.args.cards.now) c.in-Ok.cards) c.program.ensures.value c.in-Ok.ensures.table in
+    by_recording c.in-Ok.cards table c.in-Err-record_cards.ensures.refused
