@@ -1,6 +1,6 @@
 //! A log: a trace table that comes in pieces, with lines of external inputs among its rows.
 
-ghost use Rattle.std.specs.Prelude.{◌≡◌, ◌++◌, ◌∷◌, ◌^◌, ◌≤◌, ℕ, List, [], Option, true, false, length, IfOk, IfErr, IfSome, MatchOption};
+ghost use Rattle.std.specs.Prelude.{◌≡◌, Bool, ◌++◌, ◌∷◌, ◌^◌, ◌≤◌, ℕ, List, [], Option, true, false, length, IfOk, IfErr, IfSome, MatchOption};
 ghost use Rattle.lft_tag.specs.declared.Tag.{Tag as TheTag};
 ghost use Rattle.lft_trace.specs.Parts.{EndsLine};
 ghost use Rattle.lft_steps.specs.declared.row.Row.{Row as TheRow};
@@ -280,19 +280,24 @@ impl Log {
         }
     }
 
-    /// What the rows show where no more come. With `whole` no row is missing.
+    /// What the rows show where no more come and no half line is left. With `whole` no row is missing.
     fn end(&mut self, alloc: Global, plan: &Plan, whole: bool) -> Final
-        requires { (base : PlanParts) × (until : Option TheTag) × (bytes : List ℕ) × IsLog base plan.now until bytes self.old }
+        requires none { length self.old.rest.items ≡ 0 }
+        requires stands { (base : PlanParts) × (until : Option TheTag) × (bytes : List ℕ) × IsLog base plan.now until bytes self.old }
         ensures { (base : PlanParts) (until : Option TheTag) (bytes : List ℕ) → IsLog base plan.now until bytes self.old → self.old.is_begun ≡ true → IsFinal base until whole bytes result }
     {
-        let reach = self.follower.reach(plan);
-        if self.rest.is_empty() {
-            return match self.follower.finish(alloc, plan, whole) {
-                Ok(ending) => Final::AtEnd(ending),
-                Err(left) => Final::Soon(Told::Odd(left.reach, left.line)),
-            };
+        match self.follower.finish(alloc, plan, whole) {
+            Ok(ending) => Final::AtEnd(ending),
+            Err(left) => Final::Soon(Told::Odd(left.reach, left.line)),
         }
-        // Of a line that isn't whole nobody knows what it would have said.
+    }
+
+    /// The same where a half line may be left. Nobody knows what it would have said.
+    fn end_cut(&mut self, alloc: Global, plan: &Plan) -> Final
+        requires { (base : PlanParts) × (until : Option TheTag) × (bytes : List ℕ) × IsLog base plan.now until bytes self.old }
+        ensures { (base : PlanParts) (until : Option TheTag) (whole : Bool) (bytes : List ℕ) → IsLog base plan.now until bytes self.old → self.old.is_begun ≡ true → IsFinal base until whole bytes result }
+    {
+        let reach = self.follower.reach(plan);
         match self.follower.finish(alloc, plan, false) {
             Ok(Ending::Unbroken(reach)) => Final::AtEnd(Ending::Unbroken(reach)),
             Ok(_) => Final::AtEnd(Ending::Unbroken(reach)),
@@ -309,7 +314,11 @@ impl Log {
         if !self.is_begun {
             return Err(LogFault::NoHeader);
         }
-        Ok(self.end(alloc, plan, whole))
+        if self.rest.is_empty() {
+            Ok(self.end(alloc, plan, whole))
+        } else {
+            Ok(self.end_cut(alloc, plan))
+        }
     }
 
     /// What the table shows where no more comes. A last line without its end counts only if nothing can
