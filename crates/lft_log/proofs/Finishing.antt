@@ -1,5 +1,5 @@
 -- What is told at the end, where no half line is left.
-use Rattle.std.proofs.Common.{◌∙◌, ◌∷◌, ◌++◌, inl, inr, ℕ, Bool, true, false, List, [], Option, append-nil, refl, subst, sym}
+use Rattle.std.proofs.Common.{◌≡◌, ◌∙◌, ◌∷◌, ◌++◌, inl, inr, ℕ, Bool, true, false, List, [], Option, append-nil, refl, subst, sym}
 use Rattle.std.proofs.lemmas.List.{append_assoc}
 use Rattle.lft_tag.specs.declared.Tag.{Tag}
 use Rattle.lft_steps.specs.declared.row.Row.{Row}
@@ -10,11 +10,12 @@ use Rattle.lft_follow.specs.declared.judged.Unjudged.{Unjudged}
 use Rattle.lft_follow.specs.Follows.{IsEnding, IsUnjudged}
 use Rattle.lft_follow.proofs.Following.{unjudged_so_far}
 use Rattle.lft_log.specs.Logs.{AreLines, HasLast, HoldSoFar, IsHead, LastCounts, LastIsLeft, header_words, mark, rows}
-use Rattle.lft_log.specs.Told.{IsEnded, IsFinal, IsLog, IsLogOf, IsSoon, TellsPlan}
+use Rattle.lft_log.specs.Told.{IsEnded, IsFinal, IsLog, IsLogOf, IsSoon, KeepTo, TellsPlan}
 use Rattle.lft_log.specs.declared.log.Log.{Log}
 use Rattle.lft_log.specs.declared.told.Final.{Final}
 use Rattle.lft_log.specs.declared.told.Final.TheVariants.{AtEnd, Soon}
 use Rattle.lft_log.specs.declared.told.Told.TheVariants.{Odd}
+use Rattle.lft_log.proofs.Asking.{asked_within}
 use Rattle.lft_log.proofs.Ends.{lines_both}
 
 -- a header is a line
@@ -52,6 +53,10 @@ final_of base plan until whole bytes rest log is held (Accepted c) so = (plan, r
 final_of base plan until whole bytes rest log is held (Unbroken r) so = (plan, rows is.lines, [], tells_plan base plan until bytes rest [] log is held, λ i e. absurd (cc e), so.1)
 final_of base plan until whole bytes rest log is held (Broken b) so = (so.0, (plan, rows is.lines, tells_plan base plan until bytes rest [] log is held, so.1))
 
+-- no row of a log is past the end of what is asked for
+pub kept_to : (base plan : PlanParts) (until : Option Tag) (bytes rest : List ℕ) (log : Log) (is : IsLogOf base plan until bytes rest log) → KeepTo until (rows is.lines)
+kept_to base plan until bytes rest log is = subst (λ (o : Option Tag). KeepTo o (rows is.lines)) is.until_is (asked_within (rows is.lines) log.asked is.asked)
+
 -- what is told of rows that can't be judged to their end
-pub odd_at_end : (base plan : PlanParts) (until : Option Tag) (bytes rest : List ℕ) (t : List Row) (u : Unjudged) → TellsPlan base bytes plan t [] rest → IsUnjudged plan t u → IsSoon base until bytes (Odd u.reach u.line)
-odd_at_end base plan until bytes rest t u tells is = (plan, t, [], [], rest, subst (λ (x : List Row). TellsPlan base bytes plan x [] rest) (sym (append-nil t)) tells, unjudged_so_far plan t u is)
+pub odd_at_end : (base plan : PlanParts) (until : Option Tag) (bytes rest : List ℕ) (t : List Row) (u : Unjudged) → TellsPlan base bytes plan t [] rest → KeepTo until t → IsUnjudged plan t u → IsSoon base until bytes (Odd u.reach u.line)
+odd_at_end base plan until bytes rest t u tells keeps is = (plan, t, [], [], rest, subst (λ (x : List Row). TellsPlan base bytes plan x [] rest) (sym (append-nil t)) tells, keeps, unjudged_so_far plan t u is)

@@ -120,7 +120,7 @@ pub begun_as : (base plan : PlanParts) (until : Option Tag) (bytes lines body : 
 begun_as base plan until bytes lines body log new follower rows_are numbered asked begun below above is = (kept_as base plan until bytes lines bytes body log new follower rows_are numbered asked is (λ _. body_held base plan until bytes lines body log is below above) (λ e. absurd (false≢true (sym e ∙ begun))), begun)
 
 pub soon_longer : (base : PlanParts) (until : Option Tag) (bytes more : List ℕ) (told : Told) → IsSoon base until bytes told → IsSoon base until (bytes ++ more) told
-soon_longer base until bytes more told (plan, t, later, others, rest, is, said) = (
+soon_longer base until bytes more told (plan, t, later, others, rest, is, keeps, said) = (
   plan,
   t,
   later,
@@ -133,6 +133,7 @@ soon_longer base until bytes more told (plan, t, later, others, rest, is, said) 
     timely = is.timely;
     told = is.told;
   },
+  keeps,
   said,
 )
 

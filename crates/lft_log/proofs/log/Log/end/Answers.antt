@@ -1,7 +1,7 @@
 use Rattle.std.proofs.Common.{[], List, ℕ, subst}
 use Rattle.lft_log.specs.Logs.{HoldSoFar, rows}
 use Rattle.lft_log.proofs.Fronts.{nothing}
-use Rattle.lft_log.proofs.Finishing.{final_of, odd_at_end, tells_plan}
+use Rattle.lft_log.proofs.Finishing.{final_of, kept_to, odd_at_end, tells_plan}
 use Rattle.lft_log.proofs.log.Log.end.Goals as goal
 
 pub returns-in-Ok : goal.returns-in-Ok
@@ -15,4 +15,4 @@ returns-in-Err c = λ base until bytes is begun.
     let plan = c.args.plan.now in
     let rest = c.args.self.now.rest.items in
     let t = rows is.kept.lines in
-    odd_at_end base plan until bytes rest t c.in-Err.left (tells_plan base plan until bytes rest rest c.args.self.now is.kept (is.kept.begun begun)) (c.in-Err.ensures.unjudged t is.kept.follower)
+    odd_at_end base plan until bytes rest t c.in-Err.left (tells_plan base plan until bytes rest rest c.args.self.now is.kept (is.kept.begun begun)) (kept_to base plan until bytes rest c.args.self.now is.kept) (c.in-Err.ensures.unjudged t is.kept.follower)

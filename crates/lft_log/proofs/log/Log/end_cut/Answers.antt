@@ -1,6 +1,6 @@
 use Rattle.std.proofs.Common.{inl}
 use Rattle.lft_log.specs.Logs.{rows}
-use Rattle.lft_log.proofs.Finishing.{odd_at_end, tells_plan}
+use Rattle.lft_log.proofs.Finishing.{kept_to, odd_at_end, tells_plan}
 use Rattle.lft_log.proofs.log.Log.end_cut.Goals as goal
 
 pub returns-in-Ok-Unbroken : goal.returns-in-Ok-Unbroken
@@ -22,4 +22,4 @@ returns-in-Err c = λ base until whole bytes is begun.
     let plan = c.args.plan.now in
     let rest = c.args.self.now.rest.items in
     let t = rows is.kept.lines in
-    odd_at_end base plan until bytes rest t c.in-Err.left (tells_plan base plan until bytes rest rest c.args.self.now is.kept (is.kept.begun begun)) (c.in-Err.ensures.unjudged t is.kept.follower)
+    odd_at_end base plan until bytes rest t c.in-Err.left (tells_plan base plan until bytes rest rest c.args.self.now is.kept (is.kept.begun begun)) (kept_to base plan until bytes rest c.args.self.now is.kept) (c.in-Err.ensures.unjudged t is.kept.follower)
