@@ -1,2 +1,4 @@
 mod Listed
 mod Tests
+mod Once
+mod Together

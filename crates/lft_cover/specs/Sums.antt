@@ -5,6 +5,8 @@ use Rattle.lft_steps.specs.declared.row.Row.{Row}
 use Rattle.lft_counts.specs.declared.cover.Cover.{Cover}
 use Rattle.lft_counts.specs.Counts.{Count, IsOver}
 use Rattle.lft_counts.specs.Orders.{Stands, IsApart}
+use Rattle.lft_counts.specs.Overlaps.{Overlap}
+use Rattle.lft_cover.specs.Pairs.{AreTogether, CountPairs}
 
 -- a word, a count, a word between, and the number that it is of
 abbrev pub share_words : List ℕ → ℕ → List ℕ → ℕ → List ℕ
@@ -28,7 +30,7 @@ IsFed program p = origin_of program p ≢ p
 abbrev pub IsReached : Parts → List ℕ → ℕ → Type 0
 IsReached program writes p = IsFed program p × IsOver writes (origin_of program p)
 
--- a text begins with the line of sums: R is how many reactions have a run, F how many of the fed ports have an origin that was written, and A how many of the orders were met on two workers
+-- a text begins with the line of sums: R is how many reactions have a run, F how many of the fed ports have an origin that was written, A how many of the orders were met on two workers, and P how many pairs of reactions had open runs together
 pub record TellsSums (program : Parts) (cover : Cover) (told : List ℕ) : Type 0 where
   pub ran : ℕ
   pub fed : ℕ
@@ -41,4 +43,5 @@ pub record TellsSums (program : Parts) (cover : Cover) (told : List ℕ) : Type 
   pub fed_is : Count (IsReached program cover.counting.writes) (length program.ports) fed
   pub ports_are : Count (IsFed program) (length program.ports) ports
   pub apart_is : (t : List Row) (n i : ℕ) → Stands t n i cover.orders → Count (IsApart t i cover.orders.all.items) (length cover.orders.all.items) apart
+  pub together_is : (t : List Row) (i : ℕ) → Overlap t (length program.reactions) i cover.overlaps → CountPairs (AreTogether t i) (length program.reactions) together
   pub text : told ≡ sum_line ran (length program.reactions) fed ports apart (length cover.orders.all.items) together pairs ++ more

@@ -5,7 +5,9 @@ ghost use Rattle.lft_steps.specs.declared.row.Row.{Row as TheRow};
 ghost use Rattle.lft_graph.specs.Graph.{IsGraphOf};
 ghost use Rattle.lft_counts.specs.Counts.{Count, IsOver};
 ghost use Rattle.lft_counts.specs.Orders.{IsApart, Stands};
+ghost use Rattle.lft_counts.specs.Overlaps.{Overlap};
 ghost use Rattle.lft_cover.specs.Facts.{HasSets};
+ghost use Rattle.lft_cover.specs.Pairs.{AreTogether, CountPairs};
 ghost use Rattle.lft_cover.specs.Sums.{IsFed, IsReached, origin_of};
 
 use crate::closure::ordered_pairs;
@@ -143,6 +145,7 @@ impl Sums {
         ensures ports { IfOk result (λ sums. Count (IsFed program.now) (length program.now.ports) sums.fed.of) }
         ensures orders { IfOk result (λ sums. sums.apart.of ≡ length cover.now.orders.all.items) }
         ensures apart { IfOk result (λ sums. (t : List TheRow) (n i : ℕ) → Stands t n i cover.now.orders → Count (IsApart t i cover.now.orders.all.items) (length cover.now.orders.all.items) sums.apart.count) }
+        ensures together { IfOk result (λ sums. (t : List TheRow) (i : ℕ) → Overlap t (length program.now.reactions) i cover.now.overlaps → CountPairs (AreTogether t i) (length program.now.reactions) sums.together.count) }
     {
         let runs = cover.counting.runs.as_slice();
         let writes = cover.counting.writes.as_slice();
@@ -170,7 +173,7 @@ impl Sums {
                 of: orders,
             },
             together: Share {
-                count: met_pairs(program, &cover.overlaps),
+                count: met_pairs(program, &cover.overlaps) as u64,
                 of: all_pairs(reactions).saturating_sub(ordered),
             },
         })

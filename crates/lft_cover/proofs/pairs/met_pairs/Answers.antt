@@ -1,12 +1,25 @@
-use Rattle.std.proofs.Common.{◌<◌, length, arith}
-use Rattle.lft_cover.proofs.Tests.{has_room}
+use Rattle.std.proofs.Common.{◌≡◌, length, subst, arith}
+use Rattle.lft_counts.proofs.Numbers.{count_within}
+use Rattle.lft_cover.specs.Pairs.{IsCountedWith}
+use Rattle.lft_cover.proofs.Once.{Rows, and_row, no_rows, rows_within}
+use Rattle.lft_cover.proofs.Together.{met_once}
 use Rattle.lft_cover.proofs.pairs.met_pairs.Goals as goal
 
-pub has_none-requires-clause-reaction : goal.has_none-requires-clause-reaction
-has_none-requires-clause-reaction c = let long = c.requires.as_long in omega (arith, long)
+pub loop-reaction-init : goal.loop-reaction-init
+loop-reaction-init c = no_rows
 
-pub has_none-requires-clause-word : goal.has_none-requires-clause-word
-has_none-requires-clause-word c =
-    let known : c.loop-reaction.reaction < length c.args.program.now.reactions = omega arith in
-    let room = has_room c.args.program.now c.args.overlaps.now c.requires c.loop-reaction.reaction known in
-    omega (arith, room)
+pub overflow_add-many : goal.overflow_add-many
+overflow_add-many c =
+    let few = c.reactions-reaction-end.ensures.sound.limits.reactions in
+    let so_far = rows_within few c.loop-reaction.invariant in
+    let more = count_within c.pairs_with-many.ensures in
+    omega (arith, few, so_far, more)
+
+pub loop-reaction-preserved : goal.loop-reaction-preserved
+loop-reaction-preserved c = and_row c.loop-reaction.invariant c.pairs_with-many.ensures
+
+pub returns : goal.returns
+returns c =
+    let n = length c.args.program.now.reactions in
+    let all : c.loop-reaction.reaction ≡ length c.args.program.now.reactions = omega arith in
+    met_once c.args.overlaps.now n c.loop-reaction.many (subst (λ k. Rows (IsCountedWith c.args.overlaps.now) (length c.args.program.now.reactions) k c.loop-reaction.many) all c.loop-reaction.invariant)
